@@ -1,0 +1,15 @@
+pub mod Lists
+pub mod SetLemmas
+pub mod Growth
+pub mod Search
+pub mod Orders
+pub mod OrderLaws
+pub mod Times
+pub mod ContentLaws
+pub mod RowLaws
+pub mod RowPuts
+pub mod Restricting
+pub mod Permutations
+pub mod Values
+pub mod NamedPairs
+pub mod Refusals

@@ -1,0 +1,13 @@
+pub mod Names
+pub mod Labels
+pub mod Errors
+pub mod LabelSets
+pub mod Laws
+pub mod Places
+pub mod Pairs
+pub mod Ascending
+pub mod Sets
+pub mod Contents
+pub mod Rows
+pub mod Parts
+pub mod Putting

@@ -1,0 +1,34 @@
+-- Rows: the samples of each label set.
+use Rattle.std.specs.Prelude.{◌≡◌, ◌≢◌, ℤ, T, List, [], ◌∷◌, ◌++◌}
+use Rattle.std.specs.FinMap.Entries.{is_sorted}
+use Rattle.labels.specs.Labels.{Labels, labels_cmp}
+use Rattle.labels.specs.Contents.{Content}
+
+-- a label set with samples
+abbrev pub Row : Type 0
+Row = Labels × List (ℤ × ℤ)
+
+-- the samples of one row as samples of a content
+abbrev pub points_in : Labels → List (ℤ × ℤ) → Content
+points_in l [] = []
+points_in l (s ∷ ss) = ((l, s.0), s.1) ∷ points_in l ss
+
+-- the samples of all rows, one row after another
+abbrev pub points_of : List Row → Content
+points_of [] = []
+points_of (r ∷ rs) = points_in r.0 r.1 ++ points_of rs
+
+-- a row with a sample
+abbrev pub IsFull : Row → Type 0
+IsFull r = r.1 ≢ []
+
+-- each row has a sample
+abbrev pub AreFull : List Row → Type 0
+AreFull [] = Unit {0}
+AreFull (r ∷ rs) = IsFull r × AreFull rs
+
+-- the rows of a content: in label order, none of them empty, and exactly its samples, in order
+pub record AreRows (rows : List Row) (content : Content) : Type 0 where
+  pub points : points_of rows ≡ content
+  pub ascending : T (is_sorted labels_cmp rows)
+  pub full : AreFull rows

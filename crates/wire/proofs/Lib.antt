@@ -1,0 +1,9 @@
+pub mod ChecksumBound
+pub mod Fields
+pub mod KnownReads
+pub mod Laws
+pub mod Loops
+pub mod Shifts
+pub mod Signed
+pub mod TableLaws
+pub mod Uniqueness

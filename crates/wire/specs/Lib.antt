@@ -1,0 +1,5 @@
+pub mod Checksum
+pub mod Codes
+pub mod Outcome
+pub mod Reading
+pub mod Spelling
