@@ -1,0 +1,10 @@
+pub mod Runs
+pub mod Longest
+pub mod Least
+pub mod Unique
+pub mod Matching
+pub mod Greedy
+pub mod Turns
+pub mod Farthest
+pub mod Agreement
+pub mod Choices

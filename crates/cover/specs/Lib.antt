@@ -1,0 +1,4 @@
+pub mod Certificates
+pub mod Asking
+pub mod Walking
+pub mod SixSeries

@@ -1,0 +1,50 @@
+-- Which types of this crate threads may share: a caller's proof cites these where a worker reads a query.
+use denote.Param.Send.{IsSync, sendable}
+use Rattle.std.proofs.Crossing as heap
+use Rattle.std.proofs.MapsCrossing as maps
+use Rattle.regex_hir.proofs.hir.Hir.TheLaws.TheKnot as hir
+use Rattle.regex_nfa.specs.contracts.nfa.Nfa as nfa
+use Rattle.regex_dfa.specs.contracts.dfa.Dfa as dfa
+use Rattle.regex_meta.specs.contracts.program.Program as program
+use Rattle.regex_meta.specs.contracts.plan.Plans as plans
+use Rattle.regex_meta.specs.contracts.signs.Signs as signs
+use Rattle.regex_literal.specs.contracts.byte_set.ByteSet as bytes
+use Rattle.regex.specs.contracts.pattern.Pattern as pattern
+use Rattle.matchers.specs.contracts.pattern.Pattern as own
+use Rattle.matchers.specs.contracts.matcher.Test as test
+use Rattle.matchers.specs.contracts.matcher.Matcher as matcher
+use Rattle.matchers.specs.contracts.query.Query as query
+use Rattle.regex.specs.contracts.string.regex.Regex as regex
+
+pub Dfa-sync : IsSync dfa.the_field.row
+Dfa-sync = search (sendable, heap.crosses) depth 60 fits 20000
+
+pub Plans-sync : IsSync plans.the_field.row
+Plans-sync = search (sendable, heap.crosses, hir.crosses) depth 60 fits 20000
+
+pub Signs-sync : IsSync signs.the_field.row
+Signs-sync = search (sendable, heap.crosses, hir.crosses) depth 60 fits 20000
+
+pub Bytes-sync : IsSync bytes.the_field.row
+Bytes-sync = search (sendable, heap.crosses) depth 60 fits 20000
+
+pub Program-sync : IsSync program.the_field.row
+Program-sync = search (sendable, heap.crosses, hir.crosses, Dfa-sync, Plans-sync, Signs-sync, Bytes-sync) depth 60 fits 20000
+
+pub BuiltPattern-sync : IsSync pattern.the_field.row
+BuiltPattern-sync = search (sendable, maps.String-sync, heap.Vec-sync, Program-sync) depth 60 fits 20000
+
+pub Regex-sync : IsSync regex.the_field.row
+Regex-sync = search (sendable, BuiltPattern-sync) depth 60 fits 20000
+
+pub Pattern-sync : IsSync own.the_field.row
+Pattern-sync = search (sendable, heap.Vec-sync, Regex-sync) depth 60 fits 20000
+
+pub Test-sync : IsSync test.the_field.row
+Test-sync = search (sendable, heap.Vec-sync, Pattern-sync) depth 60 fits 20000
+
+pub Matcher-sync : IsSync matcher.the_field.row
+Matcher-sync = search (sendable, heap.Vec-sync, Test-sync) depth 60 fits 20000
+
+pub Query-sync : IsSync query.the_field.row
+Query-sync = search (sendable, heap.Vec-sync, Matcher-sync) depth 60 fits 20000

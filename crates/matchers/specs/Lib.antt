@@ -1,0 +1,5 @@
+pub mod Views
+pub mod Patterns
+pub mod Satisfies
+pub mod Tests
+pub mod Queries

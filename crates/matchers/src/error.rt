@@ -1,0 +1,58 @@
+//! Why a matcher or a query is refused.
+
+use std::alloc::AllocError;
+
+/// Why a matcher is refused; the first cause, in this order.
+#[derive(Clone, Copy, Debug, PartialEq, Eq)]
+pub enum MatcherError {
+    /// `M1`: the name is not of the form `[a-zA-Z_][a-zA-Z0-9_]*`.
+    BadName,
+    /// `M3`: the pattern has more than 256 bytes.
+    PatternTooLong,
+    /// `M2`: `regex` does not build the pattern, or not between `^(?s:` and `)$`.
+    PatternRefused,
+    /// There is no memory left.
+    Memory,
+}
+
+impl MatcherError {
+    /// The code that users see; `Memory` has none and gives `memory`.
+    pub fn code(self) -> &'static str {
+        match self {
+            MatcherError::BadName => "M1",
+            MatcherError::PatternTooLong => "M3",
+            MatcherError::PatternRefused => "M2",
+            MatcherError::Memory => "memory",
+        }
+    }
+}
+
+impl From<AllocError> for MatcherError {
+    ghost use Rattle.std.specs.Prelude.{◌≡◌};
+    ghost use Rattle.matchers.specs.declared.error.MatcherError.TheVariants.{Memory};
+
+    ghost from_gives = { λ _ e. e ≡ Memory };
+
+    fn from(_: AllocError) -> MatcherError {
+        MatcherError::Memory
+    }
+}
+
+/// Why a query is refused; the first cause, in this order.
+#[derive(Clone, Copy, Debug, PartialEq, Eq)]
+pub enum QueryError {
+    /// `Q1`: the range ends before it begins, or one of its ends is no time.
+    BadRange,
+    /// `Q2`: there are more than 16 matchers.
+    TooManyMatchers,
+}
+
+impl QueryError {
+    /// The code that users see.
+    pub fn code(self) -> &'static str {
+        match self {
+            QueryError::BadRange => "Q1",
+            QueryError::TooManyMatchers => "Q2",
+        }
+    }
+}

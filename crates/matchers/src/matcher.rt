@@ -1,0 +1,166 @@
+//! Matchers.
+
+ghost use Rattle.std.specs.Prelude.{◌≡◌, ◌↔◌, ◌<◌, ◌≤◌, true, false, length, IfNone, IfSome, IfOk, OnOk, IsErrOf, string_bytes};
+ghost use Rattle.labels.specs.Names.{is_name};
+ghost use Rattle.matchers.specs.Patterns.{IsPattern, IsRefusedPattern};
+ghost use Rattle.matchers.specs.Satisfies.{accepts_text, takes_pattern};
+ghost use Rattle.matchers.specs.Tests.{op_of, text_of};
+
+use crate::pattern::Pattern;
+use crate::{MatcherError, Tester};
+use labels::is_name;
+use std::alloc::{AllocError, Global};
+use std::marker::Model;
+
+/// How a matcher compares a value with its text.
+#[derive(Clone, Copy, Debug, PartialEq, Eq)]
+pub enum Op {
+    /// `=`: the value is the text.
+    Equal,
+    /// `!=`: the value is another text.
+    NotEqual,
+    /// `=~`: the text is a pattern, and the whole value matches it.
+    Like,
+    /// `!~`: the text is a pattern, and the whole value does not match it.
+    NotLike,
+}
+
+#[derive(Drop)]
+enum Test {
+    Equal(String),
+    NotEqual(String),
+    Like(Pattern),
+    NotLike(Pattern),
+}
+
+impl Test {
+    fn new(alloc: Global, op: Op, text: String) -> Result<Test, MatcherError>
+        ensures op { IfOk result (λ t. op_of t ≡ op) }
+        ensures text { IfOk result (λ t. text_of t ≡ string_bytes text) }
+        ensures read { OnOk result (takes_pattern op ≡ true → IsPattern (string_bytes text)) }
+        ensures not_name { IsErrOf result MatcherError.BadName → ⊥ }
+        ensures too_long { IsErrOf result MatcherError.PatternTooLong ↔ ((takes_pattern op ≡ true) × (256 < length (string_bytes text))) }
+        ensures refused { IsErrOf result MatcherError.PatternRefused → (takes_pattern op ≡ true) × IsRefusedPattern (string_bytes text) }
+        ensures memory { IsErrOf result MatcherError.Memory → takes_pattern op ≡ true }
+    {
+        match op {
+            Op::Equal => Ok(Test::Equal(text)),
+            Op::NotEqual => Ok(Test::NotEqual(text)),
+            Op::Like => Ok(Test::Like(Pattern::new(alloc, text)?)),
+            Op::NotLike => Ok(Test::NotLike(Pattern::new(alloc, text)?)),
+        }
+    }
+
+    fn pattern(&self) -> Option<&Pattern>
+        ensures none { IfNone result (takes_pattern (op_of self.now) ≡ false) }
+        ensures some { IfSome result (λ _. takes_pattern (op_of self.now) ≡ true) }
+        ensures text { IfSome result (λ p. p.now ≡ text_of self.now) }
+    {
+        match self {
+            Test::Equal(_) | Test::NotEqual(_) => None,
+            Test::Like(pattern) | Test::NotLike(pattern) => Some(pattern),
+        }
+    }
+
+    fn op(&self) -> Op
+        ensures { result ≡ op_of self.now }
+    {
+        match self {
+            Test::Equal(_) => Op::Equal,
+            Test::NotEqual(_) => Op::NotEqual,
+            Test::Like(_) => Op::Like,
+            Test::NotLike(_) => Op::NotLike,
+        }
+    }
+
+    fn text(&self) -> &str
+        ensures { result.now ≡ text_of self.now }
+    {
+        match self {
+            Test::Equal(text) | Test::NotEqual(text) => text.as_str(),
+            Test::Like(pattern) | Test::NotLike(pattern) => pattern.text(),
+        }
+    }
+}
+
+/// A test of the value of one label.
+#[derive(Drop)]
+pub struct Matcher {
+    name: String,
+    test: Test,
+}
+
+impl Model for Matcher {
+    ghost use Rattle.std.specs.Prelude.{string_bytes};
+    ghost use Rattle.matchers.specs.Views.{MatcherView};
+
+    ghost Value = { MatcherView };
+
+    ghost use Rattle.matchers.specs.Tests.{op_of, text_of};
+
+    ghost view = { λ m. record { name = string_bytes m.name; op = op_of m.test; text = text_of m.test } };
+}
+
+impl Matcher {
+    /// The matcher of these.
+    ///
+    /// `M1` where the name is not of the form `[a-zA-Z_][a-zA-Z0-9_]*`. For `=~` and `!~` then `M3` where the pattern has
+    /// more than 256 bytes, and `M2` where `regex` refuses the pattern or `^(?s:pattern)$` for another cause than memory.
+    /// What is too big for `regex` is its own word, so `M2` is not told beforehand.
+    pub fn new(alloc: Global, name: String, op: Op, text: String) -> Result<Matcher, MatcherError>
+        ensures ok { IfOk result (λ m. m ≡ record { name = string_bytes name; op = op; text = string_bytes text }) }
+        ensures named { OnOk result (is_name (string_bytes name) ≡ true) }
+        ensures read { OnOk result (takes_pattern op ≡ true → IsPattern (string_bytes text)) }
+        ensures bad_name { IsErrOf result MatcherError.BadName ↔ (is_name (string_bytes name) ≡ false) }
+        ensures too_long { IsErrOf result MatcherError.PatternTooLong
+            ↔ ((is_name (string_bytes name) ≡ true) × (takes_pattern op ≡ true) × (256 < length (string_bytes text))) }
+        ensures refused { IsErrOf result MatcherError.PatternRefused
+            → (takes_pattern op ≡ true) × IsRefusedPattern (string_bytes text) }
+        ensures memory { IsErrOf result MatcherError.Memory → takes_pattern op ≡ true }
+    {
+        if !is_name(name.as_str()) {
+            return Err(MatcherError::BadName);
+        }
+        let test = Test::new(alloc, op, text)?;
+        Ok(Matcher { name, test })
+    }
+
+    /// The name of the label.
+    pub fn name(&self) -> &str
+        ensures { result.now ≡ self.now.name }
+    {
+        self.name.as_str()
+    }
+
+    /// How it compares.
+    pub fn op(&self) -> Op
+        ensures { result ≡ self.now.op }
+    {
+        self.test.op()
+    }
+
+    /// What it compares with: a text, or a pattern.
+    pub fn text(&self) -> &str
+        ensures { result.now ≡ self.now.text }
+    {
+        self.test.text()
+    }
+
+    /// Whether it accepts a value; the empty text stands for an absent label. For many values take a [`Tester`].
+    pub fn accepts(&self, alloc: Global, value: &str) -> Result<bool, AllocError>
+        ensures { IfOk result (λ yes. yes ≡ accepts_text self.now value.now) }
+    {
+        let mut tester = self.tester(alloc)?;
+        Ok(tester.accepts(value))
+    }
+
+    /// The same test for many values: a pattern's search is made once. Memory is taken only for a pattern.
+    pub fn tester(&self, alloc: Global) -> Result<Tester<'_>, AllocError>
+        ensures { IfOk result (λ t. t ≡ self.now) }
+    {
+        match self.test.pattern() {
+            None => Ok(Tester::of_text(self)),
+            Some(pattern) => Ok(Tester::of_pattern(self, pattern.search(alloc)?)),
+        }
+    }
+}
