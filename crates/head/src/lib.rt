@@ -1,2 +1,41 @@
-//! To come.
+//! The head of a store: the newest samples of each label set, in versions that share what they have in common.
+//!
+//! A snapshot is an unchanging list of blocks and one head, and stands for a world: a content, the newest sample of each
+//! label set in order of creation, a floor and a number of blocks. `apply` takes a snapshot one event further: it is Ok
+//! exactly where the step of that event accepts it on the snapshot's world, and the world of what it gives is the world
+//! after; else it answers the step's refusal. A head is a part: its references are 1 to n in order of creation.
+//! It stands on `labels` for label sets, contents and parts, and on `postings` for the lists that a part lends.
+//! Events and their rules follow Prometheus's TSDB: a head above a floor, and samples in order for each series.
 #![tactic(auto)]
+
+mod block;
+mod draft;
+mod error;
+mod event;
+mod head;
+mod index;
+mod list;
+mod listed;
+mod live;
+mod series;
+mod snapshot;
+mod source;
+mod span;
+#[cfg(test)]
+mod tests;
+
+pub use block::Block;
+pub use error::{AppendError, CommitError};
+pub use event::{Event, MAX_BATCH};
+pub use head::HeadView;
+pub use list::HeadList;
+pub use live::LiveList;
+pub use postings::PartName;
+pub use snapshot::{Snapshot, apply};
+pub use span::Span;
+
+/// The greatest number of series in a head.
+pub const MAX_SERIES: usize = 1_048_576;
+
+/// The greatest number of samples of one series in a head.
+pub const MAX_SAMPLES: usize = 1_048_576;

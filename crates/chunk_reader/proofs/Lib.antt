@@ -1,0 +1,7 @@
+pub mod Batches
+pub mod Places
+pub mod Rising
+pub mod SampleTexts
+pub mod Spans
+pub mod Steps
+pub mod Whole

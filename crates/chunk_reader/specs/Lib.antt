@@ -1,0 +1,4 @@
+pub mod Codes
+pub mod Grammar
+pub mod Outcome
+pub mod Reading

@@ -1,0 +1,66 @@
+//! Why a chunk is refused.
+
+ghost use Rattle.std.specs.Prelude.{◌≡◌};
+ghost use Rattle.chunk_reader.specs.declared.error.ChunkError.TheVariants.{Memory};
+
+use std::alloc::{AllocError, AllocFailed};
+
+/// The first check that failed, or want of memory.
+#[derive(Clone, Copy, Debug, PartialEq, Eq)]
+pub enum ChunkError {
+    /// No memory is left.
+    Memory,
+    /// `C1`: the file does not begin with `85 BD 40 DD`.
+    Magic,
+    /// `C2`: these are not followed by `01 00 00 00`.
+    Version,
+    /// `C3`: the reference names no place behind the head within the file.
+    Reference,
+    /// `C4`: the chunk is not whole, or its checksum is another.
+    Crc,
+    /// `C5`: the samples are compressed by Prometheus's XOR encoding.
+    XorEncoding,
+    /// `C6`: the encoding is no other known one.
+    OtherEncoding,
+    /// `C7`: the data is not of the form, times do not ascend strictly or are none, or the file is above 1 GiB.
+    Shape,
+    /// `C8`: the first or the last time is not the one asked for.
+    TimesDisagree,
+}
+
+impl ChunkError {
+    ghost use Rattle.chunk_reader.specs.Codes.{code_of};
+
+    /// The refusal's number, as it is printed.
+    pub fn code(self) -> &'static str
+        ensures { result.now ≡ code_of self }
+    {
+        match self {
+            ChunkError::Memory => "Memory",
+            ChunkError::Magic => "C1",
+            ChunkError::Version => "C2",
+            ChunkError::Reference => "C3",
+            ChunkError::Crc => "C4",
+            ChunkError::XorEncoding => "C5",
+            ChunkError::OtherEncoding => "C6",
+            ChunkError::Shape => "C7",
+            ChunkError::TimesDisagree => "C8",
+        }
+    }
+}
+
+impl From<AllocError> for ChunkError {
+    ghost from_gives = { λ _ e. e ≡ Memory };
+
+    fn from(_error: AllocError) -> ChunkError {
+        ChunkError::Memory
+    }
+}
+
+impl<T: Drop> From<AllocFailed<T>> for ChunkError {
+    ghost from_gives = { λ _ e. e ≡ Memory };
+
+    fn from(_error: AllocFailed<T>) -> ChunkError {
+        ChunkError::Memory
+    }
+}

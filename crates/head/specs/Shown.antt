@@ -1,0 +1,18 @@
+-- What callers see of a head.
+use Rattle.std.specs.Prelude.{ℕ, List, map}
+use Rattle.std.specs.Arc.{arc_value}
+use Rattle.labels.specs.Parts.{Part}
+use Rattle.head.specs.declared.head.HeadView.{HeadView}
+use Rattle.head.specs.Heads.{HeadSeries, head_part}
+
+-- the series in order of creation
+abbrev pub series_of : HeadView → List HeadSeries
+series_of head = map (λ series. arc_value series) head.series.items
+
+-- the head as a part
+abbrev pub part_of : HeadView → Part
+part_of head = head_part (series_of head)
+
+-- how many old samples the event that made the version copied
+abbrev pub copied_of : HeadView → ℕ
+copied_of head = head.copied

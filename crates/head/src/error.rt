@@ -1,0 +1,112 @@
+//! Why a sample or an event is refused.
+
+ghost use Rattle.std.specs.Prelude.{◌≡◌};
+ghost use Rattle.head.specs.Codes.{append_code, commit_code};
+ghost use Rattle.head.specs.declared.error.CommitError.TheVariants.{Memory};
+
+use std::alloc::AllocError;
+use std::error::Error;
+use std::fmt;
+
+/// Why a sample is not taken into a batch.
+#[derive(Clone, Copy, Debug, PartialEq, Eq, Drop)]
+pub enum AppendError {
+    /// A1: the batch has as many samples as it may.
+    Full,
+    /// A2: the time is below -2^62 or above 2^62 - 1.
+    TimeRange,
+}
+
+impl AppendError {
+    /// The number of the refusal.
+    pub fn code(self) -> &'static str
+        ensures { result.now ≡ append_code self }
+    {
+        match self {
+            AppendError::Full => "A1",
+            AppendError::TimeRange => "A2",
+        }
+    }
+}
+
+/// Why an event is refused. `at` is the number, from 0, of the first refused sample of the batch.
+#[derive(Clone, Copy, Debug, PartialEq, Eq, Drop)]
+pub enum CommitError {
+    /// E1: the sample's time is below the floor.
+    OutOfBounds { at: usize },
+    /// E2: the sample is older than the newest one of its label set.
+    OutOfOrder { at: usize },
+    /// E3: the sample has the newest time of its label set, and another value.
+    Duplicate { at: usize },
+    /// E4: the head would have too many series, or one series too many samples.
+    Limit,
+    /// E5: the time of a cut is not above the floor.
+    CutTooLow,
+    /// E6: a cut would make one block too many.
+    TooManyParts,
+    /// E7: the seat is none of the store's.
+    Seat,
+    /// No memory.
+    Memory,
+}
+
+impl CommitError {
+    /// The number of the refusal, or `memory`.
+    pub fn code(self) -> &'static str
+        ensures { result.now ≡ commit_code self }
+    {
+        match self {
+            CommitError::OutOfBounds { .. } => "E1",
+            CommitError::OutOfOrder { .. } => "E2",
+            CommitError::Duplicate { .. } => "E3",
+            CommitError::Limit => "E4",
+            CommitError::CutTooLow => "E5",
+            CommitError::TooManyParts => "E6",
+            CommitError::Seat => "E7",
+            CommitError::Memory => "memory",
+        }
+    }
+}
+
+impl fmt::Display for AppendError {
+    fn fmt<W: fmt::Write>(&self, f: &mut fmt::Formatter<W>) -> fmt::Result {
+        let text = match self {
+            AppendError::Full => "A1: a batch has at most 4096 samples",
+            AppendError::TimeRange => "A2: a time is from -2^62 to 2^62 - 1",
+        };
+        write!(f, "{text}")
+    }
+}
+
+impl Error for AppendError {}
+
+impl fmt::Display for CommitError {
+    fn fmt<W: fmt::Write>(&self, f: &mut fmt::Formatter<W>) -> fmt::Result {
+        match self {
+            CommitError::OutOfBounds { at } => write!(f, "E1: sample {at} is below the floor"),
+            CommitError::OutOfOrder { at } => write!(
+                f,
+                "E2: sample {at} is older than the newest of its series"
+            ),
+            CommitError::Duplicate { at } => write!(
+                f,
+                "E3: sample {at} has the newest time of its series and another value"
+            ),
+            CommitError::Limit => write!(f, "E4: too many series, or too many samples of one"),
+            CommitError::CutTooLow => write!(f, "E5: the time of the cut is not above the floor"),
+            CommitError::TooManyParts => write!(f, "E6: there would be more than 63 blocks"),
+            CommitError::Seat => write!(f, "E7: the seat is none of this store's"),
+            CommitError::Memory => write!(f, "no memory"),
+        }
+    }
+}
+
+impl Error for CommitError {}
+
+impl From<AllocError> for CommitError {
+    ghost from_gives = { λ _ e. e ≡ Memory };
+
+    fn from(_error: AllocError) -> CommitError {
+        CommitError::Memory
+    }
+}

@@ -1,0 +1,153 @@
+//! The head of a snapshot.
+
+ghost use Rattle.std.specs.Prelude.{◌≡◌, ◌<◌, ◌≤◌, length, Some, None, IfOk, IfSome, IfNone, map, MatchOption};
+ghost use Rattle.std.specs.Arc.{arc_value};
+ghost use Rattle.labels.specs.Parts.{IsPart};
+ghost use Rattle.head.specs.declared.TheConstants.{MAX_SERIES};
+ghost use Rattle.head.specs.Heads.{head_part};
+ghost use Rattle.head.specs.Index.{IsIndexOf};
+ghost use Rattle.head.specs.Orders.{sets_of, Extends, IsOrder, IsOrder-prop};
+ghost use Rattle.head.specs.Parts.{row_at, labels_in, samples_within};
+ghost use Rattle.head.specs.PartProps.{IsPart-prop};
+
+use crate::MAX_SERIES;
+use crate::draft::Slot;
+use crate::index::Index;
+use crate::series::Series;
+use labels::{LabelSet, Sample, SeriesRef};
+use std::alloc::{AllocError, Global};
+use std::sync::Arc;
+
+/// The newest samples of a store, as a part: its series have the references 1 to n in order of creation.
+#[derive(Drop)]
+pub struct HeadView {
+    pub(crate) series: Vec<Arc<Series>>,
+    order: Vec<u32>,
+    pub(crate) index: Index,
+    copied: u64,
+    ghost few: { length series.items ≤ MAX_SERIES },
+    ghost is_part: { IsPart (head_part (map (λ s. arc_value s) series.items)) } by { IsPart-prop (head_part (map (λ s. arc_value s) series.items)) },
+    ghost ordered: { IsOrder order.items (sets_of (map (λ s. arc_value s) series.items)) } by { IsOrder-prop order.items (sets_of (map (λ s. arc_value s) series.items)) },
+    ghost indexed: { IsIndexOf index (head_part (map (λ s. arc_value s) series.items)) },
+}
+
+impl HeadView {
+    ghost use Rattle.std.specs.Prelude.{[]};
+    ghost use Rattle.head.specs.Shown.{series_of, part_of, copied_of};
+    ghost use Rattle.head.specs.Slots.{series_in_each};
+
+    pub(crate) fn empty(alloc: Global) -> Result<HeadView, AllocError>
+        ensures series { IfOk result (λ head. series_of head ≡ []) }
+        ensures copied { IfOk result (λ head. copied_of head ≡ 0) }
+    {
+        let index = Index::new(alloc)?;
+        Ok(HeadView {
+            series: Vec::new(alloc),
+            order: Vec::new(alloc),
+            index,
+            copied: 0,
+        })
+    }
+
+    /// The version that these series make.
+    pub(crate) fn of_slots(
+        alloc: Global,
+        slots: Vec<Slot>,
+        order: Vec<u32>,
+        index: Index,
+        copied: u64,
+    ) -> Result<HeadView, AllocError>
+        requires few { length slots.items ≤ MAX_SERIES }
+        requires ordered { IsOrder order.items (sets_of (series_in_each slots.items)) }
+        requires indexed { IsIndexOf index (head_part (series_in_each slots.items)) }
+        requires is_part { IsPart (head_part (series_in_each slots.items)) }
+        ensures series { IfOk result (λ head. series_of head ≡ series_in_each slots.items) }
+        ensures copied { IfOk result (λ head. copied_of head ≡ copied) }
+    {
+        let mut series = Vec::new(alloc);
+        for slot in slots {
+            series.push(slot.into_shared(alloc)?)?;
+        }
+        Ok(HeadView {
+            series,
+            order,
+            index,
+            copied,
+        })
+    }
+
+    /// The index of these series, of which the first are the head's.
+    pub(crate) fn index_of(&self, alloc: Global, slots: &[Slot]) -> Result<Index, AllocError>
+        requires few { length slots.now ≤ MAX_SERIES }
+        requires extended { Extends (sets_of (series_of self.now)) (sets_of (series_in_each slots.now)) }
+        ensures { IfOk result (λ index. IsIndexOf index (head_part (series_in_each slots.now))) }
+    {
+        let mut index = self.index.try_clone()?;
+        for place in self.series.len()..slots.len() {
+            let reference = SeriesRef::new(place as u32 + 1);
+            index.add(alloc, slots[place].series().labels(), reference)?;
+        }
+        Ok(index)
+    }
+
+    pub(crate) fn series(&self) -> &[Arc<Series>]
+        ensures { map (λ s. arc_value s) result.now ≡ series_of self.now }
+    {
+        self.series.as_slice()
+    }
+
+    /// A copy of the places of the series in the order of their label sets.
+    pub(crate) fn copied_order(&self, alloc: Global) -> Result<Vec<u32>, AllocError>
+        ensures { IfOk result (λ order. IsOrder order.items (sets_of (series_of self.now))) }
+    {
+        let mut order = Vec::new(alloc);
+        order.extend_from_slice(self.order.as_slice())?;
+        Ok(order)
+    }
+
+    /// How many old samples the event that made this version copied.
+    pub fn copied(&self) -> u64
+        ensures { result ≡ copied_of self.now }
+    {
+        self.copied
+    }
+
+    fn series_at(&self, reference: SeriesRef) -> Option<&Series>
+        ensures none { IfNone result (row_at reference (part_of self.now) ≡ None) }
+        ensures some { IfSome result (λ series. row_at reference (part_of self.now) ≡ Some (series.now.labels, series.now.samples)) }
+    {
+        let number = reference.number() as usize;
+        if number == 0 || number > self.series.len() {
+            return None;
+        }
+        let series = &self.series[number - 1];
+        Some(series)
+    }
+
+    /// The label set of the series with this reference.
+    pub fn labels_of(&self, reference: SeriesRef) -> Option<&LabelSet>
+        ensures none { IfNone result (row_at reference (part_of self.now) ≡ None) }
+        ensures some { IfSome result (λ labels. labels_in (row_at reference (part_of self.now)) ≡ Some labels.now) }
+    {
+        match self.series_at(reference) {
+            Some(series) => Some(series.labels()),
+            None => None,
+        }
+    }
+
+    /// The samples from the first time to the second, both included; none for an unknown reference.
+    pub fn samples_of(
+        &self,
+        alloc: Global,
+        reference: SeriesRef,
+        from: i64,
+        to: i64,
+    ) -> Result<Vec<Sample>, AllocError>
+        ensures { IfOk result (λ samples. samples.items ≡ samples_within from to (row_at reference (part_of self.now))) }
+    {
+        match self.series_at(reference) {
+            Some(series) => series.samples_within(alloc, from, to),
+            None => Ok(Vec::new(alloc)),
+        }
+    }
+}

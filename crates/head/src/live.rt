@@ -1,0 +1,90 @@
+//! The series with a sample in a range.
+
+ghost use Rattle.std.specs.Prelude.{◌≡◌, ℕ, ◌<◌, ◌+◌, List, length, map, max};
+ghost use Rattle.std.specs.Arc.{arc_value};
+ghost use Rattle.labels.specs.Ascending.{first_of, rest_of, not_below};
+ghost use Rattle.labels.specs.Parts.{references, live_references, IsPart};
+ghost use Rattle.head.specs.Heads.{head_part};
+ghost use Rattle.head.specs.HeadLists.{rows_from};
+ghost use Rattle.head.specs.PartProps.{IsPart-prop};
+
+use crate::series::Series;
+use labels::SeriesRef;
+use postings::Postings;
+use std::sync::Arc;
+
+/// The place of the first series, from a place on, that has a sample in the closed range, or the end.
+fn next_live(series: &[Arc<Series>], start: usize, from: i64, to: i64) -> usize
+    requires { IsPart (head_part (map (λ s. arc_value s) series.now)) }
+    ensures moved { live_references from to (rows_from result (map (λ s. arc_value s) series.now)) ≡ live_references from to (rows_from start (map (λ s. arc_value s) series.now)) }
+    ensures settled { first_of (live_references from to (rows_from result (map (λ s. arc_value s) series.now))) ≡ first_of (references (rows_from result (map (λ s. arc_value s) series.now))) }
+{
+    let mut place = start;
+    while place < series.len() && !series[place].has_sample_in(from, to) {
+        place += 1;
+    }
+    place
+}
+
+/// The list of the series that have a sample in a closed range. It stands at such a series, or at the end, and looks at
+/// the series only as it goes on.
+#[derive(Drop)]
+pub struct LiveList<'a> {
+    series: &'a [Arc<Series>],
+    place: usize,
+    from: i64,
+    to: i64,
+    ghost few: { length series.now < 4294967296 },
+    ghost is_part: { IsPart (head_part (map (λ s. arc_value s) series.now)) } by { IsPart-prop (head_part (map (λ s. arc_value s) series.now)) },
+    ghost settled: { first_of (live_references from to (rows_from place (map (λ s. arc_value s) series.now))) ≡ first_of (references (rows_from place (map (λ s. arc_value s) series.now))) },
+}
+
+impl<'a> LiveList<'a> {
+    /// The list over these series, whose references begin at 1.
+    pub(crate) fn new(series: &'a [Arc<Series>], from: i64, to: i64) -> LiveList<'a>
+        requires few { length series.now < 4294967296 }
+        requires is_part { IsPart (head_part (map (λ s. arc_value s) series.now)) }
+        ensures { ⟦<LiveList<'a> as Postings>⟧.remaining result ≡ live_references from to (head_part (map (λ s. arc_value s) series.now)) }
+    {
+        LiveList {
+            series,
+            place: next_live(series, 0, from, to),
+            from,
+            to,
+        }
+    }
+}
+
+impl<'a> Postings for LiveList<'a> {
+    ghost use Rattle.std.specs.Prelude.{map};
+    ghost use Rattle.std.specs.Arc.{arc_value};
+    ghost use Rattle.labels.specs.Parts.{live_references, has_sample};
+    ghost use Rattle.labels.proofs.Lists.{not_below-twice};
+    ghost use Rattle.head.specs.HeadLists.{rows_from, kept_rises, rows_rise};
+
+    ghost remaining = { λ live. live_references live.from live.to (rows_from live.place (map (λ s. arc_value s) live.series.now)) };
+
+    fn current(&self) -> Option<SeriesRef> {
+        if self.place < self.series.len() {
+            return Some(SeriesRef::new(self.place as u32 + 1));
+        }
+        None
+    }
+
+    fn advance(&mut self) {
+        if self.place < self.series.len() {
+            self.place = next_live(self.series, self.place + 1, self.from, self.to);
+        }
+    }
+
+    fn seek(&mut self, target: SeriesRef) {
+        let start = (target.number() as usize).saturating_sub(1);
+        if start > self.place {
+            self.place = next_live(self.series, start, self.from, self.to);
+        }
+    }
+
+    ghost ascending = { λ live. kept_rises (λ row. has_sample live.from live.to row.1.1) (rows_from live.place (map (λ s. arc_value s) live.series.now)) (rows_rise live.place (map (λ s. arc_value s) live.series.now)) };
+
+    ghost two_seeks = { λ live a b. not_below-twice a b (live_references live.from live.to (rows_from live.place (map (λ s. arc_value s) live.series.now))) };
+}

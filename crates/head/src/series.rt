@@ -1,0 +1,224 @@
+//! The samples of one label set, in chunks that versions share.
+
+ghost use Rattle.std.specs.Prelude.{◌≡◌, ◌<◌, ◌++◌, IfOk, OnOk, [], ◌∷◌, length, map, filter, nat_le, ℤ};
+ghost use Rattle.std.specs.Arc.{arc_value};
+ghost use Rattle.std.specs.Prelude.{T};
+ghost use Rattle.std.specs.Ordering.{int_cmp};
+ghost use Rattle.std.specs.FinMap.Entries.{is_sorted};
+ghost use Rattle.labels.specs.Contents.{in_range};
+ghost use Rattle.labels.specs.Parts.{has_sample};
+ghost use Rattle.head.specs.ChunkEnds.{ends_before};
+ghost use Rattle.head.specs.Heads.{grown};
+ghost use Rattle.head.specs.Parts.{within};
+
+use crate::MAX_SAMPLES;
+use labels::{LabelSet, Sample};
+use std::alloc::{AllocError, Global};
+use std::marker::Model;
+use std::mem;
+use std::sync::Arc;
+
+/// How many samples a sealed chunk has.
+pub(crate) const CHUNK: usize = 120;
+
+/// Samples that do not change any more.
+#[derive(Drop)]
+pub(crate) struct Chunk {
+    samples: Vec<Sample>,
+}
+
+impl Model for Chunk {
+    ghost use Rattle.std.specs.Prelude.{List, ℤ};
+
+    ghost Value = { List (ℤ × ℤ) };
+
+    ghost view = { λ c. c.samples.items };
+}
+
+impl Chunk {
+    fn new(samples: Vec<Sample>) -> Chunk
+        ensures { result ≡ samples.items }
+    {
+        Chunk { samples }
+    }
+
+    fn samples(&self) -> &[Sample]
+        ensures { result.now ≡ self.now }
+    {
+        self.samples.as_slice()
+    }
+
+    /// Whether all samples lie before a time, as seen from the last.
+    fn ends_before(&self, time: i64) -> bool
+        ensures { result ≡ ends_before time self.now }
+    {
+        match self.samples.as_slice() {
+            [] => true,
+            [.., last] => last.t() < time,
+        }
+    }
+}
+
+/// Whether one of the samples, whose times ascend, lies in the closed range.
+fn has_sample_in(samples: &[Sample], from: i64, to: i64) -> bool
+    requires { T (is_sorted int_cmp samples.now) }
+    ensures { result ≡ has_sample from to samples.now }
+{
+    let place = samples.partition_point(|sample| sample.t() < from);
+    place < samples.len() && samples[place].t() <= to
+}
+
+/// The samples of one label set: sealed chunks of 120 samples, shared, and an open one of fewer.
+#[derive(Drop)]
+pub(crate) struct Series {
+    labels: LabelSet,
+    sealed: Vec<Arc<Chunk>>,
+    tail: Vec<Sample>,
+    newest: Sample,
+}
+
+impl Model for Series {
+    ghost use Rattle.std.specs.Prelude.{map};
+    ghost use Rattle.std.specs.Arc.{arc_value};
+    ghost use Rattle.head.specs.Heads.{HeadSeries};
+    ghost use Rattle.head.specs.Chunks.{joined_chunks, AreChunks};
+
+    ghost Value = { HeadSeries };
+
+    ghost view = { λ s. record { labels = s.labels; samples = joined_chunks (map (λ c. arc_value c) s.sealed.items) s.tail.items; newest = s.newest } };
+
+    ghost invariant = { λ s. AreChunks (map (λ c. arc_value c) s.sealed.items) s.tail.items };
+}
+
+fn shared(alloc: Global, chunks: &[Arc<Chunk>]) -> Result<Vec<Arc<Chunk>>, AllocError>
+    ensures { IfOk result (λ v. map (λ c. arc_value c) v.items ≡ map (λ c. arc_value c) chunks.now) }
+{
+    let mut copy = Vec::new(alloc);
+    for chunk in chunks {
+        copy.push(Arc::try_clone(chunk)?)?;
+    }
+    Ok(copy)
+}
+
+fn is_within(sample: Sample, from: i64, to: i64) -> bool
+    ensures { result ≡ in_range from to sample.0 }
+{
+    sample.t() >= from && sample.t() <= to
+}
+
+/// Adds those of the samples whose times lie in the closed range.
+fn push_within(
+    found: &mut Vec<Sample>,
+    samples: &[Sample],
+    from: i64,
+    to: i64,
+) -> Result<(), AllocError>
+    ensures { OnOk result (found.new.items ≡ found.old.items ++ within from to samples.now) }
+{
+    for sample in samples {
+        if is_within(*sample, from, to) {
+            found.push(*sample)?;
+        }
+    }
+    Ok(())
+}
+
+impl Series {
+    pub(crate) fn new(
+        alloc: Global,
+        labels: &LabelSet,
+        sample: Sample,
+    ) -> Result<Series, AllocError>
+        ensures { IfOk result (λ s. s ≡ record { labels = labels.now; samples = sample ∷ []; newest = sample }) }
+    {
+        let mut tail = Vec::new(alloc);
+        tail.push(sample)?;
+        Ok(Series {
+            labels: labels.try_clone()?,
+            sealed: Vec::new(alloc),
+            tail,
+            newest: sample,
+        })
+    }
+
+    /// An equal series, which shares all but the open chunk, and how many samples that one has.
+    pub(crate) fn copied(&self, alloc: Global) -> Result<(Series, u64), AllocError>
+        ensures same { IfOk result (λ p. p.0 ≡ self.now) }
+        ensures few { IfOk result (λ p. p.1 < 120) }
+    {
+        let mut tail = Vec::new(alloc);
+        tail.extend_from_slice(self.tail.as_slice())?;
+        let copied = tail.len() as u64;
+        let copy = Series {
+            labels: self.labels.try_clone()?,
+            sealed: shared(alloc, self.sealed.as_slice())?,
+            tail,
+            newest: self.newest,
+        };
+        Ok((copy, copied))
+    }
+
+    /// Adds a sample at the end, and seals the open chunk where that is its last.
+    pub(crate) fn push(&mut self, alloc: Global, sample: Sample) -> Result<(), AllocError>
+        ensures { OnOk result (self.new ≡ grown sample self.old) }
+    {
+        self.tail.push(sample)?;
+        self.newest = sample;
+        if self.tail.len() == CHUNK {
+            let full = mem::replace(&mut self.tail, Vec::new(alloc));
+            self.sealed.push(Arc::new(alloc, Chunk::new(full))?)?;
+        }
+        Ok(())
+    }
+
+    pub(crate) fn labels(&self) -> &LabelSet
+        ensures { result.now ≡ self.now.labels }
+    {
+        &self.labels
+    }
+
+    /// Whether there is no room for one more sample.
+    pub(crate) fn is_full(&self) -> bool
+        ensures { result ≡ nat_le MAX_SAMPLES (length self.now.samples) }
+    {
+        let sealed = self.sealed.len();
+        let last = MAX_SAMPLES / CHUNK;
+        sealed > last || sealed == last && self.tail.len() >= MAX_SAMPLES % CHUNK
+    }
+
+    pub(crate) fn newest(&self) -> Sample
+        ensures { result ≡ self.now.newest }
+    {
+        self.newest
+    }
+
+    /// Whether a sample lies in the closed range. It halves over the sealed chunks, and then over one chunk.
+    pub(crate) fn has_sample_in(&self, from: i64, to: i64) -> bool
+        requires { T (is_sorted int_cmp self.now.samples) }
+        ensures { result ≡ has_sample from to self.now.samples }
+    {
+        let chunks = self.sealed.as_slice();
+        let place = chunks.partition_point(|chunk| chunk.ends_before(from));
+        if place < chunks.len() {
+            return has_sample_in(chunks[place].samples(), from, to);
+        }
+        has_sample_in(self.tail.as_slice(), from, to)
+    }
+
+    /// The samples whose times lie in the closed range.
+    pub(crate) fn samples_within(
+        &self,
+        alloc: Global,
+        from: i64,
+        to: i64,
+    ) -> Result<Vec<Sample>, AllocError>
+        ensures { IfOk result (λ found. found.items ≡ within from to self.now.samples) }
+    {
+        let mut found = Vec::new(alloc);
+        for chunk in &self.sealed {
+            push_within(&mut found, chunk.samples(), from, to)?;
+        }
+        push_within(&mut found, self.tail.as_slice(), from, to)?;
+        Ok(found)
+    }
+}

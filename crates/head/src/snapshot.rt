@@ -1,0 +1,134 @@
+//! Snapshots, and the step of an event.
+
+ghost use Rattle.std.specs.Prelude.{◌≡◌, ◌≤◌, ◌*◌, IsTrue, Ok, Some, IfOk, IfErr, IfSome, IfNone, length, slice_get};
+ghost use Rattle.head.specs.Heads.{world_of};
+ghost use Rattle.head.specs.Batches.{is_batch, set_count, named_sets};
+ghost use Rattle.head.specs.Worlds.{stepped, committed};
+ghost use Rattle.head.specs.Answers.{IsAnswer};
+ghost use Rattle.head.specs.Limits.{most};
+
+use crate::block::Block;
+use crate::draft::{add_each, slots_of};
+use crate::error::CommitError;
+use crate::event::{Event, Kind};
+use crate::head::HeadView;
+use labels::{LabelSet, MIN_TIME, Sample};
+use postings::PartName;
+use std::alloc::{AllocError, Global};
+use std::marker::Model;
+use std::sync::Arc;
+
+/// An unchanging list of blocks and one head.
+#[derive(Drop)]
+pub struct Snapshot {
+    blocks: Arc<Vec<Block>>,
+    head: HeadView,
+    floor: i64,
+}
+
+impl Model for Snapshot {
+    ghost use Rattle.head.specs.Heads.{SnapshotParts, IsSound};
+
+    ghost Value = { SnapshotParts };
+
+    ghost use Rattle.head.specs.Snapshots.{parts_in};
+
+    ghost view = { parts_in };
+
+    ghost invariant = { λ s. IsSound (parts_in s) };
+}
+
+ghost use Rattle.head.specs.Blocks.{part_in, opening_of, part_names};
+ghost use Rattle.head.specs.Shown.{series_of, copied_of};
+ghost use Rattle.std.specs.Prelude.{[], map};
+
+impl Snapshot {
+    /// The snapshot of these blocks and an empty head. The floor is the greatest end of a block's range, or the smallest
+    /// time where there is no block.
+    pub fn opening(alloc: Global, blocks: Vec<Block>) -> Result<Snapshot, AllocError>
+        ensures { IfOk result (λ s. s ≡ opening_of (map part_in blocks.items)) }
+    {
+        let head = HeadView::empty(alloc)?;
+        Ok(Snapshot {
+            blocks: Arc::new(alloc, blocks)?,
+            head,
+            floor: MIN_TIME,
+        })
+    }
+
+    /// The names of the parts: the blocks in their order, and then the head.
+    pub fn parts(&self, alloc: Global) -> Result<Vec<PartName>, AllocError>
+        ensures { IfOk result (λ names. names.items ≡ part_names (length self.now.blocks)) }
+    {
+        let mut names = Vec::new(alloc);
+        for n in 0..self.blocks.len() {
+            names.push(PartName::Block(n))?;
+        }
+        names.push(PartName::Head)?;
+        Ok(names)
+    }
+
+    /// The block with this number.
+    pub fn block(&self, n: usize) -> Option<&Block>
+        ensures none { IfNone result (length self.now.blocks ≤ n) }
+        ensures some { IfSome result (λ b. slice_get self.now.blocks n ≡ Some (part_in b.now)) }
+    {
+        self.blocks.get(n)
+    }
+
+    /// The head.
+    pub fn head(&self) -> &HeadView
+        ensures series { series_of result.now ≡ self.now.head }
+        ensures copied { copied_of result.now ≡ self.now.copied }
+    {
+        &self.head
+    }
+}
+
+fn committed_to(
+    alloc: Global,
+    at: &Snapshot,
+    batch: &[(LabelSet, Sample)],
+) -> Result<Snapshot, CommitError>
+    requires { IsTrue (is_batch batch.now) }
+    ensures ok { IfOk result (λ s. committed most (world_of at.now) batch.now ≡ Ok (world_of s)) }
+    ensures refused { IfErr result (λ e. IsAnswer e (committed most (world_of at.now) batch.now)) }
+    ensures copied { IfOk result (λ s. s.copied ≤ 119 * set_count batch.now) }
+{
+    let Ok(mut slots) = slots_of(alloc, at.head.series()) else {
+        return Err(CommitError::Memory);
+    };
+    let Ok(blocks) = Arc::try_clone(&at.blocks) else {
+        return Err(CommitError::Memory);
+    };
+    let Ok(mut order) = at.head.copied_order(alloc) else {
+        return Err(CommitError::Memory);
+    };
+    let copied = match add_each(alloc, &mut slots, &mut order, at.floor, batch) {
+        Ok(copied) => copied,
+        Err(refusal) => return Err(refusal),
+    };
+    let Ok(index) = at.head.index_of(alloc, slots.as_slice()) else {
+        return Err(CommitError::Memory);
+    };
+    let Ok(head) = HeadView::of_slots(alloc, slots, order, index, copied) else {
+        return Err(CommitError::Memory);
+    };
+    Ok(Snapshot {
+        blocks,
+        head,
+        floor: at.floor,
+    })
+}
+
+/// The snapshot after an event. It shares with the one before what the event leaves alone: a batch copies at most 119
+/// samples for each of its label sets. A refusal leaves no trace.
+pub fn apply(alloc: Global, at: &Snapshot, event: &Event) -> Result<Snapshot, CommitError>
+    ensures ok { IfOk result (λ s. stepped most (world_of at.now) event.now ≡ Ok (world_of s)) }
+    ensures refused { IfErr result (λ e. IsAnswer e (stepped most (world_of at.now) event.now)) }
+    ensures copied { IfOk result (λ s. s.copied ≤ 119 * named_sets event.now) }
+{
+    match event.kind() {
+        Kind::Batch(samples) => committed_to(alloc, at, samples.as_slice()),
+    }
+}

@@ -1,0 +1,11 @@
+pub mod Found
+pub mod SortedRows
+pub mod PartRows
+pub mod Lookups
+pub mod NoFloat
+pub mod Steps
+pub mod LaidTimes
+pub mod Joining
+pub mod JoinSteps
+pub mod GatheredRows
+pub mod MergedAnswers

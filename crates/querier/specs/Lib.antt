@@ -1,0 +1,4 @@
+pub mod Answering
+pub mod Audited
+pub mod Reply
+pub mod Merging

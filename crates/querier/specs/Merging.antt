@@ -1,0 +1,46 @@
+-- What the rows of several answers list together.
+use Rattle.std.specs.Prelude.{ℤ, T, List, [], ◌∷◌, ◌++◌, map, if◌then◌else◌}
+use Rattle.std.specs.Ordering.{int_cmp}
+use Rattle.std.specs.FinMap.Entries.{put, is_sorted}
+use Rattle.labels.specs.Labels.{point_cmp, same_labels}
+use Rattle.labels.specs.Contents.{Content}
+use Rattle.labels.specs.Rows.{Row, points_of, AreRows}
+use Rattle.labels.specs.Parts.{laid_over}
+use Rattle.cover.specs.declared.part_cover.PartAnswer.{PartAnswer}
+
+-- the rows of some content
+pub record IsRowList (rows : List Row) : Type 0 where
+  pub of_content : AreRows rows (points_of rows)
+  pub content : T (is_sorted point_cmp (points_of rows))
+
+-- the content with lists of rows laid over it, one list after another
+abbrev pub laid_each : Content → List (List Row) → Content
+laid_each c [] = c
+laid_each c (rows ∷ lists) = laid_each (laid_over (points_of rows) c) lists
+
+abbrev pub row_lists : List PartAnswer → List (List Row)
+row_lists answers = map (λ answer. answer.rows.items) answers
+
+-- what answers list together: at each point the sample of the last answer that has one
+abbrev pub merged_content : List PartAnswer → Content
+merged_content answers = laid_each [] (row_lists answers)
+
+-- the rows of the last list first
+abbrev pub newest_first : List (List Row) → List Row
+newest_first [] = []
+newest_first (rows ∷ lists) = newest_first lists ++ rows
+
+-- samples laid over others: of two at one time the first stands
+abbrev pub laid_times : List (ℤ × ℤ) → List (ℤ × ℤ) → List (ℤ × ℤ)
+laid_times [] under = under
+laid_times (s ∷ ss) under = put int_cmp s.0 s.1 (laid_times ss under)
+
+-- a row before rows in label order; it is laid over the first where that has its label set
+abbrev pub join : Row → List Row → List Row
+join r [] = r ∷ []
+join r (m ∷ ms) = if same_labels r.0 m.0 then (r.0, laid_times r.1 m.1) ∷ ms else r ∷ m ∷ ms
+
+-- rows in label order before others, one row for each label set
+abbrev pub joined : List Row → List Row → List Row
+joined [] rows = rows
+joined (r ∷ rs) rows = join r (joined rs rows)
