@@ -1,5 +1,5 @@
 //! Blocks.
 
 /// An unchanging part whose samples lie in a range. There is none yet.
-#[derive(Debug, Drop)]
+#[derive(Drop)]
 pub enum Block {}
