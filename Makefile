@@ -3,7 +3,7 @@ RT ?= rt
 PREFIX ?= /usr/local
 CRATES := $(shell sed -e 's/\#.*//' -e 's/:.*//' -e '/^[[:space:]]*$$/d' crates.txt)
 
-.PHONY: help demo test bench install $(addprefix check-,$(CRATES))
+.PHONY: help demo test allocations bench install $(addprefix check-,$(CRATES))
 
 help: ## lists the targets
 	@grep -hE '^[a-z-]+:.*## ' $(MAKEFILE_LIST) | sed -E 's/^([a-z-]+):.*## /\1\t/' | expand -t 16
@@ -15,8 +15,11 @@ demo: ## proves, builds and runs `querier demo`
 test: ## the merge gate: every proof from nothing, must-fail edits, tests, programs
 	@$(RT) ci
 
+allocations: ## refuses each allocation of the demo in turn (needs a C compiler)
+	@RT="$(RT)" tests/allocations
+
 bench: ## measures speed (never part of the gate)
-	@bench/run
+	@RT="$(RT)" bench/run
 
 install: ## proves and builds querier, and copies it to PREFIX/bin
 	@cd crates/querier && $(RT) run -- demo >/dev/null

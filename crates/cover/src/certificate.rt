@@ -29,7 +29,7 @@ pub struct Interval {
 /// A leftmost certificate is valid and least, there is no other, and its first references are separators; no valid
 /// certificate has fewer intervals than there are separators, so they show it least by themselves. The intervals under
 /// `Match` of a valid certificate stand for exactly the references that match.
-pub fn leftmost_is_least()
+pub fn certificate_laws()
     ensures valid { (a : Asked) (c : List Interval) → IsLeftmost a c → IsValidCertificate a c }
     ensures least { (a : Asked) (c : List Interval) → IsAsked a → IsLeftmost a c → IsLeast a c }
     ensures unique { (a : Asked) (c d : List Interval) → IsAsked a → IsLeftmost a c → IsLeftmost a d → c ≡ d }

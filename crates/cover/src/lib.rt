@@ -8,7 +8,7 @@
 //! smallest matcher that rejects it is named. So it is valid and no valid certificate has fewer runs, over all ways of
 //! cutting the references, and the first references of its runs, which no two in one fitting run, show that by
 //! themselves. Its lists make at most `m + 2` moves for each interval of any valid certificate, with `m` matchers. The
-//! laws behind it are those of [`leftmost_is_least`].
+//! laws behind it are those of [`certificate_laws`].
 //!
 //! Partition certificates, and the walk that goes to the farthest list at each step, are those of Barbay and Kenyon,
 //! "Adaptive intersection and t-threshold problems" (SODA 2002), here with any matcher in place of a sorted set.
@@ -24,5 +24,5 @@ mod six_series;
 mod tests;
 mod walk;
 
-pub use certificate::{Interval, Verdict, leftmost_is_least};
+pub use certificate::{Interval, Verdict, certificate_laws};
 pub use part_cover::{Moves, PartAnswer, PartCover, cover, cover_with_moves};

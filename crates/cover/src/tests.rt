@@ -1,6 +1,6 @@
 use crate::counting::Counting;
 use crate::six_series::SixSeries;
-use crate::{Interval, PartCover, Verdict, cover, cover_with_moves, leftmost_is_least};
+use crate::{Interval, PartCover, Verdict, certificate_laws, cover, cover_with_moves};
 use labels::SeriesRef;
 use matchers::{Matcher, Op, Query};
 use std::alloc::Global;
@@ -134,7 +134,7 @@ fn certificates_of_six_series(rt: HostRuntime) -> Result<(), Fail> {
             "{pairs:?} from {from} to {to}"
         );
     }
-    leftmost_is_least();
+    certificate_laws();
     Ok(())
 }
 

@@ -9,7 +9,8 @@ use Rattle.head.specs.Limits.{most}
 use Rattle.labels.specs.Labels.{Labels}
 use Rattle.head.specs.Refusals.{Refusal}
 use Rattle.head.specs.Worlds.{committed}
-use Rattle.head.specs.Heads.{HeadSeries, SnapshotParts, world_of, IsSound, head_added, head_added_each}
+use Rattle.head.specs.Heads.{HeadSeries, SnapshotParts, world_of, IsSound}
+use Rattle.head.specs.Taking.{head_added, head_added_each}
 use Rattle.head.proofs.Simulates.{Follows, world_with, follows_batch}
 
 all_of : (s : SnapshotParts) (xs : List (Labels × (ℤ × ℤ))) → IsSound s → Follows s (committed most (world_of s) xs) (head_added_each most s.floor (Ok s.head) 0 xs)

@@ -4,7 +4,7 @@ use Rattle.std.specs.List.{list_all, flat_map}
 use Rattle.std.proofs.Common.{sym, ◌∙◌, ap, arith, length-append, append_assoc, append-nil}
 use Rattle.std.proofs.lemmas.List.Elements.{filter-append}
 use Rattle.labels.specs.Contents.{in_range}
-use Rattle.head.specs.Parts.{within}
+use Rattle.labels.specs.Parts.{within}
 use Rattle.std.proofs.lemmas.Bool.Decides.{nat_tests}
 use Rattle.labels.proofs.Times.{first_T, second_T}
 use Rattle.head.specs.Chunks.{joined_chunks}

@@ -6,10 +6,11 @@ use Rattle.std.specs.FinMap.Entries.{find}
 use Rattle.std.proofs.Common.{sym, ◌∙◌, ap, subst}
 use Rattle.labels.specs.Labels.{Labels, labels_cmp, point_cmp, same_labels}
 use Rattle.labels.specs.Contents.{Content}
-use Rattle.head.specs.Worlds.{Newest, told}
+use Rattle.head.specs.Worlds.{Newest, with_newest}
 use Rattle.labels.specs.Rows.{points_in, points_of}
 use Rattle.labels.specs.Parts.{rows_in}
-use Rattle.head.specs.Heads.{HeadSeries, newest_in, numbered, series_at, IsSoundHead, grown, extended}
+use Rattle.head.specs.Heads.{HeadSeries, newest_in, numbered, series_at, IsSoundHead}
+use Rattle.head.specs.Taking.{grown, extended}
 use Rattle.labels.proofs.OrderLaws.{labels_exact}
 use Rattle.labels.proofs.ContentLaws.{or_else, or_else_none, find-++, find-points_in}
 
@@ -56,10 +57,10 @@ find-newest_in l (h ∷ hs) =
     ap (cond (same_labels l h.labels) (Some h.newest)) (find-newest_in l hs)
     ∙ elim (same_labels l h.labels) as (λ b. cond b (Some h.newest) (known_of (series_at l hs)) ≡ known_of (cond b (Some h) (series_at l hs))) [ true ↦ refl | false ↦ refl ]
 
-pub told-newest_in : (l : Labels) (s : ℤ × ℤ) (head : List HeadSeries) → told l s (newest_in head) ≡ newest_in (extended l s head)
-told-newest_in l s [] = refl
-told-newest_in l s (h ∷ hs) =
-    ap (λ (n : Newest). cond (same_labels l h.labels) ((h.labels, s) ∷ newest_in hs) ((h.labels, h.newest) ∷ n)) (told-newest_in l s hs)
+pub with_newest-newest_in : (l : Labels) (s : ℤ × ℤ) (head : List HeadSeries) → with_newest l s (newest_in head) ≡ newest_in (extended l s head)
+with_newest-newest_in l s [] = refl
+with_newest-newest_in l s (h ∷ hs) =
+    ap (λ (n : Newest). cond (same_labels l h.labels) ((h.labels, s) ∷ newest_in hs) ((h.labels, h.newest) ∷ n)) (with_newest-newest_in l s hs)
     ∙ elim (same_labels l h.labels) as (λ b. cond b ((h.labels, s) ∷ newest_in hs) ((h.labels, h.newest) ∷ newest_in (extended l s hs)) ≡ newest_in (cond b (grown s h ∷ hs) (h ∷ extended l s hs))) [ true ↦ refl | false ↦ refl ]
 
 pub length-newest_in : (head : List HeadSeries) → length (newest_in head) ≡ length head

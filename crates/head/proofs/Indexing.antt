@@ -6,7 +6,8 @@ use Rattle.std.proofs.lemmas.List.{take_more, length-map}
 use Rattle.labels.specs.Labels.{Labels, same_labels}
 use Rattle.head.specs.Refusals.{Refusal, out_of_bounds, out_of_order, duplicate, limit}
 use Rattle.head.specs.Limits.{Limits}
-use Rattle.head.specs.Heads.{HeadSeries, numbered, head_part, series_at, extended, grown, head_added, head_added_after, head_added_each}
+use Rattle.head.specs.Heads.{HeadSeries, numbered, head_part, series_at}
+use Rattle.head.specs.Taking.{extended, grown, head_added, head_added_after, head_added_each}
 use Rattle.head.specs.Orders.{sets_of, Extends}
 use Rattle.head.specs.Index.{PairLists, IsIndexOf}
 use Rattle.head.specs.IndexLaws.{labelled, IsIndexOf-labelled}

@@ -15,7 +15,8 @@ use Rattle.labels.specs.Labels.{Labels, labels_cmp, same_labels}
 use Rattle.labels.specs.Laws.{labels_total}
 use Rattle.labels.proofs.OrderLaws.{labels_exact, same_self}
 use Rattle.labels.proofs.Times.{true_not_false}
-use Rattle.head.specs.Heads.{HeadSeries, place_from, series_at}
+use Rattle.head.specs.Heads.{HeadSeries, series_at}
+use Rattle.head.specs.Taking.{place_from}
 use Rattle.head.specs.Orders.{sets_of, set_along, IsOrder, IsFound, IsRoom}
 use Rattle.head.proofs.HeadLaws.{same_path}
 use Rattle.head.proofs.Places.{stands_at}

@@ -8,12 +8,12 @@ use Rattle.std.proofs.lemmas.Bool.Decides.{nat_tests}
 use Rattle.std.proofs.lemmas.Bool.{leb-false}
 use Rattle.labels.specs.Labels.{Labels, same_labels}
 use Rattle.labels.specs.Rows.{Row}
-use Rattle.labels.specs.Parts.{references, AreDistinct, IsPart}
+use Rattle.labels.specs.Parts.{references, AreDistinct, IsPart, row_at}
 use Rattle.labels.proofs.Times.{true_not_false}
 use Rattle.head.specs.Refusals.{Refusal, out_of_bounds, out_of_order, duplicate, limit}
 use Rattle.head.specs.Limits.{Limits}
-use Rattle.head.specs.Parts.{row_at}
-use Rattle.head.specs.Heads.{HeadSeries, numbered, head_part, series_at, IsSoundHead, extended, grown, head_added, head_added_after, head_added_each}
+use Rattle.head.specs.Heads.{HeadSeries, numbered, head_part, series_at, IsSoundHead}
+use Rattle.head.specs.Taking.{extended, grown, head_added, head_added_after, head_added_each}
 
 unequal_above : (n r : ℕ) → r < n → nat_eq n r ≡ false
 unequal_above n r h = grind (arith, nat_tests)

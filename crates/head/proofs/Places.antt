@@ -8,7 +8,8 @@ use Rattle.head.specs.Answers.{IsAnswer}
 use Rattle.labels.specs.Labels.{Labels, same_labels}
 use Rattle.head.specs.Refusals.{Refusal, out_of_bounds, out_of_order, duplicate, limit}
 use Rattle.head.specs.Limits.{Limits}
-use Rattle.head.specs.Heads.{HeadSeries, series_at, grown, extended, place_from, series_added, new_added, head_added, head_added_after}
+use Rattle.head.specs.Heads.{HeadSeries, series_at}
+use Rattle.head.specs.Taking.{grown, extended, place_from, series_added, new_added, head_added, head_added_after}
 use Rattle.labels.proofs.Times.{true_not_false}
 
 -- the first series with these labels stands here

@@ -5,7 +5,8 @@ use Rattle.std.specs.Cmp.{tied_itself}
 use Rattle.std.proofs.Common.{ap}
 use Rattle.std.proofs.lemmas.Cmp.{int_cmp_total}
 use Rattle.labels.proofs.Times.{both_T, T_of, less_of, not_lt_of, is_sorted-++, all_above-++, all_upto-++}
-use Rattle.head.specs.Heads.{HeadSeries, IsSoundSeries, grown}
+use Rattle.head.specs.Heads.{HeadSeries, IsSoundSeries}
+use Rattle.head.specs.Taking.{grown}
 
 pub IsSoundSeries-grown : (floor : ℤ) (s : ℤ × ℤ) (h : HeadSeries) → int_lt s.0 floor ≡ false → int_lt h.newest.0 s.0 ≡ true → IsSoundSeries floor h → IsSoundSeries floor (grown s h)
 IsSoundSeries-grown floor s h above less sound = record {

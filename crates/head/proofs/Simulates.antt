@@ -13,12 +13,13 @@ use Rattle.head.specs.Limits.{Limits}
 use Rattle.head.specs.Worlds.{World, joined, joined_in, added_after, added, added_each, committed}
 use Rattle.labels.specs.Rows.{points_in}
 use Rattle.labels.specs.Parts.{laid_over, over}
-use Rattle.head.specs.Heads.{HeadSeries, newest_in, head_part, SnapshotParts, world_of, series_at, IsSoundSeries, IsSoundHead, IsSound, grown, extended, head_added, head_added_after, head_added_each}
+use Rattle.head.specs.Heads.{HeadSeries, newest_in, head_part, SnapshotParts, world_of, series_at, IsSoundSeries, IsSoundHead, IsSound}
+use Rattle.head.specs.Taking.{grown, extended, head_added, head_added_after, head_added_each}
 use Rattle.labels.proofs.OrderLaws.{point_total, point_exact, same_turn}
 use Rattle.labels.proofs.ContentLaws.{or_else, or_else_cond, or_else_none, find-laid_over, is_sorted-laid_over, is_sorted-over, same_content, over-last, find-points_in, length-points_in, is_sorted-points_in}
 use Rattle.labels.proofs.Times.{true_not_false, missing, later}
 use Rattle.head.proofs.SeriesLaws.{IsSoundSeries-grown, IsSoundSeries-new}
-use Rattle.head.proofs.HeadLaws.{head_points, points_of-numbered, samples_or, samples_at, same_path, find-head_points, find-newest_in, told-newest_in, length-newest_in, samples_at-extended, known_of}
+use Rattle.head.proofs.HeadLaws.{head_points, points_of-numbered, samples_or, samples_at, same_path, find-head_points, find-newest_in, with_newest-newest_in, length-newest_in, samples_at-extended, known_of}
 
 -- what the blocks hold
 abbrev pub below_of : SnapshotParts → Content
@@ -154,7 +155,7 @@ Follows s r q = (r ≡ world_with s q) × IsSoundWith s q
 
 joined-world_of : (s : SnapshotParts) (l : Labels) (x : ℤ × ℤ) → IsSound s → IsSound (record s { head = extended l x s.head }) → find int_cmp x.0 (samples_at l s.head) ≡ None → joined (world_of s) l x ≡ world_of (record s { head = extended l x s.head })
 unfolding world_of
-joined-world_of s l x sound more none = λ i. record { content = put-world_of s l x sound more none i; newest = told-newest_in l x s.head i; floor = s.floor; blocks = length s.blocks }
+joined-world_of s l x sound more none = λ i. record { content = put-world_of s l x sound more none i; newest = with_newest-newest_in l x s.head i; floor = s.floor; blocks = length s.blocks }
 
 joins : (s : SnapshotParts) (l : Labels) (x : ℤ × ℤ) (a b : Bool) → a ≡ b → IsSound s → int_lt x.0 s.floor ≡ false → IfSeries (IsLater x) (series_at l s.head) →
     Follows s (if a then Err limit else Ok (joined (world_of s) l x)) (if b then Err limit else Ok (extended l x s.head))

@@ -2,14 +2,12 @@
 use Rattle.std.specs.Prelude.{ℕ, ◌+◌, Bool, ◌&&◌, [], ◌∷◌, nat_le, length, IsTrue, if◌then◌else◌}
 use Rattle.std.specs.List.{list_any, list_all}
 use Rattle.labels.specs.Labels.{Labels, same_labels}
-use Rattle.labels.specs.Contents.{in_range}
-use Rattle.labels.specs.declared.sample.TheConstants.{MIN_TIME, MAX_TIME}
-use Rattle.head.specs.declared.event.TheConstants.{MAX_BATCH}
+use Rattle.labels.specs.Contents.{is_time}
 use Rattle.head.specs.Worlds.{Batch, Event, batch}
 
--- whether there are few samples, all at times
+-- whether there are at most 4,096 samples, all at times
 abbrev pub is_batch : Batch → Bool
-is_batch xs = nat_le (length xs) MAX_BATCH && list_all (λ x. in_range MIN_TIME MAX_TIME x.1.0) xs
+is_batch xs = nat_le (length xs) 4096 && list_all (λ x. is_time x.1.0) xs
 
 -- what every event keeps
 abbrev pub IsEvent : Event → Type 0

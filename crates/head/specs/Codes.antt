@@ -1,14 +1,21 @@
--- The numbers of refusals.
-use Rattle.std.specs.Prelude.{ℕ, List, codes}
+-- The numbers of refusals, and their texts.
+use Rattle.std.specs.Prelude.{ℕ, List, ◌++◌, codes, decimal}
 use Rattle.head.specs.declared.error.AppendError.{AppendError}
 use Rattle.head.specs.declared.error.AppendError.TheVariants.{Full, TimeRange}
 use Rattle.head.specs.declared.error.CommitError.{CommitError}
 use Rattle.head.specs.declared.error.CommitError.TheVariants.{OutOfBounds, OutOfOrder, Duplicate, Limit, CutTooLow, TooManyParts, Seat, Memory}
 
+-- the number of a refusal, as text
 abbrev pub append_code : AppendError → List ℕ
 append_code Full = codes "A1"
 append_code TimeRange = codes "A2"
 
+-- a refusal in a line, for people
+abbrev pub append_text : AppendError → List ℕ
+append_text Full = codes "A1: a batch has at most 4096 samples"
+append_text TimeRange = codes "A2: a time is from -2^62 to 2^62 - 1"
+
+-- the number of a refusal, as text
 abbrev pub commit_code : CommitError → List ℕ
 commit_code (OutOfBounds at) = codes "E1"
 commit_code (OutOfOrder at) = codes "E2"
@@ -18,3 +25,14 @@ commit_code CutTooLow = codes "E5"
 commit_code TooManyParts = codes "E6"
 commit_code Seat = codes "E7"
 commit_code Memory = codes "memory"
+
+-- a refusal in a line, for people
+abbrev pub commit_text : CommitError → List ℕ
+commit_text (OutOfBounds at) = codes "E1: sample " ++ decimal at ++ codes " is below the floor"
+commit_text (OutOfOrder at) = codes "E2: sample " ++ decimal at ++ codes " is older than the newest of its series"
+commit_text (Duplicate at) = codes "E3: sample " ++ decimal at ++ codes " has the newest time of its series and another value"
+commit_text Limit = codes "E4: too many series, or too many samples of one"
+commit_text CutTooLow = codes "E5: the time of the cut is not above the floor"
+commit_text TooManyParts = codes "E6: there would be more than 63 blocks"
+commit_text Seat = codes "E7: the seat is none of this store's"
+commit_text Memory = codes "no memory"

@@ -1,11 +1,9 @@
 -- What a head holds, and the world of a snapshot.
-use Rattle.std.specs.Prelude.{◌≡◌, ℕ, ℤ, ◌+◌, false, not, T, List, [], ◌∷◌, ◌++◌, Option, None, Some, Result, Ok, Err, nat_le, int_lt, length, map, if◌then◌else◌}
+use Rattle.std.specs.Prelude.{◌≡◌, ℕ, ℤ, ◌+◌, false, not, T, List, [], ◌∷◌, ◌++◌, Option, None, Some, int_lt, length, map, if◌then◌else◌}
 use Rattle.std.specs.List.{list_all}
-use Rattle.std.specs.Ordering.{int_cmp, int_eq}
+use Rattle.std.specs.Ordering.{int_cmp}
 use Rattle.std.specs.FinMap.Entries.{find, is_sorted}
 use Rattle.labels.specs.Labels.{Labels, point_cmp, same_labels}
-use Rattle.head.specs.Refusals.{Refusal, out_of_bounds, out_of_order, duplicate, limit}
-use Rattle.head.specs.Limits.{Limits}
 use Rattle.head.specs.Worlds.{World, Newest}
 use Rattle.labels.specs.Parts.{Part, content_of, over}
 
@@ -69,51 +67,3 @@ pub record AreBelow (floor : ℤ) (blocks : List BlockPart) : Type 0 where
 pub record IsSound (s : SnapshotParts) : Type 0 where
   pub head : IsSoundHead s.floor s.head
   pub blocks : AreBelow s.floor s.blocks
-
--- the head with one sample more
-abbrev pub grown : ℤ × ℤ → HeadSeries → HeadSeries
-grown s h = record h { samples = h.samples ++ s ∷ []; newest = s }
-
-abbrev pub extended : Labels → ℤ × ℤ → List HeadSeries → List HeadSeries
-extended l s [] = record { labels = l; samples = s ∷ []; newest = s } ∷ []
-extended l s (h ∷ hs) = if same_labels l h.labels then grown s h ∷ hs else h ∷ extended l s hs
-
--- one sample of a batch at the series that has its labels
-abbrev pub series_added : Limits → ℕ → ℤ × ℤ → HeadSeries → Result HeadSeries Refusal
-series_added most at s h =
-    if int_lt s.0 h.newest.0 then Err (out_of_order at)
-    else if int_eq s.0 h.newest.0 then (if int_eq s.1 h.newest.1 then Ok h else Err (duplicate at))
-    else if nat_le most.samples (length h.samples) then Err limit
-    else Ok (grown s h)
-
--- one sample of a batch at a head, by the series that has its labels
-abbrev pub head_added_after : Limits → List HeadSeries → ℕ → Labels → ℤ × ℤ → Option HeadSeries → Result (List HeadSeries) Refusal
-head_added_after most head at l s None = if nat_le most.series (length head) then Err limit else Ok (extended l s head)
-head_added_after most head at l s (Some h) =
-    if int_lt s.0 h.newest.0 then Err (out_of_order at)
-    else if int_eq s.0 h.newest.0 then (if int_eq s.1 h.newest.1 then Ok head else Err (duplicate at))
-    else if nat_le most.samples (length h.samples) then Err limit
-    else Ok (extended l s head)
-
--- one sample of a batch at a head
-unfoldable pub head_added : Limits → ℤ → List HeadSeries → ℕ → Labels × (ℤ × ℤ) → Result (List HeadSeries) Refusal
-head_added most floor head at x =
-    if int_lt x.1.0 floor then Err (out_of_bounds at)
-    else head_added_after most head at x.0 x.1 (series_at x.0 head)
-
--- the samples of a batch in order, of which the first stands at this place
-abbrev pub head_added_each : Limits → ℤ → Result (List HeadSeries) Refusal → ℕ → List (Labels × (ℤ × ℤ)) → Result (List HeadSeries) Refusal
-head_added_each most floor r at [] = r
-head_added_each most floor (Err e) at (x ∷ xs) = Err e
-head_added_each most floor (Ok head) at (x ∷ xs) = head_added_each most floor (head_added most floor head at x) (at + 1) xs
-
--- the place of the first series with these labels, where the first of these has this place
-abbrev pub place_from : Labels → ℕ → List HeadSeries → Option ℕ
-place_from l n [] = None
-place_from l n (h ∷ hs) = if same_labels l h.labels then Some n else place_from l (n + 1) hs
-
--- one sample of a label set that the head has not
-abbrev pub new_added : Limits → Labels → ℤ × ℤ → List HeadSeries → Result (List HeadSeries) Refusal
-new_added most l s head =
-    if nat_le most.series (length head) then Err limit
-    else Ok (head ++ record { labels = l; samples = s ∷ []; newest = s } ∷ [])

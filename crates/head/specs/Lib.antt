@@ -3,7 +3,6 @@ pub mod Limits
 pub mod Worlds
 pub mod Batches
 pub mod Heads
-pub mod Parts
 pub mod Chunks
 pub mod Orders
 pub mod Slots
@@ -21,3 +20,4 @@ pub mod Blocks
 pub mod Snapshots
 pub mod Codes
 pub mod Answers
+pub mod Taking

@@ -18,13 +18,13 @@ pub record World : Type 0 where
   pub blocks : ℕ
 
 -- the sample is the newest of its label set; a new label set goes last
-abbrev pub told : Labels → ℤ × ℤ → Newest → Newest
-told l s [] = (l, s) ∷ []
-told l s (e ∷ es) = if same_labels l e.0 then (e.0, s) ∷ es else e ∷ told l s es
+abbrev pub with_newest : Labels → ℤ × ℤ → Newest → Newest
+with_newest l s [] = (l, s) ∷ []
+with_newest l s (e ∷ es) = if same_labels l e.0 then (e.0, s) ∷ es else e ∷ with_newest l s es
 
 -- the sample joins the content
 abbrev pub joined : World → Labels → ℤ × ℤ → World
-joined w l s = record w { content = put point_cmp (l, s.0) s.1 w.content; newest = told l s w.newest }
+joined w l s = record w { content = put point_cmp (l, s.0) s.1 w.content; newest = with_newest l s w.newest }
 
 -- there is no room for one more sample of a label set, of which `known` is the newest
 abbrev pub is_full : Limits → World → Labels → Option (ℤ × ℤ) → Bool

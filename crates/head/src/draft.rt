@@ -4,7 +4,7 @@ ghost use Rattle.std.specs.Prelude.{◌≡◌, ◌<◌, ◌≤◌, ◌+◌, ◌*
 ghost use Rattle.std.specs.Arc.{arc_value};
 ghost use Rattle.std.specs.List.{list_all};
 ghost use Rattle.labels.specs.Labels.{Labels};
-ghost use Rattle.head.specs.Heads.{head_added, head_added_each, series_added, new_added, grown};
+ghost use Rattle.head.specs.Taking.{head_added, head_added_each, series_added, new_added, grown};
 ghost use Rattle.head.specs.Orders.{sets_of, IsOrder, IsFound, IsRoom};
 ghost use Rattle.head.specs.Answers.{IsOutcome};
 ghost use Rattle.head.specs.Limits.{most};

@@ -69,6 +69,11 @@ impl CommitError {
 }
 
 impl fmt::Display for AppendError {
+    ghost use Rattle.std.specs.Prelude.{Some};
+    ghost use Rattle.head.specs.Codes.{append_text};
+
+    ghost output = { λ error. Some (append_text error) };
+
     fn fmt<W: fmt::Write>(&self, f: &mut fmt::Formatter<W>) -> fmt::Result {
         let text = match self {
             AppendError::Full => "A1: a batch has at most 4096 samples",
@@ -81,6 +86,11 @@ impl fmt::Display for AppendError {
 impl Error for AppendError {}
 
 impl fmt::Display for CommitError {
+    ghost use Rattle.std.specs.Prelude.{Some};
+    ghost use Rattle.head.specs.Codes.{commit_text};
+
+    ghost output = { λ error. Some (commit_text error) };
+
     fn fmt<W: fmt::Write>(&self, f: &mut fmt::Formatter<W>) -> fmt::Result {
         match self {
             CommitError::OutOfBounds { at } => write!(f, "E1: sample {at} is below the floor"),

@@ -2,8 +2,7 @@
 
 ghost use Rattle.std.specs.Prelude.{◌≡◌, IsTrue, Some, None, MatchOption};
 ghost use Rattle.std.specs.List.{list_all};
-ghost use Rattle.labels.specs.Contents.{in_range};
-ghost use Rattle.labels.specs.declared.sample.TheConstants.{MIN_TIME, MAX_TIME};
+ghost use Rattle.labels.specs.Contents.{is_time};
 ghost use Rattle.head.specs.Batches.{is_batch};
 ghost use Rattle.head.specs.Worlds.{batch, batch_of};
 
@@ -38,7 +37,7 @@ impl Model for Event {
 }
 
 fn are_timed(samples: &[(LabelSet, Sample)]) -> bool
-    ensures { result ≡ list_all (λ x. in_range MIN_TIME MAX_TIME x.1.0) samples.now }
+    ensures { result ≡ list_all (λ x. is_time x.1.0) samples.now }
 {
     samples.iter().all(|sample| is_time(sample.1.t()))
 }

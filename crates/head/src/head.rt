@@ -2,12 +2,11 @@
 
 ghost use Rattle.std.specs.Prelude.{◌≡◌, ◌<◌, ◌≤◌, length, Some, None, IfOk, IfSome, IfNone, map, MatchOption};
 ghost use Rattle.std.specs.Arc.{arc_value};
-ghost use Rattle.labels.specs.Parts.{IsPart};
+ghost use Rattle.labels.specs.Parts.{IsPart, row_at, labels_in, samples_within};
 ghost use Rattle.head.specs.declared.TheConstants.{MAX_SERIES};
 ghost use Rattle.head.specs.Heads.{head_part};
 ghost use Rattle.head.specs.Index.{IsIndexOf};
 ghost use Rattle.head.specs.Orders.{sets_of, Extends, IsOrder, IsOrder-prop};
-ghost use Rattle.head.specs.Parts.{row_at, labels_in, samples_within};
 ghost use Rattle.head.specs.PartProps.{IsPart-prop};
 
 use crate::MAX_SERIES;

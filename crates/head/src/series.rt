@@ -6,10 +6,9 @@ ghost use Rattle.std.specs.Prelude.{T};
 ghost use Rattle.std.specs.Ordering.{int_cmp};
 ghost use Rattle.std.specs.FinMap.Entries.{is_sorted};
 ghost use Rattle.labels.specs.Contents.{in_range};
-ghost use Rattle.labels.specs.Parts.{has_sample};
+ghost use Rattle.labels.specs.Parts.{has_sample, within};
 ghost use Rattle.head.specs.ChunkEnds.{ends_before};
-ghost use Rattle.head.specs.Heads.{grown};
-ghost use Rattle.head.specs.Parts.{within};
+ghost use Rattle.head.specs.Taking.{grown};
 
 use crate::MAX_SAMPLES;
 use labels::{LabelSet, Sample};

@@ -93,6 +93,7 @@ fn committed_to(
     requires { IsTrue (is_batch batch.now) }
     ensures ok { IfOk result (λ s. committed most (world_of at.now) batch.now ≡ Ok (world_of s)) }
     ensures refused { IfErr result (λ e. IsAnswer e (committed most (world_of at.now) batch.now)) }
+    ensures kept { IfOk result (λ s. s.blocks ≡ at.now.blocks) }
     ensures copied { IfOk result (λ s. s.copied ≤ 119 * set_count batch.now) }
 {
     let Ok(mut slots) = slots_of(alloc, at.head.series()) else {
@@ -122,10 +123,11 @@ fn committed_to(
 }
 
 /// The snapshot after an event. It shares with the one before what the event leaves alone: a batch copies at most 119
-/// samples for each of its label sets. A refusal leaves no trace.
+/// samples for each of its label sets and keeps the blocks. A refusal leaves no trace.
 pub fn apply(alloc: Global, at: &Snapshot, event: &Event) -> Result<Snapshot, CommitError>
     ensures ok { IfOk result (λ s. stepped most (world_of at.now) event.now ≡ Ok (world_of s)) }
     ensures refused { IfErr result (λ e. IsAnswer e (stepped most (world_of at.now) event.now)) }
+    ensures kept { IfOk result (λ s. s.blocks ≡ at.now.blocks) }
     ensures copied { IfOk result (λ s. s.copied ≤ 119 * named_sets event.now) }
 {
     match event.kind() {

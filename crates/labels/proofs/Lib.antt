@@ -13,3 +13,4 @@ pub mod Permutations
 pub mod Values
 pub mod NamedPairs
 pub mod Refusals
+pub mod SortedRows

@@ -8,8 +8,7 @@ use Rattle.std.proofs.Common.{sym, ◌∙◌, ap}
 use Rattle.labels.specs.Labels.{Labels, Point, point_cmp}
 use Rattle.labels.specs.Contents.{Content}
 use Rattle.labels.specs.Rows.{points_in, points_of}
-use Rattle.labels.specs.Parts.{Part, rows_in, laid_over, over}
-use Rattle.labels.specs.Parts.{part_kept}
+use Rattle.labels.specs.Parts.{Part, rows_in, laid_over, over, part_kept}
 use Rattle.labels.proofs.OrderLaws.{point_total, point_exact}
 use Rattle.labels.proofs.ContentLaws.{same_content, is_sorted-laid_over}
 

@@ -1,15 +1,19 @@
 -- What is stored: a value for each of some points.
-use Rattle.std.specs.Prelude.{ℕ, ℤ, Bool, not, ◌&&◌, List, int_lt, length}
+use Rattle.std.specs.Prelude.{ℕ, ℤ, pos, negsuc, Bool, not, ◌&&◌, List, int_lt, length}
 use Rattle.std.specs.FinMap.Entries.{where_key}
 use Rattle.labels.specs.Labels.{Labels, Point, point_cmp, same_labels}
 
--- the samples in the order of their points
+-- the samples, strictly ascending by their points
 abbrev pub Content : Type 0
 Content = List (Point × ℤ)
 
 -- whether a time lies in the closed interval
 abbrev pub in_range : ℤ → ℤ → ℤ → Bool
 in_range a b t = not (int_lt t a) && not (int_lt b t)
+
+-- whether a number of milliseconds is a time: from -2^62 to 2^62 - 1
+abbrev pub is_time : ℤ → Bool
+is_time t = in_range (negsuc 4611686018427387903) (pos 4611686018427387903) t
 
 -- the samples of label sets that pass a test, in the closed interval
 abbrev pub selected : (Labels → Bool) → ℤ → ℤ → Content → Content

@@ -1,5 +1,5 @@
 -- Parts, what is asked of them, and the content of a list of them.
-use Rattle.std.specs.Prelude.{◌≡◌, ◌<◌, ℕ, ℤ, Bool, false, not, ◌&&◌, T, List, [], ◌∷◌, map}
+use Rattle.std.specs.Prelude.{◌≡◌, ◌<◌, ℕ, ℤ, Bool, false, not, ◌&&◌, T, List, [], ◌∷◌, Option, None, Some, nat_eq, map, if◌then◌else◌}
 use Rattle.std.specs.List.{filter, list_any, Contains}
 use Rattle.std.specs.List.Sorted.{IsStrictlyIncreasing}
 use Rattle.std.specs.Ordering.{int_cmp}
@@ -36,6 +36,25 @@ has_sample from to samples = list_any (λ (s : ℤ × ℤ). in_range from to s.0
 -- the references with an undeleted sample in the closed range
 abbrev pub live_references : ℤ → ℤ → Part → List ℕ
 live_references from to part = references_of (λ row. has_sample from to row.1.1) part
+
+-- the row under a reference
+abbrev pub row_at : ℕ → Part → Option Row
+row_at r [] = None
+row_at r (row ∷ rows) = if nat_eq row.0 r then Some row.1 else row_at r rows
+
+-- the label set of a row, if there is one
+abbrev pub labels_in : Option Row → Option Labels
+labels_in None = None
+labels_in (Some row) = Some row.0
+
+-- those of the samples whose times lie in the closed range
+abbrev pub within : ℤ → ℤ → List (ℤ × ℤ) → List (ℤ × ℤ)
+within from to samples = filter (λ (s : ℤ × ℤ). in_range from to s.0) samples
+
+-- the samples of a row in the closed range, none where there is no row
+abbrev pub samples_within : ℤ → ℤ → Option Row → List (ℤ × ℤ)
+samples_within from to None = []
+samples_within from to (Some row) = within from to row.1
 
 -- no label set stands twice
 abbrev pub AreDistinct : Part → Type 0

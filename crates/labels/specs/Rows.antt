@@ -1,5 +1,6 @@
 -- Rows: the samples of each label set.
-use Rattle.std.specs.Prelude.{◌≡◌, ◌≢◌, ℤ, T, List, [], ◌∷◌, ◌++◌}
+use Rattle.std.specs.Prelude.{◌≡◌, ◌≢◌, ℤ, Bool, T, List, [], ◌∷◌, ◌++◌}
+use Rattle.std.specs.Ordering.{is_lt}
 use Rattle.std.specs.FinMap.Entries.{is_sorted}
 use Rattle.labels.specs.Labels.{Labels, labels_cmp}
 use Rattle.labels.specs.Contents.{Content}
@@ -32,3 +33,7 @@ pub record AreRows (rows : List Row) (content : Content) : Type 0 where
   pub points : points_of rows ≡ content
   pub ascending : T (is_sorted labels_cmp rows)
   pub full : AreFull rows
+
+-- whether a row stands before another in label order
+abbrev pub row_before : Row → Row → Bool
+row_before x y = is_lt (labels_cmp x.0 y.0)

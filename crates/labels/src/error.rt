@@ -36,6 +36,11 @@ impl LabelError {
 }
 
 impl fmt::Display for LabelError {
+    ghost use Rattle.std.specs.Prelude.{Some};
+    ghost use Rattle.labels.specs.Errors.{text_of};
+
+    ghost output = { λ error. Some (text_of error) };
+
     fn fmt<W: fmt::Write>(&self, f: &mut fmt::Formatter<W>) -> fmt::Result {
         let text = match self {
             LabelError::BadName => "L1: a label name has the form [a-zA-Z_][a-zA-Z0-9_]*",

@@ -14,6 +14,7 @@ mod making;
 mod name;
 mod reference;
 mod row;
+mod row_order;
 mod sample;
 #[cfg(test)]
 mod tests;
@@ -24,4 +25,5 @@ pub use label_set::LabelSet;
 pub use name::{continues_name, is_name, starts_name};
 pub use reference::SeriesRef;
 pub use row::{Row, rows_are_unique};
+pub use row_order::sort_rows;
 pub use sample::{MAX_TIME, MIN_TIME, Sample, is_time};

@@ -1,5 +1,5 @@
 ghost use Rattle.std.specs.Prelude.{◌≡◌};
-ghost use Rattle.labels.specs.Contents.{in_range};
+ghost use Rattle.labels.specs.Contents.{is_time};
 
 use std::marker::Model;
 
@@ -11,7 +11,7 @@ pub const MAX_TIME: i64 = 4_611_686_018_427_387_903;
 
 /// Whether a number of milliseconds is a time: from `MIN_TIME` to `MAX_TIME`.
 pub fn is_time(t: i64) -> bool
-    ensures { result ≡ in_range MIN_TIME MAX_TIME t }
+    ensures { result ≡ is_time t }
 {
     MIN_TIME <= t && t <= MAX_TIME
 }

@@ -3,3 +3,4 @@ pub mod Patterns
 pub mod Satisfies
 pub mod Tests
 pub mod Queries
+pub mod Errors

@@ -1,7 +1,7 @@
 -- Which ranges of times may be asked for.
-use Rattle.std.specs.Prelude.{ℤ, Bool, not, ◌&&◌, int_lt}
-use Rattle.labels.specs.declared.sample.TheConstants.{MIN_TIME, MAX_TIME}
+use Rattle.std.specs.Prelude.{ℤ, pos, negsuc, Bool, not, ◌&&◌, int_lt}
 
--- whether both ends are times and the first is not above the second
+-- whether both ends are times, from -2^62 to 2^62 - 1, and the first is not above the second
 abbrev pub is_range : ℤ → ℤ → Bool
-is_range from to = not (int_lt from MIN_TIME) && not (int_lt to from) && not (int_lt MAX_TIME to)
+is_range from to =
+    not (int_lt from (negsuc 4611686018427387903)) && not (int_lt to from) && not (int_lt (pos 4611686018427387903) to)

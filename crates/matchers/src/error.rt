@@ -1,5 +1,8 @@
 //! Why a matcher or a query is refused.
 
+ghost use Rattle.std.specs.Prelude.{◌≡◌};
+ghost use Rattle.matchers.specs.Errors.{matcher_code, query_code};
+
 use std::alloc::AllocError;
 
 /// Why a matcher is refused; the first cause, in this order.
@@ -17,7 +20,9 @@ pub enum MatcherError {
 
 impl MatcherError {
     /// The code that users see; `Memory` has none and gives `memory`.
-    pub fn code(self) -> &'static str {
+    pub fn code(self) -> &'static str
+        ensures { result.now ≡ matcher_code self }
+    {
         match self {
             MatcherError::BadName => "M1",
             MatcherError::PatternTooLong => "M3",
@@ -49,7 +54,9 @@ pub enum QueryError {
 
 impl QueryError {
     /// The code that users see.
-    pub fn code(self) -> &'static str {
+    pub fn code(self) -> &'static str
+        ensures { result.now ≡ query_code self }
+    {
         match self {
             QueryError::BadRange => "Q1",
             QueryError::TooManyMatchers => "Q2",

@@ -2,8 +2,8 @@
 //!
 //! A matcher names a label and says which of its values it accepts; contracts see it as its name, its operator and its
 //! text, and `specs/Satisfies.antt` says what it accepts. A label set satisfies it where it accepts the value that the
-//! name has there, an absent label counting as the empty text. It stands on `labels`. The operators are those of
-//! Prometheus's selectors.
+//! name has there, an absent label counting as the empty text. It stands on `labels`, and on `regex` for patterns; a
+//! [`Tester`] makes the search of a pattern once for many values. The operators are those of Prometheus's selectors.
 #![tactic(auto)]
 
 mod error;

@@ -1,6 +1,6 @@
 //! Matchers.
 
-ghost use Rattle.std.specs.Prelude.{◌≡◌, ◌↔◌, ◌<◌, ◌≤◌, true, false, length, IfNone, IfSome, IfOk, OnOk, IsErrOf, string_bytes};
+ghost use Rattle.std.specs.Prelude.{◌≡◌, ◌↔◌, ◌<◌, ◌≤◌, true, false, length, IfNone, IfSome, IfOk, OnOk, OnErr, IsErrOf, string_bytes};
 ghost use Rattle.labels.specs.Names.{is_name};
 ghost use Rattle.matchers.specs.Patterns.{IsPattern, IsRefusedPattern};
 ghost use Rattle.matchers.specs.Satisfies.{accepts_text, takes_pattern};
@@ -147,8 +147,10 @@ impl Matcher {
     }
 
     /// Whether it accepts a value; the empty text stands for an absent label. For many values take a [`Tester`].
+    /// Memory is taken only for a pattern.
     pub fn accepts(&self, alloc: Global, value: &str) -> Result<bool, AllocError>
-        ensures { IfOk result (λ yes. yes ≡ accepts_text self.now value.now) }
+        ensures meaning { IfOk result (λ yes. yes ≡ accepts_text self.now value.now) }
+        ensures memory { OnErr result (takes_pattern self.now.op ≡ true) }
     {
         let mut tester = self.tester(alloc)?;
         Ok(tester.accepts(value))
@@ -156,7 +158,8 @@ impl Matcher {
 
     /// The same test for many values: a pattern's search is made once. Memory is taken only for a pattern.
     pub fn tester(&self, alloc: Global) -> Result<Tester<'_>, AllocError>
-        ensures { IfOk result (λ t. t ≡ self.now) }
+        ensures same { IfOk result (λ t. t ≡ self.now) }
+        ensures memory { OnErr result (takes_pattern self.now.op ≡ true) }
     {
         match self.test.pattern() {
             None => Ok(Tester::of_text(self)),

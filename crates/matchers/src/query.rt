@@ -66,7 +66,8 @@ impl Query {
 
     /// The first time of the range, in milliseconds.
     pub fn from(&self) -> i64
-        ensures { result ≡ self.now.from }
+        ensures value { result ≡ self.now.from }
+        ensures range { is_range self.now.from self.now.to ≡ true }
     {
         self.from
     }

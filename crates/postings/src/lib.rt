@@ -55,8 +55,10 @@ pub trait Postings {
     fn seek(&mut self, target: SeriesRef)
         ensures { remaining self.new ≡ not_below target (remaining self.old) };
 
+    // What remains ascends strictly.
     ghost ascending: { (list : Self) → IsStrictlyIncreasing (remaining list) };
 
+    // Two seeks leave what one seek to the greater target leaves.
     ghost two_seeks: { (list : Self) (a b : ℕ)
         → not_below b (not_below a (remaining list)) ≡ not_below (max a b) (remaining list) };
 }
@@ -67,6 +69,7 @@ pub trait Source {
 
     type Live: Postings + Drop;
 
+    // The part, and the values of each name in the order of their bytes.
     ghost part: { Self → Part };
 
     ghost values: { Self → List ℕ → List (List ℕ) };
@@ -82,8 +85,7 @@ pub trait Source {
             ≡ references_where (carries name.now value.now) (part self.now)) }
         ensures some { IfSome result (λ list. references_where (carries name.now value.now) (part self.now) ≡ [] → ⊥) };
 
-    /// The series with an undeleted sample in the closed range of times, in milliseconds. The list looks at the samples
-    /// of a series when it comes to it.
+    /// The series with an undeleted sample in the closed range of times, in milliseconds.
     fn live(&self, alloc: Global, from: i64, to: i64) -> Result<Self::Live, AllocError>
         ensures { IfOk result (λ list. Self.Live.remaining list ≡ live_references from to (part self.now)) };
 

@@ -1,4 +1,2 @@
-pub mod Answering
-pub mod Audited
-pub mod Reply
-pub mod Merging
+pub mod Lines
+pub mod Demo

@@ -1,7 +1,12 @@
 //! The store that `querier demo` shows: six series, in two batches.
 
-ghost use Rattle.std.specs.Prelude.{IfOk, IsTrue};
+ghost use Rattle.std.specs.Prelude.{◌≡◌, [], ◌∷◌, IfOk, IsTrue, Ok, codes};
 ghost use Rattle.head.specs.Batches.{is_batch};
+ghost use Rattle.head.specs.Blocks.{opening_of};
+ghost use Rattle.head.specs.Heads.{world_of};
+ghost use Rattle.head.specs.Limits.{most};
+ghost use Rattle.head.specs.Worlds.{replayed};
+ghost use Rattle.querier.specs.Demo.{equal_to};
 
 use crate::fault::Fault;
 use head::{Event, Snapshot, apply};
@@ -72,7 +77,9 @@ pub fn second_batch(alloc: Global) -> Result<Event, Fault> {
 }
 
 /// An empty store after these events.
-pub fn store_after(alloc: Global, events: &[Event]) -> Result<Snapshot, Fault> {
+pub fn store_after(alloc: Global, events: &[Event]) -> Result<Snapshot, Fault>
+    ensures { IfOk result (λ s. replayed most (world_of (opening_of [])) events.now ≡ Ok (world_of s)) }
+{
     let mut snapshot = Snapshot::opening(alloc, Vec::new(alloc))?;
     for event in events {
         snapshot = apply(alloc, &snapshot, event)?;
@@ -80,14 +87,18 @@ pub fn store_after(alloc: Global, events: &[Event]) -> Result<Snapshot, Fault> {
     Ok(snapshot)
 }
 
-fn equal(alloc: Global, name: &str, text: &str) -> Result<Matcher, Fault> {
+fn equal(alloc: Global, name: &str, text: &str) -> Result<Matcher, Fault>
+    ensures { IfOk result (λ m. m ≡ equal_to name.now text.now) }
+{
     let name = String::from_str(alloc, name)?;
     let text = String::from_str(alloc, text)?;
     Ok(Matcher::new(alloc, name, Op::Equal, text)?)
 }
 
 /// The query `up{job="a"}` in a closed range of times.
-pub fn query(alloc: Global, from: i64, to: i64) -> Result<Query, Fault> {
+pub fn query(alloc: Global, from: i64, to: i64) -> Result<Query, Fault>
+    ensures { IfOk result (λ q. q ≡ record { matchers = equal_to (codes "__name__") (codes "up") ∷ equal_to (codes "job") (codes "a") ∷ []; from = from; to = to }) }
+{
     let mut matchers = Vec::new(alloc);
     matchers.push(equal(alloc, "__name__", "up")?)?;
     matchers.push(equal(alloc, "job", "a")?)?;

@@ -8,15 +8,10 @@
 //! Certificates are the partition certificates of Barbay and Kenyon, SODA 2002.
 #![tactic(auto)]
 
-mod answer;
 mod command;
 mod demo;
 mod fault;
-mod merge;
-mod reply;
-mod row_order;
 mod run;
-mod search;
 #[cfg(test)]
 mod tests;
 

@@ -2,16 +2,16 @@
 
 ghost use Rattle.std.specs.Prelude.{◌≡◌, IfOk, OnOk};
 ghost use Rattle.std.specs.Io.KnownBytes.{Appends};
-ghost use Rattle.querier.specs.Audited.{IsAudited, line_text};
+ghost use Rattle.query_http.specs.Audited.{IsAudited};
+ghost use Rattle.querier.specs.Lines.{line_text};
 
-use crate::answer::{AuditedAnswer, answer};
 use crate::command::{Line, read_line};
 use crate::demo::{first_batch, query, second_batch, store_after};
 use crate::fault::Fault;
-use crate::reply;
 use clap::error::ErrorKind;
 use head::Snapshot;
 use matchers::Query;
+use query_http::{AuditedAnswer, answer, body};
 use std::alloc::{AllocError, Global};
 use std::io::{self, Read, Write};
 
@@ -27,7 +27,7 @@ fn send<W: Write>(out: &mut W, text: &[u8]) -> io::Result<()>
 fn line_of(alloc: Global, answer: &AuditedAnswer) -> Result<Vec<u8>, AllocError>
     ensures { IfOk result (λ line. line.items ≡ line_text answer.now) }
 {
-    let mut line = reply::body(alloc, answer.parts.as_slice(), answer.rows.as_slice())?;
+    let mut line = body(alloc, answer.parts.as_slice(), answer.rows.as_slice())?;
     line.push(b'\n')?;
     Ok(line)
 }

@@ -1,11 +1,11 @@
 //! Worked answers, spelled by hand from the six series of the demo.
 
-use crate::answer::answer;
 use crate::demo::{first_batch, query, second_batch, store_after};
 use crate::fault::Fault;
-use crate::reply;
 use crate::run::run;
-use head::Event;
+use head::{CommitError, Event, Snapshot, apply};
+use matchers::Query;
+use query_http::{answer, body};
 use std::alloc::Global;
 use std::io;
 
@@ -21,11 +21,19 @@ const NOTHING: &str =
 const SILENT: &str =
     "{\"parts\":[{\"intervals\":[{\"from\":1,\"until\":4294967296,\"verdict\":\"none\"}],\"part\":\"head\",\"rows\":[],\"separators\":[1]}],\"rows\":[]}";
 
+const FIRST_ALONE: &str =
+    "{\"parts\":[{\"intervals\":[{\"from\":1,\"until\":2,\"verdict\":\"match\"},{\"from\":2,\"until\":4294967296,\"verdict\":1}],\"part\":\"head\",\"rows\":[{\"labels\":{\"__name__\":\"up\",\"job\":\"a\"},\"samples\":[[10,1],[20,1]]}],\"separators\":[1,2]}],\"rows\":[{\"labels\":{\"__name__\":\"up\",\"job\":\"a\"},\"samples\":[[10,1],[20,1]]}]}";
+
+/// The text of the answer of a snapshot.
+fn text_of(alloc: Global, snapshot: &Snapshot, query: &Query) -> Result<Vec<u8>, Fault> {
+    let answer = answer(alloc, snapshot, query)?;
+    Ok(body(alloc, answer.parts.as_slice(), answer.rows.as_slice())?)
+}
+
 /// The text of the answer to `up{job="a"}` after these events.
 fn text_after(alloc: Global, events: Vec<Event>, from: i64, to: i64) -> Result<Vec<u8>, Fault> {
     let snapshot = store_after(alloc, events.as_slice())?;
-    let answer = answer(alloc, &snapshot, &query(alloc, from, to)?)?;
-    Ok(reply::body(alloc, answer.parts.as_slice(), answer.rows.as_slice())?)
+    text_of(alloc, &snapshot, &query(alloc, from, to)?)
 }
 
 #[test]
@@ -109,5 +117,99 @@ fn a_writer_that_refuses_is_told(rt: HostRuntime) -> Result<(), Fault> {
         3
     );
     assert_eq!(rt; err.as_slice(), b"cannot write\n".as_slice());
+    Ok(())
+}
+
+fn events_again(alloc: Global) -> Result<(Event, Event), Fault> {
+    let first = match first_batch(alloc) {
+        Err(Fault::Memory) => first_batch(alloc)?,
+        made => made?,
+    };
+    match second_batch(alloc) {
+        Err(Fault::Memory) => Ok((first, second_batch(alloc)?)),
+        made => Ok((first, made?)),
+    }
+}
+
+fn empty_again(alloc: Global) -> Result<Snapshot, Fault> {
+    match Snapshot::opening(alloc, Vec::new(alloc)) {
+        Err(_) => Ok(Snapshot::opening(alloc, Vec::new(alloc))?),
+        Ok(empty) => Ok(empty),
+    }
+}
+
+fn after_again(alloc: Global, at: &Snapshot, event: &Event) -> Result<Snapshot, Fault> {
+    match apply(alloc, at, event) {
+        Err(CommitError::Memory) => Ok(apply(alloc, at, event)?),
+        made => Ok(made?),
+    }
+}
+
+fn query_again(alloc: Global) -> Result<Query, Fault> {
+    match query(alloc, 0, 100) {
+        Err(Fault::Memory) => query(alloc, 0, 100),
+        made => made,
+    }
+}
+
+fn text_again(alloc: Global, snapshot: &Snapshot, query: &Query) -> Result<Vec<u8>, Fault> {
+    match text_of(alloc, snapshot, query) {
+        Err(Fault::Memory) => text_of(alloc, snapshot, query),
+        made => made,
+    }
+}
+
+/// `tests/allocations` runs this test with each of its allocations refused in turn.
+#[test]
+fn a_call_refused_memory_changes_nothing_and_answers_when_made_again(
+    rt: HostRuntime,
+) -> Result<(), Fault> {
+    let alloc = rt.alloc();
+    let (first, second) = events_again(alloc)?;
+    let query = query_again(alloc)?;
+    let empty = empty_again(alloc)?;
+    let one = after_again(alloc, &empty, &first)?;
+    let two = after_again(alloc, &one, &second)?;
+    assert_eq!(rt;
+        text_again(alloc, &empty, &query)?.as_slice(),
+        NOTHING.as_bytes()
+    );
+    assert_eq!(rt;
+        text_again(alloc, &one, &query)?.as_slice(),
+        FIRST_ALONE.as_bytes()
+    );
+    assert_eq!(rt;
+        text_again(alloc, &two, &query)?.as_slice(),
+        DEMO.as_bytes()
+    );
+    Ok(())
+}
+
+/// `tests/allocations` runs this test with each of its allocations refused in turn.
+#[test]
+fn a_program_refused_memory_says_so(rt: HostRuntime) -> Result<(), Fault> {
+    let alloc = rt.alloc();
+    let words = match words_of(alloc, &["demo"]) {
+        Err(Fault::Memory) => words_of(alloc, &["demo"])?,
+        made => made?,
+    };
+    let mut out = Vec::new(alloc);
+    let mut err = Vec::new(alloc);
+    let status = run(
+        alloc,
+        words.as_slice(),
+        &mut io::empty(),
+        &mut out,
+        &mut err,
+    );
+    match status {
+        0 => assert_eq!(rt; out.len(), 518),
+        3 => assert_eq!(rt; err.as_slice(), b"cannot write\n".as_slice()),
+        _ => {
+            assert_eq!(rt; status, 4);
+            assert!(rt; out.is_empty());
+            assert_eq!(rt; err.as_slice(), b"no memory\n".as_slice());
+        }
+    }
     Ok(())
 }

@@ -44,7 +44,7 @@ returns-clause-leftmost g c =
     (ap (λ x. g.S.Live.Postings.remaining x.0) c.new-live.ensures ∙ c.in_ok-live.ensures
     ∙ ap (λ from. live_references from (to_z w64 (of_z w64 c.to.result)) part) from_is
     ∙ ap (λ to. live_references c.from.result to part) to_is
-    ∙ ap (λ from. live_references from c.to.result part) c.from.ensures ∙ ap (λ to. live_references c.args.query.now.from to part) c.to.ensures)
+    ∙ ap (λ from. live_references from c.to.result part) c.from.ensures.value ∙ ap (λ to. live_references c.args.query.now.from to part) c.to.ensures)
     (g.met.S.Source.is_part c.args.source.now) c.in_ok-certificate.ensures.leftmost
 
 pub returns-clause-valid : goal.returns-clause-valid

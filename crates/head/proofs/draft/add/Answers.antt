@@ -8,7 +8,8 @@ use Rattle.head.specs.Limits.{most}
 use Rattle.head.specs.declared.draft.Slot.{Slot}
 use Rattle.head.specs.Slots.{series_in, series_in_each}
 use Rattle.head.specs.Orders.{sets_of, IsOrder, IsFound, IsRoom}
-use Rattle.head.specs.Heads.{HeadSeries, head_added, place_from, series_added}
+use Rattle.head.specs.Heads.{HeadSeries}
+use Rattle.head.specs.Taking.{head_added, place_from, series_added}
 use Rattle.head.proofs.OrderPlaces.{found_place, room_place}
 use Rattle.head.proofs.SlotLaws.{same_inside, sets_stay, on_ok, if_ok, length-sets, counted_more, found_labels, AllOwn-set}
 use Rattle.head.proofs.Places.{stands_at, head_added-series_added, head_added-new_added, head_added-inside, carried}

@@ -2,7 +2,7 @@ use Rattle.std.specs.Prelude.{◌≡◌, Ok}
 use Rattle.std.proofs.Common.{subst, rules, to_z, of_z, w64}
 use Rattle.head.specs.Answers.{IsAnswer}
 use Rattle.head.specs.Limits.{most}
-use Rattle.head.specs.Heads.{head_added_each}
+use Rattle.head.specs.Taking.{head_added_each}
 use Rattle.head.specs.Slots.{series_in_each}
 use Rattle.head.proofs.Applies.{refused_at}
 use Rattle.head.proofs.draft.add_each.Goals as goal

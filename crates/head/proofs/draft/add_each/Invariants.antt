@@ -2,7 +2,7 @@ use Rattle.std.specs.Prelude.{Ok, Bool, T, ◌+◌}
 use Rattle.std.specs.List.{list_all}
 use Rattle.labels.specs.Labels.{Labels}
 use Rattle.std.proofs.Common.{length, ◌-◌, ◌≡◌, drop, ◌≤◌, ◌*◌}
-use Rattle.head.specs.Heads.{head_added_each}
+use Rattle.head.specs.Taking.{head_added_each}
 use Rattle.head.specs.Limits.{most}
 use Rattle.head.specs.Orders.{sets_of, IsOrder}
 use Rattle.head.specs.Slots.{series_in_each, owned, AllOwn}

@@ -1,5 +1,5 @@
 use Rattle.std.proofs.Common.{◌≡◌, ◌++◌, take}
-use Rattle.head.specs.Parts.{within}
+use Rattle.labels.specs.Parts.{within}
 use Rattle.head.proofs.series.push_within.Given as goal
 
 abbrev pub invariant-loop-sample : goal.invariant-loop-sample

@@ -10,7 +10,8 @@ use Rattle.head.specs.Limits.{most}
 use Rattle.head.specs.Slots.{series_in, series_in_each, owned}
 use Rattle.head.specs.Snapshots.{parts_in}
 use Rattle.head.specs.Blocks.{part_in}
-use Rattle.head.specs.Heads.{SnapshotParts, IsSound, head_added_each, head_part, world_of}
+use Rattle.head.specs.Heads.{SnapshotParts, IsSound, head_part, world_of}
+use Rattle.head.specs.Taking.{head_added_each}
 use Rattle.head.specs.Worlds.{committed}
 use Rattle.head.specs.Batches.{has_set, set_count}
 use Rattle.head.proofs.Counting.{owned_within, has_each, copied_within}

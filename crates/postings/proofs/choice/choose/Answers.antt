@@ -11,7 +11,7 @@ returns-then-with_absent g c =
     let part = g.S.Source.part c.args.source.now in
     let m = c.args.matcher.now in
     let f = g.S.List.Postings.remaining in
-    let accepted : accepts_text m [] ≡ true = sym (c.accepts-with_absent.ensures.accepted ∙ ap (λ t. accepts_text t []) c.in_ok-tester.ensures) ∙ c.if-with_absent.true in
+    let accepted : accepts_text m [] ≡ true = sym (c.accepts-with_absent.ensures.accepted ∙ ap (λ t. accepts_text t []) c.in_ok-tester.ensures.same) ∙ c.if-with_absent.true in
     c.new.ensures
     ∙ ap (λ xs. difference xs (union_all (map f c.new-differing.result.lists.items))) c.all.ensures
     ∙ ap (difference (references part)) (c.new-differing.ensures ∙ c.in_ok-lists.ensures)

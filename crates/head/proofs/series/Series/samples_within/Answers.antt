@@ -3,7 +3,7 @@ use Rattle.std.proofs.Common.{◌∙◌, ap, rules, arith, take, to_z, of_z, w64
 use Rattle.std.proofs.lemmas.List.{take_all}
 use Rattle.std.specs.Arc.{arc_value}
 use Rattle.head.specs.Heads.{HeadSeries}
-use Rattle.head.specs.Parts.{within}
+use Rattle.labels.specs.Parts.{within}
 use Rattle.head.specs.Chunks.{joined_chunks}
 use Rattle.head.proofs.Chunks.{within-joined_chunks}
 use Rattle.head.proofs.series.Series.samples_within.Goals as goal

@@ -1,6 +1,6 @@
 use Rattle.std.proofs.Common.{◌≡◌, [], map, take}
 use Rattle.std.specs.Arc.{arc_value}
-use Rattle.head.specs.Parts.{within}
+use Rattle.labels.specs.Parts.{within}
 use Rattle.head.specs.Chunks.{joined_chunks}
 use Rattle.head.proofs.series.Series.samples_within.Given as goal
 

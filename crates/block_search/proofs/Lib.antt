@@ -1,0 +1,4 @@
+pub mod Found
+pub mod PartRows
+pub mod Lookups
+pub mod Steps

@@ -1,0 +1,12 @@
+use Rattle.std.proofs.Common.{rules}
+use Rattle.std.proofs.lemmas.List.Sorted.{answers_always}
+use Rattle.std.proofs.lemmas.Result.{on_ok_weaker}
+use Rattle.labels.specs.Rows.{row_before}
+use Rattle.labels.proofs.SortedRows.{row_order}
+use Rattle.labels.proofs.row_order.sort_rows.Goals as goal
+
+pub returns-clause-sorted : goal.returns-clause-sorted
+returns-clause-sorted c = on_ok_weaker c.sort_by.result (λ h. h row_before row_order (answers_always _ _ _ (λ f a r k q. search rules))) c.sort_by.ensures.sorted
+
+pub returns-clause-stable : goal.returns-clause-stable
+returns-clause-stable c = c.sort_by.ensures.stable row_before row_order (answers_always _ _ _ (λ f a r k q. search rules))

@@ -1,7 +1,0 @@
-use Rattle.std.proofs.Common.{◌≡◌, map, take}
-use Rattle.serde_json.specs.View.{view}
-use Rattle.querier.specs.Reply.{part_data}
-use Rattle.querier.proofs.reply.parts_value.Given as goal
-
-abbrev pub invariant-loop-answer : goal.invariant-loop-answer
-invariant-loop-answer l = map view l.list.items ≡ map part_data (take l.answer-index l.answers)

@@ -1,0 +1,3 @@
+pub mod NoFloat
+pub mod Members
+pub mod MergedAnswers

@@ -1,0 +1,7 @@
+use Rattle.std.proofs.Common.{◌≡◌, map, take}
+use Rattle.serde_json.specs.View.{view}
+use Rattle.query_http.specs.Reply.{part_data}
+use Rattle.query_http.proofs.reply.parts_value.Given as goal
+
+abbrev pub invariant-loop-answer : goal.invariant-loop-answer
+invariant-loop-answer l = map view l.list.items ≡ map part_data (take l.answer-index l.answers)

@@ -1,0 +1,4 @@
+pub mod LaidTimes
+pub mod Joining
+pub mod JoinSteps
+pub mod GatheredRows

@@ -1,0 +1,12 @@
+use Rattle.std.proofs.Common.{◌≡◌, ◌≤◌, drop, length}
+use Rattle.series_merge.specs.Merging.{newest_first, row_lists}
+use Rattle.series_merge.proofs.merging.gathered.Given as goal
+
+abbrev pub invariant-loop-left : goal.invariant-loop-left
+invariant-loop-left l = record {
+  same : l.all.items ≡ newest_first (row_lists (drop l.left l.answers));
+  within : l.left ≤ length l.answers;
+}
+
+abbrev pub decreases-loop-left : goal.decreases-loop-left
+decreases-loop-left l = l.left

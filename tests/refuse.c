@@ -1,0 +1,46 @@
+/* Preloaded into a program, refuses its allocation number REFUSE, counted from 1 (0: none), and where file descriptor 9
+   is open tells there how many allocations were asked for. */
+#include <errno.h>
+#include <stdio.h>
+#include <stdlib.h>
+
+void *__libc_malloc(size_t size);
+void *__libc_realloc(void *old, size_t size);
+
+static unsigned long asked, refused;
+
+__attribute__((constructor)) static void begin(void)
+{
+    const char *number = getenv("REFUSE");
+    refused = number ? strtoul(number, NULL, 10) : 0;
+    asked = 0;
+}
+
+__attribute__((destructor)) static void end(void)
+{
+    dprintf(9, "%lu\n", asked);
+}
+
+static int is_refused(void)
+{
+    asked += 1;
+    return asked == refused;
+}
+
+void *malloc(size_t size)
+{
+    if (is_refused()) {
+        errno = ENOMEM;
+        return NULL;
+    }
+    return __libc_malloc(size);
+}
+
+void *realloc(void *old, size_t size)
+{
+    if (is_refused()) {
+        errno = ENOMEM;
+        return NULL;
+    }
+    return __libc_realloc(old, size);
+}
