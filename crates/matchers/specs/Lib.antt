@@ -4,3 +4,6 @@ pub mod Satisfies
 pub mod Tests
 pub mod Queries
 pub mod Errors
+pub mod Grammar
+pub mod Scanner
+pub mod Selectors

@@ -1,5 +1,5 @@
 -- What a pattern accepts: the values that it matches from the first byte to the last.
-use Rattle.std.specs.Prelude.{◌≡◌, ◌≢◌, ◌⊎◌, ℕ, ◌<◌, Bool, true, List, All, ◌++◌, Option, codes, is_some, option_map, option_and_then, chars}
+use Rattle.std.specs.Prelude.{◌≡◌, ◌≢◌, ◌⊎◌, ℕ, ◌<◌, ◌≤◌, Bool, true, List, All, ◌++◌, length, Option, codes, is_some, option_map, option_and_then, chars}
 use Rattle.regex.specs.Patterns.{Re, find_str, default_config}
 use Rattle.regex.specs.declared.string.regex.Regex.{Regex}
 use Rattle.regex_syntax.specs.Grammar.{read}
@@ -19,8 +19,9 @@ tree_of text = option_map (λ found. found.0.value) (read default_config (chars 
 abbrev pub is_full_match : List ℕ → List ℕ → Bool
 is_full_match pattern value = is_some (option_and_then (λ tree. find_str tree value 0) (tree_of (anchored pattern)))
 
--- `regex` reads both the pattern alone and the pattern between its anchors
+-- a pattern has at most 256 bytes, and `regex` reads it both alone and between its anchors
 pub record IsPattern (pattern : List ℕ) : Type 0 where
+  pub short : length pattern ≤ 256
   pub alone : is_some (tree_of pattern) ≡ true
   pub anchored : is_some (tree_of (anchored pattern)) ≡ true
 
@@ -38,6 +39,7 @@ pub record IsBuiltOf (regex : Regex) (text : List ℕ) : Type 0 where
   pub config : regex_config regex ≡ default_config
   pub read : IsReadFromSource regex
 
--- `regex` may refuse the pattern, alone or between its anchors, for another cause than memory
+-- a pattern of at most 256 bytes that `regex` may refuse, alone or between its anchors, for another cause than memory
 pub record IsRefusedPattern (pattern : List ℕ) : Type 0 where
+  pub short : length pattern ≤ 256
   pub one : IsRefused pattern ⊎ IsRefused (anchored pattern)

@@ -57,6 +57,7 @@ fn build(alloc: Global, text: &str) -> Result<Regex, MatcherError>
 
 /// The pattern between its anchors, once it was built alone.
 fn build_anchored(alloc: Global, text: &str) -> Result<Regex, MatcherError>
+    requires { length text.now ≤ 256 }
     ensures finds { IfOk result (λ r. FindsFullMatches (regex_pattern r) text.now) }
     ensures read { OnOk result (IsPattern text.now) }
     ensures refused { IsErrOf result MatcherError.PatternRefused → IsRefusedPattern text.now }

@@ -1,0 +1,50 @@
+-- The names of what a selector stands for, and lists of matchers that can be made.
+use Rattle.std.proofs.Common.{◌≡◌, List, [], ◌∷◌, ◌++◌, ap, sym, ◌∙◌, append_assoc, ℕ, true, refl, subst}
+use Rattle.labels.specs.Names.{is_name}
+use Rattle.matchers.specs.Grammar.{BeginsFurther, BeginsBraces, IsSelector, by_metric, by_braces, by_both}
+use Rattle.matchers.specs.Views.{MatcherView}
+use Rattle.matchers.specs.Selectors.{AreNamed, IsMade, AreMade, IsFaultOf, HasFault, IsMakeError}
+use Rattle.matchers.specs.declared.error.SelectorError.{SelectorError}
+use Rattle.matchers.specs.declared.error.SelectorError.TheVariants.{Syntax, Empty, TooMany, PatternTooLong, PatternRefused, Memory}
+
+further_named : (ms : List MatcherView) (text rest : List ℕ) → BeginsFurther ms text rest → AreNamed ms
+further_named [] text rest r = tt
+further_named (m ∷ ms) text rest r = (r.1.matcher.named, further_named ms r.0 rest r.2)
+
+braces_named : (ms : List MatcherView) (text rest : List ℕ) → BeginsBraces ms text rest → AreNamed ms
+braces_named [] text rest r = tt
+braces_named (m ∷ ms) text rest r = (r.1.matcher.named, further_named ms r.0 rest r.2)
+
+-- the matchers of a selector have the names of labels
+pub names_of : (text : List ℕ) (ms : List MatcherView) → IsSelector text ms → AreNamed ms
+names_of text ms (by_metric r) = subst AreNamed (sym r.stands_for) (refl, tt)
+names_of text ms (by_braces r) = braces_named ms r.start r.back r.braces
+names_of text ms (by_both r) = subst AreNamed (sym r.stands_for) (refl, braces_named r.further r.start r.back r.braces)
+
+named_behind : (front : List MatcherView) (m : MatcherView) (after : List MatcherView) → AreNamed (front ++ (m ∷ after)) → is_name m.name ≡ true
+named_behind [] m after named = named.0
+named_behind (n ∷ front) m after named = named_behind front m after named.1
+
+-- the next of those that are left has the name of a label
+pub next_named : (ms front left after : List MatcherView) (m : MatcherView) → ms ≡ front ++ left → left ≡ m ∷ after → AreNamed ms → is_name m.name ≡ true
+next_named ms front left after m is e named = named_behind front m after (subst AreNamed (is ∙ ap (λ x. front ++ x) e) named)
+
+pub AreMade-push : (ms : List MatcherView) (m : MatcherView) → AreMade ms → IsMade m → AreMade (ms ++ m ∷ [])
+AreMade-push [] m a b = (b, tt)
+AreMade-push (n ∷ ms) m a b = (a.0, AreMade-push ms m a.1 b)
+
+pub fault_of : (ms front : List MatcherView) (first : MatcherView) (back : List MatcherView) (e : SelectorError) →
+    ms ≡ front ++ (first ∷ back) → AreMade front → IsFaultOf first e → IsMakeError ms e
+fault_of ms front first back (Syntax at) is made fault = fault
+fault_of ms front first back Empty is made fault = fault
+fault_of ms front first back TooMany is made fault = fault
+fault_of ms front first back PatternTooLong is made fault = record { front = front; first = first; back = back; is = is; made = made; fault = fault }
+fault_of ms front first back PatternRefused is made fault = record { front = front; first = first; back = back; is = is; made = made; fault = fault }
+fault_of ms front first back Memory is made fault = tt
+
+-- one matcher more has been taken from those that are left
+pub one_more : (ms front left after : List MatcherView) (m : MatcherView) → ms ≡ front ++ left → left ≡ m ∷ after → ms ≡ (front ++ m ∷ []) ++ after
+one_more ms front left after m is e = is ∙ ap (λ x. front ++ x) e ∙ sym (append_assoc front (m ∷ []) after)
+
+pub one_made : (new made front : List MatcherView) (m n : MatcherView) → new ≡ made ++ n ∷ [] → made ≡ front → n ≡ m → new ≡ front ++ m ∷ []
+one_made new made front m n is e f = is ∙ ap (λ x. x ++ n ∷ []) e ∙ ap (λ x. front ++ x ∷ []) f

@@ -1,0 +1,4 @@
+pub mod Covers
+pub mod Loops
+pub mod Steps
+pub mod Whole

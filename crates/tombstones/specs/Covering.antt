@@ -1,0 +1,16 @@
+-- What deletions delete.
+use Rattle.std.specs.Prelude.{ℕ, ℤ, Bool, List, ◌==◌, ◌&&◌, int_le}
+use Rattle.std.specs.List.{list_any}
+use Rattle.tombstones.specs.declared.deletion.Deletion.{Deletion}
+
+-- whether a time lies in the closed interval
+abbrev pub holds : Deletion → ℤ → Bool
+holds d t = int_le d.from t && int_le t d.to
+
+-- whether a deletion is of this series and holds the time
+abbrev pub covers : ℕ → ℤ → Deletion → Bool
+covers reference t d = d.reference == reference && holds d t
+
+-- whether one of the deletions covers a time of a series
+abbrev pub covered : List Deletion → ℕ → ℤ → Bool
+covered deletions reference t = list_any (covers reference t) deletions
