@@ -1,5 +1,5 @@
 -- What stands in the language is read by the machine, and as the matchers that it stands for.
-use Rattle.std.proofs.Common.{◌≡◌, ℕ, Bool, true, false, cond, ◌==◌, List, [], ◌∷◌, ◌++◌, ◌⊎◌, inl, inr, Option, None, Some, option_map, codes, refl, sym, ap, subst, ◌∙◌, append_assoc}
+use Rattle.std.proofs.Common.{◌≡◌, ℕ, true, false, ◌==◌, List, [], ◌∷◌, ◌++◌, Some, option_map, refl, sym, ap, subst, ◌∙◌, append_assoc}
 use Rattle.std.specs.List.{list_all}
 use Rattle.labels.specs.Names.{starts_name, continues_name, is_name}
 use Rattle.matchers.specs.declared.matcher.Op.{Op}
@@ -8,8 +8,8 @@ use Rattle.matchers.specs.declared.scanner.State.{State}
 use Rattle.matchers.specs.declared.scanner.State.TheVariants.{Start, Metric, AfterMetric, Open, Comma, Label, AfterLabel, Equals, Bang, BeforeText, Text, Escape, AfterText, End}
 use Rattle.matchers.specs.declared.scanner.Mark.{Mark}
 use Rattle.matchers.specs.declared.scanner.Mark.TheVariants as mark
-use Rattle.matchers.specs.Grammar.{is_space, IsSpace, starts_metric, continues_metric, is_metric, metric_matcher, op_text, escaped, written, BeginsMatcher, BeginsClosing, BeginsNext, BeginsFirst, BeginsFurther, BeginsBraces, IsMetricAlone, IsBracesAlone, IsMetricWithBraces, IsSelector, by_metric, by_braces, by_both}
-use Rattle.matchers.specs.Scanner.{Move, step, end_mark, marked, reads}
+use Rattle.matchers.specs.Grammar.{is_space, IsSpace, starts_metric, continues_metric, is_metric, metric_matcher, op_text, escaped, written, BeginsMatcher, BeginsFurther, BeginsBraces, IsSelector, by_metric, by_braces, by_both}
+use Rattle.matchers.specs.Scanner.{Move, step, marked, reads}
 use Rattle.matchers.specs.Views.{MatcherView}
 use Rattle.matchers.proofs.Branches.{cond_true, cond_false, by_cases, both_true, at_byte, space_fails, no_space}
 use Rattle.matchers.proofs.Residues.{read_on}

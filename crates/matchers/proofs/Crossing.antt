@@ -3,7 +3,6 @@ use denote.Param.Send.{IsSync, sendable}
 use Rattle.std.proofs.Crossing as heap
 use Rattle.std.proofs.MapsCrossing as maps
 use Rattle.regex_hir.proofs.hir.Hir.TheLaws.TheKnot as hir
-use Rattle.regex_nfa.specs.contracts.nfa.Nfa as nfa
 use Rattle.regex_dfa.specs.contracts.dfa.Dfa as dfa
 use Rattle.regex_meta.specs.contracts.program.Program as program
 use Rattle.regex_meta.specs.contracts.plan.Plans as plans

@@ -3,7 +3,7 @@ use Rattle.std.proofs.Common.{◌≡◌, List, [], ◌∷◌, ◌++◌, ap, sym,
 use Rattle.labels.specs.Names.{is_name}
 use Rattle.matchers.specs.Grammar.{BeginsFurther, BeginsBraces, IsSelector, by_metric, by_braces, by_both}
 use Rattle.matchers.specs.Views.{MatcherView}
-use Rattle.matchers.specs.Selectors.{AreNamed, IsMade, AreMade, IsFaultOf, HasFault, IsMakeError}
+use Rattle.matchers.specs.Selectors.{AreNamed, IsMade, AreMade, IsFaultOf, IsMakeError}
 use Rattle.matchers.specs.declared.error.SelectorError.{SelectorError}
 use Rattle.matchers.specs.declared.error.SelectorError.TheVariants.{Syntax, Empty, TooMany, PatternTooLong, PatternRefused, Memory}
 

@@ -1,5 +1,5 @@
 -- How the machine goes on, character by character, and where it stops.
-use Rattle.std.proofs.Common.{◌≡◌, ℕ, ◌+◌, ◌-◌, ◌*◌, ◌/◌, ◌%◌, ◌<◌, ◌≤◌, Bool, true, false, cond, ◌||◌, ◌==◌, ◌⊎◌, inl, inr, List, [], ◌∷◌, ◌++◌, length, take, Option, None, Some, option_map, codes, refl, sym, ap, subst, ◌∙◌, append_assoc, append-nil, arith, length-append, suc, ltb}
+use Rattle.std.proofs.Common.{◌≡◌, ℕ, ◌+◌, ◌-◌, ◌<◌, ◌≤◌, false, ◌||◌, ◌==◌, ◌⊎◌, inl, inr, List, [], ◌∷◌, ◌++◌, length, take, Option, None, Some, option_map, codes, refl, sym, ap, subst, ◌∙◌, append_assoc, append-nil, arith, length-append, suc, ltb}
 use Rattle.std.specs.Prelude.{encode_utf8}
 use Rattle.std.proofs.lemmas.Str.{encode_ascii}
 use Rattle.std.proofs.lemmas.Bool.Decides.{nat_tests}
@@ -12,7 +12,7 @@ use Rattle.matchers.specs.declared.scanner.State.{State}
 use Rattle.matchers.specs.declared.scanner.State.TheVariants.{Start, Metric, AfterMetric, Open, Comma, Label, AfterLabel, Equals, Bang, BeforeText, Text, Escape, AfterText, End}
 use Rattle.matchers.specs.declared.scanner.Mark.{Mark}
 use Rattle.matchers.specs.declared.scanner.Mark.TheVariants as mark
-use Rattle.matchers.specs.Grammar.{is_space, starts_metric, continues_metric, IsSelector, BeginsSelector, IsLongestBeginning, IsNoSelector, HasOneReading}
+use Rattle.matchers.specs.Grammar.{is_space, starts_metric, continues_metric, IsSelector, BeginsSelector, IsNoSelector, HasOneReading}
 use Rattle.matchers.specs.Scanner.{Move, step, end_mark, marked, reads, Progress, nothing_read, taken, joined, forward, Reached, ReadUpTo}
 use Rattle.matchers.specs.Views.{MatcherView}
 use Rattle.matchers.proofs.Branches.{cond_false, by_cases, never, same_some}

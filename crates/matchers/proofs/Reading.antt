@@ -1,8 +1,8 @@
 -- A compiled pattern finds a match exactly where the tree that its text is read as does.
-use Rattle.std.proofs.Common.{◌≡◌, ℕ, ◌<◌, ◌≤◌, Bool, true, List, All, length, Option, None, Some, IsSomeAnd, is_some, option_map, sym, ap, refl, ◌∙◌}
+use Rattle.std.proofs.Common.{◌≡◌, ℕ, ◌<◌, ◌≤◌, true, List, All, length, Option, None, Some, IsSomeAnd, is_some, option_map, sym, ap, refl, ◌∙◌}
 use Rattle.std.specs.Prelude.{option_and_then}
-use Rattle.regex.specs.Patterns.{Re, find_str, default_config, SameCaptures, Reads}
-use Rattle.regex.specs.Strings.{regex_pattern, regex_source, regex_config, IsReadFromSource}
+use Rattle.regex.specs.Patterns.{Re, find_str, SameCaptures, Reads}
+use Rattle.regex.specs.Strings.{regex_pattern}
 use Rattle.regex.specs.declared.string.regex.Regex.{Regex}
 use Rattle.regex_syntax.specs.Grammar.{Names, group_count}
 use Rattle.regex_syntax.specs.Brackets.{Nested}

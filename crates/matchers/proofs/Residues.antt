@@ -1,5 +1,5 @@
 -- What the rest of a text is, for each state that the machine can stand in before it.
-use Rattle.std.proofs.Common.{◌≡◌, ℕ, Bool, true, List, [], ◌∷◌, ◌++◌, ◌⊎◌, Option, None, Some, option_map, codes}
+use Rattle.std.proofs.Common.{◌≡◌, ℕ, true, List, [], ◌∷◌, ◌++◌, ◌⊎◌, Option, None, Some, option_map, codes}
 use Rattle.std.specs.List.{list_all}
 use Rattle.labels.specs.Names.{continues_name}
 use Rattle.matchers.specs.declared.matcher.Op.{Op}

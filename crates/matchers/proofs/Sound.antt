@@ -1,7 +1,5 @@
 -- What the machine reads stands in the language.
-use Rattle.std.proofs.Common.{◌≡◌, ℕ, Bool, true, false, cond, ◌||◌, ◌==◌, List, [], ◌∷◌, ◌++◌, ◌⊎◌, inl, inr, Option, None, Some, option_map, codes, refl, sym, ap, subst, ◌∙◌}
-use Rattle.std.specs.List.{list_all}
-use Rattle.std.specs.Option.{unwrap_or}
+use Rattle.std.proofs.Common.{◌≡◌, ℕ, true, false, ◌||◌, ◌==◌, List, [], ◌∷◌, ◌++◌, inl, inr, Option, None, Some, option_map, codes, refl, sym, ap, subst, ◌∙◌}
 use Rattle.labels.specs.Names.{starts_name, continues_name}
 use Rattle.matchers.specs.declared.matcher.Op.{Op}
 use Rattle.matchers.specs.declared.matcher.Op.TheVariants as op
@@ -9,11 +7,11 @@ use Rattle.matchers.specs.declared.scanner.State.{State}
 use Rattle.matchers.specs.declared.scanner.State.TheVariants.{Start, Metric, AfterMetric, Open, Comma, Label, AfterLabel, Equals, Bang, BeforeText, Text, Escape, AfterText, End}
 use Rattle.matchers.specs.declared.scanner.Mark.{Mark}
 use Rattle.matchers.specs.declared.scanner.Mark.TheVariants as mark
-use Rattle.matchers.specs.Grammar.{is_space, IsSpace, starts_metric, continues_metric, is_metric, metric_matcher, op_text, escaped, written, BeginsMatcher, BeginsClosing, BeginsNext, BeginsFirst, BeginsFurther, BeginsBraces, IsMetricAlone, IsBracesAlone, IsMetricWithBraces, IsSelector, by_metric, by_braces, by_both}
+use Rattle.matchers.specs.Grammar.{is_space, IsSpace, starts_metric, continues_metric, metric_matcher, op_text, escaped, IsSelector, by_metric, by_braces, by_both}
 use Rattle.matchers.specs.Scanner.{Move, from_start, from_metric, from_after_metric, from_open, from_comma, from_label, from_after_label, from_equals, from_bang, from_before_text, from_text, from_escape, from_after_text, from_end, step, end_mark, marked, reads}
 use Rattle.matchers.specs.Views.{MatcherView}
-use Rattle.matchers.proofs.Branches.{cond_true, cond_false, either, by_cases, never, same_some, both_true, one_true, all_more, same_number, at_byte}
-use Rattle.matchers.proofs.Residues.{Closing, InText, InEscape, BeforeQuote, InOp, BeforeOp, InLabel, AtMatcher, BeforeMatcher, AtBraces, BeforeBraces, AfterName, InMetric, Rest, move, read_on}
+use Rattle.matchers.proofs.Branches.{cond_false, either, never, same_some, one_true, all_more, at_byte}
+use Rattle.matchers.proofs.Residues.{Closing, InText, InEscape, BeforeQuote, InLabel, AtMatcher, AtBraces, AfterName, InMetric, Rest, move, read_on}
 
 -- the rest behind a byte makes the rest that begins with it
 abbrev Back : State → ℕ → List ℕ → State → Mark → Type 0

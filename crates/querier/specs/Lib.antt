@@ -1,2 +1,6 @@
-pub mod Lines
+pub mod Printed
 pub mod Demo
+pub mod Faults
+pub mod Selecting
+pub mod Lines
+pub mod Running

@@ -1,38 +1,189 @@
 //! The command line.
 
+ghost use Rattle.std.specs.Prelude.{◌≡◌, true, false, [], codes, unwrap_or, IfOk, IfErr, IfSome, IfNone};
+ghost use Rattle.querier.specs.Running.{IsTaken};
+ghost use Rattle.clap.specs.Values.{kind_of};
+ghost use Rattle.clap.specs.Matches.{found_of};
+ghost use Rattle.clap.specs.Words.{app_of, new_app, rule_of, rows_of, one_of, first_of, subcommand_of, subcommand_rows_of, takes};
+ghost use Rattle.querier.specs.Lines.{time_rule, selector_rule, directories_rule, select_app, querier_app, IsTimeIn, IsSelectionIn, IsLineIn, IsLineOf, texts_of};
+
 use clap::error::ErrorKind;
-use clap::{Command, Error};
+use clap::{Arg, ArgMatches, Command, Error, value_parser};
+use labels::{MAX_TIME, MIN_TIME};
 use std::alloc::{AllocError, Global};
+
+/// A selector, and a closed range of times in milliseconds, as they were written: neither is checked.
+#[derive(Clone, Copy, Debug, PartialEq, Eq, Drop)]
+pub struct Selection<'a> {
+    pub selector: &'a str,
+    pub from: i64,
+    pub to: i64,
+}
 
 /// What the words ask for.
 #[derive(Clone, Copy, Debug, PartialEq, Eq, Drop)]
-pub enum Line {
+pub enum Line<'a> {
     /// The answer to `up{job="a"}` over six series that two batches bring.
     Demo,
+    /// The answer to a selector.
+    Select(Selection<'a>),
 }
 
-fn demo<'a>(alloc: Global) -> Command<'a> {
+const FROM: &str =
+    "The first time, in milliseconds; a negative one is written --from=-10 [default: -2^62]";
+
+const TO: &str = "The last time, in milliseconds [default: 2^62 - 1]";
+
+const STATUSES: &str =
+    "Exit status: 0 done; 1 refused, with the code on standard error; 2 a fault of the words;
+3 cannot write; 4 no memory";
+
+const EXAMPLE: &str = "Example: querier select --from=-10 --to=100 'up{job=\"a\",zone=~\"x|\"}'
+
+A selector is a metric name, matchers in braces, or both. Matchers are name=\"text\", name!=\"text\",
+name=~\"pattern\" and name!~\"pattern\"; an absent label counts as the empty text.
+
+Refusals, the first that holds:
+  M4 at N  no selector; N is the length in bytes of its longest beginning that begins one
+  M6       no matcher
+  M5       more than 16 matchers
+  M3       a pattern of more than 256 bytes
+  M2       a pattern that is refused by the library of patterns
+  Q1       a range that ends before it begins, or an end of it that is no time
+
+Exit status: 0 done; 1 refused, with the code on standard error; 2 a fault of the words;
+3 cannot write; 4 no memory";
+
+/// An option `--NAME N` with a signed number of 64 bits.
+fn time<'a>(alloc: Global, name: &'a str, help: &'a str) -> Arg<'a>
+    ensures rule { rule_of result ≡ time_rule name.entry.now }
+    ensures global { result.global ≡ false }
+{
+    Arg::new(alloc, name)
+        .long(name)
+        .value_name("N")
+        .value_parser(value_parser!(i64))
+        .help(help)
+}
+
+fn selector<'a>(alloc: Global) -> Arg<'a>
+    ensures rule { rule_of result ≡ selector_rule }
+    ensures global { result.global ≡ false }
+{
+    Arg::new(alloc, "selector")
+        .value_name("SELECTOR")
+        .required(true)
+        .help("Which series, as up{job=\"a\"}")
+}
+
+/// The words after the selector, which are refused.
+fn directories<'a>(alloc: Global) -> Arg<'a>
+    ensures rule { rule_of result ≡ directories_rule }
+    ensures global { result.global ≡ false }
+{
+    Arg::new(alloc, "directories")
+        .value_name("DIR")
+        .num_args(..)
+        .hide(true)
+}
+
+fn demo<'a>(alloc: Global) -> Command<'a>
+    ensures { app_of result ≡ new_app (codes "demo") }
+{
     Command::new(alloc, "demo").about(
         "Commits two batches to an empty store and prints the audited answer to up{job=\"a\"}",
     )
 }
 
-fn querier<'a>(alloc: Global) -> Result<Command<'a>, AllocError> {
+fn select<'a>(alloc: Global) -> Result<Command<'a>, AllocError>
+    ensures { IfOk result (λ command. app_of command ≡ select_app) }
+{
+    Command::new(alloc, "select")
+        .about("Prints the audited answer to a selector over an empty store as one line of JSON")
+        .after_help(EXAMPLE)
+        .arg(time(alloc, "from", FROM))?
+        .arg(time(alloc, "to", TO))?
+        .arg(selector(alloc))?
+        .arg(directories(alloc))
+}
+
+fn querier<'a>(alloc: Global) -> Result<Command<'a>, AllocError>
+    ensures { IfOk result (λ command. app_of command ≡ querier_app) }
+{
     Command::new(alloc, "querier")
         .about("Answers selectors over series, with a certificate that shows each answer whole")
+        .after_help(STATUSES)
         .version("0.1.0")
+        .no_binary_name(true)
         .subcommand_required(true)
-        .subcommand(demo(alloc))
+        .subcommand(demo(alloc))?
+        .subcommand(select(alloc)?)
+}
+
+/// The time that an option gives, or another where it is not used.
+fn time_in(found: &ArgMatches<'_>, name: &str, other: i64) -> i64
+    ensures { IsTimeIn (one_of name.now (rows_of (found_of found.now))) other result }
+{
+    match found.get_one(name) {
+        Some(time) => time,
+        None => other,
+    }
+}
+
+fn text_in<'a>(found: &ArgMatches<'a>, name: &str) -> &'a str
+    ensures { result.now ≡ unwrap_or (first_of name.now (rows_of (found_of found.now))) [] }
+{
+    match found.get_str(name) {
+        Some(text) => text,
+        None => "",
+    }
+}
+
+fn selection_in<'a>(found: &ArgMatches<'a>) -> Selection<'a>
+    ensures { IsSelectionIn (rows_of (found_of found.now)) result.selector.now result.from result.to }
+{
+    let selector = text_in(found, "selector");
+    let from = time_in(found, "from", MIN_TIME);
+    let to = time_in(found, "to", MAX_TIME);
+    Selection { selector, from, to }
+}
+
+/// What a found subcommand asks for; none where words stand after the selector.
+fn line_in<'a>(found: &ArgMatches<'a>) -> Option<Line<'a>>
+    ensures some { IfSome result (λ line. IsLineIn (subcommand_rows_of found.now) line) }
+    ensures none { IfNone result ((line : Line) → IsLineIn (subcommand_rows_of found.now) line → ⊥) }
+{
+    if found.subcommand_matches("demo").is_some() {
+        return Some(Line::Demo);
+    }
+    let arguments = found.subcommand_matches("select")?;
+    if arguments.get_strs("directories").is_some() {
+        return None;
+    }
+    Some(Line::Select(selection_in(arguments)))
+}
+
+fn matches_in<'a>(alloc: Global, words: &'a [String]) -> Result<ArgMatches<'a>, Error>
+    ensures ok { IfOk result (λ found. subcommand_rows_of found ≡ subcommand_of querier_app (texts_of words.entry.now)) }
+    ensures err { IfErr result (λ e. takes querier_app (texts_of words.entry.now) ≡ true → kind_of e ≡ ErrorKind.OutOfMemory) }
+{
+    querier(alloc)?.try_get_matches_from(words)
+}
+
+fn directories_fault(alloc: Global) -> Result<Error, AllocError> {
+    let told = "directories are not read yet: nothing may follow the selector";
+    querier(alloc)?.error(ErrorKind::UnknownArgument, told)
 }
 
 /// What the words after the program's name ask for, or what to print in place of it: help, the version, or a fault of
 /// the words.
-pub fn read_line<'a>(alloc: Global, words: &'a [String]) -> Result<Line, Error> {
-    let found = querier(alloc)?
-        .no_binary_name(true)
-        .try_get_matches_from(words)?;
-    match found.subcommand() {
-        Some(("demo", _)) => Ok(Line::Demo),
-        _ => Err(querier(alloc)?.error(ErrorKind::MissingSubcommand, "no command")?),
+pub fn read_line<'a>(alloc: Global, words: &'a [String]) -> Result<Line<'a>, Error>
+    ensures ok { IfOk result (λ line. IsLineOf (texts_of words.entry.now) line) }
+    ensures err { IfErr result (λ e. IsTaken (texts_of words.entry.now) → kind_of e ≡ ErrorKind.OutOfMemory) }
+{
+    let found = matches_in(alloc, words)?;
+    match line_in(&found) {
+        Some(line) => Ok(line),
+        None => Err(directories_fault(alloc)?),
     }
 }

@@ -1,43 +1,50 @@
 //! The store that `querier demo` shows: six series, in two batches.
 
-ghost use Rattle.std.specs.Prelude.{◌≡◌, [], ◌∷◌, IfOk, IsTrue, Ok, codes};
-ghost use Rattle.head.specs.Batches.{is_batch};
+ghost use Rattle.std.specs.Prelude.{◌≡◌, ◌<◌, [], ◌++◌, length, string_bytes, IfOk, IfErr, Ok};
 ghost use Rattle.head.specs.Blocks.{opening_of};
 ghost use Rattle.head.specs.Heads.{world_of};
 ghost use Rattle.head.specs.Limits.{most};
 ghost use Rattle.head.specs.Worlds.{replayed};
-ghost use Rattle.querier.specs.Demo.{equal_to};
+ghost use Rattle.querier.specs.Demo.{equal_to, demo_query, series_of, zoned_series, sampled, first_event, second_event};
+ghost use Rattle.querier.specs.Selecting.{IsOfNoWords};
 
 use crate::fault::Fault;
 use head::{Event, Snapshot, apply};
-use labels::{LabelError, LabelSet, Sample};
+use labels::{LabelSet, Sample};
 use matchers::{Matcher, Op, Query};
 use std::alloc::{AllocError, Global};
 
-/// A label of a series.
-fn pair(alloc: Global, name: &str, value: &str) -> Result<(String, String), AllocError> {
-    Ok((
-        String::from_str(alloc, name)?,
-        String::from_str(alloc, value)?,
-    ))
+fn pair(alloc: Global, name: &str, value: &str) -> Result<(String, String), AllocError>
+    ensures name { IfOk result (λ p. string_bytes p.0 ≡ name.now) }
+    ensures value { IfOk result (λ p. string_bytes p.1 ≡ value.now) }
+{
+    let name = String::from_str(alloc, name)?;
+    let value = String::from_str(alloc, value)?;
+    Ok((name, value))
 }
 
-fn pairs(
-    alloc: Global,
-    name: &str,
-    job: &str,
-    zone: &str,
-) -> Result<Vec<(String, String)>, AllocError> {
-    let mut pairs = Vec::new(alloc);
-    pairs.push(pair(alloc, "__name__", name)?)?;
-    pairs.push(pair(alloc, "job", job)?)?;
-    pairs.push(pair(alloc, "zone", zone)?)?;
-    Ok(pairs)
+fn series(alloc: Global, name: &str, job: &str) -> Result<LabelSet, AllocError>
+    requires name { 0 < length name.now }
+    requires job { 0 < length job.now }
+    ensures { IfOk result (λ l. l ≡ series_of name.now job.now) }
+{
+    let name = pair(alloc, "__name__", name)?;
+    let job = pair(alloc, "job", job)?;
+    let pairs = vec![in alloc; name, job]?;
+    LabelSet::of_sorted(alloc, pairs.as_slice())
 }
 
-/// A label set of the demo; an empty zone is none.
-fn labels(alloc: Global, name: &str, job: &str, zone: &str) -> Result<LabelSet, LabelError> {
-    LabelSet::new(alloc, pairs(alloc, name, job, zone)?)
+fn series_in(alloc: Global, name: &str, job: &str, zone: &str) -> Result<LabelSet, AllocError>
+    requires name { 0 < length name.now }
+    requires job { 0 < length job.now }
+    requires zone { 0 < length zone.now }
+    ensures { IfOk result (λ l. l ≡ zoned_series name.now job.now zone.now) }
+{
+    let name = pair(alloc, "__name__", name)?;
+    let job = pair(alloc, "job", job)?;
+    let zone = pair(alloc, "zone", zone)?;
+    let pairs = vec![in alloc; name, job, zone]?;
+    LabelSet::of_sorted(alloc, pairs.as_slice())
 }
 
 /// Three series, each with its number as its value at the times 10 and 20.
@@ -47,7 +54,7 @@ fn batch(
     second: (LabelSet, i64),
     third: (LabelSet, i64),
 ) -> Result<Vec<(LabelSet, Sample)>, AllocError>
-    ensures { IfOk result (λ samples. IsTrue (is_batch samples.items)) }
+    ensures { IfOk result (λ samples. samples.items ≡ sampled first.0 first.1 ++ sampled second.0 second.1 ++ sampled third.0 third.1) }
 {
     let samples = vec![in alloc;
         (first.0.try_clone()?, Sample::new(10, first.1)),
@@ -61,24 +68,29 @@ fn batch(
 }
 
 /// The batch of the series 1, 2 and 3.
-pub fn first_batch(alloc: Global) -> Result<Event, Fault> {
-    let one = (labels(alloc, "up", "a", "")?, 1);
-    let two = (labels(alloc, "up", "b", "")?, 2);
-    let three = (labels(alloc, "up", "b", "x")?, 3);
+pub fn first_batch(alloc: Global) -> Result<Event, AllocError>
+    ensures { IfOk result (λ event. event ≡ first_event) }
+{
+    let one = (series(alloc, "up", "a")?, 1);
+    let two = (series(alloc, "up", "b")?, 2);
+    let three = (series_in(alloc, "up", "b", "x")?, 3);
     Ok(Event::batch(batch(alloc, one, two, three)?))
 }
 
 /// The batch of the series 4, 5 and 6.
-pub fn second_batch(alloc: Global) -> Result<Event, Fault> {
-    let four = (labels(alloc, "down", "a", "")?, 4);
-    let five = (labels(alloc, "down", "b", "")?, 5);
-    let six = (labels(alloc, "up", "a", "x")?, 6);
+pub fn second_batch(alloc: Global) -> Result<Event, AllocError>
+    ensures { IfOk result (λ event. event ≡ second_event) }
+{
+    let four = (series(alloc, "down", "a")?, 4);
+    let five = (series(alloc, "down", "b")?, 5);
+    let six = (series_in(alloc, "up", "a", "x")?, 6);
     Ok(Event::batch(batch(alloc, four, five, six)?))
 }
 
 /// An empty store after these events.
 pub fn store_after(alloc: Global, events: &[Event]) -> Result<Snapshot, Fault>
-    ensures { IfOk result (λ s. replayed most (world_of (opening_of [])) events.now ≡ Ok (world_of s)) }
+    ensures ok { IfOk result (λ s. replayed most (world_of (opening_of [])) events.now ≡ Ok (world_of s)) }
+    ensures err { IfErr result (λ fault. IsOfNoWords fault) }
 {
     let mut snapshot = Snapshot::opening(alloc, Vec::new(alloc))?;
     for event in events {
@@ -88,7 +100,8 @@ pub fn store_after(alloc: Global, events: &[Event]) -> Result<Snapshot, Fault>
 }
 
 fn equal(alloc: Global, name: &str, text: &str) -> Result<Matcher, Fault>
-    ensures { IfOk result (λ m. m ≡ equal_to name.now text.now) }
+    ensures ok { IfOk result (λ m. m ≡ equal_to name.now text.now) }
+    ensures err { IfErr result (λ fault. IsOfNoWords fault) }
 {
     let name = String::from_str(alloc, name)?;
     let text = String::from_str(alloc, text)?;
@@ -97,7 +110,8 @@ fn equal(alloc: Global, name: &str, text: &str) -> Result<Matcher, Fault>
 
 /// The query `up{job="a"}` in a closed range of times.
 pub fn query(alloc: Global, from: i64, to: i64) -> Result<Query, Fault>
-    ensures { IfOk result (λ q. q ≡ record { matchers = equal_to (codes "__name__") (codes "up") ∷ equal_to (codes "job") (codes "a") ∷ []; from = from; to = to }) }
+    ensures ok { IfOk result (λ q. q ≡ demo_query from to) }
+    ensures err { IfErr result (λ fault. IsOfNoWords fault) }
 {
     let mut matchers = Vec::new(alloc);
     matchers.push(equal(alloc, "__name__", "up")?)?;

@@ -1,18 +1,81 @@
 //! Why the program ends before it is done.
 
+ghost use Rattle.std.specs.Prelude.{◌≡◌, IfSome, OnOk};
+ghost use Rattle.std.specs.Io.KnownBytes.{Appends};
+ghost use Rattle.querier.specs.Faults.{refusal_code, refusal_place, status_of, line_of};
+
 use head::CommitError;
 use labels::LabelError;
-use matchers::{MatcherError, QueryError};
+use matchers::{MatcherError, QueryError, SelectorError};
 use std::alloc::{AllocError, AllocFailed};
+use std::fmt;
 use std::io::{self, Write};
+
+/// What was refused, and why.
+#[derive(Clone, Copy, Debug, PartialEq, Eq, Drop)]
+pub enum Refusal {
+    /// Pairs that make no label set: `L1` to `L3`.
+    Labels(LabelError),
+    /// A matcher: `M1` to `M3`.
+    Matcher(MatcherError),
+    /// The text of a selector: `M2` to `M6`.
+    Selector(SelectorError),
+    /// A query: `Q1`, `Q2`.
+    Query(QueryError),
+    /// An event: `E1` to `E7`.
+    Commit(CommitError),
+}
+
+impl Refusal {
+    /// The code that users see.
+    pub fn code(&self) -> &'static str
+        ensures { result.now ≡ refusal_code self.now }
+    {
+        match self {
+            Refusal::Labels(error) => error.code(),
+            Refusal::Matcher(error) => error.code(),
+            Refusal::Selector(error) => error.code(),
+            Refusal::Query(error) => error.code(),
+            Refusal::Commit(error) => error.code(),
+        }
+    }
+
+    /// The place of the fault: in a selector in bytes, in a batch the number of the sample, both from 0.
+    pub fn place(&self) -> Option<usize>
+        ensures { result ≡ refusal_place self.now }
+    {
+        match self {
+            Refusal::Selector(SelectorError::Syntax { at })
+            | Refusal::Commit(CommitError::OutOfBounds { at })
+            | Refusal::Commit(CommitError::OutOfOrder { at })
+            | Refusal::Commit(CommitError::Duplicate { at }) => Some(*at),
+            _ => None,
+        }
+    }
+}
+
+impl fmt::Display for Refusal {
+    ghost use Rattle.std.specs.Prelude.{Some};
+    ghost use Rattle.querier.specs.Faults.{refusal_text};
+
+    ghost output = { λ refusal. Some (refusal_text refusal) };
+
+    fn fmt<W: fmt::Write>(&self, f: &mut fmt::Formatter<W>) -> fmt::Result {
+        let code = self.code();
+        match self.place() {
+            Some(at) => write!(f, "{code} at {at}"),
+            None => write!(f, "{code}"),
+        }
+    }
+}
 
 /// Why the program ends before it is done.
 #[derive(Debug, Drop)]
 pub enum Fault {
-    /// The words are none of the program's commands.
+    /// The words are none of the program's lines.
     Words(clap::Error),
-    /// A refusal with this code.
-    Refused(&'static str),
+    /// What was asked for is refused.
+    Refused(Refusal),
     /// A writer refused.
     CannotWrite,
     /// A growth was refused.
@@ -21,7 +84,9 @@ pub enum Fault {
 
 impl Fault {
     /// The exit status: 1 for a refusal, 2 for a fault of the words, 3 for a writer that refused, 4 for no memory.
-    pub fn status(&self) -> u8 {
+    pub fn status(&self) -> u8
+        ensures { result ≡ status_of self.now }
+    {
         match self {
             Fault::Refused(_) => 1,
             Fault::Words(_) => 2,
@@ -30,10 +95,12 @@ impl Fault {
         }
     }
 
-    /// Tells the fault in a line, or how the program is used.
-    pub fn tell<W: Write>(&self, to: &mut W) -> io::Result<()> {
+    /// Tells the fault in a line, as `refused M4 at 7`, or how the program is used.
+    pub fn tell<W: Write>(&self, to: &mut W) -> io::Result<()>
+        ensures { OnOk result (IfSome (line_of self.now) (Appends (W.contents to.old) (W.contents to.new))) }
+    {
         match self {
-            Fault::Refused(code) => writeln!(to, "refused {code}"),
+            Fault::Refused(refusal) => writeln!(to, "refused {refusal}"),
             Fault::Words(error) => write!(to, "{error}"),
             Fault::CannotWrite => to.write_all(b"cannot write\n"),
             Fault::Memory => to.write_all(b"no memory\n"),
@@ -42,52 +109,102 @@ impl Fault {
 }
 
 impl From<AllocError> for Fault {
+    ghost use Rattle.std.specs.Prelude.{◌≡◌};
+    ghost use Rattle.querier.specs.declared.fault.Fault.TheVariants.{Memory};
+
+    ghost from_gives = { λ _ fault. fault ≡ Memory };
+
     fn from(_: AllocError) -> Fault {
         Fault::Memory
     }
 }
 
 impl<T: Drop> From<AllocFailed<T>> for Fault {
+    ghost use Rattle.std.specs.Prelude.{◌≡◌};
+    ghost use Rattle.querier.specs.declared.fault.Fault.TheVariants.{Memory};
+
+    ghost from_gives = { λ _ fault. fault ≡ Memory };
+
     fn from(_: AllocFailed<T>) -> Fault {
         Fault::Memory
     }
 }
 
 impl From<io::Error> for Fault {
+    ghost use Rattle.std.specs.Prelude.{◌≡◌};
+    ghost use Rattle.querier.specs.declared.fault.Fault.TheVariants.{CannotWrite};
+
+    ghost from_gives = { λ _ fault. fault ≡ CannotWrite };
+
     fn from(_: io::Error) -> Fault {
         Fault::CannotWrite
     }
 }
 
 impl From<LabelError> for Fault {
+    ghost use Rattle.std.specs.Prelude.{◌≡◌};
+    ghost use Rattle.querier.specs.Faults.{label_fault};
+
+    ghost from_gives = { λ error fault. fault ≡ label_fault error };
+
     fn from(error: LabelError) -> Fault {
         match error {
             LabelError::Memory => Fault::Memory,
-            refusal => Fault::Refused(refusal.code()),
+            refusal => Fault::Refused(Refusal::Labels(refusal)),
         }
     }
 }
 
 impl From<MatcherError> for Fault {
+    ghost use Rattle.std.specs.Prelude.{◌≡◌};
+    ghost use Rattle.querier.specs.Faults.{matcher_fault};
+
+    ghost from_gives = { λ error fault. fault ≡ matcher_fault error };
+
     fn from(error: MatcherError) -> Fault {
         match error {
             MatcherError::Memory => Fault::Memory,
-            refusal => Fault::Refused(refusal.code()),
+            refusal => Fault::Refused(Refusal::Matcher(refusal)),
+        }
+    }
+}
+
+impl From<SelectorError> for Fault {
+    ghost use Rattle.std.specs.Prelude.{◌≡◌};
+    ghost use Rattle.querier.specs.Faults.{selector_fault};
+
+    ghost from_gives = { λ error fault. fault ≡ selector_fault error };
+
+    fn from(error: SelectorError) -> Fault {
+        match error {
+            SelectorError::Memory => Fault::Memory,
+            refusal => Fault::Refused(Refusal::Selector(refusal)),
         }
     }
 }
 
 impl From<QueryError> for Fault {
+    ghost use Rattle.std.specs.Prelude.{◌≡◌};
+    ghost use Rattle.querier.specs.declared.fault.Fault.TheVariants.{Refused};
+    ghost use Rattle.querier.specs.declared.fault.Refusal.TheVariants.{Query};
+
+    ghost from_gives = { λ error fault. fault ≡ Refused (Query error) };
+
     fn from(error: QueryError) -> Fault {
-        Fault::Refused(error.code())
+        Fault::Refused(Refusal::Query(error))
     }
 }
 
 impl From<CommitError> for Fault {
+    ghost use Rattle.std.specs.Prelude.{◌≡◌};
+    ghost use Rattle.querier.specs.Faults.{commit_fault};
+
+    ghost from_gives = { λ error fault. fault ≡ commit_fault error };
+
     fn from(error: CommitError) -> Fault {
         match error {
             CommitError::Memory => Fault::Memory,
-            refusal => Fault::Refused(refusal.code()),
+            refusal => Fault::Refused(Refusal::Commit(refusal)),
         }
     }
 }

@@ -1,10 +1,10 @@
 //! The program `querier`: audited answers to selectors over Prometheus time series.
 //!
 //! `querier demo` commits two batches to an empty store and prints the answer to `up{job="a"}` from 0 to 100 as one line
-//! of JSON: of each part its rows and the certificate that shows them to be all, and the rows of all parts. A part's
-//! rows are exactly the selected ones of its content, under a leftmost certificate (`search`); the rows of all parts are
-//! the selected ones of the snapshot's content (`merge`, `answer`); and what is written is the text of such an answer,
-//! byte for byte, and a line feed (`reply`, `run`). It stands on `labels`, `matchers`, `postings`, `cover` and `head`.
+//! of JSON: of each part its rows and the certificate that shows them to be all, and the rows of all parts. `querier
+//! select` asks any selector the same of an empty store. What is written is the text of an audited answer, byte for byte,
+//! and a line feed (`write_answer`, `demo`, `select`); what is refused, and with which status a line ends, is said by
+//! `fault` and `run`. It stands on `query_http` for answers and their text, and on `labels`, `matchers` and `head`.
 //! Certificates are the partition certificates of Barbay and Kenyon, SODA 2002.
 #![tactic(auto)]
 
@@ -12,6 +12,7 @@ mod command;
 mod demo;
 mod fault;
 mod run;
+mod select;
 #[cfg(test)]
 mod tests;
 

@@ -5,7 +5,9 @@ ghost use Rattle.std.specs.Prelude.{◌≡◌};
 pub struct Deletion {
     /// The number of the series' reference.
     pub reference: u32,
+    /// The first time of the interval.
     pub from: i64,
+    /// The last time of the interval.
     pub to: i64,
 }
 

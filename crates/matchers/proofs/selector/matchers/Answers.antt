@@ -1,4 +1,3 @@
-use Rattle.std.proofs.Common.{◌≡◌, ◌∙◌}
 use Rattle.matchers.proofs.Makings.{AreMade-push, next_named, one_more, one_made}
 use Rattle.matchers.proofs.selector.matchers.Goals as goal
 

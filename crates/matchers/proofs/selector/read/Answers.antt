@@ -1,4 +1,4 @@
-use Rattle.std.proofs.Common.{◌≡◌, ◌-◌, length, sym, ap, ◌∙◌}
+use Rattle.std.proofs.Common.{◌-◌, length, ap}
 use Rattle.matchers.proofs.Reaching.{goes_on, refused_at, refused_end, accepted, no_bytes}
 use Rattle.matchers.proofs.selector.read.Goals as goal
 

@@ -1,4 +1,4 @@
-use Rattle.std.proofs.Common.{ℕ, length}
+use Rattle.std.proofs.Common.{length}
 use Rattle.std.specs.Str.Iter.{chars_rest}
 use Rattle.matchers.specs.Scanner.{ReadUpTo}
 use Rattle.matchers.proofs.selector.read.Given as goal

@@ -1,4 +1,3 @@
-use Rattle.std.proofs.Common.{◌≡◌}
 use Rattle.matchers.proofs.matcher.Matcher.tester.Goals as goal
 
 pub of_pattern-requires-clause-finds : goal.of_pattern-requires-clause-finds

@@ -1,5 +1,3 @@
-use Rattle.std.proofs.Common.{◌≡◌, Err}
-use Rattle.std.specs.Result.{IsErrOf}
 use Rattle.std.proofs.lemmas.Result.{err_from_is_err_and}
 use Rattle.matchers.proofs.pattern.Pattern.new.Goals as goal
 

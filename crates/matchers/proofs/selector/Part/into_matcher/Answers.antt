@@ -1,4 +1,3 @@
-use Rattle.std.proofs.Common.{◌≡◌}
 use Rattle.matchers.proofs.selector.Part.into_matcher.Goals as goal
 
 pub returns-in-Err-PatternRefused-clause-err : goal.returns-in-Err-PatternRefused-clause-err

@@ -1,0 +1,5 @@
+pub mod Neighbours
+pub mod Nothing
+pub mod Pieces
+pub mod Segments
+pub mod Spelled

@@ -1,0 +1,2 @@
+pub mod PartRows
+pub mod Writing

@@ -1,0 +1,53 @@
+//! The chunks file.
+
+ghost use Rattle.std.specs.Prelude.{◌≡◌, ◌≤◌, ◌++◌, length, take, drop, vec_len, OnOk, IfOk};
+ghost use Rattle.chunk_reader.specs.Grammar.{IsSegment};
+ghost use Rattle.block_writer.specs.Writing.{chunks_text, series_text};
+
+use crate::chunk::put_chunk;
+use crate::part_rows::PartRows;
+use labels::Sample;
+use std::alloc::{AllocError, Global};
+use wire::put_bytes;
+
+const HEAD: [u8; 8] = [0x85, 0xBD, 0x40, 0xDD, 0x01, 0x00, 0x00, 0x00];
+
+const PIECE: usize = 120;
+
+/// The bytes of the chunks file: the chunks of the rows in their order, 120 samples a chunk, the last of a row with what is
+/// left, nothing between them. It takes time and memory in proportion to the samples.
+pub fn chunks_file(alloc: Global, rows: &PartRows) -> Result<Vec<u8>, AllocError>
+    ensures spelled { IfOk result (λ file. file.items ≡ chunks_text rows.now) }
+    ensures segment { IfOk result (λ file. vec_len file ≤ 0x4000_0000 → IsSegment file.items) }
+{
+    let mut file = Vec::new(alloc);
+    put_bytes(&mut file, &HEAD)?;
+    for row in rows.rows() {
+        put_series(alloc, &mut file, row.samples())?;
+    }
+    Ok(file)
+}
+
+fn put_series(alloc: Global, out: &mut Vec<u8>, samples: &[Sample]) -> Result<(), AllocError>
+    ensures { OnOk result (out.new.items ≡ out.old.items ++ series_text samples.now) }
+{
+    let mut rest = samples;
+    while !rest.is_empty() {
+        let (piece, after) = first_piece(rest);
+        put_chunk(alloc, out, piece)?;
+        rest = after;
+    }
+    Ok(())
+}
+
+fn first_piece(samples: &[Sample]) -> (&[Sample], &[Sample])
+    ensures front { result.0.now ≡ take 120 samples.now }
+    ensures back { result.1.now ≡ drop 120 samples.now }
+    ensures few { length result.0.now ≤ 120 }
+{
+    if samples.len() <= PIECE {
+        (samples, &[])
+    } else {
+        samples.split_at(PIECE)
+    }
+}

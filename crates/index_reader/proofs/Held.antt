@@ -1,0 +1,194 @@
+-- What is kept of a file that was read.
+use Rattle.std.proofs.Common.{◌≡◌, ℕ, zero, suc, ◌+◌, ◌/◌, ◌<◌, ◌≤◌, List, [], ◌∷◌, ◌++◌, length, get_or, drop, Some, Result, Ok, Err, refl, sym, ap, subst, ◌∙◌, inl, inr, append_assoc, arith}
+use Rattle.std.specs.Prelude.{slice_get, slice_range, IfOk}
+use Rattle.std.specs.List.{All}
+use Rattle.std.specs.Borrow.{Bor}
+use Rattle.std.proofs.lemmas.Bool.{cases_lt}
+use Rattle.std.proofs.lemmas.List.{drop_all, append-nil, map_push, length-map, length_push, get_or_append_left, get_or_at, get_or-map}
+use Rattle.wire.specs.Spelling.{IsBytes}
+use Rattle.labels.specs.Labels.{Labels}
+use Rattle.labels.specs.LabelSets.{IsLabelSet}
+use Rattle.index_reader.specs.declared.error.IndexError.{IndexError}
+use Rattle.index_reader.specs.declared.chunk.Chunk.{Chunk}
+use Rattle.index_reader.specs.declared.series.Series.{Series}
+use Rattle.index_reader.specs.declared.bodies.Row.{Row}
+use Rattle.index_reader.specs.declared.opening.Checked.{Checked}
+use Rattle.index_reader.specs.Outcome.{Gives, Fails}
+use Rattle.index_reader.specs.Reading.{Place}
+use Rattle.index_reader.specs.Bodies.{Label, Body}
+use Rattle.index_reader.specs.Flat.{body_in, bodies_in, IsIn}
+use Rattle.index_reader.specs.Words.{IsList}
+use Rattle.index_reader.specs.Shown.{texts_of}
+use Rattle.index_reader.specs.Seen.{texts, places}
+use Rattle.index_reader.specs.Agreement.{strings_of}
+use Rattle.index_reader.specs.Agreement as agreement
+use Rattle.index_reader.specs.Indexes.{text_of, named, series_at, series_of, references, references_with}
+use Rattle.index_reader.specs.Indexes as indexes
+use Rattle.index_reader.specs.Kept.{series_in, all_in, indexed_in, IsOfRow, AreWithin, AreInTable, AreLabelSets, IsListing}
+use Rattle.index_reader.specs.Opening.{read_of, indexed, indexed_of, IsRead}
+use Rattle.index_reader.specs.Spelled.{IsIndex}
+use Rattle.index_reader.specs.ReadSeen.{read_seen, IsHeldIn}
+use Rattle.index_reader.proofs.WalkLoops.{fails_on}
+use Rattle.index_reader.proofs.Walks.{done}
+use Rattle.index_reader.proofs.Eaches.{drop_at_place}
+use Rattle.index_reader.proofs.Placing.{mapped_at}
+use Rattle.index_reader.proofs.Found.{is_index}
+use Rattle.index_reader.proofs.Facts.{read_is, series_length}
+use Rattle.index_reader.proofs.Texts.{got, stands_at}
+
+pub is_read : (file : List ℕ) (r : Result Checked IndexError) → Gives read_seen r (read_of file) → IfOk r (IsHeldIn file) → IfOk r (λ c. IsRead (read_seen c))
+is_read file (Ok c) g h = read_is file (read_seen c) h.parts g
+is_read file (Err e) g h = tt
+
+pub is_spelled : (file : List ℕ) (r : Result Checked IndexError) → IsBytes file → Gives read_seen r (read_of file) → IfOk r (IsHeldIn file) → IfOk r (λ c. IsIndex file (indexed (read_seen c)))
+is_spelled file (Ok c) fits g h = is_index file (read_seen c) fits h.parts g
+is_spelled file (Err e) fits g h = tt
+
+-- ---- what is copied one by one
+
+pub moved_on : {X : Type 0} (front whole : List X) (i : ℕ) (x y : X) → slice_get whole i ≡ Some x → y ≡ x → front ++ drop i whole ≡ whole → (front ++ y ∷ []) ++ drop (i + 1) whole ≡ whole
+moved_on front whole i x y g e h =
+    let s : i + 1 ≡ suc i = omega arith in
+    append_assoc front (y ∷ []) (drop (i + 1) whole) ∙ rw (e, s) (ap (λ r. front ++ r) (sym (drop_at_place whole i x g)) ∙ h)
+
+pub ended_so : {X : Type 0} (front whole : List X) (i : ℕ) → length whole ≤ i → front ++ drop i whole ≡ whole → front ≡ whole
+ended_so front whole i le h = sym (append-nil front) ∙ ap (λ r. front ++ r) (sym (drop_all i whole le)) ∙ h
+
+-- ---- the series of an entry and its body
+
+pub series_here : (symbols : List (List ℕ)) (ps : List Place) (bs : List Body) (i : ℕ) (p : Place) (b : Body) → slice_get ps i ≡ Some p → slice_get bs i ≡ Some b → slice_get (series_of symbols ps bs) i ≡ Some (series_at symbols p b)
+unfolding series_of
+series_here symbols [] bs i p b g h = absurd cc
+series_here symbols (x ∷ ps) [] i p b g h = absurd cc
+series_here symbols (x ∷ ps) (y ∷ bs) zero p b g h =
+    let e : x ≡ p = cc in
+    let f : y ≡ b = cc in
+    rw (e, f) refl
+series_here symbols (x ∷ ps) (y ∷ bs) (suc i) p b g h = series_here symbols ps bs i p b g h
+
+abbrev made : ℕ → Labels → List Chunk → indexes.Series
+made r ls cs = record { reference = r; labels = ls; chunks = cs }
+
+same_series : (r r' : ℕ) (ls ls' : Labels) (cs cs' : List Chunk) → r ≡ r' → ls ≡ ls' → cs ≡ cs' → made r ls cs ≡ made r' ls' cs'
+same_series r r' ls ls' cs cs' e f g = ap (λ (x : ℕ). made x ls cs) e ∙ ap (λ (x : Labels). made r' x cs) f ∙ ap (λ (x : List Chunk). made r' ls' x) g
+
+some_number : (a b : ℕ) → Some a ≡ Some b → a ≡ b
+some_number a b e = cc
+
+reference_is : (ps : List Place) (i r : ℕ) (p : Place) → slice_get (agreement.references ps) i ≡ Some r → slice_get ps i ≡ Some p → r ≡ p.offset / 16
+reference_is ps i r p g h = some_number r (p.offset / 16) (sym g ∙ mapped_at (λ (q : Place). q.offset / 16) ps i p h)
+
+-- ---- what stands at a place
+
+pub all_here : {X : Type 0} (P : X → Type 0) (xs : List X) (i : ℕ) (x : X) → All P xs → slice_get xs i ≡ Some x → P x
+all_here P [] i x h g = absurd cc
+all_here P (y ∷ xs) zero x h g = let e : y ≡ x = cc in subst P e (h 0 y (omega arith))
+all_here P (y ∷ xs) (suc i) x h g = all_here P xs i x (λ k d lt. h (suc k) d (omega arith)) g
+
+pub list_here : (lists : List (Bor (List ℕ))) (i : ℕ) (x : List ℕ) → All (λ (l : Bor (List ℕ)). IsList l.now) lists → slice_get (texts_of lists) i ≡ Some x → IsList x
+list_here [] i x h g = absurd cc
+list_here (y ∷ xs) zero x h g = let e : y.now ≡ x = cc in subst IsList e (h 0 y (omega arith))
+list_here (y ∷ xs) (suc i) x h g = list_here xs i x (λ k d lt. h (suc k) d (omega arith)) g
+
+stands_so : {X : Type 0} (xs : List X) (i : ℕ) (x : X) → i < length xs → x ≡ get_or xs i x → slice_get xs i ≡ Some x
+stands_so xs i x lt e = stands_at xs i x lt ∙ ap (λ y. Some y) (sym e)
+
+-- ---- series as they are kept
+
+pub series_is : (symbols : List (List ℕ)) (labels : List Label) (chunks : List Chunk) (r : Row) (reference : ℕ) (s : Series) (p : Place) → IsOfRow symbols labels r reference s → reference ≡ p.offset / 16 → series_in chunks s ≡ series_at symbols p (body_in labels chunks r)
+series_is symbols labels chunks r reference s p h e =
+    same_series s.reference (p.offset / 16) s.labels (named symbols (slice_range labels r.labels_start r.labels_end)) (slice_range chunks s.chunks_start s.chunks_end) (slice_range chunks r.chunks_start r.chunks_end)
+    (h.reference_is ∙ e) h.labels_are (ap (λ (n : ℕ). slice_range chunks n s.chunks_end) h.start ∙ ap (slice_range chunks r.chunks_start) h.end)
+
+pub series_on : (symbols : List (List ℕ)) (labels : List Label) (chunks : List Chunk) (rows : List Row) (ps : List Place) (front : List Series) (i : ℕ) (r : Row) (reference : ℕ) (s : Series) → IsOfRow symbols labels r reference s → slice_get rows i ≡ Some r → slice_get (agreement.references ps) i ≡ Some reference → i < length ps
+    → all_in chunks front ++ drop i (series_of symbols ps (bodies_in labels chunks rows)) ≡ series_of symbols ps (bodies_in labels chunks rows)
+    → all_in chunks (front ++ s ∷ []) ++ drop (i + 1) (series_of symbols ps (bodies_in labels chunks rows)) ≡ series_of symbols ps (bodies_in labels chunks rows)
+series_on symbols labels chunks rows ps front i r reference s h g f lt so_far =
+    let none : Place = record { offset = 0; body = []; end = 0 } in
+    let p = get_or ps i none in
+    let here = stands_at ps i none lt in
+    let whole = series_of symbols ps (bodies_in labels chunks rows) in
+    let one = series_here symbols ps (bodies_in labels chunks rows) i p (body_in labels chunks r) here (mapped_at (body_in labels chunks) rows i r g) in
+    let is = series_is symbols labels chunks r reference s p h (reference_is ps i reference p f here) in
+    ap (λ (front' : List indexes.Series). front' ++ drop (i + 1) whole) (map_push (series_in chunks) front s) ∙ moved_on (all_in chunks front) whole i (series_at symbols p (body_in labels chunks r)) (series_in chunks s) one is so_far
+
+pub within_on : (chunks : List Chunk) (labels : List Label) (symbols : List (List ℕ)) (front : List Series) (r : Row) (reference : ℕ) (s : Series) → IsOfRow symbols labels r reference s → IsIn labels chunks r → AreWithin chunks front → AreWithin chunks (front ++ s ∷ [])
+within_on chunks labels symbols front r reference s h o w = λ k d lt.
+    elim (cases_lt k (length front)) [
+      | inl below ↦ rw (get_or_append_left front (s ∷ []) d k below) (w k d below)
+      | inr from ↦
+          let n : length front ≡ k = omega (arith, lt, length_push front s) in
+          rw (get_or_at front s [] d k n) (omega (arith, h.start, h.end, o.chunks_ordered), omega (arith, h.end, o.chunks_inside))
+    ]
+
+pub series_counted : (symbols : List (List ℕ)) (labels : List Label) (chunks : List Chunk) (rows : List Row) (ps : List Place) → length rows ≡ length ps → length (series_of symbols ps (bodies_in labels chunks rows)) ≡ length rows
+series_counted symbols labels chunks rows ps e =
+    let n = length-map rows (body_in labels chunks) in
+    series_length symbols ps (bodies_in labels chunks rows) (omega (arith, n, e)) ∙ n
+
+-- ---- what an index shows of what it keeps
+
+pub series_seen : (symbols : List (List ℕ)) (keys : List Label) (chunks : List Chunk) (ss : List Series) (x : indexes.Indexed) (i : ℕ) (s : Series) → indexed_in symbols keys chunks ss ≡ x → i < length x.series → s ≡ get_or ss i s → slice_get x.series i ≡ Some (series_in chunks s)
+series_seen symbols keys chunks ss x i s view lt e =
+    let v : all_in chunks ss ≡ x.series = ap (λ (y : indexes.Indexed). y.series) view in
+    let n : i < length ss = omega (arith, lt, ap (λ (zs : List indexes.Series). length zs) v, length-map ss (series_in chunks)) in
+    subst (λ (zs : List indexes.Series). slice_get zs i ≡ Some (series_in chunks s)) v (mapped_at (series_in chunks) ss i s (stands_so ss i s n e))
+
+pub listed_entry : (symbols : List (List ℕ)) (keys : List Label) (series : List indexes.Series) (lists : List (List ℕ)) → IsListing symbols keys series lists → (name value : List ℕ) (i : ℕ) → i < length keys → text_of symbols (get_or keys i (0, 0)) ≡ (name, value)
+    → (e : List ℕ × ℕ) → slice_get lists (i + 1) ≡ Some e.0 → e.1 ≡ 0 → e ≡ (references_with name value series, 0)
+listed_entry symbols keys series lists l name value i lt t e g z =
+    let f : e.0 ≡ references_with name value series = sym (got lists (i + 1) e.0 [] g) ∙ l.listed i lt ∙ ap (λ (p : List ℕ × List ℕ). references_with p.0 p.1 series) t in
+    λ j. (f j, z j)
+
+pub all_entry : (symbols : List (List ℕ)) (keys : List Label) (series : List indexes.Series) (lists : List (List ℕ)) → IsListing symbols keys series lists → (e : List ℕ × ℕ) → slice_get lists 0 ≡ Some e.0 → e.1 ≡ 0 → e ≡ (references series, 0)
+all_entry symbols keys series lists l e g z =
+    let f : e.0 ≡ references series = sym (got lists 0 e.0 [] g) ∙ l.all in
+    λ j. (f j, z j)
+
+-- ---- what opening leaves
+
+pub err_fails : (file : List ℕ) (e : IndexError) → Fails e (read_of file) → Fails e (indexed_of file)
+unfolding indexed_of
+err_fails file e f = fails_on e (read_of file) (λ r. Ok (indexed r)) (indexed_of file) refl f
+
+pub exact_is : (file : List ℕ) (c : Checked) (x : indexes.Indexed) → read_of file ≡ Ok (read_seen c) → indexed (read_seen c) ≡ x → indexed_of file ≡ Ok x
+unfolding indexed_of
+exact_is file c x h e = rw h (ap (λ (y : indexes.Indexed). done y) e)
+
+pub rows_inside : (file : List ℕ) (c : Checked) → IsHeldIn file c → IsRead (read_seen c) → All (λ (r : Row). AreInTable (strings_of c.symbols.items) (slice_range c.bodies.labels.items r.labels_start r.labels_end)) c.bodies.rows.items
+rows_inside file c h i = λ k d lt.
+    let ls = c.bodies.labels.items in
+    let cs = c.bodies.chunks.items in
+    let rs = c.bodies.rows.items in
+    let e : get_or (bodies_in ls cs rs) k (body_in ls cs d) ≡ body_in ls cs (get_or rs k d) = get_or-map (body_in ls cs) rs k d (body_in ls cs d) lt in
+    let o = i.inside k (body_in ls cs d) (omega (arith, lt, length-map rs (body_in ls cs))) in
+    let r = get_or rs k d in
+    subst (λ (symbols : List (List ℕ)). AreInTable symbols (slice_range ls r.labels_start r.labels_end)) (sym h.symbols) (subst (λ (b : Body). AreInTable (texts c.layout.symbols.items) b.labels) e o)
+
+pub rows_labelled : (file : List ℕ) (c : Checked) → IsHeldIn file c → IsRead (read_seen c) → AreLabelSets (strings_of c.symbols.items) c.bodies.labels.items c.bodies.rows.items
+rows_labelled file c h i = λ k d lt.
+    let ls = c.bodies.labels.items in
+    let cs = c.bodies.chunks.items in
+    let rs = c.bodies.rows.items in
+    let e : get_or (bodies_in ls cs rs) k (body_in ls cs d) ≡ body_in ls cs (get_or rs k d) = get_or-map (body_in ls cs) rs k d (body_in ls cs d) lt in
+    let o = i.labelled k (body_in ls cs d) (omega (arith, lt, length-map rs (body_in ls cs))) in
+    let r = get_or rs k d in
+    subst (λ (symbols : List (List ℕ)). IsLabelSet (named symbols (slice_range ls r.labels_start r.labels_end))) (sym h.symbols) (subst (λ (b : Body). IsLabelSet (named (texts c.layout.symbols.items) b.labels)) e o)
+
+pub lists_whole : (c : Checked) → IsRead (read_seen c) → All (λ (l : Bor (List ℕ)). IsList l.now) c.lists.items
+lists_whole c i = λ k d lt.
+    let e : get_or (texts_of c.lists.items) k d.now ≡ (get_or c.lists.items k d).now = get_or-map (λ (l : Bor (List ℕ)). l.now) c.lists.items k d d.now lt in
+    subst IsList e (i.lists k d.now (omega (arith, lt, length-map c.lists.items (λ (l : Bor (List ℕ)). l.now))))
+
+abbrev of_both : List indexes.Series → List (List ℕ × List ℕ) → indexes.Indexed
+of_both ss ps = record { series = ss; pairs = ps }
+
+pub whole_is : (file : List ℕ) (c : Checked) (chunks : List Chunk) (ss : List Series) → IsHeldIn file c → chunks ≡ c.bodies.chunks.items
+    → all_in c.bodies.chunks.items ss ≡ series_of (strings_of c.symbols.items) (places c.layout.entries.items) (bodies_in c.bodies.labels.items c.bodies.chunks.items c.bodies.rows.items)
+    → indexed (read_seen c) ≡ indexed_in (strings_of c.symbols.items) c.keys.items chunks ss
+whole_is file c chunks ss h e exact =
+    let bs = bodies_in c.bodies.labels.items c.bodies.chunks.items c.bodies.rows.items in
+    let ps = places c.layout.entries.items in
+    let a : series_of (texts c.layout.symbols.items) ps bs ≡ all_in chunks ss = ap (λ (y : List (List ℕ)). series_of y ps bs) (sym h.symbols) ∙ sym exact ∙ ap (λ (cs : List Chunk). all_in cs ss) (sym e) in
+    let b : named (texts c.layout.symbols.items) c.keys.items ≡ named (strings_of c.symbols.items) c.keys.items = ap (λ (y : List (List ℕ)). named y c.keys.items) (sym h.symbols) in
+    ap (λ (x : List indexes.Series). of_both x (named (texts c.layout.symbols.items) c.keys.items)) a ∙ ap (of_both (all_in chunks ss)) b

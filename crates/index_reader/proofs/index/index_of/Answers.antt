@@ -1,0 +1,29 @@
+use Rattle.std.proofs.Common.{subst}
+use Rattle.std.proofs.lemmas.Result.{err_from_is_err_and}
+use Rattle.index_reader.specs.Spelled.{IsIndex}
+use Rattle.index_reader.proofs.Held.{err_fails, exact_is, rows_inside, rows_labelled, lists_whole, whole_is}
+use Rattle.index_reader.proofs.index.index_of.Goals as goal
+
+pub returns-in_err-layout-clause-exact : goal.returns-in_err-layout-clause-exact
+returns-in_err-layout-clause-exact c =
+    let p = err_from_is_err_and c.from_residual.result c.from_residual.ensures.1 in
+    rw (p.1, p.2) (err_fails c.args.file.now c.in_err-layout.field-0.0 c.in_err-layout.ensures.exact)
+
+pub series_of-requires-clause-inside : goal.series_of-requires-clause-inside
+series_of-requires-clause-inside c = rw c.deref.ensures.value (rows_inside c.args.file.now c.in_ok-layout.field-0 c.in_ok-layout.ensures.held c.in_ok-layout.ensures.read)
+
+pub series_of-requires-clause-labelled : goal.series_of-requires-clause-labelled
+series_of-requires-clause-labelled c = rw c.deref.ensures.value (rows_labelled c.args.file.now c.in_ok-layout.field-0 c.in_ok-layout.ensures.held c.in_ok-layout.ensures.read)
+
+pub kept-requires : goal.kept-requires
+kept-requires c = rw c.deref-3.ensures.value (lists_whole c.in_ok-layout.field-0 c.in_ok-layout.ensures.read)
+
+pub returns-clause-exact : goal.returns-clause-exact
+returns-clause-exact c =
+    let k = c.in_ok-layout in
+    exact_is c.args.file.now k.field-0 _ k.ensures.exact (whole_is c.args.file.now k.field-0 c.chunks_of-chunks.result.items c.in_ok-series.series.items k.ensures.held c.chunks_of-chunks.ensures (rw (c.deref.ensures.value, c.deref-2.ensures.value) at c.in_ok-series.ensures.exact))
+
+pub returns-clause-found : goal.returns-clause-found
+returns-clause-found c =
+    let k = c.in_ok-layout in
+    subst (IsIndex c.args.file.now) (whole_is c.args.file.now k.field-0 c.chunks_of-chunks.result.items c.in_ok-series.series.items k.ensures.held c.chunks_of-chunks.ensures (rw (c.deref.ensures.value, c.deref-2.ensures.value) at c.in_ok-series.ensures.exact)) k.ensures.spelled

@@ -1,0 +1,21 @@
+use Rattle.std.proofs.Common.{◌≡◌, ◌+◌, ◌-◌, sym, arith}
+use Rattle.std.proofs.lemmas.List.{length-map}
+use Rattle.index_reader.specs.Shown.{all_shown}
+use Rattle.index_reader.specs.Table.{is_before}
+use Rattle.index_reader.specs.Shown.{shown}
+use Rattle.index_reader.proofs.Rising.{next, at_end}
+use Rattle.index_reader.proofs.table.is_rising.Goals as goal
+
+pub returns-then-not-is_before : goal.returns-then-not-is_before
+returns-then-not-is_before c =
+    let n = next is_before (all_shown c.args.table.now) c.loop-at.at _ _ c.is_before.result _ c.loop-at.invariant.0 c.at_place.ensures.seen c.at_place-in-loop-at.ensures.seen c.is_before.ensures c.loop-at.invariant.1 in
+    sym (rw c.if-not-is_before.true at n)
+
+pub loop-at-preserved : goal.loop-at-preserved
+loop-at-preserved c =
+    let n = next is_before (all_shown c.args.table.now) c.loop-at.at _ _ c.is_before.result _ c.loop-at.invariant.0 c.at_place.ensures.seen c.at_place-in-loop-at.ensures.seen c.is_before.ensures c.loop-at.invariant.1 in
+    let e : c.loop-at.at + 1 - 1 ≡ c.loop-at.at = omega arith in
+    (omega arith, rw e (sym (rw c.if-not-is_before.false at n)))
+
+pub returns : goal.returns
+returns c = at_end is_before (all_shown c.args.table.now) c.loop-at.at _ (omega (arith, length-map c.args.table.now shown)) c.loop-at.invariant.1

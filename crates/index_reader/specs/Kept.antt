@@ -1,0 +1,62 @@
+-- How an index is kept.
+use Rattle.std.specs.Prelude.{◌≡◌, ℕ, ◌+◌, ◌<◌, ◌≤◌, ◌^◌, true, List, [], length, map, get_or, slice_range}
+use Rattle.std.specs.List.{All}
+use Rattle.labels.specs.LabelSets.{IsLabelSet}
+use Rattle.index_reader.specs.declared.bodies.Row.{Row}
+use Rattle.index_reader.specs.declared.chunk.Chunk.{Chunk}
+use Rattle.index_reader.specs.declared.series.Series.{Series}
+use Rattle.index_reader.specs.Reading.{ascending}
+use Rattle.index_reader.specs.Bodies.{Label}
+use Rattle.index_reader.specs.Each.{rises}
+use Rattle.index_reader.specs.Finding.{key_before}
+use Rattle.index_reader.specs.Indexes.{Indexed, references, references_with, text_of, named}
+use Rattle.index_reader.specs.Indexes as indexes
+
+-- a series, whose chunks stand among those of all series
+abbrev pub series_in : List Chunk → Series → indexes.Series
+series_in chunks s = record { reference = s.reference; labels = s.labels; chunks = slice_range chunks s.chunks_start s.chunks_end }
+
+-- all series
+abbrev pub all_in : List Chunk → List Series → List indexes.Series
+all_in chunks ss = map (series_in chunks) ss
+
+-- what is kept, by symbols and in flat lists, as what an index holds
+abbrev pub indexed_in : List (List ℕ) → List Label → List Chunk → List Series → Indexed
+indexed_in symbols keys chunks ss = record { series = all_in chunks ss; pairs = named symbols keys }
+
+-- the chunks of each series are there
+abbrev pub AreWithin : List Chunk → List Series → Type 0
+AreWithin chunks ss = All (λ s. (s.chunks_start ≤ s.chunks_end) × (s.chunks_end ≤ length chunks)) ss
+
+-- symbols and pairs of them ascend; the first list is that of all series, and behind it stands for each pair the list of
+-- the series that carry it, of which there are some; other pairs no series carries
+pub record IsListing (symbols : List (List ℕ)) (keys : List Label) (series : List indexes.Series) (lists : List (List ℕ)) : Type 0 where
+  pub few : length symbols < 2 ^ 32
+  pub order : ascending symbols ≡ true
+  pub rising : rises key_before keys ≡ true
+  pub inside : All (λ k. (k.0 < length symbols) × (k.1 < length symbols)) keys
+  pub counted : length lists ≡ length keys + 1
+  pub all : get_or lists 0 [] ≡ references series
+  pub listed : (k : ℕ) → k < length keys → get_or lists (k + 1) [] ≡ references_with (get_or symbols (get_or keys k (0, 0)).0 []) (get_or symbols (get_or keys k (0, 0)).1 []) series
+  pub some : (k : ℕ) → k < length keys → get_or lists (k + 1) [] ≡ [] → ⊥
+  pub absent : (name value : List ℕ) → ((k : ℕ) → k < length keys → text_of symbols (get_or keys k (0, 0)) ≡ (name, value) → ⊥) → references_with name value series ≡ []
+
+-- all of it
+pub record IsKept (symbols : List (List ℕ)) (keys : List Label) (chunks : List Chunk) (ss : List Series) (lists : List (List ℕ)) : Type 0 where
+  pub within : AreWithin chunks ss
+  pub listing : IsListing symbols keys (all_in chunks ss) lists
+
+-- labels are of these symbols
+abbrev pub AreInTable : List (List ℕ) → List Label → Type 0
+AreInTable symbols ls = All (λ l. (l.0 < length symbols) × (l.1 < length symbols)) ls
+
+-- the labels of each body make a label set
+abbrev pub AreLabelSets : List (List ℕ) → List Label → List Row → Type 0
+AreLabelSets symbols labels rows = All (λ r. IsLabelSet (named symbols (slice_range labels r.labels_start r.labels_end))) rows
+
+-- the series of a body
+pub record IsOfRow (symbols : List (List ℕ)) (labels : List Label) (r : Row) (reference : ℕ) (s : Series) : Type 0 where
+  pub reference_is : s.reference ≡ reference
+  pub labels_are : s.labels ≡ named symbols (slice_range labels r.labels_start r.labels_end)
+  pub start : s.chunks_start ≡ r.chunks_start
+  pub end : s.chunks_end ≡ r.chunks_end

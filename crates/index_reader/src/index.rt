@@ -1,0 +1,161 @@
+//! An index that was checked.
+
+ghost use Rattle.std.specs.Prelude.{◌≡◌, ◌<◌, ℕ, ◌==◌, [], length, slice_get, Some, Ok, IfOk, IfSome, IfNone};
+ghost use Rattle.index_reader.specs.Outcome.{Gives};
+ghost use Rattle.index_reader.specs.Indexes.{Indexed, IsConsistent, references, label_sets, chunk_lists, references_with, values_of};
+ghost use Rattle.index_reader.specs.Opening.{indexed_of};
+ghost use Rattle.index_reader.specs.Spelled.{IsIndex};
+
+use crate::bodies::chunks_of;
+use crate::chunk::Chunk;
+use crate::entries::Entries;
+use crate::error::IndexError;
+use crate::keys::{place_of_pair, value_at, value_count};
+use crate::lists::{Lists, kept};
+use crate::opening::{Checked, sound};
+use crate::series::{Series, series_of};
+use labels::{LabelSet, SeriesRef};
+use std::alloc::Global;
+use std::marker::Model;
+
+/// What an index holds, seen as its series in file order and the pairs that it lists. It keeps no borrow of the file,
+/// and its lists of references as the bytes in which they were read.
+#[derive(Drop)]
+pub struct Index {
+    symbols: Vec<String>,
+    keys: Vec<(u32, u32)>,
+    chunks: Vec<Chunk>,
+    series: Vec<Series>,
+    lists: Lists,
+}
+
+impl Model for Index {
+    ghost use Rattle.index_reader.specs.Indexes.{Indexed};
+
+    ghost Value = { Indexed };
+
+    ghost use Rattle.index_reader.specs.Agreement.{strings_of};
+    ghost use Rattle.index_reader.specs.Kept.{indexed_in, IsKept};
+
+    ghost view = { λ x. indexed_in (strings_of x.symbols.items) x.keys.items x.chunks.items x.series.items };
+
+    ghost invariant = { λ x. IsKept (strings_of x.symbols.items) x.keys.items x.chunks.items x.series.items x.lists };
+}
+
+// The checks, and what they leave.
+fn index_of(alloc: Global, file: &[u8]) -> Result<Index, IndexError>
+    ensures exact { Gives (λ x. x) result (indexed_of file.now) }
+    ensures found { IfOk result (IsIndex file.now) }
+    ensures consistent { IfOk result IsConsistent }
+{
+    let Checked {
+        layout,
+        bodies,
+        symbols,
+        keys,
+        lists,
+    } = sound(alloc, file)?;
+    let series = series_of(alloc, &symbols, &bodies, &layout.entries)?;
+    let lists = kept(alloc, &lists)?;
+    let chunks = chunks_of(bodies);
+    Ok(Index {
+        symbols,
+        keys,
+        chunks,
+        series,
+        lists,
+    })
+}
+
+impl Index {
+    /// What the bytes of an index hold, or the refusal of the first check that fails, in the order of [`IndexError`]'s
+    /// table: `I15` (length), `I1` to `I10`, `I13`, `I11`, `I12`, `I14`, `I15` (counts), each over the whole file
+    /// before the next. Time in proportion to the file and to what its table of offsets lists; it copies the texts, the
+    /// chunks' places and the lists, and keeps no borrow of the file.
+    pub fn open(alloc: Global, file: &[u8]) -> Result<Index, IndexError>
+        // The first check that fails is answered; where none does, what was read is given.
+        ensures exact { Gives (λ x. x) result (indexed_of file.now) }
+        // What is given is what the bytes spell: series, their chunks, and lists that are exactly those of the series.
+        ensures found { IfOk result (IsIndex file.now) }
+        // Bytes that spell an index are opened, and give what they spell, unless memory runs out.
+        ensures only { (x : Indexed) → IsIndex file.now x → Gives (λ i. i) result (Ok x) }
+        // References and label sets ascend, and the lists are those of the series.
+        ensures consistent { IfOk result IsConsistent }
+    {
+        index_of(alloc, file)
+    }
+
+    /// How many series there are, at most 1,048,576.
+    pub fn len(&self) -> usize
+        ensures { result ≡ length self.now.series }
+    {
+        self.series.len()
+    }
+
+    /// Whether there is no series.
+    pub fn is_empty(&self) -> bool
+        ensures { result ≡ (length self.now.series == 0) }
+    {
+        self.series.is_empty()
+    }
+
+    /// The reference of the series at a place. References ascend.
+    pub fn reference_at(&self, i: usize) -> SeriesRef
+        requires { i < length self.now.series }
+        ensures { slice_get (references self.now.series) i ≡ Some result }
+    {
+        self.series[i].reference
+    }
+
+    /// The label set of the series at a place. Label sets ascend.
+    pub fn labels_at(&self, i: usize) -> &LabelSet
+        requires { i < length self.now.series }
+        ensures { slice_get (label_sets self.now.series) i ≡ Some result.now }
+    {
+        &self.series[i].labels
+    }
+
+    /// The chunks of the series at a place, in the order of their times, which are in milliseconds.
+    pub fn chunks_at(&self, i: usize) -> &[Chunk]
+        requires { i < length self.now.series }
+        ensures { slice_get (chunk_lists self.now.series) i ≡ Some result.now }
+    {
+        let series = &self.series[i];
+        &self.chunks[series.chunks_start..series.chunks_end]
+    }
+
+    /// The references of all series. None of it is read yet.
+    pub fn all(&self) -> Entries<'_>
+        ensures { result ≡ (references self.now.series, 0) }
+    {
+        self.lists.entries_at(0)
+    }
+
+    /// The references of the series with this value of a name, `None` where there is none. None of it is read yet. It
+    /// takes time in proportion to the logarithms of the counts of symbols and of pairs, and no memory.
+    pub fn entries(&self, name: &str, value: &str) -> Option<Entries<'_>>
+        ensures none { IfNone result (references_with name.now value.now self.now.series ≡ []) }
+        ensures listed { IfSome result (λ e. e ≡ (references_with name.now value.now self.now.series, 0)) }
+        ensures some { IfSome result (λ e. references_with name.now value.now self.now.series ≡ [] → ⊥) }
+    {
+        let Some(at) = place_of_pair(&self.symbols, &self.keys, name, value) else {
+            return None;
+        };
+        Some(self.lists.entries_at(at + 1))
+    }
+
+    /// How many values a name has.
+    pub fn value_count(&self, name: &str) -> usize
+        ensures { result ≡ length (values_of name.now self.now.pairs) }
+    {
+        value_count(&self.symbols, &self.keys, name)
+    }
+
+    /// The value of a name at a place, in the order of their bytes.
+    pub fn value_at(&self, name: &str, i: usize) -> &str
+        requires { i < length (values_of name.now self.now.pairs) }
+        ensures { slice_get (values_of name.now self.now.pairs) i ≡ Some result.now }
+    {
+        value_at(&self.symbols, &self.keys, name, i)
+    }
+}

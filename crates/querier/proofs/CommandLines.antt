@@ -1,0 +1,91 @@
+-- What the getters of `clap` say of the line that the words ask for.
+use Rattle.std.proofs.Common.{◌≡◌, ℕ, ℤ, true, false, List, [], length, Option, Some, None, refl, sym, ap, ap₂, subst, ◌∙◌, inl, inr, arith, codes}
+use Rattle.std.specs.Prelude.{option_map, unwrap_or, is_some, FitsSigned, Bool, not, ◌&&◌}
+use Rattle.std.specs.Int.{w64}
+use Rattle.std.specs.Str.Parse.{IsNumeral, without_leading_sign, signed_digits_value}
+use Rattle.clap.specs.Words.{Row, Text, one_of, one_text, all_of, rows_of, subcommand_name_of, subcommand_rows_of}
+use Rattle.clap.specs.declared.parser.matches.ArgMatches.{ArgMatches}
+use Rattle.clap.specs.declared.parser.matches.Found.{Found}
+use Rattle.clap.proofs.WalkLemmas.{one_text-rows}
+use Rattle.querier.specs.Lines.{IsTimeIn, IsDemo, IsSelect, IsSelectionIn, IsLineIn}
+use Rattle.querier.specs.declared.command.Line.{Line}
+use Rattle.querier.specs.declared.command.Line.TheVariants.{Demo, Select}
+
+-- a text that was read is the number
+pub time_given : (f : Found) (name : Text) (other time shown : ℤ) → (FitsSigned w64 time → shown ≡ time) → (one_text f name ≡ None → Some time ≡ None)
+    → ((t : Text) → one_text f name ≡ Some t → (IsNumeral 10 (without_leading_sign t) × FitsSigned w64 (signed_digits_value 10 t)) × (time ≡ signed_digits_value 10 t))
+    → IsTimeIn (one_of name (rows_of f)) other shown
+time_given f name other time shown same none value = subst (λ (o : Option Text). IsTimeIn o other shown) (one_text-rows f name) (go (one_text f name) refl)
+  where
+    go : (o : Option Text) → one_text f name ≡ o → IsTimeIn o other shown
+    go None e = let no : Some time ≡ None = none e in cc
+    go (Some t) e =
+        let p = value t e in
+        let fits : FitsSigned w64 time = subst (FitsSigned w64) (sym p.1) p.0.1 in
+        inl (record { numeral = p.0.0; fits = p.0.1 }, same fits ∙ p.1)
+
+-- the other time stands where no text is, or one that is no number
+pub time_missing : (f : Found) (name : Text) (other : ℤ)
+    → ((t : Text) → one_text f name ≡ Some t → IsNumeral 10 (without_leading_sign t) × FitsSigned w64 (signed_digits_value 10 t) → ⊥)
+    → IsTimeIn (one_of name (rows_of f)) other other
+time_missing f name other value = subst (λ (o : Option Text). IsTimeIn o other other) (one_text-rows f name) (go (one_text f name) refl)
+  where
+    go : (o : Option Text) → one_text f name ≡ o → IsTimeIn o other other
+    go None e = refl
+    go (Some t) e = inr (λ n. value t e (n.numeral, n.fits), refl)
+
+mapped_twice : {A B C : Type 0} (f : B → C) (g : A → B) (o : Option A) → option_map f (option_map g o) ≡ option_map (λ a. f (g a)) o
+mapped_twice f g None = refl
+mapped_twice f g (Some a) = refl
+
+-- the name of the subcommand that was met stands beside its arguments
+pub name_of_rows : (m : ArgMatches) → option_map (λ (p : Text × List Row). p.0) (subcommand_rows_of m) ≡ subcommand_name_of m
+name_of_rows m = mapped_twice (λ (p : Text × List Row). p.0) _ _
+
+pub some_is_kept : {A B : Type 0} (f : A → B) (o : Option A) → is_some o ≡ true → option_map f o ≡ None → ⊥
+some_is_kept f None some e = cc
+some_is_kept f (Some a) some e = cc
+
+pub none_is_kept : {A B : Type 0} (f : A → B) (o : Option A) → is_some o ≡ false → option_map f o ≡ None
+none_is_kept f None none = refl
+none_is_kept f (Some a) none = cc
+
+-- what the third of several tests denies does not hold where all hold
+pub third_denied : (a b g rest : Bool) → (a && (b && (not g && rest))) ≡ true → g ≡ false
+third_denied a b false rest e = refl
+third_denied false b true rest e = cc
+third_denied true false true rest e = cc
+third_denied true true true rest e = cc
+
+-- a name found is a subcommand found
+pub demo_found : (o : Option (Text × List Row)) → option_map (λ p. p.0) o ≡ Some (codes "demo") → IsDemo o
+demo_found None e = cc
+demo_found (Some p) e = record { rows = p.1; is = ap (λ (n : Option Text). Some (unwrap_or n p.0, p.1)) e }
+
+-- and so with its arguments
+pub select_found : (o : Option (Text × List Row)) (rows : List Row) (text : List ℕ) (from to : ℤ) → option_map (λ p. p.0) o ≡ Some (codes "select")
+    → option_map (λ p. p.1) o ≡ Some rows → all_of (codes "directories") rows ≡ None → IsSelectionIn rows text from to → IsSelect o text from to
+select_found None rows text from to e f alone selection = cc
+select_found (Some p) rows text from to e f alone selection = record {
+  rows = rows;
+  is = ap₂ (λ (n : Option Text) (r : Option (List Row)). Some (unwrap_or n p.0, unwrap_or r p.1)) e f;
+  alone = alone;
+  selection = selection;
+}
+
+-- neither of the two is no line
+pub no_line : (o : Option (Text × List Row)) → (option_map (λ p. p.0) o ≡ Some (codes "demo") → ⊥) → (option_map (λ p. p.0) o ≡ Some (codes "select") → ⊥)
+    → (line : Line) → IsLineIn o line → ⊥
+no_line o no_demo no_select Demo h = no_demo (ap (option_map (λ (p : Text × List Row). p.0)) h.is)
+no_line o no_demo no_select (Select s) h = no_select (ap (option_map (λ (p : Text × List Row). p.0)) h.is)
+
+-- `select` with words after its selector is no line
+pub no_line_of_directories : (o : Option (Text × List Row)) (rows : List Row) → option_map (λ p. p.0) o ≡ Some (codes "select") → option_map (λ p. p.1) o ≡ Some rows
+    → (all_of (codes "directories") rows ≡ None → ⊥) → (line : Line) → IsLineIn o line → ⊥
+no_line_of_directories o rows e f some Demo h =
+    let names : Some (codes "demo") ≡ Some (codes "select") = sym (ap (option_map (λ (p : Text × List Row). p.0)) h.is) ∙ e in
+    let lengths : 4 ≡ 6 = ap (λ (n : Option Text). length (unwrap_or n [])) names in
+    absurd (omega (arith, lengths))
+no_line_of_directories o rows e f some (Select s) h =
+    let same : h.rows ≡ rows = ap (λ (r : Option (List Row)). unwrap_or r []) (sym (ap (option_map (λ (p : Text × List Row). p.1)) h.is) ∙ f) in
+    some (subst (λ (r : List Row). all_of (codes "directories") r ≡ None) same h.alone)
