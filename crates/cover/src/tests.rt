@@ -2,7 +2,7 @@ use crate::counting::Counting;
 use crate::six_series::SixSeries;
 use crate::{Interval, PartCover, Verdict, certificate_laws, cover, cover_with_moves};
 use labels::SeriesRef;
-use matchers::{Matcher, Op, Query};
+use matchers::{Matcher, Op, Query, Selector};
 use std::alloc::Global;
 use std::test::Fail;
 
@@ -135,6 +135,62 @@ fn certificates_of_six_series(rt: HostRuntime) -> Result<(), Fail> {
         );
     }
     certificate_laws();
+    Ok(())
+}
+
+#[test]
+fn certificates_of_selectors(rt: HostRuntime) -> Result<(), Fail> {
+    let alloc = rt.alloc();
+    let six = SixSeries::new();
+    let outside_of_x = [
+        (1, 2, Verdict::Match),
+        (2, 3, Verdict::Match),
+        (3, 4, Verdict::Rejected(0)),
+        (4, 5, Verdict::Match),
+        (5, 6, Verdict::Match),
+        (6, END, Verdict::Rejected(0)),
+    ];
+    for (text, rows) in [
+        (
+            "{zone=~\"x|\"}",
+            [
+                (1, 2, Verdict::Match),
+                (2, 3, Verdict::Match),
+                (3, 4, Verdict::Match),
+                (4, 5, Verdict::Match),
+                (5, 6, Verdict::Match),
+                (6, END, Verdict::Match),
+            ]
+            .as_slice(),
+        ),
+        ("{zone!=\"x\"}", outside_of_x.as_slice()),
+        ("{zone!~\"x\"}", outside_of_x.as_slice()),
+        (
+            "{job=~\"a|c\",zone=\"\"}",
+            [
+                (1, 2, Verdict::Match),
+                (2, 4, Verdict::Rejected(0)),
+                (4, 5, Verdict::Match),
+                (5, 6, Verdict::Rejected(0)),
+                (6, END, Verdict::Rejected(1)),
+            ]
+            .as_slice(),
+        ),
+        (
+            "{__name__=~\"u.*\"}",
+            [
+                (1, 2, Verdict::Match),
+                (2, 3, Verdict::Match),
+                (3, 4, Verdict::Match),
+                (4, 6, Verdict::Rejected(0)),
+                (6, END, Verdict::Match),
+            ]
+            .as_slice(),
+        ),
+    ] {
+        let query = Query::new(Selector::parse(alloc, text)?, 0, 100)?;
+        assert!(rt; is(&cover(alloc, &&six, &query)?, rows), "{text}");
+    }
     Ok(())
 }
 
