@@ -22,9 +22,9 @@ abbrev pub WritesLine : Line → Option (List ℕ) → Option (List ℕ) → Typ
 WritesLine Demo old new = WritesAnswerAfter demo_events (demo_query (pos 0) (pos 100)) old new
 WritesLine (Select s) old new = WritesSelection s.selector.now s.from s.to (opening_of []) old new
 
--- why a line is refused; of the demo nothing is said
+-- why a line is refused; the demo never is
 abbrev pub IsLineRefusal : Line → Refusal → Type 0
-IsLineRefusal Demo refusal = Unit {0}
+IsLineRefusal Demo refusal = ⊥
 IsLineRefusal (Select s) refusal = IsSelectionRefusal s.selector.now s.from s.to refusal
 
 -- the words are a line, and its answer was written

@@ -1,5 +1,5 @@
 -- What a selection asks for, and why it is refused.
-use Rattle.std.specs.Prelude.{◌≡◌, ℕ, ℤ, true, false, List, [], Option, Ok}
+use Rattle.std.specs.Prelude.{◌≡◌, ℕ, ℤ, true, false, List, [], Option, Ok, Err}
 use Rattle.std.specs.Io.KnownBytes.{Appends, Keeps}
 use Rattle.matchers.specs.Grammar.{IsSelector}
 use Rattle.matchers.specs.Queries.{is_range}
@@ -8,10 +8,13 @@ use Rattle.matchers.specs.Views.{MatcherView, QueryView}
 use Rattle.matchers.specs.declared.error.QueryError.TheVariants.{BadRange, TooManyMatchers}
 use Rattle.matchers.specs.declared.error.SelectorError.{SelectorError}
 use Rattle.matchers.specs.declared.error.SelectorError.TheVariants as selector
+use Rattle.head.specs.Answers.{IsAnswer}
 use Rattle.head.specs.Blocks.{opening_of}
 use Rattle.head.specs.Heads.{SnapshotParts, world_of}
 use Rattle.head.specs.Limits.{most}
+use Rattle.head.specs.Refusals.{Refusal as EventRefusal}
 use Rattle.head.specs.Worlds.{Event, replayed}
+use Rattle.head.specs.declared.error.CommitError.{CommitError}
 use Rattle.query_http.specs.Audited.{IsAudited}
 use Rattle.querier.specs.Printed.{line_text}
 use Rattle.query_http.specs.declared.audited.AuditedAnswer.{AuditedAnswer}
@@ -90,9 +93,26 @@ IsWritingFault Memory = Unit {0}
 IsWritingFault (Words error) = ⊥
 IsWritingFault (Refused refusal) = ⊥
 
--- the words are not at fault
-abbrev pub IsOfNoWords : Fault → Type 0
-IsOfNoWords (Words error) = ⊥
-IsOfNoWords (Refused refusal) = Unit {0}
-IsOfNoWords CannotWrite = Unit {0}
-IsOfNoWords Memory = Unit {0}
+-- memory alone failed
+abbrev pub IsOfMemory : Fault → Type 0
+IsOfMemory Memory = Unit {0}
+IsOfMemory (Words error) = ⊥
+IsOfMemory (Refused refusal) = ⊥
+IsOfMemory CannotWrite = ⊥
+
+-- an empty store refuses one of the events so
+pub record IsRefusedStore (events : List Event) (error : CommitError) : Type 0 where
+  pub refusal : EventRefusal
+  pub refused : replayed most (world_of (opening_of [])) events ≡ Err refusal
+  pub answer : IsAnswer error (replayed most (world_of (opening_of [])) events)
+
+-- memory failed, or an empty store refuses one of the events
+abbrev pub IsStoreFault : List Event → Fault → Type 0
+IsStoreFault events Memory = Unit {0}
+IsStoreFault events (Refused (Commit error)) = IsRefusedStore events error
+IsStoreFault events (Refused (Selector error)) = ⊥
+IsStoreFault events (Refused (Query error)) = ⊥
+IsStoreFault events (Refused (Labels error)) = ⊥
+IsStoreFault events (Refused (Matcher error)) = ⊥
+IsStoreFault events (Words error) = ⊥
+IsStoreFault events CannotWrite = ⊥

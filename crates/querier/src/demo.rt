@@ -1,12 +1,14 @@
 //! The store that `querier demo` shows: six series, in two batches.
 
-ghost use Rattle.std.specs.Prelude.{◌≡◌, ◌<◌, [], ◌++◌, length, string_bytes, IfOk, IfErr, Ok};
+ghost use Rattle.std.specs.Prelude.{◌≡◌, ◌<◌, true, [], ◌++◌, length, string_bytes, IfOk, IfErr, Ok};
 ghost use Rattle.head.specs.Blocks.{opening_of};
 ghost use Rattle.head.specs.Heads.{world_of};
 ghost use Rattle.head.specs.Limits.{most};
 ghost use Rattle.head.specs.Worlds.{replayed};
+ghost use Rattle.labels.specs.Names.{is_name};
+ghost use Rattle.matchers.specs.Queries.{is_range};
 ghost use Rattle.querier.specs.Demo.{equal_to, demo_query, series_of, zoned_series, sampled, first_event, second_event};
-ghost use Rattle.querier.specs.Selecting.{IsOfNoWords};
+ghost use Rattle.querier.specs.Selecting.{IsOfMemory, IsStoreFault};
 
 use crate::fault::Fault;
 use head::{Event, Snapshot, apply};
@@ -90,7 +92,7 @@ pub fn second_batch(alloc: Global) -> Result<Event, AllocError>
 /// An empty store after these events.
 pub fn store_after(alloc: Global, events: &[Event]) -> Result<Snapshot, Fault>
     ensures ok { IfOk result (λ s. replayed most (world_of (opening_of [])) events.now ≡ Ok (world_of s)) }
-    ensures err { IfErr result (λ fault. IsOfNoWords fault) }
+    ensures err { IfErr result (λ fault. IsStoreFault events.now fault) }
 {
     let mut snapshot = Snapshot::opening(alloc, Vec::new(alloc))?;
     for event in events {
@@ -100,8 +102,9 @@ pub fn store_after(alloc: Global, events: &[Event]) -> Result<Snapshot, Fault>
 }
 
 fn equal(alloc: Global, name: &str, text: &str) -> Result<Matcher, Fault>
+    requires { is_name name.now ≡ true }
     ensures ok { IfOk result (λ m. m ≡ equal_to name.now text.now) }
-    ensures err { IfErr result (λ fault. IsOfNoWords fault) }
+    ensures err { IfErr result (λ fault. IsOfMemory fault) }
 {
     let name = String::from_str(alloc, name)?;
     let text = String::from_str(alloc, text)?;
@@ -111,7 +114,7 @@ fn equal(alloc: Global, name: &str, text: &str) -> Result<Matcher, Fault>
 /// The query `up{job="a"}` in a closed range of times.
 pub fn query(alloc: Global, from: i64, to: i64) -> Result<Query, Fault>
     ensures ok { IfOk result (λ q. q ≡ demo_query from to) }
-    ensures err { IfErr result (λ fault. IsOfNoWords fault) }
+    ensures err { IfErr result (λ fault. is_range from to ≡ true → IsOfMemory fault) }
 {
     let mut matchers = Vec::new(alloc);
     matchers.push(equal(alloc, "__name__", "up")?)?;

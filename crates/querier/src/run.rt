@@ -6,7 +6,7 @@ ghost use Rattle.querier.specs.Printed.{line_text};
 ghost use Rattle.querier.specs.Demo.{demo_events, demo_query};
 ghost use Rattle.querier.specs.Lines.{texts_of};
 ghost use Rattle.querier.specs.Running.{IsTaken, WritesLine, IsLineFault, IsAnswered, IsFaultOf, IsLineStatus};
-ghost use Rattle.querier.specs.Selecting.{IsOfNoWords, IsWritingFault, KeepsAt, WritesAnswer, WritesAnswerAfter};
+ghost use Rattle.querier.specs.Selecting.{IsWritingFault, KeepsAt, WritesAnswer, WritesAnswerAfter};
 
 use crate::command::{Line, read_line};
 use crate::demo::{first_batch, query, second_batch, store_after};
@@ -56,7 +56,7 @@ pub fn write_answer<W: Write>(
 /// Writes the audited answer to `up{job="a"}` from 0 to 100 over the store of the two batches.
 fn demo<W: Write>(alloc: Global, out: &mut W) -> Result<(), Fault>
     ensures ok { OnOk result (WritesAnswerAfter demo_events (demo_query (pos 0) (pos 100)) (W.contents out.old) (W.contents out.new)) }
-    ensures faults { IfErr result (λ fault. IsOfNoWords fault) }
+    ensures faults { IfErr result (λ fault. IsWritingFault fault) }
     ensures kept { IfErr result (λ fault. KeepsAt fault (W.contents out.old) (W.contents out.new)) }
 {
     let events = vec![in alloc; first_batch(alloc)?, second_batch(alloc)?]?;
