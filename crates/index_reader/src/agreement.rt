@@ -78,7 +78,7 @@ fn placed_of(
     ensures exact { Gives (λ v. v.items) result (each_all (placed_at keys.now) (tied (references (places entries.now)) (label_sets_in labels.now rows.now))) }
     ensures within { IfOk result (λ v. All (λ c. c.0 < length keys.now + 1) v.items) }
 {
-    let mut placed = Vec::new(alloc);
+    let mut placed = Vec::with_capacity(alloc, labels.len().saturating_add(rows.len()))?;
     for at in 0..rows.len() {
         let reference = reference_at(entries, at);
         placed.push((0, reference))?;

@@ -63,7 +63,7 @@ pub fn bodies_of(
 {
     let mut labels = Vec::new(alloc);
     let mut chunks = Vec::new(alloc);
-    let mut rows = Vec::new(alloc);
+    let mut rows = Vec::with_capacity(alloc, entries.len())?;
     for at in 0..entries.len() {
         let entry = entry_at(entries, at);
         let labels_start = labels.len();

@@ -1,7 +1,7 @@
 //! Series as they are kept.
 
 ghost use Rattle.std.specs.Prelude.{◌≡◌, ◌+◌, ◌<◌, ◌≤◌, ◌^◌, ℕ, length, get_or, slice_get, slice_range, string_bytes, Some, All, IfOk};
-ghost use Rattle.labels.specs.Pairs.{pairs_of};
+ghost use Rattle.labels.specs.Pairs.{texts_of};
 ghost use Rattle.labels.specs.LabelSets.{IsLabelSet};
 ghost use Rattle.index_reader.specs.Seen.{places};
 ghost use Rattle.index_reader.specs.Flat.{AllIn, bodies_in};
@@ -25,32 +25,29 @@ pub struct Series {
     pub chunks_end: usize,
 }
 
-fn pair_of(
-    alloc: Global,
-    symbols: &[String],
-    label: (u32, u32),
-) -> Result<(String, String), AllocError>
+// The name and the value of a label.
+fn pair_of(symbols: &[String], label: (u32, u32)) -> (&str, &str)
     requires { (label.0 < length symbols.now) × (label.1 < length symbols.now) }
-    ensures { IfOk result (λ p. (string_bytes p.0, string_bytes p.1) ≡ text_of (strings_of symbols.now) label) }
+    ensures { (result.0.now, result.1.now) ≡ text_of (strings_of symbols.now) label }
 {
-    let name = String::from_str(alloc, text_in(symbols, label.0 as usize))?;
-    let value = String::from_str(alloc, text_in(symbols, label.1 as usize))?;
-    Ok((name, value))
+    (
+        text_in(symbols, label.0 as usize),
+        text_in(symbols, label.1 as usize),
+    )
 }
 
-fn pairs_with(
+fn pairs_with<'a>(
     alloc: Global,
-    symbols: &[String],
+    symbols: &'a [String],
     labels: &[(u32, u32)],
-) -> Result<Vec<(String, String)>, AllocError>
+) -> Result<Vec<(&'a str, &'a str)>, AllocError>
     requires { AreInTable (strings_of symbols.now) labels.now }
-    ensures { IfOk result (λ v. pairs_of v.items ≡ named (strings_of symbols.now) labels.now) }
+    ensures { IfOk result (λ v. texts_of v.items ≡ named (strings_of symbols.now) labels.now) }
 {
-    let mut pairs = Vec::new(alloc);
+    let mut pairs = Vec::with_capacity(alloc, labels.len())?;
     for at in 0..labels.len() {
         let label = key_in(labels, at);
-        let pair = pair_of(alloc, symbols, label)?;
-        pairs.push(pair)?;
+        pairs.push(pair_of(symbols, label))?;
     }
     Ok(pairs)
 }
@@ -65,7 +62,7 @@ fn label_set_of(
     ensures { IfOk result (λ l. l ≡ named (strings_of symbols.now) labels.now) }
 {
     let pairs = pairs_with(alloc, symbols, labels)?;
-    LabelSet::of_sorted(alloc, &pairs)
+    LabelSet::of_sorted_texts(alloc, &pairs)
 }
 
 fn one_of(
@@ -104,7 +101,7 @@ pub fn series_of(
     ensures exact { IfOk result (λ v. all_in bodies.now.chunks.items v.items ≡ series_of (strings_of symbols.now) (places entries.now) (bodies_in bodies.now.labels.items bodies.now.chunks.items bodies.now.rows.items)) }
     ensures within { IfOk result (λ v. AreWithin bodies.now.chunks.items v.items) }
 {
-    let mut series = Vec::new(alloc);
+    let mut series = Vec::with_capacity(alloc, bodies.rows.len())?;
     for at in 0..bodies.rows.len() {
         let row = row_at(&bodies.rows, at);
         let reference = reference_at(entries, at);

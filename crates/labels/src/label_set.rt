@@ -4,7 +4,7 @@ ghost use Rattle.std.specs.Prelude.{◌≡◌, ◌<◌, ◌≤◌, ◌+◌, ℕ,
 ghost use Rattle.std.specs.Cmp.{eq_by_cmp_equiv, partial_equiv_from_equiv, partial_order_from_agreeing_total};
 ghost use Rattle.std.specs.Ordering.{eq_by_cmp, is_eq, nat_cmp, ordering_index};
 ghost use Rattle.std.specs.Cmp.Lexicographic.{slice_cmp};
-ghost use Rattle.labels.specs.Pairs.{pairs_of};
+ghost use Rattle.labels.specs.Pairs.{pairs_of, texts_of};
 ghost use Rattle.labels.specs.Labels.{pair_cmp, labels_cmp, value_of, IsByName};
 ghost use Rattle.labels.specs.LabelSets.{IsLabelSet, IsMadeOf, refusal_of};
 ghost use Rattle.labels.specs.Laws.{labels_total};
@@ -37,12 +37,41 @@ impl Model for LabelSet {
     ghost invariant = { λ l. IsLabelSet (arc_value l.pairs) };
 }
 
+// How many bytes the pairs have.
+fn room_of(pairs: &[(String, String)]) -> usize {
+    let mut room = 0usize;
+    for pair in pairs {
+        room = room
+            .saturating_add(pair.0.as_str().len())
+            .saturating_add(pair.1.as_str().len());
+    }
+    room
+}
+
 fn packed(alloc: Global, pairs: &[(String, String)]) -> Result<Pairs, AllocError>
     ensures { IfOk result (λ p. p ≡ pairs_of pairs.now) }
 {
-    let mut packed = Pairs::new(alloc);
+    let mut packed = Pairs::with_room(alloc, room_of(pairs), pairs.len())?;
     for pair in pairs {
         packed.push(pair.0.as_str(), pair.1.as_str())?;
+    }
+    Ok(packed)
+}
+
+fn room_of_texts(pairs: &[(&str, &str)]) -> usize {
+    let mut room = 0usize;
+    for &(name, value) in pairs {
+        room = room.saturating_add(name.len()).saturating_add(value.len());
+    }
+    room
+}
+
+fn packed_texts(alloc: Global, pairs: &[(&str, &str)]) -> Result<Pairs, AllocError>
+    ensures { IfOk result (λ p. p ≡ texts_of pairs.now) }
+{
+    let mut packed = Pairs::with_room(alloc, room_of_texts(pairs), pairs.len())?;
+    for &(name, value) in pairs {
+        packed.push(name, value)?;
     }
     Ok(packed)
 }
@@ -113,6 +142,15 @@ impl LabelSet {
         ensures { IfOk result (λ l. l ≡ pairs_of pairs.now) }
     {
         let pairs = Arc::new(alloc, packed(alloc, pairs)?)?;
+        Ok(LabelSet { pairs })
+    }
+
+    /// The label set of borrowed pairs that are one already, in their order. It copies them into one text.
+    pub fn of_sorted_texts(alloc: Global, pairs: &[(&str, &str)]) -> Result<LabelSet, AllocError>
+        requires { IsLabelSet (texts_of pairs.now) }
+        ensures { IfOk result (λ l. l ≡ texts_of pairs.now) }
+    {
+        let pairs = Arc::new(alloc, packed_texts(alloc, pairs)?)?;
         Ok(LabelSet { pairs })
     }
 

@@ -168,3 +168,13 @@ fn times_and_references(rt: HostRuntime) {
     assert_eq!(rt; SeriesRef::new(7).number(), 7);
     assert!(rt; SeriesRef::new(2).cmp(&SeriesRef::new(10)) == Ordering::Less);
 }
+
+#[test]
+fn borrowed_pairs_make_the_same_set(rt: HostRuntime) -> Result<(), LabelError> {
+    let alloc = rt.alloc();
+    let pairs = [("__name__", "up"), ("job", "a")];
+    let made = LabelSet::of_sorted_texts(alloc, &pairs)?;
+    assert!(rt; made == set_of(alloc, &pairs)?);
+    assert_eq!(rt; made.value("job"), "a");
+    Ok(())
+}

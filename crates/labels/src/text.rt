@@ -42,13 +42,14 @@ impl Model for Pairs {
 impl Pairs {
     ghost use Rattle.std.specs.Prelude.{List, [], ◌++◌, ◌∷◌};
 
-    pub fn new(alloc: Global) -> Pairs
-        ensures { result ≡ [] }
+    /// None, with room for so many bytes and so many pairs.
+    pub fn with_room(alloc: Global, bytes: usize, pairs: usize) -> Result<Pairs, AllocError>
+        ensures { IfOk result (λ p. p ≡ []) }
     {
-        Pairs {
-            text: String::new(alloc),
-            places: Vec::new(alloc),
-        }
+        Ok(Pairs {
+            text: String::with_capacity(alloc, bytes)?,
+            places: Vec::with_capacity(alloc, pairs)?,
+        })
     }
 
     pub fn len(&self) -> usize

@@ -13,7 +13,7 @@ use Rattle.index_reader.proofs.Placing.{placed_on, placed_fails, placed_inside, 
 use Rattle.index_reader.proofs.agreement.placed_of.Goals as goal
 
 pub loop-at-init : goal.loop-at-init
-loop-at-init c = rw c.new-placed.ensures.items (items_nil _)
+loop-at-init c = rw c.in_ok-placed.ensures.items (items_nil _)
 
 pub returns-in_err-place_labels-clause-exact : goal.returns-in_err-place_labels-clause-exact
 returns-in_err-place_labels-clause-exact c =

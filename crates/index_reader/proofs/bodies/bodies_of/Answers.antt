@@ -44,7 +44,7 @@ one_more symbols ps at p ls ls' cs cs' rs rs' r total inside so_far g read =
 
 pub returns-in_err-body_into-clause-exact : goal.returns-in_err-body_into-clause-exact
 returns-in_err-body_into-clause-exact c =
-    let p = err_from_is_err_and c.from_residual.result c.from_residual.ensures.1 in
+    let p = err_from_is_err_and c.from_residual-in_err-body_into.result c.from_residual-in_err-body_into.ensures.1 in
     rw (p.1, p.2) (each_fails (body_of_place (texts c.args.symbols.now)) c.in_err-body_into.field-0.0 (places c.args.entries.now) c.loop-at.at _ (bodies_in c.loop-at.labels.items c.loop-at.chunks.items c.loop-at.rows.items) _ c.entry_at-entry.ensures.seen (both_fails c.in_err-body_into.field-0.0 _ _ _ c.in_err-body_into.ensures) c.loop-at.invariant.so_far)
 
 pub loop-at-preserved : goal.loop-at-preserved

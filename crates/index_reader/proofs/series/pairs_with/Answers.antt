@@ -1,6 +1,6 @@
 use Rattle.std.proofs.Common.{◌≡◌, ◌<◌, [], ◌∷◌, ◌++◌, length, string_bytes, refl, arith}
 use Rattle.std.proofs.lemmas.List.{map_push, length-map}
-use Rattle.labels.specs.Pairs.{pairs_of}
+use Rattle.labels.specs.Pairs.{texts_of}
 use Rattle.index_reader.specs.Bodies.{Label}
 use Rattle.index_reader.specs.Agreement.{strings_of}
 use Rattle.index_reader.specs.Indexes.{text_of, named}
@@ -9,7 +9,7 @@ use Rattle.index_reader.proofs.Held.{all_here, moved_on, ended_so}
 use Rattle.index_reader.proofs.series.pairs_with.Goals as goal
 
 pub loop-at-init : goal.loop-at-init
-loop-at-init c = rw c.new-pairs.ensures.items refl
+loop-at-init c = rw c.in_ok-pairs.ensures.items refl
 
 pub pair_of-requires : goal.pair_of-requires
 pair_of-requires c =
@@ -20,8 +20,8 @@ pair_of-requires c =
 pub loop-at-preserved : goal.loop-at-preserved
 loop-at-preserved c =
     let l = c.loop-at in
-    let e : pairs_of c.push.new.self.items ≡ pairs_of l.pairs.items ++ (string_bytes c.in_ok-pair.pair.0, string_bytes c.in_ok-pair.pair.1) ∷ [] = rw c.in_ok-push.ensures.items (map_push (λ p. (string_bytes p.0, string_bytes p.1)) l.pairs.items c.in_ok-pair.pair) in
-    rw e (moved_on (pairs_of l.pairs.items) (named (strings_of c.args.symbols.now) c.args.labels.now) l.at _ _ (mapped_at (text_of (strings_of c.args.symbols.now)) c.args.labels.now l.at _ c.key_in-label.ensures) c.in_ok-pair.ensures l.invariant)
+    let e : texts_of c.push.new.self.items ≡ texts_of l.pairs.items ++ (c.pair_of.result.0.now, c.pair_of.result.1.now) ∷ [] = rw c.in_ok-push.ensures.items (map_push (λ p. (p.0.now, p.1.now)) l.pairs.items c.pair_of.result) in
+    rw e (moved_on (texts_of l.pairs.items) (named (strings_of c.args.symbols.now) c.args.labels.now) l.at _ _ (mapped_at (text_of (strings_of c.args.symbols.now)) c.args.labels.now l.at _ c.key_in-label.ensures) c.pair_of.ensures l.invariant)
 
 pub returns : goal.returns
-returns c = ended_so (pairs_of c.loop-at.pairs.items) (named (strings_of c.args.symbols.now) c.args.labels.now) c.loop-at.at (omega (arith, length-map c.args.labels.now (text_of (strings_of c.args.symbols.now)))) c.loop-at.invariant
+returns c = ended_so (texts_of c.loop-at.pairs.items) (named (strings_of c.args.symbols.now) c.args.labels.now) c.loop-at.at (omega (arith, length-map c.args.labels.now (text_of (strings_of c.args.symbols.now)))) c.loop-at.invariant

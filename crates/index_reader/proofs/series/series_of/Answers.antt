@@ -13,8 +13,8 @@ use Rattle.index_reader.proofs.series.series_of.Goals as goal
 
 pub loop-at-init : goal.loop-at-init
 loop-at-init c = record {
-  within = rw c.new-series.ensures.items (λ k d lt. absurd (omega arith));
-  so_far = rw c.new-series.ensures.items refl;
+  within = rw c.in_ok-series.ensures.items (λ k d lt. absurd (omega arith));
+  so_far = rw c.in_ok-series.ensures.items refl;
 }
 
 pub one_of-requires-clause-within : goal.one_of-requires-clause-within
