@@ -15,7 +15,7 @@ demo: ## proves, builds and runs `querier demo`
 test: ## the merge gate: every proof from nothing, must-fail edits, tests, programs
 	@$(RT) ci
 
-allocations: ## refuses each allocation of the demo in turn (needs a C compiler)
+allocations: ## refuses each allocation of an index's opening and of the demo in turn (needs a C compiler)
 	@RT="$(RT)" tests/allocations
 
 bench: ## measures speed (never part of the gate)

@@ -1,15 +1,26 @@
-//! A chunk of the worked block of the format, and each refusal of a file that is spoiled in one place.
+//! The worked chunks file of the format, what is refused of it, and each refusal of a file that is spoiled in one place.
 
 use super::{ChunkError, Chunks, Samples};
-use labels::Sample;
+use labels::{MAX_TIME, MIN_TIME, Sample};
 use std::alloc::Global;
+use std::mem;
 use std::test::Fail;
 use wire::{crc32c, put_be32, put_be64, put_bytes, put_u8, put_uvarint};
 
 const HEAD: [u8; 8] = [0x85, 0xBD, 0x40, 0xDD, 0x01, 0x00, 0x00, 0x00];
 
-/// A file of one chunk: the encoding's byte, the count, and the samples.
-fn file_of(
+/// The chunks of the worked file: where each begins, and the value of its one sample, at time 10.
+const WORKED: [(u64, i64); 6] = [(8, 4), (32, 5), (56, 1), (80, 6), (104, 2), (128, 3)];
+
+fn put_chunk(out: &mut Vec<u8>, content: &[u8]) -> Result<(), Fail> {
+    put_uvarint(out, (content.len() as u64).saturating_sub(1))?;
+    put_bytes(out, content)?;
+    put_be32(out, crc32c(content))?;
+    Ok(())
+}
+
+/// The content of a chunk: the encoding's byte, the count, and the samples.
+fn content_of(
     alloc: Global,
     encoding: u8,
     count: u8,
@@ -21,12 +32,60 @@ fn file_of(
         put_be64(&mut content, time.cast_unsigned())?;
         put_be64(&mut content, value.cast_unsigned())?;
     }
+    Ok(content)
+}
+
+/// A file of one chunk.
+fn file_of(
+    alloc: Global,
+    encoding: u8,
+    count: u8,
+    samples: &[(i64, i64)],
+) -> Result<Vec<u8>, Fail> {
+    let content = content_of(alloc, encoding, count, samples)?;
     let mut file = Vec::new(alloc);
     put_bytes(&mut file, &HEAD)?;
-    put_uvarint(&mut file, (content.len() as u64).saturating_sub(1))?;
-    put_bytes(&mut file, &content)?;
-    put_be32(&mut file, crc32c(&content))?;
+    put_chunk(&mut file, &content)?;
     Ok(file)
+}
+
+fn worked(alloc: Global) -> Result<Vec<u8>, Fail> {
+    let mut file = Vec::new(alloc);
+    put_bytes(&mut file, &HEAD)?;
+    for (_, value) in WORKED {
+        let content = content_of(alloc, 0xE0, 1, &[(10, value)])?;
+        put_chunk(&mut file, &content)?;
+    }
+    Ok(file)
+}
+
+/// The first refusal over the worked references, or `ok`.
+fn told(alloc: Global, file: &[u8]) -> Result<&'static str, Fail> {
+    let mut copy = Vec::new(alloc);
+    put_bytes(&mut copy, file)?;
+    let chunks = match Chunks::open(copy) {
+        Ok(chunks) => chunks,
+        Err(error) => return Ok(error.code()),
+    };
+    for (reference, _) in WORKED {
+        if let Err(error) = chunks.find(reference, 10, 10) {
+            return Ok(error.code());
+        }
+    }
+    Ok("ok")
+}
+
+/// What is told of the file with this byte at the place, which is then as it was.
+fn told_with(alloc: Global, file: &mut [u8], place: usize, byte: u8) -> Result<&'static str, Fail> {
+    let good = match file.get_mut(place) {
+        Some(slot) => mem::replace(slot, byte),
+        None => return Ok("no such place"),
+    };
+    let code = told(alloc, file)?;
+    if let Some(slot) = file.get_mut(place) {
+        *slot = good;
+    }
+    Ok(code)
 }
 
 #[test]
@@ -107,5 +166,120 @@ fn a_file_begins_as_a_segment(rt: HostRuntime) -> Result<(), Fail> {
         Chunks::open(file).is_ok(),
         "what no one refers to is not read"
     );
+    Ok(())
+}
+
+#[test]
+fn the_worked_file_gives_its_samples(rt: HostRuntime) -> Result<(), Fail> {
+    let file = worked(rt.alloc())?;
+    assert_eq!(rt; file.len(), 152);
+    let chunks = Chunks::open(file)?;
+    for (reference, value) in WORKED {
+        let found = chunks.samples(rt.alloc(), reference, 10, 10)?;
+        assert_eq!(rt; found.as_slice(), [Sample::new(10, value)].as_slice());
+    }
+    Ok(())
+}
+
+#[test]
+fn every_damaged_byte_is_refused(rt: HostRuntime) -> Result<(), Fail> {
+    let mut file = worked(rt.alloc())?;
+    for place in 0..152 {
+        let want = match place {
+            0..=3 => "C1",
+            4..=7 => "C2",
+            _ => "C4",
+        };
+        for byte in 0..=255 {
+            if file.get(place) != Some(&byte) {
+                let code = told_with(rt.alloc(), &mut file, place, byte)?;
+                assert_eq!(rt; code, want, "{byte} at {place}");
+            }
+        }
+    }
+    assert_eq!(rt; told(rt.alloc(), &file)?, "ok");
+    Ok(())
+}
+
+#[test]
+fn every_shorter_file_is_refused(rt: HostRuntime) -> Result<(), Fail> {
+    let file = worked(rt.alloc())?;
+    for kept in 0..152 {
+        let want = match kept {
+            0..=3 => "C1",
+            4..=7 => "C2",
+            8 | 32 | 56 | 80 | 104 | 128 => "C3",
+            _ => "C4",
+        };
+        let front = file.get(..kept).unwrap_or(&[]);
+        assert_eq!(rt; told(rt.alloc(), front)?, want, "{kept} bytes");
+    }
+    Ok(())
+}
+
+#[test]
+fn references_outside_the_file_are_refused(rt: HostRuntime) -> Result<(), Fail> {
+    let chunks = Chunks::open(worked(rt.alloc())?)?;
+    let outside = [0, 7, 152, 1 << 32, (1 << 32) + 8, u64::MAX];
+    for reference in outside {
+        let error = chunks.find(reference, 10, 10).err();
+        assert_eq!(rt; error, Some(ChunkError::Reference), "of {reference}");
+    }
+    Ok(())
+}
+
+#[test]
+fn a_length_past_the_file_is_refused(rt: HostRuntime) -> Result<(), Fail> {
+    for length in [19, 1 << 32, u64::MAX - 5, u64::MAX - 1, u64::MAX] {
+        let mut file = Vec::new(rt.alloc());
+        put_bytes(&mut file, &HEAD)?;
+        put_uvarint(&mut file, length)?;
+        put_bytes(&mut file, &content_of(rt.alloc(), 0xE0, 1, &[(10, 4)])?)?;
+        put_be32(&mut file, 0)?;
+        assert_eq!(rt; told(rt.alloc(), &file)?, "C4", "of {length}");
+    }
+    Ok(())
+}
+
+#[test]
+fn the_shape_is_asked_before_the_times(rt: HostRuntime) -> Result<(), Fail> {
+    let rows: [(&str, u8, &[(i64, i64)], i64, i64); 8] = [
+        ("ok", 2, &[(MIN_TIME, 1), (MAX_TIME, 2)], MIN_TIME, MAX_TIME),
+        ("C7", 1, &[(MIN_TIME - 1, 1)], MIN_TIME - 1, MIN_TIME - 1),
+        ("C7", 2, &[(10, 1), (MAX_TIME + 1, 2)], 10, MAX_TIME + 1),
+        ("C7", 2, &[(10, 1), (9, 2)], 10, 9),
+        ("C7", 1, &[(10, 1), (11, 2)], 0, 0),
+        ("C8", 2, &[(10, 1), (11, 2)], 9, 11),
+        ("C8", 2, &[(10, 1), (11, 2)], 10, 12),
+        ("C8", 2, &[(10, 1), (11, 2)], 11, 10),
+    ];
+    for (want, count, samples, mint, maxt) in rows {
+        let chunks = Chunks::open(file_of(rt.alloc(), 0xE0, count, samples)?)?;
+        let code = chunks
+            .find(8, mint, maxt)
+            .err()
+            .map_or("ok", ChunkError::code);
+        assert_eq!(rt; code, want, "of {samples:?} from {mint} to {maxt}");
+    }
+    Ok(())
+}
+
+#[test]
+fn data_without_room_for_a_count_is_refused(rt: HostRuntime) -> Result<(), Fail> {
+    let rows: [(&[u8], &str); 5] = [
+        (&[0xE0], "C7"),
+        (&[0xE0, 0], "C7"),
+        (&[0xE0, 0, 0], "C7"),
+        (&[0x01], "C5"),
+        (&[0x00], "C6"),
+    ];
+    for (content, want) in rows {
+        let mut file = Vec::new(rt.alloc());
+        put_bytes(&mut file, &HEAD)?;
+        put_chunk(&mut file, content)?;
+        assert_eq!(rt; told(rt.alloc(), &file)?, want, "of {content:?}");
+        let spoiled = told_with(rt.alloc(), &mut file, 9, 0x02)?;
+        assert_eq!(rt; spoiled, "C4", "the checksum is asked first");
+    }
     Ok(())
 }

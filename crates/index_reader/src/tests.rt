@@ -1,7 +1,12 @@
 //! The worked index of the format, built byte by byte from its tables, and what is refused of it.
 
+mod accepted;
+mod damage;
+mod draft;
+mod limits;
+
 use super::{Entries, Index, IndexError};
-use std::alloc::Global;
+use std::alloc::{AllocError, Global};
 use std::test::Fail;
 use wire::{crc32c, put_be32, put_be64, put_bytes, put_u8, put_uvarint};
 
@@ -25,32 +30,32 @@ const LISTS: [(&str, &str, u64, &[u8]); 6] = [
     ("zone", "x", 293, &[7, 9]),
 ];
 
-fn put_len(out: &mut Vec<u8>, len: usize) -> Result<(), Fail> {
+fn put_len(out: &mut Vec<u8>, len: usize) -> Result<(), AllocError> {
     put_be32(out, u32::try_from(len).unwrap_or(0))?;
     Ok(())
 }
 
-fn put_frame(out: &mut Vec<u8>, content: &[u8]) -> Result<(), Fail> {
+fn put_frame(out: &mut Vec<u8>, content: &[u8]) -> Result<(), AllocError> {
     put_len(out, content.len())?;
     put_bytes(out, content)?;
     put_be32(out, crc32c(content))?;
     Ok(())
 }
 
-fn put_text(out: &mut Vec<u8>, text: &str) -> Result<(), Fail> {
+fn put_text(out: &mut Vec<u8>, text: &str) -> Result<(), AllocError> {
     put_uvarint(out, text.len() as u64)?;
     put_bytes(out, text.as_bytes())?;
     Ok(())
 }
 
-fn put_zeros(out: &mut Vec<u8>, to: usize) -> Result<(), Fail> {
+fn put_zeros(out: &mut Vec<u8>, to: usize) -> Result<(), AllocError> {
     for _ in out.len()..to {
         put_u8(out, 0)?;
     }
     Ok(())
 }
 
-fn put_series(out: &mut Vec<u8>) -> Result<(), Fail> {
+fn put_series(out: &mut Vec<u8>) -> Result<(), AllocError> {
     for (offset, body) in BODIES {
         put_zeros(out, offset)?;
         put_uvarint(out, body.len() as u64)?;
@@ -61,7 +66,7 @@ fn put_series(out: &mut Vec<u8>) -> Result<(), Fail> {
 }
 
 /// The worked index with these references of `job`, `a`.
-fn index_with(alloc: Global, job_a: &[u8]) -> Result<Vec<u8>, Fail> {
+fn index_with(alloc: Global, job_a: &[u8]) -> Result<Vec<u8>, AllocError> {
     let mut out = Vec::new(alloc);
     put_bytes(&mut out, &[0xBA, 0xAA, 0xD7, 0x00, 0x02])?;
     let mut content = Vec::new(alloc);
@@ -266,4 +271,29 @@ fn each_region_has_its_refusal(rt: HostRuntime) -> Result<(), Fail> {
 fn a_short_file_is_refused(rt: HostRuntime) {
     assert_eq!(rt; code_of(rt.alloc(), &[0xBA; 56]), Some("I1"));
     assert_eq!(rt; code_of(rt.alloc(), &[0xBA; 57]), Some("I2"));
+}
+
+/// `tests/allocations` runs this test with each of its allocations refused in turn.
+#[test]
+fn an_open_refused_memory_answers_when_made_again(rt: HostRuntime) -> Result<(), Fail> {
+    let alloc = rt.alloc();
+    let file = match index_with(alloc, &[4, 6, 7]) {
+        Ok(file) => file,
+        Err(_) => index_with(alloc, &[4, 6, 7])?,
+    };
+    let index = match Index::open(alloc, &file) {
+        Ok(index) => index,
+        Err(error) => {
+            assert_eq!(rt; error, IndexError::Memory);
+            Index::open(alloc, &file)?
+        }
+    };
+    assert_eq!(rt; index.len(), 6);
+    assert_eq!(rt; index.all().len(), 6);
+    for (name, value, _, references) in LISTS {
+        let count = index.entries(name, value).map_or(0, |list| list.len());
+        let want = if name.is_empty() { 0 } else { references.len() };
+        assert_eq!(rt; count, want, "{name} {value}");
+    }
+    Ok(())
 }
