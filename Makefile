@@ -19,7 +19,7 @@ allocations: ## refuses each allocation of an index's opening and of the demo in
 	@RT="$(RT)" tests/allocations
 
 bench: ## measures speed (never part of the gate)
-	@RT="$(RT)" bench/run
+	@RT="$(RT)" bench/run && RT="$(RT)" bench/check
 
 install: ## proves and builds querier, and copies it to PREFIX/bin
 	@cd crates/querier && $(RT) run -- demo >/dev/null

@@ -10,6 +10,7 @@ ghost use Rattle.cover.specs.Asking.{asked};
 ghost use Rattle.cover.specs.Certificates.{IsValidCertificate, IsLeftmost, IsLeast, AreSeparators, begins_of, matches_of};
 ghost use Rattle.block_search.specs.Answering.{row_within, row_of};
 
+use block::BlockView;
 use cover::{Interval, PartAnswer, Verdict, cover};
 use head::HeadView;
 use labels::{LabelSet, Row, Sample, SeriesRef, sort_rows};
@@ -125,5 +126,21 @@ impl<'a> SearchedPart for &'a HeadView {
         to: i64,
     ) -> Result<Vec<Sample>, AllocError> {
         HeadView::samples_of(*self, alloc, reference, from, to)
+    }
+}
+
+impl<'a> SearchedPart for BlockView<'a> {
+    fn labels_of(&self, reference: SeriesRef) -> Option<&LabelSet> {
+        BlockView::labels_of(self, reference)
+    }
+
+    fn samples_of(
+        &self,
+        alloc: Global,
+        reference: SeriesRef,
+        from: i64,
+        to: i64,
+    ) -> Result<Vec<Sample>, AllocError> {
+        BlockView::samples_of(self, alloc, reference, from, to)
     }
 }

@@ -1,5 +1,12 @@
+pub mod Building
+pub mod Giving
+pub mod Held
+pub mod Lengths
 pub mod Neighbours
 pub mod Nothing
 pub mod Pieces
+pub mod Placing
 pub mod Segments
+pub mod Shown
 pub mod Spelled
+pub mod Walking

@@ -1,2 +1,7 @@
+pub mod Codes
+pub mod EntryBodies
+pub mod InUse
+pub mod IndexText
 pub mod PartRows
 pub mod Writing
+pub mod Written

@@ -40,7 +40,8 @@ fn put_series(alloc: Global, out: &mut Vec<u8>, samples: &[Sample]) -> Result<()
     Ok(())
 }
 
-fn first_piece(samples: &[Sample]) -> (&[Sample], &[Sample])
+/// The first 120 samples, and those behind them.
+pub fn first_piece(samples: &[Sample]) -> (&[Sample], &[Sample])
     ensures front { result.0.now ≡ take 120 samples.now }
     ensures back { result.1.now ≡ drop 120 samples.now }
     ensures few { length result.0.now ≤ 120 }

@@ -1,20 +1,34 @@
 //! The files of a block, as bytes that spell exactly the given rows.
 //!
 //! [`PartRows`] keeps rows that a part may have: it is made exactly of rows strictly in label order, each with samples,
-//! strictly in the order of their times. [`chunks_file`] gives the bytes of their chunks, 120 samples a chunk, and
-//! [`no_tombstones`] those of a tombstones file in which nothing is deleted. It stands on `labels` and `wire`, and on
-//! `chunk_reader` and `tombstones` for the words that say how their files are spelled. The files are those of Prometheus's
-//! TSDB format documents; that a chunk has 120 samples and nothing stands between chunks is this project's own.
+//! strictly in the order of their times. [`write`] gives the three files of a block with these rows: the index, whose
+//! symbols and pairs are exactly those in use, each once, ascending (`IsWrittenIndex`); the chunks file, 120 samples a
+//! chunk, nothing between (`chunks_text`); and the tombstones of a block of which nothing is deleted. It refuses rows
+//! (`N1`) only where one of the two files would be longer than 1 GiB. It stands on `labels` and `wire`, and on
+//! `index_reader`, `chunk_reader` and `tombstones` for the words that say how their files are spelled. The files are
+//! those of Prometheus's TSDB format documents; where entries stand, that a reference is the sixteenth part of an offset,
+//! and that a chunk has 120 samples, is this project's own.
 #![tactic(auto)]
 
+mod body;
+mod carriers;
 mod chunk;
 mod chunks;
+mod entries;
+mod error;
+mod files;
+mod index_file;
+mod limits;
 mod part_rows;
+mod sections;
+mod symbols;
 #[cfg(test)]
 mod tests;
 mod tombstones_file;
 
 pub use chunk::put_chunk;
 pub use chunks::chunks_file;
+pub use error::WriteError;
+pub use files::{BlockBytes, write};
 pub use part_rows::PartRows;
 pub use tombstones_file::no_tombstones;

@@ -1,9 +1,13 @@
 -- What is read of a file is what stands there, and what stands there is read.
-use Rattle.std.proofs.Common.{◌≡◌, ℕ, suc, ◌+◌, ◌-◌, ◌^◌, ◌<◌, Bool, true, false, ◌||◌, eqb, ltb, List, [], ◌∷◌, ◌++◌, length, drop, Result, Ok, Err, refl, sym, ap, subst, ◌∙◌, append_assoc, arith}
+use Rattle.std.proofs.Common.{◌≡◌, ℕ, zero, suc, ◌+◌, ◌-◌, ◌/◌, ◌^◌, ◌<◌, Bool, true, false, ◌||◌, eqb, ltb, List, [], ◌∷◌, ◌++◌, length, drop, Result, Ok, Err, refl, sym, ap, subst, ◌∙◌, append_assoc, arith}
 use Rattle.std.specs.Prelude.{ℤ, slice_index, IfOk, OnOk, IsOk, nat_le}
 use Rattle.std.specs.Ordering.{int_eq}
 use Rattle.std.proofs.lemmas.Bool.{ltb-false, lt-leb, le-ltb, eqb-true}
+use Rattle.std.specs.List.{flat_map}
+use Rattle.std.specs.Int.{w64, byte_at, cast_unsigned}
+use Rattle.std.proofs.Math.Nat.{mod-lt}
 use Rattle.std.proofs.lemmas.List.{length-drop, length-append}
+use Rattle.std.proofs.lemmas.List.Concat.{flat_map-cons}
 use Rattle.byteorder.specs.Endian.{big_bytes}
 use Rattle.wire.specs.Spelling.{uvarint, IsBytes}
 use Rattle.wire.specs.Reading.{number_at, bytes_at, uvarint_at}
@@ -13,7 +17,7 @@ use Rattle.wire.proofs.Fields.{IsBytes-drop, IsBytes-front, IsBytes-back, number
 use Rattle.wire.proofs.Laws.{uvarint_takes, uvarint_again, uvarint_long}
 use Rattle.chunk_reader.specs.declared.error.ChunkError.{ChunkError}
 use Rattle.chunk_reader.specs.declared.error.ChunkError.TheVariants.{Magic, Version, Reference, Crc, XorEncoding, OtherEncoding, Shape, TimesDisagree}
-use Rattle.chunk_reader.specs.Grammar.{checked, chunk_text, body_text, plain, time_at, IsChunk, IsSegment}
+use Rattle.chunk_reader.specs.Grammar.{checked, chunk_text, body_text, sample_text, signed_text, plain, time_at, IsChunk, IsSegment}
 use Rattle.chunk_reader.specs.Outcome.{Answers}
 use Rattle.chunk_reader.specs.Reading.{or_refused, opened, content_at, decoded, batch_in, spans, samples_of}
 use Rattle.chunk_reader.proofs.Batches.{IsBody, batch_takes, batch_again, length-body_text, eqb_same}
@@ -143,13 +147,42 @@ not_le m n lt = lt-leb m n lt
 inside : (file : List ℕ) (reference : ℕ) (text rest : List ℕ) → drop reference file ≡ text ++ rest → 0 < length text → reference < length file
 inside file reference text rest e some = omega (arith, length-drop reference file, ap length e, length-append text rest, some)
 
-pub chunk_again : (file : List ℕ) (reference : ℕ) (mint maxt : ℤ) (samples : List (ℤ × ℤ)) → IsBytes file → IsChunk file reference mint maxt samples → samples_of file reference mint maxt ≡ Ok samples
+-- what is spelled is bytes
+
+byte_below : (k n : ℕ) → byte_at k n < 256
+byte_below zero n = mod-lt n (omega arith)
+byte_below (suc k) n = mod-lt (n / 256 ^ suc k) (omega arith)
+
+none_fit : IsBytes []
+none_fit i = omega arith
+
+one_more_fits : (x : ℕ) (bytes : List ℕ) → x < 256 → IsBytes bytes → IsBytes (x ∷ bytes)
+one_more_fits x bytes lt fits zero = lt
+one_more_fits x bytes lt fits (suc i) = fits i
+
+both_fit : (a b : List ℕ) → IsBytes a → IsBytes b → IsBytes (a ++ b)
+both_fit [] b p q = q
+both_fit (x ∷ a) b p q = one_more_fits x (a ++ b) (p 0) (both_fit a b (λ i. p (suc i)) q)
+
+number_fits : (k n : ℕ) → IsBytes (big_bytes k n)
+number_fits zero n = none_fit
+number_fits (suc k) n = one_more_fits (byte_at k n) (big_bytes k n) (byte_below k n) (number_fits k n)
+
+samples_bytes : (samples : List (ℤ × ℤ)) → IsBytes (flat_map sample_text samples)
+samples_bytes [] = none_fit
+samples_bytes (s ∷ samples) =
+    let first : IsBytes (sample_text s) = both_fit (signed_text s.0) (signed_text s.1) (number_fits 8 (cast_unsigned w64 s.0)) (number_fits 8 (cast_unsigned w64 s.1)) in
+    subst IsBytes (sym (flat_map-cons sample_text s samples)) (both_fit (sample_text s) (flat_map sample_text samples) first (samples_bytes samples))
+
+content_bytes : (samples : List (ℤ × ℤ)) → IsBytes (plain ∷ body_text samples)
+content_bytes samples = one_more_fits plain (body_text samples) (omega arith) (both_fit (big_bytes 2 (length samples)) (flat_map sample_text samples) (number_fits 2 (length samples)) (samples_bytes samples))
+
+pub chunk_again : (file : List ℕ) (reference : ℕ) (mint maxt : ℤ) (samples : List (ℤ × ℤ)) → IsChunk file reference mint maxt samples → samples_of file reference mint maxt ≡ Ok samples
 unfolding samples_of
-chunk_again file reference mint maxt samples fits x =
+chunk_again file reference mint maxt samples x =
     let body = body_text samples in
     let rest = x.stands.0 in
-    let text_fits = IsBytes-front (chunk_text plain body) rest (subst IsBytes x.stands.1 (IsBytes-drop reference file fits)) in
-    let content_fits = IsBytes-front (plain ∷ body) _ (IsBytes-back (uvarint (length body)) _ text_fits) in
+    let content_fits = content_bytes samples in
     let small : length body < 2 ^ 64 = omega (arith, length-body_text samples, x.batch.few) in
     let long : 0 < length (chunk_text plain body) = omega (arith, length-append (uvarint (length body)) (checked (plain ∷ body)), uvarint_long (length body)) in
     let low : ltb reference 8 ≡ false = le-ltb _ _ x.behind_head in
@@ -175,9 +208,9 @@ pub is_found : (file : List ℕ) (reference : ℕ) (m n mint maxt : ℤ) (r : Re
 is_found file reference m n mint maxt r e f fits h =
     found_in file reference mint maxt r fits (subst (λ (z : ℤ). Answers (λ s. s) r (samples_of file reference mint z)) f (subst (λ (z : ℤ). Answers (λ s. s) r (samples_of file reference z n)) e h))
 
-pub is_only : (file : List ℕ) (reference : ℕ) (m n mint maxt : ℤ) (r : Result (List (ℤ × ℤ)) ChunkError) (samples : List (ℤ × ℤ)) → m ≡ mint → n ≡ maxt → IsBytes file → Answers (λ s. s) r (samples_of file reference m n) → IsChunk file reference mint maxt samples → r ≡ Ok samples
-is_only file reference m n mint maxt r samples e f fits h x =
-    answered r (samples_of file reference m n) samples h (ap (λ (z : ℤ). samples_of file reference z n) e ∙ ap (samples_of file reference mint) f ∙ chunk_again file reference mint maxt samples fits x)
+pub is_only : (file : List ℕ) (reference : ℕ) (m n mint maxt : ℤ) (r : Result (List (ℤ × ℤ)) ChunkError) (samples : List (ℤ × ℤ)) → m ≡ mint → n ≡ maxt → Answers (λ s. s) r (samples_of file reference m n) → IsChunk file reference mint maxt samples → r ≡ Ok samples
+is_only file reference m n mint maxt r samples e f h x =
+    answered r (samples_of file reference m n) samples h (ap (λ (z : ℤ). samples_of file reference z n) e ∙ ap (samples_of file reference mint) f ∙ chunk_again file reference mint maxt samples x)
 
 pub head_found : {X : Type 0} (file : List ℕ) (r : Result X ChunkError) → IsBytes file → Answers (λ _. file) r (opened file) → OnOk r (IsSegment file)
 head_found file (Ok x) fits h = segment_takes file file fits h

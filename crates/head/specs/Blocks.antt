@@ -1,23 +1,24 @@
 -- The blocks of a snapshot.
-use Rattle.std.specs.Prelude.{ℕ, ℤ, ◌+◌, zero, suc, List, [], ◌∷◌, ◌++◌, int_lt, if◌then◌else◌}
+use Rattle.std.specs.Prelude.{ℕ, ℤ, ◌+◌, zero, suc, List, [], ◌∷◌, ◌++◌}
+use Rattle.std.specs.List.{All, fold}
+use Rattle.std.specs.Int.{int_max}
 use Rattle.labels.specs.declared.sample.TheConstants.{MIN_TIME}
 use Rattle.postings.specs.declared.part_name.PartName.{PartName}
 use Rattle.postings.specs.declared.part_name.PartName.TheVariants.{Block as BlockName, Head}
-use Rattle.head.specs.declared.block.Block.{Block}
+use Rattle.block.specs.Blocks.{Shown, AreInside}
 use Rattle.head.specs.Heads.{BlockPart, SnapshotParts}
 
--- there is no block yet
-abbrev pub part_in : Block → BlockPart
-part_in block = elim block [ ]
+-- the range and the part of a block
+abbrev pub part_in : Shown → BlockPart
+part_in block = record { min = block.range.0; max = block.range.1; part = block.part }
 
--- the greater of a time and the ends of the blocks' ranges
-abbrev pub end_after : ℤ → List BlockPart → ℤ
-end_after t [] = t
-end_after t (b ∷ bs) = end_after (if int_lt t b.max then b.max else t) bs
+-- the samples of each of these blocks lie in its range
+abbrev pub EachInside : List Shown → Type 0
+EachInside blocks = All (λ block. AreInside block.range block.part) blocks
 
 -- where the floor of these blocks alone is: at the greatest end of their ranges, and at the smallest time for none
 abbrev pub opening_floor : List BlockPart → ℤ
-opening_floor blocks = end_after MIN_TIME blocks
+opening_floor blocks = fold (λ floor block. int_max floor block.max) MIN_TIME blocks
 
 -- these blocks and an empty head
 abbrev pub opening_of : List BlockPart → SnapshotParts

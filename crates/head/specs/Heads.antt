@@ -1,5 +1,5 @@
 -- What a head holds, and the world of a snapshot.
-use Rattle.std.specs.Prelude.{◌≡◌, ℕ, ℤ, ◌+◌, false, not, T, List, [], ◌∷◌, ◌++◌, Option, None, Some, int_lt, length, map, if◌then◌else◌}
+use Rattle.std.specs.Prelude.{◌≡◌, ℕ, ℤ, ◌+◌, ◌≤◌, false, not, T, List, [], ◌∷◌, ◌++◌, Option, None, Some, int_lt, length, map, if◌then◌else◌}
 use Rattle.std.specs.List.{list_all}
 use Rattle.std.specs.Ordering.{int_cmp}
 use Rattle.std.specs.FinMap.Entries.{find, is_sorted}
@@ -65,5 +65,6 @@ pub record AreBelow (floor : ℤ) (blocks : List BlockPart) : Type 0 where
 
 -- what every snapshot keeps
 pub record IsSound (s : SnapshotParts) : Type 0 where
+  pub few : length s.blocks ≤ 63
   pub head : IsSoundHead s.floor s.head
   pub blocks : AreBelow s.floor s.blocks

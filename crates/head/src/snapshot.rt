@@ -7,11 +7,11 @@ ghost use Rattle.head.specs.Worlds.{stepped, committed};
 ghost use Rattle.head.specs.Answers.{IsAnswer};
 ghost use Rattle.head.specs.Limits.{most};
 
-use crate::block::Block;
 use crate::draft::{add_each, slots_of};
 use crate::error::CommitError;
 use crate::event::{Event, Kind};
 use crate::head::HeadView;
+use block::Block;
 use labels::{LabelSet, MIN_TIME, Sample};
 use postings::PartName;
 use std::alloc::{AllocError, Global};
@@ -38,27 +38,43 @@ impl Model for Snapshot {
     ghost invariant = { λ s. IsSound (parts_in s) };
 }
 
-ghost use Rattle.head.specs.Blocks.{part_in, opening_of, part_names};
+ghost use Rattle.head.specs.Blocks.{part_in, opening_of, opening_floor, EachInside, part_names};
 ghost use Rattle.head.specs.Shown.{series_of, copied_of};
 ghost use Rattle.std.specs.Prelude.{[], map};
 
+/// The greatest end of the blocks' ranges, or the smallest time where there is no block.
+fn floor_of(blocks: &[Block]) -> i64
+    ensures floor { result ≡ opening_floor (map part_in blocks.now) }
+    ensures inside { EachInside blocks.now }
+{
+    let mut floor = MIN_TIME;
+    for block in blocks {
+        floor = floor.max(block.range().max());
+    }
+    floor
+}
+
 impl Snapshot {
     /// The snapshot of these blocks and an empty head. The floor is the greatest end of a block's range, or the smallest
-    /// time where there is no block.
+    /// time where there is no block. There are at most 63 blocks (the caller's condition), in any order; their
+    /// ranges may overlap, and where two have a sample of one label set at one time the later block's stands.
     pub fn opening(alloc: Global, blocks: Vec<Block>) -> Result<Snapshot, AllocError>
+        requires { length blocks.items ≤ 63 }
         ensures { IfOk result (λ s. s ≡ opening_of (map part_in blocks.items)) }
     {
+        let floor = floor_of(blocks.as_slice());
         let head = HeadView::empty(alloc)?;
         Ok(Snapshot {
             blocks: Arc::new(alloc, blocks)?,
             head,
-            floor: MIN_TIME,
+            floor,
         })
     }
 
-    /// The names of the parts: the blocks in their order, and then the head.
+    /// The names of the parts, 64 at most: the blocks in their order, and then the head.
     pub fn parts(&self, alloc: Global) -> Result<Vec<PartName>, AllocError>
-        ensures { IfOk result (λ names. names.items ≡ part_names (length self.now.blocks)) }
+        ensures names { IfOk result (λ names. names.items ≡ part_names (length self.now.blocks)) }
+        ensures few { IfOk result (λ names. length names.items ≤ 64) }
     {
         let mut names = Vec::new(alloc);
         for n in 0..self.blocks.len() {
@@ -66,6 +82,13 @@ impl Snapshot {
         }
         names.push(PartName::Head)?;
         Ok(names)
+    }
+
+    /// The blocks in their order.
+    pub fn blocks(&self) -> &[Block]
+        ensures { map part_in result.now ≡ self.now.blocks }
+    {
+        self.blocks.as_slice()
     }
 
     /// The block with this number.

@@ -32,4 +32,4 @@ mod ChunkAgain
 mod BodyAgain
 mod TableAgain
 mod AgreementAgain
-mod Again
+pub mod Again

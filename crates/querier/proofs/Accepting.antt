@@ -13,7 +13,7 @@ use Rattle.querier.specs.Demo.{demo_events}
 use Rattle.querier.specs.Faults.{commit_fault}
 use Rattle.querier.specs.Selecting.{IsStoreFault, IsWritingFault}
 use Rattle.querier.specs.declared.fault.Fault.{Fault}
-use Rattle.querier.specs.declared.fault.Fault.TheVariants.{Words, Refused, CannotWrite, Memory}
+use Rattle.querier.specs.declared.fault.Fault.TheVariants.{Words, Refused, CannotRead, CannotWrite, Memory}
 use Rattle.querier.specs.declared.fault.Refusal.TheVariants.{Labels, Matcher, Selector, Query, Commit}
 
 unfoldable is_accepted : Result World EventRefusal → Bool
@@ -67,4 +67,5 @@ demo_fault (Refused (Query error)) h = h
 demo_fault (Refused (Labels error)) h = h
 demo_fault (Refused (Matcher error)) h = h
 demo_fault (Words error) h = h
+demo_fault (CannotRead path) h = h
 demo_fault CannotWrite h = absurd h

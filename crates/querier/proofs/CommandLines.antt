@@ -7,9 +7,9 @@ use Rattle.clap.specs.Words.{Row, Text, one_of, one_text, all_of, rows_of, subco
 use Rattle.clap.specs.declared.parser.matches.ArgMatches.{ArgMatches}
 use Rattle.clap.specs.declared.parser.matches.Found.{Found}
 use Rattle.clap.proofs.WalkLemmas.{one_text-rows}
-use Rattle.querier.specs.Lines.{IsTimeIn, IsDemo, IsSelect, IsSelectionIn, IsLineIn}
+use Rattle.querier.specs.Lines.{IsTimeIn, IsDemo, IsSelect, IsCheck, IsSelectionIn, IsLineIn}
 use Rattle.querier.specs.declared.command.Line.{Line}
-use Rattle.querier.specs.declared.command.Line.TheVariants.{Demo, Select}
+use Rattle.querier.specs.declared.command.Line.TheVariants.{Demo, Select, Check}
 
 -- a text that was read is the number
 pub time_given : (f : Found) (name : Text) (other time shown : ℤ) → (FitsSigned w64 time → shown ≡ time) → (one_text f name ≡ None → Some time ≡ None)
@@ -73,11 +73,22 @@ select_found (Some p) rows text from to e f alone selection = record {
   selection = selection;
 }
 
--- neither of the two is no line
-pub no_line : (o : Option (Text × List Row)) → (option_map (λ p. p.0) o ≡ Some (codes "demo") → ⊥) → (option_map (λ p. p.0) o ≡ Some (codes "select") → ⊥)
-    → (line : Line) → IsLineIn o line → ⊥
-no_line o no_demo no_select Demo h = no_demo (ap (option_map (λ (p : Text × List Row). p.0)) h.is)
-no_line o no_demo no_select (Select s) h = no_select (ap (option_map (λ (p : Text × List Row). p.0)) h.is)
+-- and so with the directories of `check`
+pub check_found : (o : Option (Text × List Row)) (rows : List Row) (directories : List Text) → option_map (λ p. p.0) o ≡ Some (codes "check")
+    → option_map (λ p. p.1) o ≡ Some rows → directories ≡ unwrap_or (all_of (codes "directories") rows) [] → IsCheck o directories
+check_found None rows directories e f given = cc
+check_found (Some p) rows directories e f given = record {
+  rows = rows;
+  is = ap₂ (λ (n : Option Text) (r : Option (List Row)). Some (unwrap_or n p.0, unwrap_or r p.1)) e f;
+  given = given;
+}
+
+-- none of the three is no line
+pub no_line : (o : Option (Text × List Row)) → (option_map (λ p. p.0) o ≡ Some (codes "demo") → ⊥) → (option_map (λ p. p.0) o ≡ Some (codes "check") → ⊥)
+    → (option_map (λ p. p.0) o ≡ Some (codes "select") → ⊥) → (line : Line) → IsLineIn o line → ⊥
+no_line o no_demo no_check no_select Demo h = no_demo (ap (option_map (λ (p : Text × List Row). p.0)) h.is)
+no_line o no_demo no_check no_select (Check texts) h = no_check (ap (option_map (λ (p : Text × List Row). p.0)) h.is)
+no_line o no_demo no_check no_select (Select s) h = no_select (ap (option_map (λ (p : Text × List Row). p.0)) h.is)
 
 -- `select` with words after its selector is no line
 pub no_line_of_directories : (o : Option (Text × List Row)) (rows : List Row) → option_map (λ p. p.0) o ≡ Some (codes "select") → option_map (λ p. p.1) o ≡ Some rows
@@ -85,6 +96,10 @@ pub no_line_of_directories : (o : Option (Text × List Row)) (rows : List Row) �
 no_line_of_directories o rows e f some Demo h =
     let names : Some (codes "demo") ≡ Some (codes "select") = sym (ap (option_map (λ (p : Text × List Row). p.0)) h.is) ∙ e in
     let lengths : 4 ≡ 6 = ap (λ (n : Option Text). length (unwrap_or n [])) names in
+    absurd (omega (arith, lengths))
+no_line_of_directories o rows e f some (Check texts) h =
+    let names : Some (codes "check") ≡ Some (codes "select") = sym (ap (option_map (λ (p : Text × List Row). p.0)) h.is) ∙ e in
+    let lengths : 5 ≡ 6 = ap (λ (n : Option Text). length (unwrap_or n [])) names in
     absurd (omega (arith, lengths))
 no_line_of_directories o rows e f some (Select s) h =
     let same : h.rows ≡ rows = ap (λ (r : Option (List Row)). unwrap_or r []) (sym (ap (option_map (λ (p : Text × List Row). p.1)) h.is) ∙ f) in

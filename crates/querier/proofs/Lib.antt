@@ -1,3 +1,5 @@
 pub mod Accepting
+pub mod Checks
 pub mod CommandLines
+pub mod Judgements
 pub mod LineEnds

@@ -1,56 +1,60 @@
 -- How a line ends says how the words end.
-use Rattle.std.proofs.Common.{◌≡◌, ℕ, List, Option, Result, Ok, Err, arith}
-use Rattle.std.specs.Prelude.{IfErr, OnOk}
+use Rattle.std.proofs.Common.{◌≡◌, ℕ, List, [], Option, None, Some, Result, Ok, Err, refl, inl, inr}
+use Rattle.std.specs.Prelude.{◌⊎◌, map}
+use Rattle.std.specs.Io.KnownBytes.{Keeps}
 use Rattle.clap.specs.Words.{Text}
-use Rattle.querier.specs.Faults.{status_of}
+use Rattle.querier.specs.Checking.{IsBegun}
 use Rattle.querier.specs.Lines.{IsLineOf}
-use Rattle.querier.specs.Running.{IsTaken, WritesLine, IsLineFault, IsAnswered, IsFaultOf, IsLineStatus}
+use Rattle.querier.specs.Reading.{Reads}
+use Rattle.querier.specs.Running.{IsTaken, IsLineFault, IsLineEnd, IsEnd, IsLineStatus, IsCheckLine, KeepsAtEnd, status_at}
 use Rattle.querier.specs.declared.command.Line.{Line}
+use Rattle.querier.specs.declared.command.Line.TheVariants.{Demo, Select, Check}
 use Rattle.querier.specs.declared.fault.Fault.{Fault}
-use Rattle.querier.specs.declared.fault.Fault.TheVariants.{Words, Refused, CannotWrite, Memory}
+use Rattle.querier.specs.declared.fault.Fault.TheVariants.{Memory}
+use Rattle.querier.specs.declared.report.Outcome.{Outcome}
+use Rattle.querier.specs.declared.report.Outcome.TheVariants.{Done, Refused}
+use Rattle.querier.proofs.Checks.{none_checked}
 
--- the fault of a line is that of its words
-pub fault_of_line : (words : List Text) (line : Line) → IsLineOf words line → (fault : Fault) → IsLineFault line fault → IsFaultOf words fault
-fault_of_line words line is (Refused refusal) h = record { line = line; is = is; why = h }
-fault_of_line words line is (Words error) h = h
-fault_of_line words line is CannotWrite h = tt
-fault_of_line words line is Memory h = tt
+keeps_itself : (old : Option (List ℕ)) → Keeps old old
+keeps_itself None = tt
+keeps_itself (Some xs) = refl
 
-pub faults_of_line : {A : Type 0} (r : Result A Fault) (words : List Text) (line : Line) → IsLineOf words line → IfErr r (λ fault. IsLineFault line fault)
-    → IfErr r (λ fault. IsTaken words → IsFaultOf words fault)
-faults_of_line (Ok a) words line is h = tt
-faults_of_line (Err fault) words line is h = λ taken. fault_of_line words line is fault h
-
--- the answer of a line is that of its words
-pub answer_of_line : {A : Type 0} (r : Result A Fault) (words : List Text) (line : Line) (old new : Option (List ℕ)) → IsLineOf words line → OnOk r (WritesLine line old new)
-    → OnOk r (IsTaken words → IsAnswered words old new)
-answer_of_line (Ok a) words line old new is h = λ taken. record { line = line; is = is; written = h }
-answer_of_line (Err fault) words line old new is h = tt
-
--- the status of a line that was answered
-pub status_of_answer : (words : List Text) (old new : Option (List ℕ)) → IsAnswered words old new → IsLineStatus words old new 0
-status_of_answer words old new h = record {
-  answered = λ zero. h;
-  refused = λ one. absurd (omega (arith, one));
-  no_fault = λ two. absurd (omega (arith, two));
+-- no line of any directory was written
+pub none_begun : (reads : Reads) (directories : List (List ℕ)) (old : Option (List ℕ)) → IsBegun reads directories old old
+none_begun reads directories old = record {
+  before = [];
+  rest = directories;
+  order = refl;
+  outcome = Done;
+  checked = none_checked reads old;
 }
 
--- the status of a line that ends before it is done
-pub status_of_line_fault : (words : List Text) (old new : Option (List ℕ)) (fault : Fault) (status : ℕ) → status ≡ status_of fault → IsFaultOf words fault
-    → IsLineStatus words old new status
-status_of_line_fault words old new (Words error) status e h = absurd h
-status_of_line_fault words old new (Refused refusal) status e h = record {
-  answered = λ zero. absurd (omega (arith, e, zero));
-  refused = λ one. (refusal, h);
-  no_fault = λ two. absurd (omega (arith, e, two));
-}
-status_of_line_fault words old new CannotWrite status e h = record {
-  answered = λ zero. absurd (omega (arith, e, zero));
-  refused = λ one. absurd (omega (arith, e, one));
-  no_fault = λ two. absurd (omega (arith, e, two));
-}
-status_of_line_fault words old new Memory status e h = record {
-  answered = λ zero. absurd (omega (arith, e, zero));
-  refused = λ one. absurd (omega (arith, e, one));
-  no_fault = λ two. absurd (omega (arith, e, two));
-}
+memory_fault : (reads : Reads) (line : Line) (old : Option (List ℕ)) → IsLineFault reads line old old Memory
+memory_fault reads Demo old = (tt, keeps_itself old)
+memory_fault reads (Select s) old = (tt, keeps_itself old)
+memory_fault reads (Check texts) old = none_begun reads (map (λ text. text.now) texts.items) old
+
+-- a line may end by want of memory before it begins
+pub end_without_memory : (reads : Reads) (words : List Text) (old : Option (List ℕ)) → IsTaken words → IsEnd reads words old old (Err Memory)
+end_without_memory reads words old taken = record { line = taken.line; is = taken.is; ends = memory_fault reads taken.line old }
+
+-- the end of a line is that of its words
+pub end_of_line : (reads : Reads) (words : List Text) (line : Line) (old new : Option (List ℕ)) (end : Result Outcome Fault) → IsLineOf words line
+    → IsLineEnd reads line old new end → IsEnd reads words old new end
+end_of_line reads words line old new end is ends = record { line = line; is = is; ends = ends }
+
+-- what the writer holds at the end of a line
+pub kept_at_end : (reads : Reads) (words : List Text) (line : Line) (old new : Option (List ℕ)) (end : Result Outcome Fault) → IsLineOf words line
+    → IsLineEnd reads line old new end → IsCheckLine words ⊎ KeepsAtEnd old new end
+kept_at_end reads words (Check texts) old new end is ends = inl (record { line = Check texts; is = is; checks = tt })
+kept_at_end reads words Demo old new (Ok Done) is ends = inr tt
+kept_at_end reads words Demo old new (Ok Refused) is ends = absurd ends
+kept_at_end reads words Demo old new (Err fault) is ends = inr ends.1
+kept_at_end reads words (Select s) old new (Ok Done) is ends = inr tt
+kept_at_end reads words (Select s) old new (Ok Refused) is ends = absurd ends
+kept_at_end reads words (Select s) old new (Err fault) is ends = inr ends.1
+
+-- the exit status of an end
+pub status_of_end : (reads : Reads) (words : List Text) (old new : Option (List ℕ)) (end : Result Outcome Fault) (status : ℕ) → IsEnd reads words old new end
+    → status ≡ status_at end → IsLineStatus reads words old new status
+status_of_end reads words old new end status ends is = record { end = end; ends = ends; is = is }

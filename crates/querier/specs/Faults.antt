@@ -1,5 +1,5 @@
 -- What each fault ends the program with: its status, and the line that tells it.
-use Rattle.std.specs.Prelude.{ℕ, List, [], ◌∷◌, ◌++◌, Option, None, Some, codes, decimal}
+use Rattle.std.specs.Prelude.{ℕ, List, [], ◌∷◌, ◌++◌, Option, None, Some, codes, decimal, string_bytes}
 use Rattle.labels.specs.Errors.{code_of}
 use Rattle.labels.specs.declared.error.LabelError.{LabelError}
 use Rattle.labels.specs.declared.error.LabelError.TheVariants as label
@@ -12,7 +12,7 @@ use Rattle.head.specs.Codes.{commit_code}
 use Rattle.head.specs.declared.error.CommitError.{CommitError}
 use Rattle.head.specs.declared.error.CommitError.TheVariants as commit
 use Rattle.querier.specs.declared.fault.Fault.{Fault}
-use Rattle.querier.specs.declared.fault.Fault.TheVariants.{Words, Refused, CannotWrite, Memory}
+use Rattle.querier.specs.declared.fault.Fault.TheVariants.{Words, Refused, CannotRead, CannotWrite, Memory}
 use Rattle.querier.specs.declared.fault.Refusal.{Refusal}
 use Rattle.querier.specs.declared.fault.Refusal.TheVariants.{Labels, Matcher, Selector, Query, Commit}
 
@@ -65,6 +65,7 @@ refusal_text refusal = refusal_code refusal ++ place_text (refusal_place refusal
 abbrev pub status_of : Fault → ℕ
 status_of (Refused refusal) = 1
 status_of (Words error) = 2
+status_of (CannotRead path) = 3
 status_of CannotWrite = 3
 status_of Memory = 4
 
@@ -72,6 +73,7 @@ status_of Memory = 4
 abbrev pub line_of : Fault → Option (List ℕ)
 line_of (Words error) = None
 line_of (Refused refusal) = Some (codes "refused " ++ refusal_text refusal ++ 10 ∷ [])
+line_of (CannotRead path) = Some (codes "cannot read " ++ string_bytes path ++ 10 ∷ [])
 line_of CannotWrite = Some (codes "cannot write" ++ 10 ∷ [])
 line_of Memory = Some (codes "no memory" ++ 10 ∷ [])
 

@@ -3,4 +3,7 @@ pub mod Demo
 pub mod Faults
 pub mod Selecting
 pub mod Lines
+pub mod Reading
+pub mod Judging
+pub mod Checking
 pub mod Running

@@ -8,7 +8,7 @@ use Rattle.clap.specs.Lexer.{usize_max}
 use Rattle.clap.specs.Words.{App, Row, Rule, Text, new_app, new_rule, with_rule, with_subcommand, first_of, one_of, all_of, subcommand_of}
 use Rattle.clap.specs.declared.builder.value_parser.ValueParser.TheVariants.{Signed}
 use Rattle.querier.specs.declared.command.Line.{Line}
-use Rattle.querier.specs.declared.command.Line.TheVariants.{Demo, Select}
+use Rattle.querier.specs.declared.command.Line.TheVariants.{Demo, Select, Check}
 
 -- words as bytes
 abbrev pub texts_of : {Z : Type 0} → List (String Z) → List Text
@@ -37,12 +37,24 @@ directories_rule = record (new_rule (codes "directories")) {
 abbrev pub select_app : App
 select_app = with_rule (with_rule (with_rule (with_rule (new_app (codes "select")) (time_rule (codes "from"))) (time_rule (codes "to"))) selector_rule) directories_rule
 
--- the program, with `demo` and `select`
+-- the directories of `check`, one or more
+abbrev pub blocks_rule : Rule
+blocks_rule = record (new_rule (codes "directories")) {
+  value_names = 1;
+  required = true;
+  range = Some (record { start_inclusive = 1; end_inclusive = usize_max });
+}
+
+-- check DIR...
+abbrev pub check_app : App
+check_app = with_rule (new_app (codes "check")) blocks_rule
+
+-- the program, with `demo`, `check` and `select`
 abbrev pub querier_app : App
 querier_app =
     let app = new_app (codes "querier") in
     let top = record app.top { has_version = true; subcommand_required = true; no_binary_name = true } in
-    with_subcommand (with_subcommand (record app { top = top }) (new_app (codes "demo")).top) select_app.top
+    with_subcommand (with_subcommand (with_subcommand (record app { top = top }) (new_app (codes "demo")).top) check_app.top) select_app.top
 
 -- the text is a signed number of 64 bits
 pub record IsNumber (text : List ℕ) : Type 0 where
@@ -73,10 +85,22 @@ pub record IsSelect (found : Option (Text × List Row)) (text : List ℕ) (from 
   pub alone : all_of (codes "directories") rows ≡ None
   pub selection : IsSelectionIn rows text from to
 
+-- `check` was found, with these directories
+pub record IsCheck (found : Option (Text × List Row)) (directories : List Text) : Type 0 where
+  pub rows : List Row
+  pub is : found ≡ Some (codes "check", rows)
+  pub given : directories ≡ unwrap_or (all_of (codes "directories") rows) []
+
 -- what a found subcommand asks for
 abbrev pub IsLineIn : Option (Text × List Row) → Line → Type 0
 IsLineIn found Demo = IsDemo found
 IsLineIn found (Select s) = IsSelect found s.selector.now s.from s.to
+IsLineIn found (Check texts) = IsCheck found (map (λ text. text.now) texts.items)
+
+-- the line that a found subcommand asks for, or that it asks for none
+abbrev pub IsFoundLine : Option (Text × List Row) → Option Line → Type 0
+IsFoundLine found (Some line) = IsLineIn found line
+IsFoundLine found None = (line : Line) → IsLineIn found line → ⊥
 
 -- what the words ask for, as `clap` reads them
 abbrev pub IsLineOf : List Text → Line → Type 0

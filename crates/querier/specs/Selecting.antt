@@ -19,7 +19,7 @@ use Rattle.query_http.specs.Audited.{IsAudited}
 use Rattle.querier.specs.Printed.{line_text}
 use Rattle.query_http.specs.declared.audited.AuditedAnswer.{AuditedAnswer}
 use Rattle.querier.specs.declared.fault.Fault.{Fault}
-use Rattle.querier.specs.declared.fault.Fault.TheVariants.{Words, Refused, CannotWrite, Memory}
+use Rattle.querier.specs.declared.fault.Fault.TheVariants.{Words, Refused, CannotRead, CannotWrite, Memory}
 use Rattle.querier.specs.declared.fault.Refusal.{Refusal}
 use Rattle.querier.specs.declared.fault.Refusal.TheVariants.{Labels, Matcher, Selector, Query, Commit}
 
@@ -58,6 +58,7 @@ IsSelectionRefusal text from to (Commit error) = ⊥
 abbrev pub IsSelectionFault : List ℕ → ℤ → ℤ → Fault → Type 0
 IsSelectionFault text from to (Refused refusal) = IsSelectionRefusal text from to refusal
 IsSelectionFault text from to (Words error) = ⊥
+IsSelectionFault text from to (CannotRead path) = ⊥
 IsSelectionFault text from to CannotWrite = Unit {0}
 IsSelectionFault text from to Memory = Unit {0}
 
@@ -83,6 +84,7 @@ pub record WritesSelection (text : List ℕ) (from to : ℤ) (snapshot : Snapsho
 abbrev pub KeepsAt : Fault → Option (List ℕ) → Option (List ℕ) → Type 0
 KeepsAt CannotWrite old new = Unit {0}
 KeepsAt (Words error) old new = Keeps old new
+KeepsAt (CannotRead path) old new = Keeps old new
 KeepsAt (Refused refusal) old new = Keeps old new
 KeepsAt Memory old new = Keeps old new
 
@@ -91,12 +93,14 @@ abbrev pub IsWritingFault : Fault → Type 0
 IsWritingFault CannotWrite = Unit {0}
 IsWritingFault Memory = Unit {0}
 IsWritingFault (Words error) = ⊥
+IsWritingFault (CannotRead path) = ⊥
 IsWritingFault (Refused refusal) = ⊥
 
 -- memory alone failed
 abbrev pub IsOfMemory : Fault → Type 0
 IsOfMemory Memory = Unit {0}
 IsOfMemory (Words error) = ⊥
+IsOfMemory (CannotRead path) = ⊥
 IsOfMemory (Refused refusal) = ⊥
 IsOfMemory CannotWrite = ⊥
 
@@ -115,4 +119,5 @@ IsStoreFault events (Refused (Query error)) = ⊥
 IsStoreFault events (Refused (Labels error)) = ⊥
 IsStoreFault events (Refused (Matcher error)) = ⊥
 IsStoreFault events (Words error) = ⊥
+IsStoreFault events (CannotRead path) = ⊥
 IsStoreFault events CannotWrite = ⊥

@@ -1,11 +1,11 @@
 //! The command line.
 
-ghost use Rattle.std.specs.Prelude.{◌≡◌, true, false, [], codes, unwrap_or, IfOk, IfErr, IfSome, IfNone};
+ghost use Rattle.std.specs.Prelude.{◌≡◌, true, false, [], codes, map, unwrap_or, IfOk, IfErr};
 ghost use Rattle.querier.specs.Running.{IsTaken};
 ghost use Rattle.clap.specs.Values.{kind_of};
 ghost use Rattle.clap.specs.Matches.{found_of};
-ghost use Rattle.clap.specs.Words.{app_of, new_app, rule_of, rows_of, one_of, first_of, subcommand_of, subcommand_rows_of, takes};
-ghost use Rattle.querier.specs.Lines.{time_rule, selector_rule, directories_rule, select_app, querier_app, IsTimeIn, IsSelectionIn, IsLineIn, IsLineOf, texts_of};
+ghost use Rattle.clap.specs.Words.{app_of, new_app, rule_of, rows_of, one_of, first_of, all_of, subcommand_of, subcommand_rows_of, takes};
+ghost use Rattle.querier.specs.Lines.{time_rule, selector_rule, directories_rule, blocks_rule, select_app, check_app, querier_app, IsTimeIn, IsSelectionIn, IsFoundLine, IsLineOf, texts_of};
 
 use clap::error::ErrorKind;
 use clap::{Arg, ArgMatches, Command, Error, value_parser};
@@ -21,12 +21,14 @@ pub struct Selection<'a> {
 }
 
 /// What the words ask for.
-#[derive(Clone, Copy, Debug, PartialEq, Eq, Drop)]
+#[derive(Debug, Drop)]
 pub enum Line<'a> {
     /// The answer to `up{job="a"}` over six series that two batches bring.
     Demo,
     /// The answer to a selector.
     Select(Selection<'a>),
+    /// What the blocks in these directories are judged to be.
+    Check(Vec<&'a str>),
 }
 
 const FROM: &str =
@@ -35,8 +37,26 @@ const FROM: &str =
 const TO: &str = "The last time, in milliseconds [default: 2^62 - 1]";
 
 const STATUSES: &str =
-    "Exit status: 0 done; 1 refused, with the code on standard error; 2 a fault of the words;
-3 cannot write; 4 no memory";
+    "Exit status: 0 done; 1 refused, with the code on standard error, or by `check` in a line of its own;
+2 a fault of the words; 3 cannot read or write; 4 no memory";
+
+const CHECKS: &str =
+    "A block is a directory with the files meta.json, index, chunks/000001 and tombstones. All four are read
+before any is judged: the meta, the index, the chunks of each series, the tombstones.
+
+For each directory, in the order given, one line is printed:
+  DIR: ok 6 series 6 samples   a block, with so many series and samples that are not deleted
+  DIR: refused I14             not a block, and the code of the first check that fails
+
+  B2        no meta.json of a block: a JSON object with minTime below maxTime and version 1
+  I1 to I15 the index
+  C1 to C8  the chunks
+  T1 to T5  the tombstones
+  B1        a chunk outside the range of the meta
+
+Exit status: 0 each is a block; 1 a line names a refusal; 2 a fault of the words; 3 a file cannot be
+read, which is named on standard error after the lines of earlier directories, or cannot write;
+4 no memory";
 
 const EXAMPLE: &str = "Example: querier select --from=-10 --to=100 'up{job=\"a\",zone=~\"x|\"}'
 
@@ -87,6 +107,18 @@ fn directories<'a>(alloc: Global) -> Arg<'a>
         .hide(true)
 }
 
+/// The directories of `check`, one or more.
+fn blocks<'a>(alloc: Global) -> Arg<'a>
+    ensures rule { rule_of result ≡ blocks_rule }
+    ensures global { result.global ≡ false }
+{
+    Arg::new(alloc, "directories")
+        .value_name("DIR")
+        .num_args(1..)
+        .required(true)
+        .help("A directory with a block")
+}
+
 fn demo<'a>(alloc: Global) -> Command<'a>
     ensures { app_of result ≡ new_app (codes "demo") }
 {
@@ -107,6 +139,15 @@ fn select<'a>(alloc: Global) -> Result<Command<'a>, AllocError>
         .arg(directories(alloc))
 }
 
+fn check<'a>(alloc: Global) -> Result<Command<'a>, AllocError>
+    ensures { IfOk result (λ command. app_of command ≡ check_app) }
+{
+    Command::new(alloc, "check")
+        .about("Verifies blocks completely: each checksum, each chunk and each list of postings")
+        .after_help(CHECKS)
+        .arg(blocks(alloc))
+}
+
 fn querier<'a>(alloc: Global) -> Result<Command<'a>, AllocError>
     ensures { IfOk result (λ command. app_of command ≡ querier_app) }
 {
@@ -117,6 +158,7 @@ fn querier<'a>(alloc: Global) -> Result<Command<'a>, AllocError>
         .no_binary_name(true)
         .subcommand_required(true)
         .subcommand(demo(alloc))?
+        .subcommand(check(alloc)?)?
         .subcommand(select(alloc)?)
 }
 
@@ -148,19 +190,32 @@ fn selection_in<'a>(found: &ArgMatches<'a>) -> Selection<'a>
     Selection { selector, from, to }
 }
 
+fn directories_in<'a>(alloc: Global, found: &ArgMatches<'a>) -> Result<Vec<&'a str>, AllocError>
+    ensures { IfOk result (λ texts. map (λ text. text.now) texts.items ≡ unwrap_or (all_of (codes "directories") (rows_of (found_of found.now))) []) }
+{
+    match found.get_strs("directories") {
+        Some(texts) => Vec::from_slice(alloc, texts),
+        None => Ok(Vec::new(alloc)),
+    }
+}
+
 /// What a found subcommand asks for; none where words stand after the selector.
-fn line_in<'a>(found: &ArgMatches<'a>) -> Option<Line<'a>>
-    ensures some { IfSome result (λ line. IsLineIn (subcommand_rows_of found.now) line) }
-    ensures none { IfNone result ((line : Line) → IsLineIn (subcommand_rows_of found.now) line → ⊥) }
+fn line_in<'a>(alloc: Global, found: &ArgMatches<'a>) -> Result<Option<Line<'a>>, AllocError>
+    ensures { IfOk result (λ line. IsFoundLine (subcommand_rows_of found.now) line) }
 {
     if found.subcommand_matches("demo").is_some() {
-        return Some(Line::Demo);
+        return Ok(Some(Line::Demo));
     }
-    let arguments = found.subcommand_matches("select")?;
+    if let Some(arguments) = found.subcommand_matches("check") {
+        return Ok(Some(Line::Check(directories_in(alloc, arguments)?)));
+    }
+    let Some(arguments) = found.subcommand_matches("select") else {
+        return Ok(None);
+    };
     if arguments.get_strs("directories").is_some() {
-        return None;
+        return Ok(None);
     }
-    Some(Line::Select(selection_in(arguments)))
+    Ok(Some(Line::Select(selection_in(arguments))))
 }
 
 fn matches_in<'a>(alloc: Global, words: &'a [String]) -> Result<ArgMatches<'a>, Error>
@@ -182,7 +237,7 @@ pub fn read_line<'a>(alloc: Global, words: &'a [String]) -> Result<Line<'a>, Err
     ensures err { IfErr result (λ e. IsTaken (texts_of words.entry.now) → kind_of e ≡ ErrorKind.OutOfMemory) }
 {
     let found = matches_in(alloc, words)?;
-    match line_in(&found) {
+    match line_in(alloc, &found)? {
         Some(line) => Ok(line),
         None => Err(directories_fault(alloc)?),
     }

@@ -76,6 +76,8 @@ pub enum Fault {
     Words(clap::Error),
     /// What was asked for is refused.
     Refused(Refusal),
+    /// The file at this path cannot be read.
+    CannotRead(String),
     /// A writer refused.
     CannotWrite,
     /// A growth was refused.
@@ -83,25 +85,27 @@ pub enum Fault {
 }
 
 impl Fault {
-    /// The exit status: 1 for a refusal, 2 for a fault of the words, 3 for a writer that refused, 4 for no memory.
+    /// The exit status: 1 for a refusal, 2 for a fault of the words, 3 for a file that cannot be read or a writer that
+    /// refused, 4 for no memory.
     pub fn status(&self) -> u8
         ensures { result ≡ status_of self.now }
     {
         match self {
             Fault::Refused(_) => 1,
             Fault::Words(_) => 2,
-            Fault::CannotWrite => 3,
+            Fault::CannotRead(_) | Fault::CannotWrite => 3,
             Fault::Memory => 4,
         }
     }
 
-    /// Tells the fault in a line, as `refused M4 at 7`, or how the program is used.
+    /// Tells the fault in a line, as `refused M4 at 7` or `cannot read DIR/index`, or how the program is used.
     pub fn tell<W: Write>(&self, to: &mut W) -> io::Result<()>
         ensures { OnOk result (IfSome (line_of self.now) (Appends (W.contents to.old) (W.contents to.new))) }
     {
         match self {
             Fault::Refused(refusal) => writeln!(to, "refused {refusal}"),
             Fault::Words(error) => write!(to, "{error}"),
+            Fault::CannotRead(path) => writeln!(to, "cannot read {path}"),
             Fault::CannotWrite => to.write_all(b"cannot write\n"),
             Fault::Memory => to.write_all(b"no memory\n"),
         }

@@ -5,12 +5,14 @@ ghost use Rattle.std.specs.Io.KnownBytes.{Appends, Keeps};
 ghost use Rattle.querier.specs.Printed.{line_text};
 ghost use Rattle.querier.specs.Demo.{demo_events, demo_query};
 ghost use Rattle.querier.specs.Lines.{texts_of};
-ghost use Rattle.querier.specs.Running.{IsTaken, WritesLine, IsLineFault, IsAnswered, IsFaultOf, IsLineStatus};
+ghost use Rattle.querier.specs.Running.{IsTaken, IsLineEnd, IsEnd, IsCheckLine, IsLineStatus, KeepsAtEnd};
 ghost use Rattle.querier.specs.Selecting.{IsWritingFault, KeepsAt, WritesAnswer, WritesAnswerAfter};
 
 use crate::command::{Line, read_line};
 use crate::demo::{first_batch, query, second_batch, store_after};
 use crate::fault::Fault;
+use crate::files::ReadFiles;
+use crate::report::{Outcome, check};
 use crate::select::select;
 use clap::error::ErrorKind;
 use head::Snapshot;
@@ -20,7 +22,7 @@ use std::alloc::{AllocError, Global};
 use std::io::{self, Read, Write};
 
 /// Writes a text whole and passes it on.
-fn send<W: Write>(out: &mut W, text: &[u8]) -> io::Result<()>
+pub fn send<W: Write>(out: &mut W, text: &[u8]) -> io::Result<()>
     ensures { OnOk result (Appends (W.contents out.old) (W.contents out.new) text.now) }
 {
     out.write_all(text)?;
@@ -64,49 +66,64 @@ fn demo<W: Write>(alloc: Global, out: &mut W) -> Result<(), Fault>
     write_answer(alloc, &snapshot, &query(alloc, 0, 100)?, out)
 }
 
-/// Writes the answer that a line asks for, and nothing else.
-fn answer_line<W: Write>(alloc: Global, line: Line<'_>, out: &mut W) -> Result<(), Fault>
-    ensures ok { OnOk result (WritesLine line.entry (W.contents out.old) (W.contents out.new)) }
-    ensures err { IfErr result (λ fault. IsLineFault line.entry fault) }
-    ensures kept { IfErr result (λ fault. KeepsAt fault (W.contents out.old) (W.contents out.new)) }
+/// Does what a line asks for.
+fn answer_line<F: ReadFiles, W: Write>(
+    alloc: Global,
+    files: &F,
+    line: Line<'_>,
+    out: &mut W,
+) -> Result<Outcome, Fault>
+    ensures { IsLineEnd (F.may_read files.now) line.entry (W.contents out.old) (W.contents out.new) result }
 {
     match line {
-        Line::Demo => demo(alloc, out),
-        Line::Select(selection) => select(alloc, selection, out),
+        Line::Demo => demo(alloc, out)?,
+        Line::Select(selection) => select(alloc, selection, out)?,
+        Line::Check(directories) => return check(alloc, files, directories.as_slice(), out),
     }
+    Ok(Outcome::Done)
 }
 
-fn execute<W: Write>(alloc: Global, words: &[String], out: &mut W) -> Result<(), Fault>
-    ensures answered { OnOk result (IsTaken (texts_of words.now) → IsAnswered (texts_of words.now) (W.contents out.old) (W.contents out.new)) }
-    ensures err { IfErr result (λ fault. IsTaken (texts_of words.now) → IsFaultOf (texts_of words.now) fault) }
-    ensures kept { IfErr result (λ fault. KeepsAt fault (W.contents out.old) (W.contents out.new)) }
+fn execute<F: ReadFiles, W: Write>(
+    alloc: Global,
+    files: &F,
+    words: &[String],
+    out: &mut W,
+) -> Result<Outcome, Fault>
+    ensures ends { IsTaken (texts_of words.now) → IsEnd (F.may_read files.now) (texts_of words.now) (W.contents out.old) (W.contents out.new) result }
+    ensures kept { IsCheckLine (texts_of words.now) ⊎ KeepsAtEnd (W.contents out.old) (W.contents out.new) result }
 {
     match read_line(alloc, words) {
-        Ok(line) => answer_line(alloc, line, out),
+        Ok(line) => answer_line(alloc, files, line, out),
         Err(error) if matches!(error.kind(), ErrorKind::OutOfMemory) => Err(Fault::Memory),
         Err(error) if error.use_stderr() => Err(Fault::Words(error)),
-        Err(help) => Ok(write!(out, "{help}")?),
+        Err(help) => {
+            write!(out, "{help}")?;
+            Ok(Outcome::Done)
+        }
     }
 }
 
 /// Does what the words after the program's name ask for, and gives the exit status.
 ///
-/// 0 where it is done; 1 for a refusal, with its code on the second writer; 2 for a fault of the words, with the usage
-/// there; 3 where the first writer fails; 4 where memory does.
-pub fn run<R: Read, W: Write, E: Write>(
+/// 0 where it is done; 1 for a refusal, with its code on the second writer, or in the lines of a check; 2 for a fault of
+/// the words, with the usage on the second writer; 3 where a file cannot be read, which is named there, or the first
+/// writer fails; 4 where memory does.
+pub fn run<F: ReadFiles, R: Read, W: Write, E: Write>(
     alloc: Global,
+    files: &F,
     words: &[String],
     _input: &mut R,
     out: &mut W,
     err: &mut E,
 ) -> u8
     ensures few { result ≤ 4 }
-    ensures line { IsTaken (texts_of words.now) → IsLineStatus (texts_of words.now) (W.contents out.old) (W.contents out.new) result }
-    ensures nothing_written { (result ≡ 0) ⊎ (result ≡ 3) ⊎ Keeps (W.contents out.old) (W.contents out.new) }
+    ensures line { IsTaken (texts_of words.now) → IsLineStatus (F.may_read files.now) (texts_of words.now) (W.contents out.old) (W.contents out.new) result }
+    ensures nothing_written { (result ≡ 0) ⊎ (result ≡ 3) ⊎ IsCheckLine (texts_of words.now) ⊎ Keeps (W.contents out.old) (W.contents out.new) }
     ensures nothing_told { result ≡ 0 → Keeps (E.contents err.old) (E.contents err.new) }
 {
-    match execute(alloc, words, out) {
-        Ok(()) => 0,
+    match execute(alloc, files, words, out) {
+        Ok(Outcome::Done) => 0,
+        Ok(Outcome::Refused) => 1,
         Err(fault) => {
             let _told = fault.tell(err);
             fault.status()

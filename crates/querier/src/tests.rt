@@ -1,6 +1,11 @@
 //! Worked answers, spelled by hand from the six series of the demo.
 
 use crate::demo::{first_batch, query, second_batch, store_after};
+
+mod blocks;
+mod memory_files;
+
+use self::memory_files::MemoryFiles;
 use crate::fault::Fault;
 use crate::run::run;
 use head::{CommitError, Event, Snapshot, apply};
@@ -72,11 +77,13 @@ fn words_of(alloc: Global, words: &[&str]) -> Result<Vec<String>, Fault> {
 }
 
 /// The words, the exit status, how many bytes go to the first writer, and whether the second one is told something.
-const LINES: [(&[&str], u8, usize, bool); 4] = [
+const LINES: [(&[&str], u8, usize, bool); 6] = [
     (&["demo"], 0, 518, false),
     (&[], 2, 0, true),
     (&["nothing"], 2, 0, true),
     (&["demo", "twice"], 2, 0, true),
+    (&["check"], 2, 0, true),
+    (&["check", "--all", "a"], 2, 0, true),
 ];
 
 /// The words of `select` and what the second writer is told, where the status is 1.
@@ -132,7 +139,7 @@ const AT_FAULT: [(&[&str], &str); 10] = [
 ];
 
 /// The words that are answered with help or the version, and a piece of the text.
-const HELP: [(&[&str], &str); 7] = [
+const HELP: [(&[&str], &str); 10] = [
     (&["--version"], "querier 0.1.0\n"),
     (&["--help"], "select"),
     (&["--help"], "Exit status"),
@@ -140,13 +147,17 @@ const HELP: [(&[&str], &str); 7] = [
     (&["demo", "--help"], "demo"),
     (&["select", "--help"], "Example: querier select"),
     (&["select", "-h"], "Exit status"),
+    (&["--help"], "check"),
+    (&["check", "--help"], "DIR: refused I14"),
+    (&["help", "check"], "3 a file cannot be"),
 ];
 
 /// What the program gives for these words: its status, and what it writes to both writers.
 fn told_by(alloc: Global, words: &[String]) -> (u8, Vec<u8>, Vec<u8>) {
     let mut out = Vec::new(alloc);
     let mut err = Vec::new(alloc);
-    let status = run(alloc, words, &mut io::empty(), &mut out, &mut err);
+    let none = MemoryFiles::new(&[]);
+    let status = run(alloc, &none, words, &mut io::empty(), &mut out, &mut err);
     (status, out, err)
 }
 
@@ -256,6 +267,10 @@ fn the_line_of_each_fault(rt: HostRuntime) -> Result<(), Fault> {
         ),
         (Fault::from(CommitError::Limit), "refused E4\n"),
         (Fault::from(CommitError::Memory), "no memory\n"),
+        (
+            Fault::CannotRead(String::from_str(alloc, "a/index")?),
+            "cannot read a/index\n",
+        ),
     ];
     for (fault, line) in faults {
         let mut told = Vec::new(alloc);
@@ -274,6 +289,7 @@ fn a_line_ends_with_its_status(rt: HostRuntime) -> Result<(), Fault> {
         let mut err = Vec::new(alloc);
         let given = run(
             alloc,
+            &MemoryFiles::new(&[]),
             words.as_slice(),
             &mut io::empty(),
             &mut out,
@@ -296,6 +312,7 @@ fn a_writer_that_refuses_is_told(rt: HostRuntime) -> Result<(), Fault> {
     assert_eq!(rt;
         run(
             alloc,
+            &MemoryFiles::new(&[]),
             words.as_slice(),
             &mut io::empty(),
             &mut out,
@@ -384,6 +401,7 @@ fn a_program_refused_memory_says_so(rt: HostRuntime) -> Result<(), Fault> {
     let mut err = Vec::new(alloc);
     let status = run(
         alloc,
+        &MemoryFiles::new(&[]),
         words.as_slice(),
         &mut io::empty(),
         &mut out,

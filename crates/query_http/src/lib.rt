@@ -7,6 +7,8 @@
 
 mod audited;
 mod reply;
+#[cfg(test)]
+mod tests;
 
 pub use audited::{AuditedAnswer, answer};
 pub use reply::body;

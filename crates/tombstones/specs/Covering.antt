@@ -14,3 +14,11 @@ covers reference t d = d.reference == reference && holds d t
 -- whether one of the deletions covers a time of a series
 abbrev pub covered : List Deletion → ℕ → ℤ → Bool
 covered deletions reference t = list_any (covers reference t) deletions
+
+-- the deletion of a closed interval of a series
+abbrev pub interval : ℤ → ℤ → ℕ → Deletion
+interval from to reference = record { reference = reference; from = from; to = to }
+
+-- whether the time of a series lies in the closed interval and the series is one of these
+abbrev pub are_covered : List ℕ → ℤ → ℤ → ℕ → ℤ → Bool
+are_covered references from to r t = list_any (λ (x : ℕ). x == r) references && (int_le from t && int_le t to)

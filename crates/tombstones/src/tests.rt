@@ -83,6 +83,35 @@ fn added_deletions_are_found(rt: HostRuntime) -> Result<(), Fail> {
 }
 
 #[test]
+fn an_interval_of_several_series_is_joined(rt: HostRuntime) -> Result<(), Fail> {
+    let mut old = Tombstones::new(rt.alloc());
+    old.add(six(), 1, 2)?;
+    let more = old.with(rt.alloc(), &[six(), SeriesRef::new(3)], 5, 7)?;
+    for (reference, t, want) in [
+        (6, 0, false),
+        (6, 1, true),
+        (6, 3, false),
+        (6, 5, true),
+        (6, 7, true),
+        (6, 8, false),
+        (3, 1, false),
+        (3, 4, false),
+        (3, 5, true),
+        (4, 5, false),
+    ] {
+        assert_eq!(rt;
+            more.deleted(SeriesRef::new(reference), t),
+            want,
+            "{reference} at {t}"
+        );
+    }
+    assert!(rt; !old.deleted(six(), 5));
+    let same = more.with(rt.alloc(), &[], 0, 9)?;
+    assert_eq!(rt; same.deletions().len(), 3);
+    Ok(())
+}
+
+#[test]
 fn the_first_failing_check_is_answered(rt: HostRuntime) -> Result<(), Fail> {
     let rows: [(&[u8], TombstoneError); 7] = [
         (&[0x01, 0x30, 0xBA], TombstoneError::Magic),

@@ -1,8 +1,8 @@
 //! Deletions, and whether one of them covers a time.
 
-ghost use Rattle.std.specs.Prelude.{◌≡◌, ◌<◌, ◌≤◌, ◌++◌, ◌∷◌, ◌||◌, [], ℕ, ℤ, List, length, slice_index_or, IfOk, OnErr, OnOk};
+ghost use Rattle.std.specs.Prelude.{◌≡◌, map, ◌<◌, ◌≤◌, ◌++◌, ◌∷◌, ◌||◌, [], ℕ, ℤ, List, length, slice_index_or, IfOk, OnErr, OnOk};
 ghost use Rattle.std.specs.List.Sorted.{IsNonDecreasingBy, IsPermutation};
-ghost use Rattle.tombstones.specs.Covering.{covered, covers};
+ghost use Rattle.tombstones.specs.Covering.{are_covered, covered, covers, interval};
 ghost use Rattle.tombstones.specs.Grammar.{IsTombstones};
 ghost use Rattle.tombstones.specs.Outcome.{GivesAll};
 ghost use Rattle.tombstones.specs.Reading.{deletions_of};
@@ -87,6 +87,61 @@ impl Tombstones {
         self.deletions.insert(place, deletion)?;
         Ok(())
     }
+
+    /// These deletions, and for each of the series the closed interval. It takes memory for all of them, and time to put
+    /// them in order.
+    pub fn with(
+        &self,
+        alloc: Global,
+        references: &[SeriesRef],
+        from: i64,
+        to: i64,
+    ) -> Result<Tombstones, AllocError>
+        ensures { IfOk result (λ t. (r : ℕ) (x : ℤ) → covered t r x ≡ (are_covered references.now from to r x || covered self.now r x)) }
+    {
+        joined(alloc, self.deletions.as_slice(), references, from, to)
+    }
+}
+
+fn interval_of(reference: SeriesRef, from: i64, to: i64) -> Deletion
+    ensures { result ≡ interval from to reference }
+{
+    Deletion {
+        reference: reference.number(),
+        from,
+        to,
+    }
+}
+
+fn all_of(
+    alloc: Global,
+    deletions: &[Deletion],
+    references: &[SeriesRef],
+    from: i64,
+    to: i64,
+) -> Result<Vec<Deletion>, AllocError>
+    ensures { IfOk result (λ v. v.items ≡ deletions.now ++ map (interval from to) references.now) }
+{
+    let mut all = Vec::with_capacity(alloc, deletions.len().saturating_add(references.len()))?;
+    all.extend_from_slice(deletions)?;
+    for at in 0..references.len() {
+        all.push(interval_of(references[at], from, to))?;
+    }
+    Ok(all)
+}
+
+fn joined(
+    alloc: Global,
+    deletions: &[Deletion],
+    references: &[SeriesRef],
+    from: i64,
+    to: i64,
+) -> Result<Tombstones, AllocError>
+    ensures { IfOk result (λ t. (r : ℕ) (x : ℤ) → covered t r x ≡ (are_covered references.now from to r x || covered deletions.now r x)) }
+{
+    let mut deletions = all_of(alloc, deletions, references, from, to)?;
+    deletions.sort_unstable_by_key(|deletion| deletion.reference);
+    Ok(Tombstones { deletions })
 }
 
 fn opened(alloc: Global, file: &[u8]) -> Result<Tombstones, TombstoneError>

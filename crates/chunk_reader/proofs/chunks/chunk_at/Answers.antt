@@ -12,4 +12,4 @@ returns-clause-found c =
 pub returns-clause-only : goal.returns-clause-only
 returns-clause-only c samples x =
     is_only c.args.file.now c.args.reference _ _ c.args.mint c.args.maxt c.samples_of.result samples (to_z-of_z w64 c.args.mint c.ranges.mint) (to_z-of_z w64 c.args.maxt c.ranges.maxt)
-    (λ i. omega (arith, c.type_inv.file i)) c.samples_of.ensures x
+    c.samples_of.ensures x

@@ -1,0 +1,50 @@
+use Rattle.std.proofs.Common.{◌≡◌, ℕ, ◌+◌, ◌-◌, ◌/◌, ◌<◌, ◌≤◌, List, length, get_or, Some, sym, ap, ◌∙◌, arith}
+use Rattle.std.specs.Prelude.{slice_get}
+use Rattle.std.specs.List.Sorted.{IsStrictlyIncreasing}
+use Rattle.std.proofs.lemmas.Option.{get_or_from_slice_get}
+use Rattle.block.proofs.Places.{rises, halved}
+use Rattle.block.proofs.raw_list.place_of.Goals as goal
+
+-- what is at most at a place below the target is below it
+below_middle : (refs : List ℕ) (m target reference : ℕ) → IsStrictlyIncreasing refs → m < length refs → slice_get refs m ≡ Some reference → reference < target → (k : ℕ) → k ≤ m → get_or refs k 0 < target
+below_middle refs m target reference up lt g h k le =
+    let e : get_or refs m 0 ≡ reference = get_or_from_slice_get refs m reference 0 g in
+    omega (arith, rises refs k m up le lt, e, h)
+
+pub loop-low-preserved-then-number : goal.loop-low-preserved-then-number
+loop-low-preserved-then-number c =
+    let l = c.loop-low in
+    let m = l.low + (l.high - l.low) / 2 in
+    let e = ap (λ (p : List ℕ × ℕ). p.0) c.get-reference.ensures.counted in
+    let once : c.get-reference.new.self.1 ≤ l.entries.1 + 1 = omega (arith, ap (λ (p : List ℕ × ℕ). p.1) c.get-reference.ensures.counted) in
+    let up : IsStrictlyIncreasing l.entries.0 = rw l.invariant.same c.requires.increasing in
+    let less : c.get-reference.result < c.args.target = omega arith in
+    record {
+      same = e ∙ l.invariant.same;
+      start = omega arith;
+      ordered = omega arith;
+      inside = rw e l.invariant.inside;
+      few = λ k h. halved l.entries.1 _ (l.high - l.low) _ k (l.invariant.few k (rw e at h)) (omega arith) (omega arith) once;
+      below = λ k a b. rw e (below_middle l.entries.0 m c.args.target c.get-reference.result up (omega arith) c.get-reference.ensures.value less k (omega arith));
+      above = rw e l.invariant.above;
+      head = rw e l.invariant.head;
+    }
+
+pub loop-low-preserved : goal.loop-low-preserved
+loop-low-preserved c =
+    let l = c.loop-low in
+    let m = l.low + (l.high - l.low) / 2 in
+    let e = ap (λ (p : List ℕ × ℕ). p.0) c.get-reference.ensures.counted in
+    let once : c.get-reference.new.self.1 ≤ l.entries.1 + 1 = omega (arith, ap (λ (p : List ℕ × ℕ). p.1) c.get-reference.ensures.counted) in
+    let here : get_or l.entries.0 m 0 ≡ c.get-reference.result = get_or_from_slice_get l.entries.0 m c.get-reference.result 0 c.get-reference.ensures.value in
+    let less : c.args.target ≤ c.get-reference.result = omega arith in
+    record {
+      same = e ∙ l.invariant.same;
+      start = l.invariant.start;
+      ordered = omega arith;
+      inside = rw e (omega (arith, l.invariant.inside));
+      few = λ k h. halved l.entries.1 _ (l.high - l.low) _ k (l.invariant.few k (rw e at h)) (omega arith) (omega arith) once;
+      below = rw e l.invariant.below;
+      above = λ _. rw e (rw here less);
+      head = rw e (sym c.get-reference.ensures.value);
+    }

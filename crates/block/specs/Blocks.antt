@@ -1,0 +1,36 @@
+-- What a block shows.
+use Rattle.std.specs.Prelude.{◌≡◌, ℕ, ◌+◌, ℤ, true, List, [], ◌∷◌, length, map}
+use Rattle.std.specs.List.{AllByRecursion}
+use Rattle.labels.specs.Parts.{Part}
+use Rattle.labels.specs.Rows.{Row}
+use Rattle.index_reader.specs.Indexes.{Series, Indexed}
+use Rattle.tombstones.specs.declared.deletion.Deletion.{Deletion}
+use Rattle.block.specs.Ranges.{covers}
+use Rattle.block.specs.Samples.{samples_in, undeleted}
+
+-- the times that the block covers, its part, and the pairs that its series carry
+pub record Shown : Type 0 where
+  pub range : ℤ × ℤ
+  pub part : Part
+  pub pairs : List (List ℕ × List ℕ)
+
+-- a series: its reference, its label set, and the samples of its chunks less the deleted ones
+abbrev pub row_of : List ℕ → List Deletion → Series → ℕ × Row
+row_of chunks deletions s = (s.reference, (s.labels, undeleted deletions s.reference (samples_in chunks s.chunks)))
+
+-- all series
+abbrev pub part_of : List ℕ → List Deletion → List Series → Part
+part_of chunks deletions series = map (row_of chunks deletions) series
+
+-- a range, the chunks' file, what the index holds and the deletions, as what a block shows
+abbrev pub shown_of : ℤ × ℤ → List ℕ → Indexed → List Deletion → Shown
+shown_of range chunks x deletions = record { range = range; part = part_of chunks deletions x.series; pairs = x.pairs }
+
+-- the time of each sample lies in the range
+abbrev pub AreInside : ℤ × ℤ → Part → Type 0
+AreInside range part = AllByRecursion (λ (row : ℕ × Row). AllByRecursion (λ (s : ℤ × ℤ). covers range s.0 ≡ true) row.1.1) part
+
+-- how many samples a part has
+abbrev pub sample_count : Part → ℕ
+sample_count [] = 0
+sample_count (row ∷ rows) = length row.1.1 + sample_count rows

@@ -1,0 +1,15 @@
+-- Ranges of times.
+use Rattle.std.specs.Prelude.{ℤ, Bool, ◌&&◌, Option, Some, None, if◌then◌else◌, int_lt, int_le}
+use Rattle.labels.specs.Contents.{is_time}
+
+-- the first time is below the end, and both are times
+abbrev pub is_range : ℤ → ℤ → Bool
+is_range min max = int_lt min max && (is_time min && is_time max)
+
+-- the range from one time up to another, if it is one
+abbrev pub range_of : ℤ → ℤ → Option (ℤ × ℤ)
+range_of min max = if is_range min max then Some (min, max) else None
+
+-- whether a time lies in the range; its end does not
+abbrev pub covers : ℤ × ℤ → ℤ → Bool
+covers range t = int_le range.0 t && int_lt t range.1

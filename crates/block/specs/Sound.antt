@@ -1,0 +1,44 @@
+-- What holds of each block that was opened.
+use Rattle.std.specs.Prelude.{◌≡◌, ℕ, ◌≤◌, ℤ, Bool, true, ◌&&◌, List, [], ◌∷◌, length, Ok, int_le, int_lt}
+use Rattle.std.specs.Int.Signed.{◌≤ℤ◌, ◌<ℤ◌}
+use Rattle.std.specs.List.{AllByRecursion}
+use Rattle.chunk_reader.specs.Grammar.{IsChunk}
+use Rattle.index_reader.specs.declared.chunk.Chunk.{Chunk}
+use Rattle.index_reader.specs.Indexes.{Series, Indexed, IsConsistent}
+use Rattle.block.specs.Samples.{chunk_read, chunk_samples, samples_in}
+
+-- whether a chunk's times lie in a range, whose end does not
+abbrev pub lies_in : ℤ × ℤ → Chunk → Bool
+lies_in range c = int_le range.0 c.mint && int_lt c.maxt range.1
+
+-- a chunk is read, and is what stands in the file
+pub record IsHeld (file : List ℕ) (c : Chunk) : Type 0 where
+  pub reads : chunk_read file c ≡ Ok (chunk_samples file c)
+  pub stands : IsChunk file c.reference c.mint c.maxt (chunk_samples file c)
+
+-- a chunk is held, of so many samples
+pub record IsCounted (file : List ℕ) (c : Chunk) (count : ℕ) : Type 0 where
+  pub count_is : count ≡ length (chunk_samples file c)
+  pub held : IsHeld file c
+
+-- each chunk begins behind the end of the one before
+abbrev pub AreBehind : Chunk → List Chunk → Type 0
+AreBehind before [] = Unit {0}
+AreBehind before (c ∷ cs) = (before.maxt <ℤ c.mint) × (c.mint ≤ℤ c.maxt) × AreBehind c cs
+
+-- no chunk ends before it begins, and each begins behind the end of the one before
+abbrev pub AreInTurn : List Chunk → Type 0
+AreInTurn [] = Unit {0}
+AreInTurn (c ∷ cs) = (c.mint ≤ℤ c.maxt) × AreBehind c cs
+
+-- the chunks of a series are held, in the order of their times, not too many samples, and inside the range
+pub record IsStored (range : ℤ × ℤ) (file : List ℕ) (s : Series) : Type 0 where
+  pub held : AllByRecursion (IsHeld file) s.chunks
+  pub in_turn : AreInTurn s.chunks
+  pub few : length (samples_in file s.chunks) ≤ 1048576
+  pub inside : AllByRecursion (λ (c : Chunk). lies_in range c ≡ true) s.chunks
+
+-- the index is consistent, and the chunks of each of its series are stored
+pub record IsSound (range : ℤ × ℤ) (file : List ℕ) (x : Indexed) : Type 0 where
+  pub consistent : IsConsistent x
+  pub stored : AllByRecursion (IsStored range file) x.series

@@ -1,0 +1,150 @@
+//! A block that was checked.
+
+ghost use Rattle.std.specs.Prelude.{◌≡◌, length, IfOk, Ok};
+ghost use Rattle.labels.specs.Parts.{IsPart, Part};
+ghost use Rattle.block.specs.Blocks.{AreInside, sample_count};
+ghost use Rattle.block.specs.Fewer.{part_without};
+ghost use Rattle.block.specs.Grammar.{IsBlock};
+ghost use Rattle.block.specs.Opening.{block_of};
+ghost use Rattle.block.specs.Outcome.{Gives};
+
+use crate::counting::count_live;
+use crate::error::BlockError;
+use crate::opening::{are_inside, check_stored, known_deletions};
+use crate::range::Range;
+use chunk_reader::Chunks;
+use index_reader::Index;
+use labels::SeriesRef;
+use std::alloc::{AllocError, Global};
+use std::marker::Model;
+use std::sync::Arc;
+use tombstones::Tombstones;
+
+/// What a block was read from, and never changes.
+#[derive(Drop)]
+pub(crate) struct Files {
+    pub(crate) index: Index,
+    pub(crate) chunks: Chunks,
+}
+
+/// A block of files that were checked, seen as the times that it covers, its part, and the pairs of a name and a value
+/// that its series carry. Its samples stay in the bytes of the chunks file.
+#[derive(Drop)]
+pub struct Block {
+    range: Range,
+    pub(crate) files: Arc<Files>,
+    pub(crate) tombstones: Tombstones,
+}
+
+impl Model for Block {
+    ghost use Rattle.block.specs.Blocks.{Shown};
+
+    ghost Value = { Shown };
+
+    ghost use Rattle.std.specs.Arc.{arc_value};
+    ghost use Rattle.block.specs.Blocks.{shown_of};
+    ghost use Rattle.block.specs.Sound.{IsSound};
+
+    ghost view = { λ b. shown_of b.range (arc_value b.files).chunks (arc_value b.files).index b.tombstones };
+
+    ghost invariant = { λ b. IsSound b.range (arc_value b.files).chunks (arc_value b.files).index };
+}
+
+// The checks, and what they leave.
+fn opened(
+    alloc: Global,
+    range: Range,
+    index: &[u8],
+    chunks: Vec<u8>,
+    tombstones: &[u8],
+) -> Result<Block, BlockError>
+    ensures exact { Gives (λ b. b) result (block_of range index.now chunks.items tombstones.now) }
+    ensures found { IfOk result (λ b. IsBlock range index.now chunks.items tombstones.now b.part) }
+    ensures range { IfOk result (λ b. b.range ≡ range) }
+{
+    let index = Index::open(alloc, index)?;
+    let chunks = Chunks::open(chunks)?;
+    check_stored(&index, &chunks)?;
+    let deletions = known_deletions(alloc, &index, tombstones)?;
+    if !are_inside(&index, range) {
+        return Err(BlockError::OutsideRange);
+    }
+    let files = Arc::new(alloc, Files { index, chunks })?;
+    Ok(Block {
+        range,
+        files,
+        tombstones: deletions,
+    })
+}
+
+impl Block {
+    /// The block of an index, a chunks file and a file of deletions, which covers `range`.
+    ///
+    /// The first check that fails is answered, each over the whole file before the next: those of the index, `I1` to
+    /// `I15`; of the head of the chunks file, `C7`, `C1`, `C2`; of each chunk that the index names, in its order, `C3` to
+    /// `C8`; `I15` where a series has more than 1,048,576 samples; of the deletions, `T1` to `T4`; `T5` where one is of a
+    /// series that the index does not have; `B1` where a chunk begins before the range or does not end before its end.
+    /// Time in proportion to the files; it keeps the chunks file and copies none of it.
+    pub fn open(
+        alloc: Global,
+        range: Range,
+        index: &[u8],
+        chunks: Vec<u8>,
+        tombstones: &[u8],
+    ) -> Result<Block, BlockError>
+        // The first check that fails is answered; where none does, the block shows what was read.
+        ensures exact { Gives (λ b. b) result (block_of range index.now chunks.items tombstones.now) }
+        // The part is what the bytes of the files spell.
+        ensures found { IfOk result (λ b. IsBlock range index.now chunks.items tombstones.now b.part) }
+        // Files that spell a block are opened, and show its part, unless memory runs out.
+        ensures only { (part : Part) → IsBlock range index.now chunks.items tombstones.now part → Gives (λ b. b.part) result (Ok part) }
+        ensures range { IfOk result (λ b. b.range ≡ range) }
+    {
+        opened(alloc, range, index, chunks, tombstones)
+    }
+
+    /// The times that the block covers.
+    pub fn range(&self) -> Range
+        ensures range { result ≡ self.now.range }
+        ensures inside { AreInside self.now.range self.now.part }
+        ensures is_part { IsPart self.now.part }
+    {
+        self.range
+    }
+
+    /// How many series the block has, also those without a sample.
+    pub fn series_count(&self) -> usize
+        ensures { result ≡ length self.now.part }
+    {
+        self.files.index.len()
+    }
+
+    /// How many samples the block has that are not deleted. It looks at each chunk.
+    pub fn sample_count(&self) -> u64
+        ensures { result ≡ sample_count self.now.part }
+    {
+        count_live(&self.files.index, &self.files.chunks, &self.tombstones)
+    }
+
+    /// The block without the samples of these series in the closed range of times, in milliseconds. It shares the files,
+    /// and takes memory for the deletions alone.
+    pub fn without(
+        &self,
+        alloc: Global,
+        references: &[SeriesRef],
+        from: i64,
+        to: i64,
+    ) -> Result<Block, AllocError>
+        ensures part { IfOk result (λ b. b.part ≡ part_without references.now from to self.now.part) }
+        ensures range { IfOk result (λ b. b.range ≡ self.now.range) }
+        ensures pairs { IfOk result (λ b. b.pairs ≡ self.now.pairs) }
+    {
+        let tombstones = self.tombstones.with(alloc, references, from, to)?;
+        let files = Arc::try_clone(&self.files)?;
+        Ok(Block {
+            range: self.range,
+            files,
+            tombstones,
+        })
+    }
+}

@@ -1,0 +1,63 @@
+//! How many samples are not deleted.
+
+ghost use Rattle.std.specs.Prelude.{◌≡◌, ◌<◌, ◌-◌, ◌^◌, length, min};
+ghost use Rattle.block.specs.Samples.{chunk_samples, samples_in, undeleted};
+ghost use Rattle.block.specs.Blocks.{part_of, sample_count};
+
+use chunk_reader::{Chunks, Samples};
+use index_reader::{Chunk, Index};
+use labels::SeriesRef;
+use tombstones::Tombstones;
+
+fn live_among(samples: &Samples<'_>, tombstones: &Tombstones, reference: SeriesRef) -> u64
+    ensures { result ≡ length (undeleted tombstones.now reference samples.now) }
+{
+    let mut count = 0u64;
+    for at in 0..samples.len() {
+        if !tombstones.deleted(reference, samples.get(at).t()) {
+            count += 1;
+        }
+    }
+    count
+}
+
+fn live_in(chunks: &Chunks, chunk: &Chunk, tombstones: &Tombstones, reference: SeriesRef) -> u64
+    ensures { result ≡ length (undeleted tombstones.now reference (chunk_samples chunks.now chunk.now)) }
+{
+    match chunks.find(chunk.reference, chunk.mint, chunk.maxt) {
+        Ok(samples) => live_among(&samples, tombstones, reference),
+        Err(_) => 0,
+    }
+}
+
+fn live_in_all(
+    chunks: &Chunks,
+    list: &[Chunk],
+    tombstones: &Tombstones,
+    reference: SeriesRef,
+) -> u64
+    ensures { result ≡ min (length (undeleted tombstones.now reference (samples_in chunks.now list.now))) (2 ^ 64 - 1) }
+{
+    let mut count = 0u64;
+    for chunk in list {
+        count = count.saturating_add(live_in(chunks, chunk, tombstones, reference));
+    }
+    count
+}
+
+/// How many samples of all series are not deleted, up to the greatest number.
+pub(crate) fn count_live(index: &Index, chunks: &Chunks, tombstones: &Tombstones) -> u64
+    ensures { result ≡ min (sample_count (part_of chunks.now tombstones.now index.now.series)) (2 ^ 64 - 1) }
+{
+    let mut count = 0u64;
+    for at in 0..index.len() {
+        let reference = index.reference_at(at);
+        count = count.saturating_add(live_in_all(
+            chunks,
+            index.chunks_at(at),
+            tombstones,
+            reference,
+        ));
+    }
+    count
+}

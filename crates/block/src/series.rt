@@ -1,0 +1,130 @@
+//! What a block tells of its series, and the lists that it lends.
+
+ghost use Rattle.std.specs.Prelude.{◌≡◌, ℕ, ℤ, ◌<◌, ◌≤◌, [], List, length, get_or, slice_get, Some, None, IfNone, IfSome, IfOk};
+ghost use Rattle.labels.specs.Rows.{Row};
+ghost use Rattle.labels.specs.Parts.{carries, has_sample, labels_in, references, references_where, row_at, samples_within};
+ghost use Rattle.index_reader.specs.Indexes.{values_of};
+
+use crate::blocks::Block;
+use crate::halving::place_from;
+use crate::opening::place_of;
+use crate::wanted::{Times, Wanted, is_any_wanted, push_each};
+use index_reader::Entries;
+use labels::{LabelSet, Sample, SeriesRef};
+use std::alloc::{AllocError, Global};
+
+impl Block {
+    /// The label set of a series, `None` for an unknown reference. It finds the series by halving.
+    pub fn labels_of(&self, reference: SeriesRef) -> Option<&LabelSet>
+        ensures none { IfNone result (row_at reference self.now.part ≡ None) }
+        ensures some { IfSome result (λ labels. labels_in (row_at reference self.now.part) ≡ Some labels.now) }
+    {
+        let index = &self.files.index;
+        match place_of(index, reference) {
+            Some(at) => Some(index.labels_at(at)),
+            None => None,
+        }
+    }
+
+    /// The undeleted samples of a series in a closed range of times, in milliseconds; none for an unknown reference.
+    ///
+    /// It finds the series by halving, and reads those of its chunks whose times meet the range.
+    pub fn samples_of(
+        &self,
+        alloc: Global,
+        reference: SeriesRef,
+        from: i64,
+        to: i64,
+    ) -> Result<Vec<Sample>, AllocError>
+        ensures { IfOk result (λ samples. samples.items ≡ samples_within from to (row_at reference self.now.part)) }
+    {
+        self.samples_in(alloc, reference, Times { from, to })
+    }
+
+    fn samples_in(
+        &self,
+        alloc: Global,
+        reference: SeriesRef,
+        times: Times,
+    ) -> Result<Vec<Sample>, AllocError>
+        ensures { IfOk result (λ samples. samples.items ≡ samples_within times.from times.to (row_at reference self.now.part)) }
+    {
+        let mut found = Vec::new(alloc);
+        let files = &*self.files;
+        let wanted = Wanted {
+            tombstones: &self.tombstones,
+            reference,
+            times,
+        };
+        if let Some(at) = place_of(&files.index, reference) {
+            push_each(
+                &mut found,
+                &files.chunks,
+                files.index.chunks_at(at),
+                &wanted,
+            )?;
+        }
+        Ok(found)
+    }
+
+    /// The reference of the series at a place, from 0.
+    pub(crate) fn reference_at(&self, i: usize) -> SeriesRef
+        requires { i < length self.now.part }
+        ensures { slice_get (references self.now.part) i ≡ Some result }
+    {
+        self.files.index.reference_at(i)
+    }
+
+    /// Whether the series at a place has an undeleted sample in the closed range.
+    pub(crate) fn is_live_at(&self, i: usize, times: Times) -> bool
+        requires { i < length self.now.part }
+        ensures { (row : ℕ × Row) → slice_get self.now.part i ≡ Some row → result ≡ has_sample times.from times.to row.1.1 }
+    {
+        let files = &*self.files;
+        let wanted = Wanted {
+            tombstones: &self.tombstones,
+            reference: files.index.reference_at(i),
+            times,
+        };
+        is_any_wanted(&files.chunks, files.index.chunks_at(i), &wanted)
+    }
+
+    /// The place of the first series, from a place on, whose reference is not below the target, or the end.
+    pub(crate) fn place_from(&self, from: usize, target: SeriesRef) -> usize
+        requires { from ≤ length self.now.part }
+        ensures place { (from ≤ result) × (result ≤ length self.now.part) }
+        ensures below { (k : ℕ) → from ≤ k → k < result → get_or (references self.now.part) k 0 < target }
+        ensures above { result < length self.now.part → target ≤ get_or (references self.now.part) result 0 }
+    {
+        place_from(&self.files.index, from, target)
+    }
+
+    /// The references of all series. None of it is read yet.
+    pub(crate) fn all(&self) -> Entries<'_>
+        ensures { result ≡ (references self.now.part, 0) }
+    {
+        self.files.index.all()
+    }
+
+    /// The references of the series with this value of a name, `None` where there is none. None of it is read yet.
+    pub(crate) fn list(&self, name: &str, value: &str) -> Option<Entries<'_>>
+        ensures none { IfNone result (references_where (carries name.now value.now) self.now.part ≡ []) }
+        ensures listed { IfSome result (λ entries. entries ≡ (references_where (carries name.now value.now) self.now.part, 0)) }
+        ensures some { IfSome result (λ entries. references_where (carries name.now value.now) self.now.part ≡ [] → ⊥) }
+    {
+        self.files.index.entries(name, value)
+    }
+
+    pub(crate) fn value_count(&self, name: &str) -> usize
+        ensures { result ≡ length (values_of name.now self.now.pairs) }
+    {
+        self.files.index.value_count(name)
+    }
+
+    pub(crate) fn value_at(&self, name: &str, i: usize) -> &str
+        requires { i < length (values_of name.now self.now.pairs) }
+        ensures { slice_get (values_of name.now self.now.pairs) i ≡ Some result.now }
+    {
+        self.files.index.value_at(name, i)
+    }
+}

@@ -1,0 +1,157 @@
+//! The samples of one series in a closed range of times, less those that are deleted.
+
+ghost use Rattle.std.specs.Prelude.{◌≡◌, ◌++◌, ◌||◌, ℤ, filter, OnOk};
+ghost use Rattle.std.specs.List.{list_any};
+ghost use Rattle.block.specs.Samples.{chunk_samples, samples_in};
+ghost use Rattle.block.specs.Sound.{IsHeld};
+ghost use Rattle.block.specs.Wanted.{AreHeld, is_wanted, meets};
+
+use chunk_reader::{Chunks, Samples};
+use index_reader::Chunk;
+use labels::{Sample, SeriesRef};
+use std::alloc::AllocError;
+use tombstones::Tombstones;
+
+/// A closed range of times, in milliseconds.
+#[derive(Clone, Copy)]
+pub(crate) struct Times {
+    pub(crate) from: i64,
+    pub(crate) to: i64,
+}
+
+/// What is asked of a series: its samples in a range of times that are not deleted.
+#[derive(Drop)]
+pub(crate) struct Wanted<'a> {
+    pub(crate) tombstones: &'a Tombstones,
+    pub(crate) reference: SeriesRef,
+    pub(crate) times: Times,
+}
+
+impl<'a> Wanted<'a> {
+    fn is_time(&self, t: i64) -> bool
+        ensures { result ≡ is_wanted self.now.tombstones.now self.now.reference self.now.times.from self.now.times.to t }
+    {
+        self.times.from <= t && t <= self.times.to && !self.tombstones.deleted(self.reference, t)
+    }
+
+    fn has(&self, sample: Sample) -> bool
+        ensures { result ≡ is_wanted self.now.tombstones.now self.now.reference self.now.times.from self.now.times.to sample.0 }
+    {
+        self.is_time(sample.t())
+    }
+
+    /// Whether the first or the last time of the chunk is wanted.
+    fn has_end(&self, chunk: Chunk) -> bool
+        ensures { result ≡ (is_wanted self.now.tombstones.now self.now.reference self.now.times.from self.now.times.to chunk.mint || is_wanted self.now.tombstones.now self.now.reference self.now.times.from self.now.times.to chunk.maxt) }
+    {
+        self.is_time(chunk.mint) || self.is_time(chunk.maxt)
+    }
+
+    /// Whether the times of the chunk meet the range.
+    fn meets(&self, chunk: Chunk) -> bool
+        ensures { result ≡ meets self.now.times.from self.now.times.to chunk }
+    {
+        chunk.maxt >= self.times.from && chunk.mint <= self.times.to
+    }
+}
+
+/// The samples of a chunk, in place.
+fn samples_at(chunks: &Chunks, chunk: Chunk) -> Samples<'_>
+    requires { IsHeld chunks.now chunk }
+    ensures { result ≡ chunk_samples chunks.now chunk }
+{
+    chunks
+        .find(chunk.reference, chunk.mint, chunk.maxt)
+        .unwrap()
+}
+
+fn push_wanted(
+    found: &mut Vec<Sample>,
+    samples: &Samples<'_>,
+    wanted: &Wanted<'_>,
+) -> Result<(), AllocError>
+    ensures { OnOk result (found.new.items ≡ found.old.items ++ filter (λ (s : ℤ × ℤ). is_wanted wanted.now.tombstones.now wanted.now.reference wanted.now.times.from wanted.now.times.to s.0) samples.now) }
+{
+    for i in 0..samples.len() {
+        let sample = samples.get(i);
+        if wanted.has(sample) {
+            found.push(sample)?;
+        }
+    }
+    Ok(())
+}
+
+/// Adds the samples that are wanted. It reads the chunks whose times meet the range, and no other.
+pub(crate) fn push_each(
+    found: &mut Vec<Sample>,
+    chunks: &Chunks,
+    series: &[Chunk],
+    wanted: &Wanted<'_>,
+) -> Result<(), AllocError>
+    requires { AreHeld chunks.now series.now }
+    ensures { OnOk result (found.new.items ≡ found.old.items ++ filter (λ (s : ℤ × ℤ). is_wanted wanted.now.tombstones.now wanted.now.reference wanted.now.times.from wanted.now.times.to s.0) (samples_in chunks.now series.now)) }
+{
+    for chunk in series {
+        if wanted.meets(*chunk) {
+            push_wanted(found, &samples_at(chunks, *chunk), wanted)?;
+        }
+    }
+    Ok(())
+}
+
+fn has_wanted(samples: &Samples<'_>, wanted: &Wanted<'_>) -> bool
+    ensures { result ≡ list_any (λ (s : ℤ × ℤ). is_wanted wanted.now.tombstones.now wanted.now.reference wanted.now.times.from wanted.now.times.to s.0) samples.now }
+{
+    for i in 0..samples.len() {
+        if wanted.has(samples.get(i)) {
+            return true;
+        }
+    }
+    false
+}
+
+/// Whether a chunk begins or ends with a sample that is wanted. It reads no chunk.
+fn has_wanted_end(series: &[Chunk], wanted: &Wanted<'_>) -> bool
+    ensures { result ≡ list_any (λ c. is_wanted wanted.now.tombstones.now wanted.now.reference wanted.now.times.from wanted.now.times.to c.mint || is_wanted wanted.now.tombstones.now wanted.now.reference wanted.now.times.from wanted.now.times.to c.maxt) series.now }
+{
+    for chunk in series {
+        if wanted.has_end(*chunk) {
+            return true;
+        }
+    }
+    false
+}
+
+/// Whether the chunk has a sample that is wanted. It is read only where its times meet the range.
+fn has_wanted_in(chunks: &Chunks, chunk: Chunk, wanted: &Wanted<'_>) -> bool
+    requires { IsHeld chunks.now chunk }
+    ensures { result ≡ list_any (λ (s : ℤ × ℤ). is_wanted wanted.now.tombstones.now wanted.now.reference wanted.now.times.from wanted.now.times.to s.0) (chunk_samples chunks.now chunk) }
+{
+    if !wanted.meets(chunk) {
+        return false;
+    }
+    has_wanted(&samples_at(chunks, chunk), wanted)
+}
+
+fn has_wanted_within(chunks: &Chunks, series: &[Chunk], wanted: &Wanted<'_>) -> bool
+    requires { AreHeld chunks.now series.now }
+    ensures { result ≡ list_any (λ (s : ℤ × ℤ). is_wanted wanted.now.tombstones.now wanted.now.reference wanted.now.times.from wanted.now.times.to s.0) (samples_in chunks.now series.now) }
+{
+    for chunk in series {
+        if has_wanted_in(chunks, *chunk, wanted) {
+            return true;
+        }
+    }
+    false
+}
+
+/// Whether one of the samples is wanted. Where the first or the last time of a chunk says so it reads no chunk.
+pub(crate) fn is_any_wanted(chunks: &Chunks, series: &[Chunk], wanted: &Wanted<'_>) -> bool
+    requires { AreHeld chunks.now series.now }
+    ensures { result ≡ list_any (λ (s : ℤ × ℤ). is_wanted wanted.now.tombstones.now wanted.now.reference wanted.now.times.from wanted.now.times.to s.0) (samples_in chunks.now series.now) }
+{
+    if has_wanted_end(series, wanted) {
+        return true;
+    }
+    has_wanted_within(chunks, series, wanted)
+}

@@ -1,0 +1,10 @@
+use Rattle.std.specs.Cmp.Lexicographic.{texts_ties}
+use Rattle.std.specs.Str.{bytes_eq}
+use Rattle.block_writer.specs.InUse.{text_cmp}
+use Rattle.block_writer.proofs.Held.{held_once, text_total, text_exact}
+use Rattle.block_writer.proofs.symbols.symbols_of.Goals as goal
+
+pub returns : goal.returns
+returns c =
+    held_once (λ x. x.now) text_cmp text_total text_exact (λ x y. bytes_eq x.now y.now) (λ x y. texts_ties x.now y.now) c.in_ok-symbols.symbols.items c.sort_unstable.new.self.items c.dedup.new.self.items _
+    c.in_ok-symbols.ensures c.sort_unstable.ensures.permutation c.sort_unstable.ensures.sorted c.dedup.ensures.filtered

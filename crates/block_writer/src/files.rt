@@ -1,0 +1,54 @@
+//! All files of a block.
+
+ghost use Rattle.std.specs.Prelude.{◌≡◌, ◌≤◌, [], length, IfOk, IfErr};
+ghost use Rattle.block_writer.specs.Writing.{chunks_text};
+ghost use Rattle.block_writer.specs.Written.{limit, IsTooLong, IsWrittenIndex};
+ghost use Rattle.tombstones.specs.Grammar.{IsTombstones};
+
+use crate::chunks::chunks_file;
+use crate::error::WriteError;
+use crate::index_file::index_file;
+use crate::limits::MAX_LEN;
+use crate::part_rows::PartRows;
+use crate::tombstones_file::no_tombstones;
+use std::alloc::Global;
+
+/// The files of a block, as bytes.
+#[derive(Drop)]
+pub struct BlockBytes {
+    /// The file `index`.
+    pub index: Vec<u8>,
+    /// The file `chunks/000001`.
+    pub chunks: Vec<u8>,
+    /// The file `tombstones`.
+    pub tombstones: Vec<u8>,
+}
+
+/// The files of a block with exactly these rows, of which nothing is deleted. `N1` where the chunks file or the index would
+/// be longer than 1,073,741,824 bytes. It takes time and memory in proportion to the samples, and to the labels times the
+/// logarithm of their count.
+pub fn write(alloc: Global, rows: &PartRows) -> Result<BlockBytes, WriteError>
+    // The index lists exactly the rows, their labels and the places of their chunks.
+    ensures index { IfOk result (λ files. IsWrittenIndex rows.now files.index.items) }
+    // The chunks file has exactly the samples of the rows.
+    ensures chunks { IfOk result (λ files. files.chunks.items ≡ chunks_text rows.now) }
+    // Nothing is deleted.
+    ensures tombstones { IfOk result (λ files. IsTombstones files.tombstones.items []) }
+    // Both files are short enough to be read.
+    ensures short { IfOk result (λ files. length files.index.items ≤ limit) }
+    ensures chunks_short { IfOk result (λ files. length files.chunks.items ≤ limit) }
+    // Rows are refused only where a file of them is too long.
+    ensures reason { IfErr result (IsTooLong rows.now) }
+{
+    let chunks = chunks_file(alloc, rows)?;
+    if chunks.len() > MAX_LEN {
+        return Err(WriteError::Limit);
+    }
+    let index = index_file(alloc, rows)?;
+    let tombstones = no_tombstones(alloc)?;
+    Ok(BlockBytes {
+        index,
+        chunks,
+        tombstones,
+    })
+}

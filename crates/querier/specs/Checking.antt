@@ -1,0 +1,76 @@
+-- What `check` says of directories, and in which lines.
+use Rattle.std.specs.Prelude.{◌≡◌, ℕ, List, [], ◌∷◌, ◌++◌, Bool, true, false, map, Option, codes, decimal, string_bytes, if◌then◌else◌}
+use Rattle.std.specs.List.{AllByRecursion, flat_map, list_any}
+use Rattle.std.specs.Io.KnownBytes.{Appends}
+use Rattle.querier.specs.Judging.{IsJudged}
+use Rattle.querier.specs.Reading.{Reads, AreRead, IsUnread}
+use Rattle.querier.specs.declared.fault.Fault.{Fault}
+use Rattle.querier.specs.declared.fault.Fault.TheVariants.{Words, Refused, CannotRead, CannotWrite, Memory}
+use Rattle.querier.specs.declared.files.BlockFiles.{BlockFiles}
+use Rattle.querier.specs.declared.judgement.Judgement.{Judgement}
+use Rattle.querier.specs.declared.judgement.Judgement.TheVariants as judgement
+use Rattle.querier.specs.declared.report.Outcome.{Outcome}
+use Rattle.querier.specs.declared.report.Outcome.TheVariants as outcome
+use Rattle.block.specs.Codes.{code_of}
+
+-- what a line says of a judgement
+abbrev pub judgement_text : Judgement → List ℕ
+judgement_text (judgement.Sound series samples) = codes "ok " ++ decimal series ++ codes " series " ++ decimal samples ++ codes " samples"
+judgement_text (judgement.Refused error) = codes "refused " ++ code_of error
+
+-- the line of a directory
+abbrev pub judgement_line : List ℕ → Judgement → List ℕ
+judgement_line directory judgement = directory ++ (codes ": " ++ (judgement_text judgement ++ 10 ∷ []))
+
+-- what the files of a directory are judged to be, as they were read
+pub record IsJudgedAt (reads : Reads) (directory : List ℕ) (judgement : Judgement) : Type 0 where
+  pub files : BlockFiles
+  pub read : AreRead reads directory files
+  pub judged : IsJudged files judgement
+
+-- a directory with its judgement
+abbrev pub Judged : Type 0
+Judged = List ℕ × Judgement
+
+-- the judgement is a refusal
+abbrev pub is_refused : Judgement → Bool
+is_refused (judgement.Sound series samples) = false
+is_refused (judgement.Refused error) = true
+
+-- all are blocks, or some are refused
+abbrev pub outcome_of : List Judged → Outcome
+outcome_of judged = if list_any (λ j. is_refused j.1) judged then outcome.Refused else outcome.Done
+
+-- exactly the lines of these directories were written, in this order
+pub record IsChecked (reads : Reads) (directories : List (List ℕ)) (old new : Option (List ℕ)) (outcome : Outcome) : Type 0 where
+  pub judged : List Judged
+  pub order : map (λ j. j.0) judged ≡ directories
+  pub each : AllByRecursion (λ (j : Judged). IsJudgedAt reads j.0 j.1) judged
+  pub written : Appends old new (flat_map (λ j. judgement_line j.0 j.1) judged)
+  pub outcome_is : outcome ≡ outcome_of judged
+
+-- exactly the lines of the directories before some place were written
+pub record IsBegun (reads : Reads) (directories : List (List ℕ)) (old new : Option (List ℕ)) : Type 0 where
+  pub before : List (List ℕ)
+  pub rest : List (List ℕ)
+  pub order : directories ≡ before ++ rest
+  pub outcome : Outcome
+  pub checked : IsChecked reads before old new outcome
+
+-- exactly the lines of the directories before one of which a file cannot be read
+pub record IsUnreadCheck (reads : Reads) (directories : List (List ℕ)) (old new : Option (List ℕ)) (path : List ℕ) : Type 0 where
+  pub before : List (List ℕ)
+  pub directory : List ℕ
+  pub after : List (List ℕ)
+  pub order : directories ≡ before ++ directory ∷ after
+  pub outcome : Outcome
+  pub checked : IsChecked reads before old new outcome
+  pub unread : IsUnread reads directory path
+
+-- why a check ends before it is done, and what was written by then
+abbrev pub IsCheckFault : Reads → List (List ℕ) → Option (List ℕ) → Option (List ℕ) → Fault → Type 0
+IsCheckFault reads directories old new (CannotRead path) = IsUnreadCheck reads directories old new (string_bytes path)
+IsCheckFault reads directories old new Memory = IsBegun reads directories old new
+IsCheckFault reads directories old new CannotWrite = Unit {0}
+IsCheckFault reads directories old new (Words error) = ⊥
+IsCheckFault reads directories old new (Refused refusal) = ⊥
