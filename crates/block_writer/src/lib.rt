@@ -4,8 +4,9 @@
 //! strictly in the order of their times. [`write`] gives the three files of a block with these rows: the index, whose
 //! symbols and pairs are exactly those in use, each once, ascending (`IsWrittenIndex`); the chunks file, 120 samples a
 //! chunk, nothing between (`chunks_text`); and the tombstones of a block of which nothing is deleted. It refuses rows
-//! (`N1`) only where one of the two files would be longer than 1 GiB. It stands on `labels` and `wire`, and on
-//! `index_reader`, `chunk_reader` and `tombstones` for the words that say how their files are spelled. The files are
+//! (`N1`) only where one of the two files would be longer than 1 GiB. What it gives is a block with exactly these rows
+//! ([`written_files_spell_rows`]). It stands on `labels` and `wire`, and on `index_reader`, `chunk_reader`, `tombstones`
+//! and `block` for the words that say how their files are spelled. The files are
 //! those of Prometheus's TSDB format documents; where entries stand, that a reference is the sixteenth part of an offset,
 //! and that a chunk has 120 samples, is this project's own.
 #![tactic(auto)]
@@ -18,6 +19,7 @@ mod entries;
 mod error;
 mod files;
 mod index_file;
+mod laws;
 mod limits;
 mod part_rows;
 mod sections;
@@ -30,5 +32,6 @@ pub use chunk::put_chunk;
 pub use chunks::chunks_file;
 pub use error::WriteError;
 pub use files::{BlockBytes, write};
+pub use laws::written_files_spell_rows;
 pub use part_rows::PartRows;
 pub use tombstones_file::no_tombstones;
