@@ -6,6 +6,6 @@ use Rattle.block.specs.declared.raw_list.RawList.{RawList}
 abbrev pub remaining_of : RawList → List ℕ
 remaining_of list = drop list.at list.entries.0
 
--- how many references its last move read
+-- how many references were read for it
 abbrev pub reads_of : RawList → ℕ
 reads_of list = list.entries.1

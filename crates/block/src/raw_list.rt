@@ -1,6 +1,6 @@
 //! A list of references that are read in place.
 
-ghost use Rattle.std.specs.Prelude.{◌≡◌, ℕ, ◌-◌, ◌<◌, ◌≤◌, length, drop, get_or, slice_get};
+ghost use Rattle.std.specs.Prelude.{◌≡◌, ℕ, ◌+◌, ◌-◌, ◌<◌, ◌≤◌, length, drop, get_or, slice_get};
 ghost use Rattle.std.specs.List.Sorted.{IsStrictlyIncreasing};
 ghost use Rattle.block.specs.Remaining.{IsAtPlace, IsWithinDigits};
 
@@ -8,8 +8,8 @@ use index_reader::Entries;
 use labels::SeriesRef;
 use postings::Postings;
 
-/// A list over entries. It keeps the reference at its place, so that `current` reads none, and it tells how many its last
-/// move read.
+/// A list over entries. It keeps the reference at its place, so that `current` reads none, and it tells how many it has
+/// read.
 #[derive(Drop)]
 pub struct RawList<'a> {
     entries: Entries<'a>,
@@ -22,9 +22,8 @@ pub struct RawList<'a> {
 fn place_of(entries: &mut Entries, from: usize, target: SeriesRef) -> (usize, Option<SeriesRef>)
     requires within { from ≤ length entries.old.0 }
     requires increasing { IsStrictlyIncreasing entries.old.0 }
-    requires unread { entries.old.1 ≡ 0 }
     ensures same { entries.new.0 ≡ entries.old.0 }
-    ensures few { IsWithinDigits (length entries.old.0 - from) entries.new.1 }
+    ensures few { IsWithinDigits (length entries.old.0 - from) (entries.new.1 - entries.old.1) }
     ensures place { (from ≤ result.0) × (result.0 ≤ length entries.old.0) }
     ensures below { (k : ℕ) → from ≤ k → k < result.0 → get_or entries.old.0 k 0 < target }
     ensures above { result.0 < length entries.old.0 → target ≤ get_or entries.old.0 result.0 0 }
@@ -47,9 +46,8 @@ fn place_of(entries: &mut Entries, from: usize, target: SeriesRef) -> (usize, Op
 }
 
 fn head_of(entries: &mut Entries, at: usize) -> Option<SeriesRef>
-    requires unread { entries.old.1 ≡ 0 }
     ensures same { entries.new.0 ≡ entries.old.0 }
-    ensures few { entries.new.1 ≤ 1 }
+    ensures few { entries.new.1 ≤ entries.old.1 + 1 }
     ensures head { result ≡ slice_get entries.old.0 at }
 {
     if at >= entries.len() {
@@ -65,10 +63,9 @@ impl<'a> RawList<'a> {
     pub fn new(entries: Entries<'a>) -> RawList<'a>
         requires { IsStrictlyIncreasing entries.0 }
         ensures list { remaining_of result ≡ entries.entry.0 }
-        ensures few { reads_of result ≤ 1 }
+        ensures few { reads_of result ≤ entries.entry.1 + 1 }
     {
         let mut entries = entries;
-        entries.forget_reads();
         let head = head_of(&mut entries, 0);
         RawList {
             entries,
@@ -77,8 +74,8 @@ impl<'a> RawList<'a> {
         }
     }
 
-    /// How many references the last move read.
-    pub fn last_reads(&self) -> u64
+    /// How many references it and the entries that it was made of have read so far, up to the greatest number.
+    pub fn reads(&self) -> u64
         ensures { result ≡ reads_of self.now }
     {
         self.entries.reads()
@@ -100,9 +97,8 @@ impl<'a> Postings for RawList<'a> {
     /// It reads at most one reference.
     fn advance(&mut self)
         ensures list { remaining_of self.new ≡ rest_of (remaining_of self.old) }
-        ensures few { reads_of self.new ≤ 1 }
+        ensures few { reads_of self.new ≤ reads_of self.old + 1 }
     {
-        self.entries.forget_reads();
         if self.at < self.entries.len() {
             self.at += 1;
             self.head = head_of(&mut self.entries, self.at);
@@ -113,10 +109,9 @@ impl<'a> Postings for RawList<'a> {
     /// not above the first.
     fn seek(&mut self, target: SeriesRef)
         ensures list { remaining_of self.new ≡ not_below target (remaining_of self.old) }
-        ensures few { IsWithinDigits (length (remaining_of self.old)) (reads_of self.new) }
-        ensures still { target ≤ first_or_end (remaining_of self.old) → reads_of self.new ≡ 0 }
+        ensures few { IsWithinDigits (length (remaining_of self.old)) (reads_of self.new - reads_of self.old) }
+        ensures still { target ≤ first_or_end (remaining_of self.old) → reads_of self.new ≡ reads_of self.old }
     {
-        self.entries.forget_reads();
         let Some(head) = self.head else {
             return;
         };

@@ -36,13 +36,15 @@ pub fn word_at(bytes: &[u8], i: usize) -> u32
 }
 
 impl<'a> Entries<'a> {
-    pub fn new(bytes: &'a [u8]) -> Entries<'a>
+    /// The references that these bytes hold, none of them read yet.
+    pub(crate) fn new(bytes: &'a [u8]) -> Entries<'a>
         requires { length bytes.now % 4 ≡ 0 }
         ensures { result ≡ (refs_of bytes.now, 0) }
     {
         Entries { bytes, reads: 0 }
     }
 
+    /// How many references there are. It reads none.
     #[tactic(auto, using(crate::proofs::WordsAt::of_words))]
     pub fn len(&self) -> usize
         ensures { result ≡ length self.now.0 }
@@ -50,6 +52,7 @@ impl<'a> Entries<'a> {
         self.bytes.len() / 4
     }
 
+    /// Reads the reference at a place, from 0.
     #[tactic(auto, using(crate::proofs::WordsAt::of_words))]
     pub fn get(&mut self, i: usize) -> SeriesRef
         requires { i < length self.old.0 }
@@ -61,17 +64,10 @@ impl<'a> Entries<'a> {
         SeriesRef::new(reference)
     }
 
-    /// How many were read since the count began, up to the greatest number.
+    /// How many were read so far, up to the greatest number.
     pub fn reads(&self) -> u64
         ensures { result ≡ self.now.1 }
     {
         self.reads
-    }
-
-    /// Begins the count anew.
-    pub fn forget_reads(&mut self)
-        ensures { self.new ≡ (self.old.0, 0) }
-    {
-        self.reads = 0;
     }
 }

@@ -62,12 +62,14 @@ fn a_seek_in_six_references_reads_four_at_most(rt: HostRuntime) -> Result<(), Fa
     let block = worked(rt.alloc(), &[])?;
     let mut list = block.view().all();
     assert_eq!(rt; list.current(), Some(SeriesRef::new(4)));
+    let before = list.reads();
     list.seek(SeriesRef::new(9));
     assert_eq!(rt; list.current(), Some(SeriesRef::new(9)));
-    assert!(rt; list.last_reads() <= 4);
+    let after = list.reads();
+    assert!(rt; after <= before.saturating_add(4));
     list.seek(SeriesRef::new(3));
     assert_eq!(rt; list.current(), Some(SeriesRef::new(9)));
-    assert_eq!(rt; list.last_reads(), 0);
+    assert_eq!(rt; list.reads(), after);
     list.advance();
     assert_eq!(rt; list.current(), None);
     Ok(())
@@ -170,10 +172,11 @@ fn a_seek_in_a_thousand_references_reads_eleven_at_most(rt: HostRuntime) -> Resu
     assert_eq!(rt; block.series_count(), 1000);
     for target in 300..1320 {
         let mut list = block.view().all();
+        let before = list.reads();
         list.seek(SeriesRef::new(target));
         let found = list.current().map_or(1314, SeriesRef::number);
         assert_eq!(rt; found, target.max(314).min(1314), "from {target}");
-        assert!(rt; list.last_reads() <= 11, "from {target}");
+        assert!(rt; list.reads() <= before.saturating_add(11), "from {target}");
     }
     Ok(())
 }

@@ -27,4 +27,4 @@ next_place refs read found at head e f up lt h =
     }
 
 pub returns-then-self-len-clause-list : goal.returns-then-self-len-clause-list
-returns-then-self-len-clause-list c = stepped c.args.self.now.entries.0 _ _ _ c.args.self.now.at (ap (λ (p : List ℕ × ℕ). p.0) c.forget_reads.ensures) c.head_of-self.ensures.same refl
+returns-then-self-len-clause-list c = stepped c.args.self.now.entries.0 _ _ _ c.args.self.now.at refl c.head_of-self.ensures.same refl

@@ -14,7 +14,7 @@ sought refs read found old from at target e f v up le fits below above =
 pub returns-then-number-clause-list : goal.returns-then-number-clause-list
 returns-then-number-clause-list c =
     let s = c.place_of-at.ensures in
-    sought c.args.self.now.entries.0 _ _ _ c.args.self.now.at c.place_of-at.result.0 c.args.target (ap (λ (p : List ℕ × ℕ). p.0) c.forget_reads.ensures) s.same refl c.args.self.now.placed.increasing s.place.0 s.place.1 s.below s.above
+    sought c.args.self.now.entries.0 _ _ _ c.args.self.now.at c.place_of-at.result.0 c.args.target refl s.same refl c.args.self.now.placed.increasing s.place.0 s.place.1 s.below s.above
 
 ended : (refs found : List ℕ) (at target : ℕ) (head : Option ℕ) → found ≡ refs → head ≡ slice_get refs at → head ≡ None → drop at found ≡ not_below target (drop at refs)
 ended refs found at target head f h none =
@@ -22,7 +22,7 @@ ended refs found at target head f h none =
 
 pub returns-in_default-clause-list : goal.returns-in_default-clause-list
 returns-in_default-clause-list c =
-    ended c.args.self.now.entries.0 c.forget_reads.new.self.0 c.args.self.now.at c.args.target c.args.self.now.head (ap (λ (p : List ℕ × ℕ). p.0) c.forget_reads.ensures) c.args.self.now.placed.head_is c.in_default.is
+    ended c.args.self.now.entries.0 c.args.self.now.entries.0 c.args.self.now.at c.args.target c.args.self.now.head refl c.args.self.now.placed.head_is c.in_default.is
 
 first_kept : (refs : List ℕ) (at value : ℕ) (head : Option ℕ) → head ≡ slice_get refs at → head ≡ Some value → first_or_end (drop at refs) ≡ value
 first_kept refs at value head h some = read_first (drop at refs) value (first_at refs at ∙ sym h ∙ some)
@@ -40,4 +40,4 @@ stayed refs found at target value head f up h some le =
 
 pub returns-else-number-clause-list : goal.returns-else-number-clause-list
 returns-else-number-clause-list c =
-    stayed c.args.self.now.entries.0 c.forget_reads.new.self.0 c.args.self.now.at c.args.target c.in-Some.head c.args.self.now.head (ap (λ (p : List ℕ × ℕ). p.0) c.forget_reads.ensures) c.args.self.now.placed.increasing c.args.self.now.placed.head_is c.in-Some.is (omega arith)
+    stayed c.args.self.now.entries.0 c.args.self.now.entries.0 c.args.self.now.at c.args.target c.in-Some.head c.args.self.now.head refl c.args.self.now.placed.increasing c.args.self.now.placed.head_is c.in-Some.is (omega arith)
