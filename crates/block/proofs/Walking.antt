@@ -10,7 +10,8 @@ use Rattle.labels.specs.Ascending.{first_of, rest_of, not_below}
 use Rattle.labels.specs.Rows.{Row}
 use Rattle.labels.specs.Parts.{Part, references, references_of, live_references, has_sample}
 use Rattle.labels.proofs.Lists.{here, Contains-cases, rising-head, rising-tail, filter-all}
-use Rattle.block.specs.PartPlaces.{kept_in, rises_from}
+use Rattle.labels.proofs.PartRows.{kept_in}
+use Rattle.block.specs.PartPlaces.{rises_from}
 use Rattle.block.proofs.Places.{first_at}
 
 pub refs_drop : (part : Part) (i : ℕ) → references (drop i part) ≡ drop i (references part)

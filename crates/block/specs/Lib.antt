@@ -14,6 +14,5 @@ pub mod Rising
 pub mod Wanted
 pub mod Views
 pub mod LiveLists
-pub mod PartProps
 pub mod PartPlaces
 pub mod Named

@@ -3,7 +3,8 @@ use Rattle.std.specs.Prelude.{ℕ, List, drop}
 use Rattle.std.specs.List.Sorted.{IsStrictlyIncreasing}
 use Rattle.labels.specs.Rows.{Row}
 use Rattle.labels.specs.Parts.{has_sample, live_references}
-use Rattle.block.specs.PartPlaces.{kept_rises, rises_from}
+use Rattle.labels.proofs.PartRows.{kept_rises}
+use Rattle.block.specs.PartPlaces.{rises_from}
 use Rattle.block.specs.declared.live_list.LiveList.{LiveList}
 
 -- the references that it has still to give

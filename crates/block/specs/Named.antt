@@ -1,19 +1,15 @@
 -- The pairs that a part's series carry, and the values of a name among them.
-use Rattle.std.proofs.Common.{◌≡◌, ℕ, zero, suc, ◌+◌, ◌<◌, Bool, true, false, cond, not, ◌&&◌, ◌||◌, ◌⊎◌, inl, inr, List, [], ◌∷◌, length, map, get_or, refl, sym, ◌∙◌, ap, subst, arith}
+use Rattle.std.proofs.Common.{◌≡◌, ℕ, zero, suc, ◌+◌, ◌<◌, Bool, true, false, cond, ◌&&◌, ◌||◌, inl, inr, List, [], ◌∷◌, length, map, get_or, refl, sym, ◌∙◌, ap, subst, arith}
 use Rattle.std.specs.Prelude.{filter}
 use Rattle.std.specs.List.{Contains, AllByRecursion, list_any}
 use Rattle.std.specs.Str.{bytes_eq}
-use Rattle.std.specs.Ordering.{nat_cmp, ordering_then, is_eq}
-use Rattle.std.specs.declared.cmp.Ordering.{Ordering}
+use Rattle.std.specs.Ordering.{ordering_then}
 use Rattle.std.specs.declared.cmp.Ordering.TheVariants.{Less, Equal}
-use Rattle.std.specs.Cmp.{IsTotalOrder, tied_itself, Equal-is}
-use Rattle.std.specs.Cmp.Lexicographic.{slice_cmp, texts_ties}
-use Rattle.std.specs.FinMap.{IsAntisymmetric, slice_cmp-IsAntisymmetric, nat_cmp-IsAntisymmetric}
-use Rattle.std.proofs.lemmas.Cmp.{nat_list_cmp_total, on_total, then_total}
-use Rattle.labels.specs.Labels.{Labels, pair_cmp, value_of}
-use Rattle.labels.specs.Rows.{Row}
+use Rattle.labels.specs.Labels.{text_cmp, pair_cmp, value_of}
 use Rattle.labels.specs.Parts.{Part, references_where, carries}
 use Rattle.labels.proofs.Lists.{here, there, Contains-cases, none_in_nil}
+use Rattle.labels.proofs.Texts.{text_self, pair_total, bytes_exact, bytes_self}
+use Rattle.labels.proofs.PartRows.{some_row, row_kept, carried_itself}
 use Rattle.labels.proofs.Times.{true_not_false}
 use Rattle.postings.specs.Values.{AreAscending, AreValuesOf}
 use Rattle.index_reader.specs.Indexes.{values_of}
@@ -32,24 +28,6 @@ pub record AreNamed (part : Part) (pairs : List Pair) : Type 0 where
   pub carried : (name value : List ℕ) → Contains pairs (name, value) → references_where (carries name value) part ≡ [] → ⊥
   pub absent : (name value : List ℕ) → (Contains pairs (name, value) → ⊥) → references_where (carries name value) part ≡ []
 
-abbrev text_cmp : List ℕ → List ℕ → Ordering
-text_cmp a b = slice_cmp nat_cmp a b
-
-text_exact : IsAntisymmetric (slice_cmp nat_cmp)
-text_exact = slice_cmp-IsAntisymmetric nat_cmp-IsAntisymmetric
-
-text_self : (a : List ℕ) → text_cmp a a ≡ Equal
-text_self a = tied_itself nat_list_cmp_total a
-
-bytes_exact : (a b : List ℕ) → bytes_eq a b ≡ true → a ≡ b
-bytes_exact a b e = text_exact a b ((Equal-is (text_cmp a b)).0 (sym (texts_ties a b) ∙ e))
-
-bytes_self : (a : List ℕ) → bytes_eq a a ≡ true
-bytes_self a = texts_ties a a ∙ ap is_eq (text_self a)
-
-pairs_total : IsTotalOrder pair_cmp
-pairs_total = then_total (on_total (λ p. p.0) nat_list_cmp_total) (on_total (λ p. p.1) nat_list_cmp_total)
-
 -- the order of the values
 
 -- of two pairs of one name the smaller has the smaller value
@@ -66,7 +44,7 @@ tail_in_order x xs h k l =
 
 later_each : (x : Pair) (xs : List Pair) → ((y : Pair) → AllByRecursion (λ (z : Pair). pair_cmp y z ≡ Less) xs → pair_cmp x y ≡ Less → AllByRecursion (λ (z : Pair). pair_cmp x z ≡ Less) xs)
 later_each x [] y a e = tt
-later_each x (z ∷ zs) y a e = (pairs_total.trans x y z e a.0, later_each x zs y a.1 e)
+later_each x (z ∷ zs) y a e = (pair_total.trans x y z e a.0, later_each x zs y a.1 e)
 
 less_each : (x : Pair) (xs : List Pair) → AreInOrder (x ∷ xs) → AllByRecursion (λ (y : Pair). pair_cmp x y ≡ Less) xs
 less_each x [] h = tt
@@ -143,31 +121,6 @@ unlisted name value (x ∷ xs) e c = elim (Contains-cases x xs (name, value) c) 
     rest : (b : Bool) → (b || list_any (is_pair name value) xs) ≡ false → list_any (is_pair name value) xs ≡ false
     rest true h = absurd (true_not_false h)
     rest false h = h
-
--- rows that carry a pair
-
-some_row : (test : Labels → Bool) (part : Part) → (references_where test part ≡ [] → ⊥) → (row : ℕ × Row) × (Contains part row × (test row.1.0 ≡ true))
-some_row test [] h = absurd (h refl)
-some_row test (x ∷ xs) h = go (test x.1.0) refl (some_row test xs)
-  where
-    go : (b : Bool) → test x.1.0 ≡ b → ((references_where test xs ≡ [] → ⊥) → (row : ℕ × Row) × (Contains xs row × (test row.1.0 ≡ true))) → (row : ℕ × Row) × (Contains (x ∷ xs) row × (test row.1.0 ≡ true))
-    go true q ih = (x, (here x xs, q))
-    go false q ih =
-        let r = ih (λ e. h (ap (λ b. map (λ (y : ℕ × Row). y.0) (cond b (x ∷ filter (λ (y : ℕ × Row). test y.1.0) xs) (filter (λ (y : ℕ × Row). test y.1.0) xs))) q ∙ e)) in
-        (r.0, (there x r.0 xs r.1.0, r.1.1))
-
-row_kept : (test : Labels → Bool) (part : Part) (row : ℕ × Row) → Contains part row → test row.1.0 ≡ true → references_where test part ≡ [] → ⊥
-row_kept test [] row c t e = none_in_nil row c
-row_kept test (x ∷ xs) row c t e = go (test x.1.0) refl (row_kept test xs row) (Contains-cases x xs row c) e
-  where
-    go : (b : Bool) → test x.1.0 ≡ b → (Contains xs row → test row.1.0 ≡ true → references_where test xs ≡ [] → ⊥) → (x ≡ row) ⊎ Contains xs row
-        → map (λ (y : ℕ × Row). y.0) (cond b (x ∷ filter (λ (y : ℕ × Row). test y.1.0) xs) (filter (λ (y : ℕ × Row). test y.1.0) xs)) ≡ [] → ⊥
-    go true q ih at none = cc
-    go false q ih (inl same) none = true_not_false (sym t ∙ ap (λ (y : ℕ × Row). test y.1.0) (sym same) ∙ q)
-    go false q ih (inr d) none = ih d t none
-
-carried_itself : (v : List ℕ) → bytes_eq v [] ≡ false → (not (bytes_eq v []) && bytes_eq v v) ≡ true
-carried_itself v e = ap (λ b. not b && bytes_eq v v) e ∙ bytes_self v
 
 -- the values of a name among the pairs are those that it has in the part
 pub are_values_of : (part : Part) (pairs : List Pair) (name : List ℕ) → AreNamed part pairs → AreValuesOf part name (values_of name pairs)

@@ -2,7 +2,7 @@
 
 ghost use Rattle.std.specs.Prelude.{◌≡◌, ℕ, ◌<◌, List, [], length, slice_get, Some, None, IfNone, IfSome, IfOk};
 ghost use Rattle.labels.specs.Parts.{IsPart, labels_in, row_at, samples_within};
-ghost use Rattle.block.specs.PartProps.{IsPart-prop};
+ghost use Rattle.labels.proofs.PartProps.{IsPart-prop};
 ghost use Rattle.block.specs.Named.{AreNamed};
 
 use crate::blocks::Block;

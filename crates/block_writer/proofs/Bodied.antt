@@ -18,7 +18,7 @@ use Rattle.std.proofs.lemmas.List.Elements.{All-head, All-tail, Contains-append_
 use Rattle.std.proofs.lemmas.List.Folds.{flat_map-map}
 use Rattle.labels.specs.Contents.{in_range}
 use Rattle.labels.specs.declared.sample.TheConstants.{MIN_TIME, MAX_TIME}
-use Rattle.labels.specs.Labels.{Labels, IsByName, labels_cmp}
+use Rattle.labels.specs.Labels.{text_cmp, Labels, IsByName, labels_cmp}
 use Rattle.labels.specs.LabelSets.{IsLabelSet}
 use Rattle.labels.specs.Names.{is_name}
 use Rattle.labels.specs.Rows.{Row}
@@ -32,13 +32,14 @@ use Rattle.index_reader.specs.Grammar.{entry}
 use Rattle.index_reader.specs.Labelled.{AreLabels}
 use Rattle.index_reader.specs.Spelled.{label_text, IsFirst, IsLater, AreLater, AreChunks, IsBody, AreBodies}
 use Rattle.block.proofs.Turns.{below}
-use Rattle.block_writer.specs.InUse.{text_cmp, texts_in, label_texts, HoldsEachOnce}
+use Rattle.labels.proofs.Texts.{text_total}
+use Rattle.block_writer.specs.InUse.{texts_in, label_texts, HoldsEachOnce}
 use Rattle.block_writer.specs.EntryBodies.{place_among, number_of, numbers_of, chunk_of, chunks_from, chunks_of, apart, first_text, later_text, later_texts, labels_text, places_text, body_of, bodies_of}
 use Rattle.block_writer.specs.PartRows.{has_some, is_series, are_part_rows}
 use Rattle.block_writer.specs.Writing.{pieces, piece_text, series_text, chunks_text}
 use Rattle.block_writer.specs.WrittenAs.{places_from, entries_of}
 use Rattle.block_writer.proofs.Giving.{in_flat}
-use Rattle.block_writer.proofs.Held.{text_total, stands_there}
+use Rattle.block_writer.proofs.Held.{stands_there}
 use Rattle.block_writer.proofs.Parted.{sorted_front, sorted_back, pass_front, pass_back}
 
 -- ---- times

@@ -9,12 +9,13 @@ use Rattle.labels.specs.LabelSets.{IsLabelSet}
 use Rattle.labels.specs.Parts.{carries}
 use Rattle.labels.specs.Rows.{Row}
 use Rattle.index_reader.specs.Indexes.{Series, references_with}
+use Rattle.labels.proofs.Texts.{bytes_exact, bytes_self}
 use Rattle.block_writer.specs.InUse.{pairs_in, HoldsEachOnce}
 use Rattle.block_writer.specs.EntryBodies.{chunks_of}
 use Rattle.block_writer.specs.Writing.{series_text}
 use Rattle.block_writer.specs.WrittenAs.{series_from}
 use Rattle.block_writer.proofs.Held.{Contains-cons}
-use Rattle.block_writer.proofs.Giving.{bytes_exact, bytes_same, hit, hits, hits_is, in_flat}
+use Rattle.block_writer.proofs.Giving.{hit, hits, hits_is, in_flat}
 
 none_held : {X : Type 0} (x : X) → Contains [] x → ⊥
 none_held x h = absurd (omega (arith, h.1))
@@ -22,7 +23,7 @@ none_held x h = absurd (omega (arith, h.1))
 -- ---- a label set carries exactly its own pairs
 
 hit_here : (p : List ℕ × List ℕ) (r : ℕ) → hit p.0 p.1 r p ≡ r ∷ []
-hit_here p r = rw (bytes_same p.0, bytes_same p.1) refl
+hit_here p r = rw (bytes_self p.0, bytes_self p.1) refl
 
 one_hit : (p : List ℕ × List ℕ) (labels : Labels) → Contains labels p → Contains {X = ℕ} (hits p labels 0) 0
 one_hit p labels h = in_flat (hit p.0 p.1 0) labels h.0 p 0 h.1 h.2 (subst (λ xs. Contains xs 0) (sym (hit_here p 0)) (0, omega arith, refl))

@@ -4,27 +4,21 @@ use Rattle.std.specs.Prelude.{if◌then◌else◌, map}
 use Rattle.std.specs.List.{All, Contains, flat_map}
 use Rattle.std.specs.List.Sorted.{IsStrictlySortedBy}
 use Rattle.std.specs.Str.{bytes_eq}
-use Rattle.std.specs.Ordering.{is_eq, nat_cmp}
+use Rattle.std.specs.Ordering.{nat_cmp}
 use Rattle.std.specs.declared.cmp.Ordering.TheVariants.{Less}
-use Rattle.std.specs.Cmp.{Equal-is, tied_itself}
-use Rattle.std.specs.Cmp.Lexicographic.{slice_cmp, texts_ties}
+use Rattle.std.specs.Cmp.{tied_itself}
+use Rattle.std.specs.Cmp.Lexicographic.{slice_cmp}
 use Rattle.std.proofs.lemmas.Bool.{cases_eq}
 use Rattle.std.proofs.lemmas.List.{append-nil, drop_all, get_or-set_same, get_or-set_other}
 use Rattle.std.proofs.lemmas.List.Elements.{All-head, All-tail, Contains-append_left, Contains-append_right}
-use Rattle.labels.specs.Labels.{Labels, pair_cmp, value_of, IsByName}
+use Rattle.labels.specs.Labels.{text_cmp, Labels, pair_cmp, value_of, IsByName}
 use Rattle.labels.specs.LabelSets.{IsLabelSet}
 use Rattle.labels.specs.Parts.{carries}
 use Rattle.labels.specs.Rows.{Row}
-use Rattle.block_writer.specs.InUse.{text_cmp}
+use Rattle.labels.proofs.Texts.{bytes_exact, bytes_self, pair_total, text_total}
 use Rattle.block_writer.specs.EntryBodies.{place_among}
 use Rattle.block_writer.specs.IndexText.{carriers}
-use Rattle.block_writer.proofs.Held.{text_total, text_exact, pair_total, stands_there, place_back}
-
-pub bytes_exact : (a b : List ℕ) → bytes_eq a b ≡ true → a ≡ b
-bytes_exact a b e = text_exact a b ((Equal-is (text_cmp a b)).0 (sym (texts_ties a b) ∙ e))
-
-pub bytes_same : (a : List ℕ) → bytes_eq a a ≡ true
-bytes_same a = texts_ties a a ∙ ap is_eq (tied_itself text_total a)
+use Rattle.block_writer.proofs.Held.{stands_there, place_back}
 
 pub bytes_full : (a : List ℕ) → a ≢ [] → bytes_eq a [] ≡ false
 bytes_full [] full = absurd (full refl)
@@ -39,7 +33,7 @@ abbrev pub hits : List ℕ × List ℕ → Labels → ℕ → List ℕ
 hits p labels r = flat_map (hit p.0 p.1 r) labels
 
 hit_self : (p : List ℕ × List ℕ) (r : ℕ) → hit p.0 p.1 r p ≡ r ∷ []
-hit_self p r = rw (bytes_same p.0, bytes_same p.1) refl
+hit_self p r = rw (bytes_self p.0, bytes_self p.1) refl
 
 hit_other : (p q : List ℕ × List ℕ) (r : ℕ) → (q ≡ p → ⊥) → hit p.0 p.1 r q ≡ []
 hit_other p q r other =

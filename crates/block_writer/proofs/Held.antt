@@ -10,28 +10,15 @@ use Rattle.std.specs.declared.cmp.Ordering.TheVariants.{Less, Equal, Greater}
 use Rattle.std.specs.Ordering.{is_lt, is_eq, nat_cmp, ordering_then, ordering_reverse, eq_by_cmp}
 use Rattle.std.specs.Cmp.{IsTotalOrder, IsEquivalence, Equal-is, eq_by_cmp_equiv, tied_itself}
 use Rattle.std.specs.Cmp.Lexicographic.{slice_cmp, texts_ties}
-use Rattle.std.specs.FinMap.{IsAntisymmetric, slice_cmp-IsAntisymmetric, nat_cmp-IsAntisymmetric}
+use Rattle.std.specs.FinMap.{IsAntisymmetric}
 use Rattle.std.specs.Str.{bytes_eq}
-use Rattle.std.proofs.lemmas.Cmp.{nat_list_cmp_total, on_total, then_total}
-use Rattle.std.proofs.lemmas.Map.Lookups.{exact_pairs}
+use Rattle.std.proofs.lemmas.Cmp.{on_total}
 use Rattle.std.proofs.lemmas.List.Filters.{dedup_is}
 use Rattle.std.proofs.lemmas.List.Kept.{Any-dedup, Contains-from_dedup, IsStrictlySortedBy-dedup}
 use Rattle.std.proofs.lemmas.List.Sorted.{Contains-permutation, IsPermutation-sym}
 use Rattle.labels.specs.Labels.{pair_cmp}
-use Rattle.block_writer.specs.InUse.{text_cmp, HoldsEachOnce}
+use Rattle.block_writer.specs.InUse.{HoldsEachOnce}
 use Rattle.block_writer.specs.EntryBodies.{place_among}
-
-pub text_total : IsTotalOrder text_cmp
-text_total = nat_list_cmp_total
-
-pub text_exact : IsAntisymmetric text_cmp
-text_exact = slice_cmp-IsAntisymmetric nat_cmp-IsAntisymmetric
-
-pub pair_total : IsTotalOrder pair_cmp
-pair_total = then_total (on_total (λ p. p.0) nat_list_cmp_total) (on_total (λ p. p.1) nat_list_cmp_total)
-
-pub pair_exact : IsAntisymmetric pair_cmp
-pair_exact = exact_pairs (slice_cmp nat_cmp) (slice_cmp nat_cmp) text_exact text_exact
 
 -- ---- elements under a function
 

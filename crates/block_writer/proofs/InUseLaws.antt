@@ -6,11 +6,11 @@ use Rattle.std.specs.List.Sorted.{IsStrictlySortedBy}
 use Rattle.std.specs.Str.{IsUtf8}
 use Rattle.std.specs.declared.cmp.Ordering.TheVariants.{Less}
 use Rattle.std.proofs.lemmas.List.Elements.{All-tail}
-use Rattle.labels.specs.Labels.{pair_cmp}
+use Rattle.labels.specs.Labels.{text_cmp, pair_cmp}
 use Rattle.labels.specs.LabelSets.{IsLabelSet}
 use Rattle.labels.specs.Names.{is_name}
 use Rattle.labels.specs.Rows.{Row}
-use Rattle.block_writer.specs.InUse.{text_cmp, label_texts, texts_in, pairs_in, HoldsEachOnce}
+use Rattle.block_writer.specs.InUse.{label_texts, texts_in, pairs_in, HoldsEachOnce}
 use Rattle.block_writer.proofs.Giving.{in_flat}
 use Rattle.block_writer.proofs.Held.{Contains-cons}
 

@@ -11,7 +11,7 @@ use Rattle.wire.proofs.Laws.{uvarint_long}
 use Rattle.index_reader.specs.Reading.{ascending, rounded}
 use Rattle.index_reader.specs.Grammar.{frame, entry, checked, contents_text, IsWalk, IsParts}
 use Rattle.index_reader.specs.Flat.{zero_between, gaps_zero}
-use Rattle.block_writer.specs.InUse.{text_cmp}
+use Rattle.labels.specs.Labels.{text_cmp}
 use Rattle.block_writer.specs.IndexText.{padded, symbols_text, start_text, with_entries, contents_of}
 use Rattle.block_writer.specs.WrittenAs.{places_from}
 use Rattle.block_writer.proofs.Building.{grows, padded_long}

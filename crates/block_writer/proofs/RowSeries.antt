@@ -3,19 +3,19 @@ use Rattle.std.proofs.Common.{◌≡◌, ℕ, zero, suc, ◌+◌, ◌/◌, ◌<�
 use Rattle.std.specs.Prelude.{map, filter, slice_index, if◌then◌else◌}
 use Rattle.std.specs.List.{Contains}
 use Rattle.std.specs.List.Sorted.{IsStrictlySortedBy, IsStrictlyIncreasing}
-use Rattle.labels.specs.Labels.{Labels}
+use Rattle.labels.specs.Labels.{text_cmp, Labels}
 use Rattle.labels.specs.Parts.{carries}
 use Rattle.labels.specs.Rows.{Row}
 use Rattle.index_reader.specs.Reading.{rounded}
 use Rattle.index_reader.specs.Grammar.{entry}
 use Rattle.index_reader.specs.Indexes.{Series, references, references_with, label_sets, named, series_of}
 use Rattle.index_reader.specs.Spelled.{lists_for}
-use Rattle.block_writer.specs.InUse.{text_cmp}
+use Rattle.labels.proofs.Texts.{text_total}
 use Rattle.block_writer.specs.EntryBodies.{numbers_of, number_of, chunks_of, body_of, bodies_of}
 use Rattle.block_writer.specs.IndexText.{carriers, lists_of, references_from, with_entries, padded}
 use Rattle.block_writer.specs.Writing.{series_text}
 use Rattle.block_writer.specs.WrittenAs.{places_from, entries_of, series_from}
-use Rattle.block_writer.proofs.Held.{text_total, stands_there, Contains-cons}
+use Rattle.block_writer.proofs.Held.{stands_there, Contains-cons}
 use Rattle.block_writer.proofs.Building.{grows, padded_long}
 use Rattle.block_writer.proofs.LaidOut.{entry_some}
 

@@ -10,7 +10,7 @@ use Rattle.index_reader.specs.declared.chunk.Chunk.{Chunk}
 use Rattle.index_reader.specs.Bodies.{Label}
 use Rattle.index_reader.specs.Spelled.{label_text}
 use Rattle.chunk_reader.specs.Grammar.{time_at}
-use Rattle.block_writer.specs.InUse.{text_cmp}
+use Rattle.labels.specs.Labels.{text_cmp}
 use Rattle.block_writer.specs.Writing.{pieces, piece_text, series_text}
 
 -- how many of a list are below something: its place among them, where it is one of them and they ascend

@@ -2,15 +2,9 @@
 use Rattle.std.specs.Prelude.{ℕ, List, [], ◌∷◌}
 use Rattle.std.specs.List.{flat_map, Contains}
 use Rattle.std.specs.List.Sorted.{IsStrictlySortedBy}
-use Rattle.std.specs.Ordering.{nat_cmp}
 use Rattle.std.specs.declared.cmp.Ordering.{Ordering}
-use Rattle.std.specs.Cmp.Lexicographic.{slice_cmp}
 use Rattle.labels.specs.Labels.{Labels}
 use Rattle.labels.specs.Rows.{Row}
-
--- texts by their bytes
-abbrev pub text_cmp : List ℕ → List ℕ → Ordering
-text_cmp a b = slice_cmp nat_cmp a b
 
 -- the name and the value of each label
 abbrev pub label_texts : Labels → List (List ℕ)

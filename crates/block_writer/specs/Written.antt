@@ -1,10 +1,10 @@
 -- An index that is written, and files that are too long.
 use Rattle.std.specs.Prelude.{◌≡◌, ℕ, ◌<◌, ◌⊎◌, List, length}
-use Rattle.labels.specs.Labels.{pair_cmp}
+use Rattle.labels.specs.Labels.{text_cmp, pair_cmp}
 use Rattle.labels.specs.Rows.{Row}
 use Rattle.block_writer.specs.declared.error.WriteError.{WriteError}
 use Rattle.block_writer.specs.declared.error.WriteError.TheVariants.{Memory, Limit}
-use Rattle.block_writer.specs.InUse.{text_cmp, texts_in, pairs_in, HoldsEachOnce}
+use Rattle.block_writer.specs.InUse.{texts_in, pairs_in, HoldsEachOnce}
 use Rattle.block_writer.specs.IndexText.{index_text}
 use Rattle.block_writer.specs.Writing.{chunks_text}
 

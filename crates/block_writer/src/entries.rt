@@ -4,7 +4,7 @@ ghost use Rattle.std.specs.Prelude.{◌≡◌, ◌≤◌, ◌++◌, length, IfEr
 ghost use Rattle.std.specs.List.Sorted.{IsStrictlySortedBy};
 ghost use Rattle.index_reader.specs.Grammar.{entry};
 ghost use Rattle.index_reader.specs.Seen.{texts};
-ghost use Rattle.block_writer.specs.InUse.{text_cmp};
+ghost use Rattle.labels.specs.Labels.{text_cmp};
 ghost use Rattle.block_writer.specs.EntryBodies.{bodies_of};
 ghost use Rattle.block_writer.specs.IndexText.{padded, references_from, with_entries};
 ghost use Rattle.block_writer.specs.Writing.{chunks_text};

@@ -2,10 +2,10 @@
 
 ghost use Rattle.std.specs.Prelude.{◌≡◌, ◌≤◌, length, IfOk, IfErr, OnOk};
 ghost use Rattle.std.specs.List.Sorted.{IsStrictlySortedBy};
-ghost use Rattle.labels.specs.Labels.{pair_cmp};
+ghost use Rattle.labels.specs.Labels.{text_cmp, pair_cmp};
 ghost use Rattle.labels.specs.Pairs.{texts_of};
 ghost use Rattle.index_reader.specs.Seen.{texts};
-ghost use Rattle.block_writer.specs.InUse.{text_cmp, pairs_in, HoldsEachOnce};
+ghost use Rattle.block_writer.specs.InUse.{pairs_in, HoldsEachOnce};
 ghost use Rattle.block_writer.specs.IndexText.{index_text, start_text, symbols_text};
 ghost use Rattle.block_writer.specs.Writing.{chunks_text};
 ghost use Rattle.block_writer.specs.Written.{limit, IsReason, IsTooLong, IsWrittenIndex};

@@ -2,10 +2,10 @@
 
 ghost use Rattle.std.specs.Prelude.{◌≡◌, ◌++◌, OnOk, IfOk};
 ghost use Rattle.std.specs.List.Sorted.{IsStrictlySortedBy};
-ghost use Rattle.labels.specs.Labels.{pair_cmp};
+ghost use Rattle.labels.specs.Labels.{text_cmp, pair_cmp};
 ghost use Rattle.labels.specs.Pairs.{texts_of};
 ghost use Rattle.index_reader.specs.Seen.{texts};
-ghost use Rattle.block_writer.specs.InUse.{text_cmp, label_texts, texts_in, pairs_in, HoldsEachOnce};
+ghost use Rattle.block_writer.specs.InUse.{label_texts, texts_in, pairs_in, HoldsEachOnce};
 ghost use Rattle.block_writer.specs.EntryBodies.{number_of};
 
 use labels::{LabelSet, Row};

@@ -12,7 +12,7 @@ use Rattle.std.proofs.lemmas.List.{get_or-map}
 use Rattle.labels.specs.Labels.{pair_cmp}
 use Rattle.labels.proofs.Times.{true_not_false}
 use Rattle.head.specs.Index.{Pair, PairLists}
-use Rattle.head.specs.IndexLaws.{text_cmp}
+use Rattle.labels.specs.Labels.{text_cmp}
 use Rattle.head.specs.Places.{IsNameBoundary, IsRunOf}
 
 -- a smaller pair has a smaller name or the same one

@@ -13,7 +13,7 @@ use Rattle.std.proofs.lemmas.List.{get_or-map, set-get_or, map-set}
 use Rattle.labels.specs.Labels.{pair_cmp}
 use Rattle.labels.proofs.Times.{first_T, second_T}
 use Rattle.head.specs.Index.{Pair, PairLists, listed, listed_more}
-use Rattle.head.specs.IndexLaws.{pair_total, pair_exact}
+use Rattle.labels.proofs.Texts.{pair_total, pair_exact}
 use Rattle.head.specs.Places.{IsAt, IsGapFor}
 
 pub pair_self : (p : Pair) → pair_cmp p p ≡ Equal

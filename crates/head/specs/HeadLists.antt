@@ -1,5 +1,5 @@
 -- The references of a head's rows.
-use Rattle.std.proofs.Common.{◌≡◌, ℕ, zero, suc, ◌+◌, ◌-◌, ◌<◌, ◌≤◌, Bool, true, false, cond, inl, inr, List, [], ◌∷◌, length, map, drop, get_or, Some, refl, sym, ◌∙◌, ap, subst, arith}
+use Rattle.std.proofs.Common.{◌≡◌, ℕ, zero, suc, ◌+◌, ◌-◌, ◌<◌, ◌≤◌, Bool, true, false, cond, List, [], ◌∷◌, length, map, drop, get_or, Some, refl, sym, ◌∙◌, ap, subst, arith}
 use Rattle.std.specs.Prelude.{nat_le, T}
 use Rattle.std.specs.Ordering.{int_cmp}
 use Rattle.std.specs.FinMap.Entries.{is_sorted}
@@ -8,7 +8,8 @@ use Rattle.std.specs.List.Sorted.{IsStrictlyIncreasing}
 use Rattle.labels.specs.Ascending.{first_of, rest_of, not_below}
 use Rattle.labels.specs.Rows.{Row}
 use Rattle.labels.specs.Parts.{Part, references, references_of, IsPart}
-use Rattle.labels.proofs.Lists.{here, there, Contains-cases, none_in_nil, rising-tail, rising-head, rising-cons, filter-all}
+use Rattle.labels.proofs.PartRows.{kept_in}
+use Rattle.labels.proofs.Lists.{here, there, filter-all}
 use Rattle.head.specs.Heads.{HeadSeries, numbered}
 use Rattle.head.specs.Spans.{in_span, span_rises, le_test, lt_test}
 
@@ -22,27 +23,6 @@ references-numbered n (h ∷ hs) = ap (λ rs. n ∷ rs) (references-numbered (n 
 
 pub numbered_rises : (n : ℕ) (hs : List HeadSeries) → IsStrictlyIncreasing (references (numbered n hs))
 numbered_rises n hs = subst IsStrictlyIncreasing (sym (references-numbered n hs)) (span_rises n (length hs))
-
--- what the rows that pass stand at, all rows do
-pub kept_in : (keep : ℕ × Row → Bool) (part : Part) (r : ℕ) → Contains (references_of keep part) r → Contains (references part) r
-kept_in keep [] r c = absurd (none_in_nil r c)
-kept_in keep (row ∷ rows) r c = go (keep row) (kept_in keep rows r) c
-  where
-    go : (b : Bool) → (Contains (references_of keep rows) r → Contains (references rows) r) → Contains (map (λ (x : ℕ × Row). x.0) (cond b (row ∷ filter keep rows) (filter keep rows))) r → Contains (references (row ∷ rows)) r
-    go true ih d = elim (Contains-cases row.0 (references_of keep rows) r d) [
-      | inl e ↦ subst (λ (z : ℕ). Contains (references (row ∷ rows)) z) e (here row.0 (references rows))
-      | inr m ↦ there row.0 r (references rows) (ih m)
-    ]
-    go false ih d = there row.0 r (references rows) (ih d)
-
-pub kept_rises : (keep : ℕ × Row → Bool) (part : Part) → IsStrictlyIncreasing (references part) → IsStrictlyIncreasing (references_of keep part)
-kept_rises keep [] h = h
-kept_rises keep (row ∷ rows) h =
-    let ih : IsStrictlyIncreasing (references_of keep rows) = kept_rises keep rows (rising-tail row.0 (references rows) h) in
-    elim (keep row) as (λ b. IsStrictlyIncreasing (map (λ (x : ℕ × Row). x.0) (cond b (row ∷ filter keep rows) (filter keep rows)))) [
-      | true ↦ rising-cons row.0 (references_of keep rows) (λ s c. rising-head row.0 (references rows) h s (kept_in keep rows s c)) ih
-      | false ↦ ih
-    ]
 
 -- the rows that pass, from a reference on
 pub kept_sought : (keep : ℕ × Row → Bool) (hs : List HeadSeries) (n t k : ℕ) → k ≡ t - n → not_below t (references_of keep (numbered n hs)) ≡ references_of keep (numbered (n + k) (drop k hs))

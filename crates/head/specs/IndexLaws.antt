@@ -5,41 +5,18 @@ use Rattle.std.specs.Str.{bytes_eq}
 use Rattle.std.specs.declared.cmp.Ordering.{Ordering}
 use Rattle.std.specs.declared.cmp.Ordering.TheVariants.{Less, Equal, Greater}
 use Rattle.std.specs.Ordering.{nat_cmp, ordering_then, eq_by_cmp, is_eq, is_lt}
-use Rattle.std.specs.Cmp.{IsTotalOrder, tied_itself, Equal-is, eq_by_cmp_equiv}
+use Rattle.std.specs.Cmp.{Equal-is}
 use Rattle.std.specs.Cmp.Lexicographic.{slice_cmp, texts_ties}
 use Rattle.std.specs.List.{list_all, All}
-use Rattle.std.specs.FinMap.{IsAntisymmetric, slice_cmp-IsAntisymmetric, nat_cmp-IsAntisymmetric}
 use Rattle.std.specs.FinMap.Entries.{find, is_sorted, below_all, find-put, is_sorted-put}
-use Rattle.std.proofs.lemmas.Cmp.{nat_list_cmp_total, on_total, then_total}
-use Rattle.std.proofs.lemmas.Map.Lookups.{exact_pairs}
-use Rattle.labels.specs.Labels.{Labels, pair_cmp, value_of, IsByName}
+use Rattle.std.proofs.lemmas.Cmp.{nat_list_cmp_total}
+use Rattle.labels.specs.Labels.{Labels, text_cmp, pair_cmp, value_of, IsByName}
 use Rattle.labels.specs.LabelSets.{IsLabelSet}
 use Rattle.labels.specs.Rows.{Row}
 use Rattle.labels.specs.Parts.{Part, references_where, carries}
+use Rattle.labels.proofs.Texts.{text_self, pair_total, pair_exact, bytes_exact, bytes_turn}
 use Rattle.labels.proofs.Times.{both_T, first_T, second_T, T_of, not_T, true_not_false}
 use Rattle.head.specs.Index.{Pair, PairLists, listed, listed_more, added, IsIndexOf, IsProper}
-
-abbrev pub text_cmp : List ℕ → List ℕ → Ordering
-text_cmp a b = slice_cmp nat_cmp a b
-
-pub pair_total : IsTotalOrder pair_cmp
-pair_total = then_total (on_total (λ p. p.0) nat_list_cmp_total) (on_total (λ p. p.1) nat_list_cmp_total)
-
-pub text_exact : IsAntisymmetric (slice_cmp nat_cmp)
-text_exact = slice_cmp-IsAntisymmetric nat_cmp-IsAntisymmetric
-
-pub pair_exact : IsAntisymmetric pair_cmp
-pair_exact = exact_pairs (slice_cmp nat_cmp) (slice_cmp nat_cmp) text_exact text_exact
-
-pub text_self : (a : List ℕ) → text_cmp a a ≡ Equal
-text_self a = tied_itself nat_list_cmp_total a
-
--- equal bytes are one text
-pub bytes_exact : (a b : List ℕ) → bytes_eq a b ≡ true → a ≡ b
-bytes_exact a b e = text_exact a b ((Equal-is (text_cmp a b)).0 (sym (texts_ties a b) ∙ e))
-
-pub bytes_turn : (a b : List ℕ) → bytes_eq a b ≡ bytes_eq b a
-bytes_turn a b = texts_ties a b ∙ (eq_by_cmp_equiv nat_list_cmp_total).symm a b ∙ sym (texts_ties b a)
 
 -- whether one of the pairs is this one
 abbrev pub has_pair : Pair → Labels → Bool

@@ -1,5 +1,5 @@
 -- What an index lends for its part.
-use Rattle.std.proofs.Common.{◌≡◌, ℕ, zero, suc, ◌+◌, ◌<◌, Bool, true, false, cond, not, ◌&&◌, ◌⊎◌, inl, inr, List, [], ◌∷◌, length, map, get_or, Option, Some, None, unwrap_or, refl, sym, ◌∙◌, ap, subst, arith}
+use Rattle.std.proofs.Common.{◌≡◌, ℕ, zero, suc, ◌+◌, ◌<◌, Bool, true, false, cond, inl, inr, List, [], ◌∷◌, length, map, get_or, Option, Some, None, unwrap_or, refl, sym, ◌∙◌, ap, subst, arith}
 use Rattle.std.specs.Prelude.{T, filter}
 use Rattle.std.specs.List.{Contains}
 use Rattle.std.specs.List.Sorted.{IsStrictlyIncreasing}
@@ -10,15 +10,15 @@ use Rattle.std.specs.declared.cmp.Ordering.TheVariants.{Less, Equal, Greater}
 use Rattle.std.specs.Cmp.{tied_itself, Equal-is}
 use Rattle.std.specs.Cmp.Lexicographic.{texts_ties}
 use Rattle.std.specs.FinMap.Entries.{find, is_sorted, is_sorted-where_key}
-use Rattle.labels.specs.Labels.{Labels, pair_cmp, value_of}
+use Rattle.labels.specs.Labels.{text_cmp, pair_cmp, value_of}
 use Rattle.labels.specs.Rows.{Row}
 use Rattle.labels.specs.Parts.{Part, references_where, carries, IsPart}
 use Rattle.labels.proofs.Lists.{here, there, Contains-cases, none_in_nil}
-use Rattle.labels.proofs.Times.{first_T, second_T, true_not_false}
+use Rattle.labels.proofs.Texts.{text_self, pair_total, pair_exact, bytes_exact}
+use Rattle.labels.proofs.PartRows.{kept_rises, some_row, row_kept, carried_itself}
+use Rattle.labels.proofs.Times.{first_T, second_T}
 use Rattle.postings.specs.Values.{AreAscending, AreValuesOf}
 use Rattle.head.specs.Index.{Pair, PairLists, values_under, IsIndexOf}
-use Rattle.head.specs.IndexLaws.{text_cmp, text_self, bytes_exact, pair_total, pair_exact}
-use Rattle.head.specs.HeadLists.{kept_rises}
 
 module _ (lists : PairLists) (part : Part) (h : IsIndexOf lists part) where
   -- what is listed at a pair is what the part has of it
@@ -113,30 +113,6 @@ value_under name value (x ∷ xs) h = go (eq_by_cmp pair_cmp (name, value) x.0) 
         subst (λ (b : Bool). Contains (map (λ (y : Pair × List ℕ). y.0.1) (cond b (x ∷ filter (λ (y : Pair × List ℕ). bytes_eq y.0.0 name) xs) (filter (λ (y : Pair × List ℕ). bytes_eq y.0.0 name) xs))) value) (sym here_name)
         (subst (λ (v : List ℕ). Contains (v ∷ values_under name xs) value) (ap (λ (p : Pair). p.1) same) (here value (values_under name xs)))
     go false q ih = more (bytes_eq x.0.0 name) (ih (λ e. h (ap (λ b. cond b (Some x.1) (find pair_cmp (name, value) xs)) q ∙ e)))
-
--- a part that lists a reference has a row for it
-some_row : (test : Labels → Bool) (part : Part) → (references_where test part ≡ [] → ⊥) → (row : ℕ × Row) × (Contains part row × (test row.1.0 ≡ true))
-some_row test [] h = absurd (h refl)
-some_row test (x ∷ xs) h = go (test x.1.0) refl (some_row test xs)
-  where
-    go : (b : Bool) → test x.1.0 ≡ b → ((references_where test xs ≡ [] → ⊥) → (row : ℕ × Row) × (Contains xs row × (test row.1.0 ≡ true))) → (row : ℕ × Row) × (Contains (x ∷ xs) row × (test row.1.0 ≡ true))
-    go true q ih = (x, (here x xs, q))
-    go false q ih =
-        let r = ih (λ e. h (ap (λ b. map (λ (y : ℕ × Row). y.0) (cond b (x ∷ filter (λ (y : ℕ × Row). test y.1.0) xs) (filter (λ (y : ℕ × Row). test y.1.0) xs))) q ∙ e)) in
-        (r.0, (there x r.0 xs r.1.0, r.1.1))
-
-row_kept : (test : Labels → Bool) (part : Part) (row : ℕ × Row) → Contains part row → test row.1.0 ≡ true → references_where test part ≡ [] → ⊥
-row_kept test [] row c t e = none_in_nil row c
-row_kept test (x ∷ xs) row c t e = go (test x.1.0) refl (row_kept test xs row) (Contains-cases x xs row c) e
-  where
-    go : (b : Bool) → test x.1.0 ≡ b → (Contains xs row → test row.1.0 ≡ true → references_where test xs ≡ [] → ⊥) → (x ≡ row) ⊎ Contains xs row
-        → map (λ (y : ℕ × Row). y.0) (cond b (x ∷ filter (λ (y : ℕ × Row). test y.1.0) xs) (filter (λ (y : ℕ × Row). test y.1.0) xs)) ≡ [] → ⊥
-    go true q ih at none = cc
-    go false q ih (inl same) none = true_not_false (sym t ∙ ap (λ (y : ℕ × Row). test y.1.0) (sym same) ∙ q)
-    go false q ih (inr d) none = ih d t none
-
-carried_itself : (v : List ℕ) → bytes_eq v [] ≡ false → (not (bytes_eq v []) && bytes_eq v v) ≡ true
-carried_itself v e = ap (λ b. not b && bytes_eq v v) e ∙ texts_ties v v ∙ ap is_eq (text_self v)
 
 -- the values that are listed under a name are those that it has in the part
 pub are_values_under : (lists : PairLists) (part : Part) (name : List ℕ) → IsIndexOf lists part → AreValuesOf part name (values_under name lists)

@@ -6,7 +6,6 @@ pub mod Heads
 pub mod Chunks
 pub mod Orders
 pub mod Slots
-pub mod PartProps
 pub mod Shown
 pub mod Kinds
 pub mod Index

@@ -7,7 +7,7 @@ ghost use Rattle.head.specs.declared.TheConstants.{MAX_SERIES};
 ghost use Rattle.head.specs.Heads.{head_part};
 ghost use Rattle.head.specs.Index.{IsIndexOf};
 ghost use Rattle.head.specs.Orders.{sets_of, Extends, IsOrder, IsOrder-prop};
-ghost use Rattle.head.specs.PartProps.{IsPart-prop};
+ghost use Rattle.labels.proofs.PartProps.{IsPart-prop};
 
 use crate::MAX_SERIES;
 use crate::draft::Slot;

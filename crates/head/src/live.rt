@@ -6,7 +6,7 @@ ghost use Rattle.labels.specs.Ascending.{first_of, rest_of, not_below};
 ghost use Rattle.labels.specs.Parts.{references, live_references, IsPart};
 ghost use Rattle.head.specs.Heads.{head_part};
 ghost use Rattle.head.specs.HeadLists.{rows_from};
-ghost use Rattle.head.specs.PartProps.{IsPart-prop};
+ghost use Rattle.labels.proofs.PartProps.{IsPart-prop};
 
 use crate::series::Series;
 use labels::SeriesRef;
@@ -60,7 +60,8 @@ impl<'a> Postings for LiveList<'a> {
     ghost use Rattle.std.specs.Arc.{arc_value};
     ghost use Rattle.labels.specs.Parts.{live_references, has_sample};
     ghost use Rattle.labels.proofs.Lists.{not_below-twice};
-    ghost use Rattle.head.specs.HeadLists.{rows_from, kept_rises, rows_rise};
+    ghost use Rattle.labels.proofs.PartRows.{kept_rises};
+    ghost use Rattle.head.specs.HeadLists.{rows_from, rows_rise};
 
     ghost remaining = { λ live. live_references live.from live.to (rows_from live.place (map (λ s. arc_value s) live.series.now)) };
 

@@ -9,9 +9,10 @@ use Rattle.std.specs.Cmp.{tied_itself}
 use Rattle.std.proofs.lemmas.Bool.{lt-ltb}
 use Rattle.std.proofs.lemmas.Cmp.{nat_list_cmp_total}
 use Rattle.std.proofs.lemmas.List.{length-map, get_or-map}
-use Rattle.labels.specs.Labels.{pair_cmp}
+use Rattle.labels.specs.Labels.{text_cmp, pair_cmp}
 use Rattle.labels.specs.Parts.{carries}
 use Rattle.labels.proofs.Lists.{here, there}
+use Rattle.labels.proofs.Texts.{bytes_exact, bytes_self}
 use Rattle.index_reader.specs.Reading.{Place, ascending}
 use Rattle.index_reader.specs.Bodies.{Label, Body}
 use Rattle.index_reader.specs.Table.{Listed}
@@ -19,7 +20,7 @@ use Rattle.index_reader.specs.Each.{each, rises}
 use Rattle.index_reader.specs.Words.{words, refs_of}
 use Rattle.index_reader.specs.Labelled.{AreLabels}
 use Rattle.index_reader.specs.Agree.{Carried, refs_with, Agree}
-use Rattle.index_reader.specs.Finding.{symbol_of, key_before, place_of, text_cmp}
+use Rattle.index_reader.specs.Finding.{symbol_of, key_before, place_of}
 use Rattle.index_reader.specs.Agreement.{key_at, keys_at, place_at, placed_at, each_all, Tied, tied, are_used, agreed_at}
 use Rattle.index_reader.specs.Agreement as agreement
 use Rattle.index_reader.specs.Opening as opening
@@ -30,7 +31,7 @@ use Rattle.index_reader.proofs.Orders.{pairs_cmp}
 use Rattle.index_reader.proofs.Naming.{first_below}
 use Rattle.index_reader.proofs.Draining.{drained_again}
 use Rattle.index_reader.proofs.Placing.{placed_inside}
-use Rattle.index_reader.proofs.Texts.{stands_at, bytes_exact, bytes_same, bytes_other, bytes_full, carries_none, carries_same, carries_other, place_is}
+use Rattle.index_reader.proofs.Texts.{stands_at, bytes_other, bytes_full, carries_none, carries_same, carries_other, place_is}
 use Rattle.index_reader.proofs.Spans.{same_symbol}
 use Rattle.index_reader.proofs.Listing.{of_all, of_pair}
 use Rattle.index_reader.proofs.Facts.{IsInside, in_named}
@@ -156,7 +157,7 @@ own_label symbols low [] k order h lt = absurd (omega arith)
 own_label symbols low (l ∷ ls) zero order h lt =
     let n = get_or symbols l.0 [] in
     let v = get_or symbols l.1 [] in
-    carries_same n v n v (named symbols ls) (bytes_same n) ∙ rw (bytes_full v h.0.value, bytes_same v) refl
+    carries_same n v n v (named symbols ls) (bytes_self n) ∙ rw (bytes_full v h.0.value, bytes_self v) refl
 own_label symbols low (l ∷ ls) (suc k) order h lt =
     let inside : k < length ls = omega arith in
     let o = first_below symbols (l.0 + 1) ls k (0, 0) h.1 inside in

@@ -13,8 +13,9 @@ use Rattle.byteorder.specs.Endian.{big_bytes}
 use Rattle.wire.specs.Spelling.{uvarint}
 use Rattle.wire.specs.Checksum.{crc32c}
 use Rattle.wire.proofs.Laws.{uvarint_long}
-use Rattle.labels.specs.Labels.{labels_cmp, pair_cmp}
+use Rattle.labels.specs.Labels.{text_cmp, labels_cmp, pair_cmp}
 use Rattle.labels.proofs.Lists.{here, there, Contains-cases, none_in_nil}
+use Rattle.labels.proofs.Texts.{bytes_exact, bytes_self}
 use Rattle.index_reader.specs.declared.contents.Contents.{Contents}
 use Rattle.index_reader.specs.declared.error.IndexError.{IndexError}
 use Rattle.index_reader.specs.declared.error.IndexError.TheVariants.{Series, SeriesOrder, Limit, PostingsDisagree}
@@ -26,7 +27,7 @@ use Rattle.index_reader.specs.Words.{refs_of, IsList}
 use Rattle.index_reader.specs.Each.{each, rises}
 use Rattle.index_reader.specs.Flat.{body_of_place, is_before, gaps_zero}
 use Rattle.index_reader.specs.Agree.{Carried, drained}
-use Rattle.index_reader.specs.Finding.{symbol_of, key_before, text_cmp}
+use Rattle.index_reader.specs.Finding.{symbol_of, key_before}
 use Rattle.index_reader.specs.Agreement.{Tied, or_disagree, key_at, keys_at, placed_at, each_all, tied, are_used, agreed_at}
 use Rattle.index_reader.specs.Agreement as agreement
 use Rattle.index_reader.specs.Opening.{label_sets, bodies_of, postings_end, postings_of, is_small, Read, read_of, IsRead}
@@ -44,7 +45,7 @@ use Rattle.index_reader.specs.Labelled.{AreLabels}
 use Rattle.index_reader.proofs.Naming.{first_below, bodies_take, is_label_set}
 use Rattle.index_reader.proofs.Draining.{drained_takes}
 use Rattle.index_reader.proofs.Placing.{placed_inside}
-use Rattle.index_reader.proofs.Texts.{found_is, each_cons, each_nil, bytes_exact, bytes_same}
+use Rattle.index_reader.proofs.Texts.{found_is, each_cons, each_nil}
 use Rattle.index_reader.proofs.Listing.{of_all, of_pair, of_none}
 
 both : (p q : Bool) → (p && q) ≡ true → (p ≡ true) × (q ≡ true)
@@ -329,8 +330,8 @@ same_pair x p = go (bytes_eq x.0 p.0) refl (bytes_eq x.1 p.1) refl
         let n = bytes_exact x.0 p.0 e in
         let v = bytes_exact x.1 p.1 f in
         inl (λ i. (n i, v i))
-    go false e b f = inr (λ (s : x ≡ p). let t : true ≡ false = sym (bytes_same x.0) ∙ ap (λ (q : List ℕ × List ℕ). bytes_eq x.0 q.0) s ∙ e in absurd cc)
-    go true e false f = inr (λ (s : x ≡ p). let t : true ≡ false = sym (bytes_same x.1) ∙ ap (λ (q : List ℕ × List ℕ). bytes_eq x.1 q.1) s ∙ f in absurd cc)
+    go false e b f = inr (λ (s : x ≡ p). let t : true ≡ false = sym (bytes_self x.0) ∙ ap (λ (q : List ℕ × List ℕ). bytes_eq x.0 q.0) s ∙ e in absurd cc)
+    go true e false f = inr (λ (s : x ≡ p). let t : true ≡ false = sym (bytes_self x.1) ∙ ap (λ (q : List ℕ × List ℕ). bytes_eq x.1 q.1) s ∙ f in absurd cc)
 
 named_or_not : (symbols : List (List ℕ)) (keys : List Label) (p : List ℕ × List ℕ) → Contains (named symbols keys) p ⊎ ((k : ℕ) → k < length keys → text_of symbols (get_or keys k (0, 0)) ≡ p → ⊥)
 named_or_not symbols [] p = inr (λ k lt e. absurd (omega arith))

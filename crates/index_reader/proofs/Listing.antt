@@ -4,6 +4,7 @@ use Rattle.std.specs.Prelude.{filter}
 use Rattle.std.specs.Str.{bytes_eq}
 use Rattle.std.proofs.lemmas.Bool.{cases_eq}
 use Rattle.labels.specs.Parts.{carries}
+use Rattle.labels.proofs.Texts.{bytes_exact, bytes_self}
 use Rattle.index_reader.specs.Reading.{Place, ascending}
 use Rattle.index_reader.specs.Bodies.{Label, Body}
 use Rattle.index_reader.specs.Each.{each, rises}
@@ -17,7 +18,7 @@ use Rattle.index_reader.proofs.WalkLoops.{bind_ok}
 use Rattle.index_reader.proofs.Walks.{ok_is}
 use Rattle.index_reader.specs.Labelled.{AreLabels}
 use Rattle.index_reader.proofs.Draining.{with_same, with_other}
-use Rattle.index_reader.proofs.Texts.{bytes_exact, bytes_same, bytes_other, bytes_full, carries_none, carries_same, carries_other, and_false, place_found, place_is, placed_is, each_cons, each_nil}
+use Rattle.index_reader.proofs.Texts.{bytes_other, bytes_full, carries_none, carries_same, carries_other, and_false, place_found, place_is, placed_is, each_cons, each_nil}
 
 -- this reference, where the test holds
 abbrev pub if_so : Bool → ℕ → List ℕ
@@ -80,13 +81,13 @@ module _ (symbols : List (List ℕ)) (keys : List Label) (k : ℕ) (t : Label) (
       let shown = ap (refs_with (k + 1)) (sym x.4) in
       let whole : refs_with (k + 1) (x.0 ∷ x.1) ≡ if_so (carries n v (named symbols (l ∷ ls))) r = elim (cases_eq l.0 t.0) [
         | inl same ↦
-            let named_so : bytes_eq (get_or symbols l.0 []) n ≡ true = ap (λ (j : ℕ). bytes_eq (get_or symbols l.0 []) (get_or symbols j [])) (sym same) ∙ bytes_same (get_or symbols l.0 []) in
+            let named_so : bytes_eq (get_or symbols l.0 []) n ≡ true = ap (λ (j : ℕ). bytes_eq (get_or symbols l.0 []) (get_or symbols j [])) (sym same) ∙ bytes_self (get_or symbols l.0 []) in
             let others : refs_with (k + 1) x.1 ≡ [] = behind symbols keys k r (l.0 + 1) ls x.1 h.1 (omega (arith, same, ap (λ (y : Label). y.0) at)) x.3 in
             let carry = carries_same n v (get_or symbols l.0 []) (get_or symbols l.1 []) rest named_so in
             elim (cases_eq l.1 t.1) [
               | inl alike ↦
                   let is : l ≡ t = λ i. (same i, alike i) in
-                  let valued : bytes_eq (get_or symbols l.1 []) v ≡ true = ap (λ (j : ℕ). bytes_eq (get_or symbols l.1 []) (get_or symbols j [])) (sym alike) ∙ bytes_same (get_or symbols l.1 []) in
+                  let valued : bytes_eq (get_or symbols l.1 []) v ≡ true = ap (λ (j : ℕ). bytes_eq (get_or symbols l.1 []) (get_or symbols j [])) (sym alike) ∙ bytes_self (get_or symbols l.1 []) in
                   let full : bytes_eq v [] ≡ false = bytes_full v (subst (λ (j : ℕ). 0 < length (get_or symbols j [])) alike o.value) in
                   let so : carries n v ((get_or symbols l.0 [], get_or symbols l.1 []) ∷ rest) ≡ true = carry ∙ rw (full, valued) refl in
                   let place : x.0.0 ≡ k + 1 = p.2 ∙ ap (λ (j : ℕ). j + 1) (here l p.0 p.1 is) in

@@ -7,9 +7,10 @@ use Rattle.std.specs.declared.cmp.Ordering.TheVariants.{Less, Equal, Greater}
 use Rattle.std.specs.Cmp.{IsTotalOrder}
 use Rattle.std.proofs.lemmas.Bool.{cases_lt}
 use Rattle.std.proofs.lemmas.Cmp.{alike_right, nat_cmp_total, on_total, then_total}
+use Rattle.labels.specs.Labels.{text_cmp}
 use Rattle.index_reader.specs.Each.{rises}
 use Rattle.index_reader.specs.Bodies.{Label}
-use Rattle.index_reader.specs.Finding.{index_of, key_cmp, text_cmp}
+use Rattle.index_reader.specs.Finding.{index_of, key_cmp}
 use Rattle.index_reader.specs.Reading.{ascending, is_less}
 
 pub keys_total : IsTotalOrder key_cmp

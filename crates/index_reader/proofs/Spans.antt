@@ -7,16 +7,18 @@ use Rattle.std.specs.declared.cmp.Ordering.TheVariants.{Less, Greater}
 use Rattle.std.specs.Cmp.Lexicographic.{texts_ties}
 use Rattle.std.proofs.lemmas.Bool.{cases_lt, cases_eq}
 use Rattle.std.proofs.lemmas.List.{length-map, length-take, length-drop, get_or-take, get_or-drop}
+use Rattle.labels.specs.Labels.{text_cmp}
+use Rattle.labels.proofs.Texts.{bytes_exact, bytes_self}
 use Rattle.index_reader.specs.Reading.{ascending}
 use Rattle.index_reader.specs.Bodies.{Label}
 use Rattle.index_reader.specs.Each.{rises}
-use Rattle.index_reader.specs.Finding.{next, index_of, text_cmp, key_cmp, key_before, symbol_of, place_of}
+use Rattle.index_reader.specs.Finding.{next, index_of, key_cmp, key_before, symbol_of, place_of}
 use Rattle.index_reader.specs.Indexes.{text_of, named, values_of}
 use Rattle.index_reader.specs.Kept.{AreInTable}
 use Rattle.index_reader.proofs.Orders.{number_greater}
 use Rattle.index_reader.proofs.Searching.{keys_total, strict_from_rises}
 use Rattle.index_reader.proofs.Placing.{mapped_at}
-use Rattle.index_reader.proofs.Texts.{got, stands_at, bytes_exact, bytes_same, bytes_other, found_is, place_found, place_is}
+use Rattle.index_reader.proofs.Texts.{got, stands_at, bytes_other, found_is, place_found, place_is}
 
 true_or_false : (b : Bool) → b ≡ true → b ≡ false → ⊥
 true_or_false b t f = let e : true ≡ false = sym t ∙ f in absurd cc
@@ -46,13 +48,13 @@ symbol_none : (symbols : List (List ℕ)) (text : List ℕ) (n : ℕ) → symbol
 symbol_none symbols text n h lt = texts_ties (get_or symbols n []) text ∙ none_is (λ s. is_eq (text_cmp s text)) symbols h n [] lt
 
 no_symbol : (symbols : List (List ℕ)) (text : List ℕ) (n : ℕ) → symbol_of symbols text ≡ None → n < length symbols → get_or symbols n [] ≡ text → ⊥
-no_symbol symbols text n h lt e = true_or_false (bytes_eq (get_or symbols n []) text) (ap (bytes_eq (get_or symbols n [])) (sym e) ∙ bytes_same (get_or symbols n [])) (symbol_none symbols text n h lt)
+no_symbol symbols text n h lt e = true_or_false (bytes_eq (get_or symbols n []) text) (ap (bytes_eq (get_or symbols n [])) (sym e) ∙ bytes_self (get_or symbols n [])) (symbol_none symbols text n h lt)
 
 pub same_symbol : (symbols : List (List ℕ)) (i j : ℕ) → ascending symbols ≡ true → i < length symbols → j < length symbols → get_or symbols i [] ≡ get_or symbols j [] → i ≡ j
 same_symbol symbols i j order a b e =
     elim (cases_eq i j) [
       | inl s ↦ s
-      | inr n ↦ absurd (true_or_false (bytes_eq (get_or symbols i []) (get_or symbols j [])) (ap (bytes_eq (get_or symbols i [])) (sym e) ∙ bytes_same (get_or symbols i [])) (bytes_other symbols i j order a b (λ s. n s)))
+      | inr n ↦ absurd (true_or_false (bytes_eq (get_or symbols i []) (get_or symbols j [])) (ap (bytes_eq (get_or symbols i [])) (sym e) ∙ bytes_self (get_or symbols i [])) (bytes_other symbols i j order a b (λ s. n s)))
     ]
 
 -- ---- the pair of a name and a value
@@ -177,7 +179,7 @@ values_between symbols name keys n a b order inside h a_in b_in below above belo
           (λ k lt. other k (omega (arith, lt, a_in)) (λ (e : (get_or keys k (0, 0)).0 ≡ n). omega (arith, e, below k lt)))
           (λ k l lt.
           let e : (get_or keys k (0, 0)).0 ≡ n = omega (arith, above k l (omega (arith, lt, b_in)), below' k lt) in
-          ap (λ (j : ℕ). bytes_eq (get_or symbols j []) name) e ∙ ap (λ (t : List ℕ). bytes_eq t name) s.1 ∙ bytes_same name)
+          ap (λ (j : ℕ). bytes_eq (get_or symbols j []) name) e ∙ ap (λ (t : List ℕ). bytes_eq t name) s.1 ∙ bytes_self name)
           (λ k l lt. other k lt (λ (e : (get_or keys k (0, 0)).0 ≡ n). omega (arith, e, above' k l lt))),
     )
   where

@@ -4,10 +4,9 @@ use Rattle.std.specs.Prelude.{slice_get}
 use Rattle.std.specs.Str.{bytes_eq}
 use Rattle.std.specs.Ordering.{nat_cmp, is_eq}
 use Rattle.std.specs.Cmp.{tied_itself, Equal-is}
-use Rattle.std.specs.Cmp.Lexicographic.{slice_cmp, texts_ties}
-use Rattle.std.specs.FinMap.{IsAntisymmetric, slice_cmp-IsAntisymmetric, nat_cmp-IsAntisymmetric}
+use Rattle.std.specs.Cmp.Lexicographic.{texts_ties}
+use Rattle.std.specs.FinMap.{IsAntisymmetric, nat_cmp-IsAntisymmetric}
 use Rattle.std.proofs.lemmas.Bool.{cases_lt, cases_eq}
-use Rattle.std.proofs.lemmas.Cmp.{nat_list_cmp_total}
 use Rattle.std.proofs.lemmas.Map.Lookups.{exact_pairs}
 use Rattle.labels.specs.Parts.{carries}
 use Rattle.index_reader.specs.declared.error.IndexError.{IndexError}
@@ -17,7 +16,7 @@ use Rattle.index_reader.specs.Each.{each, rises}
 use Rattle.index_reader.specs.Agree.{Carried}
 use Rattle.index_reader.specs.Finding.{next, index_of, key_cmp, key_before, place_of}
 use Rattle.index_reader.specs.Agreement.{or_disagree, place_at}
-use Rattle.index_reader.proofs.Orders.{text_cmp, symbols_cmp, number_less, number_greater}
+use Rattle.index_reader.proofs.Orders.{symbols_cmp, number_less, number_greater}
 use Rattle.index_reader.proofs.Searching.{keys_total, strict_from_rises, search_found}
 use Rattle.index_reader.proofs.WalkLoops.{bind_ok}
 use Rattle.index_reader.proofs.Walks.{ok_is}
@@ -33,15 +32,6 @@ stands_at (y ∷ xs) zero d lt = refl
 stands_at (y ∷ xs) (suc i) d lt = stands_at xs i d (omega arith)
 
 -- ---- equal bytes
-
-text_exact : IsAntisymmetric (slice_cmp nat_cmp)
-text_exact = slice_cmp-IsAntisymmetric nat_cmp-IsAntisymmetric
-
-pub bytes_exact : (a b : List ℕ) → bytes_eq a b ≡ true → a ≡ b
-bytes_exact a b e = text_exact a b ((Equal-is (text_cmp a b)).0 (sym (texts_ties a b) ∙ e))
-
-pub bytes_same : (a : List ℕ) → bytes_eq a a ≡ true
-bytes_same a = texts_ties a a ∙ ap is_eq (tied_itself nat_list_cmp_total a)
 
 pub bytes_other : (symbols : List (List ℕ)) (i j : ℕ) → ascending symbols ≡ true → i < length symbols → j < length symbols → (i ≡ j → ⊥) → bytes_eq (get_or symbols i []) (get_or symbols j []) ≡ false
 bytes_other symbols i j order a b other =

@@ -1,8 +1,8 @@
 -- Where something stands in a list.
 use Rattle.std.specs.Prelude.{ℕ, suc, Bool, List, [], ◌∷◌, Option, Some, None, if◌then◌else◌}
 use Rattle.std.specs.Ordering.{nat_cmp, ordering_then, is_eq, is_lt}
-use Rattle.std.specs.Cmp.Lexicographic.{slice_cmp}
 use Rattle.std.specs.declared.cmp.Ordering.{Ordering}
+use Rattle.labels.specs.Labels.{text_cmp}
 use Rattle.index_reader.specs.Bodies.{Label}
 
 -- one place further
@@ -14,10 +14,6 @@ next None = None
 unfoldable pub index_of : {X : Type 0} → (X → Bool) → List X → Option ℕ
 index_of test [] = None
 index_of test (x ∷ xs) = if test x then Some 0 else next (index_of test xs)
-
--- texts by their bytes
-abbrev pub text_cmp : List ℕ → List ℕ → Ordering
-text_cmp a b = slice_cmp nat_cmp a b
 
 -- a name and a value by their symbols
 abbrev pub key_cmp : Label → Label → Ordering

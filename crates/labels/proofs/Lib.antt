@@ -12,5 +12,8 @@ pub mod Restricting
 pub mod Permutations
 pub mod Values
 pub mod NamedPairs
+pub mod PartProps
+pub mod PartRows
+pub mod Texts
 pub mod Refusals
 pub mod SortedRows

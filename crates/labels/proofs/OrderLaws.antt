@@ -1,25 +1,22 @@
 -- The order of label sets and of points.
 use Rattle.std.specs.Prelude.{◌≡◌, true}
-use Rattle.std.specs.Ordering.{nat_cmp, int_cmp, is_eq}
+use Rattle.std.specs.Ordering.{int_cmp, is_eq}
 use Rattle.std.specs.Cmp.{IsTotalOrder}
-use Rattle.std.specs.Cmp.Lexicographic.{slice_cmp}
-use Rattle.std.specs.FinMap.{IsAntisymmetric, slice_cmp-IsAntisymmetric, nat_cmp-IsAntisymmetric, int_cmp-IsAntisymmetric}
+use Rattle.std.specs.FinMap.{IsAntisymmetric, slice_cmp-IsAntisymmetric, int_cmp-IsAntisymmetric}
 use Rattle.std.proofs.lemmas.Map.Lookups.{exact_pairs}
 use Rattle.std.proofs.lemmas.Cmp.{then_total, on_total, int_cmp_total}
 use Rattle.std.specs.Cmp.{tied_itself, eq_by_cmp_equiv}
 use Rattle.std.proofs.Common.{ap}
 use Rattle.labels.specs.Labels.{Labels, labels_cmp, point_cmp, same_labels}
 use Rattle.labels.specs.Laws.{labels_total}
+use Rattle.labels.proofs.Texts.{pair_exact}
 
 pub point_total : IsTotalOrder point_cmp
 point_total = then_total (on_total (λ p. p.0) labels_total) (on_total (λ p. p.1) int_cmp_total)
 
-text_exact : IsAntisymmetric (slice_cmp nat_cmp)
-text_exact = slice_cmp-IsAntisymmetric nat_cmp-IsAntisymmetric
-
 pub labels_exact : IsAntisymmetric labels_cmp
 unfolding labels_cmp
-labels_exact = slice_cmp-IsAntisymmetric (exact_pairs (slice_cmp nat_cmp) (slice_cmp nat_cmp) text_exact text_exact)
+labels_exact = slice_cmp-IsAntisymmetric pair_exact
 
 pub point_exact : IsAntisymmetric point_cmp
 point_exact = exact_pairs labels_cmp int_cmp labels_exact int_cmp-IsAntisymmetric

@@ -15,9 +15,13 @@ abbrev pub value_of : Labels → List ℕ → List ℕ
 value_of [] name = []
 value_of (pair ∷ pairs) name = if bytes_eq pair.0 name then pair.1 else value_of pairs name
 
--- by name, and then by value, both by bytes
+-- texts by their bytes; a beginning is smaller
+abbrev pub text_cmp : List ℕ → List ℕ → Ordering
+text_cmp a b = slice_cmp nat_cmp a b
+
+-- by name, and then by value
 abbrev pub pair_cmp : List ℕ × List ℕ → List ℕ × List ℕ → Ordering
-pair_cmp x y = ordering_then (slice_cmp nat_cmp x.0 y.0) (slice_cmp nat_cmp x.1 y.1)
+pair_cmp x y = ordering_then (text_cmp x.0 y.0) (text_cmp x.1 y.1)
 
 -- pair by pair; a beginning is smaller
 unfoldable pub labels_cmp : Labels → Labels → Ordering
@@ -37,4 +41,4 @@ point_cmp p q = ordering_then (labels_cmp p.0 q.0) (int_cmp p.1 q.1)
 
 -- names come strictly in the order of their bytes
 abbrev pub IsByName : Labels → Type 0
-IsByName ps = (k : ℕ) (d : List ℕ × List ℕ) → k + 1 < length ps → slice_cmp nat_cmp (get_or ps k d).0 (get_or ps (k + 1) d).0 ≡ Less
+IsByName ps = (k : ℕ) (d : List ℕ × List ℕ) → k + 1 < length ps → text_cmp (get_or ps k d).0 (get_or ps (k + 1) d).0 ≡ Less

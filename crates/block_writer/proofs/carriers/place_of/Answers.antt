@@ -2,7 +2,8 @@ use Rattle.std.proofs.Common.{rules}
 use Rattle.std.specs.Ordering.{is_lt}
 use Rattle.std.proofs.lemmas.List.Sorted.{IsPartitionPoint-from_clause}
 use Rattle.labels.specs.Labels.{pair_cmp}
-use Rattle.block_writer.proofs.Held.{parted, place_is, pair_total}
+use Rattle.labels.proofs.Texts.{pair_total}
+use Rattle.block_writer.proofs.Held.{parted, place_is}
 use Rattle.block_writer.proofs.carriers.place_of.Goals as goal
 
 pub returns : goal.returns

@@ -4,7 +4,8 @@ use Rattle.std.specs.List.{Contains}
 use Rattle.std.proofs.lemmas.List.{length-map}
 use Rattle.labels.specs.Pairs.{texts_of}
 use Rattle.labels.specs.Labels.{pair_cmp}
-use Rattle.block_writer.proofs.Held.{pair_total, stands_there}
+use Rattle.labels.proofs.Texts.{pair_total}
+use Rattle.block_writer.proofs.Held.{stands_there}
 use Rattle.block_writer.proofs.Walking.{drop_at, flat_on, flat_done, held_at}
 use Rattle.block_writer.proofs.Giving.{hit, hits_is, added}
 use Rattle.block_writer.proofs.carriers.put_row.Goals as goal

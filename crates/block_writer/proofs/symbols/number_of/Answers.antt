@@ -1,8 +1,9 @@
 use Rattle.std.proofs.Common.{rules}
 use Rattle.std.specs.Ordering.{is_lt}
 use Rattle.std.proofs.lemmas.List.Sorted.{IsPartitionPoint-from_clause}
-use Rattle.block_writer.specs.InUse.{text_cmp}
-use Rattle.block_writer.proofs.Held.{parted, place_is, text_total}
+use Rattle.labels.specs.Labels.{text_cmp}
+use Rattle.labels.proofs.Texts.{text_total}
+use Rattle.block_writer.proofs.Held.{parted, place_is}
 use Rattle.block_writer.proofs.symbols.number_of.Goals as goal
 
 pub returns : goal.returns

@@ -1,7 +1,8 @@
 use Rattle.std.proofs.Common.{◌&&◌}
 use Rattle.std.specs.Str.{bytes_eq}
 use Rattle.labels.specs.Labels.{pair_cmp}
-use Rattle.block_writer.proofs.Held.{held_once, pair_total, pair_exact, pair_ties}
+use Rattle.labels.proofs.Texts.{pair_exact, pair_total}
+use Rattle.block_writer.proofs.Held.{held_once, pair_ties}
 use Rattle.block_writer.proofs.symbols.pairs_of.Goals as goal
 
 pub returns : goal.returns

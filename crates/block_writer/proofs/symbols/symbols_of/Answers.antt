@@ -1,7 +1,8 @@
 use Rattle.std.specs.Cmp.Lexicographic.{texts_ties}
 use Rattle.std.specs.Str.{bytes_eq}
-use Rattle.block_writer.specs.InUse.{text_cmp}
-use Rattle.block_writer.proofs.Held.{held_once, text_total, text_exact}
+use Rattle.labels.specs.Labels.{text_cmp}
+use Rattle.labels.proofs.Texts.{text_exact, text_total}
+use Rattle.block_writer.proofs.Held.{held_once}
 use Rattle.block_writer.proofs.symbols.symbols_of.Goals as goal
 
 pub returns : goal.returns

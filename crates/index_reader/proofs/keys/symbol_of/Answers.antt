@@ -3,8 +3,8 @@ use Rattle.std.specs.Prelude.{slice_get}
 use Rattle.std.proofs.lemmas.Cmp.{nat_list_cmp_total}
 use Rattle.std.proofs.lemmas.Option.{slice_get_past}
 use Rattle.std.proofs.lemmas.List.{length-map}
+use Rattle.labels.specs.Labels.{text_cmp}
 use Rattle.index_reader.specs.Reading.{ascending}
-use Rattle.index_reader.specs.Finding.{text_cmp}
 use Rattle.index_reader.specs.Agreement.{strings_of}
 use Rattle.index_reader.proofs.Searching.{Strict, strict_from_rises, ascending_is, below_middle, above_middle, search_found, search_none}
 use Rattle.index_reader.proofs.keys.symbol_of.Goals as goal

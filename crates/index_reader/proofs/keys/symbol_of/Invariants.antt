@@ -1,7 +1,7 @@
 use Rattle.std.proofs.Common.{◌≡◌, ◌<◌, ◌≤◌, ◌-◌, ℕ, List, Some, length}
 use Rattle.std.specs.Prelude.{slice_get}
 use Rattle.std.specs.declared.cmp.Ordering.TheVariants.{Less, Greater}
-use Rattle.index_reader.specs.Finding.{text_cmp}
+use Rattle.labels.specs.Labels.{text_cmp}
 use Rattle.index_reader.specs.Agreement.{strings_of}
 use Rattle.index_reader.proofs.keys.symbol_of.Given as goal
 

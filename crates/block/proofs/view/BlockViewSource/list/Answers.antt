@@ -2,7 +2,7 @@ use Rattle.std.proofs.Common.{ℕ, List, sym, subst}
 use Rattle.std.specs.List.Sorted.{IsStrictlyIncreasing}
 use Rattle.labels.specs.Rows.{Row}
 use Rattle.labels.specs.Parts.{carries}
-use Rattle.block.specs.PartPlaces.{kept_rises}
+use Rattle.labels.proofs.PartRows.{kept_rises}
 use Rattle.block.proofs.view.BlockViewSource.list.Goals as goal
 
 pub new-requires : goal.new-requires
