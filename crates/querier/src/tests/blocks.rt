@@ -3,6 +3,7 @@
 use super::memory_files::MemoryFiles;
 use super::words_of;
 use crate::fault::Fault;
+use crate::files::ReadFiles;
 use crate::run::run;
 use std::alloc::{AllocError, Global};
 use std::io;
@@ -30,7 +31,7 @@ const LISTS: [&[u8]; 3] = [
 ];
 
 /// The series of `job` `a`.
-const JOB_A: &[u8] = b"\0\0\0\x10\0\0\0\x03\0\0\0\x04\0\0\0\x06\0\0\0\x07\x89\x64\x15\x75";
+pub const JOB_A: &[u8] = b"\0\0\0\x10\0\0\0\x03\0\0\0\x04\0\0\0\x06\0\0\0\x07\x89\x64\x15\x75";
 
 /// The same without the series 7.
 const JOB_A_SHORT: &[u8] = b"\0\0\0\x0C\0\0\0\x02\0\0\0\x04\0\0\0\x06\0\x15\x36\x64\0\0\0\0";
@@ -56,7 +57,7 @@ const CHUNKS: [&[u8]; 7] = [
     b"\x12\xE0\0\x01\0\0\0\0\0\0\0\x0A\0\0\0\0\0\0\0\x03\x89\xFB\x07\x04",
 ];
 
-const NOTHING_DELETED: &[u8] = b"\x01\x30\xBA\x30\x01\0\0\0\0";
+pub const NOTHING_DELETED: &[u8] = b"\x01\x30\xBA\x30\x01\0\0\0\0";
 
 /// The series 6 from -2 to 20.
 const SIX_DELETED: &[u8] = b"\x01\x30\xBA\x30\x01\x06\x03\x28\x2F\x56\x2B\xE5";
@@ -64,7 +65,7 @@ const SIX_DELETED: &[u8] = b"\x01\x30\xBA\x30\x01\x06\x03\x28\x2F\x56\x2B\xE5";
 /// A series 10, which there is not, from -2 to 20.
 const TEN_DELETED: &[u8] = b"\x01\x30\xBA\x30\x01\x0A\x03\x28\x89\xD9\xB1\x3A";
 
-const META: &str = "{\"minTime\":0,\"maxTime\":20,\"version\":1}";
+pub const META: &str = "{\"minTime\":0,\"maxTime\":20,\"version\":1}";
 
 const SHORT_META: &str = "{\"minTime\":0,\"maxTime\":10,\"version\":1}";
 
@@ -97,7 +98,7 @@ fn put_all(out: &mut Vec<u8>, pieces: &[&[u8]]) -> Result<(), AllocError> {
 }
 
 /// The worked index with this list of `job` `a`.
-fn index_with(alloc: Global, job_a: &[u8]) -> Result<Vec<u8>, AllocError> {
+pub fn index_with(alloc: Global, job_a: &[u8]) -> Result<Vec<u8>, AllocError> {
     let mut index = Vec::new(alloc);
     put_all(&mut index, &[HEAD, SYMBOLS])?;
     put_all(&mut index, &SERIES)?;
@@ -108,16 +109,16 @@ fn index_with(alloc: Global, job_a: &[u8]) -> Result<Vec<u8>, AllocError> {
     Ok(index)
 }
 
-fn chunks(alloc: Global) -> Result<Vec<u8>, AllocError> {
+pub fn chunks(alloc: Global) -> Result<Vec<u8>, AllocError> {
     let mut chunks = Vec::new(alloc);
     put_all(&mut chunks, &CHUNKS)?;
     Ok(chunks)
 }
 
 /// What `check` of these directories gives: the exit status, and what it writes to both writers.
-fn checked(
+pub fn checked_in<F: ReadFiles>(
     alloc: Global,
-    files: &[(&str, &[u8])],
+    files: &F,
     directories: &[&str],
 ) -> Result<(u8, Vec<u8>, Vec<u8>), Fault> {
     let mut words = words_of(alloc, &["check"])?;
@@ -126,16 +127,24 @@ fn checked(
     }
     let mut out = Vec::new(alloc);
     let mut err = Vec::new(alloc);
-    let files = MemoryFiles::new(files);
     let status = run(
         alloc,
-        &files,
+        files,
         words.as_slice(),
         &mut io::empty(),
         &mut out,
         &mut err,
     );
     Ok((status, out, err))
+}
+
+/// The same over files in memory.
+fn checked(
+    alloc: Global,
+    files: &[(&str, &[u8])],
+    directories: &[&str],
+) -> Result<(u8, Vec<u8>, Vec<u8>), Fault> {
+    checked_in(alloc, &MemoryFiles::new(files), directories)
 }
 
 #[test]
@@ -188,7 +197,7 @@ fn directories_are_told_in_their_order(rt: HostRuntime) -> Result<(), Fault> {
         ("c/index", index.as_slice()),
         ("c/tombstones", NOTHING_DELETED),
     ];
-    let rows: [(&[&str], u8, &str, &str); 6] = [
+    let rows: [(&[&str], u8, &str, &str); 7] = [
         (&["a"], 0, "a: ok 6 series 6 samples\n", ""),
         (
             &["a", "a"],
@@ -212,6 +221,12 @@ fn directories_are_told_in_their_order(rt: HostRuntime) -> Result<(), Fault> {
             &["a", "c", "b"],
             3,
             "a: ok 6 series 6 samples\n",
+            "cannot read c/chunks/000001\n",
+        ),
+        (
+            &["b", "c"],
+            3,
+            "b: refused B2\n",
             "cannot read c/chunks/000001\n",
         ),
         (&["d", "a"], 3, "", "cannot read d/meta.json\n"),
