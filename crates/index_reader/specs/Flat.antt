@@ -1,13 +1,13 @@
 -- Bodies by their places in flat lists.
 use Rattle.std.specs.Prelude.{ℕ, Bool, [], ◌∷◌, ◌==◌, ◌&&◌, ◌≤◌, List, length, map, slice_range, Result}
 use Rattle.std.specs.List.{All, list_all}
-use Rattle.std.specs.Ordering.{nat_cmp, ordering_then, is_lt}
+use Rattle.std.specs.Ordering.{is_lt}
 use Rattle.std.specs.Cmp.Lexicographic.{slice_cmp}
-use Rattle.std.specs.declared.cmp.Ordering.{Ordering}
 use Rattle.index_reader.specs.declared.error.IndexError.{IndexError}
 use Rattle.index_reader.specs.Reading.{Place}
 use Rattle.index_reader.specs.declared.chunk.Chunk.{Chunk}
 use Rattle.index_reader.specs.Bodies.{Label, Body, body_at}
+use Rattle.index_reader.specs.Finding.{key_cmp}
 use Rattle.index_reader.specs.declared.bodies.Row.{Row}
 
 -- the body whose parts stand at these places
@@ -39,13 +39,9 @@ body_of_place symbols p = body_at symbols p.body
 abbrev pub label_sets_in : List Label → List Row → List (List Label)
 label_sets_in labels rows = map (λ r. slice_range labels r.labels_start r.labels_end) rows
 
--- by the symbol of the name, and then by that of the value
-abbrev pub label_cmp : Label → Label → Ordering
-label_cmp a b = ordering_then (nat_cmp a.0 b.0) (nat_cmp a.1 b.1)
-
 -- whether labels are below others; a beginning is smaller
 abbrev pub is_before : List Label → List Label → Bool
-is_before a b = is_lt (slice_cmp label_cmp a b)
+is_before a b = is_lt (slice_cmp key_cmp a b)
 
 -- the places of the labels lie in their list
 abbrev pub AreInside : List Label → List Row → Type 0

@@ -138,7 +138,7 @@ fn copied<'a>(alloc: Global, lists: &[&'a [u8]]) -> Result<Vec<&'a [u8]>, AllocE
     ensures texts { IfOk result (λ v. texts_of v.items ≡ texts_of lists.now) }
     ensures counted { IfOk result (λ v. length v.items ≡ length lists.now) }
 {
-    let mut copy = Vec::new(alloc);
+    let mut copy = Vec::with_capacity(alloc, lists.len())?;
     for at in 0..lists.len() {
         let list = content_at(lists, at);
         copy.push(list)?;

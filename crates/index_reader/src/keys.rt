@@ -107,7 +107,7 @@ fn more_keys(
     ensures exact { Gives (λ v. v.items) result (each (key_at (strings_of symbols.now)) (all_shown table.now)) }
     ensures counted { IfOk result (λ v. length v.items ≡ length table.now) }
 {
-    let mut keys = Vec::new(alloc);
+    let mut keys = Vec::with_capacity(alloc, table.len())?;
     for at in 0..table.len() {
         let listed = at_place(table, at);
         let key = key_of(symbols, &listed)?;

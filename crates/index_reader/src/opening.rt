@@ -77,7 +77,7 @@ fn owned(alloc: Global, symbols: &[&str]) -> Result<Vec<String>, AllocError>
     ensures texts { IfOk result (λ v. strings_of v.items ≡ texts symbols.now) }
     ensures counted { IfOk result (λ v. length v.items ≡ length symbols.now) }
 {
-    let mut owned = Vec::new(alloc);
+    let mut owned = Vec::with_capacity(alloc, symbols.len())?;
     for at in 0..symbols.len() {
         let symbol = text_at(symbols, at);
         let text = String::from_str(alloc, symbol)?;

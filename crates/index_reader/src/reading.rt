@@ -277,11 +277,7 @@ fn all_of(alloc: Global, file: &[u8]) -> Result<Opened<'_>, IndexError>
 {
     let contents = placed(file)?;
     let series = contents.series as usize;
-    let end = if contents.label_indices == 0 {
-        contents.postings
-    } else {
-        contents.label_indices
-    } as usize;
+    let end = series_end(contents) as usize;
     let (content, _) = frame_of(&file[5..series], IndexError::SymbolsCrc)?;
     let symbols_end = content.len() + 13;
     let symbols = symbols_of(alloc, content)?;

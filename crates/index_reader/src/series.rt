@@ -1,6 +1,6 @@
 //! Series as they are kept.
 
-ghost use Rattle.std.specs.Prelude.{◌≡◌, ◌+◌, ◌<◌, ◌≤◌, ◌^◌, ℕ, length, get_or, slice_get, slice_range, string_bytes, Some, All, IfOk};
+ghost use Rattle.std.specs.Prelude.{◌≡◌, ◌+◌, ◌<◌, ◌≤◌, ◌^◌, ℕ, length, get_or, slice_get, slice_range, string_bytes, Some, All, IfOk, OnOk};
 ghost use Rattle.labels.specs.Pairs.{texts_of};
 ghost use Rattle.labels.specs.LabelSets.{IsLabelSet};
 ghost use Rattle.index_reader.specs.Seen.{places};
@@ -36,38 +36,41 @@ fn pair_of(symbols: &[String], label: (u32, u32)) -> (&str, &str)
     )
 }
 
-fn pairs_with<'a>(
-    alloc: Global,
+/// Leaves the names and the values of these labels, and nothing else.
+fn pairs_into<'a>(
+    pairs: &mut Vec<(&'a str, &'a str)>,
     symbols: &'a [String],
     labels: &[(u32, u32)],
-) -> Result<Vec<(&'a str, &'a str)>, AllocError>
+) -> Result<(), AllocError>
     requires { AreInTable (strings_of symbols.now) labels.now }
-    ensures { IfOk result (λ v. texts_of v.items ≡ named (strings_of symbols.now) labels.now) }
+    ensures { OnOk result (texts_of pairs.new.items ≡ named (strings_of symbols.now) labels.now) }
 {
-    let mut pairs = Vec::with_capacity(alloc, labels.len())?;
+    pairs.clear();
     for at in 0..labels.len() {
         let label = key_in(labels, at);
         pairs.push(pair_of(symbols, label))?;
     }
-    Ok(pairs)
+    Ok(())
 }
 
-fn label_set_of(
+fn label_set_of<'a>(
     alloc: Global,
-    symbols: &[String],
+    pairs: &mut Vec<(&'a str, &'a str)>,
+    symbols: &'a [String],
     labels: &[(u32, u32)],
 ) -> Result<LabelSet, AllocError>
     requires inside { AreInTable (strings_of symbols.now) labels.now }
     requires labelled { IsLabelSet (named (strings_of symbols.now) labels.now) }
     ensures { IfOk result (λ l. l ≡ named (strings_of symbols.now) labels.now) }
 {
-    let pairs = pairs_with(alloc, symbols, labels)?;
-    LabelSet::of_sorted_texts(alloc, &pairs)
+    pairs_into(pairs, symbols, labels)?;
+    LabelSet::of_sorted_texts(alloc, pairs)
 }
 
-fn one_of(
+fn one_of<'a>(
     alloc: Global,
-    symbols: &[String],
+    pairs: &mut Vec<(&'a str, &'a str)>,
+    symbols: &'a [String],
     labels: &[(u32, u32)],
     row: Row,
     reference: u32,
@@ -77,7 +80,12 @@ fn one_of(
     requires labelled { IsLabelSet (named (strings_of symbols.now) (slice_range labels.now row.labels_start row.labels_end)) }
     ensures { IfOk result (IsOfRow (strings_of symbols.now) labels.now row reference) }
 {
-    let set = label_set_of(alloc, symbols, &labels[row.labels_start..row.labels_end])?;
+    let set = label_set_of(
+        alloc,
+        pairs,
+        symbols,
+        &labels[row.labels_start..row.labels_end],
+    )?;
     Ok(Series {
         reference: SeriesRef::new(reference),
         labels: set,
@@ -102,10 +110,11 @@ pub fn series_of(
     ensures within { IfOk result (λ v. AreWithin bodies.now.chunks.items v.items) }
 {
     let mut series = Vec::with_capacity(alloc, bodies.rows.len())?;
+    let mut pairs = Vec::new(alloc);
     for at in 0..bodies.rows.len() {
         let row = row_at(&bodies.rows, at);
         let reference = reference_at(entries, at);
-        let one = one_of(alloc, symbols, &bodies.labels, row, reference)?;
+        let one = one_of(alloc, &mut pairs, symbols, &bodies.labels, row, reference)?;
         series.push(one)?;
     }
     Ok(series)

@@ -209,7 +209,7 @@ fn sections_of<'a>(
     requires inside { to ≤ length file.now }
     ensures { Gives (λ v. texts_of v.items) result (each (section_at file.now to) (all_shown table.now)) }
 {
-    let mut contents = Vec::new(alloc);
+    let mut contents = Vec::with_capacity(alloc, table.len())?;
     for at in 0..table.len() {
         let listed = at_place(table, at);
         let content = section_of(file, to, &listed)?;
@@ -229,7 +229,7 @@ pub fn content_at<'a>(contents: &[&'a [u8]], i: usize) -> &'a [u8]
 fn references_of_each<'a>(alloc: Global, contents: &[&'a [u8]]) -> Result<Vec<&'a [u8]>, IndexError>
     ensures { Gives (λ v. texts_of v.items) result (each references_at (texts_of contents.now)) }
 {
-    let mut lists = Vec::new(alloc);
+    let mut lists = Vec::with_capacity(alloc, contents.len())?;
     for at in 0..contents.len() {
         let list = references_of(content_at(contents, at))?;
         lists.push(list)?;

@@ -7,8 +7,8 @@ use Rattle.index_reader.proofs.agreement.copied.Goals as goal
 
 pub loop-at-init : goal.loop-at-init
 loop-at-init c = record {
-  counted = rw c.new-copy.ensures.items refl;
-  so_far = rw c.new-copy.ensures.items refl;
+  counted = rw c.in_ok-copy.ensures.items refl;
+  so_far = rw c.in_ok-copy.ensures.items refl;
 }
 
 pub loop-at-preserved : goal.loop-at-preserved

@@ -8,13 +8,13 @@ use Rattle.index_reader.proofs.keys.more_keys.Goals as goal
 
 pub loop-at-init : goal.loop-at-init
 loop-at-init c = record {
-  counted = rw c.new-keys.ensures.items refl;
-  so_far = rw c.new-keys.ensures.items (items_nil _);
+  counted = rw c.in_ok-keys.ensures.items refl;
+  so_far = rw c.in_ok-keys.ensures.items (items_nil _);
 }
 
 pub returns-in_err-key-clause-exact : goal.returns-in_err-key-clause-exact
 returns-in_err-key-clause-exact c =
-    let p = err_from_is_err_and c.from_residual.result c.from_residual.ensures.1 in
+    let p = err_from_is_err_and c.from_residual-in_err-key.result c.from_residual-in_err-key.ensures.1 in
     rw (p.1, p.2) (each_fails (key_at (strings_of c.args.symbols.now)) c.in_err-key.field-0.0 (all_shown c.args.table.now) c.loop-at.at _ c.loop-at.keys.items _ c.at_place-listed.ensures.seen c.in_err-key.ensures c.loop-at.invariant.so_far)
 
 pub loop-at-preserved : goal.loop-at-preserved

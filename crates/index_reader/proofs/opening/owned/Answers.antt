@@ -8,8 +8,8 @@ use Rattle.index_reader.proofs.opening.owned.Goals as goal
 
 pub loop-at-init : goal.loop-at-init
 loop-at-init c = record {
-  counted = rw c.new-owned.ensures.items refl;
-  so_far = rw c.new-owned.ensures.items refl;
+  counted = rw c.in_ok-owned.ensures.items refl;
+  so_far = rw c.in_ok-owned.ensures.items refl;
 }
 
 pub loop-at-preserved : goal.loop-at-preserved

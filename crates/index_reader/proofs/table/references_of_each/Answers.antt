@@ -8,11 +8,11 @@ use Rattle.index_reader.proofs.Eaches.{items_nil, each_on, each_fails, each_done
 use Rattle.index_reader.proofs.table.references_of_each.Goals as goal
 
 pub loop-at-init : goal.loop-at-init
-loop-at-init c = rw c.new-lists.ensures.items (items_nil _)
+loop-at-init c = rw c.in_ok-lists.ensures.items (items_nil _)
 
 pub returns-in_err-list : goal.returns-in_err-list
 returns-in_err-list c =
-    let p = err_from_is_err_and c.from_residual.result c.from_residual.ensures.1 in
+    let p = err_from_is_err_and c.from_residual-in_err-list.result c.from_residual-in_err-list.ensures.1 in
     rw (p.1, p.2) (each_fails references_at c.in_err-list.field-0.0 (texts_of c.args.contents.now) c.loop-at.at _ (texts_of c.loop-at.lists.items) _ c.content_at.ensures c.in_err-list.ensures c.loop-at.invariant)
 
 pub loop-at-preserved : goal.loop-at-preserved

@@ -12,11 +12,11 @@ use Rattle.index_reader.proofs.Eaches.{items_nil, each_on, each_fails, each_done
 use Rattle.index_reader.proofs.table.sections_of.Goals as goal
 
 pub loop-at-init : goal.loop-at-init
-loop-at-init c = rw c.new-contents.ensures.items (items_nil _)
+loop-at-init c = rw c.in_ok-contents.ensures.items (items_nil _)
 
 pub returns-in_err-content : goal.returns-in_err-content
 returns-in_err-content c =
-    let p = err_from_is_err_and c.from_residual.result c.from_residual.ensures.1 in
+    let p = err_from_is_err_and c.from_residual-in_err-content.result c.from_residual-in_err-content.ensures.1 in
     rw (p.1, p.2) (each_fails (section_at c.args.file.now c.args.to) c.in_err-content.field-0.0 (all_shown c.args.table.now) c.loop-at.at _ (texts_of c.loop-at.contents.items) _ c.at_place-listed.ensures.seen c.in_err-content.ensures c.loop-at.invariant)
 
 pub loop-at-preserved : goal.loop-at-preserved
