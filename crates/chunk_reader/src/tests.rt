@@ -182,6 +182,43 @@ fn the_worked_file_gives_its_samples(rt: HostRuntime) -> Result<(), Fail> {
 }
 
 #[test]
+fn a_known_chunk_is_read_again(rt: HostRuntime) -> Result<(), Fail> {
+    let chunks = Chunks::open(worked(rt.alloc())?)?;
+    for (reference, value) in WORKED {
+        let found = chunks.find(reference, 10, 10)?;
+        assert_eq!(rt; found.len(), 1);
+        let stored = chunks.stored(reference, 10, 10);
+        assert_eq!(rt; stored.len(), 1);
+        assert_eq!(rt; stored.get(0), Sample::new(10, value));
+    }
+    Ok(())
+}
+
+#[test]
+fn a_known_chunk_may_have_a_longer_length(rt: HostRuntime) -> Result<(), Fail> {
+    let samples = [
+        (1, 0),
+        (2, 1),
+        (3, 2),
+        (4, 3),
+        (5, 4),
+        (6, 5),
+        (7, 6),
+        (8, 7),
+    ];
+    let file = file_of(rt.alloc(), 0xE0, 8, &samples)?;
+    assert_eq!(rt; file.len(), 145);
+    assert_eq!(rt; &file[8..13], [0x82, 0x01, 0xE0, 0x00, 0x08].as_slice());
+    let chunks = Chunks::open(file)?;
+    assert_eq!(rt; chunks.find(8, 1, 8)?.len(), 8);
+    let stored = chunks.stored(8, 1, 8);
+    assert_eq!(rt; stored.len(), 8);
+    assert_eq!(rt; stored.get(0), Sample::new(1, 0));
+    assert_eq!(rt; stored.get(7), Sample::new(8, 7));
+    Ok(())
+}
+
+#[test]
 fn every_damaged_byte_is_refused(rt: HostRuntime) -> Result<(), Fail> {
     let mut file = worked(rt.alloc())?;
     for place in 0..152 {
