@@ -2,13 +2,14 @@
 use Rattle.std.proofs.Common.{◌≡◌, ℕ, zero, suc, ◌+◌, ◌<◌, ◌≤◌, Bool, true, false, ◌&&◌, ◌||◌, eqb, List, [], ◌∷◌, length, drop, get_or, refl, sym, ap, subst, ◌∙◌, inl, inr, arith}
 use Rattle.std.specs.Prelude.{ℤ}
 use Rattle.std.specs.List.Sorted.{IsNonDecreasingBy, IsPermutation}
-use Rattle.std.proofs.lemmas.Bool.{cases_eq, eqb-true, false_from_ne_true, eqb-false, true_from_ne_false}
+use Rattle.std.proofs.lemmas.Bool.{cases_eq, cases_lt, eqb-true, false_from_ne_true, eqb-false, true_from_ne_false}
 use Rattle.std.proofs.lemmas.List.{get_or_default}
+use Rattle.std.proofs.lemmas.List.Folds.{list_any_at, list_any_none}
 use Rattle.std.proofs.lemmas.List.Sorted.{list_any-IsPermutation, IsPermutation-insert}
 use Rattle.std.specs.List.{insert}
 use Rattle.std.proofs.Math.Seq.{drop-cons}
 use Rattle.tombstones.specs.declared.deletion.Deletion.{Deletion}
-use Rattle.tombstones.specs.Covering.{holds, covers, covered}
+use Rattle.tombstones.specs.Covering.{holds, covers, covered, has_deletion}
 
 not_equal : (m n : ℕ) → (m ≡ n → ⊥) → eqb m n ≡ false
 not_equal m n h = false_from_ne_true (eqb m n) (λ e. h (eqb-true m n e))
@@ -99,3 +100,16 @@ added kept old new place d e same view made =
 
 pub covered_all : (deletions held : List Deletion) (reference : ℕ) (t : ℤ) → IsPermutation deletions held → covered held reference t ≡ covered deletions reference t
 covered_all deletions held reference t p = sym (list_any-IsPermutation (covers reference t) deletions held p)
+
+-- whether a deletion of the series is held, by the first place that is not below it
+pub has_none : (deletions : List Deletion) (k reference : ℕ) → ((j : ℕ) (d : Deletion) → j < k → (get_or deletions j d).reference < reference) → ((j : ℕ) (d : Deletion) → k ≤ j → j < length deletions → reference < (get_or deletions j d).reference) → false ≡ has_deletion deletions reference
+has_none deletions k reference below past =
+    sym (list_any_none (λ (d : Deletion). eqb d.reference reference) deletions (λ j d lt. not_equal _ reference (λ e. elim (cases_lt j k) [ inl l ↦ omega (arith, e, below j d l) | inr g ↦ omega (arith, e, past j d g lt) ])))
+
+pub has_at : (deletions : List Deletion) (k reference : ℕ) (d : Deletion) → IsNonDecreasingBy (λ (x : Deletion). x.reference) deletions → k < length deletions → ((j : ℕ) (e : Deletion) → j < k → (get_or deletions j e).reference < reference)
+    → ((j : ℕ) (e : Deletion) → k ≤ j → j < length deletions → reference ≤ (get_or deletions j e).reference) → eqb (get_or deletions k d).reference reference ≡ has_deletion deletions reference
+has_at deletions k reference d sorted lt below above = elim (cases_eq (get_or deletions k d).reference reference) [
+  | inl same ↦ (let b : eqb (get_or deletions k d).reference reference ≡ true = true_from_ne_false _ (λ f. eqb-false _ _ f same) in
+      b ∙ sym (list_any_at (λ (x : Deletion). eqb x.reference reference) deletions k d lt b))
+  | inr apart ↦ not_equal _ reference apart ∙ has_none deletions k reference below (later deletions k reference d sorted lt above apart)
+]

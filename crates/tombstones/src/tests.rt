@@ -73,6 +73,13 @@ fn added_deletions_are_found(rt: HostRuntime) -> Result<(), Fail> {
     assert!(rt; tombstones.deleted(six(), 2));
     assert!(rt; tombstones.deleted(SeriesRef::new(3), 5));
     assert!(rt; !tombstones.deleted(SeriesRef::new(3), 2));
+    for (reference, want) in [(2, false), (3, true), (4, false), (6, true), (7, false)] {
+        assert_eq!(rt;
+            tombstones.has_deletion_of(SeriesRef::new(reference)),
+            want,
+            "{reference}"
+        );
+    }
     let deletion = Deletion {
         reference: 6,
         from: 1,

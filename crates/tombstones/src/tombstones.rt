@@ -2,7 +2,7 @@
 
 ghost use Rattle.std.specs.Prelude.{◌≡◌, map, ◌<◌, ◌≤◌, ◌++◌, ◌∷◌, ◌||◌, [], ℕ, ℤ, List, length, slice_index_or, IfOk, OnErr, OnOk};
 ghost use Rattle.std.specs.List.Sorted.{IsNonDecreasingBy, IsPermutation};
-ghost use Rattle.tombstones.specs.Covering.{are_covered, covered, covers, interval};
+ghost use Rattle.tombstones.specs.Covering.{are_covered, covered, covers, has_deletion, interval};
 ghost use Rattle.tombstones.specs.Grammar.{IsTombstones};
 ghost use Rattle.tombstones.specs.Outcome.{GivesAll};
 ghost use Rattle.tombstones.specs.Reading.{deletions_of};
@@ -69,6 +69,13 @@ impl Tombstones {
         ensures { result ≡ covered self.now reference t }
     {
         is_covered(self.deletions.as_slice(), reference.number(), t)
+    }
+
+    /// Whether a deletion of the series is held, at whatever time. It is found by halving.
+    pub fn has_deletion_of(&self, reference: SeriesRef) -> bool
+        ensures { result ≡ has_deletion self.now reference }
+    {
+        has_one_of(self.deletions.as_slice(), reference.number())
     }
 
     /// Adds the closed interval to the deletions of the series. Where memory runs out nothing is added.
@@ -170,6 +177,17 @@ fn place_of(deletions: &[Deletion], reference: u32) -> usize
         }
     }
     low
+}
+
+fn has_one_of(deletions: &[Deletion], reference: u32) -> bool
+    requires { IsNonDecreasingBy (λ d. d.reference) deletions.now }
+    ensures { result ≡ has_deletion deletions.now reference }
+{
+    let place = place_of(deletions, reference);
+    if place == deletions.len() {
+        return false;
+    }
+    deletions[place].reference == reference
 }
 
 fn is_covered(deletions: &[Deletion], reference: u32, t: i64) -> bool
