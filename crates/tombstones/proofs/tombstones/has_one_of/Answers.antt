@@ -1,4 +1,5 @@
 use Rattle.std.proofs.Common.{arith}
+use Rattle.tombstones.proofs.Begun.{by_reference}
 use Rattle.tombstones.proofs.Covers.{has_at, has_none}
 use Rattle.tombstones.proofs.tombstones.has_one_of.Goals as goal
 
@@ -8,4 +9,4 @@ returns-then-place-deletions c =
 
 pub returns : goal.returns
 returns c =
-    has_at c.args.deletions.now c.place_of-place.result c.args.reference _ c.requires (omega arith) c.place_of-place.ensures.below c.place_of-place.ensures.above
+    has_at c.args.deletions.now c.place_of-place.result c.args.reference _ (by_reference c.args.deletions.now c.requires) (omega arith) c.place_of-place.ensures.below c.place_of-place.ensures.above
