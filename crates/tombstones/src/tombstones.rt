@@ -1,7 +1,7 @@
 //! Deletions, and whether one of them covers a time.
 
 ghost use Rattle.std.specs.Prelude.{◌≡◌, map, ◌<◌, ◌≤◌, ◌++◌, ◌∷◌, ◌||◌, [], true, false, ℕ, ℤ, List, length, slice_index_or, IfOk, OnErr, OnOk};
-ghost use Rattle.std.specs.List.Sorted.{IsNonDecreasingBy, IsPermutation};
+ghost use Rattle.std.specs.List.Sorted.{IsPermutation};
 ghost use Rattle.tombstones.specs.Covering.{are_covered, covered, covers, has_deletion, interval};
 ghost use Rattle.tombstones.specs.Grammar.{IsTombstones};
 ghost use Rattle.tombstones.specs.Order.{AreInOrder, AreReaches, IsOrdered, IsReach, begins_by};
@@ -16,8 +16,8 @@ use labels::SeriesRef;
 use std::alloc::{AllocError, Global};
 use std::marker::Model;
 
-/// Deletions, in the order of their references, and within a series of where they begin. Beside each it keeps the greatest end
-/// of the deletions of that series up to it, so that a time is decided by one deletion.
+/// Deletions, in the order of their references, and within a series of where they begin. Beside each it keeps the greatest
+/// end of the deletions of that series up to it, so that one of them decides a time.
 #[derive(Drop)]
 pub struct Tombstones {
     deletions: Vec<Deletion>,
@@ -68,8 +68,8 @@ impl Tombstones {
         self.deletions.as_slice()
     }
 
-    /// Whether a deletion of the series covers the time. Its time is in proportion to the logarithm of the count of deletions,
-    /// however many are of the series.
+    /// Whether a deletion of the series covers the time. It takes time in proportion to the logarithm of the count of
+    /// deletions, however many are of the series.
     pub fn deleted(&self, reference: SeriesRef, t: i64) -> bool
         ensures { result ≡ covered self.now reference t }
     {
@@ -81,16 +81,16 @@ impl Tombstones {
         )
     }
 
-    /// Whether a deletion of the series is held, at whatever time. Its time is in proportion to the logarithm of the count of
-    /// deletions.
+    /// Whether a deletion of the series is held, at whatever time. It takes time in proportion to the logarithm of the count
+    /// of deletions.
     pub fn has_deletion_of(&self, reference: SeriesRef) -> bool
         ensures { result ≡ has_deletion self.now reference }
     {
         has_one_of(self.deletions.as_slice(), reference.number())
     }
 
-    /// Adds the closed interval to the deletions of the series. Its time is in proportion to the count of deletions. Where
-    /// memory runs out nothing is added.
+    /// Adds the closed interval to the deletions of the series, in time in proportion to the count of deletions. Where memory
+    /// runs out nothing is added.
     pub fn add(&mut self, reference: SeriesRef, from: i64, to: i64) -> Result<(), AllocError>
         ensures ok { OnOk result ((r : ℕ) (t : ℤ) → covered self.new r t ≡ (covers r t (record { reference = reference; from = from; to = to }) || covered self.old r t)) }
         ensures all { OnOk result (IsPermutation (record { reference = reference; from = from; to = to } ∷ self.old) self.new) }
