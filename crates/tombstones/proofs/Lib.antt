@@ -1,5 +1,7 @@
+pub mod Begun
 pub mod Covers
 pub mod Joins
 pub mod Loops
+pub mod Reaches
 pub mod Steps
 pub mod Whole

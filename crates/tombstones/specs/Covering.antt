@@ -15,6 +15,10 @@ covers reference t d = d.reference == reference && holds d t
 abbrev pub covered : List Deletion → ℕ → ℤ → Bool
 covered deletions reference t = list_any (covers reference t) deletions
 
+-- whether one of the deletions is of this series
+abbrev pub has_deletion : List Deletion → ℕ → Bool
+has_deletion deletions reference = list_any (λ (d : Deletion). d.reference == reference) deletions
+
 -- the deletion of a closed interval of a series
 abbrev pub interval : ℤ → ℤ → ℕ → Deletion
 interval from to reference = record { reference = reference; from = from; to = to }

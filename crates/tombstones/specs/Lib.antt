@@ -1,5 +1,6 @@
 pub mod Codes
 pub mod Covering
 pub mod Grammar
+pub mod Order
 pub mod Outcome
 pub mod Reading

@@ -73,6 +73,13 @@ fn added_deletions_are_found(rt: HostRuntime) -> Result<(), Fail> {
     assert!(rt; tombstones.deleted(six(), 2));
     assert!(rt; tombstones.deleted(SeriesRef::new(3), 5));
     assert!(rt; !tombstones.deleted(SeriesRef::new(3), 2));
+    for (reference, want) in [(2, false), (3, true), (4, false), (6, true), (7, false)] {
+        assert_eq!(rt;
+            tombstones.has_deletion_of(SeriesRef::new(reference)),
+            want,
+            "{reference}"
+        );
+    }
     let deletion = Deletion {
         reference: 6,
         from: 1,
@@ -108,6 +115,72 @@ fn an_interval_of_several_series_is_joined(rt: HostRuntime) -> Result<(), Fail> 
     assert!(rt; !old.deleted(six(), 5));
     let same = more.with(rt.alloc(), &[], 0, 9)?;
     assert_eq!(rt; same.deletions().len(), 3);
+    Ok(())
+}
+
+/// Series 6 is deleted from 0 to 100 and again from 10 to 20, and series 7 from 5 to 6.
+const LONG_AND_SHORT: [(u32, i64, i64); 3] = [(6, 0, 100), (6, 10, 20), (7, 5, 6)];
+
+fn are_found(tombstones: &Tombstones) -> bool {
+    let mut all = true;
+    for (reference, t, want) in [
+        (6, -1, false),
+        (6, 0, true),
+        (6, 9, true),
+        (6, 10, true),
+        (6, 20, true),
+        (6, 21, true),
+        (6, 99, true),
+        (6, 100, true),
+        (6, 101, false),
+        (7, 4, false),
+        (7, 5, true),
+        (7, 6, true),
+        (7, 7, false),
+        (7, 100, false),
+        (5, 15, false),
+        (8, 15, false),
+    ] {
+        all = all && tombstones.deleted(SeriesRef::new(reference), t) == want;
+    }
+    all
+}
+
+#[test]
+fn a_long_deletion_reaches_past_a_later_short_one(rt: HostRuntime) -> Result<(), Fail> {
+    for order in [
+        [0, 1, 2],
+        [0, 2, 1],
+        [1, 0, 2],
+        [1, 2, 0],
+        [2, 0, 1],
+        [2, 1, 0],
+    ] {
+        let mut tombstones = Tombstones::new(rt.alloc());
+        for which in order {
+            let (reference, from, to) = LONG_AND_SHORT[which];
+            tombstones.add(SeriesRef::new(reference), from, to)?;
+        }
+        assert!(rt; are_found(&tombstones), "added as {order:?}");
+    }
+    let entries = [0x07, 0x0A, 0x0C, 0x06, 0x14, 0x28, 0x06, 0x00, 0xC8, 0x01];
+    let tombstones = Tombstones::open(rt.alloc(), &file_of(rt.alloc(), &entries)?)?;
+    assert!(rt; are_found(&tombstones), "of a file");
+    for (place, deletion) in tombstones.deletions().iter().enumerate() {
+        let (reference, from, to) = LONG_AND_SHORT[place];
+        assert_eq!(rt;
+            (deletion.reference, deletion.from, deletion.to),
+            (reference, from, to),
+            "at {place}"
+        );
+    }
+    let mut short = Tombstones::new(rt.alloc());
+    short.add(SeriesRef::new(7), 5, 6)?;
+    short.add(six(), 10, 20)?;
+    assert!(rt;
+        are_found(&short.with(rt.alloc(), &[six()], 0, 100)?),
+        "joined"
+    );
     Ok(())
 }
 

@@ -1,9 +1,10 @@
 //! Deletions, and whether one of them covers a time.
 
-ghost use Rattle.std.specs.Prelude.{◌≡◌, map, ◌<◌, ◌≤◌, ◌++◌, ◌∷◌, ◌||◌, [], ℕ, ℤ, List, length, slice_index_or, IfOk, OnErr, OnOk};
-ghost use Rattle.std.specs.List.Sorted.{IsNonDecreasingBy, IsPermutation};
-ghost use Rattle.tombstones.specs.Covering.{are_covered, covered, covers, interval};
+ghost use Rattle.std.specs.Prelude.{◌≡◌, map, ◌<◌, ◌≤◌, ◌++◌, ◌∷◌, ◌||◌, [], true, false, ℕ, ℤ, List, length, slice_index_or, IfOk, OnErr, OnOk};
+ghost use Rattle.std.specs.List.Sorted.{IsPermutation};
+ghost use Rattle.tombstones.specs.Covering.{are_covered, covered, covers, has_deletion, interval};
 ghost use Rattle.tombstones.specs.Grammar.{IsTombstones};
+ghost use Rattle.tombstones.specs.Order.{AreInOrder, AreReaches, IsOrdered, IsReach, begins_by};
 ghost use Rattle.tombstones.specs.Outcome.{GivesAll};
 ghost use Rattle.tombstones.specs.Reading.{deletions_of};
 ghost use Rattle.tombstones.specs.declared.deletion.Deletion.{Deletion as DeletionValue};
@@ -15,22 +16,24 @@ use labels::SeriesRef;
 use std::alloc::{AllocError, Global};
 use std::marker::Model;
 
-/// Deletions, in the order of their references.
+/// Deletions, in the order of their references, and within a series of where they begin. Beside each it keeps the greatest
+/// end of the deletions of that series up to it, so that one of them decides a time.
 #[derive(Drop)]
 pub struct Tombstones {
     deletions: Vec<Deletion>,
+    reaches: Vec<i64>,
 }
 
 impl Model for Tombstones {
     ghost use Rattle.std.specs.Prelude.{List};
-    ghost use Rattle.std.specs.List.Sorted.{IsNonDecreasingBy};
+    ghost use Rattle.tombstones.specs.Order.{IsOrdered};
     ghost use Rattle.tombstones.specs.declared.deletion.Deletion.{Deletion as DeletionValue};
 
     ghost Value = { List DeletionValue };
 
     ghost view = { λ t. t.deletions.items };
 
-    ghost invariant = { λ t. IsNonDecreasingBy (λ d. d.reference) t.deletions.items };
+    ghost invariant = { λ t. IsOrdered t.deletions.items t.reaches.items };
 }
 
 impl Tombstones {
@@ -40,6 +43,7 @@ impl Tombstones {
     {
         Tombstones {
             deletions: Vec::new(alloc),
+            reaches: Vec::new(alloc),
         }
     }
 
@@ -57,34 +61,51 @@ impl Tombstones {
         opened(alloc, file)
     }
 
-    /// The deletions, in the order of their references.
+    /// The deletions, in the order of their references, and within a series of where they begin.
     pub fn deletions(&self) -> &[Deletion]
         ensures { result.now ≡ self.now }
     {
         self.deletions.as_slice()
     }
 
-    /// Whether a deletion of the series covers the time. It finds the deletions of the series by halving.
+    /// Whether a deletion of the series covers the time. It takes time in proportion to the logarithm of the count of
+    /// deletions, however many are of the series.
     pub fn deleted(&self, reference: SeriesRef, t: i64) -> bool
         ensures { result ≡ covered self.now reference t }
     {
-        is_covered(self.deletions.as_slice(), reference.number(), t)
+        is_covered(
+            self.deletions.as_slice(),
+            self.reaches.as_slice(),
+            reference.number(),
+            t,
+        )
     }
 
-    /// Adds the closed interval to the deletions of the series. Where memory runs out nothing is added.
+    /// Whether a deletion of the series is held, at whatever time. It takes time in proportion to the logarithm of the count
+    /// of deletions.
+    pub fn has_deletion_of(&self, reference: SeriesRef) -> bool
+        ensures { result ≡ has_deletion self.now reference }
+    {
+        has_one_of(self.deletions.as_slice(), reference.number())
+    }
+
+    /// Adds the closed interval to the deletions of the series, in time in proportion to the count of deletions. Where memory
+    /// runs out nothing is added.
     pub fn add(&mut self, reference: SeriesRef, from: i64, to: i64) -> Result<(), AllocError>
         ensures ok { OnOk result ((r : ℕ) (t : ℤ) → covered self.new r t ≡ (covers r t (record { reference = reference; from = from; to = to }) || covered self.old r t)) }
         ensures all { OnOk result (IsPermutation (record { reference = reference; from = from; to = to } ∷ self.old) self.new) }
         ensures err { OnErr result (self.new ≡ self.old) }
     {
-        let reference = reference.number();
-        let place = place_of(self.deletions.as_slice(), reference);
-        let deletion = Deletion {
-            reference,
-            from,
-            to,
-        };
+        let deletion = interval_of(reference, from, to);
+        let place = count_begun(self.deletions.as_slice(), deletion.reference, deletion.from);
+        self.reaches.reserve(1)?;
         self.deletions.insert(place, deletion)?;
+        self.reaches.push(to)?;
+        set_reaches(
+            self.deletions.as_slice(),
+            self.reaches.as_mut_slice(),
+            place,
+        );
         Ok(())
     }
 
@@ -139,53 +160,93 @@ fn joined(
 ) -> Result<Tombstones, AllocError>
     ensures { IfOk result (λ t. (r : ℕ) (x : ℤ) → covered t r x ≡ (are_covered references.now from to r x || covered deletions.now r x)) }
 {
-    let mut deletions = all_of(alloc, deletions, references, from, to)?;
-    deletions.sort_unstable_by_key(|deletion| deletion.reference);
-    Ok(Tombstones { deletions })
+    let deletions = all_of(alloc, deletions, references, from, to)?;
+    ordered(alloc, deletions)
 }
 
 fn opened(alloc: Global, file: &[u8]) -> Result<Tombstones, TombstoneError>
     ensures { GivesAll result (deletions_of file.now) }
 {
-    let mut deletions = deletions_of(alloc, file)?;
-    deletions.sort_unstable_by_key(|deletion| deletion.reference);
-    Ok(Tombstones { deletions })
+    Ok(ordered(alloc, deletions_of(alloc, file)?)?)
 }
 
-/// The place of the first deletion whose reference is not below this one.
+/// The deletions, put in order.
+fn ordered(alloc: Global, mut deletions: Vec<Deletion>) -> Result<Tombstones, AllocError>
+    ensures { IfOk result (λ t. IsPermutation deletions.items t) }
+{
+    deletions.sort_unstable_by_key(|deletion| (deletion.reference, deletion.from));
+    let mut reaches = Vec::new(alloc);
+    reaches.resize(deletions.len(), 0)?;
+    set_reaches(deletions.as_slice(), reaches.as_mut_slice(), 0);
+    Ok(Tombstones { deletions, reaches })
+}
+
+/// Sets the reaches from this place on. Those before it are right already.
+fn set_reaches(deletions: &[Deletion], reaches: &mut [i64], place: usize)
+    requires in_order { AreInOrder deletions.now }
+    requires each { length reaches.old ≡ length deletions.now }
+    requires before { AreReaches place deletions.now reaches.old }
+    ensures each { length reaches.new ≡ length deletions.now }
+    ensures all { AreReaches (length deletions.now) deletions.now reaches.new }
+{
+    for at in place..deletions.len() {
+        reaches[at] = reach_at(deletions, reaches, at);
+    }
+}
+
+/// The greatest end of the deletions of its series up to this one.
+fn reach_at(deletions: &[Deletion], reaches: &[i64], at: usize) -> i64
+    requires in_order { AreInOrder deletions.now }
+    requires inside { at < length deletions.now }
+    requires each { length reaches.now ≡ length deletions.now }
+    requires before { AreReaches at deletions.now reaches.now }
+    ensures { IsReach deletions.now at result }
+{
+    let deletion = deletions[at];
+    if at > 0 && deletions[at - 1].reference == deletion.reference {
+        return deletion.to.max(reaches[at - 1]);
+    }
+    deletion.to
+}
+
+/// How many deletions stand before those of the series.
 fn place_of(deletions: &[Deletion], reference: u32) -> usize
-    requires { IsNonDecreasingBy (λ d. d.reference) deletions.now }
+    requires { AreInOrder deletions.now }
     ensures within { result ≤ length deletions.now }
     ensures below { (k : ℕ) (d : DeletionValue) → k < result → (slice_index_or deletions.now k d).reference < reference }
     ensures above { (k : ℕ) (d : DeletionValue) → result ≤ k → k < length deletions.now → reference ≤ (slice_index_or deletions.now k d).reference }
 {
-    let mut low = 0;
-    let mut high = deletions.len();
-    while low < high {
-        let middle = low + (high - low) / 2;
-        if deletions[middle].reference < reference {
-            low = middle + 1;
-        } else {
-            high = middle;
-        }
-    }
-    low
+    deletions.partition_point(|deletion| deletion.reference < reference)
 }
 
-fn is_covered(deletions: &[Deletion], reference: u32, t: i64) -> bool
-    requires { IsNonDecreasingBy (λ d. d.reference) deletions.now }
+fn has_one_of(deletions: &[Deletion], reference: u32) -> bool
+    requires { AreInOrder deletions.now }
+    ensures { result ≡ has_deletion deletions.now reference }
+{
+    let place = place_of(deletions, reference);
+    if place == deletions.len() {
+        return false;
+    }
+    deletions[place].reference == reference
+}
+
+/// How many deletions are of the series before this one, or of this one and begin by this time.
+fn count_begun(deletions: &[Deletion], reference: u32, t: i64) -> usize
+    requires { AreInOrder deletions.now }
+    ensures within { result ≤ length deletions.now }
+    ensures begun { (k : ℕ) (d : DeletionValue) → k < result → begins_by reference t (slice_index_or deletions.now k d) ≡ true }
+    ensures not_begun { (k : ℕ) (d : DeletionValue) → result ≤ k → k < length deletions.now → begins_by reference t (slice_index_or deletions.now k d) ≡ false }
+{
+    deletions.partition_point(|deletion| deletion.begins_by(reference, t))
+}
+
+fn is_covered(deletions: &[Deletion], reaches: &[i64], reference: u32, t: i64) -> bool
+    requires { IsOrdered deletions.now reaches.now }
     ensures { result ≡ covered deletions.now reference t }
 {
-    let mut at = place_of(deletions, reference);
-    while at < deletions.len() {
-        let deletion = deletions[at];
-        if deletion.reference != reference {
-            return false;
-        }
-        if deletion.holds(t) {
-            return true;
-        }
-        at += 1;
+    let begun = count_begun(deletions, reference, t);
+    if begun == 0 {
+        return false;
     }
-    false
+    deletions[begun - 1].reference == reference && t <= reaches[begun - 1]
 }

@@ -1,15 +1,26 @@
-use Rattle.std.specs.Int.{w64}
-use Rattle.std.proofs.lemmas.Int.{to_z-of_z}
-use Rattle.tombstones.proofs.Covers.{covered_from, later_ends}
+use Rattle.std.proofs.Common.{◌≡◌, ◌∙◌, ap, arith, rules, ◌-◌, to_z, of_z, w64, get_or, pos}
+use Rattle.std.specs.Prelude.{int_le}
+use Rattle.tombstones.specs.Covering.{covered}
+use Rattle.tombstones.proofs.Reaches.{decided, none_of_it, undecided}
 use Rattle.tombstones.proofs.tombstones.is_covered.Goals as goal
 
-pub loop-at-init : goal.loop-at-init
-loop-at-init c = record {
-  above = c.place_of-at.ensures.above;
-  same = covered_from c.args.deletions.now c.place_of-at.result c.args.reference _ c.place_of-at.ensures.below c.place_of-at.ensures.within;
-}
+pub returns-then-begun-eq0 : goal.returns-then-begun-eq0
+returns-then-begun-eq0 c =
+    let x : to_z w64 (of_z w64 c.args.t) ≡ c.args.t = search rules in
+    undecided c.args.deletions.now c.args.reference (to_z w64 (of_z w64 c.args.t)) (λ k d le lt. c.count_begun-begun.ensures.not_begun k d (omega arith) lt) ∙ ap (covered c.args.deletions.now c.args.reference) x
 
-pub returns-then-deletion-reference : goal.returns-then-deletion-reference
-returns-then-deletion-reference c =
-    let l = c.loop-at in
-    later_ends c.args.deletions.now l.at c.args.reference _ c.args.t _ (to_z-of_z w64 c.args.t c.ranges.t) c.requires c.loop-at-test.true l.invariant.above c.if-deletion-reference.true l.invariant.same
+pub returns-then-deletions-begun : goal.returns-then-deletions-begun
+returns-then-deletions-begun c =
+    let last = c.count_begun-begun.result - 1 in
+    let t = to_z w64 (of_z w64 c.args.t) in
+    let x : to_z w64 (of_z w64 c.args.t) ≡ c.args.t = search rules in
+    let y : to_z w64 (of_z w64 (get_or c.args.reaches.now last (pos 0))) ≡ get_or c.args.reaches.now last (pos 0) = search rules in
+    ap (int_le t) y
+    ∙ decided c.args.deletions.now c.args.reaches.now c.count_begun-begun.result c.args.reference t c.requires (omega arith) c.count_begun-begun.ensures.within c.count_begun-begun.ensures.begun c.count_begun-begun.ensures.not_begun c.if-deletions-begun.true
+    ∙ ap (covered c.args.deletions.now c.args.reference) x
+
+pub returns-else-deletions-begun : goal.returns-else-deletions-begun
+returns-else-deletions-begun c =
+    let x : to_z w64 (of_z w64 c.args.t) ≡ c.args.t = search rules in
+    none_of_it c.args.deletions.now c.args.reaches.now c.count_begun-begun.result c.args.reference (to_z w64 (of_z w64 c.args.t)) c.requires (omega arith) c.count_begun-begun.ensures.within c.count_begun-begun.ensures.begun c.count_begun-begun.ensures.not_begun c.if-deletions-begun.false
+    ∙ ap (covered c.args.deletions.now c.args.reference) x

@@ -1,27 +1,14 @@
-use Rattle.std.proofs.Common.{◌+◌, ◌-◌, ◌/◌, ◌<◌, length, arith}
-use Rattle.tombstones.proofs.Covers.{below_middle, above_middle}
+use Rattle.std.proofs.Common.{ltb, ltb-true, ltb-false, arith, rules}
+use Rattle.std.proofs.lemmas.List.Sorted.{IsPartitionPoint-from_clause, IsPartitionedBy-ltb}
+use Rattle.tombstones.proofs.Begun.{by_reference}
 use Rattle.tombstones.proofs.tombstones.place_of.Goals as goal
 
-pub loop-low-preserved-then-deletions-middle : goal.loop-low-preserved-then-deletions-middle
-loop-low-preserved-then-deletions-middle c =
-    let l = c.loop-low in
-    let middle = l.low + (l.high - l.low) / 2 in
-    let lt : middle < length c.args.deletions.now = omega (arith, l.invariant.inside, c.loop-low-test.true) in
-    record {
-      ordered = omega (arith, c.loop-low-test.true);
-      inside = l.invariant.inside;
-      below = below_middle c.args.deletions.now middle c.args.reference _ c.requires lt c.if-deletions-middle.true;
-      above = l.invariant.above;
-    }
+pub returns-clause-below : goal.returns-clause-below
+returns-clause-below c k d l =
+    let point = IsPartitionPoint-from_clause (λ x. ltb x.reference c.args.reference) c.args.deletions.now c.partition_point.result c.partition_point.ensures.partitioned (IsPartitionedBy-ltb (λ x. x.reference) c.args.deletions.now c.args.reference (by_reference c.args.deletions.now c.requires)) (λ a r f k. search rules) in
+    ltb-true _ _ (point.0 k d (omega arith) l)
 
-pub loop-low-preserved : goal.loop-low-preserved
-loop-low-preserved c =
-    let l = c.loop-low in
-    let middle = l.low + (l.high - l.low) / 2 in
-    let lt : middle < length c.args.deletions.now = omega (arith, l.invariant.inside, c.loop-low-test.true) in
-    record {
-      ordered = omega (arith, c.loop-low-test.true);
-      inside = omega (arith, lt);
-      below = l.invariant.below;
-      above = above_middle c.args.deletions.now middle c.args.reference _ c.requires lt c.if-deletions-middle.false;
-    }
+pub returns-clause-above : goal.returns-clause-above
+returns-clause-above c k d l m =
+    let point = IsPartitionPoint-from_clause (λ x. ltb x.reference c.args.reference) c.args.deletions.now c.partition_point.result c.partition_point.ensures.partitioned (IsPartitionedBy-ltb (λ x. x.reference) c.args.deletions.now c.args.reference (by_reference c.args.deletions.now c.requires)) (λ a r f k. search rules) in
+    ltb-false _ _ (point.1 k d l m)

@@ -1,6 +1,0 @@
-use Rattle.std.proofs.lemmas.List.Sorted.{IsNonDecreasingBy-from_sort_by_key}
-use Rattle.std.proofs.Common.{rules}
-use Rattle.tombstones.proofs.tombstones.opened.Goals as goal
-
-pub invariant_of-result : goal.invariant_of-result
-invariant_of-result c = IsNonDecreasingBy-from_sort_by_key (λ d. d.reference) _ c.sort_unstable_by_key.ensures.sorted (λ a r q k. search rules)
