@@ -17,3 +17,4 @@ pub mod Passing
 pub mod Wanting
 pub mod Showing
 pub mod Walking
+pub mod Listed

@@ -1,13 +1,9 @@
 -- The checks of a block, one after the other.
-use Rattle.std.proofs.Common.{◌≡◌, ℕ, Bool, true, false, ◌&&◌, ◌||◌, eqb, List, [], ◌∷◌, Option, Some, None, Result, Ok, Err, refl, sym, ap, subst, ◌∙◌, inl, inr, arith}
-use Rattle.std.specs.Prelude.{ℤ, slice_get, IfSome, IfNone, is_some, not}
-use Rattle.std.specs.List.{AllByRecursion, Contains, list_all, list_any}
+use Rattle.std.proofs.Common.{◌≡◌, ℕ, Bool, true, false, ◌&&◌, List, [], ◌∷◌, Option, Some, None, Result, Ok, Err, refl, sym, ap, subst, ◌∙◌}
+use Rattle.std.specs.Prelude.{ℤ, slice_get, IfSome, IfNone, is_some}
+use Rattle.std.specs.List.{AllByRecursion, Contains, list_all}
 use Rattle.std.specs.List.Sorted.{IsPermutation}
-use Rattle.std.proofs.lemmas.Bool.{eqb-true}
-use Rattle.std.proofs.lemmas.Bool.Decides.{nat_tests}
 use Rattle.std.proofs.lemmas.Option.{slice_get_within, get_or_from_slice_get}
-use Rattle.labels.specs.Parts.{Part}
-use Rattle.labels.proofs.Lists.{here, there, Contains-cases, none_in_nil}
 use Rattle.index_reader.specs.declared.error.IndexError.{IndexError}
 use Rattle.index_reader.specs.declared.error.IndexError.TheVariants as index
 use Rattle.index_reader.specs.declared.chunk.Chunk.{Chunk}
@@ -20,19 +16,14 @@ use Rattle.chunk_reader.specs.Reading as chunk_reading
 use Rattle.tombstones.specs.declared.deletion.Deletion.{Deletion}
 use Rattle.tombstones.specs.declared.error.TombstoneError.{TombstoneError}
 use Rattle.tombstones.specs.declared.error.TombstoneError.TheVariants as tombstone
-use Rattle.tombstones.specs.Covering.{covered}
 use Rattle.tombstones.specs.Outcome as tombstone_outcome
 use Rattle.tombstones.specs.Reading.{deletions_of}
-use Rattle.tombstones.proofs.Covers.{covered_all}
-use Rattle.std.proofs.lemmas.List.Elements.{filter_agree}
-use Rattle.std.proofs.lemmas.List.Sorted.{list_any-IsPermutation}
 use Rattle.block.proofs.AnyOrder.{known_any_order, shown_any_order}
 use Rattle.block.proofs.Checks.{known_in, in_known}
 use Rattle.block.specs.declared.error.BlockError.{BlockError}
 use Rattle.block.specs.declared.error.BlockError.TheVariants.{Memory, Index, UnknownSeries, OutsideRange}
 use Rattle.block.specs.Outcome.{Fails, of_index, of_chunk, of_tombstone}
-use Rattle.block.specs.Samples.{samples_in, undeleted}
-use Rattle.block.specs.Blocks.{Shown, row_of, part_of, shown_of}
+use Rattle.block.specs.Blocks.{Shown, shown_of}
 use Rattle.block.specs.Sound.{lies_in}
 use Rattle.block.specs.Opening.{◌>>=◌, or_index, or_chunks, or_tombstones, each, chunk_check, series_check, have_few, is_few, is_known, is_inside, stored_of, deleted_of, block_of}
 

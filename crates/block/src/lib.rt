@@ -4,7 +4,8 @@
 //! where that has the three members that count, else it answers `B2`. [`Block::open`] opens the index, the chunks and the
 //! deletions of a block exactly where they spell one, and names the first check that fails where they do not.
 //!
-//! A block tells the label set and the undeleted samples of a series, and a [`BlockView`] of it lends lists.
+//! A block tells the label set and the undeleted samples of a series, or of all of them, and a [`BlockView`] of it lends
+//! lists.
 //! [`RawList`] is a list of references that stay in the bytes of the index: a seek leaves exactly what is not below its
 //! target, and reads no more references than the length of what remained has binary digits. [`LiveList`] lists the
 //! series with an undeleted sample in a range, and reads a chunk only where the times of the chunks leave it open.
@@ -17,6 +18,7 @@ mod blocks;
 mod counting;
 mod error;
 mod halving;
+mod listing;
 mod live_list;
 mod meta;
 mod opening;
