@@ -100,12 +100,17 @@ batch_from body n samples count some len found rising =
 pub length-body_text : (samples : List (ℤ × ℤ)) → length (body_text samples) ≡ 2 + 16 * length samples
 length-body_text samples = omega (arith, length-append (big_bytes 2 (length samples)) (flat_map sample_text samples), length-texts samples)
 
+pub texts_again : (samples : List (ℤ × ℤ)) → IsBatch samples → samples_in (flat_map sample_text samples) ≡ samples
+texts_again samples b =
+    let texts = flat_map sample_text samples in
+    let count : length texts / 16 ≡ length samples = omega (arith, length-texts samples) in
+    ap (λ (k : ℕ). samples_from k texts) count ∙ samples_again samples (fits_of samples b.times b.values)
+
 pub batch_again : (samples : List (ℤ × ℤ)) → IsBatch samples → batch_in (body_text samples) ≡ Ok samples
 batch_again samples b =
     let n = length samples in
     let texts = flat_map sample_text samples in
     let tail : drop 2 (body_text samples) ≡ texts = drop_at (big_bytes 2 n) texts 2 refl in
-    let count : length texts / 16 ≡ n = omega (arith, length-texts samples) in
     let few : n < 2 ^ 16 = omega (arith, b.few) in
-    let found : samples_in (drop 2 (body_text samples)) ≡ samples = ap samples_in tail ∙ ap (λ (k : ℕ). samples_from k texts) count ∙ samples_again samples (fits_of samples b.times b.values) in
+    let found : samples_in (drop 2 (body_text samples)) ≡ samples = ap samples_in tail ∙ texts_again samples b in
     batch_from (body_text samples) n samples (big_number-reads_back 2 n texts few) b.some (length-body_text samples) found (rises_from_times samples b.ascending b.times)

@@ -4,4 +4,5 @@ pub mod Rising
 pub mod SampleTexts
 pub mod Spans
 pub mod Steps
+pub mod Stored
 pub mod Whole

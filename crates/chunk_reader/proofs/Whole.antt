@@ -87,13 +87,18 @@ content_takes bytes x fits h =
     front ∙ (ap (λ (r : List ℕ). uvarint (length made.1) ++ r) behind ∙ sym (append_assoc (uvarint (length made.1)) (checked (made.0 ∷ made.1)) s.0.1)) in
     subst (Fronts bytes) (same_value made x t.1) (record { rest = s.0.1; text = text })
 
+-- a chunk's text, part by part
+pub chunk_text_apart : (encoding : ℕ) (body rest : List ℕ) → chunk_text encoding body ++ rest ≡ uvarint (length body) ++ ((encoding ∷ body) ++ (big_bytes 4 (crc32c (encoding ∷ body)) ++ rest))
+chunk_text_apart encoding body rest =
+    let content = encoding ∷ body in
+    append_assoc (uvarint (length body)) (checked content) rest ∙ ap (λ (t : List ℕ). uvarint (length body) ++ t) (append_assoc content (big_bytes 4 (crc32c content)) rest)
+
 pub content_again : (encoding : ℕ) (body rest : List ℕ) → IsBytes (encoding ∷ body) → length body < 2 ^ 64 → content_at (chunk_text encoding body ++ rest) ≡ Ok (encoding, body)
 unfolding content_at
 content_again encoding body rest fits lt =
     let content = encoding ∷ body in
     let sum = big_bytes 4 (crc32c content) in
-    let grouped : chunk_text encoding body ++ rest ≡ uvarint (length body) ++ (content ++ (sum ++ rest)) =
-    append_assoc (uvarint (length body)) (checked content) rest ∙ ap (λ (t : List ℕ). uvarint (length body) ++ t) (append_assoc content sum rest) in
+    let grouped = chunk_text_apart encoding body rest in
     let size : length body + 1 ≡ length content = omega arith in
     let one = uvarint_again (length body) (content ++ (sum ++ rest)) lt in
     let two : bytes_at (length body + 1) (content ++ (sum ++ rest)) ≡ Ok (content, sum ++ rest) = ap (λ (n : ℕ). bytes_at n (content ++ (sum ++ rest))) size ∙ bytes_again content (sum ++ rest) in

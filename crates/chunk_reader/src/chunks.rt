@@ -1,7 +1,8 @@
 //! The file, and the checks of a chunk in their order.
 
 ghost use Rattle.std.specs.Prelude.{◌≡◌, ◌<◌, ◌≤◌, ℤ, List, length, IfOk, IsOk, OnOk, Ok};
-ghost use Rattle.chunk_reader.specs.Grammar.{IsChunk, IsSegment};
+ghost use Rattle.std.specs.List.{flat_map};
+ghost use Rattle.chunk_reader.specs.Grammar.{IsChunk, IsSegment, sample_text};
 ghost use Rattle.chunk_reader.specs.Outcome.{Answers, Gives};
 ghost use Rattle.chunk_reader.specs.Reading.{batch_in, content_at, decoded, opened, samples_of, spans};
 
@@ -66,6 +67,16 @@ impl Chunks {
         ensures only { (samples : List (ℤ × ℤ)) → IsChunk self.now reference mint maxt samples → result ≡ Ok samples }
     {
         chunk_at(self.file.as_slice(), reference, mint, maxt)
+    }
+
+    /// The samples of a chunk that [`Chunks::find`] is known to accept, in place, with none of its checks made again. It
+    /// takes a time that does not grow with the chunk, and no memory.
+    pub fn stored(&self, reference: u64, mint: i64, maxt: i64) -> Samples<'_>
+        requires known { (samples : List (ℤ × ℤ)) × IsChunk self.now reference mint maxt samples }
+        ensures exact { samples_of self.now reference mint maxt ≡ Ok result }
+        ensures found { IsChunk self.now reference mint maxt result }
+    {
+        Samples::new(sample_bytes(self.file.as_slice(), reference))
     }
 
     /// A copy of the samples of the chunk at `reference`, which is refused as [`Chunks::find`] does.
@@ -198,6 +209,20 @@ fn batch_of(body: &[u8]) -> Result<Samples<'_>, ChunkError>
         return Err(ChunkError::Shape);
     }
     Ok(samples)
+}
+
+/// The bytes of the samples of a chunk that is known to stand there, whichever its times are.
+///
+/// The encoding's byte and the count, the three bytes before them, are not looked at.
+fn sample_bytes(file: &[u8], reference: u64) -> &[u8]
+    requires { (span : ℤ × ℤ) × (samples : List (ℤ × ℤ)) × IsChunk file.now reference span.0 span.1 samples }
+    ensures { (mint maxt : ℤ) (samples : List (ℤ × ℤ)) → IsChunk file.now reference mint maxt samples → result.now ≡ flat_map sample_text samples }
+{
+    let (_, bytes) = file.split_at(reference as usize);
+    let mut cut = Cut::new(bytes);
+    let len = cut.uvarint().unwrap();
+    cut.bytes(3).unwrap();
+    cut.bytes(len as usize - 2).unwrap()
 }
 
 fn has_span(samples: &Samples<'_>, mint: i64, maxt: i64) -> bool
