@@ -18,3 +18,4 @@ pub mod Wanting
 pub mod Showing
 pub mod Walking
 pub mod Listed
+pub mod Meeting

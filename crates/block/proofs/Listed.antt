@@ -16,7 +16,7 @@ use Rattle.block.proofs.Parts.{and_true}
 use Rattle.block.proofs.Steps.{take_next}
 use Rattle.block.proofs.Turns.{below, upto}
 
-not_less : (a b : ℤ) → b ≤ℤ a → int_lt a b ≡ false
+pub not_less : (a b : ℤ) → b ≤ℤ a → int_lt a b ≡ false
 not_less a b le = go (int_lt a b) refl
   where
     go : (x : Bool) → int_lt a b ≡ x → x ≡ false

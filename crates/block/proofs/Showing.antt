@@ -23,7 +23,7 @@ use Rattle.block.specs.declared.blocks.Block.TheInside.{Inside}
 use Rattle.block.specs.Blocks.{Shown, shown_of, row_of, part_of}
 use Rattle.block.specs.Named.{AreNamed}
 use Rattle.block.specs.Samples.{samples_in}
-use Rattle.block.specs.Sound.{IsStored, IsSound}
+use Rattle.block.specs.Sound.{AreInTurn, IsStored, IsSound}
 use Rattle.block.specs.Wanted.{AreHeld}
 use Rattle.block.proofs.Parts.{references_same}
 use Rattle.block.proofs.Wanting.{is_asked}
@@ -173,10 +173,14 @@ module _ (file : List ℕ) (deletions : List Deletion) where
       or_empty [] h = refl
       or_empty (y ∷ ys) h = absurd (h (λ e. cc))
 
-stored_chunks : (range : ℤ × ℤ) (file : List ℕ) (ss : List Series) (i : ℕ) (cs : List Chunk) → AllByRecursion (IsStored range file) ss → slice_get (chunk_lists ss) i ≡ Some cs → AreHeld file cs
-stored_chunks range file [] i cs all h = absurd cc
-stored_chunks range file (s ∷ ss) zero cs all h = let same : s.chunks ≡ cs = cc in subst (AreHeld file) same all.0.held
-stored_chunks range file (s ∷ ss) (suc i) cs all h = stored_chunks range file ss i cs all.1 h
+stored_chunks : (range : ℤ × ℤ) (file : List ℕ) (P : List Chunk → Type 0) → ((s : Series) → IsStored range file s → P s.chunks) → (ss : List Series) → AllByRecursion (IsStored range file) ss → AllByRecursion P (chunk_lists ss)
+stored_chunks range file P one [] all = tt
+stored_chunks range file P one (s ∷ ss) all = (one s all.0, stored_chunks range file P one ss all.1)
+
+fact_at : (P : List Chunk → Type 0) (lists : List (List Chunk)) (i : ℕ) (cs : List Chunk) → AllByRecursion P lists → slice_get lists i ≡ Some cs → P cs
+fact_at P [] i cs all h = absurd cc
+fact_at P (x ∷ xs) zero cs all h = let same : x ≡ cs = cc in subst P same all.0
+fact_at P (x ∷ xs) (suc i) cs all h = fact_at P xs i cs all.1 h
 
 -- the fields of a block, and what it shows
 module _ (f : Files) (inside : Inside) (value : Shown) (e : f ≡ arc_value inside.files) (v : shown_of inside.range (arc_value inside.files).chunks (arc_value inside.files).index inside.tombstones ≡ value) where
@@ -224,5 +228,11 @@ module _ (f : Files) (inside : Inside) (e : f ≡ arc_value inside.files) (h : I
   pub rising : IsStrictlyIncreasing (indexes.references f.index.series)
   rising = sound.consistent.ascending
 
+  pub all_held : AllByRecursion (AreHeld f.chunks) (chunk_lists f.index.series)
+  all_held = stored_chunks inside.range f.chunks (AreHeld f.chunks) (λ s stored. stored.held) f.index.series sound.stored
+
   pub are_held : (i : ℕ) (cs : List Chunk) → slice_get (chunk_lists f.index.series) i ≡ Some cs → AreHeld f.chunks cs
-  are_held i cs g = stored_chunks inside.range f.chunks f.index.series i cs sound.stored g
+  are_held i cs g = fact_at (AreHeld f.chunks) (chunk_lists f.index.series) i cs all_held g
+
+  pub are_in_turn : (i : ℕ) (cs : List Chunk) → slice_get (chunk_lists f.index.series) i ≡ Some cs → AreInTurn cs
+  are_in_turn i cs g = fact_at AreInTurn (chunk_lists f.index.series) i cs (stored_chunks inside.range f.chunks AreInTurn (λ s stored. stored.in_turn) f.index.series sound.stored) g

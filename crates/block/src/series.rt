@@ -28,7 +28,7 @@ impl Block {
 
     /// The undeleted samples of a series in a closed range of times, in milliseconds; none for an unknown reference.
     ///
-    /// It finds the series by halving, and reads those of its chunks whose times meet the range.
+    /// It finds the series, and those of its chunks whose times meet the range, by halving, and reads no other chunk.
     pub fn samples_of(
         &self,
         alloc: Global,

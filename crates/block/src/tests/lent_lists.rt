@@ -295,3 +295,25 @@ fn a_list_has_the_chunks_of_a_series_in_their_order(rt: HostRuntime) -> Result<(
     assert_eq!(rt; rows[0].1.samples(), wanted.as_slice());
     Ok(())
 }
+
+/// In chunks from 0 to 2, from 3 to 4, of 5 alone, and from 6 to 9.
+#[test]
+fn a_range_is_cut_at_each_edge_of_its_chunks(rt: HostRuntime) -> Result<(), Fail> {
+    let alloc = rt.alloc();
+    let (index, chunks) = counted(alloc, &[3, 2, 1, 4])?;
+    let block = opened(alloc, &index, chunks, &[])?;
+    for from in -1i64..11 {
+        for to in -1i64..11 {
+            let samples = block.samples_of(alloc, SeriesRef::new(2), from, to)?;
+            let first = from.max(0);
+            let want = (to.min(9) - first + 1).max(0);
+            assert_eq!(rt; samples.len() as i64, want, "from {from} to {to}");
+            for (sample, t) in samples.iter().zip(first..) {
+                assert_eq!(rt; *sample, Sample::new(t, 7));
+            }
+            let live = block.view().live(alloc, from, to)?;
+            assert_eq!(rt; live.current().is_some(), want > 0, "from {from} to {to}");
+        }
+    }
+    Ok(())
+}

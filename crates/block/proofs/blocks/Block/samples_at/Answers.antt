@@ -1,11 +1,11 @@
 use Rattle.std.proofs.Common.{ℤ, List, ◌++◌, filter, ap, ◌∙◌}
 use Rattle.block.specs.Samples.{samples_in}
 use Rattle.block.proofs.Wanting.{is_asked}
-use Rattle.block.proofs.Showing.{are_held, within_is}
+use Rattle.block.proofs.Showing.{are_held, are_in_turn, within_is}
 use Rattle.block.proofs.blocks.Block.samples_at.Goals as goal
 
 pub push_each-requires : goal.push_each-requires
-push_each-requires c = are_held c.deref-files.result.now c.self.inside c.deref-files.ensures c.self.invariant c.args.i c.chunks_at.result.now c.chunks_at.ensures
+push_each-requires c = record { held = are_held c.deref-files.result.now c.self.inside c.deref-files.ensures c.self.invariant c.args.i c.chunks_at.result.now c.chunks_at.ensures; in_turn = are_in_turn c.deref-files.result.now c.self.inside c.deref-files.ensures c.self.invariant c.args.i c.chunks_at.result.now c.chunks_at.ensures }
 
 pub returns : goal.returns
 returns c = λ row h.
