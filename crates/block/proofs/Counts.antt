@@ -1,8 +1,9 @@
 -- How many samples are not deleted.
 use Rattle.std.proofs.Common.{◌≡◌, ℕ, ◌+◌, ◌-◌, ◌*◌, ◌^◌, ◌<◌, ◌≤◌, min, Bool, true, false, cond, List, [], ◌∷◌, ◌++◌, length, take, get_or, Some, refl, sym, ap, ◌∙◌, arith}
-use Rattle.std.specs.Prelude.{ℤ, slice_get, not}
+use Rattle.std.specs.Prelude.{ℤ, slice_get, not, ◌==◌}
 use Rattle.std.specs.Option.{option_map}
 use Rattle.std.specs.List.{AllByRecursion, filter}
+use Rattle.std.proofs.lemmas.Bool.{eqb-true}
 use Rattle.std.proofs.lemmas.List.{length-append, length-map, append-nil, map_more}
 use Rattle.std.proofs.lemmas.List.Elements.{filter-append}
 use Rattle.std.proofs.lemmas.Grind.{flat_map-append}
@@ -16,6 +17,12 @@ use Rattle.block.specs.Samples.{chunk_samples, samples_in, undeleted}
 use Rattle.block.specs.Blocks.{row_of, part_of, sample_count}
 use Rattle.block.specs.Sound.{IsStored}
 use Rattle.block.proofs.Steps.{take_next}
+
+-- where nothing is deleted
+pub all_live : (ds : List Deletion) (r : ℕ) (ss : List (ℤ × ℤ)) → (length ds == 0) ≡ true → undeleted ds r ss ≡ ss
+all_live [] r [] e = refl
+all_live [] r (s ∷ ss) e = ap (λ (xs : List (ℤ × ℤ)). s ∷ xs) (all_live [] r ss e)
+all_live (d ∷ ds) r ss e = absurd (omega (arith, eqb-true (length (d ∷ ds)) 0 e))
 
 pub undeleted_append : (ds : List Deletion) (r : ℕ) (xs ys : List (ℤ × ℤ)) → undeleted ds r (xs ++ ys) ≡ undeleted ds r xs ++ undeleted ds r ys
 undeleted_append ds r xs ys = filter-append (λ (s : ℤ × ℤ). not (covered ds r s.0)) xs ys

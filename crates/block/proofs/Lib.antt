@@ -17,3 +17,5 @@ pub mod Passing
 pub mod Wanting
 pub mod Showing
 pub mod Walking
+pub mod Listed
+pub mod Meeting

@@ -92,7 +92,7 @@ is_part range file x deletions sound =
 
 -- the range
 
-and_true : (a b : Bool) → (a && b) ≡ true → (a ≡ true) × (b ≡ true)
+pub and_true : (a b : Bool) → (a && b) ≡ true → (a ≡ true) × (b ≡ true)
 and_true true b h = (refl, h)
 and_true false b h = absurd cc
 

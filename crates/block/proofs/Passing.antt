@@ -28,13 +28,6 @@ module _ {X : Type 0} (p : X → Bool) (xs : List X) where
   pub kept_ended : (i : ℕ) (before all : List X) → length xs ≤ i → before ++ filter p (drop i xs) ≡ all → before ≡ all
   kept_ended i before all l h = sym (ap (λ (ys : List X). before ++ filter p ys) (drop_all i xs l) ∙ append-nil before) ∙ h
 
-  pub any_none : AllByRecursion (λ x. p x ≡ false) xs → list_any p xs ≡ false
-  any_none h = go xs h
-    where
-      go : (ys : List X) → AllByRecursion (λ x. p x ≡ false) ys → list_any p ys ≡ false
-      go [] a = refl
-      go (y ∷ ys) a = ap (λ b. b || list_any p ys) a.0 ∙ go ys a.1
-
   pub kept_nothing : AllByRecursion (λ x. p x ≡ false) xs → filter p xs ≡ []
   kept_nothing h = go xs h
     where

@@ -2,15 +2,16 @@
 use Rattle.std.proofs.Common.{◌≡◌, ℕ, zero, suc, ◌<◌, ℤ, Bool, true, false, cond, not, ◌&&◌, ◌||◌, List, [], ◌∷◌, length, map, Option, Some, None, refl, sym, ap, subst, ◌∙◌, arith}
 use Rattle.std.specs.Prelude.{slice_get, nat_eq, IfNone}
 use Rattle.std.specs.Arc.{arc_value}
+use Rattle.std.specs.Option.{option_map}
 use Rattle.std.specs.List.{filter, list_any, Contains, AllByRecursion}
 use Rattle.std.specs.List.Sorted.{IsStrictlyIncreasing}
 use Rattle.std.proofs.lemmas.List.{length-map}
-use Rattle.std.proofs.lemmas.Option.{slice_get_within}
+use Rattle.std.proofs.lemmas.Option.{slice_get_within, slice_get-map}
 use Rattle.std.proofs.lemmas.Bool.Decides.{nat_tests}
 use Rattle.labels.specs.Labels.{Labels}
 use Rattle.labels.specs.Contents.{in_range}
 use Rattle.labels.specs.Rows.{Row}
-use Rattle.labels.specs.Parts.{Part, carries, has_sample, labels_in, references, references_where, row_at, samples_within}
+use Rattle.labels.specs.Parts.{Part, carries, has_sample, labels_in, references, references_where, row_at, within}
 use Rattle.labels.proofs.Lists.{here, there, rising-head, rising-tail, filter-filter}
 use Rattle.index_reader.specs.declared.chunk.Chunk.{Chunk}
 use Rattle.index_reader.specs.Indexes.{Series, Indexed, IsConsistent, label_sets, chunk_lists, references_with}
@@ -22,7 +23,7 @@ use Rattle.block.specs.declared.blocks.Block.TheInside.{Inside}
 use Rattle.block.specs.Blocks.{Shown, shown_of, row_of, part_of}
 use Rattle.block.specs.Named.{AreNamed}
 use Rattle.block.specs.Samples.{samples_in}
-use Rattle.block.specs.Sound.{IsStored, IsSound}
+use Rattle.block.specs.Sound.{AreInTurn, IsStored, IsSound}
 use Rattle.block.specs.Wanted.{AreHeld}
 use Rattle.block.proofs.Parts.{references_same}
 use Rattle.block.proofs.Wanting.{is_asked}
@@ -103,18 +104,38 @@ module _ (file : List ℕ) (deletions : List Deletion) where
       ∙ ap (λ (s : Series). Some s.labels) same
       ∙ ap (λ (x : Labels). Some x) q.1.1
 
-  pub samples_here : (from to : ℤ) (ss : List Series) (i r : ℕ) (cs : List Chunk) → IsStrictlyIncreasing (indexes.references ss) → slice_get (indexes.references ss) i ≡ Some r → slice_get (chunk_lists ss) i ≡ Some cs
-      → filter (is_asked deletions r from to) (samples_in file cs) ≡ samples_within from to (row_at r (part_of file deletions ss))
-  samples_here from to ss i r cs rising h g =
+  pub within_here : (from to : ℤ) (ss : List Series) (i r : ℕ) (cs : List Chunk) (row : ℕ × Row) → slice_get (indexes.references ss) i ≡ Some r → slice_get (chunk_lists ss) i ≡ Some cs → slice_get (part_of file deletions ss) i ≡ Some row
+      → filter (is_asked deletions r from to) (samples_in file cs) ≡ within from to row.1.1
+  within_here from to ss i r cs row h g f =
       let p = came_from (λ (s : Series). s.reference) ss i r h in
       let q = came_from (λ (s : Series). s.chunks) ss i cs g in
+      let w = came_from (row_of file deletions) ss i row f in
       let same : p.0 ≡ q.0 = cc (p.1.0, q.1.0) in
+      let other : p.0 ≡ w.0 = cc (p.1.0, w.1.0) in
       ap (λ (xs : List Chunk). filter (is_asked deletions r from to) (samples_in file xs)) (sym q.1.1)
       ∙ ap (λ (s : Series). filter (is_asked deletions r from to) (samples_in file s.chunks)) (sym same)
       ∙ ap (λ (x : ℕ). filter (is_asked deletions x from to) (samples_in file p.0.chunks)) (sym p.1.1)
       ∙ sym (filter-filter (λ (s : ℤ × ℤ). in_range from to s.0) (λ (s : ℤ × ℤ). not (covered deletions p.0.reference s.0)) (samples_in file p.0.chunks))
-      ∙ ap (samples_within from to) (sym (row_here ss i p.0 rising p.1.0))
-      ∙ ap (λ (x : ℕ). samples_within from to (row_at x (part_of file deletions ss))) p.1.1
+      ∙ ap (λ (s : Series). within from to (row_of file deletions s).1.1) other
+      ∙ ap (λ (x : ℕ × Row). within from to x.1.1) w.1.1
+
+  pub row_stands : (ss : List Series) (i r : ℕ) → IsStrictlyIncreasing (indexes.references ss) → slice_get (indexes.references ss) i ≡ Some r
+      → (row : ℕ × Row) × ((slice_get (part_of file deletions ss) i ≡ Some row) × (row_at r (part_of file deletions ss) ≡ Some row.1))
+  row_stands ss i r rising h =
+      let p = came_from (λ (s : Series). s.reference) ss i r h in (
+        row_of file deletions p.0,
+        (
+          slice_get-map (row_of file deletions) ss i ∙ ap (option_map (row_of file deletions)) p.1.0,
+          ap (λ (x : ℕ). row_at x (part_of file deletions ss)) (sym p.1.1) ∙ row_here ss i p.0 rising p.1.0,
+        ),
+      )
+
+  pub set_here : (ss : List Series) (i : ℕ) (l : Labels) (row : ℕ × Row) → slice_get (label_sets ss) i ≡ Some l → slice_get (part_of file deletions ss) i ≡ Some row → l ≡ row.1.0
+  set_here ss i l row g f =
+      let q = came_from (λ (s : Series). s.labels) ss i l g in
+      let w = came_from (row_of file deletions) ss i row f in
+      let same : q.0 ≡ w.0 = cc (q.1.0, w.1.0) in
+      sym q.1.1 ∙ ap (λ (s : Series). s.labels) same ∙ ap (λ (x : ℕ × Row). x.1.0) w.1.1
 
   pub live_here : (from to : ℤ) (ss : List Series) (i r : ℕ) (cs : List Chunk) (row : ℕ × Row) → slice_get (indexes.references ss) i ≡ Some r → slice_get (chunk_lists ss) i ≡ Some cs → slice_get (part_of file deletions ss) i ≡ Some row
       → list_any (is_asked deletions r from to) (samples_in file cs) ≡ has_sample from to row.1.1
@@ -152,10 +173,14 @@ module _ (file : List ℕ) (deletions : List Deletion) where
       or_empty [] h = refl
       or_empty (y ∷ ys) h = absurd (h (λ e. cc))
 
-stored_chunks : (range : ℤ × ℤ) (file : List ℕ) (ss : List Series) (i : ℕ) (cs : List Chunk) → AllByRecursion (IsStored range file) ss → slice_get (chunk_lists ss) i ≡ Some cs → AreHeld file cs
-stored_chunks range file [] i cs all h = absurd cc
-stored_chunks range file (s ∷ ss) zero cs all h = let same : s.chunks ≡ cs = cc in subst (AreHeld file) same all.0.held
-stored_chunks range file (s ∷ ss) (suc i) cs all h = stored_chunks range file ss i cs all.1 h
+stored_chunks : (range : ℤ × ℤ) (file : List ℕ) (P : List Chunk → Type 0) → ((s : Series) → IsStored range file s → P s.chunks) → (ss : List Series) → AllByRecursion (IsStored range file) ss → AllByRecursion P (chunk_lists ss)
+stored_chunks range file P one [] all = tt
+stored_chunks range file P one (s ∷ ss) all = (one s all.0, stored_chunks range file P one ss all.1)
+
+fact_at : (P : List Chunk → Type 0) (lists : List (List Chunk)) (i : ℕ) (cs : List Chunk) → AllByRecursion P lists → slice_get lists i ≡ Some cs → P cs
+fact_at P [] i cs all h = absurd cc
+fact_at P (x ∷ xs) zero cs all h = let same : x ≡ cs = cc in subst P same all.0
+fact_at P (x ∷ xs) (suc i) cs all h = fact_at P xs i cs all.1 h
 
 -- the fields of a block, and what it shows
 module _ (f : Files) (inside : Inside) (value : Shown) (e : f ≡ arc_value inside.files) (v : shown_of inside.range (arc_value inside.files).chunks (arc_value inside.files).index inside.tombstones ≡ value) where
@@ -178,9 +203,18 @@ module _ (f : Files) (inside : Inside) (value : Shown) (e : f ≡ arc_value insi
   pub row_is_none : (r : ℕ) → (Contains (indexes.references f.index.series) r → ⊥) → row_at r value.part ≡ None
   row_is_none r none = ap (λ (p : Part). row_at r p) (sym part_is) ∙ row_nowhere f.chunks inside.tombstones f.index.series r none
 
-  pub samples_are : (from to : ℤ) (i r : ℕ) (cs : List Chunk) → IsStrictlyIncreasing (indexes.references f.index.series) → slice_get (indexes.references f.index.series) i ≡ Some r → slice_get (chunk_lists f.index.series) i ≡ Some cs
-      → filter (is_asked inside.tombstones r from to) (samples_in f.chunks cs) ≡ samples_within from to (row_at r value.part)
-  samples_are from to i r cs rising h g = samples_here f.chunks inside.tombstones from to f.index.series i r cs rising h g ∙ ap (λ (p : Part). samples_within from to (row_at r p)) part_is
+  pub within_is : (from to : ℤ) (i r : ℕ) (cs : List Chunk) (row : ℕ × Row) → slice_get (indexes.references f.index.series) i ≡ Some r → slice_get (chunk_lists f.index.series) i ≡ Some cs → slice_get value.part i ≡ Some row
+      → filter (is_asked inside.tombstones r from to) (samples_in f.chunks cs) ≡ within from to row.1.1
+  within_is from to i r cs row h g at = within_here f.chunks inside.tombstones from to f.index.series i r cs row h g (ap (λ (p : Part). slice_get p i) part_is ∙ at)
+
+  pub set_is : (i : ℕ) (l : Labels) (row : ℕ × Row) → slice_get (label_sets f.index.series) i ≡ Some l → slice_get value.part i ≡ Some row → l ≡ row.1.0
+  set_is i l row g at = set_here f.chunks inside.tombstones f.index.series i l row g (ap (λ (p : Part). slice_get p i) part_is ∙ at)
+
+  pub found_is : (i r : ℕ) → IsStrictlyIncreasing (indexes.references f.index.series) → slice_get (indexes.references f.index.series) i ≡ Some r
+      → (row : ℕ × Row) × ((slice_get value.part i ≡ Some row) × (row_at r value.part ≡ Some row.1))
+  found_is i r rising h =
+      let stands = row_stands f.chunks inside.tombstones f.index.series i r rising h in
+      (stands.0, (ap (λ (p : Part). slice_get p i) (sym part_is) ∙ stands.1.0, ap (λ (p : Part). row_at r p) (sym part_is) ∙ stands.1.1))
 
   pub live_is : (from to : ℤ) (i r : ℕ) (cs : List Chunk) (row : ℕ × Row) → slice_get (indexes.references f.index.series) i ≡ Some r → slice_get (chunk_lists f.index.series) i ≡ Some cs → slice_get value.part i ≡ Some row
       → list_any (is_asked inside.tombstones r from to) (samples_in f.chunks cs) ≡ has_sample from to row.1.1
@@ -194,5 +228,11 @@ module _ (f : Files) (inside : Inside) (e : f ≡ arc_value inside.files) (h : I
   pub rising : IsStrictlyIncreasing (indexes.references f.index.series)
   rising = sound.consistent.ascending
 
+  pub all_held : AllByRecursion (AreHeld f.chunks) (chunk_lists f.index.series)
+  all_held = stored_chunks inside.range f.chunks (AreHeld f.chunks) (λ s stored. stored.held) f.index.series sound.stored
+
   pub are_held : (i : ℕ) (cs : List Chunk) → slice_get (chunk_lists f.index.series) i ≡ Some cs → AreHeld f.chunks cs
-  are_held i cs g = stored_chunks inside.range f.chunks f.index.series i cs sound.stored g
+  are_held i cs g = fact_at (AreHeld f.chunks) (chunk_lists f.index.series) i cs all_held g
+
+  pub are_in_turn : (i : ℕ) (cs : List Chunk) → slice_get (chunk_lists f.index.series) i ≡ Some cs → AreInTurn cs
+  are_in_turn i cs g = fact_at AreInTurn (chunk_lists f.index.series) i cs (stored_chunks inside.range f.chunks AreInTurn (λ s stored. stored.in_turn) f.index.series sound.stored) g

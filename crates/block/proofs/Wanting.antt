@@ -16,7 +16,7 @@ use Rattle.tombstones.specs.Covering.{covered}
 use Rattle.block.specs.Samples.{chunk_samples, samples_in}
 use Rattle.block.specs.Sound.{IsHeld}
 use Rattle.block.specs.Wanted.{AreHeld, is_wanted, meets}
-use Rattle.block.proofs.Passing.{any_passed, any_found, any_none, kept_one, kept_none, kept_nothing, held_at, and_false, or_true}
+use Rattle.block.proofs.Passing.{any_passed, any_found, kept_one, kept_none, and_false, or_true}
 use Rattle.block.proofs.Turns.{below, is_below, span_of}
 
 module _ (deletions : List Deletion) (reference : ℕ) (from to : ℤ) where
@@ -82,13 +82,10 @@ module _ (deletions : List Deletion) (reference : ℕ) (from to : ℤ) where
   unmet_each c (s ∷ ss) e low high =
       (ap (λ b. b && not (covered deletions reference s.0)) (unmet_time c s.0 low.0 high.0 e), unmet_each c ss e low.1 high.1)
 
-  unmet : (file : List ℕ) (c : Chunk) → IsHeld file c → meets from to c ≡ false → AllByRecursion (λ (s : ℤ × ℤ). is_asked s ≡ false) (chunk_samples file c)
+  pub unmet : (file : List ℕ) (c : Chunk) → IsHeld file c → meets from to c ≡ false → AllByRecursion (λ (s : ℤ × ℤ). is_asked s ≡ false) (chunk_samples file c)
   unmet file c held e =
       let span = span_of file c.reference c.mint c.maxt (chunk_samples file c) held.stands in
       unmet_each c (chunk_samples file c) e span.begin span.end
-
-  pub none_unmet : (file : List ℕ) (c : Chunk) (b : Bool) → IsHeld file c → b ≡ meets from to c → b ≡ false → list_any is_asked (chunk_samples file c) ≡ false
-  none_unmet file c b held is e = any_none is_asked (chunk_samples file c) (unmet file c held (sym is ∙ e))
 
   -- one chunk more is read
   pub chunk_kept : (file : List ℕ) (chunks : List Chunk) (i : ℕ) (d : Chunk) (before after all : List (ℤ × ℤ)) → i < length chunks → after ≡ before ++ filter is_asked (chunk_samples file (get_or chunks i d))
@@ -98,13 +95,6 @@ module _ (deletions : List Deletion) (reference : ℕ) (from to : ℤ) where
       ∙ append_assoc before (filter is_asked (chunk_samples file (get_or chunks i d))) (filter is_asked (samples_in file (drop (i + 1) chunks)))
       ∙ ap (λ (xs : List (ℤ × ℤ)). before ++ xs) (sym (ap (λ cs. filter is_asked (samples_in file cs)) (drop_more chunks i d l) ∙ filter-append is_asked (chunk_samples file (get_or chunks i d)) (samples_in file (drop (i + 1) chunks))))
       ∙ h
-
-  -- or left out
-  pub chunk_left : (file : List ℕ) (chunks : List Chunk) (i : ℕ) (d : Chunk) (b : Bool) (before after all : List (ℤ × ℤ)) → i < length chunks → AreHeld file chunks → b ≡ meets from to (get_or chunks i d) → b ≡ false → after ≡ before
-      → before ++ filter is_asked (samples_in file (drop i chunks)) ≡ all → after ++ filter is_asked (samples_in file (drop (i + 1) chunks)) ≡ all
-  chunk_left file chunks i d b before after all l held is e f h =
-      chunk_kept file chunks i d before after all l
-      (f ∙ sym (append-nil before) ∙ ap (λ (xs : List (ℤ × ℤ)). before ++ xs) (sym (kept_nothing is_asked (chunk_samples file (get_or chunks i d)) (unmet file (get_or chunks i d) (held_at (IsHeld file) chunks i d l held) (sym is ∙ e))))) h
 
   pub chunk_passed : (file : List ℕ) (chunks : List Chunk) (i : ℕ) (d : Chunk) (b : Bool) → i < length chunks → b ≡ list_any is_asked (chunk_samples file (get_or chunks i d)) → b ≡ false
       → list_any is_asked (samples_in file (drop (i + 1) chunks)) ≡ list_any is_asked (samples_in file (drop i chunks))

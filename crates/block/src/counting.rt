@@ -1,9 +1,14 @@
 //! How many samples are not deleted.
 
 ghost use Rattle.std.specs.Prelude.{◌≡◌, ◌<◌, ◌-◌, ◌^◌, length, min};
+ghost use Rattle.std.specs.List.{AllByRecursion};
+ghost use Rattle.index_reader.specs.Indexes.{chunk_lists};
 ghost use Rattle.block.specs.Samples.{chunk_samples, samples_in, undeleted};
 ghost use Rattle.block.specs.Blocks.{part_of, sample_count};
+ghost use Rattle.block.specs.Sound.{IsHeld};
+ghost use Rattle.block.specs.Wanted.{AreHeld};
 
+use crate::wanted::chunk_samples;
 use chunk_reader::{Chunks, Samples};
 use index_reader::{Chunk, Index};
 use labels::SeriesRef;
@@ -22,12 +27,14 @@ fn live_among(samples: &Samples<'_>, tombstones: &Tombstones, reference: SeriesR
 }
 
 fn live_in(chunks: &Chunks, chunk: &Chunk, tombstones: &Tombstones, reference: SeriesRef) -> u64
+    requires { IsHeld chunks.now chunk.now }
     ensures { result ≡ length (undeleted tombstones.now reference (chunk_samples chunks.now chunk.now)) }
 {
-    match chunks.find(chunk.reference, chunk.mint, chunk.maxt) {
-        Ok(samples) => live_among(&samples, tombstones, reference),
-        Err(_) => 0,
+    let samples = chunk_samples(chunks, *chunk);
+    if tombstones.deletions().is_empty() {
+        return samples.len() as u64;
     }
+    live_among(&samples, tombstones, reference)
 }
 
 fn live_in_all(
@@ -36,6 +43,7 @@ fn live_in_all(
     tombstones: &Tombstones,
     reference: SeriesRef,
 ) -> u64
+    requires { AreHeld chunks.now list.now }
     ensures { result ≡ min (length (undeleted tombstones.now reference (samples_in chunks.now list.now))) (2 ^ 64 - 1) }
 {
     let mut count = 0u64;
@@ -47,6 +55,7 @@ fn live_in_all(
 
 /// How many samples of all series are not deleted, up to the greatest number.
 pub(crate) fn count_live(index: &Index, chunks: &Chunks, tombstones: &Tombstones) -> u64
+    requires { AllByRecursion (AreHeld chunks.now) (chunk_lists index.now.series) }
     ensures { result ≡ min (sample_count (part_of chunks.now tombstones.now index.now.series)) (2 ^ 64 - 1) }
 {
     let mut count = 0u64;

@@ -2,7 +2,7 @@
 
 ghost use Rattle.std.specs.Prelude.{◌≡◌, ℕ, ℤ, ◌<◌, ◌≤◌, [], List, length, get_or, slice_get, Some, None, IfNone, IfSome, IfOk};
 ghost use Rattle.labels.specs.Rows.{Row};
-ghost use Rattle.labels.specs.Parts.{carries, has_sample, labels_in, references, references_where, row_at, samples_within};
+ghost use Rattle.labels.specs.Parts.{carries, has_sample, labels_in, references, references_where, row_at, samples_within, within};
 ghost use Rattle.index_reader.specs.Indexes.{values_of};
 
 use crate::blocks::Block;
@@ -28,7 +28,7 @@ impl Block {
 
     /// The undeleted samples of a series in a closed range of times, in milliseconds; none for an unknown reference.
     ///
-    /// It finds the series by halving, and reads those of its chunks whose times meet the range.
+    /// It finds the series, and those of its chunks whose times meet the range, by halving, and reads no other chunk.
     pub fn samples_of(
         &self,
         alloc: Global,
@@ -38,33 +38,39 @@ impl Block {
     ) -> Result<Vec<Sample>, AllocError>
         ensures { IfOk result (λ samples. samples.items ≡ samples_within from to (row_at reference self.now.part)) }
     {
-        self.samples_in(alloc, reference, Times { from, to })
+        match place_of(&self.files.index, reference) {
+            Some(at) => self.samples_at(alloc, at, Times { from, to }),
+            None => Ok(Vec::new(alloc)),
+        }
     }
 
-    fn samples_in(
+    /// The undeleted samples of the series at a place in the closed range.
+    pub(crate) fn samples_at(
         &self,
         alloc: Global,
-        reference: SeriesRef,
+        i: usize,
         times: Times,
     ) -> Result<Vec<Sample>, AllocError>
-        ensures { IfOk result (λ samples. samples.items ≡ samples_within times.from times.to (row_at reference self.now.part)) }
+        requires { i < length self.now.part }
+        ensures { IfOk result (λ samples. (row : ℕ × Row) → slice_get self.now.part i ≡ Some row → samples.items ≡ within times.from times.to row.1.1) }
     {
         let mut found = Vec::new(alloc);
         let files = &*self.files;
         let wanted = Wanted {
             tombstones: &self.tombstones,
-            reference,
+            reference: files.index.reference_at(i),
             times,
         };
-        if let Some(at) = place_of(&files.index, reference) {
-            push_each(
-                &mut found,
-                &files.chunks,
-                files.index.chunks_at(at),
-                &wanted,
-            )?;
-        }
+        push_each(&mut found, &files.chunks, files.index.chunks_at(i), &wanted)?;
         Ok(found)
+    }
+
+    /// The label set of the series at a place, from 0.
+    pub(crate) fn labels_at(&self, i: usize) -> &LabelSet
+        requires { i < length self.now.part }
+        ensures { (row : ℕ × Row) → slice_get self.now.part i ≡ Some row → result.now ≡ row.1.0 }
+    {
+        self.files.index.labels_at(i)
     }
 
     /// The reference of the series at a place, from 0.

@@ -3,7 +3,7 @@
 ghost use Rattle.std.specs.Prelude.{◌≡◌, ◌++◌, ◌||◌, ℤ, filter, OnOk};
 ghost use Rattle.std.specs.List.{list_any};
 ghost use Rattle.block.specs.Samples.{chunk_samples, samples_in};
-ghost use Rattle.block.specs.Sound.{IsHeld};
+ghost use Rattle.block.specs.Sound.{AreInTurn, IsHeld};
 ghost use Rattle.block.specs.Wanted.{AreHeld, is_wanted, meets};
 
 use chunk_reader::{Chunks, Samples};
@@ -46,23 +46,25 @@ impl<'a> Wanted<'a> {
     {
         self.is_time(chunk.mint) || self.is_time(chunk.maxt)
     }
-
-    /// Whether the times of the chunk meet the range.
-    fn meets(&self, chunk: Chunk) -> bool
-        ensures { result ≡ meets self.now.times.from self.now.times.to chunk }
-    {
-        chunk.maxt >= self.times.from && chunk.mint <= self.times.to
-    }
 }
 
-/// The samples of a chunk, in place.
-fn samples_at(chunks: &Chunks, chunk: Chunk) -> Samples<'_>
+/// The chunks whose times meet the range. They stand side by side, and are found by halving.
+fn meeting(series: &[Chunk], times: Times) -> &[Chunk]
+    requires { AreInTurn series.now }
+    ensures { result.now ≡ filter (meets times.from times.to) series.now }
+{
+    let end = series.partition_point(|chunk| chunk.mint <= times.to);
+    let begun = &series[..end];
+    let start = begun.partition_point(|chunk| chunk.maxt < times.from);
+    &begun[start..]
+}
+
+/// The samples of a chunk, in place. No check of it is made again.
+pub(crate) fn chunk_samples(chunks: &Chunks, chunk: Chunk) -> Samples<'_>
     requires { IsHeld chunks.now chunk }
     ensures { result ≡ chunk_samples chunks.now chunk }
 {
-    chunks
-        .find(chunk.reference, chunk.mint, chunk.maxt)
-        .unwrap()
+    chunks.stored(chunk.reference, chunk.mint, chunk.maxt)
 }
 
 fn push_wanted(
@@ -81,20 +83,20 @@ fn push_wanted(
     Ok(())
 }
 
-/// Adds the samples that are wanted. It reads the chunks whose times meet the range, and no other.
+/// Adds the samples that are wanted. It finds the chunks whose times meet the range by halving, and reads no other.
 pub(crate) fn push_each(
     found: &mut Vec<Sample>,
     chunks: &Chunks,
     series: &[Chunk],
     wanted: &Wanted<'_>,
 ) -> Result<(), AllocError>
-    requires { AreHeld chunks.now series.now }
+    requires held { AreHeld chunks.now series.now }
+    requires in_turn { AreInTurn series.now }
     ensures { OnOk result (found.new.items ≡ found.old.items ++ filter (λ (s : ℤ × ℤ). is_wanted wanted.now.tombstones.now wanted.now.reference wanted.now.times.from wanted.now.times.to s.0) (samples_in chunks.now series.now)) }
 {
-    for chunk in series {
-        if wanted.meets(*chunk) {
-            push_wanted(found, &samples_at(chunks, *chunk), wanted)?;
-        }
+    let met = meeting(series, wanted.times);
+    for chunk in met {
+        push_wanted(found, &chunk_samples(chunks, *chunk), wanted)?;
     }
     Ok(())
 }
@@ -122,36 +124,29 @@ fn has_wanted_end(series: &[Chunk], wanted: &Wanted<'_>) -> bool
     false
 }
 
-/// Whether the chunk has a sample that is wanted. It is read only where its times meet the range.
-fn has_wanted_in(chunks: &Chunks, chunk: Chunk, wanted: &Wanted<'_>) -> bool
-    requires { IsHeld chunks.now chunk }
-    ensures { result ≡ list_any (λ (s : ℤ × ℤ). is_wanted wanted.now.tombstones.now wanted.now.reference wanted.now.times.from wanted.now.times.to s.0) (chunk_samples chunks.now chunk) }
-{
-    if !wanted.meets(chunk) {
-        return false;
-    }
-    has_wanted(&samples_at(chunks, chunk), wanted)
-}
-
+/// Whether one of the samples is wanted. It reads the chunks up to the first that has one.
 fn has_wanted_within(chunks: &Chunks, series: &[Chunk], wanted: &Wanted<'_>) -> bool
     requires { AreHeld chunks.now series.now }
     ensures { result ≡ list_any (λ (s : ℤ × ℤ). is_wanted wanted.now.tombstones.now wanted.now.reference wanted.now.times.from wanted.now.times.to s.0) (samples_in chunks.now series.now) }
 {
     for chunk in series {
-        if has_wanted_in(chunks, *chunk, wanted) {
+        if has_wanted(&chunk_samples(chunks, *chunk), wanted) {
             return true;
         }
     }
     false
 }
 
-/// Whether one of the samples is wanted. Where the first or the last time of a chunk says so it reads no chunk.
+/// Whether one of the samples is wanted. It finds the chunks whose times meet the range by halving; where the first or
+/// the last time of one of them says so it reads no chunk.
 pub(crate) fn is_any_wanted(chunks: &Chunks, series: &[Chunk], wanted: &Wanted<'_>) -> bool
-    requires { AreHeld chunks.now series.now }
+    requires held { AreHeld chunks.now series.now }
+    requires in_turn { AreInTurn series.now }
     ensures { result ≡ list_any (λ (s : ℤ × ℤ). is_wanted wanted.now.tombstones.now wanted.now.reference wanted.now.times.from wanted.now.times.to s.0) (samples_in chunks.now series.now) }
 {
-    if has_wanted_end(series, wanted) {
+    let met = meeting(series, wanted.times);
+    if has_wanted_end(met, wanted) {
         return true;
     }
-    has_wanted_within(chunks, series, wanted)
+    has_wanted_within(chunks, met, wanted)
 }

@@ -260,3 +260,63 @@ fn the_label_set_of_a_series(rt: HostRuntime) -> Result<(), Fail> {
     assert!(rt; block.labels_of(SeriesRef::new(10)).is_none());
     Ok(())
 }
+
+/// Where the one sample of series 6 is deleted, which stands at 10.
+#[test]
+fn a_block_lists_its_series_with_their_undeleted_samples(rt: HostRuntime) -> Result<(), Fail> {
+    let alloc = rt.alloc();
+    let rows = worked(alloc, &[0x06, 0x14, 0x14])?.list_all(alloc)?;
+    let wanted = [
+        (4, "down", "a", "", Some(4)),
+        (5, "down", "b", "", Some(5)),
+        (6, "up", "a", "", None),
+        (7, "up", "a", "x", Some(6)),
+        (8, "up", "b", "", Some(2)),
+        (9, "up", "b", "x", Some(3)),
+    ];
+    assert_eq!(rt; rows.len(), wanted.len());
+    for ((reference, row), (number, name, job, zone, value)) in rows.iter().zip(wanted) {
+        assert_eq!(rt; *reference, SeriesRef::new(number));
+        assert_eq!(rt; row.labels().value("__name__"), name);
+        assert_eq!(rt; row.labels().value("job"), job);
+        assert_eq!(rt; row.labels().value("zone"), zone);
+        assert_eq!(rt; row.samples().len(), usize::from(value.is_some()));
+        assert_eq!(rt;
+            row.samples().first().copied(),
+            value.map(|value| Sample::new(10, value))
+        );
+    }
+    Ok(())
+}
+
+#[test]
+fn a_list_has_the_chunks_of_a_series_in_their_order(rt: HostRuntime) -> Result<(), Fail> {
+    let alloc = rt.alloc();
+    let rows = of_two_chunks(alloc, &[0x02, 0x00, 0x00])?.list_all(alloc)?;
+    assert_eq!(rt; rows.len(), 1);
+    let wanted = [1, 2, 3, 4].map(|t| Sample::new(t, 7));
+    assert_eq!(rt; rows[0].1.samples(), wanted.as_slice());
+    Ok(())
+}
+
+/// In chunks from 0 to 2, from 3 to 4, of 5 alone, and from 6 to 9.
+#[test]
+fn a_range_is_cut_at_each_edge_of_its_chunks(rt: HostRuntime) -> Result<(), Fail> {
+    let alloc = rt.alloc();
+    let (index, chunks) = counted(alloc, &[3, 2, 1, 4])?;
+    let block = opened(alloc, &index, chunks, &[])?;
+    for from in -1i64..11 {
+        for to in -1i64..11 {
+            let samples = block.samples_of(alloc, SeriesRef::new(2), from, to)?;
+            let first = from.max(0);
+            let want = (to.min(9) - first + 1).max(0);
+            assert_eq!(rt; samples.len() as i64, want, "from {from} to {to}");
+            for (sample, t) in samples.iter().zip(first..) {
+                assert_eq!(rt; *sample, Sample::new(t, 7));
+            }
+            let live = block.view().live(alloc, from, to)?;
+            assert_eq!(rt; live.current().is_some(), want > 0, "from {from} to {to}");
+        }
+    }
+    Ok(())
+}

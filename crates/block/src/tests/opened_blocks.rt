@@ -3,7 +3,7 @@
 use super::files::{counted, deletions_of, empty_chunks, empty_index, worked_chunks, worked_index};
 use crate::{Block, BlockError, Range};
 use labels::SeriesRef;
-use std::alloc::Global;
+use std::alloc::{AllocError, Global};
 use std::test::Fail;
 
 fn range(min: i64, max: i64) -> Result<Range, Fail> {
@@ -219,15 +219,28 @@ fn a_series_has_several_chunks(rt: HostRuntime) -> Result<(), Fail> {
     Ok(())
 }
 
-/// 16 chunks of 65,535 samples and one of 17 have one sample too many.
-#[test]
-fn a_series_has_a_mebi_of_samples_at_most(rt: HostRuntime) -> Result<(), Fail> {
-    let mut lengths = Vec::new(rt.alloc());
+/// 16 chunks of 65,535 samples, which are 16 less than 1,048,576, and one of `last`.
+fn many_samples(alloc: Global, last: u64) -> Result<Vec<u64>, AllocError> {
+    let mut lengths = Vec::new(alloc);
     for _ in 0..16 {
         lengths.push(65_535)?;
     }
-    lengths.push(17)?;
+    lengths.push(last)?;
+    Ok(lengths)
+}
+
+#[test]
+fn a_series_has_a_mebi_of_samples_at_most(rt: HostRuntime) -> Result<(), Fail> {
+    let lengths = many_samples(rt.alloc(), 17)?;
     let many = counted_in(rt.alloc(), &lengths, &[0x03, 0x00, 0x00], 1)?;
     assert_eq!(rt; many, Err("I15"));
+    Ok(())
+}
+
+#[test]
+fn a_series_of_a_mebi_of_samples_opens(rt: HostRuntime) -> Result<(), Fail> {
+    let lengths = many_samples(rt.alloc(), 16)?;
+    let counted = counted_in(rt.alloc(), &lengths, &[], 1_048_576)?;
+    assert_eq!(rt; counted, Ok(1_048_576));
     Ok(())
 }

@@ -1,8 +1,18 @@
-use Rattle.std.proofs.Common.{ap, ◌∙◌}
+use Rattle.std.proofs.Common.{sym, ap, subst, ◌∙◌}
+use Rattle.std.specs.List.{AllByRecursion}
 use Rattle.std.specs.Arc.{arc_value}
+use Rattle.index_reader.specs.Indexes.{chunk_lists}
+use Rattle.block.specs.declared.blocks.Files.{Files}
+use Rattle.block.specs.Wanted.{AreHeld}
 use Rattle.block.specs.Blocks.{Shown, sample_count}
 use Rattle.block.proofs.Counts.{count_whole}
+use Rattle.block.proofs.Showing.{all_held}
 use Rattle.block.proofs.blocks.Block.sample_count.Goals as goal
+
+pub count_live-requires : goal.count_live-requires
+count_live-requires c =
+    subst (λ (f : Files). AllByRecursion (AreHeld f.chunks) (chunk_lists c.deref.result.now.index.series)) (c.deref.ensures ∙ sym c.deref-2.ensures)
+    (all_held c.deref.result.now c.self.inside c.deref.ensures c.self.invariant)
 
 pub returns : goal.returns
 returns c =
