@@ -1,6 +1,6 @@
 //! The command line.
 
-ghost use Rattle.std.specs.Prelude.{◌≡◌, true, false, [], codes, map, unwrap_or, IfOk, IfErr};
+ghost use Rattle.std.specs.Prelude.{◌≡◌, ◌⊎◌, true, false, [], codes, map, unwrap_or, IfOk, IfErr};
 ghost use Rattle.querier.specs.Running.{IsTaken};
 ghost use Rattle.clap.specs.Values.{kind_of};
 ghost use Rattle.clap.specs.Matches.{found_of};
@@ -225,7 +225,10 @@ fn matches_in<'a>(alloc: Global, words: &'a [String]) -> Result<ArgMatches<'a>, 
     querier(alloc)?.try_get_matches_from(words)
 }
 
-fn directories_fault(alloc: Global) -> Result<Error, AllocError> {
+/// The fault of words that stand after the selector.
+fn directories_fault(alloc: Global) -> Result<Error, AllocError>
+    ensures { IfOk result (λ e. kind_of e ≡ ErrorKind.UnknownArgument) }
+{
     let told = "directories are not read yet: nothing may follow the selector";
     querier(alloc)?.error(ErrorKind::UnknownArgument, told)
 }
@@ -235,6 +238,7 @@ fn directories_fault(alloc: Global) -> Result<Error, AllocError> {
 pub fn read_line<'a>(alloc: Global, words: &'a [String]) -> Result<Line<'a>, Error>
     ensures ok { IfOk result (λ line. IsLineOf (texts_of words.entry.now) line) }
     ensures err { IfErr result (λ e. IsTaken (texts_of words.entry.now) → kind_of e ≡ ErrorKind.OutOfMemory) }
+    ensures refused { IfErr result (λ e. takes querier_app (texts_of words.entry.now) ≡ true → (kind_of e ≡ ErrorKind.OutOfMemory) ⊎ (kind_of e ≡ ErrorKind.UnknownArgument)) }
 {
     let found = matches_in(alloc, words)?;
     match line_in(alloc, &found)? {

@@ -127,7 +127,7 @@ fn checked(
     let mut out = Vec::new(alloc);
     let mut err = Vec::new(alloc);
     let files = MemoryFiles::new(files);
-    let status = run(
+    let ending = run(
         alloc,
         &files,
         words.as_slice(),
@@ -135,7 +135,7 @@ fn checked(
         &mut out,
         &mut err,
     );
-    Ok((status, out, err))
+    Ok((ending.status, out, err))
 }
 
 #[test]
