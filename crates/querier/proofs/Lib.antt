@@ -3,3 +3,4 @@ pub mod Checks
 pub mod CommandLines
 pub mod Judgements
 pub mod LineEnds
+pub mod FirstUnread

@@ -1,12 +1,12 @@
 -- How a line ends says how the words end.
-use Rattle.std.proofs.Common.{◌≡◌, ℕ, List, [], Option, None, Some, Result, Ok, Err, refl, inl, inr}
+use Rattle.std.proofs.Common.{ℕ, List, [], Option, None, Some, Result, Ok, Err, refl, inl, inr}
 use Rattle.std.specs.Prelude.{◌⊎◌, map}
 use Rattle.std.specs.Io.KnownBytes.{Keeps}
 use Rattle.clap.specs.Words.{Text}
 use Rattle.querier.specs.Checking.{IsBegun}
 use Rattle.querier.specs.Lines.{IsLineOf}
 use Rattle.querier.specs.Reading.{Reads}
-use Rattle.querier.specs.Running.{IsTaken, IsLineFault, IsLineEnd, IsEnd, IsLineStatus, IsCheckLine, KeepsAtEnd, status_at}
+use Rattle.querier.specs.Running.{IsTaken, IsLineFault, IsLineEnd, IsEnd, IsCheckLine, KeepsAtEnd}
 use Rattle.querier.specs.declared.command.Line.{Line}
 use Rattle.querier.specs.declared.command.Line.TheVariants.{Demo, Select, Check}
 use Rattle.querier.specs.declared.fault.Fault.{Fault}
@@ -53,8 +53,3 @@ kept_at_end reads words Demo old new (Err fault) is ends = inr ends.1
 kept_at_end reads words (Select s) old new (Ok Done) is ends = inr tt
 kept_at_end reads words (Select s) old new (Ok Refused) is ends = absurd ends
 kept_at_end reads words (Select s) old new (Err fault) is ends = inr ends.1
-
--- the exit status of an end
-pub status_of_end : (reads : Reads) (words : List Text) (old new : Option (List ℕ)) (end : Result Outcome Fault) (status : ℕ) → IsEnd reads words old new end
-    → status ≡ status_at end → IsLineStatus reads words old new status
-status_of_end reads words old new end status ends is = record { end = end; ends = ends; is = is }

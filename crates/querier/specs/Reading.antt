@@ -1,5 +1,6 @@
 -- What is read of the files of a directory.
-use Rattle.std.specs.Prelude.{◌≡◌, ℕ, ◌+◌, List, ◌∷◌, ◌++◌, take, Option, None, Some, codes, string_bytes}
+use Rattle.std.specs.Prelude.{◌≡◌, ℕ, ◌+◌, List, [], ◌∷◌, ◌++◌, take, Option, None, Some, codes, string_bytes}
+use Rattle.std.specs.List.{AllByRecursion}
 use Rattle.querier.specs.declared.fault.Fault.{Fault}
 use Rattle.querier.specs.declared.fault.Fault.TheVariants.{Words, Refused, CannotRead, CannotWrite, Memory}
 use Rattle.querier.specs.declared.files.BlockFiles.{BlockFiles}
@@ -54,11 +55,44 @@ pub record AreRead (reads : Reads) (directory : List ℕ) (files : BlockFiles) :
   pub chunks : IsRead reads directory Chunks files.chunks.items
   pub tombstones : IsRead reads directory Tombstones files.tombstones.items
 
--- the path is that of one of the files of a directory, and nothing can be read there
-pub record IsUnread (reads : Reads) (directory path : List ℕ) : Type 0 where
-  pub name : FileName
+-- a file of a directory can be read
+pub record IsFound (reads : Reads) (directory : List ℕ) (name : FileName) : Type 0 where
+  pub file : List ℕ
+  pub found : reads (path_of directory name) (Some file)
+
+-- the path is that of a file of a directory, and nothing can be read there
+pub record IsUnreadAt (reads : Reads) (directory : List ℕ) (name : FileName) (path : List ℕ) : Type 0 where
   pub is : path ≡ path_of directory name
   pub unread : reads path None
+
+-- why a file of a directory is not read
+abbrev pub IsFileFault : Reads → List ℕ → FileName → Fault → Type 0
+IsFileFault reads directory name (CannotRead path) = IsUnreadAt reads directory name (string_bytes path)
+IsFileFault reads directory name Memory = Unit {0}
+IsFileFault reads directory name CannotWrite = ⊥
+IsFileFault reads directory name (Words error) = ⊥
+IsFileFault reads directory name (Refused refusal) = ⊥
+
+-- the files of a block, in the order in which they are read
+abbrev pub reading_order : List FileName
+reading_order = Meta ∷ Index ∷ Chunks ∷ Tombstones ∷ []
+
+-- the path is that of the first file of a directory that cannot be read
+pub record IsUnread (reads : Reads) (directory path : List ℕ) : Type 0 where
+  pub before : List FileName
+  pub name : FileName
+  pub after : List FileName
+  pub order : reading_order ≡ before ++ name ∷ after
+  pub each : AllByRecursion (λ (earlier : FileName). IsFound reads directory earlier) before
+  pub at : IsUnreadAt reads directory name path
+
+-- why a directory is not judged
+abbrev pub IsReadingFault : Reads → List ℕ → Fault → Type 0
+IsReadingFault reads directory (CannotRead path) = IsUnread reads directory (string_bytes path)
+IsReadingFault reads directory Memory = Unit {0}
+IsReadingFault reads directory CannotWrite = ⊥
+IsReadingFault reads directory (Words error) = ⊥
+IsReadingFault reads directory (Refused refusal) = ⊥
 
 -- why a directory is not judged, or its line not written
 abbrev pub IsDirectoryFault : Reads → List ℕ → Fault → Type 0

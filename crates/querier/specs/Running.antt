@@ -1,19 +1,21 @@
 -- How the lines of the program end.
-use Rattle.std.specs.Prelude.{◌≡◌, ℕ, pos, true, List, [], map, Option, Result, Ok, Err}
-use Rattle.std.specs.Io.KnownBytes.{Keeps}
+use Rattle.std.specs.Prelude.{◌≡◌, ℕ, pos, true, List, [], map, Option, Result, Ok, Err, OnOk, IfSome}
+use Rattle.std.specs.Io.KnownBytes.{Appends, Keeps}
 use Rattle.clap.specs.Words.{Text, takes}
 use Rattle.head.specs.Blocks.{opening_of}
 use Rattle.querier.specs.Checking.{IsChecked, IsCheckFault}
 use Rattle.querier.specs.Demo.{demo_events, demo_query}
-use Rattle.querier.specs.Faults.{status_of}
+use Rattle.querier.specs.Faults.{status_of, line_of}
 use Rattle.querier.specs.Lines.{querier_app, IsLineOf}
 use Rattle.querier.specs.Reading.{Reads}
 use Rattle.querier.specs.Selecting.{IsSelectionFault, IsWritingFault, KeepsAt, WritesAnswerAfter, WritesSelection}
 use Rattle.querier.specs.declared.command.Line.{Line}
 use Rattle.querier.specs.declared.command.Line.TheVariants.{Demo, Select, Check}
 use Rattle.querier.specs.declared.fault.Fault.{Fault}
+use Rattle.querier.specs.declared.fault.Fault.TheVariants as fault
 use Rattle.querier.specs.declared.report.Outcome.{Outcome}
 use Rattle.querier.specs.declared.report.Outcome.TheVariants.{Done, Refused}
+use Rattle.querier.specs.declared.run.Ending.{Ending}
 
 -- `clap` takes the words, and they are a line
 pub record IsTaken (words : List Text) : Type 0 where
@@ -52,11 +54,40 @@ status_at (Ok Done) = 0
 status_at (Ok Refused) = 1
 status_at (Err fault) = status_of fault
 
--- the exit status says how the line of the words ends
-pub record IsLineStatus (reads : Reads) (words : List Text) (old new : Option (List ℕ)) (status : ℕ) : Type 0 where
+-- how words that are no line may end: help or the version was written, or the words are at fault, or memory or the writer
+-- failed
+abbrev pub IsNoLine : Result Outcome Fault → Type 0
+IsNoLine (Ok Done) = Unit {0}
+IsNoLine (Ok Refused) = ⊥
+IsNoLine (Err (fault.Words error)) = Unit {0}
+IsNoLine (Err fault.CannotWrite) = Unit {0}
+IsNoLine (Err fault.Memory) = Unit {0}
+IsNoLine (Err (fault.Refused refusal)) = ⊥
+IsNoLine (Err (fault.CannotRead path)) = ⊥
+
+-- how words that `clap` takes end where they are no line: the words are at fault, or memory failed
+abbrev pub IsWordsFault : Result Outcome Fault → Type 0
+IsWordsFault (Ok outcome) = ⊥
+IsWordsFault (Err (fault.Words error)) = Unit {0}
+IsWordsFault (Err fault.CannotWrite) = ⊥
+IsWordsFault (Err fault.Memory) = Unit {0}
+IsWordsFault (Err (fault.Refused refusal)) = ⊥
+IsWordsFault (Err (fault.CannotRead path)) = ⊥
+
+-- the line of a fault was written, or the writer failed; of an end without a fault nothing was
+abbrev pub IsTold : {E : Type 0} → Result Outcome Fault → Result (Unit {0}) E → Option (List ℕ) → Option (List ℕ) → Type 0
+IsTold (Ok outcome) told old new = Keeps old new
+IsTold (Err fault) told old new = OnOk told (IfSome (line_of fault) (Appends old new))
+
+-- The words that are a line end as that line does, and others as no line may. The exit status says which end it is, and a
+-- fault was told.
+pub record HasEnded (reads : Reads) (words : List Text) (old new told_old told_new : Option (List ℕ)) (ending : Ending) : Type 0 where
   pub end : Result Outcome Fault
-  pub ends : IsEnd reads words old new end
-  pub is : status ≡ status_at end
+  pub line : IsTaken words → IsEnd reads words old new end
+  pub no_line : ((line : Line) → IsLineOf words line → ⊥) → IsNoLine end
+  pub refused : takes querier_app words ≡ true → ((line : Line) → IsLineOf words line → ⊥) → IsWordsFault end
+  pub status : ending.status ≡ status_at end
+  pub told : IsTold end ending.told told_old told_new
 
 -- the line is one of `check`
 abbrev pub Checks : Line → Type 0

@@ -1,6 +1,6 @@
 //! The command line.
 
-ghost use Rattle.std.specs.Prelude.{◌≡◌, true, false, [], codes, map, unwrap_or, IfOk, IfErr};
+ghost use Rattle.std.specs.Prelude.{◌≡◌, ◌⊎◌, true, false, [], codes, map, unwrap_or, IfOk, IfErr};
 ghost use Rattle.querier.specs.Running.{IsTaken};
 ghost use Rattle.clap.specs.Values.{kind_of};
 ghost use Rattle.clap.specs.Matches.{found_of};
@@ -48,15 +48,17 @@ For each directory, in the order given, one line is printed:
   DIR: ok 6 series 6 samples   a block, with so many series and samples that are not deleted
   DIR: refused I14             not a block, and the code of the first check that fails
 
-  B2        no meta.json of a block: a JSON object with minTime below maxTime and version 1
-  I1 to I15 the index
-  C1 to C8  the chunks
+  B2        meta.json is not that of a block: an object with minTime below maxTime and version 1
+  I1 to I15 the index, or a series of more than 1,048,576 samples (I15)
+  C1 to C8  the chunks; those that Prometheus itself writes are refused with C5
   T1 to T5  the tombstones
   B1        a chunk outside the range of the meta
 
+docs/FORMATS.md of the project explains each code.
+
 Exit status: 0 each is a block; 1 a line names a refusal; 2 a fault of the words; 3 a file cannot be
-read, which is named on standard error after the lines of earlier directories, or cannot write;
-4 no memory";
+read (it is named on standard error, and the lines of earlier directories are printed), or the lines
+cannot be written; 4 no memory";
 
 const EXAMPLE: &str = "Example: querier select --from=-10 --to=100 'up{job=\"a\",zone=~\"x|\"}'
 
@@ -225,7 +227,10 @@ fn matches_in<'a>(alloc: Global, words: &'a [String]) -> Result<ArgMatches<'a>, 
     querier(alloc)?.try_get_matches_from(words)
 }
 
-fn directories_fault(alloc: Global) -> Result<Error, AllocError> {
+/// The fault of words that stand after the selector.
+fn directories_fault(alloc: Global) -> Result<Error, AllocError>
+    ensures { IfOk result (λ e. kind_of e ≡ ErrorKind.UnknownArgument) }
+{
     let told = "directories are not read yet: nothing may follow the selector";
     querier(alloc)?.error(ErrorKind::UnknownArgument, told)
 }
@@ -235,6 +240,7 @@ fn directories_fault(alloc: Global) -> Result<Error, AllocError> {
 pub fn read_line<'a>(alloc: Global, words: &'a [String]) -> Result<Line<'a>, Error>
     ensures ok { IfOk result (λ line. IsLineOf (texts_of words.entry.now) line) }
     ensures err { IfErr result (λ e. IsTaken (texts_of words.entry.now) → kind_of e ≡ ErrorKind.OutOfMemory) }
+    ensures refused { IfErr result (λ e. takes querier_app (texts_of words.entry.now) ≡ true → (kind_of e ≡ ErrorKind.OutOfMemory) ⊎ (kind_of e ≡ ErrorKind.UnknownArgument)) }
 {
     let found = matches_in(alloc, words)?;
     match line_in(alloc, &found)? {

@@ -1,7 +1,7 @@
 //! The files of a block, read from the host's file system or from memory.
 
-ghost use Rattle.std.specs.Prelude.{◌≡◌, ◌+◌, ℕ, List, Option, string_bytes, IfOk, IfErr};
-ghost use Rattle.querier.specs.Reading.{limit_of, path_of, text_of, AreFirst, AreRead, IsRead, IsReadFailure, IsDirectoryFault};
+ghost use Rattle.std.specs.Prelude.{◌≡◌, ◌≤◌, ◌+◌, ℕ, List, Option, length, take, string_bytes, IfOk, IfErr, IfSome};
+ghost use Rattle.querier.specs.Reading.{limit_of, path_of, text_of, AreFirst, AreRead, IsRead, IsReadFailure, IsFileFault, IsReadingFault};
 
 use crate::fault::Fault;
 use std::alloc::{AllocError, Global};
@@ -28,13 +28,29 @@ pub trait ReadFiles {
         ensures err { IfErr result (λ error. IsReadFailure (may_read self.now) path.now error) };
 }
 
-/// The first bytes of a file of the host, at most so many.
-fn first_of(alloc: Global, rt: &HostRuntime, path: &str, most: usize) -> io::Result<Vec<u8>> {
+/// The first bytes that a reader gives, at most so many, in a list that is made with this room.
+fn first_of<R: Read + Drop>(
+    alloc: Global,
+    reader: R,
+    room: usize,
+    most: usize,
+) -> io::Result<Vec<u8>>
+    ensures few { IfOk result (λ bytes. length bytes.items ≤ most) }
+    ensures first { IfOk result (λ bytes. IfSome (R.remaining reader) (λ all. bytes.items ≡ take most all)) }
+{
+    let mut bytes = Vec::with_capacity(alloc, room)?;
+    reader.take(most as u64).read_to_end(&mut bytes)?;
+    bytes.truncate(most);
+    Ok(bytes)
+}
+
+/// The first bytes of the file of the host at a path, at most so many.
+fn first_of_file(alloc: Global, rt: &HostRuntime, path: &str, most: usize) -> io::Result<Vec<u8>>
+    ensures { IfOk result (λ bytes. length bytes.items ≤ most) }
+{
     let file = File::open(rt, path)?;
     let room = file.metadata()?.len().min(most as u64);
-    let mut bytes = Vec::with_capacity(alloc, room as usize)?;
-    file.take(most as u64).read_to_end(&mut bytes)?;
-    Ok(bytes)
+    first_of(alloc, file, room as usize, most)
 }
 
 /// What the host's files hold, no clause can say.
@@ -44,11 +60,8 @@ impl ReadFiles for HostRuntime {
     ghost may_read = { λ _ _ _. ⊤ };
 
     fn read_file(&self, alloc: Global, path: &str, most: usize) -> Result<Vec<u8>, ReadError> {
-        match first_of(alloc, self, path, most) {
-            Ok(mut bytes) => {
-                bytes.truncate(most);
-                Ok(bytes)
-            }
+        match first_of_file(alloc, self, path, most) {
+            Ok(bytes) => Ok(bytes),
             Err(error) if error.kind() == ErrorKind::OutOfMemory => Err(ReadError::Memory),
             Err(_) => Err(ReadError::Unreadable),
         }
@@ -104,6 +117,7 @@ fn path_of(alloc: Global, directory: &str, name: FileName) -> Result<String, All
     format!(in alloc; "{directory}/{name}")
 }
 
+/// Reads a file of the block in a directory.
 fn read_one<F: ReadFiles>(
     alloc: Global,
     files: &F,
@@ -111,7 +125,7 @@ fn read_one<F: ReadFiles>(
     name: FileName,
 ) -> Result<Vec<u8>, Fault>
     ensures ok { IfOk result (λ bytes. IsRead (F.may_read files.now) directory.now name bytes.items) }
-    ensures err { IfErr result (λ fault. IsDirectoryFault (F.may_read files.now) directory.now fault) }
+    ensures err { IfErr result (λ fault. IsFileFault (F.may_read files.now) directory.now name fault) }
 {
     let path = path_of(alloc, directory, name)?;
     match files.read_file(alloc, path.as_str(), name.limit() + 1) {
@@ -121,14 +135,15 @@ fn read_one<F: ReadFiles>(
     }
 }
 
-/// Reads the files of the block in a directory, each once.
+/// Reads the files of the block in a directory, each once: the meta, the index, the chunks and the tombstones, up to the
+/// first that cannot be read.
 pub fn read_block<F: ReadFiles>(
     alloc: Global,
     files: &F,
     directory: &str,
 ) -> Result<BlockFiles, Fault>
     ensures ok { IfOk result (λ block. AreRead (F.may_read files.now) directory.now block) }
-    ensures err { IfErr result (λ fault. IsDirectoryFault (F.may_read files.now) directory.now fault) }
+    ensures err { IfErr result (λ fault. IsReadingFault (F.may_read files.now) directory.now fault) }
 {
     let meta = read_one(alloc, files, directory, FileName::Meta)?;
     let index = read_one(alloc, files, directory, FileName::Index)?;

@@ -3,7 +3,7 @@
 ghost use Rattle.std.specs.Prelude.{◌≡◌, if◌then◌else◌, map, string_bytes, IfOk, IfErr};
 ghost use Rattle.std.specs.Io.KnownBytes.{Appends};
 ghost use Rattle.querier.specs.Checking.{judgement_line, IsJudgedAt, IsChecked, IsCheckFault};
-ghost use Rattle.querier.specs.Reading.{IsDirectoryFault};
+ghost use Rattle.querier.specs.Reading.{IsReadingFault, IsDirectoryFault};
 ghost use Rattle.querier.specs.Selecting.{KeepsAt};
 
 use crate::fault::Fault;
@@ -53,7 +53,7 @@ fn judge_at<F: ReadFiles>(
 ) -> Result<(Judgement, String), Fault>
     ensures judged { IfOk result (λ told. IsJudgedAt (F.may_read files.now) directory.now told.0) }
     ensures line { IfOk result (λ told. string_bytes told.1 ≡ judgement_line directory.now told.0) }
-    ensures err { IfErr result (λ fault. IsDirectoryFault (F.may_read files.now) directory.now fault) }
+    ensures err { IfErr result (λ fault. IsReadingFault (F.may_read files.now) directory.now fault) }
 {
     let block = read_block(alloc, files, directory)?;
     let judgement = judge(alloc, block)?;

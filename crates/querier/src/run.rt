@@ -1,11 +1,12 @@
 //! What the program does.
 
-ghost use Rattle.std.specs.Prelude.{◌≡◌, ◌≤◌, ◌⊎◌, pos, IfOk, IfErr, OnOk};
+ghost use Rattle.std.specs.Prelude.{◌≡◌, ◌≤◌, ◌⊎◌, true, pos, IfOk, IfErr, OnOk};
 ghost use Rattle.std.specs.Io.KnownBytes.{Appends, Keeps};
 ghost use Rattle.querier.specs.Printed.{line_text};
 ghost use Rattle.querier.specs.Demo.{demo_events, demo_query};
-ghost use Rattle.querier.specs.Lines.{texts_of};
-ghost use Rattle.querier.specs.Running.{IsTaken, IsLineEnd, IsEnd, IsCheckLine, IsLineStatus, KeepsAtEnd};
+ghost use Rattle.clap.specs.Words.{takes};
+ghost use Rattle.querier.specs.Lines.{querier_app, texts_of, IsLineOf};
+ghost use Rattle.querier.specs.Running.{IsTaken, IsLineEnd, IsEnd, IsNoLine, IsWordsFault, IsCheckLine, IsTold, HasEnded, KeepsAtEnd, status_at};
 ghost use Rattle.querier.specs.Selecting.{IsWritingFault, KeepsAt, WritesAnswer, WritesAnswerAfter};
 
 use crate::command::{Line, read_line};
@@ -90,6 +91,8 @@ fn execute<F: ReadFiles, W: Write>(
     out: &mut W,
 ) -> Result<Outcome, Fault>
     ensures ends { IsTaken (texts_of words.now) → IsEnd (F.may_read files.now) (texts_of words.now) (W.contents out.old) (W.contents out.new) result }
+    ensures no_line { ((line : Line) → IsLineOf (texts_of words.now) line → ⊥) → IsNoLine result }
+    ensures refused { takes querier_app (texts_of words.now) ≡ true → ((line : Line) → IsLineOf (texts_of words.now) line → ⊥) → IsWordsFault result }
     ensures kept { IsCheckLine (texts_of words.now) ⊎ KeepsAtEnd (W.contents out.old) (W.contents out.new) result }
 {
     match read_line(alloc, words) {
@@ -103,7 +106,38 @@ fn execute<F: ReadFiles, W: Write>(
     }
 }
 
-/// Does what the words after the program's name ask for, and gives the exit status.
+/// How the program ends.
+#[derive(Debug, Drop)]
+pub struct Ending {
+    /// The exit status.
+    pub status: u8,
+    /// Whether the fault was told, where there is one: an error is the second writer's.
+    pub told: io::Result<()>,
+}
+
+/// The exit status of an end.
+fn status_of(end: &Result<Outcome, Fault>) -> u8
+    ensures { result ≡ status_at end.now }
+{
+    match end {
+        Ok(Outcome::Done) => 0,
+        Ok(Outcome::Refused) => 1,
+        Err(fault) => fault.status(),
+    }
+}
+
+/// Tells the fault that an end is, and of another end nothing.
+fn tell<E: Write>(end: &Result<Outcome, Fault>, to: &mut E) -> io::Result<()>
+    ensures { IsTold end.now result (E.contents to.old) (E.contents to.new) }
+{
+    match end {
+        Ok(_) => Ok(()),
+        Err(fault) => fault.tell(to),
+    }
+}
+
+/// Does what the words after the program's name ask for, tells why where it ends before that is done, and gives the exit
+/// status.
 ///
 /// 0 where it is done; 1 for a refusal, with its code on the second writer, or in the lines of a check; 2 for a fault of
 /// the words, with the usage on the second writer; 3 where a file cannot be read, which is named there, or the first
@@ -115,18 +149,16 @@ pub fn run<F: ReadFiles, R: Read, W: Write, E: Write>(
     _input: &mut R,
     out: &mut W,
     err: &mut E,
-) -> u8
-    ensures few { result ≤ 4 }
-    ensures line { IsTaken (texts_of words.now) → IsLineStatus (F.may_read files.now) (texts_of words.now) (W.contents out.old) (W.contents out.new) result }
-    ensures nothing_written { (result ≡ 0) ⊎ (result ≡ 3) ⊎ IsCheckLine (texts_of words.now) ⊎ Keeps (W.contents out.old) (W.contents out.new) }
-    ensures nothing_told { result ≡ 0 → Keeps (E.contents err.old) (E.contents err.new) }
+) -> Ending
+    ensures ended { HasEnded (F.may_read files.now) (texts_of words.now) (W.contents out.old) (W.contents out.new) (E.contents err.old) (E.contents err.new) result }
+    ensures few { result.status ≤ 4 }
+    ensures nothing_written { (result.status ≡ 0) ⊎ (result.status ≡ 3) ⊎ IsCheckLine (texts_of words.now) ⊎ Keeps (W.contents out.old) (W.contents out.new) }
+    ensures nothing_told { result.status ≡ 0 → Keeps (E.contents err.old) (E.contents err.new) }
 {
-    match execute(alloc, files, words, out) {
-        Ok(Outcome::Done) => 0,
-        Ok(Outcome::Refused) => 1,
-        Err(fault) => {
-            let _told = fault.tell(err);
-            fault.status()
-        }
+    let end = execute(alloc, files, words, out);
+    let told = tell(&end, err);
+    Ending {
+        status: status_of(&end),
+        told,
     }
 }

@@ -158,8 +158,8 @@ fn told_by(alloc: Global, words: &[String]) -> (u8, Vec<u8>, Vec<u8>) {
     let mut out = Vec::new(alloc);
     let mut err = Vec::new(alloc);
     let none = MemoryFiles::new(&[]);
-    let status = run(alloc, &none, words, &mut io::empty(), &mut out, &mut err);
-    (status, out, err)
+    let ending = run(alloc, &none, words, &mut io::empty(), &mut out, &mut err);
+    (ending.status, out, err)
 }
 
 /// The same for the words of `select`.
@@ -288,7 +288,7 @@ fn a_line_ends_with_its_status(rt: HostRuntime) -> Result<(), Fault> {
         let words = words_of(alloc, words)?;
         let mut out = Vec::new(alloc);
         let mut err = Vec::new(alloc);
-        let given = run(
+        let ending = run(
             alloc,
             &MemoryFiles::new(&[]),
             words.as_slice(),
@@ -296,7 +296,8 @@ fn a_line_ends_with_its_status(rt: HostRuntime) -> Result<(), Fault> {
             &mut out,
             &mut err,
         );
-        assert_eq!(rt; given, status);
+        assert_eq!(rt; ending.status, status);
+        assert!(rt; ending.told.is_ok());
         assert_eq!(rt; out.len(), written);
         assert_eq!(rt; !err.is_empty(), told);
     }
@@ -310,18 +311,37 @@ fn a_writer_that_refuses_is_told(rt: HostRuntime) -> Result<(), Fault> {
     let mut room = [0u8; 100];
     let mut out = room.as_mut_slice();
     let mut err = Vec::new(alloc);
-    assert_eq!(rt;
-        run(
-            alloc,
-            &MemoryFiles::new(&[]),
-            words.as_slice(),
-            &mut io::empty(),
-            &mut out,
-            &mut err
-        ),
-        3
+    let ending = run(
+        alloc,
+        &MemoryFiles::new(&[]),
+        words.as_slice(),
+        &mut io::empty(),
+        &mut out,
+        &mut err,
     );
+    assert_eq!(rt; ending.status, 3);
     assert_eq!(rt; err.as_slice(), b"cannot write\n".as_slice());
+    Ok(())
+}
+
+#[test]
+fn a_fault_that_cannot_be_told_keeps_its_status(rt: HostRuntime) -> Result<(), Fault> {
+    let alloc = rt.alloc();
+    let words = words_of(alloc, &["select", "{}"])?;
+    let mut out = Vec::new(alloc);
+    let mut room = [0u8; 5];
+    let mut err = room.as_mut_slice();
+    let ending = run(
+        alloc,
+        &MemoryFiles::new(&[]),
+        words.as_slice(),
+        &mut io::empty(),
+        &mut out,
+        &mut err,
+    );
+    assert_eq!(rt; ending.status, 1);
+    assert!(rt; ending.told.is_err());
+    assert!(rt; out.is_empty());
     Ok(())
 }
 
@@ -400,7 +420,7 @@ fn a_program_refused_memory_says_so(rt: HostRuntime) -> Result<(), Fault> {
     };
     let mut out = Vec::new(alloc);
     let mut err = Vec::new(alloc);
-    let status = run(
+    let ending = run(
         alloc,
         &MemoryFiles::new(&[]),
         words.as_slice(),
@@ -408,11 +428,11 @@ fn a_program_refused_memory_says_so(rt: HostRuntime) -> Result<(), Fault> {
         &mut out,
         &mut err,
     );
-    match status {
+    match ending.status {
         0 => assert_eq!(rt; out.len(), 518),
         3 => assert_eq!(rt; err.as_slice(), b"cannot write\n".as_slice()),
         _ => {
-            assert_eq!(rt; status, 4);
+            assert_eq!(rt; ending.status, 4);
             assert!(rt; out.is_empty());
             assert_eq!(rt; err.as_slice(), b"no memory\n".as_slice());
         }

@@ -127,7 +127,7 @@ pub fn checked_in<F: ReadFiles>(
     }
     let mut out = Vec::new(alloc);
     let mut err = Vec::new(alloc);
-    let status = run(
+    let ending = run(
         alloc,
         files,
         words.as_slice(),
@@ -135,7 +135,7 @@ pub fn checked_in<F: ReadFiles>(
         &mut out,
         &mut err,
     );
-    Ok((status, out, err))
+    Ok((ending.status, out, err))
 }
 
 /// The same over files in memory.
