@@ -81,10 +81,11 @@ impl Block {
     /// The block of an index, a chunks file and a file of deletions, which covers `range`.
     ///
     /// The first check that fails is answered, each over the whole file before the next: those of the index, `I1` to
-    /// `I15`; of the head of the chunks file, `C7`, `C1`, `C2`; of each chunk that the index names, in its order, `C3` to
-    /// `C8`; `I15` where a series has more than 1,048,576 samples; of the deletions, `T1` to `T4`; `T5` where one is of a
-    /// series that the index does not have; `B1` where a chunk begins before the range or does not end before its end.
-    /// Time in proportion to the files; it keeps the chunks file and copies none of it.
+    /// `I15`; of the head of the chunks file, `C7`, `C1`, `C2`; of each chunk that the index names, in its order, `C3`
+    /// to `C8`; `I15` where a series has more than 1,048,576 samples; of the deletions, `T1` to `T4`; `T5` where one is
+    /// of a series that the index does not have; `B1` where a chunk begins before the range or does not end before its
+    /// end. Time in proportion to the files, and to what the index names: a list or a chunk that it names twice is read
+    /// twice. It keeps the chunks file and copies none of it.
     pub fn open(
         alloc: Global,
         range: Range,
@@ -127,8 +128,8 @@ impl Block {
         count_live(&self.files.index, &self.files.chunks, &self.tombstones)
     }
 
-    /// The block without the samples of these series in the closed range of times, in milliseconds. It shares the files,
-    /// and takes memory for the deletions alone.
+    /// The block without the samples of these series in the closed range of times, in milliseconds. It shares the
+    /// files, and takes memory for the deletions alone.
     pub fn without(
         &self,
         alloc: Global,

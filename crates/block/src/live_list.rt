@@ -24,9 +24,9 @@ fn next_live(block: &Block, start: usize, times: Times) -> usize
     place
 }
 
-/// The list of the series that have an undeleted sample in a closed range. It stands at such a series, or at the end, and
-/// looks at the series only as it goes on: first at the times of its chunks, and reads a chunk only where those leave it
-/// open.
+/// The list of the series that have an undeleted sample in a closed range. It stands at such a series, or at the end,
+/// and looks at the series only as it goes on: first at the times of its chunks, and reads a chunk only where those
+/// leave it open.
 #[derive(Drop)]
 pub struct LiveList<'a> {
     block: &'a Block,

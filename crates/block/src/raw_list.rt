@@ -105,8 +105,8 @@ impl<'a> Postings for RawList<'a> {
         }
     }
 
-    /// It reads at most as many references as the length of what remained has binary digits, and none where the target is
-    /// not above the first.
+    /// It reads at most as many references as the length of what remained has binary digits, and none where the target
+    /// is not above the first.
     fn seek(&mut self, target: SeriesRef)
         ensures list { remaining_of self.new ≡ not_below target (remaining_of self.old) }
         ensures few { IsWithinDigits (length (remaining_of self.old)) (reads_of self.new - reads_of self.old) }

@@ -24,9 +24,9 @@ pub struct BlockBytes {
     pub tombstones: Vec<u8>,
 }
 
-/// The files of a block with exactly these rows, of which nothing is deleted. `N1` where the chunks file or the index would
-/// be longer than 1,073,741,824 bytes. It takes time and memory in proportion to the samples, and to the labels times the
-/// logarithm of their count.
+/// The files of a block with exactly these rows, of which nothing is deleted. `N1` where the chunks file or the index
+/// would be longer than 1,073,741,824 bytes. It takes time and memory in proportion to the samples, and to the labels
+/// times the logarithm of their count.
 pub fn write(alloc: Global, rows: &PartRows) -> Result<BlockBytes, WriteError>
     // The index lists exactly the rows, their labels and the places of their chunks.
     ensures index { IfOk result (λ files. IsWrittenIndex rows.now files.index.items) }

@@ -24,9 +24,9 @@ use wire::{put_be32, put_bytes};
 const HEAD: [u8; 5] = [0xBA, 0xAA, 0xD7, 0x00, 0x02];
 
 /// The bytes of the index of rows whose chunks file is no longer than 1 GiB: exactly the symbols in use, each once; the
-/// series in the order of the rows, each at a multiple of 16; the postings of the empty pair and of exactly the pairs in
-/// use. `N1` where it would be longer than 1,073,741,824 bytes. It takes time in proportion to the rows' labels, times the
-/// logarithm of their count, and memory in proportion to the labels and the chunks.
+/// series in the order of the rows, each at a multiple of 16; the postings of the empty pair and of exactly the pairs
+/// in use. `N1` where it would be longer than 1,073,741,824 bytes. It takes time in proportion to the rows' labels,
+/// times the logarithm of their count, and memory in proportion to the labels and the chunks.
 pub fn index_file(alloc: Global, rows: &PartRows) -> Result<Vec<u8>, WriteError>
     requires { length (chunks_text rows.now) ≤ limit }
     ensures written { IfOk result (λ file. IsWrittenIndex rows.now file.items) }

@@ -5,10 +5,10 @@
 //! symbols and pairs are exactly those in use, each once, ascending (`IsWrittenIndex`); the chunks file, 120 samples a
 //! chunk, nothing between (`chunks_text`); and the tombstones of a block of which nothing is deleted. It refuses rows
 //! (`N1`) only where one of the two files would be longer than 1 GiB. What it gives is a block with exactly these rows
-//! ([`written_files_spell_rows`]). It stands on `labels` and `wire`, and on `index_reader`, `chunk_reader`, `tombstones`
-//! and `block` for the words that say how their files are spelled. The files are
-//! those of Prometheus's TSDB format documents; where entries stand, that a reference is the sixteenth part of an offset,
-//! and that a chunk has 120 samples, is this project's own.
+//! ([`written_files_spell_rows`]). It stands on `labels`, `wire` and `byteorder`, and on `index_reader`,
+//! `chunk_reader`, `tombstones` and `block` for the words that say how their files are spelled. The files are those of
+//! Prometheus's TSDB format documents; where entries stand, that a reference is the sixteenth part of an offset, and
+//! that a chunk has 120 samples, is this project's own.
 #![tactic(auto)]
 
 mod body;

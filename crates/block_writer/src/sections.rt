@@ -15,8 +15,8 @@ use crate::limits::within;
 use std::alloc::{AllocError, Global};
 use wire::{crc32c, put_be32, put_be64, put_bytes, put_u8, put_uvarint};
 
-/// Appends the sections of the empty pair and of all pairs, the table of their offsets and the table of contents, where the
-/// series stand from a place on.
+/// Appends the sections of the empty pair and of all pairs, the table of their offsets and the table of contents, where
+/// the series stand from a place on.
 #[tactic(auto, unfolding(crate::specs::IndexText::postings_text))]
 pub fn put_postings(
     alloc: Global,

@@ -56,11 +56,11 @@ impl Chunks {
 
     /// The samples of the chunk at `reference`, in place. It takes time in proportion to the chunk, and no memory.
     ///
-    /// `C3` where the reference is below 8 or not below the file's length; `C4` where the chunk's length is not spelled,
-    /// its end is above the file's, or its checksum is wrong; `C5` where the encoding is XOR, `C6` where it is another
-    /// unknown one; `C7` where the count is 0 or not that of the body, or times do not ascend strictly or are outside
-    /// [`MIN_TIME`](labels::MIN_TIME) to [`MAX_TIME`](labels::MAX_TIME); `C8` where the first time is not `mint` or the
-    /// last is not `maxt`. The first of these is answered.
+    /// `C3` where the reference is below 8 or not below the file's length; `C4` where the chunk's length is not
+    /// spelled, its end is above the file's, or its checksum is wrong; `C5` where the encoding is XOR, `C6` where it is
+    /// neither XOR nor `E0`; `C7` where the count is 0 or not that of the body, or times do not ascend strictly or are
+    /// outside [`MIN_TIME`](labels::MIN_TIME) to [`MAX_TIME`](labels::MAX_TIME); `C8` where the first time is not
+    /// `mint` or the last is not `maxt`. The first of these is answered.
     pub fn find(&self, reference: u64, mint: i64, maxt: i64) -> Result<Samples<'_>, ChunkError>
         ensures exact { Answers (λ s. s) result (samples_of self.now reference mint maxt) }
         ensures found { IfOk result (IsChunk self.now reference mint maxt) }
@@ -69,8 +69,8 @@ impl Chunks {
         chunk_at(self.file.as_slice(), reference, mint, maxt)
     }
 
-    /// The samples of a chunk that [`Chunks::find`] is known to accept, in place, with none of its checks made again. It
-    /// takes a time that does not grow with the chunk, and no memory.
+    /// The samples of a chunk that [`Chunks::find`] is known to accept, in place, with none of its checks made again.
+    /// It takes a time that does not grow with the chunk, and no memory.
     pub fn stored(&self, reference: u64, mint: i64, maxt: i64) -> Samples<'_>
         requires known { (samples : List (ℤ × ℤ)) × IsChunk self.now reference mint maxt samples }
         ensures exact { samples_of self.now reference mint maxt ≡ Ok result }
@@ -79,7 +79,7 @@ impl Chunks {
         Samples::new(sample_bytes(self.file.as_slice(), reference))
     }
 
-    /// A copy of the samples of the chunk at `reference`, which is refused as [`Chunks::find`] does.
+    /// A copy of the samples of the chunk at `reference`, refused as [`Chunks::find`] refuses it.
     pub fn samples(
         &self,
         alloc: Global,

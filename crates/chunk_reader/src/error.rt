@@ -20,7 +20,7 @@ pub enum ChunkError {
     Crc,
     /// `C5`: the samples are compressed by Prometheus's XOR encoding.
     XorEncoding,
-    /// `C6`: the encoding is no other known one.
+    /// `C6`: the encoding is neither XOR nor `E0`.
     OtherEncoding,
     /// `C7`: the data is not of the form, times do not ascend strictly or are none, or the file is above 1 GiB.
     Shape,

@@ -200,7 +200,8 @@ impl Index {
     }
 
     /// Adds a series with a further reference, which has to be above all others. What another version holds is copied
-    /// first: the pointers to the lists, and the lists of its pairs. After an `Err` the index may list it at some pairs.
+    /// first: the pointers to the lists, and the lists of its pairs. After an `Err` the index may list it at some
+    /// pairs.
     pub fn add(
         &mut self,
         alloc: Global,

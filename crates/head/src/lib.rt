@@ -1,14 +1,13 @@
 //! The head of a store: the newest samples of each label set, in versions that share what they have in common.
 //!
-//! A snapshot is an unchanging list of blocks and one head, and stands for a world: a content, the newest sample of each
-//! label set in order of creation, a floor and a number of blocks. `apply` takes a snapshot one event further: it is Ok
-//! exactly where the step of that event accepts it on the snapshot's world, and the world of what it gives is the world
-//! after; else it answers the step's refusal. A head is a part: its references are 1 to n in order of creation. A store
-//! is opened with at most 63 blocks, and its floor is then at the greatest end of their ranges, so that no block has a
-//! sample at or above it.
-//! It stands on `labels` for label sets, contents and parts, on `postings` for the lists that a part lends, and on `block`
-//! for blocks.
-//! Events and their rules follow Prometheus's TSDB: a head above a floor, and samples in order for each series.
+//! A snapshot is an unchanging list of blocks and one head, and stands for a world: a content, the newest sample of
+//! each label set in order of creation, a floor and a number of blocks. `apply` takes a snapshot one event further: it
+//! is Ok exactly where the step of that event accepts it on the snapshot's world, and the world of what it gives is the
+//! world after; else it answers the step's refusal. A head is a part: its references are 1 to n in order of creation. A
+//! store is opened with at most 63 blocks, and its floor is then at the greatest end of their ranges, so that no block
+//! has a sample at or above it. It stands on `labels` for label sets, contents and parts, on `postings` for the lists
+//! that a part lends, and on `block` for blocks. Events and their rules follow Prometheus's TSDB: a head above a floor,
+//! and samples in order for each series.
 #![tactic(auto)]
 
 mod draft;

@@ -55,8 +55,8 @@ fn floor_of(blocks: &[Block]) -> i64
 }
 
 impl Snapshot {
-    /// The snapshot of these blocks and an empty head. The floor is the greatest end of a block's range, or the smallest
-    /// time where there is no block. There are at most 63 blocks (the caller's condition), in any order; their
+    /// The snapshot of these blocks and an empty head. The floor is the greatest end of a block's range, or the
+    /// smallest time where there is no block. There are at most 63 blocks (the caller's condition), in any order; their
     /// ranges may overlap, and where two have a sample of one label set at one time the later block's stands.
     pub fn opening(alloc: Global, blocks: Vec<Block>) -> Result<Snapshot, AllocError>
         requires { length blocks.items ≤ 63 }

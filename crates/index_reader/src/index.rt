@@ -68,10 +68,10 @@ fn index_of(alloc: Global, file: &[u8]) -> Result<Index, IndexError>
 }
 
 impl Index {
-    /// What the bytes of an index hold, or the refusal of the first check that fails, in the order of [`IndexError`]'s
-    /// table: `I15` (length), `I1` to `I10`, `I13`, `I11`, `I12`, `I14`, `I15` (counts), each over the whole file
-    /// before the next. Time in proportion to the file and to what its table of offsets lists; it copies the texts, the
-    /// chunks' places and the lists, and keeps no borrow of the file.
+    /// What the bytes of an index hold, or the refusal of the first check that fails, in this order: `I15` (length),
+    /// `I1` to `I10`, `I13`, `I11`, `I12`, `I14`, `I15` (counts), each over the whole file before the next. Time in
+    /// proportion to the file and to what its table of offsets lists; it copies the texts, the chunks' places and the
+    /// lists, and keeps no borrow of the file.
     pub fn open(alloc: Global, file: &[u8]) -> Result<Index, IndexError>
         // The first check that fails is answered; where none does, what was read is given.
         ensures exact { Gives (λ x. x) result (indexed_of file.now) }

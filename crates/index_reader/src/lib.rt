@@ -2,12 +2,12 @@
 //!
 //! [`Index::open`] reads a whole index, each check over the whole file before the next, and gives what the file holds
 //! exactly where all checks pass; else it names the first that fails, `I1` to `I15` in the order of the format. What is
-//! accepted is also stated without reading, by the bytes that spell an index (`IsIndex`): a file is opened exactly where
-//! it spells one, and gives what it spells. Postings are not trusted: the pairs that are listed must be exactly those
-//! that series carry, and each list the references of the series that carry its pair. Numbers of a file are compared
-//! before anything is reserved for them.
-//! It stands on `labels` and `wire`. The format is that of Prometheus's TSDB format documents; that a reference is the
-//! sixteenth part of an offset, and that nothing else may stand between entries than zeros, is this project's own.
+//! accepted is also stated without reading, by the bytes that spell an index (`IsIndex`): a file is opened exactly
+//! where it spells one, and gives what it spells. Postings are not trusted: the pairs that are listed must be exactly
+//! those that series carry, and each list the references of the series that carry its pair. Numbers of a file are
+//! compared before anything is reserved for them. It stands on `labels`, `wire` and `byteorder`. The format is that of
+//! Prometheus's TSDB format documents; that a reference is the sixteenth part of an offset, and that nothing else may
+//! stand between entries than zeros, is this project's own.
 #![tactic(auto)]
 
 mod agreement;

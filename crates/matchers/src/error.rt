@@ -67,7 +67,8 @@ impl QueryError {
 /// Why the text of a selector is refused; the first cause, in this order.
 #[derive(Clone, Copy, Debug, PartialEq, Eq)]
 pub enum SelectorError {
-    /// `M4`: the text is none of the language; `at` is the length in bytes of its longest beginning that also begins one.
+    /// `M4`: the text is none of the language; `at` is the length in bytes of its longest beginning that also begins
+    /// one.
     Syntax { at: usize },
     /// `M6`: there is no matcher.
     Empty,

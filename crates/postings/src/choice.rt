@@ -81,9 +81,9 @@ fn differing_lists<S: Source>(
 
 /// The series that satisfy the matcher, an absent label counting as the empty text.
 ///
-/// A matcher that compares with a text other than the empty one takes one list of the source. Any other is tried on each
-/// value of its name, a pattern's search being made once for all of them. The room of the answer is made here: its moves
-/// take no memory.
+/// A matcher that compares with a text other than the empty one takes one list of the source. Any other is tried on
+/// each value of its name, a pattern's search being made once for all of them. The room of the answer is made here: its
+/// moves take no memory.
 pub fn choose<S: Source>(
     alloc: Global,
     source: &S,

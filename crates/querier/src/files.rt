@@ -135,8 +135,8 @@ fn read_one<F: ReadFiles>(
     }
 }
 
-/// Reads the files of the block in a directory, each once: the meta, the index, the chunks and the tombstones, up to the
-/// first that cannot be read.
+/// Reads the files of the block in a directory, each once: the meta, the index, the chunks and the tombstones, up to
+/// the first that cannot be read.
 pub fn read_block<F: ReadFiles>(
     alloc: Global,
     files: &F,

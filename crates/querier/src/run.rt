@@ -136,11 +136,11 @@ fn tell<E: Write>(end: &Result<Outcome, Fault>, to: &mut E) -> io::Result<()>
     }
 }
 
-/// Does what the words after the program's name ask for, tells why where it ends before that is done, and gives the exit
-/// status.
+/// Does what the words after the program's name ask for, tells why where it ends before that is done, and gives the
+/// exit status.
 ///
-/// 0 where it is done; 1 for a refusal, with its code on the second writer, or in the lines of a check; 2 for a fault of
-/// the words, with the usage on the second writer; 3 where a file cannot be read, which is named there, or the first
+/// 0 where it is done; 1 for a refusal, with its code on the second writer, or in the lines of a check; 2 for a fault
+/// of the words, with the usage on the second writer; 3 where a file cannot be read, which is named there, or the first
 /// writer fails; 4 where memory does.
 pub fn run<F: ReadFiles, R: Read, W: Write, E: Write>(
     alloc: Global,

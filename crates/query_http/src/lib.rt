@@ -1,8 +1,8 @@
 //! The audited answer to a query, and its text.
 //!
 //! `answer` gives what each part of a snapshot answers and the rows of all of them: exactly the rows of the snapshot's
-//! content restricted to the matchers and the range. `body` is the text of an answer, as compact JSON, byte for byte. It
-//! stands on `block_search` and `series_merge`, and on `serde_json` for the text.
+//! content restricted to the matchers and the range. `body` is the text of an answer, as compact JSON, byte for byte.
+//! It stands on `block_search` and `series_merge`, and on `serde_json` for the text.
 #![tactic(auto)]
 
 mod audited;

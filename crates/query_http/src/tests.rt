@@ -1,5 +1,5 @@
-//! Two blocks that share a time, spelled by hand: one series `{__name__="up",job="a"}` at reference 3, that is, at byte 48
-//! of the index.
+//! Two blocks that share a time, spelled by hand: one series `{__name__="up",job="a"}` at reference 3, that is, at byte
+//! 48 of the index.
 
 mod worked_block;
 
@@ -22,8 +22,8 @@ const SYMBOLS: [&[u8]; 4] = [
 /// A list of the one series, with its checksum.
 const LIST: &[u8] = b"\x00\x00\x00\x08\x00\x00\x00\x01\x00\x00\x00\x03\xA7\x69\x2E\xD2";
 
-/// The index from byte 62: the lists of all series and of both pairs, at 62, 78 and 94, their table at 110, and the table
-/// of contents.
+/// The index from byte 62: the lists of all series and of both pairs, at 62, 78 and 94, their table at 110, and the
+/// table of contents.
 const LISTS: [&[u8]; 10] = [
     LIST,
     LIST,

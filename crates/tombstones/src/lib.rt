@@ -2,10 +2,10 @@
 //!
 //! [`Tombstones`] holds deletions in any number and overlapping. `open` accepts exactly the files that spell a list of
 //! them, and holds those; else it answers the first failing check, `T1` to `T4`. `deleted` is true exactly where one of
-//! them covers the time, and `has_deletion_of` where one is of the series: both halve the deletions, so that no file makes
-//! them slow. `add` adds exactly one, and `with` gives these and an interval of several series. It stands on `labels` and
-//! `wire`. Magic, version and entries are those of Prometheus's TSDB format documents; that the checksum is of the entries
-//! alone and that the reference is the one of the postings is this project's own.
+//! them covers the time, and `has_deletion_of` where one is of the series: both halve the deletions, so that no file
+//! makes them slow. `add` adds exactly one, and `with` gives these and an interval of several series. It stands on
+//! `labels`, `wire` and `byteorder`. Magic, version and entries are those of Prometheus's TSDB format documents; that
+//! the checksum is of the entries alone and that the reference is the one of the postings is this project's own.
 #![tactic(auto)]
 
 mod deletion;

@@ -293,9 +293,9 @@ fn every_shorter_file_is_refused(rt: HostRuntime) {
     }
 }
 
-/// Each byte of the entry `06 03 28` in turn is any value, under a checksum that is right. From 128 on a byte is not its
-/// number's last, so that the entry ends early. The reference may be any other; an interval begins at 20 at the latest
-/// (so at an even 40, or at an odd number for one below 0), and ends at -2 at the earliest.
+/// Each byte of the entry `06 03 28` in turn is any value, under a checksum that is right. From 128 on a byte is not
+/// its number's last, so that the entry ends early. The reference may be any other; an interval begins at 20 at the
+/// latest (so at an even 40, or at an odd number for one below 0), and ends at -2 at the earliest.
 #[test]
 fn an_entry_is_read_whatever_its_bytes(rt: HostRuntime) -> Result<(), Fail> {
     for byte in 0..=255 {

@@ -16,8 +16,8 @@ use labels::SeriesRef;
 use std::alloc::{AllocError, Global};
 use std::marker::Model;
 
-/// Deletions, in the order of their references, and within a series of where they begin. Beside each it keeps the greatest
-/// end of the deletions of that series up to it, so that one of them decides a time.
+/// Deletions, in the order of their references, and within a series of where they begin. Beside each it keeps the
+/// greatest end of the deletions of that series up to it, so that one of them decides a time.
 #[derive(Drop)]
 pub struct Tombstones {
     deletions: Vec<Deletion>,
@@ -50,9 +50,9 @@ impl Tombstones {
     /// The deletions of a file, in any order there.
     ///
     /// `T1` where the file does not begin with `01 30 BA 30`; `T2` where the version that follows is missing or not 1;
-    /// `T4` where the file has fewer than 9 or more than 1,073,741,824 bytes; `T3` where the checksum at the end is wrong;
-    /// `T4` where what stands between is no list of entries, each with a reference of 32 bits and an interval of times
-    /// that is not empty. The first of these is answered.
+    /// `T4` where the file has fewer than 9 or more than 1,073,741,824 bytes; `T3` where the checksum at the end is
+    /// wrong; `T4` where what stands between is no list of entries, each with a reference of 32 bits and an interval of
+    /// times that is not empty. The first of these is answered.
     pub fn open(alloc: Global, file: &[u8]) -> Result<Tombstones, TombstoneError>
         ensures exact { GivesAll result (deletions_of file.now) }
         ensures found { IfOk result (λ t. (deletions : List DeletionValue) × IsTombstones file.now deletions × IsPermutation deletions t) }
@@ -81,16 +81,16 @@ impl Tombstones {
         )
     }
 
-    /// Whether a deletion of the series is held, at whatever time. It takes time in proportion to the logarithm of the count
-    /// of deletions.
+    /// Whether a deletion of the series is held, at whatever time. It takes time in proportion to the logarithm of the
+    /// count of deletions.
     pub fn has_deletion_of(&self, reference: SeriesRef) -> bool
         ensures { result ≡ has_deletion self.now reference }
     {
         has_one_of(self.deletions.as_slice(), reference.number())
     }
 
-    /// Adds the closed interval to the deletions of the series, in time in proportion to the count of deletions. Where memory
-    /// runs out nothing is added.
+    /// Adds the closed interval to the deletions of the series, in time in proportion to the count of deletions. Where
+    /// memory runs out nothing is added.
     pub fn add(&mut self, reference: SeriesRef, from: i64, to: i64) -> Result<(), AllocError>
         ensures ok { OnOk result ((r : ℕ) (t : ℤ) → covered self.new r t ≡ (covers r t (record { reference = reference; from = from; to = to }) || covered self.old r t)) }
         ensures all { OnOk result (IsPermutation (record { reference = reference; from = from; to = to } ∷ self.old) self.new) }
@@ -109,8 +109,8 @@ impl Tombstones {
         Ok(())
     }
 
-    /// These deletions, and for each of the series the closed interval. It takes memory for all of them, and time to put
-    /// them in order.
+    /// These deletions, and for each of the series the closed interval. It takes memory for all of them, and time to
+    /// put them in order.
     pub fn with(
         &self,
         alloc: Global,

@@ -52,8 +52,8 @@ fn a_series_has_at_most_64_labels(rt: HostRuntime) -> Result<(), Fail> {
     Ok(())
 }
 
-/// An index of the series `{a="a"}`, whose body is spelled by these numbers. Of its symbols the first is empty, the next
-/// is no name, and `a` is the third.
+/// An index of the series `{a="a"}`, whose body is spelled by these numbers. Of its symbols the first is empty, the
+/// next is no name, and `a` is the third.
 fn one_series(alloc: Global, numbers: &[u64]) -> Result<Vec<u8>, Fail> {
     let mut draft = Draft::new(alloc, &["", "9", "a"])?;
     let reference = draft.series(alloc, numbers)?;
