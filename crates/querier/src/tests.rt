@@ -3,6 +3,7 @@
 use crate::demo::{first_batch, query, second_batch, store_after};
 
 mod blocks;
+mod host_files;
 mod memory_files;
 
 use self::memory_files::MemoryFiles;
