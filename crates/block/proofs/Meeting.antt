@@ -53,7 +53,7 @@ behind_take before cs zero h = tt
 behind_take before [] (suc n) h = tt
 behind_take before (c ∷ cs) (suc n) h = (h.0, h.1, behind_take c cs n h.2)
 
-in_turn_take : (cs : List Chunk) (n : ℕ) → AreInTurn cs → AreInTurn (take n cs)
+pub in_turn_take : (cs : List Chunk) (n : ℕ) → AreInTurn cs → AreInTurn (take n cs)
 in_turn_take cs zero h = tt
 in_turn_take [] (suc n) h = tt
 in_turn_take (c ∷ cs) (suc n) h = (h.0, behind_take c cs n h.1)
@@ -106,9 +106,6 @@ begins_parted to (c ∷ cs) h (suc i) zero d le l t = absurd (omega (arith, le))
 begins_parted to (c ∷ cs) h zero (suc j) d le l t = begun to c (get_or cs j d) h.0 (later_at c cs h.1 j d (omega (arith, l))) t
 begins_parted to (c ∷ cs) h (suc i) (suc j) d le l t = begins_parted to cs (tail_in_turn c cs h) i j d (omega (arith, le)) (omega (arith, l)) t
 
-pub begun_in_turn : (cs : List Chunk) (n : ℕ) → AreInTurn cs → AreInTurn (take n cs)
-begun_in_turn cs n h = in_turn_take cs n h
-
 pub met_is : (from to : ℤ) (cs : List Chunk) (i j : ℕ) → j ≤ length cs → i ≤ length (take j cs)
     → IsPartitionPoint (λ (c : Chunk). not (int_lt to c.mint) ≡ true) (λ (c : Chunk). not (int_lt to c.mint) ≡ false) cs j
     → IsPartitionPoint (λ (c : Chunk). int_lt c.maxt from ≡ true) (λ (c : Chunk). int_lt c.maxt from ≡ false) (take j cs) i
@@ -149,10 +146,10 @@ any_some {X} p (x ∷ xs) = go (p x) (any_some p xs)
     go true ih = refl
     go false ih = ih
 
-module _ (deletions : List Deletion) (reference : ℕ) (from to : ℤ) (file : List ℕ) (cs met : List Chunk) (e : met ≡ filter (meets from to) cs) (held : AreHeld file cs) where
-  pub held_met : AreHeld file met
-  held_met = subst (AreHeld file) (sym e) (all_filter (IsHeld file) (meets from to) cs held)
+pub held_met : (from to : ℤ) (file : List ℕ) (cs met : List Chunk) → met ≡ filter (meets from to) cs → AreHeld file cs → AreHeld file met
+held_met from to file cs met e held = subst (AreHeld file) (sym e) (all_filter (IsHeld file) (meets from to) cs held)
 
+module _ (deletions : List Deletion) (reference : ℕ) (from to : ℤ) (file : List ℕ) (cs met : List Chunk) (e : met ≡ filter (meets from to) cs) (held : AreHeld file cs) where
   pub kept_in_met : filter (is_asked deletions reference from to) (samples_in file met) ≡ filter (is_asked deletions reference from to) (samples_in file cs)
   kept_in_met = ap (λ (xs : List Chunk). filter (is_asked deletions reference from to) (samples_in file xs)) e ∙ kept_met deletions reference from to file cs held
 

@@ -25,8 +25,8 @@ fn next_live(block: &Block, start: usize, times: Times) -> usize
 }
 
 /// The list of the series that have an undeleted sample in a closed range. It stands at such a series, or at the end,
-/// and looks at the series only as it goes on: first at the times of its chunks, and reads a chunk only where those
-/// leave it open.
+/// and looks at the series only as it goes on: it finds the chunks whose times meet the range by halving, looks at
+/// their ends first, and reads a chunk only where the ends leave it open.
 #[derive(Drop)]
 pub struct LiveList<'a> {
     block: &'a Block,

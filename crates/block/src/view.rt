@@ -28,6 +28,7 @@ impl Block {
     pub fn view(&self) -> BlockView<'_>
         ensures { part_of result ≡ self.now.part }
     {
+        // What holds of a block is known where a field of it is named.
         let _ = &self.files;
         BlockView { block: self }
     }

@@ -8,7 +8,7 @@ use Rattle.block.proofs.wanted.push_each.Goals as goal
 pub chunk_samples-requires : goal.chunk_samples-requires
 chunk_samples-requires c =
     let w = c.args.wanted.now in
-    held_at (IsHeld c.args.chunks.now) c.meeting-met.result.now c.loop-chunk.chunk-index _ (omega arith) (held_met w.tombstones.now w.reference w.times.from w.times.to c.args.chunks.now c.args.series.now c.meeting-met.result.now c.meeting-met.ensures c.requires.held)
+    held_at (IsHeld c.args.chunks.now) c.meeting-met.result.now c.loop-chunk.chunk-index _ (omega arith) (held_met w.times.from w.times.to c.args.chunks.now c.args.series.now c.meeting-met.result.now c.meeting-met.ensures c.requires.held)
 
 pub loop-chunk-preserved : goal.loop-chunk-preserved
 loop-chunk-preserved c =
