@@ -1,9 +1,8 @@
 -- How many samples are not deleted.
 use Rattle.std.proofs.Common.{◌≡◌, ℕ, ◌+◌, ◌-◌, ◌*◌, ◌^◌, ◌<◌, ◌≤◌, min, Bool, true, false, cond, List, [], ◌∷◌, ◌++◌, length, take, get_or, Some, refl, sym, ap, ◌∙◌, arith}
-use Rattle.std.specs.Prelude.{ℤ, slice_get, not, ◌==◌}
+use Rattle.std.specs.Prelude.{ℤ, slice_get, not, ◌==◌, ◌&&◌, ◌||◌}
 use Rattle.std.specs.Option.{option_map}
 use Rattle.std.specs.List.{AllByRecursion, filter}
-use Rattle.std.proofs.lemmas.Bool.{eqb-true}
 use Rattle.std.proofs.lemmas.List.{length-append, length-map, append-nil, map_more}
 use Rattle.std.proofs.lemmas.List.Elements.{filter-append}
 use Rattle.std.proofs.lemmas.Grind.{flat_map-append}
@@ -12,17 +11,25 @@ use Rattle.labels.specs.Parts.{Part}
 use Rattle.index_reader.specs.declared.chunk.Chunk.{Chunk}
 use Rattle.index_reader.specs.Indexes.{Series, references, chunk_lists}
 use Rattle.tombstones.specs.declared.deletion.Deletion.{Deletion}
-use Rattle.tombstones.specs.Covering.{covered}
+use Rattle.tombstones.specs.Covering.{covered, has_deletion, holds}
 use Rattle.block.specs.Samples.{chunk_samples, samples_in, undeleted}
 use Rattle.block.specs.Blocks.{row_of, part_of, sample_count}
 use Rattle.block.specs.Sound.{IsStored}
 use Rattle.block.proofs.Steps.{take_next}
 
--- where nothing is deleted
-pub all_live : (ds : List Deletion) (r : ℕ) (ss : List (ℤ × ℤ)) → (length ds == 0) ≡ true → undeleted ds r ss ≡ ss
-all_live [] r [] e = refl
-all_live [] r (s ∷ ss) e = ap (λ (xs : List (ℤ × ℤ)). s ∷ xs) (all_live [] r ss e)
-all_live (d ∷ ds) r ss e = absurd (omega (arith, eqb-true (length (d ∷ ds)) 0 e))
+-- where no deletion is of the series
+none_covers : (ds : List Deletion) (r : ℕ) (t : ℤ) → has_deletion ds r ≡ false → covered ds r t ≡ false
+none_covers [] r t e = refl
+none_covers (d ∷ ds) r t e = go (d.reference == r) e (none_covers ds r t)
+  where
+    go : (b : Bool) → (b || has_deletion ds r) ≡ false → (has_deletion ds r ≡ false → covered ds r t ≡ false) → ((b && holds d t) || covered ds r t) ≡ false
+    go true h ih = absurd cc
+    go false h ih = ih h
+
+pub all_live : (ds : List Deletion) (r : ℕ) (ss : List (ℤ × ℤ)) → has_deletion ds r ≡ false → undeleted ds r ss ≡ ss
+all_live ds r [] e = refl
+all_live ds r (s ∷ ss) e =
+    ap (λ (b : Bool). cond (not b) (s ∷ undeleted ds r ss) (undeleted ds r ss)) (none_covers ds r s.0 e) ∙ ap (λ (xs : List (ℤ × ℤ)). s ∷ xs) (all_live ds r ss e)
 
 pub undeleted_append : (ds : List Deletion) (r : ℕ) (xs ys : List (ℤ × ℤ)) → undeleted ds r (xs ++ ys) ≡ undeleted ds r xs ++ undeleted ds r ys
 undeleted_append ds r xs ys = filter-append (λ (s : ℤ × ℤ). not (covered ds r s.0)) xs ys

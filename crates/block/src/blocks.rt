@@ -120,7 +120,7 @@ impl Block {
         self.files.index.len()
     }
 
-    /// How many samples the block has that are not deleted. It looks at each chunk: at its length alone where the block
+    /// How many samples the block has that are not deleted. It looks at each chunk: at its length alone where the series
     /// has no deletions, else at each of its samples.
     pub fn sample_count(&self) -> u64
         ensures { result ≡ sample_count self.now.part }

@@ -31,7 +31,7 @@ fn live_in(chunks: &Chunks, chunk: &Chunk, tombstones: &Tombstones, reference: S
     ensures { result ≡ length (undeleted tombstones.now reference (chunk_samples chunks.now chunk.now)) }
 {
     let samples = chunk_samples(chunks, *chunk);
-    if tombstones.deletions().is_empty() {
+    if !tombstones.has_deletion_of(reference) {
         return samples.len() as u64;
     }
     live_among(&samples, tombstones, reference)
