@@ -2,6 +2,7 @@
 
 ghost use Rattle.std.specs.Prelude.{◌≡◌, ◌<◌, ◌≤◌, IfOk, IfErr};
 ghost use Rattle.block_writer.specs.Written.{limit};
+ghost use Rattle.block_writer.specs.declared.error.WriteError.TheVariants.{Limit};
 
 use crate::error::WriteError;
 
@@ -13,6 +14,7 @@ pub fn within(count: usize) -> Result<u32, WriteError>
     ensures same { IfOk result (λ n. n ≡ count) }
     ensures small { IfOk result (λ n. n ≤ limit) }
     ensures long { IfErr result (λ e. limit < count) }
+    ensures told { IfErr result (λ e. e ≡ Limit) }
 {
     if count > MAX_LEN {
         return Err(WriteError::Limit);
