@@ -1,5 +1,5 @@
 -- How the lines of the program end.
-use Rattle.std.specs.Prelude.{◌≡◌, ℕ, pos, true, List, [], map, Option, Result, Ok, Err, OnOk, IfSome}
+use Rattle.std.specs.Prelude.{◌≡◌, ℕ, pos, true, List, [], map, Option, Result, Ok, Err, IsOk, OnOk, IfSome}
 use Rattle.std.specs.Io.KnownBytes.{Appends, Keeps}
 use Rattle.clap.specs.Words.{Text, takes}
 use Rattle.head.specs.Blocks.{opening_of}
@@ -76,7 +76,7 @@ IsWordsFault (Err (fault.CannotRead path)) = ⊥
 
 -- the line of a fault was written, or the writer failed; of an end without a fault nothing was
 abbrev pub IsTold : {E : Type 0} → Result Outcome Fault → Result (Unit {0}) E → Option (List ℕ) → Option (List ℕ) → Type 0
-IsTold (Ok outcome) told old new = Keeps old new
+IsTold (Ok outcome) told old new = IsOk told × Keeps old new
 IsTold (Err fault) told old new = OnOk told (IfSome (line_of fault) (Appends old new))
 
 -- The words that are a line end as that line does, and others as no line may. The exit status says which end it is, and a
