@@ -7,7 +7,7 @@ use Rattle.byteorder.specs.Endian.{big_bytes}
 use Rattle.wire.specs.Spelling.{groups, uvarint}
 use Rattle.wire.specs.Checksum.{crc32c}
 use Rattle.wire.proofs.Laws.{uvarint_long}
-use Rattle.chunk_reader.specs.Grammar.{sample_text, body_text}
+use Rattle.chunk_reader.specs.Grammar.{sample_text, body_text, plain}
 use Rattle.index_reader.specs.Grammar.{frame, checked, contents_text, symbol}
 use Rattle.index_reader.specs.Spelled.{list_text}
 use Rattle.block_writer.specs.declared.error.WriteError.{WriteError}
@@ -97,6 +97,16 @@ section_is out a b d e len count refs counted long first second third fourth =
     let sealed : e ≡ (a ++ list_text refs) ++ big_bytes 4 (crc32c (list_text refs)) = fourth ∙ (λ i. text i ++ big_bytes 4 (crc32c (content i))) in
     let begun : a ≡ out ++ big_bytes 4 (length (list_text refs)) = first ∙ ap (λ n. out ++ big_bytes 4 n) size in
     sealed ∙ ap (λ xs. (xs ++ list_text refs) ++ big_bytes 4 (crc32c (list_text refs))) begun ∙ simp append_assoc
+
+-- a chunk, field by field
+pub chunk_is : (out a b c : List ℕ) (start : ℕ) (ss : List (ℤ × ℤ)) → start ≡ length a → a ≡ out ++ uvarint (2 + 16 * length ss) → b ≡ a ++ plain ∷ body_text ss → c ≡ b ++ big_bytes 4 (crc32c (drop start b)) → c ≡ out ++ piece_text ss
+unfolding piece_text
+chunk_is out a b c start ss at first second third =
+    let text = plain ∷ body_text ss in
+    let content : drop start b ≡ text = (λ i. drop (at i) (second i)) ∙ drop-append_seam a text in
+    let size : 2 + 16 * length ss ≡ length (body_text ss) = omega (arith, body_long ss) in
+    let begun : a ≡ out ++ uvarint (length (body_text ss)) = first ∙ ap (λ n. out ++ uvarint n) size in
+    third ∙ (λ i. second i ++ big_bytes 4 (crc32c (content i))) ∙ ap (λ xs. (xs ++ text) ++ big_bytes 4 (crc32c text)) begun ∙ simp append_assoc
 
 -- the table of contents, field by field
 pub contents_is : (out a b c d e f g : List ℕ) (series postings offsets : ℕ) → a ≡ out ++ big_bytes 8 5 → b ≡ a ++ big_bytes 8 series → c ≡ b ++ big_bytes 8 0 → d ≡ c ++ big_bytes 8 0 → e ≡ d ++ big_bytes 8 postings → f ≡ e ++ big_bytes 8 offsets

@@ -23,18 +23,18 @@ pub fn chunks_file(alloc: Global, rows: &PartRows) -> Result<Vec<u8>, AllocError
     let mut file = Vec::new(alloc);
     put_bytes(&mut file, &HEAD)?;
     for row in rows.rows() {
-        put_series(alloc, &mut file, row.samples())?;
+        put_series(&mut file, row.samples())?;
     }
     Ok(file)
 }
 
-fn put_series(alloc: Global, out: &mut Vec<u8>, samples: &[Sample]) -> Result<(), AllocError>
+fn put_series(out: &mut Vec<u8>, samples: &[Sample]) -> Result<(), AllocError>
     ensures { OnOk result (out.new.items ≡ out.old.items ++ series_text samples.now) }
 {
     let mut rest = samples;
     while !rest.is_empty() {
         let (piece, after) = first_piece(rest);
-        put_chunk(alloc, out, piece)?;
+        put_chunk(out, piece)?;
         rest = after;
     }
     Ok(())

@@ -103,8 +103,8 @@ fn put_references(out: &mut Vec<u8>, references: &[u32]) -> Result<(), AllocErro
     Ok(())
 }
 
-// Appends the checksum of what stands from a place on.
-fn put_sum(out: &mut Vec<u8>, start: usize) -> Result<(), AllocError>
+/// Appends the checksum of what stands from a place on.
+pub fn put_sum(out: &mut Vec<u8>, start: usize) -> Result<(), AllocError>
     requires { start ≤ length out.old.items }
     ensures { OnOk result (out.new.items ≡ out.old.items ++ big_bytes 4 (crc32c (drop start out.old.items))) }
 {

@@ -53,13 +53,9 @@ fn the_worked_chunk_is_written(rt: HostRuntime) -> Result<(), Fail> {
         0x63, 0xEF,
     ];
     let mut out = Vec::new(rt.alloc());
-    put_chunk(rt.alloc(), &mut out, &[Sample::new(10, 4)])?;
+    put_chunk(&mut out, &[Sample::new(10, 4)])?;
     assert_eq!(rt; out.as_slice(), worked.as_slice());
-    put_chunk(
-        rt.alloc(),
-        &mut out,
-        &[Sample::new(-5, 7), Sample::new(6, -8)],
-    )?;
+    put_chunk(&mut out, &[Sample::new(-5, 7), Sample::new(6, -8)])?;
     let two = [
         0x22, 0xE0, 0x00, 0x02, 0xFF, 0xFF, 0xFF, 0xFF, 0xFF, 0xFF, 0xFF, 0xFB, 0, 0, 0, 0, 0, 0,
         0, 0x07, 0, 0, 0, 0, 0, 0, 0, 0x06, 0xFF, 0xFF, 0xFF, 0xFF, 0xFF, 0xFF, 0xFF, 0xF8, 0x30,
