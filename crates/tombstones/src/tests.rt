@@ -118,9 +118,13 @@ fn an_interval_of_several_series_is_joined(rt: HostRuntime) -> Result<(), Fail> 
     Ok(())
 }
 
-/// Series 6 is deleted from 0 to 100 and again from 10 to 20, and series 7 from 5 to 6.
-const LONG_AND_SHORT: [(u32, i64, i64); 3] = [(6, 0, 100), (6, 10, 20), (7, 5, 6)];
+const LONG: (u32, i64, i64) = (6, 0, 100);
 
+const SHORT: (u32, i64, i64) = (6, 10, 20);
+
+const OTHER: (u32, i64, i64) = (7, 5, 6);
+
+/// Whether series 6 is deleted from 0 to 100, series 7 from 5 to 6, and no other time.
 fn are_found(tombstones: &Tombstones) -> bool {
     let mut all = true;
     for (reference, t, want) in [
@@ -149,16 +153,15 @@ fn are_found(tombstones: &Tombstones) -> bool {
 #[test]
 fn a_long_deletion_reaches_past_a_later_short_one(rt: HostRuntime) -> Result<(), Fail> {
     for order in [
-        [0, 1, 2],
-        [0, 2, 1],
-        [1, 0, 2],
-        [1, 2, 0],
-        [2, 0, 1],
-        [2, 1, 0],
+        [LONG, SHORT, OTHER],
+        [LONG, OTHER, SHORT],
+        [SHORT, LONG, OTHER],
+        [SHORT, OTHER, LONG],
+        [OTHER, LONG, SHORT],
+        [OTHER, SHORT, LONG],
     ] {
         let mut tombstones = Tombstones::new(rt.alloc());
-        for which in order {
-            let (reference, from, to) = LONG_AND_SHORT[which];
+        for (reference, from, to) in order {
             tombstones.add(SeriesRef::new(reference), from, to)?;
         }
         assert!(rt; are_found(&tombstones), "added as {order:?}");
@@ -166,13 +169,10 @@ fn a_long_deletion_reaches_past_a_later_short_one(rt: HostRuntime) -> Result<(),
     let entries = [0x07, 0x0A, 0x0C, 0x06, 0x14, 0x28, 0x06, 0x00, 0xC8, 0x01];
     let tombstones = Tombstones::open(rt.alloc(), &file_of(rt.alloc(), &entries)?)?;
     assert!(rt; are_found(&tombstones), "of a file");
+    let wanted = [LONG, SHORT, OTHER];
     for (place, deletion) in tombstones.deletions().iter().enumerate() {
-        let (reference, from, to) = LONG_AND_SHORT[place];
-        assert_eq!(rt;
-            (deletion.reference, deletion.from, deletion.to),
-            (reference, from, to),
-            "at {place}"
-        );
+        let found = (deletion.reference, deletion.from, deletion.to);
+        assert_eq!(rt; wanted.get(place), Some(&found), "at {place}");
     }
     let mut short = Tombstones::new(rt.alloc());
     short.add(SeriesRef::new(7), 5, 6)?;
