@@ -305,18 +305,34 @@ fn a_range_is_cut_at_each_edge_of_its_chunks(rt: HostRuntime) -> Result<(), Fail
     let alloc = rt.alloc();
     let (index, chunks) = counted(alloc, &[3, 2, 1, 4])?;
     let block = opened(alloc, &index, chunks, &[])?;
-    for from in -1i64..11 {
-        for to in -1i64..11 {
-            let samples = block.samples_of(alloc, SeriesRef::new(2), from, to)?;
-            let first = from.max(0);
-            let want = (to.min(9) - first + 1).max(0);
-            assert_eq!(rt; samples.len() as i64, want, "from {from} to {to}");
-            for (sample, t) in samples.iter().zip(first..) {
-                assert_eq!(rt; *sample, Sample::new(t, 7));
-            }
-            let live = block.view().live(alloc, from, to)?;
-            assert_eq!(rt; live.current().is_some(), want > 0, "from {from} to {to}");
+    let rows: [(i64, i64, &[i64]); 14] = [
+        (-1, 10, &[0, 1, 2, 3, 4, 5, 6, 7, 8, 9]),
+        (-1, -1, &[]),
+        (-1, 0, &[0]),
+        (0, 2, &[0, 1, 2]),
+        (2, 3, &[2, 3]),
+        (3, 2, &[]),
+        (3, 3, &[3]),
+        (4, 5, &[4, 5]),
+        (5, 5, &[5]),
+        (5, 6, &[5, 6]),
+        (6, 9, &[6, 7, 8, 9]),
+        (9, 10, &[9]),
+        (9, 0, &[]),
+        (10, 10, &[]),
+    ];
+    for (from, to, want) in rows {
+        let samples = block.samples_of(alloc, SeriesRef::new(2), from, to)?;
+        assert_eq!(rt; samples.len(), want.len(), "from {from} to {to}");
+        for (sample, t) in samples.iter().zip(want) {
+            assert_eq!(rt; *sample, Sample::new(*t, 7));
         }
+        let live = block.view().live(alloc, from, to)?;
+        assert_eq!(rt;
+            live.current().is_some(),
+            !want.is_empty(),
+            "from {from} to {to}"
+        );
     }
     Ok(())
 }
