@@ -1,13 +1,12 @@
 -- Checks along a list, one element after the other.
-use Rattle.std.proofs.Common.{◌≡◌, ℕ, zero, suc, ◌+◌, ◌<◌, ◌≤◌, Bool, true, false, ◌&&◌, List, [], ◌∷◌, ◌++◌, length, take, drop, get_or, Some, Result, Ok, Err, refl, sym, ap, subst, ◌∙◌, inl, inr, arith}
+use Rattle.std.proofs.Common.{◌≡◌, ℕ, zero, suc, ◌+◌, ◌<◌, ◌≤◌, Bool, true, false, ◌&&◌, List, [], ◌∷◌, ◌++◌, length, take, drop, Some, Result, Ok, Err, refl, sym, ap, subst, ◌∙◌, arith}
 use Rattle.std.specs.Prelude.{slice_get}
 use Rattle.std.specs.List.{AllByRecursion, Contains, list_all, flat_map}
 use Rattle.std.specs.List.Sorted.{IsStrictlyIncreasing}
 use Rattle.std.proofs.Math.Seq.{drop-cons}
-use Rattle.std.proofs.lemmas.Bool.{cases_lt}
 use Rattle.std.proofs.lemmas.List.{drop_all, take_all, length-append}
 use Rattle.std.proofs.lemmas.Grind.{take_at_read, flat_map-append}
-use Rattle.std.proofs.lemmas.Option.{slice_get_within, get_or_from_slice_get, slice_get-get_or}
+use Rattle.std.proofs.lemmas.Option.{slice_get_within, get_or_from_slice_get}
 use Rattle.labels.proofs.Lists.{rising-head, rising-tail}
 use Rattle.chunk_reader.specs.declared.error.ChunkError.{ChunkError}
 use Rattle.block.specs.Opening.{each}
@@ -101,33 +100,3 @@ strict (x ∷ xs) h zero (suc j) a b lt g g' =
     let l : x < b = rising-head x xs h b (contains_at xs j b g') in
     omega arith
 strict (x ∷ xs) h (suc i) (suc j) a b lt g g' = strict xs (rising-tail x xs h) i j a b (omega arith) g g'
-
-pub below_middle : (xs : List ℕ) (t m x : ℕ) → IsStrictlyIncreasing xs → slice_get xs m ≡ Some x → x < t → (k a : ℕ) → k < m + 1 → slice_get xs k ≡ Some a → a < t
-below_middle xs t m x rising g lt k a le g' =
-    elim (cases_lt k m) [
-      | inl below ↦ let l : a < x = strict xs rising k m a x below g' g in omega arith
-      | inr from ↦
-          let e : k ≡ m = omega arith in
-          let same : slice_get xs k ≡ slice_get xs m = ap (slice_get xs) e in
-          let a_is : a ≡ x = cc in
-          omega arith
-    ]
-
-pub above_middle : (xs : List ℕ) (t m x : ℕ) → IsStrictlyIncreasing xs → slice_get xs m ≡ Some x → t < x → (k a : ℕ) → m ≤ k → slice_get xs k ≡ Some a → t < a
-above_middle xs t m x rising g lt k a le g' =
-    elim (cases_lt m k) [
-      | inl above ↦ let l : x < a = strict xs rising m k x a above g g' in omega arith
-      | inr to ↦
-          let e : k ≡ m = omega arith in
-          let same : slice_get xs k ≡ slice_get xs m = ap (slice_get xs) e in
-          let a_is : a ≡ x = cc in
-          omega arith
-    ]
-
-pub nowhere : (xs : List ℕ) (t low high : ℕ) → high ≤ low → ((k a : ℕ) → k < low → slice_get xs k ≡ Some a → a < t) → ((k a : ℕ) → high ≤ k → slice_get xs k ≡ Some a → t < a) → Contains xs t → ⊥
-nowhere xs t low high le below above held =
-    let g : slice_get xs held.0 ≡ Some (get_or xs held.0 t) = slice_get-get_or xs held.0 t held.1 in
-    elim (cases_lt held.0 low) [
-      | inl lt ↦ let l = below held.0 (get_or xs held.0 t) lt g in omega (arith, held.2, l)
-      | inr from ↦ let l = above held.0 (get_or xs held.0 t) (omega arith) g in omega (arith, held.2, l)
-    ]

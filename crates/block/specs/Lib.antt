@@ -10,7 +10,6 @@ pub mod Samples
 pub mod Sound
 pub mod RawLists
 pub mod Remaining
-pub mod Rising
 pub mod Wanted
 pub mod Views
 pub mod LiveLists

@@ -1,6 +1,7 @@
 //! Places of references among those of an index, found by halving.
 
-ghost use Rattle.std.specs.Prelude.{ℕ, ◌<◌, ◌≤◌, length, get_or};
+ghost use Rattle.std.specs.Prelude.{◌≡◌, ℕ, ◌<◌, ◌≤◌, length, get_or, slice_get, Some, IfNone, IfSome};
+ghost use Rattle.std.specs.List.{Contains};
 ghost use Rattle.std.specs.List.Sorted.{IsStrictlyIncreasing};
 ghost use Rattle.index_reader.specs.Indexes.{references};
 
@@ -27,4 +28,17 @@ pub(crate) fn place_from(index: &Index, from: usize, target: SeriesRef) -> usize
         }
     }
     high
+}
+
+/// The place of the series with this reference.
+pub(crate) fn place_of(index: &Index, reference: SeriesRef) -> Option<usize>
+    requires { IsStrictlyIncreasing (references index.now.series) }
+    ensures found { IfSome result (λ i. slice_get (references index.now.series) i ≡ Some reference) }
+    ensures none { IfNone result (Contains (references index.now.series) reference → ⊥) }
+{
+    let at = place_from(index, 0, reference);
+    if at < index.len() && index.reference_at(at).number() == reference.number() {
+        return Some(at);
+    }
+    None
 }

@@ -10,6 +10,7 @@ ghost use Rattle.block.specs.Sound.{IsHeld, IsCounted, lies_in};
 ghost use Rattle.block.specs.Opening.{each, chunk_check, have_few, is_known, stored_of, deleted_of};
 
 use crate::error::BlockError;
+use crate::halving::place_of;
 use crate::range::Range;
 use chunk_reader::{ChunkError, Chunks};
 use index_reader::{Chunk, Index, IndexError};
@@ -68,29 +69,6 @@ pub(crate) fn check_stored(index: &Index, chunks: &Chunks) -> Result<(), BlockEr
         return Err(BlockError::Index(IndexError::Limit));
     }
     Ok(())
-}
-
-/// The place of the series with this reference, by halving.
-pub(crate) fn place_of(index: &Index, reference: SeriesRef) -> Option<usize>
-    requires { IsStrictlyIncreasing (references index.now.series) }
-    ensures found { IfSome result (λ i. slice_get (references index.now.series) i ≡ Some reference) }
-    ensures none { IfNone result (Contains (references index.now.series) reference → ⊥) }
-{
-    let mut low = 0;
-    let mut high = index.len();
-    while low < high {
-        let middle = low + (high - low) / 2;
-        let here = index.reference_at(middle).number();
-        if here == reference.number() {
-            return Some(middle);
-        }
-        if here < reference.number() {
-            low = middle + 1;
-        } else {
-            high = middle;
-        }
-    }
-    None
 }
 
 fn is_known(index: &Index, deletion: &Deletion) -> bool

@@ -84,9 +84,8 @@ impl<'a> RawList<'a> {
 
 impl<'a> Postings for RawList<'a> {
     ghost use Rattle.labels.specs.Ascending.{first_or_end, rest_of, not_below};
-    ghost use Rattle.labels.proofs.Lists.{not_below-twice};
+    ghost use Rattle.labels.proofs.Lists.{not_below-twice, rising-drop};
     ghost use Rattle.block.specs.RawLists.{reads_of, remaining_of};
-    ghost use Rattle.block.specs.Rising.{drop_rising};
 
     ghost remaining = { λ list. remaining_of list };
 
@@ -122,7 +121,7 @@ impl<'a> Postings for RawList<'a> {
         }
     }
 
-    ghost ascending = { λ list. drop_rising list.entries.0 list.at list.placed.increasing };
+    ghost ascending = { λ list. rising-drop list.entries.0 list.at list.placed.increasing };
 
     ghost two_seeks = { λ list a b. not_below-twice a b (drop list.at list.entries.0) };
 }

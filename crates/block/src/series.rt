@@ -6,8 +6,7 @@ ghost use Rattle.labels.specs.Parts.{carries, has_sample, labels_in, references,
 ghost use Rattle.index_reader.specs.Indexes.{values_of};
 
 use crate::blocks::Block;
-use crate::halving::place_from;
-use crate::opening::place_of;
+use crate::halving::{place_from, place_of};
 use crate::wanted::{Times, Wanted, is_any_wanted, push_each};
 use index_reader::Entries;
 use labels::{LabelSet, Sample, SeriesRef};

@@ -193,6 +193,11 @@ pub rising-rest : (xs : List ℕ) → IsStrictlyIncreasing xs → IsStrictlyIncr
 rising-rest [] h = h
 rising-rest (x ∷ xs) h = rising-tail x xs h
 
+pub rising-drop : (xs : List ℕ) (i : ℕ) → IsStrictlyIncreasing xs → IsStrictlyIncreasing (drop i xs)
+rising-drop xs zero h = h
+rising-drop [] (suc i) h = h
+rising-drop (x ∷ xs) (suc i) h = rising-drop xs i (rising-tail x xs h)
+
 -- a slice from n on, as the code's range computes it
 pub tail_range : (xs : List ℕ) (n : ℕ) → take (length xs - n) (drop n xs) ≡ drop n xs
 tail_range xs n = grind (arith, common_steps)

@@ -1,15 +1,8 @@
-use Rattle.std.proofs.Common.{◌≡◌, ℕ, ◌+◌, ◌-◌, ◌/◌, ◌<◌, ◌≤◌, List, length, get_or, Some, sym, ap, ◌∙◌, arith}
-use Rattle.std.specs.Prelude.{slice_get}
+use Rattle.std.proofs.Common.{◌≡◌, ℕ, ◌+◌, ◌-◌, ◌/◌, ◌<◌, ◌≤◌, List, get_or, sym, ap, ◌∙◌, arith}
 use Rattle.std.specs.List.Sorted.{IsStrictlyIncreasing}
 use Rattle.std.proofs.lemmas.Option.{get_or_from_slice_get}
-use Rattle.block.proofs.Places.{rises, halved}
+use Rattle.block.proofs.Places.{below_middle, halved}
 use Rattle.block.proofs.raw_list.place_of.Goals as goal
-
--- what is at most at a place below the target is below it
-below_middle : (refs : List ℕ) (m target reference : ℕ) → IsStrictlyIncreasing refs → m < length refs → slice_get refs m ≡ Some reference → reference < target → (k : ℕ) → k ≤ m → get_or refs k 0 < target
-below_middle refs m target reference up lt g h k le =
-    let e : get_or refs m 0 ≡ reference = get_or_from_slice_get refs m reference 0 g in
-    omega (arith, rises refs k m up le lt, e, h)
 
 pub loop-low-preserved-then-number : goal.loop-low-preserved-then-number
 loop-low-preserved-then-number c =

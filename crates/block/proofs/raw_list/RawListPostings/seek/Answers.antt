@@ -2,7 +2,8 @@ use Rattle.std.proofs.Common.{refl, ◌≡◌, ℕ, ◌<◌, ◌≤◌, List, le
 use Rattle.std.specs.Prelude.{slice_get, Option, Some, None}
 use Rattle.std.specs.List.Sorted.{IsStrictlyIncreasing}
 use Rattle.labels.specs.Ascending.{not_below, first_or_end}
-use Rattle.block.proofs.Places.{not_below_at, first_at, stays_at, read_first, none_stays, drop_rising}
+use Rattle.labels.proofs.Lists.{rising-drop}
+use Rattle.block.proofs.Places.{not_below_at, first_at, stays_at, read_first, none_stays}
 use Rattle.block.proofs.raw_list.RawListPostings.seek.Goals as goal
 
 sought : (refs read found old : List ℕ) (from at target : ℕ) → read ≡ refs → found ≡ read → drop from refs ≡ old → IsStrictlyIncreasing refs → from ≤ at → at ≤ length read
@@ -36,7 +37,7 @@ stayed : (refs found : List ℕ) (at target value : ℕ) (head : Option ℕ) →
     → drop at found ≡ not_below target (drop at refs)
 stayed refs found at target value head f up h some le =
     let e : first_or_end (drop at refs) ≡ value = first_kept refs at value head h some in
-    ap (drop at) f ∙ stays_at (drop at refs) target (drop_rising refs at up) (omega arith)
+    ap (drop at) f ∙ stays_at (drop at refs) target (rising-drop refs at up) (omega arith)
 
 pub returns-else-number-clause-list : goal.returns-else-number-clause-list
 returns-else-number-clause-list c =
