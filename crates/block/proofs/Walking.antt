@@ -9,7 +9,7 @@ use Rattle.std.proofs.lemmas.Bool.Decides.{nat_tests}
 use Rattle.labels.specs.Ascending.{first_of, rest_of, not_below}
 use Rattle.labels.specs.Rows.{Row}
 use Rattle.labels.specs.Parts.{Part, references, references_of, live_references, has_sample}
-use Rattle.labels.proofs.Lists.{here, Contains-cases, rising-head, rising-tail, filter-all}
+use Rattle.labels.proofs.Lists.{first_in, here, Contains-cases, rising-head, rising-tail, filter-all}
 use Rattle.labels.proofs.PartRows.{kept_in}
 use Rattle.block.specs.PartPlaces.{rises_from}
 use Rattle.block.proofs.Places.{first_at}
@@ -23,10 +23,6 @@ refs_drop (row ∷ rows) (suc i) = refs_drop rows i
 one : (part : Part) (i : ℕ) → i < length part → ℕ × Row
 one [] i l = absurd (omega (arith, l))
 one (row ∷ rows) i l = row
-
-first_in : (xs : List ℕ) (r : ℕ) → first_of xs ≡ Some r → Contains xs r
-first_in [] r h = absurd cc
-first_in (x ∷ xs) r h = let same : x ≡ r = cc in subst (λ (z : ℕ). Contains (x ∷ xs) z) same (here x xs)
 
 module _ (keep : ℕ × Row → Bool) where
   passed : (part : Part) (i : ℕ) (d : ℕ × Row) → i < length part → keep (get_or part i d) ≡ false → references_of keep (drop (i + 1) part) ≡ references_of keep (drop i part)

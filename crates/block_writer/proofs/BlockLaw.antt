@@ -13,7 +13,7 @@ use Rattle.block_writer.specs.PartRows.{are_part_rows}
 use Rattle.block_writer.specs.SpellRows.{AreSeriesOf, IsStorable, SpellRows}
 use Rattle.block_writer.specs.Writing.{series_text, chunks_text}
 use Rattle.block_writer.specs.Written.{IsWrittenIndex}
-use Rattle.block_writer.specs.WrittenAs.{series_from, references_in, indexed_from}
+use Rattle.block_writer.proofs.WrittenAs.{series_from, references_in, indexed_from}
 use Rattle.block_writer.proofs.Consistent.{many_references}
 use Rattle.block_writer.proofs.IndexLaw.{written_is_index}
 use Rattle.block_writer.proofs.RowLaws.{files_spell}

@@ -37,7 +37,7 @@ use Rattle.block_writer.specs.InUse.{texts_in, label_texts, HoldsEachOnce}
 use Rattle.block_writer.specs.EntryBodies.{place_among, number_of, numbers_of, chunk_of, chunks_from, chunks_of, apart, first_text, later_text, later_texts, labels_text, places_text, body_of, bodies_of}
 use Rattle.block_writer.specs.PartRows.{has_some, is_series, are_part_rows}
 use Rattle.block_writer.specs.Writing.{pieces, piece_text, series_text, chunks_text}
-use Rattle.block_writer.specs.WrittenAs.{places_from, entries_of}
+use Rattle.block_writer.proofs.WrittenAs.{places_from, entries_of}
 use Rattle.block_writer.proofs.Giving.{in_flat}
 use Rattle.block_writer.proofs.Held.{stands_there}
 use Rattle.block_writer.proofs.Parted.{sorted_front, sorted_back, pass_front, pass_back}

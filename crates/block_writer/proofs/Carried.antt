@@ -13,7 +13,7 @@ use Rattle.labels.proofs.Texts.{bytes_exact, bytes_self}
 use Rattle.block_writer.specs.InUse.{pairs_in, HoldsEachOnce}
 use Rattle.block_writer.specs.EntryBodies.{chunks_of}
 use Rattle.block_writer.specs.Writing.{series_text}
-use Rattle.block_writer.specs.WrittenAs.{series_from}
+use Rattle.block_writer.proofs.WrittenAs.{series_from}
 use Rattle.block_writer.proofs.Held.{Contains-cons}
 use Rattle.block_writer.proofs.Giving.{hit, hits, hits_is, in_flat}
 

@@ -13,7 +13,7 @@ use Rattle.block_writer.specs.EntryBodies.{bodies_of}
 use Rattle.block_writer.specs.IndexText.{start_text}
 use Rattle.block_writer.specs.InUse.{pairs_in, HoldsEachOnce}
 use Rattle.block_writer.specs.Writing.{series_text}
-use Rattle.block_writer.specs.WrittenAs.{series_from, references_in, front_text, indexed_from}
+use Rattle.block_writer.proofs.WrittenAs.{series_from, references_in, front_text, indexed_from}
 use Rattle.block_writer.proofs.Building.{references_many}
 use Rattle.block_writer.proofs.Carried.{pairs_carried, pairs_listed}
 use Rattle.block_writer.proofs.InOrder.{each_below_next, sets_rise}

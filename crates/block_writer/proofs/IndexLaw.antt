@@ -20,7 +20,7 @@ use Rattle.block_writer.specs.PartRows.{is_series, are_part_rows}
 use Rattle.block_writer.specs.SpellRows.{IsStorable}
 use Rattle.block_writer.specs.Writing.{chunks_text}
 use Rattle.block_writer.specs.Written.{IsWrittenIndex}
-use Rattle.block_writer.specs.WrittenAs.{places_from, entries_of, references_in, front_text, all_lists, table_of, contents_in, parts_in, indexed_from}
+use Rattle.block_writer.proofs.WrittenAs.{places_from, entries_of, references_in, front_text, all_lists, table_of, contents_in, parts_in, indexed_from}
 use Rattle.block_writer.proofs.Bodied.{AreInTime, written_bodies}
 use Rattle.block_writer.proofs.Consistent.{references_as, written_consistent}
 use Rattle.block_writer.proofs.InUseLaws.{symbols_utf8, symbols_held, pairs_ascend}

@@ -13,7 +13,7 @@ use Rattle.index_reader.specs.Grammar.{frame, entry, checked, contents_text, IsW
 use Rattle.index_reader.specs.Flat.{zero_between, gaps_zero}
 use Rattle.labels.specs.Labels.{text_cmp}
 use Rattle.block_writer.specs.IndexText.{padded, symbols_text, start_text, with_entries, contents_of}
-use Rattle.block_writer.specs.WrittenAs.{places_from}
+use Rattle.block_writer.proofs.WrittenAs.{places_from}
 use Rattle.block_writer.proofs.Building.{grows, padded_long}
 use Rattle.block_writer.proofs.Lengths.{frame_long}
 

@@ -26,3 +26,4 @@ pub mod Spelled
 pub mod Tabled
 pub mod Walking
 pub mod WrittenParts
+pub mod WrittenAs

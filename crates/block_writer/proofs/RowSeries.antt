@@ -14,7 +14,7 @@ use Rattle.labels.proofs.Texts.{text_total}
 use Rattle.block_writer.specs.EntryBodies.{numbers_of, number_of, chunks_of, body_of, bodies_of}
 use Rattle.block_writer.specs.IndexText.{carriers, lists_of, references_from, with_entries, padded}
 use Rattle.block_writer.specs.Writing.{series_text}
-use Rattle.block_writer.specs.WrittenAs.{places_from, entries_of, series_from}
+use Rattle.block_writer.proofs.WrittenAs.{places_from, entries_of, series_from}
 use Rattle.block_writer.proofs.Held.{stands_there, Contains-cons}
 use Rattle.block_writer.proofs.Building.{grows, padded_long}
 use Rattle.block_writer.proofs.LaidOut.{entry_some}

@@ -7,7 +7,7 @@ use Rattle.labels.specs.Rows.{Row}
 use Rattle.index_reader.specs.Bodies.{Body}
 use Rattle.block_writer.specs.EntryBodies.{numbers_of}
 use Rattle.block_writer.specs.Writing.{series_text}
-use Rattle.block_writer.specs.WrittenAs.{entries_of}
+use Rattle.block_writer.proofs.WrittenAs.{entries_of}
 
 pub few_labels : (symbols : List (List ℕ)) (rows : List Row) (at k : ℕ) (d : Body) → AllByRecursion (λ (row : Row). IsLabelSet row.0) rows → k < length (entries_of symbols at rows) → length (get_or (entries_of symbols at rows) k d).labels ≤ 64
 unfolding entries_of

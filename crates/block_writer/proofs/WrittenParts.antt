@@ -9,7 +9,7 @@ use Rattle.index_reader.specs.Spelled.{table_text}
 use Rattle.block_writer.specs.EntryBodies.{bodies_of}
 use Rattle.block_writer.specs.IndexText.{symbols_text, section_text, postings_text, index_text}
 use Rattle.block_writer.specs.Written.{IsWrittenIndex}
-use Rattle.block_writer.specs.WrittenAs.{front_text, all_lists, table_of, contents_in, parts_in}
+use Rattle.block_writer.proofs.WrittenAs.{front_text, all_lists, table_of, contents_in, parts_in}
 use Rattle.block_writer.proofs.LaidOut.{parts_are, gaps_are}
 
 -- what stands behind the entries

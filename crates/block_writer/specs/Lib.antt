@@ -6,4 +6,3 @@ pub mod PartRows
 pub mod SpellRows
 pub mod Writing
 pub mod Written
-pub mod WrittenAs

@@ -9,7 +9,7 @@ use Rattle.labels.specs.Ascending.{first_of, rest_of, not_below}
 use Rattle.labels.specs.Rows.{Row}
 use Rattle.labels.specs.Parts.{Part, references, references_of, IsPart}
 use Rattle.labels.proofs.PartRows.{kept_in}
-use Rattle.labels.proofs.Lists.{here, there, filter-all}
+use Rattle.labels.proofs.Lists.{first_in, here, there, filter-all}
 use Rattle.head.specs.Heads.{HeadSeries, numbered}
 use Rattle.head.specs.Spans.{in_span, span_rises, le_test, lt_test}
 
@@ -80,10 +80,6 @@ module _ (keep : ℕ × Row → Bool) (hs : List HeadSeries) where
 
   pub settled_end : (i : ℕ) → length hs ≤ i → first_of (references_of keep (rows_from i hs)) ≡ first_of (references (rows_from i hs))
   settled_end i l = ap (λ p. first_of (references_of keep p)) (rows_end hs i l) ∙ sym (ap (λ p. first_of (references p)) (rows_end hs i l))
-
-  first_in : (xs : List ℕ) (r : ℕ) → first_of xs ≡ Some r → Contains xs r
-  first_in [] r h = cc
-  first_in (x ∷ xs) r h = let same : x ≡ r = cc in subst (λ (z : ℕ). Contains (x ∷ xs) z) same (here x xs)
 
   -- the list less its first, where that is the first of all
   pub rest_settled : (i : ℕ) (d : HeadSeries) → i < length hs → first_of (references_of keep (rows_from i hs)) ≡ first_of (references (rows_from i hs)) → references_of keep (rows_from (i + 1) hs) ≡ rest_of (references_of keep (rows_from i hs))

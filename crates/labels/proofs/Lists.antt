@@ -22,6 +22,10 @@ Contains-cases x xs y (suc k, l, e) = inr (k, omega (arith, l), e)
 pub none_in_nil : {X : Type 0} (y : X) → Contains [] y → ⊥
 none_in_nil y h = omega (arith, h.1)
 
+pub first_in : (xs : List ℕ) (r : ℕ) → first_of xs ≡ Some r → Contains xs r
+first_in [] r h = absurd cc
+first_in (x ∷ xs) r h = let same : x ≡ r = cc in subst (λ (z : ℕ). Contains (x ∷ xs) z) same (here x xs)
+
 -- the same with `suc`, at which `get_or` computes
 step-suc : (xs : List ℕ) → IsStrictlyIncreasing xs → (k : ℕ) → suc k < length xs → get_or xs k 0 < get_or xs (suc k) 0
 step-suc xs h k l = let e : k + 1 ≡ suc k = omega arith in subst (λ (n : ℕ). get_or xs k 0 < get_or xs n 0) e (h k (omega (arith, l)))
