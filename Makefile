@@ -1,19 +1,27 @@
 # make help lists the targets.
 RT ?= rt
 PREFIX ?= /usr/local
+JOBS ?= $(shell nproc)
 CRATES := $(shell sed -e 's/\#.*//' -e 's/:.*//' -e '/^[[:space:]]*$$/d' crates.txt)
 
-.PHONY: help demo test allocations bench install $(addprefix check-,$(CRATES))
+.PHONY: help try demo test gate-times allocations bench install $(addprefix check-,$(CRATES))
 
 help: ## lists the targets
 	@grep -hE '^[a-z-]+:.*## ' $(MAKEFILE_LIST) | sed -E 's/^([a-z-]+):.*## /\1\t/' | expand -t 16
 	@echo "check-CRATE     proves one crate; CRATE is one of: $(CRATES)"
 
-demo: ## proves, builds and runs `querier demo`
+try: ## runs `querier demo` with no proof, in about a minute
+	@cd crates/querier && $(RT) try -- demo
+
+demo: ## proves every crate, as many side by side as there are processors, and runs `querier demo`
+	@$(RT) all check --jobs $(JOBS) >/dev/null
 	@cd crates/querier && $(RT) run -- demo
 
 test: ## the merge gate: every proof from nothing, must-fail edits, tests, programs
 	@$(RT) ci
+
+gate-times: ## runs the gate and tells its minutes by crate, for proofs, proofs of tests and edits
+	@tests/gate-times $(RT) ci
 
 allocations: ## refuses each allocation of an index's opening and of the demo in turn (needs a C compiler)
 	@RT="$(RT)" tests/allocations
@@ -22,6 +30,7 @@ bench: ## measures speed (never part of the gate)
 	@RT="$(RT)" bench/run && RT="$(RT)" bench/check
 
 install: ## proves and builds querier, and copies it to PREFIX/bin
+	@$(RT) all check --jobs $(JOBS) >/dev/null
 	@cd crates/querier && $(RT) run -- demo >/dev/null
 	@install -D -m 755 crates/querier/out/querier "$(DESTDIR)$(PREFIX)/bin/querier"
 
