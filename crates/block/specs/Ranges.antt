@@ -1,8 +1,14 @@
 -- Ranges of times.
-use Rattle.std.specs.Prelude.{ℤ, Bool, ◌&&◌, Option, Some, None, if◌then◌else◌, int_lt, int_le}
+use Rattle.std.specs.Prelude.{◌≡◌, ℤ, Bool, true, ◌&&◌, Option, Some, None, if◌then◌else◌, int_lt, int_le}
 use Rattle.labels.specs.Contents.{is_time}
 
--- the first time is below the end, and both are times
+-- a range that a block may cover: its first time is below its end, and both are times
+pub record IsRange (range : ℤ × ℤ) : Type 0 where
+  pub rises : int_lt range.0 range.1 ≡ true
+  pub first : is_time range.0 ≡ true
+  pub end : is_time range.1 ≡ true
+
+-- whether the first time is below the end, and both are times
 abbrev pub is_range : ℤ → ℤ → Bool
 is_range min max = int_lt min max && (is_time min && is_time max)
 

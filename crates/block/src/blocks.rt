@@ -7,6 +7,7 @@ ghost use Rattle.block.specs.Fewer.{part_without};
 ghost use Rattle.block.specs.Grammar.{IsBlock};
 ghost use Rattle.block.specs.Opening.{block_of};
 ghost use Rattle.block.specs.Outcome.{Gives};
+ghost use Rattle.block.specs.Ranges.{IsRange};
 
 use crate::counting::count_live;
 use crate::error::BlockError;
@@ -107,9 +108,12 @@ impl Block {
     /// The times that the block covers.
     pub fn range(&self) -> Range
         ensures range { result ≡ self.now.range }
+        ensures is_range { IsRange self.now.range }
         ensures inside { AreInside self.now.range self.now.part }
         ensures is_part { IsPart self.now.part }
     {
+        // What holds of a range is known where one of its ends is asked for.
+        let _ = self.range.min();
         self.range
     }
 

@@ -1,5 +1,7 @@
-ghost use Rattle.std.specs.Prelude.{◌≡◌, true};
-ghost use Rattle.block.specs.Ranges.{range_of};
+//! The range of times that a block covers.
+
+ghost use Rattle.std.specs.Prelude.{◌≡◌};
+ghost use Rattle.block.specs.Ranges.{range_of, IsRange};
 
 use labels::is_time;
 use std::marker::Model;
@@ -12,12 +14,14 @@ pub struct Range {
 }
 
 impl Model for Range {
-    ghost use Rattle.std.specs.Prelude.{◌≡◌, ℤ, true};
-    ghost use Rattle.block.specs.Ranges.{is_range};
+    ghost use Rattle.std.specs.Prelude.{ℤ};
+    ghost use Rattle.block.specs.Ranges.{IsRange};
 
     ghost Value = { ℤ × ℤ };
 
     ghost view = { λ r. (r.min, r.max) };
+
+    ghost invariant = { λ r. IsRange (r.min, r.max) };
 
     ghost inverse = { λ p. record { min = p.0; max = p.1 } };
 }
@@ -38,14 +42,16 @@ impl Range {
 
     /// The first time of the range, in milliseconds.
     pub fn min(self) -> i64
-        ensures { result ≡ self.0 }
+        ensures first { result ≡ self.0 }
+        ensures range { IsRange self }
     {
         self.min
     }
 
     /// The first time after the range, in milliseconds.
     pub fn max(self) -> i64
-        ensures { result ≡ self.1 }
+        ensures end { result ≡ self.1 }
+        ensures range { IsRange self }
     {
         self.max
     }

@@ -10,7 +10,8 @@ use Rattle.index_reader.specs.Spelled.{IsIndex}
 use Rattle.tombstones.specs.Grammar.{IsTombstones}
 use Rattle.block_writer.specs.InUse.{texts_in}
 use Rattle.block_writer.specs.PartRows.{are_part_rows}
-use Rattle.block_writer.specs.SpellRows.{AreSeriesOf, IsStorable, SpellRows}
+use Rattle.block_writer.specs.SpellRows.{SpellRows}
+use Rattle.block_writer.proofs.Storable.{AreSeriesOf, IsStorable}
 use Rattle.block_writer.specs.Writing.{series_text, chunks_text}
 use Rattle.block_writer.specs.Written.{IsWrittenIndex}
 use Rattle.block_writer.proofs.WrittenAs.{series_from, references_in, indexed_from}

@@ -28,11 +28,11 @@ each_at P (y ∷ ys) x (suc i) all lt e = each_at P ys x i all.1 (omega (arith, 
 each_in : {X : Type 0} (P : X → Type 0) (xs : List X) (x : X) → AllByRecursion P xs → Contains xs x → P x
 each_in P xs x all c = each_at P xs x c.0 all c.1 c.2
 
-all_both : {X : Type 0} (P : X → Type 0) (xs ys : List X) → AllByRecursion P xs → AllByRecursion P ys → AllByRecursion P (xs ++ ys)
+pub all_both : {X : Type 0} (P : X → Type 0) (xs ys : List X) → AllByRecursion P xs → AllByRecursion P ys → AllByRecursion P (xs ++ ys)
 all_both P [] ys one two = two
 all_both P (x ∷ xs) ys one two = (one.0, all_both P xs ys one.1 two)
 
-one_by_one : {X : Type 0} (P : X → Type 0) (xs : List X) → All P xs → AllByRecursion P xs
+pub one_by_one : {X : Type 0} (P : X → Type 0) (xs : List X) → All P xs → AllByRecursion P xs
 one_by_one P [] h = tt
 one_by_one P (x ∷ xs) h = (h 0 x (omega arith), one_by_one P xs (All-tail P x xs h))
 

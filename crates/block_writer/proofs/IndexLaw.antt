@@ -17,7 +17,7 @@ use Rattle.block_writer.specs.EntryBodies.{bodies_of}
 use Rattle.block_writer.specs.IndexText.{start_text, section_text, lists_of}
 use Rattle.block_writer.specs.InUse.{texts_in}
 use Rattle.block_writer.specs.PartRows.{is_series, are_part_rows}
-use Rattle.block_writer.specs.SpellRows.{IsStorable}
+use Rattle.block_writer.proofs.Storable.{IsStorable}
 use Rattle.block_writer.specs.Writing.{chunks_text}
 use Rattle.block_writer.specs.Written.{IsWrittenIndex}
 use Rattle.block_writer.proofs.WrittenAs.{places_from, entries_of, references_in, front_text, all_lists, table_of, contents_in, parts_in, indexed_from}

@@ -19,11 +19,13 @@ pub mod Pieces
 pub mod Placing
 pub mod RowLaws
 pub mod RowSeries
-pub mod Segments
 pub mod Shown
 pub mod Small
 pub mod Spelled
+pub mod Storable
 pub mod Tabled
+pub mod Taken
 pub mod Walking
+pub mod WrittenBlock
 pub mod WrittenParts
 pub mod WrittenAs

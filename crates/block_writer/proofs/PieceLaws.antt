@@ -14,7 +14,7 @@ use Rattle.chunk_reader.specs.Grammar.{time_at, IsBatch, IsChunk}
 use Rattle.block.specs.Ranges.{covers}
 use Rattle.block.specs.Sound.{lies_in}
 use Rattle.block_writer.specs.EntryBodies.{chunk_of, chunks_from}
-use Rattle.block_writer.specs.SpellRows.{AreStorable}
+use Rattle.block_writer.proofs.Storable.{AreStorable}
 use Rattle.block_writer.specs.Writing.{pieces, piece_text}
 use Rattle.block_writer.proofs.Parted.{sorted_front, sorted_back, pass_front, pass_back, each_front, each_back, one_of}
 

@@ -20,7 +20,8 @@ use Rattle.block.specs.Sound.{lies_in}
 use Rattle.block.specs.Grammar.{AreSpelled, IsRow, AreRows, IsBlock}
 use Rattle.block_writer.specs.EntryBodies.{chunks_from, chunks_of}
 use Rattle.block_writer.specs.PartRows.{has_some, is_series, are_part_rows}
-use Rattle.block_writer.specs.SpellRows.{AreSeriesOf, IsStorable, numbered, SpellRows}
+use Rattle.block_writer.specs.SpellRows.{SpellRows}
+use Rattle.block_writer.proofs.Storable.{AreSeriesOf, IsStorable, numbered}
 use Rattle.block_writer.specs.Writing.{pieces, piece_text, series_text, chunks_text}
 use Rattle.block_writer.proofs.PieceLaws.{AreReady, rest_ready, all_inside, piece_stands}
 

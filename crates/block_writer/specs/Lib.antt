@@ -4,5 +4,6 @@ pub mod InUse
 pub mod IndexText
 pub mod PartRows
 pub mod SpellRows
+pub mod Typed
 pub mod Writing
 pub mod Written

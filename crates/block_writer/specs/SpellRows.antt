@@ -1,58 +1,28 @@
 -- Files of a block that spell exactly some rows.
-use Rattle.std.specs.Prelude.{◌≡◌, ℕ, ◌+◌, ◌≤◌, ℤ, T, true, List, [], ◌∷◌, length, map}
-use Rattle.std.specs.Bool.{IsTrue}
-use Rattle.std.specs.List.{list_all, AllByRecursion}
-use Rattle.std.specs.Int.{w64}
-use Rattle.std.specs.Int.RustNames.{FitsSigned}
-use Rattle.std.specs.Str.{IsUtf8}
-use Rattle.labels.specs.Contents.{in_range}
-use Rattle.labels.specs.LabelSets.{IsLabelSet}
-use Rattle.labels.specs.Parts.{Part}
+use Rattle.std.specs.Prelude.{◌≡◌, ℕ, ◌≤◌, ℤ, true, List, length}
+use Rattle.std.specs.List.{AllByRecursion}
+use Rattle.labels.specs.Parts.{Part, rows_in}
 use Rattle.labels.specs.Rows.{Row}
-use Rattle.labels.specs.declared.sample.TheConstants.{MIN_TIME, MAX_TIME}
-use Rattle.index_reader.specs.Indexes.{Series}
-use Rattle.block.specs.Ranges.{covers}
+use Rattle.block.specs.Ranges.{IsRange, covers}
 use Rattle.block.specs.Grammar.{IsBlock}
-use Rattle.block_writer.specs.EntryBodies.{chunks_of}
-use Rattle.block_writer.specs.InUse.{texts_in}
-use Rattle.block_writer.specs.PartRows.{are_part_rows}
-use Rattle.block_writer.specs.Writing.{series_text}
 
--- a series for each row: its label set, and its chunks, which stand one after another from a place on
-abbrev pub AreSeriesOf : ℕ → List Series → List Row → Type 0
-AreSeriesOf at [] [] = Unit {0}
-AreSeriesOf at [] (row ∷ rows) = ⊥
-AreSeriesOf at (s ∷ ss) [] = ⊥
-AreSeriesOf at (s ∷ ss) (row ∷ rows) = (s.labels ≡ row.0) × (s.chunks ≡ chunks_of at row.1) × AreSeriesOf (at + length (series_text row.1)) ss rows
-
--- samples that a block of a range may have: each time is a time and lies in the range, each value has 64 bits
-pub record AreStorable (range : ℤ × ℤ) (samples : List (ℤ × ℤ)) : Type 0 where
-  pub inside : AllByRecursion (λ (s : ℤ × ℤ). covers range s.0 ≡ true) samples
-  pub times : T (list_all (λ (s : ℤ × ℤ). in_range MIN_TIME MAX_TIME s.0) samples)
-  pub values : AllByRecursion (λ (s : ℤ × ℤ). FitsSigned w64 s.1) samples
-
--- a row that a block of a range may have: no more than 1,048,576 samples
-pub record IsStorable (range : ℤ × ℤ) (row : Row) : Type 0 where
+-- a row that a block of a range may have: no more than 1,048,576 samples, and the times of all lie in the range
+pub record IsWithin (range : ℤ × ℤ) (row : Row) : Type 0 where
   pub few : length row.1 ≤ 1048576
-  pub samples : AreStorable range row.1
+  pub inside : AllByRecursion (λ (s : ℤ × ℤ). covers range s.0 ≡ true) row.1
 
--- rows that a block of a range may have: in the order of their label sets, which are label sets of texts, each with samples
--- in the order of their times, and no more than 1,048,576
-pub record AreWritable (range : ℤ × ℤ) (rows : List Row) : Type 0 where
-  pub in_order : IsTrue (are_part_rows rows)
-  pub sets : AllByRecursion (λ (row : Row). IsLabelSet row.0) rows
-  pub texts : AllByRecursion IsUtf8 (texts_in rows)
-  pub storable : AllByRecursion (IsStorable range) rows
+-- rows that a block of a range may have: no more than 1,048,576 of them, and it may have each
+pub record AreWithin (range : ℤ × ℤ) (rows : List Row) : Type 0 where
   pub few : length rows ≤ 1048576
+  pub each : AllByRecursion (IsWithin range) rows
 
--- rows under the references of series
-abbrev pub numbered : List Series → List Row → Part
-numbered [] rows = []
-numbered (s ∷ ss) [] = []
-numbered (s ∷ ss) (row ∷ rows) = (s.reference, row) ∷ numbered ss rows
-
--- the files are those of a block with exactly these rows
+-- the files are those of a block of a range with exactly these rows
 pub record SpellRows (range : ℤ × ℤ) (index chunks tombstones : List ℕ) (rows : List Row) : Type 0 where
   pub part : Part
   pub spelled : IsBlock range index chunks tombstones part
-  pub exactly : map (λ (row : ℕ × Row). row.1) part ≡ rows
+  pub exactly : rows_in part ≡ rows
+
+-- in whichever range the rows lie, the files are those of a block of this range with exactly the rows
+abbrev pub SpellRowsAnywhere : (index chunks tombstones : List ℕ) (rows : List Row) → Type 0
+SpellRowsAnywhere index chunks tombstones rows =
+    (range : ℤ × ℤ) → IsRange range → AreWithin range rows → SpellRows range index chunks tombstones rows

@@ -1,8 +1,9 @@
 //! Chunks as they are written.
 
 ghost use Rattle.std.specs.Prelude.{◌≡◌, ◌<◌, ◌++◌, ◌∷◌, length, OnOk};
-ghost use Rattle.std.specs.List.{flat_map};
+ghost use Rattle.std.specs.List.{flat_map, All};
 ghost use Rattle.chunk_reader.specs.Grammar.{body_text, plain, sample_text};
+ghost use Rattle.block_writer.specs.Typed.{IsOf64Bits};
 ghost use Rattle.block_writer.specs.Writing.{piece_text};
 
 use crate::sections::put_sum;
@@ -13,11 +14,12 @@ use wire::{put_be64, put_bytes, put_u8, put_uvarint};
 
 const PLAIN: u8 = 0xE0;
 
-/// Appends a chunk of these samples. Where memory runs out a beginning of it may have been appended.
+/// Appends a chunk of these samples. Where memory runs out a prefix of it may have been appended.
 #[tactic(auto, unfolding(crate::specs::Writing::piece_text))]
-pub fn put_chunk(out: &mut Vec<u8>, samples: &[Sample]) -> Result<(), AllocError>
+pub(crate) fn put_chunk(out: &mut Vec<u8>, samples: &[Sample]) -> Result<(), AllocError>
     requires { length samples.now < 65536 }
-    ensures { OnOk result (out.new.items ≡ out.old.items ++ piece_text samples.now) }
+    ensures text { OnOk result (out.new.items ≡ out.old.items ++ piece_text samples.now) }
+    ensures typed { OnOk result (All IsOf64Bits samples.now) }
 {
     put_uvarint(out, 2 + 16 * samples.len() as u64)?;
     let start = out.len();
@@ -28,7 +30,8 @@ pub fn put_chunk(out: &mut Vec<u8>, samples: &[Sample]) -> Result<(), AllocError
 /// Appends the encoding's byte, the count and the samples.
 fn put_content(out: &mut Vec<u8>, samples: &[Sample]) -> Result<(), AllocError>
     requires { length samples.now < 65536 }
-    ensures { OnOk result (out.new.items ≡ out.old.items ++ plain ∷ body_text samples.now) }
+    ensures text { OnOk result (out.new.items ≡ out.old.items ++ plain ∷ body_text samples.now) }
+    ensures typed { OnOk result (All IsOf64Bits samples.now) }
 {
     let mut count = [0u8; 2];
     BigEndian::write_u16(&mut count, samples.len() as u16);
@@ -38,7 +41,8 @@ fn put_content(out: &mut Vec<u8>, samples: &[Sample]) -> Result<(), AllocError>
 }
 
 fn put_samples(out: &mut Vec<u8>, samples: &[Sample]) -> Result<(), AllocError>
-    ensures { OnOk result (out.new.items ≡ out.old.items ++ flat_map sample_text samples.now) }
+    ensures text { OnOk result (out.new.items ≡ out.old.items ++ flat_map sample_text samples.now) }
+    ensures typed { OnOk result (All IsOf64Bits samples.now) }
 {
     for sample in samples {
         put_sample(out, *sample)?;
@@ -47,7 +51,8 @@ fn put_samples(out: &mut Vec<u8>, samples: &[Sample]) -> Result<(), AllocError>
 }
 
 fn put_sample(out: &mut Vec<u8>, sample: Sample) -> Result<(), AllocError>
-    ensures { OnOk result (out.new.items ≡ out.old.items ++ sample_text sample) }
+    ensures text { OnOk result (out.new.items ≡ out.old.items ++ sample_text sample) }
+    ensures typed { OnOk result (IsOf64Bits sample) }
 {
     put_be64(out, sample.t().cast_unsigned())?;
     put_be64(out, sample.v().cast_unsigned())?;

@@ -1,7 +1,8 @@
 //! The chunks file.
 
-ghost use Rattle.std.specs.Prelude.{◌≡◌, ◌≤◌, ◌++◌, length, take, drop, vec_len, OnOk, IfOk};
-ghost use Rattle.chunk_reader.specs.Grammar.{IsSegment};
+ghost use Rattle.std.specs.Prelude.{◌≡◌, ◌≤◌, ◌++◌, length, take, drop, OnOk, IfOk};
+ghost use Rattle.std.specs.List.{All};
+ghost use Rattle.block_writer.specs.Typed.{Have64Bits, IsOf64Bits};
 ghost use Rattle.block_writer.specs.Writing.{chunks_text, series_text};
 
 use crate::chunk::put_chunk;
@@ -16,9 +17,9 @@ const PIECE: usize = 120;
 
 /// The bytes of the chunks file: the chunks of the rows in their order, 120 samples a chunk, the last of a row with
 /// what is left, nothing between them. It takes time and memory in proportion to the samples.
-pub fn chunks_file(alloc: Global, rows: &PartRows) -> Result<Vec<u8>, AllocError>
+pub(crate) fn chunks_file(alloc: Global, rows: &PartRows) -> Result<Vec<u8>, AllocError>
     ensures spelled { IfOk result (λ file. file.items ≡ chunks_text rows.now) }
-    ensures segment { IfOk result (λ file. vec_len file ≤ 0x4000_0000 → IsSegment file.items) }
+    ensures typed { OnOk result (Have64Bits rows.now) }
 {
     let mut file = Vec::new(alloc);
     put_bytes(&mut file, &HEAD)?;
@@ -29,7 +30,8 @@ pub fn chunks_file(alloc: Global, rows: &PartRows) -> Result<Vec<u8>, AllocError
 }
 
 fn put_series(out: &mut Vec<u8>, samples: &[Sample]) -> Result<(), AllocError>
-    ensures { OnOk result (out.new.items ≡ out.old.items ++ series_text samples.now) }
+    ensures text { OnOk result (out.new.items ≡ out.old.items ++ series_text samples.now) }
+    ensures typed { OnOk result (All IsOf64Bits samples.now) }
 {
     let mut rest = samples;
     while !rest.is_empty() {
@@ -40,7 +42,7 @@ fn put_series(out: &mut Vec<u8>, samples: &[Sample]) -> Result<(), AllocError>
     Ok(())
 }
 
-/// The first 120 samples, and those behind them.
+/// The first 120 samples, and those after them.
 pub fn first_piece(samples: &[Sample]) -> (&[Sample], &[Sample])
     ensures front { result.0.now ≡ take 120 samples.now }
     ensures back { result.1.now ≡ drop 120 samples.now }

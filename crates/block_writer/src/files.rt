@@ -2,6 +2,7 @@
 
 ghost use Rattle.std.specs.Prelude.{◌≡◌, ◌≤◌, [], length, IfOk, IfErr};
 ghost use Rattle.block_writer.specs.Writing.{chunks_text};
+ghost use Rattle.block_writer.specs.SpellRows.{SpellRowsAnywhere};
 ghost use Rattle.block_writer.specs.Written.{limit, IsTooLong, IsWrittenIndex};
 ghost use Rattle.tombstones.specs.Grammar.{IsTombstones};
 
@@ -27,6 +28,9 @@ pub struct BlockBytes {
 /// The files of a block with exactly these rows, of which nothing is deleted. `N1` where the chunks file or the index
 /// would be longer than 1,073,741,824 bytes. It takes time and memory in proportion to the samples, and to the labels
 /// times the logarithm of their count.
+///
+/// `Block::open` refuses the files for want of memory alone, and shows a part with exactly the rows, for each range that
+/// has their times, where there are at most 1,048,576 rows of at most 1,048,576 samples.
 pub fn write(alloc: Global, rows: &PartRows) -> Result<BlockBytes, WriteError>
     // The index lists exactly the rows, their labels and the places of their chunks.
     ensures index { IfOk result (λ files. IsWrittenIndex rows.now files.index.items) }
@@ -37,6 +41,9 @@ pub fn write(alloc: Global, rows: &PartRows) -> Result<BlockBytes, WriteError>
     // Both files are short enough to be read.
     ensures short { IfOk result (λ files. length files.index.items ≤ limit) }
     ensures chunks_short { IfOk result (λ files. length files.chunks.items ≤ limit) }
+    // By the grammar of blocks, they are a block with exactly the rows, in each range that has them.
+    ensures block { IfOk result (λ files.
+        SpellRowsAnywhere files.index.items files.chunks.items files.tombstones.items rows.now) }
     // Rows are refused only where a file of them is too long.
     ensures reason { IfErr result (IsTooLong rows.now) }
 {

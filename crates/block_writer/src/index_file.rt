@@ -1,12 +1,14 @@
 //! The index file.
 
-ghost use Rattle.std.specs.Prelude.{◌≡◌, ◌≤◌, length, IfOk, IfErr, OnOk};
+ghost use Rattle.std.specs.Prelude.{◌≡◌, ◌≤◌, length, IsTrue, IfOk, IfErr, OnOk};
 ghost use Rattle.std.specs.List.Sorted.{IsStrictlySortedBy};
 ghost use Rattle.labels.specs.Labels.{text_cmp, pair_cmp};
 ghost use Rattle.labels.specs.Pairs.{texts_of};
 ghost use Rattle.index_reader.specs.Seen.{texts};
 ghost use Rattle.block_writer.specs.InUse.{pairs_in, HoldsEachOnce};
 ghost use Rattle.block_writer.specs.IndexText.{index_text, start_text, symbols_text};
+ghost use Rattle.block_writer.specs.PartRows.{are_part_rows};
+ghost use Rattle.block_writer.specs.Typed.{HaveTexts};
 ghost use Rattle.block_writer.specs.Writing.{chunks_text};
 ghost use Rattle.block_writer.specs.Written.{limit, IsReason, IsTooLong, IsWrittenIndex};
 
@@ -27,11 +29,13 @@ const HEAD: [u8; 5] = [0xBA, 0xAA, 0xD7, 0x00, 0x02];
 /// series in the order of the rows, each at a multiple of 16; the postings of the empty pair and of exactly the pairs
 /// in use. `N1` where it would be longer than 1,073,741,824 bytes. It takes time in proportion to the rows' labels,
 /// times the logarithm of their count, and memory in proportion to the labels and the chunks.
-pub fn index_file(alloc: Global, rows: &PartRows) -> Result<Vec<u8>, WriteError>
+pub(crate) fn index_file(alloc: Global, rows: &PartRows) -> Result<Vec<u8>, WriteError>
     requires { length (chunks_text rows.now) ≤ limit }
     ensures written { IfOk result (λ file. IsWrittenIndex rows.now file.items) }
     ensures short { IfOk result (λ file. length file.items ≤ limit) }
     ensures reason { IfErr result (IsTooLong rows.now) }
+    ensures typed { OnOk result (HaveTexts rows.now) }
+    ensures part { OnOk result (IsTrue (are_part_rows rows.now)) }
 {
     let rows = rows.rows();
     let symbols = symbols_of(alloc, rows)?;

@@ -4,11 +4,13 @@
 //! strictly in the order of their times. [`write`] gives the three files of a block with these rows: the index, whose
 //! symbols and pairs are exactly those in use, each once, ascending (`IsWrittenIndex`); the chunks file, 120 samples a
 //! chunk, nothing between (`chunks_text`); and the tombstones of a block of which nothing is deleted. It refuses rows
-//! (`N1`) only where one of the two files would be longer than 1 GiB. What it gives is a block with exactly these rows
-//! ([`written_files_spell_rows`]). It stands on `labels`, `wire` and `byteorder`, and on `index_reader`,
-//! `chunk_reader`, `tombstones` and `block` for the words that say how their files are spelled. The files are those of
-//! Prometheus's TSDB format documents; where entries stand, that a reference is the sixteenth part of an offset, and
-//! that a chunk has 120 samples, is this project's own.
+//! (`N1`) only where one of the two files would be longer than 1 GiB. What it gives is a block with exactly these rows,
+//! in each range that has their times (`SpellRowsAnywhere`), so `Block::open` refuses it for want of memory alone.
+//!
+//! It stands on `labels`, `wire` and `byteorder`, and on `index_reader`, `chunk_reader`, `tombstones` and `block` for
+//! the words that say how their files are spelled. The files are those of Prometheus's TSDB format documents; where
+//! entries stand, that a reference is the sixteenth part of an offset, and that a chunk has 120 samples, is this
+//! project's own.
 #![tactic(auto)]
 
 mod body;
@@ -19,7 +21,6 @@ mod entries;
 mod error;
 mod files;
 mod index_file;
-mod laws;
 mod limits;
 mod part_rows;
 mod sections;
@@ -28,10 +29,6 @@ mod symbols;
 mod tests;
 mod tombstones_file;
 
-pub use chunk::put_chunk;
-pub use chunks::chunks_file;
 pub use error::WriteError;
 pub use files::{BlockBytes, write};
-pub use laws::written_files_spell_rows;
 pub use part_rows::PartRows;
-pub use tombstones_file::no_tombstones;

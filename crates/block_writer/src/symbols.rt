@@ -1,19 +1,22 @@
 //! The texts and the pairs that rows use, each once, ascending.
 
-ghost use Rattle.std.specs.Prelude.{◌≡◌, ◌++◌, OnOk, IfOk};
+ghost use Rattle.std.specs.Prelude.{◌≡◌, ◌++◌, ◌∷◌, [], OnOk, IfOk};
 ghost use Rattle.std.specs.List.Sorted.{IsStrictlySortedBy};
+ghost use Rattle.std.specs.Str.{IsUtf8};
 ghost use Rattle.labels.specs.Labels.{text_cmp, pair_cmp};
 ghost use Rattle.labels.specs.Pairs.{texts_of};
 ghost use Rattle.index_reader.specs.Seen.{texts};
 ghost use Rattle.block_writer.specs.InUse.{label_texts, texts_in, pairs_in, HoldsEachOnce};
 ghost use Rattle.block_writer.specs.EntryBodies.{number_of};
+ghost use Rattle.block_writer.specs.Typed.{AreOfTexts, HaveTexts};
 
 use labels::{LabelSet, Row};
 use std::alloc::{AllocError, Global};
 
 /// The names and the values of all rows, each once, ascending by their bytes.
 pub fn symbols_of<'a>(alloc: Global, rows: &'a [Row]) -> Result<Vec<&'a str>, AllocError>
-    ensures { IfOk result (λ v. HoldsEachOnce text_cmp (texts_in rows.now) (texts v.items)) }
+    ensures held { IfOk result (λ v. HoldsEachOnce text_cmp (texts_in rows.now) (texts v.items)) }
+    ensures typed { OnOk result (HaveTexts rows.now) }
 {
     let mut symbols = all_texts(alloc, rows)?;
     symbols.sort_unstable();
@@ -22,7 +25,8 @@ pub fn symbols_of<'a>(alloc: Global, rows: &'a [Row]) -> Result<Vec<&'a str>, Al
 }
 
 fn all_texts<'a>(alloc: Global, rows: &'a [Row]) -> Result<Vec<&'a str>, AllocError>
-    ensures { IfOk result (λ v. texts v.items ≡ texts_in rows.now) }
+    ensures text { IfOk result (λ v. texts v.items ≡ texts_in rows.now) }
+    ensures typed { OnOk result (HaveTexts rows.now) }
 {
     let mut found = Vec::new(alloc);
     for row in rows {
@@ -32,13 +36,22 @@ fn all_texts<'a>(alloc: Global, rows: &'a [Row]) -> Result<Vec<&'a str>, AllocEr
 }
 
 fn put_texts<'a>(found: &mut Vec<&'a str>, labels: &'a LabelSet) -> Result<(), AllocError>
-    ensures { OnOk result (texts found.new.items ≡ texts found.old.items ++ label_texts labels.now) }
+    ensures text { OnOk result (texts found.new.items ≡ texts found.old.items ++ label_texts labels.now) }
+    ensures typed { OnOk result (AreOfTexts labels.now) }
 {
     for i in 0..labels.len() {
         let (name, value) = labels.pair(i);
-        found.push(name)?;
-        found.push(value)?;
+        put_text(found, name)?;
+        put_text(found, value)?;
     }
+    Ok(())
+}
+
+fn put_text<'a>(found: &mut Vec<&'a str>, text: &'a str) -> Result<(), AllocError>
+    ensures text { OnOk result (texts found.new.items ≡ texts found.old.items ++ text.now ∷ []) }
+    ensures typed { OnOk result (IsUtf8 text.now) }
+{
+    found.push(text)?;
     Ok(())
 }
 

@@ -1,6 +1,10 @@
 //! Rows that a part may have, and the worked files of the format.
 
-use super::{PartRows, WriteError, chunks_file, no_tombstones, put_chunk, write};
+use super::{BlockBytes, PartRows, WriteError, write};
+use crate::chunk::put_chunk;
+use crate::chunks::chunks_file;
+use crate::tombstones_file::no_tombstones;
+use block::{Block, Range};
 use labels::{LabelSet, Row, Sample};
 use std::alloc::Global;
 use std::test::Fail;
@@ -261,6 +265,35 @@ fn a_later_chunk_is_told_by_its_distance(rt: HostRuntime) -> Result<(), Fail> {
         0x0B, 0x01, 0x00, 0x00, 0x02, 0x00, 0x77, 0x08, 0x01, 0x00, 0x92, 0x1E,
     ];
     assert_eq!(rt; files.index.get(32..44).unwrap_or(&[]), body.as_slice());
+    Ok(())
+}
+
+/// Rows of two series: of 121 samples, in two chunks, and of one sample.
+fn rows_of_three_chunks(alloc: Global) -> Result<PartRows, Fail> {
+    let mut rows = Vec::new(alloc);
+    rows.push(row_of(alloc, "a", &times_up_to(alloc, 121)?)?)?;
+    rows.push(row_of(alloc, "b", &[10])?)?;
+    Ok(PartRows::new(rows).ok_or("no part")?)
+}
+
+#[test]
+fn what_is_written_is_opened(rt: HostRuntime) -> Result<(), Fail> {
+    let part = rows_of_three_chunks(rt.alloc())?;
+    let BlockBytes {
+        index,
+        chunks,
+        tombstones,
+    } = write(rt.alloc(), &part)?;
+    let range = Range::new(0, 121).ok_or("no range")?;
+    let block = Block::open(rt.alloc(), range, &index, chunks, &tombstones)?;
+    let found = block.list_all(rt.alloc())?;
+    assert_eq!(rt; found.len(), 2);
+    for i in 0..2 {
+        let (_, row) = &found[i];
+        let want = &part.rows()[i];
+        assert!(rt; row.labels() == want.labels(), "row {i}");
+        assert_eq!(rt; row.samples(), want.samples(), "row {i}");
+    }
     Ok(())
 }
 

@@ -7,7 +7,7 @@ use std::alloc::{AllocError, Global};
 use wire::put_bytes;
 
 /// The tombstones file of a block of which nothing is deleted: 9 bytes.
-pub fn no_tombstones(alloc: Global) -> Result<Vec<u8>, AllocError>
+pub(crate) fn no_tombstones(alloc: Global) -> Result<Vec<u8>, AllocError>
     ensures { IfOk result (λ file. IsTombstones file.items []) }
 {
     let mut file = Vec::new(alloc);

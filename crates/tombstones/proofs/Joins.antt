@@ -1,5 +1,5 @@
 -- Deletions with further ones behind them.
-use Rattle.std.proofs.Common.{◌≡◌, ℕ, ◌+◌, ◌<◌, Bool, true, false, ◌&&◌, ◌||◌, eqb, List, [], ◌∷◌, ◌++◌, length, take, get_or, refl, sym, ap, ◌∙◌, append_assoc}
+use Rattle.std.proofs.Common.{◌≡◌, ℕ, ◌+◌, ◌<◌, Bool, true, false, ◌&&◌, ◌||◌, eqb, List, [], ◌∷◌, ◌++◌, length, take, get_or, refl, sym, ap, subst, ◌∙◌, append_assoc}
 use Rattle.std.specs.Prelude.{ℤ, map, int_le}
 use Rattle.std.specs.List.{list_any}
 use Rattle.std.specs.List.Sorted.{IsPermutation}
@@ -52,3 +52,8 @@ joined_next ds all rs from to i r d lt at e so_far =
 pub joined_at : (ds all held : List Deletion) (rs : List ℕ) (a b from to : ℤ) (r : ℕ) (t : ℤ) → a ≡ from → b ≡ to → all ≡ ds ++ map (interval a b) rs → IsPermutation all held → covered held r t ≡ (are_covered rs from to r t || covered ds r t)
 joined_at ds all held rs a b from to r t one two e p =
     covered_joined ds all held rs a b r t e p ∙ ap (λ (z : ℤ). are_covered rs z b r t || covered ds r t) one ∙ ap (λ (z : ℤ). are_covered rs from z r t || covered ds r t) two
+
+-- all that are held, of times as they were handed over
+pub joined_all : (ds all held : List Deletion) (rs : List ℕ) (a b from to : ℤ) → a ≡ from → b ≡ to → all ≡ ds ++ map (interval a b) rs → IsPermutation all held → IsPermutation (ds ++ map (interval from to) rs) held
+joined_all ds all held rs a b from to one two e p =
+    subst (λ (xs : List Deletion). IsPermutation xs held) (e ∙ ap (λ (z : ℤ). ds ++ map (interval z b) rs) one ∙ ap (λ (z : ℤ). ds ++ map (interval from z) rs) two) p

@@ -118,7 +118,8 @@ impl Tombstones {
         from: i64,
         to: i64,
     ) -> Result<Tombstones, AllocError>
-        ensures { IfOk result (λ t. (r : ℕ) (x : ℤ) → covered t r x ≡ (are_covered references.now from to r x || covered self.now r x)) }
+        ensures ok { IfOk result (λ t. (r : ℕ) (x : ℤ) → covered t r x ≡ (are_covered references.now from to r x || covered self.now r x)) }
+        ensures all { IfOk result (λ t. IsPermutation (self.now ++ map (interval from to) references.now) t) }
     {
         joined(alloc, self.deletions.as_slice(), references, from, to)
     }
@@ -158,7 +159,8 @@ fn joined(
     from: i64,
     to: i64,
 ) -> Result<Tombstones, AllocError>
-    ensures { IfOk result (λ t. (r : ℕ) (x : ℤ) → covered t r x ≡ (are_covered references.now from to r x || covered deletions.now r x)) }
+    ensures ok { IfOk result (λ t. (r : ℕ) (x : ℤ) → covered t r x ≡ (are_covered references.now from to r x || covered deletions.now r x)) }
+    ensures all { IfOk result (λ t. IsPermutation (deletions.now ++ map (interval from to) references.now) t) }
 {
     let deletions = all_of(alloc, deletions, references, from, to)?;
     ordered(alloc, deletions)
