@@ -1,7 +1,7 @@
 -- What events do with blocks.
 use Rattle.std.specs.Prelude.{◌≡◌, ◌⊎◌, ℕ, ℤ, List, [], ◌∷◌, ◌++◌, map}
 use Rattle.labels.specs.Labels.{Labels}
-use Rattle.labels.specs.Rows.{Row, AreRows}
+use Rattle.labels.specs.Rows.{AreRows}
 use Rattle.labels.specs.Contents.{Content, between}
 use Rattle.labels.specs.Parts.{rows_in}
 use Rattle.block.specs.Grammar.{IsBlock}

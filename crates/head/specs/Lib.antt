@@ -18,6 +18,9 @@ pub mod Lending
 pub mod ChunkEnds
 pub mod Blocks
 pub mod Kept
+pub mod Cuts
+pub mod Removing
+pub mod HeadRows
 pub mod Snapshots
 pub mod Codes
 pub mod Answers

@@ -8,6 +8,7 @@ ghost use Rattle.head.specs.Worlds.{stepped, committed};
 ghost use Rattle.head.specs.Answers.{IsAnswer};
 ghost use Rattle.head.specs.Limits.{most};
 
+use crate::deletion::deleted_from;
 use crate::draft::{add_each, slots_of};
 use crate::error::CommitError;
 use crate::event::{Event, Kind};
@@ -22,9 +23,9 @@ use std::sync::Arc;
 /// An unchanging list of blocks and one head.
 #[derive(Drop)]
 pub struct Snapshot {
-    blocks: Arc<Vec<Block>>,
-    head: HeadView,
-    floor: i64,
+    pub(crate) blocks: Arc<Vec<Block>>,
+    pub(crate) head: HeadView,
+    pub(crate) floor: i64,
 }
 
 impl Model for Snapshot {
@@ -156,6 +157,12 @@ pub fn apply(alloc: Global, at: &Snapshot, event: &Event) -> Result<Snapshot, Co
 {
     match event.kind() {
         Kind::Batch(samples) => committed_to(alloc, at, samples.as_slice()),
-        Kind::Deletion(_, _, _) | Kind::Cut(_) => Err(CommitError::Memory),
+        Kind::Deletion(matchers, from, to) => {
+            match deleted_from(alloc, at, matchers.as_slice(), *from, *to) {
+                Ok(snapshot) => Ok(snapshot),
+                Err(AllocError) => Err(CommitError::Memory),
+            }
+        }
+        Kind::Cut(_) => Err(CommitError::Memory),
     }
 }
