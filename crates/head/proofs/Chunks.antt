@@ -1,5 +1,5 @@
 -- Samples in chunks.
-use Rattle.std.specs.Prelude.{◌≡◌, ◌≤◌, ◌<◌, ◌+◌, ◌*◌, ℕ, ℤ, T, List, [], ◌∷◌, ◌++◌, length, nat_le, nat_lt, nat_eq}
+use Rattle.std.specs.Prelude.{◌≡◌, ◌≤◌, ◌<◌, ◌+◌, ◌*◌, ℕ, ℤ, T, List, [], ◌∷◌, ◌++◌, length, nat_le, nat_lt, nat_eq, not}
 use Rattle.std.specs.List.{list_all, flat_map}
 use Rattle.std.proofs.Common.{sym, ◌∙◌, ap, arith, length-append, append_assoc, append-nil}
 use Rattle.std.proofs.lemmas.List.Elements.{filter-append}
@@ -8,6 +8,7 @@ use Rattle.labels.specs.Parts.{within}
 use Rattle.std.proofs.lemmas.Bool.Decides.{nat_tests}
 use Rattle.labels.proofs.Times.{first_T, second_T}
 use Rattle.head.specs.Chunks.{joined_chunks}
+use Rattle.head.specs.Removing.{outside}
 
 eq_of : (a b : ℕ) → T (nat_eq a b) → a ≡ b
 eq_of a b h = grind (arith, nat_tests)
@@ -34,3 +35,9 @@ pub within-joined_chunks : (from to : ℤ) (sealed : List (List (ℤ × ℤ))) (
 within-joined_chunks from to sealed last =
     ap (λ xs. within from to xs ++ within from to last) (append-nil (flat_map (λ (samples : List (ℤ × ℤ)). samples) sealed))
     ∙ sym (filter-append (λ (s : ℤ × ℤ). in_range from to s.0) (flat_map (λ (samples : List (ℤ × ℤ)). samples) sealed) last)
+
+-- what lies outside a range of sealed chunks and of an open one
+pub outside-joined_chunks : (from to : ℤ) (sealed : List (List (ℤ × ℤ))) (last : List (ℤ × ℤ)) → outside from to (joined_chunks sealed []) ++ outside from to last ≡ outside from to (joined_chunks sealed last)
+outside-joined_chunks from to sealed last =
+    ap (λ xs. outside from to xs ++ outside from to last) (append-nil (flat_map (λ (samples : List (ℤ × ℤ)). samples) sealed))
+    ∙ sym (filter-append (λ (s : ℤ × ℤ). not (in_range from to s.0)) (flat_map (λ (samples : List (ℤ × ℤ)). samples) sealed) last)

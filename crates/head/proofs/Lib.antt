@@ -16,4 +16,12 @@ pub mod Sampling
 pub mod Living
 pub mod ChunkSearch
 pub mod Indexing
+pub mod EventTests
+pub mod Deleting
+pub mod Striking
+pub mod Selecting
+pub mod CutRows
+pub mod Cutting
+pub mod Fitting
+pub mod CutSteps
 pub mod WorkedRows

@@ -102,3 +102,7 @@ passes_at q (x ∷ xs) (suc i) d inside all = passes_at q xs i d (omega arith) (
 pub all_more : {X : Type 0} (q : X → Bool) (xs : List X) (x : X) → T (list_all q xs) → T (q x) → T (list_all q (xs ++ x ∷ []))
 all_more q [] x all h = both_T _ _ h tt
 all_more q (y ∷ ys) x all h = both_T _ _ (first_T _ _ all) (all_more q ys x (second_T _ _ all) h)
+
+pub both_ok : {V E : Type 0} {P Q R : V → Type 0} (r : Result V E) → ((v : V) → P v → Q v → R v) → IfOk r P → IfOk r Q → IfOk r R
+both_ok (Ok v) f p q = f v p q
+both_ok (Err e) f p q = tt

@@ -2,8 +2,9 @@
 
 ghost use Rattle.std.specs.Prelude.{◌≡◌, ◌<◌, ◌≤◌, ◌+◌, ◌*◌, ℕ, Bool, not, T, Ok, IfOk, IfErr, OnOk, length, [], ◌∷◌, map};
 ghost use Rattle.std.specs.Arc.{arc_value};
-ghost use Rattle.std.specs.List.{list_all};
+ghost use Rattle.std.specs.List.{list_all, Contains};
 ghost use Rattle.labels.specs.Labels.{Labels};
+ghost use Rattle.head.specs.Removing.{head_less};
 ghost use Rattle.head.specs.Taking.{head_added, head_added_each, series_added, new_added, grown};
 ghost use Rattle.head.specs.Orders.{sets_of, IsOrder, IsFound, IsRoom};
 ghost use Rattle.head.specs.Answers.{IsOutcome};
@@ -12,7 +13,7 @@ ghost use Rattle.head.specs.Limits.{most};
 use crate::MAX_SERIES;
 use crate::error::CommitError;
 use crate::series::Series;
-use labels::{LabelSet, Sample};
+use labels::{LabelSet, Sample, SeriesRef};
 use std::alloc::{AllocError, Global};
 use std::cmp::Ordering;
 use std::sync::Arc;
@@ -26,6 +27,7 @@ pub(crate) enum Slot {
 
 impl Slot {
     ghost use Rattle.head.specs.Slots.{series_in, own_count};
+    ghost use Rattle.head.specs.Removing.{series_less};
 
     pub(crate) fn series(&self) -> &Series
         ensures { result.now ≡ series_in self.now }
@@ -54,6 +56,15 @@ impl Slot {
         Ok(copied)
     }
 
+    /// Drops the samples in the closed range.
+    fn drop_within(&mut self, alloc: Global, from: i64, to: i64) -> Result<(), AllocError>
+        ensures { OnOk result (series_in self.new ≡ series_less from to (series_in self.old)) }
+    {
+        let left = self.series().without(alloc, from, to)?;
+        *self = Slot::Own(left);
+        Ok(())
+    }
+
     pub(crate) fn into_shared(self, alloc: Global) -> Result<Arc<Series>, AllocError>
         ensures { IfOk result (λ series. arc_value series ≡ series_in self) }
     {
@@ -76,6 +87,25 @@ pub(crate) fn slots_of(alloc: Global, head: &[Arc<Series>]) -> Result<Vec<Slot>,
         slots.push(Slot::Shared(Arc::try_clone(series)?))?;
     }
     Ok(slots)
+}
+
+/// Drops the samples in the closed range of the series with these references, which count from 1.
+pub(crate) fn drop_each(
+    alloc: Global,
+    slots: &mut Vec<Slot>,
+    references: &[SeriesRef],
+    from: i64,
+    to: i64,
+) -> Result<(), AllocError>
+    requires { (r : ℕ) → Contains references.now r → (1 ≤ r) × (r ≤ length slots.old.items) }
+    ensures { OnOk result (series_in_each slots.new.items
+        ≡ head_less references.now from to 1 (series_in_each slots.old.items)) }
+{
+    for reference in references {
+        let place = reference.number() as usize - 1;
+        slots[place].drop_within(alloc, from, to)?;
+    }
+    Ok(())
 }
 
 /// The position of a label set in the order, or else the one at which it would stand.

@@ -13,7 +13,7 @@ use crate::MAX_SERIES;
 use crate::draft::Slot;
 use crate::index::Index;
 use crate::series::Series;
-use labels::{LabelSet, Sample, SeriesRef};
+use labels::{LabelSet, Row, Sample, SeriesRef};
 use std::alloc::{AllocError, Global};
 use std::sync::Arc;
 
@@ -34,6 +34,9 @@ impl HeadView {
     ghost use Rattle.std.specs.Prelude.{[]};
     ghost use Rattle.head.specs.Shown.{series_of, part_of, copied_of};
     ghost use Rattle.head.specs.Slots.{series_in_each};
+    ghost use Rattle.head.specs.Heads.{HeadSeries};
+    ghost use Rattle.head.specs.HeadLists.{row_of};
+    ghost use Rattle.std.specs.Prelude.{◌+◌, slice_index_or};
 
     pub(crate) fn empty(alloc: Global) -> Result<HeadView, AllocError>
         ensures series { IfOk result (λ head. series_of head ≡ []) }
@@ -148,5 +151,26 @@ impl HeadView {
             Some(series) => series.samples_within(alloc, from, to),
             None => Ok(Vec::new(alloc)),
         }
+    }
+
+    fn row_at(&self, alloc: Global, place: usize) -> Result<(SeriesRef, Row), AllocError>
+        requires { place < length (series_of self.now) }
+        ensures { IfOk result (λ row. (d : HeadSeries) → row ≡ row_of (place + 1) (slice_index_or (series_of self.now) place d)) }
+    {
+        let series = &self.series[place];
+        let row = Row::new(series.labels().try_clone()?, series.samples(alloc)?);
+        Ok((SeriesRef::new(place as u32 + 1), row))
+    }
+
+    /// Each series of the head, ascending by reference, with its label set and its samples; also a series without a
+    /// sample. It takes memory in proportion to the series and the samples; the texts of the label sets are shared.
+    pub fn list_all(&self, alloc: Global) -> Result<Vec<(SeriesRef, Row)>, AllocError>
+        ensures { IfOk result (λ rows. rows.items ≡ part_of self.now) }
+    {
+        let mut rows = Vec::with_capacity(alloc, self.series.len())?;
+        for place in 0..self.series.len() {
+            rows.push(self.row_at(alloc, place)?)?;
+        }
+        Ok(rows)
     }
 }

@@ -10,6 +10,7 @@
 //! and samples in order for each series.
 #![tactic(auto)]
 
+mod deletion;
 mod draft;
 mod error;
 mod event;
@@ -18,6 +19,7 @@ mod index;
 mod list;
 mod listed;
 mod live;
+mod selection;
 mod series;
 mod snapshot;
 mod source;

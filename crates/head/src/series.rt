@@ -9,6 +9,7 @@ ghost use Rattle.labels.specs.Contents.{in_range};
 ghost use Rattle.labels.specs.Parts.{has_sample, within};
 ghost use Rattle.head.specs.ChunkEnds.{ends_before};
 ghost use Rattle.head.specs.Taking.{grown};
+ghost use Rattle.head.specs.Removing.{outside, series_less};
 
 use crate::MAX_SAMPLES;
 use labels::{LabelSet, Sample};
@@ -157,17 +158,60 @@ impl Series {
         Ok((copy, copied))
     }
 
-    /// Adds a sample at the end, and seals the open chunk where that is its last.
+    /// Adds a sample at the end, which becomes the newest one.
     pub(crate) fn push(&mut self, alloc: Global, sample: Sample) -> Result<(), AllocError>
         ensures { OnOk result (self.new ≡ grown sample self.old) }
     {
-        self.tail.push(sample)?;
+        self.append(alloc, sample)?;
         self.newest = sample;
+        Ok(())
+    }
+
+    /// Adds a sample at the end of the chunks, and seals the open one where that is its last.
+    fn append(&mut self, alloc: Global, sample: Sample) -> Result<(), AllocError>
+        ensures { OnOk result (self.new ≡ record self.old { samples = self.old.samples ++ sample ∷ [] }) }
+    {
+        self.tail.push(sample)?;
         if self.tail.len() == CHUNK {
             let full = mem::replace(&mut self.tail, Vec::new(alloc));
             self.sealed.push(Arc::new(alloc, Chunk::new(full))?)?;
         }
         Ok(())
+    }
+
+    /// Adds those of the samples whose times lie outside the closed range.
+    fn append_outside(
+        &mut self,
+        alloc: Global,
+        samples: &[Sample],
+        from: i64,
+        to: i64,
+    ) -> Result<(), AllocError>
+        ensures { OnOk result (self.new ≡ record self.old { samples = self.old.samples ++ outside from to samples.now }) }
+    {
+        for sample in samples {
+            if !is_within(*sample, from, to) {
+                self.append(alloc, *sample)?;
+            }
+        }
+        Ok(())
+    }
+
+    /// The series less its samples in the closed range; its newest sample is known as before. It copies what is left.
+    pub(crate) fn without(&self, alloc: Global, from: i64, to: i64) -> Result<Series, AllocError>
+        ensures { IfOk result (λ s. s ≡ series_less from to self.now) }
+    {
+        let mut left = Series {
+            labels: self.labels.try_clone()?,
+            sealed: Vec::new(alloc),
+            tail: Vec::new(alloc),
+            newest: self.newest,
+        };
+        for chunk in &self.sealed {
+            left.append_outside(alloc, chunk.samples(), from, to)?;
+        }
+        left.append_outside(alloc, self.tail.as_slice(), from, to)?;
+        Ok(left)
     }
 
     pub(crate) fn labels(&self) -> &LabelSet
@@ -202,6 +246,18 @@ impl Series {
             return has_sample_in(chunks[place].samples(), from, to);
         }
         has_sample_in(self.tail.as_slice(), from, to)
+    }
+
+    /// A copy of all samples.
+    pub(crate) fn samples(&self, alloc: Global) -> Result<Vec<Sample>, AllocError>
+        ensures { IfOk result (λ found. found.items ≡ self.now.samples) }
+    {
+        let mut found = Vec::new(alloc);
+        for chunk in &self.sealed {
+            found.extend_from_slice(chunk.samples())?;
+        }
+        found.extend_from_slice(self.tail.as_slice())?;
+        Ok(found)
     }
 
     /// The samples whose times lie in the closed range.

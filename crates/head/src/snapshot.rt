@@ -2,11 +2,13 @@
 
 ghost use Rattle.std.specs.Prelude.{◌≡◌, ◌≤◌, ◌*◌, IsTrue, Ok, Some, IfOk, IfErr, IfSome, IfNone, length, slice_get};
 ghost use Rattle.head.specs.Heads.{world_of};
-ghost use Rattle.head.specs.Batches.{is_batch, set_count, named_sets};
+ghost use Rattle.head.specs.Batches.{is_batch, set_count, CopiesFew};
+ghost use Rattle.head.specs.Kept.{KeepsBlocks};
 ghost use Rattle.head.specs.Worlds.{stepped, committed};
 ghost use Rattle.head.specs.Answers.{IsAnswer};
 ghost use Rattle.head.specs.Limits.{most};
 
+use crate::deletion::deleted_from;
 use crate::draft::{add_each, slots_of};
 use crate::error::CommitError;
 use crate::event::{Event, Kind};
@@ -21,9 +23,9 @@ use std::sync::Arc;
 /// An unchanging list of blocks and one head.
 #[derive(Drop)]
 pub struct Snapshot {
-    blocks: Arc<Vec<Block>>,
-    head: HeadView,
-    floor: i64,
+    pub(crate) blocks: Arc<Vec<Block>>,
+    pub(crate) head: HeadView,
+    pub(crate) floor: i64,
 }
 
 impl Model for Snapshot {
@@ -150,10 +152,17 @@ fn committed_to(
 pub fn apply(alloc: Global, at: &Snapshot, event: &Event) -> Result<Snapshot, CommitError>
     ensures ok { IfOk result (λ s. stepped most (world_of at.now) event.now ≡ Ok (world_of s)) }
     ensures refused { IfErr result (λ e. IsAnswer e (stepped most (world_of at.now) event.now)) }
-    ensures kept { IfOk result (λ s. s.blocks ≡ at.now.blocks) }
-    ensures copied { IfOk result (λ s. s.copied ≤ 119 * named_sets event.now) }
+    ensures kept { IfOk result (λ s. KeepsBlocks event.now at.now s.blocks) }
+    ensures copied { IfOk result (λ s. CopiesFew event.now s.copied) }
 {
     match event.kind() {
         Kind::Batch(samples) => committed_to(alloc, at, samples.as_slice()),
+        Kind::Deletion(matchers, from, to) => {
+            match deleted_from(alloc, at, matchers.as_slice(), *from, *to) {
+                Ok(snapshot) => Ok(snapshot),
+                Err(AllocError) => Err(CommitError::Memory),
+            }
+        }
+        Kind::Cut(_) => Err(CommitError::Memory),
     }
 }

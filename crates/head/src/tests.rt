@@ -1,3 +1,5 @@
+mod deletions;
+
 use crate::{AppendError, CommitError, Event, HeadView, MAX_BATCH, PartName, Snapshot, apply};
 use labels::{LabelError, LabelSet, MAX_TIME, Sample, SeriesRef};
 use postings::{Postings, Source};
@@ -122,6 +124,20 @@ fn series_are_numbered_in_order_of_creation(rt: HostRuntime) -> Result<(), Commi
     for number in [0, 7, u32::MAX] {
         assert!(rt; head.labels_of(SeriesRef::new(number)).is_none());
         assert!(rt; holds(alloc, head, number, ALL, &[])?);
+    }
+    Ok(())
+}
+
+#[test]
+fn all_series_are_listed_with_their_samples(rt: HostRuntime) -> Result<(), CommitError> {
+    let alloc = rt.alloc();
+    let rows = six_series(alloc)?.head().list_all(alloc)?;
+    assert_eq!(rt; rows.len(), 6);
+    for (reference, row) in &rows {
+        assert!(rt;
+            *row.labels() == set_of(alloc, reference.number()).map_err(|_| CommitError::Memory)?
+        );
+        assert_eq!(rt; row.samples().len(), 2);
     }
     Ok(())
 }

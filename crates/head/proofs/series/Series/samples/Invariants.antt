@@ -1,0 +1,7 @@
+use Rattle.std.proofs.Common.{◌≡◌, [], map, take}
+use Rattle.std.specs.Arc.{arc_value}
+use Rattle.head.specs.Chunks.{joined_chunks}
+use Rattle.head.proofs.series.Series.samples.Given as goal
+
+abbrev pub invariant-loop-chunk : goal.invariant-loop-chunk
+invariant-loop-chunk l = l.found.items ≡ joined_chunks (map (λ a. arc_value a) (take l.chunk-index l.chunk-items)) []

@@ -1,0 +1,31 @@
+use Rattle.std.proofs.Common.{◌≡◌, Ok, map, sym, ◌∙◌, ap, subst, rules, to_z, of_z, w64}
+use Rattle.head.specs.Heads.{SnapshotParts, world_of}
+use Rattle.head.specs.Kept.{KeepsBlocks, frame_of}
+use Rattle.head.specs.Kinds.{change_of}
+use Rattle.head.specs.Limits.{most}
+use Rattle.head.specs.Removing.{snapshot_less, survives}
+use Rattle.head.specs.Worlds.{Event, deletion, stepped}
+use Rattle.head.proofs.Deleting.{deleted-world_of, frames_kept}
+use Rattle.head.proofs.snapshot.apply.Goals as goal
+
+pub returns-in-Ok-clause-ok : goal.returns-in-Ok-clause-ok
+returns-in-Ok-clause-ok c =
+    let from_is : to_z w64 (of_z w64 c.in-Deletion.from) ≡ c.in-Deletion.from = search rules in
+    let to_is : to_z w64 (of_z w64 c.in-Deletion.to) ≡ c.in-Deletion.to = search rules in
+    let ms = c.in-Deletion.matchers.items in
+    let event_is : c.args.event.now ≡ deletion ms c.in-Deletion.from c.in-Deletion.to = sym c.kind.ensures.shown ∙ ap change_of c.in-Deletion.is in
+    let made : c.in-Ok.snapshot ≡ snapshot_less (survives ms c.in-Deletion.from c.in-Deletion.to) c.args.at.now =
+    c.in-Ok.ensures ∙ (λ i. snapshot_less (survives (c.as_slice-in-Deletion.ensures.value i) (from_is i) (to_is i)) c.args.at.now) in
+    ap (stepped most (world_of c.args.at.now)) event_is
+    ∙ ap Ok (sym (ap world_of made ∙ deleted-world_of ms c.in-Deletion.from c.in-Deletion.to c.args.at.now))
+
+pub returns-in-Ok-clause-kept : goal.returns-in-Ok-clause-kept
+returns-in-Ok-clause-kept c =
+    let from_is : to_z w64 (of_z w64 c.in-Deletion.from) ≡ c.in-Deletion.from = search rules in
+    let to_is : to_z w64 (of_z w64 c.in-Deletion.to) ≡ c.in-Deletion.to = search rules in
+    let ms = c.in-Deletion.matchers.items in
+    let event_is : c.args.event.now ≡ deletion ms c.in-Deletion.from c.in-Deletion.to = sym c.kind.ensures.shown ∙ ap change_of c.in-Deletion.is in
+    let made : c.in-Ok.snapshot ≡ snapshot_less (survives ms c.in-Deletion.from c.in-Deletion.to) c.args.at.now =
+    c.in-Ok.ensures ∙ (λ i. snapshot_less (survives (c.as_slice-in-Deletion.ensures.value i) (from_is i) (to_is i)) c.args.at.now) in
+    subst (λ (event : Event). KeepsBlocks event c.args.at.now c.in-Ok.snapshot.blocks) (sym event_is)
+    (ap (λ (s : SnapshotParts). map frame_of s.blocks) made ∙ frames_kept (survives ms c.in-Deletion.from c.in-Deletion.to) c.args.at.now.blocks)

@@ -1,0 +1,92 @@
+//! The series of a part that a deletion strikes.
+
+ghost use Rattle.std.specs.Prelude.{◌≡◌, ℕ, List, IfOk, filter};
+ghost use Rattle.std.specs.List.Sorted.{IsStrictlyIncreasing};
+ghost use Rattle.labels.specs.Ascending.{not_below};
+ghost use Rattle.labels.specs.Parts.{references_of, references_where};
+ghost use Rattle.matchers.specs.Satisfies.{satisfies_all};
+ghost use Rattle.block.specs.Fewer.{is_among};
+ghost use Rattle.head.specs.Removing.{is_struck};
+
+use labels::SeriesRef;
+use matchers::Matcher;
+use postings::{Postings, Source, choose};
+use std::alloc::{AllocError, Global};
+
+/// The references of a list.
+fn collected<P: Postings + Drop>(alloc: Global, list: P) -> Result<Vec<SeriesRef>, AllocError>
+    ensures { IfOk result (λ found. found.items ≡ P.remaining list) }
+{
+    let mut list = list;
+    let mut found = Vec::new(alloc);
+    while let Some(reference) = list.current() {
+        found.push(reference)?;
+        list.advance();
+    }
+    Ok(found)
+}
+
+/// Whether a reference stands in a list, which goes on to it.
+fn reaches<P: Postings>(list: &mut P, reference: SeriesRef) -> bool
+    ensures found { result ≡ is_among (P.remaining list.old) reference }
+    ensures moved { P.remaining list.new ≡ not_below reference (P.remaining list.old) }
+{
+    list.seek(reference);
+    let Some(next) = list.current() else {
+        return false;
+    };
+    next.number() == reference.number()
+}
+
+/// Those of the references that stand in a list, by one seek for each.
+fn common<P: Postings + Drop>(
+    alloc: Global,
+    references: &[SeriesRef],
+    list: P,
+) -> Result<Vec<SeriesRef>, AllocError>
+    requires { IsStrictlyIncreasing references.now }
+    ensures { IfOk result (λ found. found.items ≡ filter (is_among (P.remaining list)) references.now) }
+{
+    let mut list = list;
+    let mut found = Vec::new(alloc);
+    for reference in references {
+        if reaches(&mut list, *reference) {
+            found.push(*reference)?;
+        }
+    }
+    Ok(found)
+}
+
+/// The references of the series that satisfy all matchers.
+fn satisfying<S: Source>(
+    alloc: Global,
+    source: &S,
+    matchers: &[Matcher],
+) -> Result<Vec<SeriesRef>, AllocError>
+    ensures { IfOk result (λ found. found.items ≡ references_where (satisfies_all matchers.now) (S.part source.now)) }
+{
+    let Some((first, others)) = matchers.split_first() else {
+        return collected(alloc, source.all());
+    };
+    let mut found = collected(alloc, choose(alloc, source, first)?)?;
+    for matcher in others {
+        found = common(alloc, found.as_slice(), choose(alloc, source, matcher)?)?;
+    }
+    Ok(found)
+}
+
+/// The references of the series that satisfy all matchers and have an undeleted sample in the closed range, ascending.
+///
+/// It goes over the list of the first matcher, and seeks in the others.
+pub(crate) fn struck<S: Source>(
+    alloc: Global,
+    source: &S,
+    matchers: &[Matcher],
+    from: i64,
+    to: i64,
+) -> Result<Vec<SeriesRef>, AllocError>
+    ensures { IfOk result (λ found. found.items ≡ references_of (is_struck matchers.now from to) (S.part source.now)) }
+{
+    let found = satisfying(alloc, source, matchers)?;
+    common(alloc, found.as_slice(), source.live(alloc, from, to)?)
+}
