@@ -16,4 +16,5 @@ pub mod Sampling
 pub mod Living
 pub mod ChunkSearch
 pub mod Indexing
+pub mod EventTests
 pub mod WorkedRows

@@ -1,5 +1,6 @@
 pub mod Refusals
 pub mod Limits
+pub mod Fits
 pub mod Worlds
 pub mod Batches
 pub mod Heads
@@ -16,6 +17,7 @@ pub mod HeadLists
 pub mod Lending
 pub mod ChunkEnds
 pub mod Blocks
+pub mod Kept
 pub mod Snapshots
 pub mod Codes
 pub mod Answers

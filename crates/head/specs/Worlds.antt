@@ -4,6 +4,9 @@ use Rattle.std.specs.Ordering.{int_eq}
 use Rattle.std.specs.FinMap.Entries.{find, put}
 use Rattle.labels.specs.Labels.{Labels, point_cmp, labels_cmp, same_labels}
 use Rattle.labels.specs.Contents.{Content, without, held_from, between}
+use Rattle.matchers.specs.Views.{MatcherView}
+use Rattle.matchers.specs.Satisfies.{satisfies_all}
+use Rattle.head.specs.Fits.{fits}
 use Rattle.head.specs.Limits.{Limits}
 use Rattle.head.specs.Refusals.{Refusal, out_of_bounds, out_of_order, duplicate, limit, cut_too_low, too_many_parts}
 
@@ -83,17 +86,29 @@ cut_at fits w t = if int_lt w.floor t then cut_off fits w t (between w.floor t w
 abbrev pub Batch : Type 0
 Batch = List (Labels × (ℤ × ℤ))
 
--- an event, as it was handed over
+-- an event, as it was handed over: a batch, a deletion of the series that satisfy all matchers in a closed range, or a cut
 pub data Event : Type 0 where
   batch : Batch → Event
+  deletion : List MatcherView → ℤ → ℤ → Event
+  cut : ℤ → Event
 
 -- the batch that an event is, if it is one
 abbrev pub batch_of : Event → Option Batch
 batch_of (batch xs) = Some xs
+batch_of (deletion ms a b) = None
+batch_of (cut t) = None
+
+-- the matchers of a deletion, if an event is one
+abbrev pub matchers_of : Event → Option (List MatcherView)
+matchers_of (batch xs) = None
+matchers_of (deletion ms a b) = Some ms
+matchers_of (cut t) = None
 
 -- the step of an event
 abbrev pub stepped : Limits → World → Event → Result World Refusal
 stepped most w (batch xs) = committed most w xs
+stepped most w (deletion ms a b) = Ok (deleted w (satisfies_all ms) a b)
+stepped most w (cut t) = cut_at fits w t
 
 -- events in order after a world; the first refused one refuses all
 abbrev pub replayed_from : Limits → Result World Refusal → List Event → Result World Refusal

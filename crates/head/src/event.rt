@@ -3,10 +3,12 @@
 ghost use Rattle.std.specs.Prelude.{◌≡◌, IsTrue, Some, None, MatchOption};
 ghost use Rattle.std.specs.List.{list_all};
 ghost use Rattle.labels.specs.Contents.{is_time};
-ghost use Rattle.head.specs.Batches.{is_batch};
-ghost use Rattle.head.specs.Worlds.{batch, batch_of};
+ghost use Rattle.matchers.specs.Queries.{is_range};
+ghost use Rattle.head.specs.Batches.{is_batch, is_deletion};
+ghost use Rattle.head.specs.Worlds.{batch, batch_of, deletion, cut, matchers_of};
 
-use labels::{LabelSet, Sample, is_time};
+use labels::{LabelSet, MAX_TIME, MIN_TIME, Sample, is_time};
+use matchers::{MAX_MATCHERS, Matcher};
 use std::marker::Model;
 
 /// The greatest number of samples in a batch.
@@ -15,9 +17,12 @@ pub const MAX_BATCH: usize = 4_096;
 #[derive(Drop)]
 pub(crate) enum Kind {
     Batch(Vec<(LabelSet, Sample)>),
+    Deletion(Vec<Matcher>, i64, i64),
+    Cut(i64),
 }
 
-/// What changes a store: for now a batch of at most 4,096 samples, each at a time.
+/// What changes a store: a batch of at most 4,096 samples, each at a time; a deletion of samples in a closed range; or
+/// a cut, which moves the floor.
 #[derive(Drop)]
 pub struct Event {
     kind: Kind,
@@ -42,6 +47,13 @@ fn are_timed(samples: &[(LabelSet, Sample)]) -> bool
     samples.iter().all(|sample| is_time(sample.1.t()))
 }
 
+/// Whether a closed range of times begins at a time, ends at one, and does not end before it begins.
+fn is_range(from: i64, to: i64) -> bool
+    ensures { result ≡ is_range from to }
+{
+    MIN_TIME <= from && from <= to && to <= MAX_TIME
+}
+
 impl Event {
     ghost use Rattle.head.specs.Kinds.{change_of};
     ghost use Rattle.head.specs.Batches.{IsEvent};
@@ -63,13 +75,52 @@ impl Event {
         }
     }
 
-    /// The samples of a batch, as they were handed over.
+    /// Whether there are at most 16 matchers, and `from` is not above `to`, both times: what a deletion is made of.
+    pub fn is_deletion(matchers: &[Matcher], from: i64, to: i64) -> bool
+        ensures { result ≡ is_deletion matchers.now from to }
+    {
+        matchers.len() <= MAX_MATCHERS && is_range(from, to)
+    }
+
+    /// A deletion of the samples from one time to another, both included, of the series that satisfy all matchers.
+    pub fn deletion(matchers: Vec<Matcher>, from: i64, to: i64) -> Event
+        requires { IsTrue (is_deletion matchers.items from to) }
+        ensures { result ≡ deletion matchers.items from to }
+    {
+        Event {
+            kind: Kind::Deletion(matchers, from, to),
+        }
+    }
+
+    /// A cut at a time, in milliseconds: the samples below it leave the head for a block.
+    pub fn cut(at: i64) -> Event
+        requires { IsTrue (is_time at) }
+        ensures { result ≡ cut at }
+    {
+        Event {
+            kind: Kind::Cut(at),
+        }
+    }
+
+    /// The samples of a batch, as they were handed over; `None` for another event.
     pub fn into_batch(self) -> Option<Vec<(LabelSet, Sample)>>
         ensures given_back { MatchOption result (batch_of self ≡ None) (λ samples. batch_of self ≡ Some samples.items) }
         ensures kept { IsEvent self }
     {
         match self.kind {
             Kind::Batch(samples) => Some(samples),
+            Kind::Deletion(_, _, _) | Kind::Cut(_) => None,
+        }
+    }
+
+    /// The matchers of a deletion, as they were handed over; `None` for another event.
+    pub fn into_matchers(self) -> Option<Vec<Matcher>>
+        ensures given_back { MatchOption result (matchers_of self ≡ None) (λ ms. matchers_of self ≡ Some ms.items) }
+        ensures kept { IsEvent self }
+    {
+        match self.kind {
+            Kind::Deletion(matchers, _, _) => Some(matchers),
+            Kind::Batch(_) | Kind::Cut(_) => None,
         }
     }
 

@@ -2,7 +2,8 @@
 
 ghost use Rattle.std.specs.Prelude.{◌≡◌, ◌≤◌, ◌*◌, IsTrue, Ok, Some, IfOk, IfErr, IfSome, IfNone, length, slice_get};
 ghost use Rattle.head.specs.Heads.{world_of};
-ghost use Rattle.head.specs.Batches.{is_batch, set_count, named_sets};
+ghost use Rattle.head.specs.Batches.{is_batch, set_count, CopiesFew};
+ghost use Rattle.head.specs.Kept.{KeepsBlocks};
 ghost use Rattle.head.specs.Worlds.{stepped, committed};
 ghost use Rattle.head.specs.Answers.{IsAnswer};
 ghost use Rattle.head.specs.Limits.{most};
@@ -150,10 +151,11 @@ fn committed_to(
 pub fn apply(alloc: Global, at: &Snapshot, event: &Event) -> Result<Snapshot, CommitError>
     ensures ok { IfOk result (λ s. stepped most (world_of at.now) event.now ≡ Ok (world_of s)) }
     ensures refused { IfErr result (λ e. IsAnswer e (stepped most (world_of at.now) event.now)) }
-    ensures kept { IfOk result (λ s. s.blocks ≡ at.now.blocks) }
-    ensures copied { IfOk result (λ s. s.copied ≤ 119 * named_sets event.now) }
+    ensures kept { IfOk result (λ s. KeepsBlocks event.now at.now s.blocks) }
+    ensures copied { IfOk result (λ s. CopiesFew event.now s.copied) }
 {
     match event.kind() {
         Kind::Batch(samples) => committed_to(alloc, at, samples.as_slice()),
+        Kind::Deletion(_, _, _) | Kind::Cut(_) => Err(CommitError::Memory),
     }
 }

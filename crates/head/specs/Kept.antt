@@ -1,0 +1,38 @@
+-- What events do with blocks.
+use Rattle.std.specs.Prelude.{◌≡◌, ◌⊎◌, ℕ, ℤ, List, [], ◌∷◌, ◌++◌, map}
+use Rattle.labels.specs.Labels.{Labels}
+use Rattle.labels.specs.Rows.{Row, AreRows}
+use Rattle.labels.specs.Contents.{Content, between}
+use Rattle.labels.specs.Parts.{rows_in}
+use Rattle.block.specs.Grammar.{IsBlock}
+use Rattle.block_writer.specs.Writing.{chunks_text}
+use Rattle.block_writer.specs.Written.{IsWrittenIndex}
+use Rattle.head.specs.Worlds.{Event, batch, deletion, cut}
+use Rattle.head.specs.Heads.{BlockPart, SnapshotParts, world_of}
+
+-- a block's range, and the references and label sets of its part
+abbrev pub frame_of : BlockPart → (ℤ × ℤ) × List (ℕ × Labels)
+frame_of b = ((b.min, b.max), map (λ row. (row.0, row.1.0)) b.part)
+
+-- the block has the range from one time up to another and exactly the rows of the samples; its part is what the files
+-- spell that are written for these rows
+pub record IsBlockOf (from to : ℤ) (samples : Content) (block : BlockPart) : Type 0 where
+  pub min : block.min ≡ from
+  pub max : block.max ≡ to
+  pub rows : AreRows (rows_in block.part) samples
+  pub index : List ℕ
+  pub chunks : List ℕ
+  pub tombstones : List ℕ
+  pub index_written : IsWrittenIndex (rows_in block.part) index
+  pub chunks_written : chunks ≡ chunks_text (rows_in block.part)
+  pub spelled : IsBlock (from, to) index chunks tombstones block.part
+
+-- a commit keeps the blocks; a deletion keeps the range, the references and the label sets of each; a cut keeps them and
+-- adds at most one, of the samples that leave the head
+abbrev pub KeepsBlocks : Event → SnapshotParts → List BlockPart → Type 0
+KeepsBlocks (batch xs) old new = new ≡ old.blocks
+KeepsBlocks (deletion ms from to) old new = map frame_of new ≡ map frame_of old.blocks
+KeepsBlocks (cut t) old new =
+    (new ≡ old.blocks)
+    ⊎ ((block : BlockPart) × (new ≡ old.blocks ++ block ∷ [])
+    × IsBlockOf old.floor t (between old.floor t (world_of old).content) block)
