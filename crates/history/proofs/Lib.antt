@@ -1,0 +1,5 @@
+pub mod Pushes
+pub mod Laying
+pub mod Listing
+pub mod Keeping
+pub mod Replying

@@ -1,0 +1,7 @@
+use Rattle.std.proofs.Common.{◌≡◌, map, take}
+use Rattle.labels.specs.Parts.{content_of}
+use Rattle.history.specs.Asking.{asked}
+use Rattle.history.proofs.walk.found.Given as goal
+
+abbrev pub invariant-loop-block : goal.invariant-loop-block
+invariant-loop-block l = l.content.entries ≡ asked l.query (content_of (map (λ b. b.part) (take l.block-index l.block-items)))

@@ -1,0 +1,11 @@
+use Rattle.std.proofs.Common.{T, sym, subst}
+use Rattle.std.specs.FinMap.Entries.{is_sorted}
+use Rattle.labels.specs.Labels.{point_cmp}
+use Rattle.labels.specs.Contents.{Content}
+use Rattle.head.specs.Heads.{parts_of}
+use Rattle.history.proofs.Laying.{is_sorted-asked}
+use Rattle.history.proofs.walk.rows_of.Goals as goal
+
+pub grouped-requires : goal.grouped-requires
+grouped-requires c =
+    subst (λ (content : Content). T (is_sorted point_cmp content)) (sym c.in_ok-found.ensures) (is_sorted-asked c.args.query.now (parts_of c.args.snapshot.now))
