@@ -17,6 +17,7 @@ pub mod Parted
 pub mod PieceLaws
 pub mod Pieces
 pub mod Placing
+pub mod RowContent
 pub mod RowLaws
 pub mod RowSeries
 pub mod Shown

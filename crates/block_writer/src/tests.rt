@@ -288,9 +288,8 @@ fn what_is_written_is_opened(rt: HostRuntime) -> Result<(), Fail> {
     let block = Block::open(rt.alloc(), range, &index, chunks, &tombstones)?;
     let found = block.list_all(rt.alloc())?;
     assert_eq!(rt; found.len(), 2);
-    for i in 0..2 {
-        let (_, row) = &found[i];
-        let want = &part.rows()[i];
+    for (i, want) in part.rows().iter().enumerate() {
+        let (_, row) = found.get(i).ok_or("no row")?;
         assert!(rt; row.labels() == want.labels(), "row {i}");
         assert_eq!(rt; row.samples(), want.samples(), "row {i}");
     }

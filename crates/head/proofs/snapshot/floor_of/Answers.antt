@@ -18,7 +18,7 @@ loop-block-preserved c =
     record {
       floor =
           floor_is ∙ c.max-floor.ensures.value
-          ∙ (λ j. int_max (c.loop-block.invariant.floor j) ((end_fits ∙ c.max.ensures ∙ ap (λ (r : ℤ × ℤ). r.1) (c.range.ensures.range ∙ ap (λ (b : Shown). b.range) c.block-item.is)) j))
+          ∙ (λ j. int_max (c.loop-block.invariant.floor j) ((end_fits ∙ c.max.ensures.end ∙ ap (λ (r : ℤ × ℤ). r.1) (c.range.ensures.range ∙ ap (λ (b : Shown). b.range) c.block-item.is)) j))
           ∙ sym (fold_more (λ (floor : ℤ) (b : Shown). int_max floor b.range.1) MIN_TIME blocks i block c.loop-block-test.true);
       inside = All-more (λ (b : Shown). AreInside b.range b.part) blocks i block c.loop-block-test.true c.loop-block.invariant.inside
           (subst (λ (b : Shown). AreInside b.range b.part) c.block-item.is c.range.ensures.inside);
