@@ -3,7 +3,7 @@
 use super::{ALL, after, holds, set_of, six_series};
 use crate::{CommitError, Event, Snapshot, apply};
 use block::{Block, Range};
-use block_writer::{PartRows, write};
+use block_writer::{BlockBytes, PartRows, write};
 use labels::{Row, Sample};
 use matchers::{Matcher, Op};
 use std::alloc::{AllocError, Global};
@@ -68,9 +68,13 @@ fn block_of(alloc: Global, samples: &[(i64, i64)]) -> Result<Block, AllocError> 
     let mut rows = Vec::new(alloc);
     rows.push(Row::new(set, listed))?;
     let rows = PartRows::new(rows).ok_or(AllocError)?;
-    let files = write(alloc, &rows).map_err(|_| AllocError)?;
+    let BlockBytes {
+        index,
+        chunks,
+        tombstones,
+    } = write(alloc, &rows).map_err(|_| AllocError)?;
     let range = Range::new(0, 20).ok_or(AllocError)?;
-    Block::open(alloc, range, &files.index, files.chunks, &files.tombstones).map_err(|_| AllocError)
+    Block::open(alloc, range, &index, chunks, &tombstones).map_err(|_| AllocError)
 }
 
 fn counts(alloc: Global, at: &Snapshot) -> Result<Vec<u64>, AllocError> {
@@ -98,6 +102,24 @@ fn a_deletion_marks_hidden_samples_too(rt: HostRuntime) -> Result<(), CommitErro
     let other = block_of(alloc, &[(10, 9)])?;
     let less = without_a(alloc, &of_two(alloc, one, other)?, 10, 10)?;
     assert_eq!(rt; counts(alloc, &less)?.as_slice(), [1, 0].as_slice());
+    Ok(())
+}
+
+#[test]
+fn a_refused_deletion_leaves_no_trace(rt: HostRuntime) -> Result<(), CommitError> {
+    let alloc = rt.alloc();
+    let Ok(before) = six_series(alloc) else {
+        return Ok(());
+    };
+    let less = match without_a(alloc, &before, 10, 10) {
+        Ok(less) => less,
+        Err(refusal) => {
+            assert!(rt; refusal == CommitError::Memory);
+            assert!(rt; holds(alloc, before.head(), 1, ALL, &[(10, 1), (20, 1)])?);
+            without_a(alloc, &before, 10, 10)?
+        }
+    };
+    assert!(rt; holds(alloc, less.head(), 1, ALL, &[(20, 1)]).unwrap_or(true));
     Ok(())
 }
 
