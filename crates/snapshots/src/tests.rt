@@ -94,17 +94,17 @@ fn holds(
 
 /// An empty store with two passes and two seats.
 #[derive(Drop)]
-struct Opened<J: Naming, R: Wait + Drop> {
+struct EmptyStore<J: Naming, R: Wait + Drop> {
     committer: Committer<J, R>,
     passes: (Pass<J>, Pass<J>),
     seats: (Seat<J>, Seat<J>),
 }
 
-fn opened<J: Naming, R: Wait + Drop>(
+fn open_empty<J: Naming, R: Wait + Drop>(
     rt: R,
     alloc: Global,
     store: Store,
-) -> Result<Opened<J, R>, Fail>
+) -> Result<EmptyStore<J, R>, Fail>
     requires book { store.seen.book ≡ J.book }
     requires opening { opening_of [] ≡ J.opening }
 {
@@ -114,7 +114,7 @@ fn opened<J: Naming, R: Wait + Drop>(
     let first = seats.pop().ok_or("two seats")?;
     let two = passes.pop().ok_or("two passes")?;
     let one = passes.pop().ok_or("two passes")?;
-    Ok(Opened {
+    Ok(EmptyStore {
         committer,
         passes: (one, two),
         seats: (first, second),
@@ -144,29 +144,31 @@ fn seen_by_a_pass<J: Naming, R: Wait + Abort>(
     requires book { store.seen.book ≡ J.book }
     requires opening { opening_of [] ≡ J.opening }
 {
-    let store = opened::<J, &R>(rt, alloc, store)?;
-    let (mut pass, mut other) = store.passes;
-    let (mut first, mut second) = store.seats;
-    let before = pass.snapshot().ok().ok_or("a snapshot")?;
-    let a = committed(
-        rt,
-        &store.committer,
-        &mut first,
-        appender_of(alloc, &BATCH_A)?,
-    )?;
-    let b = committed(
-        rt,
-        &store.committer,
-        &mut second,
-        appender_of(alloc, &BATCH_B)?,
-    )?;
+    let EmptyStore {
+        committer,
+        passes,
+        seats,
+    } = open_empty::<J, &R>(rt, alloc, store)?;
+    let (mut pass, _pass) = passes;
+    let (mut first, mut second) = seats;
+    let batch = appender_of(alloc, &BATCH_A)?;
+    let a = committed(rt, &committer, &mut first, batch)?;
+    let batch = appender_of(alloc, &BATCH_B)?;
+    let b = committed(rt, &committer, &mut second, batch)?;
     assert_eq!(rt; (a.events(), b.events(), pass.events()), (1, 2, 0));
     assert_eq!(rt; (first.number(), first.count()), (0, 1));
     assert_eq!(rt; (second.number(), second.count()), (1, 1));
     pass.learn(&a);
     pass.learn(&b);
-    let after = pass.snapshot().ok().ok_or("a snapshot")?;
+    let snapshot = pass.snapshot()?;
     assert_eq!(rt; pass.events(), 2);
+    assert!(rt; has_six_series(alloc, &snapshot)?);
+    Ok(())
+}
+
+/// Whether the six series of the worked rows stand in order of creation.
+fn has_six_series(alloc: Global, snapshot: &Snapshot) -> Result<bool, Fail> {
+    let mut all = true;
     for (number, set) in [
         (1, UP_A),
         (2, UP_B),
@@ -176,20 +178,41 @@ fn seen_by_a_pass<J: Naming, R: Wait + Abort>(
         (6, UP_A_X),
     ] {
         let v = i64::from(number);
-        assert!(rt; holds(alloc, &after, number, set, &[(10, v), (20, v)])?);
+        all = holds(alloc, snapshot, number, set, &[(10, v), (20, v)])? && all;
     }
-    assert!(rt; before.head().labels_of(SeriesRef::new(1)).is_none());
+    Ok(all)
+}
+
+#[test]
+fn a_later_commit_hides_nothing_that_was_learnt(rt: HostRuntime) -> Result<(), Fail> {
+    seen_after_another::<Brand, _>(&rt, rt.alloc(), Store::new())
+}
+
+fn seen_after_another<J: Naming, R: Wait + Abort>(
+    rt: &R,
+    alloc: Global,
+    store: Store,
+) -> Result<(), Fail>
+    requires book { store.seen.book ≡ J.book }
+    requires opening { opening_of [] ≡ J.opening }
+{
+    let EmptyStore {
+        committer,
+        passes,
+        seats,
+    } = open_empty::<J, &R>(rt, alloc, store)?;
+    let (mut pass, mut other) = passes;
+    let (mut first, mut second) = seats;
+    let empty = pass.snapshot()?;
+    let batch = appender_of(alloc, &[(UP_A, 10, 1)])?;
+    let a = committed(rt, &committer, &mut first, batch)?;
     other.learn(&a);
-    let third = committed(
-        rt,
-        &store.committer,
-        &mut first,
-        appender_of(alloc, &[(UP_A, 30, 7)])?,
-    )?;
-    let late = other.snapshot().ok().ok_or("a snapshot")?;
-    assert_eq!(rt; (third.events(), other.events()), (3, 3));
-    assert!(rt; holds(alloc, &late, 1, UP_A, &[(10, 1), (20, 1), (30, 7)])?);
-    assert!(rt; holds(alloc, &after, 1, UP_A, &[(10, 1), (20, 1)])?);
+    let batch = appender_of(alloc, &[(UP_A, 20, 2)])?;
+    let b = committed(rt, &committer, &mut second, batch)?;
+    let snapshot = other.snapshot()?;
+    assert_eq!(rt; (b.events(), other.events()), (2, 2));
+    assert!(rt; holds(alloc, &snapshot, 1, UP_A, &[(10, 1), (20, 2)])?);
+    assert!(rt; empty.head().labels_of(SeriesRef::new(1)).is_none());
     Ok(())
 }
 
@@ -202,20 +225,20 @@ fn refused<J: Naming, R: Wait + Abort>(rt: &R, alloc: Global, store: Store) -> R
     requires book { store.seen.book ≡ J.book }
     requires opening { opening_of [] ≡ J.opening }
 {
-    let store = opened::<J, &R>(rt, alloc, store)?;
-    let (mut pass, _) = store.passes;
-    let (mut seat, _) = store.seats;
-    committed(
-        rt,
-        &store.committer,
-        &mut seat,
-        appender_of(alloc, &BATCH_A)?,
-    )?;
+    let EmptyStore {
+        committer,
+        passes,
+        seats,
+    } = open_empty::<J, &R>(rt, alloc, store)?;
+    let (mut pass, _pass) = passes;
+    let (mut seat, _seat) = seats;
+    let batch = appender_of(alloc, &BATCH_A)?;
+    committed(rt, &committer, &mut seat, batch)?;
     let batch = appender_of(alloc, &[(UP_A, 30, 7), (UP_B, 20, 9)])?;
-    let answer = store.committer.commit(rt, &mut seat, batch);
+    let answer = committer.commit(rt, &mut seat, batch);
     let (batch, refusal) = answer.err().ok_or("it is refused")?;
     assert_eq!(rt; (refusal.code(), batch.len(), seat.count()), ("E3", 2, 1));
-    let snapshot = pass.snapshot().ok().ok_or("a snapshot")?;
+    let snapshot = pass.snapshot()?;
     assert_eq!(rt; pass.events(), 1);
     assert!(rt; holds(alloc, &snapshot, 1, UP_A, &[(10, 1), (20, 1)])?);
     Ok(())
@@ -246,14 +269,15 @@ fn an_appender_holds_4096_samples_at_times(rt: HostRuntime) -> Result<(), Fail> 
 fn a_store_has_1_to_64_passes_and_seats(rt: HostRuntime) -> Result<(), Fail> {
     let alloc = rt.alloc();
     for (passes, seats) in [(0, 1), (65, 1), (1, 0), (1, 65)] {
-        let code = opening_code::<Brand, _>(&rt, alloc, Store::new(), passes, seats);
+        let code = code_of_opening(&rt, alloc, passes, seats);
         assert_eq!(rt; code, "O2", "{passes} passes and {seats} seats");
     }
-    assert_eq!(rt;
-        opening_code::<Brand, _>(&rt, alloc, Store::new(), 64, 64),
-        "ok"
-    );
+    assert_eq!(rt; code_of_opening(&rt, alloc, 64, 64), "ok");
     Ok(())
+}
+
+fn code_of_opening<R: Wait>(rt: &R, alloc: Global, passes: usize, seats: usize) -> &'static str {
+    opening_code::<Brand, _>(rt, alloc, Store::new(), passes, seats)
 }
 
 fn opening_code<J: Naming, R: Wait>(
@@ -279,7 +303,10 @@ fn refusals_are_told(rt: HostRuntime) -> Result<(), Fail> {
     assert_eq!(rt; told.as_str(), "S1: the published version is not available");
     assert_eq!(rt; SnapshotError::Unavailable.code(), "S1");
     let told = format!(in alloc; "{}", OpenError::Limit)?;
-    assert_eq!(rt; told.as_str(), "O3: a store is opened with at most 63 blocks");
+    assert_eq!(rt;
+        told.as_str(),
+        "O3: a store is opened with at most 63 blocks"
+    );
     let told = format!(in alloc; "{}", NotAppended::Refused(AppendError::Full))?;
     assert_eq!(rt; told.as_str(), "A1: a batch has at most 4096 samples");
     Ok(())

@@ -7,7 +7,7 @@ ghost use Rattle.head.specs.Blocks.{opening_of};
 ghost use Rattle.head.specs.Worlds.{batch};
 ghost use Rattle.snapshots.specs.Replays.{IsAfter, EndsWith};
 
-use super::{BATCH_A, BATCH_B, DOWN_A, UP_A, appender_of, holds, opened};
+use super::{BATCH_A, BATCH_B, DOWN_A, EmptyStore, UP_A, appender_of, holds, open_empty};
 use crate::{Appender, Committer, Naming, Pass, Receipt, Seat, Store};
 use head::Snapshot;
 use std::alloc::Global;
@@ -107,9 +107,13 @@ fn committed_by_two<J: Naming + Send + Sync, R: Threads + Wait + Abort + Sync>(
     requires book { store.seen.book ≡ J.book }
     requires opening { opening_of [] ≡ J.opening }
 {
-    let store = opened::<J, &R>(rt, alloc, store)?;
+    let EmptyStore {
+        committer,
+        passes,
+        seats,
+    } = open_empty::<J, &R>(rt, alloc, store)?;
     let batches = (appender_of(alloc, &BATCH_A)?, appender_of(alloc, &BATCH_B)?);
-    let done = commit_both::<J, &R, R>(rt, &store.committer, store.seats, batches, store.passes);
+    let done = commit_both::<J, &R, R>(rt, &committer, seats, batches, passes);
     let (first, second, (one, x), (two, y)) = done.ok_or("both commit and both see")?;
     assert_eq!(rt; (one.events(), two.events()), (2, 2));
     assert_eq!(rt; first.events() + second.events(), 3);
