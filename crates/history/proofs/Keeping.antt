@@ -1,5 +1,5 @@
 -- Buffers that are taken and put back.
-use Rattle.std.proofs.Common.{◌≡◌, ℕ, Bool, true, false, cond, [], refl, sym, ◌∙◌, ap, arith}
+use Rattle.std.proofs.Common.{◌≡◌, ℕ, true, false, [], refl, sym, ◌∙◌, ap, arith}
 use Rattle.std.specs.Prelude.{nat_eq, if◌then◌else◌}
 use Rattle.std.proofs.lemmas.Bool.Decides.{nat_tests}
 use Rattle.head.specs.Worlds.{Batch}

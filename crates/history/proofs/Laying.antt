@@ -1,6 +1,6 @@
 -- Samples put into a content one by one, the last first.
-use Rattle.std.proofs.Common.{◌≡◌, ℕ, ◌+◌, ◌<◌, ℤ, Bool, true, false, cond, T, List, [], ◌∷◌, ◌++◌, map, take, refl, sym, ◌∙◌, ap, subst, append-nil, append_assoc}
-use Rattle.std.specs.Prelude.{◌&&◌, not, slice_index_or}
+use Rattle.std.proofs.Common.{◌≡◌, ℕ, ℤ, Bool, true, false, cond, T, List, [], ◌∷◌, ◌++◌, refl, sym, ◌∙◌, ap, append-nil, append_assoc}
+use Rattle.std.specs.Prelude.{◌&&◌}
 use Rattle.std.specs.List.{filter}
 use Rattle.std.specs.declared.cmp.Ordering.TheVariants.{Less, Equal, Greater}
 use Rattle.std.specs.FinMap.Entries.{put, by_order, is_sorted, is_sorted-where_key}
@@ -11,7 +11,7 @@ use Rattle.labels.specs.Contents.{Content, in_range}
 use Rattle.labels.specs.Rows.{Row, points_in, points_of}
 use Rattle.labels.specs.Parts.{Part, rows_in, within, laid_over, over, content_of, part_kept}
 use Rattle.labels.proofs.ContentLaws.{over-last, is_sorted-over}
-use Rattle.labels.proofs.Restricting.{kept, kept-++, kept-points_in, kept-points_of, kept-laid_over}
+use Rattle.labels.proofs.Restricting.{kept-++, kept-points_in, kept-points_of, kept-laid_over}
 use Rattle.matchers.specs.Satisfies.{satisfies_all}
 use Rattle.matchers.specs.Views.{QueryView}
 use Rattle.history.specs.Asking.{asked, part_within}

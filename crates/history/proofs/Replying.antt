@@ -1,6 +1,6 @@
 -- Replies, one step after another.
-use Rattle.std.proofs.Common.{◌≡◌, ◌≤◌, ◌<◌, ◌+◌, ℕ, ℤ, Bool, true, false, cond, List, [], ◌∷◌, ◌++◌, length, drop, get_or, refl, sym, ◌∙◌, ap, subst, arith, append_assoc}
-use Rattle.std.specs.Prelude.{Option, None, Some, Result, Ok, Err, nat_le, if◌then◌else◌}
+use Rattle.std.proofs.Common.{◌≡◌, ◌≤◌, ◌<◌, ◌+◌, ℕ, ℤ, true, false, List, [], ◌∷◌, ◌++◌, length, drop, get_or, refl, sym, ◌∙◌, ap, subst, arith, append_assoc}
+use Rattle.std.specs.Prelude.{Some, Err, nat_le, if◌then◌else◌}
 use Rattle.std.specs.List.{AllZip}
 use Rattle.std.proofs.lemmas.List.{drop_more}
 use Rattle.std.proofs.lemmas.Bool.Decides.{nat_tests}
@@ -9,8 +9,6 @@ use Rattle.labels.specs.Contents.{is_time}
 use Rattle.head.specs.declared.error.AppendError.TheVariants.{Full, TimeRange}
 use Rattle.head.specs.declared.error.CommitError.{CommitError}
 use Rattle.head.specs.Limits.{most}
-use Rattle.head.specs.Refusals.{Refusal}
-use Rattle.head.specs.Heads.{SnapshotParts}
 use Rattle.head.specs.Worlds.{World, Batch, Event, batch, batch_of, stepped}
 use Rattle.history.specs.declared.reply.Reply.{Reply}
 use Rattle.history.specs.declared.reply.Reply.TheVariants.{Done, NotAppended, Refused}

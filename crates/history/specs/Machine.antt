@@ -37,7 +37,8 @@ pub data Outcome : Type 0 where
 abbrev pub appended : Machine → ℕ → Labels → ℤ × ℤ → Outcome × Machine
 appended m actor l s =
     if nat_le 4096 (length (m.buffers actor)) then (not_appended Full, m)
-    else if is_time s.0 then (done, record m { buffers = with_buffer actor (m.buffers actor ++ (l, s) ∷ []) m.buffers })
+    else if is_time s.0
+    then (done, record m { buffers = with_buffer actor (m.buffers actor ++ (l, s) ∷ []) m.buffers })
     else (not_appended TimeRange, m)
 
 -- the world after an event, and these buffers; or the machine as it was, where the event is refused
@@ -48,9 +49,11 @@ settled m buffers (Err e) = (refused e, m)
 -- what a step comes to, and the machine after it
 abbrev pub machine_step : Machine → Step → Outcome × Machine
 machine_step m (append actor l s) = appended m actor l s
-machine_step m (commit actor) = settled m (with_buffer actor [] m.buffers) (stepped most m.world (batch (m.buffers actor)))
+machine_step m (commit actor) =
+    settled m (with_buffer actor [] m.buffers) (stepped most m.world (batch (m.buffers actor)))
 machine_step m (change actor event) = settled m m.buffers (stepped most m.world event)
-machine_step m (query actor q) = (found (selected (satisfies_all q.matchers) q.from q.to m.world.content), m)
+machine_step m (query actor q) =
+    (found (selected (satisfies_all q.matchers) q.from q.to m.world.content), m)
 
 -- what each step comes to
 abbrev pub machine_replies : Machine → List Step → List Outcome

@@ -24,8 +24,10 @@ pub record IsRefusal (error : CommitError) (refusal : Refusal) : Type 0 where
 abbrev pub IsReply : Outcome → Reply → Type 0
 IsReply outcome Done = outcome ≡ done
 IsReply outcome (NotAppended error) = outcome ≡ not_appended error
-IsReply outcome (Refused error) = (refusal : Refusal) × (outcome ≡ refused refusal) × IsRefusal error refusal
-IsReply outcome (Rows rows) = (content : Content) × (outcome ≡ found content) × AreRows rows.items content
+IsReply outcome (Refused error) =
+    (refusal : Refusal) × (outcome ≡ refused refusal) × IsRefusal error refusal
+IsReply outcome (Rows rows) =
+    (content : Content) × (outcome ≡ found content) × AreRows rows.items content
 
 -- the step's outcome is what was made, or its refusal
 abbrev pub IsSettled : Result World Refusal → Result SnapshotParts CommitError → Type 0

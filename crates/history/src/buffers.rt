@@ -62,7 +62,8 @@ impl Held {
         samples: Vec<(LabelSet, Sample)>,
     ) -> Result<(), AllocError>
         requires { IsTrue (is_batch samples.items) }
-        ensures { OnOk result (buffers_of self.new ≡ with_buffer actor samples.items (buffers_of self.old)) }
+        ensures { OnOk result (buffers_of self.new
+            ≡ with_buffer actor samples.items (buffers_of self.old)) }
     {
         self.buffers.insert(actor, Buffer { samples })?;
         Ok(())

@@ -39,7 +39,8 @@ fn append(
     labels: &LabelSet,
     sample: Sample,
 ) -> Result<Reply, AllocError>
-    ensures { IfOk result (λ reply. (w : World) → IsStep (machine_at w held.old) (append actor labels.now sample) reply (machine_at w held.new)) }
+    ensures { IfOk result (λ reply. (w : World)
+        → IsStep (machine_at w held.old) (append actor labels.now sample) reply (machine_at w held.new)) }
 {
     let mut samples = held.take(alloc, actor);
     let reply = if samples.len() >= MAX_BATCH {
@@ -60,7 +61,8 @@ fn commit(
     held: &mut Held,
     actor: usize,
 ) -> Result<(Reply, Option<Snapshot>), AllocError>
-    ensures { IfOk result (λ r. IsStep (machine_at (world_of at.now) held.old) (commit actor) r.0 (machine_at (world_after at.now r.1) held.new)) }
+    ensures { IfOk result (λ r. IsStep (machine_at (world_of at.now) held.old) (commit actor)
+        r.0 (machine_at (world_after at.now r.1) held.new)) }
 {
     let event = Event::batch(held.take(alloc, actor));
     match settled(alloc, at, &event)? {
@@ -80,7 +82,8 @@ fn change(
     event: &Event,
 ) -> Result<(Reply, Option<Snapshot>), AllocError>
     ensures { IfOk result (λ r. (held : Held) (actor : ℕ) →
-        IsStep (machine_at (world_of at.now) held) (change actor event.now) r.0 (machine_at (world_after at.now r.1) held)) }
+        IsStep (machine_at (world_of at.now) held) (change actor event.now)
+        r.0 (machine_at (world_after at.now r.1) held)) }
 {
     match settled(alloc, at, event)? {
         Ok(made) => Ok((Reply::Done, Some(made))),
@@ -95,7 +98,8 @@ fn take_step(
     held: &mut Held,
     step: &Step,
 ) -> Result<(Reply, Option<Snapshot>), AllocError>
-    ensures { IfOk result (λ r. IsStep (machine_at (world_of at.now) held.old) step.now r.0 (machine_at (world_after at.now r.1) held.new)) }
+    ensures { IfOk result (λ r. IsStep (machine_at (world_of at.now) held.old) step.now
+        r.0 (machine_at (world_after at.now r.1) held.new)) }
 {
     let (actor, action) = step.parts();
     match action {
@@ -124,7 +128,8 @@ fn latest_of<'a>(opening: &'a Snapshot, latest: &'a Option<Snapshot>) -> &'a Sna
 /// commit hands over the actor's buffer as one batch, and leaves it empty where that is accepted and as it was where it
 /// is refused. Where memory ends there are no replies. A query looks at every sample of every part.
 pub fn run(alloc: Global, opening: &Snapshot, steps: &[Step]) -> Result<Vec<Reply>, AllocError>
-    ensures { IfOk result (λ replies. AllZip IsReply (machine_replies (started (world_of opening.now)) steps.now) replies.items) }
+    ensures { IfOk result (λ replies.
+        AllZip IsReply (machine_replies (started (world_of opening.now)) steps.now) replies.items) }
 {
     let mut latest = None;
     let mut held = Held::new(alloc);

@@ -1,12 +1,15 @@
 //! What actors do.
 
 ghost use Rattle.std.specs.Prelude.{◌≡◌, IsTrue};
+ghost use Rattle.labels.specs.Contents.{is_time};
+ghost use Rattle.head.specs.Batches.{is_deletion};
+ghost use Rattle.head.specs.Worlds.{deletion, cut};
 ghost use Rattle.history.specs.Steps.{append, commit, change, query};
 ghost use Rattle.history.specs.Shown.{step_of};
 
 use head::Event;
 use labels::{LabelSet, Sample};
-use matchers::Query;
+use matchers::{Matcher, Query};
 use std::marker::Model;
 
 #[derive(Drop)]
@@ -52,6 +55,28 @@ impl Step {
         Step {
             actor,
             action: Action::Commit,
+        }
+    }
+
+    /// The actor deletes the samples from one time to another, both included, of the series that satisfy all matchers.
+    pub fn delete(actor: usize, matchers: Vec<Matcher>, from: i64, to: i64) -> Step
+        requires { IsTrue (is_deletion matchers.items from to) }
+        ensures { result ≡ change actor (deletion matchers.items from to) }
+    {
+        Step {
+            actor,
+            action: Action::Change(Event::deletion(matchers, from, to)),
+        }
+    }
+
+    /// The actor cuts the head at a time, in milliseconds.
+    pub fn cut(actor: usize, at: i64) -> Step
+        requires { IsTrue (is_time at) }
+        ensures { result ≡ change actor (cut at) }
+    {
+        Step {
+            actor,
+            action: Action::Change(Event::cut(at)),
         }
     }
 

@@ -63,7 +63,8 @@ fn lay_part(
     part: Vec<(SeriesRef, Row)>,
     query: &Query,
 ) -> Result<(), AllocError>
-    ensures { OnOk result (content.new.entries ≡ laid_over (asked query.now (points_of (rows_in part.items))) content.old.entries) }
+    ensures { OnOk result (content.new.entries
+        ≡ laid_over (asked query.now (points_of (rows_in part.items))) content.old.entries) }
 {
     let mut part = part;
     while let Some((_, row)) = part.pop() {
@@ -96,7 +97,8 @@ fn list_head(
 
 /// What is asked of the parts of a snapshot; where several have a sample of one label set at one time, the last part's.
 fn found(alloc: Global, snapshot: &Snapshot, query: &Query) -> Result<Content, AllocError>
-    ensures { IfOk result (λ content. content.entries ≡ asked query.now (content_of (parts_of snapshot.now))) }
+    ensures { IfOk result (λ content. content.entries
+        ≡ asked query.now (content_of (parts_of snapshot.now))) }
 {
     let mut content = BTreeMap::new(alloc);
     for block in snapshot.blocks() {
@@ -169,7 +171,8 @@ pub(crate) fn rows_of(
     snapshot: &Snapshot,
     query: &Query,
 ) -> Result<Vec<Row>, AllocError>
-    ensures { IfOk result (λ rows. AreRows rows.items (asked query.now (content_of (parts_of snapshot.now)))) }
+    ensures { IfOk result (λ rows.
+        AreRows rows.items (asked query.now (content_of (parts_of snapshot.now)))) }
 {
     grouped(alloc, found(alloc, snapshot, query)?)
 }

@@ -1,4 +1,4 @@
-use Rattle.std.proofs.Common.{rules, ◌≡◌, true, false, ℤ, ◌++◌, [], ◌∷◌, length, to_z, of_z, w64, ap, sym, ◌∙◌, arith}
+use Rattle.std.proofs.Common.{rules, ◌≡◌, true, false, ℤ, ◌++◌, [], ◌∷◌, length, to_z, of_z, w64, ap, ◌∙◌, arith}
 use Rattle.labels.specs.Labels.{Labels}
 use Rattle.labels.specs.Contents.{is_time}
 use Rattle.head.specs.Worlds.{Batch}

@@ -1,4 +1,4 @@
-use Rattle.std.proofs.Common.{◌≡◌, ap, sym, subst, ◌∙◌}
+use Rattle.std.proofs.Common.{ap, sym, subst, ◌∙◌}
 use Rattle.head.specs.Heads.{world_of}
 use Rattle.head.specs.Limits.{most}
 use Rattle.head.specs.Worlds.{Batch, Event, batch_of, stepped}

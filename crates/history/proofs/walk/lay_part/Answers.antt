@@ -1,6 +1,6 @@
-use Rattle.std.proofs.Common.{◌≡◌, ℕ, true, false}
+use Rattle.std.proofs.Common.{◌≡◌, true, false}
 use Rattle.labels.specs.Rows.{Row, points_of}
-use Rattle.labels.specs.Parts.{Part, laid_over, rows_in}
+use Rattle.labels.specs.Parts.{laid_over, rows_in}
 use Rattle.matchers.specs.Satisfies.{satisfies_all}
 use Rattle.history.specs.Asking.{asked}
 use Rattle.history.proofs.Laying.{row_step, no_row_step}

@@ -1,7 +1,7 @@
-use Rattle.std.proofs.Common.{rules, ◌≡◌, ℤ, true, false, to_z, of_z, w64, List, ap, sym, ◌∙◌}
+use Rattle.std.proofs.Common.{rules, ◌≡◌, ℤ, true, false, to_z, of_z, w64, ap, ◌∙◌}
 use Rattle.std.specs.BTreeMap.{insert_entry}
-use Rattle.labels.specs.Labels.{Labels, point_cmp}
-use Rattle.labels.specs.Contents.{Content, in_range}
+use Rattle.labels.specs.Labels.{point_cmp}
+use Rattle.labels.specs.Contents.{in_range}
 use Rattle.labels.specs.Rows.{Row, points_in}
 use Rattle.labels.specs.Parts.{laid_over, within}
 use Rattle.history.proofs.Laying.{put_step, skip_step}

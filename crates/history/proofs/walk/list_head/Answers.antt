@@ -1,10 +1,8 @@
-use Rattle.std.proofs.Common.{rules, ◌≡◌, ◌+◌, ℕ, ℤ, ◌++◌, [], ◌∷◌, List, to_z, of_z, w64, ap, sym, ◌∙◌, arith}
-use Rattle.std.specs.Prelude.{Some}
-use Rattle.labels.specs.Labels.{Labels}
+use Rattle.std.proofs.Common.{rules, ◌≡◌, ◌+◌, ◌++◌, [], ◌∷◌, to_z, of_z, w64, ap, sym, ◌∙◌, arith}
 use Rattle.labels.specs.Rows.{Row}
-use Rattle.labels.specs.Parts.{Part, row_at, labels_in, samples_within}
+use Rattle.labels.specs.Parts.{row_at, labels_in, samples_within}
 use Rattle.head.specs.Heads.{head_part}
-use Rattle.head.specs.Shown.{series_of, part_of}
+use Rattle.head.specs.Shown.{series_of}
 use Rattle.history.proofs.Listing.{AreListed, listed_step, listed_all}
 use Rattle.history.proofs.walk.list_head.Goals as goal
 
