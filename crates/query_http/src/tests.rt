@@ -1,6 +1,7 @@
 //! Two blocks that share a time, spelled by hand: one series `{__name__="up",job="a"}` at reference 3, that is, at byte
 //! 48 of the index.
 
+mod searches;
 mod worked_block;
 
 use crate::{answer, body};
