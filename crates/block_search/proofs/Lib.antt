@@ -3,3 +3,7 @@ pub mod PartRows
 pub mod Lookups
 pub mod Steps
 pub mod Zips
+pub mod Skips
+pub mod PlaceLaws
+pub mod Agreement
+pub mod Answering

@@ -1,2 +1,4 @@
 pub mod Answering
+pub mod Skipping
+pub mod Places
 pub mod Answers

@@ -2,12 +2,18 @@
 //!
 //! A part's rows are exactly those of its content that satisfy all matchers, with their samples in the range, in label
 //! order; there are as many as its certificate has matches, and the certificate is the leftmost one, so that no valid
-//! one has fewer intervals, shown by its separators. There is one answer for each part, in the order of the parts: the
-//! blocks and then the head. It stands on `labels`, `matchers`, `postings`, `cover`, `block` and `head`.
+//! one has fewer intervals, shown by its separators. There is one answer for each part that the query does not skip, in
+//! the order of the parts: the blocks and then the head. A block is skipped where its range has no time of the query's;
+//! it has no sample there, so nothing is lost. It stands on `labels`, `matchers`, `postings`, `cover`, `block` and
+//! `head`.
 #![tactic(auto)]
 
+mod laws;
+mod one_part;
 mod parts;
-mod search;
+mod skipping;
 
+pub use laws::searches_agree;
+pub use one_part::{SearchedPart, search_part};
 pub use parts::search_one_by_one;
-pub use search::{SearchedPart, search_part};
+pub use skipping::is_skipped;

@@ -1,45 +1,47 @@
 //! The answers of the parts of a snapshot.
 
-ghost use Rattle.std.specs.Prelude.{◌≡◌, IfOk, map, length};
-ghost use Rattle.std.specs.List.{AllZip};
-ghost use Rattle.head.specs.Blocks.{block_names, part_names};
-ghost use Rattle.head.specs.Heads.{parts_of};
-ghost use Rattle.block_search.specs.Answers.{IsAnswer};
+ghost use Rattle.std.specs.Prelude.{◌≡◌, ◌<◌, length, IfOk, OnOk, slice_index_or};
+ghost use Rattle.block_search.specs.Skipping.{LosesNothing};
+ghost use Rattle.block_search.specs.Places.{part_at};
+ghost use Rattle.block_search.specs.Answers.{IsAnswerOf, AreAnswers};
 
-use crate::search::search_part;
+use crate::one_part::search_part;
+use crate::skipping::searched_places;
 use cover::PartAnswer;
 use head::Snapshot;
 use matchers::Query;
 use postings::PartName;
 use std::alloc::{AllocError, Global};
 
-/// The answers of the blocks, one block after another.
-fn search_blocks(
+/// The answer of the part at this place.
+pub(crate) fn search_place(
     alloc: Global,
     snapshot: &Snapshot,
     query: &Query,
-) -> Result<Vec<PartAnswer>, AllocError>
-    ensures names { IfOk result (λ answers. map (λ a. a.part) answers.items ≡ block_names 0 (length snapshot.now.blocks)) }
-    ensures each { IfOk result (λ answers. AllZip (IsAnswer query.now) (map (λ b. b.part) snapshot.now.blocks) answers.items) }
+    place: usize,
+) -> Result<PartAnswer, AllocError>
+    ensures { IfOk result (IsAnswerOf query.now (part_at query.now snapshot.now place)) }
 {
-    let mut answers = Vec::new(alloc);
-    for block in snapshot.blocks() {
-        let name = PartName::Block(answers.len());
-        answers.push(search_part(alloc, name, &block.view(), query)?)?;
+    match snapshot.block(place) {
+        Some(block) => search_part(alloc, PartName::Block(place), &block.view(), query),
+        None => search_part(alloc, PartName::Head, &snapshot.head(), query),
     }
-    Ok(answers)
 }
 
-/// The answers of all parts, one part after another: the blocks in their order, and then the head.
+/// The answers of all parts that the query does not skip, one part after another: the blocks in their order, and then
+/// the head, which is always searched.
 pub fn search_one_by_one(
     alloc: Global,
     snapshot: &Snapshot,
     query: &Query,
 ) -> Result<Vec<PartAnswer>, AllocError>
-    ensures names { IfOk result (λ answers. map (λ a. a.part) answers.items ≡ part_names (length snapshot.now.blocks)) }
-    ensures each { IfOk result (λ answers. AllZip (IsAnswer query.now) (parts_of snapshot.now) answers.items) }
+    ensures each { IfOk result (λ answers. AreAnswers query.now snapshot.now answers.items) }
+    ensures whole { OnOk result (LosesNothing query.now snapshot.now) }
 {
-    let mut answers = search_blocks(alloc, snapshot, query)?;
-    answers.push(search_part(alloc, PartName::Head, &snapshot.head(), query)?)?;
+    let places = searched_places(alloc, snapshot, query)?;
+    let mut answers = Vec::with_capacity(alloc, places.len())?;
+    for place in &places {
+        answers.push(search_place(alloc, snapshot, query, *place)?)?;
+    }
     Ok(answers)
 }

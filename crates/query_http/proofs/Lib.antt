@@ -1,3 +1,4 @@
 pub mod NoFloat
 pub mod Members
 pub mod MergedAnswers
+pub mod Told

@@ -13,7 +13,8 @@ use Rattle.labels.proofs.Restricting.{kept-over}
 use Rattle.matchers.specs.Views.{QueryView}
 use Rattle.matchers.specs.Satisfies.{satisfies_all}
 use Rattle.cover.specs.declared.part_cover.PartAnswer.{PartAnswer}
-use Rattle.block_search.specs.Answers.{IsAnswer}
+use Rattle.block_search.specs.Skipping.{AskedPart}
+use Rattle.block_search.specs.Answers.{IsAnswer, IsAnswerOf}
 use Rattle.series_merge.specs.Merging.{IsRowList, laid_each, row_lists, merged_content}
 
 -- what is laid over nothing lies over a content as it does by itself
@@ -62,3 +63,10 @@ module _ (query : QueryView) where
     | inl same ↦ subst (λ (x : PartAnswer). IsRowList x.rows.items) same (row_list part a are.0)
     | inr later ↦ each_row_list parts rest are.1 answer later
   ]
+
+  -- answers under their names are answers of the parts
+  pub each_answers : (asked : List AskedPart) (answers : List PartAnswer) → AllZip (IsAnswerOf query) asked answers → AllZip (IsAnswer query) (map (λ p. p.part) asked) answers
+  each_answers [] [] are = tt
+  each_answers [] (a ∷ rest) are = absurd are
+  each_answers (p ∷ ps) [] are = absurd are
+  each_answers (p ∷ ps) (a ∷ rest) are = (are.0.answers, each_answers ps rest are.1)

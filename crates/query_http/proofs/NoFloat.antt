@@ -14,7 +14,9 @@ use Rattle.cover.specs.declared.part_cover.PartAnswer.{PartAnswer}
 use Rattle.cover.specs.declared.certificate.Interval.{Interval}
 use Rattle.cover.specs.declared.certificate.Verdict.{Verdict}
 use Rattle.cover.specs.declared.certificate.Verdict.TheVariants.{Match, NoSample, Rejected}
-use Rattle.query_http.specs.Reply.{natural, sample_data, row_data, verdict_data, interval_data, part_data, body_data}
+use Rattle.query_http.specs.declared.audited.AnsweredPart.{AnsweredPart}
+use Rattle.query_http.specs.declared.audited.AnsweredPart.TheVariants.{Searched, Skipped}
+use Rattle.query_http.specs.Reply.{natural, sample_data, row_data, verdict_data, interval_data, searched_data, part_data, body_data}
 
 -- a list of data without floats has none
 in_list : {A : Type 0} (data_of : A → Data) → ((x : A) → has_float (data_of x) ≡ false) → (xs : List A) → items_have_float (items_of (map data_of xs)) ≡ false
@@ -55,8 +57,12 @@ in_verdict (Rejected j) = refl
 in_interval : (i : Interval) → has_float (interval_data i) ≡ false
 in_interval i = rw (in_verdict i.verdict)
 
-in_part : (a : PartAnswer) → has_float (part_data a) ≡ false
-in_part a = rw (in_list interval_data in_interval a.cover.certificate.items, in_list row_data in_row a.rows.items, in_list natural (λ n. refl) a.cover.separators.items)
+in_searched : (a : PartAnswer) → has_float (searched_data a) ≡ false
+in_searched a = rw (in_list interval_data in_interval a.cover.certificate.items, in_list row_data in_row a.rows.items, in_list natural (λ n. refl) a.cover.separators.items)
 
-pub no_float_in_body : (answers : List PartAnswer) (rows : List Row) → has_float (body_data answers rows) ≡ false
-no_float_in_body answers rows = rw (in_list part_data in_part answers, in_list row_data in_row rows)
+in_part : (p : AnsweredPart) → has_float (part_data p) ≡ false
+in_part (Searched answer) = in_searched answer
+in_part (Skipped name) = refl
+
+pub no_float_in_body : (parts : List AnsweredPart) (rows : List Row) → has_float (body_data parts rows) ≡ false
+no_float_in_body parts rows = rw (in_list part_data in_part parts, in_list row_data in_row rows)

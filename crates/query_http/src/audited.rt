@@ -1,41 +1,109 @@
-//! The answer of a snapshot to a query: what each part answers, and the rows of all.
+//! The answer of a snapshot to a query: what is told of each part, and the rows of all.
 
-ghost use Rattle.std.specs.Prelude.{◌≡◌, IfOk, [], ◌∷◌, map, length};
+ghost use Rattle.std.specs.Prelude.{◌≡◌, ◌++◌, IfOk, OnOk, reverse};
 ghost use Rattle.std.specs.List.{AllZip};
 ghost use Rattle.labels.specs.Contents.{selected};
 ghost use Rattle.labels.specs.Rows.{AreRows};
 ghost use Rattle.labels.specs.Parts.{content_of};
 ghost use Rattle.matchers.specs.Satisfies.{satisfies_all};
-ghost use Rattle.head.specs.Blocks.{part_names};
 ghost use Rattle.head.specs.Heads.{parts_of};
-ghost use Rattle.block_search.specs.Answers.{IsAnswer};
+ghost use Rattle.block_search.specs.Skipping.{LosesNothing, asked_parts};
+ghost use Rattle.block_search.specs.Answers.{AreAnswers};
+ghost use Rattle.query_http.specs.Audited.{IsAnswered};
+ghost use Rattle.query_http.specs.Telling.{told_of_one, left_after};
 
-use block_search::search_one_by_one;
+use block_search::{is_skipped, search_one_by_one};
 use cover::PartAnswer;
 use head::Snapshot;
 use labels::Row;
 use matchers::Query;
+use postings::PartName;
 use series_merge::merge;
 use std::alloc::{AllocError, Global};
 
-/// What each part answers, in the order of the parts, and the rows of all of them.
+/// What is told of a part of a snapshot.
+#[derive(Drop)]
+pub enum AnsweredPart {
+    /// The answer of a part that was searched.
+    Searched(PartAnswer),
+    /// The name of a block that the query skips: its range has no time of the query's.
+    Skipped(PartName),
+}
+
+/// What is told of each part, in the order of the parts, and the rows of all of them.
 #[derive(Drop)]
 pub struct AuditedAnswer {
-    pub parts: Vec<PartAnswer>,
+    pub parts: Vec<AnsweredPart>,
     pub rows: Vec<Row>,
 }
 
-/// The audited answer to a query.
+/// Adds what is told of a part, which takes the next answer where it was searched. The next answer is the last of those
+/// that are left.
+fn push_part(
+    parts: &mut Vec<AnsweredPart>,
+    left: &mut Vec<PartAnswer>,
+    name: PartName,
+    skipped: bool,
+) -> Result<(), AllocError>
+    ensures told { OnOk result (parts.new.items ≡ parts.old.items ++ told_of_one skipped name (reverse left.old.items)) }
+    ensures left { OnOk result (reverse left.new.items ≡ left_after skipped (reverse left.old.items)) }
+{
+    if skipped {
+        parts.push(AnsweredPart::Skipped(name))?;
+    } else if let Some(answer) = left.pop() {
+        parts.push(AnsweredPart::Searched(answer))?;
+    }
+    Ok(())
+}
+
+/// What is told of each part of a snapshot, given the answers of those that are searched.
+fn answered_parts(
+    alloc: Global,
+    snapshot: &Snapshot,
+    query: &Query,
+    answers: Vec<PartAnswer>,
+) -> Result<Vec<AnsweredPart>, AllocError>
+    requires { AreAnswers query.now snapshot.now answers.items }
+    ensures { IfOk result (λ parts. AllZip (IsAnswered query.now) (asked_parts query.now snapshot.now) parts.items) }
+{
+    let mut left = answers;
+    left.reverse();
+    let mut parts = Vec::new(alloc);
+    let blocks = snapshot.blocks();
+    for n in 0..blocks.len() {
+        let skipped = is_skipped(blocks[n].range(), query);
+        push_part(&mut parts, &mut left, PartName::Block(n), skipped)?;
+    }
+    push_part(&mut parts, &mut left, PartName::Head, false)?;
+    Ok(parts)
+}
+
+/// The audited answer of a snapshot, given the answers of the parts that are searched.
+fn audited(
+    alloc: Global,
+    snapshot: &Snapshot,
+    query: &Query,
+    answers: Vec<PartAnswer>,
+) -> Result<AuditedAnswer, AllocError>
+    requires each { AreAnswers query.now snapshot.now answers.items }
+    requires whole { LosesNothing query.now snapshot.now }
+    ensures each { IfOk result (λ a. AllZip (IsAnswered query.now) (asked_parts query.now snapshot.now) a.parts.items) }
+    ensures rows { IfOk result (λ a. AreRows a.rows.items (selected (satisfies_all query.now.matchers) query.now.from query.now.to (content_of (parts_of snapshot.now)))) }
+{
+    let rows = merge(alloc, answers.as_slice())?;
+    let parts = answered_parts(alloc, snapshot, query, answers)?;
+    Ok(AuditedAnswer { parts, rows })
+}
+
+/// The audited answer to a query, one part searched after another.
 pub fn answer(
     alloc: Global,
     snapshot: &Snapshot,
     query: &Query,
 ) -> Result<AuditedAnswer, AllocError>
-    ensures names { IfOk result (λ a. map (λ p. p.part) a.parts.items ≡ part_names (length snapshot.now.blocks)) }
-    ensures each { IfOk result (λ a. AllZip (IsAnswer query.now) (parts_of snapshot.now) a.parts.items) }
+    ensures each { IfOk result (λ a. AllZip (IsAnswered query.now) (asked_parts query.now snapshot.now) a.parts.items) }
     ensures rows { IfOk result (λ a. AreRows a.rows.items (selected (satisfies_all query.now.matchers) query.now.from query.now.to (content_of (parts_of snapshot.now)))) }
 {
-    let parts = search_one_by_one(alloc, snapshot, query)?;
-    let rows = merge(alloc, parts.as_slice())?;
-    Ok(AuditedAnswer { parts, rows })
+    let answers = search_one_by_one(alloc, snapshot, query)?;
+    audited(alloc, snapshot, query, answers)
 }

@@ -1,7 +1,7 @@
 //! The audited answer to a query, and its text.
 //!
-//! `answer` gives what each part of a snapshot answers and the rows of all of them: exactly the rows of the snapshot's
-//! content restricted to the matchers and the range. `body` is the text of an answer, as compact JSON, byte for byte.
+//! `answer` gives what each part of a snapshot answers, or that the query skips it, and the rows of all of them: exactly
+//! the rows of the snapshot's content restricted to the matchers and the range. `body` is the text of an answer, as compact JSON, byte for byte.
 //! It stands on `block_search` and `series_merge`, and on `serde_json` for the text.
 #![tactic(auto)]
 
@@ -10,5 +10,5 @@ mod reply;
 #[cfg(test)]
 mod tests;
 
-pub use audited::{AuditedAnswer, answer};
+pub use audited::{AnsweredPart, AuditedAnswer, answer};
 pub use reply::body;

@@ -3,8 +3,9 @@
 ghost use Rattle.std.specs.Prelude.{◌≡◌, IfOk, map};
 ghost use Rattle.serde_json.specs.View.{view, items_of};
 ghost use Rattle.serde_json.specs.Data.{array, object};
-ghost use Rattle.query_http.specs.Reply.{sample_data, label_members, row_data, verdict_data, interval_data, name_text, natural, list_data, part_data, body_data, body_text};
+ghost use Rattle.query_http.specs.Reply.{sample_data, label_members, row_data, verdict_data, interval_data, name_text, natural, list_data, searched_data, skipped_data, part_data, body_data, body_text};
 
+use crate::audited::AnsweredPart;
 use cover::{Interval, PartAnswer, Verdict};
 use labels::{LabelSet, Row, Sample, SeriesRef};
 use postings::PartName;
@@ -103,8 +104,8 @@ fn name_of(alloc: Global, part: PartName) -> Result<String, AllocError>
     }
 }
 
-fn part_value(alloc: Global, answer: &PartAnswer) -> Result<Value, AllocError>
-    ensures { IfOk result (λ v. view v ≡ part_data answer.now) }
+fn searched_value(alloc: Global, answer: &PartAnswer) -> Result<Value, AllocError>
+    ensures { IfOk result (λ v. view v ≡ searched_data answer.now) }
 {
     let intervals = intervals_value(alloc, answer.cover.certificate.as_slice())?;
     let name = Value::String(name_of(alloc, answer.part)?);
@@ -113,30 +114,46 @@ fn part_value(alloc: Global, answer: &PartAnswer) -> Result<Value, AllocError>
     json!(in alloc; {"intervals": intervals, "part": name, "rows": rows, "separators": separators})
 }
 
-fn parts_value(alloc: Global, answers: &[PartAnswer]) -> Result<Value, AllocError>
-    ensures { IfOk result (λ v. view v ≡ list_data part_data answers.now) }
+fn skipped_value(alloc: Global, name: PartName) -> Result<Value, AllocError>
+    ensures { IfOk result (λ v. view v ≡ skipped_data name) }
 {
-    let mut list = Vec::with_capacity(alloc, answers.len())?;
-    for answer in answers {
-        list.push(part_value(alloc, answer)?)?;
+    let name = Value::String(name_of(alloc, name)?);
+    json!(in alloc; {"part": name, "skipped": true})
+}
+
+fn part_value(alloc: Global, part: &AnsweredPart) -> Result<Value, AllocError>
+    ensures { IfOk result (λ v. view v ≡ part_data part.now) }
+{
+    match part {
+        AnsweredPart::Searched(answer) => searched_value(alloc, answer),
+        AnsweredPart::Skipped(name) => skipped_value(alloc, *name),
+    }
+}
+
+fn parts_value(alloc: Global, parts: &[AnsweredPart]) -> Result<Value, AllocError>
+    ensures { IfOk result (λ v. view v ≡ list_data part_data parts.now) }
+{
+    let mut list = Vec::with_capacity(alloc, parts.len())?;
+    for part in parts {
+        list.push(part_value(alloc, part)?)?;
     }
     Ok(Value::Array(list))
 }
 
-fn body_value(alloc: Global, answers: &[PartAnswer], rows: &[Row]) -> Result<Value, AllocError>
-    ensures { IfOk result (λ v. view v ≡ body_data answers.now rows.now) }
+fn body_value(alloc: Global, parts: &[AnsweredPart], rows: &[Row]) -> Result<Value, AllocError>
+    ensures { IfOk result (λ v. view v ≡ body_data parts.now rows.now) }
 {
-    let parts = parts_value(alloc, answers)?;
+    let parts = parts_value(alloc, parts)?;
     let rows = rows_value(alloc, rows)?;
     json!(in alloc; {"parts": parts, "rows": rows})
 }
 
 ghost use Rattle.std.specs.Prelude.{string_bytes};
 
-/// The text of the answer to a query: what each part answers, and the rows of all, as compact JSON with the members in
-/// the order of their names.
-pub fn body(alloc: Global, answers: &[PartAnswer], rows: &[Row]) -> Result<Vec<u8>, AllocError>
-    ensures { IfOk result (λ text. text.items ≡ body_text answers.now rows.now) }
+/// The text of the answer to a query: what is told of each part, and the rows of all, as compact JSON with the members
+/// in the order of their names.
+pub fn body(alloc: Global, parts: &[AnsweredPart], rows: &[Row]) -> Result<Vec<u8>, AllocError>
+    ensures { IfOk result (λ text. text.items ≡ body_text parts.now rows.now) }
 {
-    body_value(alloc, answers, rows)?.to_vec(alloc)
+    body_value(alloc, parts, rows)?.to_vec(alloc)
 }

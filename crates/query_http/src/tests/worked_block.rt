@@ -107,16 +107,26 @@ fn worked_chunks(alloc: Global) -> Result<Vec<u8>, Fail> {
     Ok(chunks)
 }
 
-/// The text of the answer to `up{job="a"}` from 0 to 100, over the block of the times from 0 up to 20.
-fn text_over(alloc: Global, tombstones: &[u8]) -> Result<Vec<u8>, Fail> {
+/// The block of the times from 0 up to 20, with these deletions.
+fn block_with(alloc: Global, tombstones: &[u8]) -> Result<Block, Fail> {
     let index = worked_index(alloc)?;
     let chunks = worked_chunks(alloc)?;
     let range = Range::new(0, 20).ok_or("no range")?;
-    let block = match Block::open(alloc, range, &index, chunks, tombstones) {
-        Ok(block) => block,
-        Err(error) => return Err(error.code().into()),
-    };
-    let snapshot = Snapshot::opening(alloc, vec![in alloc; block]?)?;
+    match Block::open(alloc, range, &index, chunks, tombstones) {
+        Ok(block) => Ok(block),
+        Err(error) => Err(error.code().into()),
+    }
+}
+
+/// The block of the times from 0 up to 20.
+pub(super) fn worked_block(alloc: Global) -> Result<Block, Fail> {
+    block_with(alloc, NO_DELETIONS)
+}
+
+/// The text of the answer to `up{job="a"}` from 0 to 100, over the block with these deletions.
+fn text_over(alloc: Global, tombstones: &[u8]) -> Result<Vec<u8>, Fail> {
+    let blocks = vec![in alloc; block_with(alloc, tombstones)?]?;
+    let snapshot = Snapshot::opening(alloc, blocks)?;
     let query = Query::new(Selector::parse(alloc, r#"up{job="a"}"#)?, 0, 100)?;
     let answer = answer(alloc, &snapshot, &query)?;
     Ok(body(alloc, &answer.parts, &answer.rows)?)

@@ -7,4 +7,4 @@ use Rattle.query_http.proofs.reply.body.Goals as goal
 pub returns : goal.returns
 returns c =
     let made = c.in_ok-body_value.ensures in
-    IfOk-weaker c.to_vec.result _ _ (λ b h. h (ap has_float made ∙ no_float_in_body c.args.answers.now c.args.rows.now) ∙ ap compact_text made) c.to_vec.ensures.text
+    IfOk-weaker c.to_vec.result _ _ (λ b h. h (ap has_float made ∙ no_float_in_body c.args.parts.now c.args.rows.now) ∙ ap compact_text made) c.to_vec.ensures.text

@@ -1,8 +1,8 @@
 use Rattle.std.proofs.Common.{ap, sym, ◌∙◌, append-nil, Some, None}
 use Rattle.block_search.specs.Answering.{row_of}
 use Rattle.block_search.proofs.Steps.{filter_map_step}
-use Rattle.block_search.proofs.search.matched_rows.Goals as goal
-use Rattle.block_search.proofs.search.matched_rows.Goals.{in-Some+in_ok-push-in-Some, in-None}
+use Rattle.block_search.proofs.one_part.matched_rows.Goals as goal
+use Rattle.block_search.proofs.one_part.matched_rows.Goals.{in-Some+in_ok-push-in-Some, in-None}
 
 pub loop-interval-preserved : goal.loop-interval-preserved
 loop-interval-preserved g c =

@@ -4,7 +4,7 @@ ghost use Rattle.std.specs.Prelude.{◌≡◌, ℕ, ◌+◌, ◌*◌, ◌≤◌,
 ghost use Rattle.std.specs.List.{filter_map};
 ghost use Rattle.labels.specs.Contents.{selected};
 ghost use Rattle.labels.specs.Rows.{AreRows};
-ghost use Rattle.labels.specs.Parts.{content_of, row_at, labels_in, samples_within};
+ghost use Rattle.labels.specs.Parts.{IsPart, content_of, row_at, labels_in, samples_within};
 ghost use Rattle.matchers.specs.Satisfies.{satisfies_all};
 ghost use Rattle.cover.specs.Asking.{asked};
 ghost use Rattle.cover.specs.Certificates.{IsValidCertificate, IsLeftmost, IsLeast, AreSeparators, begins_of, matches_of};
@@ -97,6 +97,7 @@ pub fn search_part<S: SearchedPart>(
     query: &Query,
 ) -> Result<PartAnswer, AllocError>
     ensures part { IfOk result (λ a. a.part ≡ part) }
+    ensures is_part { IsPart (S.part source.now) }
     ensures rows { IfOk result (λ a. AreRows a.rows.items (selected (satisfies_all query.now.matchers) query.now.from query.now.to (content_of (S.part source.now ∷ [])))) }
     ensures as_many { IfOk result (λ a. length a.rows.items ≡ length (matches_of a.cover.certificate.items)) }
     ensures leftmost { IfOk result (λ a. IsLeftmost (asked (S.part source.now) query.now) a.cover.certificate.items) }

@@ -9,8 +9,8 @@ use Rattle.block_search.specs.Answering.{row_of}
 use Rattle.block_search.proofs.Found.{rows_found}
 use Rattle.block_search.proofs.Lookups.{rows_matched, length-found}
 use Rattle.block_search.proofs.PartRows.{AreRows-found}
-use Rattle.block_search.proofs.search.search_part.Given.{Over}
-use Rattle.block_search.proofs.search.search_part.Goals as goal
+use Rattle.block_search.proofs.one_part.search_part.Given.{Over}
+use Rattle.block_search.proofs.one_part.search_part.Goals as goal
 
 -- the rows that were found, by the certificate
 found : (g : Over) (c : goal.In_ok-sort_rows g) → c.in_ok-rows.rows.items ≡ rows_found (satisfies_all c.args.query.now.matchers) c.args.query.now.from c.args.query.now.to (g.S.Source.part c.args.source.now)
@@ -40,3 +40,6 @@ returns-clause-as_many g c =
     ∙ ap length (found g c)
     ∙ length-found (satisfies_all query.matchers) query.from query.to part
     ∙ sym (ap length c.in_ok-cover.ensures.matches)
+
+pub returns-clause-is_part : goal.returns-clause-is_part
+returns-clause-is_part g c = g.met.S.Source.is_part c.args.source.now

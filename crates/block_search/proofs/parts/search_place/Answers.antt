@@ -1,0 +1,36 @@
+use Rattle.std.proofs.Common.{◌≡◌, Some, None, List, sym, subst, ap, ◌∙◌}
+use Rattle.std.specs.Prelude.{IfOk, false, slice_get}
+use Rattle.std.proofs.lemmas.Option.{slice_get_past}
+use Rattle.labels.specs.Parts.{Part}
+use Rattle.postings.specs.declared.part_name.PartName.TheVariants.{Block as BlockName, Head}
+use Rattle.block.specs.Blocks.{Shown}
+use Rattle.head.specs.Heads.{HeadSeries, head_part}
+use Rattle.head.specs.Shown.{series_of}
+use Rattle.block_search.specs.Skipping.{AskedPart, is_skipped}
+use Rattle.block_search.specs.Places.{block_or_head}
+use Rattle.block_search.specs.Answers.{IsAnswerOf}
+use Rattle.block_search.proofs.Answering.{answer_of}
+use Rattle.block_search.proofs.parts.search_place.Goals as goal
+
+pub returns-in-Some : goal.returns-in-Some
+returns-in-Some c =
+    let query = c.args.query.now in
+    let snapshot = c.args.snapshot.now in
+    let place = c.args.place in
+    let block : Shown = c.in-Some.block.now in
+    let said = c.search_part.ensures in
+    let asked : Part → AskedPart = λ part. record { name = BlockName place; part = part; skipped = is_skipped query block.range } in
+    subst (λ (p : AskedPart). IfOk c.search_part.result (IsAnswerOf query p))
+    (ap asked c.view.ensures ∙ ap (block_or_head query snapshot place) (sym c.in-Some.ensures.some))
+    (answer_of query (asked c.view.result.block.now.part) c.search_part.result said.is_part said.part said.rows said.as_many said.leftmost said.least said.begins said.separated said.moves)
+
+pub returns-in-None : goal.returns-in-None
+returns-in-None c =
+    let query = c.args.query.now in
+    let snapshot = c.args.snapshot.now in
+    let place = c.args.place in
+    let said = c.search_part-in-None.ensures in
+    let asked : List HeadSeries → AskedPart = λ head. record { name = Head; part = head_part head; skipped = false } in
+    subst (λ (p : AskedPart). IfOk c.search_part-in-None.result (IsAnswerOf query p))
+    (ap asked c.head.ensures.series ∙ ap (block_or_head query snapshot place) (sym (slice_get_past snapshot.blocks place c.in-None.ensures.none)))
+    (answer_of query (asked (series_of c.head.result.now)) c.search_part-in-None.result said.is_part said.part said.rows said.as_many said.leftmost said.least said.begins said.separated said.moves)
