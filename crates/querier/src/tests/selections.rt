@@ -6,6 +6,10 @@ use std::alloc::AllocError;
 const WORKED: &str =
     "{\"parts\":[{\"intervals\":[{\"from\":4,\"until\":6,\"verdict\":0},{\"from\":6,\"until\":7,\"verdict\":\"match\"},{\"from\":7,\"until\":8,\"verdict\":\"match\"},{\"from\":8,\"until\":4294967296,\"verdict\":1}],\"part\":\"block 0\",\"rows\":[{\"labels\":{\"__name__\":\"up\",\"job\":\"a\"},\"samples\":[[10,1]]},{\"labels\":{\"__name__\":\"up\",\"job\":\"a\",\"zone\":\"x\"},\"samples\":[[10,6]]}],\"separators\":[4,6,7,8]},{\"intervals\":[],\"part\":\"head\",\"rows\":[],\"separators\":[]}],\"rows\":[{\"labels\":{\"__name__\":\"up\",\"job\":\"a\"},\"samples\":[[10,1]]},{\"labels\":{\"__name__\":\"up\",\"job\":\"a\",\"zone\":\"x\"},\"samples\":[[10,6]]}]}\n";
 
+/// The same from a time at which the block has ended.
+const SKIPPED: &str =
+    "{\"parts\":[{\"part\":\"block 0\",\"skipped\":true},{\"intervals\":[],\"part\":\"head\",\"rows\":[],\"separators\":[]}],\"rows\":[]}\n";
+
 const A_THEN_B: &str =
     "{\"parts\":[{\"intervals\":[{\"from\":3,\"until\":4294967296,\"verdict\":\"match\"}],\"part\":\"block 0\",\"rows\":[{\"labels\":{\"__name__\":\"up\",\"job\":\"a\"},\"samples\":[[10,1],[15,2]]}],\"separators\":[3]},{\"intervals\":[{\"from\":3,\"until\":4294967296,\"verdict\":\"match\"}],\"part\":\"block 1\",\"rows\":[{\"labels\":{\"__name__\":\"up\",\"job\":\"a\"},\"samples\":[[10,9]]}],\"separators\":[3]},{\"intervals\":[],\"part\":\"head\",\"rows\":[],\"separators\":[]}],\"rows\":[{\"labels\":{\"__name__\":\"up\",\"job\":\"a\"},\"samples\":[[10,9],[15,2]]}]}\n";
 
@@ -28,11 +32,17 @@ const MANY_AND_LYING: &[&str] = &[
     "a", "a", "a", "a", "a", "a", "a", "a", "a", "a", "lying",
 ];
 
-const ANSWERED: [Row; 3] = [
+const ANSWERED: [Row; 4] = [
     (
         &["select", "--from=0", "--to=100", "up{job=\"a\"}", "good"],
         0,
         WORKED,
+        "",
+    ),
+    (
+        &["select", "--from=20", "--to=100", "up{job=\"a\"}", "good"],
+        0,
+        SKIPPED,
         "",
     ),
     (&["select", "up", "a", "b"], 0, A_THEN_B, ""),
