@@ -14,7 +14,7 @@ use Rattle.querier.specs.Faults.{commit_fault}
 use Rattle.querier.specs.Selecting.{IsStoreFault, IsWritingFault}
 use Rattle.querier.specs.declared.fault.Fault.{Fault}
 use Rattle.querier.specs.declared.fault.Fault.TheVariants.{Words, Refused, CannotRead, CannotWrite, Memory}
-use Rattle.querier.specs.declared.fault.Refusal.TheVariants.{Labels, Matcher, Selector, Query, Commit}
+use Rattle.querier.specs.declared.fault.Refusal.TheVariants.{Labels, Matcher, Selector, Query, Commit, Block, TooManyBlocks}
 
 unfoldable is_accepted : Result World EventRefusal → Bool
 is_accepted (Ok w) = true
@@ -66,6 +66,8 @@ demo_fault (Refused (Selector error)) h = h
 demo_fault (Refused (Query error)) h = h
 demo_fault (Refused (Labels error)) h = h
 demo_fault (Refused (Matcher error)) h = h
+demo_fault (Refused (Block error)) h = h
+demo_fault (Refused TooManyBlocks) h = h
 demo_fault (Words error) h = h
 demo_fault (CannotRead path) h = h
 demo_fault CannotWrite h = absurd h

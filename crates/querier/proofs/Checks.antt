@@ -1,13 +1,14 @@
 -- What was written of the directories so far, and of one more.
-use Rattle.std.proofs.Common.{◌≡◌, ℕ, ◌+◌, ◌<◌, List, [], ◌∷◌, ◌++◌, Option, None, Some, Bool, true, false, refl, sym, ap, subst, ◌∙◌, take, drop, length, get_or, map, append_assoc, Bor}
+use Rattle.std.proofs.Common.{◌≡◌, ℕ, ◌+◌, ◌<◌, List, [], ◌∷◌, ◌++◌, Option, None, Some, Bool, true, false, refl, sym, ap, subst, ◌∙◌, take, drop, length, get_or, append_assoc, Bor}
 use Rattle.std.specs.Prelude.{◌||◌, if◌then◌else◌}
 use Rattle.std.specs.List.{AllByRecursion, flat_map, list_any}
 use Rattle.std.specs.Io.KnownBytes.{Appends, Keeps}
-use Rattle.std.proofs.lemmas.List.{append-nil, map-append, length-map, take-map, take-append-drop, map_more, drop_more, get_or-map}
+use Rattle.std.proofs.lemmas.List.{append-nil, map-append, take-append-drop}
 use Rattle.std.proofs.lemmas.List.Folds.{list_any-append}
 use Rattle.std.proofs.lemmas.Grind.{flat_map-append}
 use Rattle.querier.specs.Checking.{Judged, IsJudgedAt, IsChecked, IsCheckFault, judgement_line, is_refused, outcome_of}
-use Rattle.querier.specs.Reading.{Reads, IsDirectoryFault}
+use Rattle.querier.specs.Reading.{Reads, IsDirectoryFault, paths_of}
+use Rattle.querier.proofs.Paths.{paths_of_more, parts_of_paths}
 use Rattle.querier.specs.Selecting.{KeepsAt}
 use Rattle.querier.specs.declared.fault.Fault.{Fault}
 use Rattle.querier.specs.declared.fault.Fault.TheVariants as fault
@@ -75,32 +76,13 @@ one_more_checked reads directories directory old mid new outcome judgement befor
   outcome_is = ap (λ (o : Outcome). if is_refused judgement then Refused else o) before.outcome_is ∙ sym (outcome_of_more before.judged directory judgement);
 }
 
--- texts as bytes
-abbrev bytes_of : List (Bor (List ℕ)) → List (List ℕ)
-bytes_of texts = map (λ (text : Bor (List ℕ)). text.now) texts
-
-bytes_of_more : (texts : List (Bor (List ℕ))) (i : ℕ) (d : Bor (List ℕ)) → i < length texts → take (i + 1) (bytes_of texts) ≡ take i (bytes_of texts) ++ (get_or texts i d).now ∷ []
-bytes_of_more texts i d h =
-    take-map (λ (text : Bor (List ℕ)). text.now) (i + 1) texts
-    ∙ map_more (λ (text : Bor (List ℕ)). text.now) texts i d h
-    ∙ ap (λ (l : List (List ℕ)). l ++ (get_or texts i d).now ∷ []) (sym (take-map (λ (text : Bor (List ℕ)). text.now) i texts))
-
-parts_of_bytes : (texts : List (Bor (List ℕ))) (i : ℕ) (d : Bor (List ℕ)) → i < length texts
-    → bytes_of texts ≡ take i (bytes_of texts) ++ (get_or texts i d).now ∷ drop (i + 1) (bytes_of texts)
-parts_of_bytes texts i d h =
-    let within : i < length (bytes_of texts) = subst (λ (n : ℕ). i < n) (sym (length-map texts (λ (text : Bor (List ℕ)). text.now))) h in
-    sym (take-append-drop i (bytes_of texts))
-    ∙ ap (λ (l : List (List ℕ)). take i (bytes_of texts) ++ l)
-    (drop_more (bytes_of texts) i d.now within
-    ∙ ap (λ (x : List ℕ). x ∷ drop (i + 1) (bytes_of texts)) (get_or-map (λ (text : Bor (List ℕ)). text.now) texts i d d.now h))
-
 -- the next of the texts was checked
 pub next_checked : (reads : Reads) (texts : List (Bor (List ℕ))) (i : ℕ) (d : Bor (List ℕ)) (old mid new : Option (List ℕ)) (outcome next : Outcome) (judgement : Judgement)
-    → i < length texts → IsChecked reads (take i (bytes_of texts)) old mid outcome → IsJudgedAt reads (get_or texts i d).now judgement
+    → i < length texts → IsChecked reads (take i (paths_of texts)) old mid outcome → IsJudgedAt reads (get_or texts i d).now judgement
     → Appends mid new (judgement_line (get_or texts i d).now judgement) → next ≡ (if is_refused judgement then Refused else outcome)
-    → IsChecked reads (take (i + 1) (bytes_of texts)) old new next
+    → IsChecked reads (take (i + 1) (paths_of texts)) old new next
 next_checked reads texts i d old mid new outcome next judgement h before one line is =
-    rw (is, bytes_of_more texts i d h) (one_more_checked reads (take i (bytes_of texts)) (get_or texts i d).now old mid new outcome judgement before one line)
+    rw (is, paths_of_more texts i d h) (one_more_checked reads (take i (paths_of texts)) (get_or texts i d).now old mid new outcome judgement before one line)
 
 kept_checked : (reads : Reads) (directories : List (List ℕ)) (old mid new : Option (List ℕ)) (outcome : Outcome) → IsChecked reads directories old mid outcome → Keeps mid new
     → IsChecked reads directories old new outcome
@@ -114,23 +96,23 @@ kept_checked reads directories old mid new outcome before kept = record {
 
 -- the next of the texts was not checked
 pub stopped : (reads : Reads) (texts : List (Bor (List ℕ))) (i : ℕ) (d : Bor (List ℕ)) (old mid new : Option (List ℕ)) (outcome : Outcome) (why : Fault)
-    → i < length texts → IsChecked reads (take i (bytes_of texts)) old mid outcome → IsDirectoryFault reads (get_or texts i d).now why → KeepsAt why mid new
-    → IsCheckFault reads (bytes_of texts) old new why
+    → i < length texts → IsChecked reads (take i (paths_of texts)) old mid outcome → IsDirectoryFault reads (get_or texts i d).now why → KeepsAt why mid new
+    → IsCheckFault reads (paths_of texts) old new why
 stopped reads texts i d old mid new outcome (fault.CannotRead path) h before unread kept = record {
-  before = take i (bytes_of texts);
+  before = take i (paths_of texts);
   directory = (get_or texts i d).now;
-  after = drop (i + 1) (bytes_of texts);
-  order = parts_of_bytes texts i d h;
+  after = drop (i + 1) (paths_of texts);
+  order = parts_of_paths texts i d h;
   outcome = outcome;
-  checked = kept_checked reads (take i (bytes_of texts)) old mid new outcome before kept;
+  checked = kept_checked reads (take i (paths_of texts)) old mid new outcome before kept;
   unread = unread;
 }
 stopped reads texts i d old mid new outcome fault.Memory h before unread kept = record {
-  before = take i (bytes_of texts);
-  rest = drop i (bytes_of texts);
-  order = sym (take-append-drop i (bytes_of texts));
+  before = take i (paths_of texts);
+  rest = drop i (paths_of texts);
+  order = sym (take-append-drop i (paths_of texts));
   outcome = outcome;
-  checked = kept_checked reads (take i (bytes_of texts)) old mid new outcome before kept;
+  checked = kept_checked reads (take i (paths_of texts)) old mid new outcome before kept;
 }
 stopped reads texts i d old mid new outcome fault.CannotWrite h before unread kept = tt
 stopped reads texts i d old mid new outcome (fault.Words error) h before unread kept = absurd unread

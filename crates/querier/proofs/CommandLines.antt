@@ -1,5 +1,5 @@
 -- What the getters of `clap` say of the line that the words ask for.
-use Rattle.std.proofs.Common.{◌≡◌, ℕ, ℤ, true, false, List, [], length, Option, Some, None, refl, sym, ap, ap₂, subst, ◌∙◌, inl, inr, arith, codes}
+use Rattle.std.proofs.Common.{◌≡◌, ℕ, ℤ, true, false, List, [], Option, Some, None, refl, sym, ap, ap₂, subst, ◌∙◌, inl, inr, codes}
 use Rattle.std.specs.Prelude.{option_map, unwrap_or, is_some, FitsSigned, Bool, not, ◌&&◌}
 use Rattle.std.specs.Int.{w64}
 use Rattle.std.specs.Str.Parse.{IsNumeral, without_leading_sign, signed_digits_value}
@@ -63,14 +63,14 @@ demo_found None e = cc
 demo_found (Some p) e = record { rows = p.1; is = ap (λ (n : Option Text). Some (unwrap_or n p.0, p.1)) e }
 
 -- and so with its arguments
-pub select_found : (o : Option (Text × List Row)) (rows : List Row) (text : List ℕ) (from to : ℤ) → option_map (λ p. p.0) o ≡ Some (codes "select")
-    → option_map (λ p. p.1) o ≡ Some rows → all_of (codes "directories") rows ≡ None → IsSelectionIn rows text from to → IsSelect o text from to
-select_found None rows text from to e f alone selection = cc
-select_found (Some p) rows text from to e f alone selection = record {
+pub select_found : (o : Option (Text × List Row)) (rows : List Row) (text : List ℕ) (from to : ℤ) (directories : List Text) → option_map (λ p. p.0) o ≡ Some (codes "select")
+    → option_map (λ p. p.1) o ≡ Some rows → IsSelectionIn rows text from to → directories ≡ unwrap_or (all_of (codes "directories") rows) [] → IsSelect o text from to directories
+select_found None rows text from to directories e f selection given = cc
+select_found (Some p) rows text from to directories e f selection given = record {
   rows = rows;
   is = ap₂ (λ (n : Option Text) (r : Option (List Row)). Some (unwrap_or n p.0, unwrap_or r p.1)) e f;
-  alone = alone;
   selection = selection;
+  given = given;
 }
 
 -- and so with the directories of `check`
@@ -88,19 +88,4 @@ pub no_line : (o : Option (Text × List Row)) → (option_map (λ p. p.0) o ≡ 
     → (option_map (λ p. p.0) o ≡ Some (codes "select") → ⊥) → (line : Line) → IsLineIn o line → ⊥
 no_line o no_demo no_check no_select Demo h = no_demo (ap (option_map (λ (p : Text × List Row). p.0)) h.is)
 no_line o no_demo no_check no_select (Check texts) h = no_check (ap (option_map (λ (p : Text × List Row). p.0)) h.is)
-no_line o no_demo no_check no_select (Select s) h = no_select (ap (option_map (λ (p : Text × List Row). p.0)) h.is)
-
--- `select` with words after its selector is no line
-pub no_line_of_directories : (o : Option (Text × List Row)) (rows : List Row) → option_map (λ p. p.0) o ≡ Some (codes "select") → option_map (λ p. p.1) o ≡ Some rows
-    → (all_of (codes "directories") rows ≡ None → ⊥) → (line : Line) → IsLineIn o line → ⊥
-no_line_of_directories o rows e f some Demo h =
-    let names : Some (codes "demo") ≡ Some (codes "select") = sym (ap (option_map (λ (p : Text × List Row). p.0)) h.is) ∙ e in
-    let lengths : 4 ≡ 6 = ap (λ (n : Option Text). length (unwrap_or n [])) names in
-    absurd (omega (arith, lengths))
-no_line_of_directories o rows e f some (Check texts) h =
-    let names : Some (codes "check") ≡ Some (codes "select") = sym (ap (option_map (λ (p : Text × List Row). p.0)) h.is) ∙ e in
-    let lengths : 5 ≡ 6 = ap (λ (n : Option Text). length (unwrap_or n [])) names in
-    absurd (omega (arith, lengths))
-no_line_of_directories o rows e f some (Select s) h =
-    let same : h.rows ≡ rows = ap (λ (r : Option (List Row)). unwrap_or r []) (sym (ap (option_map (λ (p : Text × List Row). p.1)) h.is) ∙ f) in
-    some (subst (λ (r : List Row). all_of (codes "directories") r ≡ None) same h.alone)
+no_line o no_demo no_check no_select (Select s texts) h = no_select (ap (option_map (λ (p : Text × List Row). p.0)) h.is)

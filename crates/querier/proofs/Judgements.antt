@@ -1,5 +1,6 @@
 -- What `Block::open` says of files is what is judged of them.
 use Rattle.std.proofs.Common.{◌≡◌, ℕ, ℤ, Option, None, Some, Result, Ok, Err, refl, sym, ap, ap₂, subst, ◌∙◌, length}
+use Rattle.std.specs.Prelude.{IfOk}
 use Rattle.labels.specs.Parts.{Part}
 use Rattle.block.specs.Blocks.{Shown, sample_count}
 use Rattle.block.specs.Metas.{or_meta, range_said}
@@ -12,8 +13,13 @@ use Rattle.querier.specs.declared.judgement.Judgement.{Judgement}
 use Rattle.querier.specs.declared.judgement.Judgement.TheVariants.{Sound, Refused}
 
 -- a part that was read
-abbrev said_part : Part → Result Part BlockError
+abbrev pub said_part : Part → Result Part BlockError
 said_part part = Ok part
+
+-- two facts of a value that is there
+pub IfOk_both : {X Y : Type 0} (r : Result X Y) (P Q R : X → Type 0) → ((x : X) → P x → Q x → R x) → IfOk r P → IfOk r Q → IfOk r R
+IfOk_both (Ok x) P Q R both p q = both x p q
+IfOk_both (Err e) P Q R both p q = tt
 
 -- a refusal is what reading gives, unless memory ran out
 fails_but_memory : {Y : Type 0} (e : BlockError) (read : Result Y BlockError) → Fails e read → (e ≡ Memory → ⊥) → read ≡ Err e
@@ -41,10 +47,10 @@ pub meta_fails : (files : BlockFiles) (e : BlockError) (read : Result (ℤ × �
 meta_fails files e read h = fails_on (λ r. block_in r files) (λ e. refl) e read h
 
 -- where the meta is refused there is no block
-pub no_block_of_meta : (files : BlockFiles) (e : BlockError) → Fails e (or_meta (range_said files.meta.items)) → (part : Part) → IsSpelledAs files part → Fails e (said_part part)
-no_block_of_meta files e h part spelled = go e (rw spelled.says at h)
+pub no_block_of_meta : (files : BlockFiles) (e : BlockError) → Fails e (or_meta (range_said files.meta.items)) → (range : ℤ × ℤ) (part : Part) → IsSpelledAs files range part → Fails e (said_part part)
+no_block_of_meta files e h range part spelled = go e (rw spelled.says at h)
   where
-    go : (e : BlockError) → Fails e (or_meta (Some spelled.range)) → Fails e (said_part part)
+    go : (e : BlockError) → Fails e (or_meta (Some range)) → Fails e (said_part part)
     go Memory h = tt
     go Meta h = cc
     go (Index e) h = cc
@@ -67,24 +73,25 @@ refused_but_memory (Tombstones e) judgement h = (h, λ m. cc)
 refused_but_memory UnknownSeries judgement h = (h, λ m. cc)
 refused_but_memory OutsideRange judgement h = (h, λ m. cc)
 
-refused_files : (files : BlockFiles) (e : BlockError) → (e ≡ Memory → ⊥) → Fails e (block_in (or_meta (range_said files.meta.items)) files)
-    → ((part : Part) → IsSpelledAs files part → Fails e (said_part part)) → IsJudged files (Refused e)
+-- files that were refused, and not for want of memory
+pub refused_files : (files : BlockFiles) (e : BlockError) → (e ≡ Memory → ⊥) → Fails e (block_in (or_meta (range_said files.meta.items)) files)
+    → ((range : ℤ × ℤ) (part : Part) → IsSpelledAs files range part → Fails e (said_part part)) → IsJudged files (Refused e)
 refused_files files e other exact only = record {
   first = sym (ap judgement_of (fails_but_memory e _ exact other));
-  spelled = λ part spelled. let bad : said_part part ≡ Err e = fails_but_memory e _ (only part spelled) other in cc;
+  spelled = λ range part spelled. let bad : said_part part ≡ Err e = fails_but_memory e _ (only range part spelled) other in cc;
 }
 
 -- files that were refused
 pub judged_refused : (files : BlockFiles) (e : BlockError) (judgement : Judgement) → IsRefusalOf e judgement → Fails e (block_in (or_meta (range_said files.meta.items)) files)
-    → ((part : Part) → IsSpelledAs files part → Fails e (said_part part)) → IsJudged files judgement
+    → ((range : ℤ × ℤ) (part : Part) → IsSpelledAs files range part → Fails e (said_part part)) → IsJudged files judgement
 judged_refused files e judgement h exact only =
     let p = refused_but_memory e judgement h in
     subst (IsJudged files) (sym p.0) (refused_files files e p.1 exact only)
 
 -- files that were opened
-pub judged_sound : (files : BlockFiles) (shown : Shown) (series samples : ℕ) → block_in (or_meta (range_said files.meta.items)) files ≡ Ok shown → IsSpelledAs files shown.part
+pub judged_sound : (files : BlockFiles) (shown : Shown) (series samples : ℕ) → block_in (or_meta (range_said files.meta.items)) files ≡ Ok shown → IsSpelledAs files shown.range shown.part
     → series ≡ length shown.part → samples ≡ sample_count shown.part → IsJudged files (Sound series samples)
 judged_sound files shown series samples exact found s n = record {
   first = ap₂ Sound s n ∙ sym (ap judgement_of exact);
-  spelled = record { part = shown.part; spelled = found; series_are = s; samples_are = n };
+  spelled = record { range = shown.range; part = shown.part; spelled = found; series_are = s; samples_are = n };
 }

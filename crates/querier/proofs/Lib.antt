@@ -2,5 +2,7 @@ pub mod Accepting
 pub mod Checks
 pub mod CommandLines
 pub mod Judgements
+pub mod Openings
+pub mod Paths
 pub mod LineEnds
 pub mod FirstUnread

@@ -6,11 +6,12 @@ use Rattle.clap.specs.Words.{Text}
 use Rattle.querier.specs.Checking.{IsBegun}
 use Rattle.querier.specs.Lines.{IsLineOf}
 use Rattle.querier.specs.Reading.{Reads}
+use Rattle.querier.specs.Selecting.{KeepsAt, by_selection}
 use Rattle.querier.specs.Running.{IsTaken, IsLineFault, IsLineEnd, IsEnd, IsCheckLine, KeepsAtEnd}
 use Rattle.querier.specs.declared.command.Line.{Line}
 use Rattle.querier.specs.declared.command.Line.TheVariants.{Demo, Select, Check}
 use Rattle.querier.specs.declared.fault.Fault.{Fault}
-use Rattle.querier.specs.declared.fault.Fault.TheVariants.{Memory}
+use Rattle.querier.specs.declared.fault.Fault.TheVariants as fault
 use Rattle.querier.specs.declared.report.Outcome.{Outcome}
 use Rattle.querier.specs.declared.report.Outcome.TheVariants.{Done, Refused}
 use Rattle.querier.proofs.Checks.{none_checked}
@@ -18,6 +19,14 @@ use Rattle.querier.proofs.Checks.{none_checked}
 keeps_itself : (old : Option (List ℕ)) → Keeps old old
 keeps_itself None = tt
 keeps_itself (Some xs) = refl
+
+-- a writer that was not used holds what it held
+pub unused : (fault : Fault) (old : Option (List ℕ)) → KeepsAt fault old old
+unused (fault.Words error) old = keeps_itself old
+unused (fault.Refused refusal) old = keeps_itself old
+unused (fault.CannotRead path) old = keeps_itself old
+unused fault.CannotWrite old = tt
+unused fault.Memory old = keeps_itself old
 
 -- no line of any directory was written
 pub none_begun : (reads : Reads) (directories : List (List ℕ)) (old : Option (List ℕ)) → IsBegun reads directories old old
@@ -29,13 +38,13 @@ none_begun reads directories old = record {
   checked = none_checked reads old;
 }
 
-memory_fault : (reads : Reads) (line : Line) (old : Option (List ℕ)) → IsLineFault reads line old old Memory
+memory_fault : (reads : Reads) (line : Line) (old : Option (List ℕ)) → IsLineFault reads line old old fault.Memory
 memory_fault reads Demo old = (tt, keeps_itself old)
-memory_fault reads (Select s) old = (tt, keeps_itself old)
+memory_fault reads (Select s texts) old = (by_selection tt, keeps_itself old)
 memory_fault reads (Check texts) old = none_begun reads (map (λ text. text.now) texts.items) old
 
 -- a line may end by want of memory before it begins
-pub end_without_memory : (reads : Reads) (words : List Text) (old : Option (List ℕ)) → IsTaken words → IsEnd reads words old old (Err Memory)
+pub end_without_memory : (reads : Reads) (words : List Text) (old : Option (List ℕ)) → IsTaken words → IsEnd reads words old old (Err fault.Memory)
 end_without_memory reads words old taken = record { line = taken.line; is = taken.is; ends = memory_fault reads taken.line old }
 
 -- the end of a line is that of its words
@@ -50,6 +59,6 @@ kept_at_end reads words (Check texts) old new end is ends = inl (record { line =
 kept_at_end reads words Demo old new (Ok Done) is ends = inr tt
 kept_at_end reads words Demo old new (Ok Refused) is ends = absurd ends
 kept_at_end reads words Demo old new (Err fault) is ends = inr ends.1
-kept_at_end reads words (Select s) old new (Ok Done) is ends = inr tt
-kept_at_end reads words (Select s) old new (Ok Refused) is ends = absurd ends
-kept_at_end reads words (Select s) old new (Err fault) is ends = inr ends.1
+kept_at_end reads words (Select s texts) old new (Ok Done) is ends = inr tt
+kept_at_end reads words (Select s texts) old new (Ok Refused) is ends = absurd ends
+kept_at_end reads words (Select s texts) old new (Err fault) is ends = inr ends.1

@@ -11,10 +11,13 @@ use Rattle.matchers.specs.declared.error.SelectorError.TheVariants as selector
 use Rattle.head.specs.Codes.{commit_code}
 use Rattle.head.specs.declared.error.CommitError.{CommitError}
 use Rattle.head.specs.declared.error.CommitError.TheVariants as commit
+use Rattle.block.specs.Codes as blocks
+use Rattle.block.specs.declared.error.BlockError.{BlockError}
+use Rattle.block.specs.declared.error.BlockError.TheVariants as block
 use Rattle.querier.specs.declared.fault.Fault.{Fault}
 use Rattle.querier.specs.declared.fault.Fault.TheVariants.{Words, Refused, CannotRead, CannotWrite, Memory}
 use Rattle.querier.specs.declared.fault.Refusal.{Refusal}
-use Rattle.querier.specs.declared.fault.Refusal.TheVariants.{Labels, Matcher, Selector, Query, Commit}
+use Rattle.querier.specs.declared.fault.Refusal.TheVariants.{Labels, Matcher, Selector, Query, Commit, Block, TooManyBlocks}
 
 -- the code of a refusal
 abbrev pub refusal_code : Refusal → List ℕ
@@ -23,8 +26,10 @@ refusal_code (Matcher error) = matcher_code error
 refusal_code (Selector error) = selector_code error
 refusal_code (Query error) = query_code error
 refusal_code (Commit error) = commit_code error
+refusal_code (Block error) = blocks.code_of error
+refusal_code TooManyBlocks = codes "O3"
 
--- where a text stops being a beginning of a selector
+-- where a text stops being a prefix of a selector
 abbrev pub selector_place : SelectorError → Option ℕ
 selector_place (selector.Syntax at) = Some at
 selector_place selector.Empty = None
@@ -51,8 +56,10 @@ refusal_place (Matcher error) = None
 refusal_place (Selector error) = selector_place error
 refusal_place (Query error) = None
 refusal_place (Commit error) = commit_place error
+refusal_place (Block error) = None
+refusal_place TooManyBlocks = None
 
--- the place behind the code
+-- the place after the code
 abbrev pub place_text : Option ℕ → List ℕ
 place_text None = []
 place_text (Some at) = codes " at " ++ decimal at
@@ -110,3 +117,13 @@ commit_fault commit.CutTooLow = Refused (Commit commit.CutTooLow)
 commit_fault commit.TooManyParts = Refused (Commit commit.TooManyParts)
 commit_fault commit.Seat = Refused (Commit commit.Seat)
 commit_fault commit.Memory = Memory
+
+-- the fault that a refused block makes
+abbrev pub block_fault : BlockError → Fault
+block_fault block.Meta = Refused (Block block.Meta)
+block_fault (block.Index error) = Refused (Block (block.Index error))
+block_fault (block.Chunks error) = Refused (Block (block.Chunks error))
+block_fault (block.Tombstones error) = Refused (Block (block.Tombstones error))
+block_fault block.UnknownSeries = Refused (Block block.UnknownSeries)
+block_fault block.OutsideRange = Refused (Block block.OutsideRange)
+block_fault block.Memory = Memory

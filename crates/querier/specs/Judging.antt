@@ -21,23 +21,23 @@ abbrev pub judgement_of : Result Shown BlockError → Judgement
 judgement_of (Ok shown) = Sound (length shown.part) (sample_count shown.part)
 judgement_of (Err error) = Refused error
 
--- the files are spelled as those of a block of this part
-pub record IsSpelledAs (files : BlockFiles) (part : Part) : Type 0 where
-  pub range : ℤ × ℤ
+-- the files are spelled as those of a block of this range and part
+pub record IsSpelledAs (files : BlockFiles) (range : ℤ × ℤ) (part : Part) : Type 0 where
   pub says : range_said files.meta.items ≡ Some range
   pub block : IsBlock range files.index.items files.chunks.items files.tombstones.items part
 
 -- the files are spelled as those of a block with so many series and samples
 pub record SpellsBlock (files : BlockFiles) (series samples : ℕ) : Type 0 where
+  pub range : ℤ × ℤ
   pub part : Part
-  pub spelled : IsSpelledAs files part
+  pub spelled : IsSpelledAs files range part
   pub series_are : series ≡ length part
   pub samples_are : samples ≡ sample_count part
 
 -- what the grammar of blocks says of a judgement
 abbrev pub IsSpelled : BlockFiles → Judgement → Type 0
 IsSpelled files (Sound series samples) = SpellsBlock files series samples
-IsSpelled files (Refused error) = (part : Part) → IsSpelledAs files part → ⊥
+IsSpelled files (Refused error) = (range : ℤ × ℤ) (part : Part) → IsSpelledAs files range part → ⊥
 
 -- the judgement is the one of the first check that fails, and the grammar of blocks agrees
 pub record IsJudged (files : BlockFiles) (judgement : Judgement) : Type 0 where

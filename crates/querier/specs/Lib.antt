@@ -1,6 +1,7 @@
 pub mod Printed
 pub mod Demo
 pub mod Faults
+pub mod Opening
 pub mod Selecting
 pub mod Lines
 pub mod Reading

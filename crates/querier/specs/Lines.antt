@@ -26,7 +26,7 @@ time_rule name = record (new_rule name) {
 abbrev pub selector_rule : Rule
 selector_rule = record (new_rule (codes "selector")) { value_names = 1; required = true }
 
--- all words after the selector
+-- the directories of `select`, as many as there are
 abbrev pub directories_rule : Rule
 directories_rule = record (new_rule (codes "directories")) {
   value_names = 1;
@@ -78,12 +78,12 @@ pub record IsDemo (found : Option (Text × List Row)) : Type 0 where
   pub rows : List Row
   pub is : found ≡ Some (codes "demo", rows)
 
--- `select` was found, and nothing after its selector
-pub record IsSelect (found : Option (Text × List Row)) (text : List ℕ) (from to : ℤ) : Type 0 where
+-- `select` was found, with this selection and these directories
+pub record IsSelect (found : Option (Text × List Row)) (text : List ℕ) (from to : ℤ) (directories : List Text) : Type 0 where
   pub rows : List Row
   pub is : found ≡ Some (codes "select", rows)
-  pub alone : all_of (codes "directories") rows ≡ None
   pub selection : IsSelectionIn rows text from to
+  pub given : directories ≡ unwrap_or (all_of (codes "directories") rows) []
 
 -- `check` was found, with these directories
 pub record IsCheck (found : Option (Text × List Row)) (directories : List Text) : Type 0 where
@@ -94,7 +94,7 @@ pub record IsCheck (found : Option (Text × List Row)) (directories : List Text)
 -- what a found subcommand asks for
 abbrev pub IsLineIn : Option (Text × List Row) → Line → Type 0
 IsLineIn found Demo = IsDemo found
-IsLineIn found (Select s) = IsSelect found s.selector.now s.from s.to
+IsLineIn found (Select s texts) = IsSelect found s.selector.now s.from s.to (map (λ text. text.now) texts.items)
 IsLineIn found (Check texts) = IsCheck found (map (λ text. text.now) texts.items)
 
 -- the line that a found subcommand asks for, or that it asks for none

@@ -1,5 +1,6 @@
 -- What is read of the files of a directory.
-use Rattle.std.specs.Prelude.{◌≡◌, ℕ, ◌+◌, List, [], ◌∷◌, ◌++◌, take, Option, None, Some, codes, string_bytes}
+use Rattle.std.specs.Prelude.{◌≡◌, ℕ, ◌+◌, List, [], ◌∷◌, ◌++◌, map, take, Option, None, Some, codes, string_bytes}
+use Rattle.std.specs.Borrow.{Bor}
 use Rattle.std.specs.List.{AllByRecursion}
 use Rattle.querier.specs.declared.fault.Fault.{Fault}
 use Rattle.querier.specs.declared.fault.Fault.TheVariants.{Words, Refused, CannotRead, CannotWrite, Memory}
@@ -8,6 +9,10 @@ use Rattle.querier.specs.declared.files.FileName.{FileName}
 use Rattle.querier.specs.declared.files.FileName.TheVariants.{Meta, Index, Chunks, Tombstones}
 use Rattle.querier.specs.declared.files.ReadError.{ReadError}
 use Rattle.querier.specs.declared.files.ReadError.TheVariants as failure
+
+-- directories as bytes
+abbrev pub paths_of : List (Bor (List ℕ)) → List (List ℕ)
+paths_of directories = map (λ directory. directory.now) directories
 
 -- what reading a path may find: the bytes of a file, or nothing where it cannot be read
 abbrev pub Reads : Type 1

@@ -1,14 +1,13 @@
 -- How the lines of the program end.
-use Rattle.std.specs.Prelude.{◌≡◌, ℕ, pos, true, List, [], map, Option, Result, Ok, Err, IsOk, OnOk, IfSome}
+use Rattle.std.specs.Prelude.{◌≡◌, ℕ, pos, true, List, Option, Result, Ok, Err, IsOk, OnOk, IfSome}
 use Rattle.std.specs.Io.KnownBytes.{Appends, Keeps}
 use Rattle.clap.specs.Words.{Text, takes}
-use Rattle.head.specs.Blocks.{opening_of}
 use Rattle.querier.specs.Checking.{IsChecked, IsCheckFault}
 use Rattle.querier.specs.Demo.{demo_events, demo_query}
 use Rattle.querier.specs.Faults.{status_of, line_of}
 use Rattle.querier.specs.Lines.{querier_app, IsLineOf}
-use Rattle.querier.specs.Reading.{Reads}
-use Rattle.querier.specs.Selecting.{IsSelectionFault, IsWritingFault, KeepsAt, WritesAnswerAfter, WritesSelection}
+use Rattle.querier.specs.Reading.{Reads, paths_of}
+use Rattle.querier.specs.Selecting.{IsSelectFault, IsWritingFault, KeepsAt, WritesAnswerAfter, WritesSelection}
 use Rattle.querier.specs.declared.command.Line.{Line}
 use Rattle.querier.specs.declared.command.Line.TheVariants.{Demo, Select, Check}
 use Rattle.querier.specs.declared.fault.Fault.{Fault}
@@ -27,15 +26,15 @@ pub record IsTaken (words : List Text) : Type 0 where
 abbrev pub IsDone : Reads → Line → Option (List ℕ) → Option (List ℕ) → Outcome → Type 0
 IsDone reads Demo old new Done = WritesAnswerAfter demo_events (demo_query (pos 0) (pos 100)) old new
 IsDone reads Demo old new Refused = ⊥
-IsDone reads (Select s) old new Done = WritesSelection s.selector.now s.from s.to (opening_of []) old new
-IsDone reads (Select s) old new Refused = ⊥
-IsDone reads (Check texts) old new outcome = IsChecked reads (map (λ text. text.now) texts.items) old new outcome
+IsDone reads (Select s texts) old new Done = WritesSelection reads (paths_of texts.items) s old new
+IsDone reads (Select s texts) old new Refused = ⊥
+IsDone reads (Check texts) old new outcome = IsChecked reads (paths_of texts.items) old new outcome
 
 -- why a line ends before it is done, and what was written by then
 abbrev pub IsLineFault : Reads → Line → Option (List ℕ) → Option (List ℕ) → Fault → Type 0
 IsLineFault reads Demo old new fault = IsWritingFault fault × KeepsAt fault old new
-IsLineFault reads (Select s) old new fault = IsSelectionFault s.selector.now s.from s.to fault × KeepsAt fault old new
-IsLineFault reads (Check texts) old new fault = IsCheckFault reads (map (λ text. text.now) texts.items) old new fault
+IsLineFault reads (Select s texts) old new fault = IsSelectFault reads (paths_of texts.items) s fault × KeepsAt fault old new
+IsLineFault reads (Check texts) old new fault = IsCheckFault reads (paths_of texts.items) old new fault
 
 -- how a line ends
 abbrev pub IsLineEnd : Reads → Line → Option (List ℕ) → Option (List ℕ) → Result Outcome Fault → Type 0
@@ -92,7 +91,7 @@ pub record HasEnded (reads : Reads) (words : List Text) (old new told_old told_n
 -- the line is one of `check`
 abbrev pub Checks : Line → Type 0
 Checks Demo = ⊥
-Checks (Select s) = ⊥
+Checks (Select s texts) = ⊥
 Checks (Check texts) = Unit {0}
 
 -- the words are a line of `check`, which alone may write before it ends otherwise than done

@@ -1,9 +1,9 @@
 -- What a selection asks for, and why it is refused.
-use Rattle.std.specs.Prelude.{◌≡◌, ℕ, ℤ, true, false, List, [], Option, Ok, Err}
+use Rattle.std.specs.Prelude.{◌≡◌, ℕ, ◌<◌, ◌≤◌, true, false, List, [], Option, Ok, Err, length}
 use Rattle.std.specs.Io.KnownBytes.{Appends, Keeps}
 use Rattle.matchers.specs.Grammar.{IsSelector}
 use Rattle.matchers.specs.Queries.{is_range}
-use Rattle.matchers.specs.Selectors.{RefusedBy}
+use Rattle.matchers.specs.Selectors.{AreMade, RefusedBy}
 use Rattle.matchers.specs.Views.{MatcherView, QueryView}
 use Rattle.matchers.specs.declared.error.QueryError.TheVariants.{BadRange, TooManyMatchers}
 use Rattle.matchers.specs.declared.error.SelectorError.{SelectorError}
@@ -16,25 +16,35 @@ use Rattle.head.specs.Refusals.{Refusal as EventRefusal}
 use Rattle.head.specs.Worlds.{Event, replayed}
 use Rattle.head.specs.declared.error.CommitError.{CommitError}
 use Rattle.query_http.specs.Audited.{IsAudited}
+use Rattle.querier.specs.Opening.{IsOpeningOf, IsOpeningFault}
 use Rattle.querier.specs.Printed.{line_text}
+use Rattle.querier.specs.Reading.{Reads}
 use Rattle.query_http.specs.declared.audited.AuditedAnswer.{AuditedAnswer}
+use Rattle.querier.specs.declared.command.Selection.{Selection}
 use Rattle.querier.specs.declared.fault.Fault.{Fault}
 use Rattle.querier.specs.declared.fault.Fault.TheVariants.{Words, Refused, CannotRead, CannotWrite, Memory}
 use Rattle.querier.specs.declared.fault.Refusal.{Refusal}
-use Rattle.querier.specs.declared.fault.Refusal.TheVariants.{Labels, Matcher, Selector, Query, Commit}
+use Rattle.querier.specs.declared.fault.Refusal.TheVariants.{Labels, Matcher, Selector, Query, Commit, Block, TooManyBlocks}
 
--- the grammar reads the query's matchers from the text, and its range is from the one time to the other
-pub record IsQueryOf (text : List ℕ) (from to : ℤ) (query : QueryView) : Type 0 where
-  pub matchers : IsSelector text query.matchers
-  pub is_range : is_range from to ≡ true
-  pub first : query.from ≡ from
-  pub last : query.to ≡ to
-
--- the text is a selector, and the range is none
-pub record HasBadRange (text : List ℕ) (from to : ℤ) : Type 0 where
-  pub ms : List MatcherView
+-- the text is accepted as a selector of these matchers: they are 1 to 16, and each can be made
+pub record IsAccepted (text : List ℕ) (ms : List MatcherView) : Type 0 where
   pub selector : IsSelector text ms
-  pub no_range : is_range from to ≡ false
+  pub some : 0 < length ms
+  pub few : length ms ≤ 16
+  pub made : AreMade ms
+
+-- the text of a selection is accepted as a selector of the query's matchers, and the ranges are one
+pub record IsQueryOf (asked : Selection) (query : QueryView) : Type 0 where
+  pub matchers : IsAccepted asked.selector.now query.matchers
+  pub is_range : is_range asked.from asked.to ≡ true
+  pub first : query.from ≡ asked.from
+  pub last : query.to ≡ asked.to
+
+-- the text of a selection is accepted as a selector, and its range is none
+pub record HasBadRange (asked : Selection) : Type 0 where
+  pub ms : List MatcherView
+  pub selector : IsAccepted asked.selector.now ms
+  pub no_range : is_range asked.from asked.to ≡ false
 
 -- when the text is refused
 abbrev pub IsTextRefusal : List ℕ → SelectorError → Type 0
@@ -46,21 +56,23 @@ IsTextRefusal text selector.PatternRefused = RefusedBy text selector.PatternRefu
 IsTextRefusal text selector.Memory = ⊥
 
 -- when a selection is refused: by its text, and then by its range
-abbrev pub IsSelectionRefusal : List ℕ → ℤ → ℤ → Refusal → Type 0
-IsSelectionRefusal text from to (Selector error) = IsTextRefusal text error
-IsSelectionRefusal text from to (Query BadRange) = HasBadRange text from to
-IsSelectionRefusal text from to (Query TooManyMatchers) = ⊥
-IsSelectionRefusal text from to (Labels error) = ⊥
-IsSelectionRefusal text from to (Matcher error) = ⊥
-IsSelectionRefusal text from to (Commit error) = ⊥
+abbrev pub IsSelectionRefusal : Selection → Refusal → Type 0
+IsSelectionRefusal asked (Selector error) = IsTextRefusal asked.selector.now error
+IsSelectionRefusal asked (Query BadRange) = HasBadRange asked
+IsSelectionRefusal asked (Query TooManyMatchers) = ⊥
+IsSelectionRefusal asked (Labels error) = ⊥
+IsSelectionRefusal asked (Matcher error) = ⊥
+IsSelectionRefusal asked (Commit error) = ⊥
+IsSelectionRefusal asked (Block error) = ⊥
+IsSelectionRefusal asked TooManyBlocks = ⊥
 
--- the selection is refused so, or memory or the writer failed
-abbrev pub IsSelectionFault : List ℕ → ℤ → ℤ → Fault → Type 0
-IsSelectionFault text from to (Refused refusal) = IsSelectionRefusal text from to refusal
-IsSelectionFault text from to (Words error) = ⊥
-IsSelectionFault text from to (CannotRead path) = ⊥
-IsSelectionFault text from to CannotWrite = Unit {0}
-IsSelectionFault text from to Memory = Unit {0}
+-- the selection is refused so, or memory failed
+abbrev pub IsSelectionFault : Selection → Fault → Type 0
+IsSelectionFault asked (Refused refusal) = IsSelectionRefusal asked refusal
+IsSelectionFault asked (Words error) = ⊥
+IsSelectionFault asked (CannotRead path) = ⊥
+IsSelectionFault asked CannotWrite = ⊥
+IsSelectionFault asked Memory = Unit {0}
 
 -- an audited answer of the snapshot to the query was written, and a line feed
 pub record WritesAnswer (query : QueryView) (snapshot : SnapshotParts) (old new : Option (List ℕ)) : Type 0 where
@@ -74,10 +86,12 @@ pub record WritesAnswerAfter (events : List Event) (query : QueryView) (old new 
   pub replayed : replayed most (world_of (opening_of [])) events ≡ Ok (world_of snapshot)
   pub answered : WritesAnswer query snapshot old new
 
--- an audited answer to the selection was written, and a line feed
-pub record WritesSelection (text : List ℕ) (from to : ℤ) (snapshot : SnapshotParts) (old new : Option (List ℕ)) : Type 0 where
+-- an audited answer to the selection was written, over the blocks that the directories hold, and a line feed
+pub record WritesSelection (reads : Reads) (directories : List (List ℕ)) (asked : Selection) (old new : Option (List ℕ)) : Type 0 where
   pub query : QueryView
-  pub asked : IsQueryOf text from to query
+  pub is_asked : IsQueryOf asked query
+  pub snapshot : SnapshotParts
+  pub opened : IsOpeningOf reads directories snapshot
   pub answered : WritesAnswer query snapshot old new
 
 -- the writer holds what it held, unless it failed
@@ -95,6 +109,23 @@ IsWritingFault Memory = Unit {0}
 IsWritingFault (Words error) = ⊥
 IsWritingFault (CannotRead path) = ⊥
 IsWritingFault (Refused refusal) = ⊥
+
+-- the selection is accepted, its text and its range
+pub record IsAllowed (asked : Selection) : Type 0 where
+  pub query : QueryView
+  pub is_asked : IsQueryOf asked query
+
+-- the directories hold the blocks of a snapshot
+pub record AreOpened (reads : Reads) (directories : List (List ℕ)) : Type 0 where
+  pub snapshot : SnapshotParts
+  pub opened : IsOpeningOf reads directories snapshot
+
+-- why a selection over directories ends before it is done: by the selection; by the directories, where the selection is
+-- accepted; or by memory or the writer, where the directories are opened too
+pub data IsSelectFault (reads : Reads) (directories : List (List ℕ)) (asked : Selection) (fault : Fault) : Type 0 where
+  by_selection : IsSelectionFault asked fault → IsSelectFault reads directories asked fault
+  by_directories : IsAllowed asked → IsOpeningFault reads directories fault → IsSelectFault reads directories asked fault
+  by_writing : IsAllowed asked → AreOpened reads directories → IsWritingFault fault → IsSelectFault reads directories asked fault
 
 -- memory alone failed
 abbrev pub IsOfMemory : Fault → Type 0
@@ -118,6 +149,8 @@ IsStoreFault events (Refused (Selector error)) = ⊥
 IsStoreFault events (Refused (Query error)) = ⊥
 IsStoreFault events (Refused (Labels error)) = ⊥
 IsStoreFault events (Refused (Matcher error)) = ⊥
+IsStoreFault events (Refused (Block error)) = ⊥
+IsStoreFault events (Refused TooManyBlocks) = ⊥
 IsStoreFault events (Words error) = ⊥
 IsStoreFault events (CannotRead path) = ⊥
 IsStoreFault events CannotWrite = ⊥

@@ -25,8 +25,8 @@ pub struct Selection<'a> {
 pub enum Line<'a> {
     /// The answer to `up{job="a"}` over six series that two batches bring.
     Demo,
-    /// The answer to a selector.
-    Select(Selection<'a>),
+    /// The answer to a selection over the blocks in these directories.
+    Select(Selection<'a>, Vec<&'a str>),
     /// What the blocks in these directories are judged to be.
     Check(Vec<&'a str>),
 }
@@ -60,21 +60,29 @@ Exit status: 0 each is a block; 1 a line names a refusal; 2 a fault of the words
 read (it is named on standard error, and the lines of earlier directories are printed), or the lines
 cannot be written; 4 no memory";
 
-const EXAMPLE: &str = "Example: querier select --from=-10 --to=100 'up{job=\"a\",zone=~\"x|\"}'
+const EXAMPLE: &str =
+    "Example: querier select --from=-10 --to=100 'up{job=\"a\",zone=~\"x|\"}' data/0001 data/0002
 
 A selector is a metric name, matchers in braces, or both. Matchers are name=\"text\", name!=\"text\",
 name=~\"pattern\" and name!~\"pattern\"; an absent label counts as the empty text.
 
+The blocks in the directories are searched in the order given, as \"block 0\", \"block 1\" and so on, and
+after them an empty head. Their ranges may overlap: of two samples of one series at one time, that of the
+later block stands. Each directory is verified completely, as by `querier check`, before anything is printed.
+
 Refusals, the first that holds:
-  M4 at N  no selector; N is the length in bytes of its longest beginning that begins one
+  M4 at N  no selector; N is the length in bytes of its longest prefix that begins one
   M6       no matcher
   M5       more than 16 matchers
   M3       a pattern of more than 256 bytes
   M2       a pattern that is refused by the library of patterns
   Q1       a range that ends before it begins, or an end of it that is no time
+  B2, I1 to I15, C1 to C8, T1 to T5, B1
+           the first directory at fault holds no block; `querier check --help` tells the codes
+  O3       more than 63 directories
 
-Exit status: 0 done; 1 refused, with the code on standard error; 2 a fault of the words;
-3 cannot write; 4 no memory";
+Exit status: 0 done; 1 refused, with the code on standard error; 2 a fault of the words; 3 a file cannot
+be read (it is named on standard error), or the answer cannot be written; 4 no memory";
 
 /// An option `--NAME N` with a signed number of 64 bits.
 fn time<'a>(alloc: Global, name: &'a str, help: &'a str) -> Arg<'a>
@@ -98,7 +106,7 @@ fn selector<'a>(alloc: Global) -> Arg<'a>
         .help("Which series, as up{job=\"a\"}")
 }
 
-/// The words after the selector, which are refused.
+/// The directories of `select`, as many as there are.
 fn directories<'a>(alloc: Global) -> Arg<'a>
     ensures rule { rule_of result ≡ directories_rule }
     ensures global { result.global ≡ false }
@@ -106,7 +114,7 @@ fn directories<'a>(alloc: Global) -> Arg<'a>
     Arg::new(alloc, "directories")
         .value_name("DIR")
         .num_args(..)
-        .hide(true)
+        .help("A directory with a block, verified before anything is printed")
 }
 
 /// The directories of `check`, one or more.
@@ -133,7 +141,7 @@ fn select<'a>(alloc: Global) -> Result<Command<'a>, AllocError>
     ensures { IfOk result (λ command. app_of command ≡ select_app) }
 {
     Command::new(alloc, "select")
-        .about("Prints the audited answer to a selector over an empty store as one line of JSON")
+        .about("Prints the audited answer to a selector over blocks as one line of JSON")
         .after_help(EXAMPLE)
         .arg(time(alloc, "from", FROM))?
         .arg(time(alloc, "to", TO))?
@@ -154,6 +162,7 @@ fn querier<'a>(alloc: Global) -> Result<Command<'a>, AllocError>
     ensures { IfOk result (λ command. app_of command ≡ querier_app) }
 {
     Command::new(alloc, "querier")
+        .bin_name("querier")?
         .about("Answers selectors over series, with a certificate that shows each answer whole")
         .after_help(STATUSES)
         .version("0.1.0")
@@ -201,7 +210,7 @@ fn directories_in<'a>(alloc: Global, found: &ArgMatches<'a>) -> Result<Vec<&'a s
     }
 }
 
-/// What a found subcommand asks for; none where words stand after the selector.
+/// What a found subcommand asks for; none where there is none.
 fn line_in<'a>(alloc: Global, found: &ArgMatches<'a>) -> Result<Option<Line<'a>>, AllocError>
     ensures { IfOk result (λ line. IsFoundLine (subcommand_rows_of found.now) line) }
 {
@@ -214,10 +223,8 @@ fn line_in<'a>(alloc: Global, found: &ArgMatches<'a>) -> Result<Option<Line<'a>>
     let Some(arguments) = found.subcommand_matches("select") else {
         return Ok(None);
     };
-    if arguments.get_strs("directories").is_some() {
-        return Ok(None);
-    }
-    Ok(Some(Line::Select(selection_in(arguments))))
+    let directories = directories_in(alloc, arguments)?;
+    Ok(Some(Line::Select(selection_in(arguments), directories)))
 }
 
 fn matches_in<'a>(alloc: Global, words: &'a [String]) -> Result<ArgMatches<'a>, Error>
@@ -227,12 +234,11 @@ fn matches_in<'a>(alloc: Global, words: &'a [String]) -> Result<ArgMatches<'a>, 
     querier(alloc)?.try_get_matches_from(words)
 }
 
-/// The fault of words that stand after the selector.
-fn directories_fault(alloc: Global) -> Result<Error, AllocError>
-    ensures { IfOk result (λ e. kind_of e ≡ ErrorKind.UnknownArgument) }
+/// The fault of words without a subcommand.
+fn no_subcommand(alloc: Global) -> Result<Error, AllocError>
+    ensures { IfOk result (λ e. kind_of e ≡ ErrorKind.MissingSubcommand) }
 {
-    let told = "directories are not read yet: nothing may follow the selector";
-    querier(alloc)?.error(ErrorKind::UnknownArgument, told)
+    querier(alloc)?.error(ErrorKind::MissingSubcommand, "a subcommand is missing")
 }
 
 /// What the words after the program's name ask for, or what to print in place of it: help, the version, or a fault of
@@ -240,11 +246,11 @@ fn directories_fault(alloc: Global) -> Result<Error, AllocError>
 pub fn read_line<'a>(alloc: Global, words: &'a [String]) -> Result<Line<'a>, Error>
     ensures ok { IfOk result (λ line. IsLineOf (texts_of words.entry.now) line) }
     ensures err { IfErr result (λ e. IsTaken (texts_of words.entry.now) → kind_of e ≡ ErrorKind.OutOfMemory) }
-    ensures refused { IfErr result (λ e. takes querier_app (texts_of words.entry.now) ≡ true → (kind_of e ≡ ErrorKind.OutOfMemory) ⊎ (kind_of e ≡ ErrorKind.UnknownArgument)) }
+    ensures refused { IfErr result (λ e. takes querier_app (texts_of words.entry.now) ≡ true → (kind_of e ≡ ErrorKind.OutOfMemory) ⊎ (kind_of e ≡ ErrorKind.MissingSubcommand)) }
 {
     let found = matches_in(alloc, words)?;
     match line_in(alloc, &found)? {
         Some(line) => Ok(line),
-        None => Err(directories_fault(alloc)?),
+        None => Err(no_subcommand(alloc)?),
     }
 }

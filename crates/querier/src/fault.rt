@@ -4,6 +4,7 @@ ghost use Rattle.std.specs.Prelude.{◌≡◌, IfSome, OnOk};
 ghost use Rattle.std.specs.Io.KnownBytes.{Appends};
 ghost use Rattle.querier.specs.Faults.{refusal_code, refusal_place, status_of, line_of};
 
+use block::BlockError;
 use head::CommitError;
 use labels::LabelError;
 use matchers::{MatcherError, QueryError, SelectorError};
@@ -24,6 +25,10 @@ pub enum Refusal {
     Query(QueryError),
     /// An event: `E1` to `E7`.
     Commit(CommitError),
+    /// The files of a block: `B1`, `B2`, `I1` to `I15`, `C1` to `C8`, `T1` to `T5`.
+    Block(BlockError),
+    /// `O3`: more blocks than a store has, which is 63.
+    TooManyBlocks,
 }
 
 impl Refusal {
@@ -37,6 +42,8 @@ impl Refusal {
             Refusal::Selector(error) => error.code(),
             Refusal::Query(error) => error.code(),
             Refusal::Commit(error) => error.code(),
+            Refusal::Block(error) => error.code(),
+            Refusal::TooManyBlocks => "O3",
         }
     }
 
@@ -209,6 +216,20 @@ impl From<CommitError> for Fault {
         match error {
             CommitError::Memory => Fault::Memory,
             refusal => Fault::Refused(Refusal::Commit(refusal)),
+        }
+    }
+}
+
+impl From<BlockError> for Fault {
+    ghost use Rattle.std.specs.Prelude.{◌≡◌};
+    ghost use Rattle.querier.specs.Faults.{block_fault};
+
+    ghost from_gives = { λ error fault. fault ≡ block_fault error };
+
+    fn from(error: BlockError) -> Fault {
+        match error {
+            BlockError::Memory => Fault::Memory,
+            refusal => Fault::Refused(Refusal::Block(refusal)),
         }
     }
 }

@@ -1,6 +1,6 @@
 //! What the files of a directory are judged to be.
 
-ghost use Rattle.std.specs.Prelude.{◌≡◌, IfOk, Ok};
+ghost use Rattle.std.specs.Prelude.{◌≡◌, ℤ, IfOk, Ok};
 ghost use Rattle.labels.specs.Parts.{Part};
 ghost use Rattle.block.specs.Metas.{or_meta, range_said};
 ghost use Rattle.block.specs.Outcome.{Gives};
@@ -48,10 +48,10 @@ impl fmt::Display for Judgement {
 }
 
 /// The block that files are, or the first check that fails: that of the meta, and then those of the other files.
-fn open(alloc: Global, files: BlockFiles) -> Result<Block, BlockError>
+pub fn open(alloc: Global, files: BlockFiles) -> Result<Block, BlockError>
     ensures exact { Gives (λ b. b) result (block_in (or_meta (range_said files.meta.items)) files) }
-    ensures found { IfOk result (λ b. IsSpelledAs files b.part) }
-    ensures only { (part : Part) → IsSpelledAs files part → Gives (λ b. b.part) result (Ok part) }
+    ensures found { IfOk result (λ b. IsSpelledAs files b.range b.part) }
+    ensures only { (range : ℤ × ℤ) (part : Part) → IsSpelledAs files range part → Gives (λ b. b.part) result (Ok part) }
 {
     let BlockFiles {
         meta,

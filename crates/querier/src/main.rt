@@ -2,10 +2,11 @@
 //!
 //! `querier demo` commits two batches to an empty store and prints the answer to `up{job="a"}` from 0 to 100 as one
 //! line of JSON: of each part its rows and the certificate that shows them to be all, and the rows of all parts.
-//! `querier select` asks any selector the same of an empty store. What is written is the text of an audited answer,
-//! byte for byte, and a line feed (`write_answer`, `demo`, `select`). `querier check` verifies blocks completely and
-//! prints a line for each: `files` says what is read of a directory, `judgement` what that is judged to be, and
-//! `report` which lines are written. What is refused, and with which status a line ends, is said by `fault` and `run`.
+//! `querier select` asks any selector the same of the blocks in directories, which `opening` opens. What is written is
+//! the text of an audited answer, byte for byte, and a line feed (`write_answer`, `demo`, `select`). `querier check`
+//! verifies blocks completely and prints a line for each: `files` says what is read of a directory, `judgement` what
+//! that is judged to be, and `report` which lines are written. What is refused, and with which status a line ends, is
+//! said by `fault` and `run`.
 //! It stands on `query_http` for answers and their text, on `block` for what a block is, and on `labels`, `matchers`
 //! and `head`. Certificates are the partition certificates of Barbay and Kenyon, SODA 2002.
 #![tactic(auto)]
@@ -15,6 +16,7 @@ mod demo;
 mod fault;
 mod files;
 mod judgement;
+mod opening;
 mod report;
 mod run;
 mod select;

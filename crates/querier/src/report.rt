@@ -1,9 +1,9 @@
 //! The lines of `check`.
 
-ghost use Rattle.std.specs.Prelude.{◌≡◌, if◌then◌else◌, map, string_bytes, IfOk, IfErr};
+ghost use Rattle.std.specs.Prelude.{◌≡◌, if◌then◌else◌, string_bytes, IfOk, IfErr};
 ghost use Rattle.std.specs.Io.KnownBytes.{Appends};
 ghost use Rattle.querier.specs.Checking.{judgement_line, IsJudgedAt, IsChecked, IsCheckFault};
-ghost use Rattle.querier.specs.Reading.{IsReadingFault, IsDirectoryFault};
+ghost use Rattle.querier.specs.Reading.{IsReadingFault, IsDirectoryFault, paths_of};
 ghost use Rattle.querier.specs.Selecting.{KeepsAt};
 
 use crate::fault::Fault;
@@ -85,8 +85,8 @@ pub fn check<F: ReadFiles, W: Write>(
     directories: &[&str],
     out: &mut W,
 ) -> Result<Outcome, Fault>
-    ensures ok { IfOk result (λ outcome. IsChecked (F.may_read files.now) (map (λ d. d.now) directories.now) (W.contents out.old) (W.contents out.new) outcome) }
-    ensures err { IfErr result (λ fault. IsCheckFault (F.may_read files.now) (map (λ d. d.now) directories.now) (W.contents out.old) (W.contents out.new) fault) }
+    ensures ok { IfOk result (λ outcome. IsChecked (F.may_read files.now) (paths_of directories.now) (W.contents out.old) (W.contents out.new) outcome) }
+    ensures err { IfErr result (λ fault. IsCheckFault (F.may_read files.now) (paths_of directories.now) (W.contents out.old) (W.contents out.new) fault) }
 {
     let mut outcome = Outcome::Done;
     for directory in directories {

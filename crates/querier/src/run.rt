@@ -78,7 +78,9 @@ fn answer_line<F: ReadFiles, W: Write>(
 {
     match line {
         Line::Demo => demo(alloc, out)?,
-        Line::Select(selection) => select(alloc, selection, out)?,
+        Line::Select(selection, directories) => {
+            select(alloc, files, selection, directories.as_slice(), out)?;
+        }
         Line::Check(directories) => return check(alloc, files, directories.as_slice(), out),
     }
     Ok(Outcome::Done)

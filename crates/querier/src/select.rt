@@ -1,39 +1,42 @@
-//! The answer to a selection over an empty store.
+//! The answer to a selection over the blocks in directories.
 
-ghost use Rattle.std.specs.Prelude.{◌≡◌, [], IfOk, IfErr, OnOk};
-ghost use Rattle.head.specs.Blocks.{opening_of};
-ghost use Rattle.querier.specs.Selecting.{IsQueryOf, IsSelectionFault, KeepsAt, WritesSelection};
+ghost use Rattle.std.specs.Prelude.{IfOk, IfErr, OnOk};
+ghost use Rattle.querier.specs.Reading.{paths_of};
+ghost use Rattle.querier.specs.Selecting.{IsQueryOf, IsSelectionFault, IsSelectFault, KeepsAt, WritesSelection};
 
 use crate::command::Selection;
 use crate::fault::Fault;
+use crate::files::ReadFiles;
+use crate::opening::open_store;
 use crate::run::write_answer;
-use head::Snapshot;
 use matchers::{Query, Selector};
-use std::alloc::{AllocError, Global};
+use std::alloc::Global;
 use std::io::Write;
-
-fn empty_store(alloc: Global) -> Result<Snapshot, AllocError>
-    ensures { IfOk result (λ s. s ≡ opening_of []) }
-{
-    Snapshot::opening(alloc, Vec::new(alloc))
-}
 
 /// The query of a selection: the selector is checked, and then the range.
 fn query_of(alloc: Global, selection: Selection<'_>) -> Result<Query, Fault>
-    ensures ok { IfOk result (λ q. IsQueryOf selection.entry.selector.now selection.entry.from selection.entry.to q) }
-    ensures err { IfErr result (λ fault. IsSelectionFault selection.entry.selector.now selection.entry.from selection.entry.to fault) }
+    ensures ok { IfOk result (λ q. IsQueryOf selection.entry q) }
+    ensures err { IfErr result (λ fault. IsSelectionFault selection.entry fault) }
 {
     let matchers = Selector::parse(alloc, selection.selector)?;
     Ok(Query::new(matchers, selection.from, selection.to)?)
 }
 
-/// Writes the audited answer to a selection over an empty store as one line, and nothing else.
-pub fn select<W: Write>(alloc: Global, selection: Selection<'_>, out: &mut W) -> Result<(), Fault>
-    ensures ok { OnOk result (WritesSelection selection.entry.selector.now selection.entry.from selection.entry.to (opening_of []) (W.contents out.old) (W.contents out.new)) }
-    ensures err { IfErr result (λ fault. IsSelectionFault selection.entry.selector.now selection.entry.from selection.entry.to fault) }
+/// Writes the audited answer to a selection over the blocks in these directories as one line, and nothing else.
+///
+/// The selector is checked, then the range, then each directory in the order given, and then their number.
+pub fn select<F: ReadFiles, W: Write>(
+    alloc: Global,
+    files: &F,
+    selection: Selection<'_>,
+    directories: &[&str],
+    out: &mut W,
+) -> Result<(), Fault>
+    ensures ok { OnOk result (WritesSelection (F.may_read files.now) (paths_of directories.now) selection.entry (W.contents out.old) (W.contents out.new)) }
+    ensures err { IfErr result (λ fault. IsSelectFault (F.may_read files.now) (paths_of directories.now) selection.entry fault) }
     ensures kept { IfErr result (λ fault. KeepsAt fault (W.contents out.old) (W.contents out.new)) }
 {
     let query = query_of(alloc, selection)?;
-    let snapshot = empty_store(alloc)?;
+    let snapshot = open_store(alloc, files, directories)?;
     write_answer(alloc, &snapshot, &query, out)
 }

@@ -1,8 +1,9 @@
 //! Files of the host.
 
-use super::blocks::{JOB_A, META, NOTHING_DELETED, checked_in, chunks, index_with};
+use super::directories::{CHUNKS, INDEX, META, NOTHING_DELETED, Pieces, joined};
+use super::rows::{Told, told_by};
 use crate::files::ReadFiles;
-use std::alloc::Global;
+use std::alloc::AllocError;
 use std::test::Fail;
 use std::{env, fs, io};
 
@@ -19,8 +20,48 @@ fn new_folder(rt: &HostRuntime) -> io::Result<String> {
     Err(io::Error::from(io::ErrorKind::AlreadyExists))
 }
 
-fn path_in(alloc: Global, folder: &str, name: &str) -> io::Result<String> {
-    Ok(format!(in alloc; "{folder}/{name}")?)
+/// The files of a block, by where they stand in its directory.
+const FILES: [(&str, Pieces); 4] = [
+    ("meta.json", META),
+    ("index", INDEX),
+    ("chunks/000001", CHUNKS),
+    ("tombstones", NOTHING_DELETED),
+];
+
+fn write_file(rt: &HostRuntime, folder: &str, name: &str, pieces: Pieces) -> io::Result<()> {
+    let alloc = rt.alloc();
+    let path = format!(in alloc; "{folder}/{name}")?;
+    let bytes = joined(alloc, pieces, 1000)?;
+    fs::write(rt, path.as_str(), bytes.as_slice())
+}
+
+fn remove(rt: &HostRuntime, folder: &str, name: &str) -> io::Result<()> {
+    let path = format!(in rt.alloc(); "{folder}/{name}")?;
+    fs::remove_file(rt, path.as_str())
+}
+
+fn write_files(rt: &HostRuntime, folder: &str) -> io::Result<()> {
+    let chunks = format!(in rt.alloc(); "{folder}/chunks")?;
+    fs::create_dir(rt, chunks.as_str())?;
+    for (name, pieces) in FILES {
+        write_file(rt, folder, name, pieces)?;
+    }
+    Ok(())
+}
+
+/// Removes what stands in the folder, but for the tombstones, and the folder.
+fn remove_rest(rt: &HostRuntime, folder: &str) -> io::Result<()> {
+    for name in ["meta.json", "index", "chunks/000001"] {
+        remove(rt, folder, name)?;
+    }
+    let chunks = format!(in rt.alloc(); "{folder}/chunks")?;
+    fs::remove_dir(rt, chunks.as_str())?;
+    fs::remove_dir(rt, folder)
+}
+
+/// What `check` of the folder gives.
+fn checked_in(rt: &HostRuntime, folder: &str) -> Result<Told, AllocError> {
+    told_by(rt.alloc(), rt, &["check", folder])
 }
 
 #[test]
@@ -28,38 +69,21 @@ fn files_of_the_host_are_read(rt: HostRuntime) -> Result<(), Fail> {
     let alloc = rt.alloc();
     let folder = new_folder(&rt)?;
     let folder = folder.as_str();
-    let under = path_in(alloc, folder, "chunks")?;
-    let meta = path_in(alloc, folder, "meta.json")?;
-    let index = path_in(alloc, folder, "index")?;
-    let segment = path_in(alloc, folder, "chunks/000001")?;
-    let tombstones = path_in(alloc, folder, "tombstones")?;
-    fs::create_dir(&rt, under.as_str())?;
-    fs::write(&rt, meta.as_str(), META)?;
-    fs::write(&rt, index.as_str(), index_with(alloc, JOB_A)?.as_slice())?;
-    fs::write(&rt, segment.as_str(), chunks(alloc)?.as_slice())?;
-    fs::write(&rt, tombstones.as_str(), NOTHING_DELETED)?;
-
-    let (status, out, err) = checked_in(alloc, &rt, &[folder])?;
+    write_files(&rt, folder)?;
+    let whole = checked_in(&rt, folder)?;
     let line = format!(in alloc; "{folder}: ok 6 series 6 samples\n")?;
-    assert_eq!(rt; out.as_slice(), line.as_bytes());
-    assert!(rt; err.is_empty());
-    assert_eq!(rt; status, 0);
-    for most in [0, 5, 9, 10] {
-        let read = rt.read_file(alloc, tombstones.as_str(), most);
-        assert_eq!(rt; read?.as_slice(), &NOTHING_DELETED[..most.min(9)]);
+    assert_eq!(rt; whole.out.as_slice(), line.as_bytes());
+    let tombstones = format!(in alloc; "{folder}/tombstones")?;
+    for (most, length) in [(0, 0), (5, 5), (9, 9), (10, 9)] {
+        let read = rt.read_file(alloc, tombstones.as_str(), most)?;
+        assert_eq!(rt; read.len(), length);
     }
 
     fs::remove_file(&rt, tombstones.as_str())?;
-    let (status, out, err) = checked_in(alloc, &rt, &[folder])?;
+    let torn = checked_in(&rt, folder)?;
     let told = format!(in alloc; "cannot read {folder}/tombstones\n")?;
-    assert!(rt; out.is_empty());
-    assert_eq!(rt; err.as_slice(), told.as_bytes());
-    assert_eq!(rt; status, 3);
-
-    for file in [meta, index, segment] {
-        fs::remove_file(&rt, file.as_str())?;
-    }
-    fs::remove_dir(&rt, under.as_str())?;
-    fs::remove_dir(&rt, folder)?;
+    assert_eq!(rt; torn.err.as_slice(), told.as_bytes());
+    assert_eq!(rt; torn.ending.status, 3);
+    remove_rest(&rt, folder)?;
     Ok(())
 }

@@ -1,7 +1,8 @@
-use Rattle.std.proofs.Common.{map, take}
+use Rattle.std.proofs.Common.{take}
 use Rattle.querier.specs.Checking.{IsChecked}
+use Rattle.querier.specs.Reading.{paths_of}
 use Rattle.querier.proofs.report.check.Given as goal
 
 abbrev pub invariant-loop-directory : goal.invariant-loop-directory
 invariant-loop-directory g l =
-    IsChecked (g.F.ReadFiles.may_read l.fn.files) (take l.directory-index (map (λ d. d.now) l.directories)) (g.W.Write.contents l.fn.out) (g.W.Write.contents l.out) l.outcome
+    IsChecked (g.F.ReadFiles.may_read l.fn.files) (take l.directory-index (paths_of l.directories)) (g.W.Write.contents l.fn.out) (g.W.Write.contents l.out) l.outcome

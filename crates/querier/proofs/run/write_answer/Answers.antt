@@ -5,7 +5,7 @@ use Rattle.querier.proofs.run.write_answer.Goals as goal
 pub returns-clause-ok : goal.returns-clause-ok
 returns-clause-ok g c = record {
   answer = c.in_ok-answer.answer;
-  audited = record { names = c.in_ok-answer.ensures.names; each = c.in_ok-answer.ensures.each; rows = c.in_ok-answer.ensures.rows };
+  audited = record { each = c.in_ok-answer.ensures.each; rows = c.in_ok-answer.ensures.rows };
   written = subst (λ (bytes : List ℕ). Appends (g.W.Write.contents c.args.out.now) (g.W.Write.contents c.send.new.out) bytes)
       (c.as_slice.ensures.value ∙ c.in_ok-line.ensures) c.in_ok-send.ensures;
 }

@@ -1,0 +1,16 @@
+use Rattle.std.proofs.lemmas.Result.{err_from_is_err_and}
+use Rattle.querier.proofs.Openings.{unopened, refused_at}
+use Rattle.querier.proofs.opening.open_one.Goals as goal
+
+pub returns-in_err-block-clause-err : goal.returns-in_err-block-clause-err
+returns-in_err-block-clause-err g c =
+    let p = err_from_is_err_and c.from_residual.result c.from_residual.ensures.1 in
+    rw (p.1, p.2) (unopened _ _ _ c.in_err-block.ensures.err)
+
+pub returns-in_err-open-clause-err : goal.returns-in_err-open-clause-err
+returns-in_err-open-clause-err g c =
+    let p = err_from_is_err_and c.from_residual-in_err-open.result c.from_residual-in_err-open.ensures.1 in
+    rw (p.1, p.2) (refused_at _ _ c.in_ok-block.block c.in_ok-block.ensures.ok _ c.in_err-open.ensures.exact c.in_err-open.ensures.only)
+
+pub returns-clause-ok : goal.returns-clause-ok
+returns-clause-ok g c = record { files = c.in_ok-block.block; read = c.in_ok-block.ensures.ok; spelled = c.in_ok-open.ensures.found }

@@ -1,0 +1,61 @@
+//! The store of the blocks in directories.
+
+ghost use Rattle.std.specs.Prelude.{map, IfOk, IfErr};
+ghost use Rattle.head.specs.Blocks.{part_in};
+ghost use Rattle.querier.specs.Reading.{paths_of};
+ghost use Rattle.querier.specs.Opening.{IsBlockAt, AreBlocksAt, IsBlockFault, IsOpeningOf, IsOpeningFault};
+
+use crate::fault::{Fault, Refusal};
+use crate::files::{ReadFiles, read_block};
+use crate::judgement::open;
+use block::Block;
+use head::Snapshot;
+use std::alloc::Global;
+
+/// The most blocks of a store.
+const MAX_BLOCKS: usize = 63;
+
+/// Reads the files in a directory and makes every check of a block.
+fn open_one<F: ReadFiles>(alloc: Global, files: &F, directory: &str) -> Result<Block, Fault>
+    ensures ok { IfOk result (λ b. IsBlockAt (F.may_read files.now) directory.now (part_in b)) }
+    ensures err { IfErr result (λ fault. IsBlockFault (F.may_read files.now) directory.now fault) }
+{
+    let block = read_block(alloc, files, directory)?;
+    Ok(open(alloc, block)?)
+}
+
+/// The blocks in these directories, in their order, up to the first that is at fault.
+fn open_all<F: ReadFiles>(
+    alloc: Global,
+    files: &F,
+    directories: &[&str],
+) -> Result<Vec<Block>, Fault>
+    ensures ok { IfOk result (λ blocks. AreBlocksAt (F.may_read files.now) (paths_of directories.now) (map part_in blocks.items)) }
+    ensures err { IfErr result (λ fault. IsOpeningFault (F.may_read files.now) (paths_of directories.now) fault) }
+{
+    let mut blocks = Vec::new(alloc);
+    for directory in directories {
+        let block = open_one(alloc, files, directory)?;
+        blocks.push(block)?;
+    }
+    Ok(blocks)
+}
+
+/// The snapshot of the blocks in these directories, in their order, and of an empty head.
+///
+/// Each directory is read and verified completely, one after another; `O3` comes after the last of them, where there
+/// are more than 63.
+pub fn open_store<F: ReadFiles>(
+    alloc: Global,
+    files: &F,
+    directories: &[&str],
+) -> Result<Snapshot, Fault>
+    ensures ok { IfOk result (λ s. IsOpeningOf (F.may_read files.now) (paths_of directories.now) s) }
+    ensures err { IfErr result (λ fault. IsOpeningFault (F.may_read files.now) (paths_of directories.now) fault) }
+{
+    let blocks = open_all(alloc, files, directories)?;
+    if blocks.len() > MAX_BLOCKS {
+        return Err(Fault::Refused(Refusal::TooManyBlocks));
+    }
+    Ok(Snapshot::opening(alloc, blocks)?)
+}
