@@ -1,0 +1,5 @@
+pub mod Auditing
+pub mod Looking
+pub mod Listing
+pub mod Errors
+pub mod Parted
