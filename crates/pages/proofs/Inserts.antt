@@ -100,6 +100,11 @@ page_of shown pages spot h s =
     let among : spot.page < length (map shown pages) = s.page_in h.0 in
     omega (arith, length-map pages shown)
 
+-- the length of a page that was read
+pub page_len : {E X : Type 0} (item : E → X) (page : Page E) (v : Vec E Global) (n : ℕ) → v ≡ arc_value page → n ≡ vec_len v → n ≡ length (leaf_list item page)
+page_len item page v n e f =
+    subst (λ (u : Vec _ Global). n ≡ length (map item u.items)) e (omega (arith, f, length-map v.items item, v.ok.0))
+
 -- how many pages there are
 pub some_set : {P X : Type 0} (shown : P → X) (pages : List P) (k : ℕ) (new : P) → 0 < length (map shown pages) → 0 < length (map shown (set pages k new))
 some_set shown pages k new h = omega (arith, length-map (set pages k new) shown, length-set pages k new, length-map pages shown)

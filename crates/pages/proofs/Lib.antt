@@ -8,3 +8,5 @@ pub mod Searched
 pub mod Groups
 pub mod Inserts
 pub mod GroupWrites
+pub mod Walks
+pub mod Ascent

@@ -33,9 +33,12 @@ module _ {E X : Type 0} (item : E → X) where
   abbrev pub leaf_list : Page E → List X
   leaf_list leaf = map item (arc_value leaf).items
 
+  abbrev pub leaf_lists : List (Page E) → List (List X)
+  leaf_lists leaves = map leaf_list leaves
+
   -- the lists of the leaves of a branch
   abbrev pub branch_parts : Page (Page E) → List (List X)
-  branch_parts branch = map leaf_list (arc_value branch).items
+  branch_parts branch = leaf_lists (arc_value branch).items
 
   abbrev pub branch_list : Page (Page E) → List X
   branch_list branch = joined (branch_parts branch)

@@ -1,6 +1,8 @@
 -- A list in pages, and pages in groups, with an order that a search knows.
-use Rattle.std.specs.Prelude.{◌≡◌, ◌≢◌, ℕ, ◌+◌, ◌<◌, ◌≤◌, Bool, true, List, [], ◌∷◌, length, map, take, slice_index_or, All}
-use Rattle.std.specs.Ordering.{is_le}
+use Rattle.std.specs.Prelude.{◌≡◌, ◌≢◌, ℕ, ◌+◌, ◌<◌, ◌≤◌, Bool, true, List, [], ◌∷◌, length, map, take, slice_index_or, slice_set, All}
+use Rattle.std.specs.List.{insert}
+use Rattle.std.specs.List.Sorted.{IsNonDecreasingBy}
+use Rattle.std.specs.Ordering.{is_le, ordering_index}
 use Rattle.std.specs.declared.cmp.Ordering.{Ordering}
 use Rattle.std.specs.declared.cmp.Ordering.TheVariants.{Less, Equal, Greater}
 use Rattle.pages.specs.declared.probe.Spot.{Spot}
@@ -36,7 +38,21 @@ module _ {X : Type 0} where
 
   -- the place of a spot among all entries
   abbrev pub place_of : List (List (List X)) → Spot → ℕ
-  place_of groups spot = start_of (map joined groups) spot.group + place_in (slice_index_or groups spot.group []) spot
+  place_of groups spot =
+      start_of (map joined groups) spot.group + place_in (slice_index_or groups spot.group []) spot
+
+  -- an entry more, or another one, at a spot of a group, and at a spot of all groups
+  abbrev pub put_in : List (List X) → Spot → X → List X
+  put_in pages spot x = insert (joined pages) (place_in pages spot) x
+
+  abbrev pub set_in : List (List X) → Spot → X → List X
+  set_in pages spot x = slice_set (joined pages) (place_in pages spot) x
+
+  abbrev pub put_at : List (List (List X)) → Spot → X → List X
+  put_at groups spot x = insert (entries_of groups) (place_of groups spot) x
+
+  abbrev pub set_at : List (List (List X)) → Spot → X → List X
+  set_at groups spot x = slice_set (entries_of groups) (place_of groups spot) x
 
   -- a spot in a page of the group
   pub record IsSpotIn (pages : List (List X)) (spot : Spot) : Type 0 where
@@ -58,8 +74,14 @@ module _ {X : Type 0} where
   module _ (order : X → Ordering) where
     -- at most one item is `Equal`; those before it are `Less`, and those after it `Greater`
     pub record IsSplit (xs : List X) : Type 0 where
-      pub below : (i j : ℕ) (d : X) → i < j → j < length xs → order (slice_index_or xs j d) ≢ Greater → order (slice_index_or xs i d) ≡ Less
-      pub above : (i j : ℕ) (d : X) → i < j → j < length xs → order (slice_index_or xs i d) ≢ Less → order (slice_index_or xs j d) ≡ Greater
+      pub below : (i j : ℕ) (d : X) → i < j → j < length xs
+          → order (slice_index_or xs j d) ≢ Greater → order (slice_index_or xs i d) ≡ Less
+      pub above : (i j : ℕ) (d : X) → i < j → j < length xs
+          → order (slice_index_or xs i d) ≢ Less → order (slice_index_or xs j d) ≡ Greater
+
+    -- first the items that are `Less`, then the `Equal` ones, then the `Greater` ones
+    abbrev pub IsRising : List X → Type 0
+    IsRising xs = IsNonDecreasingBy (λ y. ordering_index (order y)) xs
 
     -- the item at this place is `Equal`
     pub record IsHit (xs : List X) (at : ℕ) : Type 0 where

@@ -2,8 +2,8 @@
 
 ghost use Rattle.std.specs.Prelude.{◌≡◌, ℕ, ◌+◌, ◌<◌, ◌≤◌, [], ◌++◌, length, map, slice_index_or, slice_set, IfOk, OnOk, OnErr};
 ghost use Rattle.std.specs.List.{insert};
-ghost use Rattle.pages.specs.Pages.{leaf_list, branch_parts, groups_of, top_groups, joined};
-ghost use Rattle.pages.specs.Sorted.{start_of, place_in, place_of, IsSpotIn, IsSpot, HasEntryIn, HasEntry, IsKept, AreKept, IsGroup, AreGroups, entries_of};
+ghost use Rattle.pages.specs.Pages.{leaf_list, leaf_lists, branch_parts, groups_of, top_groups, joined};
+ghost use Rattle.pages.specs.Sorted.{start_of, place_in, place_of, put_in, set_in, put_at, set_at, IsSpotIn, IsSpot, HasEntryIn, HasEntry, IsKept, AreKept, IsGroup, AreGroups, entries_of};
 
 use crate::page::{Branch, FAN, FULL, Leaf, Top, branch_of, set_in_leaf};
 use crate::{Entry, Spot};
@@ -11,12 +11,13 @@ use std::alloc::{AllocError, Global};
 use std::sync::Arc;
 
 fn set_in_pages<E: Entry>(pages: &mut Vec<Leaf<E>>, spot: Spot, x: E) -> Result<(), AllocError>
-    requires group { IsGroup (map (leaf_list E.item) pages.old.items) }
-    requires entry { HasEntryIn (map (leaf_list E.item) pages.old.items) spot }
-    ensures ok { OnOk result (joined (map (leaf_list E.item) pages.new.items)
-        ≡ slice_set (joined (map (leaf_list E.item) pages.old.items)) (place_in (map (leaf_list E.item) pages.old.items) spot) (E.item x)) }
-    ensures err { OnErr result (map (leaf_list E.item) pages.new.items ≡ map (leaf_list E.item) pages.old.items) }
-    ensures group { IsGroup (map (leaf_list E.item) pages.new.items) }
+    requires group { IsGroup (leaf_lists E.item pages.old.items) }
+    requires entry { HasEntryIn (leaf_lists E.item pages.old.items) spot }
+    ensures ok { OnOk result (joined (leaf_lists E.item pages.new.items)
+        ≡ set_in (leaf_lists E.item pages.old.items) spot (E.item x)) }
+    ensures err { OnErr result (leaf_lists E.item pages.new.items
+        ≡ leaf_lists E.item pages.old.items) }
+    ensures group { IsGroup (leaf_lists E.item pages.new.items) }
 {
     set_in_leaf(&mut pages[spot.page], spot.at, x)
 }
@@ -25,7 +26,7 @@ fn set_in_group<E: Entry>(group: &mut Branch<E>, spot: Spot, x: E) -> Result<(),
     requires group { IsGroup (branch_parts E.item group.old) }
     requires entry { HasEntryIn (branch_parts E.item group.old) spot }
     ensures ok { OnOk result (joined (branch_parts E.item group.new)
-        ≡ slice_set (joined (branch_parts E.item group.old)) (place_in (branch_parts E.item group.old) spot) (E.item x)) }
+        ≡ set_in (branch_parts E.item group.old) spot (E.item x)) }
     ensures err { OnErr result (branch_parts E.item group.new ≡ branch_parts E.item group.old) }
     ensures group { IsGroup (branch_parts E.item group.new) }
 {
@@ -37,19 +38,20 @@ fn set_in_groups<E: Entry>(groups: &mut Vec<Branch<E>>, spot: Spot, x: E) -> Res
     requires groups { AreGroups (groups_of E.item groups.old.items) }
     requires entry { HasEntry (groups_of E.item groups.old.items) spot }
     ensures ok { OnOk result (entries_of (groups_of E.item groups.new.items)
-        ≡ slice_set (entries_of (groups_of E.item groups.old.items)) (place_of (groups_of E.item groups.old.items) spot) (E.item x)) }
-    ensures err { OnErr result (groups_of E.item groups.new.items ≡ groups_of E.item groups.old.items) }
+        ≡ set_at (groups_of E.item groups.old.items) spot (E.item x)) }
+    ensures err { OnErr result (groups_of E.item groups.new.items
+        ≡ groups_of E.item groups.old.items) }
     ensures groups { AreGroups (groups_of E.item groups.new.items) }
 {
     set_in_group(&mut groups[spot.group], spot, x)
 }
 
 /// Replaces the entry at a spot.
-pub(crate) fn set_at<E: Entry>(top: &mut Top<E>, spot: Spot, x: E) -> Result<(), AllocError>
+pub(crate) fn replace_at<E: Entry>(top: &mut Top<E>, spot: Spot, x: E) -> Result<(), AllocError>
     requires groups { AreGroups (top_groups E.item top.old) }
     requires entry { HasEntry (top_groups E.item top.old) spot }
     ensures ok { OnOk result (entries_of (top_groups E.item top.new)
-        ≡ slice_set (entries_of (top_groups E.item top.old)) (place_of (top_groups E.item top.old) spot) (E.item x)) }
+        ≡ set_at (top_groups E.item top.old) spot (E.item x)) }
     ensures err { OnErr result (top_groups E.item top.new ≡ top_groups E.item top.old) }
     ensures groups { AreGroups (top_groups E.item top.new) }
 {
@@ -60,7 +62,8 @@ pub(crate) fn set_at<E: Entry>(top: &mut Top<E>, spot: Spot, x: E) -> Result<(),
 /// A page with one more entry.
 fn with_entry<E: Entry>(page: &Vec<E>, at: usize, x: E) -> Result<Vec<E>, AllocError>
     requires { at ≤ length page.now.items }
-    ensures { IfOk result (λ long. map E.item long.items ≡ insert (map E.item page.now.items) at (E.item x)) }
+    ensures { IfOk result (λ long. map E.item long.items
+        ≡ insert (map E.item page.now.items) at (E.item x)) }
 {
     let mut long = page.clone()?;
     long.insert(at, x)?;
@@ -73,7 +76,8 @@ fn halves_with<E: Entry>(page: &Vec<E>, at: usize, x: E) -> Result<(Vec<E>, Vec<
     requires full { length page.now.items ≡ FULL }
     ensures whole { IfOk result (λ p. map E.item p.0.items ++ map E.item p.1.items
         ≡ insert (map E.item page.now.items) at (E.item x)) }
-    ensures kept { IfOk result (λ p. IsKept (map E.item p.0.items) × IsKept (map E.item p.1.items)) }
+    ensures kept { IfOk result (λ p.
+        IsKept (map E.item p.0.items) × IsKept (map E.item p.1.items)) }
 {
     let mut left = with_entry(page, at, x)?;
     let right = left.split_off(FULL / 2)?;
@@ -82,7 +86,8 @@ fn halves_with<E: Entry>(page: &Vec<E>, at: usize, x: E) -> Result<(Vec<E>, Vec<
 
 fn insert_in_page<E: Entry>(page: &mut Leaf<E>, at: usize, x: E) -> Result<(), AllocError>
     requires { at ≤ length (leaf_list E.item page.old) }
-    ensures ok { OnOk result (leaf_list E.item page.new ≡ insert (leaf_list E.item page.old) at (E.item x)) }
+    ensures ok { OnOk result (leaf_list E.item page.new
+        ≡ insert (leaf_list E.item page.old) at (E.item x)) }
     ensures err { OnErr result (leaf_list E.item page.new ≡ leaf_list E.item page.old) }
 {
     let own = Arc::make_mut(page)?;
@@ -98,14 +103,16 @@ fn insert_in_full_page<E: Entry>(
     at: usize,
     x: E,
 ) -> Result<(), AllocError>
-    requires group { IsGroup (map (leaf_list E.item) pages.old.items) }
+    requires group { IsGroup (leaf_lists E.item pages.old.items) }
     requires within { page < length pages.old.items }
-    requires full { length (slice_index_or (map (leaf_list E.item) pages.old.items) page []) ≡ FULL }
+    requires full { length (slice_index_or (leaf_lists E.item pages.old.items) page []) ≡ FULL }
     requires inside { at ≤ FULL }
-    ensures ok { OnOk result (joined (map (leaf_list E.item) pages.new.items)
-        ≡ insert (joined (map (leaf_list E.item) pages.old.items)) (start_of (map (leaf_list E.item) pages.old.items) page + at) (E.item x)) }
-    ensures err { OnErr result (map (leaf_list E.item) pages.new.items ≡ map (leaf_list E.item) pages.old.items) }
-    ensures group { IsGroup (map (leaf_list E.item) pages.new.items) }
+    ensures ok { OnOk result (joined (leaf_lists E.item pages.new.items)
+        ≡ insert (joined (leaf_lists E.item pages.old.items))
+        (start_of (leaf_lists E.item pages.old.items) page + at) (E.item x)) }
+    ensures err { OnErr result (leaf_lists E.item pages.new.items
+        ≡ leaf_lists E.item pages.old.items) }
+    ensures group { IsGroup (leaf_lists E.item pages.new.items) }
     ensures longer { length pages.old.items ≤ length pages.new.items }
 {
     let full = &pages[page];
@@ -123,12 +130,13 @@ fn insert_in_pages<E: Entry>(
     spot: Spot,
     x: E,
 ) -> Result<(), AllocError>
-    requires group { IsGroup (map (leaf_list E.item) pages.old.items) }
-    requires spot { IsSpotIn (map (leaf_list E.item) pages.old.items) spot }
-    ensures ok { OnOk result (joined (map (leaf_list E.item) pages.new.items)
-        ≡ insert (joined (map (leaf_list E.item) pages.old.items)) (place_in (map (leaf_list E.item) pages.old.items) spot) (E.item x)) }
-    ensures err { OnErr result (map (leaf_list E.item) pages.new.items ≡ map (leaf_list E.item) pages.old.items) }
-    ensures group { IsGroup (map (leaf_list E.item) pages.new.items) }
+    requires group { IsGroup (leaf_lists E.item pages.old.items) }
+    requires spot { IsSpotIn (leaf_lists E.item pages.old.items) spot }
+    ensures ok { OnOk result (joined (leaf_lists E.item pages.new.items)
+        ≡ put_in (leaf_lists E.item pages.old.items) spot (E.item x)) }
+    ensures err { OnErr result (leaf_lists E.item pages.new.items
+        ≡ leaf_lists E.item pages.old.items) }
+    ensures group { IsGroup (leaf_lists E.item pages.new.items) }
     ensures longer { length pages.old.items ≤ length pages.new.items }
 {
     let page = spot.page;
@@ -147,7 +155,7 @@ fn insert_in_group<E: Entry>(
     requires group { IsGroup (branch_parts E.item group.old) }
     requires spot { IsSpotIn (branch_parts E.item group.old) spot }
     ensures ok { OnOk result (joined (branch_parts E.item group.new)
-        ≡ insert (joined (branch_parts E.item group.old)) (place_in (branch_parts E.item group.old) spot) (E.item x)) }
+        ≡ put_in (branch_parts E.item group.old) spot (E.item x)) }
     ensures err { OnErr result (branch_parts E.item group.new ≡ branch_parts E.item group.old) }
     ensures group { IsGroup (branch_parts E.item group.new) }
 {
@@ -162,12 +170,14 @@ fn group_halves_with<E: Entry>(
     spot: Spot,
     x: E,
 ) -> Result<(Vec<Leaf<E>>, Vec<Leaf<E>>), AllocError>
-    requires group { IsGroup (map (leaf_list E.item) group.now.items) }
-    requires spot { IsSpotIn (map (leaf_list E.item) group.now.items) spot }
+    requires group { IsGroup (leaf_lists E.item group.now.items) }
+    requires spot { IsSpotIn (leaf_lists E.item group.now.items) spot }
     requires full { FAN ≤ length group.now.items }
-    ensures whole { IfOk result (λ p. joined (map (leaf_list E.item) p.0.items) ++ joined (map (leaf_list E.item) p.1.items)
-        ≡ insert (joined (map (leaf_list E.item) group.now.items)) (place_in (map (leaf_list E.item) group.now.items) spot) (E.item x)) }
-    ensures groups { IfOk result (λ p. IsGroup (map (leaf_list E.item) p.0.items) × IsGroup (map (leaf_list E.item) p.1.items)) }
+    ensures whole { IfOk result (λ p.
+        joined (leaf_lists E.item p.0.items) ++ joined (leaf_lists E.item p.1.items)
+        ≡ put_in (leaf_lists E.item group.now.items) spot (E.item x)) }
+    ensures groups { IfOk result (λ p.
+        IsGroup (leaf_lists E.item p.0.items) × IsGroup (leaf_lists E.item p.1.items)) }
 {
     let mut left = group.clone()?;
     insert_in_pages(alloc, &mut left, spot, x)?;
@@ -184,11 +194,14 @@ fn insert_in_full_group<E: Entry>(
 ) -> Result<(), AllocError>
     requires groups { AreGroups (groups_of E.item groups.old.items) }
     requires within { spot.group < length groups.old.items }
-    requires spot { IsSpotIn (slice_index_or (groups_of E.item groups.old.items) spot.group []) spot }
-    requires full { FAN ≤ length (slice_index_or (groups_of E.item groups.old.items) spot.group []) }
+    requires spot { IsSpotIn
+        (slice_index_or (groups_of E.item groups.old.items) spot.group []) spot }
+    requires full { FAN
+        ≤ length (slice_index_or (groups_of E.item groups.old.items) spot.group []) }
     ensures ok { OnOk result (entries_of (groups_of E.item groups.new.items)
-        ≡ insert (entries_of (groups_of E.item groups.old.items)) (place_of (groups_of E.item groups.old.items) spot) (E.item x)) }
-    ensures err { OnErr result (groups_of E.item groups.new.items ≡ groups_of E.item groups.old.items) }
+        ≡ put_at (groups_of E.item groups.old.items) spot (E.item x)) }
+    ensures err { OnErr result (groups_of E.item groups.new.items
+        ≡ groups_of E.item groups.old.items) }
     ensures groups { AreGroups (groups_of E.item groups.new.items) }
 {
     let full = &groups[spot.group];
@@ -209,8 +222,9 @@ fn insert_in_groups<E: Entry>(
     requires groups { AreGroups (groups_of E.item groups.old.items) }
     requires spot { IsSpot (groups_of E.item groups.old.items) spot }
     ensures ok { OnOk result (entries_of (groups_of E.item groups.new.items)
-        ≡ insert (entries_of (groups_of E.item groups.old.items)) (place_of (groups_of E.item groups.old.items) spot) (E.item x)) }
-    ensures err { OnErr result (groups_of E.item groups.new.items ≡ groups_of E.item groups.old.items) }
+        ≡ put_at (groups_of E.item groups.old.items) spot (E.item x)) }
+    ensures err { OnErr result (groups_of E.item groups.new.items
+        ≡ groups_of E.item groups.old.items) }
     ensures groups { AreGroups (groups_of E.item groups.new.items) }
 {
     if groups.is_empty() {
@@ -234,7 +248,7 @@ pub(crate) fn insert_at<E: Entry>(
     requires groups { AreGroups (top_groups E.item top.old) }
     requires spot { IsSpot (top_groups E.item top.old) spot }
     ensures ok { OnOk result (entries_of (top_groups E.item top.new)
-        ≡ insert (entries_of (top_groups E.item top.old)) (place_of (top_groups E.item top.old) spot) (E.item x)) }
+        ≡ put_at (top_groups E.item top.old) spot (E.item x)) }
     ensures err { OnErr result (top_groups E.item top.new ≡ top_groups E.item top.old) }
     ensures groups { AreGroups (top_groups E.item top.new) }
 {

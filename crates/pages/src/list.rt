@@ -28,7 +28,8 @@ impl<E: Entry, const LEAF: usize> Model for PagedList<E, LEAF> {
 
     ghost view = { λ list. top_list E.item list.top };
 
-    ghost invariant = { λ list. IsLeafSize LEAF × IsTop E.item LEAF list.top × (list.len ≡ length (top_list E.item list.top)) };
+    ghost invariant = { λ list. IsLeafSize LEAF × IsTop E.item LEAF list.top
+        × (list.len ≡ length (top_list E.item list.top)) };
 }
 
 impl<E: Entry, const LEAF: usize> PagedList<E, LEAF> {

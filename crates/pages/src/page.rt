@@ -1,7 +1,7 @@
 //! Pages, and pages of pages: a write copies those on its way that another version holds.
 
 ghost use Rattle.std.specs.Prelude.{◌≡◌, ◌+◌, ◌<◌, [], ◌∷◌, ◌++◌, length, map, drop, slice_set, IfOk, OnOk, OnErr};
-ghost use Rattle.pages.specs.Pages.{leaf_list, branch_list, branch_parts, branch_lists, top_list, joined, IsLeafSize, IsPaged, IsBranch, AreBranches, IsTop, IsPrefix};
+ghost use Rattle.pages.specs.Pages.{leaf_list, leaf_lists, branch_list, branch_parts, branch_lists, top_list, joined, IsLeafSize, IsPaged, IsBranch, AreBranches, IsTop, IsPrefix};
 
 use crate::Entry;
 use std::alloc::{AllocError, Global};
@@ -19,7 +19,7 @@ pub(crate) type Branch<E> = Arc<Vec<Arc<Vec<E>>>>;
 
 pub(crate) type Top<E> = Arc<Vec<Arc<Vec<Arc<Vec<E>>>>>>;
 
-fn leaf_from<E>(leaf: &[E], at: usize) -> &[E]
+pub(crate) fn leaf_from<E>(leaf: &[E], at: usize) -> &[E]
     requires { at < length leaf.now }
     ensures { result.now ≡ drop at leaf.now }
 {
@@ -28,10 +28,11 @@ fn leaf_from<E>(leaf: &[E], at: usize) -> &[E]
 
 fn branch_from<E: Entry, const LEAF: usize>(branch: &[Leaf<E>], at: usize) -> &[E]
     requires size { IsLeafSize LEAF }
-    requires paged { IsPaged LEAF (map (leaf_list E.item) branch.now) }
-    requires held { at < length (joined (map (leaf_list E.item) branch.now)) }
+    requires paged { IsPaged LEAF (leaf_lists E.item branch.now) }
+    requires held { at < length (joined (leaf_lists E.item branch.now)) }
     ensures some { 0 < length result.now }
-    ensures prefix { IsPrefix (map E.item result.now) (drop at (joined (map (leaf_list E.item) branch.now))) }
+    ensures prefix { IsPrefix (map E.item result.now)
+        (drop at (joined (leaf_lists E.item branch.now))) }
 {
     leaf_from(branch[at / LEAF].as_slice(), at % LEAF)
 }
@@ -42,14 +43,16 @@ pub(crate) fn top_from<E: Entry, const LEAF: usize>(top: &[Branch<E>], at: usize
     requires branches { AreBranches E.item LEAF top.now }
     requires held { at < length (joined (branch_lists E.item top.now)) }
     ensures some { 0 < length result.now }
-    ensures prefix { IsPrefix (map E.item result.now) (drop at (joined (branch_lists E.item top.now))) }
+    ensures prefix { IsPrefix (map E.item result.now)
+        (drop at (joined (branch_lists E.item top.now))) }
 {
     branch_from::<E, LEAF>(top[at / (LEAF * FAN)].as_slice(), at % (LEAF * FAN))
 }
 
 pub(crate) fn set_in_leaf<E: Entry>(leaf: &mut Leaf<E>, at: usize, x: E) -> Result<(), AllocError>
     requires { at < length (leaf_list E.item leaf.old) }
-    ensures ok { OnOk result (leaf_list E.item leaf.new ≡ slice_set (leaf_list E.item leaf.old) at (E.item x)) }
+    ensures ok { OnOk result (leaf_list E.item leaf.new
+        ≡ slice_set (leaf_list E.item leaf.old) at (E.item x)) }
     ensures err { OnErr result (leaf_list E.item leaf.new ≡ leaf_list E.item leaf.old) }
 {
     let own = Arc::make_mut(leaf)?;
@@ -63,12 +66,13 @@ fn set_in_leaves<E: Entry, const LEAF: usize>(
     x: E,
 ) -> Result<(), AllocError>
     requires size { IsLeafSize LEAF }
-    requires paged { IsPaged LEAF (map (leaf_list E.item) leaves.old.items) }
-    requires held { at < length (joined (map (leaf_list E.item) leaves.old.items)) }
-    ensures ok { OnOk result (joined (map (leaf_list E.item) leaves.new.items)
-        ≡ slice_set (joined (map (leaf_list E.item) leaves.old.items)) at (E.item x)) }
-    ensures err { OnErr result (map (leaf_list E.item) leaves.new.items ≡ map (leaf_list E.item) leaves.old.items) }
-    ensures paged { IsPaged LEAF (map (leaf_list E.item) leaves.new.items) }
+    requires paged { IsPaged LEAF (leaf_lists E.item leaves.old.items) }
+    requires held { at < length (joined (leaf_lists E.item leaves.old.items)) }
+    ensures ok { OnOk result (joined (leaf_lists E.item leaves.new.items)
+        ≡ slice_set (joined (leaf_lists E.item leaves.old.items)) at (E.item x)) }
+    ensures err { OnErr result (leaf_lists E.item leaves.new.items
+        ≡ leaf_lists E.item leaves.old.items) }
+    ensures paged { IsPaged LEAF (leaf_lists E.item leaves.new.items) }
 {
     set_in_leaf(&mut leaves[at / LEAF], at % LEAF, x)
 }
@@ -81,7 +85,8 @@ fn set_in_branch<E: Entry, const LEAF: usize>(
     requires size { IsLeafSize LEAF }
     requires paged { IsBranch E.item LEAF branch.old }
     requires held { at < length (branch_list E.item branch.old) }
-    ensures ok { OnOk result (branch_list E.item branch.new ≡ slice_set (branch_list E.item branch.old) at (E.item x)) }
+    ensures ok { OnOk result (branch_list E.item branch.new
+        ≡ slice_set (branch_list E.item branch.old) at (E.item x)) }
     ensures err { OnErr result (branch_list E.item branch.new ≡ branch_list E.item branch.old) }
     ensures paged { IsBranch E.item LEAF branch.new }
 {
@@ -99,7 +104,8 @@ fn set_in_branches<E: Entry, const LEAF: usize>(
     requires held { at < length (joined (branch_lists E.item branches.old.items)) }
     ensures ok { OnOk result (joined (branch_lists E.item branches.new.items)
         ≡ slice_set (joined (branch_lists E.item branches.old.items)) at (E.item x)) }
-    ensures err { OnErr result (joined (branch_lists E.item branches.new.items) ≡ joined (branch_lists E.item branches.old.items)) }
+    ensures err { OnErr result (joined (branch_lists E.item branches.new.items)
+        ≡ joined (branch_lists E.item branches.old.items)) }
     ensures branches { AreBranches E.item LEAF branches.new.items }
 {
     set_in_branch::<E, LEAF>(&mut branches[at / (LEAF * FAN)], at % (LEAF * FAN), x)
@@ -114,7 +120,8 @@ pub(crate) fn set_in_top<E: Entry, const LEAF: usize>(
     requires size { IsLeafSize LEAF }
     requires top { IsTop E.item LEAF top.old }
     requires held { at < length (top_list E.item top.old) }
-    ensures ok { OnOk result (top_list E.item top.new ≡ slice_set (top_list E.item top.old) at (E.item x)) }
+    ensures ok { OnOk result (top_list E.item top.new
+        ≡ slice_set (top_list E.item top.old) at (E.item x)) }
     ensures err { OnErr result (top_list E.item top.new ≡ top_list E.item top.old) }
     ensures top { IsTop E.item LEAF top.new }
 {
@@ -139,7 +146,8 @@ pub(crate) fn branch_of<E: Entry>(alloc: Global, x: E) -> Result<Branch<E>, Allo
 }
 
 fn push_to_leaf<E: Entry>(leaf: &mut Leaf<E>, x: E) -> Result<(), AllocError>
-    ensures ok { OnOk result (leaf_list E.item leaf.new ≡ leaf_list E.item leaf.old ++ E.item x ∷ []) }
+    ensures ok { OnOk result (leaf_list E.item leaf.new
+        ≡ leaf_list E.item leaf.old ++ E.item x ∷ []) }
     ensures err { OnErr result (leaf_list E.item leaf.new ≡ leaf_list E.item leaf.old) }
 {
     let own = Arc::make_mut(leaf)?;
@@ -154,12 +162,13 @@ fn push_to_leaves<E: Entry, const LEAF: usize>(
     x: E,
 ) -> Result<(), AllocError>
     requires size { IsLeafSize LEAF }
-    requires paged { IsPaged LEAF (map (leaf_list E.item) leaves.old.items) }
-    requires end { at ≡ length (joined (map (leaf_list E.item) leaves.old.items)) }
-    ensures ok { OnOk result (joined (map (leaf_list E.item) leaves.new.items)
-        ≡ joined (map (leaf_list E.item) leaves.old.items) ++ E.item x ∷ []) }
-    ensures err { OnErr result (map (leaf_list E.item) leaves.new.items ≡ map (leaf_list E.item) leaves.old.items) }
-    ensures paged { IsPaged LEAF (map (leaf_list E.item) leaves.new.items) }
+    requires paged { IsPaged LEAF (leaf_lists E.item leaves.old.items) }
+    requires end { at ≡ length (joined (leaf_lists E.item leaves.old.items)) }
+    ensures ok { OnOk result (joined (leaf_lists E.item leaves.new.items)
+        ≡ joined (leaf_lists E.item leaves.old.items) ++ E.item x ∷ []) }
+    ensures err { OnErr result (leaf_lists E.item leaves.new.items
+        ≡ leaf_lists E.item leaves.old.items) }
+    ensures paged { IsPaged LEAF (leaf_lists E.item leaves.new.items) }
 {
     if at / LEAF < leaves.len() {
         return push_to_leaf(&mut leaves[at / LEAF], x);
@@ -177,7 +186,8 @@ fn push_to_branch<E: Entry, const LEAF: usize>(
     requires size { IsLeafSize LEAF }
     requires paged { IsBranch E.item LEAF branch.old }
     requires end { at ≡ length (branch_list E.item branch.old) }
-    ensures ok { OnOk result (branch_list E.item branch.new ≡ branch_list E.item branch.old ++ E.item x ∷ []) }
+    ensures ok { OnOk result (branch_list E.item branch.new
+        ≡ branch_list E.item branch.old ++ E.item x ∷ []) }
     ensures err { OnErr result (branch_list E.item branch.new ≡ branch_list E.item branch.old) }
     ensures paged { IsBranch E.item LEAF branch.new }
 {
@@ -196,7 +206,8 @@ fn push_to_branches<E: Entry, const LEAF: usize>(
     requires end { at ≡ length (joined (branch_lists E.item branches.old.items)) }
     ensures ok { OnOk result (joined (branch_lists E.item branches.new.items)
         ≡ joined (branch_lists E.item branches.old.items) ++ E.item x ∷ []) }
-    ensures err { OnErr result (joined (branch_lists E.item branches.new.items) ≡ joined (branch_lists E.item branches.old.items)) }
+    ensures err { OnErr result (joined (branch_lists E.item branches.new.items)
+        ≡ joined (branch_lists E.item branches.old.items)) }
     ensures branches { AreBranches E.item LEAF branches.new.items }
 {
     if at / (LEAF * FAN) < branches.len() {

@@ -2,9 +2,9 @@
 
 ghost use Rattle.std.specs.Prelude.{◌≡◌, ℕ, ◌<◌, ◌≤◌, [], true, false, length, map, slice_index_or, slice_get, Some, MatchResult, IfOk, IfErr};
 ghost use Rattle.std.specs.Ordering.{ordering_index};
-ghost use Rattle.std.specs.List.Sorted.{IsNonDecreasingBy};
-ghost use Rattle.pages.specs.Pages.{leaf_list, branch_parts, groups_of, joined};
-ghost use Rattle.pages.specs.Sorted.{place_in, place_of, IsSpotIn, IsSpot, HasEntryIn, HasEntry, AreKept, AreGroups, entries_of, IsSplit, IsHit, IsGap, starts_low};
+ghost use Rattle.std.specs.List.Sorted.{IsNonDecreasingBy, IsSearchInRange};
+ghost use Rattle.pages.specs.Pages.{leaf_list, leaf_lists, branch_parts, groups_of, joined};
+ghost use Rattle.pages.specs.Sorted.{place_in, place_of, IsSpotIn, IsSpot, HasEntryIn, HasEntry, AreKept, AreGroups, entries_of, IsRising, IsSplit, IsHit, IsGap, starts_low};
 
 use crate::page::{Branch, Leaf};
 use crate::{Entry, Probe, Spot};
@@ -20,21 +20,26 @@ fn starts_by<E: Entry, P: Probe<E>>(page: &Leaf<E>, probe: &P) -> bool
 
 /// How many pages start by an entry that is not greater than what is sought.
 fn pages_before<E: Entry, P: Probe<E>>(pages: &[Leaf<E>], probe: &P) -> usize
-    requires kept { AreKept (map (leaf_list E.item) pages.now) }
-    requires split { IsSplit (P.order probe.now) (joined (map (leaf_list E.item) pages.now)) }
+    requires { AreKept (leaf_lists E.item pages.now) }
     ensures inside { result ≤ length pages.now }
-    ensures low { (j : ℕ) → j < result
-        → starts_low (P.order probe.now) (slice_index_or (map (leaf_list E.item) pages.now) j []) ≡ true }
-    ensures high { (j : ℕ) → result ≤ j → j < length (map (leaf_list E.item) pages.now)
-        → starts_low (P.order probe.now) (slice_index_or (map (leaf_list E.item) pages.now) j []) ≡ false }
+    ensures low { IsSplit (P.order probe.now) (joined (leaf_lists E.item pages.now))
+        → (j : ℕ) → j < result
+        → starts_low (P.order probe.now) (slice_index_or (leaf_lists E.item pages.now) j [])
+        ≡ true }
+    ensures high { IsSplit (P.order probe.now) (joined (leaf_lists E.item pages.now))
+        → (j : ℕ) → result ≤ j → j < length (leaf_lists E.item pages.now)
+        → starts_low (P.order probe.now) (slice_index_or (leaf_lists E.item pages.now) j [])
+        ≡ false }
 {
     pages.partition_point(|page| starts_by(page, probe))
 }
 
 fn search_page<E: Entry, P: Probe<E>>(page: &[E], probe: &P) -> Result<usize, usize>
-    requires { IsNonDecreasingBy (λ y. ordering_index (P.order probe.now y)) (map E.item page.now) }
-    ensures found { IfOk result (IsHit (P.order probe.now) (map E.item page.now)) }
-    ensures absent { IfErr result (IsGap (P.order probe.now) (map E.item page.now)) }
+    ensures inside { IsSearchInRange result (length page.now) }
+    ensures found { IsRising (P.order probe.now) (map E.item page.now)
+        → IfOk result (IsHit (P.order probe.now) (map E.item page.now)) }
+    ensures absent { IsRising (P.order probe.now) (map E.item page.now)
+        → IfErr result (IsGap (P.order probe.now) (map E.item page.now)) }
 {
     page.binary_search_by(|entry| probe.compare(entry))
 }
@@ -45,14 +50,17 @@ fn find_in_pages<E: Entry, P: Probe<E>>(
     group: usize,
     probe: &P,
 ) -> Result<Spot, Spot>
-    requires kept { AreKept (map (leaf_list E.item) pages.now) }
-    requires split { IsSplit (P.order probe.now) (joined (map (leaf_list E.item) pages.now)) }
-    ensures found { IfOk result (λ spot. IsHit (P.order probe.now) (joined (map (leaf_list E.item) pages.now))
-        (place_in (map (leaf_list E.item) pages.now) spot)) }
-    ensures absent { IfErr result (λ spot. IsGap (P.order probe.now) (joined (map (leaf_list E.item) pages.now))
-        (place_in (map (leaf_list E.item) pages.now) spot)) }
-    ensures spot { MatchResult result (IsSpotIn (map (leaf_list E.item) pages.now)) (IsSpotIn (map (leaf_list E.item) pages.now)) }
-    ensures entry { IfOk result (HasEntryIn (map (leaf_list E.item) pages.now)) }
+    requires { AreKept (leaf_lists E.item pages.now) }
+    ensures found { IsSplit (P.order probe.now) (joined (leaf_lists E.item pages.now))
+        → IfOk result (λ spot. IsHit (P.order probe.now) (joined (leaf_lists E.item pages.now))
+        (place_in (leaf_lists E.item pages.now) spot)) }
+    ensures absent { IsSplit (P.order probe.now) (joined (leaf_lists E.item pages.now))
+        → IfErr result (λ spot. IsGap (P.order probe.now) (joined (leaf_lists E.item pages.now))
+        (place_in (leaf_lists E.item pages.now) spot)) }
+    ensures spot { MatchResult result
+        (IsSpotIn (leaf_lists E.item pages.now))
+        (IsSpotIn (leaf_lists E.item pages.now)) }
+    ensures entry { IfOk result (HasEntryIn (leaf_lists E.item pages.now)) }
     ensures group { MatchResult result (λ spot. spot.group ≡ group) (λ spot. spot.group ≡ group) }
 {
     let count = pages_before(pages, probe);
@@ -71,7 +79,8 @@ fn find_in_pages<E: Entry, P: Probe<E>>(
 }
 
 fn first_starts_by<E: Entry, P: Probe<E>>(group: &Branch<E>, probe: &P) -> bool
-    ensures { result ≡ starts_low (P.order probe.now) (slice_index_or (branch_parts E.item group.now) 0 []) }
+    ensures { result
+        ≡ starts_low (P.order probe.now) (slice_index_or (branch_parts E.item group.now) 0 []) }
 {
     match group.first() {
         Some(page) => starts_by(page, probe),
@@ -81,13 +90,16 @@ fn first_starts_by<E: Entry, P: Probe<E>>(group: &Branch<E>, probe: &P) -> bool
 
 /// How many groups start by an entry that is not greater than what is sought.
 fn groups_before<E: Entry, P: Probe<E>>(groups: &[Branch<E>], probe: &P) -> usize
-    requires groups { AreGroups (groups_of E.item groups.now) }
-    requires split { IsSplit (P.order probe.now) (entries_of (groups_of E.item groups.now)) }
+    requires { AreGroups (groups_of E.item groups.now) }
     ensures inside { result ≤ length groups.now }
-    ensures low { (j : ℕ) → j < result
-        → starts_low (P.order probe.now) (slice_index_or (map joined (groups_of E.item groups.now)) j []) ≡ true }
-    ensures high { (j : ℕ) → result ≤ j → j < length (map joined (groups_of E.item groups.now))
-        → starts_low (P.order probe.now) (slice_index_or (map joined (groups_of E.item groups.now)) j []) ≡ false }
+    ensures low { IsSplit (P.order probe.now) (entries_of (groups_of E.item groups.now))
+        → (j : ℕ) → j < result
+        → starts_low (P.order probe.now)
+        (slice_index_or (map joined (groups_of E.item groups.now)) j []) ≡ true }
+    ensures high { IsSplit (P.order probe.now) (entries_of (groups_of E.item groups.now))
+        → (j : ℕ) → result ≤ j → j < length (map joined (groups_of E.item groups.now))
+        → starts_low (P.order probe.now)
+        (slice_index_or (map joined (groups_of E.item groups.now)) j []) ≡ false }
 {
     groups.partition_point(|group| first_starts_by(group, probe))
 }
@@ -97,13 +109,16 @@ pub(crate) fn find_in_groups<E: Entry, P: Probe<E>>(
     groups: &[Branch<E>],
     probe: &P,
 ) -> Result<Spot, Spot>
-    requires groups { AreGroups (groups_of E.item groups.now) }
-    requires split { IsSplit (P.order probe.now) (entries_of (groups_of E.item groups.now)) }
-    ensures found { IfOk result (λ spot. IsHit (P.order probe.now) (entries_of (groups_of E.item groups.now))
+    requires { AreGroups (groups_of E.item groups.now) }
+    ensures found { IsSplit (P.order probe.now) (entries_of (groups_of E.item groups.now))
+        → IfOk result (λ spot. IsHit (P.order probe.now) (entries_of (groups_of E.item groups.now))
         (place_of (groups_of E.item groups.now) spot)) }
-    ensures absent { IfErr result (λ spot. IsGap (P.order probe.now) (entries_of (groups_of E.item groups.now))
+    ensures absent { IsSplit (P.order probe.now) (entries_of (groups_of E.item groups.now))
+        → IfErr result (λ spot. IsGap (P.order probe.now) (entries_of (groups_of E.item groups.now))
         (place_of (groups_of E.item groups.now) spot)) }
-    ensures spot { MatchResult result (IsSpot (groups_of E.item groups.now)) (IsSpot (groups_of E.item groups.now)) }
+    ensures spot { MatchResult result
+        (IsSpot (groups_of E.item groups.now))
+        (IsSpot (groups_of E.item groups.now)) }
     ensures entry { IfOk result (HasEntry (groups_of E.item groups.now)) }
 {
     let count = groups_before(groups, probe);
@@ -126,8 +141,9 @@ fn entry_of<E: Entry>(page: &[E], at: usize) -> &E
 }
 
 fn entry_in_pages<E: Entry>(pages: &[Leaf<E>], spot: Spot) -> &E
-    requires { HasEntryIn (map (leaf_list E.item) pages.now) spot }
-    ensures { slice_get (joined (map (leaf_list E.item) pages.now)) (place_in (map (leaf_list E.item) pages.now) spot)
+    requires { HasEntryIn (leaf_lists E.item pages.now) spot }
+    ensures { slice_get (joined (leaf_lists E.item pages.now))
+        (place_in (leaf_lists E.item pages.now) spot)
         ≡ Some (E.item result.now) }
 {
     entry_of(pages[spot.page].as_slice(), spot.at)
@@ -136,7 +152,8 @@ fn entry_in_pages<E: Entry>(pages: &[Leaf<E>], spot: Spot) -> &E
 /// The entry at a spot.
 pub(crate) fn entry_in_groups<E: Entry>(groups: &[Branch<E>], spot: Spot) -> &E
     requires { HasEntry (groups_of E.item groups.now) spot }
-    ensures { slice_get (entries_of (groups_of E.item groups.now)) (place_of (groups_of E.item groups.now) spot)
+    ensures { slice_get (entries_of (groups_of E.item groups.now))
+        (place_of (groups_of E.item groups.now) spot)
         ≡ Some (E.item result.now) }
 {
     entry_in_pages(groups[spot.group].as_slice(), spot)

@@ -4,7 +4,7 @@ use Rattle.std.specs.Arc.{arc_value}
 use Rattle.pages.specs.Pages.{groups_of}
 use Rattle.pages.specs.Sorted.{entries_of, AreGroups, HasEntry, place_of}
 use Rattle.pages.proofs.Clones.{groups_clone, on_err, is_ok_from}
-use Rattle.pages.proofs.edit.set_at.Goals as goal
+use Rattle.pages.proofs.edit.replace_at.Goals as goal
 
 pub returns-in_err-own-clause-err : goal.returns-in_err-own-clause-err
 returns-in_err-own-clause-err g c =
