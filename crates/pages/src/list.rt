@@ -33,7 +33,8 @@ impl<E: Entry, const LEAF: usize> Model for PagedList<E, LEAF> {
 }
 
 impl<E: Entry, const LEAF: usize> PagedList<E, LEAF> {
-    /// The list of no entry.
+    /// The list of no entry. `LEAF` is from 8 to 65,536: small for pointers, whose copies are counted, and large for
+    /// numbers.
     pub fn new(alloc: Global) -> Result<PagedList<E, LEAF>, AllocError>
         requires { IsLeafSize LEAF }
         ensures { IfOk result (λ list. list ≡ []) }
@@ -42,6 +43,7 @@ impl<E: Entry, const LEAF: usize> PagedList<E, LEAF> {
         Ok(PagedList { top, len: 0 })
     }
 
+    /// How many entries it has.
     pub fn len(&self) -> usize
         ensures { result ≡ length self.now }
     {

@@ -11,6 +11,7 @@ pub trait Probe<E: Entry> {
 
     ghost order: { Self → E.Item → Ordering };
 
+    /// How an entry lies to what is sought: `Less` where it stands before it.
     fn compare(&self, entry: &E) -> Ordering
         ensures { result ≡ order self.now (E.item entry.now) };
 }
