@@ -1,0 +1,12 @@
+pub mod Clones
+pub mod Parts
+pub mod Pieces
+pub mod Writes
+pub mod Tops
+pub mod Spots
+pub mod Searched
+pub mod Groups
+pub mod Inserts
+pub mod GroupWrites
+pub mod Walks
+pub mod Ascent

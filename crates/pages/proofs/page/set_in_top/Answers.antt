@@ -1,0 +1,41 @@
+use Rattle.std.proofs.Common.{◌<◌, ◌∙◌, Vec, Global, length, set, sym, ap, subst}
+use Rattle.std.proofs.lemmas.Result.{on_ok_weaker, on_err_weaker, IfErr-at_err}
+use Rattle.std.specs.Arc.{arc_value}
+use Rattle.pages.specs.Pages.{branch_lists, joined, AreBranches}
+use Rattle.pages.proofs.Clones.{on_err, is_ok_from}
+use Rattle.pages.proofs.Tops.{top_clone, branches_clone}
+use Rattle.pages.proofs.page.set_in_top.Goals as goal
+
+pub returns-in_err-own-clause-err : goal.returns-in_err-own-clause-err
+returns-in_err-own-clause-err g c =
+    on_err c.from_residual.result (ap joined (top_clone g.E.Entry.item (arc_value c.args.top.now) _ _ (IfErr-at_err _ c.in_err-own.was c.make_mut.follows.holds-at-none)))
+
+pub returns-in_err-own-clause-top : goal.returns-in_err-own-clause-top
+returns-in_err-own-clause-top g c =
+    branches_clone g.E.Entry.item g.row.LEAF (arc_value c.args.top.now) _ _ (IfErr-at_err _ c.in_err-own.was c.make_mut.follows.holds-at-none) c.requires.top
+
+pub set_in_branches-requires-clause-branches : goal.set_in_branches-requires-clause-branches
+set_in_branches-requires-clause-branches g c =
+    branches_clone g.E.Entry.item g.row.LEAF (arc_value c.args.top.now) _ _ c.in_ok-own.ensures.value c.requires.top
+
+pub set_in_branches-requires-clause-held : goal.set_in_branches-requires-clause-held
+set_in_branches-requires-clause-held g c =
+    subst (λ l. c.args.at < length (joined l)) (sym (top_clone g.E.Entry.item (arc_value c.args.top.now) _ _ c.in_ok-own.ensures.value)) c.requires.held
+
+pub returns-clause-ok : goal.returns-clause-ok
+returns-clause-ok g c =
+    on_ok_weaker c.set_in_branches.result
+    (λ e. ap (λ (v : Vec _ Global). joined (branch_lists g.E.Entry.item v.items)) (c.make_mut.follows.holds _ (is_ok_from _ _ c.in_ok-own.was))
+    ∙ (e ∙ ap (λ l. set (joined l) c.args.at (g.E.Entry.item c.args.x)) (top_clone g.E.Entry.item (arc_value c.args.top.now) _ _ c.in_ok-own.ensures.value)))
+    c.set_in_branches.ensures.ok
+
+pub returns-clause-err : goal.returns-clause-err
+returns-clause-err g c =
+    on_err_weaker c.set_in_branches.result
+    (λ e. ap (λ (v : Vec _ Global). joined (branch_lists g.E.Entry.item v.items)) (c.make_mut.follows.holds _ (is_ok_from _ _ c.in_ok-own.was))
+    ∙ (e ∙ ap joined (top_clone g.E.Entry.item (arc_value c.args.top.now) _ _ c.in_ok-own.ensures.value)))
+    c.set_in_branches.ensures.err
+
+pub returns-clause-top : goal.returns-clause-top
+returns-clause-top g c =
+    subst (λ (v : Vec _ Global). AreBranches g.E.Entry.item g.row.LEAF v.items) (sym (c.make_mut.follows.holds _ (is_ok_from _ _ c.in_ok-own.was))) c.set_in_branches.ensures.branches
