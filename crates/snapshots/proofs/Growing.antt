@@ -1,0 +1,60 @@
+-- A step that only adds to the list keeps the rule of the published versions.
+use Rattle.std.proofs.Common.{◌≡◌, ℕ, ◌≢◌, List, [], ◌∷◌, ◌++◌, fold, refl, ap, ◌∙◌, subst, ⊎_elim}
+use mathlib.Core.Option.{some}
+use mathlib.Core.List.{IsPrefix}
+use lib.ListN.{get_elem?}
+use Rattle.left_right.specs.Register.{Admits, Turns, TurnsAt}
+use Rattle.atomic_table.proofs.Lists.{at_set, at_snoc}
+use Rattle.logbook.specs.Pages.{Book}
+use Rattle.head.specs.Heads.{SnapshotParts}
+use Rattle.snapshots.specs.declared.entry.Entry.{Entry}
+use Rattle.snapshots.specs.Marks.{list_of}
+use Rattle.snapshots.specs.Views.{Edition}
+use Rattle.snapshots.specs.Grows.{IsOf, Keeps, SeesList}
+use Rattle.snapshots.proofs.Prefixes.{prefix_self, prefix_trans}
+
+module _ (book : Book) (opening : SnapshotParts) where
+  pub rises : (seat : ℕ) (v : List Entry) (x y : Edition) → IsPrefix (list_of x.marks) (list_of y.marks) → IsOf book opening y
+      → TurnsAt (Keeps book opening) seat v x y (SeesList book opening)
+  rises seat v x y up of views h at = (
+    list_of y.marks,
+    (
+      of,
+      (λ j u e. ⊎_elim
+          (λ (t : (j ≡ seat) × (list_of y.marks ≡ u)).
+          subst (λ (z : List Entry). IsPrefix z (list_of y.marks)) t.1 (prefix_self (list_of y.marks)))
+          (λ (t : (j ≢ seat) × (get_elem? views j ≡ some u)).
+          prefix_trans u (list_of x.marks) (list_of y.marks) (h.1 j u t.1) up)
+          (at_set views seat j (list_of y.marks) u e)),
+    ),
+    (prefix_trans v (list_of x.marks) (list_of y.marks) (h.1 seat v at) up, refl, of),
+  )
+
+  pub enters : (seat : ℕ) (v : List Entry) → Turns (Keeps book opening) seat v (λ x. x) (SeesList book opening)
+  enters seat v x views h at = rises seat v x x (prefix_self (list_of x.marks)) h.0 views h at
+
+  pub admits : Admits (Keeps book opening) []
+  admits x views h = (
+    h.0,
+    λ seat v at. ⊎_elim (h.1 seat v)
+        (λ (e : [] ≡ v). subst (λ (z : List Entry). IsPrefix z (list_of x.marks)) e (list_of x.marks, refl))
+        (at_snoc views [] v seat at),
+  )
+
+  pub starts : (x : Edition) → IsOf book opening x → Keeps book opening x ([] ∷ [])
+  starts x of = (
+    of,
+    λ seat v at. ⊎_elim
+        (λ (e : get_elem? [] seat ≡ some v). absurd cc)
+        (λ (e : [] ≡ v). subst (λ (z : List Entry). IsPrefix z (list_of x.marks)) e (list_of x.marks, refl))
+        (at_snoc [] [] v seat at),
+  )
+
+-- of operations that are each the whole next version, the last is what is shown
+pub fold_last : {A : Type 0} (x : A) (xs : List A) (y : A) → fold (λ (before next : A). next) x (xs ++ y ∷ []) ≡ y
+fold_last x [] y = refl
+fold_last x (z ∷ xs) y = fold_last z xs y
+
+pub overtaken : {A : Type 0} (x next y : A) (xs pending : List A)
+    → next ≡ fold (λ (before new : A). new) x pending → pending ≡ xs ++ y ∷ [] → next ≡ y
+overtaken x next y xs pending is e = is ∙ (ap (fold (λ before new. new) x) e ∙ fold_last x xs y)

@@ -1,0 +1,38 @@
+-- One event more after a replay.
+use Rattle.std.proofs.Common.{◌≡◌, List, [], ◌∷◌, ◌++◌, Result, Ok, Err, map, refl, sym, ap, ◌∙◌, subst}
+use Rattle.std.proofs.lemmas.List.{map_push}
+use Rattle.head.specs.Limits.{most}
+use Rattle.head.specs.Refusals.{Refusal}
+use Rattle.head.specs.Worlds.{World, Event, stepped, replayed_from, replayed}
+use Rattle.head.specs.Heads.{SnapshotParts, world_of}
+use Rattle.snapshots.specs.declared.entry.Entry.{Entry}
+use Rattle.logbook.specs.Pages.{Book}
+use Rattle.snapshots.specs.Grows.{Shows}
+use Rattle.snapshots.specs.Replays.{events_in, IsAfter, Steps}
+use Rattle.snapshots.specs.Views.{Edition}
+
+replayed_from-snoc : (r : Result World Refusal) (es : List Event) (e : Event) (v : World)
+    → replayed_from most r es ≡ Ok v → replayed_from most r (es ++ e ∷ []) ≡ stepped most v e
+replayed_from-snoc r [] e v is = ap (λ (s : Result World Refusal). replayed_from most s (e ∷ [])) is
+replayed_from-snoc (Err x) (f ∷ es) e v is = absurd (cc is)
+replayed_from-snoc (Ok w) (f ∷ es) e v is = replayed_from-snoc (stepped most w f) es e v is
+
+never_empty : {A : Type 0} {B : Type 0} (es : List A) (e : A) → es ++ e ∷ [] ≡ [] → B
+never_empty [] e is = absurd (cc is)
+never_empty (f ∷ es) e is = absurd (cc is)
+
+-- the snapshot after one event more
+pub after-snoc : (opening : SnapshotParts) (es : List Entry) (e : Entry) (s t : SnapshotParts)
+    → IsAfter opening es s → Steps s e.event t → IsAfter opening (es ++ e ∷ []) t
+after-snoc opening es e s t after step = (
+  ap (replayed most (world_of opening)) (map_push (λ (x : Entry). x.event) es e)
+      ∙ (replayed_from-snoc (Ok (world_of opening)) (events_in es) e.event (world_of s) after.0 ∙ step),
+  λ empty. never_empty es e empty,
+)
+
+-- the snapshot after one event more than the published version has
+pub after_shown : (book : Book) (opening : SnapshotParts) (x : Edition) (es : List Entry) (e : Entry) (s t : SnapshotParts)
+    → Shows book opening x es → s ≡ x.parts → Steps s e.event t → IsAfter opening (es ++ e ∷ []) t
+after_shown book opening x es e s t shows at step =
+    let here : IsAfter opening es x.parts = subst (λ (z : List Entry). IsAfter opening z x.parts) shows.1 shows.0.1 in
+    after-snoc opening es e x.parts t here (subst (λ (z : SnapshotParts). Steps z e.event t) at step)

@@ -1,0 +1,7 @@
+pub mod Marks
+pub mod Replays
+pub mod Seats
+pub mod Rules
+pub mod Views
+pub mod Grows
+pub mod Refusals

@@ -1,0 +1,174 @@
+//! What lies under the lock of a store.
+
+ghost use Rattle.std.specs.Prelude.{◌≡◌, ◌+◌, ◌++◌, ◌∷◌, ◌↔◌, [], length, slice_set};
+ghost use Rattle.std.specs.Prelude.{IfOk, IfErr, OnOk, OnErr, MatchBool};
+ghost use Rattle.head.specs.Answers.{IsAnswer};
+ghost use Rattle.head.specs.Heads.{world_of};
+ghost use Rattle.head.specs.Limits.{most};
+ghost use Rattle.head.specs.Worlds.{stepped};
+ghost use Rattle.std.specs.Arc.{arc_value};
+ghost use Rattle.snapshots.specs.Marks.{accepted};
+ghost use Rattle.snapshots.specs.Grows.{Shows};
+ghost use Rattle.snapshots.specs.Replays.{IsAfter, Steps, IsRefusal};
+ghost use Rattle.snapshots.specs.Seats.{FitsSeat, AreCounts, IsCounted};
+
+use crate::entry::Entry;
+use crate::log::LogEnd;
+use crate::naming::Naming;
+use crate::prefix::LogPrefix;
+use crate::press::{Press, publish_entry};
+use crate::receipt::Receipt;
+use crate::seat::Seat;
+use head::{CommitError, Event, Snapshot, apply};
+use std::alloc::Global;
+use std::marker::Model;
+use std::sync::{Arc, Wait};
+
+/// How many marks a log has at most before an event is refused: as many are never reached.
+const ROOM: u64 = 1 << 61;
+
+/// Whether the seat's number is one of the store's, and its count is the book's and may grow.
+fn fits<J: Naming>(counts: &Vec<u64>, seat: &Seat<J>) -> bool
+    ensures { MatchBool result (FitsSeat seat.now counts.now.items) (¬ FitsSeat seat.now counts.now.items) }
+{
+    match counts.get(seat.number()) {
+        Some(count) => *count == seat.count() && seat.count() < u64::MAX,
+        None => false,
+    }
+}
+
+/// The snapshot after an event, to be shared.
+fn applied(alloc: Global, at: &Snapshot, event: &Event) -> Result<Arc<Snapshot>, CommitError>
+    ensures ok { IfOk result (λ s. Steps at.now event.now (arc_value s)) }
+    ensures refused { IfErr result (λ e. IsAnswer e (stepped most (world_of at.now) event.now)) }
+{
+    let snapshot = apply(alloc, at, event)?;
+    match Arc::new(alloc, snapshot) {
+        Ok(shared) => Ok(shared),
+        Err(_) => Err(CommitError::Memory),
+    }
+}
+
+/// What lies under the lock: the list of the published events, the count of each seat and the writer of the versions.
+/// Contracts see it as that list, those counts and the published snapshot.
+pub struct Book<J: Naming, R: Wait + Drop> {
+    end: LogEnd<J>,
+    log: LogPrefix<J>,
+    counts: Vec<u64>,
+    events: u64,
+    press: Press<J>,
+    rt: R,
+    alloc: Global,
+}
+
+impl<J: Naming, R: Wait + Drop> Model for Book<J, R> {
+    ghost use Rattle.std.specs.Prelude.{◌≡◌, length};
+    ghost use Rattle.snapshots.specs.Marks.{accepted};
+    ghost use Rattle.snapshots.specs.Seats.{AreCounts};
+    ghost use Rattle.snapshots.specs.Grows.{Shows};
+    ghost use Rattle.snapshots.specs.Views.{Ledger};
+
+    ghost Value = { Ledger };
+
+    ghost view = { λ b. record { entries = accepted b.log; counts = b.counts.items; parts = b.press.desk.shown.value.parts } };
+
+    ghost invariant = { λ b. AreCounts b.counts.items (accepted b.log) × (b.events ≡ length (accepted b.log)) × Shows J.book J.opening b.press.desk.shown.value (accepted b.log) };
+}
+
+impl<J: Naming, R: Wait + Drop> Book<J, R> {
+    /// The book of a store that nothing was published in.
+    pub(crate) fn of(
+        rt: R,
+        alloc: Global,
+        end: LogEnd<J>,
+        log: LogPrefix<J>,
+        counts: Vec<u64>,
+        press: Press<J>,
+    ) -> Book<J, R>
+        requires shown { Shows J.book J.opening press.desk.shown.value (accepted log) }
+        requires counts { AreCounts counts.items (accepted log) }
+        requires empty { accepted log ≡ [] }
+        ensures { result ≡ record { entries = accepted log; counts = counts.items; parts = press.desk.shown.value.parts } }
+    {
+        Book {
+            end,
+            log,
+            counts,
+            events: 0,
+            press,
+            rt,
+            alloc,
+        }
+    }
+
+    /// Publishes one event under a seat's number: one whole version, seen by each pass that enters from then on. `E7`
+    /// where the number is none of this store's, or the seat's count is not the book's for it, or cannot grow; else the
+    /// refusal of the event's step on the published version. It waits for the readers of the version before.
+    pub fn step(
+        &mut self,
+        seat: &mut Seat<J>,
+        event: Event,
+    ) -> Result<Receipt<J>, (Event, CommitError)>
+        ensures fits { OnOk result (FitsSeat seat.old self.old.counts) }
+        ensures seat { IfErr result (λ e. (e.1 ≡ CommitError.Seat) ↔ (¬ FitsSeat seat.old self.old.counts)) }
+        ensures steps { OnOk result (Steps self.old.parts event self.new.parts) }
+        ensures refused { IfErr result (λ e. IsRefusal e.1 self.old.parts event) }
+        ensures returned { IfErr result (λ e. e.0 ≡ event) }
+        ensures kept { OnErr result ((self.new ≡ self.old) × (seat.new ≡ seat.old)) }
+        ensures list { IfOk result (λ r. r ≡ self.old.entries ++ record { event = event; seat = seat.old.number } ∷ []) }
+        ensures added { IfOk result (λ r. self.new.entries ≡ r) }
+        ensures counts { OnOk result (self.new.counts ≡ slice_set self.old.counts seat.old.number (seat.old.count + 1)) }
+        ensures counted { IfOk result (λ r. IsCounted seat.old seat.new r) }
+        ensures books { AreCounts self.new.counts self.new.entries }
+        ensures world { IsAfter J.opening self.new.entries self.new.parts }
+    {
+        let number = seat.number();
+        if !fits(&self.counts, seat) {
+            return Err((event, CommitError::Seat));
+        }
+        if self.log.len() > ROOM {
+            return Err((event, CommitError::Memory));
+        }
+        let snapshot = match applied(self.alloc, self.press.published().snapshot(), &event) {
+            Ok(snapshot) => snapshot,
+            Err(error) => return Err((event, error)),
+        };
+        let events = self.events + 1;
+        let entry = Entry {
+            event,
+            seat: number,
+        };
+        let published = publish_entry(
+            &self.rt,
+            &self.end,
+            &mut self.log,
+            &mut self.press,
+            snapshot,
+            events,
+            &entry,
+        );
+        if !published {
+            return Err((entry.event, CommitError::Memory));
+        }
+        self.counts[number] = seat.count() + 1;
+        self.events = events;
+        seat.add_one();
+        Ok(Receipt::of(self.log.share(), events))
+    }
+}
+
+/// It waits for the readers.
+impl<J: Naming, R: Wait + Drop> Drop for Book<J, R> {
+    fn drop(self) {
+        let Self {
+            end: _end,
+            log: _log,
+            counts: _counts,
+            events: _,
+            press,
+            rt,
+            alloc: _,
+        } = self;
+        drop(press.take(&rt));
+    }
+}

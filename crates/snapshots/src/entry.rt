@@ -1,0 +1,21 @@
+//! What the list of a store's published events is made of.
+
+use head::Event;
+
+/// An event, with the number of the seat that published it.
+#[derive(Drop)]
+pub struct Entry {
+    /// What was handed over.
+    pub event: Event,
+    /// The number of the seat, from 0.
+    pub seat: usize,
+}
+
+/// What the log of a store says. No value of it is made: clauses speak of it.
+#[derive(Drop)]
+pub enum Mark {
+    /// The event is about to be published.
+    Try(Entry),
+    /// The event that was tried last is published.
+    Done,
+}

@@ -1,0 +1,80 @@
+//! The rule of the log of a store, and the two steps that add to it.
+
+ghost use Rattle.std.specs.Prelude.{◌≡◌};
+ghost use Rattle.snapshots.specs.Rules.{end_of};
+
+use crate::entry::{Entry, Mark};
+use crate::naming::Naming;
+use logbook::{Gain, Plain, Play, Rule, Word};
+use std::marker::PhantomData;
+
+/// The rule of the log: its length stands in one word.
+pub struct Law;
+
+impl Rule<Mark, u64> for Law {
+    ghost use Rattle.std.specs.Prelude.{[]};
+    ghost use base.Fml.{ftrue};
+    ghost use Rattle.snapshots.specs.Rules.{IsKept};
+
+    ghost holds = { λ cells log. IsKept cells log };
+
+    ghost first = { [] };
+
+    ghost hinted = { λ n log. Unit {0} };
+
+    ghost shows = { λ log. [] };
+
+    ghost keeps = { λ names log. ftrue };
+
+    ghost moves = { λ ask before after answer. Unit {0} };
+}
+
+/// Callers trade nothing.
+pub struct Nothing;
+
+impl Gain<Mark, u64> for Nothing {
+    ghost use base.Fml.{ftrue};
+
+    ghost after = { λ names about answer. ftrue };
+}
+
+/// A step that adds a mark.
+pub struct Add;
+
+impl Play<Mark, u64> for Add {
+    ghost use Rattle.snapshots.specs.Rules.{Adds};
+
+    ghost then = { Adds };
+}
+
+/// What a step asks for: the try of an entry.
+pub struct Tries;
+
+impl Plain<Entry, Mark, u64> for Tries {
+    ghost use Rattle.std.specs.Prelude.{None};
+    ghost use Rattle.snapshots.specs.declared.entry.Mark.TheVariants.{Try};
+
+    ghost ask = { λ e. Try e };
+
+    ghost state = { λ e. None };
+}
+
+/// What a step asks for: that the last try is done.
+pub struct Ends;
+
+impl Plain<Entry, Mark, u64> for Ends {
+    ghost use Rattle.std.specs.Prelude.{None};
+    ghost use Rattle.snapshots.specs.declared.entry.Mark.TheVariants.{Done};
+
+    ghost ask = { λ e. Done };
+
+    ghost state = { λ e. None };
+}
+
+/// The length of the log of a store, in the one word that its book has.
+#[derive(Drop)]
+pub struct LogEnd<J: Naming> {
+    pub word: Word<Mark, u64, Law>,
+    pub of: PhantomData<J>,
+    pub ghost is: { word ≡ end_of J.book },
+}

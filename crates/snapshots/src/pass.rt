@@ -1,0 +1,103 @@
+//! Passes, which read without waiting.
+
+ghost use Rattle.std.specs.Prelude.{◌≡◌, [], length, IfOk};
+ghost use Rattle.std.specs.Arc.{arc_value};
+ghost use mathlib.Core.List.{IsPrefix};
+ghost use Rattle.left_right.specs.Sides.{view};
+ghost use Rattle.snapshots.specs.Marks.{accepted};
+ghost use Rattle.snapshots.specs.Replays.{IsAfter};
+
+use crate::entry::Entry;
+use crate::error::SnapshotError;
+use crate::naming::Naming;
+use crate::prefix::LogPrefix;
+use crate::receipt::Receipt;
+use crate::version::{Grows, Sees, Version};
+use head::Snapshot;
+use left_right::reader::Reader;
+use std::marker::Model;
+use std::sync::Arc;
+
+/// A reader of a store that does not wait. Contracts see it as the list of its last entry and the list that receipts
+/// told it.
+#[derive(Drop)]
+pub struct Pass<J: Naming> {
+    reader: Option<Reader<Version, [Entry; 0], Grows<J>>>,
+    told: LogPrefix<J>,
+    events: u64,
+}
+
+impl<J: Naming> Model for Pass<J> {
+    ghost use Rattle.std.specs.Prelude.{List, [], ◌≡◌, length, Option, Some, None};
+    ghost use Rattle.left_right.specs.Sides.{view as seen_by};
+    ghost use Rattle.snapshots.specs.Marks.{accepted};
+    ghost use Rattle.snapshots.specs.Views.{Known};
+
+    ghost Value = { Known };
+
+    ghost view = { λ p. record { seen = elim p.reader [ Some r ↦ seen_by r.place | None ↦ [] ]; told = accepted p.told } };
+
+    ghost invariant = { λ p. elim p.reader [ Some r ↦ p.events ≡ length (seen_by r.place) | None ↦ ⊥ ] };
+}
+
+impl<J: Naming> Pass<J> {
+    pub(crate) fn of(reader: Reader<Version, [Entry; 0], Grows<J>>, told: LogPrefix<J>) -> Pass<J>
+        requires { view reader.place ≡ [] }
+        ensures { result ≡ record { seen = []; told = accepted told } }
+    {
+        Pass {
+            reader: Some(reader),
+            told,
+            events: 0,
+        }
+    }
+
+    /// How many events the list of its last entry has, or 0 before one. It takes no memory.
+    pub fn events(&self) -> u64
+        ensures { result ≡ length self.now.seen }
+    {
+        self.events
+    }
+
+    /// From now on the pass knows what the receipt says, beside what it knew. It takes no memory.
+    pub fn learn(&mut self, receipt: &Receipt<J>)
+        ensures seen { self.new.seen ≡ self.old.seen }
+        ensures told { IsPrefix self.old.told self.new.told }
+        ensures receipt { IsPrefix receipt.now self.new.told }
+    {
+        self.told = self.told.longer(receipt.log());
+    }
+
+    /// The snapshot of the published version. Its list begins with all that the pass had seen and with the list of each
+    /// receipt that it learnt, and is what the pass has seen from then on. It waits for nobody, takes no lock and no
+    /// memory. `S1` where the version is not available: where `left_right` refuses the entry, or `Arc` one sharer more,
+    /// which leaves the pass knowing no less; it is answered also where the version is older than what the pass was
+    /// told of, which does not occur.
+    pub fn snapshot(&mut self) -> Result<Arc<Snapshot>, SnapshotError>
+        ensures world { IfOk result (λ s. IsAfter J.opening self.new.seen (arc_value s)) }
+        ensures told { IfOk result (λ s. IsPrefix self.old.told self.new.seen) }
+        ensures seen { IsPrefix self.old.seen self.new.seen }
+        ensures kept { self.new.told ≡ self.old.told }
+    {
+        let Some(reader) = self.reader.take() else {
+            unreachable!()
+        };
+        match reader.enter_as::<Sees<J>>() {
+            Ok(reading) => {
+                let version = reading.get();
+                let events = version.events();
+                let taken = version.offer(&self.told);
+                self.reader = Some(reading.leave());
+                self.events = events;
+                match taken {
+                    Some(snapshot) => Ok(snapshot),
+                    None => Err(SnapshotError::Unavailable),
+                }
+            }
+            Err(reader) => {
+                self.reader = Some(reader);
+                Err(SnapshotError::Unavailable)
+            }
+        }
+    }
+}

@@ -1,0 +1,157 @@
+//! Stores, and how one is opened.
+
+ghost use Rattle.std.specs.Prelude.{◌≡◌, ◌≤◌, ◌<◌, ◌↔◌, [], length, map, vec_len, IfOk, IfErr, MatchResult};
+ghost use Rattle.std.specs.List.{All};
+ghost use Rattle.head.specs.Blocks.{part_in, opening_of};
+ghost use Rattle.snapshots.specs.Rules.{end_of};
+ghost use Rattle.snapshots.specs.Views.{nothing};
+ghost use Rattle.snapshots.specs.Grows.{Shows};
+ghost use Rattle.snapshots.specs.Seats.{AreFresh, IsRoom};
+
+use crate::book::Book;
+use crate::committer::Committer;
+use crate::entry::{Entry, Mark};
+use crate::error::OpenError;
+use crate::log::{Law, LogEnd};
+use crate::naming::Naming;
+use crate::pass::Pass;
+use crate::prefix::LogPrefix;
+use crate::press::Press;
+use crate::seat::Seat;
+use crate::version::{Grows, Version};
+use block::Block;
+use head::Snapshot;
+use left_right::reader::Factory;
+use logbook::{Seen, Start, Word};
+use std::alloc::{AllocError, Global};
+use std::marker::PhantomData;
+use std::sync::{Arc, Wait};
+
+/// The greatest number of passes, and of seats.
+pub const MAX_HANDLES: usize = 64;
+
+/// The greatest number of blocks that a store is opened with.
+pub const MAX_BLOCKS: usize = 63;
+
+/// A store that is not open yet.
+#[derive(Drop)]
+pub struct Store {
+    word: Word<Mark, u64, Law>,
+    seen: Seen<Mark, u64, Law>,
+    pub ghost empty: { seen.log ≡ [] },
+    pub ghost end_is: { word ≡ end_of seen.book },
+}
+
+type Desk<J> = Factory<Version, [Entry; 0], Grows<J>>;
+
+/// A press over the opening version.
+fn press_over<J: Naming>(
+    alloc: Global,
+    blocks: Vec<Block>,
+    log: &LogPrefix<J>,
+    passes: usize,
+) -> Result<Press<J>, AllocError>
+    requires room { (0 < passes) × (passes ≤ 64) }
+    requires few { length blocks.items ≤ 63 }
+    requires opening { opening_of (map part_in blocks.items) ≡ J.opening }
+    requires empty { log.now ≡ [] }
+    ensures { IfOk result (λ p. Shows J.book J.opening p.desk.shown.value []) }
+{
+    let opening = Arc::new(alloc, Snapshot::opening(alloc, blocks)?)?;
+    let first = Version::of(opening, 0, log);
+    let second = first.share()?;
+    Press::new(alloc, first, second, passes)
+}
+
+fn passes_of<J: Naming>(
+    alloc: Global,
+    desk: &Desk<J>,
+    log: &LogPrefix<J>,
+    count: usize,
+) -> Result<Vec<Pass<J>>, OpenError>
+    requires { log.now ≡ [] }
+    ensures made { IfOk result (λ v. (vec_len v ≡ count) × All (λ p. p ≡ nothing) v.items) }
+    ensures refused { IfErr result (λ e. ¬ (e ≡ OpenError.BadPasses) × ¬ (e ≡ OpenError.Limit)) }
+{
+    let mut passes = Vec::new(alloc);
+    for _i in 0..count {
+        let Ok(reader) = desk.reader() else {
+            return Err(OpenError::Unavailable);
+        };
+        if passes.push(Pass::of(reader, log.share())).is_err() {
+            return Err(OpenError::Memory);
+        }
+    }
+    Ok(passes)
+}
+
+fn seats_of<J: Naming>(alloc: Global, count: usize) -> Result<Vec<Seat<J>>, AllocError>
+    ensures { IfOk result (λ v. (vec_len v ≡ count) × AreFresh 0 v.items) }
+{
+    let mut seats = Vec::new(alloc);
+    for number in 0..count {
+        seats.push(Seat::new(number))?;
+    }
+    Ok(seats)
+}
+
+impl Store {
+    /// A store that is not open yet. Its name is picked by the call that opens it.
+    pub fn new() -> Store {
+        let (seen, mut first, _second) = Seen::open(Start::alone(), 0, 0);
+        Store {
+            word: Word::tracked(0, &mut first),
+            seen,
+        }
+    }
+
+    /// Opens the store over these blocks, in this order, with so many passes and seats, which are numbered from 0. Its
+    /// first version has these blocks, an empty head and the empty list. `O2` where there are not 1 to 64 passes and 1
+    /// to 64 seats, then `O3` where there are more than 63 blocks, then `O4` where `left_right` refuses a reader. The
+    /// committer keeps the handle `rt`, since its drop waits for the readers.
+    pub fn open<J: Naming, R: Wait + Drop>(
+        self,
+        rt: R,
+        alloc: Global,
+        blocks: Vec<Block>,
+        passes: usize,
+        seats: usize,
+    ) -> Result<(Committer<J, R>, Vec<Pass<J>>, Vec<Seat<J>>), OpenError>
+        requires book { self.seen.book ≡ J.book }
+        requires opening { opening_of (map part_in blocks.items) ≡ J.opening }
+        ensures room { MatchResult result (λ _. IsRoom passes seats) (λ e. (e ≡ OpenError.BadPasses) ↔ (¬ IsRoom passes seats)) }
+        ensures few { MatchResult result (λ _. length blocks.items ≤ 63) (λ e. (e ≡ OpenError.Limit) ↔ (IsRoom passes seats × (63 < length blocks.items))) }
+        ensures passes { IfOk result (λ r. (vec_len r.1 ≡ passes) × All (λ p. p ≡ nothing) r.1.items) }
+        ensures seats { IfOk result (λ r. (vec_len r.2 ≡ seats) × AreFresh 0 r.2.items) }
+    {
+        if passes < 1 || passes > MAX_HANDLES || seats < 1 || seats > MAX_HANDLES {
+            return Err(OpenError::BadPasses);
+        }
+        if blocks.len() > MAX_BLOCKS {
+            return Err(OpenError::Limit);
+        }
+        let Store { word, seen } = self;
+        let end = LogEnd {
+            word,
+            of: PhantomData,
+        };
+        let log = LogPrefix::of(seen);
+        let told = log.share();
+        let (Ok(counts), Ok(seat_list)) = (
+            Vec::from_elem(alloc, 0u64, seats),
+            seats_of(alloc, seats),
+        ) else {
+            return Err(OpenError::Memory);
+        };
+        let Ok(press) = press_over(alloc, blocks, &log, passes) else {
+            return Err(OpenError::Memory);
+        };
+        let desk = press.factory().another();
+        let committer = Committer::of(Book::of(rt, alloc, end, log, counts, press));
+        let Ok(desk) = desk else {
+            return Err(OpenError::Unavailable);
+        };
+        let pass_list = passes_of(alloc, &desk, &told, passes)?;
+        Ok((committer, pass_list, seat_list))
+    }
+}

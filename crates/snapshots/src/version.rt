@@ -1,0 +1,135 @@
+//! The versions that readers see, and the rule that they keep.
+
+ghost use Rattle.std.specs.Prelude.{◌≡◌, length, IfOk, IfSome};
+ghost use Rattle.std.specs.Arc.{arc_value};
+ghost use mathlib.Core.List.{IsPrefix};
+ghost use Rattle.snapshots.specs.Marks.{accepted, list_of};
+
+use crate::entry::{Entry, Mark};
+use crate::log::Law;
+use crate::naming::Naming;
+use crate::prefix::LogPrefix;
+use crossbeam_utils::rule::{Outcome, Protocol};
+use head::Snapshot;
+use left_right::Absorb;
+use logbook::Seen;
+use std::alloc::AllocError;
+use std::marker::{Model, PhantomData};
+use std::sync::Arc;
+
+/// A snapshot, beside the log that ends with the try of its last event.
+#[derive(Drop)]
+pub struct Version {
+    snapshot: Arc<Snapshot>,
+    marks: u64,
+    events: u64,
+    seen: Seen<Mark, u64, Law>,
+}
+
+impl Model for Version {
+    ghost use Rattle.std.specs.Prelude.{◌≡◌, length};
+    ghost use Rattle.std.specs.Arc.{arc_value};
+    ghost use Rattle.snapshots.specs.Marks.{list_of};
+    ghost use Rattle.snapshots.specs.Views.{Edition};
+
+    ghost Value = { Edition };
+
+    ghost view = { λ v. record { book = v.seen.book; marks = v.seen.log; parts = arc_value v.snapshot } };
+
+    ghost invariant = { λ v. (v.marks ≡ length v.seen.log) × (v.events ≡ length (list_of v.seen.log)) };
+}
+
+impl Version {
+    pub fn of<J: Naming>(snapshot: Arc<Snapshot>, events: u64, log: &LogPrefix<J>) -> Version
+        requires { events ≡ length (list_of log.now) }
+        ensures { result ≡ record { book = J.book; marks = log.now; parts = arc_value snapshot } }
+    {
+        Version {
+            snapshot,
+            marks: log.len(),
+            events,
+            seen: log.seen(),
+        }
+    }
+
+    /// How many events its list has.
+    pub fn events(&self) -> u64
+        ensures { result ≡ length (list_of self.now.marks) }
+    {
+        self.events
+    }
+
+    pub fn snapshot(&self) -> &Snapshot
+        ensures { result.now ≡ self.now.parts }
+    {
+        &self.snapshot
+    }
+
+    /// The same version. Only a count that is full refuses it.
+    pub fn share(&self) -> Result<Version, AllocError>
+        ensures { IfOk result (λ v. v ≡ self.now) }
+    {
+        Ok(Version {
+            snapshot: Arc::try_clone(&self.snapshot)?,
+            marks: self.marks,
+            events: self.events,
+            seen: self.seen.again(),
+        })
+    }
+
+    /// The snapshot, where this version is not older than what was told. It takes no memory.
+    pub fn offer<J: Naming>(&self, told: &LogPrefix<J>) -> Option<Arc<Snapshot>>
+        requires { self.now.book ≡ J.book }
+        ensures parts { IfSome result (λ s. arc_value s ≡ self.now.parts) }
+        ensures told { IfSome result (λ _. IsPrefix (accepted told.now) (list_of self.now.marks)) }
+    {
+        if !told.begins(self.marks, &self.seen) {
+            return None;
+        }
+        Arc::try_clone(&self.snapshot).ok()
+    }
+}
+
+/// An operation is the whole next version.
+impl Absorb<Version> for Version {
+    type State = Version;
+
+    ghost state = { λ v. v };
+
+    ghost applied = { λ before next. next };
+
+    fn absorb_first(&mut self, operation: &Version, _other: &Version) -> Result<(), AllocError> {
+        *self = operation.share()?;
+        Ok(())
+    }
+
+    fn absorb_second(&mut self, operation: Version, _other: &Version) -> Result<(), Version> {
+        *self = operation;
+        Ok(())
+    }
+}
+
+/// The rule of the published versions: each is of the store `J`, and lists only grow.
+pub struct Grows<J> {
+    of: PhantomData<J>,
+}
+
+impl<J: Naming> Protocol<Version, [Entry; 0]> for Grows<J> {
+    ghost use Rattle.std.specs.Prelude.{[]};
+    ghost use Rattle.snapshots.specs.Grows.{Keeps};
+
+    ghost holds = { Keeps J.book J.opening };
+
+    ghost first = { [] };
+}
+
+/// What a step on the published version tells.
+pub struct Sees<J> {
+    of: PhantomData<J>,
+}
+
+impl<J: Naming> Outcome<Version, [Entry; 0]> for Sees<J> {
+    ghost use Rattle.snapshots.specs.Grows.{SeesList};
+
+    ghost then = { SeesList J.book J.opening };
+}
