@@ -28,6 +28,8 @@ mod press;
 mod receipt;
 mod seat;
 mod store;
+#[cfg(test)]
+mod tests;
 mod version;
 
 pub use appender::Appender;
