@@ -1,5 +1,5 @@
 -- Answers of one part to one query agree.
-use Rattle.std.proofs.Common.{◌≡◌, List, [], ◌∷◌, sym, ◌∙◌, ap}
+use Rattle.std.proofs.Common.{List, [], ◌∷◌, sym, ◌∙◌, ap}
 use Rattle.std.specs.List.{AllZip}
 use Rattle.labels.specs.Contents.{selected}
 use Rattle.labels.specs.Parts.{content_of}

@@ -7,7 +7,7 @@ use Rattle.std.proofs.lemmas.List.Elements.{All-head, All-tail, filter-append}
 use Rattle.labels.specs.Labels.{Labels}
 use Rattle.labels.specs.Contents.{Content, in_range}
 use Rattle.labels.specs.Rows.{points_of}
-use Rattle.labels.specs.Parts.{Part, has_sample, rows_in, laid_over, over, content_of, part_kept}
+use Rattle.labels.specs.Parts.{Part, has_sample, rows_in, laid_over, over, part_kept}
 use Rattle.labels.proofs.Restricting.{kept-over}
 use Rattle.matchers.specs.Views.{QueryView}
 use Rattle.matchers.specs.Satisfies.{satisfies_all}

@@ -1,6 +1,6 @@
 //! The answers of the parts of a snapshot.
 
-ghost use Rattle.std.specs.Prelude.{◌≡◌, ◌<◌, length, IfOk, OnOk, slice_index_or};
+ghost use Rattle.std.specs.Prelude.{IfOk, OnOk};
 ghost use Rattle.block_search.specs.Skipping.{LosesNothing};
 ghost use Rattle.block_search.specs.Places.{part_at};
 ghost use Rattle.block_search.specs.Answers.{IsAnswerOf, AreAnswers};

@@ -1,5 +1,5 @@
 -- What is told of parts, one after another.
-use Rattle.std.proofs.Common.{◌≡◌, ℕ, suc, ◌+◌, ◌<◌, Bool, true, false, cond, List, [], ◌∷◌, ◌++◌, map, length, get_or, drop, append_assoc, reverse, refl, sym, ◌∙◌, ap, arith}
+use Rattle.std.proofs.Common.{◌≡◌, ℕ, suc, ◌+◌, ◌<◌, true, false, cond, List, [], ◌∷◌, ◌++◌, map, length, get_or, drop, append_assoc, reverse, refl, sym, ◌∙◌, ap, arith}
 use Rattle.std.specs.Prelude.{not}
 use Rattle.std.specs.List.{filter, AllZip}
 use Rattle.std.proofs.Math.Seq.{drop-cons}
@@ -12,7 +12,6 @@ use Rattle.head.specs.Blocks.{part_in}
 use Rattle.block_search.specs.Skipping.{AskedPart, is_skipped, asked_blocks}
 use Rattle.block_search.specs.Answers.{IsAnswerOf}
 use Rattle.query_http.specs.declared.audited.AnsweredPart.{AnsweredPart}
-use Rattle.query_http.specs.declared.audited.AnsweredPart.TheVariants.{Searched, Skipped}
 use Rattle.query_http.specs.Audited.{IsAnswered}
 use Rattle.query_http.specs.Telling.{told_of_one, left_after}
 

@@ -1,5 +1,5 @@
-use Rattle.std.proofs.Common.{◌≡◌, Some, None, List, sym, subst, ap, ◌∙◌}
-use Rattle.std.specs.Prelude.{IfOk, false, slice_get}
+use Rattle.std.proofs.Common.{List, sym, subst, ap, ◌∙◌}
+use Rattle.std.specs.Prelude.{IfOk, false}
 use Rattle.std.proofs.lemmas.Option.{slice_get_past}
 use Rattle.labels.specs.Parts.{Part}
 use Rattle.postings.specs.declared.part_name.PartName.TheVariants.{Block as BlockName, Head}
