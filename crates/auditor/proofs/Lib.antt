@@ -1,0 +1,11 @@
+pub mod Booleans
+pub mod Splitting
+pub mod Cutting
+pub mod Fitting
+pub mod Separating
+pub mod SelectedRows
+pub mod Comparing
+pub mod Judging
+pub mod Merging
+pub mod Neighbours
+pub mod Excluding

@@ -1,0 +1,4 @@
+pub mod Auditing
+pub mod Looking
+pub mod Listing
+pub mod Errors

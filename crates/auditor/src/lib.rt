@@ -1,0 +1,27 @@
+//! An auditor: it takes a part and what was answered of it, and says that the answer is sound, or its first flaw.
+//!
+//! [`audit`] says yes exactly where no verdict names a missing matcher (`F7`), the intervals are a valid certificate of
+//! the part (`F1`, then in the order of the intervals `F2`, `F3` and `F8`), the separators show that no valid
+//! certificate has fewer (`F4`, `F5`), and the rows are those that the query selects (`F6`). [`audit_skip`] says yes
+//! exactly where the query selects nothing of the part (`F9`), [`audit_merge`] exactly where rows are those of all that
+//! several answers list, the value listed last at each point (`F10`). So a certificate that it accepts is least.
+//!
+//! A [`Table`] is the part. The crate stands on `labels`, `matchers` and the types and definitions of `cover`, and
+//! shares no search, no merge and no walk of certificates with the store whose answers it judges.
+#![tactic(auto)]
+
+mod answer;
+mod flaw;
+mod intervals;
+mod looks;
+mod merged;
+mod rows;
+mod separators;
+mod skip;
+mod table;
+
+pub use answer::{audit, audit_laws};
+pub use flaw::{AuditError, Flaw};
+pub use merged::audit_merge;
+pub use skip::audit_skip;
+pub use table::Table;
