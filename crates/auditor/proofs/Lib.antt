@@ -8,4 +8,5 @@ pub mod Comparing
 pub mod Judging
 pub mod Merging
 pub mod Neighbours
+pub mod Parting
 pub mod Excluding

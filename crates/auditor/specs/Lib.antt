@@ -2,3 +2,4 @@ pub mod Auditing
 pub mod Looking
 pub mod Listing
 pub mod Errors
+pub mod Parted

@@ -15,10 +15,14 @@ mod flaw;
 mod intervals;
 mod looks;
 mod merged;
+#[cfg(test)]
+mod parted;
 mod rows;
 mod separators;
 mod skip;
 mod table;
+#[cfg(test)]
+mod tests;
 
 pub use answer::{audit, audit_laws};
 pub use flaw::{AuditError, Flaw};
