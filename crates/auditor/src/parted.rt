@@ -80,5 +80,14 @@ fn all_times_rise(series: &[(SeriesRef, Row)]) -> bool
 pub fn are_part(series: &[(SeriesRef, Row)]) -> bool
     ensures { IsTrue result → IsPart series.now }
 {
-    references_rise(series) && all_below_end(series) && all_times_rise(series) && differ(series)
+    if !references_rise(series) {
+        return false;
+    }
+    if !all_below_end(series) {
+        return false;
+    }
+    if !all_times_rise(series) {
+        return false;
+    }
+    differ(series)
 }
