@@ -11,14 +11,14 @@ pub type Pieces = &'static [&'static [u8]];
 /// A directory's name, and its files: the meta, the index, the chunks and the tombstones.
 pub type Directory = (&'static str, [Pieces; 4]);
 
-fn file_of(files: [Pieces; 4], name: &str) -> Pieces {
-    let [meta, index, chunks, tombstones] = files;
+/// The place of a file among those of a directory.
+fn place_of(name: &str) -> usize {
     match name {
-        "/meta.json" => meta,
-        "/index" => index,
-        "/chunks/000001" => chunks,
-        "/tombstones" => tombstones,
-        _ => &[],
+        "/meta.json" => 0,
+        "/index" => 1,
+        "/chunks/000001" => 2,
+        "/tombstones" => 3,
+        _ => 4,
     }
 }
 
@@ -46,7 +46,7 @@ impl ReadFiles for Directories {
     fn read_file(&self, alloc: Global, path: &str, most: usize) -> Result<Vec<u8>, ReadError> {
         for (directory, files) in self.all {
             if let Some(name) = path.strip_prefix(*directory) {
-                let pieces = file_of(*files, name);
+                let pieces: Pieces = files.get(place_of(name)).copied().unwrap_or(&[]);
                 if !pieces.is_empty() {
                     return joined(alloc, pieces, most).map_err(|_| ReadError::Memory);
                 }
