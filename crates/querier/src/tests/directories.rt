@@ -28,13 +28,12 @@ pub struct Directories {
     pub all: &'static [Directory],
 }
 
-/// The bytes of pieces, at most so many.
-pub fn joined(alloc: Global, pieces: Pieces, most: usize) -> Result<Vec<u8>, AllocError> {
+/// The bytes of pieces, one after another.
+pub fn joined(alloc: Global, pieces: Pieces) -> Result<Vec<u8>, AllocError> {
     let mut bytes = Vec::new(alloc);
     for piece in pieces {
         bytes.extend_from_slice(piece)?;
     }
-    bytes.truncate(most);
     Ok(bytes)
 }
 
@@ -48,7 +47,11 @@ impl ReadFiles for Directories {
             if let Some(name) = path.strip_prefix(*directory) {
                 let pieces: Pieces = files.get(place_of(name)).copied().unwrap_or(&[]);
                 if !pieces.is_empty() {
-                    return joined(alloc, pieces, most).map_err(|_| ReadError::Memory);
+                    let Ok(mut found) = joined(alloc, pieces) else {
+                        return Err(ReadError::Memory);
+                    };
+                    found.truncate(most);
+                    return Ok(found);
                 }
             }
         }

@@ -31,7 +31,7 @@ const FILES: [(&str, Pieces); 4] = [
 fn write_file(rt: &HostRuntime, folder: &str, name: &str, pieces: Pieces) -> io::Result<()> {
     let alloc = rt.alloc();
     let path = format!(in alloc; "{folder}/{name}")?;
-    let bytes = joined(alloc, pieces, 1000)?;
+    let bytes = joined(alloc, pieces)?;
     fs::write(rt, path.as_str(), bytes.as_slice())
 }
 
