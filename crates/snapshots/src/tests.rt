@@ -266,18 +266,9 @@ fn an_appender_holds_4096_samples_at_times(rt: HostRuntime) -> Result<(), Fail> 
 }
 
 #[test]
-fn a_store_has_1_to_64_passes_and_seats(rt: HostRuntime) -> Result<(), Fail> {
-    let alloc = rt.alloc();
-    for (passes, seats) in [(0, 1), (65, 1), (1, 0), (1, 65)] {
-        let code = code_of_opening(&rt, alloc, passes, seats);
-        assert_eq!(rt; code, "O2", "{passes} passes and {seats} seats");
-    }
-    assert_eq!(rt; code_of_opening(&rt, alloc, 64, 64), "ok");
-    Ok(())
-}
-
-fn code_of_opening<R: Wait>(rt: &R, alloc: Global, passes: usize, seats: usize) -> &'static str {
-    opening_code::<Brand, _>(rt, alloc, Store::new(), passes, seats)
+fn a_store_has_at_most_64_passes(rt: HostRuntime) {
+    let code = opening_code::<Brand, _>(&rt, rt.alloc(), Store::new(), 65, 1);
+    assert_eq!(rt; code, "O2");
 }
 
 fn opening_code<J: Naming, R: Wait>(
