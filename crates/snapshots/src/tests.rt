@@ -266,28 +266,6 @@ fn an_appender_holds_4096_samples_at_times(rt: HostRuntime) -> Result<(), Fail> 
 }
 
 #[test]
-fn a_store_has_at_most_64_passes(rt: HostRuntime) {
-    let code = opening_code::<Brand, _>(&rt, rt.alloc(), Store::new(), 65, 1);
-    assert_eq!(rt; code, "O2");
-}
-
-fn opening_code<J: Naming, R: Wait>(
-    rt: &R,
-    alloc: Global,
-    store: Store,
-    passes: usize,
-    seats: usize,
-) -> &'static str
-    requires book { store.seen.book ≡ J.book }
-    requires opening { opening_of [] ≡ J.opening }
-{
-    match store.open::<J, &R>(rt, alloc, Vec::new(alloc), passes, seats) {
-        Ok(_) => "ok",
-        Err(refusal) => refusal.code(),
-    }
-}
-
-#[test]
 fn refusals_are_told(rt: HostRuntime) -> Result<(), Fail> {
     let alloc = rt.alloc();
     let told = format!(in alloc; "{}", SnapshotError::Unavailable)?;
