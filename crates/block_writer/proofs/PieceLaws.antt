@@ -1,16 +1,18 @@
 -- A piece of a row stands in the file as a chunk, and the chunks of a row have its samples.
-use Rattle.std.proofs.Common.{◌≡◌, ℕ, zero, suc, ◌+◌, ◌-◌, ◌<◌, ◌≤◌, Bool, true, false, ◌&&◌, List, [], ◌∷◌, ◌++◌, length, take, drop, pos, refl, sym, subst, arith}
+use Rattle.std.proofs.Common.{◌≡◌, ℕ, zero, suc, ◌+◌, ◌-◌, ◌<◌, ◌≤◌, Bool, true, false, ◌&&◌, List, [], ◌∷◌, ◌++◌, length, take, drop, pos, refl, sym, ap, subst, arith}
 use Rattle.std.specs.Prelude.{ℤ, T, int_le, int_lt}
 use Rattle.std.specs.List.{AllByRecursion}
 use Rattle.std.specs.Int.{w64}
 use Rattle.std.specs.Int.RustNames.{FitsSigned}
 use Rattle.std.specs.Ordering.{int_cmp}
 use Rattle.std.specs.FinMap.Entries.{is_sorted}
-use Rattle.std.proofs.lemmas.List.{length-take, take-append-drop}
+use Rattle.std.proofs.lemmas.List.{length-take, length-drop, length-append, take-append-drop}
 use Rattle.labels.specs.Contents.{in_range}
 use Rattle.labels.specs.declared.sample.TheConstants.{MIN_TIME, MAX_TIME}
 use Rattle.index_reader.specs.declared.chunk.Chunk.{Chunk}
-use Rattle.chunk_reader.specs.Grammar.{time_at, IsBatch, IsChunk}
+use Rattle.wire.specs.Spelling.{uvarint}
+use Rattle.wire.proofs.Laws.{uvarint_long}
+use Rattle.chunk_reader.specs.Grammar.{body_text, checked, chunk_text, plain, time_at, IsBatch, IsChunk}
 use Rattle.block.specs.Ranges.{covers}
 use Rattle.block.specs.Sound.{lies_in}
 use Rattle.block_writer.specs.EntryBodies.{chunk_of, chunks_from}
@@ -97,8 +99,11 @@ all_inside range (suc n) at (s ∷ ss) r = (
 
 -- a piece, and the file behind it
 
-pub piece_stands : (file : List ℕ) (at : ℕ) (range : ℤ × ℤ) (samples : List (ℤ × ℤ)) (rest : List ℕ) → 8 ≤ at → 0 < length samples → AreReady range samples → drop at file ≡ piece_text (take 120 samples) ++ rest
+pub piece_stands : (file : List ℕ) (at : ℕ) (range : ℤ × ℤ) (samples : List (ℤ × ℤ)) (rest : List ℕ) → length file ≤ 0x4000_0000 → 8 ≤ at → 0 < length samples → AreReady range samples → drop at file ≡ piece_text (take 120 samples) ++ rest
     → IsChunk file at (time_at (take 120 samples) 0) (time_at (take 120 samples) (length (take 120 samples) - 1)) (take 120 samples)
 unfolding piece_text
-piece_stands file at range samples rest behind some r stands =
-    record { behind_head = behind; stands = (rest, stands); batch = batch_of range samples some r; first = refl; last = refl }
+piece_stands file at range samples rest short behind some r stands =
+    let body = body_text (take 120 samples) in
+    let size = length-append (uvarint (length body)) (checked (plain ∷ body)) in
+    let inside : at < length file = omega (arith, length-drop at file, ap length stands, length-append (chunk_text plain body) rest, size, uvarint_long (length body)) in
+    record { segment = omega (arith, short, inside); behind_head = behind; stands = (rest, stands); batch = batch_of range samples some r; first = refl; last = refl }

@@ -30,13 +30,13 @@ pub stands_on : (file text rest : List ℕ) (at : ℕ) → drop at file ≡ text
 stands_on file text rest at stands = sym (drop-drop (length text) at file) ∙ ap (drop (length text)) stands ∙ drop-append_seam text rest
 
 -- the pieces of samples from a place on, and whatever is behind them
-pub pieces_spell : (range : ℤ × ℤ) (file : List ℕ) (n at : ℕ) (samples : List (ℤ × ℤ)) (rest : List ℕ) → 8 ≤ at → length samples ≤ n → AreReady range samples → drop at file ≡ flat_map piece_text (pieces n samples) ++ rest
+pub pieces_spell : (range : ℤ × ℤ) (file : List ℕ) (n at : ℕ) (samples : List (ℤ × ℤ)) (rest : List ℕ) → length file ≤ 0x4000_0000 → 8 ≤ at → length samples ≤ n → AreReady range samples → drop at file ≡ flat_map piece_text (pieces n samples) ++ rest
     → AreSpelled file (chunks_from at (pieces n samples)) samples
 unfolding pieces chunks_from
-pieces_spell range file zero at [] rest behind le ready stands = refl
-pieces_spell range file (suc n) at [] rest behind le ready stands = refl
-pieces_spell range file zero at (s ∷ ss) rest behind le ready stands = absurd (omega (arith, le))
-pieces_spell range file (suc n) at (s ∷ ss) rest behind le ready stands =
+pieces_spell range file zero at [] rest short behind le ready stands = refl
+pieces_spell range file (suc n) at [] rest short behind le ready stands = refl
+pieces_spell range file zero at (s ∷ ss) rest short behind le ready stands = absurd (omega (arith, le))
+pieces_spell range file (suc n) at (s ∷ ss) rest short behind le ready stands =
     let front : List (ℤ × ℤ) = take 120 (s ∷ ss) in
     let back : List (ℤ × ℤ) = drop 120 (s ∷ ss) in
     let others : List ℕ = flat_map piece_text (pieces n back) ++ rest in
@@ -44,8 +44,8 @@ pieces_spell range file (suc n) at (s ∷ ss) rest behind le ready stands =
       front,
       back,
       sym (take-append-drop 120 (s ∷ ss)),
-      piece_stands file at range (s ∷ ss) others behind (omega arith) ready here,
-      pieces_spell range file n (at + length (piece_text front)) back rest (omega (arith, behind)) (omega (arith, le, length-drop 120 (s ∷ ss))) (rest_ready range (s ∷ ss) ready) (stands_on file (piece_text front) others at here),
+      piece_stands file at range (s ∷ ss) others short behind (omega arith) ready here,
+      pieces_spell range file n (at + length (piece_text front)) back rest short (omega (arith, behind)) (omega (arith, le, length-drop 120 (s ∷ ss))) (rest_ready range (s ∷ ss) ready) (stands_on file (piece_text front) others at here),
     )
 
 -- where nothing is deleted all samples are kept
@@ -57,15 +57,15 @@ all_kept r (s ∷ ss) = ap (λ (xs : List (ℤ × ℤ)). s ∷ xs) (all_kept r s
 abbrev pub AreReadyRows : ℤ × ℤ → List Row → Type 0
 AreReadyRows range rows = AllByRecursion (λ (row : Row). T (is_sorted int_cmp row.1) × IsStorable range row) rows
 
-pub row_spelled : (range : ℤ × ℤ) (file : List ℕ) (at : ℕ) (s : Series) (row : Row) (rest : List ℕ) → 8 ≤ at → T (is_sorted int_cmp row.1) → IsStorable range row → s.labels ≡ row.0 → s.chunks ≡ chunks_of at row.1
+pub row_spelled : (range : ℤ × ℤ) (file : List ℕ) (at : ℕ) (s : Series) (row : Row) (rest : List ℕ) → length file ≤ 0x4000_0000 → 8 ≤ at → T (is_sorted int_cmp row.1) → IsStorable range row → s.labels ≡ row.0 → s.chunks ≡ chunks_of at row.1
     → drop at file ≡ series_text row.1 ++ rest → IsRow range file [] s (s.reference, row)
-row_spelled range file at s row rest behind ascending storable labels chunks stands =
+row_spelled range file at s row rest short behind ascending storable labels chunks stands =
     let ready : AreReady range row.1 = record { ascending = ascending; storable = storable.samples } in
     record {
       reference = refl;
       labels = sym labels;
       samples = row.1;
-      spelled = subst (λ (cs : List Chunk). AreSpelled file cs row.1) (sym chunks) (pieces_spell range file (length row.1) at row.1 rest behind (omega arith) ready stands);
+      spelled = subst (λ (cs : List Chunk). AreSpelled file cs row.1) (sym chunks) (pieces_spell range file (length row.1) at row.1 rest short behind (omega arith) ready stands);
       few = storable.few;
       inside = subst (AllByRecursion (λ (c : Chunk). lies_in range c ≡ true)) (sym chunks) (all_inside range (length row.1) at row.1 ready);
       kept = sym (all_kept s.reference row.1);
@@ -74,14 +74,14 @@ row_spelled range file at s row rest behind ascending storable labels chunks sta
 abbrev pub all_text : List Row → List ℕ
 all_text rows = flat_map (λ (row : Row). series_text row.1) rows
 
-pub rows_spelled : (range : ℤ × ℤ) (file : List ℕ) (at : ℕ) (ss : List Series) (rows : List Row) → 8 ≤ at → AreReadyRows range rows → AreSeriesOf at ss rows → drop at file ≡ all_text rows
+pub rows_spelled : (range : ℤ × ℤ) (file : List ℕ) (at : ℕ) (ss : List Series) (rows : List Row) → length file ≤ 0x4000_0000 → 8 ≤ at → AreReadyRows range rows → AreSeriesOf at ss rows → drop at file ≡ all_text rows
     → AreRows range file [] ss (numbered ss rows)
-rows_spelled range file at [] [] behind ready series stands = tt
-rows_spelled range file at [] (row ∷ rows) behind ready series stands = absurd series
-rows_spelled range file at (s ∷ ss) [] behind ready series stands = absurd series
-rows_spelled range file at (s ∷ ss) (row ∷ rows) behind ready series stands = (
-  row_spelled range file at s row (all_text rows) behind ready.0.0 ready.0.1 series.0 series.1 stands,
-  rows_spelled range file (at + length (series_text row.1)) ss rows (omega (arith, behind)) ready.1 series.2 (stands_on file (series_text row.1) (all_text rows) at stands),
+rows_spelled range file at [] [] short behind ready series stands = tt
+rows_spelled range file at [] (row ∷ rows) short behind ready series stands = absurd series
+rows_spelled range file at (s ∷ ss) [] short behind ready series stands = absurd series
+rows_spelled range file at (s ∷ ss) (row ∷ rows) short behind ready series stands = (
+  row_spelled range file at s row (all_text rows) short behind ready.0.0 ready.0.1 series.0 series.1 stands,
+  rows_spelled range file (at + length (series_text row.1)) ss rows short (omega (arith, behind)) ready.1 series.2 (stands_on file (series_text row.1) (all_text rows) at stands),
 )
 
 -- the numbered rows are the rows
@@ -114,6 +114,6 @@ files_spell range index chunks tombstones x rows part storable indexed series te
       deletions = [];
       deleted = none;
       known = tt;
-      rows = rows_spelled range chunks 8 x.series rows (omega arith) (rows_ready range rows full storable) series (ap (drop 8) text);
+      rows = rows_spelled range chunks 8 x.series rows short (omega arith) (rows_ready range rows full storable) series (ap (drop 8) text);
     } in
     record { part = numbered x.series rows; spelled = block; exactly = numbered_rows 8 x.series rows series }

@@ -1,6 +1,6 @@
 -- What is read of a file is what stands there, and what stands there is read.
-use Rattle.std.proofs.Common.{◌≡◌, ℕ, zero, suc, ◌+◌, ◌-◌, ◌/◌, ◌^◌, ◌<◌, Bool, true, false, ◌||◌, eqb, ltb, List, [], ◌∷◌, ◌++◌, length, drop, Result, Ok, Err, refl, sym, ap, subst, ◌∙◌, append_assoc, arith}
-use Rattle.std.specs.Prelude.{ℤ, slice_index, IfOk, OnOk, IsOk, nat_le}
+use Rattle.std.proofs.Common.{◌≡◌, ℕ, zero, suc, ◌+◌, ◌-◌, ◌/◌, ◌^◌, ◌<◌, Bool, true, false, ◌||◌, not, eqb, ltb, List, [], ◌∷◌, ◌++◌, length, drop, Result, Ok, Err, refl, sym, ap, subst, ◌∙◌, append_assoc, arith}
+use Rattle.std.specs.Prelude.{ℤ, ◌==◌, slice_index, IfOk, OnOk, IsOk, nat_le}
 use Rattle.std.specs.Ordering.{int_eq}
 use Rattle.std.proofs.lemmas.Bool.{ltb-false, lt-leb, le-ltb, eqb-true}
 use Rattle.std.specs.List.{flat_map}
@@ -17,9 +17,9 @@ use Rattle.wire.proofs.Fields.{IsBytes-drop, IsBytes-front, IsBytes-back, number
 use Rattle.wire.proofs.Laws.{uvarint_takes, uvarint_again, uvarint_long}
 use Rattle.chunk_reader.specs.declared.error.ChunkError.{ChunkError}
 use Rattle.chunk_reader.specs.declared.error.ChunkError.TheVariants.{Magic, Version, Reference, Crc, XorEncoding, OtherEncoding, Shape, TimesDisagree}
-use Rattle.chunk_reader.specs.Grammar.{checked, chunk_text, body_text, sample_text, signed_text, plain, time_at, IsChunk, IsSegment}
+use Rattle.chunk_reader.specs.Grammar.{checked, chunk_text, body_text, sample_text, signed_text, plain, segment_of, time_at, IsChunk, IsSegment}
 use Rattle.chunk_reader.specs.Outcome.{Answers}
-use Rattle.chunk_reader.specs.Reading.{or_refused, opened, content_at, decoded, batch_in, spans, samples_of}
+use Rattle.chunk_reader.specs.Reading.{or_refused, opened, content_at, decoded, batch_in, is_outside, spans, samples_of}
 use Rattle.chunk_reader.proofs.Batches.{IsBody, batch_takes, batch_again, length-body_text, eqb_same}
 use Rattle.chunk_reader.proofs.Rising.{and_true}
 use Rattle.chunk_reader.proofs.Spans.{int_eq-true, int_eq_same}
@@ -124,10 +124,16 @@ neither : (a b : Bool) → (a || b) ≡ false → (a ≡ false) × (b ≡ false)
 neither true b h = absurd cc
 neither false b h = (refl, h)
 
+un_not : (b : Bool) → not b ≡ false → b ≡ true
+un_not true h = refl
+un_not false h = absurd cc
+
 pub chunk_takes : (file : List ℕ) (reference : ℕ) (mint maxt : ℤ) (samples : List (ℤ × ℤ)) → IsBytes file → samples_of file reference mint maxt ≡ Ok samples → IsChunk file reference mint maxt samples
 unfolding samples_of
 chunk_takes file reference mint maxt samples fits h =
-    let a = kept (ltb reference 8 || nat_le (length file) reference) Reference _ samples h in
+    let a = kept (is_outside file reference) Reference _ samples h in
+    let inside = neither (not (segment_of reference == 0) || ltb reference 8) (nat_le (length file) reference) a.0 in
+    let behind = neither (not (segment_of reference == 0)) (ltb reference 8) inside.0 in
     let bytes = drop reference file in
     let bytes_fits = IsBytes-drop reference file fits in
     let k = bind_ok (content_at bytes) _ samples a.1 in
@@ -139,7 +145,8 @@ chunk_takes file reference mint maxt samples fits h =
     let ends = and_true (int_eq (time_at d.0 0) mint) (int_eq (time_at d.0 (length d.0 - 1)) maxt) s.0 in
     let text : bytes ≡ chunk_text plain (body_text d.0) ++ front.rest = front.text ∙ ap (λ (e : ℕ). chunk_text e k.0.1 ++ front.rest) t.0 ∙ ap (λ (b : List ℕ). chunk_text plain b ++ front.rest) t.1.text in
     subst (IsChunk file reference mint maxt) (same_value d.0 samples s.1) (record {
-      behind_head = ltb-false _ _ (neither (ltb reference 8) (nat_le (length file) reference) a.0).0;
+      segment = eqb-true _ _ (un_not (segment_of reference == 0) behind.0);
+      behind_head = ltb-false _ _ behind.1;
       stands = (front.rest, text);
       batch = t.1.batch;
       first = int_eq-true _ _ ends.0;
@@ -190,13 +197,14 @@ chunk_again file reference mint maxt samples x =
     let content_fits = content_bytes samples in
     let small : length body < 2 ^ 64 = omega (arith, length-body_text samples, x.batch.few) in
     let long : 0 < length (chunk_text plain body) = omega (arith, length-append (uvarint (length body)) (checked (plain ∷ body)), uvarint_long (length body)) in
+    let here : eqb (segment_of reference) 0 ≡ true = eqb_same _ _ x.segment in
     let low : ltb reference 8 ≡ false = le-ltb _ _ x.behind_head in
     let high : nat_le (length file) reference ≡ false = not_le (length file) reference (inside file reference (chunk_text plain body) rest x.stands.1 long) in
     let content : content_at (drop reference file) ≡ Ok (plain, body) = ap content_at x.stands.1 ∙ content_again plain body rest content_fits small in
     let found : decoded plain body ≡ Ok samples = decoded_again samples body (batch_again samples x.batch) in
     let first : int_eq (time_at samples 0) mint ≡ true = int_eq_same _ _ x.first in
     let last : int_eq (time_at samples (length samples - 1)) maxt ≡ true = int_eq_same _ _ x.last in
-    rw (low, high, content, found, first, last) refl
+    rw (here, low, high, content, found, first, last) refl
 
 -- a call's result by what reading gives
 

@@ -1,5 +1,5 @@
 -- The bytes of a chunks file, by what they spell.
-use Rattle.std.specs.Prelude.{◌≡◌, ℕ, ℤ, pos, ◌-◌, ◌≤◌, ◌<◌, T, List, ◌∷◌, ◌++◌, length, drop, get_or}
+use Rattle.std.specs.Prelude.{◌≡◌, ℕ, ℤ, pos, ◌-◌, ◌/◌, ◌^◌, ◌≤◌, ◌<◌, T, List, ◌∷◌, ◌++◌, length, drop, get_or}
 use Rattle.std.specs.List.{flat_map, list_all, AllByRecursion}
 use Rattle.std.specs.Ordering.{int_cmp}
 use Rattle.std.specs.FinMap.Entries.{is_sorted}
@@ -45,8 +45,14 @@ pub record IsBatch (samples : List (ℤ × ℤ)) : Type 0 where
   pub times : T (list_all (λ s. in_range MIN_TIME MAX_TIME s.0) samples)
   pub values : AllByRecursion (λ s. FitsSigned w64 s.1) samples
 
--- at this place behind the head stands a chunk of these samples, which begin and end at these times
+-- the upper 32 bits of a reference are the number of a segment file, from 0; the lower 32 are a place in it
+abbrev pub segment_of : ℕ → ℕ
+segment_of reference = reference / 2 ^ 32
+
+-- the reference is of the first segment, which this file is; and at this place behind the head stands a chunk of these
+-- samples, which begin and end at these times
 pub record IsChunk (file : List ℕ) (reference : ℕ) (mint maxt : ℤ) (samples : List (ℤ × ℤ)) : Type 0 where
+  pub segment : segment_of reference ≡ 0
   pub behind_head : 8 ≤ reference
   pub stands : (rest : List ℕ) × (drop reference file ≡ chunk_text plain (body_text samples) ++ rest)
   pub batch : IsBatch samples

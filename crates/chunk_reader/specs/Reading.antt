@@ -1,5 +1,5 @@
 -- Reading a chunk from a file. Each check has its refusal, and the first that fails is answered.
-use Rattle.std.specs.Prelude.{ℕ, zero, suc, ◌+◌, ◌-◌, ◌*◌, ◌/◌, ℤ, pos, ◌-ℤ◌, List, [], ◌∷◌, length, drop, slice_index, Result, Ok, Err, Bool, true, nat_lt, nat_le, int_lt, int_le, ◌==◌, ◌&&◌, ◌||◌, if◌then◌else◌}
+use Rattle.std.specs.Prelude.{ℕ, zero, suc, ◌+◌, ◌-◌, ◌*◌, ◌/◌, ℤ, pos, ◌-ℤ◌, List, [], ◌∷◌, length, drop, slice_index, Result, Ok, Err, Bool, true, nat_lt, nat_le, int_lt, int_le, ◌==◌, ◌&&◌, ◌||◌, not, if◌then◌else◌}
 use Rattle.std.specs.Ordering.{int_eq}
 use Rattle.std.specs.Int.{w64, cast_signed}
 use Rattle.byteorder.specs.Endian.{big_number}
@@ -9,7 +9,7 @@ use Rattle.wire.specs.Reading.{number_at, bytes_at, uvarint_at}
 use Rattle.wire.specs.Checksum.{crc32c}
 use Rattle.chunk_reader.specs.declared.error.ChunkError.{ChunkError}
 use Rattle.chunk_reader.specs.declared.error.ChunkError.TheVariants.{Magic, Version, Reference, Crc, XorEncoding, OtherEncoding, Shape, TimesDisagree}
-use Rattle.chunk_reader.specs.Grammar.{plain, time_at}
+use Rattle.chunk_reader.specs.Grammar.{plain, segment_of, time_at}
 
 infixl 10 ◌>>=◌
 abbrev pub ◌>>=◌ : {A B : Type 0} → Result A ChunkError → (A → Result B ChunkError) → Result B ChunkError
@@ -72,9 +72,13 @@ decoded encoding body =
 abbrev pub spans : ℤ → ℤ → List (ℤ × ℤ) → Bool
 spans mint maxt samples = int_eq (time_at samples 0) mint && int_eq (time_at samples (length samples - 1)) maxt
 
+-- whether a reference is of another segment, or of no place behind the head of this one
+abbrev pub is_outside : List ℕ → ℕ → Bool
+is_outside file reference = not (segment_of reference == 0) || nat_lt reference 8 || nat_le (length file) reference
+
 unfoldable pub samples_of : List ℕ → ℕ → ℤ → ℤ → Result (List (ℤ × ℤ)) ChunkError
 samples_of file reference mint maxt =
-    if nat_lt reference 8 || nat_le (length file) reference then Err Reference
+    if is_outside file reference then Err Reference
     else (do
       content ← content_at (drop reference file)
       samples ← decoded content.0 content.1

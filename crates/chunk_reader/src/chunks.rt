@@ -4,7 +4,7 @@ ghost use Rattle.std.specs.Prelude.{◌≡◌, ◌<◌, ◌≤◌, ℤ, List, le
 ghost use Rattle.std.specs.List.{flat_map};
 ghost use Rattle.chunk_reader.specs.Grammar.{IsChunk, IsSegment, sample_text};
 ghost use Rattle.chunk_reader.specs.Outcome.{Answers, Gives};
-ghost use Rattle.chunk_reader.specs.Reading.{batch_in, content_at, decoded, opened, samples_of, spans};
+ghost use Rattle.chunk_reader.specs.Reading.{batch_in, content_at, decoded, is_outside, opened, samples_of, spans};
 
 use crate::error::ChunkError;
 use crate::samples::{Samples, are_rising};
@@ -22,11 +22,14 @@ const VERSION: u32 = 0x0100_0000;
 
 const HEAD: u64 = 8;
 
+/// References from here on are of another segment.
+const SEGMENT: u64 = 0x1_0000_0000;
+
 const XOR: u8 = 0x01;
 
 const PLAIN: u8 = 0xE0;
 
-/// A chunks file, of which the head is known to be sound.
+/// A chunks file of at most 1 GiB, of which the head is sound.
 #[derive(Drop)]
 pub struct Chunks {
     file: Vec<u8>,
@@ -38,6 +41,10 @@ impl Model for Chunks {
     ghost Value = { List ℕ };
 
     ghost view = { λ c. c.file.items };
+
+    ghost use Rattle.chunk_reader.specs.Grammar.{IsSegment};
+
+    ghost invariant = { λ c. IsSegment c.file.items };
 }
 
 impl Chunks {
@@ -56,7 +63,7 @@ impl Chunks {
 
     /// The samples of the chunk at `reference`, in place. It takes time in proportion to the chunk, and no memory.
     ///
-    /// `C3` where the reference is below 8 or not below the file's length; `C4` where the chunk's length is not
+    /// `C3` where the upper 32 bits of the reference are not 0, or it is below 8 or not below the file's length; `C4` where the chunk's length is not
     /// spelled, its end is above the file's, or its checksum is wrong; `C5` where the encoding is XOR, `C6` where it is
     /// neither XOR nor `E0`; `C7` where the count is 0 or not that of the body, or times do not ascend strictly or are
     /// outside [`MIN_TIME`](labels::MIN_TIME) to [`MAX_TIME`](labels::MAX_TIME); `C8` where the first time is not
@@ -65,6 +72,8 @@ impl Chunks {
         ensures exact { Answers (λ s. s) result (samples_of self.now reference mint maxt) }
         ensures found { IfOk result (IsChunk self.now reference mint maxt) }
         ensures only { (samples : List (ℤ × ℤ)) → IsChunk self.now reference mint maxt samples → result ≡ Ok samples }
+        // The head of the file is sound.
+        ensures segment { IsSegment self.now }
     {
         chunk_at(self.file.as_slice(), reference, mint, maxt)
     }
@@ -135,12 +144,17 @@ fn chunk_at(file: &[u8], reference: u64, mint: i64, maxt: i64) -> Result<Samples
     samples_of(file, reference, mint, maxt)
 }
 
+fn is_outside(file: &[u8], reference: u64) -> bool
+    ensures { result ≡ is_outside file.now reference }
+{
+    (reference / SEGMENT != 0) | (reference < HEAD) | (file.len() as u64 <= reference)
+}
+
 #[tactic(auto, unfolding(crate::specs::Reading::samples_of))]
 fn samples_of(file: &[u8], reference: u64, mint: i64, maxt: i64) -> Result<Samples<'_>, ChunkError>
     ensures { Answers (λ s. s) result (samples_of file.now reference mint maxt) }
 {
-    let outside = (reference < HEAD) | (file.len() as u64 <= reference);
-    if outside {
+    if is_outside(file, reference) {
         return Err(ChunkError::Reference);
     }
     let (_, bytes) = file.split_at(reference as usize);
