@@ -2,7 +2,7 @@
 
 ghost use Rattle.std.specs.Prelude.{◌≡◌, ℕ, ◌+◌, ◌-◌, ◌<◌, ◌≤◌, length, drop, get_or, slice_get};
 ghost use Rattle.std.specs.List.Sorted.{IsStrictlyIncreasing};
-ghost use Rattle.block.specs.Remaining.{IsAtPlace, IsWithinDigits};
+ghost use Rattle.block.specs.Remaining.{IsAtPlace, HasReadOne, HasReadWithinDigits};
 
 use index_reader::Entries;
 use labels::SeriesRef;
@@ -23,7 +23,7 @@ fn place_of(entries: &mut Entries, from: usize, target: SeriesRef) -> (usize, Op
     requires within { from ≤ length entries.old.0 }
     requires increasing { IsStrictlyIncreasing entries.old.0 }
     ensures same { entries.new.0 ≡ entries.old.0 }
-    ensures few { IsWithinDigits (length entries.old.0 - from) (entries.new.1 - entries.old.1) }
+    ensures few { HasReadWithinDigits (length entries.old.0 - from) entries.old.1 entries.new.1 }
     ensures place { (from ≤ result.0) × (result.0 ≤ length entries.old.0) }
     ensures below { (k : ℕ) → from ≤ k → k < result.0 → get_or entries.old.0 k 0 < target }
     ensures above { result.0 < length entries.old.0 → target ≤ get_or entries.old.0 result.0 0 }
@@ -47,7 +47,7 @@ fn place_of(entries: &mut Entries, from: usize, target: SeriesRef) -> (usize, Op
 
 fn head_of(entries: &mut Entries, at: usize) -> Option<SeriesRef>
     ensures same { entries.new.0 ≡ entries.old.0 }
-    ensures few { entries.new.1 ≤ entries.old.1 + 1 }
+    ensures few { HasReadOne entries.old.1 entries.new.1 }
     ensures head { result ≡ slice_get entries.old.0 at }
 {
     if at >= entries.len() {
@@ -63,7 +63,7 @@ impl<'a> RawList<'a> {
     pub fn new(entries: Entries<'a>) -> RawList<'a>
         requires { IsStrictlyIncreasing entries.0 }
         ensures list { remaining_of result ≡ entries.entry.0 }
-        ensures few { reads_of result ≤ entries.entry.1 + 1 }
+        ensures few { HasReadOne entries.entry.1 (reads_of result) }
     {
         let mut entries = entries;
         let head = head_of(&mut entries, 0);
@@ -96,7 +96,7 @@ impl<'a> Postings for RawList<'a> {
     /// It reads at most one reference.
     fn advance(&mut self)
         ensures list { remaining_of self.new ≡ rest_of (remaining_of self.old) }
-        ensures few { reads_of self.new ≤ reads_of self.old + 1 }
+        ensures few { HasReadOne (reads_of self.old) (reads_of self.new) }
     {
         if self.at < self.entries.len() {
             self.at += 1;
@@ -108,7 +108,7 @@ impl<'a> Postings for RawList<'a> {
     /// is not above the first.
     fn seek(&mut self, target: SeriesRef)
         ensures list { remaining_of self.new ≡ not_below target (remaining_of self.old) }
-        ensures few { IsWithinDigits (length (remaining_of self.old)) (reads_of self.new - reads_of self.old) }
+        ensures few { HasReadWithinDigits (length (remaining_of self.old)) (reads_of self.old) (reads_of self.new) }
         ensures still { target ≤ first_or_end (remaining_of self.old) → reads_of self.new ≡ reads_of self.old }
     {
         let Some(head) = self.head else {

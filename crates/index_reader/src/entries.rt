@@ -58,6 +58,7 @@ impl<'a> Entries<'a> {
         requires { i < length self.old.0 }
         ensures value { slice_get self.old.0 i ≡ Some result }
         ensures counted { self.new ≡ (self.old.0, min (self.old.1 + 1) (2 ^ 64 - 1)) }
+        ensures risen { self.old.1 ≤ self.new.1 }
     {
         let reference = word_at(self.bytes, i);
         self.reads = self.reads.saturating_add(1);

@@ -17,6 +17,7 @@ loop-low-preserved-then-number c =
       start = omega arith;
       ordered = omega arith;
       inside = rw e l.invariant.inside;
+      risen = omega (arith, l.invariant.risen, c.get-reference.ensures.risen);
       few = λ k h. halved l.entries.1 _ (l.high - l.low) _ _ (l.invariant.few k (rw e at h)) (omega arith) (omega arith) once;
       below = λ k a b. rw e (below_middle l.entries.0 m c.args.target c.get-reference.result up (omega arith) c.get-reference.ensures.value less k (omega arith));
       above = rw e l.invariant.above;
@@ -36,8 +37,18 @@ loop-low-preserved c =
       start = l.invariant.start;
       ordered = omega arith;
       inside = rw e (omega (arith, l.invariant.inside));
+      risen = omega (arith, l.invariant.risen, c.get-reference.ensures.risen);
       few = λ k h. halved l.entries.1 _ (l.high - l.low) _ _ (l.invariant.few k (rw e at h)) (omega arith) (omega arith) once;
       below = rw e l.invariant.below;
       above = λ _. rw e (rw here less);
       head = rw e (sym c.get-reference.ensures.value);
+    }
+
+pub returns-clause-few : goal.returns-clause-few
+returns-clause-few c =
+    let l = c.loop-low in
+    record {
+      reads = l.entries.1 - c.args.entries.now.1;
+      added = omega (arith, l.invariant.risen);
+      few = λ digits h. omega (arith, l.invariant.risen, (l.invariant.few digits (rw l.invariant.same h)).1);
     }
