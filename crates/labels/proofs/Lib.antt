@@ -17,3 +17,4 @@ pub mod PartRows
 pub mod Texts
 pub mod Refusals
 pub mod SortedRows
+pub mod LastParts

@@ -10,4 +10,5 @@ pub mod Sets
 pub mod Contents
 pub mod Rows
 pub mod Parts
+pub mod LastParts
 pub mod Putting

@@ -10,6 +10,7 @@
 
 mod error;
 mod label_set;
+mod last_part;
 mod making;
 mod name;
 mod reference;
@@ -22,6 +23,7 @@ mod text;
 
 pub use error::LabelError;
 pub use label_set::LabelSet;
+pub use last_part::last_part_counts;
 pub use name::{continues_name, is_name, starts_name};
 pub use reference::SeriesRef;
 pub use row::{Row, rows_are_unique};
