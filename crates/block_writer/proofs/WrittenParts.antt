@@ -1,11 +1,11 @@
 -- The layout, the gaps, the table and the sections of a written index.
-use Rattle.std.proofs.Common.{◌≡◌, ℕ, ◌+◌, ◌≤◌, true, List, ◌++◌, length}
+use Rattle.std.proofs.Common.{◌≡◌, ℕ, ◌+◌, ◌≤◌, List, ◌++◌, length}
 use Rattle.std.specs.List.{flat_map, AllByRecursion}
 use Rattle.std.specs.Str.{IsUtf8}
 use Rattle.labels.specs.Rows.{Row}
 use Rattle.index_reader.specs.Grammar.{frame, checked, contents_text, IsParts}
-use Rattle.index_reader.specs.Flat.{gaps_zero}
-use Rattle.index_reader.specs.Spelled.{table_text}
+use Rattle.index_reader.specs.Spelled.{table_text, AreZero}
+use Rattle.index_reader.proofs.Gaps.{zeros_of}
 use Rattle.block_writer.specs.EntryBodies.{bodies_of}
 use Rattle.block_writer.specs.IndexText.{symbols_text, section_text, postings_text, index_text}
 use Rattle.block_writer.specs.Written.{IsWrittenIndex}
@@ -24,5 +24,7 @@ pub written_parts : (rows : List Row) (text : List ℕ) (w : IsWrittenIndex rows
 written_parts rows text w short texts =
     parts_are w.symbols (bodies_of w.symbols 8 rows) (flat_map section_text (all_lists w.symbols w.pairs rows)) (table_text (table_of w.symbols w.pairs rows)) text (spelled_as w.symbols w.pairs rows text w.spelled) short w.texts_held.ascending texts
 
-pub written_gaps : (rows : List Row) (text : List ℕ) (w : IsWrittenIndex rows text) → gaps_zero text (length (front_text w.symbols rows)) (5 + length (frame (symbols_text w.symbols))) (parts_in w.symbols w.pairs rows).entries ≡ true
-written_gaps rows text w = gaps_are w.symbols (bodies_of w.symbols 8 rows) (behind_entries w.symbols w.pairs rows) text (spelled_as w.symbols w.pairs rows text w.spelled)
+pub written_gaps : (rows : List Row) (text : List ℕ) (w : IsWrittenIndex rows text) → AreZero text (5 + length (frame (symbols_text w.symbols))) (length (front_text w.symbols rows)) (parts_in w.symbols w.pairs rows).entries
+written_gaps rows text w =
+    zeros_of (parts_in w.symbols w.pairs rows).entries text (length (front_text w.symbols rows)) (5 + length (frame (symbols_text w.symbols)))
+    (gaps_are w.symbols (bodies_of w.symbols 8 rows) (behind_entries w.symbols w.pairs rows) text (spelled_as w.symbols w.pairs rows text w.spelled))

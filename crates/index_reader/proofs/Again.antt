@@ -13,7 +13,7 @@ use Rattle.labels.specs.Labels.{labels_cmp}
 use Rattle.labels.specs.Parts.{carries}
 use Rattle.index_reader.specs.declared.contents.Contents.{Contents}
 use Rattle.index_reader.specs.Reading.{IsPlaced, Place, Parts, ascending, rounded, series_end, parts_of}
-use Rattle.index_reader.specs.Grammar.{entry, IsWalk}
+use Rattle.index_reader.specs.Grammar.{frame, entry, IsWalk}
 use Rattle.index_reader.specs.Bodies.{Label, Body}
 use Rattle.index_reader.specs.Table.{Listed, section_at, references_at, lists_at, table_content_at, table_at}
 use Rattle.index_reader.specs.Each.{each, rises}
@@ -27,6 +27,7 @@ use Rattle.index_reader.specs.Indexes as indexes
 use Rattle.index_reader.specs.Spelled.{table_text, AreBodies, lists_for, IsIndex}
 use Rattle.index_reader.proofs.Walks.{done}
 use Rattle.index_reader.proofs.Whole.{parts_again}
+use Rattle.index_reader.proofs.Gaps.{gaps_of}
 use Rattle.index_reader.proofs.Sound.{few_symbols}
 use Rattle.index_reader.proofs.Orders.{InTable, label_sets_cmp}
 use Rattle.index_reader.proofs.Facts.{in_table, set_at, sets_are, series_length}
@@ -148,13 +149,16 @@ index_again file x fits i =
     let rising = sets_again symbols (label_sets bs) order
     (λ j d lj. let o = set_at bs j d lj in subst (InTable symbols) (sym o.1) (in_table symbols 0 (get_or bs j o.0).labels (labelled j o.0 o.2)))
     (λ k lt. subst (λ (ss : List (List (List ℕ × List ℕ))). labels_cmp (get_or ss k []) (get_or ss (k + 1) []) ≡ Less) sets (i.consistent.in_order k (omega (arith, lt, n, length_is)))) in
-    let b = bodies_read file p bs a i.gaps rising in
+    let stands = i.layout.symbols.1 in
+    let front : p.symbols_end ≤ rounded t.series = omega (arith, i.layout.symbols.3, i.layout.placed.series, ap length stands.1, length-append (frame i.layout.symbols.0) stands.0, length-take (t.series - 5) (drop 5 file)) in
+    let gaps = gaps_of p.entries file (series_end t) (rounded t.series) p.symbols_end i.layout.entries front i.gaps in
+    let b = bodies_read file p bs a gaps rising in
     let end_is : postings_end t ≤ 2 ^ 64 = omega (arith, end_small t (length file) i.layout.placed, small) in
     let tables = tabled_again file t i.table fits small end_is i.tabled in
     let refs = small_from (references x.series) (λ k lt. i.consistent.small k (omega (arith, lt, length-map x.series (λ (s : Series). s.reference)))) in
     let s = sections_again file (postings_end t) i.table (references x.series ∷ lists_for x.pairs x.series) fits small (refs, small_lists x.pairs x.series refs) i.sections in
     let c = postings_read file t (table_text i.table) i.table s.0 s.1 tables.0 tables.1 s.2 s.3 in
-    let k = agreement_again symbols p.entries bs x i.table s.1 order i.series count labelled i.consistent i.listed s.4 in
+    let k = agreement_again symbols p.entries bs x i.table s.1 order i.series count labelled (record { in_order = i.consistent.pairs_in_order; carried = i.consistent.carried; listed = i.consistent.listed }) i.listed s.4 in
     let e = le-ltb 1048576 (length bs) (omega (arith, length_is, i.consistent.few)) in
     let f = small_sets bs i.few_labels in
     let r = whole_read file p bs i.table s.1 k.0 (parts_again file p fits i.layout) b c k.1 e f in

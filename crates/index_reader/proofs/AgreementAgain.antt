@@ -24,7 +24,7 @@ use Rattle.index_reader.specs.Finding.{symbol_of, key_before, place_of}
 use Rattle.index_reader.specs.Agreement.{key_at, keys_at, place_at, placed_at, each_all, Tied, tied, are_used, agreed_at}
 use Rattle.index_reader.specs.Agreement as agreement
 use Rattle.index_reader.specs.Opening as opening
-use Rattle.index_reader.specs.Indexes.{Series, Indexed, references, references_with, text_of, named, series_at, series_of, IsConsistent}
+use Rattle.index_reader.specs.Indexes.{Series, Indexed, references, references_with, text_of, named, series_at, series_of}
 use Rattle.index_reader.specs.Spelled.{pairs_of, lists_for}
 use Rattle.index_reader.proofs.Searching.{strict_from_rises, ascending_is, search_found}
 use Rattle.index_reader.proofs.Orders.{pairs_cmp}
@@ -209,19 +209,25 @@ used_again : (lists : List (List ℕ)) (k : ℕ) → ((j : ℕ) → j < length l
 used_again [] k h = refl
 used_again (l ∷ lists) k h = rw (lt-ltb 0 (length l) (h 0 (omega arith)), used_again lists k (λ j lt. h (suc j) (omega arith))) refl
 
--- what IsConsistent says, by symbols
+-- the pairs ascend, and are exactly those that series carry
+pub record HasItsPairs (x : Indexed) : Type 0 where
+  pub in_order : (k : ℕ) → k + 1 < length x.pairs → pair_cmp (get_or x.pairs k ([], [])) (get_or x.pairs (k + 1) ([], [])) ≡ Less
+  pub carried : (name value : List ℕ) → Contains x.pairs (name, value) → references_with name value x.series ≡ [] → ⊥
+  pub listed : (name value : List ℕ) → (references_with name value x.series ≡ [] → ⊥) → Contains x.pairs (name, value)
+
+-- the same by symbols
 record AreKeysOf (symbols : List (List ℕ)) (x : Indexed) (keys : List Label) : Type 0 where
   inside : AllByRecursion (IsInside symbols) keys
   are : named symbols keys ≡ x.pairs
   rising : rises key_before keys ≡ true
 
-keys_of : (symbols : List (List ℕ)) (ps : List Place) (bs : List Body) (x : Indexed) → ascending symbols ≡ true → x.series ≡ series_of symbols ps bs → ((j : ℕ) (d : Body) → j < length bs → AreLabels symbols 0 (get_or bs j d).labels) → IsConsistent x → (keys : List Label) × AreKeysOf symbols x keys
+keys_of : (symbols : List (List ℕ)) (ps : List Place) (bs : List Body) (x : Indexed) → ascending symbols ≡ true → x.series ≡ series_of symbols ps bs → ((j : ℕ) (d : Body) → j < length bs → AreLabels symbols 0 (get_or bs j d).labels) → HasItsPairs x → (keys : List Label) × AreKeysOf symbols x keys
 keys_of symbols ps bs x order s h c =
     let found = keys_for symbols x.pairs (λ (p : Pair). λ (m : Contains x.pairs p). label_of symbols ps bs p.0 p.1 h (λ (e : references_with p.0 p.1 (series_of symbols ps bs) ≡ []). c.carried p.0 p.1 m (ap (λ (ss : List Series). references_with p.0 p.1 ss) s ∙ e))) in
-    let rise = λ (k : ℕ). λ (lt : k + 1 < length found.0). subst (λ (ps' : List Pair). pair_cmp (get_or ps' k ([], [])) (get_or ps' (k + 1) ([], [])) ≡ Less) (sym found.2) (c.pairs_in_order k (omega (arith, lt, ap (λ (ps' : List Pair). length ps') found.2, length-map found.0 (text_of symbols)))) in
+    let rise = λ (k : ℕ). λ (lt : k + 1 < length found.0). subst (λ (ps' : List Pair). pair_cmp (get_or ps' k ([], [])) (get_or ps' (k + 1) ([], [])) ≡ Less) (sym found.2) (c.in_order k (omega (arith, lt, ap (λ (ps' : List Pair). length ps') found.2, length-map found.0 (text_of symbols)))) in
     (found.0, record { inside = found.1; are = found.2; rising = keys_rise symbols found.0 order found.1 rise })
 
-label_placed : (symbols : List (List ℕ)) (ps : List Place) (bs : List Body) (x : Indexed) (keys : List Label) → ascending symbols ≡ true → x.series ≡ series_of symbols ps bs → length bs ≡ length ps → ((j : ℕ) (d : Body) → j < length bs → AreLabels symbols 0 (get_or bs j d).labels) → IsConsistent x → AreKeysOf symbols x keys
+label_placed : (symbols : List (List ℕ)) (ps : List Place) (bs : List Body) (x : Indexed) (keys : List Label) → ascending symbols ≡ true → x.series ≡ series_of symbols ps bs → length bs ≡ length ps → ((j : ℕ) (d : Body) → j < length bs → AreLabels symbols 0 (get_or bs j d).labels) → HasItsPairs x → AreKeysOf symbols x keys
     → (j : ℕ) (d : Body) (k : ℕ) → j < length bs → k < length (get_or bs j d).labels → HasPlace keys (get_or (get_or bs j d).labels k (0, 0))
 label_placed symbols ps bs x keys order s n h c a j d k lj lk =
     let ls = (get_or bs j d).labels in
@@ -266,7 +272,7 @@ some_raw [] h = absurd (h refl)
 some_raw (b ∷ bytes) h = omega arith
 
 -- the list of no pair is empty
-raws_used : (symbols : List (List ℕ)) (x : Indexed) (keys : List Label) (raws : List (List ℕ)) → AreKeysOf symbols x keys → IsConsistent x → map refs_of raws ≡ references x.series ∷ lists_for x.pairs x.series → are_used raws ≡ true
+raws_used : (symbols : List (List ℕ)) (x : Indexed) (keys : List Label) (raws : List (List ℕ)) → AreKeysOf symbols x keys → HasItsPairs x → map refs_of raws ≡ references x.series ∷ lists_for x.pairs x.series → are_used raws ≡ true
 raws_used symbols x keys [] a c e = refl
 raws_used symbols x keys (r ∷ raws) a c e = used_again raws 0 (λ j lt.
     let n = length-map x.pairs (λ (p : Pair). references_with p.0 p.1 x.series) in
@@ -282,12 +288,12 @@ raws_used symbols x keys (r ∷ raws) a c e = used_again raws 0 (λ j lt.
     in_pairs (p ∷ pairs) zero lt = here p pairs
     in_pairs (p ∷ pairs) (suc j) lt = there p (get_or pairs j ([], [])) pairs (in_pairs pairs j (omega arith))
 
-    none_listed : (x : Indexed) → IsConsistent x → (j : ℕ) → j < length x.pairs → get_or (lists_for x.pairs x.series) j [] ≡ [] → ⊥
+    none_listed : (x : Indexed) → HasItsPairs x → (j : ℕ) → j < length x.pairs → get_or (lists_for x.pairs x.series) j [] ≡ [] → ⊥
     none_listed x c j lt e =
         let p = get_or x.pairs j ([], []) in
         c.carried p.0 p.1 (in_pairs x.pairs j lt) (sym (get_or-map (λ (q : Pair). references_with q.0 q.1 x.series) x.pairs j ([], []) [] lt) ∙ e)
 
-pub agreement_again : (symbols : List (List ℕ)) (ps : List Place) (bs : List Body) (x : Indexed) (table : List Listed) (raws : List (List ℕ)) → ascending symbols ≡ true → x.series ≡ series_of symbols ps bs → length bs ≡ length ps → ((j : ℕ) (d : Body) → j < length bs → AreLabels symbols 0 (get_or bs j d).labels) → IsConsistent x
+pub agreement_again : (symbols : List (List ℕ)) (ps : List Place) (bs : List Body) (x : Indexed) (table : List Listed) (raws : List (List ℕ)) → ascending symbols ≡ true → x.series ≡ series_of symbols ps bs → length bs ≡ length ps → ((j : ℕ) (d : Body) → j < length bs → AreLabels symbols 0 (get_or bs j d).labels) → HasItsPairs x
     → pairs_of table ≡ ([], []) ∷ x.pairs → map refs_of raws ≡ references x.series ∷ lists_for x.pairs x.series → (keys : List Label) × (agreed_at symbols table raws (tied (agreement.references ps) (opening.label_sets bs)) ≡ Ok keys) × (named symbols keys ≡ x.pairs)
 unfolding agreed_at
 agreement_again symbols ps bs x table raws order s n h c t lists =

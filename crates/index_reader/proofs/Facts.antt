@@ -82,7 +82,7 @@ pub record Chain (file : List ℕ) (r : Read) : Type 0 where
   pub few : length r.bodies ≤ 1048576
   pub small : list_all is_small (label_sets r.bodies) ≡ true
 
-bodied : (file : List ℕ) (p : Parts) (bs : List Body) → bodies_of file p ≡ Ok bs → AreBodies file p bs
+pub bodied : (file : List ℕ) (p : Parts) (bs : List Body) → bodies_of file p ≡ Ok bs → AreBodies file p bs
 unfolding bodies_of
 bodied file p bs h =
     let e = bind_ok (each (body_of_place p.symbols) p.entries) _ bs h in
@@ -90,7 +90,7 @@ bodied file p bs h =
     let k = guard_ended (rises is_before (label_sets e.0)) SeriesOrder e.0 bs g.1 in
     subst (AreBodies file p) k.1 (record { read = e.1; gaps = g.0; rising = k.0 })
 
-listed_in : (file : List ℕ) (t : Contents) (x : List Listed × List (List ℕ)) → postings_of file t ≡ Ok x → ArePostings file t x.0 x.1
+pub listed_in : (file : List ℕ) (t : Contents) (x : List Listed × List (List ℕ)) → postings_of file t ≡ Ok x → ArePostings file t x.0 x.1
 unfolding postings_of
 listed_in file t x h =
     let c = bind_ok (table_content_at file t) _ x h in
@@ -283,7 +283,7 @@ walk_small (p ∷ ps) file end at w le zero lt =
     omega (arith, e, l, le)
 walk_small (p ∷ ps) file end at w le (suc k) lt = walk_small ps file end (rounded (at + length (entry p.body))) w.3 le k (omega arith)
 
-less_is : (o : Ordering) → is_lt o ≡ true → o ≡ Less
+pub less_is : (o : Ordering) → is_lt o ≡ true → o ≡ Less
 less_is Less h = refl
 less_is Equal h = absurd cc
 less_is Greater h = absurd cc
@@ -378,7 +378,7 @@ set_at [] k d lt = absurd (omega arith)
 set_at (b ∷ bs) zero d lt = (b, refl, omega arith)
 set_at (b ∷ bs) (suc k) d lt = let r = set_at bs k d (omega arith) in (r.0, r.1, omega (arith, r.2))
 
-counted_lists : (file : List ℕ) (to : ℕ) (table : List Listed) (lists : List (List ℕ)) → lists_at file to table ≡ Ok lists → (length lists ≡ length table) × ((k : ℕ) (d : List ℕ) → k < length lists → IsList (get_or lists k d))
+pub counted_lists : (file : List ℕ) (to : ℕ) (table : List Listed) (lists : List (List ℕ)) → lists_at file to table ≡ Ok lists → (length lists ≡ length table) × ((k : ℕ) (d : List ℕ) → k < length lists → IsList (get_or lists k d))
 unfolding lists_at
 counted_lists file to table lists h =
     let contents = bind_ok (each (section_at file to) table) _ lists h in

@@ -15,6 +15,7 @@ use Rattle.index_reader.specs.Opening.{postings_end, Read, read_of, indexed}
 use Rattle.index_reader.specs.Indexes.{Series, references, references_with, text_of, named, series_of}
 use Rattle.index_reader.specs.Kept.{IsListing}
 use Rattle.index_reader.specs.Spelled.{pairs_of, lists_for, AreSections, IsIndex}
+use Rattle.index_reader.proofs.Gaps.{zeros_of}
 use Rattle.index_reader.proofs.WalkLoops.{bind_ok}
 use Rattle.index_reader.proofs.Walks.{ok_is}
 use Rattle.index_reader.proofs.Texts.{each_cons, each_nil}
@@ -45,7 +46,7 @@ list_is symbols keys series lists l (suc k) lt =
     let inside : k < length keys = omega (arith, lt, l.counted) in
     ap (λ (j : ℕ). get_or lists j []) e ∙ l.listed k inside ∙ sym (pair_listed symbols keys series k inside)
 
-lists_are : (symbols : List (List ℕ)) (keys : List Label) (series : List Series) (lists : List (List ℕ)) → IsListing symbols keys series lists → lists ≡ references series ∷ lists_for (named symbols keys) series
+pub lists_are : (symbols : List (List ℕ)) (keys : List Label) (series : List Series) (lists : List (List ℕ)) → IsListing symbols keys series lists → lists ≡ references series ∷ lists_for (named symbols keys) series
 lists_are symbols keys series lists l =
     let n = length-map (named symbols keys) (λ (p : List ℕ × List ℕ). references_with p.0 p.1 series) in
     let m = length-map keys (text_of symbols) in
@@ -77,7 +78,7 @@ rest_pairs symbols (l ∷ ls) keys h =
     let x = each_cons (key_at symbols) l ls keys h in
     ap (λ (p : List ℕ × List ℕ). p ∷ pairs_of ls) (key_pair symbols l x.0 x.2) ∙ ap (λ (ps : List (List ℕ × List ℕ)). text_of symbols x.0 ∷ ps) (rest_pairs symbols ls x.1 x.3) ∙ ap (named symbols) x.4
 
-table_pairs : (symbols : List (List ℕ)) (table : List Listed) (keys : List Label) → AreKeys symbols table keys → pairs_of table ≡ ([], []) ∷ named symbols keys
+pub table_pairs : (symbols : List (List ℕ)) (table : List Listed) (keys : List Label) → AreKeys symbols table keys → pairs_of table ≡ ([], []) ∷ named symbols keys
 table_pairs symbols table keys k =
     let n = nil_from_length k.first.name k.no_name in
     let v = nil_from_length k.first.value k.no_value in
@@ -105,7 +106,7 @@ is_index file r fits p h =
       layout = p;
       bodies = r.bodies;
       spelled = bodies_spelled symbols r.parts.entries r.bodies (walk_bytes r.parts.entries file (series_end r.parts.contents) (rounded r.parts.contents.series) fits p.entries) c.bodies.read;
-      gaps = c.bodies.gaps;
+      gaps = zeros_of r.parts.entries file (series_end r.parts.contents) r.parts.symbols_end c.bodies.gaps;
       series = refl;
       few_labels = λ j d lt. few_labels r.bodies j d c.small lt;
       table = c.table;

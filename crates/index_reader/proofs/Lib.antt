@@ -3,7 +3,7 @@ mod Draining
 mod Eaches
 mod Fields
 mod Firsts
-mod Gaps
+pub mod Gaps
 mod Growth
 mod Head
 mod Orders
@@ -33,3 +33,4 @@ mod BodyAgain
 mod TableAgain
 mod AgreementAgain
 pub mod Again
+mod LastChecks

@@ -19,6 +19,7 @@ pub mod Seen
 pub mod SeenChunks
 pub mod Shown
 pub mod Spelled
+pub mod Stated
 pub mod Steps
 pub mod Table
 pub mod Words

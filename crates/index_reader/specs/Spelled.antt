@@ -1,6 +1,6 @@
 -- A whole index, by the bytes that spell it.
-use Rattle.std.specs.Prelude.{◌≡◌, ℕ, ◌+◌, ◌-◌, ◌^◌, ◌<◌, ◌≤◌, ◌⊎◌, ℤ, pos, ◌+ℤ◌, true, List, [], ◌∷◌, ◌++◌, length, get_or, map, slice_range}
-use Rattle.std.specs.List.{flat_map, list_all}
+use Rattle.std.specs.Prelude.{◌≡◌, ℕ, ◌+◌, ◌-◌, ◌^◌, ◌<◌, ◌≤◌, ◌⊎◌, ℤ, pos, ◌+ℤ◌, true, List, [], ◌∷◌, ◌++◌, length, get_or, map, slice_index, slice_range}
+use Rattle.std.specs.List.{flat_map, list_all, Contains}
 use Rattle.std.specs.List.Sorted.{IsStrictlyIncreasing}
 use Rattle.byteorder.specs.Endian.{big_bytes}
 use Rattle.wire.specs.Spelling.{uvarint, varint, zigzag}
@@ -12,7 +12,6 @@ use Rattle.index_reader.specs.Chunks.{is_time}
 use Rattle.index_reader.specs.Bodies.{Label, Body}
 use Rattle.index_reader.specs.Table.{Listed, is_before, is_within}
 use Rattle.index_reader.specs.Each.{rises}
-use Rattle.index_reader.specs.Flat.{gaps_zero}
 use Rattle.index_reader.specs.Opening.{postings_end}
 use Rattle.index_reader.specs.Indexes.{Series, Indexed, references, references_with, series_of, IsConsistent}
 use Rattle.index_reader.specs.Labelled.{AreLabels}
@@ -73,6 +72,15 @@ AreBodies symbols [] (b ∷ bs) = ⊥
 AreBodies symbols (p ∷ ps) [] = ⊥
 AreBodies symbols (p ∷ ps) (b ∷ bs) = IsBody symbols b p.body × AreBodies symbols ps bs
 
+-- a place in the file lies in an entry
+abbrev pub LiesIn : ℕ → Place → Type 0
+LiesIn k p = (p.offset ≤ k) × (k < p.end)
+
+-- from one place up to another, each byte in no entry is 0
+abbrev pub AreZero : List ℕ → ℕ → ℕ → List Place → Type 0
+AreZero file from to entries =
+    (k : ℕ) → from ≤ k → k < to → ((p : Place) → Contains entries p → LiesIn k p → ⊥) → slice_index file k ≡ 0
+
 -- an entry of the postings offset table
 abbrev pub listed_text : Listed → List ℕ
 listed_text l = (2 ∷ []) ++ (symbol l.name ++ (symbol l.value ++ uvarint l.offset))
@@ -108,7 +116,7 @@ pairs_of table = map (λ l. (l.name, l.value)) table
 abbrev pub lists_for : List (List ℕ × List ℕ) → List Series → List (List ℕ)
 lists_for pairs series = map (λ p. references_with p.0 p.1 series) pairs
 
--- the file is an index of these series and pairs: its layout; a body in each entry, and zeros between them; a table that
+-- the file is an index of these series and pairs: its layout; a body in each entry, and zeros in no entry; a table that
 -- lists the empty pair with all series, and behind it exactly the pairs that series carry, each with those series; and
 -- no more than 64 labels in a series
 pub record IsIndex (file : List ℕ) (x : Indexed) : Type 0 where
@@ -116,7 +124,7 @@ pub record IsIndex (file : List ℕ) (x : Indexed) : Type 0 where
   pub layout : IsParts file parts
   pub bodies : List Body
   pub spelled : AreBodies parts.symbols parts.entries bodies
-  pub gaps : gaps_zero file (series_end parts.contents) parts.symbols_end parts.entries ≡ true
+  pub gaps : AreZero file parts.symbols_end (series_end parts.contents) parts.entries
   pub series : x.series ≡ series_of parts.symbols parts.entries bodies
   pub few_labels : (k : ℕ) (d : Body) → k < length bodies → length (get_or bodies k d).labels ≤ 64
   pub table : List Listed

@@ -5,6 +5,7 @@ ghost use Rattle.index_reader.specs.Outcome.{Gives};
 ghost use Rattle.index_reader.specs.Indexes.{Indexed, IsConsistent, references, label_sets, chunk_lists, references_with, values_of};
 ghost use Rattle.index_reader.specs.Opening.{indexed_of};
 ghost use Rattle.index_reader.specs.Spelled.{IsIndex};
+ghost use Rattle.index_reader.specs.Stated.{stated_of, AreLastChecks};
 
 use crate::bodies::chunks_of;
 use crate::chunk::Chunk;
@@ -81,6 +82,8 @@ impl Index {
         ensures only { (x : Indexed) → IsIndex file.now x → Gives (λ i. i) result (Ok x) }
         // References and label sets ascend, and the lists are those of the series.
         ensures consistent { IfOk result IsConsistent }
+        // `I14` is answered where the postings are not those of the series, and else `I15` for too many.
+        ensures last { AreLastChecks (stated_of file.now) (indexed_of file.now) }
     {
         index_of(alloc, file)
     }
