@@ -15,3 +15,4 @@ pub mod Views
 pub mod LiveLists
 pub mod PartPlaces
 pub mod Named
+pub mod Shared

@@ -9,6 +9,7 @@ ghost use Rattle.block.specs.Opening.{block_of};
 ghost use Rattle.block.specs.Outcome.{Gives};
 ghost use Rattle.block.specs.Ranges.{IsRange};
 
+use crate::checking::{Checker, OneThread, Workers};
 use crate::counting::count_live;
 use crate::error::BlockError;
 use crate::opening::{are_inside, check_stored, known_deletions};
@@ -19,6 +20,7 @@ use labels::SeriesRef;
 use std::alloc::{AllocError, Global};
 use std::marker::Model;
 use std::sync::Arc;
+use std::thread::Threads;
 use tombstones::Tombstones;
 
 /// What a block was read from, and never changes.
@@ -52,20 +54,22 @@ impl Model for Block {
 }
 
 // The checks, and what they leave.
-fn opened(
+fn opened<C: Checker>(
+    checker: &C,
     alloc: Global,
     range: Range,
     index: &[u8],
     chunks: Vec<u8>,
     tombstones: &[u8],
 ) -> Result<Block, BlockError>
+    requires ready { C.is_ready checker.now }
     ensures exact { Gives (λ b. b) result (block_of range index.now chunks.items tombstones.now) }
     ensures found { IfOk result (λ b. IsBlock range index.now chunks.items tombstones.now b.part) }
     ensures range { IfOk result (λ b. b.range ≡ range) }
 {
     let index = Index::open(alloc, index)?;
     let chunks = Chunks::open(chunks)?;
-    check_stored(&index, &chunks)?;
+    check_stored(checker, &index, &chunks)?;
     let deletions = known_deletions(alloc, &index, tombstones)?;
     if !are_inside(&index, range) {
         return Err(BlockError::OutsideRange);
@@ -102,7 +106,28 @@ impl Block {
         ensures only { (part : Part) → IsBlock range index.now chunks.items tombstones.now part → Gives (λ b. b.part) result (Ok part) }
         ensures range { IfOk result (λ b. b.range ≡ range) }
     {
-        opened(alloc, range, index, chunks, tombstones)
+        opened(&OneThread, alloc, range, index, chunks, tombstones)
+    }
+
+    /// The same as [`Block::open`], with the checks of the chunks shared out over at most `threads` threads, the
+    /// calling one among them. The answer does not depend on their number, nor on whether they can be started. Ask for
+    /// four for each processor: the shares are equal in series, not in work.
+    pub fn open_by<R: Threads + Sync>(
+        rt: &R,
+        threads: usize,
+        alloc: Global,
+        range: Range,
+        index: &[u8],
+        chunks: Vec<u8>,
+        tombstones: &[u8],
+    ) -> Result<Block, BlockError>
+        ensures exact { Gives (λ b. b) result (block_of range index.now chunks.items tombstones.now) }
+        ensures found { IfOk result (λ b. IsBlock range index.now chunks.items tombstones.now b.part) }
+        ensures only { (part : Part) → IsBlock range index.now chunks.items tombstones.now part → Gives (λ b. b.part) result (Ok part) }
+        ensures range { IfOk result (λ b. b.range ≡ range) }
+    {
+        let workers = Workers { rt, threads };
+        opened(&workers, alloc, range, index, chunks, tombstones)
     }
 
     /// The times that the block covers.

@@ -17,6 +17,7 @@
 #![tactic(auto)]
 
 mod blocks;
+mod checking;
 mod counting;
 mod error;
 mod halving;

@@ -1,70 +1,36 @@
 //! All checks of a block, in their order.
 
-ghost use Rattle.std.specs.Prelude.{◌≡◌, true, slice_get, Some, IfOk, OnOk, IfSome, IfNone};
-ghost use Rattle.std.specs.List.{AllByRecursion, Contains, list_all};
+ghost use Rattle.std.specs.Prelude.{◌≡◌, true, OnOk};
+ghost use Rattle.std.specs.List.{AllByRecursion, list_all};
 ghost use Rattle.std.specs.List.Sorted.{IsStrictlyIncreasing};
 ghost use Rattle.index_reader.specs.Indexes.{references, chunk_lists};
-ghost use Rattle.chunk_reader.specs.Outcome.{Answers};
 ghost use Rattle.block.specs.Outcome.{Gives, GivesAll};
-ghost use Rattle.block.specs.Sound.{IsHeld, IsCounted, lies_in};
-ghost use Rattle.block.specs.Opening.{each, chunk_check, have_few, is_known, stored_of, deleted_of};
+ghost use Rattle.block.specs.Sound.{IsHeld, lies_in};
+ghost use Rattle.block.specs.Opening.{have_few, is_known, stored_of, deleted_of};
 
+use crate::checking::Checker;
 use crate::error::BlockError;
 use crate::halving::place_of;
 use crate::range::Range;
-use chunk_reader::{ChunkError, Chunks};
+use chunk_reader::Chunks;
 use index_reader::{Chunk, Index, IndexError};
 use labels::SeriesRef;
 use std::alloc::Global;
 use tombstones::{Deletion, Tombstones};
 
-const MAX_SAMPLES: u64 = 1_048_576;
-
-// How many samples the chunk holds.
-fn count_in(chunks: &Chunks, chunk: &Chunk) -> Result<u64, ChunkError>
-    ensures exact { Answers (λ _. tt) result (chunk_check chunks.now chunk.now) }
-    ensures counted { IfOk result (IsCounted chunks.now chunk.now) }
-{
-    let samples = chunks.find(chunk.reference, chunk.mint, chunk.maxt)?;
-    Ok(samples.len() as u64)
-}
-
-// Whether the chunks of a series hold few samples.
-fn are_few(chunks: &Chunks, list: &[Chunk]) -> Result<bool, ChunkError>
-    ensures exact { Answers (λ _. tt) result (each (chunk_check chunks.now) list.now) }
-    ensures few { IfOk result (λ few. few ≡ have_few chunks.now list.now) }
-    ensures held { OnOk result (AllByRecursion (IsHeld chunks.now) list.now) }
-{
-    let mut count = 0u64;
-    for chunk in list {
-        let more = count_in(chunks, chunk)?;
-        count = count.saturating_add(more);
-    }
-    Ok(count <= MAX_SAMPLES)
-}
-
-// Whether the chunks of each series hold few samples.
-fn all_few(index: &Index, chunks: &Chunks) -> Result<bool, ChunkError>
-    ensures exact { Answers (λ _. tt) result (each (each (chunk_check chunks.now)) (chunk_lists index.now.series)) }
-    ensures few { IfOk result (λ few. few ≡ list_all (have_few chunks.now) (chunk_lists index.now.series)) }
-    ensures held { OnOk result (AllByRecursion (AllByRecursion (IsHeld chunks.now)) (chunk_lists index.now.series)) }
-{
-    let mut few = true;
-    for at in 0..index.len() {
-        let these = are_few(chunks, index.chunks_at(at))?;
-        few = few & these;
-    }
-    Ok(few)
-}
-
 /// Looks at each chunk that the index names, in its order, and then whether a series has too many samples.
 #[tactic(auto, unfolding(crate::specs::Opening::stored_of))]
-pub(crate) fn check_stored(index: &Index, chunks: &Chunks) -> Result<(), BlockError>
+pub(crate) fn check_stored<C: Checker>(
+    checker: &C,
+    index: &Index,
+    chunks: &Chunks,
+) -> Result<(), BlockError>
+    requires ready { C.is_ready checker.now }
     ensures exact { Gives (λ _. tt) result (stored_of chunks.now index.now.series) }
     ensures held { OnOk result (AllByRecursion (AllByRecursion (IsHeld chunks.now)) (chunk_lists index.now.series)) }
     ensures few { OnOk result (list_all (have_few chunks.now) (chunk_lists index.now.series) ≡ true) }
 {
-    let few = all_few(index, chunks)?;
+    let few = checker.check(index, chunks)?;
     if !few {
         return Err(BlockError::Index(IndexError::Limit));
     }

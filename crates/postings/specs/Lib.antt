@@ -1,3 +1,4 @@
 pub mod Values
 pub mod Differing
 pub mod ThreeSeries
+pub mod Standing

@@ -95,7 +95,7 @@ pub fn choose<S: Source>(
     let mut tester = matcher.tester(alloc)?;
     let with_absent = tester.accepts("");
     let lists = differing_lists(alloc, source, matcher, &mut tester, with_absent)?;
-    let differing = Union::new(lists);
+    let differing = Union::new(alloc, lists)?;
     if with_absent {
         Ok(Chosen::AllBut(Without::new(source.all(), differing)))
     } else {

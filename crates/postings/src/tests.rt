@@ -88,14 +88,14 @@ fn a_union_lists_each_reference_once(rt: HostRuntime) -> Result<(), Fail> {
         for slice in [a.as_slice(), b.as_slice(), c.as_slice()] {
             lists.push(list_of(&rt, slice))?;
         }
-        let mut union = Union::new(lists);
+        let mut union = Union::new(alloc, lists)?;
         for target in targets {
             union.seek(SeriesRef::new(*target));
         }
         assert!(rt; leaves(union, left));
     }
     let none: Vec<SliceList> = Vec::new(alloc);
-    assert!(rt; leaves(Union::new(none), &[]));
+    assert!(rt; leaves(Union::new(alloc, none)?, &[]));
     Ok(())
 }
 

@@ -1,11 +1,19 @@
-ghost use Rattle.std.specs.Prelude.{◌≡◌, ℕ, ◌-◌, ◌<◌, ◌≤◌, length, map, slice_index_or, suc};
-ghost use Rattle.labels.specs.Ascending.{first_of, not_below, first_or_end, or_end};
+//! The union of lists.
+
+ghost use Rattle.std.specs.Prelude.{◌≡◌, ℕ, ◌<◌, ◌≤◌, map, suc, Some, IfOk, refl};
+ghost use Rattle.std.specs.BinaryHeap.{IsHeap, heap_items};
+ghost use Rattle.std.specs.Cmp.{eq_by_cmp_equiv, partial_equiv_from_equiv, partial_order_from_agreeing_total};
+ghost use Rattle.std.specs.Ordering.{eq_by_cmp};
+ghost use Rattle.labels.specs.Ascending.{first_of, rest_of, not_below, first_or_end, or_end};
 ghost use Rattle.labels.specs.Sets.{union_all};
-ghost use Rattle.labels.proofs.SetLemmas.{union-rises};
-ghost use Rattle.labels.proofs.Lists.{not_below-twice};
+ghost use Rattle.postings.specs.Standing.{earlier, earlier_total, united, Begins, HasMoved};
 
 use crate::Postings;
 use labels::SeriesRef;
+use std::alloc::{AllocError, Global};
+use std::cmp::Ordering;
+use std::collections::BinaryHeap;
+use std::marker::Model;
 
 /// One past the greatest number of a reference.
 const END: u64 = 4_294_967_296;
@@ -21,97 +29,178 @@ pub(crate) fn number_or_end(next: Option<SeriesRef>) -> u64
     }
 }
 
-/// Where the first of the lists begins, or the end of all.
-fn least<P: Postings>(lists: &[P]) -> u64
-    ensures within { result ≤ 4294967296 }
-    ensures lower { (k : ℕ) (d : P) → k < length lists.now → result ≤ first_or_end (P.remaining (slice_index_or lists.now k d)) }
-    ensures found { result < 4294967296 → (k : ℕ) × (k < length lists.now)
-        × ((d : P) → first_or_end (P.remaining (slice_index_or lists.now k d)) ≡ result) }
-    ensures empty { 4294967296 ≤ result → (k : ℕ) (d : P) → k < length lists.now → first_of (P.remaining (slice_index_or lists.now k d)) ≡ None }
-{
-    let mut least = END;
-    for list in lists.iter() {
-        let begins = number_or_end(list.current());
-        if begins < least {
-            least = begins;
-        }
-    }
-    least
-}
-
-/// Moves each list to the target.
-fn seek_each<P: Postings>(lists: &mut [P], target: SeriesRef)
-    ensures { (k : ℕ) (d : P) → k < length lists.old
-        → P.remaining (slice_index_or lists.new k d) ≡ not_below target (P.remaining (slice_index_or lists.old k d)) }
-{
-    for list in lists.iter_mut() {
-        list.seek(target);
-    }
-}
-
-/// Moves a list past the number, below which it does not begin.
-fn pass<P: Postings>(list: &mut P, number: u64)
-    requires number { number < 4294967296 }
-    requires least { number ≤ first_or_end (P.remaining list.old) }
-    ensures { P.remaining list.new ≡ not_below (suc number) (P.remaining list.old) }
-{
-    if number_or_end(list.current()) == number {
-        list.advance();
-    }
-}
-
-/// Moves each list that begins at the number past it.
-fn pass_each<P: Postings>(lists: &mut [P], number: u64)
-    requires number { number < 4294967296 }
-    requires least { (k : ℕ) (d : P) → k < length lists.old
-        → number ≤ first_or_end (P.remaining (slice_index_or lists.old k d)) }
-    ensures { (k : ℕ) (d : P) → k < length lists.old
-        → P.remaining (slice_index_or lists.new k d) ≡ not_below (suc number) (P.remaining (slice_index_or lists.old k d)) }
-{
-    for list in lists.iter_mut() {
-        pass(list, number);
-    }
-}
-
-/// What stands in some of the lists. Each call looks at every list once.
+/// A list among others, and where it begins. The one that begins first is the greatest, so that it is the top of a heap.
 #[derive(Drop)]
-pub struct Union<P> {
-    lists: Vec<P>,
+struct Standing<P: Postings> {
+    first: u64,
+    list: P,
+    ghost begins: { Begins first (P.remaining list) },
 }
 
-impl<P: Postings> Union<P> {
-    /// The references that stand in some of the lists. Keeps the lists and takes no further memory.
-    pub fn new(lists: Vec<P>) -> Union<P>
-        ensures { ⟦<Union<P> as Postings>⟧.remaining result ≡ union_all (map P.remaining lists.items) }
+impl<P: Postings> Standing<P> {
+    fn new(list: P) -> Standing<P>
+        ensures { P.remaining result.list ≡ P.remaining list }
     {
-        Union { lists }
+        let first = number_or_end(list.current());
+        Standing { first, list }
+    }
+
+    /// Goes on past the first reference.
+    fn advance(&mut self)
+        ensures { P.remaining self.new.list ≡ rest_of (P.remaining self.old.list) }
+    {
+        self.list.advance();
+        self.first = number_or_end(self.list.current());
+    }
+
+    /// Goes on to the first reference that is not below the target.
+    fn seek(&mut self, target: SeriesRef)
+        ensures { P.remaining self.new.list ≡ not_below target (P.remaining self.old.list) }
+    {
+        self.list.seek(target);
+        self.first = number_or_end(self.list.current());
     }
 }
 
-impl<P: Postings> Postings for Union<P> {
-    ghost remaining = { λ u. union_all (map P.remaining u.lists.items) };
+impl<P: Postings> PartialEq for Standing<P> {
+    ghost eq = { eq_by_cmp (earlier (λ s. s.first)) };
+
+    ghost laws = { partial_equiv_from_equiv (eq_by_cmp_equiv (earlier_total (λ s. s.first))) };
+
+    fn eq(&self, other: &Standing<P>) -> bool {
+        matches!(self.cmp(other), Ordering::Equal)
+    }
+}
+
+impl<P: Postings> Eq for Standing<P> {
+    ghost laws = { eq_by_cmp_equiv (earlier_total (λ s. s.first)) };
+}
+
+impl<P: Postings> PartialOrd for Standing<P> {
+    ghost partial_cmp = { λ a b. Some (earlier (λ s. s.first) a b) };
+
+    ghost laws = { partial_order_from_agreeing_total (earlier (λ s. s.first))
+        (earlier_total (λ s. s.first)) (λ a b. refl) (λ a b. refl) };
+
+    fn partial_cmp(&self, other: &Standing<P>) -> Option<Ordering> {
+        Some(self.cmp(other))
+    }
+}
+
+impl<P: Postings> Ord for Standing<P> {
+    ghost cmp = { earlier (λ s. s.first) };
+
+    ghost total = { earlier_total (λ s. s.first) };
+
+    ghost matches_partial_cmp = { λ a b. refl };
+
+    ghost matches_eq = { λ a b. refl };
+
+    fn cmp(&self, other: &Standing<P>) -> Ordering {
+        other.first.cmp(&self.first)
+    }
+}
+
+/// Where the list on top of the heap begins, which is where the first of all does, or the end.
+fn begins<P: Postings>(lists: &BinaryHeap<Standing<P>>) -> u64
+    requires { IsHeap (earlier (λ s. s.first)) (heap_items lists.now) }
+    ensures { Begins result (united (λ s. P.remaining s.list) (heap_items lists.now)) }
+{
+    match lists.peek() {
+        Some(top) => top.first,
+        None => END,
+    }
+}
+
+/// Moves the list that begins first past its first reference, which is not above the number.
+fn pass_first<P: Postings + Drop>(lists: &mut BinaryHeap<Standing<P>>, number: u64)
+    requires heap { IsHeap (earlier (λ s. s.first)) (heap_items lists.old) }
+    requires first { first_or_end (united (λ s. P.remaining s.list) (heap_items lists.old)) ≤ number }
+    requires within { number < 4294967296 }
+    ensures heap { IsHeap (earlier (λ s. s.first)) (heap_items lists.new) }
+    ensures moved { HasMoved (λ s. P.remaining s.list) (suc number) (heap_items lists.old) (heap_items lists.new) }
+{
+    if let Some(mut top) = lists.peek_mut() {
+        top.advance();
+    }
+}
+
+/// Moves the list that begins first, below the target, to the target.
+fn seek_first<P: Postings + Drop>(lists: &mut BinaryHeap<Standing<P>>, target: SeriesRef)
+    requires heap { IsHeap (earlier (λ s. s.first)) (heap_items lists.old) }
+    requires first { first_or_end (united (λ s. P.remaining s.list) (heap_items lists.old)) < target }
+    requires within { target < 4294967296 }
+    ensures heap { IsHeap (earlier (λ s. s.first)) (heap_items lists.new) }
+    ensures moved { HasMoved (λ s. P.remaining s.list) target (heap_items lists.old) (heap_items lists.new) }
+{
+    if let Some(mut top) = lists.peek_mut() {
+        top.seek(target);
+    }
+}
+
+/// What stands in some of the lists. The lists stand in a heap, the one that begins first on top: a move takes the
+/// logarithm of their number for each list that it moves, and looks at no other.
+#[derive(Drop)]
+pub struct Union<P: Postings> {
+    lists: BinaryHeap<Standing<P>>,
+}
+
+impl<P: Postings> Model for Union<P> {
+    ghost use Rattle.std.specs.Prelude.{List, ℕ, map};
+    ghost use Rattle.std.specs.BinaryHeap.{IsHeap, heap_items};
+    ghost use Rattle.postings.specs.Standing.{earlier};
+
+    ghost Value = { List (List ℕ) };
+
+    // What remains of each list.
+    ghost view = { λ u. map (λ s. P.remaining s.list) (heap_items u.lists) };
+
+    ghost invariant = { λ u. IsHeap (earlier (λ s. s.first)) (heap_items u.lists) };
+}
+
+impl<P: Postings + Drop> Union<P> {
+    /// The references that stand in some of the lists. Takes memory for the lists once more; its moves take none.
+    pub fn new(alloc: Global, lists: Vec<P>) -> Result<Union<P>, AllocError>
+        ensures { IfOk result (λ union. ⟦<Union<P> as Postings>⟧.remaining union ≡ union_all (map P.remaining lists.items)) }
+    {
+        let mut standing = Vec::with_capacity(alloc, lists.len())?;
+        for list in lists {
+            standing.push(Standing::new(list))?;
+        }
+        Ok(Union {
+            lists: BinaryHeap::from(standing),
+        })
+    }
+}
+
+impl<P: Postings + Drop> Postings for Union<P> {
+    ghost use Rattle.labels.specs.Sets.{union_all};
+    ghost use Rattle.labels.proofs.SetLemmas.{union-rises};
+    ghost use Rattle.labels.proofs.Lists.{not_below-twice};
+
+    ghost remaining = { λ u. union_all u };
 
     fn current(&self) -> Option<SeriesRef> {
-        let first = least(self.lists.as_slice());
-        if first < END {
-            Some(SeriesRef::new(first as u32))
-        } else {
-            None
-        }
+        self.lists.peek()?.list.current()
     }
 
     fn advance(&mut self) {
-        let first = least(self.lists.as_slice());
-        if first < END {
-            pass_each(self.lists.as_mut_slice(), first);
+        let first = begins(&self.lists);
+        if first >= END {
+            return;
+        }
+        while begins(&self.lists) <= first {
+            pass_first(&mut self.lists, first);
         }
     }
 
     fn seek(&mut self, target: SeriesRef) {
-        seek_each(self.lists.as_mut_slice(), target);
+        while begins(&self.lists) < u64::from(target.number()) {
+            seek_first(&mut self.lists, target);
+        }
     }
 
-    ghost ascending = { λ u. union-rises (map P.remaining u.lists.items) };
+    ghost ascending = { λ u. union-rises u };
 
-    ghost two_seeks = { λ u a b. not_below-twice a b (union_all (map P.remaining u.lists.items)) };
+    ghost two_seeks = { λ u a b. not_below-twice a b (union_all u) };
 }

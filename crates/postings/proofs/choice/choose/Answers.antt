@@ -12,7 +12,7 @@ returns-then-with_absent g c =
     let m = c.args.matcher.now in
     let f = g.S.List.Postings.remaining in
     let accepted : accepts_text m [] ≡ true = sym (c.accepts-with_absent.ensures.accepted ∙ ap (λ t. accepts_text t []) c.in_ok-tester.ensures.same) ∙ c.if-with_absent.true in
-    c.new.ensures
-    ∙ ap (λ xs. difference xs (union_all (map f c.new-differing.result.lists.items))) c.all.ensures
-    ∙ ap (difference (references part)) (c.new-differing.ensures ∙ c.in_ok-lists.ensures)
+    c.new-then-with_absent.ensures
+    ∙ ap (λ xs. difference xs (union_all c.in_ok-differing.differing)) c.all.ensures
+    ∙ ap (difference (references part)) (c.in_ok-differing.ensures ∙ c.in_ok-lists.ensures)
     ∙ all_but part (differs_in m) (λ labels. satisfies m labels) (g.met.S.Source.is_part c.args.source.now) (accepted_alike m accepted)

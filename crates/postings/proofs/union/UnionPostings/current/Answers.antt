@@ -1,26 +1,16 @@
-use Rattle.std.proofs.Common.{◌≡◌, ℕ, ◌<◌, ◌≤◌, [], length, ap, ◌∙◌, map, sym, get_or, Some, None}
-use Rattle.std.specs.List.Sorted.{IsStrictlyIncreasing}
-use Rattle.labels.specs.Ascending.{first_of, first_or_end}
+use Rattle.std.proofs.Common.{sym, ap, refl, ◌∙◌}
+use Rattle.std.specs.BinaryHeap.{heap_items, heap_len}
+use Rattle.labels.specs.Ascending.{first_of}
 use Rattle.labels.specs.Sets.{union_all}
-use Rattle.labels.proofs.SetLemmas.{map_each, map_some, union_first, union_empty}
+use Rattle.postings.proofs.Heaped.{top_in, top_first}
 use Rattle.postings.proofs.union.UnionPostings.current.Goals as goal
 
-pub returns-then-first-lt-END : goal.returns-then-first-lt-END
-returns-then-first-lt-END g c =
-    let xs = c.as_slice.result.now in
-    let f = g.P.Postings.remaining in
-    let found : (k : ℕ) × (k < length xs) × ((d : _) → first_or_end (f (get_or xs k d)) ≡ c.least-first.result) = c.least-first.ensures.found c.if-first-lt-END.true in
-    let first : first_of (union_all (map f xs)) ≡ Some c.least-first.result =
-    union_first (map f xs) c.least-first.result
-    (map_each f xs IsStrictlyIncreasing (λ k d l. g.met.P.Postings.ascending (get_or xs k d))) c.if-first-lt-END.true
-    (map_each f xs (λ ys. c.least-first.result ≤ first_or_end ys) c.least-first.ensures.lower)
-    (map_some f xs (λ ys. first_or_end ys ≡ c.least-first.result) found.0 found.1 found.2) in
-    ap Some c.new.ensures ∙ sym first ∙ ap (λ ys. first_of (union_all (map f ys))) c.as_slice.ensures.value
-
-pub returns-else-first-lt-END : goal.returns-else-first-lt-END
-returns-else-first-lt-END g c =
-    let xs = c.as_slice.result.now in
-    let f = g.P.Postings.remaining in
-    let none : union_all (map f xs) ≡ [] =
-    union_empty (map f xs) (map_each f xs (λ ys. first_of ys ≡ None) (c.least-first.ensures.empty c.if-first-lt-END.false)) in
-    ap first_of (sym none) ∙ ap (λ ys. first_of (union_all (map f ys))) c.as_slice.ensures.value
+pub returns : goal.returns
+returns g c =
+    let heap = c.self.inside.lists in
+    let top = c.in_ok-peek.field-0.now in
+    c.current.ensures
+    ∙ sym (top_first (λ s. g.P.Postings.remaining s.list) (λ s. s.first) (λ s. s.begins) top (heap_items heap)
+    (top_in (λ s. g.P.Postings.remaining s.list) (heap_items heap) (heap_len heap) top heap.data.ok.0 (c.in_ok-peek.ensures.variant.0 refl) c.in_ok-peek.ensures.lookup)
+    (c.in_ok-peek.ensures.greatest c.self.invariant) (λ s. g.met.P.Postings.ascending s.list))
+    ∙ ap (λ xss. first_of (union_all xss)) c.self.view_is

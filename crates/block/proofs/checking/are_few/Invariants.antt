@@ -3,7 +3,7 @@ use Rattle.std.specs.List.{AllByRecursion}
 use Rattle.block.specs.Opening.{each, chunk_check}
 use Rattle.block.specs.Samples.{samples_in}
 use Rattle.block.specs.Sound.{IsHeld}
-use Rattle.block.proofs.opening.are_few.Given as goal
+use Rattle.block.proofs.checking.are_few.Given as goal
 
 abbrev pub invariant-loop-chunk : goal.invariant-loop-chunk
 invariant-loop-chunk l = record {

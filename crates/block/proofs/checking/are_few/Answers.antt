@@ -5,7 +5,7 @@ use Rattle.block.specs.Opening.{chunk_check}
 use Rattle.block.specs.Samples.{chunk_samples}
 use Rattle.block.specs.Sound.{IsHeld}
 use Rattle.block.proofs.Steps.{each_next, each_stops, each_ends, facts_next, length_next}
-use Rattle.block.proofs.opening.are_few.Goals as goal
+use Rattle.block.proofs.checking.are_few.Goals as goal
 
 pub returns-in_err-more-clause-exact : goal.returns-in_err-more-clause-exact
 returns-in_err-more-clause-exact c =
