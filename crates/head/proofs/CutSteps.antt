@@ -1,14 +1,15 @@
 -- The step of a cut.
-use Rattle.std.specs.Prelude.{◌≡◌, ◌≢◌, ◌≤◌, ◌<◌, ℕ, ℤ, ◌+◌, true, false, List, [], ◌∷◌, Ok, Err, length, nat_le, int_lt, refl, if◌then◌else◌}
+use Rattle.std.specs.Prelude.{◌≡◌, ◌≢◌, ◌≤◌, ◌<◌, ℕ, ℤ, ◌+◌, true, false, List, [], ◌∷◌, ◌++◌, Ok, Err, length, nat_le, int_lt, int_le, refl, if◌then◌else◌}
 use Rattle.std.proofs.Common.{sym, ◌∙◌, ap, subst, arith, inl, inr}
 use Rattle.std.proofs.lemmas.Bool.Decides.{nat_tests}
-use Rattle.labels.specs.Contents.{Content}
+use Rattle.std.proofs.lemmas.Int.{ints}
+use Rattle.labels.specs.Contents.{Content, is_time}
 use Rattle.labels.specs.Rows.{Row, AreRows}
 use Rattle.labels.proofs.RowLaws.{rows_of, rows_of-points_of}
 use Rattle.head.specs.Fits.{files_fit, fits}
 use Rattle.head.specs.Refusals.{limit, cut_too_low, too_many_parts}
 use Rattle.head.specs.Worlds.{World, raised, cut_off, cut_at, cut}
-use Rattle.head.specs.Heads.{BlockPart, SnapshotParts, world_of, IsSound}
+use Rattle.head.specs.Heads.{BlockPart, SnapshotParts, world_of, EndBy, IsSound}
 use Rattle.head.specs.Kept.{KeepsBlocks}
 use Rattle.head.specs.Cuts.{leaving, AreCutBlocks}
 use Rattle.head.specs.Removing.{snapshot_cut}
@@ -87,8 +88,32 @@ pub cut_accepted : (t : ℤ) (s : SnapshotParts) (blocks : List BlockPart) → I
 cut_accepted t s blocks sound up cases =
     cut_in t s up ∙ off_is t s blocks cases ∙ ap Ok (sym (cut-world_of t blocks s sound (holds_of t s blocks cases)))
 
-pub cut_is_sound : (t : ℤ) (s : SnapshotParts) (blocks : List BlockPart) → IsSound s → int_lt s.floor t ≡ true → AreCutBlocks t s blocks → IsSound (snapshot_cut t blocks s)
-cut_is_sound t s blocks sound up cases = record {
+at_most : (m floor t : ℤ) → int_le m floor ≡ true → int_lt floor t ≡ true → int_le m t ≡ true
+at_most m floor t e f = grind (arith, ints)
+
+self : (t : ℤ) → int_le t t ≡ true
+self t = grind (arith, ints)
+
+ends_later : (floor t : ℤ) (blocks : List BlockPart) → int_lt floor t ≡ true → EndBy floor blocks → EndBy t blocks
+ends_later floor t [] up ends = tt
+ends_later floor t (b ∷ bs) up ends = (at_most b.max floor t ends.0 up, ends_later floor t bs up ends.1)
+
+ends_more : (t : ℤ) (blocks : List BlockPart) (block : BlockPart) → block.max ≡ t → EndBy t blocks → EndBy t (blocks ++ block ∷ [])
+ends_more t [] block is ends = (ap (λ m. int_le m t) is ∙ self t, tt)
+ends_more t (b ∷ bs) block is ends = (ends.0, ends_more t bs block is ends.1)
+
+ends_after : (t : ℤ) (s : SnapshotParts) (blocks : List BlockPart) → IsSound s → int_lt s.floor t ≡ true → AreCutBlocks t s blocks → EndBy t blocks
+ends_after t s blocks sound up cases =
+    let old : EndBy t s.blocks = ends_later s.floor t s.blocks up sound.ends in
+    elim cases [
+      | inl e ↦ subst (EndBy t) (sym e.1) old
+      | inr h ↦ subst (EndBy t) (sym h.added) (ends_more t s.blocks h.block h.is.max old)
+    ]
+
+pub cut_is_sound : (t : ℤ) (s : SnapshotParts) (blocks : List BlockPart) → IsSound s → is_time t ≡ true → int_lt s.floor t ≡ true → AreCutBlocks t s blocks → IsSound (snapshot_cut t blocks s)
+cut_is_sound t s blocks sound time up cases = record {
+  time = time;
+  ends = ends_after t s blocks sound up cases;
   few = few_after t s blocks sound cases;
   head = IsSoundHead-head_cut s.floor t s.head sound.head;
   blocks = none_above_cut t blocks s sound (holds_of t s blocks cases) up;

@@ -11,7 +11,7 @@ use Rattle.labels.proofs.Times.{both_T, first_T, second_T, true_not_false}
 use Rattle.matchers.specs.Views.{MatcherView}
 use Rattle.matchers.specs.Satisfies.{satisfies_all}
 use Rattle.head.specs.Worlds.{deleted}
-use Rattle.head.specs.Heads.{HeadSeries, BlockPart, SnapshotParts, newest_in, numbered, head_part, parts_of, world_of, series_at, IsSoundSeries, IsSoundHead, IsSound}
+use Rattle.head.specs.Heads.{HeadSeries, BlockPart, SnapshotParts, newest_in, numbered, head_part, parts_of, world_of, series_at, IsSoundSeries, IsSoundHead, EndBy, IsSound}
 use Rattle.head.specs.Kept.{frame_of}
 use Rattle.head.specs.Orders.{sets_of}
 use Rattle.head.specs.Removing.{series_kept, head_kept, blocks_kept, survives, snapshot_less}
@@ -82,9 +82,16 @@ none_kept : (b : Bool) (o : Option ℤ) → o ≡ None → cond b o None ≡ Non
 none_kept true o e = e
 none_kept false o e = refl
 
+-- each block keeps its range
+ends_kept : (floor : ℤ) (p : Point → Bool) (blocks : List BlockPart) → EndBy floor blocks → EndBy floor (blocks_kept p blocks)
+ends_kept floor p [] ends = tt
+ends_kept floor p (b ∷ bs) ends = (ends.0, ends_kept floor p bs ends.1)
+
 pub less_is_sound : (p : Point → Bool) (s : SnapshotParts) → IsSound s → IsSound (snapshot_less p s)
 less_is_sound p s sound = record {
   few = subst (λ n. n ≤ 63) (sym (length-blocks_kept p s.blocks)) sound.few;
+  time = sound.time;
+  ends = ends_kept s.floor p s.blocks sound.ends;
   head = IsSoundHead-head_kept s.floor p s.head sound.head;
   blocks = record {
     none = λ l t high.

@@ -10,14 +10,14 @@ use Rattle.std.proofs.lemmas.List.{length-map}
 use Rattle.std.proofs.lemmas.List.Elements.{All-head, All-tail}
 use Rattle.labels.specs.declared.sample.TheConstants.{MIN_TIME}
 use Rattle.labels.specs.Labels.{Labels, point_cmp, same_labels}
-use Rattle.labels.specs.Contents.{Content}
+use Rattle.labels.specs.Contents.{Content, is_time}
 use Rattle.labels.specs.Rows.{points_in, points_of}
 use Rattle.labels.specs.Parts.{Part, rows_in, laid_over, over}
 use Rattle.labels.proofs.ContentLaws.{or_else, find-laid_over, find-++, find-points_in}
 use Rattle.labels.proofs.Times.{true_not_false, missing, both_T, T_of}
 use Rattle.block.specs.Blocks.{Shown, AreInside}
 use Rattle.block.specs.Ranges.{covers}
-use Rattle.head.specs.Heads.{IsSound}
+use Rattle.head.specs.Heads.{EndBy, IsSound}
 use Rattle.head.specs.Blocks.{part_in, EachInside, opening_floor}
 
 second_true : (a b : Bool) → (a && b) ≡ true → b ≡ true
@@ -87,9 +87,28 @@ none_in_blocks floor t from l (b ∷ bs) c high above inside none =
     ∙ ap (λ o. or_else o (find point_cmp (l, t) c)) (none_in_part b.range floor t l b.part end high (All-head (λ (x : Shown). AreInside x.range x.part) b bs inside))
     ∙ none)
 
-pub opening_is_sound : (blocks : List Shown) (copied : ℕ) → length blocks ≤ 63 → EachInside blocks → IsSound (record { blocks = map part_in blocks; head = []; floor = opening_floor (map part_in blocks); copied = copied })
-opening_is_sound blocks copied few inside = record {
+-- the greater of two times is a time
+pub time_of_max : (r t m : ℤ) → r ≡ int_max t m → is_time t ≡ true → is_time m ≡ true → is_time r ≡ true
+time_of_max r t m is e f = ap is_time is ∙ elim (int_lt m t) as (λ b. is_time (cond b t m) ≡ true) [ true ↦ e | false ↦ f ]
+
+not_above : (m floor : ℤ) → int_lt floor m ≡ false → int_le m floor ≡ true
+not_above m floor e = grind (arith, ints)
+
+-- no range ends above the floor
+ends_by : (floor from : ℤ) (bs : List Shown) → int_lt floor (end_after from bs) ≡ false → EndBy floor (map part_in bs)
+ends_by floor from [] above = tt
+ends_by floor from (b ∷ bs) above =
+    let next = int_max from b.range.1 in (
+      not_above b.range.1 floor (at_least b.range.1 (end_after next bs) floor (at_least b.range.1 next (end_after next bs) (greater_end from b.range.1) (from_time next bs)) above),
+      ends_by floor next bs above,
+    )
+
+pub opening_is_sound : (blocks : List Shown) (copied : ℕ) → length blocks ≤ 63 → EachInside blocks → is_time (opening_floor (map part_in blocks)) ≡ true → IsSound (record { blocks = map part_in blocks; head = []; floor = opening_floor (map part_in blocks); copied = copied })
+opening_is_sound blocks copied few inside time = record {
   few = subst (λ n. n ≤ 63) (sym (length-map blocks part_in)) few;
+  time = time;
+  ends = ends_by (opening_floor (map part_in blocks)) MIN_TIME blocks
+      (subst (λ end. int_lt (opening_floor (map part_in blocks)) end ≡ false) (end_is MIN_TIME blocks) (self (opening_floor (map part_in blocks))));
   head = tt;
   blocks = record {
     none = λ l t high. none_in_blocks (opening_floor (map part_in blocks)) t MIN_TIME l blocks [] high

@@ -161,7 +161,7 @@ joins : (s : SnapshotParts) (l : Labels) (x : ℤ × ℤ) (a b : Bool) → a ≡
     Follows s (if a then Err limit else Ok (joined (world_of s) l x)) (if b then Err limit else Ok (extended l x s.head))
 joins s l x a true e sound above less = (ap (λ c. if c then Err limit else Ok (joined (world_of s) l x)) e, tt)
 joins s l x a false e sound above less =
-    let more : IsSound (record s { head = extended l x s.head }) = record { few = sound.few; head = IsSoundHead-extended s.floor l x s.head above sound.head less; blocks = sound.blocks } in (
+    let more : IsSound (record s { head = extended l x s.head }) = record { few = sound.few; time = sound.time; ends = sound.ends; head = IsSoundHead-extended s.floor l x s.head above sound.head less; blocks = sound.blocks } in (
       ap (λ c. if c then Err limit else Ok (joined (world_of s) l x)) e
           ∙ ap Ok (joined-world_of s l x sound more (none_later s.floor x (series_at l s.head) (sound_at s.floor l s.head sound.head) less)),
       more,

@@ -1,9 +1,10 @@
 -- What a head holds, and the world of a snapshot.
-use Rattle.std.specs.Prelude.{◌≡◌, ℕ, ℤ, ◌+◌, ◌≤◌, false, not, T, List, [], ◌∷◌, ◌++◌, Option, None, Some, int_lt, length, map, if◌then◌else◌}
-use Rattle.std.specs.List.{list_all}
+use Rattle.std.specs.Prelude.{◌≡◌, ℕ, ℤ, ◌+◌, ◌≤◌, true, false, not, T, List, [], ◌∷◌, ◌++◌, Option, None, Some, int_lt, int_le, length, map, if◌then◌else◌}
+use Rattle.std.specs.List.{list_all, AllByRecursion}
 use Rattle.std.specs.Ordering.{int_cmp}
 use Rattle.std.specs.FinMap.Entries.{find, is_sorted}
 use Rattle.labels.specs.Labels.{Labels, point_cmp, same_labels}
+use Rattle.labels.specs.Contents.{is_time}
 use Rattle.head.specs.Worlds.{World, Newest}
 use Rattle.labels.specs.Parts.{Part, content_of, over}
 
@@ -63,8 +64,15 @@ IsSoundHead floor (h ∷ hs) = IsSoundSeries floor h × (series_at h.labels hs �
 pub record AreBelow (floor : ℤ) (blocks : List BlockPart) : Type 0 where
   pub none : (l : Labels) (t : ℤ) → int_lt t floor ≡ false → find point_cmp (l, t) (over [] (map (λ b. b.part) blocks)) ≡ None
 
--- what every snapshot keeps
+-- the range of each block ends at or below the floor, also where the block has no sample
+abbrev pub EndBy : ℤ → List BlockPart → Type 0
+EndBy floor blocks = AllByRecursion (λ (b : BlockPart). int_le b.max floor ≡ true) blocks
+
+-- what every snapshot keeps: there are at most 63 blocks, the floor is a time, each block's range ends at or below it and
+-- no block has a sample from it on, and the head is sound
 pub record IsSound (s : SnapshotParts) : Type 0 where
   pub few : length s.blocks ≤ 63
+  pub time : is_time s.floor ≡ true
+  pub ends : EndBy s.floor s.blocks
   pub head : IsSoundHead s.floor s.head
   pub blocks : AreBelow s.floor s.blocks

@@ -1,7 +1,8 @@
 //! Snapshots, and the step of an event.
 
-ghost use Rattle.std.specs.Prelude.{◌≡◌, ◌≤◌, ◌*◌, IsTrue, Ok, Some, IfOk, IfErr, IfSome, IfNone, length, slice_get};
-ghost use Rattle.head.specs.Heads.{world_of};
+ghost use Rattle.std.specs.Prelude.{◌≡◌, ◌≤◌, ◌*◌, IsTrue, true, Ok, Some, IfOk, IfErr, IfSome, IfNone, length, slice_get};
+ghost use Rattle.labels.specs.Contents.{is_time};
+ghost use Rattle.head.specs.Heads.{world_of, IsSound};
 ghost use Rattle.head.specs.Batches.{is_batch, set_count, CopiesFew};
 ghost use Rattle.head.specs.Kept.{KeepsBlocks};
 ghost use Rattle.head.specs.Worlds.{stepped, committed};
@@ -47,6 +48,7 @@ ghost use Rattle.std.specs.Prelude.{[], map};
 /// The greatest end of the blocks' ranges, or the smallest time where there is no block.
 fn floor_of(blocks: &[Block]) -> i64
     ensures floor { result ≡ opening_floor (map part_in blocks.now) }
+    ensures time { is_time result ≡ true }
     ensures inside { EachInside blocks.now }
 {
     let mut floor = MIN_TIME;
@@ -99,6 +101,15 @@ impl Snapshot {
         ensures some { IfSome result (λ b. slice_get self.now.blocks n ≡ Some (part_in b.now)) }
     {
         self.blocks.get(n)
+    }
+
+    /// The floor, in milliseconds: a time. The range of each block ends at or below it, also of a block without a
+    /// sample; no block has a sample from it on, and the head has none before it.
+    pub fn floor(&self) -> i64
+        ensures floor { result ≡ self.now.floor }
+        ensures sound { IsSound self.now }
+    {
+        self.floor
     }
 
     /// The head.

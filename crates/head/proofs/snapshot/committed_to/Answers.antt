@@ -70,7 +70,7 @@ invariant_of-result c =
     (λ i. head_added_each most (sym floor_is i) (Ok (sym head_is i)) 0 c.args.batch.now) ∙ c.in-Ok-add_each.ensures.step in
     let sound = (accepted s c.args.batch.now (series_in_each c.add_each.new.slots.items) c.at.invariant is).1 in
     subst IsSound (λ i. record { blocks = map part_in (sym c.in-Ok-try_clone.ensures i).items; head = sym c.in-Ok-of_slots.ensures.series i; floor = sym floor_is i; copied = c.in-Ok-of_slots.head.copied })
-    (record { few = sound.few; head = sound.head; blocks = sound.blocks })
+    (record { few = sound.few; time = sound.time; ends = sound.ends; head = sound.head; blocks = sound.blocks })
 
 pub returns-clause-ok : goal.returns-clause-ok
 returns-clause-ok c =
