@@ -56,10 +56,12 @@ impl<J: Naming, R: Wait + Drop> Committer<J, R> {
         self.book.lock(rt).step(seat, event)
     }
 
-    /// Publishes a batch under the seat's number, whole or not at all. The list of the receipt ends with it, and each
-    /// pass that learns the receipt sees it from then on. Its refusals are `E7`, where the seat's count is not the
-    /// store's, and those of the batch's step on the version that was published then: `E1` to `E4`. A refusal gives the
-    /// appender back and leaves the seat. It waits for the committer's lock and for the readers of the version before.
+    /// Publishes a batch under the seat's number, whole or not at all. The list of the receipt
+    /// ends with it, and each pass that learns the receipt sees it from then on. Its refusals are
+    /// `E7`, where the seat's count is not the store's, and those of the batch's step on the
+    /// version that was published then: `E1` to `E4`. A refusal gives the appender back and
+    /// leaves the seat. It waits for the committer's lock and for the readers of the version
+    /// before.
     pub fn commit(
         &self,
         rt: &impl Wait,
@@ -79,10 +81,10 @@ impl<J: Naming, R: Wait + Drop> Committer<J, R> {
     }
 
     /// Publishes a deletion under the seat's number: the samples from one time to another, both
-    /// included, in milliseconds, that then stand in series which satisfy all matchers are removed.
-    /// [`Event::is_deletion`] says whether there are at most 16 matchers and a range of times. It is
-    /// refused for `E7` and for memory alone; then the matchers come back and the seat stays. It
-    /// waits as [`Committer::commit`] does.
+    /// included, in milliseconds, that then stand in series which satisfy all matchers are
+    /// removed. [`Event::is_deletion`] says whether there are at most 16 matchers and a range of
+    /// times. It is refused for `E7` and for memory alone; then the matchers come back and the
+    /// seat stays. It waits as [`Committer::commit`] does.
     pub fn delete(
         &self,
         rt: &impl Wait,
@@ -104,11 +106,12 @@ impl<J: Naming, R: Wait + Drop> Committer<J, R> {
         }
     }
 
-    /// Publishes a cut at a time, in milliseconds, under the seat's number: the head's samples below
-    /// it become a block, and from then on none below it is committed. Its refusals are `E7`, and
-    /// those of the cut's step on the version that was published then: `E5` where the time is not
-    /// above the floor, `E6` where there are 63 blocks, `E4` where a file of the block would be too
-    /// long. After a refusal the seat stays. It waits as [`Committer::commit`] does.
+    /// Publishes a cut at a time, in milliseconds, under the seat's number: the head's samples
+    /// below it become a block, and from then on none below it is committed. Its refusals are
+    /// `E7`, and those of the cut's step on the version that was published then: `E5` where the
+    /// time is not above the floor, `E6` where there are 63 blocks, `E4` where a file of the
+    /// block would be too long. After a refusal the seat stays. It waits as [`Committer::commit`]
+    /// does.
     pub fn cut(
         &self,
         rt: &impl Wait,
