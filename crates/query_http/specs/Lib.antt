@@ -1,3 +1,5 @@
 pub mod Reply
 pub mod Telling
 pub mod Audited
+pub mod Headline
+pub mod Refusals

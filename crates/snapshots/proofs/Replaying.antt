@@ -1,14 +1,17 @@
 -- One event more after a replay.
-use Rattle.std.proofs.Common.{◌≡◌, List, [], ◌∷◌, ◌++◌, Result, Ok, Err, map, refl, sym, ap, ◌∙◌, subst}
+use Rattle.std.proofs.Common.{◌≡◌, ℤ, List, [], ◌∷◌, ◌++◌, Result, Ok, Err, refl, ap, ◌∙◌, subst, inl, inr}
 use Rattle.std.proofs.lemmas.List.{map_push}
 use Rattle.head.specs.Limits.{most}
 use Rattle.head.specs.Refusals.{Refusal}
-use Rattle.head.specs.Worlds.{World, Event, stepped, replayed_from, replayed}
+use Rattle.head.specs.Worlds.{World, Event, deletion, stepped, replayed_from, replayed}
 use Rattle.head.specs.Heads.{SnapshotParts, world_of}
+use Rattle.head.specs.declared.error.CommitError.{CommitError}
+use Rattle.head.specs.declared.error.CommitError.TheVariants.{OutOfBounds, OutOfOrder, Duplicate, Limit, CutTooLow, TooManyParts, Seat, Memory}
+use Rattle.matchers.specs.Views.{MatcherView}
 use Rattle.snapshots.specs.declared.entry.Entry.{Entry}
 use Rattle.logbook.specs.Pages.{Book}
 use Rattle.snapshots.specs.Grows.{Shows}
-use Rattle.snapshots.specs.Replays.{events_in, IsAfter, Steps}
+use Rattle.snapshots.specs.Replays.{events_in, IsAfter, Steps, IsRefusal, IsRefusedAfter, IsOfSeatOrMemory}
 use Rattle.snapshots.specs.Views.{Edition}
 
 replayed_from-snoc : (r : Result World Refusal) (es : List Event) (e : Event) (v : World)
@@ -36,3 +39,19 @@ pub after_shown : (book : Book) (opening : SnapshotParts) (x : Edition) (es : Li
 after_shown book opening x es e s t shows at step =
     let here : IsAfter opening es x.parts = subst (λ (z : List Entry). IsAfter opening z x.parts) shows.1 shows.0.1 in
     after-snoc opening es e x.parts t here (subst (λ (z : SnapshotParts). Steps z e.event t) at step)
+
+module _ (s : SnapshotParts) (ms : List MatcherView) (from to : ℤ) where
+  by_seat_or_memory : (e : CommitError) → IsRefusal e s (deletion ms from to) → IsOfSeatOrMemory e
+  by_seat_or_memory Seat is = inl refl
+  by_seat_or_memory Memory is = inr refl
+  by_seat_or_memory (OutOfBounds at) is = absurd (cc (is (λ same. absurd (cc same))))
+  by_seat_or_memory (OutOfOrder at) is = absurd (cc (is (λ same. absurd (cc same))))
+  by_seat_or_memory (Duplicate at) is = absurd (cc (is (λ same. absurd (cc same))))
+  by_seat_or_memory Limit is = absurd (cc (is (λ same. absurd (cc same))))
+  by_seat_or_memory CutTooLow is = absurd (cc (is (λ same. absurd (cc same))))
+  by_seat_or_memory TooManyParts is = absurd (cc (is (λ same. absurd (cc same))))
+
+-- the step of a deletion refuses nothing
+pub deletion_refused : (opening : SnapshotParts) (e : CommitError) (ms : List MatcherView) (from to : ℤ)
+    → IsRefusedAfter opening e (deletion ms from to) → IsOfSeatOrMemory e
+deletion_refused opening e ms from to refused = by_seat_or_memory refused.1 ms from to e refused.3

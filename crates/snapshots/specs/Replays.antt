@@ -1,11 +1,11 @@
 -- What a list of published events makes of the opening snapshot.
-use Rattle.std.specs.Prelude.{◌≡◌, ℕ, List, [], ◌∷◌, ◌++◌, Ok, map}
+use Rattle.std.specs.Prelude.{◌≡◌, ◌⊎◌, ℕ, List, [], ◌∷◌, ◌++◌, Ok, map}
 use Rattle.head.specs.Limits.{most}
 use Rattle.head.specs.Worlds.{Event, stepped, replayed}
 use Rattle.head.specs.Heads.{SnapshotParts, world_of}
 use Rattle.head.specs.Answers.{IsAnswer}
 use Rattle.head.specs.declared.error.CommitError.{CommitError}
-use Rattle.head.specs.declared.error.CommitError.TheVariants.{Seat}
+use Rattle.head.specs.declared.error.CommitError.TheVariants.{Seat, Memory}
 use Rattle.snapshots.specs.declared.entry.Entry.{Entry}
 
 -- the events of these entries
@@ -39,3 +39,7 @@ AreAccepted opening entries = (s : SnapshotParts) × IsAfter opening entries s
 abbrev pub IsRefusedAfter : SnapshotParts → CommitError → Event → Type 0
 IsRefusedAfter opening e event =
     (before : List Entry) × (s : SnapshotParts) × IsAfter opening before s × IsRefusal e s event
+
+-- the refusal is the seat's, or memory's
+abbrev pub IsOfSeatOrMemory : CommitError → Type 0
+IsOfSeatOrMemory e = (e ≡ Seat) ⊎ (e ≡ Memory)

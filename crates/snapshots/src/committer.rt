@@ -1,8 +1,10 @@
 //! Committers, which publish events one at a time.
 
-ghost use Rattle.std.specs.Prelude.{◌≡◌, IfOk, IfErr};
-ghost use Rattle.head.specs.Worlds.{batch};
-ghost use Rattle.snapshots.specs.Replays.{EndsWith, AreAccepted, IsRefusedAfter};
+ghost use Rattle.std.specs.Prelude.{◌≡◌, false, Some, is_none, IsTrue, IfOk, IfErr, OnErr};
+ghost use Rattle.labels.specs.Contents.{is_time};
+ghost use Rattle.head.specs.Batches.{is_deletion};
+ghost use Rattle.head.specs.Worlds.{batch, deletion, cut, matchers_of};
+ghost use Rattle.snapshots.specs.Replays.{EndsWith, AreAccepted, IsRefusedAfter, IsOfSeatOrMemory};
 ghost use Rattle.snapshots.specs.Seats.{IsCounted};
 
 use crate::appender::Appender;
@@ -11,7 +13,19 @@ use crate::naming::Naming;
 use crate::receipt::Receipt;
 use crate::seat::Seat;
 use head::{CommitError, Event};
+use matchers::Matcher;
 use std::sync::{Mutex, Wait};
+
+/// The matchers that a deletion was made of.
+fn matchers_in(event: Event) -> Vec<Matcher>
+    requires { is_none (matchers_of event) ≡ false }
+    ensures { matchers_of event ≡ Some result.items }
+{
+    match event.into_matchers() {
+        Some(matchers) => matchers,
+        None => unreachable!(),
+    }
+}
 
 /// Publishes events, one at a time. Its drop waits for the readers.
 #[derive(Drop)]
@@ -42,10 +56,12 @@ impl<J: Naming, R: Wait + Drop> Committer<J, R> {
         self.book.lock(rt).step(seat, event)
     }
 
-    /// Publishes a batch under the seat's number, whole or not at all. The list of the receipt ends with it, and each
-    /// pass that learns the receipt sees it from then on. Its refusals are `E7`, where the seat's count is not the
-    /// store's, and those of the batch's step on the version that was published then: `E1` to `E4`. A refusal gives the
-    /// appender back and leaves the seat. It waits for the committer's lock and for the readers of the version before.
+    /// Publishes a batch under the seat's number, whole or not at all. The list of the receipt
+    /// ends with it, and each pass that learns the receipt sees it from then on. Its refusals are
+    /// `E7`, where the seat's count is not the store's, and those of the batch's step on the
+    /// version that was published then: `E1` to `E4`. A refusal gives the appender back and
+    /// leaves the seat. It waits for the committer's lock and for the readers of the version
+    /// before.
     pub fn commit(
         &self,
         rt: &impl Wait,
@@ -61,6 +77,57 @@ impl<J: Naming, R: Wait + Drop> Committer<J, R> {
         match self.step(rt, seat, appender.into_event()) {
             Ok(receipt) => Ok(receipt),
             Err((event, refusal)) => Err((Appender::of_batch(event), refusal)),
+        }
+    }
+
+    /// Publishes a deletion under the seat's number: the samples from one time to another, both
+    /// included, in milliseconds, that then stand in series which satisfy all matchers are
+    /// removed. [`Event::is_deletion`] says whether there are at most 16 matchers and a range of
+    /// times. It is refused for `E7` and for memory alone; then the matchers come back and the
+    /// seat stays. It waits as [`Committer::commit`] does.
+    pub fn delete(
+        &self,
+        rt: &impl Wait,
+        seat: &mut Seat<J>,
+        matchers: Vec<Matcher>,
+        from: i64,
+        to: i64,
+    ) -> Result<Receipt<J>, (Vec<Matcher>, CommitError)>
+        requires { IsTrue (is_deletion matchers.items from to) }
+        ensures ends { IfOk result (EndsWith (deletion matchers.items from to) seat.old.number) }
+        ensures accepted { IfOk result (λ r. AreAccepted J.opening r) }
+        ensures counted { IfOk result (λ r. IsCounted seat.old seat.new r) }
+        ensures kept { IfErr result (λ e. (e.0.items ≡ matchers.items) × (seat.new ≡ seat.old)) }
+        ensures refused { IfErr result (λ e. IsOfSeatOrMemory e.1) }
+    {
+        match self.step(rt, seat, Event::deletion(matchers, from, to)) {
+            Ok(receipt) => Ok(receipt),
+            Err((event, refusal)) => Err((matchers_in(event), refusal)),
+        }
+    }
+
+    /// Publishes a cut at a time, in milliseconds, under the seat's number: the head's samples
+    /// below it become a block, and from then on none below it is committed. Its refusals are
+    /// `E7`, and those of the cut's step on the version that was published then: `E5` where the
+    /// time is not above the floor, `E6` where there are 63 blocks, `E4` where a file of the
+    /// block would be too long. After a refusal the seat stays. It waits as [`Committer::commit`]
+    /// does.
+    pub fn cut(
+        &self,
+        rt: &impl Wait,
+        seat: &mut Seat<J>,
+        at: i64,
+    ) -> Result<Receipt<J>, CommitError>
+        requires { IsTrue (is_time at) }
+        ensures ends { IfOk result (λ r. EndsWith (cut at) seat.old.number r) }
+        ensures accepted { IfOk result (λ r. AreAccepted J.opening r) }
+        ensures counted { IfOk result (λ r. IsCounted seat.old seat.new r) }
+        ensures kept { OnErr result (seat.new ≡ seat.old) }
+        ensures refused { IfErr result (λ e. IsRefusedAfter J.opening e (cut at)) }
+    {
+        match self.step(rt, seat, Event::cut(at)) {
+            Ok(receipt) => Ok(receipt),
+            Err((_event, refusal)) => Err(refusal),
         }
     }
 }

@@ -1,18 +1,21 @@
-//! Snapshots of a store that many threads read without waiting, while others publish events one at a time.
+//! Snapshots of a store that many threads read without waiting, while others publish events one
+//! at a time.
 //!
-//! [`Store::open`] gives one [`Committer`], and as many [`Pass`]es and [`Seat`]s as are asked for. A committer publishes
-//! a batch, which an [`Appender`] gathers, under the number of a seat: the published version changes in one step, from
-//! one snapshot to the next. It answers a [`Receipt`], which knows all events up to that one. A pass takes the snapshot
-//! that is published, without a lock; it begins with all that the pass had seen, and with the list of each receipt that
-//! the pass learnt before. So what one thread committed is seen by each thread that its receipt was passed on to.
+//! [`Store::open`] gives one [`Committer`], and as many [`Pass`]es and [`Seat`]s as are asked
+//! for. A committer publishes a batch, which an [`Appender`] gathers, a deletion or a cut under
+//! the number of a seat: the published version changes in one step, from one snapshot to the
+//! next. It answers a [`Receipt`], which knows all events up to that one. A pass takes the
+//! snapshot that is published, without a lock; it begins with all that the pass had seen, and
+//! with the list of each receipt that the pass learnt before. So what one thread committed is
+//! seen by each thread that its receipt was passed on to.
 //!
-//! A version's list of events is not stored: the rule of the published versions says that the world of its snapshot is
-//! the replay of that list from the opening's world. [`Book::step`] is what happens under the lock, with the contract of
-//! one event. Each type carries the name of its store ([`Naming`]), so a pass, a receipt and a seat of another store
-//! have other types.
+//! A version's list of events is not stored: the rule of the published versions says that the
+//! world of its snapshot is the replay of that list from the opening's world. [`Book::step`] is
+//! what happens under the lock, with the contract of one event. Each type carries the name of its
+//! store ([`Naming`]), so a pass, a receipt and a seat of another store have other types.
 //!
-//! It stands on `head` for snapshots and events, on `block` and `labels`, and on `left_right` and `logbook` for
-//! versions that readers enter without waiting and for the one history of a store.
+//! It stands on `head` for snapshots and events, on `block` and `labels`, and on `left_right` and
+//! `logbook` for versions that readers enter without waiting and for the one history of a store.
 #![tactic(auto)]
 
 mod appender;
