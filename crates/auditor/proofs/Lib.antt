@@ -10,3 +10,4 @@ pub mod Merging
 pub mod Neighbours
 pub mod Parting
 pub mod Excluding
+mod IndexFile

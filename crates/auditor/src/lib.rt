@@ -21,6 +21,7 @@ mod rows;
 mod separators;
 mod skip;
 mod table;
+mod walk;
 #[cfg(test)]
 mod tests;
 
@@ -29,3 +30,4 @@ pub use flaw::{AuditError, Flaw};
 pub use merged::audit_merge;
 pub use skip::audit_skip;
 pub use table::Table;
+pub use walk::WalkError;
