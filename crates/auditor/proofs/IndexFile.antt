@@ -18,3 +18,6 @@ pub mod Spelling
 pub mod ChunkAgain
 pub mod BodyAgain
 pub mod Facts
+pub mod Again
+pub mod Places
+pub mod Keeping

@@ -11,3 +11,4 @@ pub mod Neighbours
 pub mod Parting
 pub mod Excluding
 mod IndexFile
+mod BlockFiles

@@ -14,3 +14,4 @@ pub mod Spelled
 pub mod Outcome
 pub mod Seen
 pub mod Sound
+pub mod Kept

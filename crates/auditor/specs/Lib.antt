@@ -5,3 +5,4 @@ pub mod Errors
 pub mod Parted
 pub mod IndexFile
 pub mod WalkCodes
+pub mod BlockFiles

@@ -5,12 +5,16 @@
 
 mod bodies;
 mod body;
+mod checked;
 mod chunk;
 mod contents;
+mod deletions;
 mod entries;
 mod error;
 mod framed;
 mod layout;
+mod series_entries;
+mod stored;
 mod symbols;
 
 pub use error::WalkError;
