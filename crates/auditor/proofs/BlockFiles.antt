@@ -7,3 +7,5 @@ pub mod Stages
 pub mod Refusals
 pub mod Found
 pub mod Only
+pub mod Parts
+pub mod Rows

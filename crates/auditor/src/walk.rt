@@ -13,8 +13,10 @@ mod entries;
 mod error;
 mod framed;
 mod layout;
+mod samples;
 mod series_entries;
 mod stored;
 mod symbols;
+mod table;
 
 pub use error::WalkError;

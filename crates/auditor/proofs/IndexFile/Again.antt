@@ -27,7 +27,7 @@ use Rattle.auditor.proofs.IndexFile.Orders.{InTable, label_sets_cmp}
 use Rattle.auditor.proofs.IndexFile.Facts.{in_table, set_at, sets_are, series_length}
 use Rattle.auditor.proofs.IndexFile.BodyAgain.{bodies_again}
 
-bodies_count : (symbols : List (List ℕ)) (ps : List Place) (bs : List Body) → AreBodies symbols ps bs → length bs ≡ length ps
+pub bodies_count : (symbols : List (List ℕ)) (ps : List Place) (bs : List Body) → AreBodies symbols ps bs → length bs ≡ length ps
 bodies_count symbols [] [] h = refl
 bodies_count symbols [] (b ∷ bs) h = absurd h
 bodies_count symbols (p ∷ ps) [] h = absurd h
@@ -91,7 +91,7 @@ index_again file x fits i =
     let few = few_symbols file p i.layout in
     let count = bodies_count symbols p.entries bs i.spelled in
     let labelled = bodies_labelled symbols p.entries bs i.spelled in
-    let a = bodies_again symbols p.entries bs few (walk_sizes p.entries file (series_end t) (rounded t.series) small i.layout.entries) i.few_labels i.spelled in
+    let a = bodies_again symbols p.entries bs few (walk_sizes p.entries file (series_end t) (rounded t.series) small i.layout.entries) i.spelled in
     let sets = ap (λ (ss : List Series). indexes.label_sets ss) i.series_are ∙ sets_are symbols p.entries bs count in
     let length_is : length x ≡ length bs = ap (λ (ss : List Series). length ss) i.series_are ∙ series_length symbols p.entries bs count in
     let n = length-map bs (λ (b : Body). b.labels) in

@@ -77,7 +77,7 @@ chain file r h =
 
 -- ---- the order of series
 
-refs_are : (symbols : List (List ℕ)) (ps : List Place) (bs : List Body) → length bs ≡ length ps → references (series_of symbols ps bs) ≡ map (λ (p : Place). p.offset / 16) ps
+pub refs_are : (symbols : List (List ℕ)) (ps : List Place) (bs : List Body) → length bs ≡ length ps → references (series_of symbols ps bs) ≡ map (λ (p : Place). p.offset / 16) ps
 unfolding series_of
 refs_are symbols [] bs e = refl
 refs_are symbols (p ∷ ps) [] e = absurd (omega (arith, e))
@@ -100,13 +100,13 @@ series_length symbols (p ∷ ps) (b ∷ bs) e = ap suc (series_length symbols ps
 entry_some : (body : List ℕ) → 0 < length (entry body)
 entry_some body = omega (arith, length-append (uvarint (length body)) (body ++ big_bytes 4 (crc32c body)), uvarint_long (length body))
 
-whole_rounds : (n : ℕ) → rounded n % 16 ≡ 0
+pub whole_rounds : (n : ℕ) → rounded n % 16 ≡ 0
 whole_rounds n = omega arith
 
 goes_up : (at n : ℕ) → at % 16 ≡ 0 → 0 < n → at / 16 < rounded (at + n) / 16
 goes_up at n whole some = omega (arith, whole, some)
 
-walk_rises : (ps : List Place) (file : List ℕ) (end at : ℕ) → at % 16 ≡ 0 → IsWalk file end at ps → IsStrictlyIncreasing (map (λ (p : Place). p.offset / 16) ps)
+pub walk_rises : (ps : List Place) (file : List ℕ) (end at : ℕ) → at % 16 ≡ 0 → IsWalk file end at ps → IsStrictlyIncreasing (map (λ (p : Place). p.offset / 16) ps)
 walk_rises [] file end at whole w k lt = absurd (omega arith)
 walk_rises (p ∷ []) file end at whole w k lt = absurd (omega arith)
 walk_rises (p ∷ q ∷ ps) file end at whole w zero lt =
@@ -117,7 +117,7 @@ walk_rises (p ∷ q ∷ ps) file end at whole w (suc k) lt =
     let e : suc k + 1 ≡ suc (k + 1) = omega arith in
     rw e (walk_rises (q ∷ ps) file end (rounded (at + length (entry p.body))) (whole_rounds (at + length (entry p.body))) w.3 k (omega arith))
 
-walk_small : (ps : List Place) (file : List ℕ) (end at : ℕ) → IsWalk file end at ps → end ≤ 2 ^ 32 → (k : ℕ) → k < length ps → get_or (map (λ (p : Place). p.offset / 16) ps) k 0 < 2 ^ 32
+pub walk_small : (ps : List Place) (file : List ℕ) (end at : ℕ) → IsWalk file end at ps → end ≤ 2 ^ 32 → (k : ℕ) → k < length ps → get_or (map (λ (p : Place). p.offset / 16) ps) k 0 < 2 ^ 32
 walk_small [] file end at w le k lt = absurd (omega arith)
 walk_small (p ∷ ps) file end at w le zero lt =
     let e : p.offset ≡ at = w.0 in
