@@ -21,9 +21,9 @@ mod rows;
 mod separators;
 mod skip;
 mod table;
-mod walk;
 #[cfg(test)]
 mod tests;
+mod walk;
 
 pub use answer::{audit, audit_laws};
 pub use flaw::{AuditError, Flaw};

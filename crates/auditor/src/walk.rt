@@ -18,5 +18,7 @@ mod series_entries;
 mod stored;
 mod symbols;
 mod table;
+#[cfg(test)]
+mod tests;
 
 pub use error::WalkError;

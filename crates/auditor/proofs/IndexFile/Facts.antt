@@ -154,7 +154,6 @@ set_at [] k d lt = absurd (omega arith)
 set_at (b ∷ bs) zero d lt = (b, refl, omega arith)
 set_at (b ∷ bs) (suc k) d lt = let r = set_at bs k d (omega arith) in (r.0, r.1, omega (arith, r.2))
 
-
 -- ---- all of it
 
 pub is_index : (file : List ℕ) (r : Read) → IsBytes file → IsParts file r.parts → read_of file ≡ Ok r → IsIndex file (series_in r)

@@ -69,4 +69,3 @@ all_step f xs i a r whole g e h =
 
 pub all_end : {X : Type 0} (f : X → Bool) (xs : List X) (i : ℕ) (whole : Bool) → length xs ≤ i → list_all f (drop i xs) ≡ whole → true ≡ whole
 all_end f xs i whole le h = rw (drop_all i xs le) at h
-

@@ -10,8 +10,8 @@ ghost use Rattle.auditor.specs.IndexFile.Flat.{body_in, bodies_in, AllIn, body_o
 
 use crate::walk::body::body_into;
 use crate::walk::chunk::Chunk;
-use crate::walk::error::WalkError;
 use crate::walk::entries::{Entry, entry_in};
+use crate::walk::error::WalkError;
 use std::alloc::Global;
 use std::cmp::Ordering;
 
