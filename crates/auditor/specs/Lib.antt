@@ -3,3 +3,6 @@ pub mod Looking
 pub mod Listing
 pub mod Errors
 pub mod Parted
+pub mod IndexFile
+pub mod WalkCodes
+pub mod BlockFiles

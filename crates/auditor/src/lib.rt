@@ -23,9 +23,11 @@ mod skip;
 mod table;
 #[cfg(test)]
 mod tests;
+mod walk;
 
 pub use answer::{audit, audit_laws};
 pub use flaw::{AuditError, Flaw};
 pub use merged::audit_merge;
 pub use skip::audit_skip;
 pub use table::Table;
+pub use walk::WalkError;

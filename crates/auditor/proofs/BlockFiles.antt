@@ -1,0 +1,11 @@
+pub mod Turns
+pub mod Steps
+pub mod Places
+pub mod Checks
+pub mod AnyOrder
+pub mod Stages
+pub mod Refusals
+pub mod Found
+pub mod Only
+pub mod Parts
+pub mod Rows

@@ -1,0 +1,71 @@
+-- What the first checks say of numbers, and what later checks need.
+use Rattle.std.proofs.Common.{◌≡◌, ℕ, zero, suc, ◌+◌, ◌^◌, ◌<◌, ◌≤◌, Bool, true, ◌&&◌, List, [], ◌∷◌, ◌++◌, length, get_or, drop, Some, Result, Ok, Err, refl, sym, ap, ◌∙◌, append_assoc, arith}
+use Rattle.std.specs.Prelude.{slice_range, slice_get, IfOk}
+use Rattle.std.specs.List.{flat_map, list_all}
+use Rattle.std.specs.Borrow.{Bor}
+use Rattle.std.proofs.lemmas.List.{length-map, length-append, drop_all, append-nil}
+use Rattle.byteorder.specs.Endian.{big_bytes}
+use Rattle.auditor.specs.declared.walk.error.WalkError.{WalkError}
+use Rattle.auditor.specs.declared.walk.entries.Entry.{Entry}
+use Rattle.auditor.specs.declared.walk.layout.Layout.{Layout}
+use Rattle.auditor.specs.declared.walk.bodies.Row.{Row}
+use Rattle.auditor.specs.declared.walk.chunk.Chunk.{Chunk}
+use Rattle.auditor.specs.IndexFile.Reading.{Parts, rounded, series_end}
+use Rattle.auditor.specs.IndexFile.Grammar.{entry, symbol, IsWalk, IsParts}
+use Rattle.auditor.specs.IndexFile.Seen.{places, seen}
+use Rattle.auditor.specs.IndexFile.Bodies.{Label}
+use Rattle.auditor.specs.IndexFile.Each.{each}
+use Rattle.auditor.specs.IndexFile.Flat.{body_in, bodies_in, label_sets_in, AllIn, AreInside}
+use Rattle.auditor.specs.IndexFile.Whole.{label_sets}
+use Rattle.auditor.specs.IndexFile.Sound.{IsSound}
+use Rattle.auditor.proofs.IndexFile.WalkLoops.{bind_ok}
+use Rattle.auditor.proofs.IndexFile.Walks.{flat_long, ok_is}
+use Rattle.auditor.proofs.IndexFile.Whole.{omega_length, end_inside}
+use Rattle.auditor.proofs.IndexFile.Eaches.{drop_at_place}
+
+walk_inside : (es : List Entry) (file : List ℕ) (end at len : ℕ) → IsWalk file end at (places es) → end ≤ len → (k : ℕ) (d : Entry) → k < length es → (get_or es k d).offset ≤ len
+walk_inside [] file end at len w le k d lt = absurd (omega arith)
+walk_inside (e ∷ es) file end at len w le zero d lt = omega (arith, w.0, w.1)
+walk_inside (e ∷ es) file end at len w le (suc k) d lt = walk_inside es file end (rounded (at + length (entry e.body.now))) len w.3 le k d (omega arith)
+
+pub few_symbols : (file : List ℕ) (x : Parts) → IsParts file x → length x.symbols < 2 ^ 32
+few_symbols file x p =
+    let content = p.symbols.0 in
+    let size = omega_length file x.contents content p.symbols.1.0 p.symbols.1.1 p.placed in
+    let long = ap length p.symbols.2.text ∙ length-append (big_bytes 4 (length x.symbols)) (flat_map symbol x.symbols) in
+    omega (arith, size, long, flat_long x.symbols)
+
+sound : (file : List ℕ) (o : Layout) → IsParts file (seen o) → IsSound file o
+sound file o p = record {
+  placed = p.placed;
+  few = omega (arith, few_symbols file (seen o) p, length-map o.symbols.items (λ (s : Bor (List ℕ)). s.now));
+  order = p.symbols.2.order;
+  small = λ k d lt. omega (arith, p.placed.short, walk_inside o.entries.items file (series_end o.contents) (rounded o.contents.series) (length file) p.entries (end_inside o.contents (length file) p.placed) k d lt);
+  offsets = λ k d lt. walk_inside o.entries.items file (series_end o.contents) (rounded o.contents.series) (length file) p.entries (end_inside o.contents (length file) p.placed) k d lt;
+}
+
+pub sound_found : (file : List ℕ) (r : Result Layout WalkError) → IfOk r (λ o. IsParts file (seen o)) → IfOk r (λ o. IsSound file o)
+sound_found file (Ok o) p = sound file o p
+sound_found file (Err e) p = tt
+
+-- ---- flat lists
+
+pub sets_are : (labels : List Label) (chunks : List Chunk) (rows : List Row) → label_sets (bodies_in labels chunks rows) ≡ label_sets_in labels rows
+sets_are labels chunks [] = refl
+sets_are labels chunks (r ∷ rows) = ap (λ (xs : List (List Label)). slice_range labels r.labels_start r.labels_end ∷ xs) (sets_are labels chunks rows)
+
+pub count_is : (labels : List Label) (chunks : List Chunk) (rows : List Row) → length (bodies_in labels chunks rows) ≡ length rows
+count_is labels chunks rows = length-map rows (body_in labels chunks)
+
+pub labels_inside : (labels : List Label) (chunks : List Chunk) (rows : List Row) → AllIn labels chunks rows → AreInside labels rows
+labels_inside labels chunks rows h = λ k d lt. let o = h k d lt in (o.labels_ordered, o.labels_inside)
+
+-- ---- a test of all
+
+pub all_step : {X : Type 0} (f : X → Bool) (xs : List X) (i : ℕ) (a : X) (r whole : Bool) → slice_get xs i ≡ Some a → r ≡ f a → list_all f (drop i xs) ≡ whole → whole ≡ (r && list_all f (drop (i + 1) xs))
+all_step f xs i a r whole g e h =
+    let s : i + 1 ≡ suc i = omega arith in
+    sym h ∙ rw (drop_at_place xs i a g, s, e) refl
+
+pub all_end : {X : Type 0} (f : X → Bool) (xs : List X) (i : ℕ) (whole : Bool) → length xs ≤ i → list_all f (drop i xs) ≡ whole → true ≡ whole
+all_end f xs i whole le h = rw (drop_all i xs le) at h

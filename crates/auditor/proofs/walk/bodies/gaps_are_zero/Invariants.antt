@@ -1,0 +1,7 @@
+use Rattle.std.proofs.Common.{◌≡◌, drop}
+use Rattle.auditor.specs.IndexFile.Flat.{gaps_zero}
+use Rattle.auditor.specs.IndexFile.Seen.{places}
+use Rattle.auditor.proofs.walk.bodies.gaps_are_zero.Given as goal
+
+abbrev pub invariant-loop-at : goal.invariant-loop-at
+invariant-loop-at l = gaps_zero l.file l.fn.end l.from (drop l.at (places l.entries)) ≡ gaps_zero l.file l.fn.end l.fn.first (places l.entries)

@@ -1,0 +1,11 @@
+use Rattle.std.proofs.Common.{◌≡◌, ◌-◌, true}
+use Rattle.auditor.specs.IndexFile.Chunks.{is_time}
+use Rattle.auditor.specs.IndexFile.Steps.{steps, with_front}
+use Rattle.auditor.specs.IndexFile.Bodies.{chunk_at}
+use Rattle.auditor.proofs.walk.body.more_chunks.Given as goal
+
+abbrev pub invariant-loop : goal.invariant-loop
+invariant-loop l = record {
+  times : is_time l.before.maxt ≡ true;
+  so_far : with_front l.chunks.items (steps chunk_at (l.count - l.counter) (l.before, l.rest)) ≡ with_front l.fn.chunks.items (steps chunk_at l.count (l.fn.first, l.bytes));
+}

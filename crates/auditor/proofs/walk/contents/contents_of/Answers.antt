@@ -1,0 +1,15 @@
+use Rattle.std.proofs.Common.{length, Result, Ok, Err, List, ℕ}
+use Rattle.std.specs.Prelude.{IfOk}
+use Rattle.auditor.specs.declared.walk.contents.Contents.{Contents}
+use Rattle.auditor.specs.declared.walk.error.WalkError.{WalkError}
+use Rattle.auditor.specs.IndexFile.Outcome.{Gives}
+use Rattle.auditor.specs.IndexFile.Reading.{IsPlaced, head_of}
+use Rattle.auditor.proofs.IndexFile.Head.{head_placed}
+use Rattle.auditor.proofs.walk.contents.contents_of.Goals as goal
+
+is_placed : (file : List ℕ) (r : Result Contents WalkError) → Gives (λ t. t) r (head_of file) → IfOk r (λ t. IsPlaced t (length file))
+is_placed file (Ok t) h = head_placed file t h
+is_placed file (Err e) h = tt
+
+pub returns-clause-placed : goal.returns-clause-placed
+returns-clause-placed c = is_placed c.args.file.now c.head_of.result c.head_of.ensures

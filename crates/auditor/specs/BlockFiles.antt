@@ -1,0 +1,5 @@
+pub mod Samples
+pub mod Sound
+pub mod Reading
+pub mod Spelled
+pub mod Outcome

@@ -1,0 +1,17 @@
+pub mod Reading
+pub mod Grammar
+pub mod Steps
+pub mod Each
+pub mod Chunks
+pub mod SeenChunks
+pub mod Bodies
+pub mod Labelled
+pub mod Order
+pub mod Flat
+pub mod Series
+pub mod Whole
+pub mod Spelled
+pub mod Outcome
+pub mod Seen
+pub mod Sound
+pub mod Kept

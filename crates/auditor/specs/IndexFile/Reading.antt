@@ -1,0 +1,168 @@
+-- Reading an index from its bytes. Each check has its refusal, and the first that fails is answered.
+use Rattle.std.specs.Prelude.{◌≡◌, ℕ, zero, suc, ◌+◌, ◌-◌, ◌≤◌, ◌<◌, ◌⊎◌, ◌*◌, ◌/◌, List, [], ◌∷◌, length, take, drop, slice_index, slice_range, Result, Ok, Err, Bool, true, nat_lt, nat_le, ◌==◌, ◌&&◌, ◌||◌, if◌then◌else◌}
+use Rattle.std.specs.Ordering.{nat_cmp, is_lt}
+use Rattle.std.specs.Cmp.Lexicographic.{slice_cmp}
+use Rattle.std.specs.Str.{is_utf8}
+use Rattle.byteorder.specs.Endian.{big_number}
+use Rattle.wire.specs.declared.error.WireError.{WireError}
+use Rattle.wire.specs.Reading.{number_at, bytes_at, uvarint_at}
+use Rattle.wire.specs.Checksum.{crc32c}
+use Rattle.auditor.specs.declared.walk.contents.Contents.{Contents}
+use Rattle.auditor.specs.declared.walk.error.WalkError.{WalkError}
+use Rattle.auditor.specs.declared.walk.error.WalkError.TheVariants.{Limit, TooShort, Magic, Version, ContentsCrc, ContentsOrder, SymbolsCrc, Symbols, SeriesCrc}
+
+infixl 10 ◌>>=◌
+-- the next check, where none has failed
+abbrev pub ◌>>=◌ : {A B : Type 0} → Result A WalkError → (A → Result B WalkError) → Result B WalkError
+(Ok x) >>= f = f x
+(Err e) >>= f = Err e
+
+-- a field, whose refusal is that of the check which reads it
+abbrev pub or_refused : {A : Type 0} → WalkError → Result A WireError → Result A WalkError
+or_refused e (Ok x) = Ok x
+or_refused e (Err f) = Err e
+
+-- ---- the table of contents
+
+-- the six offsets
+abbrev pub contents_at : List ℕ → Contents
+contents_at table = record {
+  symbols = big_number 8 table;
+  series = big_number 8 (drop 8 table);
+  label_indices = big_number 8 (drop 16 table);
+  label_offsets = big_number 8 (drop 24 table);
+  postings = big_number 8 (drop 32 table);
+  postings_offsets = big_number 8 (drop 40 table);
+}
+
+-- the offsets, where their checksum is right
+unfoldable pub table_of : List ℕ → Result Contents WalkError
+table_of table = if big_number 4 (drop 48 table) == crc32c (take 48 table) then Ok (contents_at table) else Err ContentsCrc
+
+-- where the series entries end
+abbrev pub series_end : Contents → ℕ
+series_end t = if t.label_indices == 0 then t.postings else t.label_indices
+
+-- the parts stand in their order, below the end
+abbrev pub in_order : Contents → ℕ → Bool
+in_order t end =
+    t.symbols == 5 && nat_lt 5 t.series && nat_le t.series t.postings && nat_le t.postings t.postings_offsets && nat_lt t.postings_offsets end
+    && (t.label_indices == 0 || (nat_le t.series t.label_indices && nat_le t.label_indices t.postings))
+    && (t.label_offsets == 0 || (nat_le t.postings t.label_offsets && nat_le t.label_offsets t.postings_offsets))
+
+-- whether a file begins as an index does
+abbrev pub has_magic : List ℕ → Bool
+has_magic file = slice_index file 0 == 0xBA && slice_index file 1 == 0xAA && slice_index file 2 == 0xD7 && slice_index file 3 == 0x00
+
+-- the checks of the length, the first five bytes and the table of contents
+unfoldable pub head_of : List ℕ → Result Contents WalkError
+head_of file =
+    if nat_lt 0x4000_0000 (length file) then Err Limit
+    else if nat_lt (length file) 57 then Err TooShort
+    else if has_magic file then (
+    if slice_index file 4 == 2 then (table_of (drop (length file - 52) file) >>= λ t.
+    if in_order t (length file - 52) then Ok t else Err ContentsOrder)
+    else Err Version)
+    else Err Magic
+
+-- the same as facts, of a file of this length
+pub record IsPlaced (t : Contents) (len : ℕ) : Type 0 where
+  pub long : 57 ≤ len
+  pub short : len ≤ 0x4000_0000
+  pub symbols : t.symbols ≡ 5
+  pub series : 5 < t.series
+  pub postings : t.series ≤ t.postings
+  pub postings_offsets : t.postings ≤ t.postings_offsets
+  pub end : t.postings_offsets + 52 < len
+  pub label_indices : (t.label_indices ≡ 0) ⊎ ((t.series ≤ t.label_indices) × (t.label_indices ≤ t.postings))
+  pub label_offsets : (t.label_offsets ≡ 0) ⊎ ((t.postings ≤ t.label_offsets) × (t.label_offsets ≤ t.postings_offsets))
+
+-- ---- content with its checksum behind it
+
+-- content of this length and its checksum, and what stands behind them
+abbrev pub checked_at : WalkError → ℕ × List ℕ → Result (List ℕ × List ℕ) WalkError
+checked_at e len = do
+  content ← or_refused e (bytes_at len.0 len.1)
+  sum ← or_refused e (number_at 4 content.1)
+  if sum.0 == crc32c content.0 then Ok (content.0, sum.1) else Err e
+
+-- four bytes of length, the content, its checksum
+unfoldable pub frame_at : WalkError → List ℕ → Result (List ℕ × List ℕ) WalkError
+frame_at e bytes = or_refused e (number_at 4 bytes) >>= checked_at e
+
+-- ---- symbols
+
+-- whether a text is below another, by bytes
+abbrev pub is_less : List ℕ → List ℕ → Bool
+is_less a b = is_lt (slice_cmp nat_cmp a b)
+
+-- whether each text is below the next
+unfoldable pub ascending : List (List ℕ) → Bool
+ascending [] = true
+ascending (a ∷ []) = true
+ascending (a ∷ b ∷ rest) = is_less a b && ascending (b ∷ rest)
+
+-- a text with its length before it
+unfoldable pub symbol_at : List ℕ → Result (List ℕ × List ℕ) WalkError
+symbol_at bytes = do
+  len ← or_refused Symbols (uvarint_at bytes)
+  text ← or_refused Symbols (bytes_at len.0 len.1)
+  if is_utf8 text.0 then Ok text else Err Symbols
+
+-- this many texts
+unfoldable pub symbols_from : ℕ → List ℕ → Result (List (List ℕ) × List ℕ) WalkError
+symbols_from zero bytes = Ok ([], bytes)
+symbols_from (suc n) bytes = do
+  first ← symbol_at bytes
+  others ← symbols_from n first.1
+  Ok (first.0 ∷ others.0, others.1)
+
+-- the content of the symbol table
+unfoldable pub symbols_of : List ℕ → Result (List (List ℕ)) WalkError
+symbols_of content = do
+  n ← or_refused Symbols (number_at 4 content)
+  found ← symbols_from n.0 n.1
+  if length found.1 == 0 && ascending found.0 then Ok found.0 else Err Symbols
+
+-- ---- the walk over the series entries
+
+-- where an entry stands, its body, and where it ends
+pub record Place : Type 0 where
+  pub offset : ℕ
+  pub body : List ℕ
+  pub end : ℕ
+
+-- the next multiple of 16
+abbrev pub rounded : ℕ → ℕ
+rounded n = (n + 15) / 16 * 16
+
+-- a series entry: its body, and what stands behind it
+unfoldable pub entry_at : List ℕ → Result (List ℕ × List ℕ) WalkError
+entry_at bytes = or_refused SeriesCrc (uvarint_at bytes) >>= checked_at SeriesCrc
+
+-- the entries from a place on, below the end: no more than this many
+unfoldable pub entries_from : ℕ → List ℕ → ℕ → ℕ → Result (List Place) WalkError
+entries_from zero file end at = Ok []
+entries_from (suc n) file end at = if nat_lt at end then (do
+  entry ← entry_at (slice_range file at end)
+  others ← entries_from n file end (rounded (end - length entry.1))
+  Ok (record { offset = at; body = entry.0; end = end - length entry.1 } ∷ others))
+    else Ok []
+
+-- ---- the whole
+
+-- the table of contents, the symbols and where they end, and the entries
+pub record Parts : Type 0 where
+  pub contents : Contents
+  pub symbols : List (List ℕ)
+  pub symbols_end : ℕ
+  pub entries : List Place
+
+-- the checks up to those of the series entries
+unfoldable pub parts_of : List ℕ → Result Parts WalkError
+parts_of file = do
+  t ← head_of file
+  frame ← frame_at SymbolsCrc (slice_range file 5 t.series)
+  symbols ← symbols_of frame.0
+  entries ← entries_from (length file) file (series_end t) (rounded t.series)
+  Ok (record { contents = t; symbols = symbols; symbols_end = length frame.0 + 13; entries = entries })

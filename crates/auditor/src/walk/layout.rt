@@ -1,0 +1,57 @@
+//! What stands where in an index: its table of contents, its symbols, its series entries.
+
+ghost use Rattle.std.specs.Prelude.{◌≡◌, Ok, IfOk};
+ghost use Rattle.auditor.specs.IndexFile.Outcome.{Gives};
+ghost use Rattle.auditor.specs.IndexFile.Reading.{Parts, parts_of};
+ghost use Rattle.auditor.specs.IndexFile.Grammar.{IsParts};
+ghost use Rattle.auditor.specs.IndexFile.Seen.{seen};
+ghost use Rattle.auditor.specs.IndexFile.Sound.{IsSound};
+
+use crate::walk::contents::{Contents, contents_of, series_end};
+use crate::walk::entries::{Entry, entries_of};
+use crate::walk::error::WalkError;
+use crate::walk::framed::frame_of;
+use crate::walk::symbols::symbols_of;
+use std::alloc::Global;
+
+/// An index, by the places of its parts in the file.
+#[derive(Drop)]
+pub struct Layout<'a> {
+    pub contents: Contents,
+    pub symbols: Vec<&'a str>,
+    pub symbols_end: usize,
+    pub entries: Vec<Entry<'a>>,
+}
+
+#[tactic(auto, unfolding(crate::specs::IndexFile::Reading::parts_of))]
+fn parts_of(alloc: Global, file: &[u8]) -> Result<Layout<'_>, WalkError>
+    ensures { Gives seen result (parts_of file.now) }
+{
+    let contents = contents_of(file)?;
+    let series = contents.series as usize;
+    let end = series_end(contents) as usize;
+    let (content, _) = frame_of(&file[5..series], WalkError::SymbolsCrc)?;
+    let symbols_end = content.len() + 13;
+    let symbols = symbols_of(alloc, content)?;
+    let entries = entries_of(alloc, file, (series + 15) / 16 * 16, end)?;
+    Ok(Layout {
+        contents,
+        symbols,
+        symbols_end,
+        entries,
+    })
+}
+
+/// The layout of an index, or the first of the checks `I15` (length), `I1` to `I8` that fails.
+pub(crate) fn layout_of(alloc: Global, file: &[u8]) -> Result<Layout<'_>, WalkError>
+    // The first check that fails is answered.
+    ensures exact { Gives seen result (parts_of file.now) }
+    // What is given is laid out so.
+    ensures found { IfOk result (λ o. IsParts file.now (seen o)) }
+    // What is laid out so is given, unless memory runs out.
+    ensures only { (x : Parts) → IsParts file.now x → Gives seen result (Ok x) }
+    // What later checks build on.
+    ensures sound { IfOk result (λ o. IsSound file.now o) }
+{
+    parts_of(alloc, file)
+}

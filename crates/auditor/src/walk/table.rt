@@ -1,0 +1,61 @@
+//! The table of a block's files.
+
+ghost use Rattle.std.specs.Prelude.{◌≡◌, Ok, IfOk};
+ghost use Rattle.labels.specs.Parts.{Part};
+ghost use Rattle.auditor.specs.IndexFile.Outcome.{Gives};
+ghost use Rattle.auditor.specs.BlockFiles.Reading.{walked_of};
+ghost use Rattle.auditor.specs.BlockFiles.Spelled.{IsWalked};
+
+use crate::table::Table;
+use crate::walk::deletions::known_deletions;
+use crate::walk::error::WalkError;
+use crate::walk::samples::rows_of;
+use crate::walk::series_entries::SeriesEntries;
+use crate::walk::stored::check_stored;
+use chunk_reader::Chunks;
+use std::alloc::Global;
+
+// The checks, and what they leave.
+fn walked(
+    alloc: Global,
+    index: &[u8],
+    chunks: Vec<u8>,
+    tombstones: &[u8],
+) -> Result<Table, WalkError>
+    ensures exact { Gives (λ t. t) result (walked_of index.now chunks.items tombstones.now) }
+    ensures found { IfOk result (IsWalked index.now chunks.items tombstones.now) }
+{
+    let entries = SeriesEntries::read(alloc, index)?;
+    let chunks = Chunks::open(chunks)?;
+    check_stored(&entries, &chunks)?;
+    let deletions = known_deletions(alloc, &entries, tombstones)?;
+    let rows = rows_of(alloc, &entries, &chunks, &deletions)?;
+    Ok(Table::of_series(rows))
+}
+
+impl Table {
+    /// The part that the series entries of an index, a chunks file and a file of deletions say. The postings are not
+    /// looked at, so a file whose lists lie gives the part of its series; nor is the range of the block.
+    ///
+    /// The first check that fails is answered, each over the whole file before the next: `I15` where the index is longer
+    /// than 1 GiB; `I1` to `I10`; `I15` where there are more than 1,048,576 series, or one has more than 64 labels; `C7`,
+    /// `C1`, `C2` of the chunks file; `C3` to `C8` of each chunk that the series name, in their order; `I15` where a
+    /// series has more than 1,048,576 samples; `T1` to `T4` of the deletions; `T5` where one is of a series that the
+    /// index does not have. Time in proportion to the files and to the samples; each chunk's checksum is taken once. It
+    /// copies label sets and samples, and keeps none of the files.
+    pub fn walk(
+        alloc: Global,
+        index: &[u8],
+        chunks: Vec<u8>,
+        tombstones: &[u8],
+    ) -> Result<Table, WalkError>
+        // The first check that fails is answered; where none does, the part that was read is given.
+        ensures exact { Gives (λ t. t) result (walked_of index.now chunks.items tombstones.now) }
+        // The part is what the bytes of the files spell, whatever the postings are.
+        ensures found { IfOk result (IsWalked index.now chunks.items tombstones.now) }
+        // Files that spell a part give it, unless memory runs out.
+        ensures only { (part : Part) → IsWalked index.now chunks.items tombstones.now part → Gives (λ t. t) result (Ok part) }
+    {
+        walked(alloc, index, chunks, tombstones)
+    }
+}
