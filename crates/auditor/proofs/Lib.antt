@@ -10,3 +10,5 @@ pub mod Merging
 pub mod Neighbours
 pub mod Parting
 pub mod Excluding
+pub mod Replying
+pub mod Labelled

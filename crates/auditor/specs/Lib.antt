@@ -3,3 +3,5 @@ pub mod Looking
 pub mod Listing
 pub mod Errors
 pub mod Parted
+pub mod Replies
+pub mod Read
