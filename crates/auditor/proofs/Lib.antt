@@ -12,3 +12,5 @@ pub mod Parting
 pub mod Excluding
 mod IndexFile
 mod BlockFiles
+pub mod Replying
+pub mod Labelled

@@ -6,3 +6,5 @@ pub mod Parted
 pub mod IndexFile
 pub mod WalkCodes
 pub mod BlockFiles
+pub mod Replies
+pub mod Read

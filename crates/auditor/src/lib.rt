@@ -17,6 +17,8 @@ mod looks;
 mod merged;
 #[cfg(test)]
 mod parted;
+mod reading;
+mod reply;
 mod rows;
 mod separators;
 mod skip;
@@ -28,6 +30,7 @@ mod walk;
 pub use answer::{audit, audit_laws};
 pub use flaw::{AuditError, Flaw};
 pub use merged::audit_merge;
+pub use reply::{Reply, ReplyError, ToldPart};
 pub use skip::audit_skip;
 pub use table::Table;
 pub use walk::WalkError;
