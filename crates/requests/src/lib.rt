@@ -16,10 +16,15 @@
 
 mod refusal;
 mod reply;
+mod request;
+mod select;
 mod status;
+mod target;
 #[cfg(test)]
 mod tests;
+mod times;
 
 pub use refusal::{Cause, Refusal};
 pub use reply::{done_reply, success_reply};
+pub use request::{MAX_SAMPLES, ReadError, Request};
 pub use status::Status;
