@@ -1,0 +1,4 @@
+pub mod NoFloat
+pub mod TimeTexts
+pub mod Found
+pub mod SelectorTexts

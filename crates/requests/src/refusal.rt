@@ -1,0 +1,104 @@
+//! Why a request is refused.
+
+ghost use Rattle.std.specs.Prelude.{◌≡◌, option_map};
+ghost use Rattle.requests.specs.Refusals.{code_of, status_of, cause_of, told_cause};
+
+use crate::Status;
+use matchers::SelectorError;
+
+/// The refusal that stands behind one of a request.
+#[derive(Clone, Copy, Debug, PartialEq, Eq, Drop)]
+pub struct Cause {
+    /// Its number, as `M4` or `E3`.
+    pub code: &'static str,
+    /// Where in the selector, in bytes, or which sample of the batch, from 0.
+    pub at: Option<usize>,
+}
+
+/// Why a request is refused. Several may hold: the first in this order is answered, save that `H8` comes before `H7`
+/// and `H6` comes behind them in a body.
+#[derive(Clone, Copy, Debug, PartialEq, Eq, Drop)]
+pub enum Refusal {
+    /// `H1`: the bytes are no request head of at most 64 fields, or end within one.
+    BadHead,
+    /// `H2`: 8,192 bytes do not end the head.
+    HeadTooLong,
+    /// `H3`: there is no such path.
+    NoSuchPath,
+    /// `H4`: the path takes another method.
+    Method,
+    /// `H5`: the query string is not of the path's form.
+    BadQuery,
+    /// `H6`: the selector is refused.
+    BadSelector(SelectorError),
+    /// `H7`: the body is not of the path's form, or its length is not told, or it ends early.
+    BadBody,
+    /// `H8`: the body has more than 1,048,576 bytes.
+    BodyTooLong,
+    /// `H9`: the store refuses the event.
+    Refused(Cause),
+    /// `H10`: the store lends no snapshot.
+    Unavailable,
+}
+
+impl Refusal {
+    /// The number of the refusal.
+    pub fn code(&self) -> &'static str
+        ensures { result.now ≡ code_of self.now }
+    {
+        match self {
+            Refusal::BadHead => "H1",
+            Refusal::HeadTooLong => "H2",
+            Refusal::NoSuchPath => "H3",
+            Refusal::Method => "H4",
+            Refusal::BadQuery => "H5",
+            Refusal::BadSelector(_) => "H6",
+            Refusal::BadBody => "H7",
+            Refusal::BodyTooLong => "H8",
+            Refusal::Refused(_) => "H9",
+            Refusal::Unavailable => "H10",
+        }
+    }
+
+    /// The status of the reply.
+    pub fn status(&self) -> Status
+        ensures { result ≡ status_of self.now }
+    {
+        match self {
+            Refusal::BadHead | Refusal::BadQuery | Refusal::BadSelector(_) | Refusal::BadBody =>
+                Status::BadRequest,
+            Refusal::HeadTooLong => Status::HeadTooLarge,
+            Refusal::NoSuchPath => Status::NotFound,
+            Refusal::Method => Status::MethodNotAllowed,
+            Refusal::BodyTooLong => Status::ContentTooLarge,
+            Refusal::Refused(_) => Status::Conflict,
+            Refusal::Unavailable => Status::ServiceUnavailable,
+        }
+    }
+
+    /// The refusal behind `H6` and `H9`.
+    pub fn cause(&self) -> Option<Cause>
+        ensures { option_map told_cause result ≡ cause_of self.now }
+    {
+        match self {
+            Refusal::BadSelector(error) => Some(Cause {
+                code: error.code(),
+                at: place_in(*error),
+            }),
+            Refusal::Refused(cause) => Some(*cause),
+            _ => None,
+        }
+    }
+}
+
+// Where a selector ends to be one, if that is why it is refused.
+fn place_in(error: SelectorError) -> Option<usize>
+    ensures { result ≡ place_of error }
+{
+    match error {
+        SelectorError::Syntax { at } => Some(at),
+        _ => None,
+    }
+}
+
+ghost use Rattle.requests.specs.Refusals.{place_of};

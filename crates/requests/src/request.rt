@@ -1,0 +1,67 @@
+//! What a client asks, and why nothing was read.
+
+ghost use Rattle.std.specs.Prelude.{◌≡◌};
+ghost use Rattle.requests.specs.declared.request.ReadError.TheVariants as read_error;
+
+use crate::Refusal;
+use labels::{LabelSet, Sample};
+use matchers::{Matcher, Query};
+use std::alloc::{AllocError, AllocFailed};
+
+/// What a client asks.
+#[derive(Drop)]
+pub enum Request {
+    /// The rows that a query finds.
+    Select(Query),
+    /// Samples that are to be committed as one batch, in this order: at most [`MAX_SAMPLES`].
+    Write(Vec<(LabelSet, Sample)>),
+    /// The samples from one time to another, both in the range, of the label sets that satisfy the matchers, 1 to 16,
+    /// are to be deleted.
+    Delete {
+        matchers: Vec<Matcher>,
+        from: i64,
+        to: i64,
+    },
+    /// The head is to be cut at a time.
+    Cut(i64),
+}
+
+/// The most samples of one batch.
+pub const MAX_SAMPLES: usize = 4096;
+
+/// Why no request was read.
+#[derive(Clone, Copy, Debug, PartialEq, Eq, Drop)]
+pub enum ReadError {
+    /// The input ends before its first byte.
+    Closed,
+    /// The reader failed.
+    Fault,
+    /// There is no memory left.
+    Memory,
+    /// The request is refused, and a reply is owed.
+    Refused(Refusal),
+}
+
+impl From<AllocError> for ReadError {
+    ghost from_gives = { λ _ e. e ≡ read_error.Memory };
+
+    fn from(_: AllocError) -> ReadError {
+        ReadError::Memory
+    }
+}
+
+impl<T: Drop> From<AllocFailed<T>> for ReadError {
+    ghost from_gives = { λ _ e. e ≡ read_error.Memory };
+
+    fn from(_: AllocFailed<T>) -> ReadError {
+        ReadError::Memory
+    }
+}
+
+impl From<Refusal> for ReadError {
+    ghost from_gives = { λ refusal e. e ≡ read_error.Refused refusal };
+
+    fn from(refusal: Refusal) -> ReadError {
+        ReadError::Refused(refusal)
+    }
+}

@@ -1,0 +1,49 @@
+//! Times as they stand in a query string.
+
+ghost use Rattle.std.specs.Prelude.{◌≡◌, IfSome, true};
+ghost use Rattle.labels.specs.Contents.{is_time};
+ghost use Rattle.std.specs.List.{list_all};
+ghost use Rattle.std.specs.Char.{is_ascii_digit};
+ghost use Rattle.requests.specs.Times.{is_counted, is_integer, time_of};
+
+use labels::is_time;
+
+fn are_digits(text: &[u8]) -> bool
+    ensures { result ≡ list_all is_ascii_digit text.now }
+{
+    text.iter().all(|byte| byte.is_ascii_digit())
+}
+
+fn is_counted(text: &[u8]) -> bool
+    ensures { result ≡ is_counted text.now }
+{
+    match text.split_first() {
+        Some((first, rest)) => *first != b'0' && first.is_ascii_digit() && are_digits(rest),
+        None => false,
+    }
+}
+
+fn is_integer(text: &[u8]) -> bool
+    ensures { result ≡ is_integer text.now }
+{
+    match text.split_first() {
+        Some((b'-', rest)) => is_counted(rest),
+        Some((b'0', rest)) => rest.is_empty(),
+        Some(_) => is_counted(text),
+        None => false,
+    }
+}
+
+/// The time that a text writes: `0`, or an optional `-` and digits that do not begin with `0`.
+pub fn time_of(text: &str) -> Option<i64>
+    ensures value { result ≡ time_of text.now }
+    ensures time { IfSome result (λ t. is_time t ≡ true) }
+{
+    if !is_integer(text.as_bytes()) {
+        return None;
+    }
+    match text.parse::<i64>() {
+        Ok(t) if is_time(t) => Some(t),
+        _ => None,
+    }
+}
