@@ -7,14 +7,13 @@ ghost use Rattle.head.specs.Blocks.{opening_of};
 ghost use Rattle.head.specs.Worlds.{batch};
 ghost use Rattle.snapshots.specs.Replays.{IsAfter, EndsWith};
 
-use super::{BATCH_A, BATCH_B, DOWN_A, EmptyStore, UP_A, appender_of, holds, open_empty};
+use super::rows::{AFTER_A_B, AFTER_B_A, BATCH_A, BATCH_B, appender_of, shown};
+use super::{EmptyStore, open_empty};
 use crate::{Appender, Committer, Naming, Pass, Receipt, Seat, Store};
 use head::Snapshot;
 use std::alloc::Global;
 use std::marker::Brand;
-use std::process::Abort;
 use std::sync::{Arc, Wait};
-use std::test::Fail;
 use std::thread::{Threads, join};
 
 fn commit_as<J: Naming, C: Wait + Drop>(
@@ -94,34 +93,44 @@ fn commit_both<J: Naming + Send + Sync, C: Wait + Drop + Send + Sync, R: Threads
     Some((first, second, x, y))
 }
 
-#[test]
-fn a_pass_sees_one_of_the_two_orders(rt: HostRuntime) -> Result<(), Fail> {
-    committed_by_two::<Brand, _>(&rt, rt.alloc(), Store::new())
+/// Whether the pass has seen both batches, in this order.
+fn has_seen_both<J: Naming>(
+    alloc: Global,
+    seen: &(Pass<J>, Arc<Snapshot>),
+    is_a_first: bool,
+) -> bool {
+    let want = if is_a_first { AFTER_A_B } else { AFTER_B_A };
+    let text = shown(alloc, &seen.1);
+    seen.0.events() == 2 && text.is_ok_and(|text| text.as_str() == want)
 }
 
-fn committed_by_two<J: Naming + Send + Sync, R: Threads + Wait + Abort + Sync>(
+#[test]
+fn a_pass_sees_one_of_the_two_orders(rt: HostRuntime) {
+    let seen = committed_by_two::<Brand, _>(&rt, rt.alloc(), Store::new());
+    assert_eq!(rt; seen, Some((3, true, true)));
+}
+
+/// How many events both receipts have, and whether each pass has seen the order that they tell.
+fn committed_by_two<J: Naming + Send + Sync, R: Threads + Wait + Sync>(
     rt: &R,
     alloc: Global,
     store: Store,
-) -> Result<(), Fail>
+) -> Option<(u64, bool, bool)>
     requires book { store.seen.book ≡ J.book }
     requires opening { opening_of [] ≡ J.opening }
 {
+    let batches = appender_of(alloc, BATCH_A).zip(appender_of(alloc, BATCH_B))?;
     let EmptyStore {
         committer,
         passes,
         seats,
     } = open_empty::<J, &R>(rt, alloc, store)?;
-    let batches = (appender_of(alloc, &BATCH_A)?, appender_of(alloc, &BATCH_B)?);
-    let done = commit_both::<J, &R, R>(rt, &committer, seats, batches, passes);
-    let (first, second, (one, x), (two, y)) = done.ok_or("both commit and both see")?;
-    assert_eq!(rt; (one.events(), two.events()), (2, 2));
-    assert_eq!(rt; first.events() + second.events(), 3);
-    let a_first = first.events() < second.events();
-    let (of_a, of_b) = if a_first { (1, 4) } else { (4, 1) };
-    for snapshot in [&x, &y] {
-        assert!(rt; holds(alloc, snapshot, of_a, UP_A, &[(10, 1), (20, 1)])?);
-        assert!(rt; holds(alloc, snapshot, of_b, DOWN_A, &[(10, 4), (20, 4)])?);
-    }
-    Ok(())
+    let seen = commit_both::<J, &R, R>(rt, &committer, seats, batches, passes)?;
+    let (first, second, one, two) = seen;
+    let is_a_first = first.events() < second.events();
+    Some((
+        first.events().saturating_add(second.events()),
+        has_seen_both(alloc, &one, is_a_first),
+        has_seen_both(alloc, &two, is_a_first),
+    ))
 }
