@@ -1,12 +1,12 @@
 -- What was written of the directories so far, and of one more.
-use Rattle.std.proofs.Common.{◌≡◌, ℕ, ◌+◌, ◌<◌, List, [], ◌∷◌, ◌++◌, Option, None, Some, Bool, true, false, refl, sym, ap, subst, ◌∙◌, take, drop, length, get_or, append_assoc, Bor}
+use Rattle.std.proofs.Common.{◌≡◌, ℕ, ◌+◌, ◌<◌, List, [], ◌∷◌, ◌++◌, Option, None, Some, Bool, true, false, refl, sym, ap, subst, ◌∙◌, take, drop, length, get_or, map, append_assoc, Bor}
 use Rattle.std.specs.Prelude.{◌||◌, if◌then◌else◌}
 use Rattle.std.specs.List.{AllByRecursion, flat_map, list_any}
 use Rattle.std.specs.Io.KnownBytes.{Appends, Keeps}
 use Rattle.std.proofs.lemmas.List.{append-nil, map-append, take-append-drop}
 use Rattle.std.proofs.lemmas.List.Folds.{list_any-append}
 use Rattle.std.proofs.lemmas.Grind.{flat_map-append}
-use Rattle.querier.specs.Checking.{Judged, IsJudgedAt, IsChecked, IsCheckFault, judgement_line, is_refused, outcome_of}
+use Rattle.querier.specs.Checking.{Judged, IsJudgedAt, IsChecked, IsCheckFault, IsCutAt, judgement_line, is_refused, outcome_of}
 use Rattle.querier.specs.Reading.{Reads, IsDirectoryFault, paths_of}
 use Rattle.querier.proofs.Paths.{paths_of_more, parts_of_paths}
 use Rattle.querier.specs.Selecting.{KeepsAt}
@@ -97,8 +97,9 @@ kept_checked reads directories old mid new outcome before kept = record {
 -- the next of the texts was not checked
 pub stopped : (reads : Reads) (texts : List (Bor (List ℕ))) (i : ℕ) (d : Bor (List ℕ)) (old mid new : Option (List ℕ)) (outcome : Outcome) (why : Fault)
     → i < length texts → IsChecked reads (take i (paths_of texts)) old mid outcome → IsDirectoryFault reads (get_or texts i d).now why → KeepsAt why mid new
+    → IsCutAt reads (get_or texts i d).now mid new why
     → IsCheckFault reads (paths_of texts) old new why
-stopped reads texts i d old mid new outcome (fault.CannotRead path) h before unread kept = record {
+stopped reads texts i d old mid new outcome (fault.CannotRead path) h before unread kept cut = record {
   before = take i (paths_of texts);
   directory = (get_or texts i d).now;
   after = drop (i + 1) (paths_of texts);
@@ -107,13 +108,33 @@ stopped reads texts i d old mid new outcome (fault.CannotRead path) h before unr
   checked = kept_checked reads (take i (paths_of texts)) old mid new outcome before kept;
   unread = unread;
 }
-stopped reads texts i d old mid new outcome fault.Memory h before unread kept = record {
+stopped reads texts i d old mid new outcome fault.Memory h before unread kept cut = record {
   before = take i (paths_of texts);
   rest = drop i (paths_of texts);
   order = sym (take-append-drop i (paths_of texts));
   outcome = outcome;
   checked = kept_checked reads (take i (paths_of texts)) old mid new outcome before kept;
 }
-stopped reads texts i d old mid new outcome fault.CannotWrite h before unread kept = tt
-stopped reads texts i d old mid new outcome (fault.Words error) h before unread kept = absurd unread
-stopped reads texts i d old mid new outcome (fault.Refused refusal) h before unread kept = absurd unread
+stopped reads texts i d old mid new outcome fault.CannotWrite h before unread kept cut =
+    let directory = (get_or texts i d).now in
+    let one : Judged = (directory, cut.0) in
+    let lines = flat_map (λ (j : Judged). judgement_line j.0 j.1) in
+    record {
+      judged = before.judged ++ one ∷ [];
+      rest = drop (i + 1) (paths_of texts);
+      order = parts_of_paths texts i d h
+          ∙ ap (λ (l : List (List ℕ)). l ++ directory ∷ drop (i + 1) (paths_of texts)) (sym before.order)
+          ∙ sym (append_assoc (map (λ (j : Judged). j.0) before.judged) (directory ∷ []) (drop (i + 1) (paths_of texts)))
+          ∙ ap (λ (l : List (List ℕ)). l ++ drop (i + 1) (paths_of texts)) (sym (map-append (λ (j : Judged). j.0) before.judged (one ∷ [])));
+      each = All_one_more (λ (j : Judged). IsJudgedAt reads j.0 j.1) before.judged one before.each cut.1;
+      written = record {
+        front = lines before.judged ++ cut.2.front;
+        rest = cut.2.rest;
+        parts = flat_map-append (λ (j : Judged). judgement_line j.0 j.1) before.judged (one ∷ [])
+            ∙ ap (λ (l : List ℕ). lines before.judged ++ l) (append-nil (judgement_line directory cut.0) ∙ cut.2.parts)
+            ∙ sym (append_assoc (lines before.judged) cut.2.front cut.2.rest);
+        appended = appends_on old mid new (lines before.judged) cut.2.front before.written cut.2.appended;
+      };
+    }
+stopped reads texts i d old mid new outcome (fault.Words error) h before unread kept cut = absurd unread
+stopped reads texts i d old mid new outcome (fault.Refused refusal) h before unread kept cut = absurd unread

@@ -6,3 +6,4 @@ pub mod Openings
 pub mod Paths
 pub mod LineEnds
 pub mod FirstUnread
+pub mod Sendings

@@ -4,6 +4,7 @@ use Rattle.std.specs.List.{AllByRecursion, flat_map, list_any}
 use Rattle.std.specs.Io.KnownBytes.{Appends}
 use Rattle.querier.specs.Judging.{IsJudged}
 use Rattle.querier.specs.Reading.{Reads, AreRead, IsUnread}
+use Rattle.querier.specs.Sending.{AppendsPrefix}
 use Rattle.querier.specs.declared.fault.Fault.{Fault}
 use Rattle.querier.specs.declared.fault.Fault.TheVariants.{Words, Refused, CannotRead, CannotWrite, Memory}
 use Rattle.querier.specs.declared.files.BlockFiles.{BlockFiles}
@@ -67,10 +68,23 @@ pub record IsUnreadCheck (reads : Reads) (directories : List (List ℕ)) (old ne
   pub checked : IsChecked reads before old new outcome
   pub unread : IsUnread reads directory path
 
+-- where the writer failed, a prefix of the right line of a directory was written
+abbrev pub IsCutAt : Reads → List ℕ → Option (List ℕ) → Option (List ℕ) → Fault → Type 0
+IsCutAt reads directory old new CannotWrite = (judgement : Judgement) × IsJudgedAt reads directory judgement × AppendsPrefix old new (judgement_line directory judgement)
+IsCutAt reads directory old new fault = Unit {0}
+
+-- a prefix of the lines of the first directories was written, each of them judged
+pub record IsCutShort (reads : Reads) (directories : List (List ℕ)) (old new : Option (List ℕ)) : Type 0 where
+  pub judged : List Judged
+  pub rest : List (List ℕ)
+  pub order : directories ≡ map (λ j. j.0) judged ++ rest
+  pub each : AllByRecursion (λ (j : Judged). IsJudgedAt reads j.0 j.1) judged
+  pub written : AppendsPrefix old new (flat_map (λ j. judgement_line j.0 j.1) judged)
+
 -- why a check ends before it is done, and what was written by then
 abbrev pub IsCheckFault : Reads → List (List ℕ) → Option (List ℕ) → Option (List ℕ) → Fault → Type 0
 IsCheckFault reads directories old new (CannotRead path) = IsUnreadCheck reads directories old new (string_bytes path)
 IsCheckFault reads directories old new Memory = IsBegun reads directories old new
-IsCheckFault reads directories old new CannotWrite = Unit {0}
+IsCheckFault reads directories old new CannotWrite = IsCutShort reads directories old new
 IsCheckFault reads directories old new (Words error) = ⊥
 IsCheckFault reads directories old new (Refused refusal) = ⊥

@@ -4,6 +4,7 @@ pub mod Faults
 pub mod Opening
 pub mod Selecting
 pub mod Lines
+pub mod Sending
 pub mod Reading
 pub mod Judging
 pub mod Checking

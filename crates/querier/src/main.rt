@@ -20,6 +20,7 @@ mod opening;
 mod report;
 mod run;
 mod select;
+mod sending;
 #[cfg(test)]
 mod tests;
 

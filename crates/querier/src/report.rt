@@ -2,14 +2,14 @@
 
 ghost use Rattle.std.specs.Prelude.{◌≡◌, if◌then◌else◌, string_bytes, IfOk, IfErr};
 ghost use Rattle.std.specs.Io.KnownBytes.{Appends};
-ghost use Rattle.querier.specs.Checking.{judgement_line, IsJudgedAt, IsChecked, IsCheckFault};
+ghost use Rattle.querier.specs.Checking.{judgement_line, IsJudgedAt, IsChecked, IsCheckFault, IsCutAt};
 ghost use Rattle.querier.specs.Reading.{IsReadingFault, IsDirectoryFault, paths_of};
 ghost use Rattle.querier.specs.Selecting.{KeepsAt};
 
 use crate::fault::Fault;
 use crate::files::{ReadFiles, read_block};
 use crate::judgement::{Judgement, judge};
-use crate::run::send;
+use crate::sending::send;
 use std::alloc::{AllocError, Global};
 use std::io::Write;
 
@@ -72,6 +72,7 @@ fn check_one<F: ReadFiles, W: Write>(
     ensures told { IfOk result (λ judgement. Appends (W.contents out.old) (W.contents out.new) (judgement_line directory.now judgement)) }
     ensures err { IfErr result (λ fault. IsDirectoryFault (F.may_read files.now) directory.now fault) }
     ensures kept { IfErr result (λ fault. KeepsAt fault (W.contents out.old) (W.contents out.new)) }
+    ensures cut { IfErr result (λ fault. IsCutAt (F.may_read files.now) directory.now (W.contents out.old) (W.contents out.new) fault) }
 {
     let (judgement, line) = judge_at(alloc, files, directory)?;
     send(out, line.as_bytes())?;

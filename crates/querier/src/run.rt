@@ -15,20 +15,13 @@ use crate::fault::Fault;
 use crate::files::ReadFiles;
 use crate::report::{Outcome, check};
 use crate::select::select;
+use crate::sending::send;
 use clap::error::ErrorKind;
 use head::Snapshot;
 use matchers::Query;
 use query_http::{AuditedAnswer, answer, body};
 use std::alloc::{AllocError, Global};
 use std::io::{self, Read, Write};
-
-/// Writes a text whole and passes it on.
-pub fn send<W: Write>(out: &mut W, text: &[u8]) -> io::Result<()>
-    ensures { OnOk result (Appends (W.contents out.old) (W.contents out.new) text.now) }
-{
-    out.write_all(text)?;
-    out.flush()
-}
 
 /// The text of an answer, and a line feed.
 fn line_of(alloc: Global, answer: &AuditedAnswer) -> Result<Vec<u8>, AllocError>

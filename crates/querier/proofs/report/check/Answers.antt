@@ -8,4 +8,4 @@ loop-directory-preserved g c = next_checked _ _ _ _ _ _ _ _ _ _ c.loop-directory
 pub returns-in_err-judgement-clause-err : goal.returns-in_err-judgement-clause-err
 returns-in_err-judgement-clause-err g c =
     let p = err_from_is_err_and c.from_residual.result c.from_residual.ensures.1 in
-    rw (p.1, p.2) (stopped _ _ _ _ _ _ _ _ _ c.loop-directory-test.true c.loop-directory.invariant c.in_err-judgement.ensures.err c.in_err-judgement.ensures.kept)
+    rw (p.1, p.2) (stopped _ _ _ _ _ _ _ _ _ c.loop-directory-test.true c.loop-directory.invariant c.in_err-judgement.ensures.err c.in_err-judgement.ensures.kept c.in_err-judgement.ensures.cut)
