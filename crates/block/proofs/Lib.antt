@@ -4,6 +4,7 @@ pub mod Chunked
 pub mod Counts
 pub mod Found
 pub mod Only
+pub mod Crossing
 pub mod Parts
 pub mod Refusals
 pub mod Removed

@@ -7,3 +7,4 @@ pub mod Skips
 pub mod PlaceLaws
 pub mod Agreement
 pub mod Answering
+pub mod Gathered

@@ -1,10 +1,12 @@
 //! The answers of the parts of a snapshot.
 
-ghost use Rattle.std.specs.Prelude.{IfOk, OnOk};
+ghost use Rattle.std.specs.Prelude.{◌≡◌, ◌<◌, IfOk, OnOk, Ok, length, map, slice_index};
+ghost use Rattle.std.specs.List.{AllZip};
 ghost use Rattle.block_search.specs.Skipping.{LosesNothing};
 ghost use Rattle.block_search.specs.Places.{part_at};
 ghost use Rattle.block_search.specs.Answers.{IsAnswerOf, AreAnswers};
 
+use crate::gate::Gate;
 use crate::one_part::search_part;
 use crate::skipping::searched_places;
 use cover::PartAnswer;
@@ -12,6 +14,8 @@ use head::Snapshot;
 use matchers::Query;
 use postings::PartName;
 use std::alloc::{AllocError, Global};
+use std::thread;
+use std::thread::Threads;
 
 /// The answer of the part at this place.
 pub(crate) fn search_place(
@@ -44,4 +48,75 @@ pub fn search_one_by_one(
         answers.push(search_place(alloc, snapshot, query, *place)?)?;
     }
     Ok(answers)
+}
+
+/// The answer of the part at this place, of which the gate learns before the search.
+fn search_reached<G: Gate>(
+    alloc: Global,
+    snapshot: &Snapshot,
+    query: &Query,
+    place: usize,
+    gate: &G,
+) -> Result<PartAnswer, AllocError>
+    ensures { IfOk result (IsAnswerOf query.now (part_at query.now snapshot.now place)) }
+{
+    gate.reached(place);
+    search_place(alloc, snapshot, query, place)
+}
+
+/// What the worker of each of these places found, in their order.
+fn found_by_workers<R: Threads + Sync, G: Gate>(
+    rt: &R,
+    alloc: Global,
+    snapshot: &Snapshot,
+    query: &Query,
+    places: &[usize],
+    gate: &G,
+) -> Result<Vec<Result<PartAnswer, AllocError>>, AllocError>
+    ensures { IfOk result (λ found. AllZip (λ place answer. IfOk answer (IsAnswerOf query.now (part_at query.now snapshot.now place))) places.now found.items) }
+{
+    thread::map_indices(
+        rt,
+        alloc,
+        places.len(),
+        &|n: usize| -> Result<PartAnswer, AllocError>
+            requires { n < length places.now }
+            ensures { IfOk result (IsAnswerOf query.entry.now (part_at query.entry.now snapshot.entry.now (slice_index places.entry.now n))) }
+        { search_reached(alloc, snapshot, query, places[n], gate) },
+    )
+}
+
+/// All of the answers, unless one is missing.
+fn all_of(
+    alloc: Global,
+    found: Vec<Result<PartAnswer, AllocError>>,
+) -> Result<Vec<PartAnswer>, AllocError>
+    ensures { IfOk result (λ answers. map Ok answers.items ≡ found.items) }
+{
+    let mut answers = Vec::with_capacity(alloc, found.len())?;
+    for answer in found {
+        answers.push(answer?)?;
+    }
+    Ok(answers)
+}
+
+/// The answers of all parts that the query does not skip, as [`search_one_by_one`] gives them but for the moves, by one
+/// worker for each part that is searched.
+///
+/// The calling thread is one of the workers, so that a store without blocks starts none; where no thread can be started,
+/// it searches that worker's part too. The gate learns of each part before it is searched, in the thread that does so.
+/// It takes as long as the search of its longest part, where there are as many processors as parts.
+pub fn search<R: Threads + Sync, G: Gate>(
+    rt: &R,
+    alloc: Global,
+    snapshot: &Snapshot,
+    query: &Query,
+    gate: &G,
+) -> Result<Vec<PartAnswer>, AllocError>
+    ensures each { IfOk result (λ answers. AreAnswers query.now snapshot.now answers.items) }
+    ensures whole { OnOk result (LosesNothing query.now snapshot.now) }
+{
+    let places = searched_places(alloc, snapshot, query)?;
+    let found = found_by_workers(rt, alloc, snapshot, query, places.as_slice(), gate)?;
+    all_of(alloc, found)
 }

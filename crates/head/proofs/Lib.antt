@@ -1,3 +1,4 @@
+pub mod Crossing
 pub mod SeriesLaws
 pub mod HeadLaws
 pub mod Simulates

@@ -1,0 +1,53 @@
+-- Threads may share a snapshot: each type that it has may be shared, and moved where an `Arc` holds it.
+use denote.Param.Send.{IsSend, IsSync, sendable}
+use Rattle.std.proofs.Crossing as heap
+use Rattle.block.proofs.Crossing.{LabelSet-send, LabelSet-sync, Block-send, Block-sync}
+use Rattle.head.specs.contracts.series.Chunk as chunk
+use Rattle.head.specs.contracts.series.Series as series
+use Rattle.head.specs.contracts.listed.Listed as listed
+use Rattle.head.specs.contracts.index.Lists as lists
+use Rattle.head.specs.contracts.index.Index as index
+use Rattle.head.specs.contracts.head.HeadView as head
+use Rattle.head.specs.contracts.snapshot.Snapshot as snapshot
+
+pub Chunk-send : IsSend chunk.the_field.row
+Chunk-send = search (sendable, heap.Vec-send) depth 60 fits 20000
+
+pub Chunk-sync : IsSync chunk.the_field.row
+Chunk-sync = search (sendable, heap.Vec-sync) depth 60 fits 20000
+
+pub Series-send : IsSend series.the_field.row
+Series-send = search (sendable, heap.Vec-send, heap.Arc-send, LabelSet-send, Chunk-send, Chunk-sync) depth 60 fits 20000
+
+pub Series-sync : IsSync series.the_field.row
+Series-sync = search (sendable, heap.crosses, LabelSet-sync, Chunk-send, Chunk-sync) depth 60 fits 20000
+
+pub Listed-send : IsSend listed.the_field.row
+Listed-send = search (sendable, heap.Vec-send, LabelSet-send) depth 60 fits 20000
+
+pub Listed-sync : IsSync listed.the_field.row
+Listed-sync = search (sendable, heap.Vec-sync, LabelSet-sync) depth 60 fits 20000
+
+pub Lists-send : IsSend lists.the_field.row
+Lists-send = search (sendable, heap.Vec-send, heap.Arc-send, Listed-send, Listed-sync) depth 60 fits 20000
+
+pub Lists-sync : IsSync lists.the_field.row
+Lists-sync = search (sendable, heap.Vec-sync, heap.Arc-sync, Listed-send, Listed-sync) depth 60 fits 20000
+
+pub Index-send : IsSend index.the_field.row
+Index-send = search (sendable, heap.Arc-send, Lists-send, Lists-sync) depth 60 fits 20000
+
+pub Index-sync : IsSync index.the_field.row
+Index-sync = search (sendable, heap.Arc-sync, Lists-send, Lists-sync) depth 60 fits 20000
+
+pub HeadView-send : IsSend head.the_field.row
+HeadView-send = search (sendable, heap.Vec-send, heap.Arc-send, Series-send, Series-sync, Index-send) depth 60 fits 20000
+
+pub HeadView-sync : IsSync head.the_field.row
+HeadView-sync = search (sendable, heap.Vec-sync, heap.Arc-sync, Series-send, Series-sync, Index-sync) depth 60 fits 20000
+
+pub Snapshot-send : IsSend snapshot.the_field.row
+Snapshot-send = search (sendable, heap.Vec-send, heap.Vec-sync, heap.Arc-send, Block-send, Block-sync, HeadView-send) depth 60 fits 20000
+
+pub Snapshot-sync : IsSync snapshot.the_field.row
+Snapshot-sync = search (sendable, heap.Vec-send, heap.Vec-sync, heap.Arc-sync, Block-send, Block-sync, HeadView-sync) depth 60 fits 20000
