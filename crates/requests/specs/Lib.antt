@@ -6,3 +6,7 @@ pub mod Times
 pub mod Requests
 pub mod QueryStrings
 pub mod Selecting
+pub mod Json
+pub mod Changes
+pub mod Rows
+pub mod Writing

@@ -14,6 +14,8 @@
 //! ```
 #![tactic(auto)]
 
+mod changes;
+mod json;
 mod refusal;
 mod reply;
 mod request;
@@ -23,6 +25,7 @@ mod target;
 #[cfg(test)]
 mod tests;
 mod times;
+mod write;
 
 pub use refusal::{Cause, Refusal};
 pub use reply::{done_reply, success_reply};

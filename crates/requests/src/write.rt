@@ -1,0 +1,208 @@
+//! The body of `/write`: rows of label sets and samples.
+
+ghost use Rattle.std.specs.Prelude.{◌≡◌, ◌++◌, ℤ, map, option_map, option_and_then, string_bytes, IfOk, OnOk, MatchOption};
+ghost use Rattle.labels.specs.Pairs.{pairs_of};
+ghost use Rattle.labels.specs.LabelSets.{IsMadeOf};
+ghost use Rattle.serde_json.specs.Find.{as_array, as_object, as_str, get};
+ghost use Rattle.serde_json.specs.View.{view, items_view, members_view};
+ghost use Rattle.requests.specs.Rows.{pairs_in, labels_at, time_item, integer_item, sample_in, samples_in, samples_at, is_labelled, row_in, rows_in, rows_of, batch_of, IsRowOf, AreRowsOf};
+ghost use Rattle.requests.specs.Writing.{WriteMeans};
+ghost use Rattle.requests.specs.Requests.{Told};
+
+use crate::json::{has_members, json_of};
+use crate::{MAX_SAMPLES, ReadError, Refusal, Request};
+use labels::{LabelError, LabelSet, Row, Sample, is_time};
+use serde_json::{Map, Value};
+use std::alloc::{AllocError, Global};
+
+fn pair_of(
+    alloc: Global,
+    name: &String,
+    value: &Value,
+) -> Result<Option<(String, String)>, AllocError>
+    ensures { IfOk result (λ o. option_map (λ p. (string_bytes p.0, string_bytes p.1)) o
+        ≡ option_map {U = List ℕ × List ℕ} (λ text. (string_bytes name.now, text)) (as_str (view value.now))) }
+{
+    let Some(text) = value.as_str() else {
+        return Ok(None);
+    };
+    let name = name.clone()?;
+    let text = String::from_str(alloc, text)?;
+    Ok(Some((name, text)))
+}
+
+fn pairs_in(
+    alloc: Global,
+    members: &Map<String, Value>,
+) -> Result<Option<Vec<(String, String)>>, AllocError>
+    ensures { IfOk result (λ o. option_map (λ v. pairs_of v.items) o ≡ pairs_in (members_view members.now.entries)) }
+{
+    let mut pairs = Vec::new(alloc);
+    for (name, value) in members {
+        let Some(pair) = pair_of(alloc, name, value)? else {
+            return Ok(None);
+        };
+        pairs.push(pair)?;
+    }
+    Ok(Some(pairs))
+}
+
+fn labels_at(alloc: Global, value: &Value) -> Result<Option<Vec<(String, String)>>, AllocError>
+    ensures { IfOk result (λ o. option_map (λ v. pairs_of v.items) o ≡ labels_at (view value.now)) }
+{
+    let Some(labels) = value.get("labels") else {
+        return Ok(None);
+    };
+    match labels.as_object() {
+        Some(members) => pairs_in(alloc, members),
+        None => Ok(None),
+    }
+}
+
+fn time_item(value: &Value, i: usize) -> Option<i64>
+    ensures { result ≡ time_item i (view value.now) }
+{
+    let t = value.get(i)?.as_i64()?;
+    if is_time(t) { Some(t) } else { None }
+}
+
+fn integer_item(value: &Value, i: usize) -> Option<i64>
+    ensures { result ≡ integer_item i (view value.now) }
+{
+    value.get(i)?.as_i64()
+}
+
+fn sample_in(value: &Value) -> Option<Sample>
+    ensures { result ≡ sample_in (view value.now) }
+{
+    if value.as_array()?.len() != 2 {
+        return None;
+    }
+    let t = time_item(value, 0)?;
+    let v = integer_item(value, 1)?;
+    Some(Sample::new(t, v))
+}
+
+fn samples_in(alloc: Global, items: &[Value]) -> Result<Option<Vec<Sample>>, AllocError>
+    ensures { IfOk result (λ o. option_map (λ v. v.items) o ≡ samples_in (items_view items.now)) }
+{
+    let mut samples = Vec::with_capacity(alloc, items.len())?;
+    for item in items {
+        let Some(sample) = sample_in(item) else {
+            return Ok(None);
+        };
+        samples.push(sample)?;
+    }
+    Ok(Some(samples))
+}
+
+fn samples_at(alloc: Global, value: &Value) -> Result<Option<Vec<Sample>>, AllocError>
+    ensures { IfOk result (λ o. option_map (λ v. v.items) o ≡ samples_at (view value.now)) }
+{
+    let Some(samples) = value.get("samples") else {
+        return Ok(None);
+    };
+    match samples.as_array() {
+        Some(items) => samples_in(alloc, items.as_slice()),
+        None => Ok(None),
+    }
+}
+
+// The label set of these pairs, if they make one.
+fn label_set(alloc: Global, pairs: Vec<(String, String)>) -> Result<Option<LabelSet>, AllocError>
+    ensures { IfOk result (λ o. MatchOption o (is_labelled (pairs_of pairs.items) ≡ false)
+        (λ labels. (is_labelled (pairs_of pairs.items) ≡ true) × IsMadeOf labels (pairs_of pairs.items))) }
+{
+    match LabelSet::new(alloc, pairs) {
+        Ok(labels) => Ok(Some(labels)),
+        Err(LabelError::Memory) => Err(AllocError),
+        Err(_) => Ok(None),
+    }
+}
+
+fn row_in(alloc: Global, value: &Value) -> Result<Option<Row>, AllocError>
+    ensures { IfOk result (λ o. MatchOption o (row_in (view value.now) ≡ None)
+        (λ row. (written : WrittenRow) × (row_in (view value.now) ≡ Some written) × IsRowOf written row)) }
+{
+    if !has_members(value, 2) {
+        return Ok(None);
+    }
+    let Some(pairs) = labels_at(alloc, value)? else {
+        return Ok(None);
+    };
+    let Some(labels) = label_set(alloc, pairs)? else {
+        return Ok(None);
+    };
+    let Some(samples) = samples_at(alloc, value)? else {
+        return Ok(None);
+    };
+    Ok(Some(Row::new(labels, samples)))
+}
+
+ghost use Rattle.requests.specs.Rows.{WrittenRow};
+ghost use Rattle.std.specs.Prelude.{ℕ, List, true, false, None, Some};
+
+fn rows_in(alloc: Global, items: &[Value]) -> Result<Option<Vec<Row>>, AllocError>
+    ensures { IfOk result (λ o. MatchOption o (rows_in (items_view items.now) ≡ None)
+        (λ rows. (written : List WrittenRow) × (rows_in (items_view items.now) ≡ Some written) × AreRowsOf written rows.items)) }
+{
+    let mut rows = Vec::with_capacity(alloc, items.len())?;
+    for item in items {
+        let Some(row) = row_in(alloc, item)? else {
+            return Ok(None);
+        };
+        rows.push(row)?;
+    }
+    Ok(Some(rows))
+}
+
+fn rows_of(alloc: Global, body: &[u8]) -> Result<Option<Vec<Row>>, AllocError>
+    ensures { IfOk result (λ o. MatchOption o (rows_of body.now ≡ None)
+        (λ rows. (written : List WrittenRow) × (rows_of body.now ≡ Some written) × AreRowsOf written rows.items)) }
+{
+    let Some(value) = json_of(alloc, body)? else {
+        return Ok(None);
+    };
+    match value.as_array() {
+        Some(items) => rows_in(alloc, items.as_slice()),
+        None => Ok(None),
+    }
+}
+
+fn push_samples(
+    batch: &mut Vec<(LabelSet, Sample)>,
+    labels: &LabelSet,
+    samples: &[Sample],
+) -> Result<(), AllocError>
+    ensures { OnOk result (batch.new.items ≡ batch.old.items ++ map (λ (s : ℤ × ℤ). (labels.now, s)) samples.now) }
+{
+    for sample in samples {
+        batch.push((labels.try_clone()?, *sample))?;
+    }
+    Ok(())
+}
+
+fn batch_of(alloc: Global, rows: &[Row]) -> Result<Vec<(LabelSet, Sample)>, AllocError>
+    ensures { IfOk result (λ v. v.items ≡ batch_of rows.now) }
+{
+    let mut batch = Vec::new(alloc);
+    for row in rows {
+        push_samples(&mut batch, row.labels(), row.samples())?;
+    }
+    Ok(batch)
+}
+
+/// The batch that a body asks: `H7` where it is not of the form, or has a label set that is refused, a time that is
+/// none, or more than [`MAX_SAMPLES`] samples.
+pub fn write(alloc: Global, body: &[u8]) -> Result<Request, ReadError>
+    ensures { Told (WriteMeans body.now) result }
+{
+    let Some(rows) = rows_of(alloc, body)? else {
+        return Err(ReadError::Refused(Refusal::BadBody));
+    };
+    let batch = batch_of(alloc, rows.as_slice())?;
+    if batch.len() > MAX_SAMPLES {
+        return Err(ReadError::Refused(Refusal::BadBody));
+    }
+    Ok(Request::Write(batch))
+}
