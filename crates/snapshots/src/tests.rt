@@ -136,7 +136,7 @@ fn commit_after_learning<J: Naming, R: Wait + Drop>(
     Some(second.events())
 }
 
-/// What a snapshot that was taken before both commits shows after them, and what the pass then shows.
+/// What a snapshot from before both commits shows after them, and what the pass then shows.
 fn look_twice<J: Naming, R: Wait + Drop>(
     rt: &impl Wait,
     alloc: Global,
@@ -200,7 +200,7 @@ fn a_refused_batch_changes_nothing(rt: HostRuntime) {
     assert!(rt; seen.is_some_and(|(events, text)| events == 1 && text.as_str() == AFTER_A));
 }
 
-/// The code of what is answered to a sample of this label set, which comes back where it is refused.
+/// The code of what is answered to a sample of this label set, which a refusal gives back.
 fn code_of(set: &LabelSet, answer: Result<(), (LabelSet, NotAppended)>) -> &'static str {
     match answer {
         Ok(()) => "ok",
