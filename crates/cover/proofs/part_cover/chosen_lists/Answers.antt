@@ -10,7 +10,7 @@ use Rattle.cover.proofs.part_cover.chosen_lists.Goals as goal
 
 pub loop-matcher-preserved : goal.loop-matcher-preserved
 loop-matcher-preserved g c =
-    let remaining = (chosen_ghosts g.row.S-List g.S.List.Postings g.S.List.Postings-dict (union_ghosts g.row.S-List g.S.List.Postings g.S.List.Postings-dict) (union_dict g.row.S-List g.S.List.Postings g.S.List.Postings-dict)).remaining in
+    let remaining = (chosen_ghosts g.row.S-List g.S.List.Postings g.S.List.Postings-dict (union_ghosts g.row.S-List g.S.List.Postings g.S.List.Postings-dict g.S.List.Destruct-dict) (union_dict g.row.S-List g.S.List.Postings g.S.List.Postings-dict g.S.List.Destruct-dict)).remaining in
     let chooses : MatcherView → List ℕ = λ m. references_where (λ labels. satisfies m labels) (g.S.Source.part c.args.source.now) in
     record {
       lists =
