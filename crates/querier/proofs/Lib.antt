@@ -1,5 +1,5 @@
-pub mod Accepting
 pub mod Checks
+pub mod Demos
 pub mod CommandLines
 pub mod Judgements
 pub mod Openings

@@ -6,6 +6,7 @@ use Rattle.clap.specs.Words.{Text}
 use Rattle.querier.specs.Checking.{IsBegun}
 use Rattle.querier.specs.Lines.{IsLineOf}
 use Rattle.querier.specs.Reading.{Reads}
+use Rattle.querier.specs.DemoAnswer.{by_writing}
 use Rattle.querier.specs.Selecting.{KeepsAt, by_selection}
 use Rattle.querier.specs.Running.{IsTaken, IsLineFault, IsLineEnd, IsEnd, IsCheckLine, KeepsAtEnd}
 use Rattle.querier.specs.declared.command.Line.{Line}
@@ -39,7 +40,7 @@ none_begun reads directories old = record {
 }
 
 memory_fault : (reads : Reads) (line : Line) (old : Option (List ℕ)) → IsLineFault reads line old old fault.Memory
-memory_fault reads Demo old = (tt, keeps_itself old)
+memory_fault reads Demo old = (by_writing tt, keeps_itself old)
 memory_fault reads (Select s texts) old = (by_selection tt, keeps_itself old)
 memory_fault reads (Check texts) old = none_begun reads (map (λ text. text.now) texts.items) old
 

@@ -11,6 +11,7 @@ use Rattle.block.specs.declared.error.BlockError.{BlockError}
 use Rattle.block.specs.declared.error.BlockError.TheVariants as block
 use Rattle.head.specs.Blocks.{part_in}
 use Rattle.head.specs.Heads.{BlockPart}
+use Rattle.snapshots.specs.declared.error.OpenError.TheVariants as store
 use Rattle.querier.specs.Checking.{IsJudgedAt}
 use Rattle.querier.specs.Faults.{block_fault}
 use Rattle.querier.specs.Judging.{block_in, IsSpelledAs}
@@ -18,7 +19,7 @@ use Rattle.querier.specs.Opening.{IsBlockAt, AreBlocksAt, IsBlockFault, IsFirstF
 use Rattle.querier.specs.Reading.{Reads, AreRead, IsReadingFault, paths_of}
 use Rattle.querier.specs.declared.fault.Fault.{Fault}
 use Rattle.querier.specs.declared.fault.Fault.TheVariants.{Words, Refused, CannotRead, CannotWrite, Memory}
-use Rattle.querier.specs.declared.fault.Refusal.TheVariants.{Labels, Matcher, Selector, Query, Commit, Block, TooManyBlocks}
+use Rattle.querier.specs.declared.fault.Refusal.TheVariants.{Labels, Matcher, Selector, Query, Commit, Block, Open, Snapshot}
 use Rattle.querier.specs.declared.files.BlockFiles.{BlockFiles}
 use Rattle.querier.specs.declared.judgement.Judgement.TheVariants as judgement
 use Rattle.querier.proofs.Judgements.{said_part, refused_files}
@@ -83,7 +84,11 @@ module _ (reads : Reads) (texts : List (Bor (List ℕ))) (i : ℕ) (d : Bor (Lis
   pub first_fault : (fault : Fault) → IsBlockFault reads (get_or texts i d).now fault → IsOpeningFault reads (paths_of texts) fault
   first_fault (CannotRead path) h = first_at (CannotRead path) h
   first_fault (Refused (Block error)) h = first_at (Refused (Block error)) h
-  first_fault (Refused TooManyBlocks) h = absurd h
+  first_fault (Refused (Open store.Limit)) h = absurd h
+  first_fault (Refused (Open store.BadPasses)) h = h
+  first_fault (Refused (Open store.Unavailable)) h = h
+  first_fault (Refused (Open store.Memory)) h = h
+  first_fault (Refused (Snapshot error)) h = h
   first_fault (Refused (Selector error)) h = h
   first_fault (Refused (Query error)) h = h
   first_fault (Refused (Labels error)) h = h

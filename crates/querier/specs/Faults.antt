@@ -14,10 +14,15 @@ use Rattle.head.specs.declared.error.CommitError.TheVariants as commit
 use Rattle.block.specs.Codes as blocks
 use Rattle.block.specs.declared.error.BlockError.{BlockError}
 use Rattle.block.specs.declared.error.BlockError.TheVariants as block
+use Rattle.snapshots.specs.Refusals.{open_code, snapshot_code}
+use Rattle.snapshots.specs.declared.error.OpenError.{OpenError}
+use Rattle.snapshots.specs.declared.error.OpenError.TheVariants as store
+use Rattle.query_http.specs.declared.error.AskError.{AskError}
+use Rattle.query_http.specs.declared.error.AskError.TheVariants as ask
 use Rattle.querier.specs.declared.fault.Fault.{Fault}
 use Rattle.querier.specs.declared.fault.Fault.TheVariants.{Words, Refused, CannotRead, CannotWrite, Memory}
 use Rattle.querier.specs.declared.fault.Refusal.{Refusal}
-use Rattle.querier.specs.declared.fault.Refusal.TheVariants.{Labels, Matcher, Selector, Query, Commit, Block, TooManyBlocks}
+use Rattle.querier.specs.declared.fault.Refusal.TheVariants.{Labels, Matcher, Selector, Query, Commit, Block, Open, Snapshot}
 
 -- the code of a refusal
 abbrev pub refusal_code : Refusal → List ℕ
@@ -27,7 +32,8 @@ refusal_code (Selector error) = selector_code error
 refusal_code (Query error) = query_code error
 refusal_code (Commit error) = commit_code error
 refusal_code (Block error) = blocks.code_of error
-refusal_code TooManyBlocks = codes "O3"
+refusal_code (Open error) = open_code error
+refusal_code (Snapshot error) = snapshot_code error
 
 -- where a text stops being a prefix of a selector
 abbrev pub selector_place : SelectorError → Option ℕ
@@ -57,7 +63,8 @@ refusal_place (Selector error) = selector_place error
 refusal_place (Query error) = None
 refusal_place (Commit error) = commit_place error
 refusal_place (Block error) = None
-refusal_place TooManyBlocks = None
+refusal_place (Open error) = None
+refusal_place (Snapshot error) = None
 
 -- the place after the code
 abbrev pub place_text : Option ℕ → List ℕ
@@ -127,3 +134,15 @@ block_fault (block.Tombstones error) = Refused (Block (block.Tombstones error))
 block_fault block.UnknownSeries = Refused (Block block.UnknownSeries)
 block_fault block.OutsideRange = Refused (Block block.OutsideRange)
 block_fault block.Memory = Memory
+
+-- the fault that a store which is not opened makes
+abbrev pub open_fault : OpenError → Fault
+open_fault store.BadPasses = Refused (Open store.BadPasses)
+open_fault store.Limit = Refused (Open store.Limit)
+open_fault store.Unavailable = Refused (Open store.Unavailable)
+open_fault store.Memory = Memory
+
+-- the fault that a store which gives no answer makes
+abbrev pub ask_fault : AskError → Fault
+ask_fault (ask.Snapshot error) = Refused (Snapshot error)
+ask_fault ask.Memory = Memory

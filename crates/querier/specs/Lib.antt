@@ -1,5 +1,6 @@
 pub mod Printed
 pub mod Demo
+pub mod DemoAnswer
 pub mod Faults
 pub mod Opening
 pub mod Selecting

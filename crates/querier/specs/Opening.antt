@@ -3,12 +3,13 @@ use Rattle.std.specs.Prelude.{◌≡◌, ℕ, ◌<◌, ◌≤◌, List, ◌∷�
 use Rattle.std.specs.List.{AllZip}
 use Rattle.head.specs.Blocks.{opening_of}
 use Rattle.head.specs.Heads.{BlockPart, SnapshotParts}
+use Rattle.snapshots.specs.declared.error.OpenError.TheVariants as store
 use Rattle.querier.specs.Checking.{IsJudgedAt}
 use Rattle.querier.specs.Judging.{IsSpelledAs}
 use Rattle.querier.specs.Reading.{Reads, AreRead, IsUnread}
 use Rattle.querier.specs.declared.fault.Fault.{Fault}
 use Rattle.querier.specs.declared.fault.Fault.TheVariants.{Words, Refused, CannotRead, CannotWrite, Memory}
-use Rattle.querier.specs.declared.fault.Refusal.TheVariants.{Labels, Matcher, Selector, Query, Commit, Block, TooManyBlocks}
+use Rattle.querier.specs.declared.fault.Refusal.TheVariants.{Labels, Matcher, Selector, Query, Commit, Block, Open, Snapshot}
 use Rattle.querier.specs.declared.files.BlockFiles.{BlockFiles}
 use Rattle.querier.specs.declared.judgement.Judgement.TheVariants as judgement
 
@@ -26,7 +27,8 @@ AreBlocksAt reads directories blocks = AllZip (IsBlockAt reads) directories bloc
 abbrev pub IsBlockFault : Reads → List ℕ → Fault → Type 0
 IsBlockFault reads directory (CannotRead path) = IsUnread reads directory (string_bytes path)
 IsBlockFault reads directory (Refused (Block error)) = IsJudgedAt reads directory (judgement.Refused error)
-IsBlockFault reads directory (Refused TooManyBlocks) = ⊥
+IsBlockFault reads directory (Refused (Open error)) = ⊥
+IsBlockFault reads directory (Refused (Snapshot error)) = ⊥
 IsBlockFault reads directory (Refused (Selector error)) = ⊥
 IsBlockFault reads directory (Refused (Query error)) = ⊥
 IsBlockFault reads directory (Refused (Labels error)) = ⊥
@@ -56,7 +58,11 @@ pub record AreTooMany (reads : Reads) (directories : List (List ℕ)) : Type 0 w
 abbrev pub IsOpeningFault : Reads → List (List ℕ) → Fault → Type 0
 IsOpeningFault reads directories (CannotRead path) = IsFirstFault reads directories (CannotRead path)
 IsOpeningFault reads directories (Refused (Block error)) = IsFirstFault reads directories (Refused (Block error))
-IsOpeningFault reads directories (Refused TooManyBlocks) = AreTooMany reads directories
+IsOpeningFault reads directories (Refused (Open store.Limit)) = AreTooMany reads directories
+IsOpeningFault reads directories (Refused (Open store.BadPasses)) = ⊥
+IsOpeningFault reads directories (Refused (Open store.Unavailable)) = ⊥
+IsOpeningFault reads directories (Refused (Open store.Memory)) = ⊥
+IsOpeningFault reads directories (Refused (Snapshot error)) = ⊥
 IsOpeningFault reads directories (Refused (Selector error)) = ⊥
 IsOpeningFault reads directories (Refused (Query error)) = ⊥
 IsOpeningFault reads directories (Refused (Labels error)) = ⊥

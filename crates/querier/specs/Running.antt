@@ -4,10 +4,11 @@ use Rattle.std.specs.Io.KnownBytes.{Appends, Keeps}
 use Rattle.clap.specs.Words.{Text, takes}
 use Rattle.querier.specs.Checking.{IsChecked, IsCheckFault}
 use Rattle.querier.specs.Demo.{demo_events, demo_query}
+use Rattle.querier.specs.DemoAnswer.{IsDemoFault, WritesAnswerAfter}
 use Rattle.querier.specs.Faults.{status_of, line_of}
 use Rattle.querier.specs.Lines.{querier_app, IsLineOf}
 use Rattle.querier.specs.Reading.{Reads, paths_of}
-use Rattle.querier.specs.Selecting.{IsSelectFault, IsWritingFault, KeepsAt, WritesAnswerAfter, WritesSelection}
+use Rattle.querier.specs.Selecting.{IsSelectFault, KeepsAt, WritesSelection}
 use Rattle.querier.specs.declared.command.Line.{Line}
 use Rattle.querier.specs.declared.command.Line.TheVariants.{Demo, Select, Check}
 use Rattle.querier.specs.declared.fault.Fault.{Fault}
@@ -32,7 +33,7 @@ IsDone reads (Check texts) old new outcome = IsChecked reads (paths_of texts.ite
 
 -- why a line ends before it is done, and what was written by then
 abbrev pub IsLineFault : Reads → Line → Option (List ℕ) → Option (List ℕ) → Fault → Type 0
-IsLineFault reads Demo old new fault = IsWritingFault fault × KeepsAt fault old new
+IsLineFault reads Demo old new fault = IsDemoFault fault × KeepsAt fault old new
 IsLineFault reads (Select s texts) old new fault = IsSelectFault reads (paths_of texts.items) s fault × KeepsAt fault old new
 IsLineFault reads (Check texts) old new fault = IsCheckFault reads (paths_of texts.items) old new fault
 

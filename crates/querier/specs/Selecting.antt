@@ -1,5 +1,5 @@
 -- What a selection asks for, and why it is refused.
-use Rattle.std.specs.Prelude.{◌≡◌, ℕ, ◌<◌, ◌≤◌, true, false, List, [], Option, Ok, Err, length}
+use Rattle.std.specs.Prelude.{◌≡◌, ℕ, ◌<◌, ◌≤◌, true, false, List, [], Option, length}
 use Rattle.std.specs.Io.KnownBytes.{Appends, Keeps}
 use Rattle.matchers.specs.Grammar.{IsSelector}
 use Rattle.matchers.specs.Queries.{is_range}
@@ -8,13 +8,7 @@ use Rattle.matchers.specs.Views.{MatcherView, QueryView}
 use Rattle.matchers.specs.declared.error.QueryError.TheVariants.{BadRange, TooManyMatchers}
 use Rattle.matchers.specs.declared.error.SelectorError.{SelectorError}
 use Rattle.matchers.specs.declared.error.SelectorError.TheVariants as selector
-use Rattle.head.specs.Answers.{IsAnswer}
-use Rattle.head.specs.Blocks.{opening_of}
-use Rattle.head.specs.Heads.{SnapshotParts, world_of}
-use Rattle.head.specs.Limits.{most}
-use Rattle.head.specs.Refusals.{Refusal as EventRefusal}
-use Rattle.head.specs.Worlds.{Event, replayed}
-use Rattle.head.specs.declared.error.CommitError.{CommitError}
+use Rattle.head.specs.Heads.{SnapshotParts}
 use Rattle.query_http.specs.Audited.{IsAudited}
 use Rattle.querier.specs.Opening.{IsOpeningOf, IsOpeningFault}
 use Rattle.querier.specs.Printed.{line_text}
@@ -24,7 +18,7 @@ use Rattle.querier.specs.declared.command.Selection.{Selection}
 use Rattle.querier.specs.declared.fault.Fault.{Fault}
 use Rattle.querier.specs.declared.fault.Fault.TheVariants.{Words, Refused, CannotRead, CannotWrite, Memory}
 use Rattle.querier.specs.declared.fault.Refusal.{Refusal}
-use Rattle.querier.specs.declared.fault.Refusal.TheVariants.{Labels, Matcher, Selector, Query, Commit, Block, TooManyBlocks}
+use Rattle.querier.specs.declared.fault.Refusal.TheVariants.{Labels, Matcher, Selector, Query, Commit, Block, Open, Snapshot}
 
 -- the text is accepted as a selector of these matchers: they are 1 to 16, and each can be made
 pub record IsAccepted (text : List ℕ) (ms : List MatcherView) : Type 0 where
@@ -64,7 +58,8 @@ IsSelectionRefusal asked (Labels error) = ⊥
 IsSelectionRefusal asked (Matcher error) = ⊥
 IsSelectionRefusal asked (Commit error) = ⊥
 IsSelectionRefusal asked (Block error) = ⊥
-IsSelectionRefusal asked TooManyBlocks = ⊥
+IsSelectionRefusal asked (Open error) = ⊥
+IsSelectionRefusal asked (Snapshot error) = ⊥
 
 -- the selection is refused so, or memory failed
 abbrev pub IsSelectionFault : Selection → Fault → Type 0
@@ -79,12 +74,6 @@ pub record WritesAnswer (query : QueryView) (snapshot : SnapshotParts) (old new 
   pub answer : AuditedAnswer
   pub audited : IsAudited query snapshot answer
   pub written : Appends old new (line_text answer)
-
--- an audited answer to the query was written, of what an empty store is after these events, and a line feed
-pub record WritesAnswerAfter (events : List Event) (query : QueryView) (old new : Option (List ℕ)) : Type 0 where
-  pub snapshot : SnapshotParts
-  pub replayed : replayed most (world_of (opening_of [])) events ≡ Ok (world_of snapshot)
-  pub answered : WritesAnswer query snapshot old new
 
 -- an audited answer to the selection was written, over the blocks that the directories hold, and a line feed
 pub record WritesSelection (reads : Reads) (directories : List (List ℕ)) (asked : Selection) (old new : Option (List ℕ)) : Type 0 where
@@ -134,23 +123,3 @@ IsOfMemory (Words error) = ⊥
 IsOfMemory (CannotRead path) = ⊥
 IsOfMemory (Refused refusal) = ⊥
 IsOfMemory CannotWrite = ⊥
-
--- an empty store refuses one of the events so
-pub record IsRefusedStore (events : List Event) (error : CommitError) : Type 0 where
-  pub refusal : EventRefusal
-  pub refused : replayed most (world_of (opening_of [])) events ≡ Err refusal
-  pub answer : IsAnswer error (replayed most (world_of (opening_of [])) events)
-
--- memory failed, or an empty store refuses one of the events
-abbrev pub IsStoreFault : List Event → Fault → Type 0
-IsStoreFault events Memory = Unit {0}
-IsStoreFault events (Refused (Commit error)) = IsRefusedStore events error
-IsStoreFault events (Refused (Selector error)) = ⊥
-IsStoreFault events (Refused (Query error)) = ⊥
-IsStoreFault events (Refused (Labels error)) = ⊥
-IsStoreFault events (Refused (Matcher error)) = ⊥
-IsStoreFault events (Refused (Block error)) = ⊥
-IsStoreFault events (Refused TooManyBlocks) = ⊥
-IsStoreFault events (Words error) = ⊥
-IsStoreFault events (CannotRead path) = ⊥
-IsStoreFault events CannotWrite = ⊥

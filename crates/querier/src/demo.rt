@@ -1,20 +1,26 @@
-//! The store that `querier demo` shows: six series, in two batches.
+//! The store that `querier demo` asks: two seats commit six series to it, in two batches.
 
-ghost use Rattle.std.specs.Prelude.{◌≡◌, ◌<◌, true, [], ◌++◌, length, string_bytes, IfOk, IfErr, Ok};
-ghost use Rattle.head.specs.Blocks.{opening_of};
-ghost use Rattle.head.specs.Heads.{world_of};
-ghost use Rattle.head.specs.Limits.{most};
-ghost use Rattle.head.specs.Worlds.{replayed};
+ghost use Rattle.std.specs.Prelude.{◌≡◌, ◌<◌, ◌≤◌, true, [], ◌++◌, ◌∷◌, length, string_bytes};
+ghost use Rattle.std.specs.Prelude.{pos, IsTrue, IfOk, IfErr, OnOk};
+ghost use Rattle.labels.specs.Contents.{is_time};
 ghost use Rattle.labels.specs.Names.{is_name};
 ghost use Rattle.matchers.specs.Queries.{is_range};
-ghost use Rattle.querier.specs.Demo.{equal_to, demo_query, series_of, zoned_series, sampled, first_event, second_event};
-ghost use Rattle.querier.specs.Selecting.{IsOfMemory, IsStoreFault};
+ghost use Rattle.head.specs.Blocks.{opening_of};
+ghost use Rattle.head.specs.Worlds.{batch};
+ghost use Rattle.snapshots.specs.Replays.{EndsWith};
+ghost use Rattle.querier.specs.Demo.{equal_to, demo_query, series_of, zoned_series, sampled};
+ghost use Rattle.querier.specs.Demo.{first_event, second_event, demo_events};
+ghost use Rattle.querier.specs.DemoAnswer.{IsAnswerAfter, IsCommitFault, IsDemoFault};
+ghost use Rattle.querier.specs.Selecting.{IsOfMemory};
 
-use crate::fault::Fault;
-use head::{Event, Snapshot, apply};
+use crate::fault::{Fault, Refusal};
 use labels::{LabelSet, Sample};
 use matchers::{Matcher, Op, Query};
+use query_http::{AuditedAnswer, ask};
+use snapshots::{Appender, Committer, Naming, NotAppended, Receipt, Seat, SnapshotError, Store};
 use std::alloc::{AllocError, Global};
+use std::marker::Brand;
+use std::sync::Wait;
 
 fn pair(alloc: Global, name: &str, value: &str) -> Result<(String, String), AllocError>
     ensures name { IfOk result (λ p. string_bytes p.0 ≡ name.now) }
@@ -49,56 +55,53 @@ fn series_in(alloc: Global, name: &str, job: &str, zone: &str) -> Result<LabelSe
     LabelSet::of_sorted(alloc, pairs.as_slice())
 }
 
-/// Three series, each with its number as its value at the times 10 and 20.
-fn batch(
-    alloc: Global,
-    first: (LabelSet, i64),
-    second: (LabelSet, i64),
-    third: (LabelSet, i64),
-) -> Result<Vec<(LabelSet, Sample)>, AllocError>
-    ensures { IfOk result (λ samples. samples.items ≡ sampled first.0 first.1 ++ sampled second.0 second.1 ++ sampled third.0 third.1) }
+/// Adds a sample to a batch, which only memory refuses.
+fn add(appender: &mut Appender, labels: LabelSet, sample: Sample) -> Result<(), Fault>
+    requires room { length appender.old < 4096 }
+    requires time { IsTrue (is_time sample.0) }
+    ensures ok { OnOk result (appender.new ≡ appender.old ++ (labels, sample) ∷ []) }
+    ensures err { IfErr result (λ fault. IsOfMemory fault) }
 {
-    let samples = vec![in alloc;
-        (first.0.try_clone()?, Sample::new(10, first.1)),
-        (first.0, Sample::new(20, first.1)),
-        (second.0.try_clone()?, Sample::new(10, second.1)),
-        (second.0, Sample::new(20, second.1)),
-        (third.0.try_clone()?, Sample::new(10, third.1)),
-        (third.0, Sample::new(20, third.1)),
-    ]?;
-    Ok(samples)
+    match appender.append(labels, sample) {
+        Ok(()) => Ok(()),
+        Err((_labels, NotAppended::Memory)) => Err(Fault::Memory),
+        Err((_labels, NotAppended::Refused(_))) => unreachable!(),
+    }
+}
+
+/// Adds a series to a batch, with its number as its value at the times 10 and 20.
+fn add_series(appender: &mut Appender, labels: LabelSet, number: i64) -> Result<(), Fault>
+    requires { length appender.old < 4095 }
+    ensures ok { OnOk result (appender.new ≡ appender.old ++ sampled labels number) }
+    ensures err { IfErr result (λ fault. IsOfMemory fault) }
+{
+    let again = labels.try_clone()?;
+    add(appender, again, Sample::new(10, number))?;
+    add(appender, labels, Sample::new(20, number))
 }
 
 /// The batch of the series 1, 2 and 3.
-pub fn first_batch(alloc: Global) -> Result<Event, AllocError>
-    ensures { IfOk result (λ event. event ≡ first_event) }
+pub fn first_batch(alloc: Global) -> Result<Appender, Fault>
+    ensures ok { IfOk result (λ appender. batch appender ≡ first_event) }
+    ensures err { IfErr result (λ fault. IsOfMemory fault) }
 {
-    let one = (series(alloc, "up", "a")?, 1);
-    let two = (series(alloc, "up", "b")?, 2);
-    let three = (series_in(alloc, "up", "b", "x")?, 3);
-    Ok(Event::batch(batch(alloc, one, two, three)?))
+    let mut appender = Appender::new(alloc);
+    add_series(&mut appender, series(alloc, "up", "a")?, 1)?;
+    add_series(&mut appender, series(alloc, "up", "b")?, 2)?;
+    add_series(&mut appender, series_in(alloc, "up", "b", "x")?, 3)?;
+    Ok(appender)
 }
 
 /// The batch of the series 4, 5 and 6.
-pub fn second_batch(alloc: Global) -> Result<Event, AllocError>
-    ensures { IfOk result (λ event. event ≡ second_event) }
+pub fn second_batch(alloc: Global) -> Result<Appender, Fault>
+    ensures ok { IfOk result (λ appender. batch appender ≡ second_event) }
+    ensures err { IfErr result (λ fault. IsOfMemory fault) }
 {
-    let four = (series(alloc, "down", "a")?, 4);
-    let five = (series(alloc, "down", "b")?, 5);
-    let six = (series_in(alloc, "up", "a", "x")?, 6);
-    Ok(Event::batch(batch(alloc, four, five, six)?))
-}
-
-/// An empty store after these events.
-pub fn store_after(alloc: Global, events: &[Event]) -> Result<Snapshot, Fault>
-    ensures ok { IfOk result (λ s. replayed most (world_of (opening_of [])) events.now ≡ Ok (world_of s)) }
-    ensures err { IfErr result (λ fault. IsStoreFault events.now fault) }
-{
-    let mut snapshot = Snapshot::opening(alloc, Vec::new(alloc))?;
-    for event in events {
-        snapshot = apply(alloc, &snapshot, event)?;
-    }
-    Ok(snapshot)
+    let mut appender = Appender::new(alloc);
+    add_series(&mut appender, series(alloc, "down", "a")?, 4)?;
+    add_series(&mut appender, series(alloc, "down", "b")?, 5)?;
+    add_series(&mut appender, series_in(alloc, "up", "a", "x")?, 6)?;
+    Ok(appender)
 }
 
 fn equal(alloc: Global, name: &str, text: &str) -> Result<Matcher, Fault>
@@ -120,4 +123,65 @@ pub fn query(alloc: Global, from: i64, to: i64) -> Result<Query, Fault>
     matchers.push(equal(alloc, "__name__", "up")?)?;
     matchers.push(equal(alloc, "job", "a")?)?;
     Ok(Query::new(matchers, from, to)?)
+}
+
+/// Commits a batch under a seat.
+fn commit<J: Naming, R: Wait>(
+    rt: &R,
+    committer: &Committer<J, &R>,
+    seat: &mut Seat<J>,
+    appender: Appender,
+) -> Result<Receipt<J>, Fault>
+    ensures ends { IfOk result (λ r. EndsWith (batch appender) seat.old.number r) }
+    ensures err { IfErr result (λ fault. IsCommitFault J.opening (batch appender) fault) }
+{
+    match committer.commit(rt, seat, appender) {
+        Ok(receipt) => Ok(receipt),
+        Err((_appender, refusal)) => Err(Fault::from(refusal)),
+    }
+}
+
+/// Two seats of an empty store commit a batch each. A pass learns both receipts, and is asked.
+fn answer_of<J: Naming, R: Wait>(
+    rt: &R,
+    alloc: Global,
+    store: Store,
+    query: &Query,
+) -> Result<AuditedAnswer, Fault>
+    requires book { store.seen.book ≡ J.book }
+    requires opening { opening_of [] ≡ J.opening }
+    ensures ok { IfOk result (λ answer. IsAnswerAfter demo_events query.now answer) }
+    ensures err { IfErr result (λ fault. IsDemoFault fault) }
+{
+    let (committer, mut passes, mut seats) = store.open::<J, &R>(rt, alloc, Vec::new(alloc), 1, 2)?;
+    let (Some(mut pass), Some(mut second_seat), Some(mut first_seat)) = (
+        passes.pop(),
+        seats.pop(),
+        seats.pop(),
+    ) else {
+        unreachable!()
+    };
+    let first = commit(rt, &committer, &mut first_seat, first_batch(alloc)?)?;
+    let second = commit(rt, &committer, &mut second_seat, second_batch(alloc)?)?;
+    pass.learn(&first);
+    pass.learn(&second);
+    let answer = ask(alloc, &mut pass, query)?;
+    if first.events() == 1 && second.events() == 2 && pass.events() == 2 {
+        return Ok(answer);
+    }
+    Err(Fault::Refused(Refusal::Snapshot(SnapshotError::Unavailable)))
+}
+
+/// The audited answer to `up{job="a"}` from 0 to 100, of a store to which two seats commit a batch
+/// each: a pass that learnt both receipts is asked.
+///
+/// Besides memory, `O4` and `S1` and a refusal of a batch are answered where the store answers them.
+/// `S1` stands too for a pass that sees other events than the two, which does not occur: nobody else
+/// has the store.
+pub fn demo_answer<R: Wait>(rt: &R, alloc: Global) -> Result<AuditedAnswer, Fault>
+    ensures ok { IfOk result (IsAnswerAfter demo_events (demo_query (pos 0) (pos 100))) }
+    ensures err { IfErr result (λ fault. IsDemoFault fault) }
+{
+    let query = query(alloc, 0, 100)?;
+    answer_of::<Brand, R>(rt, alloc, Store::new(), &query)
 }

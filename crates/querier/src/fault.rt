@@ -8,6 +8,8 @@ use block::BlockError;
 use head::CommitError;
 use labels::LabelError;
 use matchers::{MatcherError, QueryError, SelectorError};
+use query_http::AskError;
+use snapshots::{OpenError, SnapshotError};
 use std::alloc::{AllocError, AllocFailed};
 use std::fmt;
 use std::io::{self, Write};
@@ -27,8 +29,10 @@ pub enum Refusal {
     Commit(CommitError),
     /// The files of a block: `B1`, `B2`, `I1` to `I15`, `C1` to `C8`, `T1` to `T5`.
     Block(BlockError),
-    /// `O3`: more blocks than a store has, which is 63.
-    TooManyBlocks,
+    /// The opening of a store: `O2` to `O4`.
+    Open(OpenError),
+    /// A snapshot of a store: `S1`.
+    Snapshot(SnapshotError),
 }
 
 impl Refusal {
@@ -43,7 +47,8 @@ impl Refusal {
             Refusal::Query(error) => error.code(),
             Refusal::Commit(error) => error.code(),
             Refusal::Block(error) => error.code(),
-            Refusal::TooManyBlocks => "O3",
+            Refusal::Open(error) => error.code(),
+            Refusal::Snapshot(error) => error.code(),
         }
     }
 
@@ -230,6 +235,34 @@ impl From<BlockError> for Fault {
         match error {
             BlockError::Memory => Fault::Memory,
             refusal => Fault::Refused(Refusal::Block(refusal)),
+        }
+    }
+}
+
+impl From<OpenError> for Fault {
+    ghost use Rattle.std.specs.Prelude.{◌≡◌};
+    ghost use Rattle.querier.specs.Faults.{open_fault};
+
+    ghost from_gives = { λ error fault. fault ≡ open_fault error };
+
+    fn from(error: OpenError) -> Fault {
+        match error {
+            OpenError::Memory => Fault::Memory,
+            refusal => Fault::Refused(Refusal::Open(refusal)),
+        }
+    }
+}
+
+impl From<AskError> for Fault {
+    ghost use Rattle.std.specs.Prelude.{◌≡◌};
+    ghost use Rattle.querier.specs.Faults.{ask_fault};
+
+    ghost from_gives = { λ error fault. fault ≡ ask_fault error };
+
+    fn from(error: AskError) -> Fault {
+        match error {
+            AskError::Memory => Fault::Memory,
+            AskError::Snapshot(refusal) => Fault::Refused(Refusal::Snapshot(refusal)),
         }
     }
 }

@@ -10,10 +10,8 @@ use crate::files::{ReadFiles, read_block};
 use crate::judgement::open;
 use block::Block;
 use head::Snapshot;
+use snapshots::{MAX_BLOCKS, OpenError};
 use std::alloc::Global;
-
-/// The most blocks of a store.
-const MAX_BLOCKS: usize = 63;
 
 /// Reads the files in a directory and makes every check of a block.
 fn open_one<F: ReadFiles>(alloc: Global, files: &F, directory: &str) -> Result<Block, Fault>
@@ -55,7 +53,7 @@ pub fn open_store<F: ReadFiles>(
 {
     let blocks = open_all(alloc, files, directories)?;
     if blocks.len() > MAX_BLOCKS {
-        return Err(Fault::Refused(Refusal::TooManyBlocks));
+        return Err(Fault::Refused(Refusal::Open(OpenError::Limit)));
     }
     Ok(Snapshot::opening(alloc, blocks)?)
 }

@@ -7,10 +7,11 @@ ghost use Rattle.querier.specs.Demo.{demo_events, demo_query};
 ghost use Rattle.clap.specs.Words.{takes};
 ghost use Rattle.querier.specs.Lines.{querier_app, texts_of, IsLineOf};
 ghost use Rattle.querier.specs.Running.{IsTaken, IsLineEnd, IsEnd, IsNoLine, IsWordsFault, IsCheckLine, IsTold, HasEnded, KeepsAtEnd, status_at};
-ghost use Rattle.querier.specs.Selecting.{IsWritingFault, KeepsAt, WritesAnswer, WritesAnswerAfter};
+ghost use Rattle.querier.specs.DemoAnswer.{IsDemoFault, WritesAnswerAfter};
+ghost use Rattle.querier.specs.Selecting.{IsWritingFault, KeepsAt, WritesAnswer};
 
 use crate::command::{Line, read_line};
-use crate::demo::{first_batch, query, second_batch, store_after};
+use crate::demo::demo_answer;
 use crate::fault::Fault;
 use crate::files::ReadFiles;
 use crate::report::{Outcome, check};
@@ -22,6 +23,7 @@ use matchers::Query;
 use query_http::{AuditedAnswer, answer, body};
 use std::alloc::{AllocError, Global};
 use std::io::{self, Read, Write};
+use std::sync::Wait;
 
 /// The text of an answer, and a line feed.
 fn line_of(alloc: Global, answer: &AuditedAnswer) -> Result<Vec<u8>, AllocError>
@@ -50,18 +52,20 @@ pub fn write_answer<W: Write>(
 }
 
 /// Writes the audited answer to `up{job="a"}` from 0 to 100 over the store of the two batches.
-fn demo<W: Write>(alloc: Global, out: &mut W) -> Result<(), Fault>
+fn demo<R: Wait, W: Write>(rt: &R, alloc: Global, out: &mut W) -> Result<(), Fault>
     ensures ok { OnOk result (WritesAnswerAfter demo_events (demo_query (pos 0) (pos 100)) (W.contents out.old) (W.contents out.new)) }
-    ensures faults { IfErr result (λ fault. IsWritingFault fault) }
+    ensures faults { IfErr result (λ fault. IsDemoFault fault) }
     ensures kept { IfErr result (λ fault. KeepsAt fault (W.contents out.old) (W.contents out.new)) }
 {
-    let events = vec![in alloc; first_batch(alloc)?, second_batch(alloc)?]?;
-    let snapshot = store_after(alloc, events.as_slice())?;
-    write_answer(alloc, &snapshot, &query(alloc, 0, 100)?, out)
+    let answer = demo_answer(rt, alloc)?;
+    let line = line_of(alloc, &answer)?;
+    send(out, line.as_slice())?;
+    Ok(())
 }
 
 /// Does what a line asks for.
-fn answer_line<F: ReadFiles, W: Write>(
+fn answer_line<Q: Wait, F: ReadFiles, W: Write>(
+    rt: &Q,
     alloc: Global,
     files: &F,
     line: Line<'_>,
@@ -70,7 +74,7 @@ fn answer_line<F: ReadFiles, W: Write>(
     ensures { IsLineEnd (F.may_read files.now) line.entry (W.contents out.old) (W.contents out.new) result }
 {
     match line {
-        Line::Demo => demo(alloc, out)?,
+        Line::Demo => demo(rt, alloc, out)?,
         Line::Select(selection, directories) => {
             select(alloc, files, selection, directories.as_slice(), out)?;
         }
@@ -79,7 +83,8 @@ fn answer_line<F: ReadFiles, W: Write>(
     Ok(Outcome::Done)
 }
 
-fn execute<F: ReadFiles, W: Write>(
+fn execute<Q: Wait, F: ReadFiles, W: Write>(
+    rt: &Q,
     alloc: Global,
     files: &F,
     words: &[String],
@@ -91,7 +96,7 @@ fn execute<F: ReadFiles, W: Write>(
     ensures kept { IsCheckLine (texts_of words.now) ⊎ KeepsAtEnd (W.contents out.old) (W.contents out.new) result }
 {
     match read_line(alloc, words) {
-        Ok(line) => answer_line(alloc, files, line, out),
+        Ok(line) => answer_line(rt, alloc, files, line, out),
         Err(error) if matches!(error.kind(), ErrorKind::OutOfMemory) => Err(Fault::Memory),
         Err(error) if error.use_stderr() => Err(Fault::Words(error)),
         Err(help) => {
@@ -136,8 +141,9 @@ fn tell<E: Write>(end: &Result<Outcome, Fault>, to: &mut E) -> io::Result<()>
 ///
 /// 0 where it is done; 1 for a refusal, with its code on the second writer, or in the lines of a check; 2 for a fault
 /// of the words, with the usage on the second writer; 3 where a file cannot be read, which is named there, or the first
-/// writer fails; 4 where memory does.
-pub fn run<F: ReadFiles, R: Read, W: Write, E: Write>(
+/// writer fails; 4 where memory does. Only the store of the demo waits, and for nobody else's threads.
+pub fn run<Q: Wait, F: ReadFiles, R: Read, W: Write, E: Write>(
+    rt: &Q,
     alloc: Global,
     files: &F,
     words: &[String],
@@ -150,7 +156,7 @@ pub fn run<F: ReadFiles, R: Read, W: Write, E: Write>(
     ensures nothing_written { (result.status ≡ 0) ⊎ (result.status ≡ 3) ⊎ IsCheckLine (texts_of words.now) ⊎ Keeps (W.contents out.old) (W.contents out.new) }
     ensures nothing_told { result.status ≡ 0 → Keeps (E.contents err.old) (E.contents err.new) }
 {
-    let end = execute(alloc, files, words, out);
+    let end = execute(rt, alloc, files, words, out);
     let told = tell(&end, err);
     Ending {
         status: status_of(&end),

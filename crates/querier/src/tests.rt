@@ -9,7 +9,7 @@ mod selections;
 
 use self::directories::DIRECTORIES;
 use self::rows::{told_by, words_of};
-use crate::demo::{first_batch, query, second_batch, store_after};
+use crate::demo::{first_batch, query, second_batch};
 use crate::fault::Fault;
 use crate::run::run;
 use block::BlockError;
@@ -43,13 +43,22 @@ fn text_of(alloc: Global, snapshot: &Snapshot, query: &Query) -> Result<Vec<u8>,
 
 /// The events of the demo: the first batch alone, both, or both with the second before the first.
 fn events(alloc: Global, which: &str) -> Result<Vec<Event>, Fault> {
-    let first = first_batch(alloc)?;
-    let second = second_batch(alloc)?;
+    let first = first_batch(alloc)?.into_event();
+    let second = second_batch(alloc)?.into_event();
     match which {
         "none" => Ok(Vec::new(alloc)),
         "turned" => Ok(vec![in alloc; second, first]?),
         _ => Ok(vec![in alloc; first, second]?),
     }
+}
+
+/// An empty store after these events.
+fn store_after(alloc: Global, events: &[Event]) -> Result<Snapshot, Fault> {
+    let mut snapshot = Snapshot::opening(alloc, Vec::new(alloc))?;
+    for event in events {
+        snapshot = apply(alloc, &snapshot, event)?;
+    }
+    Ok(snapshot)
 }
 
 /// The text of the answer to `up{job="a"}` after these events.
@@ -112,6 +121,7 @@ fn a_writer_that_refuses_is_told(rt: HostRuntime) -> Result<(), Fault> {
     let mut out = room.as_mut_slice();
     let mut err = Vec::new(alloc);
     let ending = run(
+        &rt,
         alloc,
         &DIRECTORIES,
         words.as_slice(),
@@ -132,6 +142,7 @@ fn a_fault_that_cannot_be_told_keeps_its_status(rt: HostRuntime) -> Result<(), F
     let mut room = [0u8; 5];
     let mut err = room.as_mut_slice();
     let ending = run(
+        &rt,
         alloc,
         &DIRECTORIES,
         words.as_slice(),
@@ -151,8 +162,8 @@ fn events_again(alloc: Global) -> Result<(Event, Event), Fault> {
         Ok(first) => first,
     };
     match second_batch(alloc) {
-        Err(_) => Ok((first, second_batch(alloc)?)),
-        Ok(second) => Ok((first, second)),
+        Err(_) => Ok((first.into_event(), second_batch(alloc)?.into_event())),
+        Ok(second) => Ok((first.into_event(), second.into_event())),
     }
 }
 
@@ -214,8 +225,8 @@ fn a_call_refused_memory_changes_nothing_and_answers_when_made_again(
 #[test]
 fn a_program_refused_memory_says_so(rt: HostRuntime) -> Result<(), Fault> {
     let alloc = rt.alloc();
-    let told = match told_by(alloc, &DIRECTORIES, &["demo"]) {
-        Err(_) => told_by(alloc, &DIRECTORIES, &["demo"])?,
+    let told = match told_by(&rt, alloc, &DIRECTORIES, &["demo"]) {
+        Err(_) => told_by(&rt, alloc, &DIRECTORIES, &["demo"])?,
         Ok(told) => told,
     };
     match told.ending.status {

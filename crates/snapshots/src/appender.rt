@@ -80,8 +80,8 @@ impl Appender {
         }
     }
 
-    /// The batch as an event.
-    pub(crate) fn into_event(self) -> Event
+    /// The batch as an event, which `head::apply` takes too. It takes no memory.
+    pub fn into_event(self) -> Event
         ensures { result ≡ batch self }
     {
         Event::batch(self.samples)
