@@ -1,4 +1,4 @@
-pub mod NoFloat
-pub mod Members
+pub mod Lists
+pub mod Objects
 pub mod MergedAnswers
 pub mod Told

@@ -1,3 +1,4 @@
 pub mod Reply
+pub mod Later
 pub mod Telling
 pub mod Audited

@@ -2,11 +2,18 @@
 //!
 //! `answer` gives what each part of a snapshot answers, or that the query skips it, and the rows of all of them: exactly
 //! the rows of the snapshot's content restricted to the matchers and the range. `body` is the text of an answer, as compact JSON, byte for byte.
-//! It stands on `block_search` and `series_merge`, and on `serde_json` for the text.
+//! It stands on `block_search` and `series_merge`, on `serde_json` for what compact JSON is, and on `itoa` for digits.
 #![tactic(auto)]
 
 mod audited;
+mod brackets;
+mod number;
+mod parts;
+mod plain;
 mod reply;
+mod rows;
+mod samples;
+mod strings;
 #[cfg(test)]
 mod tests;
 
