@@ -17,5 +17,5 @@ mod strings;
 #[cfg(test)]
 mod tests;
 
-pub use audited::{AnsweredPart, AuditedAnswer, answer};
+pub use audited::{AnsweredPart, AuditedAnswer, answer, answer_by_workers};
 pub use reply::body;
