@@ -1,5 +1,5 @@
-pub mod NoFloat
-pub mod Members
+pub mod Lists
+pub mod Objects
 pub mod MergedAnswers
 pub mod Told
 pub mod Headlines

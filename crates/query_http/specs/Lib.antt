@@ -1,4 +1,5 @@
 pub mod Reply
+pub mod Later
 pub mod Telling
 pub mod Audited
 pub mod Headline

@@ -12,7 +12,7 @@ ghost use Rattle.block_search.specs.Answers.{AreAnswers};
 ghost use Rattle.query_http.specs.Audited.{IsAnswered};
 ghost use Rattle.query_http.specs.Telling.{told_of_one, left_after};
 
-use block_search::{is_skipped, search_one_by_one};
+use block_search::{OpenGate, is_skipped, search, search_one_by_one};
 use cover::PartAnswer;
 use head::Snapshot;
 use labels::Row;
@@ -20,6 +20,7 @@ use matchers::Query;
 use postings::PartName;
 use series_merge::merge;
 use std::alloc::{AllocError, Global};
+use std::thread::Threads;
 
 /// What is told of a part of a snapshot.
 #[derive(Drop)]
@@ -105,5 +106,19 @@ pub fn answer(
     ensures rows { IfOk result (λ a. AreRows a.rows.items (selected (satisfies_all query.now.matchers) query.now.from query.now.to (content_of (parts_of snapshot.now)))) }
 {
     let answers = search_one_by_one(alloc, snapshot, query)?;
+    audited(alloc, snapshot, query, answers)
+}
+
+/// The audited answer to a query, each part searched by a worker of its own: that of [`answer`] but for the moves.
+pub fn answer_by_workers<R: Threads + Sync>(
+    rt: &R,
+    alloc: Global,
+    snapshot: &Snapshot,
+    query: &Query,
+) -> Result<AuditedAnswer, AllocError>
+    ensures each { IfOk result (λ a. AllZip (IsAnswered query.now) (asked_parts query.now snapshot.now) a.parts.items) }
+    ensures rows { IfOk result (λ a. AreRows a.rows.items (selected (satisfies_all query.now.matchers) query.now.from query.now.to (content_of (parts_of snapshot.now)))) }
+{
+    let answers = search(rt, alloc, snapshot, query, &OpenGate)?;
     audited(alloc, snapshot, query, answers)
 }

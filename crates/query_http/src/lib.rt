@@ -5,17 +5,25 @@
 //! range. `ask` puts a query to a store that others change meanwhile: its answer is that of the
 //! next snapshot of a pass, after all events that the pass had seen or been told of. `body` is
 //! the text of an answer, as compact JSON, byte for byte. It stands on `snapshots` for passes, on
-//! `block_search` and `series_merge`, and on `serde_json` for the text.
+//! `block_search` and `series_merge`, on `serde_json` for what compact JSON is, and on `itoa` for
+//! digits.
 #![tactic(auto)]
 
 mod audited;
+mod brackets;
 mod error;
 mod headline;
+mod number;
+mod parts;
+mod plain;
 mod reply;
+mod rows;
+mod samples;
+mod strings;
 #[cfg(test)]
 mod tests;
 
-pub use audited::{AnsweredPart, AuditedAnswer, answer};
+pub use audited::{AnsweredPart, AuditedAnswer, answer, answer_by_workers};
 pub use error::AskError;
 pub use headline::ask;
 pub use reply::body;

@@ -3,6 +3,7 @@
 
 mod searches;
 mod worked_block;
+mod workers;
 
 use crate::{answer, body};
 use block::{Block, Range};

@@ -9,7 +9,7 @@ use matchers::{Query, Selector};
 use std::alloc::Global;
 use std::test::Fail;
 
-fn query(alloc: Global, selector: &str, from: i64, to: i64) -> Result<Query, Fail> {
+pub fn query(alloc: Global, selector: &str, from: i64, to: i64) -> Result<Query, Fail> {
     Ok(Query::new(Selector::parse(alloc, selector)?, from, to)?)
 }
 
@@ -44,7 +44,7 @@ fn a_block_is_skipped_where_its_range_has_no_time_of_the_query(
 }
 
 /// The text of the answer to a query.
-fn text_of(alloc: Global, snapshot: &Snapshot, query: &Query) -> Result<Vec<u8>, Fail> {
+pub fn text_of(alloc: Global, snapshot: &Snapshot, query: &Query) -> Result<Vec<u8>, Fail> {
     let answer = answer(alloc, snapshot, query)?;
     Ok(body(alloc, &answer.parts, &answer.rows)?)
 }
@@ -85,7 +85,7 @@ fn batch_at_20(alloc: Global) -> Result<Event, Fail> {
 }
 
 /// The worked block, and a head with the samples at time 20.
-fn block_and_head(alloc: Global) -> Result<Snapshot, Fail> {
+pub fn block_and_head(alloc: Global) -> Result<Snapshot, Fail> {
     let opened = Snapshot::opening(alloc, vec![in alloc; worked_block(alloc)?]?)?;
     Ok(apply(alloc, &opened, &batch_at_20(alloc)?)?)
 }

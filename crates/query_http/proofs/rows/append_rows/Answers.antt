@@ -1,0 +1,10 @@
+use Rattle.std.proofs.Common.{◌∙◌, arith}
+use Rattle.std.proofs.lemmas.Result.{on_ok_weaker}
+use Rattle.query_http.specs.Reply.{row_data}
+use Rattle.query_http.proofs.Lists.{listed}
+use Rattle.query_http.proofs.rows.append_rows.Goals as goal
+
+pub returns : goal.returns
+returns c =
+    on_ok_weaker c.close_list.result
+    (λ e. e ∙ listed row_data c.args.rows.now c.args.out.now.items c.append_later_rows.new.out.items c.len-start.result (omega (arith, c.len-start.ensures)) c.in_ok-append_later_rows.ensures) c.close_list.ensures

@@ -1,0 +1,74 @@
+//! Label sets and rows.
+
+ghost use Rattle.std.specs.Prelude.{◌≡◌, ◌++◌, OnOk};
+ghost use Rattle.serde_json.specs.Data.{object};
+ghost use Rattle.serde_json.specs.Written.{compact_text};
+ghost use Rattle.query_http.specs.Reply.{label_members, row_data, list_data};
+ghost use Rattle.query_http.specs.Later.{later_member, later_members, later_row, later_text};
+
+use crate::brackets::close_list;
+use crate::samples::{ROOM, append_samples};
+use crate::strings::append_closed;
+use labels::{LabelSet, Row};
+use std::alloc::AllocError;
+
+/// Appends a comma, the name and the value.
+fn append_member(out: &mut Vec<u8>, name: &str, value: &str) -> Result<(), AllocError>
+    ensures { OnOk result (out.new.items ≡ out.old.items ++ later_member (name.now, value.now)) }
+{
+    out.extend_from_slice(b",\"")?;
+    append_closed(out, name.as_bytes(), b"\":\"")?;
+    append_closed(out, value.as_bytes(), b"\"")
+}
+
+fn append_members(out: &mut Vec<u8>, labels: &LabelSet) -> Result<(), AllocError>
+    ensures { OnOk result (out.new.items ≡ out.old.items ++ later_members labels.now) }
+{
+    for at in 0..labels.len() {
+        let (name, value) = labels.pair(at);
+        append_member(out, name, value)?;
+    }
+    Ok(())
+}
+
+/// Appends the label set as an object.
+pub fn append_labels(out: &mut Vec<u8>, labels: &LabelSet) -> Result<(), AllocError>
+    ensures { OnOk result (out.new.items ≡ out.old.items ++ compact_text (object (label_members labels.now))) }
+{
+    let _count = labels.len();
+    let start = out.len();
+    append_members(out, labels)?;
+    close_list(out, start, b'{', b'}')
+}
+
+/// Appends a comma and the row.
+fn append_later_row(out: &mut Vec<u8>, buf: &mut [u8; ROOM], row: &Row) -> Result<(), AllocError>
+    ensures { OnOk result (out.new.items ≡ out.old.items ++ later_row row.now) }
+{
+    out.extend_from_slice(b",{\"labels\":")?;
+    append_labels(out, row.labels())?;
+    out.extend_from_slice(b",\"samples\":")?;
+    append_samples(out, buf, row.samples())?;
+    out.push(b'}')?;
+    Ok(())
+}
+
+/// Appends the rows, each with a comma before it.
+fn append_later_rows(out: &mut Vec<u8>, rows: &[Row]) -> Result<(), AllocError>
+    ensures { OnOk result (out.new.items ≡ out.old.items ++ later_text row_data rows.now) }
+{
+    let mut buf = [0; ROOM];
+    for row in rows {
+        append_later_row(out, &mut buf, row)?;
+    }
+    Ok(())
+}
+
+/// Appends the rows as a list.
+pub fn append_rows(out: &mut Vec<u8>, rows: &[Row]) -> Result<(), AllocError>
+    ensures { OnOk result (out.new.items ≡ out.old.items ++ compact_text (list_data row_data rows.now)) }
+{
+    let start = out.len();
+    append_later_rows(out, rows)?;
+    close_list(out, start, b'[', b']')
+}
