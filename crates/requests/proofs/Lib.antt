@@ -4,3 +4,6 @@ pub mod Found
 pub mod SelectorTexts
 pub mod JsonTexts
 pub mod RowTexts
+pub mod HeadTexts
+pub mod FieldTexts
+pub mod ReadTexts

@@ -10,3 +10,8 @@ pub mod Json
 pub mod Changes
 pub mod Rows
 pub mod Writing
+pub mod Edge
+pub mod Heads
+pub mod Looks
+pub mod Fields
+pub mod Reading

@@ -15,7 +15,11 @@
 #![tactic(auto)]
 
 mod changes;
+mod edge;
+mod fields;
+mod head;
 mod json;
+mod read;
 mod refusal;
 mod reply;
 mod request;
@@ -27,6 +31,8 @@ mod tests;
 mod times;
 mod write;
 
+pub use edge::{Fault, Inlet};
+pub use read::read_request;
 pub use refusal::{Cause, Refusal};
 pub use reply::{done_reply, success_reply};
 pub use request::{MAX_SAMPLES, ReadError, Request};

@@ -1,7 +1,7 @@
 //! The target of a request: a path, and the query string behind it.
 
 ghost use Rattle.std.specs.Prelude.{◌≡◌};
-ghost use Rattle.requests.specs.Targets.{path_text, query_text, has_query, path_named, method_of, path_asked};
+ghost use Rattle.requests.specs.Targets.{path_text, query_text, has_query, path_named, method_of, takes_query, path_asked};
 
 use crate::Refusal;
 
@@ -70,6 +70,16 @@ fn method_of(path: Path) -> &'static [u8]
     }
 }
 
+/// Whether a path has a query string.
+pub fn takes_query(path: Path) -> bool
+    ensures { result ≡ takes_query path }
+{
+    match path {
+        Path::Select => true,
+        Path::Write | Path::Delete | Path::Cut => false,
+    }
+}
+
 /// The path that a method and a target ask for: `H3`, then `H4`, then `H5` for a `?` that no path of `POST` has.
 pub fn path_asked(method: &[u8], target: &[u8]) -> Result<Path, Refusal>
     ensures { result ≡ path_asked method.now target.now }
@@ -80,7 +90,7 @@ pub fn path_asked(method: &[u8], target: &[u8]) -> Result<Path, Refusal>
     if method != method_of(path) {
         return Err(Refusal::Method);
     }
-    if path != Path::Select && mark_in(target).is_some() {
+    if !takes_query(path) && mark_in(target).is_some() {
         return Err(Refusal::BadQuery);
     }
     Ok(path)

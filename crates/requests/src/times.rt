@@ -8,7 +8,8 @@ ghost use Rattle.requests.specs.Times.{is_counted, is_integer, time_of};
 
 use labels::is_time;
 
-fn are_digits(text: &[u8]) -> bool
+/// Whether each byte is a decimal digit.
+pub fn are_digits(text: &[u8]) -> bool
     ensures { result ≡ list_all is_ascii_digit text.now }
 {
     text.iter().all(|byte| byte.is_ascii_digit())

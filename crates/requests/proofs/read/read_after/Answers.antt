@@ -1,0 +1,17 @@
+use Rattle.std.proofs.Common.{◌≡◌, ◌+◌, ◌≤◌, false, length, rules, ap, slice_range}
+use Rattle.requests.specs.Targets.{takes_query}
+use Rattle.requests.proofs.ReadTexts.{asked_body}
+use Rattle.requests.proofs.read.read_after.Goals as goal
+
+pub returns-clause-means : goal.returns-clause-means
+returns-clause-means g c =
+    let head = c.head_of-head.ensures in
+    let more = c.in_ok-read_body.ensures.bytes in
+    let post : takes_query c.in-Ok.path ≡ false = search rules in
+    let whole : c.head_of-head.result.end + c.in-Ok-length.length ≤ length c.read_body.new.buf.items =
+    rw c.read_body.new.buf.ok.0 at c.in_ok-read_body.ensures.whole in
+    asked_body c.args.buf.items c.read_body.new.buf.items more.0 _ (g.R.Inlet.input c.args.reader.now) (g.R.Inlet.input c.read_body.new.reader)
+    c.head_of-head.result head.0 c.in-Ok.path c.in-Ok-length.length c.body_request.result
+    (rw c.as_slice.ensures.value at head.1) c.in-Ok.ensures post c.in-Ok-length.is more.1 more.2 whole
+    (ap (λ l. slice_range l c.head_of-head.result.end (c.head_of-head.result.end + c.in-Ok-length.length)) c.deref.ensures.value)
+    c.body_request.ensures

@@ -1,0 +1,6 @@
+-- What the outside is seen to do.
+use Rattle.std.specs.Prelude.{◌≡◌, ◌<◌, ◌-◌, ◌^◌, ◌⊎◌, ℕ}
+
+-- a count of failed calls grew, or is the greatest `u64`
+abbrev pub IsCounted : ℕ → ℕ → Type 0
+IsCounted old new = (old < new) ⊎ (new ≡ 2 ^ 64 - 1)

@@ -1,0 +1,88 @@
+//! The head of a request, in whatever pieces it comes.
+
+ghost use Rattle.std.specs.Prelude.{◌≡◌, ◌<◌, ◌≤◌, ◌⊎◌, ◌++◌, ◌+◌, ℕ, List, length, vec_len, IfOk, IfErr, IfSome, OnOk, IsErrOf};
+ghost use Rattle.std.specs.Io.KnownBytes.{Consumes, IsAtEnd};
+ghost use Rattle.requests.specs.Edge.{IsCounted};
+ghost use Rattle.requests.specs.Heads.{BeginsWithHead, EndsHead};
+ghost use Rattle.requests.specs.Looks.{Looks};
+
+use crate::edge::Inlet;
+use crate::{ReadError, Refusal};
+use httparse::Status;
+use httparse::spans::{EMPTY_HEADER_SPAN, parse_request};
+use std::alloc::Global;
+
+const MAX_HEAD: usize = 8192;
+
+/// Reads at most so many bytes to the end of the buffer; none only at the end of the input.
+pub fn read_some<R: Inlet>(
+    reader: &mut R,
+    buf: &mut Vec<u8>,
+    most: usize,
+) -> Result<usize, ReadError>
+    requires { 0 < most }
+    ensures count { IfOk result (λ n. n ≤ most) }
+    ensures len { IfOk result (λ n. vec_len buf.new ≡ vec_len buf.old + n) }
+    ensures bytes { IfOk result (λ n. (bs : List ℕ) × (buf.new.items ≡ buf.old.items ++ bs) × (length bs ≡ n)
+        × Consumes (R.input reader.old) (R.input reader.new) bs) }
+    ensures end { IfOk result (λ n. n ≡ 0 → IsAtEnd (R.input reader.new)) }
+    ensures counted { OnOk result (R.failed_reads reader.new ≡ R.failed_reads reader.old) }
+    ensures err { IfErr result (λ e. (e ≡ ReadError.Fault) ⊎ (e ≡ ReadError.Memory)) }
+    ensures failed { IsErrOf result ReadError.Fault → IsCounted (R.failed_reads reader.old) (R.failed_reads reader.new) }
+{
+    let mut piece = [0u8; 8192];
+    let limit = most.min(8192);
+    let Ok(n) = reader.read(&mut piece[..limit]) else {
+        return Err(ReadError::Fault);
+    };
+    if buf.extend_from_slice(&piece[..n]).is_err() {
+        return Err(ReadError::Memory);
+    }
+    Ok(n)
+}
+
+// How bytes stand to a head.
+enum Look {
+    Whole,
+    More,
+    Never,
+}
+
+fn look_at(buf: &[u8]) -> Look
+    ensures { Looks buf.now result }
+{
+    let mut headers = [EMPTY_HEADER_SPAN; 64];
+    match parse_request(buf, &mut headers) {
+        Ok(Status::Complete(_)) => Look::Whole,
+        Ok(Status::Partial) => Look::More,
+        Err(_) => Look::Never,
+    }
+}
+
+/// Reads until a head has come: `H1` or `H2` where none comes. What follows the head may have come with it.
+pub fn read_head<R: Inlet>(alloc: Global, reader: &mut R) -> Result<Vec<u8>, ReadError>
+    ensures ok { IfOk result (λ buf. BeginsWithHead buf.items) }
+    ensures short { IfOk result (λ buf. vec_len buf ≤ 8192) }
+    ensures taken { IfOk result (λ buf. Consumes (R.input reader.old) (R.input reader.new) buf.items) }
+    ensures counted { OnOk result (R.failed_reads reader.new ≡ R.failed_reads reader.old) }
+    ensures err { IfErr result (λ e. IfSome (R.input reader.old) (EndsHead e)) }
+    ensures failed { IsErrOf result ReadError.Fault → IsCounted (R.failed_reads reader.old) (R.failed_reads reader.new) }
+{
+    let mut buf = Vec::new(alloc);
+    while buf.len() < MAX_HEAD {
+        let most = MAX_HEAD - buf.len();
+        if read_some(reader, &mut buf, most)? == 0 {
+            return Err(if buf.is_empty() {
+                ReadError::Closed
+            } else {
+                ReadError::Refused(Refusal::BadHead)
+            });
+        }
+        match look_at(buf.as_slice()) {
+            Look::Whole => return Ok(buf),
+            Look::Never => return Err(ReadError::Refused(Refusal::BadHead)),
+            Look::More => {}
+        }
+    }
+    Err(ReadError::Refused(Refusal::HeadTooLong))
+}

@@ -1,0 +1,95 @@
+//! A request, read from its first byte to its last.
+
+ghost use Rattle.std.specs.Prelude.{◌≡◌, ◌<◌, ◌≤◌, ◌++◌, ℕ, List, drop, take, length, vec_len, IfOk, IfErr, IfSome, OnOk, OnErr, IsErrOf};
+ghost use Rattle.std.specs.Io.KnownBytes.{Consumes};
+ghost use Rattle.httparse.specs.Grammar.{RequestHead};
+ghost use Rattle.requests.specs.Edge.{IsCounted};
+ghost use Rattle.requests.specs.Fields.{IsHeadIn};
+ghost use Rattle.requests.specs.Heads.{BeginsWithHead};
+ghost use Rattle.requests.specs.Requests.{Told};
+ghost use Rattle.requests.specs.Reading.{EndsBody, BodyMeans, Answers};
+
+use crate::changes::{cut, delete};
+use crate::edge::Inlet;
+use crate::fields::{Head, head_in};
+use crate::head::{read_head, read_some};
+use crate::select::select;
+use crate::target::{Path, path_asked, query_text, takes_query};
+use crate::write::write;
+use crate::{ReadError, Refusal, Request};
+use std::alloc::Global;
+
+// Reads until the buffer has so many bytes: `H7` where the input ends before.
+fn read_body<R: Inlet>(reader: &mut R, buf: &mut Vec<u8>, end: usize) -> Result<(), ReadError>
+    ensures whole { OnOk result (end ≤ vec_len buf.new) }
+    ensures bytes { OnOk result ((bs : List ℕ) × (buf.new.items ≡ buf.old.items ++ bs) × Consumes (R.input reader.old) (R.input reader.new) bs) }
+    ensures err { IfErr result (λ e. IfSome (R.input reader.old) (λ more. EndsBody buf.old.items end e more)) }
+    ensures failed { IsErrOf result ReadError.Fault → IsCounted (R.failed_reads reader.old) (R.failed_reads reader.new) }
+{
+    while buf.len() < end {
+        let most = end - buf.len();
+        if read_some(reader, buf, most)? == 0 {
+            return Err(ReadError::Refused(Refusal::BadBody));
+        }
+    }
+    Ok(())
+}
+
+// What a body asks of a path that takes one.
+fn body_request(alloc: Global, path: Path, body: &[u8]) -> Result<Request, ReadError>
+    ensures { Told (BodyMeans path body.now) result }
+{
+    match path {
+        Path::Write => write(alloc, body),
+        Path::Delete => delete(alloc, body),
+        Path::Cut => cut(alloc, body),
+        Path::Select => Err(ReadError::Refused(Refusal::BadBody)),
+    }
+}
+
+fn head_of(buf: &[u8]) -> Head<'_>
+    requires { BeginsWithHead buf.now }
+    ensures { (h : RequestHead) × IsHeadIn buf.now result h }
+{
+    head_in(buf).unwrap()
+}
+
+// Reads what follows a head that has come, if its path takes a body, and says what is asked.
+fn read_after<R: Inlet>(alloc: Global, reader: &mut R, buf: Vec<u8>) -> Result<Request, ReadError>
+    requires begins { BeginsWithHead buf.items }
+    requires short { vec_len buf ≤ 8192 }
+    ensures means { AsksAfter buf.items (R.input reader.old) result }
+    ensures failed { IsErrOf result ReadError.Fault → IsCounted (R.failed_reads reader.old) (R.failed_reads reader.new) }
+{
+    let mut buf = buf;
+    let head = head_of(buf.as_slice());
+    let path = match path_asked(head.method, head.target) {
+        Ok(path) => path,
+        Err(refusal) => return Err(ReadError::Refused(refusal)),
+    };
+    if takes_query(path) {
+        return select(alloc, query_text(head.target));
+    }
+    let start = head.end;
+    let length = match head.length {
+        Ok(length) => length,
+        Err(refusal) => return Err(ReadError::Refused(refusal)),
+    };
+    let end = start + length;
+    read_body(reader, &mut buf, end)?;
+    body_request(alloc, path, &buf[start..end])
+}
+
+ghost use Rattle.requests.specs.Reading.{AsksAfter};
+
+/// Reads one request, to the last byte of its body where it has one, and no further than 8,192 bytes past its head.
+///
+/// The answer is the request that the bytes mean, or the first refusal that they meet, `H1` to `H8`, however they were
+/// cut into pieces; `Closed` where the input ends before its first byte.
+pub fn read_request<R: Inlet>(alloc: Global, reader: &mut R) -> Result<Request, ReadError>
+    ensures means { IfSome (R.input reader.old) (Answers result) }
+    ensures failed { IsErrOf result ReadError.Fault → IsCounted (R.failed_reads reader.old) (R.failed_reads reader.new) }
+{
+    let buf = read_head(alloc, reader)?;
+    read_after(alloc, reader, buf)
+}
