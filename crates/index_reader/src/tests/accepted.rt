@@ -1,17 +1,16 @@
 //! Indexes of other forms than the worked one, as Prometheus writes them and as the format allows.
 
-use super::draft::Draft;
-use super::{code_of, listed, put_frame, put_len, put_text};
+use super::draft::{Draft, put_frame, put_len, put_text};
+use super::{code_of, has_list, has_lists, opened};
 use crate::Index;
 use std::alloc::{AllocError, Global};
-use std::test::Fail;
 use wire::{put_be32, put_u8, put_uvarint};
 
-const SYMBOLS: [&str; 10] = [
+const SYMBOLS: &[&str] = &[
     "", "__name__", "a", "b", "down", "job", "unused", "up", "x", "zone",
 ];
 
-const BODIES: [&[u64]; 6] = [
+const BODIES: &[&[u64]] = &[
     &[2, 1, 4, 5, 2, 1, 20, 0, 8],
     &[2, 1, 4, 5, 3, 1, 20, 0, 32],
     &[2, 1, 7, 5, 2, 1, 20, 0, 56],
@@ -20,8 +19,8 @@ const BODIES: [&[u64]; 6] = [
     &[3, 1, 7, 5, 3, 9, 8, 1, 20, 0, 128],
 ];
 
-const LISTS: [(&str, &str, &[u32]); 6] = [
-    ("", "", &[4, 5, 6, 7, 8, 9]),
+/// The lists of pairs, each with its references.
+const LISTS: &[(&str, &str, &[u32])] = &[
     ("__name__", "down", &[4, 5]),
     ("__name__", "up", &[6, 7, 8, 9]),
     ("job", "a", &[4, 6, 7]),
@@ -56,84 +55,116 @@ fn put_label_offsets(alloc: Global, out: &mut Vec<u8>, begin: u64) -> Result<(),
     put_frame(out, &content)
 }
 
-/// The series of the worked index, as Prometheus writes them: an empty symbol that no series uses, and another; series
-/// that begin behind padding; label indices and their table; padding before the postings and between them.
-fn like_prometheus(alloc: Global) -> Result<Draft, Fail> {
-    let mut draft = Draft::new(alloc, &SYMBOLS)?;
+/// The symbols, of which no series uses the empty one and another, and behind padding the series.
+fn with_series(alloc: Global) -> Result<Draft, AllocError> {
+    let mut draft = Draft::new(alloc, SYMBOLS)?;
     for body in BODIES {
         draft.series(alloc, body)?;
     }
     draft.align()?;
-    let begin = draft.file.len() as u64;
-    draft.contents[2] = begin;
-    put_label_indices(alloc, &mut draft.file)?;
+    Ok(draft)
+}
+
+/// The postings, each behind padding.
+fn put_lists(alloc: Global, draft: &mut Draft) -> Result<(), AllocError> {
     draft.postings();
+    draft.align()?;
+    draft.list(alloc, "", "", &[4, 5, 6, 7, 8, 9])?;
     for (name, value, references) in LISTS {
         draft.align()?;
         draft.list(alloc, name, value, references)?;
     }
-    draft.align()?;
+    draft.align()
+}
+
+/// The series of the worked index, as Prometheus writes them, with label indices and their table.
+fn like_prometheus(alloc: Global) -> Result<Draft, AllocError> {
+    let mut draft = with_series(alloc)?;
+    let begin = draft.file.len() as u64;
+    draft.contents[2] = begin;
+    put_label_indices(alloc, &mut draft.file)?;
+    put_lists(alloc, &mut draft)?;
     draft.contents[3] = draft.file.len() as u64;
     put_label_offsets(alloc, &mut draft.file, begin)?;
     Ok(draft)
 }
 
-#[test]
-fn an_index_as_prometheus_writes_it_is_accepted(rt: HostRuntime) -> Result<(), Fail> {
-    let draft = like_prometheus(rt.alloc())?;
-    assert_eq!(rt; draft.contents[1] % 16, 9);
-    let file = draft.whole(rt.alloc())?;
-    let index = Index::open(rt.alloc(), &file)?;
-    assert_eq!(rt; index.len(), 6);
-    let jobs = ["a", "b", "a", "a", "b", "b"];
-    for at in 0..index.len() {
-        assert_eq!(rt; index.reference_at(at).number(), at as u32 + 4);
-        let job = index.labels_at(at).value("job");
-        assert_eq!(rt; Some(job), jobs.get(at).copied());
-    }
-    for (name, value, references) in LISTS {
-        let list = listed(rt.alloc(), &index, name, value)?;
-        let found = list.as_ref().map(|list| list.as_slice());
-        let want = if name.is_empty() {
-            None
-        } else {
-            Some(references)
-        };
-        assert_eq!(rt; found, want, "{name} {value}");
-    }
-    Ok(())
+/// The index of a file, where it is made.
+fn index_of(alloc: Global, file: Option<Vec<u8>>) -> Option<Index> {
+    opened(alloc, &file?).ok()
+}
+
+fn prometheus_file(alloc: Global) -> Option<Vec<u8>> {
+    let draft = like_prometheus(alloc).ok()?;
+    draft.whole(alloc).ok()
+}
+
+/// Whether the series at a place has this reference and this job.
+fn has_job(index: &Index, at: usize, reference: u32, job: &str) -> bool {
+    at < index.len()
+        && index.reference_at(at).number() == reference
+        && index.labels_at(at).value("job") == job
+}
+
+/// The reference and the job of each series.
+const JOBS: &[(u32, &str)] = &[(4, "a"), (5, "b"), (6, "a"), (7, "a"), (8, "b"), (9, "b")];
+
+/// Whether the series and the lists are those of the worked index.
+fn is_worked(index: &Index) -> bool {
+    let mut jobs = JOBS.iter().enumerate();
+    index.len() == 6 && jobs.all(|(at, row)| has_job(index, at, row.0, row.1)) && has_lists(index)
 }
 
 #[test]
-fn what_no_one_refers_to_is_not_read(rt: HostRuntime) -> Result<(), Fail> {
-    let draft = like_prometheus(rt.alloc())?;
-    let [_, _, indices, offsets, postings, _] = draft.contents;
-    let mut file = draft.whole(rt.alloc())?;
-    let rows = [
-        (indices, None),
-        (indices.saturating_add(8), None),
-        (postings.saturating_sub(1), None),
-        (postings, None),
-        (postings.saturating_add(12), Some("I11")),
-        (offsets.saturating_sub(1), None),
-        (offsets, Some("I13")),
-        (offsets.saturating_add(8), Some("I13")),
-    ];
-    for (place, want) in rows {
-        if let Some(byte) = file.get_mut(place as usize) {
-            *byte ^= 0x55;
-        }
-        assert_eq!(rt; code_of(rt.alloc(), &file), want, "at {place}");
-        if let Some(byte) = file.get_mut(place as usize) {
-            *byte ^= 0x55;
-        }
-    }
-    Ok(())
+fn an_index_as_prometheus_writes_it_is_accepted(rt: HostRuntime) {
+    let index = index_of(rt.alloc(), prometheus_file(rt.alloc()));
+    assert!(rt; index.is_some_and(|index| is_worked(&index)));
 }
 
 #[test]
-fn two_pairs_may_name_one_section(rt: HostRuntime) -> Result<(), Fail> {
-    let alloc = rt.alloc();
+fn series_may_begin_at_any_place(rt: HostRuntime) {
+    let draft = with_series(rt.alloc()).ok();
+    assert_eq!(rt; draft.map(|draft| draft.contents[1] % 16), Some(9));
+}
+
+/// The code for another byte at a place, counted from where a part of the contents begins.
+const UNREAD: &[(usize, i64, Option<&str>)] = &[
+    (2, 0, None),
+    (2, 8, None),
+    (4, -1, None),
+    (4, 0, None),
+    (4, 12, Some("I11")),
+    (3, -1, None),
+    (3, 0, Some("I13")),
+    (3, 8, Some("I13")),
+];
+
+/// The file as Prometheus writes it with another byte.
+fn turned(alloc: Global, part: usize, offset: i64) -> Option<Vec<u8>> {
+    let draft = like_prometheus(alloc).ok()?;
+    let begin = draft.contents.get(part).copied()?;
+    let mut file = draft.whole(alloc).ok()?;
+    *file.get_mut(begin.checked_add_signed(offset)? as usize)? ^= 0x55;
+    Some(file)
+}
+
+fn code_of_turned(alloc: Global, part: usize, offset: i64) -> Option<&'static str> {
+    match turned(alloc, part, offset) {
+        Some(file) => code_of(alloc, &file),
+        None => Some("no file"),
+    }
+}
+
+#[test]
+fn what_no_one_refers_to_is_not_read(rt: HostRuntime) {
+    let other = UNREAD
+        .iter()
+        .find(|row| code_of_turned(rt.alloc(), row.0, row.1) != row.2);
+    assert_eq!(rt; other, None);
+}
+
+/// Two pairs of one series, at 2, that name one section.
+fn of_one_section(alloc: Global) -> Result<Vec<u8>, AllocError> {
     let mut draft = Draft::new(alloc, &["a", "b", "x"])?;
     let reference = draft.series(alloc, &[2, 0, 2, 1, 2, 1, 20, 0, 8])?;
     draft.postings();
@@ -141,31 +172,44 @@ fn two_pairs_may_name_one_section(rt: HostRuntime) -> Result<(), Fail> {
     draft.entry("", "", place)?;
     draft.entry("a", "x", place)?;
     draft.entry("b", "x", place)?;
-    let index = Index::open(alloc, &draft.whole(alloc)?)?;
-    for name in ["a", "b"] {
-        let list = listed(alloc, &index, name, "x")?;
-        let found = list.as_ref().map(|list| list.as_slice());
-        assert_eq!(rt; found, Some([reference].as_slice()), "{name}");
-    }
-    Ok(())
+    draft.whole(alloc)
+}
+
+fn has_both_lists(index: &Index) -> bool {
+    has_list(index, &("a", "x", &[2])) && has_list(index, &("b", "x", &[2]))
 }
 
 #[test]
-fn a_series_may_have_several_chunks(rt: HostRuntime) -> Result<(), Fail> {
-    let alloc = rt.alloc();
+fn two_pairs_may_name_one_section(rt: HostRuntime) {
+    let index = index_of(rt.alloc(), of_one_section(rt.alloc()).ok());
+    assert!(rt; index.is_some_and(|index| has_both_lists(&index)));
+}
+
+/// A series without labels, of three chunks.
+fn of_three_chunks(alloc: Global) -> Result<Vec<u8>, AllocError> {
     let mut draft = Draft::new(alloc, &[])?;
-    let chunks = [0, 3, 9, 5, 8, 1, 9, 48, 10, 0, 15];
-    let reference = draft.series(alloc, &chunks)?;
+    let reference = draft.series(alloc, &[0, 3, 9, 5, 8, 1, 9, 48, 10, 0, 15])?;
     draft.postings();
     draft.list(alloc, "", "", &[reference])?;
-    let index = Index::open(alloc, &draft.whole(alloc)?)?;
-    assert_eq!(rt; index.len(), 1);
-    assert!(rt; index.labels_at(0).is_empty());
-    let found = index.chunks_at(0);
-    let rows = [(-5, 0, 8), (1, 10, 32), (20, 20, 24)];
-    assert_eq!(rt; found.len(), 3);
-    for (chunk, want) in found.iter().zip(rows) {
-        assert_eq!(rt; (chunk.mint, chunk.maxt, chunk.reference), want);
+    draft.whole(alloc)
+}
+
+/// Whether there is one series, without labels, that has these chunks.
+fn has_chunks(index: &Index, want: &[(i64, i64, u64)]) -> bool {
+    if index.len() != 1 {
+        return false;
     }
-    Ok(())
+    let chunks = index.chunks_at(0).iter();
+    index.labels_at(0).is_empty()
+        && chunks
+            .map(|chunk| (chunk.mint, chunk.maxt, chunk.reference))
+            .eq(want.iter().copied())
+}
+
+const CHUNKS: &[(i64, i64, u64)] = &[(-5, 0, 8), (1, 10, 32), (20, 20, 24)];
+
+#[test]
+fn a_series_may_have_several_chunks(rt: HostRuntime) {
+    let index = index_of(rt.alloc(), of_three_chunks(rt.alloc()).ok());
+    assert!(rt; index.is_some_and(|index| has_chunks(&index, CHUNKS)));
 }

@@ -1,9 +1,22 @@
 //! An index of any symbols, bodies and lists, whose checksums are right.
 
-use super::{put_frame, put_len, put_text};
-use std::alloc::Global;
-use std::test::Fail;
+use std::alloc::{AllocError, Global};
 use wire::{crc32c, put_be32, put_be64, put_bytes, put_u8, put_uvarint};
+
+pub fn put_len(out: &mut Vec<u8>, len: usize) -> Result<(), AllocError> {
+    put_be32(out, u32::try_from(len).unwrap_or(0))
+}
+
+pub fn put_frame(out: &mut Vec<u8>, content: &[u8]) -> Result<(), AllocError> {
+    put_len(out, content.len())?;
+    put_bytes(out, content)?;
+    put_be32(out, crc32c(content))
+}
+
+pub fn put_text(out: &mut Vec<u8>, text: &str) -> Result<(), AllocError> {
+    put_uvarint(out, text.len() as u64)?;
+    put_bytes(out, text.as_bytes())
+}
 
 /// The bytes so far, the entries of the table of offsets, and the table of contents.
 #[derive(Drop)]
@@ -17,7 +30,7 @@ pub struct Draft {
 
 impl Draft {
     /// An index of these symbols, whose series begin behind them.
-    pub fn new(alloc: Global, symbols: &[&str]) -> Result<Draft, Fail> {
+    pub fn new(alloc: Global, symbols: &[&str]) -> Result<Draft, AllocError> {
         let mut content = Vec::new(alloc);
         put_len(&mut content, symbols.len())?;
         for symbol in symbols {
@@ -36,7 +49,7 @@ impl Draft {
     }
 
     /// Adds zeros up to the next multiple of 16.
-    pub fn align(&mut self) -> Result<(), Fail> {
+    pub fn align(&mut self) -> Result<(), AllocError> {
         for _ in 0..16 {
             if self.file.len() % 16 != 0 {
                 put_u8(&mut self.file, 0)?;
@@ -45,14 +58,15 @@ impl Draft {
         Ok(())
     }
 
-    /// Adds a series, whose body is spelled by these numbers, at the next multiple of 16, and gives its reference.
-    pub fn series(&mut self, alloc: Global, numbers: &[u64]) -> Result<u32, Fail> {
+    /// Adds a series, whose body is spelled by these numbers, at the next multiple of 16, and
+    /// gives its reference.
+    pub fn series(&mut self, alloc: Global, numbers: &[u64]) -> Result<u32, AllocError> {
         let mut body = Vec::new(alloc);
         for number in numbers {
             put_uvarint(&mut body, *number)?;
         }
         self.align()?;
-        let reference = u32::try_from(self.file.len() / 16)?;
+        let reference = u32::try_from(self.file.len() / 16).unwrap_or(0);
         put_uvarint(&mut self.file, body.len() as u64)?;
         put_bytes(&mut self.file, &body)?;
         put_be32(&mut self.file, crc32c(&body))?;
@@ -65,7 +79,7 @@ impl Draft {
     }
 
     /// Adds a postings section, and gives its place.
-    pub fn section(&mut self, alloc: Global, references: &[u32]) -> Result<u64, Fail> {
+    pub fn section(&mut self, alloc: Global, references: &[u32]) -> Result<u64, AllocError> {
         let place = self.file.len() as u64;
         let mut list = Vec::new(alloc);
         put_len(&mut list, references.len())?;
@@ -77,7 +91,7 @@ impl Draft {
     }
 
     /// Lists a pair, whose section stands at this place.
-    pub fn entry(&mut self, name: &str, value: &str, place: u64) -> Result<(), Fail> {
+    pub fn entry(&mut self, name: &str, value: &str, place: u64) -> Result<(), AllocError> {
         put_u8(&mut self.table, 2)?;
         put_text(&mut self.table, name)?;
         put_text(&mut self.table, value)?;
@@ -93,13 +107,13 @@ impl Draft {
         name: &str,
         value: &str,
         references: &[u32],
-    ) -> Result<(), Fail> {
+    ) -> Result<(), AllocError> {
         let place = self.section(alloc, references)?;
         self.entry(name, value, place)
     }
 
     /// The file, with its table of offsets and its table of contents.
-    pub fn whole(self, alloc: Global) -> Result<Vec<u8>, Fail> {
+    pub fn whole(self, alloc: Global) -> Result<Vec<u8>, AllocError> {
         let Draft {
             mut file,
             table,
