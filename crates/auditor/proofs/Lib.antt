@@ -12,3 +12,4 @@ pub mod Parting
 pub mod Excluding
 pub mod Replying
 pub mod Labelled
+pub mod Lines

@@ -5,3 +5,4 @@ pub mod Errors
 pub mod Parted
 pub mod Replies
 pub mod Read
+pub mod Judgements
