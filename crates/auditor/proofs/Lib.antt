@@ -14,3 +14,4 @@ mod IndexFile
 mod BlockFiles
 pub mod Replying
 pub mod Labelled
+pub mod Lines

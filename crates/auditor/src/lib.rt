@@ -13,12 +13,14 @@
 mod answer;
 mod flaw;
 mod intervals;
+mod judgement;
 mod looks;
 mod merged;
 #[cfg(test)]
 mod parted;
 mod reading;
 mod reply;
+mod report;
 mod rows;
 mod separators;
 mod skip;
@@ -29,8 +31,10 @@ mod walk;
 
 pub use answer::{audit, audit_laws};
 pub use flaw::{AuditError, Flaw};
+pub use judgement::{BlockTable, Judgement, Line, Subject};
 pub use merged::audit_merge;
 pub use reply::{Reply, ReplyError, ToldPart};
+pub use report::{judge, lines_text};
 pub use skip::audit_skip;
 pub use table::Table;
 pub use walk::WalkError;

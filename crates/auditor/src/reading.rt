@@ -270,10 +270,7 @@ fn are_labels(pairs: &[(&str, &str)]) -> bool
 }
 
 /// The names of members, each with its text.
-fn texts_of(
-    alloc: Global,
-    members: &Map<String, Value>,
-) -> Result<Vec<(&str, &str)>, ReplyError>
+fn texts_of(alloc: Global, members: &Map<String, Value>) -> Result<Vec<(&str, &str)>, ReplyError>
     ensures { Reads (λ v. texts_of v.items) result (texts_said (members_view members.now.entries)) }
 {
     let mut texts = Vec::with_capacity(alloc, members.len())?;
@@ -391,10 +388,12 @@ fn tree_of(alloc: Global, text: &[u8]) -> Result<Value, ReplyError>
 }
 
 impl Reply {
-    /// The reply that a text is: compact or spaced JSON of the shape that `querier select` prints, members in any
-    /// order; of a member that is given twice the last counts. `BadReply` for every other text: further members or
-    /// missing ones, numbers that do not fit, names of parts that are written in another way, a head that is skipped,
-    /// labels that are no label set. It makes a tree of the text, and lists as long as those that the text has.
+    /// The reply that a text is: JSON of the shape that `querier select` prints, members in any
+    /// order; of a member that is given twice the last counts.
+    ///
+    /// `BadReply` for every other text: members that are missing or further ones, numbers that do
+    /// not fit, names of parts that are written in another way, a head that is skipped, labels that
+    /// are no label set. It makes a tree of the text, and lists as long as those of the text.
     pub fn read(alloc: Global, text: &[u8]) -> Result<Reply, ReplyError>
         ensures { Reads told_of result (text_said text.now) }
     {

@@ -12,7 +12,7 @@ use std::fmt;
 /// What a reply says of a part.
 #[derive(Drop)]
 pub enum ToldPart {
-    /// The answer of a part that was searched. How often its lists moved is not said: it stands as 0.
+    /// The answer of a part that was searched. It does not say how often lists moved: that is 0.
     Searched(PartAnswer),
     /// The block of this number, from 0, was skipped.
     Skipped(usize),

@@ -1,4 +1,4 @@
-use Rattle.std.proofs.Common.{◌≡◌, sym, ap, ◌∙◌, true, rules}
+use Rattle.std.proofs.Common.{◌≡◌, sym, ap, ◌∙◌}
 use Rattle.labels.specs.Pairs.{texts_of}
 use Rattle.auditor.specs.Replies.{are_labels}
 use Rattle.auditor.proofs.Labelled.{is_label_set}
