@@ -1,5 +1,5 @@
 -- What a selection asks for, and why it is refused.
-use Rattle.std.specs.Prelude.{◌≡◌, ℕ, ◌<◌, ◌≤◌, true, false, List, [], Option, length}
+use Rattle.std.specs.Prelude.{◌≡◌, ℕ, ◌<◌, ◌≤◌, true, false, List, Option, length}
 use Rattle.std.specs.Io.KnownBytes.{Appends, Keeps}
 use Rattle.matchers.specs.Grammar.{IsSelector}
 use Rattle.matchers.specs.Queries.{is_range}

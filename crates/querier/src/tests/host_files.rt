@@ -4,6 +4,7 @@ use super::directories::{CHUNKS, INDEX, META, NOTHING_DELETED, Pieces, joined};
 use super::rows::{Told, told_by};
 use crate::files::ReadFiles;
 use std::alloc::AllocError;
+use std::sync::Wait;
 use std::test::Fail;
 use std::{env, fs, io};
 
@@ -60,8 +61,8 @@ fn remove_rest(rt: &HostRuntime, folder: &str) -> io::Result<()> {
 }
 
 /// What `check` of the folder gives.
-fn checked_in(rt: &HostRuntime, folder: &str) -> Result<Told, AllocError> {
-    told_by(rt, rt.alloc(), rt, &["check", folder])
+fn checked_in(waits: &impl Wait, rt: &HostRuntime, folder: &str) -> Result<Told, AllocError> {
+    told_by(waits, rt.alloc(), rt, &["check", folder])
 }
 
 #[test]
@@ -70,7 +71,7 @@ fn files_of_the_host_are_read(rt: HostRuntime) -> Result<(), Fail> {
     let folder = new_folder(&rt)?;
     let folder = folder.as_str();
     write_files(&rt, folder)?;
-    let whole = checked_in(&rt, folder)?;
+    let whole = checked_in(&rt, &rt, folder)?;
     let line = format!(in alloc; "{folder}: ok 6 series 6 samples\n")?;
     assert_eq!(rt; whole.out.as_slice(), line.as_bytes());
     let tombstones = format!(in alloc; "{folder}/tombstones")?;
@@ -80,7 +81,7 @@ fn files_of_the_host_are_read(rt: HostRuntime) -> Result<(), Fail> {
     }
 
     fs::remove_file(&rt, tombstones.as_str())?;
-    let torn = checked_in(&rt, folder)?;
+    let torn = checked_in(&rt, &rt, folder)?;
     let told = format!(in alloc; "cannot read {folder}/tombstones\n")?;
     assert_eq!(rt; torn.err.as_slice(), told.as_bytes());
     assert_eq!(rt; torn.ending.status, 3);
