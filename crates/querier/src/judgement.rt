@@ -11,6 +11,10 @@ use crate::files::BlockFiles;
 use block::{Block, BlockError, Range};
 use std::alloc::{AllocError, Global};
 use std::fmt;
+use std::thread::Threads;
+
+/// How many threads check the chunks of a block: four for each of four processors.
+const THREADS: usize = 16;
 
 /// What the files of a directory are judged to be.
 #[derive(Clone, Copy, Debug, PartialEq, Eq, Drop)]
@@ -48,7 +52,11 @@ impl fmt::Display for Judgement {
 }
 
 /// The block that files are, or the first check that fails: that of the meta, and then those of the other files.
-pub fn open(alloc: Global, files: BlockFiles) -> Result<Block, BlockError>
+pub fn open<T: Threads + Sync>(
+    rt: &T,
+    alloc: Global,
+    files: BlockFiles,
+) -> Result<Block, BlockError>
     ensures exact { Gives (λ b. b) result (block_in (or_meta (range_said files.meta.items)) files) }
     ensures found { IfOk result (λ b. IsSpelledAs files b.range b.part) }
     ensures only { (range : ℤ × ℤ) (part : Part) → IsSpelledAs files range part → Gives (λ b. b.part) result (Ok part) }
@@ -60,7 +68,9 @@ pub fn open(alloc: Global, files: BlockFiles) -> Result<Block, BlockError>
         tombstones,
     } = files;
     let range = Range::read_meta(alloc, meta.as_slice())?;
-    Block::open(
+    Block::open_by(
+        rt,
+        THREADS,
         alloc,
         range,
         index.as_slice(),
@@ -80,10 +90,14 @@ fn refusal_of(error: BlockError) -> Result<Judgement, AllocError>
 }
 
 /// Judges the files of a directory.
-pub fn judge(alloc: Global, files: BlockFiles) -> Result<Judgement, AllocError>
+pub fn judge<T: Threads + Sync>(
+    rt: &T,
+    alloc: Global,
+    files: BlockFiles,
+) -> Result<Judgement, AllocError>
     ensures { IfOk result (λ judgement. IsJudged files judgement) }
 {
-    match open(alloc, files) {
+    match open(rt, alloc, files) {
         Ok(block) => Ok(Judgement::Sound {
             series: block.series_count(),
             samples: block.sample_count(),

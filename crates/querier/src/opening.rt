@@ -12,18 +12,25 @@ use block::Block;
 use head::Snapshot;
 use snapshots::{MAX_BLOCKS, OpenError};
 use std::alloc::Global;
+use std::thread::Threads;
 
 /// Reads the files in a directory and makes every check of a block.
-fn open_one<F: ReadFiles>(alloc: Global, files: &F, directory: &str) -> Result<Block, Fault>
+fn open_one<T: Threads + Sync, F: ReadFiles>(
+    rt: &T,
+    alloc: Global,
+    files: &F,
+    directory: &str,
+) -> Result<Block, Fault>
     ensures ok { IfOk result (λ b. IsBlockAt (F.may_read files.now) directory.now (part_in b)) }
     ensures err { IfErr result (λ fault. IsBlockFault (F.may_read files.now) directory.now fault) }
 {
     let block = read_block(alloc, files, directory)?;
-    Ok(open(alloc, block)?)
+    Ok(open(rt, alloc, block)?)
 }
 
 /// The blocks in these directories, in their order, up to the first that is at fault.
-fn open_all<F: ReadFiles>(
+fn open_all<T: Threads + Sync, F: ReadFiles>(
+    rt: &T,
     alloc: Global,
     files: &F,
     directories: &[&str],
@@ -33,7 +40,7 @@ fn open_all<F: ReadFiles>(
 {
     let mut blocks = Vec::new(alloc);
     for directory in directories {
-        let block = open_one(alloc, files, directory)?;
+        let block = open_one(rt, alloc, files, directory)?;
         blocks.push(block)?;
     }
     Ok(blocks)
@@ -43,7 +50,8 @@ fn open_all<F: ReadFiles>(
 ///
 /// Each directory is read and verified completely, one after another; `O3` comes after the last of them, where there
 /// are more than 63.
-pub fn open_store<F: ReadFiles>(
+pub fn open_store<T: Threads + Sync, F: ReadFiles>(
+    rt: &T,
     alloc: Global,
     files: &F,
     directories: &[&str],
@@ -51,7 +59,7 @@ pub fn open_store<F: ReadFiles>(
     ensures ok { IfOk result (λ s. IsOpeningOf (F.may_read files.now) (paths_of directories.now) s) }
     ensures err { IfErr result (λ fault. IsOpeningFault (F.may_read files.now) (paths_of directories.now) fault) }
 {
-    let blocks = open_all(alloc, files, directories)?;
+    let blocks = open_all(rt, alloc, files, directories)?;
     if blocks.len() > MAX_BLOCKS {
         return Err(Fault::Refused(Refusal::Open(OpenError::Limit)));
     }

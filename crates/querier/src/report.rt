@@ -12,6 +12,7 @@ use crate::judgement::{Judgement, judge};
 use crate::sending::send;
 use std::alloc::{AllocError, Global};
 use std::io::Write;
+use std::thread::Threads;
 
 /// How a line that is done ends.
 #[derive(Clone, Copy, Debug, PartialEq, Eq, Drop)]
@@ -46,7 +47,8 @@ fn line_of(alloc: Global, directory: &str, judgement: &Judgement) -> Result<Stri
 }
 
 /// Reads and judges the block in a directory, and makes its line.
-fn judge_at<F: ReadFiles>(
+fn judge_at<T: Threads + Sync, F: ReadFiles>(
+    rt: &T,
     alloc: Global,
     files: &F,
     directory: &str,
@@ -56,13 +58,14 @@ fn judge_at<F: ReadFiles>(
     ensures err { IfErr result (λ fault. IsReadingFault (F.may_read files.now) directory.now fault) }
 {
     let block = read_block(alloc, files, directory)?;
-    let judgement = judge(alloc, block)?;
+    let judgement = judge(rt, alloc, block)?;
     let line = line_of(alloc, directory, &judgement)?;
     Ok((judgement, line))
 }
 
 /// Verifies the block in a directory, and writes its line.
-fn check_one<F: ReadFiles, W: Write>(
+fn check_one<T: Threads + Sync, F: ReadFiles, W: Write>(
+    rt: &T,
     alloc: Global,
     files: &F,
     directory: &str,
@@ -74,13 +77,14 @@ fn check_one<F: ReadFiles, W: Write>(
     ensures kept { IfErr result (λ fault. KeepsAt fault (W.contents out.old) (W.contents out.new)) }
     ensures cut { IfErr result (λ fault. IsCutAt (F.may_read files.now) directory.now (W.contents out.old) (W.contents out.new) fault) }
 {
-    let (judgement, line) = judge_at(alloc, files, directory)?;
+    let (judgement, line) = judge_at(rt, alloc, files, directory)?;
     send(out, line.as_bytes())?;
     Ok(judgement)
 }
 
 /// Verifies the blocks in these directories, one after another, and writes a line for each.
-pub fn check<F: ReadFiles, W: Write>(
+pub fn check<T: Threads + Sync, F: ReadFiles, W: Write>(
+    rt: &T,
     alloc: Global,
     files: &F,
     directories: &[&str],
@@ -91,7 +95,7 @@ pub fn check<F: ReadFiles, W: Write>(
 {
     let mut outcome = Outcome::Done;
     for directory in directories {
-        let judgement = check_one(alloc, files, directory, out)?;
+        let judgement = check_one(rt, alloc, files, directory, out)?;
         outcome = outcome.after(&judgement);
     }
     Ok(outcome)

@@ -20,10 +20,11 @@ use crate::sending::send;
 use clap::error::ErrorKind;
 use head::Snapshot;
 use matchers::Query;
-use query_http::{AuditedAnswer, answer, body};
+use query_http::{AuditedAnswer, answer_by_workers, body};
 use std::alloc::{AllocError, Global};
 use std::io::{self, Read, Write};
 use std::sync::Wait;
+use std::thread::Threads;
 
 /// The text of an answer, and a line feed.
 fn line_of(alloc: Global, answer: &AuditedAnswer) -> Result<Vec<u8>, AllocError>
@@ -34,8 +35,9 @@ fn line_of(alloc: Global, answer: &AuditedAnswer) -> Result<Vec<u8>, AllocError>
     Ok(line)
 }
 
-/// Writes the audited answer to a query as one line, and nothing else.
-pub fn write_answer<W: Write>(
+/// Writes the audited answer to a query as one line, and nothing else. Each part is searched by a worker of its own.
+pub fn write_answer<T: Threads + Sync, W: Write>(
+    rt: &T,
     alloc: Global,
     snapshot: &Snapshot,
     query: &Query,
@@ -45,7 +47,7 @@ pub fn write_answer<W: Write>(
     ensures faults { IfErr result (λ fault. IsWritingFault fault) }
     ensures kept { IfErr result (λ fault. KeepsAt fault (W.contents out.old) (W.contents out.new)) }
 {
-    let answer = answer(alloc, snapshot, query)?;
+    let answer = answer_by_workers(rt, alloc, snapshot, query)?;
     let line = line_of(alloc, &answer)?;
     send(out, line.as_slice())?;
     Ok(())
@@ -64,7 +66,7 @@ fn demo<R: Wait, W: Write>(rt: &R, alloc: Global, out: &mut W) -> Result<(), Fau
 }
 
 /// Does what a line asks for.
-fn answer_line<Q: Wait, F: ReadFiles, W: Write>(
+fn answer_line<Q: Wait + Threads + Sync, F: ReadFiles, W: Write>(
     rt: &Q,
     alloc: Global,
     files: &F,
@@ -76,14 +78,14 @@ fn answer_line<Q: Wait, F: ReadFiles, W: Write>(
     match line {
         Line::Demo => demo(rt, alloc, out)?,
         Line::Select(selection, directories) => {
-            select(alloc, files, selection, directories.as_slice(), out)?;
+            select(rt, alloc, files, selection, directories.as_slice(), out)?;
         }
-        Line::Check(directories) => return check(alloc, files, directories.as_slice(), out),
+        Line::Check(directories) => return check(rt, alloc, files, directories.as_slice(), out),
     }
     Ok(Outcome::Done)
 }
 
-fn execute<Q: Wait, F: ReadFiles, W: Write>(
+fn execute<Q: Wait + Threads + Sync, F: ReadFiles, W: Write>(
     rt: &Q,
     alloc: Global,
     files: &F,
@@ -142,7 +144,7 @@ fn tell<E: Write>(end: &Result<Outcome, Fault>, to: &mut E) -> io::Result<()>
 /// 0 where it is done; 1 for a refusal, with its code on the second writer, or in the lines of a check; 2 for a fault
 /// of the words, with the usage on the second writer; 3 where a file cannot be read, which is named there, or the first
 /// writer fails; 4 where memory does. Only the store of the demo waits, and for nobody else's threads.
-pub fn run<Q: Wait, F: ReadFiles, R: Read, W: Write, E: Write>(
+pub fn run<Q: Wait + Threads + Sync, F: ReadFiles, R: Read, W: Write, E: Write>(
     rt: &Q,
     alloc: Global,
     files: &F,
