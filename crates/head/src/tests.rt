@@ -1,3 +1,4 @@
+mod cuts;
 mod deletions;
 
 use crate::{AppendError, CommitError, Event, HeadView, MAX_BATCH, PartName, Snapshot, apply};
