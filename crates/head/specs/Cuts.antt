@@ -1,5 +1,6 @@
 -- What a cut leaves of the blocks.
-use Rattle.std.specs.Prelude.{IsTrue, ◌≡◌, ◌≢◌, ◌<◌, ◌⊎◌, ℤ, true, List, [], ◌∷◌, ◌++◌, length, Result, Ok, Err, if◌then◌else◌}
+use Rattle.std.specs.Prelude.{IsTrue}
+use Rattle.std.specs.Prelude.{◌≡◌, ◌≢◌, ◌<◌, ◌⊎◌, ℤ, true, List, [], ◌∷◌, ◌++◌, length, Result, Ok, Err, if◌then◌else◌}
 use Rattle.labels.specs.Contents.{Content, between}
 use Rattle.labels.specs.Rows.{Row, AreRows}
 use Rattle.block_writer.specs.PartRows.{are_part_rows}
@@ -13,7 +14,8 @@ use Rattle.head.specs.Kept.{IsBlockOf}
 abbrev pub leaving : ℤ → SnapshotParts → Content
 leaving t s = between s.floor t (world_of s).content
 
--- rows of the samples that leave: in label order, and as a block from the floor up to the time may have them
+-- rows of the samples that leave: in label order, as a block from the floor up to the time may
+-- have them
 pub record AreLeaving (t : ℤ) (s : SnapshotParts) (rows : List Row) : Type 0 where
   pub exact : AreRows rows (leaving t s)
   pub writable : IsTrue (are_part_rows rows)

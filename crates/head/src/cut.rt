@@ -1,6 +1,7 @@
 //! The step of a cut.
 
-ghost use Rattle.std.specs.Prelude.{◌≡◌, ◌++◌, true, [], ◌∷◌, IfOk, IfErr, OnOk, int_lt, map};
+ghost use Rattle.std.specs.Prelude.{◌≡◌, ◌++◌, true, [], ◌∷◌, Ok, map, int_lt};
+ghost use Rattle.std.specs.Prelude.{IfOk, IfErr, OnOk};
 ghost use Rattle.std.specs.Arc.{arc_value};
 ghost use Rattle.labels.specs.Contents.{is_time, Content};
 ghost use Rattle.labels.specs.Rows.{AreRows};
@@ -17,7 +18,6 @@ ghost use Rattle.head.specs.Removing.{head_cut};
 ghost use Rattle.head.specs.Shown.{series_of, copied_of};
 ghost use Rattle.head.specs.Slots.{series_in_each};
 ghost use Rattle.head.specs.Worlds.{cut, cut_at, cut_off};
-ghost use Rattle.std.specs.Prelude.{Ok};
 
 use crate::draft::{Slot, order_of};
 use crate::error::CommitError;
@@ -51,7 +51,8 @@ fn rows_within(
     from: i64,
     to: i64,
 ) -> Result<Vec<Row>, AllocError>
-    ensures { IfOk result (λ rows. rows.items ≡ rows_within from to (map (λ s. arc_value s) head.now)) }
+    ensures { IfOk result (λ rows.
+        rows.items ≡ rows_within from to (map (λ s. arc_value s) head.now)) }
 {
     let mut rows = Vec::new(alloc);
     for series in head {
@@ -76,7 +77,8 @@ fn leaving(alloc: Global, at: &Snapshot, time: i64) -> Result<Vec<Row>, AllocErr
 fn block_of(alloc: Global, range: Range, rows: &PartRows) -> Result<Block, CommitError>
     requires ranged { IsRange range }
     requires within { AreWithin range rows.now }
-    ensures block { IfOk result (λ b. (c : Content) → AreRows rows.now c → IsBlockOf range.0 range.1 c (part_in b)) }
+    ensures block { IfOk result (λ b. (c : Content)
+        → AreRows rows.now c → IsBlockOf range.0 range.1 c (part_in b)) }
     ensures fit { IfOk result (λ b. files_fit rows.now ≡ true) }
     ensures refused { IfErr result (λ e. IsAnswer e (written_if_fit rows.now)) }
 {
@@ -105,7 +107,8 @@ fn shared(alloc: Global, block: &Block) -> Result<Block, AllocError>
 
 /// The blocks, and one more as the last.
 fn with_block(alloc: Global, blocks: &[Block], last: Block) -> Result<Arc<Vec<Block>>, AllocError>
-    ensures { IfOk result (λ all. map part_in (arc_value all).items ≡ map part_in blocks.now ++ part_in last ∷ []) }
+    ensures { IfOk result (λ all.
+        map part_in (arc_value all).items ≡ map part_in blocks.now ++ part_in last ∷ []) }
 {
     let mut all = Vec::new(alloc);
     for block in blocks {
@@ -115,12 +118,15 @@ fn with_block(alloc: Global, blocks: &[Block], last: Block) -> Result<Arc<Vec<Bl
     Ok(Arc::new(alloc, all)?)
 }
 
-/// The blocks after a cut: as they were where no sample leaves the head, else one more, from the floor up to the time.
+/// The blocks after a cut: as they were where no sample leaves the head, else one more, from the floor
+/// up to the time.
 fn blocks_after(alloc: Global, at: &Snapshot, time: i64) -> Result<Arc<Vec<Block>>, CommitError>
     requires timed { is_time time ≡ true }
     requires up { int_lt at.now.floor time ≡ true }
-    ensures blocks { IfOk result (λ blocks. AreCutBlocks time at.now (map part_in (arc_value blocks).items)) }
-    ensures refused { IfErr result (λ e. IsAnswer e (cut_off fits (world_of at.now) time (leaving time at.now))) }
+    ensures blocks { IfOk result (λ blocks.
+        AreCutBlocks time at.now (map part_in (arc_value blocks).items)) }
+    ensures refused { IfErr result (λ e.
+        IsAnswer e (cut_off fits (world_of at.now) time (leaving time at.now))) }
 {
     let rows = leaving(alloc, at, time)?;
     if rows.is_empty() {
@@ -144,7 +150,8 @@ fn series_from(
 ) -> Result<Vec<Slot>, AllocError>
     requires sound { IsSoundHead floor (map (λ s. arc_value s) head.now) }
     requires up { int_lt floor time ≡ true }
-    ensures { IfOk result (λ slots. series_in_each slots.items ≡ head_cut time (map (λ s. arc_value s) head.now)) }
+    ensures { IfOk result (λ slots.
+        series_in_each slots.items ≡ head_cut time (map (λ s. arc_value s) head.now)) }
 {
     let mut slots = Vec::new(alloc);
     for series in head {
@@ -169,7 +176,8 @@ fn head_from(alloc: Global, at: &Snapshot, time: i64) -> Result<HeadView, AllocE
     HeadView::of_slots(alloc, slots, order, index, 0)
 }
 
-/// The snapshot after a cut, whose floor is the time. The samples before it leave the head for a block of their own.
+/// The snapshot after a cut, whose floor is the time. The samples before it leave the head for a block of
+/// their own.
 pub(crate) fn cut_at(alloc: Global, at: &Snapshot, time: i64) -> Result<Snapshot, CommitError>
     requires { is_time time ≡ true }
     ensures ok { IfOk result (λ s. cut_at fits (world_of at.now) time ≡ Ok (world_of s)) }
