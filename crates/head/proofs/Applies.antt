@@ -1,6 +1,6 @@
 -- From the steps at a head to the step of a commit.
 use Rattle.std.specs.Prelude.{◌≡◌, ℕ, suc, ℤ, ◌+◌, ◌<◌, List, [], ◌∷◌, Result, Ok, Err, refl, length, slice_index_or}
-use Rattle.std.proofs.Common.{sym, ◌∙◌, ap, subst, drop}
+use Rattle.std.proofs.Common.{sym, ◌∙◌, ap, subst, arith, drop}
 use Rattle.std.proofs.Math.Seq.{drop-cons}
 use Rattle.head.specs.declared.error.CommitError.{CommitError}
 use Rattle.head.specs.declared.error.CommitError.TheVariants.{OutOfBounds, OutOfOrder, Duplicate, Limit, CutTooLow, TooManyParts, Seat, Memory}
@@ -14,7 +14,7 @@ use Rattle.head.specs.Taking.{head_added, head_added_each}
 use Rattle.head.proofs.Simulates.{Follows, world_with, follows_batch}
 
 all_of : (s : SnapshotParts) (xs : List (Labels × (ℤ × ℤ))) → IsSound s → Follows s (committed most (world_of s) xs) (head_added_each most s.floor (Ok s.head) 0 xs)
-all_of s xs sound = follows_batch most s xs refl sound
+all_of s xs sound = follows_batch most s xs refl (omega arith) sound
 
 -- an accepted batch
 pub accepted : (s : SnapshotParts) (xs : List (Labels × (ℤ × ℤ))) (new : List HeadSeries) → IsSound s → head_added_each most s.floor (Ok s.head) 0 xs ≡ Ok new →

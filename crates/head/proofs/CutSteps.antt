@@ -1,5 +1,5 @@
 -- The step of a cut.
-use Rattle.std.specs.Prelude.{◌≡◌, ◌≢◌, ◌≤◌, ◌<◌, ℕ, ℤ, ◌+◌, true, false, List, [], ◌∷◌, ◌++◌, Ok, Err, length, nat_le, int_lt, int_le, refl, if◌then◌else◌}
+use Rattle.std.specs.Prelude.{◌≡◌, ◌≢◌, ◌≤◌, ◌<◌, ℕ, ℤ, ◌+◌, true, false, List, [], ◌∷◌, ◌++◌, Result, Ok, Err, length, nat_le, int_lt, int_le, refl, if◌then◌else◌}
 use Rattle.std.proofs.Common.{sym, ◌∙◌, ap, subst, arith, inl, inr}
 use Rattle.std.proofs.lemmas.Bool.Decides.{nat_tests}
 use Rattle.std.proofs.lemmas.Int.{ints}
@@ -7,11 +7,11 @@ use Rattle.labels.specs.Contents.{Content, is_time}
 use Rattle.labels.specs.Rows.{Row, AreRows}
 use Rattle.labels.proofs.RowLaws.{rows_of, rows_of-points_of}
 use Rattle.head.specs.Fits.{files_fit, fits}
-use Rattle.head.specs.Refusals.{limit, cut_too_low, too_many_parts}
+use Rattle.head.specs.Refusals.{Refusal, limit, cut_too_low, too_many_parts}
 use Rattle.head.specs.Worlds.{World, raised, cut_off, cut_at, cut}
 use Rattle.head.specs.Heads.{BlockPart, SnapshotParts, world_of, EndBy, IsSound}
 use Rattle.head.specs.Kept.{KeepsBlocks}
-use Rattle.head.specs.Cuts.{leaving, AreCutBlocks}
+use Rattle.head.specs.Cuts.{leaving, AreCutBlocks, written_if_fit}
 use Rattle.head.specs.Removing.{snapshot_cut}
 use Rattle.head.proofs.Cutting.{IsSoundHead-head_cut, HoldCut, hold_none, hold_more, length-snoc, cut-world_of, none_above_cut}
 
@@ -59,6 +59,19 @@ few_blocks s h = le_false (length s.blocks) h
 -- the rows of a content are those by which it is told whether its files fit
 pub fits_rows : (rows : List Row) (c : Content) → AreRows rows c → fits c ≡ files_fit rows
 fits_rows rows c are = ap files_fit (ap rows_of (sym are.points) ∙ rows_of-points_of rows are.ascending are.full)
+
+-- what a step gives where its rows were written
+abbrev pub past : World → Result (Unit {0}) Refusal → Result World Refusal
+past w (Ok done) = Ok w
+past w (Err e) = Err e
+
+-- where there is room for a block, the step is refused exactly where the rows are not written
+pub off_written : (w : World) (t : ℤ) (c : Content) (rows : List Row) → c ≢ [] → nat_le 63 w.blocks ≡ false → AreRows rows c → cut_off fits w t c ≡ past (record (raised w t) { blocks = w.blocks + 1 }) (written_if_fit rows)
+off_written w t [] rows some room are = absurd (some refl)
+off_written w t (g ∷ gs) rows some room are =
+    ap (λ b. if b then Err too_many_parts else if fits (g ∷ gs) then Ok (record (raised w t) { blocks = w.blocks + 1 }) else Err limit) room
+    ∙ ap (λ b. if b then Ok (record (raised w t) { blocks = w.blocks + 1 }) else Err limit) (fits_rows rows (g ∷ gs) are)
+    ∙ elim (files_fit rows) as (λ b. (if b then Ok (record (raised w t) { blocks = w.blocks + 1 }) else Err limit) ≡ past (record (raised w t) { blocks = w.blocks + 1 }) (if b then Ok tt else Err limit)) [ true ↦ refl | false ↦ refl ]
 
 holds_of : (t : ℤ) (s : SnapshotParts) (blocks : List BlockPart) → AreCutBlocks t s blocks → HoldCut t blocks s
 holds_of t s blocks cases = elim cases [

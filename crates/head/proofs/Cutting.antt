@@ -16,7 +16,7 @@ use Rattle.head.specs.Heads.{HeadSeries, BlockPart, SnapshotParts, newest_in, se
 use Rattle.head.specs.Cuts.{leaving}
 use Rattle.head.specs.Removing.{series_kept, from_on, head_cut, snapshot_cut}
 use Rattle.head.proofs.HeadLaws.{head_points, find-head_points}
-use Rattle.head.proofs.Deleting.{all_filter}
+use Rattle.head.proofs.Deleting.{few_left, all_filter}
 use Rattle.head.proofs.Simulates.{below_of as blocks_of, content-world_of, is_sorted-world_of, sound_at, none_below}
 
 -- a series whose newest sample is below the time has none from it on
@@ -52,6 +52,7 @@ all_passed q (s ∷ ss) = elim (q s) as (λ b. q s ≡ b → T (list_all q (cond
 
 series_cut : (floor t : ℤ) (h : HeadSeries) → IsSoundSeries floor h → IsSoundSeries t (series_kept (from_on t) h)
 series_cut floor t h sound = record {
+  few = let left = few_left (λ s. not (int_lt s.0 t)) h.samples in omega (arith, left, sound.few);
   ascending = is_sorted-where_key int_cmp (λ u. not (int_lt u t)) h.samples sound.ascending;
   above = all_passed (λ s. not (int_lt s.0 t)) h.samples;
   upto = all_filter (λ e. not (int_lt h.newest.0 e.0)) (λ s. not (int_lt s.0 t)) h.samples sound.upto;

@@ -3,7 +3,7 @@ use Rattle.std.specs.Prelude.{◌≡◌, ◌≤◌, ℕ, suc, ℤ, ◌+◌, Bool
 use Rattle.std.specs.List.{list_all}
 use Rattle.std.specs.Ordering.{int_cmp}
 use Rattle.std.specs.FinMap.Entries.{find, is_sorted-where_key}
-use Rattle.std.proofs.Common.{sym, ◌∙◌, ap, subst}
+use Rattle.std.proofs.Common.{sym, ◌∙◌, ap, subst, arith}
 use Rattle.labels.specs.Labels.{Labels, Point, point_cmp, same_labels}
 use Rattle.labels.specs.Parts.{Part, part_kept, over, content_of}
 use Rattle.labels.proofs.Restricting.{kept, find-kept, kept-over}
@@ -51,6 +51,12 @@ deleted-world_of ms a b s =
     ap content_of (parts_of-less p s) ∙ sym (kept-over p (parts_of s) [] tt) in
     λ i. record { content = content_is i; newest = newest-head_kept p s.head i; floor = s.floor; blocks = length-blocks_kept p s.blocks i }
 
+pub few_left : (p : ℤ × ℤ → Bool) (ss : List (ℤ × ℤ)) → length (filter p ss) ≤ length ss
+few_left p [] = omega arith
+few_left p (s ∷ ss) =
+    let rest = few_left p ss in
+    elim (p s) as (λ b. length (cond b (s ∷ filter p ss) (filter p ss)) ≤ suc (length ss)) [ true ↦ omega (arith, rest) | false ↦ omega (arith, rest) ]
+
 pub all_filter : (p q : ℤ × ℤ → Bool) (ss : List (ℤ × ℤ)) → T (list_all p ss) → T (list_all p (filter q ss))
 all_filter p q [] h = tt
 all_filter p q (s ∷ ss) h = elim (q s) as (λ b. T (list_all p (cond b (s ∷ filter q ss) (filter q ss)))) [
@@ -60,6 +66,7 @@ all_filter p q (s ∷ ss) h = elim (q s) as (λ b. T (list_all p (cond b (s ∷ 
 
 series_kept_sound : (floor : ℤ) (p : Point → Bool) (h : HeadSeries) → IsSoundSeries floor h → IsSoundSeries floor (series_kept p h)
 series_kept_sound floor p h sound = record {
+  few = let left = few_left (λ s. p (h.labels, s.0)) h.samples in omega (arith, left, sound.few);
   ascending = is_sorted-where_key int_cmp (λ u. p (h.labels, u)) h.samples sound.ascending;
   above = all_filter (λ e. not (int_lt e.0 floor)) (λ s. p (h.labels, s.0)) h.samples sound.above;
   upto = all_filter (λ e. not (int_lt h.newest.0 e.0)) (λ s. p (h.labels, s.0)) h.samples sound.upto;

@@ -25,4 +25,6 @@ pub mod CutRows
 pub mod Cutting
 pub mod Fitting
 pub mod CutSteps
+pub mod Leaving
+pub mod Renumbering
 pub mod WorkedRows

@@ -1,10 +1,11 @@
 -- The step at a head is the step of its world.
-use Rattle.std.specs.Prelude.{◌≡◌, ℕ, ℤ, ◌+◌, Bool, true, false, cond, not, ◌&&◌, ◌||◌, T, List, [], ◌∷◌, ◌++◌, Option, None, Some, Result, Ok, Err, map, refl, length, nat_le, int_lt, if◌then◌else◌, is_some}
+use Rattle.std.specs.Prelude.{◌≡◌, ◌<◌, ◌≤◌, ℕ, ℤ, ◌+◌, Bool, true, false, cond, not, ◌&&◌, ◌||◌, T, List, [], ◌∷◌, ◌++◌, Option, None, Some, Result, Ok, Err, map, refl, length, nat_le, int_lt, if◌then◌else◌, is_some}
 use Rattle.std.specs.declared.cmp.Ordering.{Ordering}
 use Rattle.std.specs.declared.cmp.Ordering.TheVariants.{Less, Equal, Greater}
 use Rattle.std.specs.Ordering.{int_cmp, int_eq, ordering_then, eq_by_cmp, is_eq}
 use Rattle.std.specs.FinMap.Entries.{find, put, where_key, is_sorted, find-put, is_sorted-put, find-append, find-where_key, is_sorted-where_key}
-use Rattle.std.proofs.Common.{sym, ◌∙◌, ap, subst}
+use Rattle.std.proofs.Common.{sym, ◌∙◌, ap, subst, arith}
+use Rattle.std.proofs.lemmas.Bool.{leb-false}
 use Rattle.std.proofs.lemmas.Cmp.{int_cmp_total}
 use Rattle.labels.specs.Labels.{Labels, Point, labels_cmp, point_cmp, same_labels}
 use Rattle.labels.specs.Contents.{Content, held_from}
@@ -126,20 +127,21 @@ absent-extended k l x (h ∷ hs) other none =
       ]
     ] none refl
 
-abbrev pub IsLater : ℤ × ℤ → HeadSeries → Type 0
-IsLater x h = int_lt h.newest.0 x.0 ≡ true
+-- the sample is later than the newest of the series, which has room for it
+abbrev pub IsNext : ℤ × ℤ → HeadSeries → Type 0
+IsNext x h = (int_lt h.newest.0 x.0 ≡ true) × (length h.samples < 1048576)
 
-pub IsSoundHead-extended : (floor : ℤ) (l : Labels) (x : ℤ × ℤ) (head : List HeadSeries) → int_lt x.0 floor ≡ false → IsSoundHead floor head → IfSeries (IsLater x) (series_at l head) → IsSoundHead floor (extended l x head)
+pub IsSoundHead-extended : (floor : ℤ) (l : Labels) (x : ℤ × ℤ) (head : List HeadSeries) → int_lt x.0 floor ≡ false → IsSoundHead floor head → IfSeries (IsNext x) (series_at l head) → IsSoundHead floor (extended l x head)
 IsSoundHead-extended floor l x [] above sound less = (IsSoundSeries-new floor l x above, refl, tt)
 IsSoundHead-extended floor l x (h ∷ hs) above sound less =
-    elim (same_labels l h.labels) as (λ b. same_labels l h.labels ≡ b → IfSeries (IsLater x) (cond b (Some h) (series_at l hs)) → IsSoundHead floor (cond b (grown x h ∷ hs) (h ∷ extended l x hs))) [
-      | true ↦ λ is less. (IsSoundSeries-grown floor x h above less sound.0, sound.1, sound.2)
+    elim (same_labels l h.labels) as (λ b. same_labels l h.labels ≡ b → IfSeries (IsNext x) (cond b (Some h) (series_at l hs)) → IsSoundHead floor (cond b (grown x h ∷ hs) (h ∷ extended l x hs))) [
+      | true ↦ λ is less. (IsSoundSeries-grown floor x h above less.0 less.1 sound.0, sound.1, sound.2)
       | false ↦ λ is less. (sound.0, absent-extended h.labels l x hs (same_turn h.labels l ∙ is) sound.1, IsSoundHead-extended floor l x hs above sound.2 less)
     ] refl less
 
-none_later : (floor : ℤ) (x : ℤ × ℤ) (o : Option HeadSeries) → IfSeries (IsSoundSeries floor) o → IfSeries (IsLater x) o → find int_cmp x.0 (samples_or o) ≡ None
+none_later : (floor : ℤ) (x : ℤ × ℤ) (o : Option HeadSeries) → IfSeries (IsSoundSeries floor) o → IfSeries (IsNext x) o → find int_cmp x.0 (samples_or o) ≡ None
 none_later floor x None sound less = refl
-none_later floor x (Some h) sound less = missing (λ u. int_lt h.newest.0 u) x.0 h.samples less sound.upto
+none_later floor x (Some h) sound less = missing (λ u. int_lt h.newest.0 u) x.0 h.samples less.0 sound.upto
 
 -- the world and the soundness of what a step gives
 abbrev pub world_with : SnapshotParts → Result (List HeadSeries) Refusal → Result World Refusal
@@ -157,13 +159,14 @@ joined-world_of : (s : SnapshotParts) (l : Labels) (x : ℤ × ℤ) → IsSound 
 unfolding world_of
 joined-world_of s l x sound more none = λ i. record { content = put-world_of s l x sound more none i; newest = with_newest-newest_in l x s.head i; floor = s.floor; blocks = length s.blocks }
 
-joins : (s : SnapshotParts) (l : Labels) (x : ℤ × ℤ) (a b : Bool) → a ≡ b → IsSound s → int_lt x.0 s.floor ≡ false → IfSeries (IsLater x) (series_at l s.head) →
+joins : (s : SnapshotParts) (l : Labels) (x : ℤ × ℤ) (a b : Bool) → a ≡ b → IsSound s → int_lt x.0 s.floor ≡ false → (b ≡ false → IfSeries (IsNext x) (series_at l s.head)) →
     Follows s (if a then Err limit else Ok (joined (world_of s) l x)) (if b then Err limit else Ok (extended l x s.head))
 joins s l x a true e sound above less = (ap (λ c. if c then Err limit else Ok (joined (world_of s) l x)) e, tt)
 joins s l x a false e sound above less =
-    let more : IsSound (record s { head = extended l x s.head }) = record { few = sound.few; time = sound.time; ends = sound.ends; head = IsSoundHead-extended s.floor l x s.head above sound.head less; blocks = sound.blocks } in (
+    let next = less refl in
+    let more : IsSound (record s { head = extended l x s.head }) = record { few = sound.few; time = sound.time; ends = sound.ends; head = IsSoundHead-extended s.floor l x s.head above sound.head next; blocks = sound.blocks } in (
       ap (λ c. if c then Err limit else Ok (joined (world_of s) l x)) e
-          ∙ ap Ok (joined-world_of s l x sound more (none_later s.floor x (series_at l s.head) (sound_at s.floor l s.head sound.head) less)),
+          ∙ ap Ok (joined-world_of s l x sound more (none_later s.floor x (series_at l s.head) (sound_at s.floor l s.head sound.head) next)),
       more,
     )
 
@@ -171,15 +174,15 @@ or_false : (a b : Bool) → b ≡ false → (a || b) ≡ a
 or_false true b e = refl
 or_false false b e = e
 
-follows_after : (most : Limits) (s : SnapshotParts) (at : ℕ) (l : Labels) (x : ℤ × ℤ) → IsSound s → nat_le most.samples 0 ≡ false → int_lt x.0 s.floor ≡ false →
+follows_after : (most : Limits) (s : SnapshotParts) (at : ℕ) (l : Labels) (x : ℤ × ℤ) → IsSound s → nat_le most.samples 0 ≡ false → most.samples ≤ 1048576 → int_lt x.0 s.floor ≡ false →
     (o : Option HeadSeries) → series_at l s.head ≡ o → Follows s (added_after most (world_of s) at l x (known_of o)) (head_added_after most s.head at l x o)
 unfolding world_of
-follows_after most s at l x sound room above None is = joins s l x _ _
+follows_after most s at l x sound room size above None is = joins s l x _ _
     (ap (λ n. nat_le most.series (length (newest_in s.head)) || nat_le most.samples n) (held_from-world_of s l sound ∙ ap (λ o. length (samples_or o)) is)
     ∙ or_false (nat_le most.series (length (newest_in s.head))) _ room
     ∙ ap (nat_le most.series) (length-newest_in s.head))
-    sound above (subst (IfSeries (IsLater x)) (sym is) tt)
-follows_after most s at l x sound room above (Some h) is =
+    sound above (λ _. subst (IfSeries (IsNext x)) (sym is) tt)
+follows_after most s at l x sound room size above (Some h) is =
     elim (int_lt x.0 h.newest.0) as (λ a. int_lt x.0 h.newest.0 ≡ a → Follows s
     (if a then Err (out_of_order at) else if int_eq x.0 h.newest.0 then (if int_eq x.1 h.newest.1 then Ok (world_of s) else Err (duplicate at)) else joined_in most (world_of s) l x (Some h.newest))
     (if a then Err (out_of_order at) else if int_eq x.0 h.newest.0 then (if int_eq x.1 h.newest.1 then Ok s.head else Err (duplicate at)) else if nat_le most.samples (length h.samples) then Err limit else Ok (extended l x s.head))) [
@@ -192,31 +195,32 @@ follows_after most s at l x sound room above (Some h) is =
               | false ↦ (refl, tt)
             ]
             | false ↦ λ q. joins s l x _ _ (ap (nat_le most.samples) (held_from-world_of s l sound ∙ ap (λ o. length (samples_or o)) is))
-                sound above (subst (IfSeries (IsLater x)) (sym is) (later x.0 h.newest.0 p q))
+                sound above (λ left. subst (IfSeries (IsNext x)) (sym is)
+                (later x.0 h.newest.0 p q, let below = leb-false most.samples (length h.samples) left in omega (arith, below, size)))
           ] refl
     ] refl
 
 -- the step at a head is the step of its world
-pub follows : (most : Limits) (s : SnapshotParts) (at : ℕ) (x : Labels × (ℤ × ℤ)) → IsSound s → nat_le most.samples 0 ≡ false → Follows s (added most (world_of s) at x) (head_added most s.floor s.head at x)
+pub follows : (most : Limits) (s : SnapshotParts) (at : ℕ) (x : Labels × (ℤ × ℤ)) → IsSound s → nat_le most.samples 0 ≡ false → most.samples ≤ 1048576 → Follows s (added most (world_of s) at x) (head_added most s.floor s.head at x)
 unfolding world_of head_added
-follows most s at x sound room =
+follows most s at x sound room size =
     elim (int_lt x.1.0 s.floor) as (λ b. int_lt x.1.0 s.floor ≡ b → Follows s
     (if b then Err (out_of_bounds at) else added_after most (world_of s) at x.0 x.1 (find labels_cmp x.0 (newest_in s.head)))
     (if b then Err (out_of_bounds at) else head_added_after most s.head at x.0 x.1 (series_at x.0 s.head))) [
       | true ↦ λ p. (refl, tt)
       | false ↦ λ p. subst (λ k. Follows s (added_after most (world_of s) at x.0 x.1 k) (head_added_after most s.head at x.0 x.1 (series_at x.0 s.head)))
           (sym (find-newest_in x.0 s.head))
-          (follows_after most s at x.0 x.1 sound room p (series_at x.0 s.head) refl)
+          (follows_after most s at x.0 x.1 sound room size p (series_at x.0 s.head) refl)
     ] refl
 
 -- the steps of a batch
-pub follows_each : (most : Limits) (s : SnapshotParts) (at : ℕ) (xs : List (Labels × (ℤ × ℤ))) (r : Result World Refusal) (q : Result (List HeadSeries) Refusal) → nat_le most.samples 0 ≡ false →
+pub follows_each : (most : Limits) (s : SnapshotParts) (at : ℕ) (xs : List (Labels × (ℤ × ℤ))) (r : Result World Refusal) (q : Result (List HeadSeries) Refusal) → nat_le most.samples 0 ≡ false → most.samples ≤ 1048576 →
     Follows s r q → Follows s (added_each most r at xs) (head_added_each most s.floor q at xs)
-follows_each most s at [] r q room f = f
-follows_each most s at (x ∷ xs) r (Err e) room f = (ap (λ k. added_each most k at (x ∷ xs)) f.0, tt)
-follows_each most s at (x ∷ xs) r (Ok head) room f =
-    let rest = follows_each most s (at + 1) xs (added most (world_of (record s { head = head })) at x) (head_added most s.floor head at x) room (follows most (record s { head = head }) at x f.1 room) in
+follows_each most s at [] r q room size f = f
+follows_each most s at (x ∷ xs) r (Err e) room size f = (ap (λ k. added_each most k at (x ∷ xs)) f.0, tt)
+follows_each most s at (x ∷ xs) r (Ok head) room size f =
+    let rest = follows_each most s (at + 1) xs (added most (world_of (record s { head = head })) at x) (head_added most s.floor head at x) room size (follows most (record s { head = head }) at x f.1 room size) in
     (ap (λ k. added_each most k at (x ∷ xs)) f.0 ∙ rest.0, rest.1)
 
-pub follows_batch : (most : Limits) (s : SnapshotParts) (xs : List (Labels × (ℤ × ℤ))) → nat_le most.samples 0 ≡ false → IsSound s → Follows s (committed most (world_of s) xs) (head_added_each most s.floor (Ok s.head) 0 xs)
-follows_batch most s xs room sound = follows_each most s 0 xs (Ok (world_of s)) (Ok s.head) room (refl, sound)
+pub follows_batch : (most : Limits) (s : SnapshotParts) (xs : List (Labels × (ℤ × ℤ))) → nat_le most.samples 0 ≡ false → most.samples ≤ 1048576 → IsSound s → Follows s (committed most (world_of s) xs) (head_added_each most s.floor (Ok s.head) 0 xs)
+follows_batch most s xs room size sound = follows_each most s 0 xs (Ok (world_of s)) (Ok s.head) room size (refl, sound)

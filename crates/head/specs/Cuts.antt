@@ -1,7 +1,10 @@
 -- What a cut leaves of the blocks.
+use Rattle.std.specs.Prelude.{IsTrue}
 use Rattle.std.specs.Prelude.{◌≡◌, ◌≢◌, ◌<◌, ◌⊎◌, ℤ, true, List, [], ◌∷◌, ◌++◌, length, Result, Ok, Err, if◌then◌else◌}
 use Rattle.labels.specs.Contents.{Content, between}
-use Rattle.labels.specs.Rows.{Row}
+use Rattle.labels.specs.Rows.{Row, AreRows}
+use Rattle.block_writer.specs.PartRows.{are_part_rows}
+use Rattle.block_writer.specs.SpellRows.{AreWithin}
 use Rattle.head.specs.Fits.{files_fit, fits}
 use Rattle.head.specs.Refusals.{Refusal, limit}
 use Rattle.head.specs.Heads.{BlockPart, SnapshotParts, world_of}
@@ -10,6 +13,13 @@ use Rattle.head.specs.Kept.{IsBlockOf}
 -- the samples from the floor up to the time, which leave the head
 abbrev pub leaving : ℤ → SnapshotParts → Content
 leaving t s = between s.floor t (world_of s).content
+
+-- rows of the samples that leave: in label order, as a block from the floor up to the time may
+-- have them
+pub record AreLeaving (t : ℤ) (s : SnapshotParts) (rows : List Row) : Type 0 where
+  pub exact : AreRows rows (leaving t s)
+  pub writable : IsTrue (are_part_rows rows)
+  pub within : AreWithin (s.floor, t) rows
 
 -- the blocks and one more, of the samples that leave
 pub record HaveCutBlock (t : ℤ) (s : SnapshotParts) (blocks : List BlockPart) : Type 0 where

@@ -50,8 +50,9 @@ abbrev pub series_at : Labels → List HeadSeries → Option HeadSeries
 series_at l [] = None
 series_at l (h ∷ hs) = if same_labels l h.labels then Some h else series_at l hs
 
--- a head's samples of a series ascend, are at or above the floor, and not above the newest
+-- a head's samples of a series ascend, are at or above the floor, and not above the newest; there are at most 1,048,576
 pub record IsSoundSeries (floor : ℤ) (h : HeadSeries) : Type 0 where
+  pub few : length h.samples ≤ 1048576
   pub ascending : T (is_sorted int_cmp h.samples)
   pub above : T (list_all (λ e. not (int_lt e.0 floor)) h.samples)
   pub upto : T (list_all (λ e. not (int_lt h.newest.0 e.0)) h.samples)

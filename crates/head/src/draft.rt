@@ -4,6 +4,9 @@ ghost use Rattle.std.specs.Prelude.{◌≡◌, ◌<◌, ◌≤◌, ◌+◌, ◌*
 ghost use Rattle.std.specs.Arc.{arc_value};
 ghost use Rattle.std.specs.List.{list_all, Contains};
 ghost use Rattle.labels.specs.Labels.{Labels};
+ghost use Rattle.labels.specs.Parts.{AreDistinct};
+ghost use Rattle.head.specs.declared.TheConstants.{MAX_SERIES};
+ghost use Rattle.head.specs.Heads.{head_part};
 ghost use Rattle.head.specs.Removing.{head_less};
 ghost use Rattle.head.specs.Taking.{head_added, head_added_each, series_added, new_added, grown};
 ghost use Rattle.head.specs.Orders.{sets_of, IsOrder, IsFound, IsRoom};
@@ -126,6 +129,23 @@ fn search(slots: &[Slot], order: &[u32], labels: &LabelSet) -> Result<usize, usi
         }
     }
     Err(low)
+}
+
+/// The places of the series in the order of their label sets, no two of which are the same.
+pub(crate) fn order_of(alloc: Global, slots: &[Slot]) -> Result<Vec<u32>, AllocError>
+    requires few { length slots.now ≤ MAX_SERIES }
+    requires apart { AreDistinct (head_part (series_in_each slots.now)) }
+    ensures { IfOk result (λ order. IsOrder order.items (sets_of (series_in_each slots.now))) }
+{
+    let mut order = Vec::new(alloc);
+    for place in 0..slots.len() {
+        let labels = slots[place].series().labels();
+        match search(&slots[..place], order.as_slice(), labels) {
+            Ok(_) => unreachable!(),
+            Err(position) => order.insert(position, place as u32)?,
+        }
+    }
+    Ok(order)
 }
 
 fn add_known(alloc: Global, slot: &mut Slot, at: usize, sample: Sample) -> Result<u64, CommitError>

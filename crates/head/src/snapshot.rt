@@ -9,6 +9,7 @@ ghost use Rattle.head.specs.Worlds.{stepped, committed};
 ghost use Rattle.head.specs.Answers.{IsAnswer};
 ghost use Rattle.head.specs.Limits.{most};
 
+use crate::cut::cut_at;
 use crate::deletion::deleted_from;
 use crate::draft::{add_each, slots_of};
 use crate::error::CommitError;
@@ -159,7 +160,8 @@ fn committed_to(
 }
 
 /// The snapshot after an event. It shares with the one before what the event leaves alone: a batch copies at most 119
-/// samples for each of its label sets and keeps the blocks. A refusal leaves no trace.
+/// samples for each of its label sets and keeps the blocks; a cut keeps the blocks too, and adds at most one. A refusal
+/// leaves no trace.
 pub fn apply(alloc: Global, at: &Snapshot, event: &Event) -> Result<Snapshot, CommitError>
     ensures ok { IfOk result (λ s. stepped most (world_of at.now) event.now ≡ Ok (world_of s)) }
     ensures refused { IfErr result (λ e. IsAnswer e (stepped most (world_of at.now) event.now)) }
@@ -174,6 +176,6 @@ pub fn apply(alloc: Global, at: &Snapshot, event: &Event) -> Result<Snapshot, Co
                 Err(AllocError) => Err(CommitError::Memory),
             }
         }
-        Kind::Cut(_) => Err(CommitError::Memory),
+        Kind::Cut(time) => cut_at(alloc, at, *time),
     }
 }

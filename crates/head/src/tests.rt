@@ -1,5 +1,6 @@
 //! Batches, and what the heads after them show.
 
+mod cuts;
 mod deletions;
 mod refusals;
 mod rows;
