@@ -1,5 +1,5 @@
 -- The first check of a block's files that fails.
-use Rattle.std.proofs.Common.{◌≡◌, ℕ, ◌≤◌, Bool, true, false, cond, List, [], ◌∷◌, ◌++◌, length, Result, Ok, Err, refl, sym, ap, subst, ◌∙◌, ◌⊎◌, inl, inr}
+use Rattle.std.proofs.Common.{◌≡◌, ℕ, ◌≤◌, Bool, true, false, cond, List, [], ◌∷◌, length, Result, Ok, Err, refl, sym, ap, subst, ◌∙◌, inl, inr}
 use Rattle.std.specs.Prelude.{ℤ, IfErr}
 use Rattle.std.specs.List.{AllByRecursion, list_all}
 use Rattle.std.proofs.lemmas.Bool.{le-leb, leb-true}
@@ -7,7 +7,6 @@ use Rattle.wire.specs.Spelling.{IsBytes}
 use Rattle.wire.proofs.KnownReads.{chosen}
 use Rattle.labels.specs.Parts.{Part}
 use Rattle.chunk_reader.specs.declared.error.ChunkError.{ChunkError}
-use Rattle.chunk_reader.specs.Grammar.{IsSegment}
 use Rattle.chunk_reader.specs.Reading.{opened}
 use Rattle.chunk_reader.proofs.Steps.{bind_ok}
 use Rattle.chunk_reader.proofs.Whole.{segment_takes, segment_again, chunk_takes}
@@ -20,12 +19,11 @@ use Rattle.auditor.specs.declared.walk.error.WalkError.{WalkError}
 use Rattle.auditor.specs.declared.walk.error.WalkError.TheVariants.{Memory, Limit, UnknownSeries}
 use Rattle.auditor.specs.IndexFile.Outcome.{Gives, Fails, of_chunk, of_tombstone}
 use Rattle.auditor.specs.IndexFile.Series.{Series}
-use Rattle.auditor.specs.IndexFile.Whole.{read_of, series_in, indexed_of}
+use Rattle.auditor.specs.IndexFile.Whole.{read_of, indexed_of}
 use Rattle.auditor.specs.IndexFile.Spelled.{IsIndex}
 use Rattle.auditor.specs.BlockFiles.Samples.{or_none, chunk_read, chunk_samples, samples_in}
 use Rattle.auditor.specs.BlockFiles.Sound.{IsHeld}
 use Rattle.auditor.specs.BlockFiles.Reading.{or_chunks, or_tombstones, each, chunk_check, series_check, is_few, is_known, stored_of, deleted_of, walked_of}
-use Rattle.auditor.specs.BlockFiles.Spelled.{IsWalked}
 use Rattle.auditor.specs.BlockFiles.Checks.{Files, Check, FirstFailing, HasSamples, HasFewSamples, checks, IsRefusal}
 use Rattle.auditor.proofs.IndexFile.WalkLoops.{bind_ok as walk_ok}
 use Rattle.auditor.proofs.IndexFile.Again.{index_again}
@@ -109,9 +107,9 @@ stored_first f e rest ss index_fits fits read h =
           let c = chunks_refused checked e a in
           inl (
             λ o.
-            let same = same_series f ss o.0 index_fits read o.1 in
-            let all = subst (AllByRecursion (HasSamples file)) same o.2 in
-            not_chunks checked tt c.0 (pass_each (series_check file) ss (weaken (HasSamples file) (λ s. series_check file s ≡ Ok tt) (λ s x. samples_pass file s x) ss all)) c.1,
+                let same = same_series f ss o.0 index_fits read o.1 in
+                let all = subst (AllByRecursion (HasSamples file)) same o.2 in
+                not_chunks checked tt c.0 (pass_each (series_check file) ss (weaken (HasSamples file) (λ s. series_check file s ≡ Ok tt) (λ s x. samples_pass file s x) ss all)) c.1,
             (ss, c.0, read.0, c.1, c.2),
           )
       | inr a ↦
@@ -122,12 +120,12 @@ stored_first f e rest ss index_fits fits read h =
             elim (chosen (list_all (is_few file) ss) _ _ _ a.2) [
               | inl b ↦ absurd (ok_not _ _ b.1)
               | inr b ↦ inl (
-                  λ o.
-                  let same = same_series f ss o.0 index_fits read o.1 in
-                  let all = subst (AllByRecursion (HasFewSamples file)) same o.2 in
-                  true_not (list_all (is_few file) ss) (pass_all (is_few file) ss (weaken (HasFewSamples file) (λ s. is_few file s ≡ true) (λ s x. few_pass file s x) ss all)) b.0,
-                  is_refusal (Unit {0}) Limit e b.1,
-                )
+                λ o.
+                    let same = same_series f ss o.0 index_fits read o.1 in
+                    let all = subst (AllByRecursion (HasFewSamples file)) same o.2 in
+                    true_not (list_all (is_few file) ss) (pass_all (is_few file) ss (weaken (HasFewSamples file) (λ s. is_few file s ≡ true) (λ s x. few_pass file s x) ss all)) b.0,
+                is_refusal (Unit {0}) Limit e b.1,
+              )
             ],
           )
     ]
@@ -162,9 +160,9 @@ deleted_first f e ss index_fits fits whole h =
             elim (chosen (list_all (is_known ss) a.0) _ _ _ a.2) [
               | inl b ↦ absurd (ok_not _ _ b.1)
               | inr b ↦ inl (
-                  λ o. not_both (walked_of f.index f.chunks f.tombstones) o.0 e (walk_again f.index f.chunks f.tombstones o.0 index_fits fits o.1) whole,
-                  is_refusal (List Deletion) UnknownSeries e b.1,
-                )
+                λ o. not_both (walked_of f.index f.chunks f.tombstones) o.0 e (walk_again f.index f.chunks f.tombstones o.0 index_fits fits o.1) whole,
+                is_refusal (List Deletion) UnknownSeries e b.1,
+              )
             ],
           )
     ]
@@ -196,9 +194,9 @@ walk_first f e index_fits chunks_fit tombstones_fit h =
                   elim (bind_err (stored_of b.0 ss) _ e b.2) [
                     | inl c ↦ stored_first f e (Check.deletions ∷ Check.known_series ∷ []) ss index_fits chunks_fit (i, a.1) (ap (λ (file : List ℕ). stored_of file ss) (sym same) ∙ c)
                     | inr c ↦ stored_passes f e (Check.deletions ∷ Check.known_series ∷ []) ss chunks_fit (i, a.1) (ap (λ (file : List ℕ). stored_of file ss) (sym same) ∙ c.1) (elim (bind_err (deleted_of f.tombstones ss) _ e c.2) [
-                        | inl d ↦ deleted_first f e ss index_fits tombstones_fit h d
-                        | inr d ↦ absurd (ok_not _ _ d.2)
-                      ])
+                      | inl d ↦ deleted_first f e ss index_fits tombstones_fit h d
+                      | inr d ↦ absurd (ok_not _ _ d.2)
+                    ])
                   ],
                 )
           ])

@@ -1,5 +1,5 @@
 -- The first check of an index that fails, up to its series entries.
-use Rattle.std.proofs.Common.{◌≡◌, ℕ, ◌+◌, ◌-◌, ◌^◌, ◌≤◌, ◌<◌, Bool, true, false, ◌&&◌, cond, ltb, eqb, List, [], ◌∷◌, ◌++◌, length, get_or, take, drop, Result, Ok, Err, refl, sym, ap, subst, ◌∙◌, ◌⊎◌, inl, inr, arith}
+use Rattle.std.proofs.Common.{◌≡◌, ℕ, ◌-◌, ◌^◌, ◌≤◌, ◌<◌, Bool, true, false, ◌&&◌, cond, ltb, eqb, List, [], ◌∷◌, ◌++◌, length, get_or, take, drop, Result, Ok, Err, refl, sym, ap, subst, ◌∙◌, ◌⊎◌, inl, inr, arith}
 use Rattle.std.specs.Prelude.{slice_range, slice_index}
 use Rattle.std.proofs.lemmas.Bool.{ltb-true, ltb-false, eqb-true}
 use Rattle.std.proofs.lemmas.List.{length-drop, get_or-take}
@@ -12,15 +12,14 @@ use Rattle.wire.proofs.Fields.{IsBytes-take, IsBytes-drop, IsBytes-front, IsByte
 use Rattle.wire.proofs.KnownReads.{chosen}
 use Rattle.auditor.specs.declared.walk.contents.Contents.{Contents}
 use Rattle.auditor.specs.declared.walk.error.WalkError.{WalkError}
-use Rattle.auditor.specs.declared.walk.error.WalkError.TheVariants.{TooShort, Magic, Version, ContentsCrc, ContentsOrder, SymbolsCrc, Symbols, SeriesCrc, Limit}
-use Rattle.auditor.specs.IndexFile.Reading.{◌>>=◌, IsPlaced, in_order, has_magic, contents_at, table_of, head_of, frame_at, symbols_of, entries_from, rounded, series_end, Parts, parts_of}
-use Rattle.auditor.specs.IndexFile.Grammar.{checked, frame, contents_text, IsSymbolTable, IsParts}
-use Rattle.auditor.specs.BlockFiles.Checks.{Files, Check, Holds, FirstFailing, HasContents, HasFrame}
-use Rattle.auditor.proofs.IndexFile.WalkLoops.{bind_ok}
+use Rattle.auditor.specs.declared.walk.error.WalkError.TheVariants.{TooShort, Magic, Version, ContentsCrc, ContentsOrder, SymbolsCrc, Limit}
+use Rattle.auditor.specs.IndexFile.Reading.{◌>>=◌, IsPlaced, in_order, has_magic, table_of, head_of, frame_at, symbols_of, entries_from, rounded, series_end, parts_of}
+use Rattle.auditor.specs.IndexFile.Grammar.{checked, frame, contents_text}
+use Rattle.auditor.specs.BlockFiles.Checks.{Files, Check, FirstFailing, HasContents, HasFrame}
 use Rattle.auditor.proofs.IndexFile.Fields.{eqb_same, frame_takes, frame_again}
 use Rattle.auditor.proofs.IndexFile.Head.{head_placed}
 use Rattle.auditor.proofs.IndexFile.Walks.{ok_is, table_takes, table_again}
-use Rattle.auditor.proofs.IndexFile.Whole.{IsHead, starts, contents_takes, head_takes, head_again, omega_length, parts_again}
+use Rattle.auditor.proofs.IndexFile.Whole.{starts, contents_takes, head_takes, head_again, omega_length, parts_again}
 use Rattle.auditor.proofs.IndexFile.Codes.{refused, of_frame, of_symbols, of_entries}
 
 -- ---- refusals
@@ -113,12 +112,12 @@ contents_first f e rest fits long start whole h =
           elim (chosen (eqb (big_number 4 (drop 48 table)) (crc32c (take 48 table))) _ _ _ a) [
             | inl x ↦ absurd (ok_not _ _ x.1)
             | inr x ↦ inl (
-                λ o.
-                let right = sum_right o.0 (contents_fit table o.0 table_fits o.1) in
-                let moved = subst (λ (y : List ℕ). eqb (big_number 4 (drop 48 y)) (crc32c (take 48 y)) ≡ true) (sym o.1) right in
-                true_not _ moved x.0,
-                is_refusal Contents ContentsCrc e x.1,
-              )
+              λ o.
+                  let right = sum_right o.0 (contents_fit table o.0 table_fits o.1) in
+                  let moved = subst (λ (y : List ℕ). eqb (big_number 4 (drop 48 y)) (crc32c (take 48 y)) ≡ true) (sym o.1) right in
+                  true_not _ moved x.0,
+              is_refusal Contents ContentsCrc e x.1,
+            )
           ]
       | inr a ↦
           let t = a.0 in
@@ -128,9 +127,9 @@ contents_first f e rest fits long start whole h =
             elim (chosen (in_order t (length file - 52)) _ _ _ a.2) [
               | inl x ↦ absurd (ok_not _ _ x.1)
               | inr x ↦ inl (
-                  λ o. not_both (head_of file) o.0 e (head_again file o.0 fits (record { start = start; contents = o.1 }) o.2) whole,
-                  is_refusal Contents ContentsOrder e x.1,
-                )
+                λ o. not_both (head_of file) o.0 e (head_again file o.0 fits (record { start = start; contents = o.1 }) o.2) whole,
+                is_refusal Contents ContentsOrder e x.1,
+              )
             ],
           )
     ]
@@ -143,28 +142,28 @@ head_first f e rest fits h =
     elim (chosen (ltb 0x4000_0000 (length file)) _ _ _ h) [
       | inl a ↦ let lt = ltb-true 0x4000_0000 (length file) a.0 in inl (λ le. omega (arith, lt, le), is_refusal Contents Limit e a.1)
       | inr a ↦ inr (
-          ltb-false _ _ a.0,
-          elim (chosen (ltb (length file) 57) _ _ _ a.1) [
-            | inl b ↦ let lt = ltb-true (length file) 57 b.0 in inl (λ le. omega (arith, lt, le), is_refusal Contents TooShort e b.1)
-            | inr b ↦
-                let long : 57 ≤ length file = ltb-false _ _ b.0 in
-                inr (
-                  long,
-                  elim (chosen (has_magic file) _ _ _ b.1) [
-                    | inr m ↦ inl (λ o. true_not (has_magic file) (magic_of file o) m.0, is_refusal Contents Magic e m.1)
-                    | inl m ↦ inr (
-                        magic_is file (omega (arith, long)) m.0,
-                        elim (chosen (eqb (slice_index file 4) 2) _ _ _ m.1) [
-                          | inr v ↦ inl (λ o. true_not _ (version_of file o) v.0, is_refusal Contents Version e v.1)
-                          | inl v ↦
-                              let start = starts file (omega (arith, long)) m.0 v.0 in
-                              inr (start, contents_first f e rest fits long start h v.1)
-                        ],
-                      )
-                  ],
-                )
-          ],
-        )
+        ltb-false _ _ a.0,
+        elim (chosen (ltb (length file) 57) _ _ _ a.1) [
+          | inl b ↦ let lt = ltb-true (length file) 57 b.0 in inl (λ le. omega (arith, lt, le), is_refusal Contents TooShort e b.1)
+          | inr b ↦
+              let long : 57 ≤ length file = ltb-false _ _ b.0 in
+              inr (
+                long,
+                elim (chosen (has_magic file) _ _ _ b.1) [
+                  | inr m ↦ inl (λ o. true_not (has_magic file) (magic_of file o) m.0, is_refusal Contents Magic e m.1)
+                  | inl m ↦ inr (
+                    magic_is file (omega (arith, long)) m.0,
+                    elim (chosen (eqb (slice_index file 4) 2) _ _ _ m.1) [
+                      | inr v ↦ inl (λ o. true_not _ (version_of file o) v.0, is_refusal Contents Version e v.1)
+                      | inl v ↦
+                          let start = starts file (omega (arith, long)) m.0 v.0 in
+                          inr (start, contents_first f e rest fits long start h v.1)
+                    ],
+                  )
+                ],
+              )
+        ],
+      )
     ]
 
 -- a head that was read passes its checks
@@ -203,9 +202,9 @@ parts_first f e rest fits h =
           let bytes = slice_range file 5 t.series in
           head_passes f e (Check.symbols_frame ∷ Check.symbols ∷ Check.entries ∷ rest) t head.start head.contents placed (elim (bind_err (frame_at SymbolsCrc bytes) _ e a.2) [
             | inl b ↦ inl (
-                λ o. let r = frame_read file o.0 t fits a.1 o.1 in not_both (frame_at SymbolsCrc bytes) (o.0, r.0) e r.1 b,
-                sym (of_frame SymbolsCrc bytes e b),
-              )
+              λ o. let r = frame_read file o.0 t fits a.1 o.1 in not_both (frame_at SymbolsCrc bytes) (o.0, r.0) e r.1 b,
+              sym (of_frame SymbolsCrc bytes e b),
+            )
             | inr b ↦
                 let took = frame_takes SymbolsCrc bytes b.0 (IsBytes-take (t.series - 5) (drop 5 file) (IsBytes-drop 5 file fits)) b.1 in
                 let framed : HasFrame file b.0.0 = record { start = head.start; t = t; contents = head.contents; placed = placed; stands = (b.0.1, took.parts) } in
@@ -213,22 +212,22 @@ parts_first f e rest fits h =
                   (b.0.0, framed),
                   elim (bind_err (symbols_of b.0.0) _ e b.2) [
                     | inl c ↦ inl (
-                        λ o.
-                        let r = frame_read file o.0 t fits a.1 o.2 in
-                        let same : o.0 ≡ b.0.0 = ap (λ (x : List ℕ × List ℕ). x.0) (same_value (frame_at SymbolsCrc bytes) (o.0, r.0) b.0 r.1 b.1) in
-                        let read = table_again o.0 o.1 (omega (arith, r.2)) o.3 in
-                        not_both (symbols_of b.0.0) o.1 e (ap symbols_of (sym same) ∙ read) c,
-                        sym (of_symbols b.0.0 e c),
-                      )
+                      λ o.
+                          let r = frame_read file o.0 t fits a.1 o.2 in
+                          let same : o.0 ≡ b.0.0 = ap (λ (x : List ℕ × List ℕ). x.0) (same_value (frame_at SymbolsCrc bytes) (o.0, r.0) b.0 r.1 b.1) in
+                          let read = table_again o.0 o.1 (omega (arith, r.2)) o.3 in
+                          not_both (symbols_of b.0.0) o.1 e (ap symbols_of (sym same) ∙ read) c,
+                      sym (of_symbols b.0.0 e c),
+                    )
                     | inr c ↦
                         let table = table_takes b.0.0 c.0 (content_fits file t b.0.0 b.0.1 fits took.parts) c.1 in
                         inr (
                           (b.0.0, c.0, framed, table),
                           elim (bind_err (entries_from (length file) file (series_end t) (rounded t.series)) _ e c.2) [
                             | inl d ↦ inl (
-                                λ o. not_both (parts_of file) o.0 e (parts_again file o.0 fits o.1) h,
-                                sym (of_entries (length file) file (series_end t) (rounded t.series) e d),
-                              )
+                              λ o. not_both (parts_of file) o.0 e (parts_again file o.0 fits o.1) h,
+                              sym (of_entries (length file) file (series_end t) (rounded t.series) e d),
+                            )
                             | inr d ↦ absurd (ok_not _ _ d.2)
                           ],
                         )

@@ -1,5 +1,5 @@
 -- The first check of an index that fails, from the bodies of its series entries on.
-use Rattle.std.proofs.Common.{◌≡◌, ℕ, ◌+◌, ◌^◌, ◌≤◌, ◌<◌, Bool, true, false, cond, List, [], ◌∷◌, length, get_or, Result, Ok, Err, refl, sym, ap, subst, ◌∙◌, ◌⊎◌, inl, inr, arith}
+use Rattle.std.proofs.Common.{◌≡◌, ℕ, ◌^◌, ◌<◌, Bool, true, false, List, ◌∷◌, length, Ok, Err, refl, sym, subst, inl, inr, arith}
 use Rattle.std.specs.Prelude.{nat_lt}
 use Rattle.std.specs.List.{list_all}
 use Rattle.wire.specs.Spelling.{IsBytes}
@@ -13,7 +13,7 @@ use Rattle.auditor.specs.IndexFile.Each.{each, rises}
 use Rattle.auditor.specs.IndexFile.Flat.{body_of_place, is_before, gaps_zero}
 use Rattle.auditor.specs.IndexFile.Whole.{label_sets, bodies_of, is_small, Read, read_of, series_in, indexed_of}
 use Rattle.auditor.specs.IndexFile.Series as indexes
-use Rattle.auditor.specs.IndexFile.Spelled.{AreBodies, AreInOrder, IsIndex}
+use Rattle.auditor.specs.IndexFile.Spelled.{IsIndex}
 use Rattle.auditor.specs.BlockFiles.Checks.{Files, Check, FirstFailing, HasFrame, HasBodies}
 use Rattle.auditor.proofs.IndexFile.WalkLoops.{bind_ok}
 use Rattle.auditor.proofs.IndexFile.Walks.{ok_is}
@@ -21,7 +21,7 @@ use Rattle.auditor.proofs.IndexFile.Whole.{parts_take, parts_again}
 use Rattle.auditor.proofs.IndexFile.Sound.{few_symbols}
 use Rattle.auditor.proofs.IndexFile.Spelling.{walk_bytes, bodies_spelled}
 use Rattle.auditor.proofs.IndexFile.BodyAgain.{bodies_again}
-use Rattle.auditor.proofs.IndexFile.Facts.{AreRead, bodied, chain, in_order_so, is_index}
+use Rattle.auditor.proofs.IndexFile.Facts.{bodied, chain, in_order_so, is_index}
 use Rattle.auditor.proofs.IndexFile.Again.{walk_sizes, order_again, index_again}
 use Rattle.auditor.proofs.IndexFile.Codes.{of_bodies}
 use Rattle.auditor.proofs.BlockFiles.HeadFirst.{not_both, ok_not, is_refusal, same_value, bind_err, head_passes, parts_first}
@@ -82,12 +82,12 @@ bodies_first f e rest p fits parts h =
       | inr a ↦
           elim (chosen gaps _ _ _ a.2) [
             | inr g ↦ inl (
-                λ o.
-                let b = bodies_are file p o.0 fits parts o.1 in
-                let moved = subst (λ (y : Parts). gaps_zero file (series_end y.contents) y.symbols_end y.entries ≡ true) b.0 o.1.gaps in
-                true_not gaps moved g.0,
-                is_refusal (List Body) Series e g.1,
-              )
+              λ o.
+                  let b = bodies_are file p o.0 fits parts o.1 in
+                  let moved = subst (λ (y : Parts). gaps_zero file (series_end y.contents) y.symbols_end y.entries ≡ true) b.0 o.1.gaps in
+                  true_not gaps moved g.0,
+              is_refusal (List Body) Series e g.1,
+            )
             | inl g ↦
                 let held = has_bodies file p a.0 fits layout a.1 g.0 in
                 inr (
@@ -95,13 +95,13 @@ bodies_first f e rest p fits parts h =
                   elim (chosen (rises is_before (label_sets a.0)) _ _ _ g.1) [
                     | inl r ↦ absurd (ok_not _ _ r.1)
                     | inr r ↦ inl (
-                        λ o.
-                        let b = bodies_are file p o.0 fits parts o.1 in
-                        let same : o.1.bodies ≡ a.0 = same_value read o.1.bodies a.0 b.1 a.1 in
-                        let up = order_again file o.1.parts o.1.bodies o.0 o.1.layout o.1.spelled o.1.series_are o.2 in
-                        true_not _ (subst (λ (bs : List Body). rises is_before (label_sets bs) ≡ true) same up) r.0,
-                        is_refusal (List Body) SeriesOrder e r.1,
-                      )
+                      λ o.
+                          let b = bodies_are file p o.0 fits parts o.1 in
+                          let same : o.1.bodies ≡ a.0 = same_value read o.1.bodies a.0 b.1 a.1 in
+                          let up = order_again file o.1.parts o.1.bodies o.0 o.1.layout o.1.spelled o.1.series_are o.2 in
+                          true_not _ (subst (λ (bs : List Body). rises is_before (label_sets bs) ≡ true) same up) r.0,
+                      is_refusal (List Body) SeriesOrder e r.1,
+                    )
                   ],
                 )
           ]

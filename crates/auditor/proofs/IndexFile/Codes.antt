@@ -1,5 +1,5 @@
 -- Which refusals a reading can answer.
-use Rattle.std.proofs.Common.{◌≡◌, ℕ, zero, suc, ◌-◌, Bool, true, false, cond, ltb, List, [], ◌∷◌, Option, Some, None, Result, Ok, Err, refl, ◌∙◌, ◌⊎◌, inl, inr, eqb}
+use Rattle.std.proofs.Common.{◌≡◌, ℕ, zero, suc, ◌-◌, Bool, true, false, cond, ltb, List, [], ◌∷◌, Option, Some, None, Result, Ok, Err, refl, ◌∙◌, inl, inr, eqb}
 use Rattle.std.specs.Prelude.{slice_range}
 use Rattle.wire.specs.declared.error.WireError.{WireError}
 use Rattle.wire.specs.Reading.{number_at, bytes_at, uvarint_at}
@@ -7,10 +7,10 @@ use Rattle.wire.proofs.KnownReads.{chosen}
 use Rattle.auditor.specs.declared.walk.chunk.Chunk.{Chunk}
 use Rattle.auditor.specs.declared.walk.error.WalkError.{WalkError}
 use Rattle.auditor.specs.declared.walk.error.WalkError.TheVariants.{Symbols, SeriesCrc, Series}
-use Rattle.auditor.specs.IndexFile.Reading.{◌>>=◌, or_refused, checked_at, frame_at, symbol_at, symbols_from, symbols_of, entry_at, entries_from, rounded, Place}
+use Rattle.auditor.specs.IndexFile.Reading.{◌>>=◌, or_refused, checked_at, frame_at, symbol_at, symbols_from, symbols_of, entry_at, entries_from, Place}
 use Rattle.auditor.specs.IndexFile.Steps.{steps}
 use Rattle.auditor.specs.IndexFile.Each.{each}
-use Rattle.auditor.specs.IndexFile.Bodies.{Label, Body, label_at, labels_at, or_series, chunk_at, behind, chunks_at, body_at}
+use Rattle.auditor.specs.IndexFile.Bodies.{label_at, labels_at, or_series, chunk_at, behind, chunks_at, body_at}
 use Rattle.auditor.specs.IndexFile.Chunks.{first_at, later_at}
 use Rattle.auditor.specs.IndexFile.Flat.{body_of_place}
 

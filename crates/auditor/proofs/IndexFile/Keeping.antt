@@ -1,9 +1,7 @@
 -- What is kept of an index that was checked.
-use Rattle.std.proofs.Common.{◌≡◌, ℕ, zero, suc, ◌+◌, ◌<◌, ◌≤◌, List, [], ◌∷◌, length, get_or, Some, true, Ok, refl, sym, ap, subst, ◌∙◌, arith}
+use Rattle.std.proofs.Common.{◌≡◌, ℕ, zero, suc, ◌<◌, List, [], ◌∷◌, length, get_or, Some, true, Ok, refl, ap, subst, arith}
 use Rattle.std.specs.Prelude.{slice_get}
-use Rattle.std.specs.List.{All}
 use Rattle.std.proofs.lemmas.List.{length-map, get_or-map}
-use Rattle.wire.specs.Spelling.{IsBytes}
 use Rattle.labels.specs.LabelSets.{IsLabelSet}
 use Rattle.auditor.specs.declared.walk.error.WalkError.{WalkError}
 use Rattle.auditor.specs.declared.walk.checked.Checked.{Checked}
@@ -15,15 +13,13 @@ use Rattle.auditor.specs.IndexFile.Reading.{Place, ascending}
 use Rattle.auditor.specs.IndexFile.Seen.{place, places, texts}
 use Rattle.auditor.specs.IndexFile.Bodies.{Label, Body}
 use Rattle.auditor.specs.IndexFile.Labelled.{AreLabels}
-use Rattle.auditor.specs.IndexFile.Flat.{body_in, bodies_in, body_of_place}
+use Rattle.auditor.specs.IndexFile.Flat.{body_in, bodies_in}
 use Rattle.auditor.specs.IndexFile.Whole.{read_of, series_in, indexed_of}
 use Rattle.auditor.specs.IndexFile.Series.{Series, named, series_at, series_of}
-use Rattle.auditor.specs.IndexFile.Spelled.{IsIndex}
 use Rattle.auditor.specs.IndexFile.Kept.{read_seen, series_seen, IsHeldIn, AreInTable, IsKept}
 use Rattle.auditor.proofs.IndexFile.WalkLoops.{fails_on}
-use Rattle.auditor.proofs.IndexFile.Walks.{done}
 use Rattle.auditor.proofs.IndexFile.Naming.{first_below, bodies_take, is_label_set}
-use Rattle.auditor.proofs.IndexFile.Facts.{chain, few_labels, series_length, is_index}
+use Rattle.auditor.proofs.IndexFile.Facts.{chain, few_labels, series_length}
 use Rattle.auditor.proofs.IndexFile.Places.{mapped_at, stands_at}
 
 -- ---- the series at a place

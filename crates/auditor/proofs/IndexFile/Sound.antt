@@ -1,9 +1,9 @@
 -- What the first checks say of numbers, and what later checks need.
-use Rattle.std.proofs.Common.{◌≡◌, ℕ, zero, suc, ◌+◌, ◌^◌, ◌<◌, ◌≤◌, Bool, true, ◌&&◌, List, [], ◌∷◌, ◌++◌, length, get_or, drop, Some, Result, Ok, Err, refl, sym, ap, ◌∙◌, append_assoc, arith}
+use Rattle.std.proofs.Common.{◌≡◌, ℕ, zero, suc, ◌+◌, ◌^◌, ◌<◌, ◌≤◌, Bool, true, ◌&&◌, List, [], ◌∷◌, length, get_or, drop, Some, Result, Ok, Err, refl, sym, ap, ◌∙◌, arith}
 use Rattle.std.specs.Prelude.{slice_range, slice_get, IfOk}
 use Rattle.std.specs.List.{flat_map, list_all}
 use Rattle.std.specs.Borrow.{Bor}
-use Rattle.std.proofs.lemmas.List.{length-map, length-append, drop_all, append-nil}
+use Rattle.std.proofs.lemmas.List.{length-map, length-append, drop_all}
 use Rattle.byteorder.specs.Endian.{big_bytes}
 use Rattle.auditor.specs.declared.walk.error.WalkError.{WalkError}
 use Rattle.auditor.specs.declared.walk.entries.Entry.{Entry}
@@ -14,12 +14,10 @@ use Rattle.auditor.specs.IndexFile.Reading.{Parts, rounded, series_end}
 use Rattle.auditor.specs.IndexFile.Grammar.{entry, symbol, IsWalk, IsParts}
 use Rattle.auditor.specs.IndexFile.Seen.{places, seen}
 use Rattle.auditor.specs.IndexFile.Bodies.{Label}
-use Rattle.auditor.specs.IndexFile.Each.{each}
 use Rattle.auditor.specs.IndexFile.Flat.{body_in, bodies_in, label_sets_in, AllIn, AreInside}
 use Rattle.auditor.specs.IndexFile.Whole.{label_sets}
 use Rattle.auditor.specs.IndexFile.Sound.{IsSound}
-use Rattle.auditor.proofs.IndexFile.WalkLoops.{bind_ok}
-use Rattle.auditor.proofs.IndexFile.Walks.{flat_long, ok_is}
+use Rattle.auditor.proofs.IndexFile.Walks.{flat_long}
 use Rattle.auditor.proofs.IndexFile.Whole.{omega_length, end_inside}
 use Rattle.auditor.proofs.IndexFile.Eaches.{drop_at_place}
 

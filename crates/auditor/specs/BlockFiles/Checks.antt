@@ -1,5 +1,5 @@
 -- The checks of the walk, one by one in their order, and the first that fails.
-use Rattle.std.specs.Prelude.{◌≡◌, ◌⊎◌, ℕ, ◌+◌, ◌-◌, ◌<◌, ◌≤◌, true, ℤ, List, [], ◌∷◌, length, take, drop, Err}
+use Rattle.std.specs.Prelude.{◌≡◌, ◌⊎◌, ℕ, ◌-◌, ◌≤◌, true, ℤ, List, [], ◌∷◌, length, take, drop, Err}
 use Rattle.std.specs.List.{AllByRecursion}
 use Rattle.labels.specs.Parts.{Part}
 use Rattle.chunk_reader.specs.declared.error.ChunkError.{ChunkError}

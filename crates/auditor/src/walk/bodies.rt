@@ -85,7 +85,11 @@ pub(crate) fn row_at(rows: &[Span], i: usize) -> Span
     rows[i]
 }
 
-pub(crate) fn label_set_at<'a>(labels: &'a [(u32, u32)], rows: &[Span], i: usize) -> &'a [(u32, u32)]
+pub(crate) fn label_set_at<'a>(
+    labels: &'a [(u32, u32)],
+    rows: &[Span],
+    i: usize,
+) -> &'a [(u32, u32)]
     requires inside { AreInside labels.now rows.now }
     requires i_in { i < length rows.now }
     ensures { slice_get (label_sets_in labels.now rows.now) i ≡ Some result.now }
