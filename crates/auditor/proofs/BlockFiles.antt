@@ -9,3 +9,6 @@ pub mod Found
 pub mod Only
 pub mod Parts
 pub mod Rows
+pub mod HeadFirst
+pub mod IndexFirst
+pub mod FilesFirst

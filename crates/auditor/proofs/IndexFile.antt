@@ -21,3 +21,4 @@ pub mod Facts
 pub mod Again
 pub mod Places
 pub mod Keeping
+pub mod Codes

@@ -3,3 +3,4 @@ pub mod Sound
 pub mod Reading
 pub mod Spelled
 pub mod Outcome
+pub mod Checks

@@ -6,8 +6,11 @@
 //! exactly where the query selects nothing of the part (`F9`), [`audit_merge`] exactly where rows are those of all that
 //! several answers list, the value listed last at each point (`F10`). So a certificate that it accepts is least.
 //!
-//! A [`Table`] is the part. The crate stands on `labels`, `matchers` and the types and definitions of `cover`, and
-//! shares no search, no merge and no walk of certificates with the store whose answers it judges.
+//! A [`Table`] is the part. [`Table::walk`] reads it from an index, a chunks file and a file of deletions, without the
+//! postings, exactly where these spell one (`IsWalked`), and else names the first check that fails; [`WalkError`] has
+//! the codes. The crate stands on `labels`, `matchers`, `wire`, `chunk_reader`, `tombstones` and the types and
+//! definitions of `cover`, and shares no reader of an index, no search, no merge and no walk of certificates with the
+//! store whose answers it judges.
 #![tactic(auto)]
 
 mod answer;

@@ -65,7 +65,7 @@ are_rows file deletions (s ∷ ss) held few = (
 
 -- the head of the chunks file
 
-opened_same : (file x : List ℕ) → opened file ≡ Ok x → x ≡ file
+pub opened_same : (file x : List ℕ) → opened file ≡ Ok x → x ≡ file
 unfolding opened
 opened_same file x h =
     let a = kept (ltb 0x4000_0000 (length file)) Shape _ x h in

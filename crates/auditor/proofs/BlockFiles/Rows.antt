@@ -1,7 +1,7 @@
 -- Samples that are taken chunk by chunk, and rows series by series.
-use Rattle.std.proofs.Common.{◌≡◌, ℕ, zero, suc, ◌+◌, ◌<◌, ◌≤◌, Bool, true, false, cond, List, [], ◌∷◌, ◌++◌, length, drop, Some, Result, Ok, Err, refl, sym, ap, subst, ◌∙◌, append_assoc, arith}
-use Rattle.std.specs.Prelude.{ℤ, map, not, slice_get, IfOk}
-use Rattle.std.specs.List.{filter, flat_map, AllByRecursion}
+use Rattle.std.proofs.Common.{◌≡◌, ℕ, zero, suc, ◌+◌, ◌≤◌, Bool, true, false, cond, List, [], ◌∷◌, ◌++◌, length, drop, Some, Result, Ok, sym, ap, subst, ◌∙◌, append_assoc}
+use Rattle.std.specs.Prelude.{ℤ, not, slice_get}
+use Rattle.std.specs.List.{AllByRecursion}
 use Rattle.std.proofs.lemmas.List.{drop_all, append-nil}
 use Rattle.std.proofs.lemmas.List.Elements.{filter-append}
 use Rattle.labels.specs.Labels.{Labels}
@@ -11,11 +11,9 @@ use Rattle.tombstones.specs.declared.deletion.Deletion.{Deletion}
 use Rattle.tombstones.specs.Covering.{covered}
 use Rattle.auditor.specs.declared.walk.chunk.Chunk.{Chunk}
 use Rattle.auditor.specs.declared.walk.error.WalkError.{WalkError}
-use Rattle.auditor.specs.declared.walk.error.WalkError.TheVariants.{Memory}
 use Rattle.auditor.specs.IndexFile.Outcome.{Gives}
 use Rattle.auditor.specs.IndexFile.Series.{Series, references, label_sets, chunk_lists}
-use Rattle.auditor.specs.BlockFiles.Samples.{chunk_samples, samples_in, undeleted, row_of, part_of}
-use Rattle.auditor.specs.BlockFiles.Reading.{walked_of}
+use Rattle.auditor.specs.BlockFiles.Samples.{chunk_samples, samples_in, undeleted, part_of}
 use Rattle.auditor.proofs.BlockFiles.Steps.{from_place}
 
 abbrev pub is_kept : List Deletion → ℕ → ℤ × ℤ → Bool

@@ -11,15 +11,15 @@ use Rattle.wire.specs.Spelling.{IsBytes, uvarint}
 use Rattle.wire.specs.Checksum.{crc32c}
 use Rattle.labels.specs.Labels.{labels_cmp}
 use Rattle.auditor.specs.IndexFile.Reading.{Place, Parts, ascending, rounded, series_end, parts_of}
-use Rattle.auditor.specs.IndexFile.Grammar.{entry, IsWalk}
+use Rattle.auditor.specs.IndexFile.Grammar.{entry, IsWalk, IsParts}
 use Rattle.auditor.specs.IndexFile.Bodies.{Label, Body}
 use Rattle.auditor.specs.IndexFile.Each.{each, rises}
 use Rattle.auditor.specs.IndexFile.Flat.{body_of_place, is_before, gaps_zero}
 use Rattle.auditor.specs.IndexFile.Labelled.{AreLabels}
 use Rattle.auditor.specs.IndexFile.Whole.{label_sets, bodies_of, is_small, Read, read_of, series_in, indexed_of}
-use Rattle.auditor.specs.IndexFile.Series.{Series, named}
+use Rattle.auditor.specs.IndexFile.Series.{Series, named, series_of}
 use Rattle.auditor.specs.IndexFile.Series as indexes
-use Rattle.auditor.specs.IndexFile.Spelled.{AreBodies, IsIndex}
+use Rattle.auditor.specs.IndexFile.Spelled.{AreBodies, AreInOrder, IsIndex}
 use Rattle.auditor.proofs.IndexFile.Walks.{done}
 use Rattle.auditor.proofs.IndexFile.Whole.{parts_again}
 use Rattle.auditor.proofs.IndexFile.Sound.{few_symbols}
@@ -40,7 +40,7 @@ bodies_labelled symbols (p ∷ ps) [] h j d lt = absurd h
 bodies_labelled symbols (p ∷ ps) (b ∷ bs) h zero d lt = h.0.labels
 bodies_labelled symbols (p ∷ ps) (b ∷ bs) h (suc j) d lt = bodies_labelled symbols ps bs h.1 j d (omega arith)
 
-walk_sizes : (ps : List Place) (file : List ℕ) (end at : ℕ) → length file < 2 ^ 32 → IsWalk file end at ps → AllByRecursion (λ p. length p.body < 2 ^ 32) ps
+pub walk_sizes : (ps : List Place) (file : List ℕ) (end at : ℕ) → length file < 2 ^ 32 → IsWalk file end at ps → AllByRecursion (λ p. length p.body < 2 ^ 32) ps
 walk_sizes [] file end at small w = tt
 walk_sizes (p ∷ ps) file end at small w =
     let a = ap (λ (x : List ℕ). length x) w.2.1 in
@@ -80,6 +80,20 @@ series_read : (file : List ℕ) (r : Read) (x : List Series) → read_of file �
 unfolding indexed_of
 series_read file r x h e = rw h (ap (λ (y : List Series). done y) e)
 
+-- series in order have bodies in order
+pub order_again : (file : List ℕ) (p : Parts) (bs : List Body) (ss : List Series) → IsParts file p → AreBodies p.symbols p.entries bs → ss ≡ series_of p.symbols p.entries bs → AreInOrder ss → rises is_before (label_sets bs) ≡ true
+order_again file p bs ss layout spelled series_are in_order =
+    let symbols = p.symbols in
+    let order : ascending symbols ≡ true = layout.symbols.2.order in
+    let count = bodies_count symbols p.entries bs spelled in
+    let labelled = bodies_labelled symbols p.entries bs spelled in
+    let sets = ap (λ (xs : List Series). indexes.label_sets xs) series_are ∙ sets_are symbols p.entries bs count in
+    let length_is : length ss ≡ length bs = ap (λ (xs : List Series). length xs) series_are ∙ series_length symbols p.entries bs count in
+    let n = length-map bs (λ (b : Body). b.labels) in
+    sets_again symbols (label_sets bs) order
+    (λ j d lj. let o = set_at bs j d lj in subst (InTable symbols) (sym o.1) (in_table symbols 0 (get_or bs j o.0).labels (labelled j o.0 o.2)))
+    (λ k lt. subst (λ (xs : List (List (List ℕ × List ℕ))). labels_cmp (get_or xs k []) (get_or xs (k + 1) []) ≡ Less) sets (in_order k (omega (arith, lt, n, length_is))))
+
 pub index_again : (file : List ℕ) (x : List Series) → IsBytes file → IsIndex file x → indexed_of file ≡ Ok x
 index_again file x fits i =
     let p = i.parts in
@@ -87,19 +101,10 @@ index_again file x fits i =
     let bs = i.bodies in
     let t = p.contents in
     let small : length file < 2 ^ 32 = omega (arith, i.layout.placed.short) in
-    let order : ascending symbols ≡ true = i.layout.symbols.2.order in
-    let few = few_symbols file p i.layout in
     let count = bodies_count symbols p.entries bs i.spelled in
-    let labelled = bodies_labelled symbols p.entries bs i.spelled in
-    let a = bodies_again symbols p.entries bs few (walk_sizes p.entries file (series_end t) (rounded t.series) small i.layout.entries) i.spelled in
-    let sets = ap (λ (ss : List Series). indexes.label_sets ss) i.series_are ∙ sets_are symbols p.entries bs count in
+    let a = bodies_again symbols p.entries bs (few_symbols file p i.layout) (walk_sizes p.entries file (series_end t) (rounded t.series) small i.layout.entries) i.spelled in
     let length_is : length x ≡ length bs = ap (λ (ss : List Series). length ss) i.series_are ∙ series_length symbols p.entries bs count in
-    let n = length-map bs (λ (b : Body). b.labels) in
-    let rising = sets_again symbols (label_sets bs) order
-    (λ j d lj. let o = set_at bs j d lj in subst (InTable symbols) (sym o.1) (in_table symbols 0 (get_or bs j o.0).labels (labelled j o.0 o.2)))
-    (λ k lt. subst (λ (ss : List (List (List ℕ × List ℕ))). labels_cmp (get_or ss k []) (get_or ss (k + 1) []) ≡ Less) sets (i.in_order k (omega (arith, lt, n, length_is)))) in
-    let b = bodies_read file p bs a i.gaps rising in
+    let b = bodies_read file p bs a i.gaps (order_again file p bs x i.layout i.spelled i.series_are i.in_order) in
     let e = le-ltb 1048576 (length bs) (omega (arith, length_is, i.few)) in
-    let f = small_sets bs i.few_labels in
-    let r = whole_read file p bs (parts_again file p fits i.layout) b e f in
+    let r = whole_read file p bs (parts_again file p fits i.layout) b e (small_sets bs i.few_labels) in
     series_read file (record { parts = p; bodies = bs }) x r (sym i.series_are)

@@ -56,7 +56,7 @@ pub record Chain (file : List ℕ) (r : Read) : Type 0 where
   pub few : length r.bodies ≤ 1048576
   pub small : list_all is_small (label_sets r.bodies) ≡ true
 
-bodied : (file : List ℕ) (p : Parts) (bs : List Body) → bodies_of file p ≡ Ok bs → AreRead file p bs
+pub bodied : (file : List ℕ) (p : Parts) (bs : List Body) → bodies_of file p ≡ Ok bs → AreRead file p bs
 unfolding bodies_of
 bodied file p bs h =
     let e = bind_ok (each (body_of_place p.symbols) p.entries) _ bs h in
@@ -154,6 +154,18 @@ set_at [] k d lt = absurd (omega arith)
 set_at (b ∷ bs) zero d lt = (b, refl, omega arith)
 set_at (b ∷ bs) (suc k) d lt = let r = set_at bs k d (omega arith) in (r.0, r.1, omega (arith, r.2))
 
+-- bodies that were read are in the order of their label sets
+pub in_order_so : (file : List ℕ) (p : Parts) (bs : List Body) → IsParts file p → AreRead file p bs → AreInOrder (series_of p.symbols p.entries bs)
+in_order_so file p bs layout r =
+    let symbols = p.symbols in
+    let order : ascending symbols ≡ true = layout.symbols.2.order in
+    let labelled = bodies_take symbols p.entries bs r.read in
+    let size = each_length (body_of_place symbols) p.entries bs r.read in
+    let sets = sets_are symbols p.entries bs size in
+    let count = series_length symbols p.entries bs size in
+    λ k lt. subst (λ (ss : List (List (List ℕ × List ℕ))). labels_cmp (get_or ss k []) (get_or ss (k + 1) []) ≡ Less) (sym sets)
+    (sets_rise symbols (label_sets bs) order (λ j d lj. let o = set_at bs j d lj in subst (InTable symbols) (sym o.1) (in_table symbols 0 (get_or bs j o.0).labels (labelled j o.0 o.2))) r.rising k (omega (arith, lt, count, length-map bs (λ (b : Body). b.labels))))
+
 -- ---- all of it
 
 pub is_index : (file : List ℕ) (r : Read) → IsBytes file → IsParts file r.parts → read_of file ≡ Ok r → IsIndex file (series_in r)
@@ -161,10 +173,7 @@ is_index file r fits p h =
     let c = chain file r h in
     let symbols = r.parts.symbols in
     let entries = r.parts.entries in
-    let order : ascending symbols ≡ true = p.symbols.2.order in
-    let labelled = bodies_take symbols entries r.bodies c.bodies.read in
     let size = each_length (body_of_place symbols) entries r.bodies c.bodies.read in
-    let sets = sets_are symbols entries r.bodies size in
     let count = series_length symbols entries r.bodies size in
     record {
       parts = r.parts;
@@ -173,8 +182,7 @@ is_index file r fits p h =
       spelled = bodies_spelled symbols entries r.bodies (walk_bytes entries file (series_end r.parts.contents) (rounded r.parts.contents.series) fits p.entries) c.bodies.read;
       gaps = c.bodies.gaps;
       series_are = refl;
-      in_order = λ k lt. subst (λ (ss : List (List (List ℕ × List ℕ))). labels_cmp (get_or ss k []) (get_or ss (k + 1) []) ≡ Less) (sym sets)
-          (sets_rise symbols (label_sets r.bodies) order (λ j d lj. let o = set_at r.bodies j d lj in subst (InTable symbols) (sym o.1) (in_table symbols 0 (get_or r.bodies j o.0).labels (labelled j o.0 o.2))) c.bodies.rising k (omega (arith, lt, count, length-map r.bodies (λ (b : Body). b.labels))));
+      in_order = in_order_so file r.parts r.bodies p c.bodies;
       few = omega (arith, count, c.few);
       few_labels = λ k d lt. few_labels r.bodies k d c.small lt;
     }

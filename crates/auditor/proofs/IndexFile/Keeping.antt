@@ -1,13 +1,11 @@
 -- What is kept of an index that was checked.
-use Rattle.std.proofs.Common.{◌≡◌, ℕ, zero, suc, ◌+◌, ◌<◌, ◌≤◌, List, [], ◌∷◌, length, get_or, Some, true, Ok, refl, sym, ap, subst, ◌∙◌, arith}
+use Rattle.std.proofs.Common.{◌≡◌, ℕ, zero, suc, ◌<◌, List, [], ◌∷◌, length, get_or, Some, true, Ok, refl, ap, subst, arith}
 use Rattle.std.specs.Prelude.{slice_get}
-use Rattle.std.specs.List.{All}
 use Rattle.std.proofs.lemmas.List.{length-map, get_or-map}
-use Rattle.wire.specs.Spelling.{IsBytes}
 use Rattle.labels.specs.LabelSets.{IsLabelSet}
 use Rattle.auditor.specs.declared.walk.error.WalkError.{WalkError}
 use Rattle.auditor.specs.declared.walk.checked.Checked.{Checked}
-use Rattle.auditor.specs.declared.walk.bodies.Row.{Row}
+use Rattle.auditor.specs.declared.walk.bodies.Span.{Span}
 use Rattle.auditor.specs.declared.walk.entries.Entry.{Entry}
 use Rattle.auditor.specs.declared.walk.chunk.Chunk.{Chunk}
 use Rattle.auditor.specs.IndexFile.Outcome.{Fails}
@@ -15,15 +13,13 @@ use Rattle.auditor.specs.IndexFile.Reading.{Place, ascending}
 use Rattle.auditor.specs.IndexFile.Seen.{place, places, texts}
 use Rattle.auditor.specs.IndexFile.Bodies.{Label, Body}
 use Rattle.auditor.specs.IndexFile.Labelled.{AreLabels}
-use Rattle.auditor.specs.IndexFile.Flat.{body_in, bodies_in, body_of_place}
+use Rattle.auditor.specs.IndexFile.Flat.{body_in, bodies_in}
 use Rattle.auditor.specs.IndexFile.Whole.{read_of, series_in, indexed_of}
 use Rattle.auditor.specs.IndexFile.Series.{Series, named, series_at, series_of}
-use Rattle.auditor.specs.IndexFile.Spelled.{IsIndex}
 use Rattle.auditor.specs.IndexFile.Kept.{read_seen, series_seen, IsHeldIn, AreInTable, IsKept}
 use Rattle.auditor.proofs.IndexFile.WalkLoops.{fails_on}
-use Rattle.auditor.proofs.IndexFile.Walks.{done}
 use Rattle.auditor.proofs.IndexFile.Naming.{first_below, bodies_take, is_label_set}
-use Rattle.auditor.proofs.IndexFile.Facts.{chain, few_labels, series_length, is_index}
+use Rattle.auditor.proofs.IndexFile.Facts.{chain, few_labels, series_length}
 use Rattle.auditor.proofs.IndexFile.Places.{mapped_at, stands_at}
 
 -- ---- the series at a place
@@ -46,7 +42,7 @@ rows_long c x k view =
     let long = series_length (texts c.layout.symbols.items) (places c.layout.entries.items) bs (omega (arith, n, m, k.counted)) in
     omega (arith, n, long, ap (λ (ss : List Series). length ss) view)
 
-pub series_stands : (c : Checked) (x : List Series) (i : ℕ) (r : Row) (p : Place) → series_seen c ≡ x → slice_get c.bodies.rows.items i ≡ Some r → slice_get (places c.layout.entries.items) i ≡ Some p
+pub series_stands : (c : Checked) (x : List Series) (i : ℕ) (r : Span) (p : Place) → series_seen c ≡ x → slice_get c.bodies.rows.items i ≡ Some r → slice_get (places c.layout.entries.items) i ≡ Some p
     → slice_get x i ≡ Some (series_at (texts c.layout.symbols.items) p (body_in c.bodies.labels.items c.bodies.chunks.items r))
 series_stands c x i r p view g h =
     let ls = c.bodies.labels.items in
@@ -55,13 +51,13 @@ series_stands c x i r p view g h =
     subst (λ (ss : List Series). slice_get ss i ≡ Some (series_at symbols p (body_in ls cs r))) view
     (series_here symbols (places c.layout.entries.items) (bodies_in ls cs c.bodies.rows.items) i p (body_in ls cs r) h (mapped_at (body_in ls cs) c.bodies.rows.items i r g))
 
-pub row_inside : (c : Checked) (x : List Series) (i : ℕ) (rows : List Row) → IsKept c → series_seen c ≡ x → i < length x → rows ≡ c.bodies.rows.items → i < length rows
-row_inside c x i rows k view lt e = omega (arith, lt, rows_long c x k view, ap (λ (rs : List Row). length rs) e)
+pub row_inside : (c : Checked) (x : List Series) (i : ℕ) (rows : List Span) → IsKept c → series_seen c ≡ x → i < length x → rows ≡ c.bodies.rows.items → i < length rows
+row_inside c x i rows k view lt e = omega (arith, lt, rows_long c x k view, ap (λ (rs : List Span). length rs) e)
 
 pub entry_inside : (c : Checked) (x : List Series) (i : ℕ) (entries : List Entry) → IsKept c → series_seen c ≡ x → i < length x → entries ≡ c.layout.entries.items → i < length entries
 entry_inside c x i entries k view lt e = omega (arith, lt, rows_long c x k view, k.counted, ap (λ (es : List Entry). length es) e)
 
-pub series_of_row : (c : Checked) (x : List Series) (i : ℕ) (r : Row) → IsKept c → series_seen c ≡ x → i < length x → slice_get c.bodies.rows.items i ≡ Some r
+pub series_of_row : (c : Checked) (x : List Series) (i : ℕ) (r : Span) → IsKept c → series_seen c ≡ x → i < length x → slice_get c.bodies.rows.items i ≡ Some r
     → (p : Place) × (slice_get x i ≡ Some (series_at (texts c.layout.symbols.items) p (body_in c.bodies.labels.items c.bodies.chunks.items r)))
 series_of_row c x i r k view lt g =
     let none : Place = record { offset = 0; body = []; end = 0 } in
@@ -82,7 +78,7 @@ series_of_entry c x i p k view lt g =
 
 -- ---- what the checks leave
 
-body_at_row : (ls : List Label) (cs : List Chunk) (rs : List Row) (k : ℕ) (d : Row) → k < length rs → get_or (bodies_in ls cs rs) k (body_in ls cs d) ≡ body_in ls cs (get_or rs k d)
+body_at_row : (ls : List Label) (cs : List Chunk) (rs : List Span) (k : ℕ) (d : Span) → k < length rs → get_or (bodies_in ls cs rs) k (body_in ls cs d) ≡ body_in ls cs (get_or rs k d)
 body_at_row ls cs rs k d lt = get_or-map (body_in ls cs) rs k d (body_in ls cs d) lt
 
 inside_so : (symbols : List (List ℕ)) (ls : List Label) → AreLabels symbols 0 ls → AreInTable symbols ls

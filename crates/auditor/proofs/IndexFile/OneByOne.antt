@@ -1,5 +1,5 @@
 -- What a step gives for each of a list, one after another.
-use Rattle.std.proofs.Common.{◌≡◌, ℕ, suc, length, List, [], ◌∷◌, Result, Ok, refl, ap}
+use Rattle.std.proofs.Common.{◌≡◌, suc, length, List, [], ◌∷◌, Result, Ok, refl, ap}
 use Rattle.auditor.specs.declared.walk.error.WalkError.{WalkError}
 use Rattle.auditor.specs.IndexFile.Each.{each}
 use Rattle.auditor.proofs.IndexFile.WalkLoops.{bind_ok}

@@ -1,25 +1,23 @@
 -- What the first checks say of numbers, and what later checks need.
-use Rattle.std.proofs.Common.{◌≡◌, ℕ, zero, suc, ◌+◌, ◌^◌, ◌<◌, ◌≤◌, Bool, true, ◌&&◌, List, [], ◌∷◌, ◌++◌, length, get_or, drop, Some, Result, Ok, Err, refl, sym, ap, ◌∙◌, append_assoc, arith}
+use Rattle.std.proofs.Common.{◌≡◌, ℕ, zero, suc, ◌+◌, ◌^◌, ◌<◌, ◌≤◌, Bool, true, ◌&&◌, List, [], ◌∷◌, length, get_or, drop, Some, Result, Ok, Err, refl, sym, ap, ◌∙◌, arith}
 use Rattle.std.specs.Prelude.{slice_range, slice_get, IfOk}
 use Rattle.std.specs.List.{flat_map, list_all}
 use Rattle.std.specs.Borrow.{Bor}
-use Rattle.std.proofs.lemmas.List.{length-map, length-append, drop_all, append-nil}
+use Rattle.std.proofs.lemmas.List.{length-map, length-append, drop_all}
 use Rattle.byteorder.specs.Endian.{big_bytes}
 use Rattle.auditor.specs.declared.walk.error.WalkError.{WalkError}
 use Rattle.auditor.specs.declared.walk.entries.Entry.{Entry}
 use Rattle.auditor.specs.declared.walk.layout.Layout.{Layout}
-use Rattle.auditor.specs.declared.walk.bodies.Row.{Row}
+use Rattle.auditor.specs.declared.walk.bodies.Span.{Span}
 use Rattle.auditor.specs.declared.walk.chunk.Chunk.{Chunk}
 use Rattle.auditor.specs.IndexFile.Reading.{Parts, rounded, series_end}
 use Rattle.auditor.specs.IndexFile.Grammar.{entry, symbol, IsWalk, IsParts}
 use Rattle.auditor.specs.IndexFile.Seen.{places, seen}
 use Rattle.auditor.specs.IndexFile.Bodies.{Label}
-use Rattle.auditor.specs.IndexFile.Each.{each}
 use Rattle.auditor.specs.IndexFile.Flat.{body_in, bodies_in, label_sets_in, AllIn, AreInside}
 use Rattle.auditor.specs.IndexFile.Whole.{label_sets}
 use Rattle.auditor.specs.IndexFile.Sound.{IsSound}
-use Rattle.auditor.proofs.IndexFile.WalkLoops.{bind_ok}
-use Rattle.auditor.proofs.IndexFile.Walks.{flat_long, ok_is}
+use Rattle.auditor.proofs.IndexFile.Walks.{flat_long}
 use Rattle.auditor.proofs.IndexFile.Whole.{omega_length, end_inside}
 use Rattle.auditor.proofs.IndexFile.Eaches.{drop_at_place}
 
@@ -50,14 +48,14 @@ sound_found file (Err e) p = tt
 
 -- ---- flat lists
 
-pub sets_are : (labels : List Label) (chunks : List Chunk) (rows : List Row) → label_sets (bodies_in labels chunks rows) ≡ label_sets_in labels rows
+pub sets_are : (labels : List Label) (chunks : List Chunk) (rows : List Span) → label_sets (bodies_in labels chunks rows) ≡ label_sets_in labels rows
 sets_are labels chunks [] = refl
 sets_are labels chunks (r ∷ rows) = ap (λ (xs : List (List Label)). slice_range labels r.labels_start r.labels_end ∷ xs) (sets_are labels chunks rows)
 
-pub count_is : (labels : List Label) (chunks : List Chunk) (rows : List Row) → length (bodies_in labels chunks rows) ≡ length rows
+pub count_is : (labels : List Label) (chunks : List Chunk) (rows : List Span) → length (bodies_in labels chunks rows) ≡ length rows
 count_is labels chunks rows = length-map rows (body_in labels chunks)
 
-pub labels_inside : (labels : List Label) (chunks : List Chunk) (rows : List Row) → AllIn labels chunks rows → AreInside labels rows
+pub labels_inside : (labels : List Label) (chunks : List Chunk) (rows : List Span) → AllIn labels chunks rows → AreInside labels rows
 labels_inside labels chunks rows h = λ k d lt. let o = h k d lt in (o.labels_ordered, o.labels_inside)
 
 -- ---- a test of all

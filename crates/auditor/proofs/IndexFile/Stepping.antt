@@ -49,7 +49,7 @@ is_done step front count i s total le so_far =
     let one : with_front front (steps step (count - i) s) ≡ Ok (front, s) = rw k (ap (λ xs. Ok (xs, s)) (append-nil front)) in
     sym so_far ∙ one
 
--- what was read behind what was there
+-- what was read after what was there
 pub front_ok : {S X : Type 0} (front xs : List X) (s : S) (read : Result (List X × S) WalkError) → with_front front read ≡ Ok (xs, s) → (ys : List X) × (read ≡ Ok (ys, s)) × (xs ≡ front ++ ys)
 front_ok {S} {X} front xs s (Ok o) h =
     let made : List X × S = (front ++ o.0, o.1) in

@@ -188,7 +188,7 @@ ascending_few (x ∷ y ∷ xs) le = absurd (omega arith)
 pub ascending_end : (xs : List (List ℕ)) (i : ℕ) → length xs ≤ i + 1 → ascending (drop i xs) ≡ true
 ascending_end xs i le = ascending_few (drop i xs) (omega (arith, length-drop i xs))
 
--- the next entry stands behind this one, and what it needs of numbers
+-- the next entry stands after this one, and what it needs of numbers
 pub after_entry : (file : List ℕ) (end at : ℕ) (x : List ℕ × List ℕ) → at < end → end ≤ length file → entry_at (slice_range file at end) ≡ Ok x → (length x.1 ≤ end) × (end - rounded (end - length x.1) < end - at)
 after_entry file end at x lt le h =
     let s = entry_shorter (slice_range file at end) x h in

@@ -45,7 +45,7 @@ table_text table fits le =
 cell_4 : (bytes : List ℕ) → IsBytes bytes → length bytes ≡ 4 → big_bytes 4 (big_number 4 bytes) ≡ bytes
 cell_4 bytes fits len = big_bytes_4 bytes fits (omega arith) ∙ take_all 4 bytes (omega arith)
 
-contents_takes : (table : List ℕ) (t : Contents) → IsBytes table → length table ≡ 52 → table_of table ≡ Ok t → table ≡ checked (contents_text t)
+pub contents_takes : (table : List ℕ) (t : Contents) → IsBytes table → length table ≡ 52 → table_of table ≡ Ok t → table ≡ checked (contents_text t)
 unfolding table_of
 contents_takes table t fits len e =
     let g = guard_ended (eqb (big_number 4 (drop 48 table)) (crc32c (take 48 table))) ContentsCrc (contents_at table) t e in
@@ -96,7 +96,7 @@ both : (p q : Bool) → (p && q) ≡ true → (p ≡ true) × (q ≡ true)
 both true q h = (refl, h)
 both false q h = absurd cc
 
-starts : (xs : List ℕ) → 5 ≤ length xs → has_magic xs ≡ true → eqb (slice_index xs 4) 2 ≡ true → take 5 xs ≡ 0xBA ∷ 0xAA ∷ 0xD7 ∷ 0 ∷ 2 ∷ []
+pub starts : (xs : List ℕ) → 5 ≤ length xs → has_magic xs ≡ true → eqb (slice_index xs 4) 2 ≡ true → take 5 xs ≡ 0xBA ∷ 0xAA ∷ 0xD7 ∷ 0 ∷ 2 ∷ []
 starts xs le m v =
     let a3 = both _ _ m in
     let a2 = both _ _ a3.0 in

@@ -8,25 +8,25 @@ use Rattle.auditor.specs.IndexFile.Reading.{Place}
 use Rattle.auditor.specs.declared.walk.chunk.Chunk.{Chunk}
 use Rattle.auditor.specs.IndexFile.Bodies.{Label, Body, body_at}
 use Rattle.auditor.specs.IndexFile.Order.{key_cmp}
-use Rattle.auditor.specs.declared.walk.bodies.Row.{Row}
+use Rattle.auditor.specs.declared.walk.bodies.Span.{Span}
 
 -- the body whose parts stand at these places
-abbrev pub body_in : List Label → List Chunk → Row → Body
+abbrev pub body_in : List Label → List Chunk → Span → Body
 body_in labels chunks r = record { labels = slice_range labels r.labels_start r.labels_end; chunks = slice_range chunks r.chunks_start r.chunks_end }
 
 -- all bodies
-abbrev pub bodies_in : List Label → List Chunk → List Row → List Body
+abbrev pub bodies_in : List Label → List Chunk → List Span → List Body
 bodies_in labels chunks rows = map (body_in labels chunks) rows
 
 -- the places lie in the lists
-pub record IsIn (labels : List Label) (chunks : List Chunk) (r : Row) : Type 0 where
+pub record IsIn (labels : List Label) (chunks : List Chunk) (r : Span) : Type 0 where
   pub labels_ordered : r.labels_start ≤ r.labels_end
   pub labels_inside : r.labels_end ≤ length labels
   pub chunks_ordered : r.chunks_start ≤ r.chunks_end
   pub chunks_inside : r.chunks_end ≤ length chunks
 
 -- all places do
-abbrev pub AllIn : List Label → List Chunk → List Row → Type 0
+abbrev pub AllIn : List Label → List Chunk → List Span → Type 0
 AllIn labels chunks rows = All (IsIn labels chunks) rows
 
 -- the body of an entry
@@ -36,7 +36,7 @@ body_of_place symbols p = body_at symbols p.body
 -- ---- the order of the series, on the numbers of their symbols
 
 -- the labels of all bodies
-abbrev pub label_sets_in : List Label → List Row → List (List Label)
+abbrev pub label_sets_in : List Label → List Span → List (List Label)
 label_sets_in labels rows = map (λ r. slice_range labels r.labels_start r.labels_end) rows
 
 -- whether labels are below others; a beginning is smaller
@@ -44,7 +44,7 @@ abbrev pub is_before : List Label → List Label → Bool
 is_before a b = is_lt (slice_cmp key_cmp a b)
 
 -- the places of the labels lie in their list
-abbrev pub AreInside : List Label → List Row → Type 0
+abbrev pub AreInside : List Label → List Span → Type 0
 AreInside labels rows = All (λ r. (r.labels_start ≤ r.labels_end) × (r.labels_end ≤ length labels)) rows
 
 -- ---- the bytes between the entries

@@ -3,7 +3,7 @@ use Rattle.std.specs.Prelude.{◌≡◌, ℕ, ◌+◌, ◌<◌, ◌≤◌, true,
 use Rattle.labels.specs.Names.{is_name}
 use Rattle.auditor.specs.IndexFile.Bodies.{Label}
 
--- a label of these symbols: its name is a label name that stands at this place or behind it, its value is not empty
+-- a label of these symbols: its name is a label name that stands at this place or after it, its value is not empty
 pub record IsLabel (symbols : List (List ℕ)) (low : ℕ) (l : Label) : Type 0 where
   pub from : low ≤ l.0
   pub name_in : l.0 < length symbols
@@ -11,7 +11,7 @@ pub record IsLabel (symbols : List (List ℕ)) (low : ℕ) (l : Label) : Type 0 
   pub name : is_name (get_or symbols l.0 []) ≡ true
   pub value : 0 < length (get_or symbols l.1 [])
 
--- each name stands behind the one before
+-- each name stands after the one before
 abbrev pub AreLabels : List (List ℕ) → ℕ → List Label → Type 0
 AreLabels symbols low [] = Unit {0}
 AreLabels symbols low (l ∷ ls) = IsLabel symbols low l × AreLabels symbols (l.0 + 1) ls

@@ -77,9 +77,9 @@ pub record IsPlaced (t : Contents) (len : ℕ) : Type 0 where
   pub label_indices : (t.label_indices ≡ 0) ⊎ ((t.series ≤ t.label_indices) × (t.label_indices ≤ t.postings))
   pub label_offsets : (t.label_offsets ≡ 0) ⊎ ((t.postings ≤ t.label_offsets) × (t.label_offsets ≤ t.postings_offsets))
 
--- ---- content with its checksum behind it
+-- ---- content with its checksum after it
 
--- content of this length and its checksum, and what stands behind them
+-- content of this length and its checksum, and what stands after them
 abbrev pub checked_at : WalkError → ℕ × List ℕ → Result (List ℕ × List ℕ) WalkError
 checked_at e len = do
   content ← or_refused e (bytes_at len.0 len.1)
@@ -136,7 +136,7 @@ pub record Place : Type 0 where
 abbrev pub rounded : ℕ → ℕ
 rounded n = (n + 15) / 16 * 16
 
--- a series entry: its body, and what stands behind it
+-- a series entry: its body, and what stands after it
 unfoldable pub entry_at : List ℕ → Result (List ℕ × List ℕ) WalkError
 entry_at bytes = or_refused SeriesCrc (uvarint_at bytes) >>= checked_at SeriesCrc
 

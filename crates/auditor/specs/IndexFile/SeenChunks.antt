@@ -3,7 +3,7 @@ use Rattle.std.specs.Prelude.{ℕ, List, Option, Some, None}
 use Rattle.std.specs.Borrow.{Bor}
 use Rattle.auditor.specs.declared.walk.chunk.Chunk.{Chunk}
 
--- a chunk that was read, and the bytes behind it
+-- a chunk that was read, and the bytes after it
 abbrev pub seen_chunk : Option (Chunk × Bor (List ℕ)) → Option (Chunk × List ℕ)
 seen_chunk (Some x) = Some (x.0, x.1.now)
 seen_chunk None = None

@@ -45,7 +45,7 @@ pub record IsLater (before c : Chunk) (text : List ℕ) : Type 0 where
   pub ends_in_time : is_time c.maxt ≡ true
   pub fits : c.reference < 2 ^ 64
 
--- chunks behind another, one after the other
+-- chunks after another, one after the other
 abbrev pub AreLater : Chunk → List Chunk → List ℕ → Type 0
 AreLater before [] text = text ≡ []
 AreLater before (c ∷ cs) text = (first rest : List ℕ) × (text ≡ first ++ rest) × IsLater before c first × AreLater c cs rest

@@ -17,19 +17,19 @@ use std::cmp::Ordering;
 
 /// Where the parts of a body stand.
 #[derive(Clone, Copy, Debug)]
-pub struct Row {
+pub struct Span {
     pub labels_start: usize,
     pub labels_end: usize,
     pub chunks_start: usize,
     pub chunks_end: usize,
 }
 
-/// All labels and all chunks, one series behind the other.
+/// All labels and all chunks, one series after the other.
 #[derive(Drop)]
 pub struct Bodies {
     pub labels: Vec<(u32, u32)>,
     pub chunks: Vec<Chunk>,
-    pub rows: Vec<Row>,
+    pub rows: Vec<Span>,
 }
 
 /// The chunks of all bodies.
@@ -63,7 +63,7 @@ pub(crate) fn bodies_of(
         let labels_start = labels.len();
         let chunks_start = chunks.len();
         body_into(symbols, entry.body, &mut labels, &mut chunks)?;
-        rows.push(Row {
+        rows.push(Span {
             labels_start,
             labels_end: labels.len(),
             chunks_start,
@@ -78,14 +78,18 @@ pub(crate) fn bodies_of(
 }
 
 /// Where the parts of the body at a place stand.
-pub(crate) fn row_at(rows: &[Row], i: usize) -> Row
+pub(crate) fn row_at(rows: &[Span], i: usize) -> Span
     requires { i < length rows.now }
     ensures { slice_get rows.now i ≡ Some result }
 {
     rows[i]
 }
 
-pub(crate) fn label_set_at<'a>(labels: &'a [(u32, u32)], rows: &[Row], i: usize) -> &'a [(u32, u32)]
+pub(crate) fn label_set_at<'a>(
+    labels: &'a [(u32, u32)],
+    rows: &[Span],
+    i: usize,
+) -> &'a [(u32, u32)]
     requires inside { AreInside labels.now rows.now }
     requires i_in { i < length rows.now }
     ensures { slice_get (label_sets_in labels.now rows.now) i ≡ Some result.now }
@@ -101,7 +105,7 @@ fn is_before(a: &[(u32, u32)], b: &[(u32, u32)]) -> bool
 }
 
 /// Whether each label set is below the next.
-pub(crate) fn is_rising(labels: &[(u32, u32)], rows: &[Row]) -> bool
+pub(crate) fn is_rising(labels: &[(u32, u32)], rows: &[Span]) -> bool
     requires { AreInside labels.now rows.now }
     ensures { result ≡ rises is_before (label_sets_in labels.now rows.now) }
 {
@@ -125,7 +129,7 @@ fn is_small(labels: &[(u32, u32)]) -> bool
 }
 
 /// Whether no series has more than 64 labels.
-pub(crate) fn are_small(labels: &[(u32, u32)], rows: &[Row]) -> bool
+pub(crate) fn are_small(labels: &[(u32, u32)], rows: &[Span]) -> bool
     requires { AreInside labels.now rows.now }
     ensures { result ≡ list_all is_small (label_sets_in labels.now rows.now) }
 {

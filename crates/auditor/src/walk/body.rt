@@ -66,7 +66,7 @@ fn more_labels<'a>(
     Ok((low, rest))
 }
 
-/// Adds the labels of a body, and gives what stands behind them.
+/// Adds the labels of a body, and gives what stands after them.
 #[tactic(auto, unfolding(crate::specs::IndexFile::Bodies::labels_at))]
 pub(crate) fn labels_into<'a>(
     symbols: &[&str],
@@ -115,7 +115,7 @@ fn more_chunks<'a>(
     Ok((before, rest))
 }
 
-/// Adds the chunks of a body, and gives what stands behind them.
+/// Adds the chunks of a body, and gives what stands after them.
 #[tactic(auto, using(crate::proofs::IndexFile::Stepping::behind_front), unfolding(crate::specs::IndexFile::Bodies::chunks_at))]
 pub(crate) fn chunks_into<'a>(
     bytes: &'a [u8],

@@ -10,7 +10,7 @@ ghost use Rattle.auditor.specs.IndexFile.Kept.{series_seen, AreInTable, IsKept};
 ghost use Rattle.auditor.specs.IndexFile.Whole.{indexed_of};
 ghost use Rattle.auditor.specs.IndexFile.Spelled.{IsIndex};
 
-use crate::walk::bodies::{Row, row_at};
+use crate::walk::bodies::{Span, row_at};
 use crate::walk::checked::{Checked, checked_of};
 use crate::walk::chunk::Chunk;
 use crate::walk::entries::entry_in;
@@ -70,14 +70,14 @@ fn pairs_of<'a>(
     Ok(pairs)
 }
 
-fn labels_in(labels: &[(u32, u32)], row: Row) -> &[(u32, u32)]
+fn labels_in(labels: &[(u32, u32)], row: Span) -> &[(u32, u32)]
     requires { (row.labels_start ≤ row.labels_end) × (row.labels_end ≤ length labels.now) }
     ensures { result.now ≡ slice_range labels.now row.labels_start row.labels_end }
 {
     &labels[row.labels_start..row.labels_end]
 }
 
-fn chunks_in(chunks: &[Chunk], row: Row) -> &[Chunk]
+fn chunks_in(chunks: &[Chunk], row: Span) -> &[Chunk]
     requires { (row.chunks_start ≤ row.chunks_end) × (row.chunks_end ≤ length chunks.now) }
     ensures { result.now ≡ slice_range chunks.now row.chunks_start row.chunks_end }
 {

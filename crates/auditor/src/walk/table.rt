@@ -1,8 +1,10 @@
 //! The table of a block's files.
 
-ghost use Rattle.std.specs.Prelude.{◌≡◌, Ok, IfOk};
+ghost use Rattle.std.specs.Prelude.{◌≡◌, Ok, IfErr, IfOk};
+ghost use Rattle.wire.specs.Spelling.{IsBytes};
 ghost use Rattle.labels.specs.Parts.{Part};
 ghost use Rattle.auditor.specs.IndexFile.Outcome.{Gives};
+ghost use Rattle.auditor.specs.BlockFiles.Checks.{IsRefusal};
 ghost use Rattle.auditor.specs.BlockFiles.Reading.{walked_of};
 ghost use Rattle.auditor.specs.BlockFiles.Spelled.{IsWalked};
 
@@ -14,6 +16,11 @@ use crate::walk::series_entries::SeriesEntries;
 use crate::walk::stored::check_stored;
 use chunk_reader::Chunks;
 use std::alloc::Global;
+
+// A law: a file is of bytes.
+fn are_bytes(file: &[u8])
+    ensures { IsBytes file.now }
+{}
 
 // The checks, and what they leave.
 fn walked(
@@ -49,13 +56,16 @@ impl Table {
         chunks: Vec<u8>,
         tombstones: &[u8],
     ) -> Result<Table, WalkError>
-        // The first check that fails is answered; where none does, the part that was read is given.
+        // Reading gives the first refusal, or the part that was read.
         ensures exact { Gives (λ t. t) result (walked_of index.now chunks.items tombstones.now) }
+        // What is refused fails the check that is answered, and passes all before it.
+        ensures refused { IfErr result (IsRefusal (record { index = index.now; chunks = chunks.items; tombstones = tombstones.now })) }
         // The part is what the bytes of the files spell, whatever the postings are.
         ensures found { IfOk result (IsWalked index.now chunks.items tombstones.now) }
         // Files that spell a part give it, unless memory runs out.
         ensures only { (part : Part) → IsWalked index.now chunks.items tombstones.now part → Gives (λ t. t) result (Ok part) }
     {
+        are_bytes(chunks.as_slice());
         walked(alloc, index, chunks, tombstones)
     }
 }

@@ -1,7 +1,7 @@
 use Rattle.std.proofs.Common.{sym, arith}
 use Rattle.std.specs.Prelude.{slice_range}
 use Rattle.std.proofs.lemmas.List.{length-map}
-use Rattle.auditor.specs.declared.walk.bodies.Row.{Row}
+use Rattle.auditor.specs.declared.walk.bodies.Span.{Span}
 use Rattle.auditor.specs.IndexFile.Flat.{label_sets_in}
 use Rattle.auditor.specs.IndexFile.Whole.{is_small}
 use Rattle.auditor.proofs.IndexFile.Sound.{all_step, all_end}
@@ -18,4 +18,4 @@ loop-at-preserved c =
     sym (rw c.if-not-is_small.false at n)
 
 pub returns : goal.returns
-returns c = all_end is_small (label_sets_in c.args.labels.now c.args.rows.now) c.loop-at.at _ (omega (arith, length-map c.args.rows.now (λ (r : Row). slice_range c.args.labels.now r.labels_start r.labels_end))) c.loop-at.invariant
+returns c = all_end is_small (label_sets_in c.args.labels.now c.args.rows.now) c.loop-at.at _ (omega (arith, length-map c.args.rows.now (λ (r : Span). slice_range c.args.labels.now r.labels_start r.labels_end))) c.loop-at.invariant

@@ -9,19 +9,19 @@ use Rattle.auditor.specs.declared.walk.chunk.Chunk.{Chunk}
 use Rattle.auditor.specs.IndexFile.Bodies.{Label, Body, body_at, behind_both}
 use Rattle.auditor.specs.IndexFile.Each.{each, behind_items}
 use Rattle.auditor.proofs.IndexFile.Eaches.{each_on, each_fails, each_done}
-use Rattle.auditor.specs.declared.walk.bodies.Row.{Row}
+use Rattle.auditor.specs.declared.walk.bodies.Span.{Span}
 use Rattle.auditor.specs.IndexFile.Flat.{bodies_in, AllIn, body_of_place}
 use Rattle.auditor.proofs.IndexFile.Growth.{both_ok, both_fails, bodies_added, all_added}
 use Rattle.auditor.proofs.walk.bodies.bodies_of.Goals as goal
 
-record IsOn (symbols : List (List ℕ)) (ps : List Place) (at : ℕ) (ls : List Label) (cs : List Chunk) (rs : List Row) (total : Result (List Body) WalkError) : Type 0 where
+record IsOn (symbols : List (List ℕ)) (ps : List Place) (at : ℕ) (ls : List Label) (cs : List Chunk) (rs : List Span) (total : Result (List Body) WalkError) : Type 0 where
   inside : AllIn ls cs rs
   so_far : behind_items (bodies_in ls cs rs) (each (body_of_place symbols) (drop at ps)) ≡ total
 
-one_longer : (rs rs' : List Row) (r : Row) → rs' ≡ rs ++ r ∷ [] → length rs' ≡ length rs + 1
+one_longer : (rs rs' : List Span) (r : Span) → rs' ≡ rs ++ r ∷ [] → length rs' ≡ length rs + 1
 one_longer rs rs' r pushed = rw pushed (length_push rs r)
 
-with_body : (symbols : List (List ℕ)) (ps : List Place) (at : ℕ) (p : Place) (ls ls' : List Label) (cs cs' : List Chunk) (rs rs' : List Row) (r : Row) (b : Body) (total : Result (List Body) WalkError)
+with_body : (symbols : List (List ℕ)) (ps : List Place) (at : ℕ) (p : Place) (ls ls' : List Label) (cs cs' : List Chunk) (rs rs' : List Span) (r : Span) (b : Body) (total : Result (List Body) WalkError)
     → AllIn ls cs rs → behind_items (bodies_in ls cs rs) (each (body_of_place symbols) (drop at ps)) ≡ total → slice_get ps at ≡ Some p → body_at symbols p.body ≡ Ok b → ls' ≡ ls ++ b.labels → cs' ≡ cs ++ b.chunks → rs' ≡ rs ++ r ∷ []
     → r.labels_start ≡ length ls → r.labels_end ≡ length ls' → r.chunks_start ≡ length cs → r.chunks_end ≡ length cs' → IsOn symbols ps (at + 1) ls' cs' rs' total
 with_body symbols ps at p ls ls' cs cs' rs rs' r b total inside so_far g read grown grown' pushed s e s' e' =
@@ -35,7 +35,7 @@ with_body symbols ps at p ls ls' cs cs' rs rs' r b total inside so_far g read gr
       so_far = ap (λ (front : List Body). behind_items front (each (body_of_place symbols) (drop (at + 1) ps))) same ∙ each_on (body_of_place symbols) ps at p b (bodies_in ls cs rs) total g read so_far;
     }
 
-one_more : (symbols : List (List ℕ)) (ps : List Place) (at : ℕ) (p : Place) (ls ls' : List Label) (cs cs' : List Chunk) (rs rs' : List Row) (r : Row) (total : Result (List Body) WalkError)
+one_more : (symbols : List (List ℕ)) (ps : List Place) (at : ℕ) (p : Place) (ls ls' : List Label) (cs cs' : List Chunk) (rs rs' : List Span) (r : Span) (total : Result (List Body) WalkError)
     → AllIn ls cs rs → behind_items (bodies_in ls cs rs) (each (body_of_place symbols) (drop at ps)) ≡ total → slice_get ps at ≡ Some p → behind_both ls cs (body_at symbols p.body) ≡ Ok (ls', cs') → rs' ≡ rs ++ r ∷ []
     → r.labels_start ≡ length ls → r.labels_end ≡ length ls' → r.chunks_start ≡ length cs → r.chunks_end ≡ length cs' → IsOn symbols ps (at + 1) ls' cs' rs' total
 one_more symbols ps at p ls ls' cs cs' rs rs' r total inside so_far g read =

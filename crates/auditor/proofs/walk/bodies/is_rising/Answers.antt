@@ -2,7 +2,7 @@ use Rattle.std.proofs.Common.{◌≡◌, ◌+◌, ◌-◌, sym, arith}
 use Rattle.std.specs.Prelude.{slice_range}
 use Rattle.std.proofs.lemmas.List.{length-map}
 use Rattle.auditor.proofs.IndexFile.Rising.{next, at_end}
-use Rattle.auditor.specs.declared.walk.bodies.Row.{Row}
+use Rattle.auditor.specs.declared.walk.bodies.Span.{Span}
 use Rattle.auditor.specs.IndexFile.Flat.{is_before, label_sets_in}
 use Rattle.auditor.proofs.walk.bodies.is_rising.Goals as goal
 
@@ -18,4 +18,4 @@ loop-at-preserved c =
     (omega arith, rw e (sym (rw c.if-not-is_before.false at n)))
 
 pub returns : goal.returns
-returns c = at_end is_before (label_sets_in c.args.labels.now c.args.rows.now) c.loop-at.at _ (omega (arith, length-map c.args.rows.now (λ (r : Row). slice_range c.args.labels.now r.labels_start r.labels_end))) c.loop-at.invariant.1
+returns c = at_end is_before (label_sets_in c.args.labels.now c.args.rows.now) c.loop-at.at _ (omega (arith, length-map c.args.rows.now (λ (r : Span). slice_range c.args.labels.now r.labels_start r.labels_end))) c.loop-at.invariant.1

@@ -1,6 +1,5 @@
-use Rattle.std.proofs.Common.{refl, ap, ◌∙◌, arith}
+use Rattle.std.proofs.Common.{refl}
 use Rattle.std.proofs.lemmas.Option.{slice_get-get_or}
-use Rattle.auditor.specs.BlockFiles.Samples.{undeleted}
 use Rattle.auditor.specs.BlockFiles.Sound.{IsHeld}
 use Rattle.auditor.proofs.BlockFiles.Rows.{held_there, chunk_on, chunks_end}
 use Rattle.auditor.proofs.walk.samples.samples_of.Goals as goal

@@ -3,7 +3,7 @@ use Rattle.std.specs.Prelude.{slice_get, slice_range}
 use Rattle.labels.specs.Labels.{Labels}
 use Rattle.labels.specs.Pairs.{texts_of}
 use Rattle.labels.specs.LabelSets.{IsLabelSet}
-use Rattle.auditor.specs.declared.walk.bodies.Row.{Row}
+use Rattle.auditor.specs.declared.walk.bodies.Span.{Span}
 use Rattle.auditor.specs.IndexFile.Seen.{texts}
 use Rattle.auditor.specs.IndexFile.Flat.{IsIn}
 use Rattle.auditor.specs.IndexFile.Series.{Series, label_sets, named}
@@ -26,14 +26,14 @@ pub pairs_of-requires : goal.pairs_of-requires
 pairs_of-requires c =
     let x = c.self.inside.checked in
     let g = rw c.deref.ensures.value at c.row_at-row.ensures in
-    let o = all_here (λ (r : Row). AreInTable (texts x.layout.symbols.items) (slice_range x.bodies.labels.items r.labels_start r.labels_end)) x.bodies.rows.items c.args.i _ c.self.invariant.in_table g in
+    let o = all_here (λ (r : Span). AreInTable (texts x.layout.symbols.items) (slice_range x.bodies.labels.items r.labels_start r.labels_end)) x.bodies.rows.items c.args.i _ c.self.invariant.in_table g in
     rw (c.deref-3.ensures.value, c.labels_in-labels.ensures, c.deref-2.ensures.value) o
 
 pub of_sorted_texts-requires : goal.of_sorted_texts-requires
 of_sorted_texts-requires c =
     let x = c.self.inside.checked in
     let g = rw c.deref.ensures.value at c.row_at-row.ensures in
-    let o = all_here (λ (r : Row). IsLabelSet (named (texts x.layout.symbols.items) (slice_range x.bodies.labels.items r.labels_start r.labels_end))) x.bodies.rows.items c.args.i _ c.self.invariant.labelled g in
+    let o = all_here (λ (r : Span). IsLabelSet (named (texts x.layout.symbols.items) (slice_range x.bodies.labels.items r.labels_start r.labels_end))) x.bodies.rows.items c.args.i _ c.self.invariant.labelled g in
     rw (c.deref-4.ensures.value, c.in_ok-pairs.ensures, c.deref-3.ensures.value, c.labels_in-labels.ensures, c.deref-2.ensures.value) o
 
 pub returns : goal.returns
