@@ -5,6 +5,7 @@ ghost use Rattle.std.specs.Io.KnownBytes.{Consumes};
 ghost use Rattle.httparse.specs.Grammar.{RequestHead};
 ghost use Rattle.requests.specs.Edge.{IsCounted};
 ghost use Rattle.requests.specs.Fields.{IsHeadIn};
+ghost use Rattle.requests.specs.Fitting.{IsFit};
 ghost use Rattle.requests.specs.Heads.{BeginsWithHead};
 ghost use Rattle.requests.specs.Requests.{Told};
 ghost use Rattle.requests.specs.Reading.{EndsBody, BodyMeans, Answers};
@@ -59,6 +60,7 @@ fn read_after<R: Inlet>(alloc: Global, reader: &mut R, buf: Vec<u8>) -> Result<R
     requires begins { BeginsWithHead buf.items }
     requires short { vec_len buf ≤ 8192 }
     ensures means { AsksAfter buf.items (R.input reader.old) result }
+    ensures fits { IfOk result IsFit }
     ensures failed { IsErrOf result ReadError.Fault → IsCounted (R.failed_reads reader.old) (R.failed_reads reader.new) }
 {
     let mut buf = buf;
@@ -88,6 +90,7 @@ ghost use Rattle.requests.specs.Reading.{AsksAfter};
 /// cut into pieces; `Closed` where the input ends before its first byte.
 pub fn read_request<R: Inlet>(alloc: Global, reader: &mut R) -> Result<Request, ReadError>
     ensures means { IfSome (R.input reader.old) (Answers result) }
+    ensures fits { IfOk result IsFit }
     ensures failed { IsErrOf result ReadError.Fault → IsCounted (R.failed_reads reader.old) (R.failed_reads reader.new) }
 {
     let buf = read_head(alloc, reader)?;
