@@ -44,7 +44,8 @@ abbrev pub length_told : Option (List ℕ) → Result ℕ Refusal
 length_told None = Err BadBody
 length_told (Some value) = length_in value
 
--- the length of the body: what the only `Content-Length` writes, where there is no `Transfer-Encoding`
+-- the length of the body: what the only `Content-Length` writes, where there is no
+-- `Transfer-Encoding`
 abbrev pub length_asked : List (List ℕ × List ℕ) → Result ℕ Refusal
 length_asked fields =
     length_alone (has_field (codes "transfer-encoding") fields)
