@@ -13,3 +13,4 @@ pub mod Excluding
 pub mod Replying
 pub mod Labelled
 pub mod Lines
+pub mod Naming

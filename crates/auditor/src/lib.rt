@@ -6,6 +6,11 @@
 //! exactly where the query selects nothing of the part (`F9`), [`audit_merge`] exactly where rows are those of all that
 //! several answers list, the value listed last at each point (`F10`). So a certificate that it accepts is least.
 //!
+//! [`Reply::read`] reads a whole reply: it is `Ok` exactly where the text is JSON of a reply's shape,
+//! and then the reply is what it says. [`judge`] gives the lines of a reply over what is known of the
+//! blocks: one for each part, in order, one for each block of which the reply says nothing, and last
+//! that of the rows.
+//!
 //! A [`Table`] is the part. The crate stands on `labels`, `matchers` and the types and definitions of `cover`, and
 //! shares no search, no merge and no walk of certificates with the store whose answers it judges.
 #![tactic(auto)]
@@ -32,6 +37,7 @@ pub use answer::{audit, audit_laws};
 pub use flaw::{AuditError, Flaw};
 pub use judgement::{BlockTable, Judgement, Line, Subject};
 pub use merged::audit_merge;
+pub use reading::name_law;
 pub use reply::{Reply, ReplyError, ToldPart};
 pub use report::{judge, lines_text};
 pub use skip::audit_skip;
