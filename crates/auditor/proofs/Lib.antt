@@ -15,3 +15,4 @@ mod BlockFiles
 pub mod Replying
 pub mod Labelled
 pub mod Lines
+pub mod Naming

@@ -6,11 +6,18 @@
 //! exactly where the query selects nothing of the part (`F9`), [`audit_merge`] exactly where rows are those of all that
 //! several answers list, the value listed last at each point (`F10`). So a certificate that it accepts is least.
 //!
-//! A [`Table`] is the part. [`Table::walk`] reads it from an index, a chunks file and a file of deletions, without the
-//! postings, exactly where these spell one (`IsWalked`), and else names the first check that fails; [`WalkError`] has
-//! the codes. The crate stands on `labels`, `matchers`, `wire`, `chunk_reader`, `tombstones` and the types and
-//! definitions of `cover`, and shares no reader of an index, no search, no merge and no walk of certificates with the
-//! store whose answers it judges.
+//! A [`Table`] is the part. [`Table::walk`] reads it from an index, a chunks file and a file of
+//! deletions, without the postings, exactly where these spell one (`IsWalked`), and else names the
+//! first check that fails; [`WalkError`] has the codes.
+//!
+//! [`Reply::read`] reads a whole reply: it is `Ok` exactly where the text is JSON of a reply's shape,
+//! and then the reply is what it says. [`judge`] gives the lines of a reply over what is known of the
+//! blocks: one for each part, in order, one for each block of which the reply says nothing, and last
+//! that of the rows.
+//!
+//! The crate stands on `labels`, `matchers`, `wire`, `chunk_reader`, `tombstones` and the types and
+//! definitions of `cover`, and on `serde_json` for replies. It shares no reader of an index, no
+//! search, no merge and no walk of certificates with the store whose answers it judges.
 #![tactic(auto)]
 
 mod answer;
@@ -36,6 +43,7 @@ pub use answer::{audit, audit_laws};
 pub use flaw::{AuditError, Flaw};
 pub use judgement::{BlockTable, Judgement, Line, Subject};
 pub use merged::audit_merge;
+pub use reading::name_law;
 pub use reply::{Reply, ReplyError, ToldPart};
 pub use report::{judge, lines_text};
 pub use skip::audit_skip;

@@ -1,6 +1,6 @@
 //! What the text of a reply says.
 
-ghost use Rattle.std.specs.Prelude.{◌≡◌, option_map, map, codes};
+ghost use Rattle.std.specs.Prelude.{◌≡◌, ◌<◌, ℕ, List, Some, option_map, map, codes};
 ghost use Rattle.std.specs.List.{list_all};
 ghost use Rattle.std.specs.Ordering.{is_lt};
 ghost use Rattle.std.specs.FinMap.Entries.{is_sorted};
@@ -9,6 +9,8 @@ ghost use Rattle.labels.specs.LabelSets.{are_named, has_value};
 ghost use Rattle.serde_json.specs.View.{view, items_view, members_view};
 ghost use Rattle.serde_json.specs.Find.{get, as_array};
 ghost use Rattle.labels.specs.Pairs.{texts_of};
+ghost use Rattle.postings.specs.declared.part_name.PartName.TheVariants.{Block};
+ghost use Rattle.auditor.specs.Judgements.{name_text};
 ghost use Rattle.auditor.specs.Read.{Reads};
 ghost use Rattle.auditor.specs.Replies.{has_members, has_items, reference_said, sample_said, list_said, said_at, are_labels, texts_said, labels_said, row_said, verdict_named, verdict_said, interval_said, is_padded, digits_from, number_said, after, name_said, part_name_said, skipped_said, searched_said, part_said, reply_said, tree_of, text_said, told_of_answer, told_of_part, told_of};
 
@@ -401,3 +403,10 @@ impl Reply {
         reply_of(alloc, &tree)
     }
 }
+
+/// The law of names: a text is read as the name of a part only where it is that name as lines write
+/// it, and so is each name of a block.
+pub fn name_law()
+    ensures written { (text : List ℕ) (name : PartName) → name_said text ≡ Some name → name_text name ≡ text }
+    ensures block { (n : ℕ) → n < 18446744073709551616 → name_said (name_text (Block n)) ≡ Some (Block n) }
+{}

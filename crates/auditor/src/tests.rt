@@ -1,3 +1,5 @@
+mod replies;
+
 use crate::parted::are_part;
 use crate::{AuditError, Flaw, Table, audit, audit_merge, audit_skip};
 use cover::{Interval, PartAnswer, PartCover, Verdict};
