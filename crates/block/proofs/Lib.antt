@@ -19,3 +19,4 @@ pub mod Showing
 pub mod Walking
 pub mod Listed
 pub mod Meeting
+pub mod LongFiles
