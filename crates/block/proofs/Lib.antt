@@ -21,3 +21,4 @@ pub mod Walking
 pub mod Listed
 pub mod Meeting
 pub mod Shared
+pub mod LongFiles

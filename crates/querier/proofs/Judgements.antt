@@ -8,7 +8,7 @@ use Rattle.block.specs.Outcome.{Fails}
 use Rattle.block.specs.declared.error.BlockError.{BlockError}
 use Rattle.block.specs.declared.error.BlockError.TheVariants.{Memory, Meta, Index, Chunks, Tombstones, UnknownSeries, OutsideRange}
 use Rattle.querier.specs.Judging.{block_in, judgement_of, IsSpelledAs, IsRefusalOf, IsJudged}
-use Rattle.querier.specs.declared.files.BlockFiles.{BlockFiles}
+use Rattle.querier.specs.Reading.{Files}
 use Rattle.querier.specs.declared.judgement.Judgement.{Judgement}
 use Rattle.querier.specs.declared.judgement.Judgement.TheVariants.{Sound, Refused}
 
@@ -43,11 +43,11 @@ fails_on f keeps UnknownSeries read h = ap f h ∙ keeps UnknownSeries
 fails_on f keeps OutsideRange read h = ap f h ∙ keeps OutsideRange
 
 -- the refusal of the meta is that of the block
-pub meta_fails : (files : BlockFiles) (e : BlockError) (read : Result (ℤ × ℤ) BlockError) → Fails e read → Fails e (block_in read files)
+pub meta_fails : (files : Files) (e : BlockError) (read : Result (ℤ × ℤ) BlockError) → Fails e read → Fails e (block_in read files)
 meta_fails files e read h = fails_on (λ r. block_in r files) (λ e. refl) e read h
 
 -- where the meta is refused there is no block
-pub no_block_of_meta : (files : BlockFiles) (e : BlockError) → Fails e (or_meta (range_said files.meta.items)) → (range : ℤ × ℤ) (part : Part) → IsSpelledAs files range part → Fails e (said_part part)
+pub no_block_of_meta : (files : Files) (e : BlockError) → Fails e (or_meta (range_said files.meta)) → (range : ℤ × ℤ) (part : Part) → IsSpelledAs files range part → Fails e (said_part part)
 no_block_of_meta files e h range part spelled = go e (rw spelled.says at h)
   where
     go : (e : BlockError) → Fails e (or_meta (Some range)) → Fails e (said_part part)
@@ -74,7 +74,7 @@ refused_but_memory UnknownSeries judgement h = (h, λ m. cc)
 refused_but_memory OutsideRange judgement h = (h, λ m. cc)
 
 -- files that were refused, and not for want of memory
-pub refused_files : (files : BlockFiles) (e : BlockError) → (e ≡ Memory → ⊥) → Fails e (block_in (or_meta (range_said files.meta.items)) files)
+pub refused_files : (files : Files) (e : BlockError) → (e ≡ Memory → ⊥) → Fails e (block_in (or_meta (range_said files.meta)) files)
     → ((range : ℤ × ℤ) (part : Part) → IsSpelledAs files range part → Fails e (said_part part)) → IsJudged files (Refused e)
 refused_files files e other exact only = record {
   first = sym (ap judgement_of (fails_but_memory e _ exact other));
@@ -82,14 +82,14 @@ refused_files files e other exact only = record {
 }
 
 -- files that were refused
-pub judged_refused : (files : BlockFiles) (e : BlockError) (judgement : Judgement) → IsRefusalOf e judgement → Fails e (block_in (or_meta (range_said files.meta.items)) files)
+pub judged_refused : (files : Files) (e : BlockError) (judgement : Judgement) → IsRefusalOf e judgement → Fails e (block_in (or_meta (range_said files.meta)) files)
     → ((range : ℤ × ℤ) (part : Part) → IsSpelledAs files range part → Fails e (said_part part)) → IsJudged files judgement
 judged_refused files e judgement h exact only =
     let p = refused_but_memory e judgement h in
     subst (IsJudged files) (sym p.0) (refused_files files e p.1 exact only)
 
 -- files that were opened
-pub judged_sound : (files : BlockFiles) (shown : Shown) (series samples : ℕ) → block_in (or_meta (range_said files.meta.items)) files ≡ Ok shown → IsSpelledAs files shown.range shown.part
+pub judged_sound : (files : Files) (shown : Shown) (series samples : ℕ) → block_in (or_meta (range_said files.meta)) files ≡ Ok shown → IsSpelledAs files shown.range shown.part
     → series ≡ length shown.part → samples ≡ sample_count shown.part → IsJudged files (Sound series samples)
 judged_sound files shown series samples exact found s n = record {
   first = ap₂ Sound s n ∙ sym (ap judgement_of exact);

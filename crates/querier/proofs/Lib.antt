@@ -7,3 +7,4 @@ pub mod Paths
 pub mod LineEnds
 pub mod FirstUnread
 pub mod Sendings
+pub mod WholeFiles

@@ -14,7 +14,7 @@ use Rattle.head.specs.Heads.{BlockPart}
 use Rattle.snapshots.specs.declared.error.OpenError.TheVariants as store
 use Rattle.querier.specs.Checking.{IsJudgedAt}
 use Rattle.querier.specs.Faults.{block_fault}
-use Rattle.querier.specs.Judging.{block_in, IsSpelledAs}
+use Rattle.querier.specs.Judging.{block_in, bytes_of, IsSpelledAs}
 use Rattle.querier.specs.Opening.{IsBlockAt, AreBlocksAt, IsBlockFault, IsFirstFault, IsOpeningFault}
 use Rattle.querier.specs.Reading.{Reads, AreRead, IsReadingFault, paths_of}
 use Rattle.querier.specs.declared.fault.Fault.{Fault}
@@ -23,6 +23,7 @@ use Rattle.querier.specs.declared.fault.Refusal.TheVariants.{Labels, Matcher, Se
 use Rattle.querier.specs.declared.files.BlockFiles.{BlockFiles}
 use Rattle.querier.specs.declared.judgement.Judgement.TheVariants as judgement
 use Rattle.querier.proofs.Judgements.{said_part, refused_files}
+use Rattle.querier.proofs.WholeFiles.{whole_of, whole_found, whole_judged}
 use Rattle.querier.proofs.Paths.{paths_of_more, parts_of_paths}
 
 AllZip_more : {A B : Type 0} (R : A → B → Type 0) (xs : List A) (ys : List B) (x : A) (y : B) → AllZip R xs ys → R x y → AllZip R (xs ++ x ∷ []) (ys ++ y ∷ [])
@@ -52,13 +53,13 @@ unopened reads directory (Words error) h = h
 unopened reads directory (Refused refusal) h = absurd h
 
 module _ (reads : Reads) (directory : List ℕ) (files : BlockFiles) (read : AreRead reads directory files) where
-  judged_at : (e : BlockError) → (e ≡ block.Memory → ⊥) → Fails e (block_in (or_meta (range_said files.meta.items)) files)
-      → ((range : ℤ × ℤ) (part : Part) → IsSpelledAs files range part → Fails e (said_part part)) → IsJudgedAt reads directory (judgement.Refused e)
-  judged_at e other exact only = record { files = files; read = read; judged = refused_files files e other exact only }
+  judged_at : (e : BlockError) → (e ≡ block.Memory → ⊥) → Fails e (block_in (or_meta (range_said files.meta.items)) (bytes_of files))
+      → ((range : ℤ × ℤ) (part : Part) → IsSpelledAs (bytes_of files) range part → Fails e (said_part part)) → IsJudgedAt reads directory (judgement.Refused e)
+  judged_at e other exact only = record { files = whole_of reads directory files read; found = whole_found reads directory files read; judged = whole_judged reads directory files read (judgement.Refused e) (refused_files (bytes_of files) e other exact only) }
 
   -- files that were read and refused
-  pub refused_at : (e : BlockError) → Fails e (block_in (or_meta (range_said files.meta.items)) files)
-      → ((range : ℤ × ℤ) (part : Part) → IsSpelledAs files range part → Fails e (said_part part)) → IsBlockFault reads directory (block_fault e)
+  pub refused_at : (e : BlockError) → Fails e (block_in (or_meta (range_said files.meta.items)) (bytes_of files))
+      → ((range : ℤ × ℤ) (part : Part) → IsSpelledAs (bytes_of files) range part → Fails e (said_part part)) → IsBlockFault reads directory (block_fault e)
   refused_at block.Memory exact only = tt
   refused_at block.Meta exact only = judged_at block.Meta (λ m. cc) exact only
   refused_at (block.Index e) exact only = judged_at (block.Index e) (λ m. cc) exact only

@@ -3,11 +3,10 @@ use Rattle.std.specs.Prelude.{◌≡◌, ℕ, List, [], ◌∷◌, ◌++◌, Boo
 use Rattle.std.specs.List.{AllByRecursion, flat_map, list_any}
 use Rattle.std.specs.Io.KnownBytes.{Appends}
 use Rattle.querier.specs.Judging.{IsJudged}
-use Rattle.querier.specs.Reading.{Reads, AreRead, IsUnread}
+use Rattle.querier.specs.Reading.{Reads, Files, AreFilesAt, IsUnread}
 use Rattle.querier.specs.Sending.{AppendsPrefix}
 use Rattle.querier.specs.declared.fault.Fault.{Fault}
 use Rattle.querier.specs.declared.fault.Fault.TheVariants.{Words, Refused, CannotRead, CannotWrite, Memory}
-use Rattle.querier.specs.declared.files.BlockFiles.{BlockFiles}
 use Rattle.querier.specs.declared.judgement.Judgement.{Judgement}
 use Rattle.querier.specs.declared.judgement.Judgement.TheVariants as judgement
 use Rattle.querier.specs.declared.report.Outcome.{Outcome}
@@ -23,10 +22,10 @@ judgement_text (judgement.Refused error) = codes "refused " ++ code_of error
 abbrev pub judgement_line : List ℕ → Judgement → List ℕ
 judgement_line directory judgement = directory ++ (codes ": " ++ (judgement_text judgement ++ 10 ∷ []))
 
--- what the files of a directory are judged to be, as they were read
+-- what the files of a directory, each of them whole, are judged to be
 pub record IsJudgedAt (reads : Reads) (directory : List ℕ) (judgement : Judgement) : Type 0 where
-  pub files : BlockFiles
-  pub read : AreRead reads directory files
+  pub files : Files
+  pub found : AreFilesAt reads directory files
   pub judged : IsJudged files judgement
 
 -- a directory with its judgement

@@ -6,17 +6,16 @@ use Rattle.head.specs.Heads.{BlockPart, SnapshotParts}
 use Rattle.snapshots.specs.declared.error.OpenError.TheVariants as store
 use Rattle.querier.specs.Checking.{IsJudgedAt}
 use Rattle.querier.specs.Judging.{IsSpelledAs}
-use Rattle.querier.specs.Reading.{Reads, AreRead, IsUnread}
+use Rattle.querier.specs.Reading.{Reads, Files, AreFilesAt, IsUnread}
 use Rattle.querier.specs.declared.fault.Fault.{Fault}
 use Rattle.querier.specs.declared.fault.Fault.TheVariants.{Words, Refused, CannotRead, CannotWrite, Memory}
 use Rattle.querier.specs.declared.fault.Refusal.TheVariants.{Labels, Matcher, Selector, Query, Commit, Block, Open, Snapshot}
-use Rattle.querier.specs.declared.files.BlockFiles.{BlockFiles}
 use Rattle.querier.specs.declared.judgement.Judgement.TheVariants as judgement
 
--- the block that a directory holds: the bytes of its files, as they were read, spell its range and its part
+-- the block that a directory holds: the bytes of its files spell its range and its part
 pub record IsBlockAt (reads : Reads) (directory : List ℕ) (block : BlockPart) : Type 0 where
-  pub files : BlockFiles
-  pub read : AreRead reads directory files
+  pub files : Files
+  pub found : AreFilesAt reads directory files
   pub spelled : IsSpelledAs files (block.min, block.max) block.part
 
 -- the blocks that directories hold, in their order

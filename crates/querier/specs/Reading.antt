@@ -60,6 +60,20 @@ pub record AreRead (reads : Reads) (directory : List ℕ) (files : BlockFiles) :
   pub chunks : IsRead reads directory Chunks files.chunks.items
   pub tombstones : IsRead reads directory Tombstones files.tombstones.items
 
+-- the bytes of four files
+pub record Files : Type 0 where
+  pub meta : List ℕ
+  pub index : List ℕ
+  pub chunks : List ℕ
+  pub tombstones : List ℕ
+
+-- the four files of a directory, each of them whole
+pub record AreFilesAt (reads : Reads) (directory : List ℕ) (files : Files) : Type 0 where
+  pub meta : reads (path_of directory Meta) (Some files.meta)
+  pub index : reads (path_of directory Index) (Some files.index)
+  pub chunks : reads (path_of directory Chunks) (Some files.chunks)
+  pub tombstones : reads (path_of directory Tombstones) (Some files.tombstones)
+
 -- a file of a directory can be read
 pub record IsFound (reads : Reads) (directory : List ℕ) (name : FileName) : Type 0 where
   pub file : List ℕ

@@ -4,7 +4,7 @@ ghost use Rattle.std.specs.Prelude.{◌≡◌, ℤ, IfOk, Ok};
 ghost use Rattle.labels.specs.Parts.{Part};
 ghost use Rattle.block.specs.Metas.{or_meta, range_said};
 ghost use Rattle.block.specs.Outcome.{Gives};
-ghost use Rattle.querier.specs.Judging.{block_in, IsJudged, IsRefusalOf, IsSpelledAs};
+ghost use Rattle.querier.specs.Judging.{block_in, bytes_of, IsJudged, IsRefusalOf, IsSpelledAs};
 ghost use Rattle.querier.specs.Checking.{is_refused};
 
 use crate::files::BlockFiles;
@@ -57,9 +57,9 @@ pub fn open<T: Threads + Sync>(
     alloc: Global,
     files: BlockFiles,
 ) -> Result<Block, BlockError>
-    ensures exact { Gives (λ b. b) result (block_in (or_meta (range_said files.meta.items)) files) }
-    ensures found { IfOk result (λ b. IsSpelledAs files b.range b.part) }
-    ensures only { (range : ℤ × ℤ) (part : Part) → IsSpelledAs files range part → Gives (λ b. b.part) result (Ok part) }
+    ensures exact { Gives (λ b. b) result (block_in (or_meta (range_said files.meta.items)) (bytes_of files)) }
+    ensures found { IfOk result (λ b. IsSpelledAs (bytes_of files) b.range b.part) }
+    ensures only { (range : ℤ × ℤ) (part : Part) → IsSpelledAs (bytes_of files) range part → Gives (λ b. b.part) result (Ok part) }
 {
     let BlockFiles {
         meta,
@@ -95,7 +95,7 @@ pub fn judge<T: Threads + Sync>(
     alloc: Global,
     files: BlockFiles,
 ) -> Result<Judgement, AllocError>
-    ensures { IfOk result (λ judgement. IsJudged files judgement) }
+    ensures { IfOk result (λ judgement. IsJudged (bytes_of files) judgement) }
 {
     match open(rt, alloc, files) {
         Ok(block) => Ok(Judgement::Sound {

@@ -1,5 +1,6 @@
 use Rattle.std.proofs.lemmas.Result.{err_from_is_err_and}
 use Rattle.querier.proofs.Openings.{unopened, refused_at}
+use Rattle.querier.proofs.WholeFiles.{whole_of, whole_found, whole_spelled}
 use Rattle.querier.proofs.opening.open_one.Goals as goal
 
 pub returns-in_err-block-clause-err : goal.returns-in_err-block-clause-err
@@ -13,4 +14,8 @@ returns-in_err-open-clause-err g c =
     rw (p.1, p.2) (refused_at _ _ c.in_ok-block.block c.in_ok-block.ensures.ok _ c.in_err-open.ensures.exact c.in_err-open.ensures.only)
 
 pub returns-clause-ok : goal.returns-clause-ok
-returns-clause-ok g c = record { files = c.in_ok-block.block; read = c.in_ok-block.ensures.ok; spelled = c.in_ok-open.ensures.found }
+returns-clause-ok g c = record {
+  files = whole_of _ _ c.in_ok-block.block c.in_ok-block.ensures.ok;
+  found = whole_found _ _ c.in_ok-block.block c.in_ok-block.ensures.ok;
+  spelled = whole_spelled _ _ c.in_ok-block.block c.in_ok-block.ensures.ok _ _ c.in_ok-open.ensures.found;
+}
