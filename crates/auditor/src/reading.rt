@@ -407,6 +407,8 @@ impl Reply {
 /// The law of names: a text is read as the name of a part only where it is that name as lines write
 /// it, and so is each name of a block.
 pub fn name_law()
-    ensures written { (text : List ℕ) (name : PartName) → name_said text ≡ Some name → name_text name ≡ text }
-    ensures block { (n : ℕ) → n < 18446744073709551616 → name_said (name_text (Block n)) ≡ Some (Block n) }
+    ensures written { (text : List ℕ) (name : PartName)
+        → name_said text ≡ Some name → name_text name ≡ text }
+    ensures block { (n : ℕ) → n < 18446744073709551616
+        → name_said (name_text (Block n)) ≡ Some (Block n) }
 {}
