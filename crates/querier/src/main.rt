@@ -36,6 +36,14 @@ fn main(rt: HostRuntime) -> io::Result<ExitCode> {
     let (stdout, stderr) = (rt.stdout(), rt.stderr());
     let mut out = io::writer(&stdout);
     let mut err = io::writer(&stderr);
-    let ending = run::run(alloc, &rt, words.as_slice(), &mut input, &mut out, &mut err);
+    let ending = run::run(
+        &rt,
+        alloc,
+        &rt,
+        words.as_slice(),
+        &mut input,
+        &mut out,
+        &mut err,
+    );
     Ok(ExitCode::from(ending.status))
 }

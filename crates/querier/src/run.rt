@@ -18,9 +18,10 @@ use crate::select::select;
 use clap::error::ErrorKind;
 use head::Snapshot;
 use matchers::Query;
-use query_http::{AuditedAnswer, answer, body};
+use query_http::{AuditedAnswer, answer_by_workers, body};
 use std::alloc::{AllocError, Global};
 use std::io::{self, Read, Write};
+use std::thread::Threads;
 
 /// Writes a text whole and passes it on.
 pub fn send<W: Write>(out: &mut W, text: &[u8]) -> io::Result<()>
@@ -39,8 +40,9 @@ fn line_of(alloc: Global, answer: &AuditedAnswer) -> Result<Vec<u8>, AllocError>
     Ok(line)
 }
 
-/// Writes the audited answer to a query as one line, and nothing else.
-pub fn write_answer<W: Write>(
+/// Writes the audited answer to a query as one line, and nothing else. Each part is searched by a worker of its own.
+pub fn write_answer<T: Threads + Sync, W: Write>(
+    rt: &T,
     alloc: Global,
     snapshot: &Snapshot,
     query: &Query,
@@ -50,25 +52,26 @@ pub fn write_answer<W: Write>(
     ensures faults { IfErr result (λ fault. IsWritingFault fault) }
     ensures kept { IfErr result (λ fault. KeepsAt fault (W.contents out.old) (W.contents out.new)) }
 {
-    let answer = answer(alloc, snapshot, query)?;
+    let answer = answer_by_workers(rt, alloc, snapshot, query)?;
     let line = line_of(alloc, &answer)?;
     send(out, line.as_slice())?;
     Ok(())
 }
 
 /// Writes the audited answer to `up{job="a"}` from 0 to 100 over the store of the two batches.
-fn demo<W: Write>(alloc: Global, out: &mut W) -> Result<(), Fault>
+fn demo<T: Threads + Sync, W: Write>(rt: &T, alloc: Global, out: &mut W) -> Result<(), Fault>
     ensures ok { OnOk result (WritesAnswerAfter demo_events (demo_query (pos 0) (pos 100)) (W.contents out.old) (W.contents out.new)) }
     ensures faults { IfErr result (λ fault. IsWritingFault fault) }
     ensures kept { IfErr result (λ fault. KeepsAt fault (W.contents out.old) (W.contents out.new)) }
 {
     let events = vec![in alloc; first_batch(alloc)?, second_batch(alloc)?]?;
     let snapshot = store_after(alloc, events.as_slice())?;
-    write_answer(alloc, &snapshot, &query(alloc, 0, 100)?, out)
+    write_answer(rt, alloc, &snapshot, &query(alloc, 0, 100)?, out)
 }
 
 /// Does what a line asks for.
-fn answer_line<F: ReadFiles, W: Write>(
+fn answer_line<T: Threads + Sync, F: ReadFiles, W: Write>(
+    rt: &T,
     alloc: Global,
     files: &F,
     line: Line<'_>,
@@ -77,16 +80,17 @@ fn answer_line<F: ReadFiles, W: Write>(
     ensures { IsLineEnd (F.may_read files.now) line.entry (W.contents out.old) (W.contents out.new) result }
 {
     match line {
-        Line::Demo => demo(alloc, out)?,
+        Line::Demo => demo(rt, alloc, out)?,
         Line::Select(selection, directories) => {
-            select(alloc, files, selection, directories.as_slice(), out)?;
+            select(rt, alloc, files, selection, directories.as_slice(), out)?;
         }
         Line::Check(directories) => return check(alloc, files, directories.as_slice(), out),
     }
     Ok(Outcome::Done)
 }
 
-fn execute<F: ReadFiles, W: Write>(
+fn execute<T: Threads + Sync, F: ReadFiles, W: Write>(
+    rt: &T,
     alloc: Global,
     files: &F,
     words: &[String],
@@ -98,7 +102,7 @@ fn execute<F: ReadFiles, W: Write>(
     ensures kept { IsCheckLine (texts_of words.now) ⊎ KeepsAtEnd (W.contents out.old) (W.contents out.new) result }
 {
     match read_line(alloc, words) {
-        Ok(line) => answer_line(alloc, files, line, out),
+        Ok(line) => answer_line(rt, alloc, files, line, out),
         Err(error) if matches!(error.kind(), ErrorKind::OutOfMemory) => Err(Fault::Memory),
         Err(error) if error.use_stderr() => Err(Fault::Words(error)),
         Err(help) => {
@@ -144,7 +148,8 @@ fn tell<E: Write>(end: &Result<Outcome, Fault>, to: &mut E) -> io::Result<()>
 /// 0 where it is done; 1 for a refusal, with its code on the second writer, or in the lines of a check; 2 for a fault
 /// of the words, with the usage on the second writer; 3 where a file cannot be read, which is named there, or the first
 /// writer fails; 4 where memory does.
-pub fn run<F: ReadFiles, R: Read, W: Write, E: Write>(
+pub fn run<T: Threads + Sync, F: ReadFiles, R: Read, W: Write, E: Write>(
+    rt: &T,
     alloc: Global,
     files: &F,
     words: &[String],
@@ -157,7 +162,7 @@ pub fn run<F: ReadFiles, R: Read, W: Write, E: Write>(
     ensures nothing_written { (result.status ≡ 0) ⊎ (result.status ≡ 3) ⊎ IsCheckLine (texts_of words.now) ⊎ Keeps (W.contents out.old) (W.contents out.new) }
     ensures nothing_told { result.status ≡ 0 → Keeps (E.contents err.old) (E.contents err.new) }
 {
-    let end = execute(alloc, files, words, out);
+    let end = execute(rt, alloc, files, words, out);
     let told = tell(&end, err);
     Ending {
         status: status_of(&end),

@@ -12,6 +12,7 @@ use crate::run::write_answer;
 use matchers::{Query, Selector};
 use std::alloc::Global;
 use std::io::Write;
+use std::thread::Threads;
 
 /// The query of a selection: the selector is checked, and then the range.
 fn query_of(alloc: Global, selection: Selection<'_>) -> Result<Query, Fault>
@@ -25,7 +26,8 @@ fn query_of(alloc: Global, selection: Selection<'_>) -> Result<Query, Fault>
 /// Writes the audited answer to a selection over the blocks in these directories as one line, and nothing else.
 ///
 /// The selector is checked, then the range, then each directory in the order given, and then their number.
-pub fn select<F: ReadFiles, W: Write>(
+pub fn select<T: Threads + Sync, F: ReadFiles, W: Write>(
+    rt: &T,
     alloc: Global,
     files: &F,
     selection: Selection<'_>,
@@ -38,5 +40,5 @@ pub fn select<F: ReadFiles, W: Write>(
 {
     let query = query_of(alloc, selection)?;
     let snapshot = open_store(alloc, files, directories)?;
-    write_answer(alloc, &snapshot, &query, out)
+    write_answer(rt, alloc, &snapshot, &query, out)
 }

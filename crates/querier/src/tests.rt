@@ -112,6 +112,7 @@ fn a_writer_that_refuses_is_told(rt: HostRuntime) -> Result<(), Fault> {
     let mut out = room.as_mut_slice();
     let mut err = Vec::new(alloc);
     let ending = run(
+        &rt,
         alloc,
         &DIRECTORIES,
         words.as_slice(),
@@ -132,6 +133,7 @@ fn a_fault_that_cannot_be_told_keeps_its_status(rt: HostRuntime) -> Result<(), F
     let mut room = [0u8; 5];
     let mut err = room.as_mut_slice();
     let ending = run(
+        &rt,
         alloc,
         &DIRECTORIES,
         words.as_slice(),
@@ -214,8 +216,8 @@ fn a_call_refused_memory_changes_nothing_and_answers_when_made_again(
 #[test]
 fn a_program_refused_memory_says_so(rt: HostRuntime) -> Result<(), Fault> {
     let alloc = rt.alloc();
-    let told = match told_by(alloc, &DIRECTORIES, &["demo"]) {
-        Err(_) => told_by(alloc, &DIRECTORIES, &["demo"])?,
+    let told = match told_by(&rt, alloc, &DIRECTORIES, &["demo"]) {
+        Err(_) => told_by(&rt, alloc, &DIRECTORIES, &["demo"])?,
         Ok(told) => told,
     };
     match told.ending.status {

@@ -61,7 +61,7 @@ fn remove_rest(rt: &HostRuntime, folder: &str) -> io::Result<()> {
 
 /// What `check` of the folder gives.
 fn checked_in(rt: &HostRuntime, folder: &str) -> Result<Told, AllocError> {
-    told_by(rt.alloc(), rt, &["check", folder])
+    told_by(rt, rt.alloc(), rt, &["check", folder])
 }
 
 #[test]

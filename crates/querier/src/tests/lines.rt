@@ -176,7 +176,7 @@ fn a_pattern_has_at_most_256_bytes(rt: HostRuntime) -> Result<(), AllocError> {
     let alloc = rt.alloc();
     for (bytes, status) in [(256, 0), (257, 1)] {
         let selector = with_pattern_of(alloc, bytes)?;
-        let told = told_by(alloc, &DIRECTORIES, &["select", selector.as_str()])?;
+        let told = told_by(&rt, alloc, &DIRECTORIES, &["select", selector.as_str()])?;
         assert_eq!(rt; told.ending.status, status);
     }
     Ok(())

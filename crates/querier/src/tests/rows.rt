@@ -5,6 +5,7 @@ use crate::files::ReadFiles;
 use crate::run::{Ending, run};
 use std::alloc::{AllocError, Global};
 use std::process::Abort;
+use std::thread::Threads;
 use std::{io, str};
 
 /// Words, the exit status, and what goes to the first and to the second writer.
@@ -26,11 +27,17 @@ pub struct Told {
     pub err: Vec<u8>,
 }
 
-pub fn told_by<F: ReadFiles>(alloc: Global, files: &F, words: &[&str]) -> Result<Told, AllocError> {
+pub fn told_by<T: Threads + Sync, F: ReadFiles>(
+    rt: &T,
+    alloc: Global,
+    files: &F,
+    words: &[&str],
+) -> Result<Told, AllocError> {
     let words = words_of(alloc, words)?;
     let mut out = Vec::new(alloc);
     let mut err = Vec::new(alloc);
     let ending = run(
+        rt,
         alloc,
         files,
         words.as_slice(),
@@ -54,9 +61,9 @@ fn has_piece(bytes: &[u8], piece: &str) -> bool {
 }
 
 /// Fails where a piece of a row does not stand in what the program gives.
-pub fn look_for(alloc: Global, rt: &impl Abort, rows: &[Pieced]) -> Result<(), AllocError> {
+pub fn look_for(alloc: Global, rt: &(impl Abort + Threads + Sync), rows: &[Pieced]) -> Result<(), AllocError> {
     for (words, status, out, err) in rows {
-        let told = told_by(alloc, &DIRECTORIES, words)?;
+        let told = told_by(rt, alloc, &DIRECTORIES, words)?;
         assert_eq!(rt; told.ending.status, *status);
         assert!(rt; has_piece(told.out.as_slice(), out));
         assert!(rt; has_piece(told.err.as_slice(), err));
@@ -65,9 +72,9 @@ pub fn look_for(alloc: Global, rt: &impl Abort, rows: &[Pieced]) -> Result<(), A
 }
 
 /// Fails where a row is not what the program gives.
-pub fn look_at(alloc: Global, rt: &impl Abort, rows: &[Row]) -> Result<(), AllocError> {
+pub fn look_at(alloc: Global, rt: &(impl Abort + Threads + Sync), rows: &[Row]) -> Result<(), AllocError> {
     for (words, status, out, err) in rows {
-        let told = told_by(alloc, &DIRECTORIES, words)?;
+        let told = told_by(rt, alloc, &DIRECTORIES, words)?;
         assert_eq!(rt; told.ending.status, *status);
         assert_eq!(rt; told.out.as_slice(), out.as_bytes());
         assert_eq!(rt; told.err.as_slice(), err.as_bytes());
