@@ -61,7 +61,11 @@ fn has_piece(bytes: &[u8], piece: &str) -> bool {
 }
 
 /// Fails where a piece of a row does not stand in what the program gives.
-pub fn look_for(alloc: Global, rt: &(impl Abort + Threads + Sync), rows: &[Pieced]) -> Result<(), AllocError> {
+pub fn look_for(
+    alloc: Global,
+    rt: &(impl Abort + Threads + Sync),
+    rows: &[Pieced],
+) -> Result<(), AllocError> {
     for (words, status, out, err) in rows {
         let told = told_by(rt, alloc, &DIRECTORIES, words)?;
         assert_eq!(rt; told.ending.status, *status);
@@ -72,7 +76,11 @@ pub fn look_for(alloc: Global, rt: &(impl Abort + Threads + Sync), rows: &[Piece
 }
 
 /// Fails where a row is not what the program gives.
-pub fn look_at(alloc: Global, rt: &(impl Abort + Threads + Sync), rows: &[Row]) -> Result<(), AllocError> {
+pub fn look_at(
+    alloc: Global,
+    rt: &(impl Abort + Threads + Sync),
+    rows: &[Row],
+) -> Result<(), AllocError> {
     for (words, status, out, err) in rows {
         let told = told_by(rt, alloc, &DIRECTORIES, words)?;
         assert_eq!(rt; told.ending.status, *status);
