@@ -1,5 +1,5 @@
 -- Samples in the order of their times, laid over others.
-use Rattle.std.proofs.Common.{◌≡◌, ℤ, T, List, [], ◌∷◌, refl, sym, ◌∙◌, ap, subst, length, arith}
+use Rattle.std.proofs.Common.{◌≡◌, ℤ, T, List, [], ◌∷◌, ◌++◌, refl, sym, ◌∙◌, ap, subst, length, arith}
 use Rattle.std.specs.declared.cmp.Ordering.{Ordering}
 use Rattle.std.specs.declared.cmp.Ordering.TheVariants.{Less, Equal, Greater}
 use Rattle.std.specs.Ordering.{int_cmp, is_lt, ordering_reverse}
@@ -92,3 +92,29 @@ next-nothing over (y ∷ ys) x xs e none h = absurd (omega (arith, none))
 pub is_sorted-laid_times : (over under : List (ℤ × ℤ)) → T (is_sorted int_cmp under) → T (is_sorted int_cmp (laid_times over under))
 is_sorted-laid_times [] under h = h
 is_sorted-laid_times (s ∷ ss) under h = is_sorted-put int_cmp int_cmp_total s.0 s.1 (laid_times ss under) (is_sorted-laid_times ss under h)
+
+laid-nil : (over : List (ℤ × ℤ)) → T (is_sorted int_cmp over) → laid_times over [] ≡ over
+laid-nil [] h = refl
+laid-nil (x ∷ xs) h = laid-nothing x xs h ∙ ap (λ ss. x ∷ ss) (laid-nil xs (second_T _ _ h))
+
+below-last : (t : ℤ) (front : List (ℤ × ℤ)) (last : ℤ × ℤ) → T (below_all int_cmp t (front ++ last ∷ [])) → int_cmp t last.0 ≡ Less
+below-last t [] last h = less_is _ (first_T _ _ h)
+below-last t (e ∷ es) last h = below-last t es last (second_T _ _ h)
+
+laid-behind : (x : ℤ × ℤ) (xs front : List (ℤ × ℤ)) (last : ℤ × ℤ) → T (is_sorted int_cmp (x ∷ xs)) → T (is_sorted int_cmp (front ++ last ∷ [])) → int_cmp last.0 x.0 ≡ Less
+    → laid_times (x ∷ xs) (front ++ last ∷ []) ≡ (front ++ last ∷ []) ++ x ∷ xs
+laid-behind x xs [] last over under less =
+    laid-under last (x ∷ xs) [] (both_T _ _ (T_of _ (ap is_lt less)) (below_later last.0 x.0 xs less (first_T _ _ over)))
+    ∙ ap (λ ss. last ∷ ss) (laid-nil (x ∷ xs) over)
+laid-behind x xs (y ∷ ys) last over under less =
+    let before = int_cmp_total.trans y.0 last.0 x.0 (below-last y.0 ys last (first_T _ _ under)) less in
+    laid-under y (x ∷ xs) (ys ++ last ∷ []) (both_T _ _ (T_of _ (ap is_lt before)) (below_later y.0 x.0 xs before (first_T _ _ over)))
+    ∙ ap (λ ss. y ∷ ss) (laid-behind x xs ys last over (second_T _ _ under) less)
+
+-- samples that all come after others stand behind them
+pub laid-after : (over under : List (ℤ × ℤ)) (x : ℤ × ℤ) (xs front : List (ℤ × ℤ)) (last : ℤ × ℤ) → over ≡ x ∷ xs → under ≡ front ++ last ∷ []
+    → T (is_sorted int_cmp over) → T (is_sorted int_cmp under) → int_cmp last.0 x.0 ≡ Less → laid_times over under ≡ under ++ over
+laid-after over under x xs front last e f h k less =
+    ap (λ o. laid_times o under) e ∙ ap (laid_times (x ∷ xs)) f
+    ∙ laid-behind x xs front last (subst (λ (o : List (ℤ × ℤ)). T (is_sorted int_cmp o)) e h) (subst (λ (u : List (ℤ × ℤ)). T (is_sorted int_cmp u)) f k) less
+    ∙ ap (λ (u : List (ℤ × ℤ)). u ++ x ∷ xs) (sym f) ∙ ap (λ (o : List (ℤ × ℤ)). under ++ o) (sym e)

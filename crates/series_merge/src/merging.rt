@@ -2,6 +2,7 @@
 
 ghost use Rattle.std.specs.Prelude.{◌≡◌, ◌++◌, ◌+◌, ◌<◌, IfOk, OnOk, IfSome, IfNone, T, List, [], ◌∷◌, reverse, length};
 ghost use Rattle.std.specs.List.{All, Contains};
+ghost use Rattle.std.specs.Bool.{OnTrue};
 ghost use Rattle.std.specs.Ordering.{int_cmp};
 ghost use Rattle.std.specs.FinMap.Entries.{is_sorted};
 ghost use Rattle.labels.specs.Rows.{AreRows, IsFull};
@@ -47,14 +48,28 @@ fn next_laid<'a>(
     }
 }
 
-/// Samples laid over others: of two at one time the first stands.
-fn lay_samples(alloc: Global, over: &[Sample], under: &[Sample]) -> Result<Vec<Sample>, AllocError>
+/// Whether some samples all come after others, so that they are laid over them by standing at the end.
+fn come_after(over: &[Sample], under: &[Sample]) -> bool
     requires over_rises { T (is_sorted int_cmp over.now) }
     requires under_rises { T (is_sorted int_cmp under.now) }
-    ensures laid { IfOk result (λ laid. laid.items ≡ laid_times over.now under.now) }
-    ensures rises { IfOk result (λ laid. T (is_sorted int_cmp laid.items)) }
+    ensures { OnTrue result (laid_times over.now under.now ≡ under.now ++ over.now) }
 {
-    let mut laid = Vec::new(alloc);
+    let Some((first, _)) = over.split_first() else {
+        return false;
+    };
+    let Some((last, _)) = under.split_last() else {
+        return false;
+    };
+    matches!(order_of_times(*last, *first), Ordering::Less)
+}
+
+/// Samples laid over others, one at a time.
+fn lay_each(alloc: Global, over: &[Sample], under: &[Sample]) -> Result<Vec<Sample>, AllocError>
+    requires over_rises { T (is_sorted int_cmp over.now) }
+    requires under_rises { T (is_sorted int_cmp under.now) }
+    ensures { IfOk result (λ laid. laid.items ≡ laid_times over.now under.now) }
+{
+    let mut laid = Vec::with_capacity(alloc, over.len().saturating_add(under.len()))?;
     let mut over = over;
     let mut under = under;
     while let Some((sample, over_rest, under_rest)) = next_laid(over, under) {
@@ -62,6 +77,26 @@ fn lay_samples(alloc: Global, over: &[Sample], under: &[Sample]) -> Result<Vec<S
         over = over_rest;
         under = under_rest;
     }
+    Ok(laid)
+}
+
+/// Samples laid over others: of two at one time the first stands. Where they all come after the others, only they are
+/// copied.
+fn lay_samples(
+    alloc: Global,
+    over: &[Sample],
+    under: Vec<Sample>,
+) -> Result<Vec<Sample>, AllocError>
+    requires over_rises { T (is_sorted int_cmp over.now) }
+    requires under_rises { T (is_sorted int_cmp under.items) }
+    ensures laid { IfOk result (λ laid. laid.items ≡ laid_times over.now under.items) }
+    ensures rises { IfOk result (λ laid. T (is_sorted int_cmp laid.items)) }
+{
+    if !come_after(over, under.as_slice()) {
+        return lay_each(alloc, over, under.as_slice());
+    }
+    let mut laid = under;
+    laid.extend_from_slice(over)?;
     Ok(laid)
 }
 
@@ -78,8 +113,9 @@ fn join_row(alloc: Global, later: &mut Vec<Row>, row: Row) -> Result<(), AllocEr
         return Ok(());
     };
     if row.labels() == next.labels() {
-        let samples = lay_samples(alloc, row.samples(), next.samples())?;
-        let (labels, _) = row.into_parts();
+        let (labels, over) = row.into_parts();
+        let (_, under) = next.into_parts();
+        let samples = lay_samples(alloc, over.as_slice(), under)?;
         later.push(Row::new(labels, samples))?;
         return Ok(());
     }

@@ -2,7 +2,7 @@ use Rattle.std.proofs.Common.{◌≡◌, ◌++◌, ◌+◌, T, length}
 use Rattle.std.specs.Ordering.{int_cmp}
 use Rattle.std.specs.FinMap.Entries.{is_sorted}
 use Rattle.series_merge.specs.Merging.{laid_times}
-use Rattle.series_merge.proofs.merging.lay_samples.Given as goal
+use Rattle.series_merge.proofs.merging.lay_each.Given as goal
 
 abbrev pub invariant-loop-sample : goal.invariant-loop-sample
 invariant-loop-sample l = record {
