@@ -14,7 +14,10 @@ fn cut(alloc: Global, at: &Snapshot, time: i64) -> Result<Snapshot, CommitError>
 
 /// Whether the blocks have so many samples each, and no block is left.
 fn counts(at: &Snapshot, want: &[u64]) -> bool {
-    at.blocks().iter().map(|b| b.sample_count()).eq(want.iter().copied())
+    at.blocks()
+        .iter()
+        .map(|b| b.sample_count())
+        .eq(want.iter().copied())
 }
 
 fn refusal_after(alloc: Global, at: &Snapshot, sample: Wanted) -> Option<CommitError> {
@@ -31,7 +34,10 @@ fn a_cut_leaves_the_samples_from_its_time_on(rt: HostRuntime) {
     assert!(rt; counts(&now, &[6]));
     assert!(rt; holds(alloc, &now, 1, " 20:1"));
     assert!(rt; holds(alloc, &now, 6, " 20:6"));
-    assert_eq!(rt; refusal_after(alloc, &now, (1, 20, 9)), Some(CommitError::Duplicate { at: 0 }));
+    assert_eq!(rt;
+        refusal_after(alloc, &now, (1, 20, 9)),
+        Some(CommitError::Duplicate { at: 0 })
+    );
 }
 
 /// A head of three series, cut at 20.
@@ -81,7 +87,10 @@ fn full(alloc: Global) -> Option<Snapshot> {
 fn a_64th_block_is_refused(rt: HostRuntime) {
     let alloc = rt.alloc();
     let last = full(alloc).expect(&rt, "63 cuts are accepted");
-    assert_eq!(rt; cut(alloc, &last, 65).err(), Some(CommitError::TooManyParts));
+    assert_eq!(rt;
+        cut(alloc, &last, 65).err(),
+        Some(CommitError::TooManyParts)
+    );
     assert_eq!(rt; cut(alloc, &last, 64).err(), Some(CommitError::CutTooLow));
     assert!(rt; counts(&last, &[1; 63]));
     assert!(rt; holds(alloc, &last, 1, " 64:64"));
