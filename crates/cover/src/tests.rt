@@ -211,9 +211,9 @@ fn no_list_moves_uncounted(rt: HostRuntime) -> Result<(), Fail> {
         let counting = Counting::new(&six);
         let query = equal(alloc, pairs, from, to)?;
         let (part, moves) = cover_with_moves(alloc, &&counting, &query)?;
-        assert_eq!(rt;
-            moves.of_lists,
-            counting.of_lists(),
+        // A seek to where a list stands already is told, and moves no list.
+        assert!(rt;
+            counting.of_lists() <= moves.of_lists,
             "{pairs:?} from {from} to {to}"
         );
         assert_eq!(rt;

@@ -1,5 +1,5 @@
 -- What a pass has seen that was told of the two events of the demo, and why the demo is not answered.
-use Rattle.std.proofs.Common.{◌≡◌, ℕ, List, [], ◌∷◌, ◌++◌, length, length-append, Ok, sym, ap, ◌∙◌, subst, arith, lit<, append_assoc}
+use Rattle.std.proofs.Common.{◌≡◌, ℕ, List, [], ◌∷◌, ◌++◌, length, length-append, sym, ap, ◌∙◌, subst, arith, lit<, append_assoc}
 use Rattle.std.proofs.lemmas.List.{append-nil}
 use mathlib.Core.List.{IsPrefix}
 use Rattle.labels.specs.Contents.{Content}
@@ -8,7 +8,7 @@ use Rattle.matchers.specs.Views.{QueryView}
 use Rattle.head.specs.Blocks.{opening_of}
 use Rattle.head.specs.Heads.{SnapshotParts, world_of}
 use Rattle.head.specs.Limits.{most}
-use Rattle.head.specs.Worlds.{Event, World, replayed}
+use Rattle.head.specs.Worlds.{Event, replayed}
 use Rattle.snapshots.specs.declared.entry.Entry.{Entry}
 use Rattle.snapshots.specs.Replays.{events_in, EndsWith}
 use Rattle.snapshots.specs.Views.{Known}
@@ -56,11 +56,11 @@ module _ (opening : SnapshotParts) (query : QueryView) (before after : Known) (a
   answer_after empty h events = record {
     snapshot = h.snapshot;
     replayed = ap (λ (s : SnapshotParts). replayed most (world_of s) demo_events) empty
-        ∙ (ap (replayed most (world_of opening)) (sym events) ∙ (h.replay ∙ ap Ok (sym h.has_world)));
+        ∙ (ap (replayed most (world_of opening)) (sym events) ∙ h.replay.0);
     audited = record {
       each = h.parts;
       rows = subst (λ (c : Content). AreRows answer.rows.items (asked_of c query))
-          (sym (world_content h.snapshot ∙ ap (λ (w : World). w.content) h.has_world)) h.rows;
+          (sym (world_content h.snapshot)) h.rows;
     };
   }
 

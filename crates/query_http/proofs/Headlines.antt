@@ -7,7 +7,7 @@ use Rattle.labels.specs.Rows.{AreRows}
 use Rattle.labels.specs.Parts.{content_of}
 use Rattle.matchers.specs.Views.{QueryView}
 use Rattle.head.specs.Heads.{SnapshotParts, parts_of, world_of}
-use Rattle.block_search.specs.Skipping.{asked_parts}
+use Rattle.block_search.specs.Skipping.{LosesNothing, asked_parts}
 use Rattle.snapshots.specs.Replays.{IsAfter}
 use Rattle.snapshots.specs.Views.{Known}
 use Rattle.query_http.specs.Audited.{IsAnswered}
@@ -22,15 +22,15 @@ world_content s = refl
 module _ (opening : SnapshotParts) (query : QueryView) (before after : Known) (answer : AuditedAnswer) where
   pub headline : (s : SnapshotParts) → IsPrefix before.seen after.seen → IsPrefix before.told after.seen → IsAfter opening after.seen s
       → AreRows answer.rows.items (asked_of (content_of (parts_of s)) query)
+      → LosesNothing query s
       → AllZip (IsAnswered query) (asked_parts query s) answer.parts.items
       → IsHeadline opening query before after answer
-  headline s seen told after_events rows parts = record {
+  headline s seen told after_events rows whole parts = record {
     seen = seen;
     told = told;
-    world = world_of s;
-    replay = after_events.0;
-    rows = subst (λ (c : Content). AreRows answer.rows.items (asked_of c query)) (world_content s) rows;
     snapshot = s;
-    has_world = refl;
+    replay = after_events;
+    rows = subst (λ (c : Content). AreRows answer.rows.items (asked_of c query)) (world_content s) rows;
+    whole = whole;
     parts = parts;
   }

@@ -104,6 +104,7 @@ pub fn answer(
 ) -> Result<AuditedAnswer, AllocError>
     ensures each { IfOk result (λ a. AllZip (IsAnswered query.now) (asked_parts query.now snapshot.now) a.parts.items) }
     ensures rows { IfOk result (λ a. AreRows a.rows.items (selected (satisfies_all query.now.matchers) query.now.from query.now.to (content_of (parts_of snapshot.now)))) }
+    ensures whole { OnOk result (LosesNothing query.now snapshot.now) }
 {
     let answers = search_one_by_one(alloc, snapshot, query)?;
     audited(alloc, snapshot, query, answers)
@@ -118,6 +119,7 @@ pub fn answer_by_workers<R: Threads + Sync>(
 ) -> Result<AuditedAnswer, AllocError>
     ensures each { IfOk result (λ a. AllZip (IsAnswered query.now) (asked_parts query.now snapshot.now) a.parts.items) }
     ensures rows { IfOk result (λ a. AreRows a.rows.items (selected (satisfies_all query.now.matchers) query.now.from query.now.to (content_of (parts_of snapshot.now)))) }
+    ensures whole { OnOk result (LosesNothing query.now snapshot.now) }
 {
     let answers = search(rt, alloc, snapshot, query, &OpenGate)?;
     audited(alloc, snapshot, query, answers)
