@@ -7,3 +7,4 @@ pub mod RowTexts
 pub mod HeadTexts
 pub mod FieldTexts
 pub mod ReadTexts
+pub mod FitTexts

@@ -44,5 +44,6 @@ DeleteMeans body (Ok (Delete matchers from to)) =
 DeleteMeans body (Ok _) = ⊥
 DeleteMeans body (Err BadBody) = deletion_of body ≡ None
 DeleteMeans body (Err (BadSelector error)) =
-    (form : List ℕ × ℤ × ℤ) × (deletion_of body ≡ Some form) × (error ≢ selector.Memory) × RefusedBy form.0 error
+    (form : List ℕ × ℤ × ℤ) × (deletion_of body ≡ Some form)
+    × (error ≢ selector.Memory) × RefusedBy form.0 error
 DeleteMeans body (Err _) = ⊥

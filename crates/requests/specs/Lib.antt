@@ -15,3 +15,4 @@ pub mod Heads
 pub mod Looks
 pub mod Fields
 pub mod Reading
+pub mod Fitting

@@ -37,5 +37,6 @@ SelectMeans query (Ok (Select asked)) =
 SelectMeans query (Ok _) = ⊥
 SelectMeans query (Err BadQuery) = asked_in (query_pairs query) ≡ None
 SelectMeans query (Err (BadSelector error)) =
-    (form : List ℕ × ℤ × ℤ) × (asked_in (query_pairs query) ≡ Some form) × (error ≢ selector.Memory) × RefusedBy form.0 error
+    (form : List ℕ × ℤ × ℤ) × (asked_in (query_pairs query) ≡ Some form)
+    × (error ≢ selector.Memory) × RefusedBy form.0 error
 SelectMeans query (Err _) = ⊥

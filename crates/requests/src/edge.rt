@@ -8,14 +8,15 @@ ghost use Rattle.requests.specs.Edge.{IsCounted};
 #[derive(Clone, Copy, Debug, PartialEq, Eq, Drop)]
 pub struct Fault;
 
-/// What a request is read from: it gives its bytes in pieces of its own choice. A reader over memory tells in its
-/// meaning which bytes are left; a socket tells none.
+/// What a request is read from: it gives its bytes in pieces of its own choice. A reader over
+/// memory tells in its meaning which bytes are left; a socket tells none.
 pub trait Inlet {
     ghost input: { Self → Option (List ℕ) };
 
     ghost failed_reads: { Self → ℕ };
 
-    /// Reads into a buffer, and says how many bytes; none only at the end of the input or where the buffer is empty.
+    /// Reads into a buffer, and says how many bytes; none only at the end of the input or where
+    /// the buffer is empty.
     fn read(&mut self, buf: &mut [u8]) -> Result<usize, Fault>
         ensures bound { IfOk result (λ n. n ≤ length buf.new) }
         ensures bytes { ReadConsumes (input self.old) (input self.new) result buf.new }

@@ -24,7 +24,8 @@ fn is_named(buf: &[u8], header: HeaderSpan, name: &[u8]) -> bool
 
 fn only_field<'b>(buf: &'b [u8], headers: &[HeaderSpan], name: &[u8]) -> Option<&'b [u8]>
     requires { All (IsHeaderWithin (length buf.now)) headers.now }
-    ensures { option_map (λ v. v.now) result ≡ only (field_values name.now (map (header_bytes buf.now) headers.now)) }
+    ensures { option_map (λ v. v.now) result
+        ≡ only (field_values name.now (map (header_bytes buf.now) headers.now)) }
 {
     let mut found: Option<&[u8]> = None;
     for header in headers {

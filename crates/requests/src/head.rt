@@ -28,7 +28,8 @@ pub fn read_some<R: Inlet>(
     ensures end { IfOk result (λ n. n ≡ 0 → IsAtEnd (R.input reader.new)) }
     ensures counted { OnOk result (R.failed_reads reader.new ≡ R.failed_reads reader.old) }
     ensures err { IfErr result (λ e. (e ≡ ReadError.Fault) ⊎ (e ≡ ReadError.Memory)) }
-    ensures failed { IsErrOf result ReadError.Fault → IsCounted (R.failed_reads reader.old) (R.failed_reads reader.new) }
+    ensures failed { IsErrOf result ReadError.Fault
+        → IsCounted (R.failed_reads reader.old) (R.failed_reads reader.new) }
 {
     let mut piece = [0u8; 8192];
     let limit = most.min(8192);
@@ -59,14 +60,17 @@ fn look_at(buf: &[u8]) -> Look
     }
 }
 
-/// Reads until a head has come: `H1` or `H2` where none comes. What follows the head may have come with it.
+/// Reads until a head has come: `H1` or `H2` where none comes. What follows the head may have come
+/// with it.
 pub fn read_head<R: Inlet>(alloc: Global, reader: &mut R) -> Result<Vec<u8>, ReadError>
     ensures ok { IfOk result (λ buf. BeginsWithHead buf.items) }
     ensures short { IfOk result (λ buf. vec_len buf ≤ 8192) }
-    ensures taken { IfOk result (λ buf. Consumes (R.input reader.old) (R.input reader.new) buf.items) }
+    ensures taken { IfOk result
+        (λ buf. Consumes (R.input reader.old) (R.input reader.new) buf.items) }
     ensures counted { OnOk result (R.failed_reads reader.new ≡ R.failed_reads reader.old) }
     ensures err { IfErr result (λ e. IfSome (R.input reader.old) (EndsHead e)) }
-    ensures failed { IsErrOf result ReadError.Fault → IsCounted (R.failed_reads reader.old) (R.failed_reads reader.new) }
+    ensures failed { IsErrOf result ReadError.Fault
+        → IsCounted (R.failed_reads reader.old) (R.failed_reads reader.new) }
 {
     let mut buf = Vec::new(alloc);
     while buf.len() < MAX_HEAD {

@@ -1,8 +1,27 @@
-//! The side of HTTP that needs no store: what a request asks, why it is refused, and how a reply is spelled.
+//! The side of HTTP that needs no store: what a request asks, why it is refused, and how a reply
+//! is spelled.
 //!
-//! A [`Refusal`] is one of `H1` to `H10`; its `reply` is the whole text that answers it. [`success_reply`] is the reply
-//! that carries a body, and [`done_reply`] the one of a change that was made. It stands on `labels` and `matchers`, on
-//! `httparse` for heads, `form_urlencoded` for query strings and `serde_json` for bodies.
+//! [`read_request`] reads one [`Request`] from an [`Inlet`], or answers the first refusal that its
+//! bytes meet. Its contract speaks of the whole input and never of the pieces that it came in:
+//! `specs/Reading.antt` says what the bytes mean, head by head and body by body. A request that it
+//! answers is fit for a store: a batch has at most 4,096 samples, each at a time, a deletion has a
+//! range and at most 16 matchers, a cut is at a time.
+//!
+//! A [`Refusal`] is one of `H1` to `H10`; its `reply` is the whole text that answers it.
+//! [`success_reply`] is the reply that carries a body, and [`done_reply`] the one of a change that
+//! was made. The writing side and what is done with a request belong to the caller. It stands on
+//! `labels` and `matchers`, on `httparse` for heads, `form_urlencoded` for query strings and
+//! `serde_json` for bodies; statuses are those of RFC 9110 and RFC 6585.
+//!
+//! ```text
+//! match read_request(alloc, &mut inlet) {
+//!     Ok(Request::Cut(t)) => ..,                  // POST /cut with {"at":20}
+//!     Err(ReadError::Refused(refusal)) => send(outlet, refusal.reply(alloc)?.as_slice()),
+//!     ..
+//! }
+//! ```
+//!
+//! The reply to `GET /none HTTP/1.1` and an empty line:
 //!
 //! ```text
 //! HTTP/1.1 404 Not Found

@@ -5,6 +5,7 @@ ghost use Rattle.std.specs.Io.KnownBytes.{Consumes};
 ghost use Rattle.httparse.specs.Grammar.{RequestHead};
 ghost use Rattle.requests.specs.Edge.{IsCounted};
 ghost use Rattle.requests.specs.Fields.{IsHeadIn};
+ghost use Rattle.requests.specs.Fitting.{IsFit};
 ghost use Rattle.requests.specs.Heads.{BeginsWithHead};
 ghost use Rattle.requests.specs.Requests.{Told};
 ghost use Rattle.requests.specs.Reading.{EndsBody, BodyMeans, Answers};
@@ -22,9 +23,12 @@ use std::alloc::Global;
 // Reads until the buffer has so many bytes: `H7` where the input ends before.
 fn read_body<R: Inlet>(reader: &mut R, buf: &mut Vec<u8>, end: usize) -> Result<(), ReadError>
     ensures whole { OnOk result (end ≤ vec_len buf.new) }
-    ensures bytes { OnOk result ((bs : List ℕ) × (buf.new.items ≡ buf.old.items ++ bs) × Consumes (R.input reader.old) (R.input reader.new) bs) }
-    ensures err { IfErr result (λ e. IfSome (R.input reader.old) (λ more. EndsBody buf.old.items end e more)) }
-    ensures failed { IsErrOf result ReadError.Fault → IsCounted (R.failed_reads reader.old) (R.failed_reads reader.new) }
+    ensures bytes { OnOk result ((bs : List ℕ) × (buf.new.items ≡ buf.old.items ++ bs)
+        × Consumes (R.input reader.old) (R.input reader.new) bs) }
+    ensures err { IfErr result (λ e. IfSome (R.input reader.old)
+        (λ more. EndsBody buf.old.items end e more)) }
+    ensures failed { IsErrOf result ReadError.Fault
+        → IsCounted (R.failed_reads reader.old) (R.failed_reads reader.new) }
 {
     while buf.len() < end {
         let most = end - buf.len();
@@ -59,7 +63,9 @@ fn read_after<R: Inlet>(alloc: Global, reader: &mut R, buf: Vec<u8>) -> Result<R
     requires begins { BeginsWithHead buf.items }
     requires short { vec_len buf ≤ 8192 }
     ensures means { AsksAfter buf.items (R.input reader.old) result }
-    ensures failed { IsErrOf result ReadError.Fault → IsCounted (R.failed_reads reader.old) (R.failed_reads reader.new) }
+    ensures fits { IfOk result IsFit }
+    ensures failed { IsErrOf result ReadError.Fault
+        → IsCounted (R.failed_reads reader.old) (R.failed_reads reader.new) }
 {
     let mut buf = buf;
     let head = head_of(buf.as_slice());
@@ -82,13 +88,17 @@ fn read_after<R: Inlet>(alloc: Global, reader: &mut R, buf: Vec<u8>) -> Result<R
 
 ghost use Rattle.requests.specs.Reading.{AsksAfter};
 
-/// Reads one request, to the last byte of its body where it has one, and no further than 8,192 bytes past its head.
+/// Reads one request: its head, and its body where its path takes one.
 ///
-/// The answer is the request that the bytes mean, or the first refusal that they meet, `H1` to `H8`, however they were
-/// cut into pieces; `Closed` where the input ends before its first byte.
+/// The answer is the request that the bytes mean, or the first refusal that they meet, `H1` to
+/// `H8`, however they were cut into pieces; `Closed` where the input ends before its first byte.
+/// `Fault` comes only where a read failed. It takes memory for the bytes of the request and the
+/// values in it, and time linear in their number.
 pub fn read_request<R: Inlet>(alloc: Global, reader: &mut R) -> Result<Request, ReadError>
     ensures means { IfSome (R.input reader.old) (Answers result) }
-    ensures failed { IsErrOf result ReadError.Fault → IsCounted (R.failed_reads reader.old) (R.failed_reads reader.new) }
+    ensures fits { IfOk result IsFit }
+    ensures failed { IsErrOf result ReadError.Fault
+        → IsCounted (R.failed_reads reader.old) (R.failed_reads reader.new) }
 {
     let buf = read_head(alloc, reader)?;
     read_after(alloc, reader, buf)

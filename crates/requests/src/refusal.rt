@@ -15,8 +15,8 @@ pub struct Cause {
     pub at: Option<usize>,
 }
 
-/// Why a request is refused. Several may hold: the first in this order is answered, save that `H8` comes before `H7`
-/// and `H6` comes behind them in a body.
+/// Why a request is refused. Several may hold: the first in this order is answered, save that `H8`
+/// comes before `H7` and `H6` comes behind them in a body.
 #[derive(Clone, Copy, Debug, PartialEq, Eq, Drop)]
 pub enum Refusal {
     /// `H1`: the bytes are no request head of at most 64 fields, or end within one.

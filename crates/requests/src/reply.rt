@@ -58,7 +58,8 @@ fn caused_value(alloc: Global, code: &str, cause: Cause) -> Result<Value, AllocE
 }
 
 fn refusal_value(alloc: Global, refusal: &Refusal) -> Result<Value, AllocError>
-    ensures { IfOk result (λ v. view v ≡ refusal_data (code_of refusal.now) (cause_of refusal.now)) }
+    ensures { IfOk result
+        (λ v. view v ≡ refusal_data (code_of refusal.now) (cause_of refusal.now)) }
 {
     let code = refusal.code();
     match refusal.cause() {
@@ -74,7 +75,8 @@ fn refusal_body(alloc: Global, refusal: &Refusal) -> Result<Vec<u8>, AllocError>
 }
 
 impl Refusal {
-    /// The reply that answers the refused request: its body names the refusal, and the cause behind it.
+    /// The reply that answers the refused request: its body names the refusal, and the cause
+    /// behind it.
     pub fn reply(&self, alloc: Global) -> Result<Vec<u8>, AllocError>
         ensures { IfOk result (λ text. text.items ≡ refusal_text self.now) }
     {

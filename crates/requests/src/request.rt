@@ -15,8 +15,8 @@ pub enum Request {
     Select(Query),
     /// Samples that are to be committed as one batch, in this order: at most [`MAX_SAMPLES`].
     Write(Vec<(LabelSet, Sample)>),
-    /// The samples from one time to another, both in the range, of the label sets that satisfy the matchers, 1 to 16,
-    /// are to be deleted.
+    /// The samples from one time to another, both in the range, of the label sets that satisfy the
+    /// matchers, 1 to 16, are to be deleted.
     Delete {
         matchers: Vec<Matcher>,
         from: i64,

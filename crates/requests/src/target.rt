@@ -80,7 +80,8 @@ pub fn takes_query(path: Path) -> bool
     }
 }
 
-/// The path that a method and a target ask for: `H3`, then `H4`, then `H5` for a `?` that no path of `POST` has.
+/// The path that a method and a target ask for: `H3`, then `H4`, then `H5` for a `?` that no path
+/// of `POST` has.
 pub fn path_asked(method: &[u8], target: &[u8]) -> Result<Path, Refusal>
     ensures { result ≡ path_asked method.now target.now }
 {

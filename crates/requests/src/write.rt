@@ -35,7 +35,8 @@ fn pairs_in(
     alloc: Global,
     members: &Map<String, Value>,
 ) -> Result<Option<Vec<(String, String)>>, AllocError>
-    ensures { IfOk result (λ o. option_map (λ v. pairs_of v.items) o ≡ pairs_in (members_view members.now.entries)) }
+    ensures { IfOk result (λ o. option_map (λ v. pairs_of v.items) o
+        ≡ pairs_in (members_view members.now.entries)) }
 {
     let mut pairs = Vec::new(alloc);
     for (name, value) in members {
@@ -111,7 +112,8 @@ fn samples_at(alloc: Global, value: &Value) -> Result<Option<Vec<Sample>>, Alloc
 // The label set of these pairs, if they make one.
 fn label_set(alloc: Global, pairs: Vec<(String, String)>) -> Result<Option<LabelSet>, AllocError>
     ensures { IfOk result (λ o. MatchOption o (is_labelled (pairs_of pairs.items) ≡ false)
-        (λ labels. (is_labelled (pairs_of pairs.items) ≡ true) × IsMadeOf labels (pairs_of pairs.items))) }
+        (λ labels. (is_labelled (pairs_of pairs.items) ≡ true)
+        × IsMadeOf labels (pairs_of pairs.items))) }
 {
     match LabelSet::new(alloc, pairs) {
         Ok(labels) => Ok(Some(labels)),
@@ -122,7 +124,8 @@ fn label_set(alloc: Global, pairs: Vec<(String, String)>) -> Result<Option<Label
 
 fn row_in(alloc: Global, value: &Value) -> Result<Option<Row>, AllocError>
     ensures { IfOk result (λ o. MatchOption o (row_in (view value.now) ≡ None)
-        (λ row. (written : WrittenRow) × (row_in (view value.now) ≡ Some written) × IsRowOf written row)) }
+        (λ row. (written : WrittenRow) × (row_in (view value.now) ≡ Some written)
+        × IsRowOf written row)) }
 {
     if !has_members(value, 2) {
         return Ok(None);
@@ -144,7 +147,8 @@ ghost use Rattle.std.specs.Prelude.{ℕ, List, true, false, None, Some};
 
 fn rows_in(alloc: Global, items: &[Value]) -> Result<Option<Vec<Row>>, AllocError>
     ensures { IfOk result (λ o. MatchOption o (rows_in (items_view items.now) ≡ None)
-        (λ rows. (written : List WrittenRow) × (rows_in (items_view items.now) ≡ Some written) × AreRowsOf written rows.items)) }
+        (λ rows. (written : List WrittenRow) × (rows_in (items_view items.now) ≡ Some written)
+        × AreRowsOf written rows.items)) }
 {
     let mut rows = Vec::with_capacity(alloc, items.len())?;
     for item in items {
@@ -158,7 +162,8 @@ fn rows_in(alloc: Global, items: &[Value]) -> Result<Option<Vec<Row>>, AllocErro
 
 fn rows_of(alloc: Global, body: &[u8]) -> Result<Option<Vec<Row>>, AllocError>
     ensures { IfOk result (λ o. MatchOption o (rows_of body.now ≡ None)
-        (λ rows. (written : List WrittenRow) × (rows_of body.now ≡ Some written) × AreRowsOf written rows.items)) }
+        (λ rows. (written : List WrittenRow) × (rows_of body.now ≡ Some written)
+        × AreRowsOf written rows.items)) }
 {
     let Some(value) = json_of(alloc, body)? else {
         return Ok(None);
@@ -174,7 +179,8 @@ fn push_samples(
     labels: &LabelSet,
     samples: &[Sample],
 ) -> Result<(), AllocError>
-    ensures { OnOk result (batch.new.items ≡ batch.old.items ++ map (λ (s : ℤ × ℤ). (labels.now, s)) samples.now) }
+    ensures { OnOk result (batch.new.items
+        ≡ batch.old.items ++ map (λ (s : ℤ × ℤ). (labels.now, s)) samples.now) }
 {
     for sample in samples {
         batch.push((labels.try_clone()?, *sample))?;
@@ -192,8 +198,8 @@ fn batch_of(alloc: Global, rows: &[Row]) -> Result<Vec<(LabelSet, Sample)>, Allo
     Ok(batch)
 }
 
-/// The batch that a body asks: `H7` where it is not of the form, or has a label set that is refused, a time that is
-/// none, or more than [`MAX_SAMPLES`] samples.
+/// The batch that a body asks: `H7` where it is not of the form, or has a label set that is
+/// refused, a time that is none, or more than [`MAX_SAMPLES`] samples.
 pub fn write(alloc: Global, body: &[u8]) -> Result<Request, ReadError>
     ensures { Told (WriteMeans body.now) result }
 {

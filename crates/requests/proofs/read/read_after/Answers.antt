@@ -1,5 +1,7 @@
 use Rattle.std.proofs.Common.{◌≡◌, ◌+◌, ◌≤◌, false, length, rules, ap, slice_range}
 use Rattle.requests.specs.Targets.{takes_query}
+use Rattle.requests.specs.Reading.{BodyMeans}
+use Rattle.requests.proofs.FitTexts.{told_fit, body_fit}
 use Rattle.requests.proofs.ReadTexts.{asked_body}
 use Rattle.requests.proofs.read.read_after.Goals as goal
 
@@ -15,3 +17,8 @@ returns-clause-means g c =
     (rw c.as_slice.ensures.value at head.1) c.in-Ok.ensures post c.in-Ok-length.is more.1 more.2 whole
     (ap (λ l. slice_range l c.head_of-head.result.end (c.head_of-head.result.end + c.in-Ok-length.length)) c.deref.ensures.value)
     c.body_request.ensures
+
+pub returns-clause-fits : goal.returns-clause-fits
+returns-clause-fits g c =
+    let body = slice_range c.deref.result.now c.head_of-head.result.end (c.head_of-head.result.end + c.in-Ok-length.length) in
+    told_fit (BodyMeans c.in-Ok.path body) (body_fit c.in-Ok.path body) c.body_request.result c.body_request.ensures
