@@ -9,11 +9,14 @@
 //! digits.
 #![tactic(auto)]
 
+mod actions;
 mod audited;
 mod brackets;
+mod engine;
 mod error;
 mod headline;
 mod number;
+mod outlet;
 mod parts;
 mod plain;
 mod reply;
@@ -24,6 +27,8 @@ mod strings;
 mod tests;
 
 pub use audited::{AnsweredPart, AuditedAnswer, answer, answer_by_workers};
+pub use engine::{Served, serve_one};
 pub use error::AskError;
 pub use headline::ask;
+pub use outlet::{Outlet, write_whole};
 pub use reply::body;

@@ -54,6 +54,9 @@ fn workers_answer_as_one_thread_does(rt: HostRuntime) -> Result<(), Fail> {
     let query = query(alloc, r#"up{job="a"}"#, 0, 100)?;
     let answer = answer_by_workers(&rt, alloc, &snapshot, &query)?;
     let text = body(alloc, &answer.parts, &answer.rows)?;
-    assert_eq!(rt; text.as_slice(), text_of(alloc, &snapshot, &query)?.as_slice());
+    assert_eq!(rt;
+        text.as_slice(),
+        text_of(alloc, &snapshot, &query)?.as_slice()
+    );
     Ok(())
 }
