@@ -1,5 +1,6 @@
 -- What a request gets: the reply to it, and what the pass and the seat of its worker are then.
-use Rattle.std.specs.Prelude.{◌≡◌, ◌≢◌, ◌⊎◌, ℕ, List, [], Option, None, Some, Ok, Err, IfSome, codes, ⊤}
+use Rattle.std.specs.Prelude.{◌≡◌, ◌≢◌, ◌⊎◌, ℕ, List, [], Option, None, Some, Ok, Err, IfSome, codes}
+use Rattle.std.specs.Prelude.{⊤}
 use Rattle.std.specs.Io.KnownBytes.{Appends}
 use mathlib.Core.List.{IsPrefix}
 use Rattle.serde_json.specs.Written.{compact_text}
@@ -91,7 +92,8 @@ pub record IsAcceptedReply (opening : SnapshotParts) (event : Event) (before aft
   pub number : status ≡ Done
   pub spelled : text ≡ done_text
 
--- the event was refused by its step on a snapshot of the store, or for the seat, and nothing changed
+-- The event was refused by its step on a snapshot of the store, or for the seat, and nothing
+-- changed.
 pub record IsRefusedReply (opening : SnapshotParts) (event : Event) (before after : Worker)
     (status : Status) (text : List ℕ) : Type 0 where
   pub error : CommitError

@@ -10,7 +10,8 @@ ghost use Rattle.requests.specs.Fitting.{IsFit};
 ghost use Rattle.requests.specs.Replies.{reply_text, done_text};
 ghost use Rattle.requests.specs.declared.status.Status.TheVariants.{Done, Conflict};
 ghost use Rattle.query_http.specs.Reply.{body_text};
-ghost use Rattle.query_http.specs.Serving.{worker, IsIdle, IsRefusal, IsQueryReply, IsEventReply, IsRequestReply, conflict_body};
+ghost use Rattle.query_http.specs.Serving.{worker, IsIdle, IsRefusal, conflict_body};
+ghost use Rattle.query_http.specs.Serving.{IsQueryReply, IsEventReply, IsRequestReply};
 ghost use Rattle.query_http.specs.Serving.{refused_at as place_refused};
 
 use crate::audited::AuditedAnswer;
@@ -58,7 +59,8 @@ fn change_reply(alloc: Global) -> Result<Reply, AllocError>
 /// The reply that carries an answer.
 fn answer_reply(alloc: Global, answer: &AuditedAnswer) -> Result<Reply, AllocError>
     ensures number { IfOk result (λ r. r.status ≡ Done) }
-    ensures spelled { IfOk result (λ r. r.text.items ≡ reply_text Done (body_text answer.now.parts.items answer.now.rows.items)) }
+    ensures spelled { IfOk result (λ r. r.text.items
+        ≡ reply_text Done (body_text answer.now.parts.items answer.now.rows.items)) }
 {
     let body = body(alloc, answer.parts.as_slice(), answer.rows.as_slice())?;
     let text = success_reply(alloc, body.as_slice())?;
@@ -70,7 +72,8 @@ fn answer_reply(alloc: Global, answer: &AuditedAnswer) -> Result<Reply, AllocErr
 
 /// Answers a query from the pass's next snapshot, or with `H10`.
 fn select<J: Naming>(alloc: Global, pass: &mut Pass<J>, query: &Query) -> Result<Reply, AllocError>
-    ensures reply { IfOk result (λ r. IsQueryReply J.opening query.now pass.old pass.new r.status r.text.items) }
+    ensures reply { IfOk result (λ r.
+        IsQueryReply J.opening query.now pass.old pass.new r.status r.text.items) }
     ensures told { pass.new.told ≡ pass.old.told }
     ensures seen { IsPrefix pass.old.seen pass.new.seen }
 {
@@ -97,7 +100,8 @@ fn refused_at(error: CommitError) -> Option<usize>
 fn conflict_reply(alloc: Global, error: CommitError) -> Result<Reply, AllocError>
     ensures no_memory { IfOk result (λ _. error ≢ Memory) }
     ensures number { IfOk result (λ r. r.status ≡ Conflict) }
-    ensures spelled { IfOk result (λ r. r.text.items ≡ reply_text Conflict (conflict_body error)) }
+    ensures spelled { IfOk result (λ r.
+        r.text.items ≡ reply_text Conflict (conflict_body error)) }
 {
     if error == CommitError::Memory {
         return Err(AllocError);
@@ -131,7 +135,8 @@ fn write<J: Naming, C: Wait + Drop>(
     seat: &mut Seat<J>,
     committer: &Committer<J, C>,
 ) -> Result<Reply, AllocError>
-    ensures reply { IfOk result (λ r. IsEventReply J.opening (batch samples.items) (worker pass.old seat.old) (worker pass.new seat.new) r.status r.text.items) }
+    ensures reply { IfOk result (λ r. IsEventReply J.opening (batch samples.items)
+        (worker pass.old seat.old) (worker pass.new seat.new) r.status r.text.items) }
     ensures kept { OnErr result ((pass.new ≡ pass.old) × (seat.new ≡ seat.old)) }
 {
     let appender = appender_of(alloc, samples)?;
@@ -155,7 +160,9 @@ fn delete<J: Naming, C: Wait + Drop>(
     committer: &Committer<J, C>,
 ) -> Result<Reply, AllocError>
     requires { IsTrue (is_deletion asked.0.items asked.1 asked.2) }
-    ensures reply { IfOk result (λ r. IsEventReply J.opening (deletion asked.0.items asked.1 asked.2) (worker pass.old seat.old) (worker pass.new seat.new) r.status r.text.items) }
+    ensures reply { IfOk result (λ r. IsEventReply J.opening
+        (deletion asked.0.items asked.1 asked.2)
+        (worker pass.old seat.old) (worker pass.new seat.new) r.status r.text.items) }
     ensures kept { OnErr result ((pass.new ≡ pass.old) × (seat.new ≡ seat.old)) }
 {
     let (matchers, from, to) = asked;
@@ -179,7 +186,8 @@ fn cut_at<J: Naming, C: Wait + Drop>(
     committer: &Committer<J, C>,
 ) -> Result<Reply, AllocError>
     requires { IsTrue (is_time at) }
-    ensures reply { IfOk result (λ r. IsEventReply J.opening (cut at) (worker pass.old seat.old) (worker pass.new seat.new) r.status r.text.items) }
+    ensures reply { IfOk result (λ r. IsEventReply J.opening (cut at)
+        (worker pass.old seat.old) (worker pass.new seat.new) r.status r.text.items) }
     ensures kept { OnErr result ((pass.new ≡ pass.old) × (seat.new ≡ seat.old)) }
 {
     let done = change_reply(alloc)?;
@@ -203,7 +211,8 @@ pub(crate) fn act<J: Naming, C: Wait + Drop>(
     committer: &Committer<J, C>,
 ) -> Result<Reply, AllocError>
     requires { IsFit request }
-    ensures reply { IfOk result (λ r. IsRequestReply J.opening request (worker pass.old seat.old) (worker pass.new seat.new) r.status r.text.items) }
+    ensures reply { IfOk result (λ r. IsRequestReply J.opening request
+        (worker pass.old seat.old) (worker pass.new seat.new) r.status r.text.items) }
     ensures idle { OnErr result (IsIdle (worker pass.old seat.old) (worker pass.new seat.new)) }
 {
     match request {

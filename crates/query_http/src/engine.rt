@@ -2,7 +2,9 @@
 
 ghost use Rattle.std.specs.Prelude.{◌≡◌, [], IfOk, IfErr, IfSome, OnErr, IsErrOf};
 ghost use Rattle.requests.specs.Edge.{IsCounted};
-ghost use Rattle.query_http.specs.Serving.{worker, IsIdle, IsReply, IsSilent, Serves};
+ghost use Rattle.requests.specs.Fitting.{IsFit};
+ghost use Rattle.query_http.specs.Serving.{worker, IsIdle, IsRefusal, IsSilent, Serves};
+ghost use Rattle.query_http.specs.Serving.{IsRequestReply, IsReply};
 
 use crate::actions::{Reply, act, refusal_reply};
 use crate::outlet::{Outlet, write_whole};
@@ -47,7 +49,8 @@ fn do_asked<J: Naming, C: Wait + Drop>(
     committer: &Committer<J, C>,
 ) -> Result<Reply, Served>
     requires { IsFit request }
-    ensures reply { IfOk result (λ r. IsRequestReply J.opening request (worker pass.old seat.old) (worker pass.new seat.new) r.status r.text.items) }
+    ensures reply { IfOk result (λ r. IsRequestReply J.opening request
+        (worker pass.old seat.old) (worker pass.new seat.new) r.status r.text.items) }
     ensures memory { IfErr result (λ s. s ≡ Served.NoMemory) }
     ensures idle { OnErr result (IsIdle (worker pass.old seat.old) (worker pass.new seat.new)) }
 {
@@ -66,11 +69,14 @@ fn reply_to<J: Naming, C: Wait + Drop, R: Inlet>(
     seat: &mut Seat<J>,
     committer: &Committer<J, C>,
 ) -> Result<Reply, Served>
-    ensures reply { IfOk result (λ r. IsReply J.opening (R.input reader.old) (worker pass.old seat.old) (worker pass.new seat.new) r.status r.text.items) }
+    ensures reply { IfOk result (λ r. IsReply J.opening (R.input reader.old)
+        (worker pass.old seat.old) (worker pass.new seat.new) r.status r.text.items) }
     ensures silent { IfErr result IsSilent }
     ensures idle { OnErr result (IsIdle (worker pass.old seat.old) (worker pass.new seat.new)) }
-    ensures closed { IsErrOf result Served.Closed → IfSome (R.input reader.old) (λ bytes. bytes ≡ []) }
-    ensures reads { IsErrOf result Served.ReadFault → IsCounted (R.failed_reads reader.old) (R.failed_reads reader.new) }
+    ensures closed { IsErrOf result Served.Closed
+        → IfSome (R.input reader.old) (λ bytes. bytes ≡ []) }
+    ensures reads { IsErrOf result Served.ReadFault
+        → IsCounted (R.failed_reads reader.old) (R.failed_reads reader.new) }
 {
     match read_request(alloc, reader) {
         Ok(request) => do_asked(rt, alloc, request, pass, seat, committer),
@@ -80,9 +86,6 @@ fn reply_to<J: Naming, C: Wait + Drop, R: Inlet>(
         Err(ReadError::Memory) => Err(Served::NoMemory),
     }
 }
-
-ghost use Rattle.requests.specs.Fitting.{IsFit};
-ghost use Rattle.query_http.specs.Serving.{IsRefusal, IsRequestReply};
 
 /// Serves one connection: one request is read, done and replied to.
 ///
@@ -99,10 +102,14 @@ pub fn serve_one<J: Naming, C: Wait + Drop, R: Inlet, W: Outlet>(
     seat: &mut Seat<J>,
     committer: &Committer<J, C>,
 ) -> Served
-    ensures serves { Serves J.opening (R.input reader.old) (worker pass.old seat.old) (worker pass.new seat.new) (W.output writer.old) (W.output writer.new) result }
+    ensures serves { Serves J.opening (R.input reader.old)
+        (worker pass.old seat.old) (worker pass.new seat.new)
+        (W.output writer.old) (W.output writer.new) result }
     ensures silent { IsSilent result → writer.new ≡ writer.old }
-    ensures reads { result ≡ Served.ReadFault → IsCounted (R.failed_reads reader.old) (R.failed_reads reader.new) }
-    ensures writes { result ≡ Served.WriteFault → IsCounted (W.failed_writes writer.old) (W.failed_writes writer.new) }
+    ensures reads { result ≡ Served.ReadFault
+        → IsCounted (R.failed_reads reader.old) (R.failed_reads reader.new) }
+    ensures writes { result ≡ Served.WriteFault
+        → IsCounted (W.failed_writes writer.old) (W.failed_writes writer.new) }
 {
     let reply = match reply_to(rt, alloc, reader, pass, seat, committer) {
         Ok(reply) => reply,

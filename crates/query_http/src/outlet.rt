@@ -1,6 +1,7 @@
 //! What a reply is written to.
 
-ghost use Rattle.std.specs.Prelude.{◌≡◌, ◌<◌, ◌≤◌, ℕ, List, Option, length, IfOk, OnOk, OnErr};
+ghost use Rattle.std.specs.Prelude.{◌≡◌, ◌<◌, ◌≤◌, ℕ, List, Option, length};
+ghost use Rattle.std.specs.Prelude.{IfOk, OnOk, OnErr};
 ghost use Rattle.std.specs.Io.KnownBytes.{WriteAppends, Appends};
 ghost use Rattle.requests.specs.Edge.{IsCounted};
 ghost use Rattle.query_http.specs.Writing.{AppendsFront};
@@ -19,8 +20,10 @@ pub trait Outlet {
     fn write(&mut self, buf: &[u8]) -> Result<usize, Fault>
         ensures bound { IfOk result (λ n. n ≤ length buf.now) }
         ensures bytes { WriteAppends (output self.old) (output self.new) result buf.now }
-        ensures ok { IfOk result (λ n. 0 < n → failed_writes self.new ≡ failed_writes self.old) }
-        ensures none { IfOk result (λ n. n ≡ 0 → 0 < length buf.now → IsCounted (failed_writes self.old) (failed_writes self.new)) }
+        ensures ok { IfOk result (λ n. 0 < n
+            → failed_writes self.new ≡ failed_writes self.old) }
+        ensures none { IfOk result (λ n. n ≡ 0 → 0 < length buf.now
+            → IsCounted (failed_writes self.old) (failed_writes self.new)) }
         ensures err { OnErr result (IsCounted (failed_writes self.old) (failed_writes self.new)) };
 }
 
@@ -29,7 +32,8 @@ pub fn write_whole<W: Outlet>(writer: &mut W, text: &[u8]) -> Result<(), Fault>
     ensures ok { OnOk result (Appends (W.output writer.old) (W.output writer.new) text.now) }
     ensures counted { OnOk result (W.failed_writes writer.new ≡ W.failed_writes writer.old) }
     ensures err { OnErr result (AppendsFront (W.output writer.old) (W.output writer.new) text.now) }
-    ensures failed { OnErr result (IsCounted (W.failed_writes writer.old) (W.failed_writes writer.new)) }
+    ensures failed { OnErr result
+        (IsCounted (W.failed_writes writer.old) (W.failed_writes writer.new)) }
 {
     let mut done = 0;
     while done < text.len() {
