@@ -1,5 +1,5 @@
 -- What the bytes read so far say of the input.
-use Rattle.std.proofs.Common.{◌≡◌, ℕ, ◌≤◌, List, ◌++◌, length, Option, None, Some, IfSome, inr}
+use Rattle.std.proofs.Common.{ℕ, ◌≤◌, List, length, Option, None, Some, IfSome, inr}
 use Rattle.std.specs.Io.KnownBytes.{Consumes}
 use Rattle.httparse.specs.Spans.{RequestOverflows}
 use Rattle.requests.specs.Heads.{IsBadHead}

@@ -1,6 +1,6 @@
 -- What the parts of written rows give the whole.
 use Rattle.std.proofs.Common.{◌≡◌, ℕ, ℤ, ◌+◌, ◌<◌, add-one, List, [], ◌∷◌, ◌++◌, length, map, drop, drop-cons, get_or, true, Option, None, Some, option_map, refl, sym, ap, ◌∙◌, append_assoc, ne_eqb, String, Global, string_bytes}
-use Rattle.std.specs.Prelude.{◌==◌, option_and_then}
+use Rattle.std.specs.Prelude.{option_and_then}
 use Rattle.std.proofs.lemmas.List.{map-append}
 use Rattle.labels.specs.Pairs.{pairs_of}
 use Rattle.labels.specs.Labels.{Labels}

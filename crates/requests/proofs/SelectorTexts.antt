@@ -1,5 +1,5 @@
 -- What the parts of a query string give the whole.
-use Rattle.std.proofs.Common.{◌≡◌, ◌<◌, ◌≤◌, ℕ, ℤ, true, false, List, length, Option, None, Some, Result, Ok, Err, IsErrOf, refl, sym, ap, true≢false, arith, ◌∙◌}
+use Rattle.std.proofs.Common.{◌≡◌, ◌<◌, ◌≤◌, ℕ, ℤ, true, false, List, length, Some, Err, IsErrOf, refl, sym, ap, true≢false, arith, ◌∙◌}
 use Rattle.matchers.specs.Views.{MatcherView, QueryView}
 use Rattle.matchers.specs.Queries.{is_range}
 use Rattle.matchers.specs.declared.error.QueryError.{QueryError}

@@ -1,5 +1,5 @@
 -- A text that writes a time is one that `parse` reads.
-use Rattle.std.proofs.Common.{◌≡◌, ℕ, ℤ, pos, negsuc, Bool, true, false, List, [], ◌∷◌, None, Some, arith, refl, sym, ◌∙◌, ap, FitsSigned, w64, ◌≢◌, length, subst, true≢false, lit<}
+use Rattle.std.proofs.Common.{◌≡◌, ℕ, ℤ, Bool, true, false, List, [], ◌∷◌, None, Some, arith, refl, sym, FitsSigned, w64, ◌≢◌, length, subst, true≢false, lit<}
 use Rattle.std.specs.Prelude.{◌==◌, ◌&&◌, not, if◌then◌else◌}
 use Rattle.std.specs.List.{list_all}
 use Rattle.std.specs.Char.{is_ascii_digit}
@@ -8,7 +8,7 @@ use Rattle.std.proofs.lemmas.Int.{ints}
 use Rattle.std.proofs.lemmas.Str.Parse.{tells_all_ascii_digits, numerals_by_value, without_leading_plus_none}
 use Rattle.std.proofs.lemmas.Bool.{and_parts, eqb-true}
 use Rattle.labels.specs.Contents.{is_time}
-use Rattle.requests.specs.Times.{is_counted, is_integer, if_time, time_of}
+use Rattle.requests.specs.Times.{is_counted, is_integer, time_of}
 
 time_fits : (z : ℤ) → is_time z ≡ true → FitsSigned w64 z
 time_fits z e = grind (arith, ints)

@@ -24,7 +24,8 @@ CutMeans body (Ok _) = ⊥
 CutMeans body (Err BadBody) = cut_of body ≡ None
 CutMeans body (Err _) = ⊥
 
--- the text of the selector and the range, of an object with the members `from`, `selector` and `to` alone
+-- the text of the selector and the range, of an object with the members `from`, `selector` and
+-- `to` alone
 abbrev pub deletion_in : Data → Option (List ℕ × ℤ × ℤ)
 deletion_in d =
     if has_members 3 d then

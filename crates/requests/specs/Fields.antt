@@ -4,7 +4,7 @@ use Rattle.std.specs.List.{list_all, list_any}
 use Rattle.std.specs.Str.{bytes_eq}
 use Rattle.std.specs.Str.Parse.{digits_value}
 use Rattle.std.specs.Char.{to_ascii_lowercase, is_ascii_digit}
-use Rattle.httparse.specs.Grammar.{RequestHead, ReadsRequest, print_request}
+use Rattle.httparse.specs.Grammar.{RequestHead, ReadsRequest}
 use Rattle.httparse.specs.Spans.{name_and_value}
 use Rattle.requests.specs.declared.refusal.Refusal.{Refusal}
 use Rattle.requests.specs.declared.refusal.Refusal.TheVariants.{BadBody, BodyTooLong}
@@ -44,7 +44,8 @@ abbrev pub length_told : Option (List ℕ) → Result ℕ Refusal
 length_told None = Err BadBody
 length_told (Some value) = length_in value
 
--- the length of the body: what the only `Content-Length` writes, where there is no `Transfer-Encoding`
+-- the length of the body: what the only `Content-Length` writes, where there is no
+-- `Transfer-Encoding`
 abbrev pub length_asked : List (List ℕ × List ℕ) → Result ℕ Refusal
 length_asked fields =
     length_alone (has_field (codes "transfer-encoding") fields)

@@ -11,7 +11,8 @@ use Rattle.requests.specs.declared.request.Request.TheVariants.{Select, Write, D
 abbrev pub are_timed : List (Labels × (ℤ × ℤ)) → Bool
 are_timed samples = list_all (λ (s : Labels × (ℤ × ℤ)). is_time s.1.0) samples
 
--- a batch has at most 4,096 samples, each at a time; a deletion a range and at most 16 matchers; a cut is at a time
+-- a batch has at most 4,096 samples, each at a time; a deletion a range and at most 16 matchers;
+-- a cut is at a time
 abbrev pub IsFit : Request → Type 0
 IsFit (Select query) = ⊤
 IsFit (Write batch) = (length batch.items ≤ 4096) × (are_timed batch.items ≡ true)

@@ -8,13 +8,15 @@ use Rattle.requests.specs.declared.request.ReadError.TheVariants.{Closed, Fault,
 
 -- a head of at most 64 fields stands at the front
 abbrev pub BeginsWithHead : List ℕ → Type 0
-BeginsWithHead bytes = (h : RequestHead) × (rest : List ℕ) × ReadsRequest bytes h rest × (length h.fields ≤ 64)
+BeginsWithHead bytes =
+    (h : RequestHead) × (rest : List ℕ) × ReadsRequest bytes h rest × (length h.fields ≤ 64)
 
 -- the second list begins with the first
 abbrev pub IsFrontOf : List ℕ → List ℕ → Type 0
 IsFrontOf front bytes = (rest : List ℕ) × (bytes ≡ front ++ rest)
 
--- the input has a byte and ends before a head does, or whatever follows some front of it, a head has more than 64 fields
+-- the input has a byte and ends before a head does; or whatever follows some front of it, a head
+-- has more than 64 fields
 abbrev pub IsBadHead : List ℕ → Type 0
 IsBadHead input =
     (HasNoRequest input × (0 < length input) × (length input < 8192))
@@ -23,7 +25,8 @@ IsBadHead input =
 -- 8,192 bytes do not end a head that can still be one
 abbrev pub IsTooLong : List ℕ → Type 0
 IsTooLong input =
-    (front : List ℕ) × IsFrontOf front input × (length front ≡ 8192) × HasNoRequest front × MayBecomeRequest front
+    (front : List ℕ) × IsFrontOf front input × (length front ≡ 8192)
+    × HasNoRequest front × MayBecomeRequest front
 
 -- what the input is where no head was read
 abbrev pub EndsHead : ReadError → List ℕ → Type 0

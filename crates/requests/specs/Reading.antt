@@ -1,5 +1,5 @@
 -- What the bytes of a connection ask: the request of them, or the first refusal that they meet.
-use Rattle.std.specs.Prelude.{◌≡◌, ◌<◌, ◌≤◌, ◌+◌, ◌⊎◌, ◌++◌, ℕ, List, [], take, length, Option, IfSome, Result, Ok, Err, ⊤}
+use Rattle.std.specs.Prelude.{◌≡◌, ◌<◌, ◌≤◌, ◌⊎◌, ◌++◌, ℕ, List, [], take, length, Option, IfSome, Result, Ok, Err, ⊤}
 use Rattle.httparse.specs.Grammar.{RequestHead, ReadsRequest, print_request}
 use Rattle.requests.specs.declared.refusal.Refusal.{Refusal}
 use Rattle.requests.specs.declared.refusal.Refusal.TheVariants.{BadHead, HeadTooLong, BadBody}
@@ -27,7 +27,8 @@ BodyMeans Cut body meaning = CutMeans body meaning
 abbrev pub PostMeans : Path → Result ℕ Refusal → List ℕ → Meaning → Type 0
 PostMeans path (Err refusal) rest meaning = meaning ≡ Err refusal
 PostMeans path (Ok n) rest meaning =
-    ((length rest < n) × (meaning ≡ Err BadBody)) ⊎ ((n ≤ length rest) × BodyMeans path (take n rest) meaning)
+    ((length rest < n) × (meaning ≡ Err BadBody))
+    ⊎ ((n ≤ length rest) × BodyMeans path (take n rest) meaning)
 
 -- what a path asks, with its head and what follows it
 abbrev pub PathMeans : Result Path Refusal → RequestHead → List ℕ → Meaning → Type 0
@@ -37,7 +38,8 @@ PathMeans (Ok Write) h rest meaning = PostMeans Write (length_asked (fields_of h
 PathMeans (Ok Delete) h rest meaning = PostMeans Delete (length_asked (fields_of h)) rest meaning
 PathMeans (Ok Cut) h rest meaning = PostMeans Cut (length_asked (fields_of h)) rest meaning
 
--- what a head asks with what follows it: path and method first, then the query string, then the body
+-- what a head asks with what follows it: path and method first, then the query string, then the
+-- body
 abbrev pub HeadMeans : RequestHead → List ℕ → Meaning → Type 0
 HeadMeans h rest meaning = PathMeans (path_asked h.method h.target) h rest meaning
 
@@ -54,7 +56,8 @@ pub record AsksByHead (input : List ℕ) (meaning : Meaning) : Type 0 where
 abbrev pub Means : List ℕ → Meaning → Type 0
 Means input meaning =
     AsksByHead input meaning
-    ⊎ ((IsBadHead input × (meaning ≡ Err BadHead)) ⊎ (IsTooLong input × (meaning ≡ Err HeadTooLong)))
+    ⊎ ((IsBadHead input × (meaning ≡ Err BadHead))
+    ⊎ (IsTooLong input × (meaning ≡ Err HeadTooLong)))
 
 -- the answer is a meaning of the bytes, unless the reader failed or memory was refused
 abbrev pub Answers : Result Request ReadError → List ℕ → Type 0

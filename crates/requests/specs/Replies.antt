@@ -17,7 +17,8 @@ head_text status reason len =
 
 -- the reply with this status and this body
 abbrev pub reply_text : Status → List ℕ → List ℕ
-reply_text status body = head_text (status_number status) (status_reason status) (length body) ++ body
+reply_text status body =
+    head_text (status_number status) (status_reason status) (length body) ++ body
 
 -- what is said of a change that was made
 abbrev pub done_data : Data
@@ -26,7 +27,8 @@ done_data = object (member (codes "ok") (boolean true) no_members)
 -- a refusal with the cause behind it, and with its place, if one is told
 abbrev pub cause_data : List ℕ → List ℕ × Option ℕ → Data
 cause_data code (cause, None) =
-    object (member (codes "cause") (string cause) (member (codes "refused") (string code) no_members))
+    object (member (codes "cause") (string cause)
+    (member (codes "refused") (string code) no_members))
 cause_data code (cause, Some at) =
     object (member (codes "at") (number (unsigned at))
     (member (codes "cause") (string cause) (member (codes "refused") (string code) no_members)))

@@ -37,7 +37,8 @@ sample_in d = option_and_then (λ ds. if items_len ds == 2 then pair_in d else N
 -- the samples, if each item is one
 abbrev pub samples_in : Items → Option (List (ℤ × ℤ))
 samples_in no_items = Some []
-samples_in (item d ds) = option_and_then (λ s. option_map (λ ss. s ∷ ss) (samples_in ds)) (sample_in d)
+samples_in (item d ds) =
+    option_and_then (λ s. option_map (λ ss. s ∷ ss) (samples_in ds)) (sample_in d)
 
 -- the samples under `samples`
 abbrev pub samples_at : Data → Option (List (ℤ × ℤ))
@@ -53,7 +54,8 @@ is_labelled pairs = is_none (refusal_of pairs)
 
 -- the row of pairs that make a label set
 abbrev pub row_with : Data → List (List ℕ × List ℕ) → Option WrittenRow
-row_with d pairs = if is_labelled pairs then option_map (λ samples. (pairs, samples)) (samples_at d) else None
+row_with d pairs =
+    if is_labelled pairs then option_map (λ samples. (pairs, samples)) (samples_at d) else None
 
 -- an object with the members `labels` and `samples` alone
 abbrev pub row_in : Data → Option WrittenRow
@@ -62,7 +64,8 @@ row_in d = if has_members 2 d then option_and_then (row_with d) (labels_at d) el
 -- the rows, if each item is one
 abbrev pub rows_in : Items → Option (List WrittenRow)
 rows_in no_items = Some []
-rows_in (item d ds) = option_and_then (λ row. option_map (λ rows. row ∷ rows) (rows_in ds)) (row_in d)
+rows_in (item d ds) =
+    option_and_then (λ row. option_map (λ rows. row ∷ rows) (rows_in ds)) (row_in d)
 
 -- the rows that a body writes: a list of them
 abbrev pub rows_of : List ℕ → Option (List WrittenRow)

@@ -1,5 +1,5 @@
 -- What a query string asks of `/select`.
-use Rattle.std.specs.Prelude.{◌≡◌, ◌≢◌, ◌<◌, ◌≤◌, ℕ, ℤ, List, length, Option, None, Some, Ok, Err, ⊤}
+use Rattle.std.specs.Prelude.{◌≡◌, ◌≢◌, ◌<◌, ◌≤◌, ℕ, ℤ, List, length, None, Some, Ok, Err, ⊤}
 use Rattle.matchers.specs.Views.{MatcherView, QueryView}
 use Rattle.matchers.specs.Grammar.{IsSelector}
 use Rattle.matchers.specs.Selectors.{AreMade, RefusedBy}

@@ -15,8 +15,10 @@ pub record IsWritten (body : List ℕ) (rows : List Row) : Type 0 where
 -- rows of at most 4,096 samples ask a batch; another body is a bad one
 abbrev pub WriteMeans : List ℕ → Meaning → Type 0
 WriteMeans body (Ok (Write batch)) =
-    (rows : List Row) × IsWritten body rows × (batch.items ≡ batch_of rows) × (length (batch_of rows) ≤ 4096)
+    (rows : List Row) × IsWritten body rows × (batch.items ≡ batch_of rows)
+    × (length (batch_of rows) ≤ 4096)
 WriteMeans body (Ok _) = ⊥
 WriteMeans body (Err BadBody) =
-    (rows_of body ≡ None) ⊎ ((rows : List Row) × IsWritten body rows × (4096 < length (batch_of rows)))
+    (rows_of body ≡ None)
+    ⊎ ((rows : List Row) × IsWritten body rows × (4096 < length (batch_of rows)))
 WriteMeans body (Err _) = ⊥

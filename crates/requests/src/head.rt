@@ -23,8 +23,8 @@ pub fn read_some<R: Inlet>(
     requires { 0 < most }
     ensures count { IfOk result (λ n. n ≤ most) }
     ensures len { IfOk result (λ n. vec_len buf.new ≡ vec_len buf.old + n) }
-    ensures bytes { IfOk result (λ n. (bs : List ℕ) × (buf.new.items ≡ buf.old.items ++ bs) × (length bs ≡ n)
-        × Consumes (R.input reader.old) (R.input reader.new) bs) }
+    ensures bytes { IfOk result (λ n. (bs : List ℕ) × (buf.new.items ≡ buf.old.items ++ bs)
+        × (length bs ≡ n) × Consumes (R.input reader.old) (R.input reader.new) bs) }
     ensures end { IfOk result (λ n. n ≡ 0 → IsAtEnd (R.input reader.new)) }
     ensures counted { OnOk result (R.failed_reads reader.new ≡ R.failed_reads reader.old) }
     ensures err { IfErr result (λ e. (e ≡ ReadError.Fault) ⊎ (e ≡ ReadError.Memory)) }

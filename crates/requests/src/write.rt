@@ -21,7 +21,8 @@ fn pair_of(
     value: &Value,
 ) -> Result<Option<(String, String)>, AllocError>
     ensures { IfOk result (λ o. option_map (λ p. (string_bytes p.0, string_bytes p.1)) o
-        ≡ option_map {U = List ℕ × List ℕ} (λ text. (string_bytes name.now, text)) (as_str (view value.now))) }
+        ≡ option_map {U = List ℕ × List ℕ} (λ text. (string_bytes name.now, text))
+        (as_str (view value.now))) }
 {
     let Some(text) = value.as_str() else {
         return Ok(None);

@@ -1,7 +1,6 @@
-use Rattle.std.proofs.Common.{◌≡◌, Some, rules, w64, SFits}
+use Rattle.std.proofs.Common.{rules, w64, SFits}
 use Rattle.std.proofs.lemmas.Int.{to_z-of_z}
 use Rattle.std.proofs.lemmas.Result.{err_from_is_err_and}
-use Rattle.requests.specs.Changes.{deletion_of}
 use Rattle.requests.proofs.JsonTexts.{deletion_when, refused_delete}
 use Rattle.requests.proofs.changes.delete.Goals as goal
 

@@ -1,4 +1,4 @@
-use Rattle.std.proofs.Common.{◌≡◌, ◌≤◌, ◌-◌, ◌++◌, arith, length, vec_len, subst, sym, ◌∙◌, ap}
+use Rattle.std.proofs.Common.{◌≤◌, arith, vec_len, subst, sym}
 use Rattle.std.proofs.KnownBytes.{Consumes-trans}
 use Rattle.std.specs.Io.KnownBytes.{Consumes}
 use Rattle.requests.proofs.HeadTexts.{bad_from_never}

@@ -1,7 +1,6 @@
-use Rattle.std.proofs.Common.{◌≡◌, Some, sym, ap, ◌∙◌, rules, w64, SFits}
+use Rattle.std.proofs.Common.{◌≡◌, Some, sym, rules, w64, SFits}
 use Rattle.std.proofs.lemmas.Int.{to_z-of_z}
 use Rattle.std.proofs.lemmas.Result.{err_from_is_err_and}
-use Rattle.matchers.specs.Views.{QueryView}
 use Rattle.requests.specs.QueryStrings.{query_pairs, asked_in}
 use Rattle.requests.proofs.SelectorTexts.{refused_select, no_query_error, query_of}
 use Rattle.requests.proofs.select.select.Goals as goal
