@@ -1,6 +1,6 @@
 -- What a request gets: the reply to it, and what the pass and the seat of its worker are then.
-use Rattle.std.specs.Prelude.{◌≡◌, ◌≢◌, ◌⊎◌, ℕ, List, [], Option, None, Some, Ok, Err, IfSome, codes}
-use Rattle.std.specs.Prelude.{⊤}
+use Rattle.std.specs.Prelude.{◌≡◌, ◌≢◌, ◌⊎◌, ℕ, List, [], Option, None, Some, Ok, Err, IfSome}
+use Rattle.std.specs.Prelude.{codes, ⊤}
 use Rattle.std.specs.Io.KnownBytes.{Appends}
 use mathlib.Core.List.{IsPrefix}
 use Rattle.serde_json.specs.Written.{compact_text}
