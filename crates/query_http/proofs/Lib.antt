@@ -3,3 +3,5 @@ pub mod Objects
 pub mod MergedAnswers
 pub mod Told
 pub mod Headlines
+pub mod Written
+pub mod Replying

@@ -4,3 +4,5 @@ pub mod Telling
 pub mod Audited
 pub mod Headline
 pub mod Refusals
+pub mod Writing
+pub mod Serving

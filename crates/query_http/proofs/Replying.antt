@@ -1,0 +1,51 @@
+-- Replies, put together from what is known of their parts.
+use Rattle.std.proofs.Common.{◌≡◌, ◌≢◌, ℕ, List, [], Option, Result, Ok, Err, IfOk, inl, inr, refl, ap, ◌∙◌, codes}
+use Rattle.serde_json.specs.Written.{compact_text}
+use Rattle.matchers.specs.Views.{QueryView}
+use Rattle.head.specs.Codes.{commit_code}
+use Rattle.head.specs.Heads.{SnapshotParts}
+use Rattle.head.specs.Worlds.{Event}
+use Rattle.head.specs.declared.error.CommitError.{CommitError}
+use Rattle.head.specs.declared.error.CommitError.TheVariants.{Memory}
+use Rattle.snapshots.specs.Replays.{IsRefusedAfter, IsOfSeatOrMemory}
+use Rattle.snapshots.specs.Views.{Known}
+use Rattle.requests.specs.declared.refusal.Cause.{Cause}
+use Rattle.requests.specs.declared.refusal.Refusal.TheVariants.{Refused}
+use Rattle.requests.specs.declared.status.Status.{Status}
+use Rattle.requests.specs.declared.status.Status.TheVariants.{Done, Conflict}
+use Rattle.requests.specs.Refusals.{told_cause}
+use Rattle.requests.specs.Replies.{cause_data, reply_text}
+use Rattle.query_http.specs.declared.actions.Reply.{Reply}
+use Rattle.query_http.specs.declared.audited.AuditedAnswer.{AuditedAnswer}
+use Rattle.query_http.specs.Headline.{IsHeadline}
+use Rattle.query_http.specs.Reply.{body_text}
+use Rattle.query_http.specs.Serving.{Worker, IsRefusal, IsQueryReply, IsEventReply, refused_at, conflict_body}
+
+pub conflict_spelled : (cause : Cause) (error : CommitError) (status : Status) (text : List ℕ) → IsRefusal (Refused cause) status text
+    → cause.code.now ≡ commit_code error → cause.at ≡ refused_at error → text ≡ reply_text Conflict (conflict_body error)
+conflict_spelled cause error status text p code at =
+    let same : told_cause cause ≡ (commit_code error, refused_at error) = rw (code, at) refl in
+    p.spelled ∙ ap (λ (x : List ℕ × Option ℕ). reply_text Conflict (compact_text (cause_data (codes "H9") x))) same
+
+pub answer_replied : {E : Type 0} (opening : SnapshotParts) (query : QueryView) (before after : Known) (answer : AuditedAnswer) (result : Result Reply E)
+    → IsHeadline opening query before after answer → IfOk result (λ r. r.status ≡ Done)
+    → IfOk result (λ r. r.text.items ≡ reply_text Done (body_text answer.parts.items answer.rows.items))
+    → IfOk result (λ r. IsQueryReply opening query before after r.status r.text.items)
+answer_replied opening query before after answer (Ok r) h number spelled =
+    inl (record { answer = answer; headline = h; number = number; spelled = spelled })
+answer_replied opening query before after answer (Err e) h number spelled = tt
+
+-- where a refusal is the seat's or memory's, and not memory's, it is that of the store's opening too
+pub seat_refused : (opening : SnapshotParts) (event : Event) (error : CommitError) → IsOfSeatOrMemory error → error ≢ Memory
+    → IsRefusedAfter opening error event
+seat_refused opening event error (inl e) other = ([], opening, (refl, λ _. refl), λ seat. absurd (seat e))
+seat_refused opening event error (inr e) other = absurd (other e)
+
+pub conflict_replied : {E : Type 0} (opening : SnapshotParts) (event : Event) (before after : Worker) (error : CommitError) (result : Result Reply E)
+    → after ≡ before → (error ≢ Memory → IsRefusedAfter opening error event)
+    → IfOk result (λ _. error ≢ Memory) → IfOk result (λ r. r.status ≡ Conflict)
+    → IfOk result (λ r. r.text.items ≡ reply_text Conflict (conflict_body error))
+    → IfOk result (λ r. IsEventReply opening event before after r.status r.text.items)
+conflict_replied opening event before after error (Ok r) same found no_memory number spelled =
+    inr (record { error = error; found = found no_memory; no_memory = no_memory; same = same; number = number; spelled = spelled })
+conflict_replied opening event before after error (Err e) same found no_memory number spelled = tt

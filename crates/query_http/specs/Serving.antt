@@ -1,0 +1,176 @@
+-- What a request gets: the reply to it, and what the pass and the seat of its worker are then.
+use Rattle.std.specs.Prelude.{◌≡◌, ◌≢◌, ◌⊎◌, ℕ, List, [], Option, None, Some, Ok, Err, IfSome}
+use Rattle.std.specs.Prelude.{codes, ⊤}
+use Rattle.std.specs.Io.KnownBytes.{Appends}
+use mathlib.Core.List.{IsPrefix}
+use Rattle.serde_json.specs.Written.{compact_text}
+use Rattle.matchers.specs.Views.{QueryView}
+use Rattle.head.specs.Codes.{commit_code}
+use Rattle.head.specs.Heads.{SnapshotParts}
+use Rattle.head.specs.Worlds.{Event, batch, deletion, cut}
+use Rattle.head.specs.declared.error.CommitError.{CommitError}
+use Rattle.head.specs.declared.error.CommitError.TheVariants as commit_error
+use Rattle.snapshots.specs.declared.entry.Entry.{Entry}
+use Rattle.snapshots.specs.Replays.{EndsWith, AreAccepted, IsRefusedAfter}
+use Rattle.snapshots.specs.Seats.{Place, IsCounted}
+use Rattle.snapshots.specs.Views.{Known}
+use Rattle.requests.specs.declared.refusal.Refusal.{Refusal}
+use Rattle.requests.specs.declared.refusal.Refusal.TheVariants.{Unavailable}
+use Rattle.requests.specs.declared.request.Request.{Request}
+use Rattle.requests.specs.declared.request.Request.TheVariants as asks
+use Rattle.requests.specs.declared.status.Status.{Status}
+use Rattle.requests.specs.declared.status.Status.TheVariants.{Done, Conflict}
+use Rattle.requests.specs.Reading.{Means}
+use Rattle.requests.specs.Refusals.{status_of}
+use Rattle.requests.specs.Replies.{cause_data, reply_text, done_text, refusal_text}
+use Rattle.query_http.specs.declared.audited.AuditedAnswer.{AuditedAnswer}
+use Rattle.query_http.specs.Headline.{IsHeadline}
+use Rattle.query_http.specs.Reply.{body_text}
+use Rattle.query_http.specs.Writing.{AppendsFront}
+use Rattle.query_http.specs.declared.engine.Served.{Served}
+use Rattle.query_http.specs.declared.engine.Served.TheVariants as served
+
+-- a worker: what its pass knows, and its seat
+pub record Worker : Type 0 where
+  pub known : Known
+  pub seat : Place
+
+abbrev pub worker : Known → Place → Worker
+worker known seat = record { known = known; seat = seat }
+
+-- the worker has learnt no receipt and published no event, and has seen no less
+pub record IsIdle (before after : Worker) : Type 0 where
+  pub told : after.known.told ≡ before.known.told
+  pub seat : after.seat ≡ before.seat
+  pub seen : IsPrefix before.known.seen after.known.seen
+
+-- the reply is that of a refusal
+pub record IsRefusal (refusal : Refusal) (status : Status) (text : List ℕ) : Type 0 where
+  pub number : status ≡ status_of refusal
+  pub spelled : text ≡ refusal_text refusal
+
+-- the reply carries the audited answer of one snapshot of the store, the pass's next one
+pub record IsAnswerReply (opening : SnapshotParts) (query : QueryView) (before after : Known)
+    (status : Status) (text : List ℕ) : Type 0 where
+  pub answer : AuditedAnswer
+  pub headline : IsHeadline opening query before after answer
+  pub number : status ≡ Done
+  pub spelled : text ≡ reply_text Done (body_text answer.parts.items answer.rows.items)
+
+-- the reply to a query: its answer, or that the store lends no snapshot
+abbrev pub IsQueryReply : SnapshotParts → QueryView → Known → Known → Status → List ℕ → Type 0
+IsQueryReply opening query before after status text =
+    IsAnswerReply opening query before after status text ⊎ IsRefusal Unavailable status text
+
+-- the sample at which an event is refused, if it is a sample
+abbrev pub refused_at : CommitError → Option ℕ
+refused_at (commit_error.OutOfBounds at) = Some at
+refused_at (commit_error.OutOfOrder at) = Some at
+refused_at (commit_error.Duplicate at) = Some at
+refused_at commit_error.Limit = None
+refused_at commit_error.CutTooLow = None
+refused_at commit_error.TooManyParts = None
+refused_at commit_error.Seat = None
+refused_at commit_error.Memory = None
+
+-- what is said of an event that the store refuses
+abbrev pub conflict_body : CommitError → List ℕ
+conflict_body error = compact_text (cause_data (codes "H9") (commit_code error, refused_at error))
+
+-- The event was accepted, and this is the reply. The seat has published one event more, and the
+-- pass has learnt a receipt. The list of the receipt ends with the event, under the seat's number;
+-- each of its events was accepted; and it has as many of that number as the seat now counts.
+pub record IsAcceptedReply (opening : SnapshotParts) (event : Event) (before after : Worker)
+    (status : Status) (text : List ℕ) : Type 0 where
+  pub receipt : List Entry
+  pub ends : EndsWith event before.seat.number receipt
+  pub accepted : AreAccepted opening receipt
+  pub counted : IsCounted before.seat after.seat receipt
+  pub learnt : IsPrefix receipt after.known.told
+  pub told : IsPrefix before.known.told after.known.told
+  pub seen : after.known.seen ≡ before.known.seen
+  pub number : status ≡ Done
+  pub spelled : text ≡ done_text
+
+-- The event was refused by its step on a snapshot of the store, or for the seat, and nothing
+-- changed.
+pub record IsRefusedReply (opening : SnapshotParts) (event : Event) (before after : Worker)
+    (status : Status) (text : List ℕ) : Type 0 where
+  pub error : CommitError
+  pub found : IsRefusedAfter opening error event
+  pub no_memory : error ≢ commit_error.Memory
+  pub same : after ≡ before
+  pub number : status ≡ Conflict
+  pub spelled : text ≡ reply_text Conflict (conflict_body error)
+
+-- the reply to an event
+abbrev pub IsEventReply : SnapshotParts → Event → Worker → Worker → Status → List ℕ → Type 0
+IsEventReply opening event before after status text =
+    IsAcceptedReply opening event before after status text
+    ⊎ IsRefusedReply opening event before after status text
+
+-- the reply to a request: to its query, or to the one event that it spells
+abbrev pub IsRequestReply : SnapshotParts → Request → Worker → Worker → Status → List ℕ → Type 0
+IsRequestReply opening (asks.Select query) before after status text =
+    IsQueryReply opening query before.known after.known status text × IsIdle before after
+IsRequestReply opening (asks.Write samples) before after status text =
+    IsEventReply opening (batch samples.items) before after status text
+IsRequestReply opening (asks.Delete matchers from to) before after status text =
+    IsEventReply opening (deletion matchers.items from to) before after status text
+IsRequestReply opening (asks.Cut t) before after status text =
+    IsEventReply opening (cut t) before after status text
+
+-- the bytes that came are refused by their first failing check, and nothing changed
+pub record TurnsAway (input : Option (List ℕ)) (before after : Worker) (status : Status)
+    (text : List ℕ) : Type 0 where
+  pub refusal : Refusal
+  pub means : IfSome input (λ bytes. Means bytes (Err refusal))
+  pub refused : IsRefusal refusal status text
+  pub same : after ≡ before
+
+-- the bytes that came ask a request, and this is the reply to it
+pub record DoesAsked (opening : SnapshotParts) (input : Option (List ℕ)) (before after : Worker)
+    (status : Status) (text : List ℕ) : Type 0 where
+  pub request : Request
+  pub means : IfSome input (λ bytes. Means bytes (Ok request))
+  pub done : IsRequestReply opening request before after status text
+
+-- the reply to the bytes that came
+abbrev pub IsReply : SnapshotParts → Option (List ℕ) → Worker → Worker → Status → List ℕ → Type 0
+IsReply opening input before after status text =
+    TurnsAway input before after status text ⊎ DoesAsked opening input before after status text
+
+-- the whole reply was written, and nothing else
+pub record Replies (opening : SnapshotParts) (input : Option (List ℕ)) (before after : Worker)
+    (old new : Option (List ℕ)) (status : Status) : Type 0 where
+  pub text : List ℕ
+  pub reply : IsReply opening input before after status text
+  pub written : Appends old new text
+
+-- a prefix of the reply was written, and nothing else
+pub record BeginsToReply (opening : SnapshotParts) (input : Option (List ℕ)) (before after : Worker)
+    (old new : Option (List ℕ)) : Type 0 where
+  pub status : Status
+  pub text : List ℕ
+  pub reply : IsReply opening input before after status text
+  pub written : AppendsFront old new text
+
+-- how a connection was served, by what came and what was written
+abbrev pub Serves : SnapshotParts → Option (List ℕ) → Worker → Worker
+    → Option (List ℕ) → Option (List ℕ) → Served → Type 0
+Serves opening input before after old new (served.Replied status) =
+    Replies opening input before after old new status
+Serves opening input before after old new served.WriteFault =
+    BeginsToReply opening input before after old new
+Serves opening input before after old new served.Closed =
+    IfSome input (λ bytes. bytes ≡ []) × IsIdle before after
+Serves opening input before after old new served.ReadFault = IsIdle before after
+Serves opening input before after old new served.NoMemory = IsIdle before after
+
+-- nothing was replied
+abbrev pub IsSilent : Served → Type 0
+IsSilent (served.Replied status) = ⊥
+IsSilent served.WriteFault = ⊥
+IsSilent served.Closed = ⊤
+IsSilent served.ReadFault = ⊤
+IsSilent served.NoMemory = ⊤

@@ -1,0 +1,10 @@
+-- What a writer has taken of a text.
+use Rattle.std.specs.Prelude.{ℕ, List, Option}
+use Rattle.std.specs.Io.KnownBytes.{Appends}
+use Rattle.requests.specs.Heads.{IsFrontOf}
+
+-- from one output to the other a prefix of the text was written, and nothing else
+pub record AppendsFront (before after : Option (List ℕ)) (text : List ℕ) : Type 0 where
+  pub front : List ℕ
+  pub begins : IsFrontOf front text
+  pub appends : Appends before after front

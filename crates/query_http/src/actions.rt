@@ -1,0 +1,226 @@
+//! What a request does to a store, and the reply that tells it.
+
+ghost use Rattle.std.specs.Prelude.{◌≡◌, ◌≢◌, IfOk, OnErr, IfErr, IsTrue};
+ghost use mathlib.Core.List.{IsPrefix};
+ghost use Rattle.labels.specs.Contents.{is_time};
+ghost use Rattle.head.specs.Batches.{is_deletion};
+ghost use Rattle.head.specs.Worlds.{batch, deletion, cut};
+ghost use Rattle.head.specs.declared.error.CommitError.TheVariants.{Memory};
+ghost use Rattle.requests.specs.Fitting.{IsFit};
+ghost use Rattle.requests.specs.Replies.{reply_text, done_text};
+ghost use Rattle.requests.specs.declared.status.Status.TheVariants.{Done, Conflict};
+ghost use Rattle.query_http.specs.Reply.{body_text};
+ghost use Rattle.query_http.specs.Serving.{worker, IsIdle, IsRefusal, conflict_body};
+ghost use Rattle.query_http.specs.Serving.{IsQueryReply, IsEventReply, IsRequestReply};
+ghost use Rattle.query_http.specs.Serving.{refused_at as place_refused};
+
+use crate::audited::AuditedAnswer;
+use crate::error::AskError;
+use crate::headline::ask;
+use crate::reply::body;
+use head::CommitError;
+use labels::{LabelSet, Sample};
+use matchers::{Matcher, Query};
+use requests::{Cause, Refusal, Request, Status, done_reply, success_reply};
+use snapshots::{Appender, Committer, Naming, Pass, Seat};
+use std::alloc::{AllocError, Global};
+use std::sync::Wait;
+
+/// A reply: its status, and its whole text.
+#[derive(Drop)]
+pub(crate) struct Reply {
+    pub(crate) status: Status,
+    pub(crate) text: Vec<u8>,
+}
+
+/// The reply of a refusal.
+pub(crate) fn refusal_reply(alloc: Global, refusal: &Refusal) -> Result<Reply, AllocError>
+    ensures { IfOk result (λ r. IsRefusal refusal.now r.status r.text.items) }
+{
+    let text = refusal.reply(alloc)?;
+    Ok(Reply {
+        status: refusal.status(),
+        text,
+    })
+}
+
+/// The reply of a change that was made.
+fn change_reply(alloc: Global) -> Result<Reply, AllocError>
+    ensures number { IfOk result (λ r. r.status ≡ Done) }
+    ensures spelled { IfOk result (λ r. r.text.items ≡ done_text) }
+{
+    let text = done_reply(alloc)?;
+    Ok(Reply {
+        status: Status::Done,
+        text,
+    })
+}
+
+/// The reply that carries an answer.
+fn answer_reply(alloc: Global, answer: &AuditedAnswer) -> Result<Reply, AllocError>
+    ensures number { IfOk result (λ r. r.status ≡ Done) }
+    ensures spelled { IfOk result (λ r. r.text.items
+        ≡ reply_text Done (body_text answer.now.parts.items answer.now.rows.items)) }
+{
+    let body = body(alloc, answer.parts.as_slice(), answer.rows.as_slice())?;
+    let text = success_reply(alloc, body.as_slice())?;
+    Ok(Reply {
+        status: Status::Done,
+        text,
+    })
+}
+
+/// Answers a query from the pass's next snapshot, or with `H10`.
+fn select<J: Naming>(alloc: Global, pass: &mut Pass<J>, query: &Query) -> Result<Reply, AllocError>
+    ensures reply { IfOk result (λ r.
+        IsQueryReply J.opening query.now pass.old pass.new r.status r.text.items) }
+    ensures told { pass.new.told ≡ pass.old.told }
+    ensures seen { IsPrefix pass.old.seen pass.new.seen }
+{
+    match ask(alloc, pass, query) {
+        Ok(answer) => answer_reply(alloc, &answer),
+        Err(AskError::Snapshot(_)) => refusal_reply(alloc, &Refusal::Unavailable),
+        Err(AskError::Memory) => Err(AllocError),
+    }
+}
+
+/// Which sample of its batch is refused, if one is.
+fn refused_at(error: CommitError) -> Option<usize>
+    ensures { result ≡ place_refused error }
+{
+    match error {
+        CommitError::OutOfBounds { at }
+        | CommitError::OutOfOrder { at }
+        | CommitError::Duplicate { at } => Some(at),
+        _ => None,
+    }
+}
+
+/// The reply to an event that the store refuses: `H9`, unless it is memory that is refused.
+fn conflict_reply(alloc: Global, error: CommitError) -> Result<Reply, AllocError>
+    ensures no_memory { IfOk result (λ _. error ≢ Memory) }
+    ensures number { IfOk result (λ r. r.status ≡ Conflict) }
+    ensures spelled { IfOk result (λ r.
+        r.text.items ≡ reply_text Conflict (conflict_body error)) }
+{
+    if error == CommitError::Memory {
+        return Err(AllocError);
+    }
+    let cause = Cause {
+        code: error.code(),
+        at: refused_at(error),
+    };
+    refusal_reply(alloc, &Refusal::Refused(cause))
+}
+
+/// An appender that holds the samples.
+fn appender_of(alloc: Global, samples: Vec<(LabelSet, Sample)>) -> Result<Appender, AllocError>
+    ensures { IfOk result (λ appender. appender ≡ samples.items) }
+{
+    let mut appender = Appender::new(alloc);
+    for (labels, sample) in samples {
+        if appender.append(labels, sample).is_err() {
+            return Err(AllocError);
+        }
+    }
+    Ok(appender)
+}
+
+/// Publishes a batch. The reply of success is made before.
+fn write<J: Naming, C: Wait + Drop>(
+    rt: &impl Wait,
+    alloc: Global,
+    samples: Vec<(LabelSet, Sample)>,
+    pass: &mut Pass<J>,
+    seat: &mut Seat<J>,
+    committer: &Committer<J, C>,
+) -> Result<Reply, AllocError>
+    ensures reply { IfOk result (λ r. IsEventReply J.opening (batch samples.items)
+        (worker pass.old seat.old) (worker pass.new seat.new) r.status r.text.items) }
+    ensures kept { OnErr result ((pass.new ≡ pass.old) × (seat.new ≡ seat.old)) }
+{
+    let appender = appender_of(alloc, samples)?;
+    let done = change_reply(alloc)?;
+    match committer.commit(rt, seat, appender) {
+        Ok(receipt) => {
+            pass.learn(&receipt);
+            Ok(done)
+        }
+        Err((_appender, error)) => conflict_reply(alloc, error),
+    }
+}
+
+/// Publishes a deletion. The reply of success is made before.
+fn delete<J: Naming, C: Wait + Drop>(
+    rt: &impl Wait,
+    alloc: Global,
+    asked: (Vec<Matcher>, i64, i64),
+    pass: &mut Pass<J>,
+    seat: &mut Seat<J>,
+    committer: &Committer<J, C>,
+) -> Result<Reply, AllocError>
+    requires { IsTrue (is_deletion asked.0.items asked.1 asked.2) }
+    ensures reply { IfOk result (λ r. IsEventReply J.opening
+        (deletion asked.0.items asked.1 asked.2)
+        (worker pass.old seat.old) (worker pass.new seat.new) r.status r.text.items) }
+    ensures kept { OnErr result ((pass.new ≡ pass.old) × (seat.new ≡ seat.old)) }
+{
+    let (matchers, from, to) = asked;
+    let done = change_reply(alloc)?;
+    match committer.delete(rt, seat, matchers, from, to) {
+        Ok(receipt) => {
+            pass.learn(&receipt);
+            Ok(done)
+        }
+        Err((_matchers, error)) => conflict_reply(alloc, error),
+    }
+}
+
+/// Publishes a cut. The reply of success is made before.
+fn cut_at<J: Naming, C: Wait + Drop>(
+    rt: &impl Wait,
+    alloc: Global,
+    at: i64,
+    pass: &mut Pass<J>,
+    seat: &mut Seat<J>,
+    committer: &Committer<J, C>,
+) -> Result<Reply, AllocError>
+    requires { IsTrue (is_time at) }
+    ensures reply { IfOk result (λ r. IsEventReply J.opening (cut at)
+        (worker pass.old seat.old) (worker pass.new seat.new) r.status r.text.items) }
+    ensures kept { OnErr result ((pass.new ≡ pass.old) × (seat.new ≡ seat.old)) }
+{
+    let done = change_reply(alloc)?;
+    match committer.cut(rt, seat, at) {
+        Ok(receipt) => {
+            pass.learn(&receipt);
+            Ok(done)
+        }
+        Err(error) => conflict_reply(alloc, error),
+    }
+}
+
+/// Does what a request asks. A change that the store accepts is learnt by the pass, whatever
+/// becomes of the reply.
+pub(crate) fn act<J: Naming, C: Wait + Drop>(
+    rt: &impl Wait,
+    alloc: Global,
+    request: Request,
+    pass: &mut Pass<J>,
+    seat: &mut Seat<J>,
+    committer: &Committer<J, C>,
+) -> Result<Reply, AllocError>
+    requires { IsFit request }
+    ensures reply { IfOk result (λ r. IsRequestReply J.opening request
+        (worker pass.old seat.old) (worker pass.new seat.new) r.status r.text.items) }
+    ensures idle { OnErr result (IsIdle (worker pass.old seat.old) (worker pass.new seat.new)) }
+{
+    match request {
+        Request::Select(query) => select(alloc, pass, &query),
+        Request::Write(samples) => write(rt, alloc, samples, pass, seat, committer),
+        Request::Delete { matchers, from, to } => {
+            delete(rt, alloc, (matchers, from, to), pass, seat, committer)
+        }
+        Request::Cut(at) => cut_at(rt, alloc, at, pass, seat, committer),
+    }
+}

@@ -1,0 +1,122 @@
+//! Serving one connection: a request is read, done and replied to.
+
+ghost use Rattle.std.specs.Prelude.{◌≡◌, [], IfOk, IfErr, IfSome, OnErr, IsErrOf};
+ghost use Rattle.requests.specs.Edge.{IsCounted};
+ghost use Rattle.requests.specs.Fitting.{IsFit};
+ghost use Rattle.query_http.specs.Serving.{worker, IsIdle, IsRefusal, IsSilent, Serves};
+ghost use Rattle.query_http.specs.Serving.{IsRequestReply, IsReply};
+
+use crate::actions::{Reply, act, refusal_reply};
+use crate::outlet::{Outlet, write_whole};
+use requests::{Inlet, ReadError, Refusal, Request, Status, read_request};
+use snapshots::{Committer, Naming, Pass, Seat};
+use std::alloc::Global;
+use std::sync::Wait;
+
+/// How a connection was served.
+#[derive(Clone, Copy, Debug, PartialEq, Eq, Drop)]
+pub enum Served {
+    /// The whole reply was written; it has this status.
+    Replied(Status),
+    /// The input ends before its first byte.
+    Closed,
+    /// The reader failed. Nothing was written, and nothing changed.
+    ReadFault,
+    /// The writer failed: it took a prefix of the reply. An event that was accepted stands.
+    WriteFault,
+    /// There is no memory. Nothing was written, and nothing was published.
+    NoMemory,
+}
+
+/// The reply of a refusal, or that there is no memory for it.
+fn turn_away(alloc: Global, refusal: &Refusal) -> Result<Reply, Served>
+    ensures refusal { IfOk result (λ r. IsRefusal refusal.now r.status r.text.items) }
+    ensures memory { IfErr result (λ s. s ≡ Served.NoMemory) }
+{
+    match refusal_reply(alloc, refusal) {
+        Ok(reply) => Ok(reply),
+        Err(_) => Err(Served::NoMemory),
+    }
+}
+
+/// Does what a request asks, unless there is no memory.
+fn do_asked<J: Naming, C: Wait + Drop>(
+    rt: &impl Wait,
+    alloc: Global,
+    request: Request,
+    pass: &mut Pass<J>,
+    seat: &mut Seat<J>,
+    committer: &Committer<J, C>,
+) -> Result<Reply, Served>
+    requires { IsFit request }
+    ensures reply { IfOk result (λ r. IsRequestReply J.opening request
+        (worker pass.old seat.old) (worker pass.new seat.new) r.status r.text.items) }
+    ensures memory { IfErr result (λ s. s ≡ Served.NoMemory) }
+    ensures idle { OnErr result (IsIdle (worker pass.old seat.old) (worker pass.new seat.new)) }
+{
+    match act(rt, alloc, request, pass, seat, committer) {
+        Ok(reply) => Ok(reply),
+        Err(_) => Err(Served::NoMemory),
+    }
+}
+
+/// Reads a request and does what it asks: the reply, or why there is none.
+fn reply_to<J: Naming, C: Wait + Drop, R: Inlet>(
+    rt: &impl Wait,
+    alloc: Global,
+    reader: &mut R,
+    pass: &mut Pass<J>,
+    seat: &mut Seat<J>,
+    committer: &Committer<J, C>,
+) -> Result<Reply, Served>
+    ensures reply { IfOk result (λ r. IsReply J.opening (R.input reader.old)
+        (worker pass.old seat.old) (worker pass.new seat.new) r.status r.text.items) }
+    ensures silent { IfErr result IsSilent }
+    ensures idle { OnErr result (IsIdle (worker pass.old seat.old) (worker pass.new seat.new)) }
+    ensures closed { IsErrOf result Served.Closed
+        → IfSome (R.input reader.old) (λ bytes. bytes ≡ []) }
+    ensures reads { IsErrOf result Served.ReadFault
+        → IsCounted (R.failed_reads reader.old) (R.failed_reads reader.new) }
+{
+    match read_request(alloc, reader) {
+        Ok(request) => do_asked(rt, alloc, request, pass, seat, committer),
+        Err(ReadError::Refused(refusal)) => turn_away(alloc, &refusal),
+        Err(ReadError::Closed) => Err(Served::Closed),
+        Err(ReadError::Fault) => Err(Served::ReadFault),
+        Err(ReadError::Memory) => Err(Served::NoMemory),
+    }
+}
+
+/// Serves one connection: one request is read, done and replied to.
+///
+/// The whole reply is made before its first byte is written, and the reply to a change before the
+/// change is published. The pass learns the receipt of a change before the reply is written. The
+/// reader is read no further than 8,192 bytes past the request's head. It waits as
+/// [`Committer::commit`] does.
+pub fn serve_one<J: Naming, C: Wait + Drop, R: Inlet, W: Outlet>(
+    rt: &impl Wait,
+    alloc: Global,
+    reader: &mut R,
+    writer: &mut W,
+    pass: &mut Pass<J>,
+    seat: &mut Seat<J>,
+    committer: &Committer<J, C>,
+) -> Served
+    ensures serves { Serves J.opening (R.input reader.old)
+        (worker pass.old seat.old) (worker pass.new seat.new)
+        (W.output writer.old) (W.output writer.new) result }
+    ensures silent { IsSilent result → writer.new ≡ writer.old }
+    ensures reads { result ≡ Served.ReadFault
+        → IsCounted (R.failed_reads reader.old) (R.failed_reads reader.new) }
+    ensures writes { result ≡ Served.WriteFault
+        → IsCounted (W.failed_writes writer.old) (W.failed_writes writer.new) }
+{
+    let reply = match reply_to(rt, alloc, reader, pass, seat, committer) {
+        Ok(reply) => reply,
+        Err(served) => return served,
+    };
+    match write_whole(writer, reply.text.as_slice()) {
+        Ok(()) => Served::Replied(reply.status),
+        Err(_) => Served::WriteFault,
+    }
+}

@@ -1,0 +1,47 @@
+//! What a reply is written to.
+
+ghost use Rattle.std.specs.Prelude.{◌≡◌, ◌<◌, ◌≤◌, ℕ, List, Option, length};
+ghost use Rattle.std.specs.Prelude.{IfOk, OnOk, OnErr};
+ghost use Rattle.std.specs.Io.KnownBytes.{WriteAppends, Appends};
+ghost use Rattle.requests.specs.Edge.{IsCounted};
+ghost use Rattle.query_http.specs.Writing.{AppendsFront};
+
+use requests::Fault;
+
+/// What a reply is written to: it takes bytes in pieces of its own choice. A writer over memory
+/// tells in its meaning which bytes it has taken; a socket tells none. A call that takes nothing
+/// of some bytes counts as failed.
+pub trait Outlet {
+    ghost output: { Self → Option (List ℕ) };
+
+    ghost failed_writes: { Self → ℕ };
+
+    /// Writes the first of the bytes, and says how many.
+    fn write(&mut self, buf: &[u8]) -> Result<usize, Fault>
+        ensures bound { IfOk result (λ n. n ≤ length buf.now) }
+        ensures bytes { WriteAppends (output self.old) (output self.new) result buf.now }
+        ensures ok { IfOk result (λ n. 0 < n
+            → failed_writes self.new ≡ failed_writes self.old) }
+        ensures none { IfOk result (λ n. n ≡ 0 → 0 < length buf.now
+            → IsCounted (failed_writes self.old) (failed_writes self.new)) }
+        ensures err { OnErr result (IsCounted (failed_writes self.old) (failed_writes self.new)) };
+}
+
+/// Writes the whole text; or a prefix of it, where the writer fails.
+pub fn write_whole<W: Outlet>(writer: &mut W, text: &[u8]) -> Result<(), Fault>
+    ensures ok { OnOk result (Appends (W.output writer.old) (W.output writer.new) text.now) }
+    ensures counted { OnOk result (W.failed_writes writer.new ≡ W.failed_writes writer.old) }
+    ensures err { OnErr result (AppendsFront (W.output writer.old) (W.output writer.new) text.now) }
+    ensures failed { OnErr result
+        (IsCounted (W.failed_writes writer.old) (W.failed_writes writer.new)) }
+{
+    let mut done = 0;
+    while done < text.len() {
+        let taken = writer.write(&text[done..])?;
+        if taken == 0 {
+            return Err(Fault);
+        }
+        done += taken;
+    }
+    Ok(())
+}
