@@ -2,6 +2,7 @@
 //! 48 of the index.
 
 mod searches;
+mod serving;
 mod worked_block;
 mod workers;
 
