@@ -5,9 +5,8 @@ ghost use Rattle.std.specs.Prelude.{◌≡◌};
 mod worked_block;
 
 use crate::files::{ReadError, ReadFiles};
-use crate::run::run;
+use crate::run::{Ending, run};
 use std::alloc::{AllocError, Global};
-use std::test::Fail;
 use worked_block::{CHUNKS, INDEX, TOMBSTONES};
 
 /// The answer to `up{job="a"}`, 0 to 100, over the worked block.
@@ -46,52 +45,57 @@ impl ReadFiles for Worked {
     }
 }
 
-/// The selector, the last time, a directory and standard input, then the exit status, and what goes to the first and to
-/// the second writer.
-const RUNS: [(&str, &str, &str, &str, u8, &str, &str); 8] = [
+/// Words, standard input, the exit status, and what goes to the first and to the second writer.
+type Row = (
+    &'static [&'static str],
+    &'static str,
+    u8,
+    &'static str,
+    &'static str,
+);
+
+const ASKED: &[&str] = &[
+    "--selector",
+    "up{job=\"a\"}",
+    "--from=0",
+    "--to=100",
+    "data",
+];
+
+const ELSEWHERE: &[&str] = &["--selector", "up{job=\"a\"}", "other"];
+
+const NO_RANGE: &[&str] = &["--selector=up", "--from=0", "--to=-1", "other"];
+
+const NO_SELECTOR: &[&str] = &["--selector=up{", "--from=0", "--to=-1", "other"];
+
+const ROWS: [Row; 8] = [
     (
-        UP,
-        "100",
-        "data",
+        ASKED,
         REPLY,
         0,
         "block 0: valid\nhead: skipped\nrows: valid\n",
         "",
     ),
     (
-        UP,
-        "100",
-        "data",
+        ASKED,
         UNSEPARATED,
         1,
         "block 0: F4\nhead: skipped\nrows: valid\n",
         "",
     ),
     (
-        UP,
-        "100",
-        "data",
+        ASKED,
         SKIPPED,
         1,
         "block 0: F9\nhead: skipped\nrows: F10\n",
         "",
     ),
-    (UP, "100", "data", "{}", 3, "", "bad reply\n"),
-    (
-        UP,
-        "100",
-        "other",
-        REPLY,
-        3,
-        "",
-        "cannot read other/index\n",
-    ),
-    (UP, "100", "other", "{}", 3, "", "bad reply\n"),
-    (UP, "-1", "other", "{}", 1, "", "refused Q1\n"),
-    ("up{", "-1", "other", "{}", 1, "", "refused M4 at 3\n"),
+    (ASKED, "{}", 3, "", "bad reply\n"),
+    (ELSEWHERE, REPLY, 3, "", "cannot read other/index\n"),
+    (ELSEWHERE, "{}", 3, "", "bad reply\n"),
+    (NO_RANGE, "{}", 1, "", "refused Q1\n"),
+    (NO_SELECTOR, "{}", 1, "", "refused M4 at 3\n"),
 ];
-
-const UP: &str = "up{job=\"a\"}";
 
 fn words_of(alloc: Global, words: &[&str]) -> Result<Vec<String>, AllocError> {
     let mut all = Vec::new(alloc);
@@ -101,20 +105,37 @@ fn words_of(alloc: Global, words: &[&str]) -> Result<Vec<String>, AllocError> {
     Ok(all)
 }
 
+/// What a run gives: how it ends, and what it writes to both writers.
+#[derive(Drop)]
+struct Told {
+    ending: Ending,
+    out: Vec<u8>,
+    err: Vec<u8>,
+}
+
+fn told_by(alloc: Global, words: &[&str], reply: &str) -> Result<Told, AllocError> {
+    let words = words_of(alloc, words)?;
+    let mut input = reply.as_bytes();
+    let mut out = Vec::new(alloc);
+    let mut err = Vec::new(alloc);
+    let ending = run(
+        alloc,
+        &Worked,
+        words.as_slice(),
+        &mut input,
+        &mut out,
+        &mut err,
+    );
+    Ok(Told { ending, out, err })
+}
+
 #[test]
-fn each_run_ends_so(rt: HostRuntime) -> Result<(), Fail> {
-    let alloc = rt.alloc();
-    for (selector, to, directory, reply, status, lines, fault) in RUNS {
-        let to = format!(in alloc; "--to={to}")?;
-        let texts = ["--from=0", to.as_str(), "--selector", selector, directory];
-        let words = words_of(alloc, &texts)?;
-        let mut input = reply.as_bytes();
-        let mut out = Vec::new(alloc);
-        let mut err = Vec::new(alloc);
-        let ending = run(alloc, &Worked, &words, &mut input, &mut out, &mut err);
-        assert_eq!(rt; ending.status, status);
-        assert_eq!(rt; out.as_slice(), lines.as_bytes());
-        assert_eq!(rt; err.as_slice(), fault.as_bytes());
+fn each_run_ends_so(rt: HostRuntime) -> Result<(), AllocError> {
+    for (words, reply, status, lines, fault) in ROWS {
+        let told = told_by(rt.alloc(), words, reply)?;
+        assert_eq!(rt; told.ending.status, status);
+        assert_eq!(rt; told.out.as_slice(), lines.as_bytes());
+        assert_eq!(rt; told.err.as_slice(), fault.as_bytes());
     }
     Ok(())
 }
