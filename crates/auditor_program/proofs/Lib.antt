@@ -1,0 +1,4 @@
+pub mod CommandLines
+pub mod FirstUnread
+pub mod Directories
+pub mod Endings
