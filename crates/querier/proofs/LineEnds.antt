@@ -1,5 +1,5 @@
 -- How a line ends says how the words end.
-use Rattle.std.proofs.Common.{ℕ, List, [], Option, None, Some, Result, Ok, Err, refl, inl, inr}
+use Rattle.std.proofs.Common.{◌≡◌, ℕ, List, [], Option, None, Some, Result, Ok, Err, refl, inl, inr}
 use Rattle.std.specs.Prelude.{◌⊎◌, map}
 use Rattle.std.specs.Io.KnownBytes.{Keeps}
 use Rattle.clap.specs.Words.{Text}
@@ -8,7 +8,7 @@ use Rattle.querier.specs.Lines.{IsLineOf}
 use Rattle.querier.specs.Reading.{Reads}
 use Rattle.querier.specs.DemoAnswer.{by_writing}
 use Rattle.querier.specs.Selecting.{KeepsAt, by_selection}
-use Rattle.querier.specs.Running.{IsTaken, IsLineFault, IsLineEnd, IsEnd, IsCheckLine, KeepsAtEnd}
+use Rattle.querier.specs.Running.{IsTaken, IsLineFault, IsLineEnd, IsEnd, IsCheckLine, KeepsAtEnd, status_at}
 use Rattle.querier.specs.declared.command.Line.{Line}
 use Rattle.querier.specs.declared.command.Line.TheVariants.{Demo, Select, Check}
 use Rattle.querier.specs.declared.fault.Fault.{Fault}
@@ -63,3 +63,16 @@ kept_at_end reads words Demo old new (Err fault) is ends = inr ends.1
 kept_at_end reads words (Select s texts) old new (Ok Done) is ends = inr tt
 kept_at_end reads words (Select s texts) old new (Ok Refused) is ends = absurd ends
 kept_at_end reads words (Select s texts) old new (Err fault) is ends = inr ends.1
+
+-- what is written at an end, by its exit status
+pub written_at_status : (words : List Text) (old new : Option (List ℕ)) (end : Result Outcome Fault) (status : ℕ)
+    → status ≡ status_at end → IsCheckLine words ⊎ KeepsAtEnd old new end
+    → (status ≡ 0) ⊎ ((status ≡ 3) ⊎ (IsCheckLine words ⊎ Keeps old new))
+written_at_status words old new end status is (inl checks) = inr (inr (inl checks))
+written_at_status words old new (Ok Done) status is (inr kept) = inl is
+written_at_status words old new (Ok Refused) status is (inr kept) = inr (inr (inr kept))
+written_at_status words old new (Err (fault.Words error)) status is (inr kept) = inr (inr (inr kept))
+written_at_status words old new (Err (fault.Refused refusal)) status is (inr kept) = inr (inr (inr kept))
+written_at_status words old new (Err (fault.CannotRead path)) status is (inr kept) = inr (inr (inr kept))
+written_at_status words old new (Err fault.CannotWrite) status is (inr kept) = inr (inl is)
+written_at_status words old new (Err fault.Memory) status is (inr kept) = inr (inr (inr kept))

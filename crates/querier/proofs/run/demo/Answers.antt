@@ -7,5 +7,5 @@ returns-clause-ok g c = record {
   answer = c.in_ok-answer.answer;
   is = c.in_ok-answer.ensures.ok;
   written = subst (λ (bytes : List ℕ). Appends (g.W.Write.contents c.args.out.now) (g.W.Write.contents c.send.new.out) bytes)
-      (c.as_slice.ensures.value ∙ c.in_ok-line.ensures) c.in_ok-send.ensures;
+      (c.as_slice.ensures.value ∙ c.in_ok-line.ensures) c.in_ok-send.ensures.ok;
 }
