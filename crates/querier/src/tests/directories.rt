@@ -142,7 +142,7 @@ pub const CHUNKS: Pieces = &[
     b"\x12\xE0\0\x01\0\0\0\0\0\0\0\x0A\0\0\0\0\0\0\0\x03\x89\xFB\x07\x04",
 ];
 
-/// Of the indexes of two blocks of one series, `up{job="a"}` at reference 3: what stands before its entry.
+/// Of the indexes of two blocks of one series, `up{job="a"}` at 3: what stands before its entry.
 const ONE_SYMBOLS: &[u8] =
     b"\xBA\xAA\xD7\0\x02\0\0\0\x16\0\0\0\x04\x08__name__\x01a\x03job\x02up\x4C\x53\x9A\x65\0\0\0\0\0\0\0\0\0\0\0\0\0";
 

@@ -3,88 +3,131 @@
 use super::directories::{CHUNKS, INDEX, META, NOTHING_DELETED, Pieces, joined};
 use super::rows::{Told, told_by};
 use crate::files::ReadFiles;
-use std::alloc::AllocError;
 use std::sync::Wait;
-use std::test::Fail;
-use std::{env, fs, io};
+use std::thread::Threads;
+use std::{env, fs};
+
+/// A name in the folder for files that pass.
+fn passing_name(rt: &HostRuntime, number: u32) -> Option<String> {
+    let passing = env::temp_dir(rt).ok()?;
+    format!(in rt.alloc(); "{}/fuzzledge-{number}", passing.display()).ok()
+}
 
 /// A new folder among those for files that pass.
-fn new_folder(rt: &HostRuntime) -> io::Result<String> {
-    let alloc = rt.alloc();
-    let passing = env::temp_dir(rt)?;
+fn new_folder(rt: &HostRuntime) -> Option<String> {
     for number in 0..100 {
-        let name = format!(in alloc; "{}/fuzzledge-{number}", passing.display())?;
+        let name = passing_name(rt, number)?;
         if fs::create_dir(rt, name.as_str()).is_ok() {
-            return Ok(name);
+            return Some(name);
         }
     }
-    Err(io::Error::from(io::ErrorKind::AlreadyExists))
+    None
+}
+
+fn path_in(rt: &HostRuntime, folder: &str, name: &str) -> Option<String> {
+    format!(in rt.alloc(); "{folder}/{name}").ok()
+}
+
+fn write_file(rt: &HostRuntime, folder: &str, name: &str, pieces: Pieces) -> Option<()> {
+    let path = path_in(rt, folder, name)?;
+    let bytes = joined(rt.alloc(), pieces).ok()?;
+    fs::write(rt, path.as_str(), bytes.as_slice()).ok()
+}
+
+fn make_folder(rt: &HostRuntime, folder: &str, name: &str) -> Option<()> {
+    let path = path_in(rt, folder, name)?;
+    fs::create_dir(rt, path.as_str()).ok()
 }
 
 /// The files of a block, by where they stand in its directory.
-const FILES: [(&str, Pieces); 4] = [
+const FILES: &[(&str, Pieces)] = &[
     ("meta.json", META),
     ("index", INDEX),
     ("chunks/000001", CHUNKS),
     ("tombstones", NOTHING_DELETED),
 ];
 
-fn write_file(rt: &HostRuntime, folder: &str, name: &str, pieces: Pieces) -> io::Result<()> {
-    let alloc = rt.alloc();
-    let path = format!(in alloc; "{folder}/{name}")?;
-    let bytes = joined(alloc, pieces)?;
-    fs::write(rt, path.as_str(), bytes.as_slice())
-}
-
-fn remove(rt: &HostRuntime, folder: &str, name: &str) -> io::Result<()> {
-    let path = format!(in rt.alloc(); "{folder}/{name}")?;
-    fs::remove_file(rt, path.as_str())
-}
-
-fn write_files(rt: &HostRuntime, folder: &str) -> io::Result<()> {
-    let chunks = format!(in rt.alloc(); "{folder}/chunks")?;
-    fs::create_dir(rt, chunks.as_str())?;
+fn write_files(rt: &HostRuntime, folder: &str) -> Option<()> {
+    make_folder(rt, folder, "chunks")?;
     for (name, pieces) in FILES {
         write_file(rt, folder, name, pieces)?;
     }
-    Ok(())
+    Some(())
+}
+
+fn remove(rt: &HostRuntime, folder: &str, name: &str) -> Option<()> {
+    let path = path_in(rt, folder, name)?;
+    fs::remove_file(rt, path.as_str()).ok()
 }
 
 /// Removes what stands in the folder, but for the tombstones, and the folder.
-fn remove_rest(rt: &HostRuntime, folder: &str) -> io::Result<()> {
-    for name in ["meta.json", "index", "chunks/000001"] {
-        remove(rt, folder, name)?;
-    }
-    let chunks = format!(in rt.alloc(); "{folder}/chunks")?;
-    fs::remove_dir(rt, chunks.as_str())?;
-    fs::remove_dir(rt, folder)
+fn remove_rest(rt: &HostRuntime, folder: &str) -> Option<()> {
+    remove(rt, folder, "meta.json")?;
+    remove(rt, folder, "index")?;
+    remove(rt, folder, "chunks/000001")?;
+    let chunks = path_in(rt, folder, "chunks")?;
+    fs::remove_dir(rt, chunks.as_str()).ok()?;
+    fs::remove_dir(rt, folder).ok()
 }
 
 /// What `check` of the folder gives.
-fn checked_in(waits: &impl Wait, rt: &HostRuntime, folder: &str) -> Result<Told, AllocError> {
-    told_by(waits, rt.alloc(), rt, &["check", folder])
+fn checked_in<Q: Wait + Threads + Sync>(waits: &Q, rt: &HostRuntime, folder: &str) -> Option<Told> {
+    told_by(waits, rt.alloc(), rt, &["check", folder]).ok()
+}
+
+fn is_told_whole<Q: Wait + Threads + Sync>(
+    waits: &Q,
+    rt: &HostRuntime,
+    folder: &str,
+) -> Option<bool> {
+    let line = format!(in rt.alloc(); "{folder}: ok 6 series 6 samples\n").ok()?;
+    let told = checked_in(waits, rt, folder)?;
+    Some(told.out.as_slice() == line.as_bytes())
+}
+
+fn is_told_torn<Q: Wait + Threads + Sync>(
+    waits: &Q,
+    rt: &HostRuntime,
+    folder: &str,
+) -> Option<bool> {
+    let line = format!(in rt.alloc(); "cannot read {folder}/tombstones\n").ok()?;
+    let told = checked_in(waits, rt, folder)?;
+    Some(told.err.as_slice() == line.as_bytes() && told.ending.status == 3)
+}
+
+/// How many bytes of the tombstones are read where at most so many are wanted.
+fn length_read(rt: &HostRuntime, folder: &str, most: usize) -> Option<usize> {
+    let path = path_in(rt, folder, "tombstones")?;
+    let read = rt.read_file(rt.alloc(), path.as_str(), most).ok()?;
+    Some(read.len())
+}
+
+/// Whether the tombstones are read up to where they end, and no more than are wanted.
+fn are_lengths_right(rt: &HostRuntime, folder: &str) -> bool {
+    length_read(rt, folder, 0) == Some(0)
+        && length_read(rt, folder, 5) == Some(5)
+        && length_read(rt, folder, 9) == Some(9)
+        && length_read(rt, folder, 10) == Some(9)
+}
+
+/// Writes a block, looks at it, takes its tombstones away, and looks again.
+fn look_twice<Q: Wait + Threads + Sync>(
+    waits: &Q,
+    rt: &HostRuntime,
+    folder: &str,
+) -> Option<[bool; 3]> {
+    write_files(rt, folder)?;
+    let whole = is_told_whole(waits, rt, folder)?;
+    let lengths = are_lengths_right(rt, folder);
+    remove(rt, folder, "tombstones")?;
+    let torn = is_told_torn(waits, rt, folder)?;
+    remove_rest(rt, folder)?;
+    Some([whole, lengths, torn])
 }
 
 #[test]
-fn files_of_the_host_are_read(rt: HostRuntime) -> Result<(), Fail> {
-    let alloc = rt.alloc();
-    let folder = new_folder(&rt)?;
-    let folder = folder.as_str();
-    write_files(&rt, folder)?;
-    let whole = checked_in(&rt, &rt, folder)?;
-    let line = format!(in alloc; "{folder}: ok 6 series 6 samples\n")?;
-    assert_eq!(rt; whole.out.as_slice(), line.as_bytes());
-    let tombstones = format!(in alloc; "{folder}/tombstones")?;
-    for (most, length) in [(0, 0), (5, 5), (9, 9), (10, 9)] {
-        let read = rt.read_file(alloc, tombstones.as_str(), most)?;
-        assert_eq!(rt; read.len(), length);
-    }
-
-    fs::remove_file(&rt, tombstones.as_str())?;
-    let torn = checked_in(&rt, &rt, folder)?;
-    let told = format!(in alloc; "cannot read {folder}/tombstones\n")?;
-    assert_eq!(rt; torn.err.as_slice(), told.as_bytes());
-    assert_eq!(rt; torn.ending.status, 3);
-    remove_rest(&rt, folder)?;
-    Ok(())
+fn files_of_the_host_are_read(rt: HostRuntime) {
+    let folder = new_folder(&rt).expect(&rt, "a folder can be made");
+    let seen = look_twice(&rt, &rt, folder.as_str());
+    assert_eq!(rt; seen, Some([true, true, true]));
 }

@@ -4,8 +4,8 @@ use super::directories::DIRECTORIES;
 use crate::files::ReadFiles;
 use crate::run::{Ending, run};
 use std::alloc::{AllocError, Global};
-use std::process::Abort;
 use std::sync::Wait;
+use std::thread::Threads;
 use std::{io, str};
 
 /// Words, the exit status, and what goes to the first and to the second writer.
@@ -27,8 +27,8 @@ pub struct Told {
     pub err: Vec<u8>,
 }
 
-pub fn told_by<F: ReadFiles>(
-    rt: &impl Wait,
+pub fn told_by<Q: Wait + Threads + Sync, F: ReadFiles>(
+    rt: &Q,
     alloc: Global,
     files: &F,
     words: &[&str],
@@ -48,8 +48,31 @@ pub fn told_by<F: ReadFiles>(
     Ok(Told { ending, out, err })
 }
 
-/// Words, the exit status, a piece of what goes to the first writer, and a piece of what goes to the second; nothing
-/// goes where the piece is empty.
+/// Whether a row is what the program gives.
+fn is_given<Q: Wait + Threads + Sync>(rt: &Q, alloc: Global, row: &Row) -> bool {
+    told_by(rt, alloc, &DIRECTORIES, row.0).is_ok_and(|told| {
+        told.ending.status == row.1
+            && told.out.as_slice() == row.2.as_bytes()
+            && told.err.as_slice() == row.3.as_bytes()
+    })
+}
+
+/// The first row that is not what the program gives.
+pub fn first_other<Q: Wait + Threads + Sync>(
+    rt: &Q,
+    alloc: Global,
+    rows: &'static [Row],
+) -> Option<&'static Row> {
+    for row in rows {
+        if !is_given(rt, alloc, row) {
+            return Some(row);
+        }
+    }
+    None
+}
+
+/// Words, the exit status, a piece of what goes to the first writer, and a piece of what goes to
+/// the second; nothing goes where the piece is empty.
 pub type Pieced = (&'static [&'static str], u8, &'static str, &'static str);
 
 /// Whether bytes are a text in which a piece stands, and none for the empty piece.
@@ -60,28 +83,25 @@ fn has_piece(bytes: &[u8], piece: &str) -> bool {
     }
 }
 
-/// Fails where a piece of a row does not stand in what the program gives.
-pub fn look_for(
-    alloc: Global,
-    rt: &(impl Abort + Wait),
-    rows: &[Pieced],
-) -> Result<(), AllocError> {
-    for (words, status, out, err) in rows {
-        let told = told_by(rt, alloc, &DIRECTORIES, words)?;
-        assert_eq!(rt; told.ending.status, *status);
-        assert!(rt; has_piece(told.out.as_slice(), out));
-        assert!(rt; has_piece(told.err.as_slice(), err));
-    }
-    Ok(())
+/// Whether the pieces of a row stand in what the program gives.
+fn has_pieces<Q: Wait + Threads + Sync>(rt: &Q, alloc: Global, row: &Pieced) -> bool {
+    told_by(rt, alloc, &DIRECTORIES, row.0).is_ok_and(|told| {
+        told.ending.status == row.1
+            && has_piece(told.out.as_slice(), row.2)
+            && has_piece(told.err.as_slice(), row.3)
+    })
 }
 
-/// Fails where a row is not what the program gives.
-pub fn look_at(alloc: Global, rt: &(impl Abort + Wait), rows: &[Row]) -> Result<(), AllocError> {
-    for (words, status, out, err) in rows {
-        let told = told_by(rt, alloc, &DIRECTORIES, words)?;
-        assert_eq!(rt; told.ending.status, *status);
-        assert_eq!(rt; told.out.as_slice(), out.as_bytes());
-        assert_eq!(rt; told.err.as_slice(), err.as_bytes());
+/// The first row of which a piece does not stand in what the program gives.
+pub fn first_without<Q: Wait + Threads + Sync>(
+    rt: &Q,
+    alloc: Global,
+    rows: &'static [Pieced],
+) -> Option<&'static Pieced> {
+    for row in rows {
+        if !has_pieces(rt, alloc, row) {
+            return Some(row);
+        }
     }
-    Ok(())
+    None
 }
