@@ -29,10 +29,12 @@ allocations: ## refuses each allocation of an index's opening and of the demo in
 bench: ## measures speed (never part of the gate)
 	@RT="$(RT)" bench/run && RT="$(RT)" bench/check
 
-install: ## proves and builds querier, and copies it to PREFIX/bin
+install: ## proves and builds querier and auditor, and copies them to PREFIX/bin
 	@$(RT) all check --jobs $(JOBS) >/dev/null
 	@cd crates/querier && $(RT) run -- demo >/dev/null
+	@cd crates/auditor_program && $(RT) run -- --selector up <stdin >/dev/null
 	@install -D -m 755 crates/querier/out/querier "$(DESTDIR)$(PREFIX)/bin/querier"
+	@install -D -m 755 crates/auditor_program/out/auditor_program "$(DESTDIR)$(PREFIX)/bin/auditor"
 
 $(addprefix check-,$(CRATES)): check-%:
 	@cd crates/$* && $(RT) check
