@@ -4,7 +4,7 @@ PREFIX ?= /usr/local
 JOBS ?= $(shell nproc)
 CRATES := $(shell sed -e 's/\#.*//' -e 's/:.*//' -e '/^[[:space:]]*$$/d' crates.txt)
 
-.PHONY: help try demo test gate-times allocations bench install $(addprefix check-,$(CRATES))
+.PHONY: help try demo test gate-times allocations audits bench install $(addprefix check-,$(CRATES))
 
 help: ## lists the targets
 	@grep -hE '^[a-z-]+:.*## ' $(MAKEFILE_LIST) | sed -E 's/^([a-z-]+):.*## /\1\t/' | expand -t 16
@@ -23,11 +23,14 @@ test: ## the merge gate: every proof from nothing, must-fail edits, tests, progr
 gate-times: ## runs the gate and tells its minutes by crate, for proofs, proofs of tests and edits
 	@tests/gate-times $(RT) ci
 
-allocations: ## refuses each allocation of an index's opening and of the demo in turn (needs a C compiler)
+allocations: ## refuses each allocation of an index's opening, the demo and audits in turn (needs a C compiler)
 	@RT="$(RT)" tests/allocations
 
+audits: ## pipes what querier tells, right and changed, through auditor (needs rustc)
+	@RT="$(RT)" tests/audits
+
 bench: ## measures speed (never part of the gate)
-	@RT="$(RT)" bench/run && RT="$(RT)" bench/check
+	@RT="$(RT)" bench/run && RT="$(RT)" bench/check && RT="$(RT)" bench/audit
 
 install: ## proves and builds querier and auditor, and copies them to PREFIX/bin
 	@$(RT) all check --jobs $(JOBS) >/dev/null

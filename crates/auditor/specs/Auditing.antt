@@ -1,5 +1,6 @@
 -- What an auditor says of a part's answer: that it is sound, or its first flaw.
-use Rattle.std.specs.Prelude.{◌≡◌, ◌⊎◌, ℕ, zero, suc, ◌<◌, Bool, true, false, List, [], ◌∷◌, Option, None, Some, length, map, nat_lt}
+use Rattle.std.specs.Prelude.{◌≡◌, ◌⊎◌, ℕ, zero, suc, ◌<◌, Bool, true, false, List, [], ◌∷◌, Option}
+use Rattle.std.specs.Prelude.{None, Some, length, map, nat_lt}
 use Rattle.std.specs.List.{list_all, Contains}
 use Rattle.std.specs.List.Sorted.{IsStrictlyIncreasing}
 use Rattle.labels.specs.Contents.{Content, selected}
@@ -12,9 +13,13 @@ use Rattle.cover.specs.declared.certificate.Verdict.{Verdict}
 use Rattle.cover.specs.declared.certificate.Verdict.TheVariants.{Match, NoSample, Rejected}
 use Rattle.cover.specs.declared.part_cover.PartAnswer.{PartAnswer}
 use Rattle.cover.specs.Asking.{asked}
-use Rattle.cover.specs.Certificates.{Asked, IsPartition, FitsUnder, IsFittingRun, run_of, IsChained, IsValidCertificate, AreSeparators}
+use Rattle.cover.specs.Certificates.{Asked, IsPartition, FitsUnder, IsFittingRun, run_of, IsChained}
+use Rattle.cover.specs.Certificates.{IsValidCertificate, AreSeparators}
 use Rattle.auditor.specs.declared.flaw.Flaw.{Flaw}
-use Rattle.auditor.specs.declared.flaw.Flaw.TheVariants.{NotAPartition, NotMatching, NotRejected, SeparatorCount, SeparatorsFit, WrongRows, UnknownMatcher, NotSilent, Hidden, WrongMerge}
+use Rattle.auditor.specs.declared.flaw.Flaw.TheVariants.{NotAPartition, NotMatching, NotRejected}
+use Rattle.auditor.specs.declared.flaw.Flaw.TheVariants.{SeparatorCount, SeparatorsFit, WrongRows}
+use Rattle.auditor.specs.declared.flaw.Flaw.TheVariants.{UnknownMatcher, NotSilent, Hidden}
+use Rattle.auditor.specs.declared.flaw.Flaw.TheVariants.{WrongMerge}
 use Rattle.auditor.specs.declared.flaw.AuditError.{AuditError}
 use Rattle.auditor.specs.declared.flaw.AuditError.TheVariants as errors
 
@@ -28,8 +33,8 @@ names_known matchers (Rejected j) = nat_lt j matchers
 abbrev pub all_known : ℕ → List Interval → Bool
 all_known matchers certificate = list_all (λ i. names_known matchers i.verdict) certificate
 
--- The runs of the intervals are a partition; each interval begins with a reference of its run, and ends where the next
--- one begins, the last one at the end of all references.
+-- The runs of the intervals are a partition; each interval begins with a reference of its run, and
+-- ends where the next one begins, the last one at the end of all references.
 pub record IsCut (a : Asked) (certificate : List Interval) : Type 0 where
   pub partition : IsPartition a (map (run_of a) certificate)
   pub begins : (i : Interval) → Contains certificate i → Contains (run_of a i) i.from
@@ -43,7 +48,8 @@ AllFit a certificate = (i : Interval) → Contains certificate i → FitsUnder a
 abbrev pub IsFirstMisfit : Asked → List Interval → Verdict → Type 0
 IsFirstMisfit a [] v = ⊥
 IsFirstMisfit a (i ∷ is) v =
-    ((FitsUnder a i.verdict (run_of a i) → ⊥) × (i.verdict ≡ v)) ⊎ (FitsUnder a i.verdict (run_of a i) × IsFirstMisfit a is v)
+    ((FitsUnder a i.verdict (run_of a i) → ⊥) × (i.verdict ≡ v))
+    ⊎ (FitsUnder a i.verdict (run_of a i) × IsFirstMisfit a is v)
 
 -- The separators are strictly ascending references of the part, as many as the intervals.
 pub record AreCounted (a : Asked) (separators : List ℕ) (certificate : List Interval) : Type 0 where
@@ -72,10 +78,12 @@ pub record IsFirstShared (a : Asked) (separators : List ℕ) (at : ℕ) : Type 0
 
 -- The part's content restricted to the matchers and the range of the query.
 abbrev pub selected_content : Part → QueryView → Content
-selected_content part query = selected (satisfies_all query.matchers) query.from query.to (content_of (part ∷ []))
+selected_content part query = selected (satisfies_all query.matchers) query.from query.to
+    (content_of (part ∷ []))
 
--- A sound answer: no verdict names a missing matcher, the intervals are a valid certificate, the separators are
--- separators and as many as the intervals, and the rows are those that the query selects of the part.
+-- A sound answer: no verdict names a missing matcher, the intervals are a valid certificate, the
+-- separators are separators and as many as the intervals, and the rows are those that the query
+-- selects of the part.
 pub record IsSound (part : Part) (query : QueryView) (answer : PartAnswer) : Type 0 where
   pub known : all_known (length query.matchers) answer.cover.certificate.items ≡ true
   pub valid : IsValidCertificate (asked part query) answer.cover.certificate.items
@@ -84,14 +92,16 @@ pub record IsSound (part : Part) (query : QueryView) (answer : PartAnswer) : Typ
   pub rows : AreRows answer.rows.items (selected_content part query)
 
 -- No verdict names a missing matcher, and the intervals are a partition.
-pub record IsPartitioned (part : Part) (query : QueryView) (certificate : List Interval) : Type 0 where
-  pub known : all_known (length query.matchers) certificate ≡ true
-  pub cut : IsCut (asked part query) certificate
+pub record IsPartitioned (part : Part) (query : QueryView) (certificate : List Interval) : Type 0
+  where
+    pub known : all_known (length query.matchers) certificate ≡ true
+    pub cut : IsCut (asked part query) certificate
 
--- The first flaw of an answer, in the order of the checks: each flaw comes where what was checked before it holds and
--- its own condition does not.
+-- The first flaw of an answer, in the order of the checks: each flaw comes where what was checked
+-- before it holds and its own condition does not.
 abbrev pub IsFlaw : Part → QueryView → PartAnswer → Flaw → Type 0
-IsFlaw part query answer UnknownMatcher = all_known (length query.matchers) answer.cover.certificate.items ≡ false
+IsFlaw part query answer UnknownMatcher =
+    all_known (length query.matchers) answer.cover.certificate.items ≡ false
 IsFlaw part query answer NotAPartition =
     (all_known (length query.matchers) answer.cover.certificate.items ≡ true)
     × (IsCut (asked part query) answer.cover.certificate.items → ⊥)
@@ -107,7 +117,8 @@ IsFlaw part query answer NotSilent =
 IsFlaw part query answer SeparatorCount =
     IsPartitioned part query answer.cover.certificate.items
     × AllFit (asked part query) answer.cover.certificate.items
-    × (AreCounted (asked part query) answer.cover.separators.items answer.cover.certificate.items → ⊥)
+    × (AreCounted (asked part query) answer.cover.separators.items answer.cover.certificate.items
+    → ⊥)
 IsFlaw part query answer (SeparatorsFit at) =
     IsPartitioned part query answer.cover.certificate.items
     × AllFit (asked part query) answer.cover.certificate.items

@@ -1,7 +1,10 @@
 -- The numbers of flaws, and their texts.
 use Rattle.std.specs.Prelude.{ℕ, List, ◌++◌, codes, decimal}
 use Rattle.auditor.specs.declared.flaw.Flaw.{Flaw}
-use Rattle.auditor.specs.declared.flaw.Flaw.TheVariants.{NotAPartition, NotMatching, NotRejected, SeparatorCount, SeparatorsFit, WrongRows, UnknownMatcher, NotSilent, Hidden, WrongMerge}
+use Rattle.auditor.specs.declared.flaw.Flaw.TheVariants.{NotAPartition, NotMatching, NotRejected}
+use Rattle.auditor.specs.declared.flaw.Flaw.TheVariants.{SeparatorCount, SeparatorsFit, WrongRows}
+use Rattle.auditor.specs.declared.flaw.Flaw.TheVariants.{UnknownMatcher, NotSilent, Hidden}
+use Rattle.auditor.specs.declared.flaw.Flaw.TheVariants.{WrongMerge}
 use Rattle.auditor.specs.declared.flaw.AuditError.{AuditError}
 use Rattle.auditor.specs.declared.flaw.AuditError.TheVariants as errors
 
@@ -22,9 +25,12 @@ code_of WrongMerge = codes "F10"
 abbrev pub text_of : Flaw → List ℕ
 text_of NotAPartition = codes "F1: the intervals are no partition of the part"
 text_of NotMatching = codes "F2: a match is not one series that answers"
-text_of (NotRejected matcher) = codes "F3: matcher " ++ decimal matcher ++ codes " accepts a series that it is said to reject"
-text_of SeparatorCount = codes "F4: the separators are not ascending references, one for each interval"
-text_of (SeparatorsFit at) = codes "F5: separator " ++ decimal at ++ codes " and the next lie in one fitting run"
+text_of (NotRejected matcher) = codes "F3: matcher " ++ decimal matcher
+    ++ codes " accepts a series that it is said to reject"
+text_of SeparatorCount =
+    codes "F4: the separators are not ascending references, one for each interval"
+text_of (SeparatorsFit at) = codes "F5: separator " ++ decimal at
+    ++ codes " and the next lie in one fitting run"
 text_of WrongRows = codes "F6: the rows are not those of the part"
 text_of UnknownMatcher = codes "F7: a verdict names a matcher that is not there"
 text_of NotSilent = codes "F8: a series that is said to have no sample in the range has one"

@@ -1,5 +1,6 @@
 -- What is said of each part of a reply and of its rows, and in which lines.
-use Rattle.std.specs.Prelude.{◌≡◌, ◌++◌, ◌==◌, ◌||◌, ℕ, zero, suc, Bool, true, false, List, [], ◌∷◌, Option, None, Some, length, slice_get, codes, decimal, if◌then◌else◌}
+use Rattle.std.specs.Prelude.{◌≡◌, ◌++◌, ◌==◌, ◌||◌, ℕ, zero, suc, Bool, true, false, List, [], ◌∷◌}
+use Rattle.std.specs.Prelude.{Option, None, Some, length, slice_get, codes, decimal, if◌then◌else◌}
 use Rattle.std.specs.List.{AllZip, flat_map}
 use Rattle.labels.specs.Rows.{Row, AreRows}
 use Rattle.labels.specs.Parts.{Part as Series}
@@ -8,7 +9,10 @@ use Rattle.postings.specs.declared.part_name.PartName.{PartName}
 use Rattle.postings.specs.declared.part_name.PartName.TheVariants.{Block, Head}
 use Rattle.cover.specs.declared.part_cover.PartAnswer.{PartAnswer}
 use Rattle.auditor.specs.declared.flaw.Flaw.{Flaw}
-use Rattle.auditor.specs.declared.flaw.Flaw.TheVariants.{NotAPartition, NotMatching, NotRejected, SeparatorCount, SeparatorsFit, WrongRows, UnknownMatcher, NotSilent, Hidden, WrongMerge}
+use Rattle.auditor.specs.declared.flaw.Flaw.TheVariants.{NotAPartition, NotMatching, NotRejected}
+use Rattle.auditor.specs.declared.flaw.Flaw.TheVariants.{SeparatorCount, SeparatorsFit, WrongRows}
+use Rattle.auditor.specs.declared.flaw.Flaw.TheVariants.{UnknownMatcher, NotSilent, Hidden}
+use Rattle.auditor.specs.declared.flaw.Flaw.TheVariants.{WrongMerge}
 use Rattle.auditor.specs.declared.reply.ToldPart.{ToldPart}
 use Rattle.auditor.specs.declared.reply.ToldPart.TheVariants as parts
 use Rattle.auditor.specs.declared.reply.Reply.{Reply}
@@ -83,8 +87,8 @@ IsOfTable part query answer Skipped = ⊥
 IsOfTable part query answer (Flawed flaw) = IsFlaw part query answer flaw
 IsOfTable part query answer (Refused code) = ⊥
 
--- what is said of an answer: of a part that is not known, that it is skipped; of refused files, that
--- they are
+-- what is said of an answer: of a part that is not known, that it is skipped; of refused files,
+-- that they are
 abbrev pub IsOfAnswer : Option BlockTable → QueryView → PartAnswer → Judgement → Type 0
 IsOfAnswer None query answer judgement = judgement ≡ Skipped
 IsOfAnswer (Some (tables.Refused code)) query answer judgement = judgement ≡ Refused code
@@ -157,17 +161,18 @@ abbrev pub AreLeftLines : List BlockTable → QueryView → List ToldPart → Li
 AreLeftLines blocks query told lines =
     AllZip (IsLeftLine blocks query) (unnamed told (length blocks)) lines
 
--- the lines of a reply: one for each part, in order, then one for each block that no part names, and
--- last that of the rows
+-- the lines of a reply: one for each part, in order, then one for each block that no part names,
+-- and last that of the rows
 pub record AreLines
-    (blocks : List BlockTable) (query : QueryView) (reply : Reply) (lines : List Line) : Type 0 where
-  pub of_parts : List Line
-  pub of_left : List Line
-  pub of_rows : Judgement
-  pub whole : lines ≡ of_parts ++ of_left ++ record { subject = Rows; judgement = of_rows } ∷ []
-  pub are_of_parts : ArePartLines blocks query reply.parts.items of_parts
-  pub are_of_left : AreLeftLines blocks query reply.parts.items of_left
-  pub is_of_rows : IsOfRows (flat_map answers_of reply.parts.items) reply.rows.items of_rows
+    (blocks : List BlockTable) (query : QueryView) (reply : Reply) (lines : List Line) : Type 0
+  where
+    pub of_parts : List Line
+    pub of_left : List Line
+    pub of_rows : Judgement
+    pub whole : lines ≡ of_parts ++ of_left ++ record { subject = Rows; judgement = of_rows } ∷ []
+    pub are_of_parts : ArePartLines blocks query reply.parts.items of_parts
+    pub are_of_left : AreLeftLines blocks query reply.parts.items of_left
+    pub is_of_rows : IsOfRows (flat_map answers_of reply.parts.items) reply.rows.items of_rows
 
 -- the lines as a text, each ended by a line feed
 abbrev pub lines_text : List Line → List ℕ

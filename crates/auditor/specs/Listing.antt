@@ -15,7 +15,8 @@ abbrev pub listed : List PartAnswer → List (Point × ℤ)
 listed [] = []
 listed (answer ∷ answers) = points_of answer.rows.items ++ listed answers
 
--- The content after these samples are put into it, one after another: each point has the value that was put last.
+-- The content after these samples are put into it, one after another: each point has the value that
+-- was put last.
 abbrev pub with_each : List (Point × ℤ) → Content → Content
 with_each [] content = content
 with_each (sample ∷ samples) content = with_each samples (put point_cmp sample.0 sample.1 content)
@@ -26,7 +27,8 @@ last_listed answers = with_each (listed answers) []
 
 -- Why rows are refused: they are not those of what the answers list, or no memory.
 abbrev pub IsUnmerged : List PartAnswer → List Row → AuditError → Type 0
-IsUnmerged answers rows (errors.Flaw flaw) = (flaw ≡ WrongMerge) × (AreRows rows (last_listed answers) → ⊥)
+IsUnmerged answers rows (errors.Flaw flaw) = (flaw ≡ WrongMerge)
+    × (AreRows rows (last_listed answers) → ⊥)
 IsUnmerged answers rows errors.Memory = Unit {0}
 
 -- Whether a sample stands before another, by label set and then by time.

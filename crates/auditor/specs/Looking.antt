@@ -1,5 +1,6 @@
 -- What an auditor looks at, series by series.
-use Rattle.std.specs.Prelude.{ℕ, ℤ, Bool, true, false, not, ◌&&◌, ◌||◌, ◌==◌, List, [], ◌∷◌, Option, None, Some, map, nat_le, nat_lt, ◌+◌, if◌then◌else◌}
+use Rattle.std.specs.Prelude.{ℕ, ℤ, Bool, true, false, not, ◌&&◌, ◌||◌, ◌==◌, List, [], ◌∷◌, Option}
+use Rattle.std.specs.Prelude.{None, Some, map, nat_le, nat_lt, ◌+◌, if◌then◌else◌}
 use Rattle.std.specs.List.{filter, list_all, list_any}
 use Rattle.labels.specs.Labels.{Labels}
 use Rattle.labels.specs.Contents.{in_range}
@@ -29,7 +30,8 @@ first_at rows = first_or_end (references rows)
 abbrev pub cuts : List Interval → Part → Bool
 cuts [] rows = first_at rows == 4294967296
 cuts (i ∷ is) rows =
-    (i.from == first_at rows) && nat_lt i.from i.until && (i.until == first_at (rows_from i.until rows))
+    (i.from == first_at rows) && nat_lt i.from i.until
+    && (i.until == first_at (rows_from i.until rows))
     && cuts is (rows_from i.until rows)
 
 -- whether a series answers: it satisfies every matcher and has a sample in the range
@@ -38,7 +40,8 @@ answers query row = satisfies_all query.matchers row.1.0 && has_sample query.fro
 
 -- whether no series has a sample in the range
 abbrev pub are_silent : QueryView → Part → Bool
-are_silent query rows = list_all (λ (row : ℕ × Row). not (has_sample query.from query.to row.1.1)) rows
+are_silent query rows = list_all (λ (row : ℕ × Row). not (has_sample query.from query.to row.1.1))
+    rows
 
 -- whether the matcher accepts no series
 abbrev pub rejects_each : MatcherView → Part → Bool
@@ -46,7 +49,8 @@ rejects_each matcher rows = list_all (λ (row : ℕ × Row). not (satisfies matc
 
 -- whether the matcher of this number accepts no series
 abbrev pub are_rejected : QueryView → ℕ → Part → Bool
-are_rejected query j rows = list_all (λ (row : ℕ × Row). not (satisfies_at query.matchers j row.1.0)) rows
+are_rejected query j rows =
+    list_all (λ (row : ℕ × Row). not (satisfies_at query.matchers j row.1.0)) rows
 
 -- whether there is one series, and it answers
 abbrev pub is_one_match : QueryView → Part → Bool
@@ -64,7 +68,8 @@ fits query (Rejected j) rows = are_rejected query j rows
 abbrev pub first_misfit : QueryView → List Interval → Part → Option Verdict
 first_misfit query [] rows = None
 first_misfit query (i ∷ is) rows =
-    if fits query i.verdict (rows_below i.until rows) then first_misfit query is (rows_from i.until rows)
+    if fits query i.verdict (rows_below i.until rows)
+    then first_misfit query is (rows_from i.until rows)
     else Some i.verdict
 
 -- whether the series begin with this reference
@@ -80,18 +85,21 @@ after_first (row ∷ rows) = rows
 -- whether the separators are references of the series, in their order
 abbrev pub are_picked : List ℕ → Part → Bool
 are_picked [] rows = true
-are_picked (s ∷ ss) rows = begin_with s (rows_from s rows) && are_picked ss (after_first (rows_from s rows))
+are_picked (s ∷ ss) rows = begin_with s (rows_from s rows)
+    && are_picked ss (after_first (rows_from s rows))
 
 -- whether all series have no sample in the range, or one matcher accepts none of them
 abbrev pub share_verdict : QueryView → Part → Bool
-share_verdict query rows = list_any (λ matcher. rejects_each matcher rows) query.matchers || are_silent query rows
+share_verdict query rows = list_any (λ matcher. rejects_each matcher rows) query.matchers
+    || are_silent query rows
 
--- the first place from this one on at which a separator shares a fitting run with the one before it; the series begin
--- with the one before the first of these
+-- the first place from this one on at which a separator shares a fitting run with the one before
+-- it; the series begin with the one before the first of these
 abbrev pub first_shared : QueryView → ℕ → List ℕ → Part → Option ℕ
 first_shared query at [] rows = None
 first_shared query at (s ∷ ss) rows =
-    if share_verdict query (rows_below (s + 1) rows) then Some at else first_shared query (at + 1) ss (rows_from s rows)
+    if share_verdict query (rows_below (s + 1) rows) then Some at
+    else first_shared query (at + 1) ss (rows_from s rows)
 
 -- the least place at which a separator and the next share a fitting run
 abbrev pub shared_at : QueryView → List ℕ → Part → Option ℕ
@@ -104,4 +112,5 @@ row_within from to row = (row.0, filter (λ (s : ℤ × ℤ). in_range from to s
 
 -- the rows of the series that answer, in the order of their references
 abbrev pub rows_found : QueryView → Part → List Row
-rows_found query part = map (λ row. row_within query.from query.to row.1) (filter (answers query) part)
+rows_found query part = map (λ row. row_within query.from query.to row.1)
+    (filter (answers query) part)

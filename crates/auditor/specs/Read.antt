@@ -3,7 +3,8 @@ use Rattle.std.specs.Prelude.{◌≡◌, Option, Some, None, Result, Ok, Err}
 use Rattle.auditor.specs.declared.reply.ReplyError.{ReplyError}
 use Rattle.auditor.specs.declared.reply.ReplyError.TheVariants.{BadReply, Memory}
 
--- what was answered, seen by view, is what is said, and a bad reply says nothing; no memory says nothing of it
+-- what was answered, seen by view, is what is said, and a bad reply says nothing; no memory says
+-- nothing of it
 abbrev pub Reads : {X Y : Type 0} → (X → Y) → Result X ReplyError → Option Y → Type 0
 Reads view (Ok x) said = said ≡ Some (view x)
 Reads view (Err BadReply) said = said ≡ None

@@ -1,12 +1,15 @@
 -- What the tree of a reply says.
-use Rattle.std.specs.Prelude.{ℕ, ℤ, Bool, true, false, not, ◌&&◌, ◌==◌, ◌+◌, ◌*◌, ◌-◌, List, [], ◌∷◌, Option, Some, None, option_map, option_and_then, unwrap_or, map, take, drop, length, codes, nat_lt, nat_le, if◌then◌else◌}
+use Rattle.std.specs.Prelude.{ℕ, ℤ, Bool, true, false, not, ◌&&◌, ◌==◌, ◌+◌, ◌*◌, ◌-◌, List, []}
+use Rattle.std.specs.Prelude.{◌∷◌, Option, Some, None, option_map, option_and_then, unwrap_or, map}
+use Rattle.std.specs.Prelude.{take, drop, length, codes, nat_lt, nat_le, if◌then◌else◌}
 use Rattle.std.specs.List.{list_all}
 use Rattle.std.specs.Str.{is_utf8, bytes_eq}
 use Rattle.std.specs.Char.{is_ascii_digit}
 use Rattle.std.specs.FinMap.Entries.{is_sorted}
 use Rattle.serde_json.specs.Data.{Data, Items, no_items, item, Members, no_members, member}
 use Rattle.serde_json.specs.Read.{read}
-use Rattle.serde_json.specs.Find.{get, at, as_number, as_str, as_bool, as_array, as_object, as_u64, as_i64}
+use Rattle.serde_json.specs.Find.{get, at, as_number, as_str, as_bool, as_array, as_object, as_u64}
+use Rattle.serde_json.specs.Find.{as_i64}
 use Rattle.serde_json.specs.Events.{items_len, members_len}
 use Rattle.labels.specs.Labels.{Labels, text_cmp}
 use Rattle.labels.specs.LabelSets.{are_named, has_value}

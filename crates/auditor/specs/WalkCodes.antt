@@ -3,7 +3,12 @@ use Rattle.std.specs.Prelude.{ℕ, List, codes}
 use Rattle.chunk_reader.specs.Codes as chunk
 use Rattle.tombstones.specs.Codes as tombstone
 use Rattle.auditor.specs.declared.walk.error.WalkError.{WalkError}
-use Rattle.auditor.specs.declared.walk.error.WalkError.TheVariants.{Memory, TooShort, Magic, Version, ContentsCrc, ContentsOrder, SymbolsCrc, Symbols, SeriesCrc, Series, SeriesOrder, Limit, Chunks, Tombstones, UnknownSeries}
+use Rattle.auditor.specs.declared.walk.error.WalkError.TheVariants.{Memory, TooShort, Magic}
+use Rattle.auditor.specs.declared.walk.error.WalkError.TheVariants.{Version, ContentsCrc}
+use Rattle.auditor.specs.declared.walk.error.WalkError.TheVariants.{ContentsOrder, SymbolsCrc}
+use Rattle.auditor.specs.declared.walk.error.WalkError.TheVariants.{Symbols, SeriesCrc, Series}
+use Rattle.auditor.specs.declared.walk.error.WalkError.TheVariants.{SeriesOrder, Limit, Chunks}
+use Rattle.auditor.specs.declared.walk.error.WalkError.TheVariants.{Tombstones, UnknownSeries}
 
 -- the number of a refusal, as text
 abbrev pub code_of : WalkError → List ℕ

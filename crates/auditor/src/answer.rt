@@ -5,7 +5,8 @@ ghost use Rattle.labels.specs.Parts.{Part, IsPart};
 ghost use Rattle.matchers.specs.Views.{QueryView};
 ghost use Rattle.cover.specs.Certificates.{IsLeast};
 ghost use Rattle.cover.specs.Asking.{asked};
-ghost use Rattle.auditor.specs.Auditing.{IsSound, IsFlaw, IsJudgement, IsRefusal, misfit_flaw, all_known};
+ghost use Rattle.auditor.specs.Auditing.{IsSound, IsFlaw, IsJudgement, IsRefusal, misfit_flaw};
+ghost use Rattle.auditor.specs.Auditing.{all_known};
 ghost use Rattle.auditor.specs.Looking.{cuts};
 
 use crate::flaw::{AuditError, Flaw};
@@ -29,7 +30,8 @@ fn misfit_flaw(verdict: Verdict) -> Flaw
     }
 }
 
-/// The first flaw of an answer whose intervals are a partition and name matchers that are there, if it has one.
+/// The first flaw of an answer whose intervals are a partition and name matchers that are there, if
+/// it has one.
 fn flaw_of_cut(
     alloc: Global,
     looks: &mut Looks<'_>,
@@ -83,14 +85,15 @@ fn first_flaw(
 
 /// Audits what was answered of a part.
 ///
-/// `Ok` exactly where no verdict names a missing matcher, the intervals are a valid certificate of the part, the
-/// separators are strictly ascending references of it, as many as the intervals and no two in one fitting run, and the
-/// rows are those that the query selects. Else the first flaw, in this order: `F7`; `F1`; over the intervals in order
-/// `F2`, `F3` or `F8`; `F4`; `F5`, at the least place; `F6`.
+/// `Ok` exactly where no verdict names a missing matcher, the intervals are a valid certificate of
+/// the part, the separators are strictly ascending references of it, as many as the intervals and
+/// no two in one fitting run, and the rows are those that the query selects. Else the first flaw,
+/// in this order: `F7`; `F1`; over the intervals in order `F2`, `F3` or `F8`; `F4`; `F5`, at the
+/// least place; `F6`.
 ///
-/// With n series, m matchers and k intervals it makes at most (m + 1)(3n + k) looks: one matcher held against one
-/// value, or the samples of one series held against the range. It takes memory for the searches of patterns, and for
-/// the selected rows, which it puts in label order.
+/// With n series, m matchers and k intervals it makes at most (m + 1)(3n + k) looks: one matcher
+/// held against one value, or the samples of one series held against the range. It takes memory for
+/// the searches of patterns, and for the selected rows, which it puts in label order.
 pub fn audit(
     alloc: Global,
     table: &Table,

@@ -13,11 +13,14 @@ use std::fmt;
 pub enum Flaw {
     /// `F1`: the intervals are not a partition of the part.
     NotAPartition,
-    /// `F2`: a run under a match is not one series that satisfies every matcher and has a sample in the range.
+    /// `F2`: a run under a match is not one series that satisfies every matcher and has a sample in
+    /// the range.
     NotMatching,
-    /// `F3`: the matcher of this number, from 0, accepts a series of a run that it is said to reject.
+    /// `F3`: the matcher of this number, from 0, accepts a series of a run that it is said to
+    /// reject.
     NotRejected { matcher: usize },
-    /// `F4`: the separators are not strictly ascending references of the part, or not as many as the intervals.
+    /// `F4`: the separators are not strictly ascending references of the part, or not as many as
+    /// the intervals.
     SeparatorCount,
     /// `F5`: the separators at this place, from 0, and the next lie in one fitting run.
     SeparatorsFit { at: usize },

@@ -1,19 +1,21 @@
-//! An auditor: it takes a part and what was answered of it, and says that the answer is sound, or its first flaw.
+//! An auditor: it takes a part and what was answered of it, and says that the answer is sound, or
+//! its first flaw.
 //!
-//! [`audit`] says yes exactly where no verdict names a missing matcher (`F7`), the intervals are a valid certificate of
-//! the part (`F1`, then in the order of the intervals `F2`, `F3` and `F8`), the separators show that no valid
-//! certificate has fewer (`F4`, `F5`), and the rows are those that the query selects (`F6`). [`audit_skip`] says yes
-//! exactly where the query selects nothing of the part (`F9`), [`audit_merge`] exactly where rows are those of all that
-//! several answers list, the value listed last at each point (`F10`). So a certificate that it accepts is least.
+//! [`audit`] says yes exactly where no verdict names a missing matcher (`F7`), the intervals are a
+//! valid certificate of the part (`F1`, then in the order of the intervals `F2`, `F3` and `F8`),
+//! the separators show that no valid certificate has fewer (`F4`, `F5`), and the rows are those
+//! that the query selects (`F6`). [`audit_skip`] says yes exactly where the query selects nothing
+//! of the part (`F9`), [`audit_merge`] exactly where rows are those of all that several answers
+//! list, the value listed last at each point (`F10`). So a certificate that it accepts is least.
 //!
 //! A [`Table`] is the part. [`Table::walk`] reads it from an index, a chunks file and a file of
 //! deletions, without the postings, exactly where these spell one (`IsWalked`), and else names the
 //! first check that fails; [`WalkError`] has the codes.
 //!
-//! [`Reply::read`] reads a whole reply: it is `Ok` exactly where the text is JSON of a reply's shape,
-//! and then the reply is what it says. [`judge`] gives the lines of a reply over what is known of the
-//! blocks: one for each part, in order, one for each block of which the reply says nothing, and last
-//! that of the rows.
+//! [`Reply::read`] reads a whole reply: it is `Ok` exactly where the text is JSON of a reply's
+//! shape, and then the reply is what it says. [`judge`] gives the lines of a reply over what is
+//! known of the blocks: one for each part, in order, one for each block of which the reply says
+//! nothing, and last that of the rows.
 //!
 //! The crate stands on `labels`, `matchers`, `wire`, `chunk_reader`, `tombstones` and the types and
 //! definitions of `cover`, and on `serde_json` for replies. It shares no reader of an index, no

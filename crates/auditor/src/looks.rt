@@ -6,7 +6,9 @@ ghost use Rattle.std.specs.List.Sorted.{IsStrictlyIncreasing};
 ghost use Rattle.labels.specs.Contents.{in_range};
 ghost use Rattle.labels.specs.Parts.{has_sample, references};
 ghost use Rattle.matchers.specs.Satisfies.{satisfies, satisfies_all};
-ghost use Rattle.auditor.specs.Looking.{rows_below, rows_from, first_at, answers, are_silent, rejects_each, are_rejected, is_one_match, fits, share_verdict};
+ghost use Rattle.auditor.specs.Looking.{rows_below, rows_from, first_at, answers, are_silent};
+ghost use Rattle.auditor.specs.Looking.{rejects_each, are_rejected, is_one_match, fits};
+ghost use Rattle.auditor.specs.Looking.{share_verdict};
 ghost use Rattle.auditor.specs.Auditing.{names_known};
 
 use cover::Verdict;
@@ -103,7 +105,8 @@ impl<'a> Judge<'a> {
     }
 }
 
-/// A query that is ready to look at many series, seen as the query: a pattern's search is made once.
+/// A query that is ready to look at many series, seen as the query: a pattern's search is made
+/// once.
 #[derive(Drop)]
 pub(crate) struct Looks<'a> {
     judges: Vec<Judge<'a>>,
@@ -233,7 +236,8 @@ impl<'a> Looks<'a> {
         }
     }
 
-    /// Whether one and the same reason holds of all the series: a matcher that rejects each, or no sample in the range.
+    /// Whether one and the same reason holds of all the series: a matcher that rejects each, or no
+    /// sample in the range.
     pub(crate) fn share_verdict(&mut self, series: &[(SeriesRef, Row)]) -> bool
         ensures shared { result ≡ share_verdict self.old series.now }
         ensures same { self.new ≡ self.old }

@@ -1,6 +1,7 @@
 //! Whether rows are those of all that several answers list.
 
-ghost use Rattle.std.specs.Prelude.{◌≡◌, ◌↔◌, ◌++◌, ◌&&◌, not, IsTrue, IfOk, OnOk, IfErr, reverse, length, ◌==◌};
+ghost use Rattle.std.specs.Prelude.{◌≡◌, ◌↔◌, ◌++◌, ◌&&◌, not, IsTrue, IfOk, OnOk, IfErr, reverse};
+ghost use Rattle.std.specs.Prelude.{length, ◌==◌};
 ghost use Rattle.std.specs.List.{dedup, list_all};
 ghost use Rattle.std.specs.List.Sorted.{IsPermutation, IsSortedBy, IsStableBy};
 ghost use Rattle.std.specs.FinMap.Entries.{is_sorted};
@@ -163,9 +164,10 @@ fn same_listed(a: &[Listed], b: &[Listed]) -> bool
     true
 }
 
-/// Whether rows are those of all that several answers list: `Ok` exactly where they are the rows of the content that
-/// maps each listed label set and time to the value listed last, else `F10`. Nothing is asked of the answers' rows. It
-/// sorts what is listed, and takes memory for a list of it and for one of the rows' samples.
+/// Whether rows are those of all that several answers list: `Ok` exactly where they are the rows of
+/// the content that maps each listed label set and time to the value listed last, else `F10`.
+/// Nothing is asked of the answers' rows. It sorts what is listed, and takes memory for a list of
+/// it and for one of the rows' samples.
 pub fn audit_merge(alloc: Global, answers: &[PartAnswer], rows: &[Row]) -> Result<(), AuditError>
     ensures merged { OnOk result (AreRows rows.now (last_listed answers.now)) }
     ensures unmerged { IfErr result (λ e. IsUnmerged answers.now rows.now e) }

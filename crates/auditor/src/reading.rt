@@ -12,7 +12,13 @@ ghost use Rattle.labels.specs.Pairs.{texts_of};
 ghost use Rattle.postings.specs.declared.part_name.PartName.TheVariants.{Block};
 ghost use Rattle.auditor.specs.Judgements.{name_text};
 ghost use Rattle.auditor.specs.Read.{Reads};
-ghost use Rattle.auditor.specs.Replies.{has_members, has_items, reference_said, sample_said, list_said, said_at, are_labels, texts_said, labels_said, row_said, verdict_named, verdict_said, interval_said, is_padded, digits_from, number_said, after, name_said, part_name_said, skipped_said, searched_said, part_said, reply_said, tree_of, text_said, told_of_answer, told_of_part, told_of};
+ghost use Rattle.auditor.specs.Replies.{has_members, has_items, reference_said, sample_said};
+ghost use Rattle.auditor.specs.Replies.{list_said, said_at, are_labels, texts_said, labels_said};
+ghost use Rattle.auditor.specs.Replies.{row_said, verdict_named, verdict_said, interval_said};
+ghost use Rattle.auditor.specs.Replies.{is_padded, digits_from, number_said, after, name_said};
+ghost use Rattle.auditor.specs.Replies.{part_name_said, skipped_said, searched_said, part_said};
+ghost use Rattle.auditor.specs.Replies.{reply_said, tree_of, text_said, told_of_answer};
+ghost use Rattle.auditor.specs.Replies.{told_of_part, told_of};
 
 use crate::reply::{Reply, ReplyError, ToldPart};
 use cover::{Interval, PartAnswer, PartCover, Verdict};

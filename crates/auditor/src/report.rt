@@ -2,7 +2,10 @@
 
 ghost use Rattle.std.specs.Prelude.{◌≡◌, ◌++◌, IfOk, option_map, string_bytes, slice_get};
 ghost use Rattle.std.specs.List.{flat_map};
-ghost use Rattle.auditor.specs.Judgements.{known_of, name_of, IsOfAnswer, IsOfSkip, IsOfPart, IsOfRows, IsPartLine, IsLeftLine, ArePartLines, AreLeftLines, is_of_block, is_named, answers_of, AreLines, lines_text};
+ghost use Rattle.auditor.specs.Judgements.{known_of, name_of, IsOfAnswer, IsOfSkip, IsOfPart};
+ghost use Rattle.auditor.specs.Judgements.{IsOfRows, IsPartLine, IsLeftLine, ArePartLines};
+ghost use Rattle.auditor.specs.Judgements.{AreLeftLines, is_of_block, is_named, answers_of};
+ghost use Rattle.auditor.specs.Judgements.{AreLines, lines_text};
 
 use crate::answer::audit;
 use crate::flaw::AuditError;

@@ -39,8 +39,8 @@ pub(crate) fn are_counted(
     separators.len() == count && are_picked(series, separators)
 }
 
-/// The first place at which a separator and the next share a fitting run. The separators are references of the series,
-/// in their order.
+/// The first place at which a separator and the next share a fitting run. The separators are
+/// references of the series, in their order.
 pub(crate) fn first_shared(
     looks: &mut Looks<'_>,
     series: &[(SeriesRef, Row)],

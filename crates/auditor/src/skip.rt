@@ -9,8 +9,9 @@ use crate::table::Table;
 use matchers::Query;
 use std::alloc::Global;
 
-/// Whether a part that was skipped has nothing to show: `Ok` exactly where the query selects no rows of it, else `F9`.
-/// It looks at each series until one answers, and takes memory for the searches of patterns alone.
+/// Whether a part that was skipped has nothing to show: `Ok` exactly where the query selects no
+/// rows of it, else `F9`. It looks at each series until one answers, and takes memory for the
+/// searches of patterns alone.
 pub fn audit_skip(alloc: Global, table: &Table, query: &Query) -> Result<(), AuditError>
     ensures empty { OnOk result (selected_content table.now query.now ≡ []) }
     ensures hidden { IfErr result (λ e. IsHiding table.now query.now e) }

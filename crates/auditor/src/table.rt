@@ -6,7 +6,8 @@ ghost use Rattle.labels.specs.Parts.{IsPart};
 use labels::{Row, SeriesRef};
 use std::marker::Model;
 
-/// A part: references, each with its label set and its undeleted samples, seen by contracts as the list of them.
+/// A part: references, each with its label set and its undeleted samples, seen by contracts as the
+/// list of them.
 #[derive(Drop)]
 pub struct Table {
     series: Vec<(SeriesRef, Row)>,
@@ -23,8 +24,9 @@ impl Model for Table {
 }
 
 impl Table {
-    /// The part of these series. References ascend strictly, no label set stands twice, and the times of each series
-    /// ascend strictly (the caller's condition); a series may have no samples. It takes no memory.
+    /// The part of these series. References ascend strictly, no label set stands twice, and the
+    /// times of each series ascend strictly (the caller's condition); a series may have no samples.
+    /// It takes no memory.
     pub fn of_series(series: Vec<(SeriesRef, Row)>) -> Table
         requires { IsPart series.items }
         ensures { result ≡ series.items }

@@ -1,5 +1,6 @@
 -- The checks of the walk, one by one in their order, and the first that fails.
-use Rattle.std.specs.Prelude.{◌≡◌, ◌⊎◌, ℕ, ◌-◌, ◌≤◌, true, ℤ, List, [], ◌∷◌, length, take, drop, Err}
+use Rattle.std.specs.Prelude.{◌≡◌, ◌⊎◌, ℕ, ◌-◌, ◌≤◌, true, ℤ, List, [], ◌∷◌, length, take, drop}
+use Rattle.std.specs.Prelude.{Err}
 use Rattle.std.specs.List.{AllByRecursion}
 use Rattle.labels.specs.Parts.{Part}
 use Rattle.chunk_reader.specs.declared.error.ChunkError.{ChunkError}
@@ -11,10 +12,16 @@ use Rattle.tombstones.specs.Grammar.{IsTombstones}
 use Rattle.tombstones.specs.Reading.{deletions_of}
 use Rattle.auditor.specs.declared.walk.contents.Contents.{Contents}
 use Rattle.auditor.specs.declared.walk.error.WalkError.{WalkError}
-use Rattle.auditor.specs.declared.walk.error.WalkError.TheVariants.{Memory, TooShort, Magic, Version, ContentsCrc, ContentsOrder, SymbolsCrc, Symbols, SeriesCrc, Series, SeriesOrder, Limit, UnknownSeries}
+use Rattle.auditor.specs.declared.walk.error.WalkError.TheVariants.{Memory, TooShort, Magic}
+use Rattle.auditor.specs.declared.walk.error.WalkError.TheVariants.{Version, ContentsCrc}
+use Rattle.auditor.specs.declared.walk.error.WalkError.TheVariants.{ContentsOrder, SymbolsCrc}
+use Rattle.auditor.specs.declared.walk.error.WalkError.TheVariants.{Symbols, SeriesCrc, Series}
+use Rattle.auditor.specs.declared.walk.error.WalkError.TheVariants.{SeriesOrder, Limit}
+use Rattle.auditor.specs.declared.walk.error.WalkError.TheVariants.{UnknownSeries}
 use Rattle.auditor.specs.IndexFile.Outcome.{of_chunk, of_tombstone}
 use Rattle.auditor.specs.IndexFile.Reading.{IsPlaced, Parts, series_end}
-use Rattle.auditor.specs.IndexFile.Grammar.{checked, contents_text, frame, StandsAt, IsSymbolTable, IsParts}
+use Rattle.auditor.specs.IndexFile.Grammar.{checked, contents_text, frame, StandsAt, IsSymbolTable}
+use Rattle.auditor.specs.IndexFile.Grammar.{IsParts}
 use Rattle.auditor.specs.IndexFile.Bodies.{Body}
 use Rattle.auditor.specs.IndexFile.Flat.{gaps_zero}
 use Rattle.auditor.specs.IndexFile.Series as series
@@ -75,7 +82,8 @@ HasSamples file s = (samples : List (ℤ × ℤ)) × AreSpelled file s.chunks sa
 
 -- no more than 1,048,576
 abbrev pub HasFewSamples : List ℕ → series.Series → Type 0
-HasFewSamples file s = (samples : List (ℤ × ℤ)) × AreSpelled file s.chunks samples × (length samples ≤ 1048576)
+HasFewSamples file s = (samples : List (ℤ × ℤ)) × AreSpelled file s.chunks samples
+    × (length samples ≤ 1048576)
 
 -- what a check asks, of files for which those before it hold
 abbrev pub Holds : Check → Files → Type 0
@@ -86,18 +94,22 @@ Holds version f = take 5 f.index ≡ 0xBA ∷ 0xAA ∷ 0xD7 ∷ 0 ∷ 2 ∷ []
 Holds contents_sum f = (t : Contents) × HasContents f.index t
 Holds contents_order f = (t : Contents) × HasContents f.index t × IsPlaced t (length f.index)
 Holds symbols_frame f = (content : List ℕ) × HasFrame f.index content
-Holds symbols f = (content : List ℕ) × (table : List (List ℕ)) × HasFrame f.index content × IsSymbolTable content table
+Holds symbols f = (content : List ℕ) × (table : List (List ℕ)) × HasFrame f.index content
+    × IsSymbolTable content table
 Holds entries f = (x : Parts) × IsParts f.index x
 Holds bodies f = (ss : List series.Series) × HasBodies f.index ss
 Holds series_order f = (ss : List series.Series) × HasBodies f.index ss × AreInOrder ss
 Holds series_counts f = (ss : List series.Series) × IsIndex f.index ss
 Holds chunks_head f = IsSegment f.chunks
-Holds each_chunk f = (ss : List series.Series) × IsIndex f.index ss × AllByRecursion (HasSamples f.chunks) ss
-Holds sample_counts f = (ss : List series.Series) × IsIndex f.index ss × AllByRecursion (HasFewSamples f.chunks) ss
+Holds each_chunk f = (ss : List series.Series) × IsIndex f.index ss
+    × AllByRecursion (HasSamples f.chunks) ss
+Holds sample_counts f = (ss : List series.Series) × IsIndex f.index ss
+    × AllByRecursion (HasFewSamples f.chunks) ss
 Holds deletions f = (ds : List Deletion) × IsTombstones f.tombstones ds
 Holds known_series f = (part : Part) × IsWalked f.index f.chunks f.tombstones part
 
--- what is answered where it fails; of chunks and deletions the refusal of the first that fails of their own checks
+-- what is answered where it fails; of chunks and deletions the refusal of the first that fails of
+-- their own checks
 abbrev pub Answers : Check → Files → WalkError → Type 0
 Answers index_size f e = e ≡ Limit
 Answers head_room f e = e ≡ TooShort
@@ -112,15 +124,19 @@ Answers bodies f e = e ≡ Series
 Answers series_order f e = e ≡ SeriesOrder
 Answers series_counts f e = e ≡ Limit
 Answers chunks_head f e = (c : ChunkError) × (opened f.chunks ≡ Err c) × (e ≡ of_chunk c)
-Answers each_chunk f e = (ss : List series.Series) × (c : ChunkError) × IsIndex f.index ss × (each (series_check f.chunks) ss ≡ Err c) × (e ≡ of_chunk c)
+Answers each_chunk f e = (ss : List series.Series) × (c : ChunkError) × IsIndex f.index ss
+    × (each (series_check f.chunks) ss ≡ Err c) × (e ≡ of_chunk c)
 Answers sample_counts f e = e ≡ Limit
-Answers deletions f e = (d : TombstoneError) × (deletions_of f.tombstones ≡ Err d) × (e ≡ of_tombstone d)
+Answers deletions f e = (d : TombstoneError) × (deletions_of f.tombstones ≡ Err d)
+    × (e ≡ of_tombstone d)
 Answers known_series f e = e ≡ UnknownSeries
 
--- the checks in their order, `I15`, `I1` to `I10`, `I15`, `C7`, `C1` and `C2`, `C3` to `C8`, `I15`, `T1` to `T4`, `T5`
+-- the checks in their order, `I15`, `I1` to `I10`, `I15`, `C7`, `C1` and `C2`, `C3` to `C8`, `I15`,
+-- `T1` to `T4`, `T5`
 abbrev pub checks : List Check
 checks =
-    index_size ∷ head_room ∷ magic ∷ version ∷ contents_sum ∷ contents_order ∷ symbols_frame ∷ symbols ∷ entries ∷ bodies ∷ series_order ∷ series_counts
+    index_size ∷ head_room ∷ magic ∷ version ∷ contents_sum ∷ contents_order ∷ symbols_frame ∷
+    symbols ∷ entries ∷ bodies ∷ series_order ∷ series_counts
     ∷ chunks_head ∷ each_chunk ∷ sample_counts ∷ deletions ∷ known_series ∷ []
 
 -- the first of the checks that fails is answered so

@@ -7,5 +7,6 @@ use Rattle.auditor.specs.IndexFile.Outcome.{Fails}
 
 -- what was returned holds the deletions that reading gives, in an order of its own
 abbrev pub GivesAll : Result (List Deletion) WalkError → Result (List Deletion) WalkError → Type 0
-GivesAll (Ok held) read = (deletions : List Deletion) × (read ≡ Ok deletions) × IsPermutation deletions held
+GivesAll (Ok held) read = (deletions : List Deletion) × (read ≡ Ok deletions)
+    × IsPermutation deletions held
 GivesAll (Err e) read = Fails e read

@@ -1,5 +1,6 @@
 -- All checks of a block's files but those of its postings and its range, in their order.
-use Rattle.std.specs.Prelude.{ℕ, Bool, List, [], ◌∷◌, length, Result, Ok, Err, nat_le, ◌==◌, if◌then◌else◌}
+use Rattle.std.specs.Prelude.{ℕ, Bool, List, [], ◌∷◌, length, Result, Ok, Err, nat_le, ◌==◌}
+use Rattle.std.specs.Prelude.{if◌then◌else◌}
 use Rattle.std.specs.List.{list_all, list_any}
 use Rattle.labels.specs.Parts.{Part}
 use Rattle.chunk_reader.specs.declared.error.ChunkError.{ChunkError}
@@ -28,7 +29,8 @@ or_tombstones (Ok x) = Ok x
 or_tombstones (Err e) = Err (of_tombstone e)
 
 -- nothing, where a check accepts all of a list; else the first refusal
-unfoldable pub each : {A : Type 0} → (A → Result (Unit {0}) ChunkError) → List A → Result (Unit {0}) ChunkError
+unfoldable pub each : {A : Type 0} → (A → Result (Unit {0}) ChunkError) → List A
+    → Result (Unit {0}) ChunkError
 each check [] = Ok tt
 each check (a ∷ as') = chunks.◌>>=◌ (check a) (λ _. each check as')
 

@@ -29,11 +29,13 @@ samples_in file chunks = flat_map (chunk_samples file) chunks
 
 -- those samples of a series that no deletion covers
 abbrev pub undeleted : List Deletion → ℕ → List (ℤ × ℤ) → List (ℤ × ℤ)
-undeleted deletions reference samples = filter (λ (s : ℤ × ℤ). not (covered deletions reference s.0)) samples
+undeleted deletions reference samples =
+    filter (λ (s : ℤ × ℤ). not (covered deletions reference s.0)) samples
 
 -- a series: its reference, its label set, and the samples of its chunks less the deleted ones
 abbrev pub row_of : List ℕ → List Deletion → Series → ℕ × Row
-row_of chunks deletions s = (s.reference, (s.labels, undeleted deletions s.reference (samples_in chunks s.chunks)))
+row_of chunks deletions s =
+    (s.reference, (s.labels, undeleted deletions s.reference (samples_in chunks s.chunks)))
 
 -- all series
 abbrev pub part_of : List ℕ → List Deletion → List Series → Part

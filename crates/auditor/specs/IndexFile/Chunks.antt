@@ -1,5 +1,6 @@
 -- The chunks of a series body.
-use Rattle.std.specs.Prelude.{ℕ, ◌^◌, ℤ, pos, negsuc, ◌+ℤ◌, Bool, List, Result, Ok, Err, Option, Some, None, nat_lt, ◌==◌, if◌then◌else◌}
+use Rattle.std.specs.Prelude.{ℕ, ◌^◌, ℤ, pos, negsuc, ◌+ℤ◌, Bool, List, Result, Ok, Err, Option}
+use Rattle.std.specs.Prelude.{Some, None, nat_lt, ◌==◌, if◌then◌else◌}
 use Rattle.wire.specs.declared.error.WireError.{WireError}
 use Rattle.wire.specs.Reading.{uvarint_at, varint_at}
 use Rattle.auditor.specs.declared.walk.chunk.Chunk.{Chunk}

@@ -12,7 +12,8 @@ each step (a ∷ as') = do
   Ok (x ∷ xs)
 
 -- what was there before, and what was read
-abbrev pub behind_items : {X : Type 0} → List X → Result (List X) WalkError → Result (List X) WalkError
+abbrev pub behind_items : {X : Type 0} → List X → Result (List X) WalkError
+    → Result (List X) WalkError
 behind_items front (Ok xs) = Ok (front ++ xs)
 behind_items front (Err e) = Err e
 

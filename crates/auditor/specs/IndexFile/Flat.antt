@@ -1,5 +1,6 @@
 -- Bodies by their places in flat lists.
-use Rattle.std.specs.Prelude.{ℕ, Bool, [], ◌∷◌, ◌==◌, ◌&&◌, ◌≤◌, List, length, map, slice_range, Result}
+use Rattle.std.specs.Prelude.{ℕ, Bool, [], ◌∷◌, ◌==◌, ◌&&◌, ◌≤◌, List, length, map, slice_range}
+use Rattle.std.specs.Prelude.{Result}
 use Rattle.std.specs.List.{All, list_all}
 use Rattle.std.specs.Ordering.{is_lt}
 use Rattle.std.specs.Cmp.Lexicographic.{slice_cmp}
@@ -12,7 +13,10 @@ use Rattle.auditor.specs.declared.walk.bodies.Span.{Span}
 
 -- the body whose parts stand at these places
 abbrev pub body_in : List Label → List Chunk → Span → Body
-body_in labels chunks r = record { labels = slice_range labels r.labels_start r.labels_end; chunks = slice_range chunks r.chunks_start r.chunks_end }
+body_in labels chunks r = record {
+  labels = slice_range labels r.labels_start r.labels_end;
+  chunks = slice_range chunks r.chunks_start r.chunks_end;
+}
 
 -- all bodies
 abbrev pub bodies_in : List Label → List Chunk → List Span → List Body
@@ -45,7 +49,8 @@ is_before a b = is_lt (slice_cmp key_cmp a b)
 
 -- the places of the labels lie in their list
 abbrev pub AreInside : List Label → List Span → Type 0
-AreInside labels rows = All (λ r. (r.labels_start ≤ r.labels_end) × (r.labels_end ≤ length labels)) rows
+AreInside labels rows = All (λ r. (r.labels_start ≤ r.labels_end) × (r.labels_end ≤ length labels))
+    rows
 
 -- ---- the bytes between the entries
 

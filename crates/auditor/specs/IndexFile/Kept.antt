@@ -13,7 +13,10 @@ use Rattle.auditor.specs.IndexFile.Whole.{Read, series_in}
 
 -- what was checked, without where it lies in memory
 abbrev pub read_seen : Checked → Read
-read_seen c = record { parts = seen c.layout; bodies = bodies_in c.bodies.labels.items c.bodies.chunks.items c.bodies.rows.items }
+read_seen c = record {
+  parts = seen c.layout;
+  bodies = bodies_in c.bodies.labels.items c.bodies.chunks.items c.bodies.rows.items;
+}
 
 -- the series of what was checked
 abbrev pub series_seen : Checked → List Series
@@ -35,5 +38,8 @@ pub record IsKept (c : Checked) : Type 0 where
   pub inside : AllIn c.bodies.labels.items c.bodies.chunks.items c.bodies.rows.items
   pub counted : length c.bodies.rows.items ≡ length c.layout.entries.items
   pub small : All (λ e. e.offset < 2 ^ 32) c.layout.entries.items
-  pub in_table : All (λ r. AreInTable (texts c.layout.symbols.items) (slice_range c.bodies.labels.items r.labels_start r.labels_end)) c.bodies.rows.items
-  pub labelled : All (λ r. IsLabelSet (named (texts c.layout.symbols.items) (slice_range c.bodies.labels.items r.labels_start r.labels_end))) c.bodies.rows.items
+  pub in_table : All (λ r. AreInTable (texts c.layout.symbols.items)
+      (slice_range c.bodies.labels.items r.labels_start r.labels_end)) c.bodies.rows.items
+  pub labelled : All
+      (λ r. IsLabelSet (named (texts c.layout.symbols.items)
+      (slice_range c.bodies.labels.items r.labels_start r.labels_end))) c.bodies.rows.items

@@ -3,7 +3,8 @@ use Rattle.std.specs.Prelude.{◌≡◌, ℕ, ◌+◌, ◌<◌, ◌≤◌, true,
 use Rattle.labels.specs.Names.{is_name}
 use Rattle.auditor.specs.IndexFile.Bodies.{Label}
 
--- a label of these symbols: its name is a label name that stands at this place or after it, its value is not empty
+-- a label of these symbols: its name is a label name that stands at this place or after it, its
+-- value is not empty
 pub record IsLabel (symbols : List (List ℕ)) (low : ℕ) (l : Label) : Type 0 where
   pub from : low ≤ l.0
   pub name_in : l.0 < length symbols

@@ -1,5 +1,8 @@
--- Reading an index from its bytes. Each check has its refusal, and the first that fails is answered.
-use Rattle.std.specs.Prelude.{◌≡◌, ℕ, zero, suc, ◌+◌, ◌-◌, ◌≤◌, ◌<◌, ◌⊎◌, ◌*◌, ◌/◌, List, [], ◌∷◌, length, take, drop, slice_index, slice_range, Result, Ok, Err, Bool, true, nat_lt, nat_le, ◌==◌, ◌&&◌, ◌||◌, if◌then◌else◌}
+-- Reading an index from its bytes. Each check has its refusal, and the first that fails is
+-- answered.
+use Rattle.std.specs.Prelude.{◌≡◌, ℕ, zero, suc, ◌+◌, ◌-◌, ◌≤◌, ◌<◌, ◌⊎◌, ◌*◌, ◌/◌, List, [], ◌∷◌}
+use Rattle.std.specs.Prelude.{length, take, drop, slice_index, slice_range, Result, Ok, Err, Bool}
+use Rattle.std.specs.Prelude.{true, nat_lt, nat_le, ◌==◌, ◌&&◌, ◌||◌, if◌then◌else◌}
 use Rattle.std.specs.Ordering.{nat_cmp, is_lt}
 use Rattle.std.specs.Cmp.Lexicographic.{slice_cmp}
 use Rattle.std.specs.Str.{is_utf8}
@@ -9,11 +12,14 @@ use Rattle.wire.specs.Reading.{number_at, bytes_at, uvarint_at}
 use Rattle.wire.specs.Checksum.{crc32c}
 use Rattle.auditor.specs.declared.walk.contents.Contents.{Contents}
 use Rattle.auditor.specs.declared.walk.error.WalkError.{WalkError}
-use Rattle.auditor.specs.declared.walk.error.WalkError.TheVariants.{Limit, TooShort, Magic, Version, ContentsCrc, ContentsOrder, SymbolsCrc, Symbols, SeriesCrc}
+use Rattle.auditor.specs.declared.walk.error.WalkError.TheVariants.{Limit, TooShort, Magic, Version}
+use Rattle.auditor.specs.declared.walk.error.WalkError.TheVariants.{ContentsCrc, ContentsOrder}
+use Rattle.auditor.specs.declared.walk.error.WalkError.TheVariants.{SymbolsCrc, Symbols, SeriesCrc}
 
 infixl 10 ◌>>=◌
 -- the next check, where none has failed
-abbrev pub ◌>>=◌ : {A B : Type 0} → Result A WalkError → (A → Result B WalkError) → Result B WalkError
+abbrev pub ◌>>=◌ : {A B : Type 0} → Result A WalkError → (A → Result B WalkError)
+    → Result B WalkError
 (Ok x) >>= f = f x
 (Err e) >>= f = Err e
 
@@ -37,7 +43,9 @@ contents_at table = record {
 
 -- the offsets, where their checksum is right
 unfoldable pub table_of : List ℕ → Result Contents WalkError
-table_of table = if big_number 4 (drop 48 table) == crc32c (take 48 table) then Ok (contents_at table) else Err ContentsCrc
+table_of table =
+    if big_number 4 (drop 48 table) == crc32c (take 48 table) then Ok (contents_at table)
+    else Err ContentsCrc
 
 -- where the series entries end
 abbrev pub series_end : Contents → ℕ
@@ -46,13 +54,17 @@ series_end t = if t.label_indices == 0 then t.postings else t.label_indices
 -- the parts stand in their order, below the end
 abbrev pub in_order : Contents → ℕ → Bool
 in_order t end =
-    t.symbols == 5 && nat_lt 5 t.series && nat_le t.series t.postings && nat_le t.postings t.postings_offsets && nat_lt t.postings_offsets end
-    && (t.label_indices == 0 || (nat_le t.series t.label_indices && nat_le t.label_indices t.postings))
-    && (t.label_offsets == 0 || (nat_le t.postings t.label_offsets && nat_le t.label_offsets t.postings_offsets))
+    t.symbols == 5 && nat_lt 5 t.series && nat_le t.series t.postings
+    && nat_le t.postings t.postings_offsets && nat_lt t.postings_offsets end
+    && (t.label_indices == 0
+    || (nat_le t.series t.label_indices && nat_le t.label_indices t.postings))
+    && (t.label_offsets == 0
+    || (nat_le t.postings t.label_offsets && nat_le t.label_offsets t.postings_offsets))
 
 -- whether a file begins as an index does
 abbrev pub has_magic : List ℕ → Bool
-has_magic file = slice_index file 0 == 0xBA && slice_index file 1 == 0xAA && slice_index file 2 == 0xD7 && slice_index file 3 == 0x00
+has_magic file = slice_index file 0 == 0xBA && slice_index file 1 == 0xAA
+    && slice_index file 2 == 0xD7 && slice_index file 3 == 0x00
 
 -- the checks of the length, the first five bytes and the table of contents
 unfoldable pub head_of : List ℕ → Result Contents WalkError
@@ -74,8 +86,10 @@ pub record IsPlaced (t : Contents) (len : ℕ) : Type 0 where
   pub postings : t.series ≤ t.postings
   pub postings_offsets : t.postings ≤ t.postings_offsets
   pub end : t.postings_offsets + 52 < len
-  pub label_indices : (t.label_indices ≡ 0) ⊎ ((t.series ≤ t.label_indices) × (t.label_indices ≤ t.postings))
-  pub label_offsets : (t.label_offsets ≡ 0) ⊎ ((t.postings ≤ t.label_offsets) × (t.label_offsets ≤ t.postings_offsets))
+  pub label_indices : (t.label_indices ≡ 0)
+      ⊎ ((t.series ≤ t.label_indices) × (t.label_indices ≤ t.postings))
+  pub label_offsets : (t.label_offsets ≡ 0)
+      ⊎ ((t.postings ≤ t.label_offsets) × (t.label_offsets ≤ t.postings_offsets))
 
 -- ---- content with its checksum after it
 
@@ -165,4 +179,9 @@ parts_of file = do
   frame ← frame_at SymbolsCrc (slice_range file 5 t.series)
   symbols ← symbols_of frame.0
   entries ← entries_from (length file) file (series_end t) (rounded t.series)
-  Ok (record { contents = t; symbols = symbols; symbols_end = length frame.0 + 13; entries = entries })
+  Ok (record {
+    contents = t;
+    symbols = symbols;
+    symbols_end = length frame.0 + 13;
+    entries = entries;
+  })

@@ -19,4 +19,9 @@ places es = map place es
 
 -- all of it
 abbrev pub seen : Layout → Parts
-seen o = record { contents = o.contents; symbols = texts o.symbols.items; symbols_end = o.symbols_end; entries = places o.entries.items }
+seen o = record {
+  contents = o.contents;
+  symbols = texts o.symbols.items;
+  symbols_end = o.symbols_end;
+  entries = places o.entries.items;
+}

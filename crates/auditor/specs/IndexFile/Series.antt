@@ -33,7 +33,8 @@ named symbols ls = map (text_of symbols) ls
 
 -- the series of an entry and its body; a reference is the sixteenth part of the entry's offset
 abbrev pub series_at : List (List ℕ) → Place → Body → Series
-series_at symbols p b = record { reference = p.offset / 16; labels = named symbols b.labels; chunks = b.chunks }
+series_at symbols p b =
+    record { reference = p.offset / 16; labels = named symbols b.labels; chunks = b.chunks }
 
 -- the series of entries and their bodies
 unfoldable pub series_of : List (List ℕ) → List Place → List Body → List Series

@@ -1,5 +1,6 @@
 -- The series of an index, by the bytes that spell them.
-use Rattle.std.specs.Prelude.{◌≡◌, ℕ, ◌+◌, ◌^◌, ◌<◌, ◌≤◌, ℤ, pos, ◌+ℤ◌, true, List, [], ◌∷◌, ◌++◌, length, get_or}
+use Rattle.std.specs.Prelude.{◌≡◌, ℕ, ◌+◌, ◌^◌, ◌<◌, ◌≤◌, ℤ, pos, ◌+ℤ◌, true, List, [], ◌∷◌, ◌++◌}
+use Rattle.std.specs.Prelude.{length, get_or}
 use Rattle.std.specs.List.{flat_map}
 use Rattle.std.specs.declared.cmp.Ordering.TheVariants.{Less}
 use Rattle.wire.specs.Spelling.{uvarint, varint, zigzag}
@@ -27,8 +28,8 @@ pub record IsFirst (c : Chunk) (text : List ℕ) : Type 0 where
   pub begins_in_time : is_time c.mint ≡ true
   pub ends_in_time : is_time c.maxt ≡ true
 
--- a later chunk: how much later it begins than the one before it ends, how much later its last time is, how much greater
--- its reference is
+-- a later chunk: how much later it begins than the one before it ends, how much later its last time
+-- is, how much greater its reference is
 pub record IsLater (before c : Chunk) (text : List ℕ) : Type 0 where
   pub gap : ℕ
   pub span : ℕ
@@ -48,12 +49,15 @@ pub record IsLater (before c : Chunk) (text : List ℕ) : Type 0 where
 -- chunks after another, one after the other
 abbrev pub AreLater : Chunk → List Chunk → List ℕ → Type 0
 AreLater before [] text = text ≡ []
-AreLater before (c ∷ cs) text = (first rest : List ℕ) × (text ≡ first ++ rest) × IsLater before c first × AreLater c cs rest
+AreLater before (c ∷ cs) text = (first rest : List ℕ) × (text ≡ first ++ rest)
+    × IsLater before c first × AreLater c cs rest
 
--- the chunks of a series, of which there is one at least: their count, the first, and the later ones
+-- the chunks of a series, of which there is one at least: their count, the first, and the later
+-- ones
 abbrev pub AreChunks : List Chunk → List ℕ → Type 0
 AreChunks [] text = ⊥
-AreChunks (c ∷ cs) text = (first rest : List ℕ) × (text ≡ uvarint (length cs + 1) ++ (first ++ rest)) × IsFirst c first × AreLater c cs rest
+AreChunks (c ∷ cs) text = (first rest : List ℕ)
+    × (text ≡ uvarint (length cs + 1) ++ (first ++ rest)) × IsFirst c first × AreLater c cs rest
 
 -- the body of a series entry: the count of its labels, the labels, its chunks
 pub record IsBody (symbols : List (List ℕ)) (b : Body) (text : List ℕ) : Type 0 where
@@ -71,10 +75,12 @@ AreBodies symbols (p ∷ ps) (b ∷ bs) = IsBody symbols b p.body × AreBodies s
 
 -- label sets strictly ascend
 abbrev pub AreInOrder : List Series → Type 0
-AreInOrder ss = (k : ℕ) → k + 1 < length ss → labels_cmp (get_or (label_sets ss) k []) (get_or (label_sets ss) (k + 1) []) ≡ Less
+AreInOrder ss = (k : ℕ) → k + 1 < length ss → labels_cmp (get_or (label_sets ss) k [])
+    (get_or (label_sets ss) (k + 1) []) ≡ Less
 
--- the file is an index of these series, whatever its postings are: its layout; a body in each entry, and zeros between
--- them; the series ascend by their label sets, and are no more than 1,048,576, of no more than 64 labels each
+-- the file is an index of these series, whatever its postings are: its layout; a body in each
+-- entry, and zeros between them; the series ascend by their label sets, and are no more than
+-- 1,048,576, of no more than 64 labels each
 pub record IsIndex (file : List ℕ) (series : List Series) : Type 0 where
   pub parts : Parts
   pub layout : IsParts file parts

@@ -4,7 +4,8 @@ use Rattle.auditor.specs.declared.walk.error.WalkError.{WalkError}
 use Rattle.auditor.specs.IndexFile.Reading.{◌>>=◌}
 
 -- this many steps from a state: what each gave, and the state after them
-unfoldable pub steps : {S X : Type 0} → (S → Result (X × S) WalkError) → ℕ → S → Result (List X × S) WalkError
+unfoldable pub steps : {S X : Type 0} → (S → Result (X × S) WalkError) → ℕ → S
+    → Result (List X × S) WalkError
 steps step zero s = Ok ([], s)
 steps step (suc n) s = do
   first ← step s
@@ -12,6 +13,7 @@ steps step (suc n) s = do
   Ok (first.0 ∷ others.0, others.1)
 
 -- after what was there before
-abbrev pub with_front : {S X : Type 0} → List X → Result (List X × S) WalkError → Result (List X × S) WalkError
+abbrev pub with_front : {S X : Type 0} → List X → Result (List X × S) WalkError
+    → Result (List X × S) WalkError
 with_front front (Ok x) = Ok (front ++ x.0, x.1)
 with_front front (Err e) = Err e

@@ -1,5 +1,6 @@
 -- All checks of an index but those of its postings, in their order.
-use Rattle.std.specs.Prelude.{ℕ, Bool, List, length, map, Result, Ok, Err, nat_lt, nat_le, if◌then◌else◌}
+use Rattle.std.specs.Prelude.{ℕ, Bool, List, length, map, Result, Ok, Err, nat_lt, nat_le}
+use Rattle.std.specs.Prelude.{if◌then◌else◌}
 use Rattle.std.specs.List.{list_all}
 use Rattle.auditor.specs.declared.walk.error.WalkError.{WalkError}
 use Rattle.auditor.specs.declared.walk.error.WalkError.TheVariants.{Series, SeriesOrder, Limit}
@@ -18,7 +19,9 @@ label_sets bodies = map (λ b. b.labels) bodies
 unfoldable pub bodies_of : List ℕ → Parts → Result (List Body) WalkError
 bodies_of file p = do
   bodies ← each (body_of_place p.symbols) p.entries
-  if gaps_zero file (series_end p.contents) p.symbols_end p.entries then (if rises is_before (label_sets bodies) then Ok bodies else Err SeriesOrder) else Err Series
+  if gaps_zero file (series_end p.contents) p.symbols_end p.entries
+      then (if rises is_before (label_sets bodies) then Ok bodies else Err SeriesOrder)
+      else Err Series
 
 -- whether a series has at most 64 labels
 abbrev pub is_small : List Label → Bool
@@ -35,7 +38,8 @@ read_of file = do
   parts ← parts_of file
   bodies ← bodies_of file parts
   if nat_lt 1048576 (length bodies) then Err Limit else (
-      if list_all is_small (label_sets bodies) then Ok (record { parts = parts; bodies = bodies }) else Err Limit)
+      if list_all is_small (label_sets bodies) then Ok (record { parts = parts; bodies = bodies })
+      else Err Limit)
 
 -- the series of what was read
 abbrev pub series_in : Read → List series.Series

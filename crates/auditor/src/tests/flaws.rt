@@ -271,7 +271,8 @@ const FROM_LYING_LISTS: &[Told] = &[
     ),
 ];
 
-/// What an audit from a time to 100 answers, where the series of a reference has its sample at 20 and the others at 10.
+/// What an audit from a time to 100 answers, where the series of a reference has its sample at 20
+/// and the others at 10.
 fn told_of(alloc: Global, late: u32, from: i64, said: &Said) -> Option<Result<(), AuditError>> {
     let (intervals, separators, rows) = said;
     let table = table_with(alloc, late)?;

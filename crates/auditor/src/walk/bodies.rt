@@ -6,7 +6,9 @@ ghost use Rattle.auditor.specs.IndexFile.Outcome.{Gives};
 ghost use Rattle.auditor.specs.IndexFile.Seen.{texts, place, places};
 ghost use Rattle.auditor.specs.IndexFile.Each.{each, rises};
 ghost use Rattle.auditor.specs.IndexFile.Whole.{is_small};
-ghost use Rattle.auditor.specs.IndexFile.Flat.{body_in, bodies_in, AllIn, body_of_place, label_sets_in, is_before, AreInside, zero_between, gaps_zero};
+ghost use Rattle.auditor.specs.IndexFile.Flat.{body_in, bodies_in, AllIn, body_of_place};
+ghost use Rattle.auditor.specs.IndexFile.Flat.{label_sets_in, is_before, AreInside, zero_between};
+ghost use Rattle.auditor.specs.IndexFile.Flat.{gaps_zero};
 
 use crate::walk::body::body_into;
 use crate::walk::chunk::Chunk;
@@ -51,7 +53,8 @@ pub(crate) fn bodies_of(
     entries: &[Entry<'_>],
 ) -> Result<Bodies, WalkError>
     requires { length symbols.now < 2 ^ 32 }
-    ensures exact { Gives (λ b. bodies_in b.labels.items b.chunks.items b.rows.items) result (each (body_of_place (texts symbols.now)) (places entries.now)) }
+    ensures exact { Gives (λ b. bodies_in b.labels.items b.chunks.items b.rows.items) result
+        (each (body_of_place (texts symbols.now)) (places entries.now)) }
     ensures inside { IfOk result (λ b. AllIn b.labels.items b.chunks.items b.rows.items) }
     ensures counted { IfOk result (λ b. length b.rows.items ≡ length entries.now) }
 {

@@ -1,11 +1,13 @@
 //! The body of a series entry: its labels and its chunks.
 
-ghost use Rattle.std.specs.Prelude.{◌≡◌, ◌+◌, ◌<◌, ◌≤◌, ◌^◌, length, get_or, slice_get, Ok, true, nat_le, IsTrue, IfOk};
+ghost use Rattle.std.specs.Prelude.{◌≡◌, ◌+◌, ◌<◌, ◌≤◌, ◌^◌, length, get_or, slice_get, Ok, true};
+ghost use Rattle.std.specs.Prelude.{nat_le, IsTrue, IfOk};
 ghost use Rattle.auditor.specs.IndexFile.Outcome.{Gives};
 ghost use Rattle.auditor.specs.IndexFile.Seen.{texts};
 ghost use Rattle.auditor.specs.IndexFile.Chunks.{is_time};
 ghost use Rattle.auditor.specs.IndexFile.Steps.{steps, with_front};
-ghost use Rattle.auditor.specs.IndexFile.Bodies.{is_label, label_at, labels_at, chunk_at, chunks_at, body_at, behind_both};
+ghost use Rattle.auditor.specs.IndexFile.Bodies.{is_label, label_at, labels_at, chunk_at};
+ghost use Rattle.auditor.specs.IndexFile.Bodies.{chunks_at, body_at, behind_both};
 
 use crate::walk::chunk::{Chunk, first_of, later_of};
 use crate::walk::error::WalkError;
@@ -31,7 +33,8 @@ fn label_of<'a>(
     bytes: &'a [u8],
 ) -> Result<((u32, u32), (u64, &'a [u8])), WalkError>
     requires { length symbols.now < 2 ^ 32 }
-    ensures { Gives (λ x. (x.0, (x.1.0, x.1.1.now))) result (label_at (texts symbols.now) (low, bytes.now)) }
+    ensures { Gives (λ x. (x.0, (x.1.0, x.1.1.now))) result
+        (label_at (texts symbols.now) (low, bytes.now)) }
 {
     let mut cut = Cut::new(bytes);
     let Ok(name) = cut.uvarint() else {
@@ -53,7 +56,8 @@ fn more_labels<'a>(
     labels: &mut Vec<(u32, u32)>,
 ) -> Result<(u64, &'a [u8]), WalkError>
     requires { length symbols.now < 2 ^ 32 }
-    ensures { Gives (λ x. (labels.new.items, (x.0, x.1.now))) result (with_front labels.old.items (steps (label_at (texts symbols.now)) count (0, bytes.now))) }
+    ensures { Gives (λ x. (labels.new.items, (x.0, x.1.now))) result
+        (with_front labels.old.items (steps (label_at (texts symbols.now)) count (0, bytes.now))) }
 {
     let mut low = 0;
     let mut rest = bytes;
@@ -74,7 +78,8 @@ pub(crate) fn labels_into<'a>(
     labels: &mut Vec<(u32, u32)>,
 ) -> Result<(u64, &'a [u8]), WalkError>
     requires { length symbols.now < 2 ^ 32 }
-    ensures { Gives (λ x. (labels.new.items, (x.0, x.1.now))) result (with_front labels.old.items (labels_at (texts symbols.now) bytes.now)) }
+    ensures { Gives (λ x. (labels.new.items, (x.0, x.1.now))) result
+        (with_front labels.old.items (labels_at (texts symbols.now) bytes.now)) }
 {
     let mut cut = Cut::new(bytes);
     let Ok(count) = cut.uvarint() else {
@@ -102,7 +107,8 @@ fn more_chunks<'a>(
     chunks: &mut Vec<Chunk>,
 ) -> Result<(Chunk, &'a [u8]), WalkError>
     requires { is_time first.maxt ≡ true }
-    ensures { Gives (λ x. (chunks.new.items, (x.0, x.1.now))) result (with_front chunks.old.items (steps chunk_at count (first, bytes.now))) }
+    ensures { Gives (λ x. (chunks.new.items, (x.0, x.1.now))) result
+        (with_front chunks.old.items (steps chunk_at count (first, bytes.now))) }
 {
     let mut before = first;
     let mut rest = bytes;
@@ -121,7 +127,8 @@ pub(crate) fn chunks_into<'a>(
     bytes: &'a [u8],
     chunks: &mut Vec<Chunk>,
 ) -> Result<(Chunk, &'a [u8]), WalkError>
-    ensures { Gives (λ x. (chunks.new.items, (x.0, x.1.now))) result (with_front chunks.old.items (chunks_at bytes.now)) }
+    ensures { Gives (λ x. (chunks.new.items, (x.0, x.1.now))) result
+        (with_front chunks.old.items (chunks_at bytes.now)) }
 {
     let mut cut = Cut::new(bytes);
     let Ok(count) = cut.uvarint() else {
@@ -145,7 +152,8 @@ pub(crate) fn body_into(
     chunks: &mut Vec<Chunk>,
 ) -> Result<(), WalkError>
     requires { length symbols.now < 2 ^ 32 }
-    ensures { Gives (λ _. (labels.new.items, chunks.new.items)) result (behind_both labels.old.items chunks.old.items (body_at (texts symbols.now) body.now)) }
+    ensures { Gives (λ _. (labels.new.items, chunks.new.items)) result
+        (behind_both labels.old.items chunks.old.items (body_at (texts symbols.now) body.now)) }
 {
     let (_, rest) = labels_into(symbols, body, labels)?;
     let (_, rest) = chunks_into(rest, chunks)?;

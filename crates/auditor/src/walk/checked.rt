@@ -26,7 +26,8 @@ pub struct Checked<'a> {
 #[tactic(auto, using(crate::proofs::IndexFile::Sound::sets_are), unfolding(crate::specs::IndexFile::Whole::bodies_of))]
 fn checked_bodies(alloc: Global, file: &[u8], layout: &Layout<'_>) -> Result<Bodies, WalkError>
     requires { IsSound file.now layout.now }
-    ensures exact { Gives (λ b. bodies_in b.labels.items b.chunks.items b.rows.items) result (bodies_of file.now (seen layout.now)) }
+    ensures exact { Gives (λ b. bodies_in b.labels.items b.chunks.items b.rows.items) result
+        (bodies_of file.now (seen layout.now)) }
     ensures inside { IfOk result (λ b. AllIn b.labels.items b.chunks.items b.rows.items) }
     ensures counted { IfOk result (λ b. length b.rows.items ≡ length layout.now.entries.items) }
 {

@@ -1,7 +1,8 @@
 //! The chunks that the body of a series names.
 
 ghost use Rattle.std.specs.Prelude.{◌≡◌, ◌<◌, true, IfSome};
-ghost use Rattle.auditor.specs.IndexFile.Chunks.{is_time, time_after, reference_after, first_at, later_at};
+ghost use Rattle.auditor.specs.IndexFile.Chunks.{is_time, time_after, reference_after, first_at};
+ghost use Rattle.auditor.specs.IndexFile.Chunks.{later_at};
 ghost use Rattle.auditor.specs.IndexFile.SeenChunks.{seen_chunk};
 
 use labels::{MAX_TIME, MIN_TIME};

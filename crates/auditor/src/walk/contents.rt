@@ -4,7 +4,8 @@ ghost use Rattle.std.specs.Prelude.{◌≡◌, ◌+◌, ◌-◌, ◌<◌, ◌≤
 ghost use Rattle.byteorder.specs.Endian.{big_number};
 ghost use Rattle.wire.specs.Checksum.{crc32c};
 ghost use Rattle.auditor.specs.IndexFile.Outcome.{Gives};
-ghost use Rattle.auditor.specs.IndexFile.Reading.{IsPlaced, contents_at, series_end, in_order, head_of, table_of};
+ghost use Rattle.auditor.specs.IndexFile.Reading.{IsPlaced, contents_at, series_end, in_order};
+ghost use Rattle.auditor.specs.IndexFile.Reading.{head_of, table_of};
 
 use crate::walk::error::WalkError;
 use byteorder::{BigEndian, ByteOrder};
@@ -106,9 +107,9 @@ fn head_of(file: &[u8]) -> Result<Contents, WalkError>
 
 /// The table of contents of an index whose head is sound.
 ///
-/// `I15` where the file is longer than 1,073,741,824 bytes, `I1` where it has fewer than 57, `I2`, `I3`, `I4` where
-/// magic, version or the table's checksum are others, `I5` where the parts do not stand in their order. The first of
-/// these is answered.
+/// `I15` where the file is longer than 1,073,741,824 bytes, `I1` where it has fewer than 57, `I2`,
+/// `I3`, `I4` where magic, version or the table's checksum are others, `I5` where the parts do not
+/// stand in their order. The first of these is answered.
 pub(crate) fn contents_of(file: &[u8]) -> Result<Contents, WalkError>
     ensures exact { Gives (λ t. t) result (head_of file.now) }
     ensures placed { IfOk result (λ t. IsPlaced t (length file.now)) }

@@ -1,6 +1,7 @@
 //! The deletions of a block's series.
 
-ghost use Rattle.std.specs.Prelude.{◌≡◌, ℕ, ◌<◌, ◌≤◌, length, get_or, slice_get, Some, IfNone, IfSome};
+ghost use Rattle.std.specs.Prelude.{◌≡◌, ℕ, ◌<◌, ◌≤◌, length, get_or, slice_get, Some, IfNone};
+ghost use Rattle.std.specs.Prelude.{IfSome};
 ghost use Rattle.std.specs.List.{Contains, list_all};
 ghost use Rattle.std.specs.List.Sorted.{IsStrictlyIncreasing};
 ghost use Rattle.auditor.specs.IndexFile.Series.{references};
@@ -18,7 +19,8 @@ fn place_from(entries: &SeriesEntries<'_>, target: SeriesRef) -> usize
     requires { IsStrictlyIncreasing (references entries.now) }
     ensures place { result ≤ length entries.now }
     ensures below { (k : ℕ) → k < result → get_or (references entries.now) k 0 < target }
-    ensures above { result < length entries.now → target ≤ get_or (references entries.now) result 0 }
+    ensures above { result < length entries.now
+        → target ≤ get_or (references entries.now) result 0 }
 {
     let mut low = 0;
     let mut high = entries.len();
@@ -66,8 +68,8 @@ fn are_known(entries: &SeriesEntries<'_>, deletions: &[Deletion]) -> bool
     true
 }
 
-/// The deletions of a file, all of series of the index: `T1` to `T4` where the file is refused, `T5` where a deletion is
-/// of a series that the index does not have.
+/// The deletions of a file, all of series of the index: `T1` to `T4` where the file is refused,
+/// `T5` where a deletion is of a series that the index does not have.
 #[tactic(auto, unfolding(crate::specs::BlockFiles::Reading::deleted_of))]
 pub(crate) fn known_deletions(
     alloc: Global,

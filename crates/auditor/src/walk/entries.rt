@@ -40,7 +40,8 @@ pub(crate) fn entries_of(
 ) -> Result<Vec<Entry<'_>>, WalkError>
     requires within { end ≤ length file.now }
     requires small { length file.now ≤ 0x4000_0000 }
-    ensures { Gives (λ v. places v.items) result (entries_from (length file.now) file.now end start) }
+    ensures { Gives (λ v. places v.items) result
+        (entries_from (length file.now) file.now end start) }
 {
     let mut entries = Vec::new(alloc);
     let mut at = start;

@@ -33,8 +33,8 @@ pub enum WalkError {
     Series,
     /// `I10`: the label sets do not ascend strictly.
     SeriesOrder,
-    /// `I15`: the index is longer than 1 GiB, has more than 1,048,576 series, or one of more than 64 labels or
-    /// 1,048,576 samples.
+    /// `I15`: the index is longer than 1 GiB, has more than 1,048,576 series, or one of more than
+    /// 64 labels or 1,048,576 samples.
     Limit,
     /// `C1` to `C8`: the chunks file or a chunk of it is refused.
     Chunks(ChunkError),

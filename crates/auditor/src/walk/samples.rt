@@ -28,13 +28,14 @@ fn is_kept(tombstones: &Tombstones, reference: SeriesRef, sample: Sample) -> boo
     !tombstones.deleted(reference, sample.t())
 }
 
-fn push_undeleted(
+fn push_each(
     found: &mut Vec<Sample>,
     samples: &Samples<'_>,
     tombstones: &Tombstones,
     reference: SeriesRef,
 ) -> Result<(), AllocError>
-    ensures { OnOk result (found.new.items ≡ found.old.items ++ undeleted tombstones.now reference samples.now) }
+    ensures { OnOk result
+        (found.new.items ≡ found.old.items ++ undeleted tombstones.now reference samples.now) }
 {
     for i in 0..samples.len() {
         let sample = samples.get(i);
@@ -45,6 +46,20 @@ fn push_undeleted(
     Ok(())
 }
 
+// Adds the samples that are not deleted. Room for all of them is made at once.
+fn push_undeleted(
+    found: &mut Vec<Sample>,
+    samples: &Samples<'_>,
+    tombstones: &Tombstones,
+    reference: SeriesRef,
+) -> Result<(), AllocError>
+    ensures { OnOk result
+        (found.new.items ≡ found.old.items ++ undeleted tombstones.now reference samples.now) }
+{
+    found.reserve(samples.len())?;
+    push_each(found, samples, tombstones, reference)
+}
+
 fn samples_of(
     alloc: Global,
     chunks: &Chunks,
@@ -53,7 +68,8 @@ fn samples_of(
     reference: SeriesRef,
 ) -> Result<Vec<Sample>, AllocError>
     requires { AllByRecursion (IsHeld chunks.now) list.now }
-    ensures { IfOk result (λ v. v.items ≡ undeleted tombstones.now reference (samples_in chunks.now list.now)) }
+    ensures { IfOk result
+        (λ v. v.items ≡ undeleted tombstones.now reference (samples_in chunks.now list.now)) }
 {
     let mut found = Vec::new(alloc);
     for chunk in list {
@@ -77,7 +93,8 @@ fn row_at(
 ) -> Result<(SeriesRef, Row), AllocError>
     requires inside { i < length entries.now }
     requires held { AllByRecursion (AllByRecursion (IsHeld chunks.now)) (chunk_lists entries.now) }
-    ensures { IfOk result (λ row. slice_get (part_of chunks.now tombstones.now entries.now) i ≡ Some row) }
+    ensures { IfOk result (λ row. slice_get (part_of chunks.now tombstones.now entries.now) i
+        ≡ Some row) }
 {
     let reference = entries.reference_at(i);
     let labels = entries.labels_at(alloc, i)?;

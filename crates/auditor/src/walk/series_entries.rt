@@ -1,11 +1,13 @@
 //! The series of an index: their references, their label sets, the chunks that they name.
 
-ghost use Rattle.std.specs.Prelude.{◌≡◌, ◌<◌, ◌≤◌, List, length, slice_get, slice_range, Some, Ok, IfOk};
+ghost use Rattle.std.specs.Prelude.{◌≡◌, ◌<◌, ◌≤◌, List, length, slice_get, slice_range, Some, Ok};
+ghost use Rattle.std.specs.Prelude.{IfOk};
 ghost use Rattle.labels.specs.Pairs.{texts_of};
 ghost use Rattle.labels.specs.LabelSets.{IsLabelSet};
 ghost use Rattle.auditor.specs.IndexFile.Outcome.{Gives};
 ghost use Rattle.auditor.specs.IndexFile.Seen.{texts};
-ghost use Rattle.auditor.specs.IndexFile.Series.{Series as SeriesValue, references, label_sets, chunk_lists, text_of, named};
+ghost use Rattle.auditor.specs.IndexFile.Series.{Series as SeriesValue, references, label_sets};
+ghost use Rattle.auditor.specs.IndexFile.Series.{chunk_lists, text_of, named};
 ghost use Rattle.auditor.specs.IndexFile.Kept.{series_seen, AreInTable, IsKept};
 ghost use Rattle.auditor.specs.IndexFile.Whole.{indexed_of};
 ghost use Rattle.auditor.specs.IndexFile.Spelled.{IsIndex};
@@ -19,8 +21,8 @@ use labels::{LabelSet, SeriesRef};
 use std::alloc::{AllocError, Global};
 use std::marker::Model;
 
-/// The series of an index in file order, seen as their references, their label sets and the chunks that they name. Texts
-/// stay in the file.
+/// The series of an index in file order, seen as their references, their label sets and the chunks
+/// that they name. Texts stay in the file.
 #[derive(Drop)]
 pub struct SeriesEntries<'a> {
     checked: Checked<'a>,
@@ -94,15 +96,17 @@ fn entries_of(alloc: Global, file: &[u8]) -> Result<SeriesEntries<'_>, WalkError
 }
 
 impl<'a> SeriesEntries<'a> {
-    /// The series of the bytes of an index, whatever its postings are, or the refusal of the first check that fails:
-    /// `I15` (length), `I1` to `I10`, `I15` (counts), each over the whole file before the next.
+    /// The series of the bytes of an index, whatever its postings are, or the refusal of the first
+    /// check that fails: `I15` (length), `I1` to `I10`, `I15` (counts), each over the whole file
+    /// before the next.
     pub(crate) fn read(alloc: Global, file: &'a [u8]) -> Result<SeriesEntries<'a>, WalkError>
         // The first check that fails is answered; where none does, what was read is given.
         ensures exact { Gives (λ s. s) result (indexed_of file.now) }
         // What is given is what the bytes spell.
         ensures found { IfOk result (IsIndex file.now) }
         // Bytes that spell series give these, unless memory runs out.
-        ensures only { (series : List SeriesValue) → IsIndex file.now series → Gives (λ s. s) result (Ok series) }
+        ensures only { (series : List SeriesValue) → IsIndex file.now series
+            → Gives (λ s. s) result (Ok series) }
     {
         entries_of(alloc, file)
     }

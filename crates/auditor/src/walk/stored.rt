@@ -40,9 +40,11 @@ fn are_few(chunks: &Chunks, list: &[Chunk]) -> Result<bool, ChunkError>
 
 // Whether the chunks of each series hold few samples.
 fn all_few(entries: &SeriesEntries<'_>, chunks: &Chunks) -> Result<bool, ChunkError>
-    ensures exact { Answers (λ _. tt) result (each (each (chunk_check chunks.now)) (chunk_lists entries.now)) }
+    ensures exact { Answers (λ _. tt) result
+        (each (each (chunk_check chunks.now)) (chunk_lists entries.now)) }
     ensures few { IfOk result (λ few. few ≡ list_all (have_few chunks.now) (chunk_lists entries.now)) }
-    ensures held { OnOk result (AllByRecursion (AllByRecursion (IsHeld chunks.now)) (chunk_lists entries.now)) }
+    ensures held { OnOk result
+        (AllByRecursion (AllByRecursion (IsHeld chunks.now)) (chunk_lists entries.now)) }
 {
     let mut few = true;
     for at in 0..entries.len() {
@@ -52,13 +54,16 @@ fn all_few(entries: &SeriesEntries<'_>, chunks: &Chunks) -> Result<bool, ChunkEr
     Ok(few)
 }
 
-/// Looks at each chunk that the series name, in their order, and then whether a series has too many samples.
+/// Looks at each chunk that the series name, in their order, and then whether a series has too many
+/// samples.
 ///
-/// `C3` to `C8` of the first chunk that is refused; `I15` where a series has more than 1,048,576 samples.
+/// `C3` to `C8` of the first chunk that is refused; `I15` where a series has more than 1,048,576
+/// samples.
 #[tactic(auto, unfolding(crate::specs::BlockFiles::Reading::stored_of))]
 pub(crate) fn check_stored(entries: &SeriesEntries<'_>, chunks: &Chunks) -> Result<(), WalkError>
     ensures exact { Gives (λ _. tt) result (stored_of chunks.now entries.now) }
-    ensures held { OnOk result (AllByRecursion (AllByRecursion (IsHeld chunks.now)) (chunk_lists entries.now)) }
+    ensures held { OnOk result
+        (AllByRecursion (AllByRecursion (IsHeld chunks.now)) (chunk_lists entries.now)) }
     ensures few { OnOk result (list_all (have_few chunks.now) (chunk_lists entries.now) ≡ true) }
 {
     let few = all_few(entries, chunks)?;

@@ -3,7 +3,8 @@
 ghost use Rattle.std.specs.Prelude.{◌≡◌, ◌<◌, length, slice_get, Some, MatchOption, true, false};
 ghost use Rattle.std.specs.Str.{is_utf8};
 ghost use Rattle.auditor.specs.IndexFile.Outcome.{Gives};
-ghost use Rattle.auditor.specs.IndexFile.Reading.{is_less, ascending, symbol_at, symbols_from, symbols_of};
+ghost use Rattle.auditor.specs.IndexFile.Reading.{is_less, ascending, symbol_at, symbols_from};
+ghost use Rattle.auditor.specs.IndexFile.Reading.{symbols_of};
 ghost use Rattle.auditor.specs.IndexFile.Seen.{texts};
 
 use crate::walk::error::WalkError;
@@ -12,7 +13,8 @@ use std::cmp::Ordering;
 use wire::Cut;
 
 fn text_of(bytes: &[u8]) -> Option<&str>
-    ensures { MatchOption result (is_utf8 bytes.now ≡ false) (λ s. (is_utf8 bytes.now ≡ true) × (s.now ≡ bytes.now)) }
+    ensures { MatchOption result (is_utf8 bytes.now ≡ false)
+        (λ s. (is_utf8 bytes.now ≡ true) × (s.now ≡ bytes.now)) }
 {
     str::from_utf8(bytes).ok()
 }
@@ -70,7 +72,8 @@ fn is_ascending(symbols: &[&str]) -> bool
 
 /// The symbols that the content of a symbol table counts and lists, in place.
 ///
-/// `I7` where it does not list exactly as many as it counts, or they are no texts or do not ascend strictly.
+/// `I7` where it does not list exactly as many as it counts, or they are no texts or do not ascend
+/// strictly.
 #[tactic(auto, unfolding(crate::specs::IndexFile::Reading::symbols_of))]
 pub(crate) fn symbols_of(alloc: Global, content: &[u8]) -> Result<Vec<&str>, WalkError>
     ensures { Gives (λ v. texts v.items) result (symbols_of content.now) }

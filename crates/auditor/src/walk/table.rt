@@ -41,15 +41,17 @@ fn walked(
 }
 
 impl Table {
-    /// The part that the series entries of an index, a chunks file and a file of deletions say. The postings are not
-    /// looked at, so a file whose lists lie gives the part of its series; nor is the range of the block.
+    /// The part that the series entries of an index, a chunks file and a file of deletions say. The
+    /// postings are not looked at, so a file whose lists lie gives the part of its series; nor is
+    /// the range of the block.
     ///
-    /// The first check that fails is answered, each over the whole file before the next: `I15` where the index is longer
-    /// than 1 GiB; `I1` to `I10`; `I15` where there are more than 1,048,576 series, or one has more than 64 labels; `C7`,
-    /// `C1`, `C2` of the chunks file; `C3` to `C8` of each chunk that the series name, in their order; `I15` where a
-    /// series has more than 1,048,576 samples; `T1` to `T4` of the deletions; `T5` where one is of a series that the
-    /// index does not have. Time in proportion to the files and to the samples; each chunk's checksum is taken once. It
-    /// copies label sets and samples, and keeps none of the files.
+    /// The first check that fails is answered, each over the whole file before the next: `I15`
+    /// where the index is longer than 1 GiB; `I1` to `I10`; `I15` where there are more than
+    /// 1,048,576 series, or one has more than 64 labels; `C7`, `C1`, `C2` of the chunks file; `C3`
+    /// to `C8` of each chunk that the series name, in their order; `I15` where a series has more
+    /// than 1,048,576 samples; `T1` to `T4` of the deletions; `T5` where one is of a series that
+    /// the index does not have. Time in proportion to the files and to the samples; each chunk's
+    /// checksum is taken once. It copies label sets and samples, and keeps none of the files.
     pub fn walk(
         alloc: Global,
         index: &[u8],
@@ -59,11 +61,17 @@ impl Table {
         // Reading gives the first refusal, or the part that was read.
         ensures exact { Gives (λ t. t) result (walked_of index.now chunks.items tombstones.now) }
         // What is refused fails the check that is answered, and passes all before it.
-        ensures refused { IfErr result (IsRefusal (record { index = index.now; chunks = chunks.items; tombstones = tombstones.now })) }
+        ensures refused { IfErr result
+            (IsRefusal (record {
+              index = index.now;
+              chunks = chunks.items;
+              tombstones = tombstones.now;
+            })) }
         // The part is what the bytes of the files spell, whatever the postings are.
         ensures found { IfOk result (IsWalked index.now chunks.items tombstones.now) }
         // Files that spell a part give it, unless memory runs out.
-        ensures only { (part : Part) → IsWalked index.now chunks.items tombstones.now part → Gives (λ t. t) result (Ok part) }
+        ensures only { (part : Part) → IsWalked index.now chunks.items tombstones.now part
+            → Gives (λ t. t) result (Ok part) }
     {
         are_bytes(chunks.as_slice());
         walked(alloc, index, chunks, tombstones)

@@ -1,7 +1,7 @@
 use Rattle.std.proofs.Common.{sym, ap, ◌∙◌, arith}
 use Rattle.auditor.proofs.BlockFiles.Rows.{kept_on, left_out, all_kept}
-use Rattle.auditor.proofs.walk.samples.push_undeleted.Goals as goal
-use Rattle.auditor.proofs.walk.samples.push_undeleted.Goals.{then-is_kept+in_ok-push, else-is_kept}
+use Rattle.auditor.proofs.walk.samples.push_each.Goals as goal
+use Rattle.auditor.proofs.walk.samples.push_each.Goals.{then-is_kept+in_ok-push, else-is_kept}
 
 pub loop-i-preserved : goal.loop-i-preserved
 loop-i-preserved c =
