@@ -19,12 +19,12 @@ use Rattle.std.proofs.lemmas.List.Sorted.{All-permutation, IsPermutation-sym, le
 use Rattle.std.proofs.lemmas.Map.Keys.{IsDistinct-IsPermutation, IsDistinct-from_sorted, sorted_from_all_adjacent, Less-from_sorted}
 use Rattle.std.proofs.lemmas.Map.Text.{is_eq-slice_cmp}
 use Rattle.labels.specs.Labels.{Labels, pair_cmp, IsByName}
-use Rattle.labels.specs.LabelSets.{IsMadeOf, are_named, same_name, repeats, has_value, valued}
+use Rattle.labels.specs.LabelSets.{IsMadeOf, are_named, same_name, repeats, has_value, with_values}
 use Rattle.labels.specs.Names.{is_name}
 use Rattle.labels.specs.Pairs.{pairs_of}
 use Rattle.labels.proofs.Permutations.{IsPermutation-filter}
 use Rattle.labels.proofs.Search.{none}
-use Rattle.labels.proofs.Values.{value_of-valued}
+use Rattle.labels.proofs.Values.{value_of-with_values}
 
 -- an order of what a map gives is an order of what it takes
 pub IsSortedBy-map : {X Y : Type 0} (f : X → Y) (lt : Y → Y → Bool) (xs : List X) → IsSortedBy (λ a b. lt (f a) (f b)) xs → IsSortedBy lt (map f xs)
@@ -140,10 +140,10 @@ not_empty : (xs : List ℕ) → not (length xs == 0) ≡ true → xs ≢ []
 not_empty [] h = absurd cc
 not_empty (x ∷ xs) h = λ e. cc
 
-pub IsMadeOf-valued : (given sorted kept : Labels) → are_named given ≡ true → IsPermutation given sorted → IsByName sorted → kept ≡ valued sorted → length kept ≤ 64 → IsMadeOf kept given
-IsMadeOf-valued given sorted kept named same by_name is few =
+pub IsMadeOf-with_values : (given sorted kept : Labels) → are_named given ≡ true → IsPermutation given sorted → IsByName sorted → kept ≡ with_values sorted → length kept ≤ 64 → IsMadeOf kept given
+IsMadeOf-with_values given sorted kept named same by_name is few =
     let rising : IsByName kept = rw is (IsByName-filter has_value sorted by_name) in
-    let kept_pairs : IsPermutation (valued given) kept = rw is (IsPermutation-filter has_value given sorted same) in
+    let kept_pairs : IsPermutation (with_values given) kept = rw is (IsPermutation-filter has_value given sorted same) in
     let once : repeats given ≡ false = sym (repeats-IsPermutation given sorted same) ∙ repeats-by_name sorted by_name in
     let is_named : List ℕ × List ℕ → Type 0 = λ p. is_name p.0 ≡ true in
     let named' : All (λ (p : List ℕ × List ℕ). is_name p.0 ≡ true) given = AllPass-from_list_all (λ p. is_name p.0) given named in
@@ -155,15 +155,15 @@ IsMadeOf-valued given sorted kept named same by_name is few =
         few = few;
       };
       same_pairs = kept_pairs;
-      values = λ name. value_of-valued given kept name once (repeats-by_name kept rising) kept_pairs;
+      values = λ name. value_of-with_values given kept name once (repeats-by_name kept rising) kept_pairs;
     }
 
-pub length-valued : (given sorted : Labels) → IsPermutation given sorted → length (valued sorted) ≡ length (valued given)
-length-valued given sorted same = length_permutation (valued given) (valued sorted) (IsPermutation-filter has_value given sorted same)
+pub length-with_values : (given sorted : Labels) → IsPermutation given sorted → length (with_values sorted) ≡ length (with_values given)
+length-with_values given sorted same = length_permutation (with_values given) (with_values sorted) (IsPermutation-filter has_value given sorted same)
 
 -- strings whose value is not empty
-pub valued_strings : {Z : Type 0} (ps : List (String Z × String Z)) → pairs_of (filter (λ p. has_value (string_bytes p.0, string_bytes p.1)) ps) ≡ valued (pairs_of ps)
-valued_strings {Z} ps = filter-map (λ (p : String Z × String Z). (string_bytes p.0, string_bytes p.1)) has_value ps
+pub with_values_of_strings : {Z : Type 0} (ps : List (String Z × String Z)) → pairs_of (filter (λ p. has_value (string_bytes p.0, string_bytes p.1)) ps) ≡ with_values (pairs_of ps)
+with_values_of_strings {Z} ps = filter-map (λ (p : String Z × String Z). (string_bytes p.0, string_bytes p.1)) has_value ps
 
 -- the names of two neighbours, as they were compared
 pub same_here : (ps : Labels) (k at : ℕ) (a b : List ℕ) (r : Bool) → k + 1 ≡ at → at < length ps → a ≡ (get_or ps k none).0 → b ≡ (get_or ps at none).0 → r ≡ bytes_eq a b → r ≡ true → repeats ps ≡ true

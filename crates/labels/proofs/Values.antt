@@ -7,7 +7,7 @@ use Rattle.std.proofs.lemmas.Bool.Decides.{Decides-eqb}
 use Rattle.std.proofs.lemmas.Slice.Eq.{bytes_eq-Decides}
 use Rattle.std.proofs.lemmas.List.Sorted.{Contains-permutation, IsPermutation-sym}
 use Rattle.labels.specs.Labels.{Labels, value_of}
-use Rattle.labels.specs.LabelSets.{same_name, repeats, has_value, valued}
+use Rattle.labels.specs.LabelSets.{same_name, repeats, has_value, with_values}
 use Rattle.labels.proofs.Lists.{Contains-cases, none_in_nil, here, there, filter-has, filter-from}
 
 apart : (a b : Bool) → (a || b) ≡ false → (a ≡ false) × (b ≡ false)
@@ -61,24 +61,24 @@ no_value (x ∷ xs) h =
     ] in
     absurd (go _ refl h)
 
-told : (given made : Labels) (name : List ℕ) → repeats given ≡ false → IsPermutation (valued given) made → Has made name → value_of made name ≡ value_of given name
+told : (given made : Labels) (name : List ℕ) → repeats given ≡ false → IsPermutation (with_values given) made → Has made name → value_of made name ≡ value_of given name
 told given made name once same has =
     let q = has.0 in
-    let kept : Contains (valued given) q = Contains-permutation made (valued given) q (IsPermutation-sym (valued given) made same) has.1.0 in
+    let kept : Contains (with_values given) q = Contains-permutation made (with_values given) q (IsPermutation-sym (with_values given) made same) has.1.0 in
     let whole = value_of-pair given q once (filter-from has_value given q kept).0 in
     sym has.1.1.1 ∙ sym whole ∙ ap (value_of given) has.1.1.0
 
-untold : (given made : Labels) (name : List ℕ) → repeats made ≡ false → IsPermutation (valued given) made → value_of made name ≡ [] → Has given name → value_of made name ≡ value_of given name
+untold : (given made : Labels) (name : List ℕ) → repeats made ≡ false → IsPermutation (with_values given) made → value_of made name ≡ [] → Has given name → value_of made name ≡ value_of given name
 untold given made name once same none has =
     let q = has.0 in
     let go : (b : Bool) → has_value q ≡ b → value_of made name ≡ q.1 = λ b. elim b as (λ v. has_value q ≡ v → value_of made name ≡ q.1) [
-      | true ↦ λ e. ap (value_of made) (sym has.1.1.0) ∙ value_of-pair made q once (Contains-permutation (valued given) made q same (filter-has has_value given q has.1.0 e))
+      | true ↦ λ e. ap (value_of made) (sym has.1.1.0) ∙ value_of-pair made q once (Contains-permutation (with_values given) made q same (filter-has has_value given q has.1.0 e))
       | false ↦ λ e. none ∙ sym (no_value q.1 e)
     ] in
     go (has_value q) refl ∙ has.1.1.1
 
-pub value_of-valued : (given made : Labels) (name : List ℕ) → repeats given ≡ false → repeats made ≡ false → IsPermutation (valued given) made → value_of made name ≡ value_of given name
-value_of-valued given made name once still same =
+pub value_of-with_values : (given made : Labels) (name : List ℕ) → repeats given ≡ false → repeats made ≡ false → IsPermutation (with_values given) made → value_of made name ≡ value_of given name
+value_of-with_values given made name once still same =
     elim (none_or_some made name) [
       | inr has ↦ told given made name once same has
       | inl none ↦ elim (none_or_some given name) [

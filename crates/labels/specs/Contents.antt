@@ -25,7 +25,8 @@ without sat a b c = where_key {X = ℤ} point_cmp (λ p. not (sat p.0 && in_rang
 
 -- how many samples a label set has from this time on
 abbrev pub held_from : ℤ → Labels → Content → ℕ
-held_from floor l c = length (where_key {X = ℤ} point_cmp (λ p. same_labels l p.0 && not (int_lt p.1 floor)) c)
+held_from floor l c =
+    length (where_key {X = ℤ} point_cmp (λ p. same_labels l p.0 && not (int_lt p.1 floor)) c)
 
 -- the samples from the first time up to, not including, the second
 abbrev pub between : ℤ → ℤ → Content → Content

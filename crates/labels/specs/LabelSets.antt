@@ -33,20 +33,21 @@ abbrev pub has_value : List ℕ × List ℕ → Bool
 has_value pair = not (length pair.1 == 0)
 
 -- the pairs whose value is not empty
-abbrev pub valued : List (List ℕ × List ℕ) → List (List ℕ × List ℕ)
-valued pairs = filter has_value pairs
+abbrev pub with_values : List (List ℕ × List ℕ) → List (List ℕ × List ℕ)
+with_values pairs = filter has_value pairs
 
--- the first rule that pairs break, if they break one: each name is a label name, none stands twice, and at most 64 have
--- a value
+-- the first rule that pairs break, if they break one: each name is a label name, none stands twice,
+-- and at most 64 have a value
 abbrev pub refusal_of : List (List ℕ × List ℕ) → Option LabelError
 refusal_of pairs =
     if not (are_named pairs) then Some BadName
     else if repeats pairs then Some Repeated
-    else if nat_lt 64 (length (valued pairs)) then Some Limit
+    else if nat_lt 64 (length (with_values pairs)) then Some Limit
     else None
 
--- the label set with exactly the pairs that have a value, in which each name has the value that the pairs give it
+-- the label set with exactly the pairs that have a value, in which each name has the value that the
+-- pairs give it
 pub record IsMadeOf (labels : Labels) (pairs : List (List ℕ × List ℕ)) : Type 0 where
   pub label_set : IsLabelSet labels
-  pub same_pairs : IsPermutation (valued pairs) labels
+  pub same_pairs : IsPermutation (with_values pairs) labels
   pub values : (name : List ℕ) → value_of labels name ≡ value_of pairs name

@@ -2,7 +2,7 @@
 use Rattle.std.specs.Prelude.{◌≡◌, ◌+◌, ◌<◌, ℕ, ℤ, Bool, List, [], ◌∷◌, length, get_or, if◌then◌else◌}
 use Rattle.std.specs.Str.{bytes_eq}
 use Rattle.std.specs.declared.cmp.Ordering.{Ordering}
-use Rattle.std.specs.declared.cmp.Ordering.TheVariants.{Less}
+use Rattle.std.specs.declared.cmp.Ordering.TheVariants.{Less, Equal}
 use Rattle.std.specs.Ordering.{nat_cmp, int_cmp, ordering_then, eq_by_cmp}
 use Rattle.std.specs.Cmp.Lexicographic.{slice_cmp}
 
@@ -15,7 +15,7 @@ abbrev pub value_of : Labels → List ℕ → List ℕ
 value_of [] name = []
 value_of (pair ∷ pairs) name = if bytes_eq pair.0 name then pair.1 else value_of pairs name
 
--- texts by their bytes; a beginning is smaller
+-- texts by their bytes; a prefix is smaller
 abbrev pub text_cmp : List ℕ → List ℕ → Ordering
 text_cmp a b = slice_cmp nat_cmp a b
 
@@ -23,7 +23,7 @@ text_cmp a b = slice_cmp nat_cmp a b
 abbrev pub pair_cmp : List ℕ × List ℕ → List ℕ × List ℕ → Ordering
 pair_cmp x y = ordering_then (text_cmp x.0 y.0) (text_cmp x.1 y.1)
 
--- pair by pair; a beginning is smaller
+-- pair by pair; a prefix is smaller
 unfoldable pub labels_cmp : Labels → Labels → Ordering
 labels_cmp a b = slice_cmp pair_cmp a b
 
@@ -41,4 +41,9 @@ point_cmp p q = ordering_then (labels_cmp p.0 q.0) (int_cmp p.1 q.1)
 
 -- names come strictly in the order of their bytes
 abbrev pub IsByName : Labels → Type 0
-IsByName ps = (k : ℕ) (d : List ℕ × List ℕ) → k + 1 < length ps → text_cmp (get_or ps k d).0 (get_or ps (k + 1) d).0 ≡ Less
+IsByName ps = (k : ℕ) (d : List ℕ × List ℕ) → k + 1 < length ps
+    → text_cmp (get_or ps k d).0 (get_or ps (k + 1) d).0 ≡ Less
+
+-- the pair at this place has this name
+abbrev pub IsNamedAt : Labels → List ℕ → ℕ → Type 0
+IsNamedAt ps name i = (i < length ps) × (text_cmp (get_or ps i ([], [])).0 name ≡ Equal)

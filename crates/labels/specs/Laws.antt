@@ -5,4 +5,6 @@ use Rattle.labels.specs.Labels.{labels_cmp}
 
 pub labels_total : IsTotalOrder labels_cmp
 unfolding labels_cmp
-labels_total = lists_total (then_total (on_total (λ p. p.0) nat_list_cmp_total) (on_total (λ p. p.1) nat_list_cmp_total))
+labels_total =
+    lists_total
+    (then_total (on_total (λ p. p.0) nat_list_cmp_total) (on_total (λ p. p.1) nat_list_cmp_total))

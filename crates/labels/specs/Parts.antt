@@ -60,10 +60,11 @@ samples_within from to (Some row) = within from to row.1
 abbrev pub AreDistinct : Part → Type 0
 AreDistinct [] = Unit {0}
 AreDistinct (row ∷ rows) =
-    ((other : ℕ × Row) → Contains rows other → same_labels row.1.0 other.1.0 ≡ false) × AreDistinct rows
+    ((other : ℕ × Row) → Contains rows other → same_labels row.1.0 other.1.0 ≡ false)
+    × AreDistinct rows
 
--- what every part keeps: references ascend strictly and are below 2^32, no label set stands twice, and the times of a
--- series ascend strictly
+-- what every part keeps: references ascend strictly and are below 2^32, no label set stands
+-- twice, and the times of a series ascend strictly
 pub record IsPart (part : Part) : Type 0 where
   pub ascending : IsStrictlyIncreasing (references part)
   pub in_range : (r : ℕ) → Contains (references part) r → r < 4294967296

@@ -5,7 +5,8 @@ use Rattle.std.specs.List.{filter}
 -- the ascending list with r in it
 abbrev pub insert_ref : ℕ → List ℕ → List ℕ
 insert_ref r [] = r ∷ []
-insert_ref r (x ∷ xs) = cond (nat_lt r x) (r ∷ x ∷ xs) (cond (nat_eq r x) (x ∷ xs) (x ∷ insert_ref r xs))
+insert_ref r (x ∷ xs) =
+    cond (nat_lt r x) (r ∷ x ∷ xs) (cond (nat_eq r x) (x ∷ xs) (x ∷ insert_ref r xs))
 
 -- the ascending list with each of these in it
 abbrev pub insert_each : List ℕ → List ℕ → List ℕ

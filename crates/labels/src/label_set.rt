@@ -1,24 +1,23 @@
 //! Label sets.
 
-ghost use Rattle.std.specs.Prelude.{◌≡◌, ◌<◌, ◌≤◌, ◌+◌, ℕ, [], length, ◌↔◌, slice_get, slice_index_or, Some, IsTrue, IfOk, IfSome, IfNone, MatchResult, refl};
+ghost use Rattle.std.specs.Prelude.{◌≡◌, ◌<◌, ℕ, [], length, ◌↔◌, slice_get, Some, IsTrue, IfOk, IfSome, IfNone, MatchResult, refl};
 ghost use Rattle.std.specs.Cmp.{eq_by_cmp_equiv, partial_equiv_from_equiv, partial_order_from_agreeing_total};
-ghost use Rattle.std.specs.Ordering.{eq_by_cmp, is_eq, nat_cmp, ordering_index};
-ghost use Rattle.std.specs.Cmp.Lexicographic.{slice_cmp};
+ghost use Rattle.std.specs.Ordering.{eq_by_cmp};
 ghost use Rattle.labels.specs.Pairs.{pairs_of, texts_of};
-ghost use Rattle.labels.specs.Labels.{pair_cmp, labels_cmp, value_of, IsByName};
+ghost use Rattle.labels.specs.Labels.{pair_cmp, labels_cmp, value_of, IsByName, IsNamedAt};
 ghost use Rattle.labels.specs.LabelSets.{IsLabelSet, IsMadeOf, refusal_of};
 ghost use Rattle.labels.specs.Laws.{labels_total};
 
 use crate::LabelError;
-use crate::making::checked;
+use crate::making::check;
 use crate::text::Pairs;
 use std::alloc::{AllocError, Global};
 use std::cmp::Ordering;
 use std::marker::Model;
 use std::sync::Arc;
 
-/// Label names with values that are not empty, in one text that copies share. The order is by the pairs in name order,
-/// name and then value, by bytes; a beginning is smaller.
+/// Label names with values that are not empty, in one text that copies share. The order is by the
+/// pairs in name order, name and then value, by bytes; a prefix is smaller.
 #[derive(Drop)]
 pub struct LabelSet {
     pairs: Arc<Pairs>,
@@ -48,7 +47,7 @@ fn room_of(pairs: &[(String, String)]) -> usize {
     room
 }
 
-fn packed(alloc: Global, pairs: &[(String, String)]) -> Result<Pairs, AllocError>
+fn pack(alloc: Global, pairs: &[(String, String)]) -> Result<Pairs, AllocError>
     ensures { IfOk result (λ p. p ≡ pairs_of pairs.now) }
 {
     let mut packed = Pairs::with_room(alloc, room_of(pairs), pairs.len())?;
@@ -66,7 +65,7 @@ fn room_of_texts(pairs: &[(&str, &str)]) -> usize {
     room
 }
 
-fn packed_texts(alloc: Global, pairs: &[(&str, &str)]) -> Result<Pairs, AllocError>
+fn pack_texts(alloc: Global, pairs: &[(&str, &str)]) -> Result<Pairs, AllocError>
     ensures { IfOk result (λ p. p ≡ texts_of pairs.now) }
 {
     let mut packed = Pairs::with_room(alloc, room_of_texts(pairs), pairs.len())?;
@@ -79,10 +78,7 @@ fn packed_texts(alloc: Global, pairs: &[(&str, &str)]) -> Result<Pairs, AllocErr
 fn order_of(a: (&str, &str), b: (&str, &str)) -> Ordering
     ensures { result ≡ pair_cmp (a.entry.0.now, a.entry.1.now) (b.entry.0.now, b.entry.1.now) }
 {
-    match a.0.as_bytes().cmp(b.0.as_bytes()) {
-        Ordering::Equal => a.1.as_bytes().cmp(b.1.as_bytes()),
-        other => other,
-    }
+    a.cmp(&b)
 }
 
 fn order_of_pairs(a: &Pairs, b: &Pairs) -> Ordering
@@ -108,8 +104,8 @@ fn order_of_pairs(a: &Pairs, b: &Pairs) -> Ordering
 // Where the pair of a name stands.
 fn place_of(pairs: &Pairs, name: &str) -> Option<usize>
     requires { IsByName pairs.now }
-    ensures found { IfSome result (λ i. (i < length pairs.now) × (slice_cmp nat_cmp (slice_index_or pairs.now i ([], [])).0 name.now ≡ Ordering.Equal)) }
-    ensures none { IfNone result ((i : ℕ) → i < length pairs.now → slice_cmp nat_cmp (slice_index_or pairs.now i ([], [])).0 name.now ≡ Ordering.Equal → ⊥) }
+    ensures found { IfSome result (IsNamedAt pairs.now name.now) }
+    ensures none { IfNone result ((i : ℕ) → IsNamedAt pairs.now name.now i → ⊥) }
 {
     let mut low = 0;
     let mut high = pairs.len();
@@ -125,14 +121,17 @@ fn place_of(pairs: &Pairs, name: &str) -> Option<usize>
 }
 
 impl LabelSet {
-    /// The label set of these pairs, in any order, without those whose value is empty. `L1` where a name is no label
-    /// name, `L2` where a name stands twice (also with an empty value), `L3` where more than 64 values are not empty:
-    /// the first of these that holds. No memory is taken before they are checked.
+    /// The label set of these pairs, in any order, without those whose value is empty. `L1` where a
+    /// name is no label name, `L2` where a name stands twice (also with an empty value), `L3` where
+    /// more than 64 values are not empty: the first of these that holds. No memory is taken before
+    /// they are checked.
     pub fn new(alloc: Global, pairs: Vec<(String, String)>) -> Result<LabelSet, LabelError>
         ensures refused { IfSome (refusal_of (pairs_of pairs.items)) (λ e. result ≡ Err e) }
-        ensures made { IfNone (refusal_of (pairs_of pairs.items)) (MatchResult result (λ l. IsMadeOf l (pairs_of pairs.items)) (λ e. e ≡ LabelError.Memory)) }
+        ensures made { IfNone (refusal_of (pairs_of pairs.items))
+            (MatchResult result (λ l. IsMadeOf l (pairs_of pairs.items))
+            (λ e. e ≡ LabelError.Memory)) }
     {
-        let pairs = checked(pairs)?;
+        let pairs = check(pairs)?;
         Ok(LabelSet::of_sorted(alloc, &pairs)?)
     }
 
@@ -141,16 +140,17 @@ impl LabelSet {
         requires { IsLabelSet (pairs_of pairs.now) }
         ensures { IfOk result (λ l. l ≡ pairs_of pairs.now) }
     {
-        let pairs = Arc::new(alloc, packed(alloc, pairs)?)?;
+        let pairs = Arc::new(alloc, pack(alloc, pairs)?)?;
         Ok(LabelSet { pairs })
     }
 
-    /// The label set of borrowed pairs that are one already, in their order. It copies them into one text.
+    /// The label set of borrowed pairs that are one already, in their order. It copies them into
+    /// one text.
     pub fn of_sorted_texts(alloc: Global, pairs: &[(&str, &str)]) -> Result<LabelSet, AllocError>
         requires { IsLabelSet (texts_of pairs.now) }
         ensures { IfOk result (λ l. l ≡ texts_of pairs.now) }
     {
-        let pairs = Arc::new(alloc, packed_texts(alloc, pairs)?)?;
+        let pairs = Arc::new(alloc, pack_texts(alloc, pairs)?)?;
         Ok(LabelSet { pairs })
     }
 
@@ -213,7 +213,8 @@ impl Eq for LabelSet {
 impl PartialOrd for LabelSet {
     ghost partial_cmp = { λ a b. Some (labels_cmp a b) };
 
-    ghost laws = { partial_order_from_agreeing_total labels_cmp labels_total (λ a b. refl) (λ a b. refl) };
+    ghost laws = { partial_order_from_agreeing_total labels_cmp labels_total
+        (λ a b. refl) (λ a b. refl) };
 
     fn partial_cmp(&self, other: &LabelSet) -> Option<Ordering> {
         Some(self.cmp(other))

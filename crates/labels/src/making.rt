@@ -3,7 +3,7 @@
 ghost use Rattle.std.specs.Prelude.{◌≡◌, ◌+◌, ◌<◌, ℕ, List, length, IfSome, IfNone, IsOkAnd, IsSorted, IsPermutation, slice_index_or};
 ghost use Rattle.std.specs.Bool.{OnFalse};
 ghost use Rattle.labels.specs.Labels.{pair_cmp, IsByName};
-ghost use Rattle.labels.specs.LabelSets.{IsMadeOf, are_named, repeats, refusal_of, valued};
+ghost use Rattle.labels.specs.LabelSets.{IsMadeOf, are_named, repeats, refusal_of, with_values};
 ghost use Rattle.labels.specs.Pairs.{pairs_of};
 
 use crate::LabelError;
@@ -47,15 +47,16 @@ fn repeats(pairs: &[(String, String)]) -> bool
 }
 
 fn drop_empty(pairs: &mut Vec<(String, String)>)
-    ensures { pairs_of pairs.new.items ≡ valued (pairs_of pairs.old.items) }
+    ensures { pairs_of pairs.new.items ≡ with_values (pairs_of pairs.old.items) }
 {
     pairs.retain(|pair| !pair.1.is_empty());
 }
 
 /// The pairs of a label set, in its order, or why they make none.
-pub fn checked(pairs: Vec<(String, String)>) -> Result<Vec<(String, String)>, LabelError>
+pub fn check(pairs: Vec<(String, String)>) -> Result<Vec<(String, String)>, LabelError>
     ensures refused { IfSome (refusal_of (pairs_of pairs.items)) (λ e. result ≡ Err e) }
-    ensures made { IfNone (refusal_of (pairs_of pairs.items)) (IsOkAnd result (λ kept. IsMadeOf (pairs_of kept.items) (pairs_of pairs.items))) }
+    ensures made { IfNone (refusal_of (pairs_of pairs.items))
+        (IsOkAnd result (λ kept. IsMadeOf (pairs_of kept.items) (pairs_of pairs.items))) }
 {
     let mut pairs = pairs;
     if !are_named(&pairs) {

@@ -1,3 +1,5 @@
+//! Series references.
+
 ghost use Rattle.std.specs.Prelude.{◌≡◌};
 
 use std::marker::Model;

@@ -1,3 +1,5 @@
+//! Rows: label sets with samples.
+
 ghost use Rattle.std.specs.Prelude.{◌≡◌, List};
 ghost use Rattle.labels.specs.Contents.{Content};
 ghost use Rattle.labels.specs.Rows.{AreRows, Row as RowValue};

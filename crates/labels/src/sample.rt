@@ -1,3 +1,5 @@
+//! Times, and values at them.
+
 ghost use Rattle.std.specs.Prelude.{◌≡◌};
 ghost use Rattle.labels.specs.Contents.{is_time};
 
@@ -13,7 +15,7 @@ pub const MAX_TIME: i64 = 4_611_686_018_427_387_903;
 pub fn is_time(t: i64) -> bool
     ensures { result ≡ is_time t }
 {
-    MIN_TIME <= t && t <= MAX_TIME
+    (MIN_TIME..=MAX_TIME).contains(&t)
 }
 
 /// A value at a time.

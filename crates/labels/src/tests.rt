@@ -1,3 +1,5 @@
+//! Names, label sets and their order, rows, times: the rules of the data model, row by row.
+
 use crate::{LabelError, LabelSet, MAX_TIME, MIN_TIME, Row, Sample, SeriesRef, is_name, is_time};
 use std::alloc::{AllocError, Global};
 use std::cmp::Ordering;
@@ -167,6 +169,15 @@ fn times_and_references(rt: HostRuntime) {
     }
     assert_eq!(rt; SeriesRef::new(7).number(), 7);
     assert!(rt; SeriesRef::new(2).cmp(&SeriesRef::new(10)) == Ordering::Less);
+}
+
+#[test]
+fn the_example_of_the_first_page(rt: HostRuntime) -> Result<(), AllocError> {
+    let pairs = [("__name__", "up"), ("job", "a")];
+    let labels = LabelSet::of_sorted_texts(rt.alloc(), &pairs)?;
+    assert_eq!(rt; labels.value("job"), "a");
+    assert_eq!(rt; labels.value("zone"), "");
+    Ok(())
 }
 
 #[test]

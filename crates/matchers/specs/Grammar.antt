@@ -36,7 +36,8 @@ op_text NotEqual = codes "!="
 op_text Like = codes "=~"
 op_text NotLike = codes "!~"
 
--- a byte as it stands between quotes: \" \\ and \n for a quote, a backslash and a line feed, each other byte for itself
+-- a byte as it stands between quotes: \" \\ and \n for a quote, a backslash and a line feed, each
+-- other byte for itself
 abbrev pub escaped : ℕ → List ℕ
 escaped b =
     if b == 34 then 92 ∷ 34 ∷ []
@@ -56,7 +57,8 @@ pub record BeginsMatcher (m : MatcherView) (text rest : List ℕ) : Type 0 where
   pub named : is_name m.name ≡ true
   pub before_space : IsSpace before
   pub after_space : IsSpace after
-  pub is : text ≡ m.name ++ (before ++ (op_text m.op ++ (after ++ (34 ∷ (written m.text ++ (34 ∷ rest))))))
+  pub is : text
+      ≡ m.name ++ (before ++ (op_text m.op ++ (after ++ (34 ∷ (written m.text ++ (34 ∷ rest))))))
 
 -- white space and the closing brace
 pub record BeginsClosing (text rest : List ℕ) : Type 0 where
@@ -77,7 +79,8 @@ pub record BeginsNext (m : MatcherView) (text rest : List ℕ) : Type 0 where
 -- what follows a matcher in braces: these matchers, each behind a comma, and the closing brace
 abbrev pub BeginsFurther : List MatcherView → List ℕ → List ℕ → Type 0
 BeginsFurther [] text rest = BeginsClosing text rest
-BeginsFurther (m ∷ ms) text rest = (past : List ℕ) × BeginsNext m text past × BeginsFurther ms past rest
+BeginsFurther (m ∷ ms) text rest =
+    (past : List ℕ) × BeginsNext m text past × BeginsFurther ms past rest
 
 -- the opening brace, white space and the first matcher
 pub record BeginsFirst (m : MatcherView) (text rest : List ℕ) : Type 0 where
@@ -90,7 +93,8 @@ pub record BeginsFirst (m : MatcherView) (text rest : List ℕ) : Type 0 where
 -- braces round matchers that commas separate
 abbrev pub BeginsBraces : List MatcherView → List ℕ → List ℕ → Type 0
 BeginsBraces [] text rest = (inside : List ℕ) × (text ≡ 123 ∷ inside) × BeginsClosing inside rest
-BeginsBraces (m ∷ ms) text rest = (past : List ℕ) × BeginsFirst m text past × BeginsFurther ms past rest
+BeginsBraces (m ∷ ms) text rest =
+    (past : List ℕ) × BeginsFirst m text past × BeginsFurther ms past rest
 
 -- white space, a metric name, white space
 pub record IsMetricAlone (text : List ℕ) (ms : List MatcherView) : Type 0 where
@@ -139,17 +143,18 @@ pub data IsSelector (text : List ℕ) (ms : List MatcherView) : Type 0 where
 abbrev pub BeginsSelector : List ℕ → Type 0
 BeginsSelector text = (rest : List ℕ) × (ms : List MatcherView) × IsSelector (text ++ rest) ms
 
--- the length of the longest beginning of the text that also begins a selector
-pub record IsLongestBeginning (text : List ℕ) (at : ℕ) : Type 0 where
+-- the length of the longest prefix of the text that also begins a selector
+pub record IsLongestPrefix (text : List ℕ) (at : ℕ) : Type 0 where
   pub within : at ≤ length text
   pub begins : BeginsSelector (take at text)
   pub longest : (n : ℕ) → at < n → n ≤ length text → BeginsSelector (take n text) → ⊥
 
--- the text is no selector, and this long is the longest beginning that it has in common with one
+-- the text is no selector, and this long is the longest prefix that it has in common with one
 pub record IsNoSelector (text : List ℕ) (at : ℕ) : Type 0 where
   pub none : (ms : List MatcherView) → IsSelector text ms → ⊥
-  pub longest : IsLongestBeginning text at
+  pub longest : IsLongestPrefix text at
 
 -- no text is a selector of two lists of matchers
 abbrev pub HasOneReading : Type 0
-HasOneReading = (text : List ℕ) (ms ns : List MatcherView) → IsSelector text ms → IsSelector text ns → ms ≡ ns
+HasOneReading =
+    (text : List ℕ) (ms ns : List MatcherView) → IsSelector text ms → IsSelector text ns → ms ≡ ns

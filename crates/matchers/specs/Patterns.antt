@@ -17,7 +17,8 @@ tree_of text = option_map (λ found. found.0.value) (read default_config (chars 
 
 -- whether `regex` finds a match of ^(?s:pattern)$ in the value
 abbrev pub is_full_match : List ℕ → List ℕ → Bool
-is_full_match pattern value = is_some (option_and_then (λ tree. find_str tree value 0) (tree_of (anchored pattern)))
+is_full_match pattern value =
+    is_some (option_and_then (λ tree. find_str tree value 0) (tree_of (anchored pattern)))
 
 -- a pattern has at most 256 bytes, and `regex` reads it both alone and between its anchors
 pub record IsPattern (pattern : List ℕ) : Type 0 where
@@ -31,7 +32,8 @@ IsRefused text = (e : Error) × IsDefaultFailure text e × (e ≢ OutOfMemory)
 
 -- a search for this tree finds something exactly in the full matches of the pattern
 pub record FindsFullMatches (tree : Re) (pattern : List ℕ) : Type 0 where
-  pub agrees : (value : List ℕ) → All (λ b. b < 256) value → is_some (find_str tree value 0) ≡ is_full_match pattern value
+  pub agrees : (value : List ℕ) → All (λ b. b < 256) value
+      → is_some (find_str tree value 0) ≡ is_full_match pattern value
 
 -- what `regex` built of the text, by its default options
 pub record IsBuiltOf (regex : Regex) (text : List ℕ) : Type 0 where
@@ -39,7 +41,8 @@ pub record IsBuiltOf (regex : Regex) (text : List ℕ) : Type 0 where
   pub config : regex_config regex ≡ default_config
   pub read : IsReadFromSource regex
 
--- a pattern of at most 256 bytes that `regex` may refuse, alone or between its anchors, for another cause than memory
+-- a pattern of at most 256 bytes that `regex` may refuse, alone or between its anchors, for
+-- another cause than memory
 pub record IsRefusedPattern (pattern : List ℕ) : Type 0 where
   pub short : length pattern ≤ 256
   pub one : IsRefused pattern ⊎ IsRefused (anchored pattern)

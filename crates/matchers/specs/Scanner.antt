@@ -56,7 +56,8 @@ from_before_text op c =
     else (if c == 34 then Some (Text op, mark.Skip) else None)
 
 abbrev pub from_equals : ℕ → Move
-from_equals c = if c == 126 then Some (BeforeText op.Like, mark.Skip) else from_before_text op.Equal c
+from_equals c =
+    if c == 126 then Some (BeforeText op.Like, mark.Skip) else from_before_text op.Equal c
 
 abbrev pub from_bang : ℕ → Move
 from_bang c =
@@ -117,7 +118,7 @@ end_mark (Escape op) = None
 end_mark AfterText = None
 end_mark End = Some mark.Skip
 
--- the matchers that stand from here on, from those that stand behind this byte; the first may be cut
+-- the matchers that stand from here on, from those that stand after this byte; the first may be cut
 abbrev pub marked : ℕ → Mark → List MatcherView → List MatcherView
 marked b mark.Skip ms = ms
 marked b mark.Name [] = []
@@ -132,7 +133,8 @@ marked b (mark.Matcher op) ms = record { name = []; op = op; text = [] } ∷ ms
 -- the matchers that the rest of a text stands for, read on from a state
 unfoldable pub reads : List ℕ → State → Option (List MatcherView)
 reads [] s = option_map (λ end. marked 0 end []) (end_mark s)
-reads (b ∷ bs) s = elim (step s b) [ None ↦ None | Some move ↦ option_map (marked b move.1) (reads bs move.0) ]
+reads (b ∷ bs) s =
+    elim (step s b) [ None ↦ None | Some move ↦ option_map (marked b move.1) (reads bs move.0) ]
 
 -- what was read so far: whole matchers, and the name and the text of the next
 pub record Progress : Type 0 where
@@ -144,7 +146,11 @@ abbrev pub nothing_read : Progress
 nothing_read = record { done = []; name = []; text = [] }
 
 abbrev pub closed : Op → Progress → Progress
-closed op p = record { done = p.done ++ record { name = p.name; op = op; text = p.text } ∷ []; name = []; text = [] }
+closed op p = record {
+  done = p.done ++ record { name = p.name; op = op; text = p.text } ∷ [];
+  name = [];
+  text = [];
+}
 
 -- what was read, with these bytes of one character
 abbrev pub taken : Mark → List ℕ → Progress → Progress
@@ -152,7 +158,8 @@ taken mark.Skip bytes p = p
 taken mark.Name bytes p = record { done = p.done; name = p.name ++ bytes; text = p.text }
 taken mark.Text bytes p = record { done = p.done; name = p.name; text = p.text ++ bytes }
 taken mark.LineFeed bytes p = record { done = p.done; name = p.name; text = p.text ++ 10 ∷ [] }
-taken mark.Metric bytes p = closed op.Equal (record { done = p.done; name = p.name ++ codes "__name__"; text = p.text })
+taken mark.Metric bytes p =
+    closed op.Equal (record { done = p.done; name = p.name ++ codes "__name__"; text = p.text })
 taken (mark.Matcher op) bytes p = closed op p
 
 abbrev pub joined : List ℕ → List ℕ → List MatcherView → List MatcherView

@@ -25,4 +25,5 @@ text_of (NotLike pattern) = pattern
 -- a matcher that takes a pattern is tested by a search for it
 abbrev pub IsTestedBy : MatcherView → Option Search → Type 0
 IsTestedBy m None = takes_pattern m.op ≡ false
-IsTestedBy m (Some search) = (takes_pattern m.op ≡ true) × FindsFullMatches (matcher_pattern search) m.text
+IsTestedBy m (Some search) =
+    (takes_pattern m.op ≡ true) × FindsFullMatches (matcher_pattern search) m.text

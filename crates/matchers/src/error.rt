@@ -4,9 +4,11 @@ ghost use Rattle.std.specs.Prelude.{◌≡◌};
 ghost use Rattle.matchers.specs.Errors.{matcher_code, query_code, selector_code};
 
 use std::alloc::{AllocError, AllocFailed};
+use std::error::Error;
+use std::fmt;
 
 /// Why a matcher is refused; the first cause, in this order.
-#[derive(Clone, Copy, Debug, PartialEq, Eq)]
+#[derive(Clone, Copy, Debug, PartialEq, Eq, Drop)]
 pub enum MatcherError {
     /// `M1`: the name is not of the form `[a-zA-Z_][a-zA-Z0-9_]*`.
     BadName,
@@ -14,12 +16,12 @@ pub enum MatcherError {
     PatternTooLong,
     /// `M2`: `regex` does not build the pattern, or not between `^(?s:` and `)$`.
     PatternRefused,
-    /// There is no memory left.
+    /// No memory.
     Memory,
 }
 
 impl MatcherError {
-    /// The code that users see; `Memory` has none and gives `memory`.
+    /// The number of the refusal, or `memory`.
     pub fn code(self) -> &'static str
         ensures { result.now ≡ matcher_code self }
     {
@@ -31,6 +33,27 @@ impl MatcherError {
         }
     }
 }
+
+impl fmt::Display for MatcherError {
+    ghost use Rattle.std.specs.Prelude.{Some};
+    ghost use Rattle.matchers.specs.Errors.{matcher_text};
+
+    ghost output = { λ error. Some (matcher_text error) };
+
+    fn fmt<W: fmt::Write>(&self, f: &mut fmt::Formatter<W>) -> fmt::Result {
+        let text = match self {
+            MatcherError::BadName => "M1: a label name has the form [a-zA-Z_][a-zA-Z0-9_]*",
+            MatcherError::PatternTooLong => "M3: a pattern has at most 256 bytes",
+            MatcherError::PatternRefused => {
+                "M2: a pattern is no regular expression, or too big a one"
+            }
+            MatcherError::Memory => "no memory",
+        };
+        write!(f, "{text}")
+    }
+}
+
+impl Error for MatcherError {}
 
 impl From<AllocError> for MatcherError {
     ghost use Rattle.std.specs.Prelude.{◌≡◌};
@@ -44,7 +67,7 @@ impl From<AllocError> for MatcherError {
 }
 
 /// Why a query is refused; the first cause, in this order.
-#[derive(Clone, Copy, Debug, PartialEq, Eq)]
+#[derive(Clone, Copy, Debug, PartialEq, Eq, Drop)]
 pub enum QueryError {
     /// `Q1`: the range ends before it begins, or one of its ends is no time.
     BadRange,
@@ -53,7 +76,7 @@ pub enum QueryError {
 }
 
 impl QueryError {
-    /// The code that users see.
+    /// The number of the refusal.
     pub fn code(self) -> &'static str
         ensures { result.now ≡ query_code self }
     {
@@ -64,11 +87,30 @@ impl QueryError {
     }
 }
 
+impl fmt::Display for QueryError {
+    ghost use Rattle.std.specs.Prelude.{Some};
+    ghost use Rattle.matchers.specs.Errors.{query_text};
+
+    ghost output = { λ error. Some (query_text error) };
+
+    fn fmt<W: fmt::Write>(&self, f: &mut fmt::Formatter<W>) -> fmt::Result {
+        let text = match self {
+            QueryError::BadRange => {
+                "Q1: the range ends before it begins, or one of its ends is no time"
+            }
+            QueryError::TooManyMatchers => "Q2: a query has at most 16 matchers",
+        };
+        write!(f, "{text}")
+    }
+}
+
+impl Error for QueryError {}
+
 /// Why the text of a selector is refused; the first cause, in this order.
-#[derive(Clone, Copy, Debug, PartialEq, Eq)]
+#[derive(Clone, Copy, Debug, PartialEq, Eq, Drop)]
 pub enum SelectorError {
-    /// `M4`: the text is none of the language; `at` is the length in bytes of its longest beginning that also begins
-    /// one.
+    /// `M4`: the text is none of the language; `at` is the length in bytes of its longest prefix
+    /// that also begins a selector.
     Syntax { at: usize },
     /// `M6`: there is no matcher.
     Empty,
@@ -78,12 +120,12 @@ pub enum SelectorError {
     PatternTooLong,
     /// `M2`: `regex` refuses the pattern of the first matcher at fault.
     PatternRefused,
-    /// There is no memory left.
+    /// No memory.
     Memory,
 }
 
 impl SelectorError {
-    /// The code that users see; `Memory` has none and gives `memory`.
+    /// The number of the refusal, or `memory`.
     pub fn code(self) -> &'static str
         ensures { result.now ≡ selector_code self }
     {
@@ -97,6 +139,32 @@ impl SelectorError {
         }
     }
 }
+
+impl fmt::Display for SelectorError {
+    ghost use Rattle.std.specs.Prelude.{Some};
+    ghost use Rattle.matchers.specs.Errors.{selector_text};
+
+    ghost output = { λ error. Some (selector_text error) };
+
+    fn fmt<W: fmt::Write>(&self, f: &mut fmt::Formatter<W>) -> fmt::Result {
+        match self {
+            SelectorError::Syntax { at } => write!(
+                f,
+                "M4: the first {at} bytes may begin a selector, and no more of the text"
+            ),
+            SelectorError::Empty => write!(f, "M6: a selector has at least one matcher"),
+            SelectorError::TooMany => write!(f, "M5: a selector has at most 16 matchers"),
+            SelectorError::PatternTooLong => write!(f, "M3: a pattern has at most 256 bytes"),
+            SelectorError::PatternRefused => write!(
+                f,
+                "M2: a pattern is no regular expression, or too big a one"
+            ),
+            SelectorError::Memory => write!(f, "no memory"),
+        }
+    }
+}
+
+impl Error for SelectorError {}
 
 impl From<AllocError> for SelectorError {
     ghost use Rattle.std.specs.Prelude.{◌≡◌};

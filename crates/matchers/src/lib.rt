@@ -1,12 +1,23 @@
 //! What is asked of label sets: matchers, and queries of several matchers over a range of times.
 //!
-//! A matcher names a label and says which of its values it accepts; contracts see it as its name, its operator and its
-//! text, and `specs/Satisfies.antt` says what it accepts. A label set satisfies it where it accepts the value that the
-//! name has there, an absent label counting as the empty text. It stands on `labels`, and on `regex` for patterns; a
-//! [`Tester`] makes the search of a pattern once for many values. The operators are those of Prometheus's selectors.
+//! A [`Matcher`] names a label and says by its [`Op`] and its text which of the label's values it
+//! accepts; a label set satisfies it where it accepts the value that the name has there, an
+//! absent label counting as the empty text. A [`Tester`] makes the search of a pattern once for
+//! many values. [`Selector::parse`] reads the matchers of a text, and a [`Query`] is matchers
+//! with a closed range of times. [`MatcherError`], [`SelectorError`] and [`QueryError`] say why
+//! one is refused.
 //!
-//! [`Selector::parse`] reads the matchers of a text. `specs/Grammar.antt` says which texts stand for which matchers,
-//! apart from how they are read.
+//! ```
+//! let alloc = rt.alloc();
+//! let matchers = Selector::parse(alloc, "up{job=~\"a|b\"}")?;
+//! assert_eq!(rt; matchers.len(), 2);
+//! assert_eq!(rt; matchers[1].accepts(alloc, "b"), Ok(true));
+//! assert_eq!(rt; matchers[1].accepts(alloc, "ab"), Ok(false));
+//! ```
+//!
+//! `specs/Satisfies.antt` says what a matcher accepts, and `specs/Grammar.antt` which texts stand
+//! for which matchers, apart from how they are read. It stands on `labels`, and on `regex` for
+//! patterns. The operators are those of Prometheus's selectors.
 #![tactic(auto)]
 
 mod error;

@@ -39,8 +39,10 @@ impl Test {
         ensures text { IfOk result (λ t. text_of t ≡ string_bytes text) }
         ensures read { OnOk result (takes_pattern op ≡ true → IsPattern (string_bytes text)) }
         ensures not_name { IsErrOf result MatcherError.BadName → ⊥ }
-        ensures too_long { IsErrOf result MatcherError.PatternTooLong ↔ ((takes_pattern op ≡ true) × (256 < length (string_bytes text))) }
-        ensures refused { IsErrOf result MatcherError.PatternRefused → (takes_pattern op ≡ true) × IsRefusedPattern (string_bytes text) }
+        ensures too_long { IsErrOf result MatcherError.PatternTooLong
+            ↔ ((takes_pattern op ≡ true) × (256 < length (string_bytes text))) }
+        ensures refused { IsErrOf result MatcherError.PatternRefused
+            → (takes_pattern op ≡ true) × IsRefusedPattern (string_bytes text) }
         ensures memory { IsErrOf result MatcherError.Memory → takes_pattern op ≡ true }
     {
         match op {
@@ -98,22 +100,27 @@ impl Model for Matcher {
 
     ghost use Rattle.matchers.specs.Tests.{op_of, text_of};
 
-    ghost view = { λ m. record { name = string_bytes m.name; op = op_of m.test; text = text_of m.test } };
+    ghost view = { λ m.
+        record { name = string_bytes m.name; op = op_of m.test; text = text_of m.test } };
 }
 
 impl Matcher {
     /// The matcher of these.
     ///
-    /// `M1` where the name is not of the form `[a-zA-Z_][a-zA-Z0-9_]*`. For `=~` and `!~` then `M3` where the pattern
-    /// has more than 256 bytes, and `M2` where `regex` refuses the pattern or `^(?s:pattern)$` for another cause than
-    /// memory. What is too big for `regex` is its own word, so `M2` is not told beforehand.
+    /// `M1` where the name is not of the form `[a-zA-Z_][a-zA-Z0-9_]*`. For `=~` and `!~` then
+    /// `M3` where the pattern has more than 256 bytes, and `M2` where `regex` refuses the pattern
+    /// or `^(?s:pattern)$` for another cause than memory. What is too big for `regex` is its own
+    /// word, so `M2` is not told beforehand.
     pub fn new(alloc: Global, name: String, op: Op, text: String) -> Result<Matcher, MatcherError>
-        ensures ok { IfOk result (λ m. m ≡ record { name = string_bytes name; op = op; text = string_bytes text }) }
+        ensures ok { IfOk result (λ m.
+            m ≡ record { name = string_bytes name; op = op; text = string_bytes text }) }
         ensures named { OnOk result (is_name (string_bytes name) ≡ true) }
         ensures read { OnOk result (takes_pattern op ≡ true → IsPattern (string_bytes text)) }
-        ensures bad_name { IsErrOf result MatcherError.BadName ↔ (is_name (string_bytes name) ≡ false) }
+        ensures bad_name { IsErrOf result MatcherError.BadName
+            ↔ (is_name (string_bytes name) ≡ false) }
         ensures too_long { IsErrOf result MatcherError.PatternTooLong
-            ↔ ((is_name (string_bytes name) ≡ true) × (takes_pattern op ≡ true) × (256 < length (string_bytes text))) }
+            ↔ ((is_name (string_bytes name) ≡ true) × (takes_pattern op ≡ true)
+            × (256 < length (string_bytes text))) }
         ensures refused { IsErrOf result MatcherError.PatternRefused
             → (takes_pattern op ≡ true) × IsRefusedPattern (string_bytes text) }
         ensures memory { IsErrOf result MatcherError.Memory → takes_pattern op ≡ true }
@@ -146,8 +153,8 @@ impl Matcher {
         self.test.text()
     }
 
-    /// Whether it accepts a value; the empty text stands for an absent label. For many values take a [`Tester`].
-    /// Memory is taken only for a pattern.
+    /// Whether it accepts a value; the empty text stands for an absent label. For many values
+    /// take a [`Tester`]. Memory is taken only for a pattern.
     pub fn accepts(&self, alloc: Global, value: &str) -> Result<bool, AllocError>
         ensures meaning { IfOk result (λ yes. yes ≡ accepts_text self.now value.now) }
         ensures memory { OnErr result (takes_pattern self.now.op ≡ true) }
@@ -156,7 +163,8 @@ impl Matcher {
         Ok(tester.accepts(value))
     }
 
-    /// The same test for many values: a pattern's search is made once. Memory is taken only for a pattern.
+    /// The same test for many values: a pattern's search is made once. Memory is taken only for a
+    /// pattern.
     pub fn tester(&self, alloc: Global) -> Result<Tester<'_>, AllocError>
         ensures same { IfOk result (λ t. t ≡ self.now) }
         ensures memory { OnErr result (takes_pattern self.now.op ≡ true) }

@@ -71,13 +71,16 @@ fn build_anchored(alloc: Global, text: &str) -> Result<Regex, MatcherError>
 }
 
 impl Pattern {
-    /// The pattern of a text: `M3` above 256 bytes, then `M2` where `regex` builds not both the text and `^(?s:text)$`.
+    /// The pattern of a text: `M3` above 256 bytes, then `M2` where `regex` builds not both the
+    /// text and `^(?s:text)$`.
     pub fn new(alloc: Global, text: String) -> Result<Pattern, MatcherError>
         ensures ok { IfOk result (λ p. p ≡ string_bytes text) }
         ensures read { OnOk result (IsPattern (string_bytes text)) }
         ensures not_name { IsErrOf result MatcherError.BadName → ⊥ }
-        ensures too_long { IsErrOf result MatcherError.PatternTooLong ↔ (256 < length (string_bytes text)) }
-        ensures refused { IsErrOf result MatcherError.PatternRefused → IsRefusedPattern (string_bytes text) }
+        ensures too_long { IsErrOf result MatcherError.PatternTooLong
+            ↔ (256 < length (string_bytes text)) }
+        ensures refused { IsErrOf result MatcherError.PatternRefused
+            → IsRefusedPattern (string_bytes text) }
     {
         if text.len() > MAX_PATTERN_BYTES {
             return Err(MatcherError::PatternTooLong);

@@ -38,14 +38,17 @@ fn is_range(from: i64, to: i64) -> bool
 }
 
 impl Query {
-    /// The query of these matchers from one time to another, both ends in the range, in milliseconds.
+    /// The query of these matchers from one time to another, both ends in the range, in
+    /// milliseconds.
     ///
-    /// `Q1` where the range ends before it begins or one end is not in [`MIN_TIME`] to [`MAX_TIME`], then `Q2` where
-    /// there are more than [`MAX_MATCHERS`] matchers.
+    /// `Q1` where the range ends before it begins or one end is not in [`MIN_TIME`] to
+    /// [`MAX_TIME`], then `Q2` where there are more than [`MAX_MATCHERS`] matchers.
     pub fn new(matchers: Vec<Matcher>, from: i64, to: i64) -> Result<Query, QueryError>
-        ensures ok { IfOk result (λ q. q ≡ record { matchers = matchers.items; from = from; to = to }) }
+        ensures ok { IfOk result (λ q.
+            q ≡ record { matchers = matchers.items; from = from; to = to }) }
         ensures bad_range { IsErrOf result QueryError.BadRange ↔ (is_range from to ≡ false) }
-        ensures too_many { IsErrOf result QueryError.TooManyMatchers ↔ ((is_range from to ≡ true) × (16 < length matchers.items)) }
+        ensures too_many { IsErrOf result QueryError.TooManyMatchers
+            ↔ ((is_range from to ≡ true) × (16 < length matchers.items)) }
     {
         if !is_range(from, to) {
             return Err(QueryError::BadRange);

@@ -26,7 +26,8 @@ impl Model for Part {
 
     ghost Value = { MatcherView };
 
-    ghost view = { λ p. record { name = string_bytes p.name; op = p.op; text = string_bytes p.text } };
+    ghost view = { λ p.
+        record { name = string_bytes p.name; op = p.op; text = string_bytes p.text } };
 }
 
 impl Part {
@@ -60,7 +61,8 @@ impl Model for Reading {
 
     ghost Value = { Progress };
 
-    ghost view = { λ r. record { done = r.parts.items; name = string_bytes r.name; text = string_bytes r.text } };
+    ghost view = { λ r.
+        record { done = r.parts.items; name = string_bytes r.name; text = string_bytes r.text } };
 }
 
 impl Reading {
@@ -150,10 +152,11 @@ pub struct Selector;
 impl Selector {
     /// The matchers of a text.
     ///
-    /// Refusals, the first that holds: `M4` where the text is none of the language, with the length in bytes of its
-    /// longest beginning that also begins one; `M6` where it has no matcher; `M5` where it has more than
-    /// [`MAX_MATCHERS`]; then, by the first matcher at fault, `M3` or `M2` as of [`Matcher::new`]. The time is linear
-    /// in the length of the text, beside what `regex` takes for at most 16 patterns.
+    /// Refusals, the first that holds: `M4` where the text is none of the language, with the
+    /// length in bytes of its longest prefix that also begins one; `M6` where it has no matcher;
+    /// `M5` where it has more than [`MAX_MATCHERS`]; then, by the first matcher at fault, `M3` or
+    /// `M2` as of [`Matcher::new`]. The time is linear in the length of the text, beside what
+    /// `regex` takes for at most 16 patterns.
     pub fn parse(alloc: Global, text: &str) -> Result<Vec<Matcher>, SelectorError>
         ensures ok { IfOk result (λ v. IsSelector text.now v.items) }
         ensures some { IfOk result (λ v. 0 < length v.items) }

@@ -45,6 +45,16 @@ const MATCHERS: &[(&str, Op, &str, &str)] = &[
 ];
 
 #[test]
+fn the_example_of_the_first_page(rt: HostRuntime) -> Result<(), SelectorError> {
+    let alloc = rt.alloc();
+    let matchers = Selector::parse(alloc, "up{job=~\"a|b\"}")?;
+    assert_eq!(rt; matchers.len(), 2);
+    assert_eq!(rt; matchers[1].accepts(alloc, "b"), Ok(true));
+    assert_eq!(rt; matchers[1].accepts(alloc, "ab"), Ok(false));
+    Ok(())
+}
+
+#[test]
 fn a_matcher_is_refused_by_its_first_fault(rt: HostRuntime) {
     let alloc = rt.alloc();
     let other = MATCHERS

@@ -1,8 +1,8 @@
 use Rattle.std.proofs.Common.{◌<◌, ◌≤◌, true, false, length, refl, arith}
 use Rattle.labels.specs.Pairs.{pairs_of}
-use Rattle.labels.proofs.NamedPairs.{IsMadeOf-valued, length-pairs_of}
+use Rattle.labels.proofs.NamedPairs.{IsMadeOf-with_values, length-pairs_of}
 use Rattle.labels.proofs.Refusals.{named_of, repeats_of, by_name_of, refusal-repeated, refusal-limit, refusal-none}
-use Rattle.labels.proofs.making.checked.Goals as goal
+use Rattle.labels.proofs.making.check.Goals as goal
 
 pub returns-then-repeats-clause-refused : goal.returns-then-repeats-clause-refused
 returns-then-repeats-clause-refused c =
@@ -47,4 +47,4 @@ returns-clause-made c =
     let kept = c.drop_empty.new.pairs in
     let few : length (pairs_of kept.items) ≤ 64 = omega (arith, length-pairs_of kept.items, kept.ok, c.len.ensures, c.if-len-gt-MAX_LABELS.false) in
     rw (refusal-none _ (pairs_of c.sort.new.pairs.items) (pairs_of kept.items) named c.sort.ensures.same once c.drop_empty.ensures few)
-    (IsMadeOf-valued (pairs_of c.args.pairs.items) (pairs_of c.sort.new.pairs.items) (pairs_of kept.items) named c.sort.ensures.same (by_name_of _ _ c.deref-2.ensures.value c.if-repeats.ensures.by_name) c.drop_empty.ensures few)
+    (IsMadeOf-with_values (pairs_of c.args.pairs.items) (pairs_of c.sort.new.pairs.items) (pairs_of kept.items) named c.sort.ensures.same (by_name_of _ _ c.deref-2.ensures.value c.if-repeats.ensures.by_name) c.drop_empty.ensures few)
