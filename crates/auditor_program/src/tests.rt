@@ -7,12 +7,13 @@ mod worked_block;
 
 use crate::run::{Ending, run};
 use host::Blocks;
-use replies::{
-    BAD, EMPTY, FROM_LYING_LISTS, NO_PARTS, Pieces, REPLY, SKIPPED, TWICE, Text, UNSEPARATED,
-};
+use replies::{BAD, EMPTY, FROM_LYING_LISTS, NO_PARTS, REPLY, SKIPPED, TWICE, Text, UNSEPARATED};
 use std::alloc::Global;
 
-const ASKED: &[&str] = &[
+/// The words after the program's name.
+type Words = &'static [&'static str];
+
+const ASKED: Words = &[
     "--selector",
     "up{job=\"a\"}",
     "--from=0",
@@ -20,11 +21,11 @@ const ASKED: &[&str] = &[
     "data",
 ];
 
-const NO_DIRECTORY: &[&str] = &["--selector", "up{job=\"a\"}", "--from=0", "--to=100"];
+const NO_DIRECTORY: Words = &["--selector", "up{job=\"a\"}", "--from=0", "--to=100"];
 
-const TWO: &[&str] = &["--selector", "up{job=\"a\"}", "data", "data"];
+const TWO: Words = &["--selector", "up{job=\"a\"}", "data", "data"];
 
-const SILENT: &[&str] = &[
+const SILENT: Words = &[
     "--selector",
     "up{job=\"a\"}",
     "--from=20",
@@ -32,23 +33,21 @@ const SILENT: &[&str] = &[
     "data",
 ];
 
-const DAMAGED: &[&str] = &["--selector", "up{job=\"a\"}", "damaged"];
+const DAMAGED: Words = &["--selector", "up{job=\"a\"}", "damaged"];
 
-const OTHER_LIST: &[&str] = &["--selector", "up{job=\"a\"}", "other-list"];
+const OTHER_LIST: Words = &["--selector", "up{job=\"a\"}", "other-list"];
 
-const OTHER_OFFSET: &[&str] = &["--selector", "up{job=\"a\"}", "other-offset"];
+const OTHER_OFFSET: Words = &["--selector", "up{job=\"a\"}", "other-offset"];
 
-const STORED: &[&str] = &["--selector", "up"];
+const STORED: Words = &["--selector", "up"];
 
-const NO_INDEX: &[&str] = &["--selector", "up{job=\"a\"}", "none"];
+const NO_INDEX: Words = &["--selector", "up{job=\"a\"}", "none"];
 
-const NO_CHUNKS: &[&str] = &["--selector", "up{job=\"a\"}", "index-alone"];
+const NO_CHUNKS: Words = &["--selector", "up{job=\"a\"}", "index-alone"];
 
-const NO_TOMBSTONES: &[&str] = &["--selector", "up{job=\"a\"}", "no-tombstones"];
+const NO_TOMBSTONES: Words = &["--selector", "up{job=\"a\"}", "no-tombstones"];
 
-const SECOND_MISSING: &[&str] = &["--selector", "up{job=\"a\"}", "data", "none"];
-
-type Words = &'static [&'static str];
+const SECOND_MISSING: Words = &["--selector", "up{job=\"a\"}", "data", "none"];
 
 /// Words, the reply, the exit status, and what goes to the first and to the second writer.
 type Row = (Words, Text, u8, &'static str, &'static str);
@@ -211,7 +210,7 @@ struct Told {
     err: Vec<u8>,
 }
 
-fn words_of(alloc: Global, words: &[&str]) -> Option<Vec<String>> {
+fn words_of(alloc: Global, words: Words) -> Option<Vec<String>> {
     let mut all = Vec::new(alloc);
     for word in words {
         all.push(String::from_str(alloc, word).ok()?).ok()?;
@@ -219,7 +218,7 @@ fn words_of(alloc: Global, words: &[&str]) -> Option<Vec<String>> {
     Some(all)
 }
 
-fn text_of(alloc: Global, pieces: &[Pieces]) -> Option<String> {
+fn text_of(alloc: Global, pieces: Text) -> Option<String> {
     let mut text = String::new(alloc);
     for group in pieces {
         for piece in *group {
@@ -229,7 +228,7 @@ fn text_of(alloc: Global, pieces: &[Pieces]) -> Option<String> {
     Some(text)
 }
 
-fn told_by(alloc: Global, words: &[&str], reply: &[Pieces]) -> Option<Told> {
+fn told_by(alloc: Global, words: Words, reply: Text) -> Option<Told> {
     let words = words_of(alloc, words)?;
     let reply = text_of(alloc, reply)?;
     let mut input = reply.as_bytes();
@@ -295,7 +294,7 @@ const OTHER_WORDS: &[Words] = &[
 ];
 
 fn are_other_words(alloc: Global, words: &Words) -> bool {
-    told_by(alloc, words, EMPTY).is_some_and(|told| {
+    told_by(alloc, *words, EMPTY).is_some_and(|told| {
         told.ending.status == 2 && told.out.is_empty() && !told.err.is_empty()
     })
 }
