@@ -55,29 +55,46 @@ fn rows_of(alloc: Global, listed: Rows) -> Option<Vec<Row>> {
     Some(rows)
 }
 
-/// What an audit of these rows as those of two answers tells.
-fn told(alloc: Global, first: Rows, second: Rows, rows: Rows) -> Option<Result<(), AuditError>> {
-    let first = answer(alloc, &[], &[], rows_of(alloc, first)?)?;
-    let second = answer(alloc, &[], &[], rows_of(alloc, second)?)?;
+/// The rows of two answers, rows that are said to be those of both, and whether they are.
+type Merge = (Rows, Rows, Rows, bool);
+
+const MERGES: &[Merge] = &[
+    (FIRST, SECOND, RIGHT, true),
+    (SECOND, FIRST, RIGHT, false),
+    (SECOND, FIRST, EARLIER, true),
+    (NONE, NONE, NONE, true),
+    (FIRST, SECOND, NONE, false),
+    (FIRST, SECOND, FIRST, false),
+    (FIRST, SECOND, SECOND, false),
+    (FIRST, SECOND, EARLIER, false),
+    (FIRST, SECOND, TWICE, false),
+    (FIRST, SECOND, UNORDERED, false),
+    (FIRST, SECOND, WITH_EMPTY, false),
+];
+
+/// What an audit of the rows tells.
+fn told_of(alloc: Global, merge: &Merge) -> Option<Result<(), AuditError>> {
+    let first = answer(alloc, &[], &[], rows_of(alloc, merge.0)?)?;
+    let second = answer(alloc, &[], &[], rows_of(alloc, merge.1)?)?;
     let answers = [first, second];
-    let rows = rows_of(alloc, rows)?;
+    let rows = rows_of(alloc, merge.2)?;
     Some(audit_merge(alloc, &answers, rows.as_slice()))
 }
 
-/// Rows that are not those of both answers.
-const WRONG: &[Rows] = &[NONE, FIRST, SECOND, EARLIER, TWICE, UNORDERED, WITH_EMPTY];
+fn is_told(alloc: Global, merge: &Merge) -> bool {
+    match told_of(alloc, merge) {
+        Some(Ok(())) => merge.3,
+        Some(Err(AuditError::Flaw(Flaw::WrongMerge))) => !merge.3,
+        _ => false,
+    }
+}
+
+/// The first that is answered in another way.
+fn first_other(alloc: Global, merges: &'static [Merge]) -> Option<&'static Merge> {
+    merges.iter().find(|merge| !is_told(alloc, merge))
+}
 
 #[test]
 fn the_value_listed_last_stands(rt: HostRuntime) {
-    let alloc = rt.alloc();
-    let wrong = Some(Err(AuditError::Flaw(Flaw::WrongMerge)));
-    assert!(rt; told(alloc, FIRST, SECOND, RIGHT) == Some(Ok(())));
-    assert!(rt; told(alloc, SECOND, FIRST, RIGHT) == wrong);
-    assert!(rt; told(alloc, SECOND, FIRST, EARLIER) == Some(Ok(())));
-    assert!(rt; told(alloc, NONE, NONE, NONE) == Some(Ok(())));
-    assert!(rt;
-        WRONG
-            .iter()
-            .all(|rows| told(alloc, FIRST, SECOND, rows) == wrong)
-    );
+    assert!(rt; first_other(rt.alloc(), MERGES).is_none());
 }

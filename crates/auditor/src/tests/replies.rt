@@ -99,10 +99,11 @@ fn push_all(text: &mut String, pieces: &[Pieces]) -> Option<()> {
     Some(())
 }
 
-/// The reply of the text with these pieces and what follows.
-fn reply_of(alloc: Global, pieces: &[Pieces], rest: &[Pieces]) -> Option<Reply> {
+/// The reply of the text with all these pieces.
+fn reply_of(alloc: Global, begin: &[Pieces], blocks: &[Pieces], rest: &[Pieces]) -> Option<Reply> {
     let mut text = String::new(alloc);
-    push_all(&mut text, pieces)?;
+    push_all(&mut text, begin)?;
+    push_all(&mut text, blocks)?;
     push_all(&mut text, rest)?;
     Reply::read(alloc, text.as_bytes()).ok()
 }
@@ -291,7 +292,7 @@ fn worked_rows(alloc: Global) -> Option<Vec<Row>> {
 }
 
 fn is_worked_reply(alloc: Global) -> Option<bool> {
-    let reply = reply_of(alloc, HEAD_ALONE, &[])?;
+    let reply = reply_of(alloc, HEAD_ALONE, &[], &[])?;
     let rows = worked_rows(alloc)?;
     let told = reply
         .parts
@@ -308,10 +309,7 @@ fn the_worked_answer_is_read(rt: HostRuntime) {
 
 /// The lines of a reply with these blocks, the head and both rows.
 fn lines(alloc: Global, tables: &[BlockTable], blocks: &[Pieces]) -> Option<String> {
-    let mut pieces = Vec::new(alloc);
-    pieces.push(PARTS).ok()?;
-    pieces.extend_from_slice(blocks).ok()?;
-    let reply = reply_of(alloc, pieces.as_slice(), REST)?;
+    let reply = reply_of(alloc, &[PARTS], blocks, REST)?;
     let query = query(alloc, 0, 100)?;
     let lines = judge(alloc, tables, &query, reply).ok()?;
     lines_text(alloc, lines.as_slice()).ok()
@@ -395,10 +393,13 @@ fn is_lined(alloc: Global, lined: &Lined) -> Option<bool> {
     Some(found.as_str() == lined.2)
 }
 
+/// The first that has other lines.
+fn first_other(alloc: Global, rows: &'static [Lined]) -> Option<&'static Lined> {
+    rows.iter()
+        .find(|lined| is_lined(alloc, lined) != Some(true))
+}
+
 #[test]
 fn each_part_has_its_line(rt: HostRuntime) {
-    let other = LINED
-        .iter()
-        .find(|lined| is_lined(rt.alloc(), lined) != Some(true));
-    assert!(rt; other.is_none());
+    assert!(rt; first_other(rt.alloc(), LINED).is_none());
 }

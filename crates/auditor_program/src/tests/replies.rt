@@ -1,7 +1,10 @@
 //! Replies to `up{job="a"}`, in pieces.
 
-/// A text in pieces.
+/// A piece of a text, in pieces.
 pub type Pieces = &'static [&'static str];
+
+/// A text in pieces.
+pub type Text = &'static [Pieces];
 
 const PARTS: Pieces = &["{\"parts\":["];
 
@@ -65,7 +68,7 @@ pub const FROM_LYING_LISTS: &[Pieces] = &[&[
 
 /// Texts that are no reply: no JSON, JSON of another shape, and numbers, names and labels that are
 /// none.
-pub const BAD: &[&[Pieces]] = &[
+pub const BAD: &[Text] = &[
     &[],
     &[&["{\"parts\":[],\"rows\":[]} x"]],
     &[&["{\"parts\":[],\"rows\":["]],
