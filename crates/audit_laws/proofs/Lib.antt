@@ -1,2 +1,4 @@
+pub mod Answered
+pub mod MergedRows
 pub mod Indexed
 pub mod Walked
