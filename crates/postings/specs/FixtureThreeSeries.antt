@@ -1,5 +1,6 @@
 -- A part of three series for tests: 1 of job a, 2 of job b, and 3 of no job.
 use Rattle.std.proofs.Common.{◌≡◌, ℕ, zero, suc, ◌+◌, ◌<◌, Bool, true, false, cond, List, [], ◌∷◌, get_or, refl, sym, ◌∙◌, ap, subst, T, lit<, arith}
+use Rattle.std.specs.Prelude.{codes}
 use Rattle.std.specs.List.{Contains}
 use Rattle.std.specs.List.Sorted.{IsStrictlyIncreasing}
 use Rattle.std.specs.Str.{bytes_eq}
@@ -13,13 +14,13 @@ use Rattle.labels.specs.Parts.{Part, carries, IsPart}
 use Rattle.postings.specs.Values.{AreValuesOf}
 
 abbrev pub job : List ℕ
-job = 106 ∷ 111 ∷ 98 ∷ []
+job = codes "job"
 
 abbrev pub a : List ℕ
-a = 97 ∷ []
+a = codes "a"
 
 abbrev pub b : List ℕ
-b = 98 ∷ []
+b = codes "b"
 
 abbrev pub first : ℕ × Row
 first = (1, ((job, a) ∷ [], []))

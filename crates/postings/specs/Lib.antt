@@ -1,4 +1,5 @@
 pub mod Values
 pub mod Differing
-pub mod ThreeSeries
+pub mod FixtureThreeSeries
+pub mod Laws
 pub mod Standing

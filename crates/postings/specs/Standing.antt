@@ -1,10 +1,8 @@
 -- Lists in the order of where they stand.
 use Rattle.std.specs.Prelude.{◌≡◌, ℕ, ◌<◌, ◌≤◌, List, None, length, map}
-use Rattle.std.specs.Cmp.{IsTotalOrder}
 use Rattle.std.specs.List.{sum_by}
 use Rattle.std.specs.Ordering.{nat_cmp}
 use Rattle.std.specs.declared.cmp.Ordering.{Ordering}
-use Rattle.std.proofs.lemmas.Cmp.{nat_cmp_total, on_total, back_total}
 use Rattle.labels.specs.Ascending.{first_of, first_or_end, not_below}
 use Rattle.labels.specs.Sets.{union_all}
 
@@ -16,9 +14,6 @@ pub record Begins (first : ℕ) (rs : List ℕ) : Type 0 where
 -- what begins later is less
 abbrev pub earlier : {X : Type 0} → (X → ℕ) → X → X → Ordering
 earlier first a b = nat_cmp (first b) (first a)
-
-pub earlier_total : {X : Type 0} (first : X → ℕ) → IsTotalOrder (earlier first)
-earlier_total first = back_total (on_total first nat_cmp_total)
 
 module _ {X : Type 0} (f : X → List ℕ) where
   -- what stands in some of the lists

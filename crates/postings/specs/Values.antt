@@ -9,10 +9,14 @@ use Rattle.labels.specs.Parts.{Part, carries}
 
 -- strictly in the order of their bytes, so none stands twice
 abbrev pub AreAscending : List (List ℕ) → Type 0
-AreAscending values = (k : ℕ) → k + 1 < length values → text_cmp (get_or values k []) (get_or values (k + 1) []) ≡ Less
+AreAscending values = (k : ℕ) → k + 1 < length values
+    → text_cmp (get_or values k []) (get_or values (k + 1) []) ≡ Less
 
--- the values of a name: in the order of their bytes, each one that a series of the part has, and no other
+-- the values of a name: in the order of their bytes, each one that a series of the part has, and
+-- no other
 pub record AreValuesOf (part : Part) (name : List ℕ) (values : List (List ℕ)) : Type 0 where
   pub ascending : AreAscending values
-  pub carried : (value : List ℕ) → Contains values value → (row : ℕ × Row) × (Contains part row × (carries name value row.1.0 ≡ true))
-  pub present : (row : ℕ × Row) → Contains part row → bytes_eq (value_of row.1.0 name) [] ≡ false → Contains values (value_of row.1.0 name)
+  pub carried : (value : List ℕ) → Contains values value
+      → (row : ℕ × Row) × (Contains part row × (carries name value row.1.0 ≡ true))
+  pub present : (row : ℕ × Row) → Contains part row → bytes_eq (value_of row.1.0 name) [] ≡ false
+      → Contains values (value_of row.1.0 name)

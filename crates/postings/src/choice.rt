@@ -1,3 +1,5 @@
+//! What a matcher chooses from a part.
+
 ghost use Rattle.std.specs.Prelude.{◌≡◌, ◌≢◌, ℕ, List, [], map, IfOk, IsTrue};
 ghost use Rattle.std.specs.Str.{bytes_eq};
 ghost use Rattle.labels.specs.Labels.{value_of};
@@ -13,7 +15,8 @@ use std::alloc::{AllocError, Global};
 /// Whether the text of the matcher is the only value that it treats otherwise than an absent label.
 fn singles_out_its_text(matcher: &Matcher) -> bool
     ensures text { IsTrue result → matcher.now.text ≢ [] }
-    ensures alone { IsTrue result → (value : List ℕ) → differs matcher.now value ≡ bytes_eq value matcher.now.text }
+    ensures alone { IsTrue result → (value : List ℕ)
+        → differs matcher.now value ≡ bytes_eq value matcher.now.text }
 {
     !matcher.text().is_empty() && matches!(matcher.op(), Op::Equal | Op::NotEqual)
 }
@@ -35,7 +38,8 @@ fn lists_of_text<S: Source>(
     Ok(lists)
 }
 
-/// The lists of the values of the name that the matcher treats otherwise than an absent label, found by trying each.
+/// The lists of the values of the name that the matcher treats otherwise than an absent label,
+/// found by trying each.
 fn lists_of_values<S: Source>(
     alloc: Global,
     source: &S,
@@ -45,7 +49,8 @@ fn lists_of_values<S: Source>(
 ) -> Result<Vec<S::List>, AllocError>
     requires { with_absent ≡ accepts_text tester.old [] }
     ensures { IfOk result (λ lists. union_all (map S.List.remaining lists.items)
-        ≡ references_where (λ labels. differs tester.old (value_of labels name.now)) (S.part source.now)) }
+        ≡ references_where (λ labels. differs tester.old (value_of labels name.now))
+        (S.part source.now)) }
 {
     let mut lists = Vec::new(alloc);
     for i in 0..source.value_count(name) {
@@ -81,9 +86,9 @@ fn differing_lists<S: Source>(
 
 /// The series that satisfy the matcher, an absent label counting as the empty text.
 ///
-/// A matcher that compares with a text other than the empty one takes one list of the source. Any other is tried on
-/// each value of its name, a pattern's search being made once for all of them. The room of the answer is made here: its
-/// moves take no memory.
+/// A matcher that compares with a text other than the empty one takes one list of the source. Any
+/// other is tried on each value of its name, a pattern's search being made once for all of them.
+/// The room of the answer is made here: its moves take no memory.
 pub fn choose<S: Source>(
     alloc: Global,
     source: &S,

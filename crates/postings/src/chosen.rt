@@ -1,3 +1,5 @@
+//! The list that a matcher chooses.
+
 use crate::{Postings, Union, Without};
 use labels::SeriesRef;
 
@@ -50,11 +52,13 @@ where
 
     ghost ascending = { elim [
       | Listed u ↦ bound-2.ascending u
-      | AllBut w ↦ difference-rises (P.remaining w.list) (bound-2.remaining w.out) (P.ascending w.list)
+      | AllBut w ↦
+          difference-rises (P.remaining w.list) (bound-2.remaining w.out) (P.ascending w.list)
     ] };
 
     ghost two_seeks = { elim [
       | Listed u ↦ λ a b. not_below-twice a b (bound-2.remaining u)
-      | AllBut w ↦ λ a b. not_below-twice a b (difference (P.remaining w.list) (bound-2.remaining w.out))
+      | AllBut w ↦ λ a b.
+          not_below-twice a b (difference (P.remaining w.list) (bound-2.remaining w.out))
     ] };
 }

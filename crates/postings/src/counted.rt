@@ -1,3 +1,5 @@
+//! Lists that count their moves.
+
 ghost use Rattle.std.specs.Prelude.{◌≡◌, ℕ, ◌+◌, ◌^◌, ◌-◌, min};
 ghost use Rattle.labels.specs.Ascending.{rest_of, not_below};
 
@@ -5,7 +7,8 @@ use crate::Postings;
 use labels::SeriesRef;
 use std::marker::Model;
 
-/// A list that counts its moves: one for each `advance` or `seek`. It is seen as the list below and the count.
+/// A list that counts its moves: one for each `advance` or `seek`. It is seen as the list below
+/// and the count.
 #[derive(Drop)]
 pub struct Counted<P> {
     list: P,

@@ -1,13 +1,25 @@
-//! Lists of references that only go forward, the parts that lend them, and what a matcher chooses from a part.
+//! Lists of references that only go forward, the parts that lend them, and what a matcher chooses
+//! from a part.
 //!
-//! A list ([`Postings`]) is seen as the ascending references that remain: `seek` leaves exactly those not below its
-//! target. A part ([`Source`]) lends the list of all its series, of those with a value of a name, and of those with a
-//! sample in a range. [`Union`], [`Without`] and [`Chosen`] are lists made of lists, [`SliceList`] is one over a slice,
-//! and [`Counted`] counts the moves of another. [`choose`] lists exactly the series that satisfy a matcher.
+//! A list ([`Postings`]) is seen as the ascending references that remain: `seek` leaves exactly
+//! those not below its target. A part ([`Source`]) lends the list of all its series, of those
+//! with a value of a name, and of those with a sample in a range. [`Union`], [`Without`] and
+//! [`Chosen`] are lists made of lists, [`SliceList`] is one over a slice, and [`Counted`] counts
+//! the moves of another. [`choose`] lists exactly the series that satisfy a matcher.
 //!
-//! It stands on `labels` (what a part is, and the words for lists and sets) and on `matchers` (what a matcher accepts).
-//! The names are those of Prometheus's tsdb. That the work of a query is counted in moves of such lists follows Barbay
-//! and Kenyon, "Adaptive intersection and t-threshold problems" (SODA 2002).
+//! ```
+//! let odd = [SeriesRef::new(1), SeriesRef::new(5), SeriesRef::new(9)];
+//! assert!(rt; SliceList::is_ascending(&odd));
+//! let mut list = Counted::new(SliceList::new(&odd));
+//! list.seek(SeriesRef::new(4));
+//! assert_eq!(rt; list.current(), Some(SeriesRef::new(5)));
+//! assert_eq!(rt; list.moves(), 1);
+//! ```
+//!
+//! It stands on `labels` (what a part is, and the words for lists and sets) and on `matchers`
+//! (what a matcher accepts). The names are those of Prometheus's tsdb. That the work of a query
+//! is counted in moves of such lists follows Barbay and Kenyon, "Adaptive intersection and
+//! t-threshold problems" (SODA 2002).
 #![tactic(auto)]
 
 mod choice;
@@ -50,8 +62,8 @@ pub trait Postings {
     fn advance(&mut self)
         ensures { remaining self.new ≡ rest_of (remaining self.old) };
 
-    /// Goes on to the first reference that is not below the target, and no farther. A target behind the list's place
-    /// moves nothing.
+    /// Goes on to the first reference that is not below the target, and no farther. A target
+    /// before the list's place moves nothing.
     fn seek(&mut self, target: SeriesRef)
         ensures { remaining self.new ≡ not_below target (remaining self.old) };
 
@@ -63,7 +75,8 @@ pub trait Postings {
         → not_below b (not_below a (remaining list)) ≡ not_below (max a b) (remaining list) };
 }
 
-/// A part, seen as its references with their label sets and their undeleted samples. It lends lists of references.
+/// A part, seen as its references with their label sets and their undeleted samples. It lends
+/// lists of references.
 pub trait Source {
     type List: Postings + Drop;
 
@@ -80,14 +93,17 @@ pub trait Source {
 
     /// The series with this value of a name, `None` where there is none. Takes no memory.
     fn list(&self, name: &str, value: &str) -> Option<Self::List>
-        ensures none { IfNone result (references_where (carries name.now value.now) (part self.now) ≡ []) }
+        ensures none { IfNone result
+            (references_where (carries name.now value.now) (part self.now) ≡ []) }
         ensures listed { IfSome result (λ list. Self.List.remaining list
             ≡ references_where (carries name.now value.now) (part self.now)) }
-        ensures some { IfSome result (λ list. references_where (carries name.now value.now) (part self.now) ≡ [] → ⊥) };
+        ensures some { IfSome result (λ list.
+            references_where (carries name.now value.now) (part self.now) ≡ [] → ⊥) };
 
     /// The series with an undeleted sample in the closed range of times, in milliseconds.
     fn live(&self, alloc: Global, from: i64, to: i64) -> Result<Self::Live, AllocError>
-        ensures { IfOk result (λ list. Self.Live.remaining list ≡ live_references from to (part self.now)) };
+        ensures { IfOk result (λ list.
+            Self.Live.remaining list ≡ live_references from to (part self.now)) };
 
     /// How many values a name has. Takes no memory.
     fn value_count(&self, name: &str) -> usize
@@ -100,5 +116,6 @@ pub trait Source {
 
     ghost is_part: { (source : Self) → IsPart (part source) };
 
-    ghost are_values: { (source : Self) (name : List ℕ) → AreValuesOf (part source) name (values source name) };
+    ghost are_values: { (source : Self) (name : List ℕ)
+        → AreValuesOf (part source) name (values source name) };
 }

@@ -1,3 +1,5 @@
+//! The names of parts.
+
 /// The name of a part among those that a query searches.
 #[derive(Clone, Copy, Debug, PartialEq, Eq, Drop)]
 pub enum PartName {

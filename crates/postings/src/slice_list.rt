@@ -1,3 +1,5 @@
+//! Lists over slices.
+
 ghost use Rattle.std.specs.Prelude.{◌≡◌, ◌↔◌, ℕ, ◌<◌, ◌≤◌, length, slice_index, IsTrue};
 ghost use Rattle.std.specs.List.Sorted.{IsStrictlyIncreasing};
 ghost use Rattle.labels.proofs.Lists.{not_below-twice};
@@ -6,7 +8,8 @@ use crate::Postings;
 use labels::SeriesRef;
 use std::cmp::min;
 
-/// A list over a slice. A seek over `n` references takes a number of steps that grows with the logarithm of `n`.
+/// A list over a slice. A seek over `n` references takes a number of steps that grows with the
+/// logarithm of `n`.
 #[derive(Drop)]
 pub struct SliceList<'a> {
     rest: &'a [SeriesRef],
@@ -30,8 +33,8 @@ impl<'a> SliceList<'a> {
     }
 }
 
-/// A place at which no reference is below the target, or the end. It is found in doubled steps, so it is at most about
-/// twice as far as the first such place.
+/// A place at which no reference is below the target, or the end. It is found in doubled steps,
+/// so it is at most about twice as far as the first such place.
 fn place_past(list: &[SeriesRef], target: SeriesRef) -> usize
     ensures within { result ≤ length list.now }
     ensures above { result < length list.now → target ≤ slice_index list.now result }

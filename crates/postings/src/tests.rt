@@ -1,3 +1,5 @@
+//! Lists by worked rows, over a part of three series.
+
 use crate::three_series::ThreeSeries;
 use crate::{Counted, Postings, SliceList, Union, Without, choose};
 use labels::SeriesRef;
@@ -115,6 +117,16 @@ fn a_difference_leaves_out_the_second_list(rt: HostRuntime) -> Result<(), Fail> 
         assert!(rt; leaves(list, left));
     }
     Ok(())
+}
+
+#[test]
+fn the_example_of_the_first_page(rt: HostRuntime) {
+    let odd = [SeriesRef::new(1), SeriesRef::new(5), SeriesRef::new(9)];
+    assert!(rt; SliceList::is_ascending(&odd));
+    let mut list = Counted::new(SliceList::new(&odd));
+    list.seek(SeriesRef::new(4));
+    assert_eq!(rt; list.current(), Some(SeriesRef::new(5)));
+    assert_eq!(rt; list.moves(), 1);
 }
 
 #[test]

@@ -1,3 +1,5 @@
+//! A part of three series, with the lists that it lends.
+
 ghost use Rattle.std.specs.Prelude.{◌≡◌, [], ◌∷◌};
 
 use crate::{SliceList, Source};
@@ -24,7 +26,7 @@ impl<'a> Source for &'a ThreeSeries {
 
     type Live = SliceList<'a>;
 
-    ghost use Rattle.postings.specs.ThreeSeries.{three_series, values_in, is_part, are_values};
+    ghost use Rattle.postings.specs.FixtureThreeSeries.{three_series, values_in, is_part, are_values};
 
     ghost part = { λ _. three_series };
 

@@ -6,7 +6,8 @@ ghost use Rattle.std.specs.Cmp.{eq_by_cmp_equiv, partial_equiv_from_equiv, parti
 ghost use Rattle.std.specs.Ordering.{eq_by_cmp};
 ghost use Rattle.labels.specs.Ascending.{first_of, rest_of, not_below, first_or_end, or_end};
 ghost use Rattle.labels.specs.Sets.{union_all};
-ghost use Rattle.postings.specs.Standing.{earlier, earlier_total, united, Begins, HasMoved};
+ghost use Rattle.postings.specs.Laws.{earlier_total};
+ghost use Rattle.postings.specs.Standing.{earlier, united, Begins, HasMoved};
 
 use crate::Postings;
 use labels::SeriesRef;
@@ -29,7 +30,8 @@ pub(crate) fn number_or_end(next: Option<SeriesRef>) -> u64
     }
 }
 
-/// A list among others, and where it begins. The one that begins first is the greatest, so that it is the top of a heap.
+/// A list among others, and where it begins. The one that begins first is the greatest, so that
+/// it is the top of a heap.
 #[derive(Drop)]
 struct Standing<P: Postings> {
     first: u64,
@@ -115,10 +117,12 @@ fn begins<P: Postings>(lists: &BinaryHeap<Standing<P>>) -> u64
 /// Moves the list that begins first past its first reference, which is not above the number.
 fn pass_first<P: Postings + Drop>(lists: &mut BinaryHeap<Standing<P>>, number: u64)
     requires heap { IsHeap (earlier (λ s. s.first)) (heap_items lists.old) }
-    requires first { first_or_end (united (λ s. P.remaining s.list) (heap_items lists.old)) ≤ number }
+    requires first { first_or_end (united (λ s. P.remaining s.list) (heap_items lists.old))
+        ≤ number }
     requires within { number < 4294967296 }
     ensures heap { IsHeap (earlier (λ s. s.first)) (heap_items lists.new) }
-    ensures moved { HasMoved (λ s. P.remaining s.list) (suc number) (heap_items lists.old) (heap_items lists.new) }
+    ensures moved { HasMoved (λ s. P.remaining s.list) (suc number)
+        (heap_items lists.old) (heap_items lists.new) }
 {
     if let Some(mut top) = lists.peek_mut() {
         top.advance();
@@ -128,18 +132,20 @@ fn pass_first<P: Postings + Drop>(lists: &mut BinaryHeap<Standing<P>>, number: u
 /// Moves the list that begins first, below the target, to the target.
 fn seek_first<P: Postings + Drop>(lists: &mut BinaryHeap<Standing<P>>, target: SeriesRef)
     requires heap { IsHeap (earlier (λ s. s.first)) (heap_items lists.old) }
-    requires first { first_or_end (united (λ s. P.remaining s.list) (heap_items lists.old)) < target }
+    requires first { first_or_end (united (λ s. P.remaining s.list) (heap_items lists.old))
+        < target }
     requires within { target < 4294967296 }
     ensures heap { IsHeap (earlier (λ s. s.first)) (heap_items lists.new) }
-    ensures moved { HasMoved (λ s. P.remaining s.list) target (heap_items lists.old) (heap_items lists.new) }
+    ensures moved { HasMoved (λ s. P.remaining s.list) target
+        (heap_items lists.old) (heap_items lists.new) }
 {
     if let Some(mut top) = lists.peek_mut() {
         top.seek(target);
     }
 }
 
-/// What stands in some of the lists. The lists stand in a heap, the one that begins first on top: a move takes the
-/// logarithm of their number for each list that it moves, and looks at no other.
+/// What stands in some of the lists. The lists stand in a heap, the one that begins first on top:
+/// a move takes the logarithm of their number for each list that it moves, and looks at no other.
 #[derive(Drop)]
 pub struct Union<P: Postings> {
     lists: BinaryHeap<Standing<P>>,
@@ -159,9 +165,11 @@ impl<P: Postings> Model for Union<P> {
 }
 
 impl<P: Postings + Drop> Union<P> {
-    /// The references that stand in some of the lists. Takes memory for the lists once more; its moves take none.
+    /// The references that stand in some of the lists. Takes memory for the lists once more; its
+    /// moves take none.
     pub fn new(alloc: Global, lists: Vec<P>) -> Result<Union<P>, AllocError>
-        ensures { IfOk result (λ union. ⟦<Union<P> as Postings>⟧.remaining union ≡ union_all (map P.remaining lists.items)) }
+        ensures { IfOk result (λ union.
+            ⟦<Union<P> as Postings>⟧.remaining union ≡ union_all (map P.remaining lists.items)) }
     {
         let mut standing = Vec::with_capacity(alloc, lists.len())?;
         for list in lists {

@@ -1,3 +1,5 @@
+//! The difference of two lists.
+
 ghost use Rattle.std.specs.Prelude.{◌≡◌, ℕ, ◌<◌, Some};
 ghost use Rattle.std.specs.List.{Contains};
 ghost use Rattle.labels.specs.Ascending.{first_of};
@@ -13,7 +15,8 @@ use labels::SeriesRef;
 fn settle<A: Postings, B: Postings>(list: &mut A, out: &mut B)
     ensures same { difference (A.remaining list.new) (B.remaining out.new)
         ≡ difference (A.remaining list.old) (B.remaining out.old) }
-    ensures settled { (r : ℕ) → first_of (A.remaining list.new) ≡ Some r → Contains (B.remaining out.new) r → ⊥ }
+    ensures settled { (r : ℕ) → first_of (A.remaining list.new) ≡ Some r
+        → Contains (B.remaining out.new) r → ⊥ }
 {
     while let Some(next) = list.current() {
         out.seek(next);
@@ -29,13 +32,15 @@ fn settle<A: Postings, B: Postings>(list: &mut A, out: &mut B)
 pub struct Without<A: Postings, B: Postings> {
     list: A,
     out: B,
-    ghost settled: { (r : ℕ) → first_of (A.remaining list) ≡ Some r → Contains (B.remaining out) r → ⊥ },
+    ghost settled: { (r : ℕ) → first_of (A.remaining list) ≡ Some r
+        → Contains (B.remaining out) r → ⊥ },
 }
 
 impl<A: Postings, B: Postings> Without<A, B> {
     /// The references of the first list that do not stand in the second.
     pub fn new(list: A, out: B) -> Without<A, B>
-        ensures { ⟦<Without<A, B> as Postings>⟧.remaining result ≡ difference (A.remaining list) (B.remaining out) }
+        ensures { ⟦<Without<A, B> as Postings>⟧.remaining result
+            ≡ difference (A.remaining list) (B.remaining out) }
     {
         let mut list = list;
         let mut out = out;
@@ -61,7 +66,9 @@ impl<A: Postings, B: Postings> Postings for Without<A, B> {
         settle(&mut self.list, &mut self.out);
     }
 
-    ghost ascending = { λ w. difference-rises (A.remaining w.list) (B.remaining w.out) (A.ascending w.list) };
+    ghost ascending = { λ w.
+        difference-rises (A.remaining w.list) (B.remaining w.out) (A.ascending w.list) };
 
-    ghost two_seeks = { λ w a b. not_below-twice a b (difference (A.remaining w.list) (B.remaining w.out)) };
+    ghost two_seeks = { λ w a b.
+        not_below-twice a b (difference (A.remaining w.list) (B.remaining w.out)) };
 }

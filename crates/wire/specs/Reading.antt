@@ -11,7 +11,8 @@ byte_at (b ∷ rest) = Ok (b, rest)
 
 -- the first n bytes, as a number or as they stand
 abbrev pub number_at : ℕ → List ℕ → Result (ℕ × List ℕ) WireError
-number_at n bytes = if nat_lt (length bytes) n then Err Short else Ok (big_number n bytes, drop n bytes)
+number_at n bytes =
+    if nat_lt (length bytes) n then Err Short else Ok (big_number n bytes, drop n bytes)
 
 abbrev pub bytes_at : ℕ → List ℕ → Result (List ℕ × List ℕ) WireError
 bytes_at n bytes = if nat_lt (length bytes) n then Err Short else Ok (take n bytes, drop n bytes)

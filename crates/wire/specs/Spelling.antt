@@ -21,6 +21,8 @@ zigzag (negsuc n) = n * 2 + 1
 unfoldable pub varint : ℤ → List ℕ
 varint z = uvarint (zigzag z)
 
--- Where this value's spelling stands in front, no other's does: the bytes say which value it is and where it ends.
+-- Where this value's spelling stands in front, no other's does: the bytes say which value it is
+-- and where it ends.
 abbrev pub BeginsNoOther : {A : Type 0} → (A → Type 0) → (A → List ℕ) → A → Type 0
-BeginsNoOther {A} fits spelled a = (b : A) (x y : List ℕ) → fits b → spelled a ++ x ≡ spelled b ++ y → (a ≡ b) × (x ≡ y)
+BeginsNoOther {A} fits spelled a =
+    (b : A) (x y : List ℕ) → fits b → spelled a ++ x ≡ spelled b ++ y → (a ≡ b) × (x ≡ y)

@@ -5,7 +5,8 @@ ghost use Rattle.wire.specs.Checksum.{shifted, register, crc32c};
 
 use crate::tables::{TABLE_1, TABLE_2, TABLE_3, TABLE_4, TABLE_5, TABLE_6, TABLE_7, TABLE_8};
 
-/// The CRC-32C (Castagnoli) of the bytes: reflected polynomial `0x82F63B78`, start and final xor `0xFFFFFFFF`.
+/// The CRC-32C (Castagnoli) of the bytes: reflected polynomial `0x82F63B78`, start and final xor
+/// `0xFFFFFFFF`.
 ///
 /// It reads eight bytes a step, at more than a gigabyte a second.
 #[tactic(auto, unfolding(crate::specs::Checksum::crc32c))]

@@ -2,7 +2,7 @@
 
 ghost use Rattle.std.specs.Prelude.{◌≡◌, ◌<◌, ◌≤◌, ◌^◌, ◌++◌, ◌∷◌, ◌↔◌, [], ℕ, ℤ, List, length, IfOk, IsOk, IsTrue, Ok};
 ghost use Rattle.byteorder.specs.Endian.{big_bytes};
-ghost use Rattle.wire.specs.Outcome.{Gives, Reads, Takes};
+ghost use Rattle.wire.specs.Outcome.{Answers, Reads, ReadsEach, Takes};
 ghost use Rattle.wire.specs.Reading.{byte_at, bytes_at, number_at, unzigzag, uvarint_at, varint_at};
 ghost use Rattle.wire.specs.Spelling.{uvarint, varint, zigzag};
 
@@ -70,7 +70,7 @@ impl<'a> Cut<'a> {
     pub fn be32(&mut self) -> Result<u32, WireError>
         ensures exact { Reads (λ n. n) (number_at 4 self.old) result self.old self.new }
         ensures found { IfOk result (λ n. Takes (big_bytes 4 n) self.old self.new) }
-        ensures only { (n : ℕ) (rest : List ℕ) → n < 2 ^ 32 → self.old ≡ big_bytes 4 n ++ rest → result ≡ Ok n }
+        ensures only { ReadsEach (λ n. n < 2 ^ 32) (big_bytes 4) self.old result }
     {
         let (n, after) = be32_of(self.rest)?;
         self.rest = after;
@@ -81,7 +81,7 @@ impl<'a> Cut<'a> {
     pub fn be64(&mut self) -> Result<u64, WireError>
         ensures exact { Reads (λ n. n) (number_at 8 self.old) result self.old self.new }
         ensures found { IfOk result (λ n. Takes (big_bytes 8 n) self.old self.new) }
-        ensures only { (n : ℕ) (rest : List ℕ) → n < 2 ^ 64 → self.old ≡ big_bytes 8 n ++ rest → result ≡ Ok n }
+        ensures only { ReadsEach (λ n. n < 2 ^ 64) (big_bytes 8) self.old result }
     {
         let (n, after) = be64_of(self.rest)?;
         self.rest = after;
@@ -90,23 +90,24 @@ impl<'a> Cut<'a> {
 
     /// Takes a number of seven bits a byte, the lowest first.
     ///
-    /// `W1` where the bytes end within it, `W3` where a tenth byte is above 1, `W2` where its last byte is 0 and not
-    /// its only one; the first of these from the front.
+    /// `W1` where the bytes end within it, `W3` where a tenth byte is above 1, `W2` where its last
+    /// byte is 0 and not its only one; the first of these from the front.
     pub fn uvarint(&mut self) -> Result<u64, WireError>
         ensures exact { Reads (λ n. n) (uvarint_at self.old) result self.old self.new }
         ensures found { IfOk result (λ n. Takes (uvarint n) self.old self.new) }
-        ensures only { (n : ℕ) (rest : List ℕ) → n < 2 ^ 64 → self.old ≡ uvarint n ++ rest → result ≡ Ok n }
+        ensures only { ReadsEach (λ n. n < 2 ^ 64) uvarint self.old result }
     {
         let (n, after) = uvarint_of(self.rest)?;
         self.rest = after;
         Ok(n)
     }
 
-    /// Takes a signed number: 0, -1, 1, -2 are spelled as [`Cut::uvarint`] spells 0, 1, 2, 3, and are refused alike.
+    /// Takes a signed number: 0, -1, 1, -2 are spelled as [`Cut::uvarint`] spells 0, 1, 2, 3, and
+    /// are refused alike.
     pub fn varint(&mut self) -> Result<i64, WireError>
         ensures exact { Reads (λ z. z) (varint_at self.old) result self.old self.new }
         ensures found { IfOk result (λ z. Takes (varint z) self.old self.new) }
-        ensures only { (z : ℤ) (rest : List ℕ) → zigzag z < 2 ^ 64 → self.old ≡ varint z ++ rest → result ≡ Ok z }
+        ensures only { ReadsEach (λ z. zigzag z < 2 ^ 64) varint self.old result }
     {
         let (z, after) = varint_of(self.rest)?;
         self.rest = after;
@@ -131,7 +132,7 @@ impl<'a> Cut<'a> {
 }
 
 fn be32_of(bytes: &[u8]) -> Result<(u32, &[u8]), WireError>
-    ensures exact { Gives (λ x. (x.0, x.1.now)) (number_at 4 bytes.now) result }
+    ensures exact { Answers (λ x. (x.0, x.1.now)) result (number_at 4 bytes.now) }
     ensures found { IfOk result (λ x. Takes (big_bytes 4 x.0) bytes.now x.1.now) }
 {
     if bytes.len() < 4 {
@@ -141,7 +142,7 @@ fn be32_of(bytes: &[u8]) -> Result<(u32, &[u8]), WireError>
 }
 
 fn be64_of(bytes: &[u8]) -> Result<(u64, &[u8]), WireError>
-    ensures exact { Gives (λ x. (x.0, x.1.now)) (number_at 8 bytes.now) result }
+    ensures exact { Answers (λ x. (x.0, x.1.now)) result (number_at 8 bytes.now) }
     ensures found { IfOk result (λ x. Takes (big_bytes 8 x.0) bytes.now x.1.now) }
 {
     if bytes.len() < 8 {
@@ -151,7 +152,7 @@ fn be64_of(bytes: &[u8]) -> Result<(u64, &[u8]), WireError>
 }
 
 fn uvarint_of(bytes: &[u8]) -> Result<(u64, &[u8]), WireError>
-    ensures exact { Gives (λ x. (x.0, x.1.now)) (uvarint_at bytes.now) result }
+    ensures exact { Answers (λ x. (x.0, x.1.now)) result (uvarint_at bytes.now) }
     ensures found { IfOk result (λ x. Takes (uvarint x.0) bytes.now x.1.now) }
 {
     sevens(bytes)
@@ -159,7 +160,7 @@ fn uvarint_of(bytes: &[u8]) -> Result<(u64, &[u8]), WireError>
 
 #[tactic(auto, unfolding(crate::specs::Reading::varint_at))]
 fn varint_of(bytes: &[u8]) -> Result<(i64, &[u8]), WireError>
-    ensures exact { Gives (λ x. (x.0, x.1.now)) (varint_at bytes.now) result }
+    ensures exact { Answers (λ x. (x.0, x.1.now)) result (varint_at bytes.now) }
     ensures found { IfOk result (λ x. Takes (varint x.0) bytes.now x.1.now) }
 {
     let (n, after) = uvarint_of(bytes)?;
@@ -177,7 +178,7 @@ fn unzigzag(n: u64) -> i64
 }
 
 fn sevens(bytes: &[u8]) -> Result<(u64, &[u8]), WireError>
-    ensures { Gives (λ x. (x.0, x.1.now)) (uvarint_at bytes.now) result }
+    ensures { Answers (λ x. (x.0, x.1.now)) result (uvarint_at bytes.now) }
 {
     let mut low = 0u64;
     let mut rest = bytes;

@@ -1,5 +1,5 @@
-//! `TABLE_1[i]` is what the byte `i` makes of a register of zeros. Each further table is the one before it after one
-//! more byte of zeros.
+//! `TABLE_1[i]` is what the byte `i` makes of a register of zeros. Each further table is the one
+//! before it after one more byte of zeros.
 
 #[rattlefmt::skip]
 pub(crate) static TABLE_1: [u32; 256] = [

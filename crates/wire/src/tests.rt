@@ -1,4 +1,5 @@
-//! Rows from the format documents, each call once on its happy path, and each refusal with the cut left as it was.
+//! Rows from the format documents, each call once on its happy path, and each refusal with the cut
+//! left as it was.
 
 use super::{
     Cut, WireError, crc32c, put_be32, put_be64, put_bytes, put_u8, put_uvarint, put_varint,
@@ -60,6 +61,19 @@ fn short_fields_leave_the_cut(rt: HostRuntime) {
     assert_eq!(rt; cut.be32(), Err(WireError::Short));
     assert_eq!(rt; cut.be64(), Err(WireError::Short));
     assert_eq!(rt; cut.rest(), [1, 2, 3].as_slice());
+}
+
+#[test]
+fn the_example_of_the_first_page(rt: HostRuntime) -> Result<(), Fail> {
+    let mut out = Vec::new(rt.alloc());
+    put_uvarint(&mut out, 300)?;
+    put_bytes(&mut out, b"up")?;
+
+    let mut cut = Cut::new(out.as_slice());
+    assert_eq!(rt; cut.uvarint(), Ok(300));
+    assert_eq!(rt; cut.bytes(2), Ok(b"up".as_slice()));
+    assert_eq!(rt; cut.u8(), Err(WireError::Short));
+    Ok(())
 }
 
 #[test]

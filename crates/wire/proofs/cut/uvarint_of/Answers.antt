@@ -2,12 +2,14 @@ use Rattle.std.proofs.Common.{ℕ, List, Result, Ok, Err, arith}
 use Rattle.std.specs.Prelude.{IfOk}
 use Rattle.wire.specs.Spelling.{uvarint, IsBytes}
 use Rattle.wire.specs.Reading.{uvarint_at}
-use Rattle.wire.specs.Outcome.{Gives, Takes}
+use Rattle.wire.specs.Outcome.{Answers, Takes}
 use Rattle.wire.specs.declared.error.WireError.{WireError}
 use Rattle.wire.proofs.Laws.{uvarint_takes}
 use Rattle.wire.proofs.cut.uvarint_of.Goals as goal
 
-pub is_found : {X : Type 0} (view : X → ℕ × List ℕ) (r : Result X WireError) (bytes : List ℕ) → IsBytes bytes → Gives view (uvarint_at bytes) r → IfOk r (λ x. Takes (uvarint (view x).0) bytes (view x).1)
+pub is_found : {X : Type 0} (view : X → ℕ × List ℕ) (r : Result X WireError) (bytes : List ℕ)
+    → IsBytes bytes → Answers view r (uvarint_at bytes)
+    → IfOk r (λ x. Takes (uvarint (view x).0) bytes (view x).1)
 is_found view (Ok x) bytes fits h = (uvarint_takes bytes (view x).0 (view x).1 fits h).0
 is_found view (Err e) bytes fits h = tt
 
