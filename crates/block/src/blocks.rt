@@ -160,8 +160,8 @@ impl Block {
         ensures only { (part : Part) → IsBlock range index.now chunks.items tombstones.now part → Gives (λ b. b.part) result (Ok part) }
         ensures range { IfOk result (λ b. b.range ≡ range) }
     {
-        let workers = Workers { rt, threads };
-        opened(&workers, alloc, range, index, read, chunks, tombstones)
+        let by = Workers { rt, threads };
+        opened(&by, alloc, range, index, read, chunks, tombstones)
     }
 
     /// The times that the block covers.
