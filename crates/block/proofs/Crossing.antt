@@ -38,10 +38,10 @@ pub Chunks-sync : IsSync chunks.the_field.row
 Chunks-sync = search (sendable, heap.Vec-sync) depth 60 fits 20000
 
 pub IndexSeries-send : IsSend series.the_field.row
-IndexSeries-send = search (sendable, LabelSet-send) depth 60 fits 20000
+IndexSeries-send = search sendable depth 60 fits 20000
 
 pub IndexSeries-sync : IsSync series.the_field.row
-IndexSeries-sync = search (sendable, LabelSet-sync) depth 60 fits 20000
+IndexSeries-sync = search sendable depth 60 fits 20000
 
 pub Place-send : IsSend place.the_field.row
 Place-send = search sendable depth 60 fits 20000

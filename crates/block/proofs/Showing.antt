@@ -1,6 +1,6 @@
 -- What a block shows of the series of its index.
-use Rattle.std.proofs.Common.{◌≡◌, ℕ, zero, suc, ◌<◌, ℤ, Bool, true, false, cond, not, ◌&&◌, ◌||◌, List, [], ◌∷◌, length, map, Option, Some, None, refl, sym, ap, subst, ◌∙◌, arith}
-use Rattle.std.specs.Prelude.{slice_get, nat_eq, IfNone}
+use Rattle.std.proofs.Common.{◌≡◌, ℕ, zero, suc, ◌<◌, ℤ, Bool, true, false, cond, not, ◌&&◌, ◌||◌, List, [], ◌∷◌, length, map, Option, Some, None, Result, Ok, Err, refl, sym, ap, subst, ◌∙◌, arith}
+use Rattle.std.specs.Prelude.{slice_get, nat_eq, IfNone, IfOk}
 use Rattle.std.specs.Arc.{arc_value}
 use Rattle.std.specs.Option.{option_map}
 use Rattle.std.specs.List.{filter, list_any, Contains, AllByRecursion}
@@ -209,6 +209,10 @@ module _ (f : Files) (inside : Inside) (value : Shown) (e : f ≡ arc_value insi
 
   pub set_is : (i : ℕ) (l : Labels) (row : ℕ × Row) → slice_get (label_sets f.index.series) i ≡ Some l → slice_get value.part i ≡ Some row → l ≡ row.1.0
   set_is i l row g at = set_here f.chunks inside.tombstones f.index.series i l row g (ap (λ (p : Part). slice_get p i) part_is ∙ at)
+
+  pub set_each : {E : Type 0} (r : Result Labels E) (i : ℕ) → IfOk r (λ l. slice_get (label_sets f.index.series) i ≡ Some l) → IfOk r (λ l. (row : ℕ × Row) → slice_get value.part i ≡ Some row → l ≡ row.1.0)
+  set_each (Ok l) i g = λ row at. set_is i l row g at
+  set_each (Err e) i g = tt
 
   pub found_is : (i r : ℕ) → IsStrictlyIncreasing (indexes.references f.index.series) → slice_get (indexes.references f.index.series) i ≡ Some r
       → (row : ℕ × Row) × ((slice_get value.part i ≡ Some row) × (row_at r value.part ≡ Some row.1))

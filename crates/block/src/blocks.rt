@@ -2,6 +2,10 @@
 
 ghost use Rattle.std.specs.Prelude.{◌≡◌, length, IfOk, Ok};
 ghost use Rattle.labels.specs.Parts.{IsPart, Part};
+ghost use Rattle.index_reader.specs.Indexes.{IsConsistent};
+ghost use Rattle.index_reader.specs.Opening.{indexed_of};
+ghost use Rattle.index_reader.specs.Outcome as index_outcome;
+ghost use Rattle.index_reader.specs.Spelled.{IsIndex};
 ghost use Rattle.block.specs.Blocks.{AreInside, sample_count};
 ghost use Rattle.block.specs.Fewer.{part_without};
 ghost use Rattle.block.specs.Grammar.{IsBlock};
@@ -15,7 +19,7 @@ use crate::error::BlockError;
 use crate::opening::{are_inside, check_stored, known_deletions};
 use crate::range::Range;
 use chunk_reader::Chunks;
-use index_reader::Index;
+use index_reader::{Index, IndexError};
 use labels::SeriesRef;
 use std::alloc::{AllocError, Global};
 use std::marker::Model;
@@ -59,15 +63,19 @@ fn opened<C: Checker>(
     alloc: Global,
     range: Range,
     index: &[u8],
+    read: Result<Index, IndexError>,
     chunks: Vec<u8>,
     tombstones: &[u8],
 ) -> Result<Block, BlockError>
     requires ready { C.is_ready checker.now }
+    requires read { index_outcome.Gives (λ x. x) read (indexed_of index.now) }
+    requires spelled { IfOk read (IsIndex index.now) }
+    requires consistent { IfOk read IsConsistent }
     ensures exact { Gives (λ b. b) result (block_of range index.now chunks.items tombstones.now) }
     ensures found { IfOk result (λ b. IsBlock range index.now chunks.items tombstones.now b.part) }
     ensures range { IfOk result (λ b. b.range ≡ range) }
 {
-    let index = Index::open(alloc, index)?;
+    let index = read?;
     let chunks = Chunks::open(chunks)?;
     check_stored(checker, &index, &chunks)?;
     let deletions = known_deletions(alloc, &index, tombstones)?;
@@ -106,7 +114,8 @@ impl Block {
         ensures only { (part : Part) → IsBlock range index.now chunks.items tombstones.now part → Gives (λ b. b.part) result (Ok part) }
         ensures range { IfOk result (λ b. b.range ≡ range) }
     {
-        opened(&OneThread, alloc, range, index, chunks, tombstones)
+        let read = Index::open(alloc, index);
+        opened(&OneThread, alloc, range, index, read, chunks, tombstones)
     }
 
     /// The same as [`Block::open`], with the checks of the chunks shared out over at most `threads` threads, the
@@ -126,8 +135,33 @@ impl Block {
         ensures only { (part : Part) → IsBlock range index.now chunks.items tombstones.now part → Gives (λ b. b.part) result (Ok part) }
         ensures range { IfOk result (λ b. b.range ≡ range) }
     {
+        let read = Index::open(alloc, index);
         let workers = Workers { rt, threads };
-        opened(&workers, alloc, range, index, chunks, tombstones)
+        opened(&workers, alloc, range, index, read, chunks, tombstones)
+    }
+
+    /// The same as [`Block::open_by`], where the index was opened before: `read` is what [`Index::open`] gave for the
+    /// bytes of `index`. So a caller can open the index by one thread while another reads the chunks file.
+    pub fn open_with<R: Threads + Sync>(
+        rt: &R,
+        threads: usize,
+        alloc: Global,
+        range: Range,
+        index: &[u8],
+        read: Result<Index, IndexError>,
+        chunks: Vec<u8>,
+        tombstones: &[u8],
+    ) -> Result<Block, BlockError>
+        requires read { index_outcome.Gives (λ x. x) read (indexed_of index.now) }
+        requires spelled { IfOk read (IsIndex index.now) }
+        requires consistent { IfOk read IsConsistent }
+        ensures exact { Gives (λ b. b) result (block_of range index.now chunks.items tombstones.now) }
+        ensures found { IfOk result (λ b. IsBlock range index.now chunks.items tombstones.now b.part) }
+        ensures only { (part : Part) → IsBlock range index.now chunks.items tombstones.now part → Gives (λ b. b.part) result (Ok part) }
+        ensures range { IfOk result (λ b. b.range ≡ range) }
+    {
+        let by = Workers { rt, threads };
+        opened(&by, alloc, range, index, read, chunks, tombstones)
     }
 
     /// The times that the block covers.

@@ -7,6 +7,8 @@ ghost use Rattle.block.specs.Outcome.{of_index, of_chunk, of_tombstone};
 use chunk_reader::ChunkError;
 use index_reader::IndexError;
 use std::alloc::{AllocError, AllocFailed};
+use std::error::Error;
+use std::fmt;
 use tombstones::TombstoneError;
 
 /// The first check that failed, or want of memory.
@@ -46,6 +48,30 @@ impl BlockError {
         }
     }
 }
+
+impl fmt::Display for BlockError {
+    ghost use Rattle.std.specs.Prelude.{Some};
+    ghost use Rattle.block.specs.Codes.{text_of};
+
+    ghost output = { λ error. Some (text_of error) };
+
+    fn fmt<W: fmt::Write>(&self, f: &mut fmt::Formatter<W>) -> fmt::Result {
+        match self {
+            BlockError::Memory => write!(f, "no memory"),
+            BlockError::Meta => write!(f, "B2: meta.json is not that of a block"),
+            BlockError::Index(error) => write!(f, "{error}"),
+            BlockError::Chunks(error) => write!(f, "{error}"),
+            BlockError::Tombstones(error) => {
+                let code = error.code();
+                write!(f, "{code}: the file of deletions is not well formed")
+            }
+            BlockError::UnknownSeries => write!(f, "T5: a deletion is of an unknown series"),
+            BlockError::OutsideRange => write!(f, "B1: a chunk is outside the block's times"),
+        }
+    }
+}
+
+impl Error for BlockError {}
 
 impl From<AllocError> for BlockError {
     ghost from_gives = { λ _ e. e ≡ Memory };

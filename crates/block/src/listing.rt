@@ -19,15 +19,14 @@ impl Block {
             to: range.max(),
         };
         let samples = self.samples_at(alloc, i, times)?;
-        let labels = self.labels_at(i).try_clone()?;
+        let labels = self.labels_at(alloc, i)?;
         Ok((self.reference_at(i), Row::new(labels, samples)))
     }
 
     /// Each series of the block, ascending by reference, with its label set and its undeleted samples; also a series
     /// without a sample.
     ///
-    /// It reads each chunk once. It takes memory in proportion to the series and the samples; the texts of the label
-    /// sets are shared.
+    /// It reads each chunk once. It takes memory in proportion to the series, the texts of their labels and the samples.
     pub fn list_all(&self, alloc: Global) -> Result<Vec<(SeriesRef, Row)>, AllocError>
         ensures { IfOk result (λ rows. rows.items ≡ self.now.part) }
     {

@@ -1,6 +1,6 @@
 //! What a block tells of its series, and the lists that it lends.
 
-ghost use Rattle.std.specs.Prelude.{◌≡◌, ℕ, ℤ, ◌<◌, ◌≤◌, [], List, length, get_or, slice_get, Some, None, IfNone, IfSome, IfOk};
+ghost use Rattle.std.specs.Prelude.{◌≡◌, ℕ, ℤ, ◌<◌, ◌≤◌, [], List, length, get_or, slice_get, Some, IfNone, IfSome, IfOk};
 ghost use Rattle.labels.specs.Rows.{Row};
 ghost use Rattle.labels.specs.Parts.{carries, has_sample, labels_in, references, references_where, row_at, samples_within, within};
 ghost use Rattle.index_reader.specs.Indexes.{values_of};
@@ -13,15 +13,22 @@ use labels::{LabelSet, Sample, SeriesRef};
 use std::alloc::{AllocError, Global};
 
 impl Block {
-    /// The label set of a series, `None` for an unknown reference. It finds the series by halving.
-    pub fn labels_of(&self, reference: SeriesRef) -> Option<&LabelSet>
-        ensures none { IfNone result (row_at reference self.now.part ≡ None) }
-        ensures some { IfSome result (λ labels. labels_in (row_at reference self.now.part) ≡ Some labels.now) }
+    /// The label set of a series, `None` for an unknown reference. It finds the series by halving, and makes the set of
+    /// the texts of the index.
+    pub fn labels_of(
+        &self,
+        alloc: Global,
+        reference: SeriesRef,
+    ) -> Result<Option<LabelSet>, AllocError>
+        ensures { IfOk result (λ labels. labels ≡ labels_in (row_at reference self.now.part)) }
     {
         let index = &self.files.index;
         match place_of(index, reference) {
-            Some(at) => Some(index.labels_at(at)),
-            None => None,
+            Some(at) => {
+                let labels = index.labels_at(alloc, at)?;
+                Ok(Some(labels))
+            }
+            None => Ok(None),
         }
     }
 
@@ -65,11 +72,11 @@ impl Block {
     }
 
     /// The label set of the series at a place, from 0.
-    pub(crate) fn labels_at(&self, i: usize) -> &LabelSet
+    pub(crate) fn labels_at(&self, alloc: Global, i: usize) -> Result<LabelSet, AllocError>
         requires { i < length self.now.part }
-        ensures { (row : ℕ × Row) → slice_get self.now.part i ≡ Some row → result.now ≡ row.1.0 }
+        ensures { IfOk result (λ labels. (row : ℕ × Row) → slice_get self.now.part i ≡ Some row → labels ≡ row.1.0) }
     {
-        self.files.index.labels_at(i)
+        self.files.index.labels_at(alloc, i)
     }
 
     /// The reference of the series at a place, from 0.

@@ -1,6 +1,6 @@
 //! A block as a source of lists.
 
-ghost use Rattle.std.specs.Prelude.{◌≡◌, ℕ, ◌<◌, List, [], length, slice_get, Some, None, IfNone, IfSome, IfOk};
+ghost use Rattle.std.specs.Prelude.{◌≡◌, ℕ, ◌<◌, List, [], length, slice_get, Some, IfNone, IfSome, IfOk};
 ghost use Rattle.labels.specs.Parts.{IsPart, labels_in, row_at, samples_within};
 ghost use Rattle.labels.proofs.PartProps.{IsPart-prop};
 ghost use Rattle.block.specs.Named.{AreNamed};
@@ -38,11 +38,14 @@ impl<'a> BlockView<'a> {
     ghost use Rattle.block.specs.Views.{part_of};
 
     /// The label set of a series, `None` for an unknown reference.
-    pub fn labels_of(&self, reference: SeriesRef) -> Option<&LabelSet>
-        ensures none { IfNone result (row_at reference (part_of self.now) ≡ None) }
-        ensures some { IfSome result (λ labels. labels_in (row_at reference (part_of self.now)) ≡ Some labels.now) }
+    pub fn labels_of(
+        &self,
+        alloc: Global,
+        reference: SeriesRef,
+    ) -> Result<Option<LabelSet>, AllocError>
+        ensures { IfOk result (λ labels. labels ≡ labels_in (row_at reference (part_of self.now))) }
     {
-        self.block.labels_of(reference)
+        self.block.labels_of(alloc, reference)
     }
 
     /// The undeleted samples of a series in a closed range of times, in milliseconds; none for an unknown reference.

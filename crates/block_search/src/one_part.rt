@@ -21,9 +21,12 @@ use std::alloc::{AllocError, Global};
 /// A part that tells the label set and the samples of its series.
 pub trait SearchedPart: Source {
     /// The label set of a series, `None` for an unknown reference.
-    fn labels_of(&self, reference: SeriesRef) -> Option<&LabelSet>
-        ensures none { IfNone result (row_at reference (Self.part self.now) ≡ None) }
-        ensures some { IfSome result (λ labels. labels_in (row_at reference (Self.part self.now)) ≡ Some labels.now) };
+    fn labels_of(
+        &self,
+        alloc: Global,
+        reference: SeriesRef,
+    ) -> Result<Option<LabelSet>, AllocError>
+        ensures { IfOk result (λ labels. labels ≡ labels_in (row_at reference (Self.part self.now))) };
 
     /// The undeleted samples of a series in a closed range of times, in milliseconds; none for an unknown reference.
     fn samples_of(
@@ -45,11 +48,11 @@ fn row_under<S: SearchedPart>(
 ) -> Result<Option<Row>, AllocError>
     ensures { IfOk result (λ row. row ≡ option_map (row_within query.now.from query.now.to) (row_at reference (S.part source.now))) }
 {
-    let Some(labels) = source.labels_of(reference) else {
+    let Some(labels) = source.labels_of(alloc, reference)? else {
         return Ok(None);
     };
     let samples = source.samples_of(alloc, reference, query.from(), query.to())?;
-    Ok(Some(Row::new(labels.try_clone()?, samples)))
+    Ok(Some(Row::new(labels, samples)))
 }
 
 /// The row that an interval stands for.
@@ -115,8 +118,15 @@ pub fn search_part<S: SearchedPart>(
 impl<'a> SearchedPart for &'a HeadView {
     ghost use Rattle.head.specs.Shown.{part_of};
 
-    fn labels_of(&self, reference: SeriesRef) -> Option<&LabelSet> {
-        HeadView::labels_of(*self, reference)
+    fn labels_of(
+        &self,
+        _alloc: Global,
+        reference: SeriesRef,
+    ) -> Result<Option<LabelSet>, AllocError> {
+        match HeadView::labels_of(*self, reference) {
+            Some(labels) => Ok(Some(labels.try_clone()?)),
+            None => Ok(None),
+        }
     }
 
     fn samples_of(
@@ -131,8 +141,12 @@ impl<'a> SearchedPart for &'a HeadView {
 }
 
 impl<'a> SearchedPart for BlockView<'a> {
-    fn labels_of(&self, reference: SeriesRef) -> Option<&LabelSet> {
-        BlockView::labels_of(self, reference)
+    fn labels_of(
+        &self,
+        alloc: Global,
+        reference: SeriesRef,
+    ) -> Result<Option<LabelSet>, AllocError> {
+        BlockView::labels_of(self, alloc, reference)
     }
 
     fn samples_of(

@@ -1,6 +1,6 @@
 -- What is kept of a file that was read.
 use Rattle.std.proofs.Common.{◌≡◌, ℕ, zero, suc, ◌+◌, ◌/◌, ◌<◌, ◌≤◌, List, [], ◌∷◌, ◌++◌, length, get_or, drop, Some, Result, Ok, Err, refl, sym, ap, subst, ◌∙◌, inl, inr, append_assoc, arith}
-use Rattle.std.specs.Prelude.{slice_get, slice_range, IfOk}
+use Rattle.std.specs.Prelude.{slice_get, slice_range, map, IfOk}
 use Rattle.std.specs.List.{All}
 use Rattle.std.specs.Borrow.{Bor}
 use Rattle.std.proofs.lemmas.Bool.{cases_lt}
@@ -17,14 +17,14 @@ use Rattle.index_reader.specs.Outcome.{Gives, Fails}
 use Rattle.index_reader.specs.Reading.{Place}
 use Rattle.index_reader.specs.Bodies.{Label, Body}
 use Rattle.index_reader.specs.Flat.{body_in, bodies_in, IsIn}
-use Rattle.index_reader.specs.Words.{IsList}
+use Rattle.index_reader.specs.Words.{refs_of, IsList}
 use Rattle.index_reader.specs.Shown.{texts_of}
 use Rattle.index_reader.specs.Seen.{texts, places}
 use Rattle.index_reader.specs.Agreement.{strings_of}
 use Rattle.index_reader.specs.Agreement as agreement
 use Rattle.index_reader.specs.Indexes.{text_of, named, series_at, series_of, references, references_with}
 use Rattle.index_reader.specs.Indexes as indexes
-use Rattle.index_reader.specs.Kept.{series_in, all_in, indexed_in, IsOfRow, AreWithin, AreInTable, AreLabelSets, IsListing}
+use Rattle.index_reader.specs.Kept.{series_in, all_in, indexed_in, of_row, IsWithin, AreWithin, AreInTable, AreLabelSets, IsListing, IsKept}
 use Rattle.index_reader.specs.Opening.{read_of, indexed, indexed_of, IsRead}
 use Rattle.index_reader.specs.Spelled.{IsIndex}
 use Rattle.index_reader.specs.ReadSeen.{read_seen, IsHeldIn}
@@ -69,9 +69,6 @@ series_here symbols (x ∷ ps) (y ∷ bs) (suc i) p b g h = series_here symbols 
 abbrev made : ℕ → Labels → List Chunk → indexes.Series
 made r ls cs = record { reference = r; labels = ls; chunks = cs }
 
-same_series : (r r' : ℕ) (ls ls' : Labels) (cs cs' : List Chunk) → r ≡ r' → ls ≡ ls' → cs ≡ cs' → made r ls cs ≡ made r' ls' cs'
-same_series r r' ls ls' cs cs' e f g = ap (λ (x : ℕ). made x ls cs) e ∙ ap (λ (x : Labels). made r' x cs) f ∙ ap (λ (x : List Chunk). made r' ls' x) g
-
 some_number : (a b : ℕ) → Some a ≡ Some b → a ≡ b
 some_number a b e = cc
 
@@ -95,30 +92,41 @@ stands_so xs i x lt e = stands_at xs i x lt ∙ ap (λ y. Some y) (sym e)
 
 -- ---- series as they are kept
 
-pub series_is : (symbols : List (List ℕ)) (labels : List Label) (chunks : List Chunk) (r : Row) (reference : ℕ) (s : Series) (p : Place) → IsOfRow symbols labels r reference s → reference ≡ p.offset / 16 → series_in chunks s ≡ series_at symbols p (body_in labels chunks r)
-series_is symbols labels chunks r reference s p h e =
-    same_series s.reference (p.offset / 16) s.labels (named symbols (slice_range labels r.labels_start r.labels_end)) (slice_range chunks s.chunks_start s.chunks_end) (slice_range chunks r.chunks_start r.chunks_end)
-    (h.reference_is ∙ e) h.labels_are (ap (λ (n : ℕ). slice_range chunks n s.chunks_end) h.start ∙ ap (slice_range chunks r.chunks_start) h.end)
+series_is : (symbols : List (List ℕ)) (labels : List Label) (chunks : List Chunk) (r : Row) (reference : ℕ) (p : Place) → reference ≡ p.offset / 16 → series_in symbols labels chunks (of_row r reference) ≡ series_at symbols p (body_in labels chunks r)
+series_is symbols labels chunks r reference p e = ap (λ (n : ℕ). made n (named symbols (slice_range labels r.labels_start r.labels_end)) (slice_range chunks r.chunks_start r.chunks_end)) e
 
-pub series_on : (symbols : List (List ℕ)) (labels : List Label) (chunks : List Chunk) (rows : List Row) (ps : List Place) (front : List Series) (i : ℕ) (r : Row) (reference : ℕ) (s : Series) → IsOfRow symbols labels r reference s → slice_get rows i ≡ Some r → slice_get (agreement.references ps) i ≡ Some reference → i < length ps
-    → all_in chunks front ++ drop i (series_of symbols ps (bodies_in labels chunks rows)) ≡ series_of symbols ps (bodies_in labels chunks rows)
-    → all_in chunks (front ++ s ∷ []) ++ drop (i + 1) (series_of symbols ps (bodies_in labels chunks rows)) ≡ series_of symbols ps (bodies_in labels chunks rows)
-series_on symbols labels chunks rows ps front i r reference s h g f lt so_far =
+pub series_on : (symbols : List (List ℕ)) (labels : List Label) (chunks : List Chunk) (rows : List Row) (ps : List Place) (front : List Series) (i : ℕ) (r : Row) (reference : ℕ) → slice_get rows i ≡ Some r → slice_get (agreement.references ps) i ≡ Some reference → i < length ps
+    → all_in symbols labels chunks front ++ drop i (series_of symbols ps (bodies_in labels chunks rows)) ≡ series_of symbols ps (bodies_in labels chunks rows)
+    → all_in symbols labels chunks (front ++ of_row r reference ∷ []) ++ drop (i + 1) (series_of symbols ps (bodies_in labels chunks rows)) ≡ series_of symbols ps (bodies_in labels chunks rows)
+series_on symbols labels chunks rows ps front i r reference g f lt so_far =
     let none : Place = record { offset = 0; body = []; end = 0 } in
     let p = get_or ps i none in
     let here = stands_at ps i none lt in
     let whole = series_of symbols ps (bodies_in labels chunks rows) in
+    let s = of_row r reference in
     let one = series_here symbols ps (bodies_in labels chunks rows) i p (body_in labels chunks r) here (mapped_at (body_in labels chunks) rows i r g) in
-    let is = series_is symbols labels chunks r reference s p h (reference_is ps i reference p f here) in
-    ap (λ (front' : List indexes.Series). front' ++ drop (i + 1) whole) (map_push (series_in chunks) front s) ∙ moved_on (all_in chunks front) whole i (series_at symbols p (body_in labels chunks r)) (series_in chunks s) one is so_far
+    let is = series_is symbols labels chunks r reference p (reference_is ps i reference p f here) in
+    ap (λ (front' : List indexes.Series). front' ++ drop (i + 1) whole) (map_push (series_in symbols labels chunks) front s) ∙ moved_on (all_in symbols labels chunks front) whole i (series_at symbols p (body_in labels chunks r)) (series_in symbols labels chunks s) one is so_far
 
-pub within_on : (chunks : List Chunk) (labels : List Label) (symbols : List (List ℕ)) (front : List Series) (r : Row) (reference : ℕ) (s : Series) → IsOfRow symbols labels r reference s → IsIn labels chunks r → AreWithin chunks front → AreWithin chunks (front ++ s ∷ [])
-within_on chunks labels symbols front r reference s h o w = λ k d lt.
+row_within : (symbols : List (List ℕ)) (labels : List Label) (chunks : List Chunk) (r : Row) (reference : ℕ) → IsIn labels chunks r → AreInTable symbols (slice_range labels r.labels_start r.labels_end) → IsLabelSet (named symbols (slice_range labels r.labels_start r.labels_end))
+    → IsWithin symbols labels chunks (of_row r reference)
+row_within symbols labels chunks r reference o t l = record {
+  labels_ordered = o.labels_ordered;
+  labels_inside = o.labels_inside;
+  chunks_ordered = o.chunks_ordered;
+  chunks_inside = o.chunks_inside;
+  in_table = t;
+  labelled = l;
+}
+
+pub within_on : (symbols : List (List ℕ)) (labels : List Label) (chunks : List Chunk) (front : List Series) (r : Row) (reference : ℕ) → IsIn labels chunks r → AreInTable symbols (slice_range labels r.labels_start r.labels_end) → IsLabelSet (named symbols (slice_range labels r.labels_start r.labels_end))
+    → AreWithin symbols labels chunks front → AreWithin symbols labels chunks (front ++ of_row r reference ∷ [])
+within_on symbols labels chunks front r reference o t l w = λ k d lt.
     elim (cases_lt k (length front)) [
-      | inl below ↦ rw (get_or_append_left front (s ∷ []) d k below) (w k d below)
+      | inl below ↦ rw (get_or_append_left front (of_row r reference ∷ []) d k below) (w k d below)
       | inr from ↦
-          let n : length front ≡ k = omega (arith, lt, length_push front s) in
-          rw (get_or_at front s [] d k n) (omega (arith, h.start, h.end, o.chunks_ordered), omega (arith, h.end, o.chunks_inside))
+          let n : length front ≡ k = omega (arith, lt, length_push front (of_row r reference)) in
+          rw (get_or_at front (of_row r reference) [] d k n) (row_within symbols labels chunks r reference o t l)
     ]
 
 pub series_counted : (symbols : List (List ℕ)) (labels : List Label) (chunks : List Chunk) (rows : List Row) (ps : List Place) → length rows ≡ length ps → length (series_of symbols ps (bodies_in labels chunks rows)) ≡ length rows
@@ -128,11 +136,11 @@ series_counted symbols labels chunks rows ps e =
 
 -- ---- what an index shows of what it keeps
 
-pub series_seen : (symbols : List (List ℕ)) (keys : List Label) (chunks : List Chunk) (ss : List Series) (x : indexes.Indexed) (i : ℕ) (s : Series) → indexed_in symbols keys chunks ss ≡ x → i < length x.series → s ≡ get_or ss i s → slice_get x.series i ≡ Some (series_in chunks s)
-series_seen symbols keys chunks ss x i s view lt e =
-    let v : all_in chunks ss ≡ x.series = ap (λ (y : indexes.Indexed). y.series) view in
-    let n : i < length ss = omega (arith, lt, ap (λ (zs : List indexes.Series). length zs) v, length-map ss (series_in chunks)) in
-    subst (λ (zs : List indexes.Series). slice_get zs i ≡ Some (series_in chunks s)) v (mapped_at (series_in chunks) ss i s (stands_so ss i s n e))
+pub series_seen : (symbols : List (List ℕ)) (keys labels : List Label) (chunks : List Chunk) (ss : List Series) (x : indexes.Indexed) (i : ℕ) (s : Series) → indexed_in symbols keys labels chunks ss ≡ x → i < length x.series → s ≡ get_or ss i s → slice_get x.series i ≡ Some (series_in symbols labels chunks s)
+series_seen symbols keys labels chunks ss x i s view lt e =
+    let v : all_in symbols labels chunks ss ≡ x.series = ap (λ (y : indexes.Indexed). y.series) view in
+    let n : i < length ss = omega (arith, lt, ap (λ (zs : List indexes.Series). length zs) v, length-map ss (series_in symbols labels chunks)) in
+    subst (λ (zs : List indexes.Series). slice_get zs i ≡ Some (series_in symbols labels chunks s)) v (mapped_at (series_in symbols labels chunks) ss i s (stands_so ss i s n e))
 
 pub listed_entry : (symbols : List (List ℕ)) (keys : List Label) (series : List indexes.Series) (lists : List (List ℕ)) → IsListing symbols keys series lists → (name value : List ℕ) (i : ℕ) → i < length keys → text_of symbols (get_or keys i (0, 0)) ≡ (name, value)
     → (e : List ℕ × ℕ) → slice_get lists (i + 1) ≡ Some e.0 → e.1 ≡ 0 → e ≡ (references_with name value series, 0)
@@ -183,12 +191,37 @@ lists_whole c i = λ k d lt.
 abbrev of_both : List indexes.Series → List (List ℕ × List ℕ) → indexes.Indexed
 of_both ss ps = record { series = ss; pairs = ps }
 
-pub whole_is : (file : List ℕ) (c : Checked) (chunks : List Chunk) (ss : List Series) → IsHeldIn file c → chunks ≡ c.bodies.chunks.items
-    → all_in c.bodies.chunks.items ss ≡ series_of (strings_of c.symbols.items) (places c.layout.entries.items) (bodies_in c.bodies.labels.items c.bodies.chunks.items c.bodies.rows.items)
-    → indexed (read_seen c) ≡ indexed_in (strings_of c.symbols.items) c.keys.items chunks ss
-whole_is file c chunks ss h e exact =
+pub whole_is : (file : List ℕ) (c : Checked) (labels : List Label) (chunks : List Chunk) (ss : List Series) → IsHeldIn file c → labels ≡ c.bodies.labels.items → chunks ≡ c.bodies.chunks.items
+    → all_in (strings_of c.symbols.items) c.bodies.labels.items c.bodies.chunks.items ss ≡ series_of (strings_of c.symbols.items) (places c.layout.entries.items) (bodies_in c.bodies.labels.items c.bodies.chunks.items c.bodies.rows.items)
+    → indexed (read_seen c) ≡ indexed_in (strings_of c.symbols.items) c.keys.items labels chunks ss
+whole_is file c labels chunks ss h f e exact =
     let bs = bodies_in c.bodies.labels.items c.bodies.chunks.items c.bodies.rows.items in
     let ps = places c.layout.entries.items in
-    let a : series_of (texts c.layout.symbols.items) ps bs ≡ all_in chunks ss = ap (λ (y : List (List ℕ)). series_of y ps bs) (sym h.symbols) ∙ sym exact ∙ ap (λ (cs : List Chunk). all_in cs ss) (sym e) in
-    let b : named (texts c.layout.symbols.items) c.keys.items ≡ named (strings_of c.symbols.items) c.keys.items = ap (λ (y : List (List ℕ)). named y c.keys.items) (sym h.symbols) in
-    ap (λ (x : List indexes.Series). of_both x (named (texts c.layout.symbols.items) c.keys.items)) a ∙ ap (of_both (all_in chunks ss)) b
+    let symbols = strings_of c.symbols.items in
+    let a : series_of (texts c.layout.symbols.items) ps bs ≡ all_in symbols labels chunks ss =
+    ap (λ (y : List (List ℕ)). series_of y ps bs) (sym h.symbols) ∙ sym exact ∙ ap (λ (ls : List Label). all_in symbols ls c.bodies.chunks.items ss) (sym f) ∙ ap (λ (cs : List Chunk). all_in symbols labels cs ss) (sym e) in
+    let b : named (texts c.layout.symbols.items) c.keys.items ≡ named symbols c.keys.items = ap (λ (y : List (List ℕ)). named y c.keys.items) (sym h.symbols) in
+    ap (λ (x : List indexes.Series). of_both x (named (texts c.layout.symbols.items) c.keys.items)) a ∙ ap (of_both (all_in symbols labels chunks ss)) b
+
+pub is_kept : (file : List ℕ) (c : Checked) (labels : List Label) (chunks : List Chunk) (ss : List Series) (lists : List (List ℕ)) → IsHeldIn file c → IsRead (read_seen c) → labels ≡ c.bodies.labels.items → chunks ≡ c.bodies.chunks.items
+    → AreWithin (strings_of c.symbols.items) c.bodies.labels.items c.bodies.chunks.items ss
+    → all_in (strings_of c.symbols.items) c.bodies.labels.items c.bodies.chunks.items ss ≡ series_of (strings_of c.symbols.items) (places c.layout.entries.items) (bodies_in c.bodies.labels.items c.bodies.chunks.items c.bodies.rows.items)
+    → lists ≡ map refs_of (texts_of c.lists.items) → IsKept (strings_of c.symbols.items) c.keys.items labels chunks ss lists
+is_kept file c labels chunks ss lists h i f e within exact copied =
+    let bs = bodies_in c.bodies.labels.items c.bodies.chunks.items c.bodies.rows.items in
+    let ps = places c.layout.entries.items in
+    let symbols = strings_of c.symbols.items in
+    let keys = c.keys.items in
+    let raws = map refs_of (texts_of c.lists.items) in
+    let read : IsListing symbols keys (series_of symbols ps bs) raws = subst (λ (y : List (List ℕ)). IsListing y keys (series_of y ps bs) raws) (sym h.symbols) i.listing in
+    let same : series_of symbols ps bs ≡ all_in symbols labels chunks ss = sym exact ∙ ap (λ (ls : List Label). all_in symbols ls c.bodies.chunks.items ss) (sym f) ∙ ap (λ (cs : List Chunk). all_in symbols labels cs ss) (sym e) in
+    record {
+      within = subst (λ (ls : List Label). AreWithin symbols ls chunks ss) (sym f) (subst (λ (cs : List Chunk). AreWithin symbols c.bodies.labels.items cs ss) (sym e) within);
+      listing = subst (IsListing symbols keys (all_in symbols labels chunks ss)) (sym copied) (subst (λ (series : List indexes.Series). IsListing symbols keys series raws) same read);
+    }
+
+-- ---- the label set of a series
+
+pub set_here : {E : Type 0} (r : Result Labels E) (ls : Labels) (sets : List Labels) (i : ℕ) → slice_get sets i ≡ Some ls → IfOk r (λ l. l ≡ ls) → IfOk r (λ l. slice_get sets i ≡ Some l)
+set_here (Ok l) ls sets i g e = g ∙ ap (λ (x : Labels). Some x) (sym e)
+set_here (Err e) ls sets i g h = tt

@@ -12,21 +12,34 @@ use Rattle.index_reader.specs.Finding.{key_before}
 use Rattle.index_reader.specs.Indexes.{Indexed, references, references_with, text_of, named}
 use Rattle.index_reader.specs.Indexes as indexes
 
--- a series, whose chunks stand among those of all series
-abbrev pub series_in : List Chunk → Series → indexes.Series
-series_in chunks s = record { reference = s.reference; labels = s.labels; chunks = slice_range chunks s.chunks_start s.chunks_end }
+-- a series, whose labels and chunks stand among those of all series
+abbrev pub series_in : List (List ℕ) → List Label → List Chunk → Series → indexes.Series
+series_in symbols labels chunks s = record { reference = s.reference; labels = named symbols (slice_range labels s.labels_start s.labels_end); chunks = slice_range chunks s.chunks_start s.chunks_end }
 
 -- all series
-abbrev pub all_in : List Chunk → List Series → List indexes.Series
-all_in chunks ss = map (series_in chunks) ss
+abbrev pub all_in : List (List ℕ) → List Label → List Chunk → List Series → List indexes.Series
+all_in symbols labels chunks ss = map (series_in symbols labels chunks) ss
 
 -- what is kept, by symbols and in flat lists, as what an index holds
-abbrev pub indexed_in : List (List ℕ) → List Label → List Chunk → List Series → Indexed
-indexed_in symbols keys chunks ss = record { series = all_in chunks ss; pairs = named symbols keys }
+abbrev pub indexed_in : List (List ℕ) → List Label → List Label → List Chunk → List Series → Indexed
+indexed_in symbols keys labels chunks ss = record { series = all_in symbols labels chunks ss; pairs = named symbols keys }
 
--- the chunks of each series are there
-abbrev pub AreWithin : List Chunk → List Series → Type 0
-AreWithin chunks ss = All (λ s. (s.chunks_start ≤ s.chunks_end) × (s.chunks_end ≤ length chunks)) ss
+-- labels are of these symbols
+abbrev pub AreInTable : List (List ℕ) → List Label → Type 0
+AreInTable symbols ls = All (λ l. (l.0 < length symbols) × (l.1 < length symbols)) ls
+
+-- the labels and the chunks of a series are there, and its labels make a label set
+pub record IsWithin (symbols : List (List ℕ)) (labels : List Label) (chunks : List Chunk) (s : Series) : Type 0 where
+  pub labels_ordered : s.labels_start ≤ s.labels_end
+  pub labels_inside : s.labels_end ≤ length labels
+  pub chunks_ordered : s.chunks_start ≤ s.chunks_end
+  pub chunks_inside : s.chunks_end ≤ length chunks
+  pub in_table : AreInTable symbols (slice_range labels s.labels_start s.labels_end)
+  pub labelled : IsLabelSet (named symbols (slice_range labels s.labels_start s.labels_end))
+
+-- those of each series are
+abbrev pub AreWithin : List (List ℕ) → List Label → List Chunk → List Series → Type 0
+AreWithin symbols labels chunks ss = All (IsWithin symbols labels chunks) ss
 
 -- symbols and pairs of them ascend; the first list is that of all series, and behind it stands for each pair the list of
 -- the series that carry it, of which there are some; other pairs no series carries
@@ -42,21 +55,20 @@ pub record IsListing (symbols : List (List ℕ)) (keys : List Label) (series : L
   pub absent : (name value : List ℕ) → ((k : ℕ) → k < length keys → text_of symbols (get_or keys k (0, 0)) ≡ (name, value) → ⊥) → references_with name value series ≡ []
 
 -- all of it
-pub record IsKept (symbols : List (List ℕ)) (keys : List Label) (chunks : List Chunk) (ss : List Series) (lists : List (List ℕ)) : Type 0 where
-  pub within : AreWithin chunks ss
-  pub listing : IsListing symbols keys (all_in chunks ss) lists
-
--- labels are of these symbols
-abbrev pub AreInTable : List (List ℕ) → List Label → Type 0
-AreInTable symbols ls = All (λ l. (l.0 < length symbols) × (l.1 < length symbols)) ls
+pub record IsKept (symbols : List (List ℕ)) (keys labels : List Label) (chunks : List Chunk) (ss : List Series) (lists : List (List ℕ)) : Type 0 where
+  pub within : AreWithin symbols labels chunks ss
+  pub listing : IsListing symbols keys (all_in symbols labels chunks ss) lists
 
 -- the labels of each body make a label set
 abbrev pub AreLabelSets : List (List ℕ) → List Label → List Row → Type 0
 AreLabelSets symbols labels rows = All (λ r. IsLabelSet (named symbols (slice_range labels r.labels_start r.labels_end))) rows
 
 -- the series of a body
-pub record IsOfRow (symbols : List (List ℕ)) (labels : List Label) (r : Row) (reference : ℕ) (s : Series) : Type 0 where
-  pub reference_is : s.reference ≡ reference
-  pub labels_are : s.labels ≡ named symbols (slice_range labels r.labels_start r.labels_end)
-  pub start : s.chunks_start ≡ r.chunks_start
-  pub end : s.chunks_end ≡ r.chunks_end
+abbrev pub of_row : Row → ℕ → Series
+of_row r reference = record {
+  reference = reference;
+  labels_start = r.labels_start;
+  labels_end = r.labels_end;
+  chunks_start = r.chunks_start;
+  chunks_end = r.chunks_end;
+}

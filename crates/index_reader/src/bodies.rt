@@ -30,16 +30,16 @@ pub struct Bodies {
     pub rows: Vec<Row>,
 }
 
-/// The chunks of all bodies.
-pub fn chunks_of(bodies: Bodies) -> Vec<Chunk>
-    ensures { result.items ≡ bodies.chunks.items }
+/// The labels and the chunks of all bodies.
+pub fn flat_parts(bodies: Bodies) -> (Vec<(u32, u32)>, Vec<Chunk>)
+    ensures { (result.0.items ≡ bodies.labels.items) × (result.1.items ≡ bodies.chunks.items) }
 {
     let Bodies {
-        labels: _labels,
+        labels,
         chunks,
         rows: _rows,
     } = bodies;
-    chunks
+    (labels, chunks)
 }
 
 pub fn entry_at<'a>(entries: &[Entry<'a>], i: usize) -> Entry<'a>

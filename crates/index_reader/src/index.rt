@@ -7,16 +7,16 @@ ghost use Rattle.index_reader.specs.Opening.{indexed_of};
 ghost use Rattle.index_reader.specs.Spelled.{IsIndex};
 ghost use Rattle.index_reader.specs.Stated.{stated_of, AreLastChecks};
 
-use crate::bodies::chunks_of;
+use crate::bodies::flat_parts;
 use crate::chunk::Chunk;
 use crate::entries::Entries;
 use crate::error::IndexError;
 use crate::keys::{place_of_pair, value_at, value_count};
 use crate::lists::{Lists, kept};
 use crate::opening::{Checked, sound};
-use crate::series::{Series, series_of};
+use crate::series::{Series, label_set_of, series_of};
 use labels::{LabelSet, SeriesRef};
-use std::alloc::Global;
+use std::alloc::{AllocError, Global};
 use std::marker::Model;
 
 /// What an index holds, seen as its series in file order and the pairs that it lists. It keeps no borrow of the file,
@@ -25,6 +25,7 @@ use std::marker::Model;
 pub struct Index {
     symbols: Vec<String>,
     keys: Vec<(u32, u32)>,
+    labels: Vec<(u32, u32)>,
     chunks: Vec<Chunk>,
     series: Vec<Series>,
     lists: Lists,
@@ -38,9 +39,9 @@ impl Model for Index {
     ghost use Rattle.index_reader.specs.Agreement.{strings_of};
     ghost use Rattle.index_reader.specs.Kept.{indexed_in, IsKept};
 
-    ghost view = { λ x. indexed_in (strings_of x.symbols.items) x.keys.items x.chunks.items x.series.items };
+    ghost view = { λ x. indexed_in (strings_of x.symbols.items) x.keys.items x.labels.items x.chunks.items x.series.items };
 
-    ghost invariant = { λ x. IsKept (strings_of x.symbols.items) x.keys.items x.chunks.items x.series.items x.lists };
+    ghost invariant = { λ x. IsKept (strings_of x.symbols.items) x.keys.items x.labels.items x.chunks.items x.series.items x.lists };
 }
 
 // The checks, and what they leave.
@@ -58,10 +59,11 @@ fn index_of(alloc: Global, file: &[u8]) -> Result<Index, IndexError>
     } = sound(alloc, file)?;
     let series = series_of(alloc, &symbols, &bodies, &layout.entries)?;
     let lists = kept(alloc, &lists)?;
-    let chunks = chunks_of(bodies);
+    let (labels, chunks) = flat_parts(bodies);
     Ok(Index {
         symbols,
         keys,
+        labels,
         chunks,
         series,
         lists,
@@ -110,12 +112,17 @@ impl Index {
         self.series[i].reference
     }
 
-    /// The label set of the series at a place. Label sets ascend.
-    pub fn labels_at(&self, i: usize) -> &LabelSet
+    /// The label set of the series at a place. Label sets ascend. It is made anew at each call.
+    pub fn labels_at(&self, alloc: Global, i: usize) -> Result<LabelSet, AllocError>
         requires { i < length self.now.series }
-        ensures { slice_get (label_sets self.now.series) i ≡ Some result.now }
+        ensures { IfOk result (λ labels. slice_get (label_sets self.now.series) i ≡ Some labels) }
     {
-        &self.series[i].labels
+        let series = self.series[i];
+        label_set_of(
+            alloc,
+            &self.symbols,
+            &self.labels[series.labels_start..series.labels_end],
+        )
     }
 
     /// The chunks of the series at a place, in the order of their times, which are in milliseconds.

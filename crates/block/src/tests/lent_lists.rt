@@ -248,16 +248,32 @@ fn the_samples_of_a_series_in_a_range(rt: HostRuntime) -> Result<(), Fail> {
     Ok(())
 }
 
+/// Whether the series with this number has the job, or is none.
+fn has_job(alloc: Global, block: &Block, number: u32, job: Option<&str>) -> bool {
+    match block.labels_of(alloc, SeriesRef::new(number)) {
+        Ok(Some(labels)) => job == Some(labels.value("job")),
+        Ok(None) => job.is_none(),
+        Err(_) => false,
+    }
+}
+
 #[test]
 fn the_label_set_of_a_series(rt: HostRuntime) -> Result<(), Fail> {
-    let block = worked(rt.alloc(), &[])?;
-    let jobs = ["a", "b", "a", "a", "b", "b"];
-    for (job, number) in jobs.iter().zip(4..) {
-        let labels = block.labels_of(SeriesRef::new(number)).ok_or("no series")?;
-        assert_eq!(rt; labels.value("job"), *job);
+    let alloc = rt.alloc();
+    let block = worked(alloc, &[])?;
+    let jobs = [
+        (3, None),
+        (4, Some("a")),
+        (5, Some("b")),
+        (6, Some("a")),
+        (7, Some("a")),
+        (8, Some("b")),
+        (9, Some("b")),
+        (10, None),
+    ];
+    for (number, job) in jobs {
+        assert!(rt; has_job(alloc, &block, number, job), "{number}");
     }
-    assert!(rt; block.labels_of(SeriesRef::new(3)).is_none());
-    assert!(rt; block.labels_of(SeriesRef::new(10)).is_none());
     Ok(())
 }
 

@@ -1,7 +1,7 @@
 use Rattle.std.proofs.Common.{subst}
 use Rattle.std.proofs.lemmas.Result.{err_from_is_err_and}
 use Rattle.index_reader.specs.Spelled.{IsIndex}
-use Rattle.index_reader.proofs.Held.{err_fails, exact_is, rows_inside, rows_labelled, lists_whole, whole_is}
+use Rattle.index_reader.proofs.Held.{err_fails, exact_is, rows_inside, rows_labelled, lists_whole, whole_is, is_kept}
 use Rattle.index_reader.proofs.index.index_of.Goals as goal
 
 pub returns-in_err-layout-clause-exact : goal.returns-in_err-layout-clause-exact
@@ -21,9 +21,15 @@ kept-requires c = rw c.deref-3.ensures.value (lists_whole c.in_ok-layout.field-0
 pub returns-clause-exact : goal.returns-clause-exact
 returns-clause-exact c =
     let k = c.in_ok-layout in
-    exact_is c.args.file.now k.field-0 _ k.ensures.exact (whole_is c.args.file.now k.field-0 c.chunks_of-chunks.result.items c.in_ok-series.series.items k.ensures.held c.chunks_of-chunks.ensures (rw (c.deref.ensures.value, c.deref-2.ensures.value) at c.in_ok-series.ensures.exact))
+    exact_is c.args.file.now k.field-0 _ k.ensures.exact (whole_is c.args.file.now k.field-0 c.flat_parts-labels.result.0.items c.flat_parts-labels.result.1.items c.in_ok-series.series.items k.ensures.held c.flat_parts-labels.ensures.0 c.flat_parts-labels.ensures.1 (rw (c.deref.ensures.value, c.deref-2.ensures.value) at c.in_ok-series.ensures.exact))
 
 pub returns-clause-found : goal.returns-clause-found
 returns-clause-found c =
     let k = c.in_ok-layout in
-    subst (IsIndex c.args.file.now) (whole_is c.args.file.now k.field-0 c.chunks_of-chunks.result.items c.in_ok-series.series.items k.ensures.held c.chunks_of-chunks.ensures (rw (c.deref.ensures.value, c.deref-2.ensures.value) at c.in_ok-series.ensures.exact)) k.ensures.spelled
+    subst (IsIndex c.args.file.now) (whole_is c.args.file.now k.field-0 c.flat_parts-labels.result.0.items c.flat_parts-labels.result.1.items c.in_ok-series.series.items k.ensures.held c.flat_parts-labels.ensures.0 c.flat_parts-labels.ensures.1 (rw (c.deref.ensures.value, c.deref-2.ensures.value) at c.in_ok-series.ensures.exact)) k.ensures.spelled
+
+pub invariant_of-result : goal.invariant_of-result
+invariant_of-result c =
+    let k = c.in_ok-layout in
+    is_kept c.args.file.now k.field-0 c.flat_parts-labels.result.0.items c.flat_parts-labels.result.1.items c.in_ok-series.series.items c.in_ok-lists.lists k.ensures.held k.ensures.read c.flat_parts-labels.ensures.0 c.flat_parts-labels.ensures.1
+    (rw c.deref.ensures.value at c.in_ok-series.ensures.within) (rw (c.deref.ensures.value, c.deref-2.ensures.value) at c.in_ok-series.ensures.exact) (rw c.deref-3.ensures.value at c.in_ok-lists.ensures)

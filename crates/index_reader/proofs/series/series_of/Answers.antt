@@ -17,35 +17,18 @@ loop-at-init c = record {
   so_far = rw c.in_ok-series.ensures.items refl;
 }
 
-pub one_of-requires-clause-within : goal.one_of-requires-clause-within
-one_of-requires-clause-within c =
-    let g = rw c.deref.ensures.value at c.row_at-row.ensures in
-    let b = c.args.bodies.now in
-    let o = all_here (IsIn b.labels.items b.chunks.items) b.rows.items c.loop-at.at _ c.requires.within g in
-    rw c.deref-in-loop-at.ensures.value (o.labels_ordered, o.labels_inside)
-
-pub one_of-requires-clause-inside : goal.one_of-requires-clause-inside
-one_of-requires-clause-inside c =
-    let g = rw c.deref.ensures.value at c.row_at-row.ensures in
-    let b = c.args.bodies.now in
-    rw c.deref-in-loop-at.ensures.value (all_here (λ (r : Row). AreInTable (strings_of c.args.symbols.now) (slice_range b.labels.items r.labels_start r.labels_end)) b.rows.items c.loop-at.at _ c.requires.inside g)
-
-pub one_of-requires-clause-labelled : goal.one_of-requires-clause-labelled
-one_of-requires-clause-labelled c =
-    let g = rw c.deref.ensures.value at c.row_at-row.ensures in
-    let b = c.args.bodies.now in
-    rw c.deref-in-loop-at.ensures.value (all_here (λ (r : Row). IsLabelSet (named (strings_of c.args.symbols.now) (slice_range b.labels.items r.labels_start r.labels_end))) b.rows.items c.loop-at.at _ c.requires.labelled g)
-
 pub loop-at-preserved : goal.loop-at-preserved
 loop-at-preserved c =
     let l = c.loop-at in
     let b = c.args.bodies.now in
+    let symbols = strings_of c.args.symbols.now in
     let g = rw c.deref.ensures.value at c.row_at-row.ensures in
-    let h = rw c.deref-in-loop-at.ensures.value at c.in_ok-one.ensures in
     let o = all_here (IsIn b.labels.items b.chunks.items) b.rows.items l.at _ c.requires.within g in
+    let t = all_here (λ (r : Row). AreInTable symbols (slice_range b.labels.items r.labels_start r.labels_end)) b.rows.items l.at _ c.requires.inside g in
+    let s = all_here (λ (r : Row). IsLabelSet (named symbols (slice_range b.labels.items r.labels_start r.labels_end))) b.rows.items l.at _ c.requires.labelled g in
     record {
-      within = rw c.in_ok-push.ensures.items (within_on b.chunks.items b.labels.items (strings_of c.args.symbols.now) l.series.items _ _ c.in_ok-one.one h o l.invariant.within);
-      so_far = rw c.in_ok-push.ensures.items (series_on (strings_of c.args.symbols.now) b.labels.items b.chunks.items b.rows.items (places c.args.entries.now) l.series.items l.at _ _ c.in_ok-one.one h g c.reference_at-reference.ensures (omega (arith, c.requires.counted, length-map c.args.entries.now place)) l.invariant.so_far);
+      within = rw (c.in_ok-push.ensures.items, c.of_row-one.ensures) (within_on symbols b.labels.items b.chunks.items l.series.items _ _ o t s l.invariant.within);
+      so_far = rw (c.in_ok-push.ensures.items, c.of_row-one.ensures) (series_on symbols b.labels.items b.chunks.items b.rows.items (places c.args.entries.now) l.series.items l.at _ _ g c.reference_at-reference.ensures (omega (arith, c.requires.counted, length-map c.args.entries.now place)) l.invariant.so_far);
     }
 
 pub returns-clause-exact : goal.returns-clause-exact
@@ -53,4 +36,4 @@ returns-clause-exact c =
     let b = c.args.bodies.now in
     let n = length-map c.args.entries.now place in
     let s = series_counted (strings_of c.args.symbols.now) b.labels.items b.chunks.items b.rows.items (places c.args.entries.now) (omega (arith, n, c.requires.counted)) in
-    ended_so (all_in b.chunks.items c.loop-at.series.items) (series_of (strings_of c.args.symbols.now) (places c.args.entries.now) (bodies_in b.labels.items b.chunks.items b.rows.items)) c.loop-at.at (omega (arith, s)) c.loop-at.invariant.so_far
+    ended_so (all_in (strings_of c.args.symbols.now) b.labels.items b.chunks.items c.loop-at.series.items) (series_of (strings_of c.args.symbols.now) (places c.args.entries.now) (bodies_in b.labels.items b.chunks.items b.rows.items)) c.loop-at.at (omega (arith, s)) c.loop-at.invariant.so_far

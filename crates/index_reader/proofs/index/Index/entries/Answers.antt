@@ -16,4 +16,4 @@ returns-clause-listed c =
     let x = c.self.inside in
     let f = rw (c.deref.ensures.value, c.deref-2.ensures.value) at c.in-Some.ensures.found in
     subst (λ (ss : List indexes.Series). c.entries_at.result ≡ (references_with c.args.name.now c.args.value.now ss, 0)) (ap (λ (y : Indexed). y.series) c.self.view_is)
-    (listed_entry (strings_of x.symbols.items) x.keys.items (all_in x.chunks.items x.series.items) x.lists c.self.invariant.listing c.args.name.now c.args.value.now c.in-Some.at f.0 f.1 c.entries_at.result c.entries_at.ensures.list c.entries_at.ensures.unread)
+    (listed_entry (strings_of x.symbols.items) x.keys.items (all_in (strings_of x.symbols.items) x.labels.items x.chunks.items x.series.items) x.lists c.self.invariant.listing c.args.name.now c.args.value.now c.in-Some.at f.0 f.1 c.entries_at.result c.entries_at.ensures.list c.entries_at.ensures.unread)

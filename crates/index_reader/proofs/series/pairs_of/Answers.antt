@@ -6,10 +6,10 @@ use Rattle.index_reader.specs.Agreement.{strings_of}
 use Rattle.index_reader.specs.Indexes.{text_of, named}
 use Rattle.index_reader.proofs.Placing.{mapped_at}
 use Rattle.index_reader.proofs.Held.{all_here, moved_on, ended_so}
-use Rattle.index_reader.proofs.series.pairs_into.Goals as goal
+use Rattle.index_reader.proofs.series.pairs_of.Goals as goal
 
 pub loop-at-init : goal.loop-at-init
-loop-at-init c = rw c.clear.ensures.items refl
+loop-at-init c = rw c.in_ok-pairs.ensures.items refl
 
 pub pair_of-requires : goal.pair_of-requires
 pair_of-requires c =
