@@ -299,5 +299,5 @@ fn what_is_written_is_opened(rt: HostRuntime) -> Result<(), Fail> {
 #[test]
 fn a_refusal_has_a_number(rt: HostRuntime) {
     assert_eq!(rt; WriteError::Limit.code(), "N1");
-    assert_eq!(rt; WriteError::Memory.code(), "Memory");
+    assert_eq!(rt; WriteError::Memory.code(), "memory");
 }

@@ -1,4 +1,5 @@
 pub mod Certificates
 pub mod Asking
+pub mod Covering
 pub mod Walking
-pub mod SixSeries
+pub mod FixtureSixSeries

@@ -1,3 +1,5 @@
+//! Certificates of the six series, and how often their lists move.
+
 use crate::counting::Counting;
 use crate::six_series::SixSeries;
 use crate::{Interval, PartCover, Verdict, certificate_laws, cover, cover_with_moves};
@@ -135,6 +137,23 @@ fn certificates_of_six_series(rt: HostRuntime) -> Result<(), Fail> {
         );
     }
     certificate_laws();
+    Ok(())
+}
+
+#[test]
+fn the_example_of_the_first_page(rt: HostRuntime) -> Result<(), Fail> {
+    let alloc = rt.alloc();
+    let six = SixSeries::new();
+    let matchers = Selector::parse(alloc, "up{job=\"a\"}")?;
+    let query = Query::new(matchers, 0, 100)?;
+    let answered = cover(alloc, &&six, &query)?; // of six series, of which 1 and 6 answer
+    let first = Interval {
+        from: SeriesRef::new(1),
+        until: 2,
+        verdict: Verdict::Match,
+    };
+    assert_eq!(rt; answered.certificate.get(0), Some(&first));
+    assert_eq!(rt; answered.separators.len(), 4);
     Ok(())
 }
 

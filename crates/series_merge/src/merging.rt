@@ -27,10 +27,12 @@ fn next_laid<'a>(
     requires over_rises { T (is_sorted int_cmp over.now) }
     requires under_rises { T (is_sorted int_cmp under.now) }
     ensures none { IfNone result (laid_times over.now under.now ≡ []) }
-    ensures some { IfSome result (λ next. laid_times over.now under.now ≡ next.0 ∷ laid_times next.1.now next.2.now) }
+    ensures some { IfSome result (λ next.
+        laid_times over.now under.now ≡ next.0 ∷ laid_times next.1.now next.2.now) }
     ensures over_rises { IfSome result (λ next. T (is_sorted int_cmp next.1.now)) }
     ensures under_rises { IfSome result (λ next. T (is_sorted int_cmp next.2.now)) }
-    ensures shorter { IfSome result (λ next. length next.1.now + length next.2.now < length over.now + length under.now) }
+    ensures shorter { IfSome result (λ next.
+        length next.1.now + length next.2.now < length over.now + length under.now) }
 {
     let Some((first, over_rest)) = over.split_first() else {
         let Some((second, under_rest)) = under.split_first() else {
@@ -48,7 +50,8 @@ fn next_laid<'a>(
     }
 }
 
-/// Whether some samples all come after others, so that they are laid over them by standing at the end.
+/// Whether some samples all come after others, so that they are laid over them by standing at the
+/// end.
 fn come_after(over: &[Sample], under: &[Sample]) -> bool
     requires over_rises { T (is_sorted int_cmp over.now) }
     requires under_rises { T (is_sorted int_cmp under.now) }
@@ -80,8 +83,8 @@ fn lay_each(alloc: Global, over: &[Sample], under: &[Sample]) -> Result<Vec<Samp
     Ok(laid)
 }
 
-/// Samples laid over others: of two at one time the first stands. Where they all come after the others, only they are
-/// copied.
+/// Samples laid over others: of two at one time the first stands. Where they all come after the
+/// others, only they are copied.
 fn lay_samples(
     alloc: Global,
     over: &[Sample],
@@ -100,8 +103,8 @@ fn lay_samples(
     Ok(laid)
 }
 
-/// Puts a row before those that come after it in label order, joined to the first of them where that has its label set.
-/// They stand in reverse.
+/// Puts a row before those that come after it in label order, joined to the first of them where
+/// that has its label set. They stand in reverse.
 fn join_row(alloc: Global, later: &mut Vec<Row>, row: Row) -> Result<(), AllocError>
     requires rises { T (is_sorted int_cmp row.1) }
     requires all_rise { All (λ r. T (is_sorted int_cmp r.1)) later.old.items }
@@ -124,7 +127,8 @@ fn join_row(alloc: Global, later: &mut Vec<Row>, row: Row) -> Result<(), AllocEr
     Ok(())
 }
 
-/// Rows in label order, joined where they have one label set; of several samples at one time the first stands.
+/// Rows in label order, joined where they have one label set; of several samples at one time the
+/// first stands.
 fn join_rows(alloc: Global, rows: Vec<Row>) -> Result<Vec<Row>, AllocError>
     requires { All (λ r. T (is_sorted int_cmp r.1)) rows.items }
     ensures { IfOk result (λ rows'. rows'.items ≡ joined rows.items []) }
@@ -168,9 +172,10 @@ fn gathered(alloc: Global, answers: &[PartAnswer]) -> Result<Vec<Row>, AllocErro
     Ok(all)
 }
 
-/// The rows of several answers as one: in label order, one row for each label set, its samples in time order; of the
-/// samples at one time the last answer's stands. Each answer's rows are in label order, none of them empty, their times
-/// ascending (the caller's condition). Each row is copied once; it costs a sort of all rows.
+/// The rows of several answers as one: in label order, one row for each label set, its samples in
+/// time order; of the samples at one time the last answer's stands. Each answer's rows are in
+/// label order, none of them empty, their times ascending (the caller's condition). Each row is
+/// copied once; it costs a sort of all rows.
 pub fn merge(alloc: Global, answers: &[PartAnswer]) -> Result<Vec<Row>, AllocError>
     requires { (answer : PartAnswer) → Contains answers.now answer → IsRowList answer.rows.items }
     ensures { IfOk result (λ rows. AreRows rows.items (merged_content answers.now)) }

@@ -3,5 +3,4 @@ pub mod Covers
 pub mod Joins
 pub mod Loops
 pub mod Reaches
-pub mod Steps
 pub mod Whole

@@ -5,13 +5,14 @@ use Rattle.std.proofs.lemmas.List.{append-nil}
 use Rattle.wire.specs.declared.error.WireError.{WireError}
 use Rattle.wire.specs.Reading.{uvarint_at, varint_at, signed, unzigzag}
 use Rattle.wire.proofs.Laws.{uvarint_shorter}
+use Rattle.wire.specs.Outcome.{◌>>=◌, or_refused, Fails}
 use Rattle.tombstones.specs.declared.deletion.Deletion.{Deletion}
 use Rattle.tombstones.specs.declared.error.TombstoneError.{TombstoneError}
 use Rattle.tombstones.specs.declared.error.TombstoneError.TheVariants.{Shape}
 use Rattle.tombstones.specs.Grammar.{is_interval}
-use Rattle.tombstones.specs.Outcome.{Fails}
-use Rattle.tombstones.specs.Reading.{◌>>=◌, or_refused, entry_at, deletions_from}
-use Rattle.tombstones.proofs.Steps.{bind_ok, refused_ok, kept, passed, same_value, fails_on, chain}
+use Rattle.tombstones.specs.Outcome.{is_memory}
+use Rattle.tombstones.specs.Reading.{entry_at, deletions_from}
+use Rattle.wire.proofs.Steps.{bind_ok, refused_ok, not_failed, passed, same_value, fails_on, chain}
 
 -- what was read before, and what is still read
 abbrev pub with_front : List Deletion → Result (List Deletion) TombstoneError → Result (List Deletion) TombstoneError
@@ -44,7 +45,7 @@ entry_shorter bytes x h =
     let r = bind_ok (or_refused Shape (uvarint_at bytes)) _ x h in
     let f = bind_ok (or_refused Shape (varint_at r.0.1)) _ x r.2 in
     let t = bind_ok (or_refused Shape (varint_at f.0.1)) _ x f.2 in
-    let a = kept (ltb 0xFFFF_FFFF r.0.0) Shape _ x t.2 in
+    let a = not_failed (ltb 0xFFFF_FFFF r.0.0) Shape _ x t.2 in
     let b = passed (is_interval f.0.0 t.0.0) Shape _ x a.1 in
     let made : Deletion × List ℕ = (record { reference = r.0.0; from = f.0.0; to = t.0.0 }, t.0.1) in
     let e : length t.0.1 ≡ length x.1 = ap (λ (p : Deletion × List ℕ). length p.1) (same_value made x b.1) in
@@ -59,8 +60,8 @@ goes_on (suc m) front (b ∷ bytes) d after total some le h so_far =
     let one : with_front front (deletions_from (suc m) (b ∷ bytes)) ≡ with_front (front ++ d ∷ []) (deletions_from m after) = rw h (regroup front d (deletions_from m after)) in
     (m, refl, sym one ∙ so_far)
 
-pub stops : (e : TombstoneError) (n : ℕ) (front : List Deletion) (bytes : List ℕ) (total : Result (List Deletion) TombstoneError) → 0 < length bytes → length bytes ≤ n → Fails e (entry_at bytes)
-    → with_front front (deletions_from n bytes) ≡ total → Fails e total
+pub stops : (e : TombstoneError) (n : ℕ) (front : List Deletion) (bytes : List ℕ) (total : Result (List Deletion) TombstoneError) → 0 < length bytes → length bytes ≤ n → Fails is_memory e (entry_at bytes)
+    → with_front front (deletions_from n bytes) ≡ total → Fails is_memory e total
 unfolding deletions_from
 stops e zero front bytes total some le h so_far = absurd (omega arith)
 stops e (suc m) front [] total some le h so_far = absurd (omega arith)
@@ -68,7 +69,7 @@ stops e (suc m) front (b ∷ bytes) total some le h so_far =
     let others = λ (first : Deletion × List ℕ). deletions_from m first.1 >>= λ (ds : List Deletion). Ok (first.0 ∷ ds) in
     let last : List Deletion → Result (List Deletion) TombstoneError = λ x. Ok (front ++ x) in
     let one : (entry_at (b ∷ bytes) >>= λ first. (others first >>= last)) ≡ with_front front (deletions_from (suc m) (b ∷ bytes)) = chain (entry_at (b ∷ bytes)) others last in
-    fails_on e (entry_at (b ∷ bytes)) (λ first. others first >>= last) total (one ∙ so_far) h
+    fails_on is_memory e (entry_at (b ∷ bytes)) (λ first. others first >>= last) total (one ∙ so_far) h
 
 pub is_done : (n : ℕ) (front : List Deletion) (bytes : List ℕ) (total : Result (List Deletion) TombstoneError) → length bytes ≡ 0 → with_front front (deletions_from n bytes) ≡ total → total ≡ Ok front
 unfolding deletions_from

@@ -17,13 +17,14 @@ use Rattle.wire.proofs.ChecksumBound.{crc32c_below}
 use Rattle.wire.proofs.Fields.{IsBytes-front, IsBytes-back, number_takes_4, number_again_4, bytes_takes, bytes_again}
 use Rattle.wire.proofs.Laws.{uvarint_takes, uvarint_again, uvarint_long}
 use Rattle.wire.proofs.Signed.{varint_takes, varint_again}
+use Rattle.wire.specs.Outcome.{◌>>=◌, or_refused}
 use Rattle.tombstones.specs.declared.deletion.Deletion.{Deletion}
 use Rattle.tombstones.specs.declared.error.TombstoneError.{TombstoneError}
 use Rattle.tombstones.specs.declared.error.TombstoneError.TheVariants.{Magic, Version, Crc, Shape}
 use Rattle.tombstones.specs.Grammar.{entry_text, entries_text, is_interval, IsDeletion, IsTombstones}
 use Rattle.tombstones.specs.Outcome.{GivesAll}
-use Rattle.tombstones.specs.Reading.{◌>>=◌, or_refused, checked_at, entries_of, entry_at, deletions_from, deletions_of}
-use Rattle.tombstones.proofs.Steps.{bind_ok, refused_ok, kept, passed, same_value, rest_fits}
+use Rattle.tombstones.specs.Reading.{checked_at, entries_of, entry_at, deletions_from, deletions_of}
+use Rattle.wire.proofs.Steps.{bind_ok, refused_ok, not_failed, passed, same_value, rest_fits}
 
 -- an entry
 
@@ -37,7 +38,7 @@ entry_takes bytes x fits h =
     let r = bind_ok (or_refused Shape (uvarint_at bytes)) _ x h in
     let f = bind_ok (or_refused Shape (varint_at r.0.1)) _ x r.2 in
     let t = bind_ok (or_refused Shape (varint_at f.0.1)) _ x f.2 in
-    let a = kept (ltb 0xFFFF_FFFF r.0.0) Shape _ x t.2 in
+    let a = not_failed (ltb 0xFFFF_FFFF r.0.0) Shape _ x t.2 in
     let b = passed (is_interval f.0.0 t.0.0) Shape _ x a.1 in
     let one = (uvarint_takes bytes r.0.0 r.0.1 fits (refused_ok Shape (uvarint_at bytes) r.0 r.1)).0 in
     let r_fits = rest_fits bytes (uvarint r.0.0) r.0.1 fits one in
@@ -191,7 +192,7 @@ file_takes file entries fits h =
     let mt = passed (eqb m.0.0 0x0130_BA30) Magic _ entries m.2 in
     let v = bind_ok (or_refused Version (byte_at m.0.1)) _ entries mt.1 in
     let vt = passed (eqb v.0.0 1) Version _ entries v.2 in
-    let s = kept (ltb 0x4000_0000 (length file)) Shape _ entries vt.1 in
+    let s = not_failed (ltb 0x4000_0000 (length file)) Shape _ entries vt.1 in
     let one = (number_takes_4 file m.0.0 m.0.1 fits (refused_ok Magic (number_at 4 file) m.0 m.1)).0 in
     let m_fits = rest_fits file (big_bytes 4 m.0.0) m.0.1 fits one in
     let two = byte_takes m.0.1 v.0 (refused_ok Version (byte_at m.0.1) v.0 v.1) in

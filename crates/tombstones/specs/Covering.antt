@@ -1,5 +1,5 @@
 -- What deletions delete.
-use Rattle.std.specs.Prelude.{ℕ, ℤ, Bool, List, ◌==◌, ◌&&◌, int_le}
+use Rattle.std.specs.Prelude.{◌≡◌, ℕ, ℤ, Bool, List, ◌==◌, ◌&&◌, ◌||◌, int_le}
 use Rattle.std.specs.List.{list_any}
 use Rattle.tombstones.specs.declared.deletion.Deletion.{Deletion}
 
@@ -25,4 +25,9 @@ interval from to reference = record { reference = reference; from = from; to = t
 
 -- whether the time of a series lies in the closed interval and the series is one of these
 abbrev pub are_covered : List ℕ → ℤ → ℤ → ℕ → ℤ → Bool
-are_covered references from to r t = list_any (λ (x : ℕ). x == r) references && (int_le from t && int_le t to)
+are_covered references from to r t =
+    list_any (λ (x : ℕ). x == r) references && (int_le from t && int_le t to)
+
+-- the new deletions cover what the old ones cover and what passes the test, and nothing else
+abbrev pub CoversAlso : List Deletion → (ℕ → ℤ → Bool) → List Deletion → Type 0
+CoversAlso old test new = (r : ℕ) (t : ℤ) → covered new r t ≡ (test r t || covered old r t)

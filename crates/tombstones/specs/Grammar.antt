@@ -1,6 +1,7 @@
 -- The bytes of a file of deletions, by what they spell.
 use Rattle.std.specs.Prelude.{◌≡◌, ℕ, ℤ, ◌≤◌, ◌<◌, ◌^◌, Bool, true, ◌&&◌, List, ◌∷◌, ◌++◌, length, int_le}
 use Rattle.std.specs.List.{flat_map, AllByRecursion}
+use Rattle.std.specs.List.Sorted.{IsPermutation}
 use Rattle.byteorder.specs.Endian.{big_bytes}
 use Rattle.labels.specs.declared.sample.TheConstants.{MIN_TIME, MAX_TIME}
 use Rattle.wire.specs.Spelling.{uvarint, varint}
@@ -25,5 +26,11 @@ entries_text deletions = flat_map entry_text deletions
 -- magic, version, the entries and their checksum
 pub record IsTombstones (file : List ℕ) (deletions : List Deletion) : Type 0 where
   pub short : length file ≤ 0x4000_0000
-  pub text : file ≡ 0x01 ∷ 0x30 ∷ 0xBA ∷ 0x30 ∷ 1 ∷ (entries_text deletions ++ big_bytes 4 (crc32c (entries_text deletions)))
+  pub text : file ≡ 0x01 ∷ 0x30 ∷ 0xBA ∷ 0x30 ∷ 1
+      ∷ (entries_text deletions ++ big_bytes 4 (crc32c (entries_text deletions)))
   pub sound : AllByRecursion IsDeletion deletions
+
+-- the file spells exactly these deletions, in some order
+abbrev pub SpellsAll : List ℕ → List Deletion → Type 0
+SpellsAll file held =
+    (deletions : List Deletion) × IsTombstones file deletions × IsPermutation deletions held

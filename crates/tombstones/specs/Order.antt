@@ -18,18 +18,23 @@ AreInOrder deletions = IsSortedByKey beginning beginning_cmp deletions
 
 -- whether a deletion is of a series before this one, or of this one and begins by this time
 abbrev pub begins_by : ℕ → ℤ → Deletion → Bool
-begins_by reference t d = nat_lt d.reference reference || (d.reference == reference && int_le d.from t)
+begins_by reference t d =
+    nat_lt d.reference reference || (d.reference == reference && int_le d.from t)
 
 abbrev pub deletion_at : List Deletion → ℕ → Deletion
-deletion_at deletions k = slice_index_or deletions k (record { reference = 0; from = pos 0; to = pos 0 })
+deletion_at deletions k =
+    slice_index_or deletions k (record { reference = 0; from = pos 0; to = pos 0 })
 
--- from where a deletion begins on, it and those before it cover of its series the times up to its reach, and no others
+-- from where a deletion begins on, it and those before it cover of its series the times up to its
+-- reach, and no others
 abbrev pub IsReach : List Deletion → ℕ → ℤ → Type 0
-IsReach deletions k reach = (t : ℤ) → int_le (deletion_at deletions k).from t ≡ true → covered (take (k + 1) deletions) (deletion_at deletions k).reference t ≡ int_le t reach
+IsReach deletions k reach = (t : ℤ) → int_le (deletion_at deletions k).from t ≡ true
+    → covered (take (k + 1) deletions) (deletion_at deletions k).reference t ≡ int_le t reach
 
 -- so for each of the first deletions
 abbrev pub AreReaches : ℕ → List Deletion → List ℤ → Type 0
-AreReaches n deletions reaches = (k : ℕ) → k < n → IsReach deletions k (slice_index_or reaches k (pos 0))
+AreReaches n deletions reaches =
+    (k : ℕ) → k < n → IsReach deletions k (slice_index_or reaches k (pos 0))
 
 pub record IsOrdered (deletions : List Deletion) (reaches : List ℤ) : Type 0 where
   pub in_order : AreInOrder deletions

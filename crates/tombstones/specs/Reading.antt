@@ -1,27 +1,18 @@
 -- Reading deletions from a file. Each check has its refusal, and the first that fails is answered.
 use Rattle.std.specs.Prelude.{ℕ, zero, suc, ◌-◌, List, [], ◌∷◌, length, Result, Ok, Err, nat_lt, ◌==◌, if◌then◌else◌}
-use Rattle.wire.specs.declared.error.WireError.{WireError}
 use Rattle.wire.specs.Reading.{byte_at, bytes_at, number_at, uvarint_at, varint_at}
 use Rattle.wire.specs.Checksum.{crc32c}
+use Rattle.wire.specs.Outcome.{◌>>=◌, or_refused}
 use Rattle.tombstones.specs.declared.deletion.Deletion.{Deletion}
 use Rattle.tombstones.specs.declared.error.TombstoneError.{TombstoneError}
 use Rattle.tombstones.specs.declared.error.TombstoneError.TheVariants.{Magic, Version, Crc, Shape}
+use Rattle.tombstones.specs.Covering.{interval}
 use Rattle.tombstones.specs.Grammar.{is_interval}
 
-infixl 10 ◌>>=◌
-abbrev pub ◌>>=◌ : {A B : Type 0} → Result A TombstoneError → (A → Result B TombstoneError) → Result B TombstoneError
-(Ok x) >>= f = f x
-(Err e) >>= f = Err e
-
--- a field, whose refusal is that of the check which reads it
-abbrev pub or_refused : {A : Type 0} → TombstoneError → Result A WireError → Result A TombstoneError
-or_refused e (Ok x) = Ok x
-or_refused e (Err f) = Err e
-
--- the entries of what stands behind the head: all but the checksum in the last four bytes
+-- the entries of what stands after the head: all but the checksum in the last four bytes
 unfoldable pub checked_at : List ℕ → Result (List ℕ) TombstoneError
-checked_at behind = do
-  entries ← or_refused Shape (bytes_at (length behind - 4) behind)
+checked_at after = do
+  entries ← or_refused Shape (bytes_at (length after - 4) after)
   sum ← or_refused Shape (number_at 4 entries.1)
   if sum.0 == crc32c entries.0 then Ok entries.0 else Err Crc
 
@@ -31,7 +22,9 @@ entries_of file = do
   magic ← or_refused Magic (number_at 4 file)
   if magic.0 == 0x0130_BA30 then (do
     version ← or_refused Version (byte_at magic.1)
-    if version.0 == 1 then (if nat_lt 0x4000_0000 (length file) then Err Shape else checked_at version.1) else Err Version)
+    if version.0 == 1 then
+        (if nat_lt 0x4000_0000 (length file) then Err Shape else checked_at version.1)
+        else Err Version)
       else Err Magic
 
 -- the entry in front
@@ -41,7 +34,7 @@ entry_at bytes = do
   from ← or_refused Shape (varint_at reference.1)
   to ← or_refused Shape (varint_at from.1)
   if nat_lt 0xFFFF_FFFF reference.0 then Err Shape
-      else if is_interval from.0 to.0 then Ok (record { reference = reference.0; from = from.0; to = to.0 }, to.1)
+      else if is_interval from.0 to.0 then Ok (interval from.0 to.0 reference.0, to.1)
       else Err Shape
 
 -- the entries up to the end, at most so many

@@ -4,11 +4,13 @@ ghost use Rattle.std.specs.Prelude.{◌≡◌};
 ghost use Rattle.tombstones.specs.declared.error.TombstoneError.TheVariants.{Memory};
 
 use std::alloc::{AllocError, AllocFailed};
+use std::error::Error;
+use std::fmt;
 
-/// The first check that failed, or want of memory.
-#[derive(Clone, Copy, Debug, PartialEq, Eq)]
+/// The first check that failed, or that there is no memory.
+#[derive(Clone, Copy, Debug, PartialEq, Eq, Drop)]
 pub enum TombstoneError {
-    /// No memory is left.
+    /// No memory.
     Memory,
     /// `T1`: the file does not begin with `01 30 BA 30`.
     Magic,
@@ -23,12 +25,12 @@ pub enum TombstoneError {
 impl TombstoneError {
     ghost use Rattle.tombstones.specs.Codes.{code_of};
 
-    /// The refusal's number, as it is printed.
+    /// The number of the refusal, or `memory`.
     pub fn code(self) -> &'static str
         ensures { result.now ≡ code_of self }
     {
         match self {
-            TombstoneError::Memory => "Memory",
+            TombstoneError::Memory => "memory",
             TombstoneError::Magic => "T1",
             TombstoneError::Version => "T2",
             TombstoneError::Crc => "T3",
@@ -36,6 +38,28 @@ impl TombstoneError {
         }
     }
 }
+
+impl fmt::Display for TombstoneError {
+    ghost use Rattle.std.specs.Prelude.{Some};
+    ghost use Rattle.tombstones.specs.Codes.{text_of};
+
+    ghost output = { λ error. Some (text_of error) };
+
+    fn fmt<W: fmt::Write>(&self, f: &mut fmt::Formatter<W>) -> fmt::Result {
+        let text = match self {
+            TombstoneError::Memory => "no memory",
+            TombstoneError::Magic => "T1: the file does not begin with 01 30 BA 30",
+            TombstoneError::Version => "T2: the version is missing or not 1",
+            TombstoneError::Crc => "T3: the checksum is not that of the entries",
+            TombstoneError::Shape => {
+                "T4: the file is too short or too long, or holds no list of entries"
+            }
+        };
+        write!(f, "{text}")
+    }
+}
+
+impl Error for TombstoneError {}
 
 impl From<AllocError> for TombstoneError {
     ghost from_gives = { λ _ e. e ≡ Memory };

@@ -1,10 +1,11 @@
-//! Files that spell deletions, each refusal of a file that is spoiled in one place, and what deletions cover.
+//! Files that spell deletions, each refusal of a file that is spoiled in one place, and what
+//! deletions cover.
 
 ghost use Rattle.std.specs.Prelude.{◌≡◌, ◌<◌, length};
 
 use super::{Deletion, TombstoneError, Tombstones};
 use labels::SeriesRef;
-use std::alloc::Global;
+use std::alloc::{AllocError, Global};
 use std::test::Fail;
 use wire::{crc32c, put_be32, put_bytes};
 
@@ -19,6 +20,16 @@ fn file_of(alloc: Global, entries: &[u8]) -> Result<Vec<u8>, Fail> {
 
 fn six() -> SeriesRef {
     SeriesRef::new(6)
+}
+
+#[test]
+fn the_example_of_the_first_page(rt: HostRuntime) -> Result<(), AllocError> {
+    let mut tombstones = Tombstones::new(rt.alloc());
+    tombstones.add(SeriesRef::new(6), 10, 20)?;
+    assert!(rt; tombstones.deleted(SeriesRef::new(6), 20));
+    assert!(rt; !tombstones.deleted(SeriesRef::new(6), 21));
+    assert!(rt; !tombstones.deleted(SeriesRef::new(7), 20));
+    Ok(())
 }
 
 #[test]
@@ -293,9 +304,10 @@ fn every_shorter_file_is_refused(rt: HostRuntime) {
     }
 }
 
-/// Each byte of the entry `06 03 28` in turn is any value, under a checksum that is right. From 128 on a byte is not
-/// its number's last, so that the entry ends early. The reference may be any other; an interval begins at 20 at the
-/// latest (so at an even 40, or at an odd number for one below 0), and ends at -2 at the earliest.
+/// Each byte of the entry `06 03 28` in turn is any value, under a checksum that is right. From
+/// 128 on a byte is not its number's last, so that the entry ends early. The reference may be any
+/// other; an interval begins at 20 at the latest (so at an even 40, or at an odd number for one
+/// below 0), and ends at -2 at the earliest.
 #[test]
 fn an_entry_is_read_whatever_its_bytes(rt: HostRuntime) -> Result<(), Fail> {
     for byte in 0..=255 {

@@ -2,8 +2,8 @@
 
 ghost use Rattle.std.specs.Prelude.{◌≡◌, map, ◌<◌, ◌≤◌, ◌++◌, ◌∷◌, ◌||◌, [], true, false, ℕ, ℤ, List, length, slice_index_or, IfOk, OnErr, OnOk};
 ghost use Rattle.std.specs.List.Sorted.{IsPermutation};
-ghost use Rattle.tombstones.specs.Covering.{are_covered, covered, covers, has_deletion, interval};
-ghost use Rattle.tombstones.specs.Grammar.{IsTombstones};
+ghost use Rattle.tombstones.specs.Covering.{are_covered, covered, covers, has_deletion, interval, CoversAlso};
+ghost use Rattle.tombstones.specs.Grammar.{IsTombstones, SpellsAll};
 ghost use Rattle.tombstones.specs.Order.{AreInOrder, AreReaches, IsOrdered, IsReach, begins_by};
 ghost use Rattle.tombstones.specs.Outcome.{GivesAll};
 ghost use Rattle.tombstones.specs.Reading.{deletions_of};
@@ -16,8 +16,9 @@ use labels::SeriesRef;
 use std::alloc::{AllocError, Global};
 use std::marker::Model;
 
-/// Deletions, in the order of their references, and within a series of where they begin. Beside each it keeps the
-/// greatest end of the deletions of that series up to it, so that one of them decides a time.
+/// Deletions, in the order of their references, and within a series of where they begin. Beside
+/// each it keeps the greatest end of the deletions of that series up to it, so that one of them
+/// decides a time.
 #[derive(Drop)]
 pub struct Tombstones {
     deletions: Vec<Deletion>,
@@ -49,16 +50,18 @@ impl Tombstones {
 
     /// The deletions of a file, in any order there.
     ///
-    /// `T1` where the file does not begin with `01 30 BA 30`; `T2` where the version that follows is missing or not 1;
-    /// `T4` where the file has fewer than 9 or more than 1,073,741,824 bytes; `T3` where the checksum at the end is
-    /// wrong; `T4` where what stands between is no list of entries, each with a reference of 32 bits and an interval of
-    /// times that is not empty. The first of these is answered.
+    /// `T1` where the file does not begin with `01 30 BA 30`; `T2` where the version that follows
+    /// is missing or not 1; `T4` where the file has fewer than 9 or more than 1,073,741,824
+    /// bytes; `T3` where the checksum at the end is wrong; `T4` where what stands between is no
+    /// list of entries, each with a reference of 32 bits and an interval of times that is not
+    /// empty. The first of these is answered.
     pub fn open(alloc: Global, file: &[u8]) -> Result<Tombstones, TombstoneError>
         ensures exact { GivesAll result (deletions_of file.now) }
-        ensures found { IfOk result (λ t. (deletions : List DeletionValue) × IsTombstones file.now deletions × IsPermutation deletions t) }
-        ensures only { (deletions : List DeletionValue) → IsTombstones file.now deletions → GivesAll result (Ok deletions) }
+        ensures found { IfOk result (SpellsAll file.now) }
+        ensures only { (deletions : List DeletionValue) → IsTombstones file.now deletions
+            → GivesAll result (Ok deletions) }
     {
-        opened(alloc, file)
+        open(alloc, file)
     }
 
     /// The deletions, in the order of their references, and within a series of where they begin.
@@ -68,8 +71,8 @@ impl Tombstones {
         self.deletions.as_slice()
     }
 
-    /// Whether a deletion of the series covers the time. It takes time in proportion to the logarithm of the count of
-    /// deletions, however many are of the series.
+    /// Whether a deletion of the series covers the time. It takes time in proportion to the
+    /// logarithm of the count of deletions, however many are of the series.
     pub fn deleted(&self, reference: SeriesRef, t: i64) -> bool
         ensures { result ≡ covered self.now reference t }
     {
@@ -81,19 +84,20 @@ impl Tombstones {
         )
     }
 
-    /// Whether a deletion of the series is held, at whatever time. It takes time in proportion to the logarithm of the
-    /// count of deletions.
+    /// Whether a deletion of the series is held, at whatever time. It takes time in proportion to
+    /// the logarithm of the count of deletions.
     pub fn has_deletion_of(&self, reference: SeriesRef) -> bool
         ensures { result ≡ has_deletion self.now reference }
     {
         has_one_of(self.deletions.as_slice(), reference.number())
     }
 
-    /// Adds the closed interval to the deletions of the series, in time in proportion to the count of deletions. Where
-    /// memory runs out nothing is added.
+    /// Adds the closed interval to the deletions of the series, in time in proportion to the
+    /// count of deletions. Where memory runs out nothing is added.
     pub fn add(&mut self, reference: SeriesRef, from: i64, to: i64) -> Result<(), AllocError>
-        ensures ok { OnOk result ((r : ℕ) (t : ℤ) → covered self.new r t ≡ (covers r t (record { reference = reference; from = from; to = to }) || covered self.old r t)) }
-        ensures all { OnOk result (IsPermutation (record { reference = reference; from = from; to = to } ∷ self.old) self.new) }
+        ensures ok { OnOk result
+            (CoversAlso self.old (λ r t. covers r t (interval from to reference)) self.new) }
+        ensures all { OnOk result (IsPermutation (interval from to reference ∷ self.old) self.new) }
         ensures err { OnErr result (self.new ≡ self.old) }
     {
         let deletion = interval_of(reference, from, to);
@@ -109,8 +113,8 @@ impl Tombstones {
         Ok(())
     }
 
-    /// These deletions, and for each of the series the closed interval. It takes memory for all of them, and time to
-    /// put them in order.
+    /// These deletions, and for each of the series the closed interval. It takes memory for all
+    /// of them, and time to put them in order.
     pub fn with(
         &self,
         alloc: Global,
@@ -118,10 +122,11 @@ impl Tombstones {
         from: i64,
         to: i64,
     ) -> Result<Tombstones, AllocError>
-        ensures ok { IfOk result (λ t. (r : ℕ) (x : ℤ) → covered t r x ≡ (are_covered references.now from to r x || covered self.now r x)) }
-        ensures all { IfOk result (λ t. IsPermutation (self.now ++ map (interval from to) references.now) t) }
+        ensures ok { IfOk result (CoversAlso self.now (are_covered references.now from to)) }
+        ensures all { IfOk result
+            (IsPermutation (self.now ++ map (interval from to) references.now)) }
     {
-        joined(alloc, self.deletions.as_slice(), references, from, to)
+        join(alloc, self.deletions.as_slice(), references, from, to)
     }
 }
 
@@ -152,29 +157,30 @@ fn all_of(
     Ok(all)
 }
 
-fn joined(
+fn join(
     alloc: Global,
     deletions: &[Deletion],
     references: &[SeriesRef],
     from: i64,
     to: i64,
 ) -> Result<Tombstones, AllocError>
-    ensures ok { IfOk result (λ t. (r : ℕ) (x : ℤ) → covered t r x ≡ (are_covered references.now from to r x || covered deletions.now r x)) }
-    ensures all { IfOk result (λ t. IsPermutation (deletions.now ++ map (interval from to) references.now) t) }
+    ensures ok { IfOk result (CoversAlso deletions.now (are_covered references.now from to)) }
+    ensures all { IfOk result
+        (IsPermutation (deletions.now ++ map (interval from to) references.now)) }
 {
     let deletions = all_of(alloc, deletions, references, from, to)?;
-    ordered(alloc, deletions)
+    put_in_order(alloc, deletions)
 }
 
-fn opened(alloc: Global, file: &[u8]) -> Result<Tombstones, TombstoneError>
+fn open(alloc: Global, file: &[u8]) -> Result<Tombstones, TombstoneError>
     ensures { GivesAll result (deletions_of file.now) }
 {
-    Ok(ordered(alloc, deletions_of(alloc, file)?)?)
+    Ok(put_in_order(alloc, deletions_of(alloc, file)?)?)
 }
 
 /// The deletions, put in order.
-fn ordered(alloc: Global, mut deletions: Vec<Deletion>) -> Result<Tombstones, AllocError>
-    ensures { IfOk result (λ t. IsPermutation deletions.items t) }
+fn put_in_order(alloc: Global, mut deletions: Vec<Deletion>) -> Result<Tombstones, AllocError>
+    ensures { IfOk result (IsPermutation deletions.items) }
 {
     deletions.sort_unstable_by_key(|deletion| (deletion.reference, deletion.from));
     let mut reaches = Vec::new(alloc);
@@ -215,8 +221,10 @@ fn reach_at(deletions: &[Deletion], reaches: &[i64], at: usize) -> i64
 fn place_of(deletions: &[Deletion], reference: u32) -> usize
     requires { AreInOrder deletions.now }
     ensures within { result ≤ length deletions.now }
-    ensures below { (k : ℕ) (d : DeletionValue) → k < result → (slice_index_or deletions.now k d).reference < reference }
-    ensures above { (k : ℕ) (d : DeletionValue) → result ≤ k → k < length deletions.now → reference ≤ (slice_index_or deletions.now k d).reference }
+    ensures below { (k : ℕ) (d : DeletionValue) → k < result
+        → (slice_index_or deletions.now k d).reference < reference }
+    ensures above { (k : ℕ) (d : DeletionValue) → result ≤ k → k < length deletions.now
+        → reference ≤ (slice_index_or deletions.now k d).reference }
 {
     deletions.partition_point(|deletion| deletion.reference < reference)
 }
@@ -236,8 +244,10 @@ fn has_one_of(deletions: &[Deletion], reference: u32) -> bool
 fn count_begun(deletions: &[Deletion], reference: u32, t: i64) -> usize
     requires { AreInOrder deletions.now }
     ensures within { result ≤ length deletions.now }
-    ensures begun { (k : ℕ) (d : DeletionValue) → k < result → begins_by reference t (slice_index_or deletions.now k d) ≡ true }
-    ensures not_begun { (k : ℕ) (d : DeletionValue) → result ≤ k → k < length deletions.now → begins_by reference t (slice_index_or deletions.now k d) ≡ false }
+    ensures begun { (k : ℕ) (d : DeletionValue) → k < result
+        → begins_by reference t (slice_index_or deletions.now k d) ≡ true }
+    ensures not_begun { (k : ℕ) (d : DeletionValue) → result ≤ k → k < length deletions.now
+        → begins_by reference t (slice_index_or deletions.now k d) ≡ false }
 {
     deletions.partition_point(|deletion| deletion.begins_by(reference, t))
 }

@@ -5,5 +5,6 @@ pub mod Laws
 pub mod Loops
 pub mod Shifts
 pub mod Signed
+pub mod Steps
 pub mod TableLaws
 pub mod Uniqueness

@@ -2,7 +2,7 @@ use Rattle.std.proofs.Common.{◌≡◌, sym, subst, rules, length}
 use Rattle.std.proofs.lemmas.List.Sorted.{answers_always}
 use Rattle.tombstones.specs.Order.{AreInOrder, beginning}
 use Rattle.tombstones.proofs.Reaches.{ordered_by}
-use Rattle.tombstones.proofs.tombstones.ordered.Goals as goal
+use Rattle.tombstones.proofs.tombstones.put_in_order.Goals as goal
 
 pub set_reaches-requires-clause-in_order : goal.set_reaches-requires-clause-in_order
 set_reaches-requires-clause-in_order c =
