@@ -247,38 +247,43 @@ fn told_by(alloc: Global, words: Words, reply: Text) -> Option<Told> {
 
 fn ends_so(alloc: Global, row: &Row) -> bool {
     let (words, reply, status, lines, fault) = *row;
-    told_by(alloc, words, reply).is_some_and(|told| {
-        told.ending.status == status
-            && told.out.as_slice() == lines.as_bytes()
-            && told.err.as_slice() == fault.as_bytes()
-    })
+    let Some(told) = told_by(alloc, words, reply) else {
+        return false;
+    };
+    told.ending.status == status
+        && told.out.as_slice() == lines.as_bytes()
+        && told.err.as_slice() == fault.as_bytes()
 }
 
-/// The first that ends in another way.
-fn first_other(alloc: Global, rows: &'static [Row]) -> Option<&'static Row> {
-    rows.iter().find(|row| !ends_so(alloc, row))
+fn all_end_so(alloc: Global, rows: &[Row]) -> bool {
+    for row in rows {
+        if !ends_so(alloc, row) {
+            return false;
+        }
+    }
+    true
 }
 
 #[test]
 fn each_run_ends_so(rt: HostRuntime) {
-    assert!(rt; first_other(rt.alloc(), JUDGED).is_none());
-    assert!(rt; first_other(rt.alloc(), UNMET).is_none());
-    assert!(rt; first_other(rt.alloc(), DAMAGES).is_none());
-    assert!(rt; first_other(rt.alloc(), REFUSED).is_none());
+    assert!(rt; all_end_so(rt.alloc(), JUDGED));
+    assert!(rt; all_end_so(rt.alloc(), UNMET));
+    assert!(rt; all_end_so(rt.alloc(), DAMAGES));
+    assert!(rt; all_end_so(rt.alloc(), REFUSED));
 }
 
-fn is_bad(alloc: Global, text: &Text) -> bool {
-    ends_so(alloc, &(ASKED, *text, 3, "", "bad reply\n"))
-}
-
-/// The first text that is not answered as a bad reply.
-fn first_good(alloc: Global, texts: &'static [Text]) -> Option<&'static Text> {
-    texts.iter().find(|text| !is_bad(alloc, text))
+fn are_bad(alloc: Global, texts: &[Text]) -> bool {
+    for text in texts {
+        if !ends_so(alloc, &(ASKED, *text, 3, "", "bad reply\n")) {
+            return false;
+        }
+    }
+    true
 }
 
 #[test]
 fn every_other_text_is_a_bad_reply(rt: HostRuntime) {
-    assert!(rt; first_good(rt.alloc(), BAD).is_none());
+    assert!(rt; are_bad(rt.alloc(), BAD));
 }
 
 /// Words that are not those of the program.
@@ -293,18 +298,20 @@ const OTHER_WORDS: &[Words] = &[
     &["--selector=up", "--to=9223372036854775808"],
 ];
 
-fn are_other_words(alloc: Global, words: &Words) -> bool {
-    told_by(alloc, *words, EMPTY).is_some_and(|told| {
-        told.ending.status == 2 && told.out.is_empty() && !told.err.is_empty()
-    })
+fn is_fault_of_words(told: &Told) -> bool {
+    told.ending.status == 2 && told.out.is_empty() && !told.err.is_empty()
 }
 
-/// The first words that are taken.
-fn first_taken(alloc: Global, rows: &'static [Words]) -> Option<&'static Words> {
-    rows.iter().find(|words| !are_other_words(alloc, words))
+fn are_other_words(alloc: Global, rows: &[Words]) -> bool {
+    for words in rows {
+        if !told_by(alloc, *words, EMPTY).is_some_and(|told| is_fault_of_words(&told)) {
+            return false;
+        }
+    }
+    true
 }
 
 #[test]
 fn other_words_are_a_fault(rt: HostRuntime) {
-    assert!(rt; first_taken(rt.alloc(), OTHER_WORDS).is_none());
+    assert!(rt; are_other_words(rt.alloc(), OTHER_WORDS));
 }
