@@ -1,18 +1,21 @@
 -- One event more after a replay.
-use Rattle.std.proofs.Common.{◌≡◌, ℤ, List, [], ◌∷◌, ◌++◌, Result, Ok, Err, refl, ap, ◌∙◌, subst, inl, inr}
+use Rattle.std.proofs.Common.{◌≡◌, ℤ, List, [], ◌∷◌, ◌++◌, map, Result, Ok, Err, refl, sym, ap, ◌∙◌, subst, inl, inr}
 use Rattle.std.proofs.lemmas.List.{map_push}
+use mathlib.Core.List.{IsPrefix}
+use Rattle.head.specs.Kept.{KeepsBlocks, frame_of}
 use Rattle.head.specs.Limits.{most}
 use Rattle.head.specs.Refusals.{Refusal}
-use Rattle.head.specs.Worlds.{World, Event, deletion, stepped, replayed_from, replayed}
-use Rattle.head.specs.Heads.{SnapshotParts, world_of}
+use Rattle.head.specs.Worlds.{World, Event, batch, deletion, cut, stepped, replayed_from, replayed}
+use Rattle.head.specs.Heads.{BlockPart, SnapshotParts, world_of}
 use Rattle.head.specs.declared.error.CommitError.{CommitError}
 use Rattle.head.specs.declared.error.CommitError.TheVariants.{OutOfBounds, OutOfOrder, Duplicate, Limit, CutTooLow, TooManyParts, Seat, Memory}
 use Rattle.matchers.specs.Views.{MatcherView}
 use Rattle.snapshots.specs.declared.entry.Entry.{Entry}
 use Rattle.logbook.specs.Pages.{Book}
 use Rattle.snapshots.specs.Grows.{Shows}
-use Rattle.snapshots.specs.Replays.{events_in, IsAfter, Steps, IsRefusal, IsRefusedAfter, IsOfSeatOrMemory}
+use Rattle.snapshots.specs.Replays.{events_in, IsAfter, Steps, Leads, KeepsFrames, IsRefusal, IsRefusedAfter, IsOfSeatOrMemory}
 use Rattle.snapshots.specs.Views.{Edition}
+use Rattle.snapshots.proofs.Prefixes.{prefix_self, prefix_trans}
 
 replayed_from-snoc : (r : Result World Refusal) (es : List Event) (e : Event) (v : World)
     → replayed_from most r es ≡ Ok v → replayed_from most r (es ++ e ∷ []) ≡ stepped most v e
@@ -20,18 +23,41 @@ replayed_from-snoc r [] e v is = ap (λ (s : Result World Refusal). replayed_fro
 replayed_from-snoc (Err x) (f ∷ es) e v is = absurd (cc is)
 replayed_from-snoc (Ok w) (f ∷ es) e v is = replayed_from-snoc (stepped most w f) es e v is
 
-never_empty : {A : Type 0} {B : Type 0} (es : List A) (e : A) → es ++ e ∷ [] ≡ [] → B
-never_empty [] e is = absurd (cc is)
-never_empty (f ∷ es) e is = absurd (cc is)
+-- an event leaves the blocks that there were first, each with its frame
+keeps_frames : (event : Event) (s t : SnapshotParts) → KeepsBlocks event s t.blocks → KeepsFrames s t
+keeps_frames (batch xs) s t kept =
+    subst (λ (bs : List BlockPart). IsPrefix (map frame_of s.blocks) (map frame_of bs)) (sym kept) (prefix_self _)
+keeps_frames (deletion ms from to) s t kept =
+    subst (IsPrefix (map frame_of s.blocks)) (sym kept) (prefix_self _)
+keeps_frames (cut at) s t kept = elim kept [
+  | inl same ↦ subst (λ (bs : List BlockPart). IsPrefix (map frame_of s.blocks) (map frame_of bs)) (sym same) (prefix_self _)
+  | inr more ↦ (frame_of more.0 ∷ [], sym (ap (map frame_of) more.1 ∙ map_push frame_of s.blocks more.0))
+]
+
+leads-snoc : (s : SnapshotParts) (es : List Event) (e : Event) (t u : SnapshotParts)
+    → Leads s es t → Steps t e u → Leads s (es ++ e ∷ []) u
+leads-snoc s [] e t u same step =
+    (u, subst (λ (z : SnapshotParts). Steps z e u) same step, refl)
+leads-snoc s (f ∷ es) e t u leads step =
+    (leads.0, leads.1, leads-snoc leads.0 es e t u leads.2 step)
+
+-- before the first event it is the opening
+pub after-none : (opening : SnapshotParts) → IsAfter opening [] opening
+after-none opening = record { replay = refl; blocks = prefix_self _; reached = refl }
 
 -- the snapshot after one event more
 pub after-snoc : (opening : SnapshotParts) (es : List Entry) (e : Entry) (s t : SnapshotParts)
     → IsAfter opening es s → Steps s e.event t → IsAfter opening (es ++ e ∷ []) t
-after-snoc opening es e s t after step = (
-  ap (replayed most (world_of opening)) (map_push (λ (x : Entry). x.event) es e)
-      ∙ (replayed_from-snoc (Ok (world_of opening)) (events_in es) e.event (world_of s) after.0 ∙ step),
-  λ empty. never_empty es e empty,
-)
+after-snoc opening es e s t after step =
+    let events : events_in (es ++ e ∷ []) ≡ events_in es ++ e.event ∷ [] = map_push (λ (x : Entry). x.event) es e in
+    record {
+      replay = ap (replayed most (world_of opening)) events
+          ∙ (replayed_from-snoc (Ok (world_of opening)) (events_in es) e.event (world_of s) after.replay ∙ step.world);
+      blocks = prefix_trans (map frame_of opening.blocks) (map frame_of s.blocks) (map frame_of t.blocks)
+          after.blocks (keeps_frames e.event s t step.kept);
+      reached = subst (λ (events : List Event). Leads opening events t) (sym events)
+          (leads-snoc opening (events_in es) e.event s t after.reached step);
+    }
 
 -- the snapshot after one event more than the published version has
 pub after_shown : (book : Book) (opening : SnapshotParts) (x : Edition) (es : List Entry) (e : Entry) (s t : SnapshotParts)
