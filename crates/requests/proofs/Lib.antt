@@ -8,3 +8,4 @@ pub mod HeadTexts
 pub mod FieldTexts
 pub mod ReadTexts
 pub mod FitTexts
+pub mod Endings

@@ -4,6 +4,7 @@ pub mod Replies
 pub mod Targets
 pub mod Times
 pub mod Requests
+pub mod Ending
 pub mod QueryStrings
 pub mod Selecting
 pub mod Json

@@ -3,6 +3,7 @@
 ghost use Rattle.std.specs.Prelude.{◌≡◌, ◌<◌, ◌≤◌, ◌⊎◌, ◌++◌, ◌+◌, ℕ, List, length, vec_len, IfOk, IfErr, IfSome, OnOk, IsErrOf};
 ghost use Rattle.std.specs.Io.KnownBytes.{Consumes, IsAtEnd};
 ghost use Rattle.requests.specs.Edge.{IsCounted};
+ghost use Rattle.requests.specs.Ending.{EndsReading};
 ghost use Rattle.requests.specs.Heads.{BeginsWithHead, EndsHead};
 ghost use Rattle.requests.specs.Looks.{Looks};
 
@@ -69,6 +70,7 @@ pub fn read_head<R: Inlet>(alloc: Global, reader: &mut R) -> Result<Vec<u8>, Rea
         (λ buf. Consumes (R.input reader.old) (R.input reader.new) buf.items) }
     ensures counted { OnOk result (R.failed_reads reader.new ≡ R.failed_reads reader.old) }
     ensures err { IfErr result (λ e. IfSome (R.input reader.old) (EndsHead e)) }
+    ensures refusal { IfErr result EndsReading }
     ensures failed { IsErrOf result ReadError.Fault
         → IsCounted (R.failed_reads reader.old) (R.failed_reads reader.new) }
 {

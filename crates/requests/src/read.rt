@@ -4,6 +4,7 @@ ghost use Rattle.std.specs.Prelude.{◌≡◌, ◌<◌, ◌≤◌, ◌++◌, ℕ
 ghost use Rattle.std.specs.Io.KnownBytes.{Consumes};
 ghost use Rattle.httparse.specs.Grammar.{RequestHead};
 ghost use Rattle.requests.specs.Edge.{IsCounted};
+ghost use Rattle.requests.specs.Ending.{EndsReading};
 ghost use Rattle.requests.specs.Fields.{IsHeadIn};
 ghost use Rattle.requests.specs.Fitting.{IsFit};
 ghost use Rattle.requests.specs.Heads.{BeginsWithHead};
@@ -27,6 +28,7 @@ fn read_body<R: Inlet>(reader: &mut R, buf: &mut Vec<u8>, end: usize) -> Result<
         × Consumes (R.input reader.old) (R.input reader.new) bs) }
     ensures err { IfErr result (λ e. IfSome (R.input reader.old)
         (λ more. EndsBody buf.old.items end e more)) }
+    ensures refusal { IfErr result EndsReading }
     ensures failed { IsErrOf result ReadError.Fault
         → IsCounted (R.failed_reads reader.old) (R.failed_reads reader.new) }
 {
@@ -64,6 +66,7 @@ fn read_after<R: Inlet>(alloc: Global, reader: &mut R, buf: Vec<u8>) -> Result<R
     requires short { vec_len buf ≤ 8192 }
     ensures means { AsksAfter buf.items (R.input reader.old) result }
     ensures fits { IfOk result IsFit }
+    ensures refusal { IfErr result EndsReading }
     ensures failed { IsErrOf result ReadError.Fault
         → IsCounted (R.failed_reads reader.old) (R.failed_reads reader.new) }
 {
@@ -97,6 +100,7 @@ ghost use Rattle.requests.specs.Reading.{AsksAfter};
 pub fn read_request<R: Inlet>(alloc: Global, reader: &mut R) -> Result<Request, ReadError>
     ensures means { IfSome (R.input reader.old) (Answers result) }
     ensures fits { IfOk result IsFit }
+    ensures refusal { IfErr result EndsReading }
     ensures failed { IsErrOf result ReadError.Fault
         → IsCounted (R.failed_reads reader.old) (R.failed_reads reader.new) }
 {

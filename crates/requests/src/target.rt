@@ -1,6 +1,7 @@
 //! The target of a request: a path, and the query string behind it.
 
-ghost use Rattle.std.specs.Prelude.{◌≡◌};
+ghost use Rattle.std.specs.Prelude.{◌≡◌, IfErr};
+ghost use Rattle.requests.specs.Ending.{IsOfBytes};
 ghost use Rattle.requests.specs.Targets.{path_text, query_text, has_query, path_named, method_of, takes_query, path_asked};
 
 use crate::Refusal;
@@ -83,7 +84,8 @@ pub fn takes_query(path: Path) -> bool
 /// The path that a method and a target ask for: `H3`, then `H4`, then `H5` for a `?` that no path
 /// of `POST` has.
 pub fn path_asked(method: &[u8], target: &[u8]) -> Result<Path, Refusal>
-    ensures { result ≡ path_asked method.now target.now }
+    ensures value { result ≡ path_asked method.now target.now }
+    ensures refusal { IfErr result IsOfBytes }
 {
     let Some(path) = path_named(path_text(target)) else {
         return Err(Refusal::NoSuchPath);

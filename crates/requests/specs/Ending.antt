@@ -1,0 +1,27 @@
+-- What reading a request can end in.
+use Rattle.std.specs.Prelude.{◌≢◌, ⊤}
+use Rattle.matchers.specs.declared.error.SelectorError.TheVariants as selector
+use Rattle.requests.specs.declared.refusal.Refusal.{Refusal}
+use Rattle.requests.specs.declared.refusal.Refusal.TheVariants.{BadHead, HeadTooLong, NoSuchPath, Method, BadQuery, BadSelector, BadBody, BodyTooLong, Refused, Unavailable}
+use Rattle.requests.specs.declared.request.ReadError.{ReadError}
+use Rattle.requests.specs.declared.request.ReadError.TheVariants as ends
+
+-- the refusal is of what came, `H1` to `H8`, and none of a store
+abbrev pub IsOfBytes : Refusal → Type 0
+IsOfBytes BadHead = ⊤
+IsOfBytes HeadTooLong = ⊤
+IsOfBytes NoSuchPath = ⊤
+IsOfBytes Method = ⊤
+IsOfBytes BadQuery = ⊤
+IsOfBytes (BadSelector error) = error ≢ selector.Memory
+IsOfBytes BadBody = ⊤
+IsOfBytes BodyTooLong = ⊤
+IsOfBytes (Refused cause) = ⊥
+IsOfBytes Unavailable = ⊥
+
+-- where a refusal is the end, it is of what came
+abbrev pub EndsReading : ReadError → Type 0
+EndsReading ends.Closed = ⊤
+EndsReading ends.Fault = ⊤
+EndsReading ends.Memory = ⊤
+EndsReading (ends.Refused refusal) = IsOfBytes refusal
