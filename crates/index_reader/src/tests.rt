@@ -124,20 +124,28 @@ fn has_one_chunk(index: &Index, at: usize, reference: u64) -> bool {
         .eq([(10, 10, reference)])
 }
 
-fn shows(index: &Index, at: usize, shown: &Shown) -> bool {
+fn has_labels(alloc: Global, index: &Index, at: usize, job: &str, zone: &str) -> bool {
     if at >= index.len() {
         return false;
     }
-    let labels = index.labels_at(at);
+    match index.labels_at(alloc, at) {
+        Ok(labels) => labels.value("job") == job && labels.value("zone") == zone,
+        Err(_) => false,
+    }
+}
+
+fn shows(alloc: Global, index: &Index, at: usize, shown: &Shown) -> bool {
+    if at >= index.len() {
+        return false;
+    }
     index.reference_at(at).number() == shown.0
-        && labels.value("job") == shown.1
-        && labels.value("zone") == shown.2
+        && has_labels(alloc, index, at, shown.1, shown.2)
         && has_one_chunk(index, at, shown.3)
 }
 
-fn shows_all(index: &Index) -> bool {
+fn shows_all(alloc: Global, index: &Index) -> bool {
     let mut shown = SHOWN.iter().enumerate();
-    index.len() == 6 && !index.is_empty() && shown.all(|(at, row)| shows(index, at, row))
+    index.len() == 6 && !index.is_empty() && shown.all(|(at, row)| shows(alloc, index, at, row))
 }
 
 /// Whether the lists are those of the worked index.
@@ -149,7 +157,7 @@ fn has_lists(index: &Index) -> bool {
 fn the_worked_index_is_accepted(rt: HostRuntime) {
     let length = worked(rt.alloc()).ok().map(|file| file.len());
     assert_eq!(rt; length, Some(442));
-    assert!(rt; opened_worked(rt.alloc()).is_some_and(|index| shows_all(&index)));
+    assert!(rt; opened_worked(rt.alloc()).is_some_and(|index| shows_all(rt.alloc(), &index)));
 }
 
 #[test]

@@ -100,25 +100,31 @@ fn prometheus_file(alloc: Global) -> Option<Vec<u8>> {
 }
 
 /// Whether the series at a place has this reference and this job.
-fn has_job(index: &Index, at: usize, reference: u32, job: &str) -> bool {
-    at < index.len()
-        && index.reference_at(at).number() == reference
-        && index.labels_at(at).value("job") == job
+fn has_job(alloc: Global, index: &Index, at: usize, reference: u32, job: &str) -> bool {
+    if at >= index.len() || index.reference_at(at).number() != reference {
+        return false;
+    }
+    match index.labels_at(alloc, at) {
+        Ok(labels) => labels.value("job") == job,
+        Err(_) => false,
+    }
 }
 
 /// The reference and the job of each series.
 const JOBS: &[(u32, &str)] = &[(4, "a"), (5, "b"), (6, "a"), (7, "a"), (8, "b"), (9, "b")];
 
 /// Whether the series and the lists are those of the worked index.
-fn is_worked(index: &Index) -> bool {
+fn is_worked(alloc: Global, index: &Index) -> bool {
     let mut jobs = JOBS.iter().enumerate();
-    index.len() == 6 && jobs.all(|(at, row)| has_job(index, at, row.0, row.1)) && has_lists(index)
+    index.len() == 6
+        && jobs.all(|(at, row)| has_job(alloc, index, at, row.0, row.1))
+        && has_lists(index)
 }
 
 #[test]
 fn an_index_as_prometheus_writes_it_is_accepted(rt: HostRuntime) {
     let index = index_of(rt.alloc(), prometheus_file(rt.alloc()));
-    assert!(rt; index.is_some_and(|index| is_worked(&index)));
+    assert!(rt; index.is_some_and(|index| is_worked(rt.alloc(), &index)));
 }
 
 #[test]
@@ -195,12 +201,15 @@ fn of_three_chunks(alloc: Global) -> Result<Vec<u8>, AllocError> {
 }
 
 /// Whether there is one series, without labels, that has these chunks.
-fn has_chunks(index: &Index, want: &[(i64, i64, u64)]) -> bool {
+fn has_chunks(alloc: Global, index: &Index, want: &[(i64, i64, u64)]) -> bool {
     if index.len() != 1 {
         return false;
     }
+    let Ok(labels) = index.labels_at(alloc, 0) else {
+        return false;
+    };
     let chunks = index.chunks_at(0).iter();
-    index.labels_at(0).is_empty()
+    labels.is_empty()
         && chunks
             .map(|chunk| (chunk.mint, chunk.maxt, chunk.reference))
             .eq(want.iter().copied())
@@ -211,5 +220,5 @@ const CHUNKS: &[(i64, i64, u64)] = &[(-5, 0, 8), (1, 10, 32), (20, 20, 24)];
 #[test]
 fn a_series_may_have_several_chunks(rt: HostRuntime) {
     let index = index_of(rt.alloc(), of_three_chunks(rt.alloc()).ok());
-    assert!(rt; index.is_some_and(|index| has_chunks(&index, CHUNKS)));
+    assert!(rt; index.is_some_and(|index| has_chunks(rt.alloc(), &index, CHUNKS)));
 }
