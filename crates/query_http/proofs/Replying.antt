@@ -1,5 +1,5 @@
 -- Replies, put together from what is known of their parts.
-use Rattle.std.proofs.Common.{◌≡◌, ◌≢◌, ℕ, List, [], Option, Result, Ok, Err, IfOk, inl, inr, refl, ap, ◌∙◌, codes}
+use Rattle.std.proofs.Common.{◌≡◌, ◌≢◌, ℕ, List, [], Option, IfSome, Result, Ok, Err, IfOk, inl, inr, refl, ap, ◌∙◌, codes}
 use Rattle.serde_json.specs.Written.{compact_text}
 use Rattle.matchers.specs.Views.{QueryView}
 use Rattle.head.specs.Codes.{commit_code}
@@ -19,7 +19,9 @@ use Rattle.query_http.specs.declared.actions.Reply.{Reply}
 use Rattle.query_http.specs.declared.audited.AuditedAnswer.{AuditedAnswer}
 use Rattle.query_http.specs.Headline.{IsHeadline}
 use Rattle.query_http.specs.Reply.{body_text}
-use Rattle.query_http.specs.Serving.{Worker, IsRefusal, IsQueryReply, IsEventReply, refused_at, conflict_body}
+use Rattle.query_http.specs.Serving.{Worker, IsIdle, IsRefusal, IsQueryReply, IsEventReply, IsSilent, Serves, refused_at, conflict_body}
+use Rattle.query_http.specs.declared.engine.Served.{Served}
+use Rattle.query_http.specs.declared.engine.Served.TheVariants as served
 
 pub conflict_spelled : (cause : Cause) (error : CommitError) (status : Status) (text : List ℕ) → IsRefusal (Refused cause) status text
     → cause.code.now ≡ commit_code error → cause.at ≡ refused_at error → text ≡ reply_text Conflict (conflict_body error)
@@ -49,3 +51,13 @@ pub conflict_replied : {E : Type 0} (opening : SnapshotParts) (event : Event) (b
 conflict_replied opening event before after error (Ok r) same found no_memory number spelled =
     inr (record { error = error; found = found no_memory; no_memory = no_memory; same = same; number = number; spelled = spelled })
 conflict_replied opening event before after error (Err e) same found no_memory number spelled = tt
+
+-- a connection that got no reply
+pub silent_served : (opening : SnapshotParts) (input : Option (List ℕ)) (before after : Worker) (old new : Option (List ℕ)) (how : Served) → IsSilent how
+    → (how ≡ served.Closed → IfSome input (λ bytes. bytes ≡ [])) → (how ≡ served.Closed → after ≡ before) → (how ≡ served.ReadFault → after ≡ before)
+    → IsIdle before after → Serves opening input before after old new how
+silent_served opening input before after old new (served.Replied status) p closed unasked unread idle = absurd p
+silent_served opening input before after old new served.WriteFault p closed unasked unread idle = absurd p
+silent_served opening input before after old new served.Closed p closed unasked unread idle = (closed refl, unasked refl)
+silent_served opening input before after old new served.ReadFault p closed unasked unread idle = unread refl
+silent_served opening input before after old new served.NoMemory p closed unasked unread idle = idle

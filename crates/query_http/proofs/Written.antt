@@ -1,8 +1,8 @@
 -- What several writes leave, put together.
-use Rattle.std.proofs.Common.{ℕ, ◌+◌, ◌-◌, ◌≤◌, List, [], append-nil, length, take, drop, Option, None, Some, Result, Ok, Err, OnErr, sym, ◌∙◌, subst, take-append-drop, length-drop, arith}
+use Rattle.std.proofs.Common.{ℕ, ◌+◌, ◌-◌, ◌<◌, ◌≤◌, List, [], append-nil, length, take, drop, Option, None, Some, Result, Ok, Err, OnErr, sym, ◌∙◌, subst, take-append-drop, length-drop, arith}
 use Rattle.std.proofs.KnownBytes.{Appends-trans}
 use Rattle.std.proofs.Math.Seq.{take-add}
-use Rattle.std.proofs.lemmas.List.{take_rest}
+use Rattle.std.proofs.lemmas.List.{take_rest, length-take-le}
 use Rattle.std.specs.Io.KnownBytes.{Appends, Keeps}
 use Rattle.query_http.specs.Writing.{AppendsFront}
 
@@ -10,10 +10,11 @@ pub on_err : {T E : Type 0} (r : Result T E) (P : Type 0) → P → OnErr r P
 on_err (Ok x) P p = tt
 on_err (Err e) P p = p
 
-pub written_front : (a b : Option (List ℕ)) (d : ℕ) (text : List ℕ) → Appends a b (take d text) → AppendsFront a b text
-written_front a b d text p = record {
+pub written_front : (a b : Option (List ℕ)) (d : ℕ) (text : List ℕ) → d < length text → Appends a b (take d text) → AppendsFront a b text
+written_front a b d text short p = record {
   front = take d text;
   begins = (drop d text, sym (take-append-drop d text));
+  shorter = omega (arith, short, length-take-le d text (omega (arith, short)));
   appends = p;
 }
 

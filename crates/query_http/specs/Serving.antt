@@ -20,6 +20,8 @@ use Rattle.requests.specs.declared.request.Request.{Request}
 use Rattle.requests.specs.declared.request.Request.TheVariants as asks
 use Rattle.requests.specs.declared.status.Status.{Status}
 use Rattle.requests.specs.declared.status.Status.TheVariants.{Done, Conflict}
+use Rattle.requests.specs.Ending.{IsOfBytes}
+use Rattle.requests.specs.Fitting.{IsFit}
 use Rattle.requests.specs.Reading.{Means}
 use Rattle.requests.specs.Refusals.{status_of}
 use Rattle.requests.specs.Replies.{cause_data, reply_text, done_text, refusal_text}
@@ -120,19 +122,21 @@ IsRequestReply opening (asks.Delete matchers from to) before after status text =
 IsRequestReply opening (asks.Cut t) before after status text =
     IsEventReply opening (cut t) before after status text
 
--- the bytes that came are refused by their first failing check, and nothing changed
+-- the bytes that came are refused by their first failing check, `H1` to `H8`, and nothing changed
 pub record TurnsAway (input : Option (List ℕ)) (before after : Worker) (status : Status)
     (text : List ℕ) : Type 0 where
   pub refusal : Refusal
+  pub of_bytes : IsOfBytes refusal
   pub means : IfSome input (λ bytes. Means bytes (Err refusal))
   pub refused : IsRefusal refusal status text
   pub same : after ≡ before
 
--- the bytes that came ask a request, and this is the reply to it
+-- the bytes that came ask a request, which is fit for a store, and this is the reply to it
 pub record DoesAsked (opening : SnapshotParts) (input : Option (List ℕ)) (before after : Worker)
     (status : Status) (text : List ℕ) : Type 0 where
   pub request : Request
   pub means : IfSome input (λ bytes. Means bytes (Ok request))
+  pub fits : IsFit request
   pub done : IsRequestReply opening request before after status text
 
 -- the reply to the bytes that came
@@ -147,7 +151,7 @@ pub record Replies (opening : SnapshotParts) (input : Option (List ℕ)) (before
   pub reply : IsReply opening input before after status text
   pub written : Appends old new text
 
--- a prefix of the reply was written, and nothing else
+-- less than the whole reply was written, a prefix of it, and nothing else
 pub record BeginsToReply (opening : SnapshotParts) (input : Option (List ℕ)) (before after : Worker)
     (old new : Option (List ℕ)) : Type 0 where
   pub status : Status
@@ -163,8 +167,8 @@ Serves opening input before after old new (served.Replied status) =
 Serves opening input before after old new served.WriteFault =
     BeginsToReply opening input before after old new
 Serves opening input before after old new served.Closed =
-    IfSome input (λ bytes. bytes ≡ []) × IsIdle before after
-Serves opening input before after old new served.ReadFault = IsIdle before after
+    IfSome input (λ bytes. bytes ≡ []) × (after ≡ before)
+Serves opening input before after old new served.ReadFault = after ≡ before
 Serves opening input before after old new served.NoMemory = IsIdle before after
 
 -- nothing was replied

@@ -75,6 +75,10 @@ fn reply_to<J: Naming, C: Wait + Drop, R: Inlet>(
     ensures idle { OnErr result (IsIdle (worker pass.old seat.old) (worker pass.new seat.new)) }
     ensures closed { IsErrOf result Served.Closed
         → IfSome (R.input reader.old) (λ bytes. bytes ≡ []) }
+    ensures unasked { IsErrOf result Served.Closed
+        → worker pass.new seat.new ≡ worker pass.old seat.old }
+    ensures unread { IsErrOf result Served.ReadFault
+        → worker pass.new seat.new ≡ worker pass.old seat.old }
     ensures reads { IsErrOf result Served.ReadFault
         → IsCounted (R.failed_reads reader.old) (R.failed_reads reader.new) }
 {
@@ -93,6 +97,7 @@ fn reply_to<J: Naming, C: Wait + Drop, R: Inlet>(
 /// change is published. The pass learns the receipt of a change before the reply is written. The
 /// reader is read no further than 8,192 bytes past the request's head. It waits as
 /// [`Committer::commit`] does.
+#[tactic(auto, using(crate::proofs::Replying::silent_served))]
 pub fn serve_one<J: Naming, C: Wait + Drop, R: Inlet, W: Outlet>(
     rt: &impl Wait,
     alloc: Global,
