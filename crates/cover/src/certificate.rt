@@ -1,3 +1,5 @@
+//! Certificates, and the laws that hold of them.
+
 ghost use Rattle.std.specs.Prelude.{◌≡◌, ℕ, ◌≤◌, List, length};
 ghost use Rattle.cover.specs.Certificates.{Asked, IsAsked, IsValidCertificate, IsLeast, AreSeparators, IsLeftmost, begins_of, AreMatches, matches_of};
 

@@ -1,3 +1,5 @@
+//! Lists that count their moves for themselves, beside the counts that `cover` makes.
+
 ghost use Rattle.std.specs.Prelude.{◌≡◌, ℕ};
 
 use labels::SeriesRef;

@@ -1,3 +1,5 @@
+//! The certificate of a part, its separators, and how often its lists moved.
+
 ghost use Rattle.std.specs.Prelude.{◌≡◌, ℕ, ◌+◌, ◌-◌, ◌^◌, min, ◌*◌, ◌<◌, ◌≤◌, List, [], ◌∷◌, length, map, slice_index_or, IfOk};
 ghost use Rattle.matchers.specs.Satisfies.{satisfies};
 ghost use Rattle.labels.specs.Parts.{references_where};

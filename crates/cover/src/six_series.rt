@@ -1,3 +1,5 @@
+//! A part of six series, with the lists that it lends.
+
 ghost use Rattle.std.specs.Prelude.{◌≡◌, ℕ, ◌<◌, List, [], ◌∷◌, length, slice_get, Some};
 ghost use Rattle.labels.specs.Parts.{references, references_where, live_references, carries};
 ghost use Rattle.cover.specs.SixSeries.{six_series, values_in, listed_in, live_in};

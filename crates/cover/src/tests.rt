@@ -1,3 +1,5 @@
+//! Certificates of the six series, and how often their lists move.
+
 use crate::counting::Counting;
 use crate::six_series::SixSeries;
 use crate::{Interval, PartCover, Verdict, certificate_laws, cover, cover_with_moves};

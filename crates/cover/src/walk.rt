@@ -1,3 +1,5 @@
+//! The walk over the lists of a query, which goes to the farthest at each step.
+
 ghost use Rattle.std.specs.Prelude.{◌≡◌, ℕ, ◌+◌, ◌*◌, ◌^◌, ◌-◌, ◌<◌, ◌≤◌, List, [], ◌∷◌, length, map, slice_index, slice_index_or, MatchOption, IfOk};
 ghost use Rattle.std.specs.List.{Contains, filter};
 ghost use Rattle.labels.specs.Ascending.{first_of, rest_of, not_below, first_or_end, or_end};

@@ -1,3 +1,5 @@
+//! One deletion.
+
 ghost use Rattle.std.specs.Prelude.{◌≡◌};
 
 /// A closed interval of times, in milliseconds, in which the samples of one series are deleted.
