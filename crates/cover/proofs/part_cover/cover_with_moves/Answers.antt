@@ -11,6 +11,7 @@ use Rattle.cover.proofs.Farthest.{fresh_same, moves_bound, bound_of_any, moved_s
 use Rattle.labels.proofs.SetLemmas.{written_back}
 use Rattle.cover.proofs.part_cover.cover_with_moves.Given.{Over}
 use Rattle.cover.proofs.part_cover.cover_with_moves.Goals as goal
+use Rattle.cover.proofs.part_cover.cover_with_moves.Goals.{In_ok-separators}
 
 pub walk-requires : goal.walk-requires
 walk-requires g c = record {
@@ -32,7 +33,7 @@ walk-requires g c = record {
   live_fresh = search rules;
 }
 
-leftmost : (g : Over) (c : goal.In_ok-separators g)
+leftmost : (g : Over) (c : In_ok-separators g)
     → IsLeftmost (asked (g.S.Source.part c.args.source.now) c.args.query.now) c.in_ok-certificate.certificate.items
 leftmost g c =
     let part = g.S.Source.part c.args.source.now in
@@ -47,7 +48,7 @@ leftmost g c =
     ∙ ap (λ from. live_references from c.to.result part) c.from.ensures.value ∙ ap (λ to. live_references c.args.query.now.from to part) c.to.ensures)
     (g.met.S.Source.is_part c.args.source.now) c.in_ok-certificate.ensures.leftmost
 
-least : (g : Over) (c : goal.In_ok-separators g)
+least : (g : Over) (c : In_ok-separators g)
     → IsLeast (asked (g.S.Source.part c.args.source.now) c.args.query.now) c.in_ok-certificate.certificate.items
 least g c =
     let part = g.S.Source.part c.args.source.now in
