@@ -4,6 +4,8 @@ ghost use Rattle.std.specs.Prelude.{◌≡◌};
 ghost use Rattle.chunk_reader.specs.declared.error.ChunkError.TheVariants.{Memory};
 
 use std::alloc::{AllocError, AllocFailed};
+use std::error::Error;
+use std::fmt;
 
 /// The first check that failed, or want of memory.
 #[derive(Clone, Copy, Debug, PartialEq, Eq)]
@@ -48,6 +50,32 @@ impl ChunkError {
         }
     }
 }
+
+impl fmt::Display for ChunkError {
+    ghost use Rattle.std.specs.Prelude.{Some};
+    ghost use Rattle.chunk_reader.specs.Codes.{text_of};
+
+    ghost output = { λ error. Some (text_of error) };
+
+    fn fmt<W: fmt::Write>(&self, f: &mut fmt::Formatter<W>) -> fmt::Result {
+        let text = match self {
+            ChunkError::Memory => "no memory",
+            ChunkError::Magic => "C1: the chunks file does not begin with 85 BD 40 DD",
+            ChunkError::Version => "C2: the version of the chunks file is not 1",
+            ChunkError::Reference => "C3: a chunk is said to stand outside the chunks file",
+            ChunkError::Crc => "C4: a chunk is cut short, or its checksum is wrong",
+            ChunkError::XorEncoding => "C5: a chunk has the XOR encoding, which is not read",
+            ChunkError::OtherEncoding => "C6: a chunk has an unknown encoding",
+            ChunkError::Shape => {
+                "C7: a chunk is not well formed, or the chunks file is longer than 1 GiB"
+            }
+            ChunkError::TimesDisagree => "C8: a chunk has other times than the index says",
+        };
+        write!(f, "{text}")
+    }
+}
+
+impl Error for ChunkError {}
 
 impl From<AllocError> for ChunkError {
     ghost from_gives = { λ _ e. e ≡ Memory };

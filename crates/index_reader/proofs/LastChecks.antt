@@ -33,6 +33,7 @@ use Rattle.index_reader.proofs.Facts.{bodied, listed_in, counted_lists, less_is,
 use Rattle.index_reader.proofs.Spelling.{is_tabled}
 use Rattle.index_reader.proofs.Found.{pair_of, lists_are, table_pairs}
 use Rattle.index_reader.proofs.AgreementAgain.{HasItsPairs, agreement_again}
+use Rattle.index_reader.proofs.OnlyDisagrees.{OnlyDisagrees, only_ok, only_then, only_where, only_keys, only_each_all, only_placed}
 
 abbrev Pair : Type 0
 Pair = List ℕ × List ℕ
@@ -41,55 +42,7 @@ both : (p q : Bool) → (p && q) ≡ true → (p ≡ true) × (q ≡ true)
 both true q h = (refl, h)
 both false q h = absurd cc
 
--- ---- the one refusal of postings that are not those of the series
-
-abbrev OnlyDisagrees : {A : Type 0} → Result A IndexError → Type 0
-OnlyDisagrees read = (e : IndexError) → read ≡ Err e → e ≡ PostingsDisagree
-
-only_ok : {A : Type 0} (x : A) → OnlyDisagrees (done x)
-only_ok x e h = absurd cc
-
-only_refused : {A : Type 0} (e : IndexError) → ◌≡◌ {A = Result A IndexError} (Err PostingsDisagree) (Err e) → e ≡ PostingsDisagree
-only_refused e h = cc
-
-only_then : {A B : Type 0} (r : Result A IndexError) (f : A → Result B IndexError) → OnlyDisagrees r → ((x : A) → OnlyDisagrees (f x)) → OnlyDisagrees (r >>= f)
-only_then (Ok x) f a b e h = b x e h
-only_then (Err d) f a b e h = let same : d ≡ e = cc in sym same ∙ a d refl
-
-only_found : {A : Type 0} (o : Option A) → OnlyDisagrees (or_disagree o)
-only_found (Some x) = only_ok x
-only_found None = only_refused
-
-only_where : {A : Type 0} (b : Bool) (r : Result A IndexError) → OnlyDisagrees r → OnlyDisagrees (cond b r (Err PostingsDisagree))
-only_where true r a = a
-only_where false r a = only_refused
-
-only_each : {A X : Type 0} (step : A → Result X IndexError) (as' : List A) → ((a : A) → OnlyDisagrees (step a)) → OnlyDisagrees (each step as')
-unfolding each
-only_each step [] h = only_ok []
-only_each step (a ∷ as') h = only_then (step a) _ (h a) (λ x. only_then (each step as') _ (only_each step as' h) (λ xs. only_ok (x ∷ xs)))
-
-only_each_all : {A X : Type 0} (step : A → Result (List X) IndexError) (as' : List A) → ((a : A) → OnlyDisagrees (step a)) → OnlyDisagrees (each_all step as')
-unfolding each_all
-only_each_all step [] h = only_ok []
-only_each_all step (a ∷ as') h = only_then (step a) _ (h a) (λ x. only_then (each_all step as') _ (only_each_all step as' h) (λ xs. only_ok _))
-
-only_key : (symbols : List (List ℕ)) (l : Listed) → OnlyDisagrees (key_at symbols l)
-unfolding key_at
-only_key symbols l = only_then (or_disagree (symbol_of symbols l.name)) _ (only_found (symbol_of symbols l.name)) (λ n. only_then (or_disagree (symbol_of symbols l.value)) _ (only_found (symbol_of symbols l.value)) (λ v. only_ok (n, v)))
-
-only_keys : (symbols : List (List ℕ)) (table : List Listed) → OnlyDisagrees (keys_at symbols table)
-unfolding keys_at
-only_keys symbols [] = only_refused
-only_keys symbols (l ∷ ls) = only_where _ _ (only_then (each (key_at symbols) ls) _ (only_each (key_at symbols) ls (only_key symbols)) (λ keys. only_where (rises key_before keys) (done keys) (only_ok keys)))
-
-only_place : (keys : List Label) (r : ℕ) (l : Label) → OnlyDisagrees (place_at keys r l)
-unfolding place_at
-only_place keys r l = only_then (or_disagree (place_of keys l)) _ (only_found (place_of keys l)) (λ at. only_ok _)
-
-only_placed : (keys : List Label) (s : Tied) → OnlyDisagrees (placed_at keys s)
-unfolding placed_at
-only_placed keys s = only_then (each (place_at keys s.0) s.1) _ (only_each (place_at keys s.0) s.1 (only_place keys s.0)) (λ others. only_ok _)
+-- ---- the one refusal
 
 only_agreed : (symbols : List (List ℕ)) (table : List Listed) (lists : List (List ℕ)) (series : List Tied) → OnlyDisagrees (agreed_at symbols table lists series)
 unfolding agreed_at

@@ -6,6 +6,7 @@ mod Firsts
 pub mod Gaps
 mod Growth
 mod Head
+mod OnlyDisagrees
 mod Orders
 mod Holding
 mod Naming
@@ -24,6 +25,7 @@ mod WordsAt
 mod Facts
 mod Held
 mod Listing
+mod Taken
 mod Texts
 mod ChunkSpelling
 mod Spelling

@@ -22,4 +22,5 @@ pub mod Spelled
 pub mod Stated
 pub mod Steps
 pub mod Table
+pub mod Taking
 pub mod Words

@@ -4,6 +4,8 @@ ghost use Rattle.std.specs.Prelude.{◌≡◌};
 ghost use Rattle.index_reader.specs.declared.error.IndexError.TheVariants.{Memory};
 
 use std::alloc::{AllocError, AllocFailed};
+use std::error::Error;
+use std::fmt;
 
 /// The first check that failed, or want of memory.
 #[derive(Clone, Copy, Debug, PartialEq, Eq)]
@@ -69,6 +71,47 @@ impl IndexError {
         }
     }
 }
+
+impl fmt::Display for IndexError {
+    ghost use Rattle.std.specs.Prelude.{Some};
+    ghost use Rattle.index_reader.specs.Codes.{text_of};
+
+    ghost output = { λ error. Some (text_of error) };
+
+    fn fmt<W: fmt::Write>(&self, f: &mut fmt::Formatter<W>) -> fmt::Result {
+        let text = match self {
+            IndexError::Memory => "no memory",
+            IndexError::TooShort => "I1: the index has fewer than 57 bytes",
+            IndexError::Magic => "I2: the index does not begin with BA AA D7 00",
+            IndexError::Version => "I3: the version of the index is not 2",
+            IndexError::ContentsCrc => "I4: the checksum of the table of contents is wrong",
+            IndexError::ContentsOrder => "I5: the parts of the index are not in their order",
+            IndexError::SymbolsCrc => "I6: the symbol table is cut short, or its checksum is wrong",
+            IndexError::Symbols => "I7: the symbols are not well formed, or do not ascend",
+            IndexError::SeriesCrc => "I8: a series entry is cut short, or its checksum is wrong",
+            IndexError::Series => {
+                "I9: a series entry is not well formed, or a byte between entries is not 0"
+            }
+            IndexError::SeriesOrder => "I10: the label sets of the series do not ascend",
+            IndexError::PostingsCrc => {
+                "I11: a list of postings is cut short, or its checksum is wrong"
+            }
+            IndexError::Postings => {
+                "I12: a list of postings is not well formed, or does not ascend"
+            }
+            IndexError::Offsets => {
+                "I13: a table of offsets is not well formed, or its checksum is wrong"
+            }
+            IndexError::PostingsDisagree => "I14: the postings are not those of the series",
+            IndexError::Limit => {
+                "I15: the index is longer than 1 GiB, or has too many series, labels or samples"
+            }
+        };
+        write!(f, "{text}")
+    }
+}
+
+impl Error for IndexError {}
 
 impl From<AllocError> for IndexError {
     ghost from_gives = { λ _ e. e ≡ Memory };

@@ -12,7 +12,7 @@ ghost use Rattle.index_reader.specs.Agreement.{strings_of, key_at, keys_at};
 
 use crate::error::IndexError;
 use crate::table::{Listed, at_place};
-use std::alloc::Global;
+use std::alloc::{AllocError, Global};
 use std::cmp::Ordering;
 
 fn bytes_at(symbols: &[String], i: usize) -> &[u8]
@@ -82,16 +82,65 @@ pub fn place_of(keys: &[(u32, u32)], key: (u32, u32)) -> Option<usize>
     None
 }
 
+/// For each symbol the place of a pair whose value it is, where there is one: the first place to look at.
+pub fn guesses_of(
+    alloc: Global,
+    symbols: usize,
+    keys: &[(u32, u32)],
+) -> Result<Vec<usize>, AllocError> {
+    let mut guesses = Vec::new(alloc);
+    guesses.resize(symbols, 0usize)?;
+    for at in 0..keys.len() {
+        let value = keys[at].1 as usize;
+        if value < guesses.len() {
+            guesses[value] = at;
+        }
+    }
+    Ok(guesses)
+}
+
+/// The same as [`place_of`], where the guess for the value is looked at first.
+pub fn place_near(keys: &[(u32, u32)], guesses: &[usize], key: (u32, u32)) -> Option<usize>
+    requires { rises key_before keys.now ≡ true }
+    ensures exact { result ≡ place_of keys.now key }
+    ensures within { IfSome result (λ i. i < length keys.now) }
+{
+    let value = key.1 as usize;
+    if value < guesses.len() {
+        let guess = guesses[value];
+        if guess < keys.len() && matches!(key_cmp(key_in(keys, guess), key), Ordering::Equal) {
+            return Some(guess);
+        }
+    }
+    place_of(keys, key)
+}
+
+// The same as `symbol_of`, where the symbol at a place is looked at first.
+fn symbol_near(symbols: &[String], guess: usize, text: &[u8]) -> Option<usize>
+    requires { ascending (strings_of symbols.now) ≡ true }
+    ensures exact { result ≡ symbol_of (strings_of symbols.now) text.now }
+    ensures within { IfSome result (λ i. i < length symbols.now) }
+{
+    if guess < symbols.len() && matches!(bytes_at(symbols, guess).cmp(text), Ordering::Equal) {
+        return Some(guess);
+    }
+    symbol_of(symbols, text)
+}
+
 #[tactic(auto, unfolding(crate::specs::Agreement::key_at))]
-fn key_of(symbols: &[String], listed: &Listed<'_>) -> Result<(u32, u32), IndexError>
+fn key_of(
+    symbols: &[String],
+    guess: (usize, usize),
+    listed: &Listed<'_>,
+) -> Result<(u32, u32), IndexError>
     requires few { length symbols.now < 2 ^ 32 }
     requires order { ascending (strings_of symbols.now) ≡ true }
     ensures { Gives (λ k. k) result (key_at (strings_of symbols.now) (shown listed.now)) }
 {
-    let Some(name) = symbol_of(symbols, listed.name) else {
+    let Some(name) = symbol_near(symbols, guess.0, listed.name) else {
         return Err(IndexError::PostingsDisagree);
     };
-    let Some(value) = symbol_of(symbols, listed.value) else {
+    let Some(value) = symbol_near(symbols, guess.1, listed.value) else {
         return Err(IndexError::PostingsDisagree);
     };
     Ok((name as u32, value as u32))
@@ -108,9 +157,12 @@ fn more_keys(
     ensures counted { IfOk result (λ v. length v.items ≡ length table.now) }
 {
     let mut keys = Vec::with_capacity(alloc, table.len())?;
+    // Entries ascend, so the next often has the name of the last and the symbol behind its value.
+    let mut guess = (0usize, 0usize);
     for at in 0..table.len() {
         let listed = at_place(table, at);
-        let key = key_of(symbols, &listed)?;
+        let key = key_of(symbols, guess, &listed)?;
+        guess = (key.0 as usize, key.1 as usize + 1);
         keys.push(key)?;
     }
     Ok(keys)
