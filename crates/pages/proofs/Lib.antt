@@ -3,6 +3,7 @@ pub mod Parts
 pub mod Pieces
 pub mod Writes
 pub mod Tops
+pub mod Changes
 pub mod Spots
 pub mod Searched
 pub mod Groups

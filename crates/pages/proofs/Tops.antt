@@ -1,6 +1,7 @@
 -- Clones of a whole list, and its first items.
-use Rattle.std.proofs.Common.{◌≡◌, ◌⊎◌, ◌*◌, ℕ, ◌<◌, List, [], ◌∷◌, map, length, get_or, drop, slice_get, Vec, Global, Some, sym, ap, ◌∙◌, subst, arith, ⊎_elim}
+use Rattle.std.proofs.Common.{◌≡◌, ◌⊎◌, ◌+◌, ◌*◌, ℕ, ◌<◌, List, [], ◌∷◌, map, length, get_or, drop, slice_get, Vec, Global, Some, sym, ap, ◌∙◌, subst, arith, ⊎_elim}
 use Rattle.std.specs.List.{AllZip}
+use Rattle.std.proofs.lemmas.List.{get_or-drop}
 use Rattle.std.specs.Arc.{arc_value}
 use Rattle.std.proofs.lemmas.List.Elements.{AllZip-get_or, length_all_zip}
 use Rattle.pages.specs.Pages.{Page, leaf_list, branch_list, branch_lists, joined, IsPaged, IsBranch, AreBranches, IsPrefix}
@@ -10,6 +11,12 @@ use Rattle.pages.proofs.Pieces.{get_drop}
 pub first_of : {E X : Type 0} (item : E → X) (front : List E) (xs : List X) (i : ℕ) (x : E) → 0 < length front → IsPrefix (map item front) (drop i xs) → x ≡ get_or front 0 x → slice_get xs i ≡ Some (item x)
 first_of item [] xs i x h b e = absurd (omega arith)
 first_of item (y ∷ ys) xs i x h b e = get_drop xs i ∙ (ap (λ l. slice_get l 0) b.1 ∙ ap (λ z. Some (item z)) (sym e))
+
+pub first_at : {E X : Type 0} (item : E → X) (front : List E) (xs : List X) (i : ℕ) (x : E) → 0 < length front → IsPrefix (map item front) (drop i xs) → x ≡ get_or front 0 x → item x ≡ get_or xs i (item x)
+first_at item [] xs i x h b e = absurd (omega arith)
+first_at item (y ∷ ys) xs i x h b e =
+    let here : i + 0 ≡ i = omega arith in
+    ap item e ∙ sym (ap (λ l. get_or l 0 (item x)) b.1) ∙ get_or-drop i xs 0 (item x) ∙ ap (λ k. get_or xs k (item x)) here
 
 -- a clone of a branch is the same page
 abbrev pub SamePage : {E : Type 0} → Page (Page E) → Page (Page E) → Type 0

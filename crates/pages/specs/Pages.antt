@@ -1,5 +1,5 @@
 -- Lists in pages, and in pages of pages.
-use Rattle.std.specs.Prelude.{◌≡◌, ℕ, ◌*◌, ◌^◌, ◌≤◌, List, [], ◌∷◌, ◌++◌, map, length, Vec, All}
+use Rattle.std.specs.Prelude.{◌≡◌, ℕ, ◌*◌, ◌^◌, ◌≤◌, List, [], ◌∷◌, ◌++◌, map, length, slice_set, slice_index_or, Vec, All}
 use Rattle.std.specs.Arc.{arc_value}
 use Rattle.std.specs.declared.sync.Arc.{Arc}
 use Rattle.std.proofs.Common.{Global}
@@ -19,6 +19,10 @@ IsPaged n (part ∷ next ∷ parts) = (length part ≡ n) × IsPaged n (next ∷
 -- the list starts with these items
 abbrev pub IsPrefix : {X : Type 0} → List X → List X → Type 0
 IsPrefix {X} front xs = (rest : List X) × (xs ≡ front ++ rest)
+
+-- the list with what stands at a place changed
+abbrev pub IsChanged : {X : Type 0} → (X → X) → List X → ℕ → List X → Type 0
+IsChanged {X} after old at new = (d : X) → new ≡ slice_set old at (after (slice_index_or old at d))
 
 -- a leaf may have this many entries
 abbrev pub IsLeafSize : ℕ → Type 0

@@ -20,6 +20,7 @@
 //! are a B-tree of three levels.
 #![tactic(auto)]
 
+mod change;
 mod edit;
 mod entry;
 mod list;
@@ -31,6 +32,7 @@ mod sorted;
 mod tests;
 mod walk;
 
+pub use change::Change;
 pub use entry::Entry;
 pub use list::PagedList;
 pub use probe::{Probe, Spot};

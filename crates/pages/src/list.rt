@@ -1,9 +1,10 @@
 //! A list in pages that versions share.
 
-ghost use Rattle.std.specs.Prelude.{◌≡◌, ◌<◌, ◌≤◌, ◌++◌, [], ◌∷◌, length, drop, map, slice_get, slice_set, Some, IfSome, IfNone, IfOk, OnOk, OnErr};
-ghost use Rattle.pages.specs.Pages.{IsLeafSize, IsPrefix};
+ghost use Rattle.std.specs.Prelude.{◌≡◌, ◌<◌, ◌≤◌, ◌++◌, [], ◌∷◌, length, drop, map, slice_get, slice_set, slice_index_or, Some, IfSome, IfNone, IfOk, OnOk, OnErr};
+ghost use Rattle.pages.specs.Pages.{IsLeafSize, IsPrefix, IsChanged};
 
 use crate::Entry;
+use crate::change::{Change, change_in_top};
 use crate::page::{Top, push_to_top, set_in_top, top_from};
 use std::alloc::{AllocError, Global};
 use std::marker::Model;
@@ -59,7 +60,15 @@ impl<E: Entry, const LEAF: usize> PagedList<E, LEAF> {
         top_from::<E, LEAF>(self.top.as_slice(), i)
     }
 
-    /// The entry at a place, `None` from the end on: three reads, and no search.
+    /// The entry at a place of the list: three reads, and no search.
+    pub fn at(&self, i: usize) -> &E
+        requires { i < length self.now }
+        ensures { E.item result.now ≡ slice_index_or self.now i (E.item result.now) }
+    {
+        &self.leaf_from(i)[0]
+    }
+
+    /// The entry at a place, `None` from the end on.
     pub fn get(&self, i: usize) -> Option<&E>
         ensures none { IfNone result (length self.now ≤ i) }
         ensures some { IfSome result (λ x. slice_get self.now i ≡ Some (E.item x.now)) }
@@ -92,6 +101,15 @@ impl<E: Entry, const LEAF: usize> PagedList<E, LEAF> {
         ensures err { OnErr result (self.new ≡ self.old) }
     {
         set_in_top::<E, LEAF>(&mut self.top, i, x)
+    }
+
+    /// Changes the entry at a place. After an `Err` that entry may be another, and all others stand as they were.
+    pub fn change<C: Change<E>>(&mut self, i: usize, change: &C) -> Result<(), AllocError>
+        requires { i < length self.old }
+        ensures ok { OnOk result (IsChanged (C.after change.now) self.old i self.new) }
+        ensures count { length self.new ≡ length self.old }
+    {
+        change_in_top::<E, LEAF, C>(&mut self.top, i, change)
     }
 
     /// The same list, which shares all pages: one pointer is copied.

@@ -1,0 +1,58 @@
+-- A change of one item in its page.
+use Rattle.std.proofs.Common.{◌≡◌, ◌⊎◌, ℕ, zero, suc, ◌+◌, ◌-◌, ◌/◌, ◌%◌, ◌<◌, List, [], ◌∷◌, ◌++◌, map, length, get_or, set, drop, Vec, Global, refl, sym, ap, ◌∙◌, arith, length-drop, length-append}
+use Rattle.std.specs.List.{AllZip}
+use Rattle.std.specs.Vec.{with_item}
+use Rattle.std.proofs.lemmas.List.{get_or-drop, get_or_append_left, get_or-map, map-set, length-map}
+use Rattle.pages.specs.Pages.{joined, IsPaged, IsChanged}
+use Rattle.pages.proofs.Parts.{IsPlace}
+use Rattle.pages.proofs.Clones.{clone_items}
+use Rattle.pages.proofs.Pieces.{held_by, part_read, part_at, whole_set}
+
+-- an entry of a page, or of a clone of it, is changed
+module _ {E X : Type 0} (item : E → X) (is_clone : E → E → Type 0) (same : (x y : E) → is_clone x y → item y ≡ item x) (old own new : Vec E Global) (at : ℕ) (x y : E) (P : Type 0) (clone : (own ≡ old) ⊎ (AllZip is_clone old.items own.items × P)) (is : new ≡ with_item own at y) where
+  pub page_changed : (after : X → X) → at < length (map item old.items) → x ≡ get_or own.items at x → item y ≡ after (item x) → IsChanged after (map item old.items) at (map item new.items)
+  page_changed after h read e d =
+      ap (λ (u : Vec _ Global). map item u.items) is
+      ∙ map-set item own.items at y
+      ∙ (λ i. set (items i) at (e i))
+      ∙ ap (λ z. set (map item old.items) at (after z)) (ap item read ∙ sym (get_or-map item own.items at x d (omega (arith, h, ap length items, length-map own.items item))) ∙ ap (λ l. get_or l at d) items)
+    where
+      items : map item own.items ≡ map item old.items
+      items = clone_items item is_clone same old own P clone
+
+-- the same change, of an equal list and to an equal one
+pub changed_after : {X : Type 0} (after : X → X) (at : ℕ) {old own new made : List X} → own ≡ old → new ≡ made → IsChanged after own at made → IsChanged after old at new
+changed_after after at e f is d = f ∙ is d ∙ ap (λ l. set l at (after (get_or l at d))) e
+
+module _ {P X : Type 0} (shown : P → List X) where
+  -- an item of all pages is the one of its page
+  pub item_at : (pages : List P) (at q r : ℕ) (page : P) (d : X) → IsPlace (map shown pages) at q r → page ≡ get_or pages q page → get_or (joined (map shown pages)) at d ≡ get_or (shown page) r d
+  item_at pages at q r page d w e =
+      let here : at + 0 ≡ at = omega arith in
+      let there : r + 0 ≡ r = omega arith in
+      let some : 0 < length (drop r (get_or (map shown pages) q [])) = let h = w.item_in in omega (arith, h, length-drop r (get_or (map shown pages) q [])) in
+      ap (λ i. get_or (joined (map shown pages)) i d) (sym here)
+      ∙ sym (get_or-drop at (joined (map shown pages)) 0 d)
+      ∙ ap (λ l. get_or l 0 d) w.rest
+      ∙ get_or_append_left (drop r (get_or (map shown pages) q [])) _ d 0 some
+      ∙ get_or-drop r (get_or (map shown pages) q []) 0 d
+      ∙ ap (λ i. get_or (get_or (map shown pages) q []) i d) there
+      ∙ ap (λ l. get_or l r d) (part_read shown pages at q r page w e)
+
+  -- an item of a page is changed
+  pub whole_changed : (after : X → X) (n : ℕ) (pages : List P) (at : ℕ) (page new : P) → 0 < n → IsPaged n (map shown pages) → at < length (joined (map shown pages)) → page ≡ get_or pages (at / n) page → IsChanged after (shown page) (at % n) (shown new) → IsChanged after (joined (map shown pages)) at (joined (map shown (set pages (at / n) new)))
+  whole_changed after n pages at page new h paged held e is d =
+      whole_set shown n pages at page new (after (get_or (shown page) (at % n) d)) h paged held e (is d)
+      ∙ ap (λ x. set (joined (map shown pages)) at (after x)) (sym (item_at pages at (at / n) (at % n) page d (held_by shown n pages at h paged held) e))
+
+  pub whole_count : (pages : List P) (q : ℕ) (page new : P) → q < length pages → page ≡ get_or pages q page → length (shown new) ≡ length (shown page) → length (joined (map shown (set pages q new))) ≡ length (joined (map shown pages))
+  whole_count pages q page new h e is =
+      ap (λ l. length (joined l)) (map-set shown pages q new)
+      ∙ joined_count (map shown pages) q (shown new) (is ∙ ap length (sym (part_at shown pages q page h e)))
+    where
+      joined_count : (parts : List (List X)) (k : ℕ) (part : List X) → length part ≡ length (get_or parts k []) → length (joined (set parts k part)) ≡ length (joined parts)
+      joined_count [] k part l = refl
+      joined_count (p ∷ ps) zero part l = omega (arith, l, length-append part (joined ps), length-append p (joined ps))
+      joined_count (p ∷ ps) (suc k) part l =
+          let rest = joined_count ps k part l in
+          omega (arith, rest, length-append p (joined (set ps k part)), length-append p (joined ps))

@@ -1,0 +1,104 @@
+//! Changes of one entry in its place: what another version holds of the pages on the way is copied first.
+
+ghost use Rattle.std.specs.Prelude.{◌≡◌, ◌<◌, length, OnOk};
+ghost use Rattle.pages.specs.Pages.{leaf_list, leaf_lists, branch_list, branch_parts, branch_lists, top_list, joined, IsLeafSize, IsPaged, IsBranch, AreBranches, IsTop, IsChanged};
+
+use crate::Entry;
+use crate::page::{Branch, FAN, Leaf, Top};
+use std::alloc::AllocError;
+use std::sync::Arc;
+
+/// What is done to one entry in its place.
+pub trait Change<E: Entry> {
+    ghost after: { Self → E.Item → E.Item };
+
+    /// Changes the entry. After an `Err` it may be another.
+    fn change(&self, entry: &mut E) -> Result<(), AllocError>
+        ensures { OnOk result (E.item entry.new ≡ after self.now (E.item entry.old)) };
+}
+
+fn change_in_leaf<E: Entry, C: Change<E>>(
+    leaf: &mut Leaf<E>,
+    at: usize,
+    change: &C,
+) -> Result<(), AllocError>
+    requires { at < length (leaf_list E.item leaf.old) }
+    ensures ok { OnOk result (IsChanged (C.after change.now) (leaf_list E.item leaf.old) at
+        (leaf_list E.item leaf.new)) }
+    ensures count { length (leaf_list E.item leaf.new) ≡ length (leaf_list E.item leaf.old) }
+{
+    let own = Arc::make_mut(leaf)?;
+    change.change(&mut own[at])
+}
+
+fn change_in_leaves<E: Entry, const LEAF: usize, C: Change<E>>(
+    leaves: &mut Vec<Leaf<E>>,
+    at: usize,
+    change: &C,
+) -> Result<(), AllocError>
+    requires size { IsLeafSize LEAF }
+    requires paged { IsPaged LEAF (leaf_lists E.item leaves.old.items) }
+    requires held { at < length (joined (leaf_lists E.item leaves.old.items)) }
+    ensures ok { OnOk result (IsChanged (C.after change.now)
+        (joined (leaf_lists E.item leaves.old.items)) at
+        (joined (leaf_lists E.item leaves.new.items))) }
+    ensures count { length (joined (leaf_lists E.item leaves.new.items))
+        ≡ length (joined (leaf_lists E.item leaves.old.items)) }
+    ensures paged { IsPaged LEAF (leaf_lists E.item leaves.new.items) }
+{
+    change_in_leaf(&mut leaves[at / LEAF], at % LEAF, change)
+}
+
+fn change_in_branch<E: Entry, const LEAF: usize, C: Change<E>>(
+    branch: &mut Branch<E>,
+    at: usize,
+    change: &C,
+) -> Result<(), AllocError>
+    requires size { IsLeafSize LEAF }
+    requires paged { IsBranch E.item LEAF branch.old }
+    requires held { at < length (branch_list E.item branch.old) }
+    ensures ok { OnOk result (IsChanged (C.after change.now) (branch_list E.item branch.old) at
+        (branch_list E.item branch.new)) }
+    ensures count { length (branch_list E.item branch.new)
+        ≡ length (branch_list E.item branch.old) }
+    ensures paged { IsBranch E.item LEAF branch.new }
+{
+    let own = Arc::make_mut(branch)?;
+    change_in_leaves::<E, LEAF, C>(own, at, change)
+}
+
+fn change_in_branches<E: Entry, const LEAF: usize, C: Change<E>>(
+    branches: &mut Vec<Branch<E>>,
+    at: usize,
+    change: &C,
+) -> Result<(), AllocError>
+    requires size { IsLeafSize LEAF }
+    requires branches { AreBranches E.item LEAF branches.old.items }
+    requires held { at < length (joined (branch_lists E.item branches.old.items)) }
+    ensures ok { OnOk result (IsChanged (C.after change.now)
+        (joined (branch_lists E.item branches.old.items)) at
+        (joined (branch_lists E.item branches.new.items))) }
+    ensures count { length (joined (branch_lists E.item branches.new.items))
+        ≡ length (joined (branch_lists E.item branches.old.items)) }
+    ensures branches { AreBranches E.item LEAF branches.new.items }
+{
+    change_in_branch::<E, LEAF, C>(&mut branches[at / (LEAF * FAN)], at % (LEAF * FAN), change)
+}
+
+/// Changes the entry at a place.
+pub(crate) fn change_in_top<E: Entry, const LEAF: usize, C: Change<E>>(
+    top: &mut Top<E>,
+    at: usize,
+    change: &C,
+) -> Result<(), AllocError>
+    requires size { IsLeafSize LEAF }
+    requires top { IsTop E.item LEAF top.old }
+    requires held { at < length (top_list E.item top.old) }
+    ensures ok { OnOk result (IsChanged (C.after change.now) (top_list E.item top.old) at
+        (top_list E.item top.new)) }
+    ensures count { length (top_list E.item top.new) ≡ length (top_list E.item top.old) }
+    ensures top { IsTop E.item LEAF top.new }
+{
+    let own = Arc::make_mut(top)?;
+    change_in_branches::<E, LEAF, C>(own, at, change)
+}
