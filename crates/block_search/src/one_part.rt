@@ -21,11 +21,7 @@ use std::alloc::{AllocError, Global};
 /// A part that tells the label set and the samples of its series.
 pub trait SearchedPart: Source {
     /// The label set of a series, `None` for an unknown reference.
-    fn labels_of(
-        &self,
-        alloc: Global,
-        reference: SeriesRef,
-    ) -> Result<Option<LabelSet>, AllocError>
+    fn labels_of(&self, alloc: Global, reference: SeriesRef) -> Result<Option<LabelSet>, AllocError>
         ensures { IfOk result (λ labels. labels ≡ labels_in (row_at reference (Self.part self.now))) };
 
     /// The undeleted samples of a series in a closed range of times, in milliseconds; none for an unknown reference.
