@@ -1,5 +1,4 @@
 pub mod Certificates
 pub mod Asking
-pub mod Covering
 pub mod Walking
-pub mod FixtureSixSeries
+pub mod SixSeries

@@ -1,11 +1,11 @@
 -- Where the lists of a walk stand, and how they go on.
-use Rattle.std.specs.Prelude.{◌≡◌, ℕ, zero, suc, ◌<◌, ◌≤◌, List, [], ◌∷◌, length, map, slice_index_or, Option, None}
+use Rattle.std.specs.Prelude.{◌≡◌, ℕ, zero, suc, ◌<◌, ◌≤◌, List, [], ◌∷◌, length, Option, None}
 use Rattle.std.specs.List.{filter}
 use Rattle.labels.specs.Ascending.{first_of, rest_of, not_below}
 use Rattle.labels.specs.Sets.{has}
 use Rattle.cover.specs.declared.certificate.Verdict.{Verdict}
 use Rattle.cover.specs.declared.certificate.Verdict.TheVariants.{Match, NoSample, Rejected}
-use Rattle.cover.specs.Certificates.{Asked, IsAsked}
+use Rattle.cover.specs.Certificates.{Asked}
 
 -- the references that matcher j accepts
 abbrev pub accepted : Asked → ℕ → List ℕ
@@ -21,48 +21,19 @@ list_at [] j = []
 list_at (xs ∷ xss) zero = xs
 list_at (xs ∷ xss) (suc j) = list_at xss j
 
--- what is asked by a list of all references, a list of the accepted ones for each matcher, and a
--- list of the live ones
+-- what is asked by a list of all references, a list of the accepted ones for each matcher, and a list of the live ones
 abbrev pub asked_of : List ℕ → List (List ℕ) → List ℕ → Asked
-asked_of references lists live = record {
-  references = references;
-  matchers = length lists;
-  accepts = λ j r. has (list_at lists j) r;
-  live = λ r. has live r;
-}
+asked_of references lists live = record { references = references; matchers = length lists; accepts = λ j r. has (list_at lists j) r; live = λ r. has live r }
 
--- the same of lists that are seen by what remains of them, each with the count of its moves
-abbrev pub asked_by : {P Q L : Type 0} → (P → List ℕ) → (Q → List ℕ) → (L → List ℕ)
-    → P × ℕ → List (Q × ℕ) → L × ℕ → Asked
-asked_by of_all of_each of_live all lists live =
-    asked_of (of_all all.0) (map (λ l. of_each l.0) lists) (of_live live.0)
-
--- the lists of a walk before its first move: each has all that it lists, and none was moved
-pub record AreUnmoved {P Q L : Type 0}
-    (of_all : P → List ℕ) (of_each : Q → List ℕ) (of_live : L → List ℕ)
-    (all : P × ℕ) (lists : List (Q × ℕ)) (live : L × ℕ) : Type 0 where
-  pub part : IsAsked (asked_by of_all of_each of_live all lists live)
-  pub accepted : (j : ℕ) (d : Q × ℕ) → j < length lists
-      → of_each (slice_index_or lists j d).0
-      ≡ accepted (asked_by of_all of_each of_live all lists live) j
-  pub living : of_live live.0 ≡ alive (asked_by of_all of_each of_live all lists live)
-  pub fresh : all.1 ≡ 0
-  pub each_fresh : (j : ℕ) (d : Q × ℕ) → j < length lists → (slice_index_or lists j d).1 ≡ 0
-  pub live_fresh : live.1 ≡ 0
-
--- of n lists that begin at `begins k` and the live list, which begins at `live`: none begins past
--- `end`; under Match that is `from`, under Rejected j list j is the first of those that begin
--- there, past `from`, and under NoSample the live list alone begins there
+-- of n lists that begin at `begins k` and the live list, which begins at `live`: none begins past `end`; under Match
+-- that is `from`, under Rejected j list j is the first of those that begin there, past `from`, and under NoSample the
+-- live list alone begins there
 abbrev pub IsFarthestAt : (ℕ → ℕ) → ℕ → ℕ → ℕ → Verdict → ℕ → Type 0
 IsFarthestAt begins n live from Match end = end ≡ from
-IsFarthestAt begins n live from NoSample end =
-    (live ≡ end) × (from < end) × ((k : ℕ) → k < n → begins k < end)
-IsFarthestAt begins n live from (Rejected j) end =
-    (j < n) × (begins j ≡ end) × (from < end) × ((k : ℕ) → k < j → begins k < end)
+IsFarthestAt begins n live from NoSample end = (live ≡ end) × (from < end) × ((k : ℕ) → k < n → begins k < end)
+IsFarthestAt begins n live from (Rejected j) end = (j < n) × (begins j ≡ end) × (from < end) × ((k : ℕ) → k < j → begins k < end)
 
--- which list begins farthest, and that none begins past it
-pub record TellsFarthest (begins : ℕ → ℕ) (n live from : ℕ) (verdict : Verdict) (end : ℕ)
-    : Type 0 where
+pub record TellsFarthest (begins : ℕ → ℕ) (n live from : ℕ) (verdict : Verdict) (end : ℕ) : Type 0 where
   pub least : (k : ℕ) → k < n → begins k ≤ end
   pub live_least : live ≤ end
   pub not_before : from ≤ end
@@ -71,11 +42,9 @@ pub record TellsFarthest (begins : ℕ → ℕ) (n live from : ℕ) (verdict : V
 -- what remains of the list of all and the reference that is next, after a seek to `end`
 abbrev pub Sought : List ℕ → List ℕ → ℕ → Option ℕ → Type 0
 Sought before after end next =
-    (end < 4294967296 → (after ≡ not_below end before) × (next ≡ first_of after))
-    × (4294967296 ≤ end → next ≡ None)
+    (end < 4294967296 → (after ≡ not_below end before) × (next ≡ first_of after)) × (4294967296 ≤ end → next ≡ None)
 
--- what remains of the list of all and the reference that is next, after a verdict that goes up to
--- `end`
+-- what remains of the list of all and the reference that is next, after a verdict that goes up to `end`
 abbrev pub MovesOn : List ℕ → List ℕ → Verdict → ℕ → Option ℕ → Type 0
 MovesOn before after Match end next = (after ≡ rest_of before) × (next ≡ first_of after)
 MovesOn before after NoSample end next = Sought before after end next

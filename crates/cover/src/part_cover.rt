@@ -1,11 +1,10 @@
 //! The certificate of a part, its separators, and how often its lists moved.
 
-ghost use Rattle.std.specs.Prelude.{◌≡◌, ℕ, ◌+◌, ◌-◌, ◌^◌, min, ◌*◌, ◌<◌, ◌≤◌, length, map, slice_index_or, IfOk};
+ghost use Rattle.std.specs.Prelude.{◌≡◌, ℕ, ◌+◌, ◌-◌, ◌^◌, min, ◌*◌, ◌<◌, ◌≤◌, List, [], ◌∷◌, length, map, slice_index_or, IfOk};
 ghost use Rattle.matchers.specs.Satisfies.{satisfies};
 ghost use Rattle.labels.specs.Parts.{references_where};
-ghost use Rattle.cover.specs.Certificates.{begins_of};
-ghost use Rattle.cover.specs.Asking.{asked};
-ghost use Rattle.cover.specs.Covering.{IsCoverOf, MovesWithin};
+ghost use Rattle.cover.specs.Certificates.{IsValidCertificate, IsLeftmost, IsLeast, AreSeparators, begins_of, matches_of};
+ghost use Rattle.cover.specs.Asking.{asked, matching_references};
 
 use crate::certificate::Interval;
 use crate::walk::walk;
@@ -40,12 +39,8 @@ fn chosen_lists<S: Source>(
     source: &S,
     matchers: &[Matcher],
 ) -> Result<Vec<Counted<Chosen<S::List>>>, AllocError>
-    ensures lists { IfOk result (λ v.
-        map (λ l. ⟦<Chosen<S::List> as Postings>⟧.remaining l.0) v.items
-        ≡ map (λ m. references_where (λ labels. satisfies m labels) (S.part source.now))
-        matchers.now) }
-    ensures fresh { IfOk result (λ v. (k : ℕ) (d : _) → k < length v.items
-        → (slice_index_or v.items k d).1 ≡ 0) }
+    ensures lists { IfOk result (λ v. map (λ l. ⟦<Chosen<S::List> as Postings>⟧.remaining l.0) v.items ≡ map (λ m. references_where (λ labels. satisfies m labels) (S.part source.now)) matchers.now) }
+    ensures fresh { IfOk result (λ v. (k : ℕ) (d : _) → k < length v.items → (slice_index_or v.items k d).1 ≡ 0) }
 {
     let mut lists = Vec::new(alloc);
     for matcher in matchers {
@@ -57,9 +52,7 @@ fn chosen_lists<S: Source>(
 
 /// The moves of all lists together, up to the greatest number.
 fn sum_moves<P>(first: u64, lists: &[Counted<P>]) -> u64
-    ensures { (n : ℕ)
-        → ((k : ℕ) (d : Counted P) → k < length lists.now → (slice_index_or lists.now k d).1 ≤ n)
-        → result ≤ first + n * length lists.now }
+    ensures { (n : ℕ) → ((k : ℕ) (d : Counted P) → k < length lists.now → (slice_index_or lists.now k d).1 ≤ n) → result ≤ first + n * length lists.now }
 {
     let mut sum = first;
     for list in lists.iter() {
@@ -94,13 +87,17 @@ pub fn cover_with_moves<S: Source>(
     source: &S,
     query: &Query,
 ) -> Result<(PartCover, Moves), AllocError>
-    ensures cover { IfOk result (λ c. IsCoverOf (S.part source.now) query.now c.0) }
+    ensures leftmost { IfOk result (λ c. IsLeftmost (asked (S.part source.now) query.now) c.0.certificate.items) }
+    ensures valid { IfOk result (λ c. IsValidCertificate (asked (S.part source.now) query.now) c.0.certificate.items) }
+    ensures least { IfOk result (λ c. IsLeast (asked (S.part source.now) query.now) c.0.certificate.items) }
+    ensures matches { IfOk result (λ c. matches_of c.0.certificate.items ≡ matching_references (S.part source.now) query.now) }
+    ensures begins { IfOk result (λ c. c.0.separators.items ≡ begins_of c.0.certificate.items) }
+    ensures as_many { IfOk result (λ c. length c.0.separators.items ≡ length c.0.certificate.items) }
+    ensures separated { IfOk result (λ c. AreSeparators (asked (S.part source.now) query.now) c.0.separators.items) }
     ensures sum { IfOk result (λ c. c.0.moves ≡ min (c.1.of_lists + c.1.of_live) (2 ^ 64 - 1)) }
-    ensures of_lists { IfOk result (λ c.
-        MovesWithin (asked (S.part source.now) query.now) (length query.now.matchers + 1)
-        c.1.of_lists) }
-    ensures of_live { IfOk result (λ c.
-        MovesWithin (asked (S.part source.now) query.now) 1 c.1.of_live) }
+    ensures of_lists { IfOk result (λ c. (other : List Interval) → IsValidCertificate (asked (S.part source.now) query.now) other → c.1.of_lists ≤ (length query.now.matchers + 1) * length other) }
+    ensures of_live { IfOk result (λ c. (other : List Interval) → IsValidCertificate (asked (S.part source.now) query.now) other → c.1.of_live ≤ length other) }
+    ensures moves { IfOk result (λ c. (other : List Interval) → IsValidCertificate (asked (S.part source.now) query.now) other → c.0.moves ≤ (length query.now.matchers + 2) * length other) }
 {
     let mut all = Counted::new(source.all());
     let mut lists = chosen_lists(alloc, source, query.matchers())?;
@@ -119,10 +116,16 @@ pub fn cover_with_moves<S: Source>(
     ))
 }
 
-/// The leftmost certificate of a part for a query, its separators, and how many moves its lists
-/// made: at most `m + 2` for each interval of any valid certificate, with `m` matchers.
+/// The leftmost certificate of a part for a query, its separators, and how many moves its lists made.
 pub fn cover<S: Source>(alloc: Global, source: &S, query: &Query) -> Result<PartCover, AllocError>
-    ensures { IfOk result (IsCoverOf (S.part source.now) query.now) }
+    ensures leftmost { IfOk result (λ c. IsLeftmost (asked (S.part source.now) query.now) c.certificate.items) }
+    ensures valid { IfOk result (λ c. IsValidCertificate (asked (S.part source.now) query.now) c.certificate.items) }
+    ensures least { IfOk result (λ c. IsLeast (asked (S.part source.now) query.now) c.certificate.items) }
+    ensures matches { IfOk result (λ c. matches_of c.certificate.items ≡ matching_references (S.part source.now) query.now) }
+    ensures begins { IfOk result (λ c. c.separators.items ≡ begins_of c.certificate.items) }
+    ensures as_many { IfOk result (λ c. length c.separators.items ≡ length c.certificate.items) }
+    ensures separated { IfOk result (λ c. AreSeparators (asked (S.part source.now) query.now) c.separators.items) }
+    ensures moves { IfOk result (λ c. (other : List Interval) → IsValidCertificate (asked (S.part source.now) query.now) other → c.moves ≤ (length query.now.matchers + 2) * length other) }
 {
     let (cover, _) = cover_with_moves(alloc, source, query)?;
     Ok(cover)

@@ -2,14 +2,14 @@
 
 ghost use Rattle.std.specs.Prelude.{◌≡◌, ℕ, ◌<◌, List, [], ◌∷◌, length, slice_get, Some};
 ghost use Rattle.labels.specs.Parts.{references, references_where, live_references, carries};
-ghost use Rattle.cover.specs.FixtureSixSeries.{six_series, values_in, listed_in, live_in};
+ghost use Rattle.cover.specs.SixSeries.{six_series, values_in, listed_in, live_in};
 
 use labels::SeriesRef;
 use postings::{SliceList, Source};
 use std::alloc::{AllocError, Global};
 
-/// A part of six series: 1 up of job a, 2 up of job b, 3 up of job b in zone x, 4 down of job a,
-/// 5 down of job b and 6 up of job a in zone x, each with samples at 10 and 20.
+/// A part of six series: 1 up of job a, 2 up of job b, 3 up of job b in zone x, 4 down of job a, 5 down of job b and 6
+/// up of job a in zone x, each with samples at 10 and 20.
 #[derive(Drop)]
 pub struct SixSeries {
     all: [SeriesRef; 6],
@@ -106,7 +106,7 @@ impl<'a> Source for &'a SixSeries {
 
     type Live = SliceList<'a>;
 
-    ghost use Rattle.cover.specs.FixtureSixSeries.{six_series, values_in, is_part, are_values};
+    ghost use Rattle.cover.specs.SixSeries.{six_series, values_in, is_part, are_values};
 
     ghost part = { λ _. six_series };
 

@@ -141,23 +141,6 @@ fn certificates_of_six_series(rt: HostRuntime) -> Result<(), Fail> {
 }
 
 #[test]
-fn the_example_of_the_first_page(rt: HostRuntime) -> Result<(), Fail> {
-    let alloc = rt.alloc();
-    let six = SixSeries::new();
-    let matchers = Selector::parse(alloc, "up{job=\"a\"}")?;
-    let query = Query::new(matchers, 0, 100)?;
-    let answered = cover(alloc, &&six, &query)?; // of six series, of which 1 and 6 answer
-    let first = Interval {
-        from: SeriesRef::new(1),
-        until: 2,
-        verdict: Verdict::Match,
-    };
-    assert_eq!(rt; answered.certificate.get(0), Some(&first));
-    assert_eq!(rt; answered.separators.len(), 4);
-    Ok(())
-}
-
-#[test]
 fn certificates_of_selectors(rt: HostRuntime) -> Result<(), Fail> {
     let alloc = rt.alloc();
     let six = SixSeries::new();

@@ -1,9 +1,10 @@
 //! The walk over the lists of a query, which goes to the farthest at each step.
 
 ghost use Rattle.std.specs.Prelude.{◌≡◌, ℕ, ◌+◌, ◌*◌, ◌^◌, ◌-◌, ◌<◌, ◌≤◌, List, [], ◌∷◌, length, map, slice_index, slice_index_or, MatchOption, IfOk};
-ghost use Rattle.labels.specs.Ascending.{not_below, first_or_end, or_end};
-ghost use Rattle.cover.specs.Certificates.{IsLeftmost};
-ghost use Rattle.cover.specs.Walking.{asked_by, AreUnmoved, TellsFarthest, MovesOn};
+ghost use Rattle.std.specs.List.{Contains, filter};
+ghost use Rattle.labels.specs.Ascending.{first_of, rest_of, not_below, first_or_end, or_end};
+ghost use Rattle.cover.specs.Certificates.{IsAsked, IsLeftmost, begins_of};
+ghost use Rattle.cover.specs.Walking.{asked_of, accepted, alive, TellsFarthest, MovesOn};
 
 use crate::certificate::{Interval, Verdict};
 use labels::SeriesRef;
@@ -25,11 +26,8 @@ fn number_or_end(next: Option<SeriesRef>) -> u64
 
 /// Moves each list to the reference.
 fn seek_each<P: Postings>(lists: &mut [Counted<P>], from: SeriesRef)
-    ensures moved { (k : ℕ) (d : Counted P) → k < length lists.old
-        → P.remaining (slice_index_or lists.new k d).0
-        ≡ not_below from (P.remaining (slice_index_or lists.old k d).0) }
-    ensures counted { (k : ℕ) (d : Counted P) → k < length lists.old
-        → (slice_index_or lists.new k d).1 ≤ (slice_index_or lists.old k d).1 + 1 }
+    ensures moved { (k : ℕ) (d : Counted P) → k < length lists.old → P.remaining (slice_index_or lists.new k d).0 ≡ not_below from (P.remaining (slice_index_or lists.old k d).0) }
+    ensures counted { (k : ℕ) (d : Counted P) → k < length lists.old → (slice_index_or lists.new k d).1 ≤ (slice_index_or lists.old k d).1 + 1 }
 {
     for list in lists.iter_mut() {
         list.seek(from);
@@ -48,17 +46,13 @@ fn farther(verdict: Verdict, end: u64, other: Verdict, begins: u64) -> (Verdict,
     }
 }
 
-/// Which list begins farthest past the reference, and where; the first of those that do, the live
-/// list last.
+/// Which list begins farthest past the reference, and where; the first of those that do, the live list last.
 fn farthest<P: Postings, L: Postings>(
     lists: &[Counted<P>],
     live: &Counted<L>,
     from: SeriesRef,
 ) -> (Verdict, u64)
-    ensures { TellsFarthest
-        (λ (k : ℕ).
-        slice_index (map (λ (l : Counted P). first_or_end (P.remaining l.0)) lists.now) k)
-        (length lists.now) (first_or_end (L.remaining live.now.0)) from result.0 result.1 }
+    ensures { TellsFarthest (λ (k : ℕ). slice_index (map (λ (l : Counted P). first_or_end (P.remaining l.0)) lists.now) k) (length lists.now) (first_or_end (L.remaining live.now.0)) from result.0 result.1 }
 {
     let mut verdict = Verdict::Match;
     let mut end = u64::from(from.number());
@@ -99,12 +93,15 @@ pub(crate) fn walk<P: Postings, Q: Postings, L: Postings>(
     lists: &mut [Counted<Q>],
     live: &mut Counted<L>,
 ) -> Result<Vec<Interval>, AllocError>
-    requires { AreUnmoved P.remaining Q.remaining L.remaining all.old lists.old live.old }
-    ensures leftmost { IfOk result (λ c. IsLeftmost
-        (asked_by P.remaining Q.remaining L.remaining all.old lists.old live.old) c.items) }
+    requires part { IsAsked (asked_of (P.remaining all.old.0) (map (λ l. Q.remaining l.0) lists.old) (L.remaining live.old.0)) }
+    requires accepted { (j : ℕ) (d : Counted Q) → j < length lists.old → Q.remaining (slice_index_or lists.old j d).0 ≡ accepted (asked_of (P.remaining all.old.0) (map (λ l. Q.remaining l.0) lists.old) (L.remaining live.old.0)) j }
+    requires living { L.remaining live.old.0 ≡ alive (asked_of (P.remaining all.old.0) (map (λ l. Q.remaining l.0) lists.old) (L.remaining live.old.0)) }
+    requires fresh { all.old.1 ≡ 0 }
+    requires each_fresh { (j : ℕ) (d : Counted Q) → j < length lists.old → (slice_index_or lists.old j d).1 ≡ 0 }
+    requires live_fresh { live.old.1 ≡ 0 }
+    ensures leftmost { IfOk result (λ c. IsLeftmost (asked_of (P.remaining all.old.0) (map (λ l. Q.remaining l.0) lists.old) (L.remaining live.old.0)) c.items) }
     ensures moves { IfOk result (λ c. all.new.1 ≤ length c.items) }
-    ensures each_moves { IfOk result (λ c. (j : ℕ) (d : Counted Q) → j < length lists.old
-        → (slice_index_or lists.new j d).1 ≤ length c.items) }
+    ensures each_moves { IfOk result (λ c. (j : ℕ) (d : Counted Q) → j < length lists.old → (slice_index_or lists.new j d).1 ≤ length c.items) }
     ensures live_moves { IfOk result (λ c. live.new.1 ≤ length c.items) }
 {
     let mut certificate = Vec::new(alloc);

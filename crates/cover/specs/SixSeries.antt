@@ -1,7 +1,7 @@
--- A part of six series for tests: 1 up of job a, 2 up of job b, 3 up of job b in zone x, 4 down
--- of job a, 5 down of job b and 6 up of job a in zone x, each with samples at 10 and 20.
+-- A part of six series for tests: 1 up of job a, 2 up of job b, 3 up of job b in zone x, 4 down of job a, 5 down of
+-- job b and 6 up of job a in zone x, each with samples at 10 and 20.
 use Rattle.std.proofs.Common.{◌≡◌, ℕ, zero, suc, ◌+◌, ◌<◌, Bool, true, false, cond, ◌||◌, List, [], ◌∷◌, get_or, refl, sym, ◌∙◌, ap, subst, T, lit<, arith}
-use Rattle.std.specs.Prelude.{ℤ, pos, codes}
+use Rattle.std.specs.Prelude.{ℤ, pos}
 use Rattle.std.specs.List.{Contains}
 use Rattle.std.specs.List.Sorted.{IsStrictlyIncreasing}
 use Rattle.std.specs.Str.{bytes_eq}
@@ -16,52 +16,52 @@ use Rattle.labels.specs.Parts.{Part, references_where, live_references, carries,
 use Rattle.postings.specs.Values.{AreValuesOf}
 
 abbrev pub named : List ℕ
-named = codes "__name__"
+named = 95 ∷ 95 ∷ 110 ∷ 97 ∷ 109 ∷ 101 ∷ 95 ∷ 95 ∷ []
 
 abbrev pub job : List ℕ
-job = codes "job"
+job = 106 ∷ 111 ∷ 98 ∷ []
 
 abbrev pub zone : List ℕ
-zone = codes "zone"
+zone = 122 ∷ 111 ∷ 110 ∷ 101 ∷ []
 
 abbrev pub up : List ℕ
-up = codes "up"
+up = 117 ∷ 112 ∷ []
 
 abbrev pub down : List ℕ
-down = codes "down"
+down = 100 ∷ 111 ∷ 119 ∷ 110 ∷ []
 
 abbrev pub a : List ℕ
-a = codes "a"
+a = 97 ∷ []
 
 abbrev pub b : List ℕ
-b = codes "b"
+b = 98 ∷ []
 
 abbrev pub x : List ℕ
-x = codes "x"
+x = 120 ∷ []
 
 abbrev pub labels_of : List ℕ → List ℕ → Labels → Labels
 labels_of name of_job rest = (named, name) ∷ (job, of_job) ∷ rest
 
-abbrev pub series_row : ℕ → Labels → ℕ × Row
-series_row r labels = (r, (labels, (pos 10, pos r) ∷ (pos 20, pos r) ∷ []))
+abbrev pub row_of : ℕ → Labels → ℕ × Row
+row_of r labels = (r, (labels, (pos 10, pos r) ∷ (pos 20, pos r) ∷ []))
 
 abbrev pub row_1 : ℕ × Row
-row_1 = series_row 1 (labels_of up a [])
+row_1 = row_of 1 (labels_of up a [])
 
 abbrev pub row_2 : ℕ × Row
-row_2 = series_row 2 (labels_of up b [])
+row_2 = row_of 2 (labels_of up b [])
 
 abbrev pub row_3 : ℕ × Row
-row_3 = series_row 3 (labels_of up b ((zone, x) ∷ []))
+row_3 = row_of 3 (labels_of up b ((zone, x) ∷ []))
 
 abbrev pub row_4 : ℕ × Row
-row_4 = series_row 4 (labels_of down a [])
+row_4 = row_of 4 (labels_of down a [])
 
 abbrev pub row_5 : ℕ × Row
-row_5 = series_row 5 (labels_of down b [])
+row_5 = row_of 5 (labels_of down b [])
 
 abbrev pub row_6 : ℕ × Row
-row_6 = series_row 6 (labels_of up a ((zone, x) ∷ []))
+row_6 = row_of 6 (labels_of up a ((zone, x) ∷ []))
 
 abbrev pub six_series : Part
 six_series = row_1 ∷ row_2 ∷ row_3 ∷ row_4 ∷ row_5 ∷ row_6 ∷ []
