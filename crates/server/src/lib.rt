@@ -1,7 +1,8 @@
 //! Workers that serve a store over HTTP.
 //!
-//! [`serve`] opens a store over blocks and serves it on a listening socket: each worker is a thread
-//! with a pass and a seat of its own, which takes one connection after another. [`work`] is the loop
+//! [`Workers::open`] opens a store over blocks with workers, and [`serve`] serves it on a listening
+//! socket: each worker is a thread with a pass and a seat of its own, which takes one connection
+//! after another. [`work`] is the loop
 //! of one worker, over any [`Connections`]: its contract says that each connection is served by
 //! `query_http::serve_one`, with the pass and the seat as the connection before left them
 //! (`specs/Sessions.antt`), that there are as many as asked unless no more come, and what was
@@ -21,7 +22,7 @@ mod tests;
 mod worker;
 
 pub use connections::Connections;
-pub use pool::{Terms, serve};
+pub use pool::{Terms, Workers, serve};
 pub use socket::{SocketReader, SocketWriter};
 pub use sockets::Sockets;
 pub use worker::work;

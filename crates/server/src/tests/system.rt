@@ -3,7 +3,7 @@
 ghost use Rattle.std.specs.Prelude.{◌≡◌, []};
 ghost use Rattle.head.specs.Blocks.{opening_of};
 
-use crate::pool::{Terms, serve};
+use crate::pool::{Terms, Workers, serve};
 use snapshots::{Naming, Store};
 use std::alloc::Global;
 use std::io::{self, Read, Write};
@@ -45,6 +45,31 @@ fn ask_all<R: Net<Stream = TcpStream>>(
     Ok(replies)
 }
 
+/// Whether the workers all ended, and the replies to these requests, asked by a thread beside them.
+fn serve_beside<
+    J: Naming + Send + Sync,
+    C: Wait + Drop + Send + Sync,
+    R: Threads + Wait + Clock + Eprint + Net<Stream = TcpStream> + Sync,
+>(
+    rt: &R,
+    alloc: Global,
+    workers: Workers<J, C>,
+    listener: &TcpListener,
+    port: u16,
+    asked: (usize, &[&[u8]]),
+) -> (bool, Option<Vec<u8>>) {
+    let terms = Terms {
+        requests: 2,
+        idle: Some(Duration::from_secs(1)),
+    };
+    let (silent, requests) = asked;
+    join(
+        rt,
+        || serve(rt, alloc, workers, listener, terms).is_ok(),
+        || ask_all(rt, alloc, port, silent, requests).ok(),
+    )
+}
+
 /// The replies to these requests by two workers of an empty store, of two connections each, while so
 /// many clients stay silent.
 fn replies_of_two<
@@ -62,18 +87,9 @@ fn replies_of_two<
     requires opening { opening_of [] ≡ J.opening }
 {
     let port = listener.local_addr().ok()?.port();
-    let terms = Terms {
-        workers: 2,
-        requests: 2,
-        idle: Some(Duration::from_secs(1)),
-    };
-    let (served, replies) = join(
-        rt,
-        || {
-            serve::<J, R>(rt, alloc, store, Vec::new(alloc), listener, terms).is_ok()
-        },
-        || ask_all(rt, alloc, port, silent, requests).ok(),
-    );
+    let workers = Workers::<J, &R>::open(rt, alloc, store, Vec::new(alloc), 2).ok()?;
+    let asked = (silent, requests);
+    let (served, replies) = serve_beside(rt, alloc, workers, listener, port, asked);
     replies.filter(|_| served)
 }
 
