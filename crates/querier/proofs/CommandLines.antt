@@ -114,7 +114,7 @@ serve_found None rows serving directories e f served given = cc
 serve_found (Some p) rows serving directories e f served given = record {
   rows = rows;
   is = ap₂ (λ (n : Option Text) (r : Option (List Row)). Some (unwrap_or n p.0, unwrap_or r p.1)) e f;
-  serving = served;
+  asked = served;
   given = given;
 }
 

@@ -49,5 +49,5 @@ pub record IsServingIn (rows : List Row) (serving : Serving) : Type 0 where
 pub record IsServe (found : Option (Text × List Row)) (serving : Serving) (directories : List Text) : Type 0 where
   pub rows : List Row
   pub is : found ≡ Some (codes "serve", rows)
-  pub serving : IsServingIn rows serving
+  pub asked : IsServingIn rows serving
   pub given : directories ≡ unwrap_or (all_of (codes "directories") rows) []

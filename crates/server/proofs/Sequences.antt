@@ -1,5 +1,6 @@
 -- A connection more, after those that were served.
-use Rattle.std.proofs.Common.{◌≡◌, ℕ, ◌+◌, List, [], ◌∷◌, ◌++◌, Option, None, Some, refl, sym, ap, subst, ◌∙◌, length, map, arith, append_assoc, append-nil, length-append, map-append}
+use Rattle.std.proofs.Common.{◌≡◌, ℕ, ◌+◌, List, [], ◌∷◌, ◌++◌, Option, None, Some, refl, sym, ap, subst, ◌∙◌, length, map, arith, append_assoc, append-nil, length-append}
+use Rattle.std.proofs.lemmas.List.{map-append}
 use Rattle.head.specs.Heads.{SnapshotParts}
 use Rattle.query_http.specs.Serving.{Worker}
 use Rattle.server.specs.Sessions.{Session, Ending, IsServed, AreServed, Arrives, AreFirst, AreAdded}
@@ -11,22 +12,24 @@ served_more : (opening : SnapshotParts) (before between after : Worker) (ss : Li
 served_more opening before between after [] s e one =
     (after, subst (λ (w : Worker). IsServed opening w after s) e one, refl)
 served_more opening before between after (t ∷ ss) s h one =
-    (h.0, h.1.0, served_more opening h.0 between after ss s h.1.1 one)
+    (h.0, h.1, served_more opening h.0 between after ss s h.2 one)
 
 first_more : (coming mid left : Option (List (List ℕ))) (ss : List Session) (s : Session)
     → AreFirst coming mid ss → Arrives mid left s.input → AreFirst coming left (ss ++ s ∷ [])
 first_more None mid left ss s h here = tt
-first_more (Some old) None left ss s h here = absurd cc
+first_more (Some old) None left ss s h here = absurd (cc h.1)
 first_more (Some old) (Some mid) left ss s h here =
     let inputs = map (λ (t : Session). t.input) in
-    let next : map Some mid ≡ s.input ∷ map Some here.1.0 =
-        ap (map Some) here.1.1.0 ∙ ap (λ (o : Option (List ℕ)). o ∷ map Some here.1.0) (sym here.1.1.1.1) in
-    let same : map Some h.0 ≡ map Some mid = ap (map Some) (cc h.1.0) in
-    (here.1.0, here.1.1.1.0,
-        h.1.1
-        ∙ ap (λ (l : List (Option (List ℕ))). inputs ss ++ l) (same ∙ next)
-        ∙ sym (append_assoc (inputs ss) (s.input ∷ []) (map Some here.1.0))
-        ∙ ap (λ (l : List (Option (List ℕ))). l ++ map Some here.1.0) (sym (map-append (λ (t : Session). t.input) ss (s ∷ []))))
+    let next : map Some mid ≡ s.input ∷ map Some here.1 =
+    ap (map Some) here.2 ∙ ap (λ (o : Option (List ℕ)). o ∷ map Some here.1) (sym here.4) in
+    let same : map Some h.0 ≡ map Some mid = ap (map Some) (cc h.1) in (
+      here.1,
+      here.3,
+      h.2
+          ∙ ap (λ (l : List (Option (List ℕ))). inputs ss ++ l) (same ∙ next)
+          ∙ sym (append_assoc (inputs ss) (s.input ∷ []) (map Some here.1))
+          ∙ ap (λ (l : List (Option (List ℕ))). l ++ map Some here.1) (sym (map-append (λ (t : Session). t.input) ss (s ∷ []))),
+    )
 
 pub added_more : (old mid new : Option (List Ending)) (xs ys : List Ending)
     → AreAdded old mid xs → AreAdded mid new ys → AreAdded old new (xs ++ ys)

@@ -48,17 +48,19 @@ pub struct Terms {
     pub idle: Option<Duration>,
 }
 
-/// Each pass with a seat.
+/// Each pass with a seat; the seats are as many.
 fn places_of<J: Naming>(
     alloc: Global,
     passes: Vec<Pass<J>>,
-    seats: Vec<Seat<J>>,
+    mut seats: Vec<Seat<J>>,
 ) -> Result<Vec<Place<J>>, AllocError>
-    requires { vec_len passes ≡ vec_len seats }
-    ensures { IfOk result (λ places. vec_len places ≡ vec_len seats) }
+    ensures { IfOk result (λ places. vec_len places ≡ vec_len passes) }
 {
     let mut places = Vec::new(alloc);
-    for (pass, seat) in passes.into_iter().zip(seats) {
+    for pass in passes {
+        let Some(seat) = seats.pop() else {
+            return Err(AllocError);
+        };
         places.push(Place { pass, seat })?;
     }
     Ok(places)
@@ -103,7 +105,15 @@ fn work_at<J: Naming, C: Wait + Drop, R: Wait + Clock + Eprint>(
     let Place { mut pass, mut seat } = place;
     let mut sockets = Sockets::new(rt, alloc, listener, terms.idle);
     let most = terms.requests;
-    work(rt, alloc, &mut sockets, &mut pass, &mut seat, committer, most)
+    work(
+        rt,
+        alloc,
+        &mut sockets,
+        &mut pass,
+        &mut seat,
+        committer,
+        most,
+    )
 }
 
 /// Serves the connections of a listener until each worker has ended: how many each served.

@@ -175,5 +175,7 @@ fn a_worker_serves_until_no_more_come(rt: HostRuntime) {
 #[test]
 fn a_worker_serves_no_more_than_asked(rt: HostRuntime) {
     let served = served_of_four::<Brand, _>(&rt, rt.alloc(), Store::new(), 1);
-    assert!(rt; served.is_some_and(|(count, text)| count == 1 && text.as_slice() == &REPLIES[..101]));
+    assert!(rt;
+        served.is_some_and(|(count, text)| count == 1 && text.as_slice() == &REPLIES[..101])
+    );
 }
