@@ -1,10 +1,10 @@
 //! A store and its workers, each in a thread of its own.
 
-ghost use Rattle.std.specs.Prelude.{◌≡◌, ◌≤◌, map, vec_len, IfOk, IfErr};
+ghost use Rattle.std.specs.Prelude.{◌≡◌, ◌≤◌, ◌<◌, length, map, vec_len, IfOk, IfErr};
 ghost use Rattle.std.specs.List.{All};
 ghost use Rattle.head.specs.Blocks.{part_in, opening_of};
 ghost use Rattle.snapshots.specs.Seats.{IsRoom};
-ghost use Rattle.snapshots.specs.declared.error.OpenError.TheVariants.{BadPasses};
+ghost use Rattle.snapshots.specs.declared.error.OpenError.TheVariants.{BadPasses, Limit};
 
 use crate::sockets::Sockets;
 use crate::worker::work;
@@ -82,6 +82,7 @@ impl<J: Naming, C: Wait + Drop> Workers<J, C> {
         ensures workers { IfOk result (λ w. w ≡ count) }
         ensures room { IfOk result (λ _. IsRoom count count) }
         ensures refused { IfErr result (λ e. e ≡ BadPasses → ¬ IsRoom count count) }
+        ensures few { IfErr result (λ e. e ≡ Limit → 63 < length blocks.items) }
     {
         let (committer, passes, seats) = store.open::<J, C>(rt, alloc, blocks, count, count)?;
         match places_of(alloc, passes, seats) {
