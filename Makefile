@@ -4,7 +4,7 @@ PREFIX ?= /usr/local
 JOBS ?= $(shell nproc)
 CRATES := $(shell sed -e 's/\#.*//' -e 's/:.*//' -e '/^[[:space:]]*$$/d' crates.txt)
 
-.PHONY: help try demo test gate-times allocations bench install $(addprefix check-,$(CRATES))
+.PHONY: help try demo test gate-times allocations serving bench install $(addprefix check-,$(CRATES))
 
 help: ## lists the targets
 	@grep -hE '^[a-z-]+:.*## ' $(MAKEFILE_LIST) | sed -E 's/^([a-z-]+):.*## /\1\t/' | expand -t 16
@@ -26,8 +26,11 @@ gate-times: ## runs the gate and tells its minutes by crate, for proofs, proofs 
 allocations: ## refuses each allocation of an index's opening and of the demo in turn (needs a C compiler)
 	@RT="$(RT)" tests/allocations
 
+serving: ## runs the server and asks it with curl: the session of the README, slow and silent clients
+	@RT="$(RT)" tests/serving
+
 bench: ## measures speed (never part of the gate)
-	@RT="$(RT)" bench/run && RT="$(RT)" bench/check
+	@RT="$(RT)" bench/run && RT="$(RT)" bench/check && RT="$(RT)" bench/serve
 
 install: ## proves and builds querier and auditor, and copies them to PREFIX/bin
 	@$(RT) all check --jobs $(JOBS) >/dev/null
