@@ -94,7 +94,7 @@ fn serve_blocks<
     let workers = Workers::<J, &R>::open(rt, alloc, store, blocks, count)?;
     let listener = listen(rt, serving.port)?;
     tell_port(alloc, &listener, serving, out)?;
-    let _counts = server::serve(rt, alloc, workers, &listener, terms_of(serving))?;
+    server::serve(rt, alloc, workers, &listener, terms_of(serving))?;
     Ok(())
 }
 

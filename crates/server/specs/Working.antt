@@ -1,5 +1,5 @@
 -- What a worker has done when it ends.
-use Rattle.std.specs.Prelude.{◌≡◌, ◌≤◌, ◌<◌, ℕ, ◌+◌, List, Option, length, map}
+use Rattle.std.specs.Prelude.{◌≡◌, ◌≤◌, ℕ, ◌+◌, List, Option, length, map}
 use mathlib.Core.List.{IsPrefix}
 use Rattle.head.specs.Heads.{SnapshotParts}
 use Rattle.query_http.specs.Serving.{Worker}
