@@ -1,10 +1,10 @@
 //! The server: a store over the blocks in directories, and its workers.
 
-ghost use Rattle.std.specs.Prelude.{◌≡◌, ◌≤◌, length, map, IfErr, OnOk};
+ghost use Rattle.std.specs.Prelude.{◌≡◌, ◌≤◌, length, map, string_bytes, IfOk, IfErr, OnOk};
 ghost use Rattle.head.specs.Blocks.{part_in, opening_of};
 ghost use Rattle.querier.specs.Reading.{paths_of};
-ghost use Rattle.querier.specs.Selecting.{IsOfMemory, KeepsAt};
-ghost use Rattle.querier.specs.ServingRuns.{TellsPort, IsServed, IsStoreFault, IsServeFault, IsServingFault};
+ghost use Rattle.querier.specs.Selecting.{KeepsAt};
+ghost use Rattle.querier.specs.ServingRuns.{listening_line, TellsPort, IsServed, IsStoreFault, IsServeFault, IsServingFault};
 ghost use Rattle.querier.specs.declared.fault.Fault.TheVariants.{CannotListen};
 
 use crate::command::Serving;
@@ -15,7 +15,7 @@ use crate::sending::send;
 use block::Block;
 use server::{Terms, Workers};
 use snapshots::{Naming, Store};
-use std::alloc::Global;
+use std::alloc::{AllocError, Global};
 use std::io::Write;
 use std::marker::Brand;
 use std::net::{Net, TcpListener, TcpStream};
@@ -39,6 +39,12 @@ fn listen<R: Net<Listener = TcpListener, Stream = TcpStream>>(
     }
 }
 
+fn line_of(alloc: Global, port: u16) -> Result<String, AllocError>
+    ensures { IfOk result (λ line. string_bytes line ≡ listening_line port) }
+{
+    format!(in alloc; "listening {port}\n")
+}
+
 /// Tells the port of a listener in a line.
 fn tell_port<W: Write>(
     alloc: Global,
@@ -53,8 +59,7 @@ fn tell_port<W: Write>(
     let Ok(address) = listener.local_addr() else {
         return Err(Fault::CannotListen(serving.port));
     };
-    let port = address.port();
-    let line = format!(in alloc; "listening {port}\n")?;
+    let line = line_of(alloc, address.port())?;
     send(out, line.as_bytes())?;
     Ok(())
 }
