@@ -4,7 +4,7 @@ PREFIX ?= /usr/local
 JOBS ?= $(shell nproc)
 CRATES := $(shell sed -e 's/\#.*//' -e 's/:.*//' -e '/^[[:space:]]*$$/d' crates.txt)
 
-.PHONY: help try demo test gate-times allocations audits bench install $(addprefix check-,$(CRATES))
+.PHONY: help try demo test gate-times allocations audits serving bench install $(addprefix check-,$(CRATES))
 
 help: ## lists the targets
 	@grep -hE '^[a-z-]+:.*## ' $(MAKEFILE_LIST) | sed -E 's/^([a-z-]+):.*## /\1\t/' | expand -t 16
@@ -29,8 +29,11 @@ allocations: ## refuses each allocation of an index's opening, the demo, audits 
 audits: ## pipes what querier tells, right and changed, through auditor (needs rustc)
 	@RT="$(RT)" tests/audits
 
+serving: ## runs the server and asks it with curl: the session of the README, slow and silent clients
+	@RT="$(RT)" tests/serving
+
 bench: ## measures speed (never part of the gate)
-	@RT="$(RT)" bench/run && RT="$(RT)" bench/check && RT="$(RT)" bench/audit
+	@RT="$(RT)" bench/run && RT="$(RT)" bench/check && RT="$(RT)" bench/audit && RT="$(RT)" bench/serve
 
 install: ## proves and builds querier and auditor, and copies them to PREFIX/bin
 	@$(RT) all check --jobs $(JOBS) >/dev/null

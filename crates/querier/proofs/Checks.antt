@@ -137,4 +137,5 @@ stopped reads texts i d old mid new outcome fault.CannotWrite h before unread ke
       };
     }
 stopped reads texts i d old mid new outcome (fault.Words error) h before unread kept cut = absurd unread
+stopped reads texts i d old mid new outcome (fault.CannotListen port) h before unread kept cut = absurd unread
 stopped reads texts i d old mid new outcome (fault.Refused refusal) h before unread kept cut = absurd unread

@@ -1,15 +1,17 @@
 -- What the getters of `clap` say of the line that the words ask for.
-use Rattle.std.proofs.Common.{◌≡◌, ℕ, ℤ, true, false, List, [], Option, Some, None, refl, sym, ap, ap₂, subst, ◌∙◌, inl, inr, codes}
+use Rattle.std.proofs.Common.{◌≡◌, ◌<◌, ◌^◌, ℕ, ℤ, true, false, List, [], Option, Some, None, refl, sym, ap, ap₂, subst, ◌∙◌, inl, inr, codes}
 use Rattle.std.specs.Prelude.{option_map, unwrap_or, is_some, FitsSigned, Bool, not, ◌&&◌}
 use Rattle.std.specs.Int.{w64}
-use Rattle.std.specs.Str.Parse.{IsNumeral, without_leading_sign, signed_digits_value}
+use Rattle.std.specs.Str.Parse.{IsNumeral, without_leading_sign, signed_digits_value, without_leading_plus, digits_value}
 use Rattle.clap.specs.Words.{Row, Text, one_of, one_text, all_of, rows_of, subcommand_name_of, subcommand_rows_of}
 use Rattle.clap.specs.declared.parser.matches.ArgMatches.{ArgMatches}
 use Rattle.clap.specs.declared.parser.matches.Found.{Found}
 use Rattle.clap.proofs.WalkLemmas.{one_text-rows}
 use Rattle.querier.specs.Lines.{IsTimeIn, IsDemo, IsSelect, IsCheck, IsSelectionIn, IsLineIn}
+use Rattle.querier.specs.ServingLines.{IsCountIn, IsServe, IsServingIn}
 use Rattle.querier.specs.declared.command.Line.{Line}
-use Rattle.querier.specs.declared.command.Line.TheVariants.{Demo, Select, Check}
+use Rattle.querier.specs.declared.command.Line.TheVariants.{Demo, Select, Check, Serve}
+use Rattle.querier.specs.declared.command.Serving.{Serving}
 
 -- a text that was read is the number
 pub time_given : (f : Found) (name : Text) (other time shown : ℤ) → (FitsSigned w64 time → shown ≡ time) → (one_text f name ≡ None → Some time ≡ None)
@@ -31,6 +33,28 @@ pub time_missing : (f : Found) (name : Text) (other : ℤ)
 time_missing f name other value = subst (λ (o : Option Text). IsTimeIn o other other) (one_text-rows f name) (go (one_text f name) refl)
   where
     go : (o : Option Text) → one_text f name ≡ o → IsTimeIn o other other
+    go None e = refl
+    go (Some t) e = inr (λ n. value t e (n.numeral, n.fits), refl)
+
+-- a text that was read is the number
+pub count_given : (f : Found) (name : Text) (other count : ℕ) → (one_text f name ≡ None → Some count ≡ None)
+    → ((t : Text) → one_text f name ≡ Some t → (IsNumeral 10 (without_leading_plus t) × (digits_value 10 (without_leading_plus t) < 2 ^ 64)) × (count ≡ digits_value 10 (without_leading_plus t)))
+    → IsCountIn (one_of name (rows_of f)) other count
+count_given f name other count none value = subst (λ (o : Option Text). IsCountIn o other count) (one_text-rows f name) (go (one_text f name) refl)
+  where
+    go : (o : Option Text) → one_text f name ≡ o → IsCountIn o other count
+    go None e = let no : Some count ≡ None = none e in cc
+    go (Some t) e =
+        let p = value t e in
+        inl (record { numeral = p.0.0; fits = p.0.1 }, p.1)
+
+-- the other number stands where no text is, or one that is no number
+pub count_missing : (f : Found) (name : Text) (other : ℕ)
+    → ((t : Text) → one_text f name ≡ Some t → IsNumeral 10 (without_leading_plus t) × (digits_value 10 (without_leading_plus t) < 2 ^ 64) → ⊥)
+    → IsCountIn (one_of name (rows_of f)) other other
+count_missing f name other value = subst (λ (o : Option Text). IsCountIn o other other) (one_text-rows f name) (go (one_text f name) refl)
+  where
+    go : (o : Option Text) → one_text f name ≡ o → IsCountIn o other other
     go None e = refl
     go (Some t) e = inr (λ n. value t e (n.numeral, n.fits), refl)
 
@@ -83,9 +107,21 @@ check_found (Some p) rows directories e f given = record {
   given = given;
 }
 
--- none of the three is no line
+-- and so with what `serve` is to serve
+pub serve_found : (o : Option (Text × List Row)) (rows : List Row) (serving : Serving) (directories : List Text) → option_map (λ p. p.0) o ≡ Some (codes "serve")
+    → option_map (λ p. p.1) o ≡ Some rows → IsServingIn rows serving → directories ≡ unwrap_or (all_of (codes "directories") rows) [] → IsServe o serving directories
+serve_found None rows serving directories e f served given = cc
+serve_found (Some p) rows serving directories e f served given = record {
+  rows = rows;
+  is = ap₂ (λ (n : Option Text) (r : Option (List Row)). Some (unwrap_or n p.0, unwrap_or r p.1)) e f;
+  asked = served;
+  given = given;
+}
+
+-- none of the four is no line
 pub no_line : (o : Option (Text × List Row)) → (option_map (λ p. p.0) o ≡ Some (codes "demo") → ⊥) → (option_map (λ p. p.0) o ≡ Some (codes "check") → ⊥)
-    → (option_map (λ p. p.0) o ≡ Some (codes "select") → ⊥) → (line : Line) → IsLineIn o line → ⊥
-no_line o no_demo no_check no_select Demo h = no_demo (ap (option_map (λ (p : Text × List Row). p.0)) h.is)
-no_line o no_demo no_check no_select (Check texts) h = no_check (ap (option_map (λ (p : Text × List Row). p.0)) h.is)
-no_line o no_demo no_check no_select (Select s texts) h = no_select (ap (option_map (λ (p : Text × List Row). p.0)) h.is)
+    → (option_map (λ p. p.0) o ≡ Some (codes "select") → ⊥) → (option_map (λ p. p.0) o ≡ Some (codes "serve") → ⊥) → (line : Line) → IsLineIn o line → ⊥
+no_line o no_demo no_check no_select no_serve Demo h = no_demo (ap (option_map (λ (p : Text × List Row). p.0)) h.is)
+no_line o no_demo no_check no_select no_serve (Check texts) h = no_check (ap (option_map (λ (p : Text × List Row). p.0)) h.is)
+no_line o no_demo no_check no_select no_serve (Select s texts) h = no_select (ap (option_map (λ (p : Text × List Row). p.0)) h.is)
+no_line o no_demo no_check no_select no_serve (Serve serving texts) h = no_serve (ap (option_map (λ (p : Text × List Row). p.0)) h.is)

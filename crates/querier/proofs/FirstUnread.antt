@@ -3,7 +3,7 @@ use Rattle.std.proofs.Common.{◌≡◌, ℕ, List, ◌∷◌, ◌++◌}
 use Rattle.std.specs.List.{AllByRecursion}
 use Rattle.querier.specs.Reading.{Reads, IsRead, IsFound, IsFileFault, IsReadingFault, IsDirectoryFault, reading_order}
 use Rattle.querier.specs.declared.fault.Fault.{Fault}
-use Rattle.querier.specs.declared.fault.Fault.TheVariants.{Words, Refused, CannotRead, CannotWrite, Memory}
+use Rattle.querier.specs.declared.fault.Fault.TheVariants.{Words, Refused, CannotRead, CannotWrite, CannotListen, Memory}
 use Rattle.querier.specs.declared.files.FileName.{FileName}
 
 -- a file that was read can be read
@@ -16,6 +16,7 @@ pub fault_after : (reads : Reads) (directory : List ℕ) (before : List FileName
 fault_after reads directory before name after order each (CannotRead path) h = record { before = before; name = name; after = after; order = order; each = each; at = h }
 fault_after reads directory before name after order each Memory h = tt
 fault_after reads directory before name after order each CannotWrite h = h
+fault_after reads directory before name after order each (CannotListen port) h = h
 fault_after reads directory before name after order each (Words error) h = h
 fault_after reads directory before name after order each (Refused refusal) h = h
 
@@ -24,5 +25,6 @@ pub unwritten : (reads : Reads) (directory : List ℕ) (fault : Fault) → IsRea
 unwritten reads directory (CannotRead path) h = h
 unwritten reads directory Memory h = h
 unwritten reads directory CannotWrite h = absurd h
+unwritten reads directory (CannotListen port) h = h
 unwritten reads directory (Words error) h = h
 unwritten reads directory (Refused refusal) h = h

@@ -8,3 +8,4 @@ pub mod LineEnds
 pub mod FirstUnread
 pub mod Sendings
 pub mod WholeFiles
+pub mod Servings

@@ -8,9 +8,10 @@ use Rattle.querier.specs.Lines.{IsLineOf}
 use Rattle.querier.specs.Reading.{Reads}
 use Rattle.querier.specs.DemoAnswer.{by_writing}
 use Rattle.querier.specs.Selecting.{KeepsAt, by_selection}
-use Rattle.querier.specs.Running.{IsTaken, IsLineFault, IsLineEnd, IsEnd, IsCheckLine, KeepsAtEnd, status_at}
+use Rattle.querier.specs.ServingRuns.{by_directories}
+use Rattle.querier.specs.Running.{IsTaken, IsLineFault, IsLineEnd, IsEnd, IsEarlyLine, KeepsAtEnd, status_at}
 use Rattle.querier.specs.declared.command.Line.{Line}
-use Rattle.querier.specs.declared.command.Line.TheVariants.{Demo, Select, Check}
+use Rattle.querier.specs.declared.command.Line.TheVariants.{Demo, Select, Check, Serve}
 use Rattle.querier.specs.declared.fault.Fault.{Fault}
 use Rattle.querier.specs.declared.fault.Fault.TheVariants as fault
 use Rattle.querier.specs.declared.report.Outcome.{Outcome}
@@ -27,6 +28,7 @@ unused (fault.Words error) old = keeps_itself old
 unused (fault.Refused refusal) old = keeps_itself old
 unused (fault.CannotRead path) old = keeps_itself old
 unused fault.CannotWrite old = tt
+unused (fault.CannotListen port) old = keeps_itself old
 unused fault.Memory old = keeps_itself old
 
 -- no line of any directory was written
@@ -43,6 +45,7 @@ memory_fault : (reads : Reads) (line : Line) (old : Option (List ℕ)) → IsLin
 memory_fault reads Demo old = (by_writing tt, keeps_itself old)
 memory_fault reads (Select s texts) old = (by_selection tt, keeps_itself old)
 memory_fault reads (Check texts) old = none_begun reads (map (λ text. text.now) texts.items) old
+memory_fault reads (Serve serving texts) old = by_directories tt (keeps_itself old)
 
 -- a line may end by want of memory before it begins
 pub end_without_memory : (reads : Reads) (words : List Text) (old : Option (List ℕ)) → IsTaken words → IsEnd reads words old old (Err fault.Memory)
@@ -55,8 +58,9 @@ end_of_line reads words line old new end is ends = record { line = line; is = is
 
 -- what the writer holds at the end of a line
 pub kept_at_end : (reads : Reads) (words : List Text) (line : Line) (old new : Option (List ℕ)) (end : Result Outcome Fault) → IsLineOf words line
-    → IsLineEnd reads line old new end → IsCheckLine words ⊎ KeepsAtEnd old new end
-kept_at_end reads words (Check texts) old new end is ends = inl (record { line = Check texts; is = is; checks = tt })
+    → IsLineEnd reads line old new end → IsEarlyLine words ⊎ KeepsAtEnd old new end
+kept_at_end reads words (Check texts) old new end is ends = inl (record { line = Check texts; is = is; tells = tt })
+kept_at_end reads words (Serve serving texts) old new end is ends = inl (record { line = Serve serving texts; is = is; tells = tt })
 kept_at_end reads words Demo old new (Ok Done) is ends = inr tt
 kept_at_end reads words Demo old new (Ok Refused) is ends = absurd ends
 kept_at_end reads words Demo old new (Err fault) is ends = inr ends.1
@@ -66,13 +70,14 @@ kept_at_end reads words (Select s texts) old new (Err fault) is ends = inr ends.
 
 -- what is written at an end, by its exit status
 pub written_at_status : (words : List Text) (old new : Option (List ℕ)) (end : Result Outcome Fault) (status : ℕ)
-    → status ≡ status_at end → IsCheckLine words ⊎ KeepsAtEnd old new end
-    → (status ≡ 0) ⊎ ((status ≡ 3) ⊎ (IsCheckLine words ⊎ Keeps old new))
-written_at_status words old new end status is (inl checks) = inr (inr (inl checks))
+    → status ≡ status_at end → IsEarlyLine words ⊎ KeepsAtEnd old new end
+    → (status ≡ 0) ⊎ ((status ≡ 3) ⊎ (IsEarlyLine words ⊎ Keeps old new))
+written_at_status words old new end status is (inl early) = inr (inr (inl early))
 written_at_status words old new (Ok Done) status is (inr kept) = inl is
 written_at_status words old new (Ok Refused) status is (inr kept) = inr (inr (inr kept))
 written_at_status words old new (Err (fault.Words error)) status is (inr kept) = inr (inr (inr kept))
 written_at_status words old new (Err (fault.Refused refusal)) status is (inr kept) = inr (inr (inr kept))
 written_at_status words old new (Err (fault.CannotRead path)) status is (inr kept) = inr (inr (inr kept))
 written_at_status words old new (Err fault.CannotWrite) status is (inr kept) = inr (inl is)
+written_at_status words old new (Err (fault.CannotListen port)) status is (inr kept) = inr (inr (inr kept))
 written_at_status words old new (Err fault.Memory) status is (inr kept) = inr (inr (inr kept))

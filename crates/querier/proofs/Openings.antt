@@ -18,7 +18,7 @@ use Rattle.querier.specs.Judging.{block_in, bytes_of, IsSpelledAs}
 use Rattle.querier.specs.Opening.{IsBlockAt, AreBlocksAt, IsBlockFault, IsFirstFault, IsOpeningFault}
 use Rattle.querier.specs.Reading.{Reads, AreRead, IsReadingFault, paths_of}
 use Rattle.querier.specs.declared.fault.Fault.{Fault}
-use Rattle.querier.specs.declared.fault.Fault.TheVariants.{Words, Refused, CannotRead, CannotWrite, Memory}
+use Rattle.querier.specs.declared.fault.Fault.TheVariants.{Words, Refused, CannotRead, CannotWrite, CannotListen, Memory}
 use Rattle.querier.specs.declared.fault.Refusal.TheVariants.{Labels, Matcher, Selector, Query, Commit, Block, Open, Snapshot}
 use Rattle.querier.specs.declared.files.BlockFiles.{BlockFiles}
 use Rattle.querier.specs.declared.judgement.Judgement.TheVariants as judgement
@@ -49,6 +49,7 @@ pub unopened : (reads : Reads) (directory : List ℕ) (fault : Fault) → IsRead
 unopened reads directory (CannotRead path) h = h
 unopened reads directory Memory h = h
 unopened reads directory CannotWrite h = h
+unopened reads directory (CannotListen port) h = h
 unopened reads directory (Words error) h = h
 unopened reads directory (Refused refusal) h = absurd h
 
@@ -97,4 +98,5 @@ module _ (reads : Reads) (texts : List (Bor (List ℕ))) (i : ℕ) (d : Bor (Lis
   first_fault (Refused (Commit error)) h = h
   first_fault (Words error) h = h
   first_fault CannotWrite h = h
+  first_fault (CannotListen port) h = h
   first_fault Memory h = h

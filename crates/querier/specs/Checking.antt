@@ -6,7 +6,7 @@ use Rattle.querier.specs.Judging.{IsJudged}
 use Rattle.querier.specs.Reading.{Reads, Files, AreFilesAt, IsUnread}
 use Rattle.querier.specs.Sending.{AppendsPrefix}
 use Rattle.querier.specs.declared.fault.Fault.{Fault}
-use Rattle.querier.specs.declared.fault.Fault.TheVariants.{Words, Refused, CannotRead, CannotWrite, Memory}
+use Rattle.querier.specs.declared.fault.Fault.TheVariants.{Words, Refused, CannotRead, CannotWrite, CannotListen, Memory}
 use Rattle.querier.specs.declared.judgement.Judgement.{Judgement}
 use Rattle.querier.specs.declared.judgement.Judgement.TheVariants as judgement
 use Rattle.querier.specs.declared.report.Outcome.{Outcome}
@@ -85,5 +85,6 @@ abbrev pub IsCheckFault : Reads → List (List ℕ) → Option (List ℕ) → Op
 IsCheckFault reads directories old new (CannotRead path) = IsUnreadCheck reads directories old new (string_bytes path)
 IsCheckFault reads directories old new Memory = IsBegun reads directories old new
 IsCheckFault reads directories old new CannotWrite = IsCutShort reads directories old new
+IsCheckFault reads directories old new (CannotListen port) = ⊥
 IsCheckFault reads directories old new (Words error) = ⊥
 IsCheckFault reads directories old new (Refused refusal) = ⊥

@@ -20,7 +20,7 @@ use Rattle.snapshots.specs.declared.error.OpenError.TheVariants as store
 use Rattle.query_http.specs.declared.error.AskError.{AskError}
 use Rattle.query_http.specs.declared.error.AskError.TheVariants as ask
 use Rattle.querier.specs.declared.fault.Fault.{Fault}
-use Rattle.querier.specs.declared.fault.Fault.TheVariants.{Words, Refused, CannotRead, CannotWrite, Memory}
+use Rattle.querier.specs.declared.fault.Fault.TheVariants.{Words, Refused, CannotRead, CannotWrite, CannotListen, Memory}
 use Rattle.querier.specs.declared.fault.Refusal.{Refusal}
 use Rattle.querier.specs.declared.fault.Refusal.TheVariants.{Labels, Matcher, Selector, Query, Commit, Block, Open, Snapshot}
 
@@ -81,6 +81,7 @@ status_of (Refused refusal) = 1
 status_of (Words error) = 2
 status_of (CannotRead path) = 3
 status_of CannotWrite = 3
+status_of (CannotListen port) = 3
 status_of Memory = 4
 
 -- the line that tells the fault; that of the words is `clap`'s own
@@ -89,6 +90,7 @@ line_of (Words error) = None
 line_of (Refused refusal) = Some (codes "refused " ++ refusal_text refusal ++ 10 ∷ [])
 line_of (CannotRead path) = Some (codes "cannot read " ++ string_bytes path ++ 10 ∷ [])
 line_of CannotWrite = Some (codes "cannot write" ++ 10 ∷ [])
+line_of (CannotListen port) = Some (codes "cannot listen on 127.0.0.1:" ++ decimal port ++ 10 ∷ [])
 line_of Memory = Some (codes "no memory" ++ 10 ∷ [])
 
 -- the fault that a refused label set makes

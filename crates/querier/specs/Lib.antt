@@ -10,3 +10,6 @@ pub mod Reading
 pub mod Judging
 pub mod Checking
 pub mod Running
+pub mod OptionRules
+pub mod ServingLines
+pub mod ServingRuns

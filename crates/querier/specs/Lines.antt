@@ -7,8 +7,10 @@ use Rattle.labels.specs.declared.sample.TheConstants.{MIN_TIME, MAX_TIME}
 use Rattle.clap.specs.Lexer.{usize_max}
 use Rattle.clap.specs.Words.{App, Row, Rule, Text, new_app, new_rule, with_rule, with_subcommand, first_of, one_of, all_of, subcommand_of}
 use Rattle.clap.specs.declared.builder.value_parser.ValueParser.TheVariants.{Signed}
+use Rattle.querier.specs.OptionRules.{directories_rule}
+use Rattle.querier.specs.ServingLines.{serve_app, IsServe}
 use Rattle.querier.specs.declared.command.Line.{Line}
-use Rattle.querier.specs.declared.command.Line.TheVariants.{Demo, Select, Check}
+use Rattle.querier.specs.declared.command.Line.TheVariants.{Demo, Select, Check, Serve}
 
 -- words as bytes
 abbrev pub texts_of : {Z : Type 0} → List (String Z) → List Text
@@ -26,13 +28,6 @@ time_rule name = record (new_rule name) {
 abbrev pub selector_rule : Rule
 selector_rule = record (new_rule (codes "selector")) { value_names = 1; required = true }
 
--- the directories of `select`, as many as there are
-abbrev pub directories_rule : Rule
-directories_rule = record (new_rule (codes "directories")) {
-  value_names = 1;
-  range = Some (record { start_inclusive = 0; end_inclusive = usize_max });
-}
-
 -- select [--from N] [--to N] SELECTOR [DIR]...
 abbrev pub select_app : App
 select_app = with_rule (with_rule (with_rule (with_rule (new_app (codes "select")) (time_rule (codes "from"))) (time_rule (codes "to"))) selector_rule) directories_rule
@@ -49,12 +44,12 @@ blocks_rule = record (new_rule (codes "directories")) {
 abbrev pub check_app : App
 check_app = with_rule (new_app (codes "check")) blocks_rule
 
--- the program, with `demo`, `check` and `select`
+-- the program, with `demo`, `check`, `select` and `serve`
 abbrev pub querier_app : App
 querier_app =
     let app = new_app (codes "querier") in
     let top = record app.top { has_version = true; subcommand_required = true; no_binary_name = true } in
-    with_subcommand (with_subcommand (with_subcommand (record app { top = top }) (new_app (codes "demo")).top) check_app.top) select_app.top
+    with_subcommand (with_subcommand (with_subcommand (with_subcommand (record app { top = top }) (new_app (codes "demo")).top) check_app.top) select_app.top) serve_app.top
 
 -- the text is a signed number of 64 bits
 pub record IsNumber (text : List ℕ) : Type 0 where
@@ -96,6 +91,7 @@ abbrev pub IsLineIn : Option (Text × List Row) → Line → Type 0
 IsLineIn found Demo = IsDemo found
 IsLineIn found (Select s texts) = IsSelect found s.selector.now s.from s.to (map (λ text. text.now) texts.items)
 IsLineIn found (Check texts) = IsCheck found (map (λ text. text.now) texts.items)
+IsLineIn found (Serve serving texts) = IsServe found serving (map (λ text. text.now) texts.items)
 
 -- the line that a found subcommand asks for, or that it asks for none
 abbrev pub IsFoundLine : Option (Text × List Row) → Option Line → Type 0

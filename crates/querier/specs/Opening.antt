@@ -8,7 +8,7 @@ use Rattle.querier.specs.Checking.{IsJudgedAt}
 use Rattle.querier.specs.Judging.{IsSpelledAs}
 use Rattle.querier.specs.Reading.{Reads, Files, AreFilesAt, IsUnread}
 use Rattle.querier.specs.declared.fault.Fault.{Fault}
-use Rattle.querier.specs.declared.fault.Fault.TheVariants.{Words, Refused, CannotRead, CannotWrite, Memory}
+use Rattle.querier.specs.declared.fault.Fault.TheVariants.{Words, Refused, CannotRead, CannotWrite, CannotListen, Memory}
 use Rattle.querier.specs.declared.fault.Refusal.TheVariants.{Labels, Matcher, Selector, Query, Commit, Block, Open, Snapshot}
 use Rattle.querier.specs.declared.judgement.Judgement.TheVariants as judgement
 
@@ -35,6 +35,7 @@ IsBlockFault reads directory (Refused (Matcher error)) = ⊥
 IsBlockFault reads directory (Refused (Commit error)) = ⊥
 IsBlockFault reads directory (Words error) = ⊥
 IsBlockFault reads directory CannotWrite = ⊥
+IsBlockFault reads directory (CannotListen port) = ⊥
 IsBlockFault reads directory Memory = Unit {0}
 
 -- the directories before one hold blocks, and that one is at fault
@@ -69,6 +70,7 @@ IsOpeningFault reads directories (Refused (Matcher error)) = ⊥
 IsOpeningFault reads directories (Refused (Commit error)) = ⊥
 IsOpeningFault reads directories (Words error) = ⊥
 IsOpeningFault reads directories CannotWrite = ⊥
+IsOpeningFault reads directories (CannotListen port) = ⊥
 IsOpeningFault reads directories Memory = Unit {0}
 
 -- the snapshot of the blocks that the directories hold, in their order, and of an empty head

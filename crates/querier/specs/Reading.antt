@@ -3,7 +3,7 @@ use Rattle.std.specs.Prelude.{◌≡◌, ℕ, ◌+◌, List, [], ◌∷◌, ◌+
 use Rattle.std.specs.Borrow.{Bor}
 use Rattle.std.specs.List.{AllByRecursion}
 use Rattle.querier.specs.declared.fault.Fault.{Fault}
-use Rattle.querier.specs.declared.fault.Fault.TheVariants.{Words, Refused, CannotRead, CannotWrite, Memory}
+use Rattle.querier.specs.declared.fault.Fault.TheVariants.{Words, Refused, CannotRead, CannotWrite, CannotListen, Memory}
 use Rattle.querier.specs.declared.files.BlockFiles.{BlockFiles}
 use Rattle.querier.specs.declared.files.FileName.{FileName}
 use Rattle.querier.specs.declared.files.FileName.TheVariants.{Meta, Index, Chunks, Tombstones}
@@ -89,6 +89,7 @@ abbrev pub IsFileFault : Reads → List ℕ → FileName → Fault → Type 0
 IsFileFault reads directory name (CannotRead path) = IsUnreadAt reads directory name (string_bytes path)
 IsFileFault reads directory name Memory = Unit {0}
 IsFileFault reads directory name CannotWrite = ⊥
+IsFileFault reads directory name (CannotListen port) = ⊥
 IsFileFault reads directory name (Words error) = ⊥
 IsFileFault reads directory name (Refused refusal) = ⊥
 
@@ -110,6 +111,7 @@ abbrev pub IsReadingFault : Reads → List ℕ → Fault → Type 0
 IsReadingFault reads directory (CannotRead path) = IsUnread reads directory (string_bytes path)
 IsReadingFault reads directory Memory = Unit {0}
 IsReadingFault reads directory CannotWrite = ⊥
+IsReadingFault reads directory (CannotListen port) = ⊥
 IsReadingFault reads directory (Words error) = ⊥
 IsReadingFault reads directory (Refused refusal) = ⊥
 
@@ -118,5 +120,6 @@ abbrev pub IsDirectoryFault : Reads → List ℕ → Fault → Type 0
 IsDirectoryFault reads directory (CannotRead path) = IsUnread reads directory (string_bytes path)
 IsDirectoryFault reads directory Memory = Unit {0}
 IsDirectoryFault reads directory CannotWrite = Unit {0}
+IsDirectoryFault reads directory (CannotListen port) = ⊥
 IsDirectoryFault reads directory (Words error) = ⊥
 IsDirectoryFault reads directory (Refused refusal) = ⊥

@@ -9,8 +9,9 @@ use Rattle.querier.specs.Faults.{status_of, line_of}
 use Rattle.querier.specs.Lines.{querier_app, IsLineOf}
 use Rattle.querier.specs.Reading.{Reads, paths_of}
 use Rattle.querier.specs.Selecting.{IsSelectFault, KeepsAt, WritesSelection}
+use Rattle.querier.specs.ServingRuns.{IsServed, IsServeFault}
 use Rattle.querier.specs.declared.command.Line.{Line}
-use Rattle.querier.specs.declared.command.Line.TheVariants.{Demo, Select, Check}
+use Rattle.querier.specs.declared.command.Line.TheVariants.{Demo, Select, Check, Serve}
 use Rattle.querier.specs.declared.fault.Fault.{Fault}
 use Rattle.querier.specs.declared.fault.Fault.TheVariants as fault
 use Rattle.querier.specs.declared.report.Outcome.{Outcome}
@@ -23,19 +24,22 @@ pub record IsTaken (words : List Text) : Type 0 where
   pub line : Line
   pub is : IsLineOf words line
 
--- what a line asks for was written; the demo and a selection end with their answer alone
+-- what a line asks for was written; the demo, a selection and a server end with their text alone
 abbrev pub IsDone : Reads → Line → Option (List ℕ) → Option (List ℕ) → Outcome → Type 0
 IsDone reads Demo old new Done = WritesAnswerAfter demo_events (demo_query (pos 0) (pos 100)) old new
 IsDone reads Demo old new Refused = ⊥
 IsDone reads (Select s texts) old new Done = WritesSelection reads (paths_of texts.items) s old new
 IsDone reads (Select s texts) old new Refused = ⊥
 IsDone reads (Check texts) old new outcome = IsChecked reads (paths_of texts.items) old new outcome
+IsDone reads (Serve serving texts) old new Done = IsServed reads (paths_of texts.items) old new
+IsDone reads (Serve serving texts) old new Refused = ⊥
 
 -- why a line ends before it is done, and what was written by then
 abbrev pub IsLineFault : Reads → Line → Option (List ℕ) → Option (List ℕ) → Fault → Type 0
 IsLineFault reads Demo old new fault = IsDemoFault fault × KeepsAt fault old new
 IsLineFault reads (Select s texts) old new fault = IsSelectFault reads (paths_of texts.items) s fault × KeepsAt fault old new
 IsLineFault reads (Check texts) old new fault = IsCheckFault reads (paths_of texts.items) old new fault
+IsLineFault reads (Serve serving texts) old new fault = IsServeFault reads (paths_of texts.items) serving old new fault
 
 -- how a line ends
 abbrev pub IsLineEnd : Reads → Line → Option (List ℕ) → Option (List ℕ) → Result Outcome Fault → Type 0
@@ -61,6 +65,7 @@ IsNoLine (Ok Done) = Unit {0}
 IsNoLine (Ok Refused) = ⊥
 IsNoLine (Err (fault.Words error)) = Unit {0}
 IsNoLine (Err fault.CannotWrite) = Unit {0}
+IsNoLine (Err (fault.CannotListen port)) = ⊥
 IsNoLine (Err fault.Memory) = Unit {0}
 IsNoLine (Err (fault.Refused refusal)) = ⊥
 IsNoLine (Err (fault.CannotRead path)) = ⊥
@@ -70,6 +75,7 @@ abbrev pub IsWordsFault : Result Outcome Fault → Type 0
 IsWordsFault (Ok outcome) = ⊥
 IsWordsFault (Err (fault.Words error)) = Unit {0}
 IsWordsFault (Err fault.CannotWrite) = ⊥
+IsWordsFault (Err (fault.CannotListen port)) = ⊥
 IsWordsFault (Err fault.Memory) = Unit {0}
 IsWordsFault (Err (fault.Refused refusal)) = ⊥
 IsWordsFault (Err (fault.CannotRead path)) = ⊥
@@ -89,17 +95,18 @@ pub record HasEnded (reads : Reads) (words : List Text) (old new told_old told_n
   pub status : ending.status ≡ status_at end
   pub told : IsTold end ending.told told_old told_new
 
--- the line is one of `check`
-abbrev pub Checks : Line → Type 0
-Checks Demo = ⊥
-Checks (Select s texts) = ⊥
-Checks (Check texts) = Unit {0}
+-- the line is one of `check` or `serve`
+abbrev pub TellsEarly : Line → Type 0
+TellsEarly Demo = ⊥
+TellsEarly (Select s texts) = ⊥
+TellsEarly (Check texts) = Unit {0}
+TellsEarly (Serve serving texts) = Unit {0}
 
--- the words are a line of `check`, which alone may write before it ends otherwise than done
-pub record IsCheckLine (words : List Text) : Type 0 where
+-- the words are a line of `check` or `serve`, which alone may write before they end otherwise than done
+pub record IsEarlyLine (words : List Text) : Type 0 where
   pub line : Line
   pub is : IsLineOf words line
-  pub checks : Checks line
+  pub tells : TellsEarly line
 
 -- the writer holds what it held, unless what was asked for was done or the writer failed
 abbrev pub KeepsAtEnd : Option (List ℕ) → Option (List ℕ) → Result Outcome Fault → Type 0

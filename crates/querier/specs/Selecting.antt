@@ -16,7 +16,7 @@ use Rattle.querier.specs.Reading.{Reads}
 use Rattle.query_http.specs.declared.audited.AuditedAnswer.{AuditedAnswer}
 use Rattle.querier.specs.declared.command.Selection.{Selection}
 use Rattle.querier.specs.declared.fault.Fault.{Fault}
-use Rattle.querier.specs.declared.fault.Fault.TheVariants.{Words, Refused, CannotRead, CannotWrite, Memory}
+use Rattle.querier.specs.declared.fault.Fault.TheVariants.{Words, Refused, CannotRead, CannotWrite, CannotListen, Memory}
 use Rattle.querier.specs.declared.fault.Refusal.{Refusal}
 use Rattle.querier.specs.declared.fault.Refusal.TheVariants.{Labels, Matcher, Selector, Query, Commit, Block, Open, Snapshot}
 
@@ -67,6 +67,7 @@ IsSelectionFault asked (Refused refusal) = IsSelectionRefusal asked refusal
 IsSelectionFault asked (Words error) = ⊥
 IsSelectionFault asked (CannotRead path) = ⊥
 IsSelectionFault asked CannotWrite = ⊥
+IsSelectionFault asked (CannotListen port) = ⊥
 IsSelectionFault asked Memory = Unit {0}
 
 -- an audited answer of the snapshot to the query was written, and a line feed
@@ -86,6 +87,7 @@ pub record WritesSelection (reads : Reads) (directories : List (List ℕ)) (aske
 -- the writer holds what it held, unless it failed
 abbrev pub KeepsAt : Fault → Option (List ℕ) → Option (List ℕ) → Type 0
 KeepsAt CannotWrite old new = Unit {0}
+KeepsAt (CannotListen port) old new = Keeps old new
 KeepsAt (Words error) old new = Keeps old new
 KeepsAt (CannotRead path) old new = Keeps old new
 KeepsAt (Refused refusal) old new = Keeps old new
@@ -94,6 +96,7 @@ KeepsAt Memory old new = Keeps old new
 -- memory or the writer failed
 abbrev pub IsWritingFault : Fault → Type 0
 IsWritingFault CannotWrite = Unit {0}
+IsWritingFault (CannotListen port) = ⊥
 IsWritingFault Memory = Unit {0}
 IsWritingFault (Words error) = ⊥
 IsWritingFault (CannotRead path) = ⊥
@@ -123,3 +126,4 @@ IsOfMemory (Words error) = ⊥
 IsOfMemory (CannotRead path) = ⊥
 IsOfMemory (Refused refusal) = ⊥
 IsOfMemory CannotWrite = ⊥
+IsOfMemory (CannotListen port) = ⊥

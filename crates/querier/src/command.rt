@@ -1,12 +1,15 @@
 //! The command line.
 
 ghost use Rattle.std.specs.Prelude.{◌≡◌, ◌⊎◌, true, false, [], codes, map, unwrap_or, IfOk, IfErr};
+ghost use Rattle.querier.specs.ServingLines.{count_rule, port_rule, serve_app, IsCountIn, IsServingIn};
 ghost use Rattle.querier.specs.Running.{IsTaken};
 ghost use Rattle.clap.specs.Values.{kind_of};
 ghost use Rattle.clap.specs.Matches.{found_of};
 ghost use Rattle.clap.specs.Words.{app_of, new_app, rule_of, rows_of, one_of, first_of, all_of, subcommand_of, subcommand_rows_of, takes};
-ghost use Rattle.querier.specs.Lines.{time_rule, selector_rule, directories_rule, blocks_rule, select_app, check_app, querier_app, IsTimeIn, IsSelectionIn, IsFoundLine, IsLineOf, texts_of};
+ghost use Rattle.querier.specs.OptionRules.{directories_rule};
+ghost use Rattle.querier.specs.Lines.{time_rule, selector_rule, blocks_rule, select_app, check_app, querier_app, IsTimeIn, IsSelectionIn, IsFoundLine, IsLineOf, texts_of};
 
+use clap::builder::ValueParser;
 use clap::error::ErrorKind;
 use clap::{Arg, ArgMatches, Command, Error, value_parser};
 use labels::{MAX_TIME, MIN_TIME};
@@ -20,6 +23,19 @@ pub struct Selection<'a> {
     pub to: i64,
 }
 
+/// How a store is served, as it was written.
+#[derive(Clone, Copy, Debug, PartialEq, Eq, Drop)]
+pub struct Serving {
+    /// The port of 127.0.0.1; 0 for any that is free.
+    pub port: u64,
+    /// How many workers there are, each a thread.
+    pub workers: u64,
+    /// After how many connections a worker ends; the greatest number stands for never.
+    pub requests: u64,
+    /// For how many seconds a client may be silent; 0 for ever.
+    pub idle_seconds: u64,
+}
+
 /// What the words ask for.
 #[derive(Debug, Drop)]
 pub enum Line<'a> {
@@ -29,6 +45,8 @@ pub enum Line<'a> {
     Select(Selection<'a>, Vec<&'a str>),
     /// What the blocks in these directories are judged to be.
     Check(Vec<&'a str>),
+    /// A server over the blocks in these directories.
+    Serve(Serving, Vec<&'a str>),
 }
 
 const FROM: &str =
@@ -84,6 +102,31 @@ Refusals, the first that holds:
 Exit status: 0 done; 1 refused, with the code on standard error; 2 a fault of the words; 3 a file cannot
 be read (it is named on standard error), or the answer cannot be written; 4 no memory";
 
+const PORT: &str = "The port of 127.0.0.1, 0 to 65535; 0 takes one that is free";
+
+const WORKERS: &str = "How many workers serve, each a thread, 1 to 64 [default: 4]";
+
+const REQUESTS: &str = "After how many connections a worker ends [default: never]";
+
+const IDLE: &str = "For how many seconds a client may be silent; 0 for ever [default: 30]";
+
+const SERVES: &str = "Example: querier serve --port 8080 data/0001 data/0002
+
+The directories are opened and verified as by `querier select`, and over them stands an empty head, in memory
+alone: what is written to it ends with the program. Then `listening P` is printed, P being the real port.
+
+  GET /select?selector=up%7Bjob%3D%22a%22%7D&from=0&to=100
+                 the audited answer, as `querier select` prints it
+  POST /write    rows, as [{\"labels\":{\"__name__\":\"up\",\"job\":\"a\"},\"samples\":[[10,1],[20,1]]}]
+  POST /delete   as {\"from\":0,\"selector\":\"{job=\\\"a\\\"}\",\"to\":1000}
+  POST /cut      as {\"at\":20}: what is before that time becomes a block
+
+A connection is served one request, and closed. A worker takes one connection after another; a client that gives
+no byte, or takes none, for the idle seconds is dropped. docs/HTTP.md of the project tells each reply and refusal.
+
+Exit status: 0 each worker has ended; 1 the directories are refused, as by `select`; 2 a fault of the words; 3 a
+file cannot be read, the port cannot be listened on, or its line cannot be written; 4 no memory";
+
 /// An option `--NAME N` with a signed number of 64 bits.
 fn time<'a>(alloc: Global, name: &'a str, help: &'a str) -> Arg<'a>
     ensures rule { rule_of result ≡ time_rule name.entry.now }
@@ -106,7 +149,39 @@ fn selector<'a>(alloc: Global) -> Arg<'a>
         .help("Which series, as up{job=\"a\"}")
 }
 
-/// The directories of `select`, as many as there are.
+/// An option `--NAME VALUE` with a number from one to another.
+fn count<'a>(
+    alloc: Global,
+    name: &'a str,
+    value: &'a str,
+    range: (u64, u64),
+    help: &'a str,
+) -> Arg<'a>
+    ensures rule { rule_of result ≡ count_rule name.entry.now range.0 range.1 }
+    ensures global { result.global ≡ false }
+{
+    let (least, most) = range;
+    Arg::new(alloc, name)
+        .long(name)
+        .value_name(value)
+        .value_parser(ValueParser::unsigned(least, most))
+        .help(help)
+}
+
+/// The port, which must be given.
+fn port<'a>(alloc: Global) -> Arg<'a>
+    ensures rule { rule_of result ≡ port_rule }
+    ensures global { result.global ≡ false }
+{
+    Arg::new(alloc, "port")
+        .long("port")
+        .value_name("P")
+        .value_parser(ValueParser::unsigned(0, 65_535))
+        .required(true)
+        .help(PORT)
+}
+
+/// The directories of `select` and `serve`, as many as there are.
 fn directories<'a>(alloc: Global) -> Arg<'a>
     ensures rule { rule_of result ≡ directories_rule }
     ensures global { result.global ≡ false }
@@ -158,6 +233,19 @@ fn check<'a>(alloc: Global) -> Result<Command<'a>, AllocError>
         .arg(blocks(alloc))
 }
 
+fn serve<'a>(alloc: Global) -> Result<Command<'a>, AllocError>
+    ensures { IfOk result (λ command. app_of command ≡ serve_app) }
+{
+    Command::new(alloc, "serve")
+        .about("Serves a store over blocks to HTTP clients of this machine")
+        .after_help(SERVES)
+        .arg(port(alloc))?
+        .arg(count(alloc, "workers", "W", (1, 64), WORKERS))?
+        .arg(count(alloc, "requests", "N", (0, u64::MAX), REQUESTS))?
+        .arg(count(alloc, "idle-seconds", "S", (0, u32::MAX as u64), IDLE))?
+        .arg(directories(alloc))
+}
+
 fn querier<'a>(alloc: Global) -> Result<Command<'a>, AllocError>
     ensures { IfOk result (λ command. app_of command ≡ querier_app) }
 {
@@ -170,7 +258,8 @@ fn querier<'a>(alloc: Global) -> Result<Command<'a>, AllocError>
         .subcommand_required(true)
         .subcommand(demo(alloc))?
         .subcommand(check(alloc)?)?
-        .subcommand(select(alloc)?)
+        .subcommand(select(alloc)?)?
+        .subcommand(serve(alloc)?)
 }
 
 /// The time that an option gives, or another where it is not used.
@@ -179,6 +268,16 @@ fn time_in(found: &ArgMatches<'_>, name: &str, other: i64) -> i64
 {
     match found.get_one(name) {
         Some(time) => time,
+        None => other,
+    }
+}
+
+/// The number that an option gives, or another where it is not used.
+fn count_in(found: &ArgMatches<'_>, name: &str, other: u64) -> u64
+    ensures { IsCountIn (one_of name.now (rows_of (found_of found.now))) other result }
+{
+    match found.get_one(name) {
+        Some(count) => count,
         None => other,
     }
 }
@@ -201,6 +300,21 @@ fn selection_in<'a>(found: &ArgMatches<'a>) -> Selection<'a>
     Selection { selector, from, to }
 }
 
+fn serving_in(found: &ArgMatches<'_>) -> Serving
+    ensures { IsServingIn (rows_of (found_of found.now)) result }
+{
+    let port = count_in(found, "port", 0);
+    let workers = count_in(found, "workers", 4);
+    let requests = count_in(found, "requests", u64::MAX);
+    let idle_seconds = count_in(found, "idle-seconds", 30);
+    Serving {
+        port,
+        workers,
+        requests,
+        idle_seconds,
+    }
+}
+
 fn directories_in<'a>(alloc: Global, found: &ArgMatches<'a>) -> Result<Vec<&'a str>, AllocError>
     ensures { IfOk result (λ texts. map (λ text. text.now) texts.items ≡ unwrap_or (all_of (codes "directories") (rows_of (found_of found.now))) []) }
 {
@@ -219,6 +333,10 @@ fn line_in<'a>(alloc: Global, found: &ArgMatches<'a>) -> Result<Option<Line<'a>>
     }
     if let Some(arguments) = found.subcommand_matches("check") {
         return Ok(Some(Line::Check(directories_in(alloc, arguments)?)));
+    }
+    if let Some(arguments) = found.subcommand_matches("serve") {
+        let directories = directories_in(alloc, arguments)?;
+        return Ok(Some(Line::Serve(serving_in(arguments), directories)));
     }
     let Some(arguments) = found.subcommand_matches("select") else {
         return Ok(None);

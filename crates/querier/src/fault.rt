@@ -92,20 +92,22 @@ pub enum Fault {
     CannotRead(String),
     /// A writer refused.
     CannotWrite,
+    /// This port of 127.0.0.1 cannot be listened on.
+    CannotListen(u64),
     /// A growth was refused.
     Memory,
 }
 
 impl Fault {
-    /// The exit status: 1 for a refusal, 2 for a fault of the words, 3 for a file that cannot be read or a writer that
-    /// refused, 4 for no memory.
+    /// The exit status: 1 for a refusal, 2 for a fault of the words, 3 for a file that cannot be read, a writer that
+    /// refused or a port that cannot be listened on, 4 for no memory.
     pub fn status(&self) -> u8
         ensures { result ≡ status_of self.now }
     {
         match self {
             Fault::Refused(_) => 1,
             Fault::Words(_) => 2,
-            Fault::CannotRead(_) | Fault::CannotWrite => 3,
+            Fault::CannotRead(_) | Fault::CannotWrite | Fault::CannotListen(_) => 3,
             Fault::Memory => 4,
         }
     }
@@ -119,6 +121,7 @@ impl Fault {
             Fault::Words(error) => write!(to, "{error}"),
             Fault::CannotRead(path) => writeln!(to, "cannot read {path}"),
             Fault::CannotWrite => to.write_all(b"cannot write\n"),
+            Fault::CannotListen(port) => writeln!(to, "cannot listen on 127.0.0.1:{port}"),
             Fault::Memory => to.write_all(b"no memory\n"),
         }
     }

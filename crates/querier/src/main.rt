@@ -7,8 +7,9 @@
 //! the text of an audited answer, byte for byte, and a line feed (`demo`, `write_answer`, `select`).
 //! `querier check` verifies blocks completely and prints a line for each: `files` says what is read of
 //! a directory, `judgement` what that is judged to be, and `report` which lines are written. What is
-//! refused, and with which status a line ends, is said by `fault` and `run`.
-//! It stands on `query_http` for answers and their text, on `snapshots` for the store of the demo, on
+//! refused, and with which status a line ends, is said by `fault` and `run`. `querier serve` serves the
+//! blocks in directories, under an empty head, to HTTP clients (`serve`).
+//! It stands on `server` for workers, on `query_http` for answers and their text, on `snapshots` for the store of the demo, on
 //! `block` for what a block is, and on `labels`, `matchers` and `head`. Certificates are the partition
 //! certificates of Barbay and Kenyon, SODA 2002.
 #![tactic(auto)]
@@ -23,6 +24,7 @@ mod report;
 mod run;
 mod select;
 mod sending;
+mod serve;
 #[cfg(test)]
 mod tests;
 

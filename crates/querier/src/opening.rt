@@ -1,6 +1,6 @@
 //! The store of the blocks in directories.
 
-ghost use Rattle.std.specs.Prelude.{map, IfOk, IfErr};
+ghost use Rattle.std.specs.Prelude.{◌≤◌, length, map, IfOk, IfErr};
 ghost use Rattle.head.specs.Blocks.{part_in};
 ghost use Rattle.querier.specs.Reading.{paths_of};
 ghost use Rattle.querier.specs.Opening.{IsBlockAt, AreBlocksAt, IsBlockFault, IsOpeningOf, IsOpeningFault};
@@ -46,10 +46,30 @@ fn open_all<T: Threads + Sync, F: ReadFiles>(
     Ok(blocks)
 }
 
-/// The snapshot of the blocks in these directories, in their order, and of an empty head.
+/// The blocks in these directories, in their order, at most 63.
 ///
 /// Each directory is read and verified completely, one after another; `O3` comes after the last of them, where there
 /// are more than 63.
+pub fn open_blocks<T: Threads + Sync, F: ReadFiles>(
+    rt: &T,
+    alloc: Global,
+    files: &F,
+    directories: &[&str],
+) -> Result<Vec<Block>, Fault>
+    ensures ok { IfOk result (λ blocks. AreBlocksAt (F.may_read files.now) (paths_of directories.now) (map part_in blocks.items)) }
+    ensures few { IfOk result (λ blocks. length blocks.items ≤ 63) }
+    ensures err { IfErr result (λ fault. IsOpeningFault (F.may_read files.now) (paths_of directories.now) fault) }
+{
+    let opened = open_all(rt, alloc, files, directories)?;
+    if opened.len() > MAX_BLOCKS {
+        return Err(Fault::Refused(Refusal::Open(OpenError::Limit)));
+    }
+    Ok(opened)
+}
+
+/// The snapshot of the blocks in these directories, in their order, and of an empty head.
+///
+/// The directories are opened as by [`open_blocks`].
 pub fn open_store<T: Threads + Sync, F: ReadFiles>(
     rt: &T,
     alloc: Global,
@@ -59,9 +79,6 @@ pub fn open_store<T: Threads + Sync, F: ReadFiles>(
     ensures ok { IfOk result (λ s. IsOpeningOf (F.may_read files.now) (paths_of directories.now) s) }
     ensures err { IfErr result (λ fault. IsOpeningFault (F.may_read files.now) (paths_of directories.now) fault) }
 {
-    let blocks = open_all(rt, alloc, files, directories)?;
-    if blocks.len() > MAX_BLOCKS {
-        return Err(Fault::Refused(Refusal::Open(OpenError::Limit)));
-    }
+    let blocks = open_blocks(rt, alloc, files, directories)?;
     Ok(Snapshot::opening(alloc, blocks)?)
 }

@@ -6,7 +6,7 @@ ghost use Rattle.querier.specs.Printed.{line_text};
 ghost use Rattle.querier.specs.Demo.{demo_events, demo_query};
 ghost use Rattle.clap.specs.Words.{takes};
 ghost use Rattle.querier.specs.Lines.{querier_app, texts_of, IsLineOf};
-ghost use Rattle.querier.specs.Running.{IsTaken, IsLineEnd, IsEnd, IsNoLine, IsWordsFault, IsCheckLine, IsTold, HasEnded, KeepsAtEnd, status_at};
+ghost use Rattle.querier.specs.Running.{IsTaken, IsLineEnd, IsEnd, IsNoLine, IsWordsFault, IsEarlyLine, IsTold, HasEnded, KeepsAtEnd, status_at};
 ghost use Rattle.querier.specs.DemoAnswer.{IsDemoFault, WritesAnswerAfter};
 ghost use Rattle.querier.specs.Selecting.{IsWritingFault, KeepsAt, WritesAnswer};
 
@@ -17,14 +17,17 @@ use crate::files::ReadFiles;
 use crate::report::{Outcome, check};
 use crate::select::select;
 use crate::sending::send;
+use crate::serve::serve;
 use clap::error::ErrorKind;
 use head::Snapshot;
 use matchers::Query;
 use query_http::{AuditedAnswer, answer_by_workers, body};
 use std::alloc::{AllocError, Global};
 use std::io::{self, Read, Write};
+use std::net::{Net, TcpListener, TcpStream};
 use std::sync::Wait;
 use std::thread::Threads;
+use std::time::Clock;
 
 /// The text of an answer, and a line feed.
 fn line_of(alloc: Global, answer: &AuditedAnswer) -> Result<Vec<u8>, AllocError>
@@ -66,13 +69,11 @@ fn demo<R: Wait, W: Write>(rt: &R, alloc: Global, out: &mut W) -> Result<(), Fau
 }
 
 /// Does what a line asks for.
-fn answer_line<Q: Wait + Threads + Sync, F: ReadFiles, W: Write>(
-    rt: &Q,
-    alloc: Global,
-    files: &F,
-    line: Line<'_>,
-    out: &mut W,
-) -> Result<Outcome, Fault>
+fn answer_line<
+    Q: Wait + Threads + Net<Listener = TcpListener, Stream = TcpStream> + Clock + Eprint + Sync,
+    F: ReadFiles,
+    W: Write,
+>(rt: &Q, alloc: Global, files: &F, line: Line<'_>, out: &mut W) -> Result<Outcome, Fault>
     ensures { IsLineEnd (F.may_read files.now) line.entry (W.contents out.old) (W.contents out.new) result }
 {
     match line {
@@ -81,21 +82,22 @@ fn answer_line<Q: Wait + Threads + Sync, F: ReadFiles, W: Write>(
             select(rt, alloc, files, selection, directories.as_slice(), out)?;
         }
         Line::Check(directories) => return check(rt, alloc, files, directories.as_slice(), out),
+        Line::Serve(serving, directories) => {
+            serve(rt, alloc, files, serving, directories.as_slice(), out)?;
+        }
     }
     Ok(Outcome::Done)
 }
 
-fn execute<Q: Wait + Threads + Sync, F: ReadFiles, W: Write>(
-    rt: &Q,
-    alloc: Global,
-    files: &F,
-    words: &[String],
-    out: &mut W,
-) -> Result<Outcome, Fault>
+fn execute<
+    Q: Wait + Threads + Net<Listener = TcpListener, Stream = TcpStream> + Clock + Eprint + Sync,
+    F: ReadFiles,
+    W: Write,
+>(rt: &Q, alloc: Global, files: &F, words: &[String], out: &mut W) -> Result<Outcome, Fault>
     ensures ends { IsTaken (texts_of words.now) → IsEnd (F.may_read files.now) (texts_of words.now) (W.contents out.old) (W.contents out.new) result }
     ensures no_line { ((line : Line) → IsLineOf (texts_of words.now) line → ⊥) → IsNoLine result }
     ensures refused { takes querier_app (texts_of words.now) ≡ true → ((line : Line) → IsLineOf (texts_of words.now) line → ⊥) → IsWordsFault result }
-    ensures kept { IsCheckLine (texts_of words.now) ⊎ KeepsAtEnd (W.contents out.old) (W.contents out.new) result }
+    ensures kept { IsEarlyLine (texts_of words.now) ⊎ KeepsAtEnd (W.contents out.old) (W.contents out.new) result }
 {
     match read_line(alloc, words) {
         Ok(line) => answer_line(rt, alloc, files, line, out),
@@ -142,9 +144,16 @@ fn tell<E: Write>(end: &Result<Outcome, Fault>, to: &mut E) -> io::Result<()>
 /// exit status.
 ///
 /// 0 where it is done; 1 for a refusal, with its code on the second writer, or in the lines of a check; 2 for a fault
-/// of the words, with the usage on the second writer; 3 where a file cannot be read, which is named there, or the first
-/// writer fails; 4 where memory does. Only the store of the demo waits, and for nobody else's threads.
-pub fn run<Q: Wait + Threads + Sync, F: ReadFiles, R: Read, W: Write, E: Write>(
+/// of the words, with the usage on the second writer; 3 where a file cannot be read or a port not be listened on, which
+/// is named there, or the first writer fails; 4 where memory does. The store of the demo waits for nobody else's threads;
+/// a server waits for clients, and tells what becomes of them on the host's own standard error.
+pub fn run<
+    Q: Wait + Threads + Net<Listener = TcpListener, Stream = TcpStream> + Clock + Eprint + Sync,
+    F: ReadFiles,
+    R: Read,
+    W: Write,
+    E: Write,
+>(
     rt: &Q,
     alloc: Global,
     files: &F,
@@ -155,7 +164,7 @@ pub fn run<Q: Wait + Threads + Sync, F: ReadFiles, R: Read, W: Write, E: Write>(
 ) -> Ending
     ensures ended { HasEnded (F.may_read files.now) (texts_of words.now) (W.contents out.old) (W.contents out.new) (E.contents err.old) (E.contents err.new) result }
     ensures few { result.status ≤ 4 }
-    ensures nothing_written { (result.status ≡ 0) ⊎ (result.status ≡ 3) ⊎ IsCheckLine (texts_of words.now) ⊎ Keeps (W.contents out.old) (W.contents out.new) }
+    ensures nothing_written { (result.status ≡ 0) ⊎ (result.status ≡ 3) ⊎ IsEarlyLine (texts_of words.now) ⊎ Keeps (W.contents out.old) (W.contents out.new) }
     ensures nothing_told { result.status ≡ 0 → Keeps (E.contents err.old) (E.contents err.new) }
 {
     let end = execute(rt, alloc, files, words, out);

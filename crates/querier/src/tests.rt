@@ -6,6 +6,7 @@ mod host_files;
 mod lines;
 mod rows;
 mod selections;
+mod serving;
 
 use self::directories::DIRECTORIES;
 use self::rows::{Told, told_by, words_of};
@@ -19,8 +20,10 @@ use matchers::{MatcherError, Query, QueryError, SelectorError};
 use query_http::{answer, body};
 use std::alloc::Global;
 use std::io::{self, Write};
+use std::net::{Net, TcpListener, TcpStream};
 use std::sync::Wait;
 use std::thread::Threads;
+use std::time::Clock;
 
 const DEMO: &str =
     "{\"parts\":[{\"intervals\":[{\"from\":1,\"until\":2,\"verdict\":\"match\"},{\"from\":2,\"until\":4,\"verdict\":1},{\"from\":4,\"until\":6,\"verdict\":0},{\"from\":6,\"until\":4294967296,\"verdict\":\"match\"}],\"part\":\"head\",\"rows\":[{\"labels\":{\"__name__\":\"up\",\"job\":\"a\"},\"samples\":[[10,1],[20,1]]},{\"labels\":{\"__name__\":\"up\",\"job\":\"a\",\"zone\":\"x\"},\"samples\":[[10,6],[20,6]]}],\"separators\":[1,2,4,6]}],\"rows\":[{\"labels\":{\"__name__\":\"up\",\"job\":\"a\"},\"samples\":[[10,1],[20,1]]},{\"labels\":{\"__name__\":\"up\",\"job\":\"a\",\"zone\":\"x\"},\"samples\":[[10,6],[20,6]]}]}";
@@ -145,13 +148,11 @@ fn the_line_of_each_other_fault(rt: HostRuntime) {
 }
 
 /// How a run over the directories ends, which writes to these writers.
-fn ending_of<Q: Wait + Threads + Sync, W: Write, E: Write>(
-    rt: &Q,
-    alloc: Global,
-    words: &[&str],
-    out: &mut W,
-    err: &mut E,
-) -> Option<Ending> {
+fn ending_of<
+    Q: Wait + Threads + Net<Listener = TcpListener, Stream = TcpStream> + Clock + Eprint + Sync,
+    W: Write,
+    E: Write,
+>(rt: &Q, alloc: Global, words: &[&str], out: &mut W, err: &mut E) -> Option<Ending> {
     let words = words_of(alloc, words).ok()?;
     let input = &mut io::empty();
     Some(run(rt, alloc, &DIRECTORIES, words.as_slice(), input, out, err))

@@ -3,8 +3,10 @@
 use super::directories::{CHUNKS, INDEX, META, NOTHING_DELETED, Pieces, joined};
 use super::rows::{Told, told_by};
 use crate::files::ReadFiles;
+use std::net::{Net, TcpListener, TcpStream};
 use std::sync::Wait;
 use std::thread::Threads;
+use std::time::Clock;
 use std::{env, fs};
 
 /// A name in the folder for files that pass.
@@ -71,25 +73,23 @@ fn remove_rest(rt: &HostRuntime, folder: &str) -> Option<()> {
 }
 
 /// What `check` of the folder gives.
-fn checked_in<Q: Wait + Threads + Sync>(waits: &Q, rt: &HostRuntime, folder: &str) -> Option<Told> {
+fn checked_in<
+    Q: Wait + Threads + Net<Listener = TcpListener, Stream = TcpStream> + Clock + Eprint + Sync,
+>(waits: &Q, rt: &HostRuntime, folder: &str) -> Option<Told> {
     told_by(waits, rt.alloc(), rt, &["check", folder]).ok()
 }
 
-fn is_told_whole<Q: Wait + Threads + Sync>(
-    waits: &Q,
-    rt: &HostRuntime,
-    folder: &str,
-) -> Option<bool> {
+fn is_told_whole<
+    Q: Wait + Threads + Net<Listener = TcpListener, Stream = TcpStream> + Clock + Eprint + Sync,
+>(waits: &Q, rt: &HostRuntime, folder: &str) -> Option<bool> {
     let line = format!(in rt.alloc(); "{folder}: ok 6 series 6 samples\n").ok()?;
     let told = checked_in(waits, rt, folder)?;
     Some(told.out.as_slice() == line.as_bytes())
 }
 
-fn is_told_torn<Q: Wait + Threads + Sync>(
-    waits: &Q,
-    rt: &HostRuntime,
-    folder: &str,
-) -> Option<bool> {
+fn is_told_torn<
+    Q: Wait + Threads + Net<Listener = TcpListener, Stream = TcpStream> + Clock + Eprint + Sync,
+>(waits: &Q, rt: &HostRuntime, folder: &str) -> Option<bool> {
     let line = format!(in rt.alloc(); "cannot read {folder}/tombstones\n").ok()?;
     let told = checked_in(waits, rt, folder)?;
     Some(told.err.as_slice() == line.as_bytes() && told.ending.status == 3)
@@ -111,11 +111,9 @@ fn are_lengths_right(rt: &HostRuntime, folder: &str) -> bool {
 }
 
 /// Writes a block, looks at it, takes its tombstones away, and looks again.
-fn look_twice<Q: Wait + Threads + Sync>(
-    waits: &Q,
-    rt: &HostRuntime,
-    folder: &str,
-) -> Option<[bool; 3]> {
+fn look_twice<
+    Q: Wait + Threads + Net<Listener = TcpListener, Stream = TcpStream> + Clock + Eprint + Sync,
+>(waits: &Q, rt: &HostRuntime, folder: &str) -> Option<[bool; 3]> {
     write_files(rt, folder)?;
     let whole = is_told_whole(waits, rt, folder)?;
     let lengths = are_lengths_right(rt, folder);

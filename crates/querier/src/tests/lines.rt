@@ -3,8 +3,10 @@
 use super::directories::DIRECTORIES;
 use super::rows::{Pieced, Row, first_other, first_without, told_by};
 use std::alloc::{AllocError, Global};
+use std::net::{Net, TcpListener, TcpStream};
 use std::sync::Wait;
 use std::thread::Threads;
+use std::time::Clock;
 
 /// The answer over an empty store.
 const NOTHING: &str =
@@ -174,7 +176,9 @@ fn with_pattern_of(alloc: Global, bytes: usize) -> Result<String, AllocError> {
 }
 
 /// The exit status for a selector with a pattern of this many bytes.
-fn status_of_pattern<Q: Wait + Threads + Sync>(rt: &Q, alloc: Global, bytes: usize) -> Option<u8> {
+fn status_of_pattern<
+    Q: Wait + Threads + Net<Listener = TcpListener, Stream = TcpStream> + Clock + Eprint + Sync,
+>(rt: &Q, alloc: Global, bytes: usize) -> Option<u8> {
     let selector = with_pattern_of(alloc, bytes).ok()?;
     let told = told_by(rt, alloc, &DIRECTORIES, &["select", selector.as_str()]).ok()?;
     Some(told.ending.status)

@@ -4,8 +4,10 @@ use super::directories::DIRECTORIES;
 use crate::files::ReadFiles;
 use crate::run::{Ending, run};
 use std::alloc::{AllocError, Global};
+use std::net::{Net, TcpListener, TcpStream};
 use std::sync::Wait;
 use std::thread::Threads;
+use std::time::Clock;
 use std::{io, str};
 
 /// Words, the exit status, and what goes to the first and to the second writer.
@@ -27,12 +29,10 @@ pub struct Told {
     pub err: Vec<u8>,
 }
 
-pub fn told_by<Q: Wait + Threads + Sync, F: ReadFiles>(
-    rt: &Q,
-    alloc: Global,
-    files: &F,
-    words: &[&str],
-) -> Result<Told, AllocError> {
+pub fn told_by<
+    Q: Wait + Threads + Net<Listener = TcpListener, Stream = TcpStream> + Clock + Eprint + Sync,
+    F: ReadFiles,
+>(rt: &Q, alloc: Global, files: &F, words: &[&str]) -> Result<Told, AllocError> {
     let words = words_of(alloc, words)?;
     let mut out = Vec::new(alloc);
     let mut err = Vec::new(alloc);
@@ -49,7 +49,9 @@ pub fn told_by<Q: Wait + Threads + Sync, F: ReadFiles>(
 }
 
 /// Whether a row is what the program gives.
-fn is_given<Q: Wait + Threads + Sync>(rt: &Q, alloc: Global, row: &Row) -> bool {
+fn is_given<
+    Q: Wait + Threads + Net<Listener = TcpListener, Stream = TcpStream> + Clock + Eprint + Sync,
+>(rt: &Q, alloc: Global, row: &Row) -> bool {
     told_by(rt, alloc, &DIRECTORIES, row.0).is_ok_and(|told| {
         told.ending.status == row.1
             && told.out.as_slice() == row.2.as_bytes()
@@ -58,11 +60,9 @@ fn is_given<Q: Wait + Threads + Sync>(rt: &Q, alloc: Global, row: &Row) -> bool 
 }
 
 /// The first row that is not what the program gives.
-pub fn first_other<Q: Wait + Threads + Sync>(
-    rt: &Q,
-    alloc: Global,
-    rows: &'static [Row],
-) -> Option<&'static Row> {
+pub fn first_other<
+    Q: Wait + Threads + Net<Listener = TcpListener, Stream = TcpStream> + Clock + Eprint + Sync,
+>(rt: &Q, alloc: Global, rows: &'static [Row]) -> Option<&'static Row> {
     for row in rows {
         if !is_given(rt, alloc, row) {
             return Some(row);
@@ -84,7 +84,9 @@ fn has_piece(bytes: &[u8], piece: &str) -> bool {
 }
 
 /// Whether the pieces of a row stand in what the program gives.
-fn has_pieces<Q: Wait + Threads + Sync>(rt: &Q, alloc: Global, row: &Pieced) -> bool {
+fn has_pieces<
+    Q: Wait + Threads + Net<Listener = TcpListener, Stream = TcpStream> + Clock + Eprint + Sync,
+>(rt: &Q, alloc: Global, row: &Pieced) -> bool {
     told_by(rt, alloc, &DIRECTORIES, row.0).is_ok_and(|told| {
         told.ending.status == row.1
             && has_piece(told.out.as_slice(), row.2)
@@ -93,11 +95,9 @@ fn has_pieces<Q: Wait + Threads + Sync>(rt: &Q, alloc: Global, row: &Pieced) -> 
 }
 
 /// The first row of which a piece does not stand in what the program gives.
-pub fn first_without<Q: Wait + Threads + Sync>(
-    rt: &Q,
-    alloc: Global,
-    rows: &'static [Pieced],
-) -> Option<&'static Pieced> {
+pub fn first_without<
+    Q: Wait + Threads + Net<Listener = TcpListener, Stream = TcpStream> + Clock + Eprint + Sync,
+>(rt: &Q, alloc: Global, rows: &'static [Pieced]) -> Option<&'static Pieced> {
     for row in rows {
         if !has_pieces(rt, alloc, row) {
             return Some(row);

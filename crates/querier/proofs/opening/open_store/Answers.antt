@@ -3,17 +3,12 @@ use Rattle.head.specs.Blocks.{part_in}
 use Rattle.querier.proofs.Openings.{as_many}
 use Rattle.querier.proofs.opening.open_store.Goals as goal
 
-pub returns-then-len-gt-MAX_BLOCKS-clause-err : goal.returns-then-len-gt-MAX_BLOCKS-clause-err
-returns-then-len-gt-MAX_BLOCKS-clause-err g c =
-    let same = as_many _ _ _ c.in_ok-blocks.ensures.ok in
-    record { blocks = map part_in c.in_ok-blocks.blocks.items; opened = c.in_ok-blocks.ensures.ok; many = omega (arith, same) }
-
 pub returns-clause-ok : goal.returns-clause-ok
 returns-clause-ok g c =
     let same = as_many _ _ _ c.in_ok-blocks.ensures.ok in
     record {
       blocks = map part_in c.in_ok-blocks.blocks.items;
       opened = c.in_ok-blocks.ensures.ok;
-      few = omega (arith, same);
+      few = omega (arith, same, c.in_ok-blocks.ensures.few);
       is = c.in_ok-opening.ensures;
     }

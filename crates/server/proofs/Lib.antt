@@ -1,0 +1,2 @@
+pub mod Farther
+pub mod Sequences

@@ -1,0 +1,36 @@
+use Rattle.std.proofs.Common.{List, [], ◌∷◌, Option, ℕ, sym, subst}
+use Rattle.query_http.specs.Serving.{worker}
+use Rattle.server.specs.Sessions.{Session, Ending, IsServed, Arrives, AreAdded}
+use Rattle.server.proofs.Farther.{farther_more, served_farther}
+use Rattle.server.proofs.Sequences.{works_more}
+use Rattle.server.proofs.worker.work.Goals as goal
+
+pub loop-done-preserved : goal.loop-done-preserved
+loop-done-preserved g c =
+    let before = worker c.args.pass.now c.args.seat.now in
+    let between = worker c.loop-done.pass c.loop-done.seat in
+    let after = worker c.serve_one-served.new.pass c.serve_one-served.new.seat in
+    let s : Session = record {
+      input = g.A.Reader.Inlet.input c.in-Some.reader;
+      ending = record {
+        written = g.A.Writer.Outlet.output c.serve_one-served.new.writer;
+        served = c.serve_one-served.result;
+      };
+    } in
+    let one : IsServed g.J.Naming.opening between after s = record {
+      output = g.A.Writer.Outlet.output c.in-Some.writer;
+      fresh = c.in-Some.ensures.fresh;
+      serves = c.serve_one-served.ensures.serves;
+    } in
+    let arrives : Arrives (g.A.Connections.coming c.loop-done.connections) (g.A.Connections.coming c.close.new.self) s.input =
+    subst (λ (left : Option (List (List ℕ))). Arrives (g.A.Connections.coming c.loop-done.connections) left s.input)
+    (sym c.close.ensures.coming) c.in-Some.ensures.arrives in
+    let added : AreAdded (g.A.Connections.past c.loop-done.connections) (g.A.Connections.past c.close.new.self) (s.ending ∷ []) =
+    subst (λ (past : Option (List Ending)). AreAdded past (g.A.Connections.past c.close.new.self) (s.ending ∷ []))
+    c.accept.ensures.past c.close.ensures.past in (
+      works_more g.J.Naming.opening before between after
+          (g.A.Connections.coming c.args.connections.now) (g.A.Connections.coming c.loop-done.connections) (g.A.Connections.coming c.close.new.self)
+          (g.A.Connections.past c.args.connections.now) (g.A.Connections.past c.loop-done.connections) (g.A.Connections.past c.close.new.self)
+          c.loop-done.done s c.loop-done.invariant.0 one arrives added,
+      farther_more before between after c.loop-done.done c.loop-done.invariant.1 (served_farther g.J.Naming.opening between after s one),
+    )

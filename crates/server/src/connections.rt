@@ -1,0 +1,34 @@
+//! Where connections come from.
+
+ghost use Rattle.std.specs.Prelude.{◌≡◌, ℕ, List, [], ◌∷◌, Option, IfSome, IfNone};
+ghost use Rattle.server.specs.Sessions.{Ending, IsFresh, Arrives, IsOver, AreAdded};
+
+use query_http::{Outlet, Served};
+use requests::Inlet;
+
+/// Where connections come from: sockets, or texts in memory. It tells in its meaning what will come
+/// on each connection, and what was written to each that has ended; sockets tell neither.
+pub trait Connections {
+    type Reader: Inlet + Drop;
+
+    type Writer: Outlet + Drop;
+
+    ghost coming: { Self → Option (List (List ℕ)) };
+
+    ghost past: { Self → Option (List Ending) };
+
+    /// The next connection; none where no more will come. It may wait for a client.
+    fn accept(&mut self) -> Option<(Self::Reader, Self::Writer)>
+        ensures arrives { IfSome result (λ c. Arrives (coming self.old) (coming self.new)
+            (Self.Reader.input c.0)) }
+        ensures fresh { IfSome result (λ c. IsFresh (Self.Writer.output c.1)) }
+        ensures over { IfNone result (IsOver (coming self.new)) }
+        ensures same { IfNone result (coming self.new ≡ coming self.old) }
+        ensures past { past self.new ≡ past self.old };
+
+    /// Ends a connection that was served so.
+    fn close(&mut self, reader: Self::Reader, writer: Self::Writer, served: Served)
+        ensures coming { coming self.new ≡ coming self.old }
+        ensures past { AreAdded (past self.old) (past self.new)
+            (record { written = Self.Writer.output writer; served = served } ∷ []) };
+}

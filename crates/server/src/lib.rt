@@ -1,0 +1,28 @@
+//! Workers that serve a store over HTTP.
+//!
+//! [`Workers::open`] opens a store over blocks with workers, and [`serve`] serves it on a listening
+//! socket: each worker is a thread with a pass and a seat of its own, which takes one connection
+//! after another. [`work`] is the loop
+//! of one worker, over any [`Connections`]: its contract says that each connection is served by
+//! `query_http::serve_one`, with the pass and the seat as the connection before left them
+//! (`specs/Sessions.antt`), that there are as many as asked unless no more come, and what was
+//! written to each. [`Sockets`] are connections of the system, with limits of time: a client that is
+//! silent or gone costs its own connection and no other.
+//!
+//! It stands on `query_http` for what a connection gets, on `requests` for readers and on
+//! `snapshots` for stores.
+#![tactic(auto)]
+
+mod connections;
+mod pool;
+mod socket;
+mod sockets;
+#[cfg(test)]
+mod tests;
+mod worker;
+
+pub use connections::Connections;
+pub use pool::{Terms, Workers, serve};
+pub use socket::{SocketReader, SocketWriter};
+pub use sockets::Sockets;
+pub use worker::work;

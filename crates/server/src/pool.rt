@@ -1,0 +1,146 @@
+//! A store and its workers, each in a thread of its own.
+
+ghost use Rattle.std.specs.Prelude.{◌≡◌, ◌≤◌, ◌<◌, length, map, vec_len, IfOk, IfErr};
+ghost use Rattle.std.specs.List.{All};
+ghost use Rattle.head.specs.Blocks.{part_in, opening_of};
+ghost use Rattle.snapshots.specs.Seats.{IsRoom};
+ghost use Rattle.snapshots.specs.declared.error.OpenError.TheVariants.{BadPasses, Limit};
+
+use crate::sockets::Sockets;
+use crate::worker::work;
+use block::Block;
+use snapshots::{Committer, Naming, OpenError, Pass, Seat, Store};
+use std::alloc::{AllocError, Global};
+use std::marker::Model;
+use std::net::TcpListener;
+use std::sync::Wait;
+use std::thread::{Threads, map_vec};
+use std::time::{Clock, Duration};
+
+/// What is one worker's own.
+#[derive(Drop)]
+struct Place<J: Naming> {
+    pass: Pass<J>,
+    seat: Seat<J>,
+}
+
+/// An open store and its workers. Contracts see how many workers there are.
+#[derive(Drop)]
+pub struct Workers<J: Naming, C: Wait + Drop> {
+    committer: Committer<J, C>,
+    places: Vec<Place<J>>,
+}
+
+impl<J: Naming, C: Wait + Drop> Model for Workers<J, C> {
+    ghost use Rattle.std.specs.Prelude.{ℕ, vec_len};
+
+    ghost Value = { ℕ };
+
+    ghost view = { λ w. vec_len w.places };
+}
+
+/// How connections are served.
+#[derive(Clone, Copy, Debug, PartialEq, Eq)]
+pub struct Terms {
+    /// After how many connections a worker ends.
+    pub requests: u64,
+    /// How long a client may give no byte, or take none; for ever where there is no limit.
+    pub idle: Option<Duration>,
+}
+
+/// Each pass with a seat; the seats are as many.
+fn places_of<J: Naming>(
+    alloc: Global,
+    passes: Vec<Pass<J>>,
+    mut seats: Vec<Seat<J>>,
+) -> Result<Vec<Place<J>>, AllocError>
+    ensures { IfOk result (λ places. vec_len places ≡ vec_len passes) }
+{
+    let mut places = Vec::new(alloc);
+    for pass in passes {
+        let Some(seat) = seats.pop() else {
+            return Err(AllocError);
+        };
+        places.push(Place { pass, seat })?;
+    }
+    Ok(places)
+}
+
+impl<J: Naming, C: Wait + Drop> Workers<J, C> {
+    /// Opens a store over these blocks with so many workers, each with a pass and a seat of its own.
+    /// `O2` where there are not 1 to 64 workers, then `O3` where there are more than 63 blocks, then
+    /// `O4` and memory.
+    pub fn open(
+        rt: C,
+        alloc: Global,
+        store: Store,
+        blocks: Vec<Block>,
+        count: usize,
+    ) -> Result<Workers<J, C>, OpenError>
+        requires book { store.seen.book ≡ J.book }
+        requires opening { opening_of (map part_in blocks.items) ≡ J.opening }
+        ensures workers { IfOk result (λ w. w ≡ count) }
+        ensures room { IfOk result (λ _. IsRoom count count) }
+        ensures refused { IfErr result (λ e. e ≡ BadPasses → ¬ IsRoom count count) }
+        ensures few { IfErr result (λ e. e ≡ Limit → 63 < length blocks.items) }
+    {
+        let (committer, passes, seats) = store.open::<J, C>(rt, alloc, blocks, count, count)?;
+        match places_of(alloc, passes, seats) {
+            Ok(places) => Ok(Workers { committer, places }),
+            Err(_) => Err(OpenError::Memory),
+        }
+    }
+}
+
+/// The work of one worker: how many connections it served.
+fn work_at<J: Naming, C: Wait + Drop, R: Wait + Clock + Eprint>(
+    rt: &R,
+    alloc: Global,
+    listener: &TcpListener,
+    committer: &Committer<J, C>,
+    place: Place<J>,
+    terms: Terms,
+) -> u64
+    ensures { result ≤ terms.requests }
+{
+    let Place { mut pass, mut seat } = place;
+    let mut sockets = Sockets::new(rt, alloc, listener, terms.idle);
+    let most = terms.requests;
+    work(
+        rt,
+        alloc,
+        &mut sockets,
+        &mut pass,
+        &mut seat,
+        committer,
+        most,
+    )
+}
+
+/// Serves the connections of a listener until each worker has ended: how many each served.
+///
+/// Each worker has a thread of its own where one can be made; where none can, workers take turns.
+pub fn serve<
+    J: Naming + Send + Sync,
+    C: Wait + Drop + Send + Sync,
+    R: Threads + Wait + Clock + Eprint + Sync,
+>(
+    rt: &R,
+    alloc: Global,
+    workers: Workers<J, C>,
+    listener: &TcpListener,
+    terms: Terms,
+) -> Result<Vec<u64>, AllocError>
+    ensures all { IfOk result (λ counts. vec_len counts ≡ workers) }
+    ensures few { IfOk result (λ counts. All (λ n. n ≤ terms.requests) counts.items) }
+{
+    let Workers { committer, places } = workers;
+    let shared = &committer;
+    map_vec(
+        rt,
+        places,
+        &|place: Place<J>| -> u64
+            ensures { result ≤ terms.requests }
+        { work_at(rt, alloc, listener, shared, place, terms) },
+    )
+}

@@ -1,0 +1,188 @@
+//! Connections from a listening socket.
+
+use crate::connections::Connections;
+use crate::socket::{SocketReader, SocketWriter};
+use query_http::Served;
+use requests::Status;
+use std::alloc::Global;
+use std::io::{self, ErrorKind, Read};
+use std::net::{Shutdown, TcpListener, TcpStream};
+use std::rc::Rc;
+use std::thread::sleep;
+use std::time::{Clock, Duration, Instant};
+
+/// How long an accept that failed waits, in milliseconds.
+const PAUSE: u64 = 100;
+
+/// For how many seconds a client that has sent more than was read is read on.
+const LINGER: u64 = 1;
+
+/// How often such a client is read on: at most 2 MiB.
+const WASTE_READS: u32 = 256;
+
+/// Connections from a listening socket, each with the time limit of its own.
+#[derive(Drop)]
+pub struct Sockets<'a, R> {
+    rt: &'a R,
+    alloc: Global,
+    listener: &'a TcpListener,
+    idle: Option<Duration>,
+}
+
+impl<'a, R> Sockets<'a, R> {
+    /// The connections of a listener. A connection that gives no byte, or takes none, for the time
+    /// given ends as a failed read or write.
+    pub fn new(
+        rt: &'a R,
+        alloc: Global,
+        listener: &'a TcpListener,
+        idle: Option<Duration>,
+    ) -> Sockets<'a, R> {
+        Sockets {
+            rt,
+            alloc,
+            listener,
+            idle,
+        }
+    }
+}
+
+/// Whether an accept failed because there is no listener any more.
+fn is_gone(error: &io::Error) -> bool {
+    matches!(
+        error.raw_os_error(),
+        Some(libc::EBADF | libc::EINVAL | libc::ENOTSOCK)
+    )
+}
+
+/// What is told of a connection that was served so, if it is a fault.
+fn fault_of(served: Served) -> Option<&'static str> {
+    match served {
+        Served::ReadFault => Some("cannot read a request"),
+        Served::WriteFault => Some("cannot write a reply"),
+        Served::NoMemory => Some("no memory for a request"),
+        Served::Replied(_) | Served::Closed => None,
+    }
+}
+
+/// Sets the limits of a connection: a call that waits longer than `idle` fails, and what is written
+/// goes out at once.
+fn limit(stream: &TcpStream, idle: Option<Duration>) -> io::Result<()> {
+    stream.set_read_timeout(idle)?;
+    stream.set_write_timeout(idle)?;
+    stream.set_nodelay(true)
+}
+
+/// The two sides of a socket, if there is memory for them.
+fn sides_of(alloc: Global, stream: TcpStream) -> Option<(SocketReader, SocketWriter)> {
+    let stream = Rc::new(alloc, stream).ok()?;
+    let reader = SocketReader::new(Rc::clone(&stream).ok()?);
+    Some((reader, SocketWriter::new(stream)))
+}
+
+/// Whether a client that got this reply may have sent more than was read: of a request that was
+/// refused the rest may still be on its way, of another one only what is there already counts.
+fn may_send_more(stream: &TcpStream, status: Status) -> bool {
+    let mut byte = [0u8; 1];
+    if stream.set_nonblocking(true).is_err() {
+        return false;
+    }
+    match stream.peek(&mut byte) {
+        Ok(count) => count > 0,
+        Err(error) => error.kind() == ErrorKind::WouldBlock && status != Status::Done,
+    }
+}
+
+/// Reads on what a client still sends, and drops it, until the client ends; at most for a second,
+/// and at most 2 MiB.
+fn drain(rt: &impl Clock, stream: &TcpStream) -> io::Result<()> {
+    let mut waste = [0u8; 8192];
+    let mut reader = stream;
+    let most = Duration::from_secs(LINGER);
+    stream.set_nonblocking(false)?;
+    stream.set_read_timeout(Some(most))?;
+    let start = Instant::now(rt)?;
+    for _ in 0..WASTE_READS {
+        if reader.read(&mut waste)? == 0 || start.elapsed(rt)? > most {
+            return Ok(());
+        }
+    }
+    Ok(())
+}
+
+/// Ends the writing side, and reads on for a moment where the client may have sent more than was
+/// read: a socket that is closed with bytes unread takes back the reply.
+fn end(rt: &impl Clock, stream: &TcpStream, served: Served) {
+    let Served::Replied(status) = served else {
+        return;
+    };
+    if stream.shutdown(Shutdown::Write).is_ok() && may_send_more(stream, status) {
+        let _ = drain(rt, stream);
+    }
+}
+
+impl<'a, R: Clock + Eprint> Sockets<'a, R> {
+    /// Tells a fault in a line of its own on standard error, if that takes it.
+    fn tell(&self, fault: &str) {
+        let _ = eprintln!(self.rt; "{fault}");
+    }
+
+    /// The two sides of a new connection, with its limits; none where that fails, which is told.
+    fn open(&self, stream: TcpStream) -> Option<(SocketReader, SocketWriter)> {
+        if limit(&stream, self.idle).is_err() {
+            self.tell("cannot limit a connection");
+            return None;
+        }
+        let sides = sides_of(self.alloc, stream);
+        if sides.is_none() {
+            self.tell("no memory for a connection");
+        }
+        sides
+    }
+
+    /// One try to accept a connection: an error where there is no listener any more.
+    fn try_accept(&self) -> io::Result<Option<(SocketReader, SocketWriter)>> {
+        match self.listener.accept() {
+            Ok((stream, _peer)) => Ok(self.open(stream)),
+            Err(error) if is_gone(&error) => Err(error),
+            Err(error) => {
+                let _ = eprintln!(self.rt; "cannot accept a connection: {error}");
+                sleep(self.rt, Duration::from_millis(PAUSE));
+                Ok(None)
+            }
+        }
+    }
+}
+
+impl<R: Clock + Eprint> Connections for Sockets<'_, R> {
+    ghost use Rattle.std.specs.Prelude.{None};
+
+    type Reader = SocketReader;
+
+    type Writer = SocketWriter;
+
+    ghost coming = { λ _. None };
+
+    ghost past = { λ _. None };
+
+    fn accept(&mut self) -> Option<(SocketReader, SocketWriter)> {
+        for _ in 0..u64::MAX {
+            match self.try_accept() {
+                Ok(Some(connection)) => return Some(connection),
+                Ok(None) => {}
+                Err(_) => {
+                    self.tell("there is no listener any more");
+                    return None;
+                }
+            }
+        }
+        None
+    }
+
+    fn close(&mut self, _reader: SocketReader, writer: SocketWriter, served: Served) {
+        if let Some(fault) = fault_of(served) {
+            self.tell(fault);
+        }
+        end(self.rt, writer.stream(), served);
+    }
+}

@@ -1,0 +1,42 @@
+//! One worker: it serves one connection after another.
+
+ghost use Rattle.std.specs.Prelude.{◌<◌, ◌≤◌};
+ghost use Rattle.query_http.specs.Serving.{worker};
+ghost use Rattle.server.specs.Sessions.{IsOver};
+ghost use Rattle.server.specs.Working.{Works, IsFarther};
+
+use crate::connections::Connections;
+use query_http::serve_one;
+use snapshots::{Committer, Naming, Pass, Seat};
+use std::alloc::Global;
+use std::sync::Wait;
+
+/// Serves connections one after another, at most so many, and says how many: fewer only where no
+/// more will come.
+///
+/// Each is served by [`serve_one`], with the pass and the seat as the connection before left them.
+pub fn work<J: Naming, C: Wait + Drop, A: Connections>(
+    rt: &impl Wait,
+    alloc: Global,
+    connections: &mut A,
+    pass: &mut Pass<J>,
+    seat: &mut Seat<J>,
+    committer: &Committer<J, C>,
+    most: u64,
+) -> u64
+    ensures works { Works J.opening (worker pass.old seat.old) (worker pass.new seat.new)
+        (A.coming connections.old) (A.coming connections.new)
+        (A.past connections.old) (A.past connections.new) result }
+    ensures farther { IsFarther (worker pass.old seat.old) (worker pass.new seat.new) result }
+    ensures few { result ≤ most }
+    ensures over { result < most → IsOver (A.coming connections.new) }
+{
+    for done in 0..most {
+        let Some((mut reader, mut writer)) = connections.accept() else {
+            return done;
+        };
+        let served = serve_one(rt, alloc, &mut reader, &mut writer, pass, seat, committer);
+        connections.close(reader, writer, served);
+    }
+    most
+}
