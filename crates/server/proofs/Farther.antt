@@ -89,8 +89,8 @@ serves_farther : (opening : SnapshotParts) (input : Option (List ℕ)) (before a
     → Serves opening input before after old new s → IsFarther before after 1
 serves_farther opening input before after old new (served.Replied status) h = reply_farther opening input before after status h.text h.reply
 serves_farther opening input before after old new served.WriteFault h = reply_farther opening input before after h.status h.text h.reply
-serves_farther opening input before after old new served.Closed h = idle_farther before after h.1
-serves_farther opening input before after old new served.ReadFault h = idle_farther before after h
+serves_farther opening input before after old new served.Closed h = same_farther before after h.1
+serves_farther opening input before after old new served.ReadFault h = same_farther before after h
 serves_farther opening input before after old new served.NoMemory h = idle_farther before after h
 
 -- a connection takes its worker no farther than one event
