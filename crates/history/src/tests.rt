@@ -1,17 +1,22 @@
+//! The replies to steps of several actors, as text.
+
+mod changes;
+
 use crate::{Reply, Step, run};
-use head::{AppendError, Snapshot};
-use labels::{LabelSet, MAX_TIME, Row, Sample};
+use head::{AppendError, Event, Snapshot};
+use labels::{LabelSet, MAX_TIME, Row, Sample, is_time};
 use matchers::{Matcher, Op, Query};
 use std::alloc::{AllocError, Global};
 
-/// The name, the job and the zone of six series, by number.
-const SETS: [(u32, &str, &str, &str); 6] = [
+/// The name, the job and the zone of seven series, by number.
+const SETS: [(u32, &str, &str, &str); 7] = [
     (1, "up", "a", ""),
     (2, "up", "b", ""),
     (3, "up", "b", "x"),
     (4, "down", "a", ""),
     (5, "down", "b", ""),
     (6, "up", "a", "x"),
+    (7, "up", "c", ""),
 ];
 
 fn pair(alloc: Global, name: &str, value: &str) -> Result<(String, String), AllocError> {
@@ -33,20 +38,43 @@ fn set_of(alloc: Global, number: u32) -> Result<LabelSet, AllocError> {
     LabelSet::new(alloc, pairs).map_err(|_| AllocError)
 }
 
-/// `{job="a"}` from 0 to 100.
-fn query(alloc: Global) -> Result<Query, AllocError> {
+/// `{job="a"}`.
+fn job_a(alloc: Global) -> Result<Vec<Matcher>, AllocError> {
     let (name, value) = pair(alloc, "job", "a")?;
     let mut matchers = Vec::new(alloc);
     matchers.push(Matcher::new(alloc, name, Op::Equal, value).map_err(|_| AllocError)?)?;
-    Query::new(matchers, 0, 100).map_err(|_| AllocError)
+    Ok(matchers)
 }
 
-/// What an actor does: it adds a sample of a series of this number, commits, or asks.
+/// `{job="a"}` from 0 to 100.
+fn query(alloc: Global) -> Result<Query, AllocError> {
+    Query::new(job_a(alloc)?, 0, 100).map_err(|_| AllocError)
+}
+
+/// What an actor does: it adds a sample of a series of this number, commits, deletes `{job="a"}` in a closed range,
+/// cuts, or asks for `{job="a"}` from 0 to 100.
 #[derive(Clone, Copy)]
 enum Act {
     Add(u32, i64, i64),
     Commit,
+    Delete(i64, i64),
+    Cut(i64),
     Ask,
+}
+
+fn deletion(alloc: Global, actor: usize, from: i64, to: i64) -> Result<Step, AllocError> {
+    let matchers = job_a(alloc)?;
+    if !Event::is_deletion(&matchers, from, to) {
+        return Err(AllocError);
+    }
+    Ok(Step::delete(actor, matchers, from, to))
+}
+
+fn cut(actor: usize, at: i64) -> Result<Step, AllocError> {
+    if !is_time(at) {
+        return Err(AllocError);
+    }
+    Ok(Step::cut(actor, at))
 }
 
 fn step_of(alloc: Global, actor: usize, act: Act) -> Result<Step, AllocError> {
@@ -57,6 +85,8 @@ fn step_of(alloc: Global, actor: usize, act: Act) -> Result<Step, AllocError> {
             Sample::new(t, v),
         )),
         Act::Commit => Ok(Step::commit(actor)),
+        Act::Delete(from, to) => deletion(alloc, actor, from, to),
+        Act::Cut(at) => cut(actor, at),
         Act::Ask => Ok(Step::query(actor, query(alloc)?)),
     }
 }
@@ -83,19 +113,45 @@ fn text_of(alloc: Global, reply: &Reply) -> Result<String, AllocError> {
     }
 }
 
-/// The replies to these steps in an empty store, each but `done` on a line.
-fn told(alloc: Global, acts: &[(usize, Act)]) -> Result<String, AllocError> {
-    let opening = Snapshot::opening(alloc, Vec::new(alloc))?;
-    let mut steps = Vec::new(alloc);
+fn push_steps(
+    alloc: Global,
+    steps: &mut Vec<Step>,
+    acts: &[(usize, Act)],
+) -> Result<(), AllocError> {
     for (actor, act) in acts {
         steps.push(step_of(alloc, *actor, *act)?)?;
     }
-    let mut text = String::new(alloc);
-    for reply in &run(alloc, &opening, steps.as_slice())? {
+    Ok(())
+}
+
+fn put_replies(alloc: Global, text: &mut String, replies: &[Reply]) -> Result<(), AllocError> {
+    for reply in replies {
         text.push_str(text_of(alloc, reply)?.as_str())?;
         text.push_str("\n")?;
     }
+    Ok(())
+}
+
+/// The replies to the later of these steps in an empty store, each on a line.
+fn told_after(
+    alloc: Global,
+    before: &[(usize, Act)],
+    acts: &[(usize, Act)],
+) -> Result<String, AllocError> {
+    let opening = Snapshot::opening(alloc, Vec::new(alloc))?;
+    let mut steps = Vec::new(alloc);
+    push_steps(alloc, &mut steps, before)?;
+    push_steps(alloc, &mut steps, acts)?;
+    let replies = run(alloc, &opening, steps.as_slice())?;
+    let (_, replies) = replies.as_slice().split_at(before.len().min(replies.len()));
+    let mut text = String::new(alloc);
+    put_replies(alloc, &mut text, replies)?;
     Ok(text)
+}
+
+/// The replies to these steps in an empty store, each on a line.
+fn told(alloc: Global, acts: &[(usize, Act)]) -> Result<String, AllocError> {
+    told_after(alloc, &[], acts)
 }
 
 #[test]

@@ -56,7 +56,7 @@ module _ (opening : SnapshotParts) (query : QueryView) (before after : Known) (a
   answer_after empty h events = record {
     snapshot = h.snapshot;
     replayed = ap (λ (s : SnapshotParts). replayed most (world_of s) demo_events) empty
-        ∙ (ap (replayed most (world_of opening)) (sym events) ∙ h.replay.0);
+        ∙ (ap (replayed most (world_of opening)) (sym events) ∙ h.replay.replay);
     audited = record {
       each = h.parts;
       rows = subst (λ (c : Content). AreRows answer.rows.items (asked_of c query))

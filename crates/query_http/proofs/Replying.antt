@@ -9,6 +9,7 @@ use Rattle.head.specs.declared.error.CommitError.{CommitError}
 use Rattle.head.specs.declared.error.CommitError.TheVariants.{Memory}
 use Rattle.snapshots.specs.Replays.{IsRefusedAfter, IsOfSeatOrMemory}
 use Rattle.snapshots.specs.Views.{Known}
+use Rattle.snapshots.proofs.Replaying.{after-none}
 use Rattle.requests.specs.declared.refusal.Cause.{Cause}
 use Rattle.requests.specs.declared.refusal.Refusal.TheVariants.{Refused}
 use Rattle.requests.specs.declared.status.Status.{Status}
@@ -40,7 +41,7 @@ answer_replied opening query before after answer (Err e) h number spelled = tt
 -- where a refusal is the seat's or memory's, and not memory's, it is that of the store's opening too
 pub seat_refused : (opening : SnapshotParts) (event : Event) (error : CommitError) → IsOfSeatOrMemory error → error ≢ Memory
     → IsRefusedAfter opening error event
-seat_refused opening event error (inl e) other = ([], opening, (refl, λ _. refl), λ seat. absurd (seat e))
+seat_refused opening event error (inl e) other = ([], opening, after-none opening, λ seat. absurd (seat e))
 seat_refused opening event error (inr e) other = absurd (other e)
 
 pub conflict_replied : {E : Type 0} (opening : SnapshotParts) (event : Event) (before after : Worker) (error : CommitError) (result : Result Reply E)

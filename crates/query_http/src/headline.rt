@@ -15,8 +15,9 @@ use std::alloc::Global;
 /// The list of events that the pass has seen then begins with all that it had seen, and with the
 /// list of each receipt that it learnt. The rows are exactly those of what this list makes of the
 /// opening's content, restricted to the matchers and the range. Each part of that snapshot is told
-/// of, with the certificate that shows its rows to be all. `S1` where there is no snapshot, and
-/// memory; then the pass knows no less than before. It waits for nobody.
+/// of, with the certificate that shows its rows to be all; its first blocks are those that the
+/// store opened with, each with its range, its references and its label sets. `S1` where there is
+/// no snapshot, and memory; then the pass knows no less than before. It waits for nobody.
 pub fn ask<J: Naming>(
     alloc: Global,
     pass: &mut Pass<J>,
