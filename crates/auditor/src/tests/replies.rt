@@ -7,37 +7,106 @@ use cover::{Interval, PartAnswer, Verdict};
 use labels::{Row, SeriesRef};
 use postings::PartName;
 use std::alloc::Global;
-use std::test::Fail;
 
 /// The answer of an empty store to `up{job="a"}`.
 const EMPTY: &str =
     r#"{"parts":[{"intervals":[],"part":"head","rows":[],"separators":[]}],"rows":[]}"#;
 
+/// A text in pieces.
+type Pieces = &'static [&'static str];
+
 /// The intervals of the head of six series: those of `up` with `job="a"` at 1 and 6.
-const HEAD_INTERVALS: &str =
-    r#"{"from":1,"until":2,"verdict":"match"},{"from":2,"until":4,"verdict":1},{"from":4,"until":6,"verdict":0},{"from":6,"until":4294967296,"verdict":"match"}"#;
+const HEAD_BEGIN: Pieces = &[
+    r#"{"intervals":[{"from":1,"until":2,"verdict":"match"},{"from":2,"until":4,"verdict":1},"#,
+    r#"{"from":4,"until":6,"verdict":0},{"from":6,"until":4294967296,"verdict":"match"}],"#,
+    r#""part":"head","rows":["#,
+];
 
-/// Both rows, with samples at 10 and 20.
-const ROWS: &str =
-    r#"{"labels":{"__name__":"up","job":"a"},"samples":[[10,1],[20,1]]},{"labels":{"__name__":"up","job":"a","zone":"x"},"samples":[[10,6],[20,6]]}"#;
+const HEAD_END: Pieces = &[r#"],"separators":[1,2,4,6]}"#];
 
-/// What is said of block 0, with the samples at 10.
-const BLOCK: &str =
-    r#"{"intervals":[{"from":4,"until":6,"verdict":0},{"from":6,"until":7,"verdict":"match"},{"from":7,"until":8,"verdict":"match"},{"from":8,"until":4294967296,"verdict":1}],"part":"block 0","rows":[{"labels":{"__name__":"up","job":"a"},"samples":[[10,1]]},{"labels":{"__name__":"up","job":"a","zone":"x"},"samples":[[10,6]]}],"separators":[4,6,7,8]}"#;
+const UP_A: &str = r#"{"labels":{"__name__":"up","job":"a"},"samples":"#;
 
-/// The same without its first separator.
-const UNSEPARATED: &str =
-    r#"{"intervals":[{"from":4,"until":6,"verdict":0},{"from":6,"until":7,"verdict":"match"},{"from":7,"until":8,"verdict":"match"},{"from":8,"until":4294967296,"verdict":1}],"part":"block 0","rows":[{"labels":{"__name__":"up","job":"a"},"samples":[[10,1]]},{"labels":{"__name__":"up","job":"a","zone":"x"},"samples":[[10,6]]}],"separators":[6,7,8]}"#;
+const UP_A_X: &str = r#"{"labels":{"__name__":"up","job":"a","zone":"x"},"samples":"#;
 
-/// The same as the first, its first run split.
-const SPLIT: &str =
-    r#"{"intervals":[{"from":4,"until":5,"verdict":0},{"from":5,"until":6,"verdict":0},{"from":6,"until":7,"verdict":"match"},{"from":7,"until":8,"verdict":"match"},{"from":8,"until":4294967296,"verdict":1}],"part":"block 0","rows":[{"labels":{"__name__":"up","job":"a"},"samples":[[10,1]]},{"labels":{"__name__":"up","job":"a","zone":"x"},"samples":[[10,6]]}],"separators":[4,5,6,7,8]}"#;
+/// Both rows, with samples at 10, at 20 and at both.
+const ROWS_AT_10: Pieces = &[UP_A, "[[10,1]]},", UP_A_X, "[[10,6]]}"];
 
-const SKIPPED: &str = r#"{"part":"block 0","skipped":true}"#;
+const ROWS_AT_20: Pieces = &[UP_A, "[[20,1]]},", UP_A_X, "[[20,6]]}"];
 
-/// What is said of the head, with the samples at 20.
-const HEAD: &str =
-    r#"{"intervals":[{"from":1,"until":2,"verdict":"match"},{"from":2,"until":4,"verdict":1},{"from":4,"until":6,"verdict":0},{"from":6,"until":4294967296,"verdict":"match"}],"part":"head","rows":[{"labels":{"__name__":"up","job":"a"},"samples":[[20,1]]},{"labels":{"__name__":"up","job":"a","zone":"x"},"samples":[[20,6]]}],"separators":[1,2,4,6]}"#;
+const ROWS: Pieces = &[UP_A, "[[10,1],[20,1]]},", UP_A_X, "[[10,6],[20,6]]}"];
+
+const PARTS: Pieces = &["{\"parts\":["];
+
+const AND_ROWS: Pieces = &["],\"rows\":["];
+
+const END: Pieces = &["]}"];
+
+const COMMA: Pieces = &[","];
+
+/// The head's answer and rows of all, both with samples at 10 and 20.
+const HEAD_ALONE: &[Pieces] = &[PARTS, HEAD_BEGIN, ROWS, HEAD_END, AND_ROWS, ROWS, END];
+
+/// The certificate of block 0.
+const BLOCK_BEGIN: Pieces = &[
+    r#"{"intervals":[{"from":4,"until":6,"verdict":0},"#,
+    r#"{"from":6,"until":7,"verdict":"match"},{"from":7,"until":8,"verdict":"match"},"#,
+    r#"{"from":8,"until":4294967296,"verdict":1}],"part":"block 0","rows":["#,
+];
+
+/// The same, its first run split.
+const SPLIT_BEGIN: Pieces = &[
+    r#"{"intervals":[{"from":4,"until":5,"verdict":0},{"from":5,"until":6,"verdict":0},"#,
+    r#"{"from":6,"until":7,"verdict":"match"},{"from":7,"until":8,"verdict":"match"},"#,
+    r#"{"from":8,"until":4294967296,"verdict":1}],"part":"block 0","rows":["#,
+];
+
+const BLOCK_END: Pieces = &[r#"],"separators":[4,6,7,8]}"#];
+
+/// The same without its first.
+const UNSEPARATED_END: Pieces = &[r#"],"separators":[6,7,8]}"#];
+
+const SPLIT_END: Pieces = &[r#"],"separators":[4,5,6,7,8]}"#];
+
+const BLOCK: &[Pieces] = &[BLOCK_BEGIN, ROWS_AT_10, BLOCK_END, COMMA];
+
+const UNSEPARATED: &[Pieces] = &[BLOCK_BEGIN, ROWS_AT_10, UNSEPARATED_END, COMMA];
+
+const SPLIT: &[Pieces] = &[SPLIT_BEGIN, ROWS_AT_10, SPLIT_END, COMMA];
+
+/// The split with the separators of the whole.
+const SPLIT_UNSEPARATED: &[Pieces] = &[SPLIT_BEGIN, ROWS_AT_10, BLOCK_END, COMMA];
+
+const SKIPPED: &[Pieces] = &[&[r#"{"part":"block 0","skipped":true},"#]];
+
+/// Block 0 twice: answered, and skipped.
+const TWICE: &[Pieces] = &[
+    BLOCK_BEGIN,
+    ROWS_AT_10,
+    BLOCK_END,
+    COMMA,
+    &[r#"{"part":"block 0","skipped":true},"#],
+];
+
+/// What follows the blocks: the head, with samples at 20, and the rows of all.
+const REST: &[Pieces] = &[HEAD_BEGIN, ROWS_AT_20, HEAD_END, AND_ROWS, ROWS, END];
+
+fn push_all(text: &mut String, pieces: &[Pieces]) -> Option<()> {
+    for group in pieces {
+        for piece in *group {
+            text.push_str(piece).ok()?;
+        }
+    }
+    Some(())
+}
+
+/// The reply of the text with all these pieces.
+fn reply_of(alloc: Global, begin: &[Pieces], blocks: &[Pieces], rest: &[Pieces]) -> Option<Reply> {
+    let mut text = String::new(alloc);
+    push_all(&mut text, begin)?;
+    push_all(&mut text, blocks)?;
+    push_all(&mut text, rest)?;
+    Reply::read(alloc, text.as_bytes()).ok()
+}
 
 fn is_bad(alloc: Global, text: &str) -> bool {
     match Reply::read(alloc, text.as_bytes()) {
@@ -46,13 +115,30 @@ fn is_bad(alloc: Global, text: &str) -> bool {
     }
 }
 
-/// Whether the text of one part is a bad reply.
-fn is_bad_part(alloc: Global, part: &str) -> Result<bool, Fail> {
-    let text = format!(in alloc; "{{\"parts\":[{part}],\"rows\":[]}}")?;
-    Ok(is_bad(alloc, text.as_str()))
+/// Whether a text with these two around it is a bad reply, or there is no memory.
+fn is_bad_between(alloc: Global, before: &str, middle: &str, after: &str) -> bool {
+    match format!(in alloc; "{before}{middle}{after}") {
+        Ok(text) => is_bad(alloc, text.as_str()),
+        Err(_) => false,
+    }
 }
 
-const BAD: [&str; 12] = [
+/// Whether the text of one part is a bad reply.
+fn is_bad_part(alloc: Global, part: &str) -> bool {
+    is_bad_between(alloc, "{\"parts\":[", part, "],\"rows\":[]}")
+}
+
+fn is_bad_row(alloc: Global, labels: &str) -> bool {
+    let after = ",\"samples\":[]}]}";
+    is_bad_between(alloc, "{\"parts\":[],\"rows\":[{\"labels\":", labels, after)
+}
+
+fn is_bad_interval(alloc: Global, interval: &str) -> bool {
+    let after = "],\"part\":\"head\",\"rows\":[],\"separators\":[]}],\"rows\":[]}";
+    is_bad_between(alloc, "{\"parts\":[{\"intervals\":[", interval, after)
+}
+
+const BAD: &[&str] = &[
     "",
     "null",
     "[]",
@@ -67,7 +153,7 @@ const BAD: [&str; 12] = [
     "{\"parts\":[],\"rows\":[{\"labels\":{},\"samples\":[],\"more\":1}]}",
 ];
 
-const BAD_LABELS: [&str; 5] = [
+const BAD_LABELS: &[&str] = &[
     "[]",
     "{\"a\":1}",
     "{\"a\":\"\"}",
@@ -75,7 +161,7 @@ const BAD_LABELS: [&str; 5] = [
     "{\"\":\"a\"}",
 ];
 
-const BAD_PARTS: [&str; 10] = [
+const BAD_PARTS: &[&str] = &[
     "{\"part\":\"block 0\",\"skipped\":false}",
     "{\"part\":\"block 0\",\"skipped\":1}",
     "{\"part\":\"head\",\"skipped\":true}",
@@ -88,7 +174,7 @@ const BAD_PARTS: [&str; 10] = [
     "{\"part\":\"block 0\",\"rows\":[],\"skipped\":true}",
 ];
 
-const BAD_INTERVALS: [&str; 7] = [
+const BAD_INTERVALS: &[&str] = &[
     "{\"from\":4294967296,\"until\":4294967296,\"verdict\":0}",
     "{\"from\":-1,\"until\":1,\"verdict\":0}",
     "{\"from\":0,\"until\":18446744073709551616,\"verdict\":0}",
@@ -99,33 +185,16 @@ const BAD_INTERVALS: [&str; 7] = [
 ];
 
 #[test]
-fn other_texts_are_bad_replies(rt: HostRuntime) -> Result<(), Fail> {
+fn other_texts_are_bad_replies(rt: HostRuntime) {
     let alloc = rt.alloc();
-    for text in BAD {
-        assert!(rt; is_bad(alloc, text));
-    }
-    for part in BAD_PARTS {
-        assert!(rt; is_bad_part(alloc, part)?);
-    }
-    Ok(())
-}
-
-#[test]
-fn other_pieces_are_bad_replies(rt: HostRuntime) -> Result<(), Fail> {
-    let alloc = rt.alloc();
-    for labels in BAD_LABELS {
-        let text = format!(in alloc;
-            "{{\"parts\":[],\"rows\":[{{\"labels\":{labels},\"samples\":[]}}]}}"
-        )?;
-        assert!(rt; is_bad(alloc, text.as_str()));
-    }
-    for one in BAD_INTERVALS {
-        let part = format!(in alloc;
-            "{{\"intervals\":[{one}],\"part\":\"head\",\"rows\":[],\"separators\":[]}}"
-        )?;
-        assert!(rt; is_bad_part(alloc, part.as_str())?);
-    }
-    Ok(())
+    assert!(rt; BAD.iter().all(|text| is_bad(alloc, text)));
+    assert!(rt; BAD_PARTS.iter().all(|part| is_bad_part(alloc, part)));
+    assert!(rt; BAD_LABELS.iter().all(|labels| is_bad_row(alloc, labels)));
+    assert!(rt;
+        BAD_INTERVALS
+            .iter()
+            .all(|interval| is_bad_interval(alloc, interval))
+    );
 }
 
 #[test]
@@ -140,19 +209,6 @@ fn members_stand_in_any_order_and_the_last_counts(rt: HostRuntime) {
     assert!(rt; is_bad(alloc, "{\"rows\":[],\"rows\":1,\"parts\":[]}"));
 }
 
-#[test]
-fn an_empty_answer_is_read(rt: HostRuntime) -> Result<(), Fail> {
-    let alloc = rt.alloc();
-    assert_eq!(rt; EMPTY.len(), 78);
-    let reply = Reply::read(alloc, EMPTY.as_bytes())?;
-    assert!(rt; reply.rows.is_empty());
-    assert_eq!(rt; reply.parts.len(), 1);
-    for part in &reply.parts {
-        assert!(rt; is_empty_head(part));
-    }
-    Ok(())
-}
-
 fn is_empty_head(part: &ToldPart) -> bool {
     match part {
         ToldPart::Searched(answer) => answer.part == PartName::Head
@@ -161,6 +217,17 @@ fn is_empty_head(part: &ToldPart) -> bool {
             && answer.cover.separators.is_empty(),
         ToldPart::Skipped(_) => false,
     }
+}
+
+fn is_empty_reply(reply: &Reply) -> bool {
+    reply.rows.is_empty() && reply.parts.len() == 1 && reply.parts.iter().all(is_empty_head)
+}
+
+#[test]
+fn an_empty_answer_is_read(rt: HostRuntime) {
+    assert_eq!(rt; EMPTY.len(), 78);
+    let reply = Reply::read(rt.alloc(), EMPTY.as_bytes());
+    assert!(rt; reply.is_ok_and(|reply| is_empty_reply(&reply)));
 }
 
 fn has_intervals(answer: &PartAnswer, intervals: Intervals<'_>) -> bool {
@@ -211,76 +278,131 @@ fn is_worked_head(part: &ToldPart, rows: &[Row]) -> bool {
     }
 }
 
-fn worked_rows(alloc: Global) -> Result<Vec<Row>, Fail> {
+fn row(alloc: Global, pairs: &[(&str, &str)], value: i64) -> Option<Row> {
+    row_of(alloc, pairs, &[(10, value), (20, value)])
+}
+
+fn worked_rows(alloc: Global) -> Option<Vec<Row>> {
     let mut rows = Vec::new(alloc);
-    let labels = [("__name__", "up"), ("job", "a")];
-    rows.push(row_of(alloc, &labels, &[(10, 1), (20, 1)])?)?;
-    let labels = [("__name__", "up"), ("job", "a"), ("zone", "x")];
-    rows.push(row_of(alloc, &labels, &[(10, 6), (20, 6)])?)?;
-    Ok(rows)
+    rows.push(row(alloc, &[("__name__", "up"), ("job", "a")], 1)?)
+        .ok()?;
+    rows.push(row(alloc, &[("__name__", "up"), ("job", "a"), ("zone", "x")], 6)?)
+        .ok()?;
+    Some(rows)
 }
 
-#[test]
-fn the_worked_answer_is_read(rt: HostRuntime) -> Result<(), Fail> {
-    let alloc = rt.alloc();
-    let text = format!(in alloc;
-        "{{\"parts\":[{{\"intervals\":[{}],\"part\":\"head\",\"rows\":[{}],\"separators\":[1,2,4,6]}}],\"rows\":[{}]}}",
-        HEAD_INTERVALS, ROWS, ROWS
-    )?;
-    let reply = Reply::read(alloc, text.as_bytes())?;
+fn is_worked_reply(alloc: Global) -> Option<bool> {
+    let reply = reply_of(alloc, HEAD_ALONE, &[], &[])?;
     let rows = worked_rows(alloc)?;
-    assert!(rt; same_rows(reply.rows.as_slice(), rows.as_slice()));
-    assert_eq!(rt; reply.parts.len(), 1);
-    for part in &reply.parts {
-        assert!(rt; is_worked_head(part, rows.as_slice()));
-    }
-    Ok(())
+    let told = reply
+        .parts
+        .iter()
+        .all(|part| is_worked_head(part, rows.as_slice()));
+    let same = same_rows(reply.rows.as_slice(), rows.as_slice());
+    Some(told && same && reply.parts.len() == 1)
 }
 
-/// The lines of a reply with these parts and both rows, over these blocks.
-fn lines(alloc: Global, blocks: &[BlockTable], parts: &str) -> Result<String, Fail> {
-    let text = format!(in alloc; "{{\"parts\":[{parts}],\"rows\":[{}]}}", ROWS)?;
-    let reply = Reply::read(alloc, text.as_bytes())?;
+#[test]
+fn the_worked_answer_is_read(rt: HostRuntime) {
+    assert_eq!(rt; is_worked_reply(rt.alloc()), Some(true));
+}
+
+/// The lines of a reply with these blocks, the head and both rows.
+fn lines(alloc: Global, tables: &[BlockTable], blocks: &[Pieces]) -> Option<String> {
+    let reply = reply_of(alloc, &[PARTS], blocks, REST)?;
     let query = query(alloc, 0, 100)?;
-    let lines = judge(alloc, blocks, &query, reply)?;
-    Ok(lines_text(alloc, lines.as_slice())?)
+    let lines = judge(alloc, tables, &query, reply).ok()?;
+    lines_text(alloc, lines.as_slice()).ok()
 }
 
-#[test]
-fn each_part_has_its_line(rt: HostRuntime) -> Result<(), Fail> {
-    let alloc = rt.alloc();
-    let mut blocks = Vec::new(alloc);
-    blocks.push(BlockTable::Walked(worked_table(alloc)?))?;
-    let rows = [
-        (BLOCK, "block 0: valid\nhead: skipped\nrows: valid\n"),
-        (UNSEPARATED, "block 0: F4\nhead: skipped\nrows: valid\n"),
-        (SPLIT, "block 0: F5 at 0\nhead: skipped\nrows: valid\n"),
-        (SKIPPED, "block 0: F9\nhead: skipped\nrows: F10\n"),
-    ];
-    for (block, told) in rows {
-        let parts = format!(in alloc; "{block},{}", HEAD)?;
-        let found = lines(alloc, blocks.as_slice(), parts.as_str())?;
-        assert_eq!(rt; found.as_str(), told);
+/// Of each block its refusal, or else that it is the worked block.
+fn tables(alloc: Global, known: &[Option<&'static str>]) -> Option<Vec<BlockTable>> {
+    let mut tables = Vec::new(alloc);
+    for refusal in known {
+        let table = match refusal {
+            Some(code) => BlockTable::Refused(code),
+            None => BlockTable::Walked(worked_table(alloc)?),
+        };
+        tables.push(table).ok()?;
     }
-    Ok(())
+    Some(tables)
+}
+
+/// Blocks of which some are refused, what a reply says of them, and its lines.
+type Lined = (
+    &'static [Option<&'static str>],
+    &'static [Pieces],
+    &'static str,
+);
+
+const LINED: &[Lined] = &[
+    (
+        &[None],
+        BLOCK,
+        "block 0: valid\nhead: skipped\nrows: valid\n",
+    ),
+    (
+        &[None],
+        UNSEPARATED,
+        "block 0: F4\nhead: skipped\nrows: valid\n",
+    ),
+    (
+        &[None],
+        SPLIT,
+        "block 0: F5 at 0\nhead: skipped\nrows: valid\n",
+    ),
+    (
+        &[None],
+        SPLIT_UNSEPARATED,
+        "block 0: F4\nhead: skipped\nrows: valid\n",
+    ),
+    (&[None], SKIPPED, "block 0: F9\nhead: skipped\nrows: F10\n"),
+    (&[None], &[], "head: skipped\nblock 0: F9\nrows: F10\n"),
+    (
+        &[None],
+        TWICE,
+        "block 0: valid\nblock 0: F9\nhead: skipped\nrows: valid\n",
+    ),
+    (&[], BLOCK, "block 0: skipped\nhead: skipped\nrows: valid\n"),
+    (&[], SKIPPED, "block 0: skipped\nhead: skipped\nrows: F10\n"),
+    (
+        &[Some("I9")],
+        BLOCK,
+        "block 0: refused I9\nhead: skipped\nrows: valid\n",
+    ),
+    (
+        &[Some("T5")],
+        SKIPPED,
+        "block 0: refused T5\nhead: skipped\nrows: F10\n",
+    ),
+    (
+        &[None, None],
+        BLOCK,
+        "block 0: valid\nhead: skipped\nblock 1: F9\nrows: valid\n",
+    ),
+    (
+        &[None, Some("C4")],
+        BLOCK,
+        "block 0: valid\nhead: skipped\nblock 1: refused C4\nrows: valid\n",
+    ),
+];
+
+fn is_lined(alloc: Global, lined: &Lined) -> Option<bool> {
+    let tables = tables(alloc, lined.0)?;
+    let found = lines(alloc, tables.as_slice(), lined.1)?;
+    Some(found.as_str() == lined.2)
+}
+
+fn are_lined(alloc: Global, rows: &[Lined]) -> bool {
+    for lined in rows {
+        if is_lined(alloc, lined) != Some(true) {
+            return false;
+        }
+    }
+    true
 }
 
 #[test]
-fn blocks_and_directories_that_do_not_meet(rt: HostRuntime) -> Result<(), Fail> {
-    let alloc = rt.alloc();
-    let mut blocks = Vec::new(alloc);
-    let both = format!(in alloc; "{},{}", BLOCK, HEAD)?;
-    let found = lines(alloc, blocks.as_slice(), both.as_str())?;
-    assert_eq!(rt;
-        found.as_str(),
-        "block 0: skipped\nhead: skipped\nrows: valid\n"
-    );
-    blocks.push(BlockTable::Refused("I9"))?;
-    blocks.push(BlockTable::Walked(worked_table(alloc)?))?;
-    let found = lines(alloc, blocks.as_slice(), both.as_str())?;
-    assert_eq!(rt;
-        found.as_str(),
-        "block 0: refused I9\nhead: skipped\nblock 1: F9\nrows: valid\n"
-    );
-    Ok(())
+fn each_part_has_its_line(rt: HostRuntime) {
+    assert!(rt; are_lined(rt.alloc(), LINED));
 }
