@@ -1,5 +1,6 @@
 -- What is said of a reply, and why nothing is.
-use Rattle.std.specs.Prelude.{◌≡◌, ℕ, ◌<◌, ◌≤◌, Bool, true, false, List, length, Option, None, Some, IfSome, string_bytes, if◌then◌else◌}
+use Rattle.std.specs.Prelude.{◌≡◌, ℕ, ◌<◌, ◌≤◌, Bool, true, false, List, length, Option, None, Some}
+use Rattle.std.specs.Prelude.{IfSome, string_bytes, if◌then◌else◌}
 use Rattle.std.specs.List.{list_any}
 use Rattle.matchers.specs.Grammar.{IsSelector}
 use Rattle.matchers.specs.Queries.{is_range}
@@ -18,7 +19,9 @@ use Rattle.auditor_program.specs.Reading.{Reads}
 use Rattle.auditor_program.specs.Walking.{AreTablesAt, IsFirstFault}
 use Rattle.auditor_program.specs.declared.command.Asked.{Asked}
 use Rattle.auditor_program.specs.declared.fault.Fault.{Fault}
-use Rattle.auditor_program.specs.declared.fault.Fault.TheVariants.{Words, Refused, CannotReadInput, BadReply, CannotRead, CannotWrite, Memory}
+use Rattle.auditor_program.specs.declared.fault.Fault.TheVariants.{Words, Refused, CannotReadInput}
+use Rattle.auditor_program.specs.declared.fault.Fault.TheVariants.{BadReply, CannotRead}
+use Rattle.auditor_program.specs.declared.fault.Fault.TheVariants.{CannotWrite, Memory}
 use Rattle.auditor_program.specs.declared.fault.Refusal.{Refusal}
 use Rattle.auditor_program.specs.declared.fault.Refusal.TheVariants.{Selector, Query}
 use Rattle.auditor_program.specs.declared.report.Outcome.{Outcome}
@@ -125,7 +128,8 @@ abbrev pub outcome_of : List Line → Outcome
 outcome_of lines = if has_fault lines then Flawed else Done
 
 -- the report is that of the lines of the reply to the query, over the blocks in the directories
-pub record IsReport (reads : Reads) (input : Option (List ℕ)) (asked : Asked) (report : Report) : Type 0 where
+pub record IsReport (reads : Reads) (input : Option (List ℕ)) (asked : Asked)
+    (report : Report) : Type 0 where
   pub query : QueryView
   pub is_asked : IsQueryOf asked query
   pub reply : Reply
@@ -147,10 +151,14 @@ IsWritingFault CannotReadInput = ⊥
 IsWritingFault BadReply = ⊥
 IsWritingFault (CannotRead path) = ⊥
 
--- Why an audit ends before its lines are written: by the query; by the reply, where the query is accepted; by the
--- directories, where there is a reply too; or by the writer, where there is a report.
-pub data IsAuditFault (reads : Reads) (input : Option (List ℕ)) (asked : Asked) (fault : Fault) : Type 0 where
+-- Why an audit ends before its lines are written: by the query; by the reply, where the query is
+-- accepted; by the directories, where there is a reply too; or by the writer, where there is a
+-- report.
+pub data IsAuditFault (reads : Reads) (input : Option (List ℕ)) (asked : Asked)
+    (fault : Fault) : Type 0 where
   by_query : IsSelectionFault asked fault → IsAuditFault reads input asked fault
   by_reply : IsAllowed asked → IsReplyFault input fault → IsAuditFault reads input asked fault
-  by_directories : IsAllowed asked → HoldsReply input → IsFirstFault reads (directories_of asked) fault → IsAuditFault reads input asked fault
-  by_writing : (report : Report) → IsReport reads input asked report → IsWritingFault fault → IsAuditFault reads input asked fault
+  by_directories : IsAllowed asked → HoldsReply input → IsFirstFault reads (directories_of asked)
+      fault → IsAuditFault reads input asked fault
+  by_writing : (report : Report) → IsReport reads input asked report → IsWritingFault fault
+      → IsAuditFault reads input asked fault

@@ -1,10 +1,13 @@
 -- What each fault ends the program with: its status, and the line that tells it.
-use Rattle.std.specs.Prelude.{ℕ, List, [], ◌∷◌, ◌++◌, Option, None, Some, codes, decimal, string_bytes}
+use Rattle.std.specs.Prelude.{ℕ, List, [], ◌∷◌, ◌++◌, Option, None, Some, codes, decimal}
+use Rattle.std.specs.Prelude.{string_bytes}
 use Rattle.matchers.specs.Errors.{query_code, selector_code}
 use Rattle.matchers.specs.declared.error.SelectorError.{SelectorError}
 use Rattle.matchers.specs.declared.error.SelectorError.TheVariants as selector
 use Rattle.auditor_program.specs.declared.fault.Fault.{Fault}
-use Rattle.auditor_program.specs.declared.fault.Fault.TheVariants.{Words, Refused, CannotReadInput, BadReply, CannotRead, CannotWrite, Memory}
+use Rattle.auditor_program.specs.declared.fault.Fault.TheVariants.{Words, Refused, CannotReadInput}
+use Rattle.auditor_program.specs.declared.fault.Fault.TheVariants.{BadReply, CannotRead}
+use Rattle.auditor_program.specs.declared.fault.Fault.TheVariants.{CannotWrite, Memory}
 use Rattle.auditor_program.specs.declared.fault.Refusal.{Refusal}
 use Rattle.auditor_program.specs.declared.fault.Refusal.TheVariants.{Selector, Query}
 

@@ -1,9 +1,12 @@
 -- What is read of the files of a directory.
-use Rattle.std.specs.Prelude.{◌≡◌, ℕ, List, [], ◌∷◌, ◌++◌, map, take, Option, None, Some, codes, string_bytes}
+use Rattle.std.specs.Prelude.{◌≡◌, ℕ, List, [], ◌∷◌, ◌++◌, map, take, Option, None, Some, codes}
+use Rattle.std.specs.Prelude.{string_bytes}
 use Rattle.std.specs.Borrow.{Bor}
 use Rattle.std.specs.List.{AllByRecursion}
 use Rattle.auditor_program.specs.declared.fault.Fault.{Fault}
-use Rattle.auditor_program.specs.declared.fault.Fault.TheVariants.{Words, Refused, CannotReadInput, BadReply, CannotRead, CannotWrite, Memory}
+use Rattle.auditor_program.specs.declared.fault.Fault.TheVariants.{Words, Refused, CannotReadInput}
+use Rattle.auditor_program.specs.declared.fault.Fault.TheVariants.{BadReply, CannotRead}
+use Rattle.auditor_program.specs.declared.fault.Fault.TheVariants.{CannotWrite, Memory}
 use Rattle.auditor_program.specs.declared.files.BlockFiles.{BlockFiles}
 use Rattle.auditor_program.specs.declared.files.FileName.{FileName}
 use Rattle.auditor_program.specs.declared.files.FileName.TheVariants.{Index, Chunks, Tombstones}
@@ -39,12 +42,13 @@ text_of Tombstones = codes "tombstones"
 abbrev pub path_of : List ℕ → FileName → List ℕ
 path_of directory name = directory ++ 47 ∷ text_of name
 
--- The bytes are those of a file of a directory. A file may have 1 GiB; of one that is longer they are the first that show
--- it.
-pub record IsRead (reads : Reads) (directory : List ℕ) (name : FileName) (bytes : List ℕ) : Type 0 where
-  pub file : List ℕ
-  pub found : reads (path_of directory name) (Some file)
-  pub first : bytes ≡ take 1073741825 file
+-- The bytes are those of a file of a directory. A file may have 1 GiB; of one that is longer they
+-- are the first that show it.
+pub record IsRead (reads : Reads) (directory : List ℕ) (name : FileName) (bytes : List ℕ) : Type 0
+  where
+    pub file : List ℕ
+    pub found : reads (path_of directory name) (Some file)
+    pub first : bytes ≡ take 1073741825 file
 
 -- the bytes of the files of a directory
 pub record AreRead (reads : Reads) (directory : List ℕ) (files : BlockFiles) : Type 0 where
@@ -58,13 +62,15 @@ pub record IsFound (reads : Reads) (directory : List ℕ) (name : FileName) : Ty
   pub found : reads (path_of directory name) (Some file)
 
 -- the path is that of a file of a directory, and nothing can be read there
-pub record IsUnreadAt (reads : Reads) (directory : List ℕ) (name : FileName) (path : List ℕ) : Type 0 where
+pub record IsUnreadAt (reads : Reads) (directory : List ℕ) (name : FileName)
+    (path : List ℕ) : Type 0 where
   pub is : path ≡ path_of directory name
   pub unread : reads path None
 
 -- why a file of a directory is not read
 abbrev pub IsFileFault : Reads → List ℕ → FileName → Fault → Type 0
-IsFileFault reads directory name (CannotRead path) = IsUnreadAt reads directory name (string_bytes path)
+IsFileFault reads directory name (CannotRead path) =
+    IsUnreadAt reads directory name (string_bytes path)
 IsFileFault reads directory name Memory = Unit {0}
 IsFileFault reads directory name CannotWrite = ⊥
 IsFileFault reads directory name CannotReadInput = ⊥

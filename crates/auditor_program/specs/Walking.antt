@@ -29,7 +29,8 @@ bytes_of files = record {
   tombstones = files.tombstones.items;
 }
 
--- what is known of a block with these files: the part that they spell, or the code of the first check that fails
+-- what is known of a block with these files: the part that they spell, or the code of the first
+-- check that fails
 abbrev pub IsTableOf : Files → BlockTable → Type 0
 IsTableOf files (Walked part) = IsWalked files.index files.chunks files.tombstones part
 IsTableOf files (Refused code) = IsRefusedAs files code.now
@@ -56,9 +57,11 @@ pub record IsFaultAt (reads : Reads) (directories : List (List ℕ)) (f : Fault)
   pub known : AreTablesAt reads before tables
   pub at : IsReadingFault reads directory f
 
--- why the blocks in directories are not known: by the first of them of which a file cannot be read, or by memory
+-- why the blocks in directories are not known: by the first of them of which a file cannot be read,
+-- or by memory
 abbrev pub IsFirstFault : Reads → List (List ℕ) → Fault → Type 0
-IsFirstFault reads directories (fault.CannotRead path) = IsFaultAt reads directories (fault.CannotRead path)
+IsFirstFault reads directories (fault.CannotRead path) =
+    IsFaultAt reads directories (fault.CannotRead path)
 IsFirstFault reads directories fault.Memory = Unit {0}
 IsFirstFault reads directories fault.CannotWrite = ⊥
 IsFirstFault reads directories fault.CannotReadInput = ⊥

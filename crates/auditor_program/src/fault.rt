@@ -75,8 +75,8 @@ pub enum Fault {
 }
 
 impl Fault {
-    /// The exit status: 1 for a refusal, 2 for a fault of the words, 3 for what cannot be read, for a text that is no
-    /// reply and for a writer that refused, 4 for no memory.
+    /// The exit status: 1 for a refusal, 2 for a fault of the words, 3 for what cannot be read, for
+    /// a text that is no reply and for a writer that refused, 4 for no memory.
     pub fn status(&self) -> u8
         ensures { result ≡ status_of self.now }
     {
@@ -89,10 +89,11 @@ impl Fault {
         }
     }
 
-    /// Tells the fault in a line, as `refused M4 at 7`, `bad reply` or `cannot read DIR/index`, or how the program is
-    /// used.
+    /// Tells the fault in a line, as `refused M4 at 7`, `bad reply` or `cannot read DIR/index`, or
+    /// how the program is used.
     pub fn tell<W: Write>(&self, to: &mut W) -> io::Result<()>
-        ensures { OnOk result (IfSome (line_of self.now) (Appends (W.contents to.old) (W.contents to.new))) }
+        ensures { OnOk result
+            (IfSome (line_of self.now) (Appends (W.contents to.old) (W.contents to.new))) }
     {
         match self {
             Fault::Refused(refusal) => writeln!(to, "refused {refusal}"),

@@ -1,7 +1,9 @@
 //! The files of a block, read from the host's file system or from memory.
 
-ghost use Rattle.std.specs.Prelude.{◌≡◌, ◌≤◌, ◌+◌, ℕ, List, Option, length, take, string_bytes, IfOk, IfErr, IfSome};
-ghost use Rattle.auditor_program.specs.Reading.{path_of, text_of, AreFirst, AreRead, IsRead, IsReadFailure, IsFileFault, IsReadingFault};
+ghost use Rattle.std.specs.Prelude.{◌≡◌, ◌≤◌, ◌+◌, ℕ, List, Option, length, take, string_bytes};
+ghost use Rattle.std.specs.Prelude.{IfOk, IfErr, IfSome};
+ghost use Rattle.auditor_program.specs.Reading.{path_of, text_of, AreFirst, AreRead, IsRead};
+ghost use Rattle.auditor_program.specs.Reading.{IsReadFailure, IsFileFault, IsReadingFault};
 
 use crate::fault::Fault;
 use std::alloc::{AllocError, Global};
@@ -92,7 +94,8 @@ impl FileName {
     }
 }
 
-/// The bytes of the files of a block. Of a file that is longer than it may be, they are the first that show it.
+/// The bytes of the files of a block. Of a file that is longer than it may be, they are the first
+/// that show it.
 #[derive(Drop)]
 pub struct BlockFiles {
     pub index: Vec<u8>,
@@ -125,8 +128,8 @@ fn read_one<F: ReadFiles>(
     }
 }
 
-/// Reads the files of the block in a directory, each once: the index, the chunks and the tombstones, up to the
-/// first that cannot be read.
+/// Reads the files of the block in a directory, each once: the index, the chunks and the
+/// tombstones, up to the first that cannot be read.
 pub fn read_block<F: ReadFiles>(
     alloc: Global,
     files: &F,

@@ -1,10 +1,11 @@
-//! The program `auditor`: it reads a reply from standard input and the files of blocks from disk, and says whether the
-//! reply is right. It trusts nothing of the store that sent it.
+//! The program `auditor`: it reads a reply from standard input and the files of blocks from disk,
+//! and says whether the reply is right. It trusts nothing of the store that sent it.
 //!
-//! `auditor --selector S [--from N] [--to N] [DIR]...` prints a line for each part of the reply, for each block that no
-//! part names, and for the rows of all (`run`). `command` says what the words ask for, `input` reads the reply, `files`
-//! the files in a directory, and `tables` what is known of their blocks; `report` makes the lines, and `fault` says why
-//! there are none. The audit itself is the library `auditor`, whose definitions say what each line means.
+//! `auditor --selector S [--from N] [--to N] [DIR]...` prints a line for each part of the reply,
+//! for each block that no part names, and for the rows of all (`run`). `command` says what the
+//! words ask for, `input` reads the reply, `files` the files in a directory, and `tables` what is
+//! known of their blocks; `report` makes the lines, and `fault` says why there are none. The audit
+//! itself is the library `auditor`, whose definitions say what each line means.
 #![tactic(auto)]
 
 mod command;

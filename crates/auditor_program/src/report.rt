@@ -1,7 +1,8 @@
 //! What is said of a reply.
 
 ghost use Rattle.std.specs.Prelude.{◌≡◌, IfOk, IfErr};
-ghost use Rattle.auditor_program.specs.Auditing.{has_fault, outcome_of, IsQueryOf, IsSelectionFault, IsReport, IsAuditFault};
+ghost use Rattle.auditor_program.specs.Auditing.{has_fault, outcome_of, IsQueryOf};
+ghost use Rattle.auditor_program.specs.Auditing.{IsSelectionFault, IsReport, IsAuditFault};
 
 use crate::command::Asked;
 use crate::fault::Fault;
@@ -62,16 +63,19 @@ fn outcome_of(lines: &[Line]) -> Outcome
 
 /// Audits the reply that a reader gives, over the blocks in the directories.
 ///
-/// The selector is checked, then the range; then the reply is read, to its end, and then the files in each directory, in
-/// the order given. All files and the reply are read before anything is judged.
+/// The selector is checked, then the range; then the reply is read, to its end, and then the files
+/// in each directory, in the order given. All files and the reply are read before anything is
+/// judged.
 pub fn audit<F: ReadFiles, R: Read>(
     alloc: Global,
     files: &F,
     asked: &Asked<'_>,
     input: &mut R,
 ) -> Result<Report, Fault>
-    ensures ok { IfOk result (λ report. IsReport (F.may_read files.now) (R.remaining input.old) asked.now report) }
-    ensures err { IfErr result (λ fault. IsAuditFault (F.may_read files.now) (R.remaining input.old) asked.now fault) }
+    ensures ok { IfOk result
+        (λ report. IsReport (F.may_read files.now) (R.remaining input.old) asked.now report) }
+    ensures err { IfErr result
+        (λ fault. IsAuditFault (F.may_read files.now) (R.remaining input.old) asked.now fault) }
 {
     let query = query_of(alloc, asked)?;
     let reply = reply_in(alloc, input)?;

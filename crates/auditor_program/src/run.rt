@@ -3,7 +3,8 @@
 ghost use Rattle.std.specs.Prelude.{◌≡◌, ◌≤◌, OnOk};
 ghost use Rattle.std.specs.Io.KnownBytes.{Appends, Keeps};
 ghost use Rattle.auditor_program.specs.Asking.{texts_of, AreTaken};
-ghost use Rattle.auditor_program.specs.Running.{IsAuditEnd, IsEnd, IsNoAudit, IsTold, HasEnded, status_at};
+ghost use Rattle.auditor_program.specs.Running.{IsAuditEnd, IsEnd, IsNoAudit, IsTold, HasEnded};
+ghost use Rattle.auditor_program.specs.Running.{status_at};
 
 use crate::command::{Asked, read_words};
 use crate::fault::Fault;
@@ -29,7 +30,8 @@ fn write_audit<F: ReadFiles, R: Read, W: Write>(
     input: &mut R,
     out: &mut W,
 ) -> Result<Outcome, Fault>
-    ensures { IsAuditEnd (F.may_read files.now) (R.remaining input.old) asked.now (W.contents out.old) (W.contents out.new) result }
+    ensures { IsAuditEnd (F.may_read files.now) (R.remaining input.old) asked.now
+        (W.contents out.old) (W.contents out.new) result }
 {
     let report = audit(alloc, files, asked, input)?;
     send(out, report.text.as_bytes())?;
@@ -43,7 +45,9 @@ fn execute<F: ReadFiles, R: Read, W: Write>(
     input: &mut R,
     out: &mut W,
 ) -> Result<Outcome, Fault>
-    ensures ends { AreTaken (texts_of words.now) → IsEnd (F.may_read files.now) (R.remaining input.old) (texts_of words.now) (W.contents out.old) (W.contents out.new) result }
+    ensures ends { AreTaken (texts_of words.now)
+        → IsEnd (F.may_read files.now) (R.remaining input.old) (texts_of words.now)
+        (W.contents out.old) (W.contents out.new) result }
     ensures no_audit { (AreTaken (texts_of words.now) → ⊥) → IsNoAudit result }
 {
     match read_words(alloc, words) {
@@ -87,13 +91,15 @@ fn tell<E: Write>(end: &Result<Outcome, Fault>, to: &mut E) -> io::Result<()>
     }
 }
 
-/// Audits the reply that a reader gives, as the words after the program's name ask for it, writes the lines, and gives
-/// the exit status. Where it ends before that is done, it tells why on the second writer.
+/// Audits the reply that a reader gives, as the words after the program's name ask for it, writes
+/// the lines, and gives the exit status. Where it ends before that is done, it tells why on the
+/// second writer.
 ///
-/// 0 where nothing is wrong; 1 where a line names a flaw or a refusal, and for a selector or a range that is refused; 2
-/// for a fault of the words, with the usage on the second writer; 3 for what cannot be read, which is named there, for a
-/// text that is no reply, and where the first writer fails; 4 where memory does. The words come first, then the
-/// selector, the range, the reply, and the directories in the order given. Nothing is written before all is judged.
+/// 0 where nothing is wrong; 1 where a line names a flaw or a refusal, and for a selector or a
+/// range that is refused; 2 for a fault of the words, with the usage on the second writer; 3 for
+/// what cannot be read, which is named there, for a text that is no reply, and where the first
+/// writer fails; 4 where memory does. The words come first, then the selector, the range, the
+/// reply, and the directories in the order given. Nothing is written before all is judged.
 pub fn run<F: ReadFiles, R: Read, W: Write, E: Write>(
     alloc: Global,
     files: &F,
@@ -102,7 +108,8 @@ pub fn run<F: ReadFiles, R: Read, W: Write, E: Write>(
     out: &mut W,
     err: &mut E,
 ) -> Ending
-    ensures ended { HasEnded (F.may_read files.now) (R.remaining input.old) (texts_of words.now) (W.contents out.old) (W.contents out.new) (E.contents err.old) (E.contents err.new) result }
+    ensures ended { HasEnded (F.may_read files.now) (R.remaining input.old) (texts_of words.now)
+        (W.contents out.old) (W.contents out.new) (E.contents err.old) (E.contents err.new) result }
     ensures few { result.status ≤ 4 }
     ensures nothing_told { result.status ≡ 0 → Keeps (E.contents err.old) (E.contents err.new) }
 {

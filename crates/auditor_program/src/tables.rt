@@ -2,7 +2,8 @@
 
 ghost use Rattle.std.specs.Prelude.{IfOk, IfErr};
 ghost use Rattle.auditor_program.specs.Reading.{paths_of, IsReadingFault};
-ghost use Rattle.auditor_program.specs.Walking.{bytes_of, IsTableOf, IsTableAt, AreTablesAt, IsFirstFault};
+ghost use Rattle.auditor_program.specs.Walking.{bytes_of, IsTableOf, IsTableAt, AreTablesAt};
+ghost use Rattle.auditor_program.specs.Walking.{IsFirstFault};
 
 use crate::fault::Fault;
 use crate::files::{BlockFiles, ReadFiles, read_block};
@@ -34,7 +35,8 @@ fn table_at<F: ReadFiles>(alloc: Global, files: &F, directory: &str) -> Result<B
     Ok(table_of(alloc, block)?)
 }
 
-/// What is known of the blocks in these directories, in their order, up to the first that cannot be read.
+/// What is known of the blocks in these directories, in their order, up to the first that cannot be
+/// read.
 ///
 /// A block whose files are refused is none that cannot be read: its refusal is kept.
 pub fn tables_at<F: ReadFiles>(
@@ -42,8 +44,10 @@ pub fn tables_at<F: ReadFiles>(
     files: &F,
     directories: &[&str],
 ) -> Result<Vec<BlockTable>, Fault>
-    ensures ok { IfOk result (λ tables. AreTablesAt (F.may_read files.now) (paths_of directories.now) tables.items) }
-    ensures err { IfErr result (λ fault. IsFirstFault (F.may_read files.now) (paths_of directories.now) fault) }
+    ensures ok { IfOk result
+        (λ tables. AreTablesAt (F.may_read files.now) (paths_of directories.now) tables.items) }
+    ensures err { IfErr result
+        (λ fault. IsFirstFault (F.may_read files.now) (paths_of directories.now) fault) }
 {
     let mut tables = Vec::new(alloc);
     for directory in directories {

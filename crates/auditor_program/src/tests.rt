@@ -1,60 +1,19 @@
-//! Runs over the worked block, its files in memory.
+//! Runs over files in memory.
 
-ghost use Rattle.std.specs.Prelude.{◌≡◌};
-
+mod host;
+mod refused_memory;
+mod replies;
 mod worked_block;
 
-use crate::files::{ReadError, ReadFiles};
 use crate::run::{Ending, run};
-use std::alloc::{AllocError, Global};
-use worked_block::{CHUNKS, INDEX, TOMBSTONES};
+use host::Blocks;
+use replies::{BAD, EMPTY, FROM_LYING_LISTS, NO_PARTS, REPLY, SKIPPED, TWICE, Text, UNSEPARATED};
+use std::alloc::Global;
 
-/// The answer to `up{job="a"}`, 0 to 100, over the worked block.
-const REPLY: &str =
-    r#"{"parts":[{"intervals":[{"from":4,"until":6,"verdict":0},{"from":6,"until":7,"verdict":"match"},{"from":7,"until":8,"verdict":"match"},{"from":8,"until":4294967296,"verdict":1}],"part":"block 0","rows":[{"labels":{"__name__":"up","job":"a"},"samples":[[10,1]]},{"labels":{"__name__":"up","job":"a","zone":"x"},"samples":[[10,6]]}],"separators":[4,6,7,8]},{"intervals":[],"part":"head","rows":[],"separators":[]}],"rows":[{"labels":{"__name__":"up","job":"a"},"samples":[[10,1]]},{"labels":{"__name__":"up","job":"a","zone":"x"},"samples":[[10,6]]}]}"#;
+/// The words after the program's name.
+type Words = &'static [&'static str];
 
-/// The same without the first separator of the block.
-const UNSEPARATED: &str =
-    r#"{"parts":[{"intervals":[{"from":4,"until":6,"verdict":0},{"from":6,"until":7,"verdict":"match"},{"from":7,"until":8,"verdict":"match"},{"from":8,"until":4294967296,"verdict":1}],"part":"block 0","rows":[{"labels":{"__name__":"up","job":"a"},"samples":[[10,1]]},{"labels":{"__name__":"up","job":"a","zone":"x"},"samples":[[10,6]]}],"separators":[6,7,8]},{"intervals":[],"part":"head","rows":[],"separators":[]}],"rows":[{"labels":{"__name__":"up","job":"a"},"samples":[[10,1]]},{"labels":{"__name__":"up","job":"a","zone":"x"},"samples":[[10,6]]}]}"#;
-
-/// The same with the block skipped.
-const SKIPPED: &str =
-    r#"{"parts":[{"part":"block 0","skipped":true},{"intervals":[],"part":"head","rows":[],"separators":[]}],"rows":[{"labels":{"__name__":"up","job":"a"},"samples":[[10,1]]},{"labels":{"__name__":"up","job":"a","zone":"x"},"samples":[[10,6]]}]}"#;
-
-/// The worked block in the directory `data`, and nothing else.
-struct Worked;
-
-impl ReadFiles for Worked {
-    ghost use Rattle.std.specs.Prelude.{⊤};
-
-    ghost may_read = { λ _ _ _. ⊤ };
-
-    fn read_file(&self, alloc: Global, path: &str, most: usize) -> Result<Vec<u8>, ReadError> {
-        let file: &[u8] = match path {
-            "data/index" => INDEX,
-            "data/chunks/000001" => CHUNKS,
-            "data/tombstones" => TOMBSTONES,
-            _ => return Err(ReadError::Unreadable),
-        };
-        let mut bytes = Vec::new(alloc);
-        if bytes.extend_from_slice(file).is_err() {
-            return Err(ReadError::Memory);
-        }
-        bytes.truncate(most);
-        Ok(bytes)
-    }
-}
-
-/// Words, standard input, the exit status, and what goes to the first and to the second writer.
-type Row = (
-    &'static [&'static str],
-    &'static str,
-    u8,
-    &'static str,
-    &'static str,
-);
-
-const ASKED: &[&str] = &[
+const ASKED: Words = &[
     "--selector",
     "up{job=\"a\"}",
     "--from=0",
@@ -62,13 +21,39 @@ const ASKED: &[&str] = &[
     "data",
 ];
 
-const ELSEWHERE: &[&str] = &["--selector", "up{job=\"a\"}", "other"];
+const NO_DIRECTORY: Words = &["--selector", "up{job=\"a\"}", "--from=0", "--to=100"];
 
-const NO_RANGE: &[&str] = &["--selector=up", "--from=0", "--to=-1", "other"];
+const TWO: Words = &["--selector", "up{job=\"a\"}", "data", "data"];
 
-const NO_SELECTOR: &[&str] = &["--selector=up{", "--from=0", "--to=-1", "other"];
+const SILENT: Words = &[
+    "--selector",
+    "up{job=\"a\"}",
+    "--from=20",
+    "--to=100",
+    "data",
+];
 
-const ROWS: [Row; 8] = [
+const DAMAGED: Words = &["--selector", "up{job=\"a\"}", "damaged"];
+
+const OTHER_LIST: Words = &["--selector", "up{job=\"a\"}", "other-list"];
+
+const OTHER_OFFSET: Words = &["--selector", "up{job=\"a\"}", "other-offset"];
+
+const STORED: Words = &["--selector", "up"];
+
+const NO_INDEX: Words = &["--selector", "up{job=\"a\"}", "none"];
+
+const NO_CHUNKS: Words = &["--selector", "up{job=\"a\"}", "index-alone"];
+
+const NO_TOMBSTONES: Words = &["--selector", "up{job=\"a\"}", "no-tombstones"];
+
+const SECOND_MISSING: Words = &["--selector", "up{job=\"a\"}", "data", "none"];
+
+/// Words, the reply, the exit status, and what goes to the first and to the second writer.
+type Row = (Words, Text, u8, &'static str, &'static str);
+
+/// Replies that are judged.
+const JUDGED: &[Row] = &[
     (
         ASKED,
         REPLY,
@@ -90,20 +75,132 @@ const ROWS: [Row; 8] = [
         "block 0: F9\nhead: skipped\nrows: F10\n",
         "",
     ),
-    (ASKED, "{}", 3, "", "bad reply\n"),
-    (ELSEWHERE, REPLY, 3, "", "cannot read other/index\n"),
-    (ELSEWHERE, "{}", 3, "", "bad reply\n"),
-    (NO_RANGE, "{}", 1, "", "refused Q1\n"),
-    (NO_SELECTOR, "{}", 1, "", "refused M4 at 3\n"),
+    (STORED, EMPTY, 0, "head: skipped\nrows: valid\n", ""),
 ];
 
-fn words_of(alloc: Global, words: &[&str]) -> Result<Vec<String>, AllocError> {
-    let mut all = Vec::new(alloc);
-    for word in words {
-        all.push(String::from_str(alloc, word)?)?;
-    }
-    Ok(all)
-}
+/// Blocks and directories that do not meet.
+const UNMET: &[Row] = &[
+    (
+        NO_DIRECTORY,
+        REPLY,
+        0,
+        "block 0: skipped\nhead: skipped\nrows: valid\n",
+        "",
+    ),
+    (
+        TWO,
+        REPLY,
+        1,
+        "block 0: valid\nhead: skipped\nblock 1: F9\nrows: valid\n",
+        "",
+    ),
+    (
+        ASKED,
+        EMPTY,
+        1,
+        "head: skipped\nblock 0: F9\nrows: valid\n",
+        "",
+    ),
+    (
+        SILENT,
+        EMPTY,
+        0,
+        "head: skipped\nblock 0: skipped\nrows: valid\n",
+        "",
+    ),
+    (ASKED, NO_PARTS, 1, "block 0: F9\nrows: valid\n", ""),
+    (
+        ASKED,
+        TWICE,
+        1,
+        "block 0: valid\nblock 1: skipped\nblock 0: F9\nrows: F10\n",
+        "",
+    ),
+];
+
+/// Files that are those of no block, and lists that lie.
+const DAMAGES: &[Row] = &[
+    (
+        DAMAGED,
+        REPLY,
+        1,
+        "block 0: refused I9\nhead: skipped\nrows: valid\n",
+        "",
+    ),
+    (
+        DAMAGED,
+        SKIPPED,
+        1,
+        "block 0: refused I9\nhead: skipped\nrows: F10\n",
+        "",
+    ),
+    (
+        OTHER_LIST,
+        REPLY,
+        0,
+        "block 0: valid\nhead: skipped\nrows: valid\n",
+        "",
+    ),
+    (
+        OTHER_OFFSET,
+        REPLY,
+        0,
+        "block 0: valid\nhead: skipped\nrows: valid\n",
+        "",
+    ),
+    (
+        OTHER_LIST,
+        FROM_LYING_LISTS,
+        1,
+        "block 0: F3\nhead: skipped\nrows: valid\n",
+        "",
+    ),
+];
+
+const NO_REPLY: Text = &[&["{}"]];
+
+/// What cannot be read or is refused: the words, the selector, the range, the reply, the files.
+const REFUSED: &[Row] = &[
+    (NO_INDEX, REPLY, 3, "", "cannot read none/index\n"),
+    (
+        NO_CHUNKS,
+        REPLY,
+        3,
+        "",
+        "cannot read index-alone/chunks/000001\n",
+    ),
+    (
+        NO_TOMBSTONES,
+        REPLY,
+        3,
+        "",
+        "cannot read no-tombstones/tombstones\n",
+    ),
+    (SECOND_MISSING, REPLY, 3, "", "cannot read none/index\n"),
+    (NO_INDEX, NO_REPLY, 3, "", "bad reply\n"),
+    (
+        &["--selector=up", "--from=0", "--to=-1", "none"],
+        NO_REPLY,
+        1,
+        "",
+        "refused Q1\n",
+    ),
+    (
+        &["--selector=up", "--to=4611686018427387904", "none"],
+        NO_REPLY,
+        1,
+        "",
+        "refused Q1\n",
+    ),
+    (
+        &["--selector=up{", "--from=0", "--to=-1", "none"],
+        NO_REPLY,
+        1,
+        "",
+        "refused M4 at 3\n",
+    ),
+    (&["--selector={}", "none"], NO_REPLY, 1, "", "refused M6\n"),
+];
 
 /// What a run gives: how it ends, and what it writes to both writers.
 #[derive(Drop)]
@@ -113,29 +210,108 @@ struct Told {
     err: Vec<u8>,
 }
 
-fn told_by(alloc: Global, words: &[&str], reply: &str) -> Result<Told, AllocError> {
+fn words_of(alloc: Global, words: Words) -> Option<Vec<String>> {
+    let mut all = Vec::new(alloc);
+    for word in words {
+        all.push(String::from_str(alloc, word).ok()?).ok()?;
+    }
+    Some(all)
+}
+
+fn text_of(alloc: Global, pieces: Text) -> Option<String> {
+    let mut text = String::new(alloc);
+    for group in pieces {
+        for piece in *group {
+            text.push_str(piece).ok()?;
+        }
+    }
+    Some(text)
+}
+
+fn told_by(alloc: Global, words: Words, reply: Text) -> Option<Told> {
     let words = words_of(alloc, words)?;
+    let reply = text_of(alloc, reply)?;
     let mut input = reply.as_bytes();
     let mut out = Vec::new(alloc);
     let mut err = Vec::new(alloc);
     let ending = run(
         alloc,
-        &Worked,
+        &Blocks,
         words.as_slice(),
         &mut input,
         &mut out,
         &mut err,
     );
-    Ok(Told { ending, out, err })
+    Some(Told { ending, out, err })
+}
+
+fn ends_so(alloc: Global, row: &Row) -> bool {
+    let (words, reply, status, lines, fault) = *row;
+    let Some(told) = told_by(alloc, words, reply) else {
+        return false;
+    };
+    told.ending.status == status
+        && told.out.as_slice() == lines.as_bytes()
+        && told.err.as_slice() == fault.as_bytes()
+}
+
+fn all_end_so(alloc: Global, rows: &[Row]) -> bool {
+    for row in rows {
+        if !ends_so(alloc, row) {
+            return false;
+        }
+    }
+    true
 }
 
 #[test]
-fn each_run_ends_so(rt: HostRuntime) -> Result<(), AllocError> {
-    for (words, reply, status, lines, fault) in ROWS {
-        let told = told_by(rt.alloc(), words, reply)?;
-        assert_eq!(rt; told.ending.status, status);
-        assert_eq!(rt; told.out.as_slice(), lines.as_bytes());
-        assert_eq!(rt; told.err.as_slice(), fault.as_bytes());
+fn each_run_ends_so(rt: HostRuntime) {
+    assert!(rt; all_end_so(rt.alloc(), JUDGED));
+    assert!(rt; all_end_so(rt.alloc(), UNMET));
+    assert!(rt; all_end_so(rt.alloc(), DAMAGES));
+    assert!(rt; all_end_so(rt.alloc(), REFUSED));
+}
+
+fn are_bad(alloc: Global, texts: &[Text]) -> bool {
+    for text in texts {
+        if !ends_so(alloc, &(ASKED, *text, 3, "", "bad reply\n")) {
+            return false;
+        }
     }
-    Ok(())
+    true
+}
+
+#[test]
+fn every_other_text_is_a_bad_reply(rt: HostRuntime) {
+    assert!(rt; are_bad(rt.alloc(), BAD));
+}
+
+/// Words that are not those of the program.
+const OTHER_WORDS: &[Words] = &[
+    &[],
+    &["data"],
+    &["--selector"],
+    &["--selector=up", "--form=0"],
+    &["--selector=up", "--selector=up"],
+    &["--selector=up", "--from=x"],
+    &["--selector=up", "--from", "-10"],
+    &["--selector=up", "--to=9223372036854775808"],
+];
+
+fn is_fault_of_words(told: &Told) -> bool {
+    told.ending.status == 2 && told.out.is_empty() && !told.err.is_empty()
+}
+
+fn are_other_words(alloc: Global, rows: &[Words]) -> bool {
+    for words in rows {
+        if !told_by(alloc, *words, EMPTY).is_some_and(|told| is_fault_of_words(&told)) {
+            return false;
+        }
+    }
+    true
+}
+
+#[test]
+fn other_words_are_a_fault(rt: HostRuntime) {
+    assert!(rt; are_other_words(rt.alloc(), OTHER_WORDS));
 }
