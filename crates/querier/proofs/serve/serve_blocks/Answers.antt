@@ -8,14 +8,14 @@ pub returns-in_err-workers-clause-err : goal.returns-in_err-workers-clause-err
 returns-in_err-workers-clause-err g c =
     let p = err_from_is_err_and c.from_residual.result c.from_residual.ensures.1 in
     rw (p.1, p.2) (inl (
-      not_opened _ _ c.in_err-workers.ensures.refused (λ limit. absurd (omega (arith, c.in_err-workers.ensures.few limit, c.requires.few))),
+      not_opened c.args.serving _ c.in_err-workers.ensures.refused (λ limit. absurd (omega (arith, c.in_err-workers.ensures.few limit, c.requires.few))),
       unused _ (g.W.Write.contents c.args.out.now),
     ))
 
 pub returns-in_err-listener-clause-err : goal.returns-in_err-listener-clause-err
 returns-in_err-listener-clause-err g c =
     let p = err_from_is_err_and c.from_residual-in_err-listener.result c.from_residual-in_err-listener.ensures.1 in
-    rw (p.1, p.2) (inl (not_listened _ _ c.in_err-listener.ensures, unused _ (g.W.Write.contents c.args.out.now)))
+    rw (p.1, p.2) (inl (not_listened c.args.serving _ c.in_err-listener.ensures, unused _ (g.W.Write.contents c.args.out.now)))
 
 pub returns-in_err-tell_port-clause-err : goal.returns-in_err-tell_port-clause-err
 returns-in_err-tell_port-clause-err g c =
