@@ -1,4 +1,3 @@
-//! Workers over memory, and workers and clients as threads of one process.
+//! Workers and clients as threads of one process.
 
-mod memory;
 mod system;
