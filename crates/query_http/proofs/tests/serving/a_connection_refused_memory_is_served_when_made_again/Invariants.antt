@@ -5,6 +5,3 @@ use Rattle.query_http.proofs.tests.serving.a_connection_refused_memory_is_served
 -- the store that was just opened
 abbrev pub ghosts-is_session_again : goal.ghosts-is_session_again
 ghosts-is_session_again g a = record { book = a.store.seen.book; opening = opening_of [] }
-
-abbrev pub ghosts-is_session_again-1 : goal.ghosts-is_session_again-1
-ghosts-is_session_again-1 g a = record { book = a.store.seen.book; opening = opening_of [] }
