@@ -17,8 +17,6 @@ mod connections;
 mod pool;
 mod socket;
 mod sockets;
-#[cfg(test)]
-mod tests;
 mod worker;
 
 pub use connections::Connections;

@@ -1,3 +1,0 @@
-//! Workers and clients as threads of one process.
-
-mod system;
