@@ -33,7 +33,7 @@ serving: ## runs the server and asks it with curl: the session of the README, sl
 	@RT="$(RT)" tests/serving
 
 bench: ## measures speed (never part of the gate)
-	@RT="$(RT)" bench/run && RT="$(RT)" bench/check && RT="$(RT)" bench/audit && RT="$(RT)" bench/serve
+	@RT="$(RT)" bench/run && RT="$(RT)" bench/check && RT="$(RT)" bench/select && RT="$(RT)" bench/audit && RT="$(RT)" bench/serve
 
 install: ## proves and builds querier and auditor, and copies them to PREFIX/bin
 	@$(RT) all check --jobs $(JOBS) >/dev/null

@@ -8,10 +8,10 @@ const START: i64 = 1_700_006_400_000;
 const STEP: i64 = 15_000;
 const PIECE: i64 = 120;
 
-type Labels = Vec<(String, String)>;
+pub type Labels = Vec<(String, String)>;
 
 /// The labels of series number `n`, in the order of their names.
-fn labels(n: u64) -> Labels {
+pub fn labels(n: u64) -> Labels {
     let host = n / 10;
     let mixed = (n.wrapping_mul(2_654_435_761) >> 7) & 0xFFFF;
     let code = ["200", "200", "404", "500"][(mixed % 4) as usize];
@@ -30,11 +30,11 @@ fn labels(n: u64) -> Labels {
 }
 
 /// A counter whose step differs from series to series.
-fn value(n: u64, k: i64) -> i64 {
+pub fn value(n: u64, k: i64) -> i64 {
     (n % 1000) as i64 + k * (1 + (n % 97) as i64)
 }
 
-fn time(k: i64) -> i64 {
+pub fn time(k: i64) -> i64 {
     START + STEP * k
 }
 

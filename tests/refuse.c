@@ -1,5 +1,5 @@
-/* Preloaded into a program, refuses its allocation number REFUSE, counted from 1 (0: none), and where file descriptor 9
-   is open tells there how many allocations were asked for. */
+/* Preloaded into a program, refuses its allocation number REFUSE, counted from 1 over all threads (0: none), and where
+   file descriptor 9 is open tells there how many allocations were asked for. */
 #include <errno.h>
 #include <stdio.h>
 #include <stdlib.h>
@@ -23,8 +23,7 @@ __attribute__((destructor)) static void end(void)
 
 static int is_refused(void)
 {
-    asked += 1;
-    return asked == refused;
+    return __atomic_add_fetch(&asked, 1, __ATOMIC_RELAXED) == refused;
 }
 
 void *malloc(size_t size)

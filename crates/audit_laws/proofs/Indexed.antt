@@ -6,15 +6,13 @@ use Rattle.std.specs.declared.cmp.Ordering.TheVariants.{Less}
 use Rattle.std.proofs.lemmas.List.{length-map, length-take}
 use Rattle.wire.specs.Spelling.{uvarint}
 use Rattle.labels.specs.Labels.{Labels, labels_cmp}
-use Rattle.index_reader.specs.declared.contents.Contents as kept_contents
+use Rattle.index_reader.specs.declared.layout.TableOfContents as kept_contents
 use Rattle.index_reader.specs.declared.chunk.Chunk as kept_chunk
-use Rattle.index_reader.specs.Reading as reading
+use Rattle.index_reader.specs.Layout as index_layout
 use Rattle.index_reader.specs.Grammar as grammar
-use Rattle.index_reader.specs.Bodies as bodies
-use Rattle.index_reader.specs.Flat as flat
-use Rattle.index_reader.specs.Labelled as labelled
-use Rattle.index_reader.specs.Indexes as indexes
+use Rattle.index_reader.specs.EntryChecks as entry_checks
 use Rattle.index_reader.specs.Spelled as spelled
+use Rattle.index_reader.specs.Indexes as indexes
 use Rattle.index_reader.proofs.Gaps.{gaps_of}
 use Rattle.auditor.specs.declared.walk.contents.Contents.{Contents}
 use Rattle.auditor.specs.declared.walk.chunk.Chunk.{Chunk}
@@ -28,7 +26,7 @@ use Rattle.auditor.specs.IndexFile.Spelled.{IsFirst, IsLater, AreLater, AreChunk
 
 -- the auditor's words for what the store's reader has
 
-abbrev pub contents_told : kept_contents.Contents → Contents
+abbrev pub contents_told : kept_contents.TableOfContents → Contents
 contents_told t = record {
   symbols = t.symbols;
   series = t.series;
@@ -38,16 +36,16 @@ contents_told t = record {
   postings_offsets = t.postings_offsets;
 }
 
-abbrev pub place_told : reading.Place → Place
+abbrev pub place_told : index_layout.SeriesEntry → Place
 place_told p = record { offset = p.offset; body = p.body; end = p.end }
 
-abbrev pub parts_told : reading.Parts → Parts
+abbrev pub parts_told : index_layout.Layout → Parts
 parts_told x = record { contents = contents_told x.contents; symbols = x.symbols; symbols_end = x.symbols_end; entries = map place_told x.entries }
 
 abbrev pub chunk_told : kept_chunk.Chunk → Chunk
 chunk_told c = record { mint = c.mint; maxt = c.maxt; reference = c.reference }
 
-abbrev pub body_told : bodies.Body → Body
+abbrev pub body_told : index_layout.Body → Body
 body_told b = record { labels = b.labels; chunks = map chunk_told b.chunks }
 
 abbrev pub series_told : indexes.Series → Series
@@ -55,7 +53,7 @@ series_told s = record { reference = s.reference; labels = s.labels; chunks = ma
 
 -- the layout
 
-placed_again : (t : kept_contents.Contents) (len : ℕ) → reading.IsPlaced t len → IsPlaced (contents_told t) len
+placed_again : (t : kept_contents.TableOfContents) (len : ℕ) → index_layout.IsPlaced t len → IsPlaced (contents_told t) len
 placed_again t len p = record {
   long = p.long;
   short = p.short;
@@ -68,8 +66,8 @@ placed_again t len p = record {
   label_offsets = p.label_offsets;
 }
 
-ascending_again : (ss : List (List ℕ)) → ascending ss ≡ reading.ascending ss
-unfolding ascending reading.ascending
+ascending_again : (ss : List (List ℕ)) → ascending ss ≡ index_layout.ascending ss
+unfolding ascending index_layout.ascending
 ascending_again [] = refl
 ascending_again (a ∷ []) = refl
 ascending_again (a ∷ b ∷ rest) = ap (λ x. is_less a b && x) (ascending_again (b ∷ rest))
@@ -77,22 +75,22 @@ ascending_again (a ∷ b ∷ rest) = ap (λ x. is_less a b && x) (ascending_agai
 symbols_again : (content : List ℕ) (symbols : List (List ℕ)) → grammar.IsSymbolTable content symbols → IsSymbolTable content symbols
 symbols_again content symbols t = record { text = t.text; order = ascending_again symbols ∙ t.order; texts = t.texts }
 
-walk_again : (ps : List reading.Place) (file : List ℕ) (end at : ℕ) → grammar.IsWalk file end at ps → IsWalk file end at (map place_told ps)
+walk_again : (ps : List index_layout.SeriesEntry) (file : List ℕ) (end at : ℕ) → grammar.IsWalk file end at ps → IsWalk file end at (map place_told ps)
 walk_again [] file end at w = w
-walk_again (p ∷ ps) file end at w = (w.0, w.1, w.2, walk_again ps file end (reading.rounded (at + length (grammar.entry p.body))) w.3, w.4)
+walk_again (p ∷ ps) file end at w = (w.0, w.1, w.2, walk_again ps file end (index_layout.rounded (at + length (grammar.entry p.body))) w.3, w.4)
 
-layout_again : (file : List ℕ) (x : reading.Parts) → grammar.IsParts file x → IsParts file (parts_told x)
+layout_again : (file : List ℕ) (x : index_layout.Layout) → grammar.IsLayout file x → IsParts file (parts_told x)
 layout_again file x i = record {
   start = i.start;
   contents = i.contents;
   placed = placed_again x.contents (length file) i.placed;
   symbols = (i.symbols.0, i.symbols.1, symbols_again i.symbols.0 x.symbols i.symbols.2, i.symbols.3);
-  entries = walk_again x.entries file (reading.series_end x.contents) (reading.rounded x.contents.series) i.entries;
+  entries = walk_again x.entries file (index_layout.series_end x.contents) (index_layout.rounded x.contents.series) i.entries;
 }
 
 -- the bodies
 
-labels_again : (symbols : List (List ℕ)) (low : ℕ) (ls : List Label) → labelled.AreLabels symbols low ls → AreLabels symbols low ls
+labels_again : (symbols : List (List ℕ)) (low : ℕ) (ls : List Label) → spelled.AreLabels symbols low ls → AreLabels symbols low ls
 labels_again symbols low [] are = tt
 labels_again symbols low (l ∷ ls) are =
     let i = are.0 in
@@ -141,7 +139,7 @@ chunks_again (c ∷ cs) text are = (
   later_ones_again c cs are.1 are.4,
 )
 
-body_again : (symbols : List (List ℕ)) (b : bodies.Body) (text : List ℕ) → spelled.IsBody symbols b text → IsBody symbols (body_told b) text
+body_again : (symbols : List (List ℕ)) (b : index_layout.Body) (text : List ℕ) → spelled.IsBody symbols b text → IsBody symbols (body_told b) text
 body_again symbols b text i = record {
   chunks_text = i.chunks_text;
   spelled = i.spelled;
@@ -149,13 +147,13 @@ body_again symbols b text i = record {
   chunks = chunks_again b.chunks i.chunks_text i.chunks;
 }
 
-bodies_again : (symbols : List (List ℕ)) (ps : List reading.Place) (bs : List bodies.Body) → spelled.AreBodies symbols ps bs → AreBodies symbols (map place_told ps) (map body_told bs)
+bodies_again : (symbols : List (List ℕ)) (ps : List index_layout.SeriesEntry) (bs : List index_layout.Body) → spelled.AreBodies symbols ps bs → AreBodies symbols (map place_told ps) (map body_told bs)
 bodies_again symbols [] [] are = tt
 bodies_again symbols [] (b ∷ bs) are = absurd are
 bodies_again symbols (p ∷ ps) [] are = absurd are
 bodies_again symbols (p ∷ ps) (b ∷ bs) are = (body_again symbols b p.body are.0, bodies_again symbols ps bs are.1)
 
-few_again : (bs : List bodies.Body) → ((k : ℕ) (d : bodies.Body) → k < length bs → length (get_or bs k d).labels ≤ 64)
+few_again : (bs : List index_layout.Body) → ((k : ℕ) (d : index_layout.Body) → k < length bs → length (get_or bs k d).labels ≤ 64)
     → (k : ℕ) (d : Body) → k < length (map body_told bs) → length (get_or (map body_told bs) k d).labels ≤ 64
 few_again [] few k d lt = absurd (omega (arith, lt))
 few_again (b ∷ bs) few zero d lt = few zero b (omega arith)
@@ -163,22 +161,22 @@ few_again (b ∷ bs) few (suc k) d lt = few_again bs (λ j e l. few (suc j) e (o
 
 -- the bytes between the entries
 
-gaps_again : (ps : List reading.Place) (file : List ℕ) (end from : ℕ) → gaps_zero file end from (map place_told ps) ≡ flat.gaps_zero file end from ps
-unfolding gaps_zero flat.gaps_zero
+gaps_again : (ps : List index_layout.SeriesEntry) (file : List ℕ) (end from : ℕ) → gaps_zero file end from (map place_told ps) ≡ entry_checks.gaps_zero file end from ps
+unfolding gaps_zero entry_checks.gaps_zero
 gaps_again [] file end from = refl
 gaps_again (p ∷ ps) file end from = ap (λ b. zero_between file from p.offset && b) (gaps_again ps file end p.end)
 
-zeros_again : (file : List ℕ) (x : reading.Parts) → grammar.IsParts file x → spelled.AreZero file x.symbols_end (reading.series_end x.contents) x.entries
-    → gaps_zero file (reading.series_end x.contents) x.symbols_end (map place_told x.entries) ≡ true
+zeros_again : (file : List ℕ) (x : index_layout.Layout) → grammar.IsLayout file x → spelled.AreZero file x.symbols_end (index_layout.series_end x.contents) x.entries
+    → gaps_zero file (index_layout.series_end x.contents) x.symbols_end (map place_told x.entries) ≡ true
 zeros_again file x i zeros =
     let t = x.contents in
     let stands = i.symbols.1 in
-    let front : x.symbols_end ≤ reading.rounded t.series = omega (arith, i.symbols.3, i.placed.series, ap length stands.1, length-append (grammar.frame i.symbols.0) stands.0, length-take (t.series - 5) (drop 5 file)) in
-    gaps_again x.entries file (reading.series_end t) x.symbols_end ∙ gaps_of x.entries file (reading.series_end t) (reading.rounded t.series) x.symbols_end i.entries front zeros
+    let front : x.symbols_end ≤ index_layout.rounded t.series = omega (arith, i.symbols.3, i.placed.series, ap length stands.1, length-append (grammar.frame i.symbols.0) stands.0, length-take (t.series - 5) (drop 5 file)) in
+    gaps_again x.entries file (index_layout.series_end t) x.symbols_end ∙ gaps_of x.entries file (index_layout.series_end t) (index_layout.rounded t.series) x.symbols_end i.entries front zeros
 
 -- the series
 
-pub series_again : (symbols : List (List ℕ)) (ps : List reading.Place) (bs : List bodies.Body) → series_of symbols (map place_told ps) (map body_told bs) ≡ map series_told (indexes.series_of symbols ps bs)
+pub series_again : (symbols : List (List ℕ)) (ps : List index_layout.SeriesEntry) (bs : List index_layout.Body) → series_of symbols (map place_told ps) (map body_told bs) ≡ map series_told (indexes.series_of symbols ps bs)
 unfolding series_of indexes.series_of
 series_again symbols [] bs = refl
 series_again symbols (p ∷ ps) [] = refl

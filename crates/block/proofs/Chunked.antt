@@ -6,8 +6,7 @@ use Rattle.std.specs.List.{AllByRecursion, list_all}
 use Rattle.std.proofs.lemmas.Bool.{leb-true}
 use Rattle.std.proofs.lemmas.Int.{ints}
 use Rattle.index_reader.specs.declared.chunk.Chunk.{Chunk}
-use Rattle.index_reader.specs.Reading.{Place}
-use Rattle.index_reader.specs.Bodies.{Body}
+use Rattle.index_reader.specs.Layout.{SeriesEntry, Body}
 use Rattle.index_reader.specs.Indexes.{Series, Indexed, IsConsistent, chunk_lists, series_of}
 use Rattle.index_reader.specs.Spelled.{AreLater, AreChunks, AreBodies, IsIndex}
 use Rattle.block.proofs.Checks.{all_pass}
@@ -28,7 +27,7 @@ in_turn : (cs : List Chunk) (text : List ℕ) → AreChunks cs text → AreInTur
 in_turn [] text h = tt
 in_turn (c ∷ cs) text h = (spanned c.mint c.maxt h.3.span h.3.ends, behind_each c cs h.1 h.4)
 
-turned : (symbols : List (List ℕ)) (ps : List Place) (bs : List Body) → AreBodies symbols ps bs → AllByRecursion (λ (s : Series). AreInTurn s.chunks) (series_of symbols ps bs)
+turned : (symbols : List (List ℕ)) (ps : List SeriesEntry) (bs : List Body) → AreBodies symbols ps bs → AllByRecursion (λ (s : Series). AreInTurn s.chunks) (series_of symbols ps bs)
 unfolding series_of
 turned symbols [] bs h = tt
 turned symbols (p ∷ ps) [] h = tt

@@ -9,6 +9,8 @@ use Rattle.chunk_reader.specs.contracts.chunks.Chunks as chunks
 use Rattle.index_reader.specs.contracts.chunk.Chunk as place
 use Rattle.index_reader.specs.contracts.series.Series as series
 use Rattle.index_reader.specs.contracts.lists.Lists as lists
+use Rattle.index_reader.specs.contracts.symbols.Symbols as symbols
+use Rattle.index_reader.specs.contracts.keys.Keys as keys
 use Rattle.index_reader.specs.contracts.index.Index as index
 use Rattle.block.specs.contracts.blocks.Files as files
 use Rattle.block.specs.contracts.blocks.Block as block
@@ -55,11 +57,23 @@ Lists-send = search (sendable, heap.Vec-send) depth 60 fits 20000
 pub Lists-sync : IsSync lists.the_field.row
 Lists-sync = search (sendable, heap.Vec-sync) depth 60 fits 20000
 
+pub Symbols-send : IsSend symbols.the_field.row
+Symbols-send = search (sendable, maps.String-send, heap.Vec-send) depth 60 fits 20000
+
+pub Symbols-sync : IsSync symbols.the_field.row
+Symbols-sync = search (sendable, maps.String-sync, heap.Vec-sync) depth 60 fits 20000
+
+pub Keys-send : IsSend keys.the_field.row
+Keys-send = search (sendable, heap.Vec-send) depth 60 fits 20000
+
+pub Keys-sync : IsSync keys.the_field.row
+Keys-sync = search (sendable, heap.Vec-sync) depth 60 fits 20000
+
 pub Index-send : IsSend index.the_field.row
-Index-send = search (sendable, maps.String-send, heap.Vec-send, Place-send, IndexSeries-send, Lists-send) depth 60 fits 20000
+Index-send = search (sendable, heap.Vec-send, Symbols-send, Keys-send, Place-send, IndexSeries-send, Lists-send) depth 60 fits 20000
 
 pub Index-sync : IsSync index.the_field.row
-Index-sync = search (sendable, maps.String-sync, heap.Vec-sync, Place-sync, IndexSeries-sync, Lists-sync) depth 60 fits 20000
+Index-sync = search (sendable, heap.Vec-sync, Symbols-sync, Keys-sync, Place-sync, IndexSeries-sync, Lists-sync) depth 60 fits 20000
 
 pub Files-send : IsSend files.the_field.row
 Files-send = search (sendable, Index-send, Chunks-send) depth 60 fits 20000

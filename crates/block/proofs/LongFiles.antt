@@ -5,8 +5,8 @@ use Rattle.std.proofs.lemmas.List.{length-take, take_all}
 use Rattle.byteorder.specs.Endian.{big_number}
 use Rattle.labels.specs.Parts.{Part}
 use Rattle.index_reader.specs.declared.error.IndexError.TheVariants as index_error
-use Rattle.index_reader.specs.Reading.{parts_of, head_of}
-use Rattle.index_reader.specs.Opening.{read_of, indexed_of}
+use Rattle.index_reader.specs.Checks.{layout_of, read_of, indexed_of}
+use Rattle.index_reader.specs.HeadChecks.{head_of}
 use Rattle.chunk_reader.specs.declared.error.ChunkError.TheVariants as chunk_error
 use Rattle.chunk_reader.specs.Reading.{opened}
 use Rattle.tombstones.specs.declared.error.TombstoneError.{TombstoneError}
@@ -37,7 +37,7 @@ long_meta : (file : List ℕ) → 1048576 < length file → range_said file ≡ 
 long_meta file lt = rw (lt-ltb 1048576 (length file) lt) refl
 
 long_index : (file : List ℕ) → 1073741824 < length file → indexed_of file ≡ Err index_error.Limit
-unfolding indexed_of read_of parts_of head_of
+unfolding indexed_of read_of layout_of head_of
 long_index file lt = rw (lt-ltb 1073741824 (length file) lt) refl
 
 long_chunks : (file : List ℕ) → 1073741824 < length file → opened file ≡ Err chunk_error.Shape

@@ -3,7 +3,7 @@
 ghost use Rattle.std.specs.Prelude.{◌≡◌, length, IfOk, Ok};
 ghost use Rattle.labels.specs.Parts.{IsPart, Part};
 ghost use Rattle.index_reader.specs.Indexes.{IsConsistent};
-ghost use Rattle.index_reader.specs.Opening.{indexed_of};
+ghost use Rattle.index_reader.specs.Checks.{indexed_of};
 ghost use Rattle.index_reader.specs.Outcome as index_outcome;
 ghost use Rattle.index_reader.specs.Spelled.{IsIndex};
 ghost use Rattle.block.specs.Blocks.{AreInside, sample_count};

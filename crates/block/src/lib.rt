@@ -28,8 +28,6 @@ mod opening;
 mod range;
 mod raw_list;
 mod series;
-#[cfg(test)]
-mod tests;
 mod view;
 mod wanted;
 

@@ -4,7 +4,7 @@ ghost use Rattle.std.specs.Prelude.{◌≡◌, ℕ, ◌+◌, ◌-◌, ◌<◌, �
 ghost use Rattle.std.specs.List.Sorted.{IsStrictlyIncreasing};
 ghost use Rattle.block.specs.Remaining.{IsAtPlace, HasReadOne, HasReadWithinDigits};
 
-use index_reader::Entries;
+use index_reader::PostingsList;
 use labels::SeriesRef;
 use postings::Postings;
 
@@ -12,14 +12,18 @@ use postings::Postings;
 /// read.
 #[derive(Drop)]
 pub struct RawList<'a> {
-    entries: Entries<'a>,
+    entries: PostingsList<'a>,
     at: usize,
     head: Option<SeriesRef>,
     ghost placed: { IsAtPlace entries.0 at head },
 }
 
 /// The first place, from a place on, of a reference that is not below the target, and that reference.
-fn place_of(entries: &mut Entries, from: usize, target: SeriesRef) -> (usize, Option<SeriesRef>)
+fn place_of(
+    entries: &mut PostingsList,
+    from: usize,
+    target: SeriesRef,
+) -> (usize, Option<SeriesRef>)
     requires within { from ≤ length entries.old.0 }
     requires increasing { IsStrictlyIncreasing entries.old.0 }
     ensures same { entries.new.0 ≡ entries.old.0 }
@@ -45,7 +49,7 @@ fn place_of(entries: &mut Entries, from: usize, target: SeriesRef) -> (usize, Op
     (high, head)
 }
 
-fn head_of(entries: &mut Entries, at: usize) -> Option<SeriesRef>
+fn head_of(entries: &mut PostingsList, at: usize) -> Option<SeriesRef>
     ensures same { entries.new.0 ≡ entries.old.0 }
     ensures few { HasReadOne entries.old.1 entries.new.1 }
     ensures head { result ≡ slice_get entries.old.0 at }
@@ -60,7 +64,7 @@ impl<'a> RawList<'a> {
     ghost use Rattle.block.specs.RawLists.{reads_of, remaining_of};
 
     /// The list of all these references. It reads the first.
-    pub fn new(entries: Entries<'a>) -> RawList<'a>
+    pub fn new(entries: PostingsList<'a>) -> RawList<'a>
         requires { IsStrictlyIncreasing entries.0 }
         ensures list { remaining_of result ≡ entries.entry.0 }
         ensures few { HasReadOne entries.entry.1 (reads_of result) }

@@ -26,11 +26,9 @@ use Rattle.labels.proofs.Times.{first_T, second_T, both_T, lt_of, T_of}
 use Rattle.wire.specs.Spelling.{uvarint, zigzag}
 use Rattle.chunk_reader.specs.Grammar.{time_at}
 use Rattle.index_reader.specs.declared.chunk.Chunk.{Chunk}
-use Rattle.index_reader.specs.Chunks.{is_time}
-use Rattle.index_reader.specs.Reading.{rounded}
+use Rattle.index_reader.specs.Layout.{is_time, rounded}
 use Rattle.index_reader.specs.Grammar.{entry}
-use Rattle.index_reader.specs.Labelled.{AreLabels}
-use Rattle.index_reader.specs.Spelled.{label_text, IsFirst, IsLater, AreLater, AreChunks, IsBody, AreBodies}
+use Rattle.index_reader.specs.Spelled.{AreLabels, label_text, IsFirst, IsLater, AreLater, AreChunks, IsBody, AreBodies}
 use Rattle.block.proofs.Turns.{below}
 use Rattle.labels.proofs.Texts.{text_total}
 use Rattle.block_writer.specs.InUse.{texts_in, label_texts, HoldsEachOnce}

@@ -8,10 +8,9 @@ use Rattle.byteorder.specs.Endian.{big_bytes}
 use Rattle.wire.specs.Spelling.{uvarint, varint}
 use Rattle.labels.specs.Rows.{Row}
 use Rattle.index_reader.specs.declared.chunk.Chunk.{Chunk}
-use Rattle.index_reader.specs.Reading.{rounded}
-use Rattle.index_reader.specs.Seen.{texts}
+use Rattle.index_reader.specs.Layout.{rounded, TableEntry}
+use Rattle.index_reader.specs.Seen.{bytes_of}
 use Rattle.index_reader.specs.Grammar.{entry, frame, checked, contents_text}
-use Rattle.index_reader.specs.Table.{Listed}
 use Rattle.index_reader.specs.Spelled.{listed_text, table_text}
 use Rattle.block_writer.specs.declared.error.WriteError.{WriteError}
 use Rattle.block_writer.specs.Writing.{series_text}
@@ -29,15 +28,15 @@ two_numbers out one two a b x y first second e f =
 
 -- ---- texts in memory
 
-text_at : (ss : List (Bor (List ℕ))) (i : ℕ) (d : Bor (List ℕ)) → i < length ss → drop i (texts ss) ≡ (get_or ss i d).now ∷ drop (suc i) (texts ss)
+text_at : (ss : List (Bor (List ℕ))) (i : ℕ) (d : Bor (List ℕ)) → i < length ss → drop i (bytes_of ss) ≡ (get_or ss i d).now ∷ drop (suc i) (bytes_of ss)
 text_at [] i d lt = absurd (omega (arith, lt))
 text_at (s ∷ ss) zero d lt = refl
 text_at (s ∷ ss) (suc i) d lt = text_at ss i d (omega (arith, lt))
 
-pub text_here : (ss : List (Bor (List ℕ))) (i : ℕ) (d : Bor (List ℕ)) → i < length ss → drop i (texts ss) ≡ (get_or ss i d).now ∷ drop (i + 1) (texts ss)
+pub text_here : (ss : List (Bor (List ℕ))) (i : ℕ) (d : Bor (List ℕ)) → i < length ss → drop i (bytes_of ss) ≡ (get_or ss i d).now ∷ drop (i + 1) (bytes_of ss)
 text_here ss i d lt =
     let next : suc i ≡ i + 1 = omega arith in
-    text_at ss i d lt ∙ ap (λ j. (get_or ss i d).now ∷ drop j (texts ss)) next
+    text_at ss i d lt ∙ ap (λ j. (get_or ss i d).now ∷ drop j (bytes_of ss)) next
 
 -- ---- chunks of a body
 
@@ -141,7 +140,7 @@ pub listed_first : (pairs : List (List ℕ × List ℕ)) (lists : List (List ℕ
     → more ++ flat_map listed_text (listed_from (length next) pairs lists) ≡ table_text (listed_from (length out) (([], []) ∷ pairs) (all ∷ lists))
 unfolding listed_from
 listed_first pairs lists all out next table more count long counted begun step grown =
-    let first : Listed = record { name = []; value = []; offset = length out } in
+    let first : TableEntry = record { name = []; value = []; offset = length out } in
     let at : length next ≡ length out + length (section_text all) = ap length grown ∙ length-append out (section_text all) in
     let many : count ≡ suc (length (listed_from (length out + length (section_text all)) pairs lists)) = omega (arith, counted, listed_many pairs lists (length out + length (section_text all)) long) in
     (λ j. (step ∙ ap (λ xs. xs ++ listed_text first) (begun ∙ ap (big_bytes 4) many)) j ++ flat_map listed_text (listed_from (at j) pairs lists)) ∙ simp append_assoc
@@ -151,7 +150,7 @@ pub listed_on : (pairs : List (List ℕ × List ℕ)) (lists : List (List ℕ)) 
     → table ++ flat_map listed_text (listed_from (length out) (drop i pairs) (drop i lists)) ≡ whole → more ++ flat_map listed_text (listed_from (length next) (drop (i + 1) pairs) (drop (i + 1) lists)) ≡ whole
 unfolding listed_from
 listed_on pairs lists i p refs out next table more whole here there step grown so_far =
-    let one : Listed = record { name = p.0; value = p.1; offset = length out } in
+    let one : TableEntry = record { name = p.0; value = p.1; offset = length out } in
     let at : length next ≡ length out + length (section_text refs) = ap length grown ∙ length-append out (section_text refs) in
     let all : table ++ (listed_text one ++ flat_map listed_text (listed_from (length out + length (section_text refs)) (drop (i + 1) pairs) (drop (i + 1) lists))) ≡ whole = rw (here, there) at so_far in
     (λ j. step j ++ flat_map listed_text (listed_from (at j) (drop (i + 1) pairs) (drop (i + 1) lists))) ∙ regrouped table (listed_text one) (flat_map listed_text (listed_from (length out + length (section_text refs)) (drop (i + 1) pairs) (drop (i + 1) lists))) whole all

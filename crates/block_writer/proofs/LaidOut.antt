@@ -8,9 +8,9 @@ use Rattle.std.proofs.Math.Seq.{drop-append_seam, take-append_seam}
 use Rattle.std.proofs.lemmas.List.{append-nil, length-replicate}
 use Rattle.wire.specs.Spelling.{uvarint}
 use Rattle.wire.proofs.Laws.{uvarint_long}
-use Rattle.index_reader.specs.Reading.{ascending, rounded}
-use Rattle.index_reader.specs.Grammar.{frame, entry, checked, contents_text, IsWalk, IsParts}
-use Rattle.index_reader.specs.Flat.{zero_between, gaps_zero}
+use Rattle.index_reader.specs.Layout.{ascending, rounded}
+use Rattle.index_reader.specs.Grammar.{frame, entry, checked, contents_text, IsWalk, IsLayout}
+use Rattle.index_reader.specs.EntryChecks.{zero_between, gaps_zero}
 use Rattle.labels.specs.Labels.{text_cmp}
 use Rattle.block_writer.specs.IndexText.{padded, symbols_text, start_text, with_entries, contents_of}
 use Rattle.block_writer.proofs.WrittenAs.{places_from}
@@ -132,7 +132,7 @@ head_text symbols = (0xBA ∷ 0xAA ∷ 0xD7 ∷ 0 ∷ 2 ∷ []) ++ frame (symbol
 
 pub parts_are : (symbols bodies : List (List ℕ)) (sections table file : List ℕ) → file ≡ with_entries (start_text symbols) bodies ++ (sections ++ (frame table ++ checked (contents_text (contents_of (length (start_text symbols)) (length (with_entries (start_text symbols) bodies)) (length (with_entries (start_text symbols) bodies) + length sections)))))
     → length file ≤ 0x4000_0000 → IsStrictlySortedBy text_cmp symbols → AllByRecursion IsUtf8 symbols
-    → IsParts file (record { contents = contents_of (length (start_text symbols)) (length (with_entries (start_text symbols) bodies)) (length (with_entries (start_text symbols) bodies) + length sections); symbols = symbols; symbols_end = 5 + length (frame (symbols_text symbols)); entries = places_from (length (start_text symbols)) bodies })
+    → IsLayout file (record { contents = contents_of (length (start_text symbols)) (length (with_entries (start_text symbols) bodies)) (length (with_entries (start_text symbols) bodies) + length sections); symbols = symbols; symbols_end = 5 + length (frame (symbols_text symbols)); entries = places_from (length (start_text symbols)) bodies })
 parts_are symbols bodies sections table file is short up texts =
     let start : List ℕ = start_text symbols in
     let front : List ℕ = with_entries start bodies in

@@ -6,7 +6,7 @@ use Rattle.std.specs.List.Sorted.{IsStrictlySortedBy, IsStrictlyIncreasing}
 use Rattle.labels.specs.Labels.{text_cmp, Labels}
 use Rattle.labels.specs.Parts.{carries}
 use Rattle.labels.specs.Rows.{Row}
-use Rattle.index_reader.specs.Reading.{rounded}
+use Rattle.index_reader.specs.Layout.{rounded}
 use Rattle.index_reader.specs.Grammar.{entry}
 use Rattle.index_reader.specs.Indexes.{Series, references, references_with, label_sets, named, series_of}
 use Rattle.index_reader.specs.Spelled.{lists_for}

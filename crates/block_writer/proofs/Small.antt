@@ -4,7 +4,7 @@ use Rattle.std.specs.List.{AllByRecursion}
 use Rattle.std.proofs.lemmas.List.{length-map}
 use Rattle.labels.specs.LabelSets.{IsLabelSet}
 use Rattle.labels.specs.Rows.{Row}
-use Rattle.index_reader.specs.Bodies.{Body}
+use Rattle.index_reader.specs.Layout.{Body}
 use Rattle.block_writer.specs.EntryBodies.{numbers_of}
 use Rattle.block_writer.specs.Writing.{series_text}
 use Rattle.block_writer.proofs.WrittenAs.{entries_of}

@@ -6,8 +6,7 @@ use Rattle.std.specs.List.Sorted.{IsStrictlySortedBy, IsStrictlyIncreasing}
 use Rattle.std.proofs.lemmas.Bool.{lt-ltb, le-leb}
 use Rattle.labels.specs.Labels.{pair_cmp}
 use Rattle.index_reader.specs.Grammar.{frame, checked, contents_text}
-use Rattle.index_reader.specs.Table.{is_before, is_within}
-use Rattle.index_reader.specs.Each.{rises}
+use Rattle.index_reader.specs.Layout.{is_before, is_within, rises}
 use Rattle.index_reader.specs.Spelled.{table_text, pairs_of, AreSections, IsTable}
 use Rattle.block_writer.specs.IndexText.{section_text, listed_from, contents_of}
 use Rattle.block_writer.proofs.Lengths.{section_long}

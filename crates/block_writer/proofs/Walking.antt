@@ -6,7 +6,7 @@ use Rattle.std.specs.Borrow.{Bor}
 use Rattle.std.proofs.lemmas.List.{append-nil, drop_all}
 use Rattle.labels.specs.Labels.{Labels}
 use Rattle.labels.specs.Pairs.{texts_of}
-use Rattle.index_reader.specs.Seen.{texts}
+use Rattle.index_reader.specs.Seen.{bytes_of}
 use Rattle.block_writer.specs.InUse.{label_texts}
 
 at_place : {A : Type 0} (xs : List A) (i : ℕ) (a : A) → slice_get xs i ≡ Some a → drop i xs ≡ a ∷ drop (suc i) xs
@@ -41,7 +41,7 @@ flat_done f front xs i whole le so_far = sym (append-nil front) ∙ (rw (drop_al
 
 -- ---- texts in memory
 
-pub texts_push : (front : List (Bor (List ℕ))) (x : Bor (List ℕ)) → texts (front ++ x ∷ []) ≡ texts front ++ x.now ∷ []
+pub texts_push : (front : List (Bor (List ℕ))) (x : Bor (List ℕ)) → bytes_of (front ++ x ∷ []) ≡ bytes_of front ++ x.now ∷ []
 texts_push [] x = refl
 texts_push (y ∷ front) x = ap (λ ys. y.now ∷ ys) (texts_push front x)
 
@@ -51,11 +51,11 @@ pairs_push (y ∷ front) x = ap (λ ys. (y.0.now, y.1.now) ∷ ys) (pairs_push f
 
 -- a name and a value behind the texts of the labels before
 pub label_on : (front one two : List (Bor (List ℕ))) (name value : Bor (List ℕ)) (labels : Labels) (i : ℕ) (whole : List (List ℕ)) → slice_get labels i ≡ Some (name.now, value.now) → one ≡ front ++ name ∷ [] → two ≡ one ++ value ∷ []
-    → texts front ++ label_texts (drop i labels) ≡ whole → texts two ++ label_texts (drop (i + 1) labels) ≡ whole
+    → bytes_of front ++ label_texts (drop i labels) ≡ whole → bytes_of two ++ label_texts (drop (i + 1) labels) ≡ whole
 label_on front one two name value labels i whole here first second so_far =
-    let both : texts two ≡ texts front ++ (name.now ∷ value.now ∷ []) =
-    ap texts second ∙ texts_push one value ∙ ap (λ (xs : List (Bor (List ℕ))). texts xs ++ value.now ∷ []) first ∙ ap (λ (xs : List (List ℕ)). xs ++ value.now ∷ []) (texts_push front name) ∙ simp append_assoc in
-    flat_on (λ (p : List ℕ × List ℕ). p.0 ∷ p.1 ∷ []) (texts front) (texts two) labels i (name.now, value.now) whole (drop_at labels i (name.now, value.now) here) both so_far
+    let both : bytes_of two ≡ bytes_of front ++ (name.now ∷ value.now ∷ []) =
+    ap bytes_of second ∙ texts_push one value ∙ ap (λ (xs : List (Bor (List ℕ))). bytes_of xs ++ value.now ∷ []) first ∙ ap (λ (xs : List (List ℕ)). xs ++ value.now ∷ []) (texts_push front name) ∙ simp append_assoc in
+    flat_on (λ (p : List ℕ × List ℕ). p.0 ∷ p.1 ∷ []) (bytes_of front) (bytes_of two) labels i (name.now, value.now) whole (drop_at labels i (name.now, value.now) here) both so_far
 
 -- a pair behind the labels before
 pub pair_on : (front next : List (Bor (List ℕ) × Bor (List ℕ))) (x : Bor (List ℕ) × Bor (List ℕ)) (labels : Labels) (i : ℕ) (whole : Labels) → slice_get labels i ≡ Some (x.0.now, x.1.now) → next ≡ front ++ x ∷ []

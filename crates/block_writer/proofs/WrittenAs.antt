@@ -2,18 +2,16 @@
 use Rattle.std.specs.Prelude.{ℕ, ◌+◌, List, [], ◌∷◌, length, map}
 use Rattle.std.specs.List.{flat_map}
 use Rattle.labels.specs.Rows.{Row}
-use Rattle.index_reader.specs.declared.contents.Contents.{Contents}
-use Rattle.index_reader.specs.Reading.{Place, Parts, rounded}
+use Rattle.index_reader.specs.declared.layout.TableOfContents.{TableOfContents}
+use Rattle.index_reader.specs.Layout.{SeriesEntry, Layout, rounded, Body, TableEntry}
 use Rattle.index_reader.specs.Grammar.{frame, entry}
-use Rattle.index_reader.specs.Bodies.{Body}
-use Rattle.index_reader.specs.Table.{Listed}
 use Rattle.index_reader.specs.Indexes.{Series, Indexed}
 use Rattle.block_writer.specs.EntryBodies.{numbers_of, chunks_of, bodies_of}
 use Rattle.block_writer.specs.IndexText.{symbols_text, start_text, with_entries, references_from, lists_of, section_text, listed_from, contents_of}
 use Rattle.block_writer.specs.Writing.{series_text}
 
 -- where entries stand behind a place
-unfoldable pub places_from : ℕ → List (List ℕ) → List Place
+unfoldable pub places_from : ℕ → List (List ℕ) → List SeriesEntry
 places_from at [] = []
 places_from at (body ∷ bodies) =
     record { offset = rounded at; body = body; end = rounded at + length (entry body) } ∷ places_from (rounded at + length (entry body)) bodies
@@ -48,16 +46,16 @@ abbrev pub all_lists : List (List ℕ) → List (List ℕ × List ℕ) → List 
 all_lists symbols pairs rows = references_in symbols rows ∷ lists_of pairs rows (references_in symbols rows)
 
 -- the entries of the offset table
-abbrev pub table_of : List (List ℕ) → List (List ℕ × List ℕ) → List Row → List Listed
+abbrev pub table_of : List (List ℕ) → List (List ℕ × List ℕ) → List Row → List TableEntry
 table_of symbols pairs rows = listed_from (length (front_text symbols rows)) (([], []) ∷ pairs) (all_lists symbols pairs rows)
 
 -- the table of contents
-abbrev pub contents_in : List (List ℕ) → List (List ℕ × List ℕ) → List Row → Contents
+abbrev pub contents_in : List (List ℕ) → List (List ℕ × List ℕ) → List Row → TableOfContents
 contents_in symbols pairs rows =
     contents_of (length (start_text symbols)) (length (front_text symbols rows)) (length (front_text symbols rows) + length (flat_map section_text (all_lists symbols pairs rows)))
 
 -- the parts of the index
-abbrev pub parts_in : List (List ℕ) → List (List ℕ × List ℕ) → List Row → Parts
+abbrev pub parts_in : List (List ℕ) → List (List ℕ × List ℕ) → List Row → Layout
 parts_in symbols pairs rows = record {
   contents = contents_in symbols pairs rows;
   symbols = symbols;

@@ -3,7 +3,7 @@ use Rattle.std.proofs.Common.{◌≡◌, ℕ, ◌+◌, ◌≤◌, List, ◌++◌
 use Rattle.std.specs.List.{flat_map, AllByRecursion}
 use Rattle.std.specs.Str.{IsUtf8}
 use Rattle.labels.specs.Rows.{Row}
-use Rattle.index_reader.specs.Grammar.{frame, checked, contents_text, IsParts}
+use Rattle.index_reader.specs.Grammar.{frame, checked, contents_text, IsLayout}
 use Rattle.index_reader.specs.Spelled.{table_text, AreZero}
 use Rattle.index_reader.proofs.Gaps.{zeros_of}
 use Rattle.block_writer.specs.EntryBodies.{bodies_of}
@@ -20,7 +20,7 @@ pub spelled_as : (symbols : List (List ℕ)) (pairs : List (List ℕ × List ℕ
 unfolding index_text postings_text
 spelled_as symbols pairs rows text is = is
 
-pub written_parts : (rows : List Row) (text : List ℕ) (w : IsWrittenIndex rows text) → length text ≤ 0x4000_0000 → AllByRecursion IsUtf8 w.symbols → IsParts text (parts_in w.symbols w.pairs rows)
+pub written_parts : (rows : List Row) (text : List ℕ) (w : IsWrittenIndex rows text) → length text ≤ 0x4000_0000 → AllByRecursion IsUtf8 w.symbols → IsLayout text (parts_in w.symbols w.pairs rows)
 written_parts rows text w short texts =
     parts_are w.symbols (bodies_of w.symbols 8 rows) (flat_map section_text (all_lists w.symbols w.pairs rows)) (table_text (table_of w.symbols w.pairs rows)) text (spelled_as w.symbols w.pairs rows text w.spelled) short w.texts_held.ascending texts
 

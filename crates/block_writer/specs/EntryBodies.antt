@@ -7,7 +7,7 @@ use Rattle.std.specs.declared.cmp.Ordering.{Ordering}
 use Rattle.labels.specs.Rows.{Row}
 use Rattle.wire.specs.Spelling.{uvarint, varint}
 use Rattle.index_reader.specs.declared.chunk.Chunk.{Chunk}
-use Rattle.index_reader.specs.Bodies.{Label}
+use Rattle.index_reader.specs.Layout.{Label}
 use Rattle.index_reader.specs.Spelled.{label_text}
 use Rattle.chunk_reader.specs.Grammar.{time_at}
 use Rattle.labels.specs.Labels.{text_cmp}

@@ -5,10 +5,9 @@ use Rattle.byteorder.specs.Endian.{big_bytes}
 use Rattle.labels.specs.Labels.{Labels}
 use Rattle.labels.specs.Rows.{Row}
 use Rattle.labels.specs.Parts.{carries}
-use Rattle.index_reader.specs.declared.contents.Contents.{Contents}
-use Rattle.index_reader.specs.Reading.{rounded}
+use Rattle.index_reader.specs.declared.layout.TableOfContents.{TableOfContents}
+use Rattle.index_reader.specs.Layout.{rounded, TableEntry}
 use Rattle.index_reader.specs.Grammar.{frame, entry, symbol, checked, contents_text}
-use Rattle.index_reader.specs.Table.{Listed}
 use Rattle.index_reader.specs.Spelled.{list_text, table_text}
 use Rattle.block_writer.specs.EntryBodies.{bodies_of}
 
@@ -55,14 +54,14 @@ abbrev pub section_text : List ℕ → List ℕ
 section_text references = frame (list_text references)
 
 -- the entries of the offset table, for pairs whose sections stand one after another from a place on
-unfoldable pub listed_from : ℕ → List (List ℕ × List ℕ) → List (List ℕ) → List Listed
+unfoldable pub listed_from : ℕ → List (List ℕ × List ℕ) → List (List ℕ) → List TableEntry
 listed_from at [] lists = []
 listed_from at (p ∷ pairs) [] = []
 listed_from at (p ∷ pairs) (references ∷ lists) =
     record { name = p.0; value = p.1; offset = at } ∷ listed_from (at + length (section_text references)) pairs lists
 
 -- the table of contents of an index without label indices: where the series, the postings and the offset table stand
-abbrev pub contents_of : ℕ → ℕ → ℕ → Contents
+abbrev pub contents_of : ℕ → ℕ → ℕ → TableOfContents
 contents_of series postings offsets =
     record { symbols = 5; series = series; label_indices = 0; label_offsets = 0; postings = postings; postings_offsets = offsets }
 

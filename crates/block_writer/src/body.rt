@@ -3,7 +3,7 @@
 ghost use Rattle.std.specs.Prelude.{◌≡◌, ◌+◌, ◌<◌, ◌≤◌, ◌++◌, pos, ◌-ℤ◌, length, OnOk, IfOk};
 ghost use Rattle.std.specs.List.{All};
 ghost use Rattle.std.specs.List.Sorted.{IsStrictlySortedBy};
-ghost use Rattle.index_reader.specs.Seen.{texts};
+ghost use Rattle.index_reader.specs.Seen.{bytes_of};
 ghost use Rattle.labels.specs.Labels.{text_cmp};
 ghost use Rattle.block_writer.specs.EntryBodies.{apart, body_of, chunk_of, chunks_of, first_text, labels_text, later_text, places_text};
 ghost use Rattle.block_writer.specs.Writing.{piece_text, series_text};
@@ -26,9 +26,9 @@ pub fn put_body(
     row: &Row,
     at: usize,
 ) -> Result<usize, AllocError>
-    requires ascending { IsStrictlySortedBy text_cmp (texts symbols.now) }
+    requires ascending { IsStrictlySortedBy text_cmp (bytes_of symbols.now) }
     requires within { at + length (series_text row.now.1) ≤ limit }
-    ensures text { OnOk result (out.new.items ≡ out.old.items ++ body_of (texts symbols.now) at row.now) }
+    ensures text { OnOk result (out.new.items ≡ out.old.items ++ body_of (bytes_of symbols.now) at row.now) }
     ensures behind { IfOk result (λ place. place ≡ at + length (series_text row.now.1)) }
 {
     put_labels(out, symbols, row.labels())?;
@@ -38,8 +38,8 @@ pub fn put_body(
 }
 
 fn put_labels(out: &mut Vec<u8>, symbols: &[&str], labels: &LabelSet) -> Result<(), AllocError>
-    requires { IsStrictlySortedBy text_cmp (texts symbols.now) }
-    ensures { OnOk result (out.new.items ≡ out.old.items ++ labels_text (texts symbols.now) labels.now) }
+    requires { IsStrictlySortedBy text_cmp (bytes_of symbols.now) }
+    ensures { OnOk result (out.new.items ≡ out.old.items ++ labels_text (bytes_of symbols.now) labels.now) }
 {
     put_uvarint(out, labels.len() as u64)?;
     for i in 0..labels.len() {

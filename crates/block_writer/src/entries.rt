@@ -3,7 +3,7 @@
 ghost use Rattle.std.specs.Prelude.{◌≡◌, ◌≤◌, ◌++◌, length, IfErr, IfOk, OnOk};
 ghost use Rattle.std.specs.List.Sorted.{IsStrictlySortedBy};
 ghost use Rattle.index_reader.specs.Grammar.{entry};
-ghost use Rattle.index_reader.specs.Seen.{texts};
+ghost use Rattle.index_reader.specs.Seen.{bytes_of};
 ghost use Rattle.labels.specs.Labels.{text_cmp};
 ghost use Rattle.block_writer.specs.EntryBodies.{bodies_of};
 ghost use Rattle.block_writer.specs.IndexText.{padded, references_from, with_entries};
@@ -24,11 +24,11 @@ pub fn put_entries(
     symbols: &[&str],
     rows: &[Row],
 ) -> Result<Vec<u32>, WriteError>
-    requires ascending { IsStrictlySortedBy text_cmp (texts symbols.now) }
+    requires ascending { IsStrictlySortedBy text_cmp (bytes_of symbols.now) }
     requires within { length (chunks_text rows.now) ≤ limit }
-    ensures text { OnOk result (out.new.items ≡ with_entries out.old.items (bodies_of (texts symbols.now) 8 rows.now)) }
-    ensures references { IfOk result (λ v. v.items ≡ references_from (length out.old.items) (bodies_of (texts symbols.now) 8 rows.now)) }
-    ensures reason { IfErr result (IsReason (with_entries out.old.items (bodies_of (texts symbols.now) 8 rows.now))) }
+    ensures text { OnOk result (out.new.items ≡ with_entries out.old.items (bodies_of (bytes_of symbols.now) 8 rows.now)) }
+    ensures references { IfOk result (λ v. v.items ≡ references_from (length out.old.items) (bodies_of (bytes_of symbols.now) 8 rows.now)) }
+    ensures reason { IfErr result (IsReason (with_entries out.old.items (bodies_of (bytes_of symbols.now) 8 rows.now))) }
 {
     let mut references = Vec::new(alloc);
     let mut place = 8;

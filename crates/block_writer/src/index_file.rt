@@ -4,7 +4,7 @@ ghost use Rattle.std.specs.Prelude.{◌≡◌, ◌≤◌, length, IsTrue, IfOk, 
 ghost use Rattle.std.specs.List.Sorted.{IsStrictlySortedBy};
 ghost use Rattle.labels.specs.Labels.{text_cmp, pair_cmp};
 ghost use Rattle.labels.specs.Pairs.{texts_of};
-ghost use Rattle.index_reader.specs.Seen.{texts};
+ghost use Rattle.index_reader.specs.Seen.{bytes_of};
 ghost use Rattle.block_writer.specs.InUse.{pairs_in, HoldsEachOnce};
 ghost use Rattle.block_writer.specs.IndexText.{index_text, start_text, symbols_text};
 ghost use Rattle.block_writer.specs.PartRows.{are_part_rows};
@@ -53,11 +53,11 @@ fn spelled(
     pairs: &[(&str, &str)],
     rows: &[Row],
 ) -> Result<Vec<u8>, WriteError>
-    requires ascending { IsStrictlySortedBy text_cmp (texts symbols.now) }
+    requires ascending { IsStrictlySortedBy text_cmp (bytes_of symbols.now) }
     requires held { HoldsEachOnce pair_cmp (pairs_in rows.now) (texts_of pairs.now) }
     requires within { length (chunks_text rows.now) ≤ limit }
-    ensures text { IfOk result (λ file. file.items ≡ index_text (texts symbols.now) (texts_of pairs.now) rows.now) }
-    ensures reason { IfErr result (IsReason (index_text (texts symbols.now) (texts_of pairs.now) rows.now)) }
+    ensures text { IfOk result (λ file. file.items ≡ index_text (bytes_of symbols.now) (texts_of pairs.now) rows.now) }
+    ensures reason { IfErr result (IsReason (index_text (bytes_of symbols.now) (texts_of pairs.now) rows.now)) }
 {
     let mut file = start_of(alloc, symbols)?;
     let series = file.len();
@@ -69,8 +69,8 @@ fn spelled(
 
 // What stands before the series.
 fn start_of(alloc: Global, symbols: &[&str]) -> Result<Vec<u8>, WriteError>
-    ensures text { IfOk result (λ file. file.items ≡ start_text (texts symbols.now)) }
-    ensures reason { IfErr result (IsReason (start_text (texts symbols.now))) }
+    ensures text { IfOk result (λ file. file.items ≡ start_text (bytes_of symbols.now)) }
+    ensures reason { IfErr result (IsReason (start_text (bytes_of symbols.now))) }
 {
     let content = symbols_content(alloc, symbols)?;
     let mut file = Vec::new(alloc);
@@ -81,8 +81,8 @@ fn start_of(alloc: Global, symbols: &[&str]) -> Result<Vec<u8>, WriteError>
 }
 
 fn symbols_content(alloc: Global, symbols: &[&str]) -> Result<Vec<u8>, WriteError>
-    ensures text { IfOk result (λ content. content.items ≡ symbols_text (texts symbols.now)) }
-    ensures reason { IfErr result (IsReason (symbols_text (texts symbols.now))) }
+    ensures text { IfOk result (λ content. content.items ≡ symbols_text (bytes_of symbols.now)) }
+    ensures reason { IfErr result (IsReason (symbols_text (bytes_of symbols.now))) }
 {
     let mut content = Vec::new(alloc);
     put_be32(&mut content, within(symbols.len())?)?;

@@ -25,8 +25,6 @@ mod limits;
 mod part_rows;
 mod sections;
 mod symbols;
-#[cfg(test)]
-mod tests;
 mod tombstones_file;
 
 pub use error::WriteError;

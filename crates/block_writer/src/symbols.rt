@@ -5,7 +5,7 @@ ghost use Rattle.std.specs.List.Sorted.{IsStrictlySortedBy};
 ghost use Rattle.std.specs.Str.{IsUtf8};
 ghost use Rattle.labels.specs.Labels.{text_cmp, pair_cmp};
 ghost use Rattle.labels.specs.Pairs.{texts_of};
-ghost use Rattle.index_reader.specs.Seen.{texts};
+ghost use Rattle.index_reader.specs.Seen.{bytes_of};
 ghost use Rattle.block_writer.specs.InUse.{label_texts, texts_in, pairs_in, HoldsEachOnce};
 ghost use Rattle.block_writer.specs.EntryBodies.{number_of};
 ghost use Rattle.block_writer.specs.Typed.{AreOfTexts, HaveTexts};
@@ -15,7 +15,7 @@ use std::alloc::{AllocError, Global};
 
 /// The names and the values of all rows, each once, ascending by their bytes.
 pub fn symbols_of<'a>(alloc: Global, rows: &'a [Row]) -> Result<Vec<&'a str>, AllocError>
-    ensures held { IfOk result (λ v. HoldsEachOnce text_cmp (texts_in rows.now) (texts v.items)) }
+    ensures held { IfOk result (λ v. HoldsEachOnce text_cmp (texts_in rows.now) (bytes_of v.items)) }
     ensures typed { OnOk result (HaveTexts rows.now) }
 {
     let mut symbols = all_texts(alloc, rows)?;
@@ -25,7 +25,7 @@ pub fn symbols_of<'a>(alloc: Global, rows: &'a [Row]) -> Result<Vec<&'a str>, Al
 }
 
 fn all_texts<'a>(alloc: Global, rows: &'a [Row]) -> Result<Vec<&'a str>, AllocError>
-    ensures text { IfOk result (λ v. texts v.items ≡ texts_in rows.now) }
+    ensures text { IfOk result (λ v. bytes_of v.items ≡ texts_in rows.now) }
     ensures typed { OnOk result (HaveTexts rows.now) }
 {
     let mut found = Vec::new(alloc);
@@ -36,7 +36,7 @@ fn all_texts<'a>(alloc: Global, rows: &'a [Row]) -> Result<Vec<&'a str>, AllocEr
 }
 
 fn put_texts<'a>(found: &mut Vec<&'a str>, labels: &'a LabelSet) -> Result<(), AllocError>
-    ensures text { OnOk result (texts found.new.items ≡ texts found.old.items ++ label_texts labels.now) }
+    ensures text { OnOk result (bytes_of found.new.items ≡ bytes_of found.old.items ++ label_texts labels.now) }
     ensures typed { OnOk result (AreOfTexts labels.now) }
 {
     for i in 0..labels.len() {
@@ -48,7 +48,7 @@ fn put_texts<'a>(found: &mut Vec<&'a str>, labels: &'a LabelSet) -> Result<(), A
 }
 
 fn put_text<'a>(found: &mut Vec<&'a str>, text: &'a str) -> Result<(), AllocError>
-    ensures text { OnOk result (texts found.new.items ≡ texts found.old.items ++ text.now ∷ []) }
+    ensures text { OnOk result (bytes_of found.new.items ≡ bytes_of found.old.items ++ text.now ∷ []) }
     ensures typed { OnOk result (IsUtf8 text.now) }
 {
     found.push(text)?;
@@ -90,8 +90,8 @@ fn put_pairs<'a>(
 /// How many of the symbols are below a text: its place, where it is one of them. It takes time in proportion to the
 /// logarithm of their count.
 pub fn number_of(symbols: &[&str], text: &str) -> usize
-    requires { IsStrictlySortedBy text_cmp (texts symbols.now) }
-    ensures { result ≡ number_of (texts symbols.now) text.now }
+    requires { IsStrictlySortedBy text_cmp (bytes_of symbols.now) }
+    ensures { result ≡ number_of (bytes_of symbols.now) text.now }
 {
     symbols.partition_point(|symbol| *symbol < text)
 }

@@ -11,8 +11,6 @@
 mod chunks;
 mod error;
 mod samples;
-#[cfg(test)]
-mod tests;
 
 pub use chunks::Chunks;
 pub use error::ChunkError;

@@ -11,20 +11,20 @@ use Rattle.wire.specs.Spelling.{IsBytes, uvarint}
 use Rattle.wire.specs.Checksum.{crc32c}
 use Rattle.labels.specs.Labels.{labels_cmp}
 use Rattle.labels.specs.Parts.{carries}
-use Rattle.index_reader.specs.declared.contents.Contents.{Contents}
-use Rattle.index_reader.specs.Reading.{IsPlaced, Place, Parts, ascending, rounded, series_end, parts_of}
+use Rattle.index_reader.specs.declared.layout.TableOfContents.{TableOfContents}
+use Rattle.index_reader.specs.Layout.{IsPlaced, SeriesEntry, Layout, ascending, rounded, series_end, Label, Body, TableEntry, rises, postings_end}
+use Rattle.index_reader.specs.Checks.{layout_of, labels_of_each, bodies_of, postings_of, is_small, Read, read_of, indexed, indexed_of}
 use Rattle.index_reader.specs.Grammar.{frame, entry, IsWalk}
-use Rattle.index_reader.specs.Bodies.{Label, Body}
-use Rattle.index_reader.specs.Table.{Listed, section_at, references_at, lists_at, table_content_at, table_at}
-use Rattle.index_reader.specs.Each.{each, rises}
-use Rattle.index_reader.specs.Flat.{body_of_place, is_before, gaps_zero}
-use Rattle.index_reader.specs.Labelled.{AreLabels}
-use Rattle.index_reader.specs.Agreement.{tied, agreed_at}
-use Rattle.index_reader.specs.Agreement as agreement
-use Rattle.index_reader.specs.Opening.{label_sets, bodies_of, postings_end, postings_of, is_small, Read, read_of, indexed, indexed_of}
+use Rattle.index_reader.specs.PostingsChecks.{section_at, references_at, lists_at}
+use Rattle.index_reader.specs.TableChecks.{table_content_at, table_at}
+use Rattle.index_reader.specs.Steps.{each}
+use Rattle.index_reader.specs.FlatBodies.{body_of_entry, labels_before}
+use Rattle.index_reader.specs.EntryChecks.{gaps_zero}
+use Rattle.index_reader.specs.Spelled.{AreLabels, table_text, AreBodies, lists_for, IsIndex}
+use Rattle.index_reader.specs.AgreementChecks.{carriers, agreement_of}
+use Rattle.index_reader.specs.AgreementChecks as agreement
 use Rattle.index_reader.specs.Indexes.{Series, Indexed, references, references_with, named, series_of, IsConsistent}
 use Rattle.index_reader.specs.Indexes as indexes
-use Rattle.index_reader.specs.Spelled.{table_text, AreBodies, lists_for, IsIndex}
 use Rattle.index_reader.proofs.Walks.{done}
 use Rattle.index_reader.proofs.Whole.{parts_again}
 use Rattle.index_reader.proofs.Gaps.{gaps_of}
@@ -35,32 +35,32 @@ use Rattle.index_reader.proofs.BodyAgain.{bodies_again}
 use Rattle.index_reader.proofs.TableAgain.{AreSmall, tabled_again, sections_again}
 use Rattle.index_reader.proofs.AgreementAgain.{agreement_again}
 
-bodies_count : (symbols : List (List ℕ)) (ps : List Place) (bs : List Body) → AreBodies symbols ps bs → length bs ≡ length ps
+bodies_count : (symbols : List (List ℕ)) (ps : List SeriesEntry) (bs : List Body) → AreBodies symbols ps bs → length bs ≡ length ps
 bodies_count symbols [] [] h = refl
 bodies_count symbols [] (b ∷ bs) h = absurd h
 bodies_count symbols (p ∷ ps) [] h = absurd h
 bodies_count symbols (p ∷ ps) (b ∷ bs) h = ap suc (bodies_count symbols ps bs h.1)
 
-bodies_labelled : (symbols : List (List ℕ)) (ps : List Place) (bs : List Body) → AreBodies symbols ps bs → (j : ℕ) (d : Body) → j < length bs → AreLabels symbols 0 (get_or bs j d).labels
+bodies_labelled : (symbols : List (List ℕ)) (ps : List SeriesEntry) (bs : List Body) → AreBodies symbols ps bs → (j : ℕ) (d : Body) → j < length bs → AreLabels symbols 0 (get_or bs j d).labels
 bodies_labelled symbols [] [] h j d lt = absurd (omega arith)
 bodies_labelled symbols [] (b ∷ bs) h j d lt = absurd h
 bodies_labelled symbols (p ∷ ps) [] h j d lt = absurd h
 bodies_labelled symbols (p ∷ ps) (b ∷ bs) h zero d lt = h.0.labels
 bodies_labelled symbols (p ∷ ps) (b ∷ bs) h (suc j) d lt = bodies_labelled symbols ps bs h.1 j d (omega arith)
 
-walk_sizes : (ps : List Place) (file : List ℕ) (end at : ℕ) → length file < 2 ^ 32 → IsWalk file end at ps → AllByRecursion (λ p. length p.body < 2 ^ 32) ps
+walk_sizes : (ps : List SeriesEntry) (file : List ℕ) (end at : ℕ) → length file < 2 ^ 32 → IsWalk file end at ps → AllByRecursion (λ p. length p.body < 2 ^ 32) ps
 walk_sizes [] file end at small w = tt
 walk_sizes (p ∷ ps) file end at small w =
     let a = ap (λ (x : List ℕ). length x) w.2.1 in
     let one : length p.body < 2 ^ 32 = omega (arith, small, a, length-take (end - at) (drop at file), length-drop at file, length-append (entry p.body) w.2.0, length-append (uvarint (length p.body)) (p.body ++ big_bytes 4 (crc32c p.body)), length-append p.body (big_bytes 4 (crc32c p.body))) in
     (one, walk_sizes ps file end (rounded (at + length (entry p.body))) small w.3)
 
-less_so : (symbols : List (List ℕ)) (a b : List Label) → ascending symbols ≡ true → InTable symbols a → InTable symbols b → labels_cmp (named symbols a) (named symbols b) ≡ Less → is_before a b ≡ true
+less_so : (symbols : List (List ℕ)) (a b : List Label) → ascending symbols ≡ true → InTable symbols a → InTable symbols b → labels_cmp (named symbols a) (named symbols b) ≡ Less → labels_before a b ≡ true
 unfolding labels_cmp
 less_so symbols a b order i j h = ap is_lt (sym (label_sets_cmp symbols a b order i j) ∙ h)
 
 sets_again : (symbols : List (List ℕ)) (ls : List (List Label)) → ascending symbols ≡ true → ((k : ℕ) (d : List Label) → k < length ls → InTable symbols (get_or ls k d))
-    → ((k : ℕ) → k + 1 < length ls → labels_cmp (get_or (map (named symbols) ls) k []) (get_or (map (named symbols) ls) (k + 1) []) ≡ Less) → rises is_before ls ≡ true
+    → ((k : ℕ) → k + 1 < length ls → labels_cmp (get_or (map (named symbols) ls) k []) (get_or (map (named symbols) ls) (k + 1) []) ≡ Less) → rises labels_before ls ≡ true
 unfolding rises
 sets_again symbols [] order inside h = refl
 sets_again symbols (a ∷ []) order inside h = refl
@@ -72,11 +72,11 @@ sets_again symbols (a ∷ b ∷ ls) order inside h =
     rw e at o) in
     rw (one, more) refl
 
-small_sets : (bs : List Body) → ((k : ℕ) (d : Body) → k < length bs → length (get_or bs k d).labels ≤ 64) → list_all is_small (label_sets bs) ≡ true
+small_sets : (bs : List Body) → ((k : ℕ) (d : Body) → k < length bs → length (get_or bs k d).labels ≤ 64) → list_all is_small (labels_of_each bs) ≡ true
 small_sets [] h = refl
 small_sets (b ∷ bs) h = rw (le-leb (length b.labels) 64 (h 0 b (omega arith)), small_sets bs (λ k d lt. h (suc k) d (omega arith))) refl
 
-end_small : (t : Contents) (len : ℕ) → IsPlaced t len → postings_end t ≤ len
+end_small : (t : TableOfContents) (len : ℕ) → IsPlaced t len → postings_end t ≤ len
 end_small t len p = go (eqb t.label_offsets 0) refl
   where
     below : t.label_offsets ≤ len
@@ -110,17 +110,17 @@ small_lists (p ∷ pairs) ss h = (small_with p.0 p.1 ss h, small_lists pairs ss 
 
 -- ---- the steps of the whole
 
-bodies_read : (file : List ℕ) (p : Parts) (bs : List Body) → each (body_of_place p.symbols) p.entries ≡ Ok bs → gaps_zero file (series_end p.contents) p.symbols_end p.entries ≡ true → rises is_before (label_sets bs) ≡ true → bodies_of file p ≡ Ok bs
+bodies_read : (file : List ℕ) (p : Layout) (bs : List Body) → each (body_of_entry p.symbols) p.entries ≡ Ok bs → gaps_zero file (series_end p.contents) p.symbols_end p.entries ≡ true → rises labels_before (labels_of_each bs) ≡ true → bodies_of file p ≡ Ok bs
 unfolding bodies_of
 bodies_read file p bs a b c = rw (a, b, c) refl
 
-postings_read : (file : List ℕ) (t : Contents) (content : List ℕ) (table : List Listed) (contents raws : List (List ℕ)) → table_content_at file t ≡ Ok content → table_at t.postings (postings_end t) content ≡ Ok table
+postings_read : (file : List ℕ) (t : TableOfContents) (content : List ℕ) (table : List TableEntry) (contents raws : List (List ℕ)) → table_content_at file t ≡ Ok content → table_at t.postings (postings_end t) content ≡ Ok table
     → each (section_at file (postings_end t)) table ≡ Ok contents → each references_at contents ≡ Ok raws → postings_of file t ≡ Ok (table, raws)
 unfolding postings_of lists_at
 postings_read file t content table contents raws a b c d = rw (a, b, c, d) refl
 
-whole_read : (file : List ℕ) (p : Parts) (bs : List Body) (table : List Listed) (raws : List (List ℕ)) (keys : List Label) → parts_of file ≡ Ok p → bodies_of file p ≡ Ok bs → postings_of file p.contents ≡ Ok (table, raws)
-    → agreed_at p.symbols table raws (tied (agreement.references p.entries) (label_sets bs)) ≡ Ok keys → nat_lt 1048576 (length bs) ≡ false → list_all is_small (label_sets bs) ≡ true → read_of file ≡ Ok (record { parts = p; bodies = bs; keys = keys; lists = raws })
+whole_read : (file : List ℕ) (p : Layout) (bs : List Body) (table : List TableEntry) (raws : List (List ℕ)) (keys : List Label) → layout_of file ≡ Ok p → bodies_of file p ≡ Ok bs → postings_of file p.contents ≡ Ok (table, raws)
+    → agreement_of p.symbols table raws (carriers (agreement.entry_references p.entries) (labels_of_each bs)) ≡ Ok keys → nat_lt 1048576 (length bs) ≡ false → list_all is_small (labels_of_each bs) ≡ true → read_of file ≡ Ok (record { parts = p; bodies = bs; keys = keys; lists = raws })
 unfolding read_of
 whole_read file p bs table raws keys a b c d e f = rw (a, b, c, d, e, f) refl
 
@@ -146,7 +146,7 @@ index_again file x fits i =
     let sets = ap (λ (ss : List Series). indexes.label_sets ss) i.series ∙ sets_are symbols p.entries bs count in
     let length_is : length x.series ≡ length bs = ap (λ (ss : List Series). length ss) i.series ∙ series_length symbols p.entries bs count in
     let n = length-map bs (λ (b : Body). b.labels) in
-    let rising = sets_again symbols (label_sets bs) order
+    let rising = sets_again symbols (labels_of_each bs) order
     (λ j d lj. let o = set_at bs j d lj in subst (InTable symbols) (sym o.1) (in_table symbols 0 (get_or bs j o.0).labels (labelled j o.0 o.2)))
     (λ k lt. subst (λ (ss : List (List (List ℕ × List ℕ))). labels_cmp (get_or ss k []) (get_or ss (k + 1) []) ≡ Less) sets (i.consistent.in_order k (omega (arith, lt, n, length_is)))) in
     let stands = i.layout.symbols.1 in

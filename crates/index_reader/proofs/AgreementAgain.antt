@@ -13,19 +13,16 @@ use Rattle.labels.specs.Labels.{text_cmp, pair_cmp}
 use Rattle.labels.specs.Parts.{carries}
 use Rattle.labels.proofs.Lists.{here, there}
 use Rattle.labels.proofs.Texts.{bytes_exact, bytes_self}
-use Rattle.index_reader.specs.Reading.{Place, ascending}
-use Rattle.index_reader.specs.Bodies.{Label, Body}
-use Rattle.index_reader.specs.Table.{Listed}
-use Rattle.index_reader.specs.Each.{each, rises}
-use Rattle.index_reader.specs.Words.{words, refs_of}
-use Rattle.index_reader.specs.Labelled.{AreLabels}
-use Rattle.index_reader.specs.Agree.{Carried, refs_with, Agree}
-use Rattle.index_reader.specs.Finding.{symbol_of, key_before, place_of}
-use Rattle.index_reader.specs.Agreement.{key_at, keys_at, place_at, placed_at, each_all, Tied, tied, are_used, agreed_at}
-use Rattle.index_reader.specs.Agreement as agreement
-use Rattle.index_reader.specs.Opening as opening
+use Rattle.index_reader.specs.Layout.{SeriesEntry, ascending, Label, Body, TableEntry, rises}
+use Rattle.index_reader.specs.Steps.{each}
+use Rattle.index_reader.specs.References.{words, references_in}
+use Rattle.index_reader.specs.Spelled.{AreLabels, pairs_of, lists_for}
+use Rattle.index_reader.specs.CarriedPairs.{Carried, references_carrying, Agree}
+use Rattle.index_reader.specs.Lookups.{symbol_of, key_before, place_of}
+use Rattle.index_reader.specs.AgreementChecks.{key_at, keys_at, list_of_label, lists_of_series, each_all, Carrier, carriers, are_used, agreement_of}
+use Rattle.index_reader.specs.AgreementChecks as agreement
+use Rattle.index_reader.specs.Checks as checks
 use Rattle.index_reader.specs.Indexes.{Series, Indexed, references, references_with, text_of, named, series_at, series_of}
-use Rattle.index_reader.specs.Spelled.{pairs_of, lists_for}
 use Rattle.index_reader.proofs.Searching.{strict_from_rises, ascending_is, search_found}
 use Rattle.index_reader.proofs.Orders.{pairs_cmp}
 use Rattle.index_reader.proofs.Naming.{first_below}
@@ -74,7 +71,7 @@ label_from symbols low (l ∷ ls) name value h c = go (label_from symbols (l.0 +
         (l, inside, is)
     go more false q = more (sym (carries_other name value n v (named symbols ls) q) ∙ c)
 
-label_of : (symbols : List (List ℕ)) (ps : List Place) (bs : List Body) (name value : List ℕ) → ((j : ℕ) (d : Body) → j < length bs → AreLabels symbols 0 (get_or bs j d).labels) → (references_with name value (series_of symbols ps bs) ≡ [] → ⊥) → (l : Label) × IsInside symbols l × (text_of symbols l ≡ (name, value))
+label_of : (symbols : List (List ℕ)) (ps : List SeriesEntry) (bs : List Body) (name value : List ℕ) → ((j : ℕ) (d : Body) → j < length bs → AreLabels symbols 0 (get_or bs j d).labels) → (references_with name value (series_of symbols ps bs) ≡ [] → ⊥) → (l : Label) × IsInside symbols l × (text_of symbols l ≡ (name, value))
 unfolding series_of
 label_of symbols [] bs name value h some = absurd (some refl)
 label_of symbols (p ∷ ps) [] name value h some = absurd (some refl)
@@ -120,14 +117,14 @@ keys_rise symbols (a ∷ b ∷ keys) order inside h =
     rw e at o) in
     rw (one, more) refl
 
-key_again : (symbols : List (List ℕ)) (l : Listed) (key : Label) → ascending symbols ≡ true → IsInside symbols key → text_of symbols key ≡ (l.name, l.value) → key_at symbols l ≡ Ok key
+key_again : (symbols : List (List ℕ)) (l : TableEntry) (key : Label) → ascending symbols ≡ true → IsInside symbols key → text_of symbols key ≡ (l.name, l.value) → key_at symbols l ≡ Ok key
 unfolding key_at
 key_again symbols l key order i e =
     let n : symbol_of symbols l.name ≡ Some key.0 = ap (symbol_of symbols) (sym (ap (λ (p : Pair). p.0) e)) ∙ symbol_is symbols key.0 order i.0 in
     let v : symbol_of symbols l.value ≡ Some key.1 = ap (symbol_of symbols) (sym (ap (λ (p : Pair). p.1) e)) ∙ symbol_is symbols key.1 order i.1 in
     rw (n, v) refl
 
-keys_again : (symbols : List (List ℕ)) (table : List Listed) (keys : List Label) → ascending symbols ≡ true → AllByRecursion (IsInside symbols) keys → named symbols keys ≡ pairs_of table → each (key_at symbols) table ≡ Ok keys
+keys_again : (symbols : List (List ℕ)) (table : List TableEntry) (keys : List Label) → ascending symbols ≡ true → AllByRecursion (IsInside symbols) keys → named symbols keys ≡ pairs_of table → each (key_at symbols) table ≡ Ok keys
 unfolding each
 keys_again symbols [] [] order i e = refl
 keys_again symbols [] (k ∷ keys) order i e = absurd (omega (arith, ap (λ (ps : List Pair). length ps) e))
@@ -139,7 +136,7 @@ keys_again symbols (l ∷ table) (key ∷ keys) order i e =
     rw (key_again symbols l key order i.0 one, keys_again symbols table keys order i.1 more) refl
 
 -- the table begins with the empty pair
-all_keys_again : (symbols : List (List ℕ)) (table : List Listed) (keys : List Label) → ascending symbols ≡ true → AllByRecursion (IsInside symbols) keys → pairs_of table ≡ ([], []) ∷ named symbols keys → rises key_before keys ≡ true → keys_at symbols table ≡ Ok keys
+all_keys_again : (symbols : List (List ℕ)) (table : List TableEntry) (keys : List Label) → ascending symbols ≡ true → AllByRecursion (IsInside symbols) keys → pairs_of table ≡ ([], []) ∷ named symbols keys → rises key_before keys ≡ true → keys_at symbols table ≡ Ok keys
 unfolding keys_at
 all_keys_again symbols [] keys order i e r = absurd (omega (arith, ap (λ (ps : List Pair). length ps) e))
 all_keys_again symbols (l ∷ table) keys order i e r =
@@ -165,7 +162,7 @@ own_label symbols low (l ∷ ls) (suc k) order h lt =
     let other : bytes_eq (get_or symbols l.0 []) (get_or symbols t.0 []) ≡ false = bytes_other symbols l.0 t.0 order h.0.name_in o.name_in (λ (e : l.0 ≡ t.0). omega (arith, e, o.from)) in
     carries_other (get_or symbols t.0 []) (get_or symbols t.1 []) (get_or symbols l.0 []) (get_or symbols l.1 []) (named symbols ls) other ∙ own_label symbols (l.0 + 1) ls k order h.1 inside
 
-some_with : (symbols : List (List ℕ)) (ps : List Place) (bs : List Body) (name value : List ℕ) (j : ℕ) (d : Body) → length bs ≡ length ps → j < length bs → carries name value (named symbols (get_or bs j d).labels) ≡ true → references_with name value (series_of symbols ps bs) ≡ [] → ⊥
+some_with : (symbols : List (List ℕ)) (ps : List SeriesEntry) (bs : List Body) (name value : List ℕ) (j : ℕ) (d : Body) → length bs ≡ length ps → j < length bs → carries name value (named symbols (get_or bs j d).labels) ≡ true → references_with name value (series_of symbols ps bs) ≡ [] → ⊥
 unfolding series_of
 some_with symbols [] bs name value j d n lt c e = omega (arith, n, lt)
 some_with symbols (p ∷ ps) [] name value j d n lt c e = absurd (omega arith)
@@ -183,8 +180,8 @@ some_with symbols (p ∷ ps) (b ∷ bs) name value (suc j) d n lt c e = some_wit
 abbrev pub HasPlace : List Label → Label → Type 0
 HasPlace keys l = (a : ℕ) × (place_of keys l ≡ Some a)
 
-places_again : (keys : List Label) (r : ℕ) (ls : List Label) → ((k : ℕ) → k < length ls → HasPlace keys (get_or ls k (0, 0))) → (cs : List Carried) × (each (place_at keys r) ls ≡ Ok cs)
-unfolding each place_at
+places_again : (keys : List Label) (r : ℕ) (ls : List Label) → ((k : ℕ) → k < length ls → HasPlace keys (get_or ls k (0, 0))) → (cs : List Carried) × (each (list_of_label keys r) ls ≡ Ok cs)
+unfolding each list_of_label
 places_again keys r [] h = ([], refl)
 places_again keys r (l ∷ ls) h =
     let one = h 0 (omega arith) in
@@ -192,8 +189,8 @@ places_again keys r (l ∷ ls) h =
     let first : Carried = (one.0 + 1, r) in
     (first ∷ more.0, rw (one.1, more.1) refl)
 
-placed_again : (symbols : List (List ℕ)) (keys : List Label) (ps : List Place) (bs : List Body) → ((j : ℕ) (d : Body) (k : ℕ) → j < length bs → k < length (get_or bs j d).labels → HasPlace keys (get_or (get_or bs j d).labels k (0, 0))) → (cs : List Carried) × (each_all (placed_at keys) (tied (agreement.references ps) (opening.label_sets bs)) ≡ Ok cs)
-unfolding each_all tied placed_at
+placed_again : (symbols : List (List ℕ)) (keys : List Label) (ps : List SeriesEntry) (bs : List Body) → ((j : ℕ) (d : Body) (k : ℕ) → j < length bs → k < length (get_or bs j d).labels → HasPlace keys (get_or (get_or bs j d).labels k (0, 0))) → (cs : List Carried) × (each_all (lists_of_series keys) (carriers (agreement.entry_references ps) (checks.labels_of_each bs)) ≡ Ok cs)
+unfolding each_all carriers lists_of_series
 placed_again symbols keys [] bs h = ([], refl)
 placed_again symbols keys (p ∷ ps) [] h = ([], refl)
 placed_again symbols keys (p ∷ ps) (b ∷ bs) h =
@@ -221,13 +218,13 @@ record AreKeysOf (symbols : List (List ℕ)) (x : Indexed) (keys : List Label) :
   are : named symbols keys ≡ x.pairs
   rising : rises key_before keys ≡ true
 
-keys_of : (symbols : List (List ℕ)) (ps : List Place) (bs : List Body) (x : Indexed) → ascending symbols ≡ true → x.series ≡ series_of symbols ps bs → ((j : ℕ) (d : Body) → j < length bs → AreLabels symbols 0 (get_or bs j d).labels) → HasItsPairs x → (keys : List Label) × AreKeysOf symbols x keys
+keys_of : (symbols : List (List ℕ)) (ps : List SeriesEntry) (bs : List Body) (x : Indexed) → ascending symbols ≡ true → x.series ≡ series_of symbols ps bs → ((j : ℕ) (d : Body) → j < length bs → AreLabels symbols 0 (get_or bs j d).labels) → HasItsPairs x → (keys : List Label) × AreKeysOf symbols x keys
 keys_of symbols ps bs x order s h c =
     let found = keys_for symbols x.pairs (λ (p : Pair). λ (m : Contains x.pairs p). label_of symbols ps bs p.0 p.1 h (λ (e : references_with p.0 p.1 (series_of symbols ps bs) ≡ []). c.carried p.0 p.1 m (ap (λ (ss : List Series). references_with p.0 p.1 ss) s ∙ e))) in
     let rise = λ (k : ℕ). λ (lt : k + 1 < length found.0). subst (λ (ps' : List Pair). pair_cmp (get_or ps' k ([], [])) (get_or ps' (k + 1) ([], [])) ≡ Less) (sym found.2) (c.in_order k (omega (arith, lt, ap (λ (ps' : List Pair). length ps') found.2, length-map found.0 (text_of symbols)))) in
     (found.0, record { inside = found.1; are = found.2; rising = keys_rise symbols found.0 order found.1 rise })
 
-label_placed : (symbols : List (List ℕ)) (ps : List Place) (bs : List Body) (x : Indexed) (keys : List Label) → ascending symbols ≡ true → x.series ≡ series_of symbols ps bs → length bs ≡ length ps → ((j : ℕ) (d : Body) → j < length bs → AreLabels symbols 0 (get_or bs j d).labels) → HasItsPairs x → AreKeysOf symbols x keys
+label_placed : (symbols : List (List ℕ)) (ps : List SeriesEntry) (bs : List Body) (x : Indexed) (keys : List Label) → ascending symbols ≡ true → x.series ≡ series_of symbols ps bs → length bs ≡ length ps → ((j : ℕ) (d : Body) → j < length bs → AreLabels symbols 0 (get_or bs j d).labels) → HasItsPairs x → AreKeysOf symbols x keys
     → (j : ℕ) (d : Body) (k : ℕ) → j < length bs → k < length (get_or bs j d).labels → HasPlace keys (get_or (get_or bs j d).labels k (0, 0))
 label_placed symbols ps bs x keys order s n h c a j d k lj lk =
     let ls = (get_or bs j d).labels in
@@ -246,42 +243,42 @@ label_placed symbols ps bs x keys order s n h c a j d k lj lk =
     let same : key ≡ l = λ z. (e z, f z) in
     (m.0, ap (place_of keys) (sym same) ∙ place_is keys m.0 a.rising m.1)
 
-listed_again : (symbols : List (List ℕ)) (ps : List Place) (bs : List Body) (x : Indexed) (keys : List Label) (raws : List (List ℕ)) → ascending symbols ≡ true → x.series ≡ series_of symbols ps bs → ((j : ℕ) (d : Body) → j < length bs → AreLabels symbols 0 (get_or bs j d).labels) → AreKeysOf symbols x keys
-    → map refs_of raws ≡ references x.series ∷ lists_for x.pairs x.series → (placed : List Carried) → each_all (placed_at keys) (tied (agreement.references ps) (opening.label_sets bs)) ≡ Ok placed → Agree (map refs_of raws) placed
-listed_again symbols ps bs x keys raws order s h a lists placed e k lt = subst (λ (ls : List (List ℕ)). k < length ls → get_or ls k [] ≡ refs_with k placed) (sym lists) (λ (l : k < length (references x.series ∷ lists_for x.pairs x.series)). at_place k l) lt
+listed_again : (symbols : List (List ℕ)) (ps : List SeriesEntry) (bs : List Body) (x : Indexed) (keys : List Label) (raws : List (List ℕ)) → ascending symbols ≡ true → x.series ≡ series_of symbols ps bs → ((j : ℕ) (d : Body) → j < length bs → AreLabels symbols 0 (get_or bs j d).labels) → AreKeysOf symbols x keys
+    → map references_in raws ≡ references x.series ∷ lists_for x.pairs x.series → (placed : List Carried) → each_all (lists_of_series keys) (carriers (agreement.entry_references ps) (checks.labels_of_each bs)) ≡ Ok placed → Agree (map references_in raws) placed
+listed_again symbols ps bs x keys raws order s h a lists placed e k lt = subst (λ (ls : List (List ℕ)). k < length ls → get_or ls k [] ≡ references_carrying k placed) (sym lists) (λ (l : k < length (references x.series ∷ lists_for x.pairs x.series)). at_place k l) lt
   where
-    at_pair : (j : ℕ) → j < length keys → get_or (lists_for x.pairs x.series) j [] ≡ refs_with (j + 1) placed
+    at_pair : (j : ℕ) → j < length keys → get_or (lists_for x.pairs x.series) j [] ≡ references_carrying (j + 1) placed
     at_pair j lj =
         let i = inside_all symbols keys a.inside j (0, 0) lj in
         let p = of_pair symbols keys j (get_or keys j (0, 0)) order a.rising lj refl i.0 i.1 ps bs placed h e in
-        subst (λ (q : List Pair). get_or (lists_for q x.series) j [] ≡ refs_with (j + 1) placed) a.are
+        subst (λ (q : List Pair). get_or (lists_for q x.series) j [] ≡ references_carrying (j + 1) placed) a.are
         (pair_listed symbols keys x.series j lj ∙ ap (λ (ss : List Series). references_with (get_or symbols (get_or keys j (0, 0)).0 []) (get_or symbols (get_or keys j (0, 0)).1 []) ss) s ∙ sym p)
 
-    at_place : (j : ℕ) → j < suc (length (lists_for x.pairs x.series)) → get_or (references x.series ∷ lists_for x.pairs x.series) j [] ≡ refs_with j placed
+    at_place : (j : ℕ) → j < suc (length (lists_for x.pairs x.series)) → get_or (references x.series ∷ lists_for x.pairs x.series) j [] ≡ references_carrying j placed
     at_place zero l = ap (λ (ss : List Series). references ss) s ∙ sym (of_all symbols keys ps bs placed e)
     at_place (suc j) l =
         let q : j + 1 ≡ suc j = omega arith in
         let n = length-map x.pairs (λ (p : Pair). references_with p.0 p.1 x.series) in
         let m = length-map keys (text_of symbols) in
         let w = ap (λ (ps' : List Pair). length ps') a.are in
-        at_pair j (omega (arith, l, n, m, w)) ∙ ap (λ (i : ℕ). refs_with i placed) q
+        at_pair j (omega (arith, l, n, m, w)) ∙ ap (λ (i : ℕ). references_carrying i placed) q
 
-some_raw : (bytes : List ℕ) → (refs_of bytes ≡ [] → ⊥) → 0 < length bytes
+some_raw : (bytes : List ℕ) → (references_in bytes ≡ [] → ⊥) → 0 < length bytes
 unfolding words
 some_raw [] h = absurd (h refl)
 some_raw (b ∷ bytes) h = omega arith
 
 -- the list of no pair is empty
-raws_used : (symbols : List (List ℕ)) (x : Indexed) (keys : List Label) (raws : List (List ℕ)) → AreKeysOf symbols x keys → HasItsPairs x → map refs_of raws ≡ references x.series ∷ lists_for x.pairs x.series → are_used raws ≡ true
+raws_used : (symbols : List (List ℕ)) (x : Indexed) (keys : List Label) (raws : List (List ℕ)) → AreKeysOf symbols x keys → HasItsPairs x → map references_in raws ≡ references x.series ∷ lists_for x.pairs x.series → are_used raws ≡ true
 raws_used symbols x keys [] a c e = refl
 raws_used symbols x keys (r ∷ raws) a c e = used_again raws 0 (λ j lt.
     let n = length-map x.pairs (λ (p : Pair). references_with p.0 p.1 x.series) in
-    let m = length-map raws refs_of in
+    let m = length-map raws references_in in
     let size = ap (λ (ls : List (List ℕ)). length ls) e in
-    let lists : map refs_of raws ≡ lists_for x.pairs x.series = ap (λ (ls : List (List ℕ)). drop 1 ls) e in
+    let lists : map references_in raws ≡ lists_for x.pairs x.series = ap (λ (ls : List (List ℕ)). drop 1 ls) e in
     let inside : j < length x.pairs = omega (arith, lt, n, m, size) in
-    let here_is : refs_of (get_or raws j []) ≡ get_or (lists_for x.pairs x.series) j [] = sym (get_or-map refs_of raws j [] [] lt) ∙ ap (λ (ls : List (List ℕ)). get_or ls j []) lists in
-    some_raw (get_or raws j []) (λ (none : refs_of (get_or raws j []) ≡ []). none_listed x c j inside (sym here_is ∙ none)))
+    let here_is : references_in (get_or raws j []) ≡ get_or (lists_for x.pairs x.series) j [] = sym (get_or-map references_in raws j [] [] lt) ∙ ap (λ (ls : List (List ℕ)). get_or ls j []) lists in
+    some_raw (get_or raws j []) (λ (none : references_in (get_or raws j []) ≡ []). none_listed x c j inside (sym here_is ∙ none)))
   where
     in_pairs : (pairs : List Pair) (j : ℕ) → j < length pairs → Contains pairs (get_or pairs j ([], []))
     in_pairs [] j lt = absurd (omega arith)
@@ -293,9 +290,9 @@ raws_used symbols x keys (r ∷ raws) a c e = used_again raws 0 (λ j lt.
         let p = get_or x.pairs j ([], []) in
         c.carried p.0 p.1 (in_pairs x.pairs j lt) (sym (get_or-map (λ (q : Pair). references_with q.0 q.1 x.series) x.pairs j ([], []) [] lt) ∙ e)
 
-pub agreement_again : (symbols : List (List ℕ)) (ps : List Place) (bs : List Body) (x : Indexed) (table : List Listed) (raws : List (List ℕ)) → ascending symbols ≡ true → x.series ≡ series_of symbols ps bs → length bs ≡ length ps → ((j : ℕ) (d : Body) → j < length bs → AreLabels symbols 0 (get_or bs j d).labels) → HasItsPairs x
-    → pairs_of table ≡ ([], []) ∷ x.pairs → map refs_of raws ≡ references x.series ∷ lists_for x.pairs x.series → (keys : List Label) × (agreed_at symbols table raws (tied (agreement.references ps) (opening.label_sets bs)) ≡ Ok keys) × (named symbols keys ≡ x.pairs)
-unfolding agreed_at
+pub agreement_again : (symbols : List (List ℕ)) (ps : List SeriesEntry) (bs : List Body) (x : Indexed) (table : List TableEntry) (raws : List (List ℕ)) → ascending symbols ≡ true → x.series ≡ series_of symbols ps bs → length bs ≡ length ps → ((j : ℕ) (d : Body) → j < length bs → AreLabels symbols 0 (get_or bs j d).labels) → HasItsPairs x
+    → pairs_of table ≡ ([], []) ∷ x.pairs → map references_in raws ≡ references x.series ∷ lists_for x.pairs x.series → (keys : List Label) × (agreement_of symbols table raws (carriers (agreement.entry_references ps) (checks.labels_of_each bs)) ≡ Ok keys) × (named symbols keys ≡ x.pairs)
+unfolding agreement_of
 agreement_again symbols ps bs x table raws order s n h c t lists =
     let k = keys_of symbols ps bs x order s h c in
     let keys = k.0 in
@@ -303,7 +300,7 @@ agreement_again symbols ps bs x table raws order s n h c t lists =
     let read : keys_at symbols table ≡ Ok keys = all_keys_again symbols table keys order a.inside (t ∙ ap (λ (ps' : List Pair). ([], []) ∷ ps') (sym a.are)) a.rising in
     let placed = placed_again symbols keys ps bs (label_placed symbols ps bs x keys order s n h c a) in
     let agree = listed_again symbols ps bs x keys raws order s h a lists placed.0 placed.1 in
-    let size : length (map refs_of raws) ≡ length keys + 1 = omega (arith, ap (λ (ls : List (List ℕ)). length ls) lists, length-map x.pairs (λ (p : Pair). references_with p.0 p.1 x.series), length-map keys (text_of symbols), ap (λ (ps' : List Pair). length ps') a.are) in
-    let fits = placed_inside keys (tied (agreement.references ps) (opening.label_sets bs)) placed.0 placed.1 in
-    let used_up = drained_again placed.0 (map refs_of raws) (subst (λ (m : ℕ). AllByRecursion (λ (d : Carried). d.0 < m) placed.0) (sym size) fits) agree in
+    let size : length (map references_in raws) ≡ length keys + 1 = omega (arith, ap (λ (ls : List (List ℕ)). length ls) lists, length-map x.pairs (λ (p : Pair). references_with p.0 p.1 x.series), length-map keys (text_of symbols), ap (λ (ps' : List Pair). length ps') a.are) in
+    let fits = placed_inside keys (carriers (agreement.entry_references ps) (checks.labels_of_each bs)) placed.0 placed.1 in
+    let used_up = drained_again placed.0 (map references_in raws) (subst (λ (m : ℕ). AllByRecursion (λ (d : Carried). d.0 < m) placed.0) (sym size) fits) agree in
     (keys, rw (read, placed.1, raws_used symbols x keys raws a c lists, used_up) refl, a.are)

@@ -7,13 +7,11 @@ use Rattle.std.proofs.lemmas.List.Concat.{flat_map-cons}
 use Rattle.wire.specs.Spelling.{uvarint, varint}
 use Rattle.wire.proofs.Laws.{uvarint_again, uvarint_long}
 use Rattle.index_reader.specs.declared.chunk.Chunk.{Chunk}
-use Rattle.index_reader.specs.Reading.{Place}
-use Rattle.index_reader.specs.Steps.{steps}
-use Rattle.index_reader.specs.Each.{each}
-use Rattle.index_reader.specs.Bodies.{Label, Body, is_label, label_at, labels_at, chunk_at, chunks_at, body_at}
-use Rattle.index_reader.specs.Flat.{body_of_place}
-use Rattle.index_reader.specs.Labelled.{IsLabel, AreLabels}
-use Rattle.index_reader.specs.Spelled.{label_text, AreLater, AreChunks, IsBody, AreBodies}
+use Rattle.index_reader.specs.Layout.{SeriesEntry, Label, Body}
+use Rattle.index_reader.specs.Steps.{steps, each}
+use Rattle.index_reader.specs.BodyChecks.{is_label, label_at, labels_at, chunk_at, chunks_at, body_at}
+use Rattle.index_reader.specs.FlatBodies.{body_of_entry}
+use Rattle.index_reader.specs.Spelled.{IsLabel, AreLabels, label_text, AreLater, AreChunks, IsBody, AreBodies}
 use Rattle.index_reader.proofs.ChunkAgain.{first_again, later_again}
 
 is_true : (symbols : List (List ℕ)) (low : ℕ) (l : Label) → IsLabel symbols low l → is_label symbols low l.0 l.1 ≡ true
@@ -80,7 +78,7 @@ body_again symbols b text few small labels h =
     let cs = chunks_again b.chunks h.chunks_text (omega (arith, small, a, length-append (uvarint (length b.labels) ++ flat_map label_text b.labels) h.chunks_text)) h.chunks in
     ap (body_at symbols) h.spelled ∙ rw (ls.1, cs.1) refl
 
-pub bodies_again : (symbols : List (List ℕ)) (ps : List Place) (bs : List Body) → length symbols < 2 ^ 32 → AllByRecursion (λ p. length p.body < 2 ^ 32) ps → ((k : ℕ) (d : Body) → k < length bs → length (get_or bs k d).labels ≤ 64) → AreBodies symbols ps bs → each (body_of_place symbols) ps ≡ Ok bs
+pub bodies_again : (symbols : List (List ℕ)) (ps : List SeriesEntry) (bs : List Body) → length symbols < 2 ^ 32 → AllByRecursion (λ p. length p.body < 2 ^ 32) ps → ((k : ℕ) (d : Body) → k < length bs → length (get_or bs k d).labels ≤ 64) → AreBodies symbols ps bs → each (body_of_entry symbols) ps ≡ Ok bs
 unfolding each
 bodies_again symbols [] [] few small labels h = refl
 bodies_again symbols [] (b ∷ bs) few small labels h = absurd h

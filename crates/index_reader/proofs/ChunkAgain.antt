@@ -6,7 +6,8 @@ use Rattle.wire.specs.Spelling.{uvarint, varint, zigzag}
 use Rattle.wire.proofs.Laws.{uvarint_again}
 use Rattle.wire.proofs.Signed.{varint_again}
 use Rattle.index_reader.specs.declared.chunk.Chunk.{Chunk}
-use Rattle.index_reader.specs.Chunks.{is_time, is_reference, natural, time_after, reference_after, first_at, later_at}
+use Rattle.index_reader.specs.Layout.{is_time}
+use Rattle.index_reader.specs.ChunkChecks.{is_reference, natural, time_after, reference_after, first_at, later_at}
 use Rattle.index_reader.specs.Spelled.{IsFirst, IsLater}
 
 time_again : (z : ℤ) (n : ℕ) (t : ℤ) → t ≡ z +ℤ pos n → is_time t ≡ true → time_after z n ≡ Some t

@@ -8,7 +8,8 @@ use Rattle.wire.specs.Reading.{uvarint_at, varint_at}
 use Rattle.wire.proofs.Laws.{uvarint_takes}
 use Rattle.wire.proofs.Signed.{varint_takes}
 use Rattle.index_reader.specs.declared.chunk.Chunk.{Chunk}
-use Rattle.index_reader.specs.Chunks.{is_time, is_reference, natural, time_after, reference_after, ◌>>=◌, read, first_at, later_at}
+use Rattle.index_reader.specs.Layout.{is_time}
+use Rattle.index_reader.specs.ChunkChecks.{is_reference, natural, time_after, reference_after, ◌>>=◌, read, first_at, later_at}
 use Rattle.index_reader.specs.Spelled.{IsFirst, IsLater}
 use Rattle.index_reader.proofs.Fields.{Takes, takes, Takes-then}
 

@@ -16,24 +16,25 @@ use Rattle.wire.proofs.Laws.{uvarint_long}
 use Rattle.labels.specs.Labels.{text_cmp, labels_cmp, pair_cmp}
 use Rattle.labels.proofs.Lists.{here, there, Contains-cases, none_in_nil}
 use Rattle.labels.proofs.Texts.{bytes_exact, bytes_self}
-use Rattle.index_reader.specs.declared.contents.Contents.{Contents}
+use Rattle.index_reader.specs.declared.layout.TableOfContents.{TableOfContents}
 use Rattle.index_reader.specs.declared.error.IndexError.{IndexError}
 use Rattle.index_reader.specs.declared.error.IndexError.TheVariants.{Series, SeriesOrder, Limit, PostingsDisagree}
-use Rattle.index_reader.specs.Reading.{Place, Parts, ascending, rounded, series_end, parts_of}
-use Rattle.index_reader.specs.Grammar.{entry, IsWalk, IsParts}
-use Rattle.index_reader.specs.Bodies.{Label, Body}
-use Rattle.index_reader.specs.Table.{Listed, table_content_at, table_at, lists_at, section_at, references_at}
-use Rattle.index_reader.specs.Words.{refs_of, IsList}
-use Rattle.index_reader.specs.Each.{each, rises}
-use Rattle.index_reader.specs.Flat.{body_of_place, is_before, gaps_zero}
-use Rattle.index_reader.specs.Agree.{Carried, drained}
-use Rattle.index_reader.specs.Finding.{symbol_of, key_before}
-use Rattle.index_reader.specs.Agreement.{Tied, or_disagree, key_at, keys_at, placed_at, each_all, tied, are_used, agreed_at}
-use Rattle.index_reader.specs.Agreement as agreement
-use Rattle.index_reader.specs.Opening.{label_sets, bodies_of, postings_end, postings_of, is_small, Read, read_of, IsRead}
+use Rattle.index_reader.specs.Layout.{SeriesEntry, Layout, ascending, rounded, series_end, Label, Body, TableEntry, rises, postings_end}
+use Rattle.index_reader.specs.Checks.{layout_of, labels_of_each, bodies_of, postings_of, is_small, Read, read_of, IsRead}
+use Rattle.index_reader.specs.Grammar.{entry, IsWalk, IsLayout}
+use Rattle.index_reader.specs.TableChecks.{table_content_at, table_at}
+use Rattle.index_reader.specs.PostingsChecks.{lists_at, section_at, references_at}
+use Rattle.index_reader.specs.References.{references_in, IsList}
+use Rattle.index_reader.specs.Steps.{each}
+use Rattle.index_reader.specs.FlatBodies.{body_of_entry, labels_before}
+use Rattle.index_reader.specs.EntryChecks.{gaps_zero}
+use Rattle.index_reader.specs.CarriedPairs.{Carried, are_used_up}
+use Rattle.index_reader.specs.Lookups.{symbol_of, key_before}
+use Rattle.index_reader.specs.AgreementChecks.{Carrier, or_disagree, key_at, keys_at, lists_of_series, each_all, carriers, are_used, agreement_of}
+use Rattle.index_reader.specs.AgreementChecks as agreement
 use Rattle.index_reader.specs.Indexes.{references, references_with, text_of, named, series_at, series_of, IsConsistent}
 use Rattle.index_reader.specs.Indexes as indexes
-use Rattle.index_reader.specs.Kept.{IsListing}
+use Rattle.index_reader.specs.KeptIndex.{IsListing}
 use Rattle.index_reader.proofs.WalkLoops.{bind_ok, guard_ended}
 use Rattle.index_reader.proofs.Walks.{ok_is}
 use Rattle.index_reader.proofs.Whole.{end_inside}
@@ -41,7 +42,7 @@ use Rattle.index_reader.proofs.WordsAt.{length-refs}
 use Rattle.index_reader.proofs.Sound.{each_length, few_symbols}
 use Rattle.index_reader.proofs.Sections.{sound_lists}
 use Rattle.index_reader.proofs.Orders.{InTable, label_sets_cmp, pairs_cmp}
-use Rattle.index_reader.specs.Labelled.{AreLabels}
+use Rattle.index_reader.specs.Spelled.{AreLabels}
 use Rattle.index_reader.proofs.Naming.{first_below, bodies_take, is_label_set}
 use Rattle.index_reader.proofs.Draining.{drained_takes}
 use Rattle.index_reader.proofs.Placing.{placed_inside}
@@ -62,53 +63,53 @@ is_so false d read y h = absurd cc
 
 -- ---- the steps of the whole
 
-pub record AreBodies (file : List ℕ) (p : Parts) (bs : List Body) : Type 0 where
-  pub read : each (body_of_place p.symbols) p.entries ≡ Ok bs
+pub record AreBodies (file : List ℕ) (p : Layout) (bs : List Body) : Type 0 where
+  pub read : each (body_of_entry p.symbols) p.entries ≡ Ok bs
   pub gaps : gaps_zero file (series_end p.contents) p.symbols_end p.entries ≡ true
-  pub rising : rises is_before (label_sets bs) ≡ true
+  pub rising : rises labels_before (labels_of_each bs) ≡ true
 
-pub record ArePostings (file : List ℕ) (t : Contents) (table : List Listed) (lists : List (List ℕ)) : Type 0 where
+pub record ArePostings (file : List ℕ) (t : TableOfContents) (table : List TableEntry) (lists : List (List ℕ)) : Type 0 where
   pub content : List ℕ
   pub content_is : table_content_at file t ≡ Ok content
   pub table_is : table_at t.postings (postings_end t) content ≡ Ok table
   pub lists_are : lists_at file (postings_end t) table ≡ Ok lists
 
 pub record Chain (file : List ℕ) (r : Read) : Type 0 where
-  pub parts : parts_of file ≡ Ok r.parts
+  pub parts : layout_of file ≡ Ok r.parts
   pub bodies : AreBodies file r.parts r.bodies
-  pub table : List Listed
+  pub table : List TableEntry
   pub postings : ArePostings file r.parts.contents table r.lists
-  pub agreed : agreed_at r.parts.symbols table r.lists (tied (agreement.references r.parts.entries) (label_sets r.bodies)) ≡ Ok r.keys
+  pub agreed : agreement_of r.parts.symbols table r.lists (carriers (agreement.entry_references r.parts.entries) (labels_of_each r.bodies)) ≡ Ok r.keys
   pub few : length r.bodies ≤ 1048576
-  pub small : list_all is_small (label_sets r.bodies) ≡ true
+  pub small : list_all is_small (labels_of_each r.bodies) ≡ true
 
-pub bodied : (file : List ℕ) (p : Parts) (bs : List Body) → bodies_of file p ≡ Ok bs → AreBodies file p bs
+pub bodied : (file : List ℕ) (p : Layout) (bs : List Body) → bodies_of file p ≡ Ok bs → AreBodies file p bs
 unfolding bodies_of
 bodied file p bs h =
-    let e = bind_ok (each (body_of_place p.symbols) p.entries) _ bs h in
+    let e = bind_ok (each (body_of_entry p.symbols) p.entries) _ bs h in
     let g = is_so (gaps_zero file (series_end p.contents) p.symbols_end p.entries) Series _ bs e.2 in
-    let k = guard_ended (rises is_before (label_sets e.0)) SeriesOrder e.0 bs g.1 in
+    let k = guard_ended (rises labels_before (labels_of_each e.0)) SeriesOrder e.0 bs g.1 in
     subst (AreBodies file p) k.1 (record { read = e.1; gaps = g.0; rising = k.0 })
 
-pub listed_in : (file : List ℕ) (t : Contents) (x : List Listed × List (List ℕ)) → postings_of file t ≡ Ok x → ArePostings file t x.0 x.1
+pub listed_in : (file : List ℕ) (t : TableOfContents) (x : List TableEntry × List (List ℕ)) → postings_of file t ≡ Ok x → ArePostings file t x.0 x.1
 unfolding postings_of
 listed_in file t x h =
     let c = bind_ok (table_content_at file t) _ x h in
     let b = bind_ok (table_at t.postings (postings_end t) c.0) _ x c.2 in
     let l = bind_ok (lists_at file (postings_end t) b.0) _ x b.2 in
-    let made : List Listed × List (List ℕ) = (b.0, l.0) in
-    subst (λ (y : List Listed × List (List ℕ)). ArePostings file t y.0 y.1) (ok_is made x l.2) (record { content = c.0; content_is = c.1; table_is = b.1; lists_are = l.1 })
+    let made : List TableEntry × List (List ℕ) = (b.0, l.0) in
+    subst (λ (y : List TableEntry × List (List ℕ)). ArePostings file t y.0 y.1) (ok_is made x l.2) (record { content = c.0; content_is = c.1; table_is = b.1; lists_are = l.1 })
 
 pub chain : (file : List ℕ) (r : Read) → read_of file ≡ Ok r → Chain file r
 unfolding read_of
 chain file r h =
-    let p = bind_ok (parts_of file) _ r h in
+    let p = bind_ok (layout_of file) _ r h in
     let b = bind_ok (bodies_of file p.0) _ r p.2 in
     let q = bind_ok (postings_of file p.0.contents) _ r b.2 in
-    let k = bind_ok (agreed_at p.0.symbols q.0.0 q.0.1 (tied (agreement.references p.0.entries) (label_sets b.0))) _ r q.2 in
+    let k = bind_ok (agreement_of p.0.symbols q.0.0 q.0.1 (carriers (agreement.entry_references p.0.entries) (labels_of_each b.0))) _ r q.2 in
     let n = not_so (nat_lt 1048576 (length b.0)) Limit _ r k.2 in
     let made : Read = record { parts = p.0; bodies = b.0; keys = k.0; lists = q.0.1 } in
-    let s = guard_ended (list_all is_small (label_sets b.0)) Limit made r n.1 in
+    let s = guard_ended (list_all is_small (labels_of_each b.0)) Limit made r n.1 in
     let le = ltb-false 1048576 (length b.0) n.0 in
     subst (Chain file) s.1 (record {
       parts = p.1;
@@ -122,9 +123,9 @@ chain file r h =
 
 -- ---- the pairs of the table
 
-pub record AreKeys (symbols : List (List ℕ)) (table : List Listed) (keys : List Label) : Type 0 where
-  pub first : Listed
-  pub rest : List Listed
+pub record AreKeys (symbols : List (List ℕ)) (table : List TableEntry) (keys : List Label) : Type 0 where
+  pub first : TableEntry
+  pub rest : List TableEntry
   pub split : table ≡ first ∷ rest
   pub no_name : length first.name ≡ 0
   pub no_value : length first.value ≡ 0
@@ -135,7 +136,7 @@ is_first : (c : Bool) (d : IndexError) (read : Result (List Label) IndexError) (
 is_first true d read y h = (refl, h)
 is_first false d read y h = absurd cc
 
-pub keyed : (symbols : List (List ℕ)) (table : List Listed) (keys : List Label) → keys_at symbols table ≡ Ok keys → AreKeys symbols table keys
+pub keyed : (symbols : List (List ℕ)) (table : List TableEntry) (keys : List Label) → keys_at symbols table ≡ Ok keys → AreKeys symbols table keys
 unfolding keys_at
 keyed symbols [] keys h = absurd cc
 keyed symbols (l ∷ ls) keys h =
@@ -152,7 +153,7 @@ agreed_ok None x h = absurd cc
 abbrev pub IsInside : List (List ℕ) → Label → Type 0
 IsInside symbols l = (l.0 < length symbols) × (l.1 < length symbols)
 
-key_inside : (symbols : List (List ℕ)) (l : Listed) (key : Label) → key_at symbols l ≡ Ok key → IsInside symbols key
+key_inside : (symbols : List (List ℕ)) (l : TableEntry) (key : Label) → key_at symbols l ≡ Ok key → IsInside symbols key
 unfolding key_at
 key_inside symbols l key h =
     let n = bind_ok (or_disagree (symbol_of symbols l.name)) _ key h in
@@ -169,7 +170,7 @@ first_inside symbols x xs keys e one more = subst (All (IsInside symbols)) e (λ
     at_place zero d lt = one
     at_place (suc k) d lt = more k d (omega arith)
 
-keys_inside : (symbols : List (List ℕ)) (ls : List Listed) (keys : List Label) → each (key_at symbols) ls ≡ Ok keys → All (IsInside symbols) keys
+keys_inside : (symbols : List (List ℕ)) (ls : List TableEntry) (keys : List Label) → each (key_at symbols) ls ≡ Ok keys → All (IsInside symbols) keys
 keys_inside symbols [] keys h = subst (All (IsInside symbols)) (each_nil (key_at symbols) keys h) (λ k d lt. absurd (omega arith))
 keys_inside symbols (l ∷ ls) keys h =
     let x = each_cons (key_at symbols) l ls keys h in
@@ -177,20 +178,20 @@ keys_inside symbols (l ∷ ls) keys h =
 
 -- ---- the agreement
 
-pub record AreAgreed (symbols : List (List ℕ)) (table : List Listed) (lists : List (List ℕ)) (series : List Tied) (keys : List Label) : Type 0 where
+pub record AreAgreed (symbols : List (List ℕ)) (table : List TableEntry) (lists : List (List ℕ)) (series : List Carrier) (keys : List Label) : Type 0 where
   pub keys_are : keys_at symbols table ≡ Ok keys
   pub placed : List Carried
-  pub placed_is : each_all (placed_at keys) series ≡ Ok placed
+  pub placed_is : each_all (lists_of_series keys) series ≡ Ok placed
   pub used : are_used lists ≡ true
-  pub used_up : drained (map refs_of lists) placed ≡ true
+  pub used_up : are_used_up (map references_in lists) placed ≡ true
 
-pub agreed_parts : (symbols : List (List ℕ)) (table : List Listed) (lists : List (List ℕ)) (series : List Tied) (keys : List Label) → agreed_at symbols table lists series ≡ Ok keys → AreAgreed symbols table lists series keys
-unfolding agreed_at
+pub agreed_parts : (symbols : List (List ℕ)) (table : List TableEntry) (lists : List (List ℕ)) (series : List Carrier) (keys : List Label) → agreement_of symbols table lists series ≡ Ok keys → AreAgreed symbols table lists series keys
+unfolding agreement_of
 agreed_parts symbols table lists series keys h =
     let k = bind_ok (keys_at symbols table) _ keys h in
-    let p = bind_ok (each_all (placed_at k.0) series) _ keys k.2 in
-    let g = guard_ended (are_used lists && drained (map refs_of lists) p.0) PostingsDisagree k.0 keys p.2 in
-    let t = both (are_used lists) (drained (map refs_of lists) p.0) g.0 in
+    let p = bind_ok (each_all (lists_of_series k.0) series) _ keys k.2 in
+    let g = guard_ended (are_used lists && are_used_up (map references_in lists) p.0) PostingsDisagree k.0 keys p.2 in
+    let t = both (are_used lists) (are_used_up (map references_in lists) p.0) g.0 in
     subst (AreAgreed symbols table lists series) g.1 (record { keys_are = k.1; placed = p.0; placed_is = p.1; used = t.0; used_up = t.1 })
 
 all_at : (f : List ℕ → Bool) (xs : List (List ℕ)) (k : ℕ) → list_all f xs ≡ true → k < length xs → f (get_or xs k []) ≡ true
@@ -204,18 +205,18 @@ used_at (x ∷ xs) k h lt =
     let e : k + 1 ≡ suc k = omega arith in
     rw e (ltb-true 0 _ (all_at (λ (l : List ℕ). nat_lt 0 (length l)) xs k h (omega arith)))
 
-some_refs : (bytes : List ℕ) → length bytes % 4 ≡ 0 → 0 < length bytes → refs_of bytes ≡ [] → ⊥
+some_refs : (bytes : List ℕ) → length bytes % 4 ≡ 0 → 0 < length bytes → references_in bytes ≡ [] → ⊥
 some_refs bytes four some e = omega (arith, four, some, length-refs bytes, ap length e)
 
-pub listing : (symbols : List (List ℕ)) (table : List Listed) (lists : List (List ℕ)) (ps : List Place) (bs : List Body) (keys : List Label) → length symbols < 2 ^ 32 → ascending symbols ≡ true
+pub listing : (symbols : List (List ℕ)) (table : List TableEntry) (lists : List (List ℕ)) (ps : List SeriesEntry) (bs : List Body) (keys : List Label) → length symbols < 2 ^ 32 → ascending symbols ≡ true
     → ((k : ℕ) (d : List ℕ) → k < length lists → IsList (get_or lists k d)) → ((k : ℕ) (d : Body) → k < length bs → AreLabels symbols 0 (get_or bs k d).labels) → length lists ≡ length table
-    → AreAgreed symbols table lists (tied (agreement.references ps) (label_sets bs)) keys → IsListing symbols keys (series_of symbols ps bs) (map refs_of lists)
+    → AreAgreed symbols table lists (carriers (agreement.entry_references ps) (labels_of_each bs)) keys → IsListing symbols keys (series_of symbols ps bs) (map references_in lists)
 listing symbols table lists ps bs keys few order whole labelled counted a =
     let k = keyed symbols table keys a.keys_are in
     let inside = keys_inside symbols k.rest keys k.read in
-    let size : length (map refs_of lists) ≡ length keys + 1 = omega (arith, length-map lists refs_of, counted, ap length k.split, each_length (key_at symbols) k.rest keys k.read) in
-    let fits = placed_inside keys (tied (agreement.references ps) (label_sets bs)) a.placed a.placed_is in
-    let agree = drained_takes a.placed (map refs_of lists) (subst (λ (n : ℕ). AllByRecursion (λ (c : Carried). c.0 < n) a.placed) (sym size) fits) a.used_up in
+    let size : length (map references_in lists) ≡ length keys + 1 = omega (arith, length-map lists references_in, counted, ap length k.split, each_length (key_at symbols) k.rest keys k.read) in
+    let fits = placed_inside keys (carriers (agreement.entry_references ps) (labels_of_each bs)) a.placed a.placed_is in
+    let agree = drained_takes a.placed (map references_in lists) (subst (λ (n : ℕ). AllByRecursion (λ (c : Carried). c.0 < n) a.placed) (sym size) fits) a.used_up in
     record {
       few = few;
       order = order;
@@ -227,28 +228,28 @@ listing symbols table lists ps bs keys few order whole labelled counted a =
           let o = inside j (0, 0) lt in
           agree (j + 1) (omega (arith, size)) ∙ of_pair symbols keys j (get_or keys j (0, 0)) order k.rising lt refl o.0 o.1 ps bs a.placed labelled a.placed_is;
       some = λ j lt e.
-          let long : j + 1 < length lists = omega (arith, size, length-map lists refs_of) in
-          let is : get_or (map refs_of lists) (j + 1) [] ≡ refs_of (get_or lists (j + 1) []) = get_or-map refs_of lists (j + 1) [] [] long in
+          let long : j + 1 < length lists = omega (arith, size, length-map lists references_in) in
+          let is : get_or (map references_in lists) (j + 1) [] ≡ references_in (get_or lists (j + 1) []) = get_or-map references_in lists (j + 1) [] [] long in
           some_refs (get_or lists (j + 1) []) (whole (j + 1) [] long).0 (used_at lists j a.used long) (sym is ∙ e);
       absent = λ name value lacks. of_none symbols keys name value lacks ps bs a.placed a.placed_is;
     }
 
 -- ---- the order of series
 
-refs_are : (symbols : List (List ℕ)) (ps : List Place) (bs : List Body) → length bs ≡ length ps → references (series_of symbols ps bs) ≡ agreement.references ps
+refs_are : (symbols : List (List ℕ)) (ps : List SeriesEntry) (bs : List Body) → length bs ≡ length ps → references (series_of symbols ps bs) ≡ agreement.entry_references ps
 unfolding series_of
 refs_are symbols [] bs e = refl
 refs_are symbols (p ∷ ps) [] e = absurd (omega (arith, e))
 refs_are symbols (p ∷ ps) (b ∷ bs) e = ap (λ (rs : List ℕ). p.offset / 16 ∷ rs) (refs_are symbols ps bs (omega (arith, e)))
 
-pub sets_are : (symbols : List (List ℕ)) (ps : List Place) (bs : List Body) → length bs ≡ length ps → indexes.label_sets (series_of symbols ps bs) ≡ map (named symbols) (label_sets bs)
+pub sets_are : (symbols : List (List ℕ)) (ps : List SeriesEntry) (bs : List Body) → length bs ≡ length ps → indexes.label_sets (series_of symbols ps bs) ≡ map (named symbols) (labels_of_each bs)
 unfolding series_of
 sets_are symbols [] [] e = refl
 sets_are symbols [] (b ∷ bs) e = absurd (omega (arith, e))
 sets_are symbols (p ∷ ps) [] e = absurd (omega (arith, e))
 sets_are symbols (p ∷ ps) (b ∷ bs) e = ap (λ (rs : List (List (List ℕ × List ℕ))). named symbols b.labels ∷ rs) (sets_are symbols ps bs (omega (arith, e)))
 
-pub series_length : (symbols : List (List ℕ)) (ps : List Place) (bs : List Body) → length bs ≡ length ps → length (series_of symbols ps bs) ≡ length bs
+pub series_length : (symbols : List (List ℕ)) (ps : List SeriesEntry) (bs : List Body) → length bs ≡ length ps → length (series_of symbols ps bs) ≡ length bs
 unfolding series_of
 series_length symbols [] [] e = refl
 series_length symbols [] (b ∷ bs) e = absurd (omega (arith, e))
@@ -264,7 +265,7 @@ whole_rounds n = omega arith
 goes_up : (at n : ℕ) → at % 16 ≡ 0 → 0 < n → at / 16 < rounded (at + n) / 16
 goes_up at n whole some = omega (arith, whole, some)
 
-walk_rises : (ps : List Place) (file : List ℕ) (end at : ℕ) → at % 16 ≡ 0 → IsWalk file end at ps → IsStrictlyIncreasing (agreement.references ps)
+walk_rises : (ps : List SeriesEntry) (file : List ℕ) (end at : ℕ) → at % 16 ≡ 0 → IsWalk file end at ps → IsStrictlyIncreasing (agreement.entry_references ps)
 walk_rises [] file end at whole w k lt = absurd (omega arith)
 walk_rises (p ∷ []) file end at whole w k lt = absurd (omega arith)
 walk_rises (p ∷ q ∷ ps) file end at whole w zero lt =
@@ -275,7 +276,7 @@ walk_rises (p ∷ q ∷ ps) file end at whole w (suc k) lt =
     let e : suc k + 1 ≡ suc (k + 1) = omega arith in
     rw e (walk_rises (q ∷ ps) file end (rounded (at + length (entry p.body))) (whole_rounds (at + length (entry p.body))) w.3 k (omega arith))
 
-walk_small : (ps : List Place) (file : List ℕ) (end at : ℕ) → IsWalk file end at ps → end ≤ 2 ^ 32 → (k : ℕ) → k < length ps → get_or (agreement.references ps) k 0 < 2 ^ 32
+walk_small : (ps : List SeriesEntry) (file : List ℕ) (end at : ℕ) → IsWalk file end at ps → end ≤ 2 ^ 32 → (k : ℕ) → k < length ps → get_or (agreement.entry_references ps) k 0 < 2 ^ 32
 walk_small [] file end at w le k lt = absurd (omega arith)
 walk_small (p ∷ ps) file end at w le zero lt =
     let e : p.offset ≡ at = w.0 in
@@ -292,15 +293,15 @@ pub in_table : (symbols : List (List ℕ)) (low : ℕ) (ls : List Label) → Are
 in_table symbols low [] h = tt
 in_table symbols low (l ∷ ls) h = ((h.0.name_in, h.0.value_in), in_table symbols (l.0 + 1) ls h.1)
 
-sets_rise : (symbols : List (List ℕ)) (ls : List (List Label)) → ascending symbols ≡ true → ((k : ℕ) (d : List Label) → k < length ls → InTable symbols (get_or ls k d)) → rises is_before ls ≡ true
+sets_rise : (symbols : List (List ℕ)) (ls : List (List Label)) → ascending symbols ≡ true → ((k : ℕ) (d : List Label) → k < length ls → InTable symbols (get_or ls k d)) → rises labels_before ls ≡ true
     → (k : ℕ) → k + 1 < length ls → labels_cmp (get_or (map (named symbols) ls) k []) (get_or (map (named symbols) ls) (k + 1) []) ≡ Less
 unfolding rises labels_cmp
 sets_rise symbols [] order inside h k lt = absurd (omega arith)
 sets_rise symbols (a ∷ []) order inside h k lt = absurd (omega arith)
-sets_rise symbols (a ∷ b ∷ ls) order inside h zero lt = label_sets_cmp symbols a b order (inside 0 a (omega arith)) (inside 1 a (omega arith)) ∙ less_is _ (both (is_before a b) (rises is_before (b ∷ ls)) h).0
+sets_rise symbols (a ∷ b ∷ ls) order inside h zero lt = label_sets_cmp symbols a b order (inside 0 a (omega arith)) (inside 1 a (omega arith)) ∙ less_is _ (both (labels_before a b) (rises labels_before (b ∷ ls)) h).0
 sets_rise symbols (a ∷ b ∷ ls) order inside h (suc k) lt =
     let e : suc k + 1 ≡ suc (k + 1) = omega arith in
-    rw e (sets_rise symbols (b ∷ ls) order (λ j d l. inside (suc j) d (omega arith)) (both (is_before a b) (rises is_before (b ∷ ls)) h).1 k (omega arith))
+    rw e (sets_rise symbols (b ∷ ls) order (λ j d l. inside (suc j) d (omega arith)) (both (labels_before a b) (rises labels_before (b ∷ ls)) h).1 k (omega arith))
 
 pairs_rise : (symbols : List (List ℕ)) (keys : List Label) → ascending symbols ≡ true → All (IsInside symbols) keys → rises key_before keys ≡ true
     → (k : ℕ) → k + 1 < length keys → pair_cmp (get_or (named symbols keys) k ([], [])) (get_or (named symbols keys) (k + 1) ([], [])) ≡ Less
@@ -365,20 +366,20 @@ listed_so symbols keys series lists l name value some =
 
 -- ---- all of it
 
-pub few_labels : (bs : List Body) (k : ℕ) (d : Body) → list_all is_small (label_sets bs) ≡ true → k < length bs → length (get_or bs k d).labels ≤ 64
+pub few_labels : (bs : List Body) (k : ℕ) (d : Body) → list_all is_small (labels_of_each bs) ≡ true → k < length bs → length (get_or bs k d).labels ≤ 64
 few_labels [] k d h lt = absurd (omega arith)
-few_labels (b ∷ bs) zero d h lt = leb-true (length b.labels) 64 (both (is_small b.labels) (list_all is_small (label_sets bs)) h).0
-few_labels (b ∷ bs) (suc k) d h lt = few_labels bs k d (both (is_small b.labels) (list_all is_small (label_sets bs)) h).1 (omega arith)
+few_labels (b ∷ bs) zero d h lt = leb-true (length b.labels) 64 (both (is_small b.labels) (list_all is_small (labels_of_each bs)) h).0
+few_labels (b ∷ bs) (suc k) d h lt = few_labels bs k d (both (is_small b.labels) (list_all is_small (labels_of_each bs)) h).1 (omega arith)
 
 inside_at : (symbols : List (List ℕ)) (low : ℕ) (ls : List Label) → AreLabels symbols low ls → All (IsInside symbols) ls
 inside_at symbols low ls h = λ k d lt. let o = first_below symbols low ls k d h lt in (o.name_in, o.value_in)
 
-pub set_at : (bs : List Body) (k : ℕ) (d : List Label) → k < length (label_sets bs) → (e : Body) × (get_or (label_sets bs) k d ≡ (get_or bs k e).labels) × (k < length bs)
+pub set_at : (bs : List Body) (k : ℕ) (d : List Label) → k < length (labels_of_each bs) → (e : Body) × (get_or (labels_of_each bs) k d ≡ (get_or bs k e).labels) × (k < length bs)
 set_at [] k d lt = absurd (omega arith)
 set_at (b ∷ bs) zero d lt = (b, refl, omega arith)
 set_at (b ∷ bs) (suc k) d lt = let r = set_at bs k d (omega arith) in (r.0, r.1, omega (arith, r.2))
 
-pub counted_lists : (file : List ℕ) (to : ℕ) (table : List Listed) (lists : List (List ℕ)) → lists_at file to table ≡ Ok lists → (length lists ≡ length table) × ((k : ℕ) (d : List ℕ) → k < length lists → IsList (get_or lists k d))
+pub counted_lists : (file : List ℕ) (to : ℕ) (table : List TableEntry) (lists : List (List ℕ)) → lists_at file to table ≡ Ok lists → (length lists ≡ length table) × ((k : ℕ) (d : List ℕ) → k < length lists → IsList (get_or lists k d))
 unfolding lists_at
 counted_lists file to table lists h =
     let contents = bind_ok (each (section_at file to) table) _ lists h in
@@ -386,7 +387,7 @@ counted_lists file to table lists h =
     let b = each_length references_at contents.0 lists contents.2 in
     (omega (arith, a, b), sound_lists contents.0 lists contents.2)
 
-pub read_is : (file : List ℕ) (r : Read) → IsParts file r.parts → read_of file ≡ Ok r → IsRead r
+pub read_is : (file : List ℕ) (r : Read) → IsLayout file r.parts → read_of file ≡ Ok r → IsRead r
 read_is file r p h =
     let c = chain file r h in
     let symbols = r.parts.symbols in
@@ -394,9 +395,9 @@ read_is file r p h =
     let order : ascending symbols ≡ true = p.symbols.2.order in
     let labelled = bodies_take symbols r.parts.entries r.bodies c.bodies.read in
     let lists = counted_lists file (postings_end r.parts.contents) c.table r.lists c.postings.lists_are in
-    let agreed = agreed_parts symbols c.table r.lists (tied (agreement.references r.parts.entries) (label_sets r.bodies)) r.keys c.agreed in
+    let agreed = agreed_parts symbols c.table r.lists (carriers (agreement.entry_references r.parts.entries) (labels_of_each r.bodies)) r.keys c.agreed in
     let l = listing symbols c.table r.lists r.parts.entries r.bodies r.keys few order lists.1 labelled lists.0 agreed in
-    let size = each_length (body_of_place symbols) r.parts.entries r.bodies c.bodies.read in
+    let size = each_length (body_of_entry symbols) r.parts.entries r.bodies c.bodies.read in
     let refs = refs_are symbols r.parts.entries r.bodies size in
     let sets = sets_are symbols r.parts.entries r.bodies size in
     let count = series_length symbols r.parts.entries r.bodies size in
@@ -410,9 +411,9 @@ read_is file r p h =
         small = λ k lt. subst (λ (rs : List ℕ). get_or rs k 0 < 2 ^ 32) (sym refs) (walk_small r.parts.entries file (series_end r.parts.contents) (rounded r.parts.contents.series) p.entries (omega (arith, p.placed.short, end_inside r.parts.contents (length file) p.placed)) k (omega (arith, lt, count, size)));
         few = omega (arith, count, c.few);
         in_order = λ k lt. subst (λ (ss : List (List (List ℕ × List ℕ))). labels_cmp (get_or ss k []) (get_or ss (k + 1) []) ≡ Less) (sym sets)
-            (sets_rise symbols (label_sets r.bodies) order (λ j d lj. let o = set_at r.bodies j d lj in subst (InTable symbols) (sym o.1) (in_table symbols 0 (get_or r.bodies j o.0).labels (labelled j o.0 o.2))) c.bodies.rising k (omega (arith, lt, count, length-map r.bodies (λ (b : Body). b.labels))));
+            (sets_rise symbols (labels_of_each r.bodies) order (λ j d lj. let o = set_at r.bodies j d lj in subst (InTable symbols) (sym o.1) (in_table symbols 0 (get_or r.bodies j o.0).labels (labelled j o.0 o.2))) c.bodies.rising k (omega (arith, lt, count, length-map r.bodies (λ (b : Body). b.labels))));
         pairs_in_order = λ k lt. pairs_rise symbols r.keys order l.inside l.rising k (omega (arith, lt, length-map r.keys (text_of symbols)));
-        carried = carried_in symbols r.keys (series_of symbols r.parts.entries r.bodies) (map refs_of r.lists) l;
-        listed = listed_so symbols r.keys (series_of symbols r.parts.entries r.bodies) (map refs_of r.lists) l;
+        carried = carried_in symbols r.keys (series_of symbols r.parts.entries r.bodies) (map references_in r.lists) l;
+        listed = listed_so symbols r.keys (series_of symbols r.parts.entries r.bodies) (map references_in r.lists) l;
       };
     }

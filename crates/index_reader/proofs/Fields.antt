@@ -11,7 +11,9 @@ use Rattle.wire.proofs.Fields.{IsBytes-back, number_takes_4, number_again_4, byt
 use Rattle.wire.proofs.Laws.{uvarint_takes, uvarint_again}
 use Rattle.index_reader.specs.declared.error.IndexError.{IndexError}
 use Rattle.index_reader.specs.declared.error.IndexError.TheVariants.{SeriesCrc}
-use Rattle.index_reader.specs.Reading.{or_refused, checked_at, frame_at, entry_at}
+use Rattle.index_reader.specs.Steps.{or_refused}
+use Rattle.index_reader.specs.Frames.{checked_at, frame_at}
+use Rattle.index_reader.specs.EntryChecks.{entry_at}
 use Rattle.index_reader.specs.Grammar.{checked, frame, entry}
 use Rattle.index_reader.proofs.WalkLoops.{bind_ok, refused_ok, guard_ended}
 

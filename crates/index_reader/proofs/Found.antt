@@ -3,17 +3,16 @@ use Rattle.std.proofs.Common.{◌≡◌, ℕ, zero, suc, ◌+◌, ◌<◌, List,
 use Rattle.std.specs.Prelude.{map}
 use Rattle.std.proofs.lemmas.List.{length-map, nil_from_length}
 use Rattle.wire.specs.Spelling.{IsBytes}
-use Rattle.index_reader.specs.Reading.{rounded, series_end}
-use Rattle.index_reader.specs.Grammar.{IsParts}
-use Rattle.index_reader.specs.Bodies.{Label}
-use Rattle.index_reader.specs.Table.{Listed, section_at, lists_at}
-use Rattle.index_reader.specs.Words.{refs_of, IsList}
-use Rattle.index_reader.specs.Each.{each}
-use Rattle.index_reader.specs.Finding.{symbol_of}
-use Rattle.index_reader.specs.Agreement.{or_disagree, key_at}
-use Rattle.index_reader.specs.Opening.{postings_end, Read, read_of, indexed}
+use Rattle.index_reader.specs.Layout.{rounded, series_end, Label, TableEntry, postings_end}
+use Rattle.index_reader.specs.Grammar.{IsLayout}
+use Rattle.index_reader.specs.PostingsChecks.{section_at, lists_at}
+use Rattle.index_reader.specs.References.{references_in, IsList}
+use Rattle.index_reader.specs.Steps.{each}
+use Rattle.index_reader.specs.Lookups.{symbol_of}
+use Rattle.index_reader.specs.AgreementChecks.{or_disagree, key_at}
+use Rattle.index_reader.specs.Checks.{Read, read_of, indexed}
 use Rattle.index_reader.specs.Indexes.{Series, references, references_with, text_of, named, series_of}
-use Rattle.index_reader.specs.Kept.{IsListing}
+use Rattle.index_reader.specs.KeptIndex.{IsListing}
 use Rattle.index_reader.specs.Spelled.{pairs_of, lists_for, AreSections, IsIndex}
 use Rattle.index_reader.proofs.Gaps.{zeros_of}
 use Rattle.index_reader.proofs.WalkLoops.{bind_ok}
@@ -58,10 +57,10 @@ agreed_ok : {A : Type 0} (o : Option A) (x : A) → or_disagree o ≡ Ok x → o
 agreed_ok (Some y) x h = cc
 agreed_ok None x h = absurd cc
 
-abbrev pub pair_of : Listed → List ℕ × List ℕ
+abbrev pub pair_of : TableEntry → List ℕ × List ℕ
 pair_of l = (l.name, l.value)
 
-key_pair : (symbols : List (List ℕ)) (l : Listed) (key : Label) → key_at symbols l ≡ Ok key → pair_of l ≡ text_of symbols key
+key_pair : (symbols : List (List ℕ)) (l : TableEntry) (key : Label) → key_at symbols l ≡ Ok key → pair_of l ≡ text_of symbols key
 unfolding key_at
 key_pair symbols l key h =
     let n = bind_ok (or_disagree (symbol_of symbols l.name)) _ key h in
@@ -72,20 +71,20 @@ key_pair symbols l key h =
     let s : pair_of l ≡ text_of symbols made = λ i. (sym a i, sym b i) in
     s ∙ ap (text_of symbols) (ok_is made key v.2)
 
-rest_pairs : (symbols : List (List ℕ)) (ls : List Listed) (keys : List Label) → each (key_at symbols) ls ≡ Ok keys → pairs_of ls ≡ named symbols keys
+rest_pairs : (symbols : List (List ℕ)) (ls : List TableEntry) (keys : List Label) → each (key_at symbols) ls ≡ Ok keys → pairs_of ls ≡ named symbols keys
 rest_pairs symbols [] keys h = ap (named symbols) (each_nil (key_at symbols) keys h)
 rest_pairs symbols (l ∷ ls) keys h =
     let x = each_cons (key_at symbols) l ls keys h in
     ap (λ (p : List ℕ × List ℕ). p ∷ pairs_of ls) (key_pair symbols l x.0 x.2) ∙ ap (λ (ps : List (List ℕ × List ℕ)). text_of symbols x.0 ∷ ps) (rest_pairs symbols ls x.1 x.3) ∙ ap (named symbols) x.4
 
-pub table_pairs : (symbols : List (List ℕ)) (table : List Listed) (keys : List Label) → AreKeys symbols table keys → pairs_of table ≡ ([], []) ∷ named symbols keys
+pub table_pairs : (symbols : List (List ℕ)) (table : List TableEntry) (keys : List Label) → AreKeys symbols table keys → pairs_of table ≡ ([], []) ∷ named symbols keys
 table_pairs symbols table keys k =
     let n = nil_from_length k.first.name k.no_name in
     let v = nil_from_length k.first.value k.no_value in
     let s : pair_of k.first ≡ ([], []) = λ i. (n i, v i) in
-    ap (λ (ls : List Listed). pairs_of ls) k.split ∙ ap (λ (p : List ℕ × List ℕ). p ∷ pairs_of k.rest) s ∙ ap (λ (ps : List (List ℕ × List ℕ)). ([], []) ∷ ps) (rest_pairs symbols k.rest keys k.read)
+    ap (λ (ls : List TableEntry). pairs_of ls) k.split ∙ ap (λ (p : List ℕ × List ℕ). p ∷ pairs_of k.rest) s ∙ ap (λ (ps : List (List ℕ × List ℕ)). ([], []) ∷ ps) (rest_pairs symbols k.rest keys k.read)
 
-sections_are : (file : List ℕ) (to : ℕ) (table : List Listed) (lists : List (List ℕ)) → IsBytes file → ((k : ℕ) (d : List ℕ) → k < length lists → IsList (get_or lists k d)) → lists_at file to table ≡ Ok lists → AreSections file to table (map refs_of lists)
+sections_are : (file : List ℕ) (to : ℕ) (table : List TableEntry) (lists : List (List ℕ)) → IsBytes file → ((k : ℕ) (d : List ℕ) → k < length lists → IsList (get_or lists k d)) → lists_at file to table ≡ Ok lists → AreSections file to table (map references_in lists)
 unfolding lists_at
 sections_are file to table lists fits whole h =
     let contents = bind_ok (each (section_at file to) table) _ lists h in
@@ -93,7 +92,7 @@ sections_are file to table lists fits whole h =
 
 -- ---- all of it
 
-pub is_index : (file : List ℕ) (r : Read) → IsBytes file → IsParts file r.parts → read_of file ≡ Ok r → IsIndex file (indexed r)
+pub is_index : (file : List ℕ) (r : Read) → IsBytes file → IsLayout file r.parts → read_of file ≡ Ok r → IsIndex file (indexed r)
 is_index file r fits p h =
     let c = chain file r h in
     let i = read_is file r p h in
@@ -112,6 +111,6 @@ is_index file r fits p h =
       table = c.table;
       tabled = is_tabled file r.parts.contents c.postings.content c.table fits c.postings.content_is c.postings.table_is;
       listed = table_pairs symbols c.table r.keys k;
-      sections = subst (AreSections file (postings_end r.parts.contents) c.table) (lists_are symbols r.keys series (map refs_of r.lists) i.listing) (sections_are file (postings_end r.parts.contents) c.table r.lists fits i.lists c.postings.lists_are);
+      sections = subst (AreSections file (postings_end r.parts.contents) c.table) (lists_are symbols r.keys series (map references_in r.lists) i.listing) (sections_are file (postings_end r.parts.contents) c.table r.lists fits i.lists c.postings.lists_are);
       consistent = i.consistent;
     }

@@ -5,22 +5,22 @@ use Rattle.std.specs.List.{list_all, Contains}
 use Rattle.std.proofs.lemmas.Bool.{cases_lt, eqb-true}
 use Rattle.std.proofs.lemmas.List.{drop_all, get_or-drop, get_or-take, length-take}
 use Rattle.labels.proofs.Lists.{here, there, Contains-cases, none_in_nil}
-use Rattle.index_reader.specs.Reading.{Place, rounded}
+use Rattle.index_reader.specs.Layout.{SeriesEntry, rounded}
 use Rattle.index_reader.specs.Grammar.{entry, IsWalk}
 use Rattle.index_reader.proofs.Eaches.{drop_at_place}
-use Rattle.index_reader.specs.Flat.{zero_between, gaps_zero}
+use Rattle.index_reader.specs.EntryChecks.{zero_between, gaps_zero}
 use Rattle.index_reader.specs.Spelled.{LiesIn, AreZero}
 
 pub nothing_between : (file : List ℕ) (from to : ℕ) → to ≤ from → zero_between file from to ≡ true
 nothing_between file from to le = let e : to - from ≡ 0 = omega arith in rw e refl
 
-pub gap_step : (file : List ℕ) (end from : ℕ) (ps : List Place) (i : ℕ) (p : Place) (r whole : Bool) → slice_get ps i ≡ Some p → r ≡ zero_between file from p.offset → gaps_zero file end from (drop i ps) ≡ whole → whole ≡ (r && gaps_zero file end p.end (drop (i + 1) ps))
+pub gap_step : (file : List ℕ) (end from : ℕ) (ps : List SeriesEntry) (i : ℕ) (p : SeriesEntry) (r whole : Bool) → slice_get ps i ≡ Some p → r ≡ zero_between file from p.offset → gaps_zero file end from (drop i ps) ≡ whole → whole ≡ (r && gaps_zero file end p.end (drop (i + 1) ps))
 unfolding gaps_zero
 gap_step file end from ps i p r whole g t h =
     let f : i + 1 ≡ suc i = omega arith in
     sym h ∙ rw (drop_at_place ps i p g, f, t) refl
 
-pub gap_end : (file : List ℕ) (end from : ℕ) (ps : List Place) (i : ℕ) (whole : Bool) → length ps ≤ i → gaps_zero file end from (drop i ps) ≡ whole → zero_between file from end ≡ whole
+pub gap_end : (file : List ℕ) (end from : ℕ) (ps : List SeriesEntry) (i : ℕ) (whole : Bool) → length ps ≤ i → gaps_zero file end from (drop i ps) ≡ whole → zero_between file from end ≡ whole
 unfolding gaps_zero
 gap_end file end from ps i whole le h = rw (drop_all i ps le) at h
 
@@ -55,7 +55,7 @@ zero_from file from to h = all_zero_from (slice_range file from to) (λ i lt.
     in_range file from to i inside ∙ h (from + i) (omega arith) (omega (arith, inside)))
 
 -- zeros between the entries are all bytes in no entry
-pub zeros_of : (ps : List Place) (file : List ℕ) (end from : ℕ) → gaps_zero file end from ps ≡ true → AreZero file from end ps
+pub zeros_of : (ps : List SeriesEntry) (file : List ℕ) (end from : ℕ) → gaps_zero file end from ps ≡ true → AreZero file from end ps
 unfolding gaps_zero
 zeros_of [] file end from h k le lt none = zero_at file from end k h le lt
 zeros_of (p ∷ ps) file end from h k le lt none =
@@ -69,16 +69,16 @@ zeros_of (p ∷ ps) file end from h k le lt none =
           ]
     ]
 
-walk_after : (ps : List Place) (file : List ℕ) (end at : ℕ) (q : Place) → IsWalk file end at ps → Contains ps q → at ≤ q.offset
+walk_after : (ps : List SeriesEntry) (file : List ℕ) (end at : ℕ) (q : SeriesEntry) → IsWalk file end at ps → Contains ps q → at ≤ q.offset
 walk_after [] file end at q w c = absurd (none_in_nil q c)
 walk_after (p ∷ ps) file end at q w c =
     elim (Contains-cases p ps q c) [
-      | inl e ↦ omega (arith, w.0, ap (λ (x : Place). x.offset) e)
+      | inl e ↦ omega (arith, w.0, ap (λ (x : SeriesEntry). x.offset) e)
       | inr m ↦ omega (arith, walk_after ps file end (rounded (at + length (entry p.body))) q w.3 m)
     ]
 
 -- where each byte in no entry is 0, there are zeros between entries that stand one behind the other
-pub gaps_of : (ps : List Place) (file : List ℕ) (end at from : ℕ) → IsWalk file end at ps → from ≤ at → AreZero file from end ps → gaps_zero file end from ps ≡ true
+pub gaps_of : (ps : List SeriesEntry) (file : List ℕ) (end at from : ℕ) → IsWalk file end at ps → from ≤ at → AreZero file from end ps → gaps_zero file end from ps ≡ true
 unfolding gaps_zero
 gaps_of [] file end at from w le h = zero_from file from end (λ k a b. h k a b (λ q c l. none_in_nil q c))
 gaps_of (p ∷ ps) file end at from w le h =
@@ -86,12 +86,12 @@ gaps_of (p ∷ ps) file end at from w le h =
     let up : p.end ≤ next = omega (arith, w.4) in
     let one = zero_from file from p.offset (λ k a b. h k a (omega (arith, b, w.0, w.1)) (λ q c l.
     elim (Contains-cases p ps q c) [
-      | inl e ↦ omega (arith, b, l.0, ap (λ (x : Place). x.offset) e)
+      | inl e ↦ omega (arith, b, l.0, ap (λ (x : SeriesEntry). x.offset) e)
       | inr m ↦ omega (arith, b, l.0, w.0, w.4, up, walk_after ps file end next q w.3 m)
     ])) in
     let more = gaps_of ps file end next p.end w.3 up (λ k a b none. h k (omega (arith, le, w.4, a)) b (λ q c l.
     elim (Contains-cases p ps q c) [
-      | inl e ↦ omega (arith, a, l.1, ap (λ (x : Place). x.end) e)
+      | inl e ↦ omega (arith, a, l.1, ap (λ (x : SeriesEntry). x.end) e)
       | inr m ↦ none q m l
     ])) in
     rw (one, more) refl

@@ -7,9 +7,10 @@ use Rattle.index_reader.specs.declared.error.IndexError.{IndexError}
 use Rattle.index_reader.specs.declared.error.IndexError.TheVariants.{Memory}
 use Rattle.index_reader.specs.Outcome.{Fails}
 use Rattle.index_reader.specs.declared.chunk.Chunk.{Chunk}
-use Rattle.index_reader.specs.Bodies.{Label, Body, behind_both}
+use Rattle.index_reader.specs.Layout.{Label, Body}
+use Rattle.index_reader.specs.BodyChecks.{behind_both}
 use Rattle.index_reader.specs.declared.bodies.Row.{Row}
-use Rattle.index_reader.specs.Flat.{body_in, bodies_in, IsIn, AllIn}
+use Rattle.index_reader.specs.FlatBodies.{body_in, bodies_in, IsIn, AllIn}
 
 pub range_grown : {X : Type 0} (xs more : List X) (a b : ℕ) → a ≤ b → b ≤ length xs → slice_range (xs ++ more) a b ≡ slice_range xs a b
 range_grown xs more a b le fits = ap (take (b - a)) (drop-append-le a xs more (omega arith)) ∙ take-append-le (b - a) (drop a xs) more (omega (arith, length-drop a xs))

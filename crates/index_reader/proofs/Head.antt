@@ -3,9 +3,10 @@ use Rattle.std.proofs.Common.{◌≡◌, ℕ, ◌-◌, ◌≤◌, Bool, true, fa
 use Rattle.std.specs.Prelude.{slice_index, nat_le}
 use Rattle.std.proofs.lemmas.Bool.{leb-true, ltb-true, ltb-false, eqb-true}
 use Rattle.wire.proofs.KnownReads.{chosen}
-use Rattle.index_reader.specs.declared.contents.Contents.{Contents}
+use Rattle.index_reader.specs.declared.layout.TableOfContents.{TableOfContents}
 use Rattle.index_reader.specs.declared.error.IndexError.TheVariants.{ContentsOrder}
-use Rattle.index_reader.specs.Reading.{IsPlaced, in_order, has_magic, table_of, head_of}
+use Rattle.index_reader.specs.Layout.{IsPlaced}
+use Rattle.index_reader.specs.HeadChecks.{in_order, has_magic, contents_of, head_of}
 use Rattle.index_reader.proofs.WalkLoops.{bind_ok, guard_ended}
 
 both : (p q : Bool) → (p && q) ≡ true → (p ≡ true) × (q ≡ true)
@@ -26,7 +27,7 @@ between a b c h =
       | inr t ↦ let p = both (nat_le a b) (nat_le b c) t in inr (le_true a b p.0, le_true b c p.1)
     ]
 
-pub order_placed : (t : Contents) (len : ℕ) → 57 ≤ len → len ≤ 0x4000_0000 → in_order t (len - 52) ≡ true → IsPlaced t len
+pub order_placed : (t : TableOfContents) (len : ℕ) → 57 ≤ len → len ≤ 0x4000_0000 → in_order t (len - 52) ≡ true → IsPlaced t len
 order_placed t len long short h =
     let a6 = both _ _ h in
     let a5 = both _ _ a6.0 in
@@ -46,7 +47,7 @@ order_placed t len long short h =
       label_offsets = between t.postings t.label_offsets t.postings_offsets a6.1;
     }
 
-pub head_placed : (file : List ℕ) (t : Contents) → head_of file ≡ Ok t → IsPlaced t (length file)
+pub head_placed : (file : List ℕ) (t : TableOfContents) → head_of file ≡ Ok t → IsPlaced t (length file)
 unfolding head_of
 head_placed file t h =
     elim (chosen (ltb 0x4000_0000 (length file)) _ _ _ h) [
@@ -61,7 +62,7 @@ head_placed file t h =
                       elim (chosen (eqb (slice_index file 4) 2) _ _ _ m.1) [
                         | inr v ↦ absurd (let f = v.1 in cc)
                         | inl v ↦
-                            let s = bind_ok (table_of (drop (length file - 52) file)) (λ t. cond (in_order t (length file - 52)) (Ok t) (Err ContentsOrder)) t v.1 in
+                            let s = bind_ok (contents_of (drop (length file - 52) file)) (λ t. cond (in_order t (length file - 52)) (Ok t) (Err ContentsOrder)) t v.1 in
                             let g = guard_ended (in_order s.0 (length file - 52)) ContentsOrder s.0 t s.2 in
                             rw (← g.1) (order_placed s.0 (length file) (ltb-false _ _ b.0) (ltb-false _ _ a.0) g.0)
                       ]

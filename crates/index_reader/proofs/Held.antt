@@ -12,22 +12,19 @@ use Rattle.index_reader.specs.declared.error.IndexError.{IndexError}
 use Rattle.index_reader.specs.declared.chunk.Chunk.{Chunk}
 use Rattle.index_reader.specs.declared.series.Series.{Series}
 use Rattle.index_reader.specs.declared.bodies.Row.{Row}
-use Rattle.index_reader.specs.declared.opening.Checked.{Checked}
+use Rattle.index_reader.specs.declared.checks.Checked.{Checked}
 use Rattle.index_reader.specs.Outcome.{Gives, Fails}
-use Rattle.index_reader.specs.Reading.{Place}
-use Rattle.index_reader.specs.Bodies.{Label, Body}
-use Rattle.index_reader.specs.Flat.{body_in, bodies_in, IsIn}
-use Rattle.index_reader.specs.Words.{refs_of, IsList}
-use Rattle.index_reader.specs.Shown.{texts_of}
-use Rattle.index_reader.specs.Seen.{texts, places}
-use Rattle.index_reader.specs.Agreement.{strings_of}
-use Rattle.index_reader.specs.Agreement as agreement
+use Rattle.index_reader.specs.Layout.{SeriesEntry, Label, Body}
+use Rattle.index_reader.specs.FlatBodies.{body_in, bodies_in, IsIn}
+use Rattle.index_reader.specs.References.{references_in, IsList}
+use Rattle.index_reader.specs.Seen.{bytes_of, entries_seen, strings_of}
+use Rattle.index_reader.specs.AgreementChecks as agreement
 use Rattle.index_reader.specs.Indexes.{text_of, named, series_at, series_of, references, references_with}
 use Rattle.index_reader.specs.Indexes as indexes
-use Rattle.index_reader.specs.Kept.{series_in, all_in, indexed_in, of_row, IsWithin, AreWithin, AreInTable, AreLabelSets, IsListing, IsKept}
-use Rattle.index_reader.specs.Opening.{read_of, indexed, indexed_of, IsRead}
+use Rattle.index_reader.specs.KeptIndex.{series_in, all_in, indexed_in, of_row, IsWithin, AreWithin, AreInTable, AreLabelSets, IsListing, IsKept}
+use Rattle.index_reader.specs.Checks.{read_of, indexed, indexed_of, IsRead}
 use Rattle.index_reader.specs.Spelled.{IsIndex}
-use Rattle.index_reader.specs.ReadSeen.{read_seen, IsHeldIn}
+use Rattle.index_reader.specs.CheckedFile.{read_seen, IsHeldIn}
 use Rattle.index_reader.proofs.WalkLoops.{fails_on}
 use Rattle.index_reader.proofs.Walks.{done}
 use Rattle.index_reader.proofs.Eaches.{drop_at_place}
@@ -56,7 +53,7 @@ ended_so front whole i le h = sym (append-nil front) ∙ ap (λ r. front ++ r) (
 
 -- ---- the series of an entry and its body
 
-pub series_here : (symbols : List (List ℕ)) (ps : List Place) (bs : List Body) (i : ℕ) (p : Place) (b : Body) → slice_get ps i ≡ Some p → slice_get bs i ≡ Some b → slice_get (series_of symbols ps bs) i ≡ Some (series_at symbols p b)
+pub series_here : (symbols : List (List ℕ)) (ps : List SeriesEntry) (bs : List Body) (i : ℕ) (p : SeriesEntry) (b : Body) → slice_get ps i ≡ Some p → slice_get bs i ≡ Some b → slice_get (series_of symbols ps bs) i ≡ Some (series_at symbols p b)
 unfolding series_of
 series_here symbols [] bs i p b g h = absurd cc
 series_here symbols (x ∷ ps) [] i p b g h = absurd cc
@@ -72,8 +69,8 @@ made r ls cs = record { reference = r; labels = ls; chunks = cs }
 some_number : (a b : ℕ) → Some a ≡ Some b → a ≡ b
 some_number a b e = cc
 
-reference_is : (ps : List Place) (i r : ℕ) (p : Place) → slice_get (agreement.references ps) i ≡ Some r → slice_get ps i ≡ Some p → r ≡ p.offset / 16
-reference_is ps i r p g h = some_number r (p.offset / 16) (sym g ∙ mapped_at (λ (q : Place). q.offset / 16) ps i p h)
+reference_is : (ps : List SeriesEntry) (i r : ℕ) (p : SeriesEntry) → slice_get (agreement.entry_references ps) i ≡ Some r → slice_get ps i ≡ Some p → r ≡ p.offset / 16
+reference_is ps i r p g h = some_number r (p.offset / 16) (sym g ∙ mapped_at (λ (q : SeriesEntry). q.offset / 16) ps i p h)
 
 -- ---- what stands at a place
 
@@ -82,7 +79,7 @@ all_here P [] i x h g = absurd cc
 all_here P (y ∷ xs) zero x h g = let e : y ≡ x = cc in subst P e (h 0 y (omega arith))
 all_here P (y ∷ xs) (suc i) x h g = all_here P xs i x (λ k d lt. h (suc k) d (omega arith)) g
 
-pub list_here : (lists : List (Bor (List ℕ))) (i : ℕ) (x : List ℕ) → All (λ (l : Bor (List ℕ)). IsList l.now) lists → slice_get (texts_of lists) i ≡ Some x → IsList x
+pub list_here : (lists : List (Bor (List ℕ))) (i : ℕ) (x : List ℕ) → All (λ (l : Bor (List ℕ)). IsList l.now) lists → slice_get (bytes_of lists) i ≡ Some x → IsList x
 list_here [] i x h g = absurd cc
 list_here (y ∷ xs) zero x h g = let e : y.now ≡ x = cc in subst IsList e (h 0 y (omega arith))
 list_here (y ∷ xs) (suc i) x h g = list_here xs i x (λ k d lt. h (suc k) d (omega arith)) g
@@ -92,14 +89,14 @@ stands_so xs i x lt e = stands_at xs i x lt ∙ ap (λ y. Some y) (sym e)
 
 -- ---- series as they are kept
 
-series_is : (symbols : List (List ℕ)) (labels : List Label) (chunks : List Chunk) (r : Row) (reference : ℕ) (p : Place) → reference ≡ p.offset / 16 → series_in symbols labels chunks (of_row r reference) ≡ series_at symbols p (body_in labels chunks r)
+series_is : (symbols : List (List ℕ)) (labels : List Label) (chunks : List Chunk) (r : Row) (reference : ℕ) (p : SeriesEntry) → reference ≡ p.offset / 16 → series_in symbols labels chunks (of_row r reference) ≡ series_at symbols p (body_in labels chunks r)
 series_is symbols labels chunks r reference p e = ap (λ (n : ℕ). made n (named symbols (slice_range labels r.labels_start r.labels_end)) (slice_range chunks r.chunks_start r.chunks_end)) e
 
-pub series_on : (symbols : List (List ℕ)) (labels : List Label) (chunks : List Chunk) (rows : List Row) (ps : List Place) (front : List Series) (i : ℕ) (r : Row) (reference : ℕ) → slice_get rows i ≡ Some r → slice_get (agreement.references ps) i ≡ Some reference → i < length ps
+pub series_on : (symbols : List (List ℕ)) (labels : List Label) (chunks : List Chunk) (rows : List Row) (ps : List SeriesEntry) (front : List Series) (i : ℕ) (r : Row) (reference : ℕ) → slice_get rows i ≡ Some r → slice_get (agreement.entry_references ps) i ≡ Some reference → i < length ps
     → all_in symbols labels chunks front ++ drop i (series_of symbols ps (bodies_in labels chunks rows)) ≡ series_of symbols ps (bodies_in labels chunks rows)
     → all_in symbols labels chunks (front ++ of_row r reference ∷ []) ++ drop (i + 1) (series_of symbols ps (bodies_in labels chunks rows)) ≡ series_of symbols ps (bodies_in labels chunks rows)
 series_on symbols labels chunks rows ps front i r reference g f lt so_far =
-    let none : Place = record { offset = 0; body = []; end = 0 } in
+    let none : SeriesEntry = record { offset = 0; body = []; end = 0 } in
     let p = get_or ps i none in
     let here = stands_at ps i none lt in
     let whole = series_of symbols ps (bodies_in labels chunks rows) in
@@ -129,7 +126,7 @@ within_on symbols labels chunks front r reference o t l w = λ k d lt.
           rw (get_or_at front (of_row r reference) [] d k n) (row_within symbols labels chunks r reference o t l)
     ]
 
-pub series_counted : (symbols : List (List ℕ)) (labels : List Label) (chunks : List Chunk) (rows : List Row) (ps : List Place) → length rows ≡ length ps → length (series_of symbols ps (bodies_in labels chunks rows)) ≡ length rows
+pub series_counted : (symbols : List (List ℕ)) (labels : List Label) (chunks : List Chunk) (rows : List Row) (ps : List SeriesEntry) → length rows ≡ length ps → length (series_of symbols ps (bodies_in labels chunks rows)) ≡ length rows
 series_counted symbols labels chunks rows ps e =
     let n = length-map rows (body_in labels chunks) in
     series_length symbols ps (bodies_in labels chunks rows) (omega (arith, n, e)) ∙ n
@@ -163,7 +160,7 @@ pub exact_is : (file : List ℕ) (c : Checked) (x : indexes.Indexed) → read_of
 unfolding indexed_of
 exact_is file c x h e = rw h (ap (λ (y : indexes.Indexed). done y) e)
 
-pub rows_inside : (file : List ℕ) (c : Checked) → IsHeldIn file c → IsRead (read_seen c) → All (λ (r : Row). AreInTable (strings_of c.symbols.items) (slice_range c.bodies.labels.items r.labels_start r.labels_end)) c.bodies.rows.items
+pub rows_inside : (file : List ℕ) (c : Checked) → IsHeldIn file c → IsRead (read_seen c) → All (λ (r : Row). AreInTable (strings_of c.symbols.texts.items) (slice_range c.bodies.labels.items r.labels_start r.labels_end)) c.bodies.rows.items
 rows_inside file c h i = λ k d lt.
     let ls = c.bodies.labels.items in
     let cs = c.bodies.chunks.items in
@@ -171,9 +168,9 @@ rows_inside file c h i = λ k d lt.
     let e : get_or (bodies_in ls cs rs) k (body_in ls cs d) ≡ body_in ls cs (get_or rs k d) = get_or-map (body_in ls cs) rs k d (body_in ls cs d) lt in
     let o = i.inside k (body_in ls cs d) (omega (arith, lt, length-map rs (body_in ls cs))) in
     let r = get_or rs k d in
-    subst (λ (symbols : List (List ℕ)). AreInTable symbols (slice_range ls r.labels_start r.labels_end)) (sym h.symbols) (subst (λ (b : Body). AreInTable (texts c.layout.symbols.items) b.labels) e o)
+    subst (λ (symbols : List (List ℕ)). AreInTable symbols (slice_range ls r.labels_start r.labels_end)) (sym h.symbols) (subst (λ (b : Body). AreInTable (bytes_of c.layout.symbols.items) b.labels) e o)
 
-pub rows_labelled : (file : List ℕ) (c : Checked) → IsHeldIn file c → IsRead (read_seen c) → AreLabelSets (strings_of c.symbols.items) c.bodies.labels.items c.bodies.rows.items
+pub rows_labelled : (file : List ℕ) (c : Checked) → IsHeldIn file c → IsRead (read_seen c) → AreLabelSets (strings_of c.symbols.texts.items) c.bodies.labels.items c.bodies.rows.items
 rows_labelled file c h i = λ k d lt.
     let ls = c.bodies.labels.items in
     let cs = c.bodies.chunks.items in
@@ -181,38 +178,38 @@ rows_labelled file c h i = λ k d lt.
     let e : get_or (bodies_in ls cs rs) k (body_in ls cs d) ≡ body_in ls cs (get_or rs k d) = get_or-map (body_in ls cs) rs k d (body_in ls cs d) lt in
     let o = i.labelled k (body_in ls cs d) (omega (arith, lt, length-map rs (body_in ls cs))) in
     let r = get_or rs k d in
-    subst (λ (symbols : List (List ℕ)). IsLabelSet (named symbols (slice_range ls r.labels_start r.labels_end))) (sym h.symbols) (subst (λ (b : Body). IsLabelSet (named (texts c.layout.symbols.items) b.labels)) e o)
+    subst (λ (symbols : List (List ℕ)). IsLabelSet (named symbols (slice_range ls r.labels_start r.labels_end))) (sym h.symbols) (subst (λ (b : Body). IsLabelSet (named (bytes_of c.layout.symbols.items) b.labels)) e o)
 
 pub lists_whole : (c : Checked) → IsRead (read_seen c) → All (λ (l : Bor (List ℕ)). IsList l.now) c.lists.items
 lists_whole c i = λ k d lt.
-    let e : get_or (texts_of c.lists.items) k d.now ≡ (get_or c.lists.items k d).now = get_or-map (λ (l : Bor (List ℕ)). l.now) c.lists.items k d d.now lt in
+    let e : get_or (bytes_of c.lists.items) k d.now ≡ (get_or c.lists.items k d).now = get_or-map (λ (l : Bor (List ℕ)). l.now) c.lists.items k d d.now lt in
     subst IsList e (i.lists k d.now (omega (arith, lt, length-map c.lists.items (λ (l : Bor (List ℕ)). l.now))))
 
 abbrev of_both : List indexes.Series → List (List ℕ × List ℕ) → indexes.Indexed
 of_both ss ps = record { series = ss; pairs = ps }
 
 pub whole_is : (file : List ℕ) (c : Checked) (labels : List Label) (chunks : List Chunk) (ss : List Series) → IsHeldIn file c → labels ≡ c.bodies.labels.items → chunks ≡ c.bodies.chunks.items
-    → all_in (strings_of c.symbols.items) c.bodies.labels.items c.bodies.chunks.items ss ≡ series_of (strings_of c.symbols.items) (places c.layout.entries.items) (bodies_in c.bodies.labels.items c.bodies.chunks.items c.bodies.rows.items)
-    → indexed (read_seen c) ≡ indexed_in (strings_of c.symbols.items) c.keys.items labels chunks ss
+    → all_in (strings_of c.symbols.texts.items) c.bodies.labels.items c.bodies.chunks.items ss ≡ series_of (strings_of c.symbols.texts.items) (entries_seen c.layout.entries.items) (bodies_in c.bodies.labels.items c.bodies.chunks.items c.bodies.rows.items)
+    → indexed (read_seen c) ≡ indexed_in (strings_of c.symbols.texts.items) c.keys.pairs.items labels chunks ss
 whole_is file c labels chunks ss h f e exact =
     let bs = bodies_in c.bodies.labels.items c.bodies.chunks.items c.bodies.rows.items in
-    let ps = places c.layout.entries.items in
-    let symbols = strings_of c.symbols.items in
-    let a : series_of (texts c.layout.symbols.items) ps bs ≡ all_in symbols labels chunks ss =
+    let ps = entries_seen c.layout.entries.items in
+    let symbols = strings_of c.symbols.texts.items in
+    let a : series_of (bytes_of c.layout.symbols.items) ps bs ≡ all_in symbols labels chunks ss =
     ap (λ (y : List (List ℕ)). series_of y ps bs) (sym h.symbols) ∙ sym exact ∙ ap (λ (ls : List Label). all_in symbols ls c.bodies.chunks.items ss) (sym f) ∙ ap (λ (cs : List Chunk). all_in symbols labels cs ss) (sym e) in
-    let b : named (texts c.layout.symbols.items) c.keys.items ≡ named symbols c.keys.items = ap (λ (y : List (List ℕ)). named y c.keys.items) (sym h.symbols) in
-    ap (λ (x : List indexes.Series). of_both x (named (texts c.layout.symbols.items) c.keys.items)) a ∙ ap (of_both (all_in symbols labels chunks ss)) b
+    let b : named (bytes_of c.layout.symbols.items) c.keys.pairs.items ≡ named symbols c.keys.pairs.items = ap (λ (y : List (List ℕ)). named y c.keys.pairs.items) (sym h.symbols) in
+    ap (λ (x : List indexes.Series). of_both x (named (bytes_of c.layout.symbols.items) c.keys.pairs.items)) a ∙ ap (of_both (all_in symbols labels chunks ss)) b
 
 pub is_kept : (file : List ℕ) (c : Checked) (labels : List Label) (chunks : List Chunk) (ss : List Series) (lists : List (List ℕ)) → IsHeldIn file c → IsRead (read_seen c) → labels ≡ c.bodies.labels.items → chunks ≡ c.bodies.chunks.items
-    → AreWithin (strings_of c.symbols.items) c.bodies.labels.items c.bodies.chunks.items ss
-    → all_in (strings_of c.symbols.items) c.bodies.labels.items c.bodies.chunks.items ss ≡ series_of (strings_of c.symbols.items) (places c.layout.entries.items) (bodies_in c.bodies.labels.items c.bodies.chunks.items c.bodies.rows.items)
-    → lists ≡ map refs_of (texts_of c.lists.items) → IsKept (strings_of c.symbols.items) c.keys.items labels chunks ss lists
+    → AreWithin (strings_of c.symbols.texts.items) c.bodies.labels.items c.bodies.chunks.items ss
+    → all_in (strings_of c.symbols.texts.items) c.bodies.labels.items c.bodies.chunks.items ss ≡ series_of (strings_of c.symbols.texts.items) (entries_seen c.layout.entries.items) (bodies_in c.bodies.labels.items c.bodies.chunks.items c.bodies.rows.items)
+    → lists ≡ map references_in (bytes_of c.lists.items) → IsKept (strings_of c.symbols.texts.items) c.keys.pairs.items labels chunks ss lists
 is_kept file c labels chunks ss lists h i f e within exact copied =
     let bs = bodies_in c.bodies.labels.items c.bodies.chunks.items c.bodies.rows.items in
-    let ps = places c.layout.entries.items in
-    let symbols = strings_of c.symbols.items in
-    let keys = c.keys.items in
-    let raws = map refs_of (texts_of c.lists.items) in
+    let ps = entries_seen c.layout.entries.items in
+    let symbols = strings_of c.symbols.texts.items in
+    let keys = c.keys.pairs.items in
+    let raws = map references_in (bytes_of c.lists.items) in
     let read : IsListing symbols keys (series_of symbols ps bs) raws = subst (λ (y : List (List ℕ)). IsListing y keys (series_of y ps bs) raws) (sym h.symbols) i.listing in
     let same : series_of symbols ps bs ≡ all_in symbols labels chunks ss = sym exact ∙ ap (λ (ls : List Label). all_in symbols ls c.bodies.chunks.items ss) (sym f) ∙ ap (λ (cs : List Chunk). all_in symbols labels cs ss) (sym e) in
     record {

@@ -9,18 +9,16 @@ use Rattle.wire.specs.Spelling.{IsBytes}
 use Rattle.labels.specs.Labels.{pair_cmp}
 use Rattle.index_reader.specs.declared.error.IndexError.{IndexError}
 use Rattle.index_reader.specs.declared.error.IndexError.TheVariants.{PostingsDisagree, Limit}
-use Rattle.index_reader.specs.Reading.{◌>>=◌, Place, Parts, ascending, parts_of}
-use Rattle.index_reader.specs.Grammar.{IsParts}
-use Rattle.index_reader.specs.Bodies.{Label, Body}
-use Rattle.index_reader.specs.Table.{Listed, is_before}
-use Rattle.index_reader.specs.Words.{refs_of}
-use Rattle.index_reader.specs.Each.{each, rises}
-use Rattle.index_reader.specs.Flat.{body_of_place}
-use Rattle.index_reader.specs.Agree.{Carried, drained}
-use Rattle.index_reader.specs.Finding.{symbol_of, place_of, key_before}
-use Rattle.index_reader.specs.Agreement.{Tied, or_disagree, key_at, keys_at, place_at, placed_at, each_all, tied, are_used, agreed_at}
-use Rattle.index_reader.specs.Agreement as agreement
-use Rattle.index_reader.specs.Opening.{label_sets, bodies_of, postings_end, postings_of, is_small, read_of, indexed_of}
+use Rattle.index_reader.specs.Steps.{◌>>=◌, each}
+use Rattle.index_reader.specs.Layout.{SeriesEntry, Layout, ascending, Label, Body, TableEntry, is_before, rises, postings_end}
+use Rattle.index_reader.specs.Checks.{layout_of, labels_of_each, bodies_of, postings_of, is_small, read_of, indexed_of}
+use Rattle.index_reader.specs.Grammar.{IsLayout}
+use Rattle.index_reader.specs.References.{references_in}
+use Rattle.index_reader.specs.FlatBodies.{body_of_entry}
+use Rattle.index_reader.specs.CarriedPairs.{Carried, are_used_up}
+use Rattle.index_reader.specs.Lookups.{symbol_of, place_of, key_before}
+use Rattle.index_reader.specs.AgreementChecks.{Carrier, or_disagree, key_at, keys_at, list_of_label, lists_of_series, each_all, carriers, are_used, agreement_of}
+use Rattle.index_reader.specs.AgreementChecks as agreement
 use Rattle.index_reader.specs.Indexes.{Series, Indexed, references, references_with, text_of, named, series_of}
 use Rattle.index_reader.specs.Spelled.{pairs_of, lists_for}
 use Rattle.index_reader.specs.Stated.{Stated, stated_in, stated_of, Agrees, AreFew, AreLastChecks}
@@ -44,15 +42,15 @@ both false q h = absurd cc
 
 -- ---- the one refusal
 
-only_agreed : (symbols : List (List ℕ)) (table : List Listed) (lists : List (List ℕ)) (series : List Tied) → OnlyDisagrees (agreed_at symbols table lists series)
-unfolding agreed_at
+only_agreed : (symbols : List (List ℕ)) (table : List TableEntry) (lists : List (List ℕ)) (series : List Carrier) → OnlyDisagrees (agreement_of symbols table lists series)
+unfolding agreement_of
 only_agreed symbols table lists series =
-    only_then (keys_at symbols table) _ (only_keys symbols table) (λ keys. only_then (each_all (placed_at keys) series) _ (only_each_all (placed_at keys) series (only_placed keys))
-    (λ placed. only_where (are_used lists && drained (map refs_of lists) placed) (done keys) (only_ok keys)))
+    only_then (keys_at symbols table) _ (only_keys symbols table) (λ keys. only_then (each_all (lists_of_series keys) series) _ (only_each_all (lists_of_series keys) series (only_placed keys))
+    (λ placed. only_where (are_used lists && are_used_up (map references_in lists) placed) (done keys) (only_ok keys)))
 
 -- ---- pairs of a table whose entries ascend
 
-pairs_rise : (table : List Listed) → rises is_before table ≡ true → (k : ℕ) → k + 1 < length table → pair_cmp (get_or (pairs_of table) k ([], [])) (get_or (pairs_of table) (k + 1) ([], [])) ≡ Less
+pairs_rise : (table : List TableEntry) → rises is_before table ≡ true → (k : ℕ) → k + 1 < length table → pair_cmp (get_or (pairs_of table) k ([], [])) (get_or (pairs_of table) (k + 1) ([], [])) ≡ Less
 unfolding rises
 pairs_rise [] h k lt = absurd (omega arith)
 pairs_rise (a ∷ []) h k lt = absurd (omega arith)
@@ -61,7 +59,7 @@ pairs_rise (a ∷ b ∷ table) h (suc k) lt =
     let e : suc k + 1 ≡ suc (k + 1) = omega arith in
     rw e (pairs_rise (b ∷ table) (both (is_before a b) (rises is_before (b ∷ table)) h).1 k (omega arith))
 
-others_rise : (table : List Listed) (others : List Pair) → rises is_before table ≡ true → pairs_of table ≡ ([], []) ∷ others → (k : ℕ) → k + 1 < length others → pair_cmp (get_or others k ([], [])) (get_or others (k + 1) ([], [])) ≡ Less
+others_rise : (table : List TableEntry) (others : List Pair) → rises is_before table ≡ true → pairs_of table ≡ ([], []) ∷ others → (k : ℕ) → k + 1 < length others → pair_cmp (get_or others k ([], [])) (get_or others (k + 1) ([], [])) ≡ Less
 others_rise table others rising same k lt =
     let e : suc k + 1 ≡ suc (k + 1) = omega arith in
     let first : Pair = ([], []) in
@@ -72,15 +70,15 @@ others_rise table others rising same k lt =
 
 -- ---- few labels
 
-small_is : (symbols : List (List ℕ)) (ps : List Place) (bs : List Body) → list_all is_small (label_sets bs) ≡ true → AllByRecursion (λ (s : Series). length s.labels ≤ 64) (series_of symbols ps bs)
+small_is : (symbols : List (List ℕ)) (ps : List SeriesEntry) (bs : List Body) → list_all is_small (labels_of_each bs) ≡ true → AllByRecursion (λ (s : Series). length s.labels ≤ 64) (series_of symbols ps bs)
 unfolding series_of
 small_is symbols [] bs h = tt
 small_is symbols (p ∷ ps) [] h = tt
 small_is symbols (p ∷ ps) (b ∷ bs) h =
-    let q = both (is_small b.labels) (list_all is_small (label_sets bs)) h in
+    let q = both (is_small b.labels) (list_all is_small (labels_of_each bs)) h in
     (omega (arith, leb-true (length b.labels) 64 q.0, length-map b.labels (text_of symbols)), small_is symbols ps bs q.1)
 
-small_again : (symbols : List (List ℕ)) (ps : List Place) (bs : List Body) → length bs ≡ length ps → AllByRecursion (λ (s : Series). length s.labels ≤ 64) (series_of symbols ps bs) → list_all is_small (label_sets bs) ≡ true
+small_again : (symbols : List (List ℕ)) (ps : List SeriesEntry) (bs : List Body) → length bs ≡ length ps → AllByRecursion (λ (s : Series). length s.labels ≤ 64) (series_of symbols ps bs) → list_all is_small (labels_of_each bs) ≡ true
 unfolding series_of
 small_again symbols [] [] n h = refl
 small_again symbols [] (b ∷ bs) n h = absurd (omega (arith, n))
@@ -91,11 +89,11 @@ small_again symbols (p ∷ ps) (b ∷ bs) n h =
 -- ---- what was read before the last two checks
 
 record IsStated (file : List ℕ) (s : Stated) : Type 0 where
-  parts : Parts
+  parts : Layout
   bodies : List Body
-  table : List Listed
+  table : List TableEntry
   raws : List (List ℕ)
-  parts_are : parts_of file ≡ Ok parts
+  parts_are : layout_of file ≡ Ok parts
   bodies_are : bodies_of file parts ≡ Ok bodies
   postings_are : postings_of file parts.contents ≡ Ok (table, raws)
   is : stated_in parts bodies table raws ≡ s
@@ -103,7 +101,7 @@ record IsStated (file : List ℕ) (s : Stated) : Type 0 where
 stated_parts : (file : List ℕ) (s : Stated) → stated_of file ≡ Ok s → IsStated file s
 unfolding stated_of
 stated_parts file s h =
-    let p = bind_ok (parts_of file) _ s h in
+    let p = bind_ok (layout_of file) _ s h in
     let b = bind_ok (bodies_of file p.0) _ s p.2 in
     let q = bind_ok (postings_of file p.0.contents) _ s b.2 in
     record {
@@ -124,7 +122,7 @@ bind_err (Err d) f e h = let same : d ≡ e = cc in inl (ap (λ (y : IndexError)
 refused_earlier : (file : List ℕ) (e : IndexError) → stated_of file ≡ Err e → indexed_of file ≡ Err e
 unfolding stated_of indexed_of read_of
 refused_earlier file e h =
-    elim (bind_err (parts_of file) _ e h) [
+    elim (bind_err (layout_of file) _ e h) [
       | inl a ↦ rw a refl
       | inr a ↦
           elim (bind_err (bodies_of file a.0) _ e a.2) [
@@ -137,9 +135,9 @@ refused_earlier file e h =
           ]
     ]
 
-module _ (file : List ℕ) (p : Parts) (bs : List Body) (table : List Listed) (raws : List (List ℕ)) (parts : parts_of file ≡ Ok p) (bodies : bodies_of file p ≡ Ok bs) (postings : postings_of file p.contents ≡ Ok (table, raws)) where
+module _ (file : List ℕ) (p : Layout) (bs : List Body) (table : List TableEntry) (raws : List (List ℕ)) (parts : layout_of file ≡ Ok p) (bodies : bodies_of file p ≡ Ok bs) (postings : postings_of file p.contents ≡ Ok (table, raws)) where
   abbrev agreed : Result (List Label) IndexError
-  agreed = agreed_at p.symbols table raws (tied (agreement.references p.entries) (label_sets bs))
+  agreed = agreement_of p.symbols table raws (carriers (agreement.entry_references p.entries) (labels_of_each bs))
 
   abbrev states : Stated
   states = stated_in p bs table raws
@@ -152,20 +150,20 @@ module _ (file : List ℕ) (p : Parts) (bs : List Body) (table : List Listed) (r
   unfolding indexed_of read_of
   when_many keys h n = rw (parts, bodies, postings, h, n) refl
 
-  when_large : (keys : List Label) → agreed ≡ Ok keys → nat_lt 1048576 (length bs) ≡ false → list_all is_small (label_sets bs) ≡ false → indexed_of file ≡ Err Limit
+  when_large : (keys : List Label) → agreed ≡ Ok keys → nat_lt 1048576 (length bs) ≡ false → list_all is_small (labels_of_each bs) ≡ false → indexed_of file ≡ Err Limit
   unfolding indexed_of read_of
   when_large keys h n s = rw (parts, bodies, postings, h, n, s) refl
 
-  when_sound : (keys : List Label) → agreed ≡ Ok keys → nat_lt 1048576 (length bs) ≡ false → list_all is_small (label_sets bs) ≡ true → indexed_of file ≡ Ok (record { series = series_of p.symbols p.entries bs; pairs = named p.symbols keys })
+  when_sound : (keys : List Label) → agreed ≡ Ok keys → nat_lt 1048576 (length bs) ≡ false → list_all is_small (labels_of_each bs) ≡ true → indexed_of file ≡ Ok (record { series = series_of p.symbols p.entries bs; pairs = named p.symbols keys })
   unfolding indexed_of read_of
   when_sound keys h n s = rw (parts, bodies, postings, h, n, s) refl
 
   module _ (fits : IsBytes file) where
-    laid : IsParts file p
+    laid : IsLayout file p
     laid = parts_take file p fits parts
 
     counted : length bs ≡ length p.entries
-    counted = each_length (body_of_place p.symbols) p.entries bs (bodied file p bs bodies).read
+    counted = each_length (body_of_entry p.symbols) p.entries bs (bodied file p bs bodies).read
 
     agrees : (keys : List Label) → agreed ≡ Ok keys → Agrees states
     agrees keys h =
@@ -174,14 +172,14 @@ module _ (file : List ℕ) (p : Parts) (bs : List Body) (table : List Listed) (r
         let post = listed_in file p.contents (table, raws) postings in
         let labelled = bodies_take symbols p.entries bs (bodied file p bs bodies).read in
         let lists = counted_lists file (postings_end p.contents) table raws post.lists_are in
-        let a = agreed_parts symbols table raws (tied (agreement.references p.entries) (label_sets bs)) keys h in
+        let a = agreed_parts symbols table raws (carriers (agreement.entry_references p.entries) (labels_of_each bs)) keys h in
         let l = listing symbols table raws p.entries bs keys (few_symbols file p laid) laid.symbols.2.order lists.1 labelled lists.0 a in
         record {
           others = named symbols keys;
           pairs = table_pairs symbols table keys (keyed symbols table keys a.keys_are);
-          lists = lists_are symbols keys series (map refs_of raws) l;
-          carried = carried_in symbols keys series (map refs_of raws) l;
-          listed = listed_so symbols keys series (map refs_of raws) l;
+          lists = lists_are symbols keys series (map references_in raws) l;
+          carried = carried_in symbols keys series (map references_in raws) l;
+          listed = listed_so symbols keys series (map references_in raws) l;
         }
 
     agrees_again : (a : Agrees states) → (keys : List Label) × (agreed ≡ Ok keys) × (named p.symbols keys ≡ a.others)
@@ -199,15 +197,15 @@ module _ (file : List ℕ) (p : Parts) (bs : List Body) (table : List Listed) (r
       where
         go : (r : Result (List Label) IndexError) → agreed ≡ r → indexed_of file ≡ Err PostingsDisagree
         go (Ok keys) h = absurd (n (agrees keys h))
-        go (Err e) h = when_refused e h ∙ ap (λ (d : IndexError). Err d) (only_agreed p.symbols table raws (tied (agreement.references p.entries) (label_sets bs)) e h)
+        go (Err e) h = when_refused e h ∙ ap (λ (d : IndexError). Err d) (only_agreed p.symbols table raws (carriers (agreement.entry_references p.entries) (labels_of_each bs)) e h)
 
     series_counted : length (series_of p.symbols p.entries bs) ≡ length bs
     series_counted = series_length p.symbols p.entries bs counted
 
     too_many : Agrees states → (AreFew states.series → ⊥) → indexed_of file ≡ Err Limit
-    too_many a n = go (nat_lt 1048576 (length bs)) refl (list_all is_small (label_sets bs)) refl
+    too_many a n = go (nat_lt 1048576 (length bs)) refl (list_all is_small (labels_of_each bs)) refl
       where
-        go : (b : Bool) → nat_lt 1048576 (length bs) ≡ b → (c : Bool) → list_all is_small (label_sets bs) ≡ c → indexed_of file ≡ Err Limit
+        go : (b : Bool) → nat_lt 1048576 (length bs) ≡ b → (c : Bool) → list_all is_small (labels_of_each bs) ≡ c → indexed_of file ≡ Err Limit
         go true h c g = let k = agrees_again a in when_many k.0 k.1 h
         go false h false g = let k = agrees_again a in when_large k.0 k.1 h g
         go false h true g = absurd (n (record { few = omega (arith, series_counted, ltb-false 1048576 (length bs) h); few_labels = small_is p.symbols p.entries bs g }))

@@ -1,3 +1,4 @@
+-- The lemmas of the index reader.
 mod BodyParts
 mod Draining
 mod Eaches

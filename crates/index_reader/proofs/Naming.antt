@@ -7,12 +7,11 @@ use Rattle.wire.specs.Reading.{uvarint_at}
 use Rattle.labels.specs.Names.{is_name}
 use Rattle.labels.specs.LabelSets.{IsLabelSet}
 use Rattle.index_reader.specs.declared.error.IndexError.TheVariants.{Series}
-use Rattle.index_reader.specs.Reading.{or_refused, Place, ascending}
-use Rattle.index_reader.specs.Labelled.{IsLabel, AreLabels}
-use Rattle.index_reader.specs.Steps.{steps}
-use Rattle.index_reader.specs.Bodies.{Label, Body, is_label, label_at, labels_at, chunks_at, body_at}
-use Rattle.index_reader.specs.Each.{each}
-use Rattle.index_reader.specs.Flat.{body_of_place}
+use Rattle.index_reader.specs.Steps.{or_refused, steps, each}
+use Rattle.index_reader.specs.Layout.{SeriesEntry, ascending, Label, Body}
+use Rattle.index_reader.specs.Spelled.{IsLabel, AreLabels}
+use Rattle.index_reader.specs.BodyChecks.{is_label, label_at, labels_at, chunks_at, body_at}
+use Rattle.index_reader.specs.FlatBodies.{body_of_entry}
 use Rattle.index_reader.specs.Indexes.{text_of, named}
 use Rattle.index_reader.proofs.WalkLoops.{bind_ok, guard_ended}
 use Rattle.index_reader.proofs.Walks.{ok_is}
@@ -77,12 +76,12 @@ at_each symbols b others one more (suc k) d lt = more k d (omega arith)
 behind_first : (symbols : List (List ℕ)) (b : Body) (others bs : List Body) → b ∷ others ≡ bs → AreLabels symbols 0 b.labels → ((k : ℕ) (d : Body) → k < length others → AreLabels symbols 0 (get_or others k d).labels) → (k : ℕ) (d : Body) → k < length bs → AreLabels symbols 0 (get_or bs k d).labels
 behind_first symbols b others bs e one more k d lt = subst (λ (zs : List Body). k < length zs → AreLabels symbols 0 (get_or zs k d).labels) e (at_each symbols b others one more k d) lt
 
-pub bodies_take : (symbols : List (List ℕ)) (ps : List Place) (bs : List Body) → each (body_of_place symbols) ps ≡ Ok bs → (k : ℕ) (d : Body) → k < length bs → AreLabels symbols 0 (get_or bs k d).labels
+pub bodies_take : (symbols : List (List ℕ)) (ps : List SeriesEntry) (bs : List Body) → each (body_of_entry symbols) ps ≡ Ok bs → (k : ℕ) (d : Body) → k < length bs → AreLabels symbols 0 (get_or bs k d).labels
 unfolding each
 bodies_take symbols [] bs h k d lt = let e : [] ≡ bs = ok_is [] bs h in absurd (omega (arith, ap length e))
 bodies_take symbols (p ∷ ps) bs h k d lt =
-    let b = bind_ok (body_of_place symbols p) _ bs h in
-    let others = bind_ok (each (body_of_place symbols) ps) _ bs b.2 in
+    let b = bind_ok (body_of_entry symbols p) _ bs h in
+    let others = bind_ok (each (body_of_entry symbols) ps) _ bs b.2 in
     let e : b.0 ∷ others.0 ≡ bs = ok_is (b.0 ∷ others.0) bs others.2 in
     behind_first symbols b.0 others.0 bs e (body_takes symbols p.body b.0 b.1) (λ j c l. bodies_take symbols ps others.0 others.1 j c l) k d lt
 

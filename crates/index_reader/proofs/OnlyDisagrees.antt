@@ -2,12 +2,10 @@
 use Rattle.std.proofs.Common.{◌≡◌, ℕ, Bool, true, false, cond, List, [], ◌∷◌, Option, Some, None, Result, Ok, Err, refl, sym, ◌∙◌}
 use Rattle.index_reader.specs.declared.error.IndexError.{IndexError}
 use Rattle.index_reader.specs.declared.error.IndexError.TheVariants.{PostingsDisagree}
-use Rattle.index_reader.specs.Reading.{◌>>=◌}
-use Rattle.index_reader.specs.Bodies.{Label}
-use Rattle.index_reader.specs.Table.{Listed}
-use Rattle.index_reader.specs.Each.{each, rises}
-use Rattle.index_reader.specs.Finding.{symbol_of, place_of, key_before}
-use Rattle.index_reader.specs.Agreement.{Tied, or_disagree, key_at, keys_at, place_at, placed_at, each_all}
+use Rattle.index_reader.specs.Steps.{◌>>=◌, each}
+use Rattle.index_reader.specs.Layout.{Label, TableEntry, rises}
+use Rattle.index_reader.specs.Lookups.{symbol_of, place_of, key_before}
+use Rattle.index_reader.specs.AgreementChecks.{Carrier, or_disagree, key_at, keys_at, list_of_label, lists_of_series, each_all}
 use Rattle.index_reader.proofs.Walks.{done}
 
 abbrev pub OnlyDisagrees : {A : Type 0} → Result A IndexError → Type 0
@@ -41,19 +39,19 @@ unfolding each_all
 only_each_all step [] h = only_ok []
 only_each_all step (a ∷ as') h = only_then (step a) _ (h a) (λ x. only_then (each_all step as') _ (only_each_all step as' h) (λ xs. only_ok _))
 
-pub only_key : (symbols : List (List ℕ)) (l : Listed) → OnlyDisagrees (key_at symbols l)
+pub only_key : (symbols : List (List ℕ)) (l : TableEntry) → OnlyDisagrees (key_at symbols l)
 unfolding key_at
 only_key symbols l = only_then (or_disagree (symbol_of symbols l.name)) _ (only_found (symbol_of symbols l.name)) (λ n. only_then (or_disagree (symbol_of symbols l.value)) _ (only_found (symbol_of symbols l.value)) (λ v. only_ok (n, v)))
 
-pub only_keys : (symbols : List (List ℕ)) (table : List Listed) → OnlyDisagrees (keys_at symbols table)
+pub only_keys : (symbols : List (List ℕ)) (table : List TableEntry) → OnlyDisagrees (keys_at symbols table)
 unfolding keys_at
 only_keys symbols [] = only_refused
 only_keys symbols (l ∷ ls) = only_where _ _ (only_then (each (key_at symbols) ls) _ (only_each (key_at symbols) ls (only_key symbols)) (λ keys. only_where (rises key_before keys) (done keys) (only_ok keys)))
 
-pub only_place : (keys : List Label) (r : ℕ) (l : Label) → OnlyDisagrees (place_at keys r l)
-unfolding place_at
+pub only_place : (keys : List Label) (r : ℕ) (l : Label) → OnlyDisagrees (list_of_label keys r l)
+unfolding list_of_label
 only_place keys r l = only_then (or_disagree (place_of keys l)) _ (only_found (place_of keys l)) (λ at. only_ok _)
 
-pub only_placed : (keys : List Label) (s : Tied) → OnlyDisagrees (placed_at keys s)
-unfolding placed_at
-only_placed keys s = only_then (each (place_at keys s.0) s.1) _ (only_each (place_at keys s.0) s.1 (only_place keys s.0)) (λ others. only_ok _)
+pub only_placed : (keys : List Label) (s : Carrier) → OnlyDisagrees (lists_of_series keys s)
+unfolding lists_of_series
+only_placed keys s = only_then (each (list_of_label keys s.0) s.1) _ (only_each (list_of_label keys s.0) s.1 (only_place keys s.0)) (λ others. only_ok _)

@@ -7,14 +7,13 @@ use Rattle.std.proofs.lemmas.List.{append-nil, drop_all}
 use Rattle.index_reader.specs.declared.error.IndexError.{IndexError}
 use Rattle.index_reader.specs.declared.error.IndexError.TheVariants.{Memory}
 use Rattle.index_reader.specs.Outcome.{Fails}
-use Rattle.index_reader.specs.Reading.{◌>>=◌}
-use Rattle.index_reader.specs.Bodies.{Label}
-use Rattle.index_reader.specs.Words.{refs_of}
-use Rattle.index_reader.specs.Each.{each, behind_items}
-use Rattle.index_reader.specs.Agree.{Carried, lists_of}
-use Rattle.index_reader.specs.Finding.{index_of, next, place_of}
-use Rattle.index_reader.specs.Shown.{texts_of}
-use Rattle.index_reader.specs.Agreement.{are_used, or_disagree, place_at, Tied, placed_at, each_all, tied}
+use Rattle.index_reader.specs.Steps.{◌>>=◌, each, behind_items}
+use Rattle.index_reader.specs.Layout.{Label}
+use Rattle.index_reader.specs.References.{references_in}
+use Rattle.index_reader.specs.CarriedPairs.{Carried}
+use Rattle.index_reader.specs.Seen.{references_in_each, bytes_of}
+use Rattle.index_reader.specs.Lookups.{index_of, next, place_of}
+use Rattle.index_reader.specs.AgreementChecks.{are_used, or_disagree, list_of_label, Carrier, lists_of_series, each_all, carriers}
 use Rattle.index_reader.proofs.Eaches.{drop_at_place}
 use Rattle.index_reader.proofs.WalkLoops.{bind_ok}
 use Rattle.index_reader.proofs.Walks.{ok_is}
@@ -55,37 +54,37 @@ items_fail Memory front read f = tt
 items_fail e front (Ok xs) f = absurd cc
 items_fail e front (Err g) f = cc
 
-placed_with : (keys : List Label) (ss : List Tied) (i r : ℕ) (ls : List Label) (front mid new xs : List Carried) (total : Result (List Carried) IndexError) → slice_get ss i ≡ Some (r, ls) → mid ≡ front ++ (0, r) ∷ []
-    → each (place_at keys r) ls ≡ Ok xs → new ≡ mid ++ xs → behind_items front (each_all (placed_at keys) (drop i ss)) ≡ total → behind_items new (each_all (placed_at keys) (drop (i + 1) ss)) ≡ total
-unfolding placed_at
+placed_with : (keys : List Label) (ss : List Carrier) (i r : ℕ) (ls : List Label) (front mid new xs : List Carried) (total : Result (List Carried) IndexError) → slice_get ss i ≡ Some (r, ls) → mid ≡ front ++ (0, r) ∷ []
+    → each (list_of_label keys r) ls ≡ Ok xs → new ≡ mid ++ xs → behind_items front (each_all (lists_of_series keys) (drop i ss)) ≡ total → behind_items new (each_all (lists_of_series keys) (drop (i + 1) ss)) ≡ total
+unfolding lists_of_series
 placed_with keys ss i r ls front mid new xs total g e read grown so_far =
-    let s : Tied = (r, ls) in
+    let s : Carrier = (r, ls) in
     let first : Carried = (0, r) in
-    let step : placed_at keys s ≡ Ok (first ∷ xs) = rw read refl in
+    let step : lists_of_series keys s ≡ Ok (first ∷ xs) = rw read refl in
     let n : new ≡ front ++ (first ∷ xs) = grown ∙ ap (λ (m : List Carried). m ++ xs) e ∙ append_assoc front (first ∷ []) xs in
-    ap (λ (f : List Carried). behind_items f (each_all (placed_at keys) (drop (i + 1) ss))) n ∙ all_on (placed_at keys) ss i s (first ∷ xs) front total g step so_far
+    ap (λ (f : List Carried). behind_items f (each_all (lists_of_series keys) (drop (i + 1) ss))) n ∙ all_on (lists_of_series keys) ss i s (first ∷ xs) front total g step so_far
 
-pub placed_on : (keys : List Label) (ss : List Tied) (i r : ℕ) (ls : List Label) (front mid new : List Carried) (total : Result (List Carried) IndexError) → slice_get ss i ≡ Some (r, ls) → mid ≡ front ++ (0, r) ∷ []
-    → behind_items mid (each (place_at keys r) ls) ≡ Ok new → behind_items front (each_all (placed_at keys) (drop i ss)) ≡ total → behind_items new (each_all (placed_at keys) (drop (i + 1) ss)) ≡ total
+pub placed_on : (keys : List Label) (ss : List Carrier) (i r : ℕ) (ls : List Label) (front mid new : List Carried) (total : Result (List Carried) IndexError) → slice_get ss i ≡ Some (r, ls) → mid ≡ front ++ (0, r) ∷ []
+    → behind_items mid (each (list_of_label keys r) ls) ≡ Ok new → behind_items front (each_all (lists_of_series keys) (drop i ss)) ≡ total → behind_items new (each_all (lists_of_series keys) (drop (i + 1) ss)) ≡ total
 placed_on keys ss i r ls front mid new total g e read so_far =
-    let p = items_ok mid new (each (place_at keys r) ls) read in
+    let p = items_ok mid new (each (list_of_label keys r) ls) read in
     placed_with keys ss i r ls front mid new p.0 total g e p.1 p.2 so_far
 
-labels_fail : (e : IndexError) (keys : List Label) (r : ℕ) (ls : List Label) → Fails e (each (place_at keys r) ls) → Fails e (placed_at keys (r, ls))
-unfolding placed_at
+labels_fail : (e : IndexError) (keys : List Label) (r : ℕ) (ls : List Label) → Fails e (each (list_of_label keys r) ls) → Fails e (lists_of_series keys (r, ls))
+unfolding lists_of_series
 labels_fail Memory keys r ls f = tt
 labels_fail e keys r ls f = rw f refl
 
-pub placed_fails : (e : IndexError) (keys : List Label) (ss : List Tied) (i r : ℕ) (ls : List Label) (front mid : List Carried) (total : Result (List Carried) IndexError) → slice_get ss i ≡ Some (r, ls) → Fails e (behind_items mid (each (place_at keys r) ls))
-    → behind_items front (each_all (placed_at keys) (drop i ss)) ≡ total → Fails e total
+pub placed_fails : (e : IndexError) (keys : List Label) (ss : List Carrier) (i r : ℕ) (ls : List Label) (front mid : List Carried) (total : Result (List Carried) IndexError) → slice_get ss i ≡ Some (r, ls) → Fails e (behind_items mid (each (list_of_label keys r) ls))
+    → behind_items front (each_all (lists_of_series keys) (drop i ss)) ≡ total → Fails e total
 placed_fails e keys ss i r ls front mid total g f so_far =
-    let s : Tied = (r, ls) in
-    all_fails (placed_at keys) e ss i s front total g (labels_fail e keys r ls (items_fail e mid (each (place_at keys r) ls) f)) so_far
+    let s : Carrier = (r, ls) in
+    all_fails (lists_of_series keys) e ss i s front total g (labels_fail e keys r ls (items_fail e mid (each (list_of_label keys r) ls) f)) so_far
 
 -- ---- references with label sets
 
-pub tied_at : (rs : List ℕ) (ls : List (List Label)) (i r : ℕ) (l : List Label) → slice_get rs i ≡ Some r → slice_get ls i ≡ Some l → slice_get (tied rs ls) i ≡ Some (r, l)
-unfolding tied
+pub tied_at : (rs : List ℕ) (ls : List (List Label)) (i r : ℕ) (l : List Label) → slice_get rs i ≡ Some r → slice_get ls i ≡ Some l → slice_get (carriers rs ls) i ≡ Some (r, l)
+unfolding carriers
 tied_at [] ls i r l g h = absurd cc
 tied_at (x ∷ rs) [] i r l g h = absurd cc
 tied_at (x ∷ rs) (y ∷ ls) zero r l g h =
@@ -94,8 +93,8 @@ tied_at (x ∷ rs) (y ∷ ls) zero r l g h =
     rw (a, b) refl
 tied_at (x ∷ rs) (y ∷ ls) (suc i) r l g h = tied_at rs ls i r l g h
 
-pub length-tied : (rs : List ℕ) (ls : List (List Label)) → length (tied rs ls) ≤ length ls
-unfolding tied
+pub length-tied : (rs : List ℕ) (ls : List (List Label)) → length (carriers rs ls) ≤ length ls
+unfolding carriers
 length-tied [] ls = omega arith
 length-tied (x ∷ rs) [] = omega arith
 length-tied (x ∷ rs) (y ∷ ls) = omega (arith, length-tied rs ls)
@@ -127,8 +126,8 @@ agreed_ok : {A : Type 0} (o : Option A) (x : A) → or_disagree o ≡ Ok x → o
 agreed_ok (Some y) x h = cc
 agreed_ok None x h = absurd cc
 
-place_inside : (keys : List Label) (r : ℕ) (l : Label) (c : Carried) → place_at keys r l ≡ Ok c → c.0 < length keys + 1
-unfolding place_at
+place_inside : (keys : List Label) (r : ℕ) (l : Label) (c : Carried) → list_of_label keys r l ≡ Ok c → c.0 < length keys + 1
+unfolding list_of_label
 place_inside keys r l c h =
     let a = bind_ok (or_disagree (place_of keys l)) _ c h in
     let lt = index_inside _ keys a.0 (agreed_ok (place_of keys l) a.0 a.1) in
@@ -136,12 +135,12 @@ place_inside keys r l c h =
     let e : made ≡ c = ok_is made c a.2 in
     omega (arith, lt, ap (λ (x : Carried). x.0) e)
 
-labels_inside : (keys : List Label) (r : ℕ) (ls : List Label) (cs : List Carried) → each (place_at keys r) ls ≡ Ok cs → InLists (length keys + 1) cs
+labels_inside : (keys : List Label) (r : ℕ) (ls : List Label) (cs : List Carried) → each (list_of_label keys r) ls ≡ Ok cs → InLists (length keys + 1) cs
 unfolding each
 labels_inside keys r [] cs h = let e : [] ≡ cs = ok_is [] cs h in rw (← e) tt
 labels_inside keys r (l ∷ ls) cs h =
-    let a = bind_ok (place_at keys r l) _ cs h in
-    let b = bind_ok (each (place_at keys r) ls) _ cs a.2 in
+    let a = bind_ok (list_of_label keys r l) _ cs h in
+    let b = bind_ok (each (list_of_label keys r) ls) _ cs a.2 in
     let e : a.0 ∷ b.0 ≡ cs = ok_is (a.0 ∷ b.0) cs b.2 in
     rw (← e) (place_inside keys r l a.0 a.1, labels_inside keys r ls b.0 b.1)
 
@@ -149,33 +148,33 @@ inside_append : (n : ℕ) (cs ds : List Carried) → InLists n cs → InLists n 
 inside_append n [] ds h g = g
 inside_append n (c ∷ cs) ds h g = (h.0, inside_append n cs ds h.1 g)
 
-series_inside : (keys : List Label) (s : Tied) (cs : List Carried) → placed_at keys s ≡ Ok cs → InLists (length keys + 1) cs
-unfolding placed_at
+series_inside : (keys : List Label) (s : Carrier) (cs : List Carried) → lists_of_series keys s ≡ Ok cs → InLists (length keys + 1) cs
+unfolding lists_of_series
 series_inside keys s cs h =
-    let a = bind_ok (each (place_at keys s.0) s.1) _ cs h in
+    let a = bind_ok (each (list_of_label keys s.0) s.1) _ cs h in
     let first : Carried = (0, s.0) in
     let e : first ∷ a.0 ≡ cs = ok_is (first ∷ a.0) cs a.2 in
     rw (← e) (omega arith, labels_inside keys s.0 s.1 a.0 a.1)
 
-pub placed_inside : (keys : List Label) (ss : List Tied) (cs : List Carried) → each_all (placed_at keys) ss ≡ Ok cs → InLists (length keys + 1) cs
+pub placed_inside : (keys : List Label) (ss : List Carrier) (cs : List Carried) → each_all (lists_of_series keys) ss ≡ Ok cs → InLists (length keys + 1) cs
 unfolding each_all
 placed_inside keys [] cs h = let e : [] ≡ cs = ok_is [] cs h in rw (← e) tt
 placed_inside keys (s ∷ ss) cs h =
-    let a = bind_ok (placed_at keys s) _ cs h in
-    let b = bind_ok (each_all (placed_at keys) ss) _ cs a.2 in
+    let a = bind_ok (lists_of_series keys s) _ cs h in
+    let b = bind_ok (each_all (lists_of_series keys) ss) _ cs a.2 in
     let e : a.0 ++ b.0 ≡ cs = ok_is (a.0 ++ b.0) cs b.2 in
     rw (← e) (inside_append (length keys + 1) a.0 b.0 (series_inside keys s a.0 a.1) (placed_inside keys ss b.0 b.1))
 
 -- ---- lists as they are kept
 
-pub lists_are : (xs : List (Bor (List ℕ))) → lists_of xs ≡ map refs_of (texts_of xs)
+pub lists_are : (xs : List (Bor (List ℕ))) → references_in_each xs ≡ map references_in (bytes_of xs)
 lists_are [] = refl
-lists_are (x ∷ xs) = ap (λ (ys : List (List ℕ)). refs_of x.now ∷ ys) (lists_are xs)
+lists_are (x ∷ xs) = ap (λ (ys : List (List ℕ)). references_in x.now ∷ ys) (lists_are xs)
 
-pub used_are : (xs : List (Bor (List ℕ))) → list_all (λ (x : Bor (List ℕ)). nat_lt 0 (length x.now)) xs ≡ list_all (λ (l : List ℕ). nat_lt 0 (length l)) (texts_of xs)
+pub used_are : (xs : List (Bor (List ℕ))) → list_all (λ (x : Bor (List ℕ)). nat_lt 0 (length x.now)) xs ≡ list_all (λ (l : List ℕ). nat_lt 0 (length l)) (bytes_of xs)
 used_are [] = refl
 used_are (x ∷ xs) = rw (used_are xs) refl
 
-pub used_behind : (xs : List (Bor (List ℕ))) → list_all (λ (x : Bor (List ℕ)). nat_lt 0 (length x.now)) (drop 1 xs) ≡ are_used (texts_of xs)
+pub used_behind : (xs : List (Bor (List ℕ))) → list_all (λ (x : Bor (List ℕ)). nat_lt 0 (length x.now)) (drop 1 xs) ≡ are_used (bytes_of xs)
 used_behind [] = refl
 used_behind (x ∷ xs) = used_are xs

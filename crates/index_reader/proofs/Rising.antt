@@ -2,7 +2,7 @@
 use Rattle.std.proofs.Common.{◌≡◌, ℕ, zero, suc, ◌-◌, ◌<◌, ◌≤◌, Bool, true, ◌&&◌, List, [], ◌∷◌, length, drop, Some, refl, sym, ap, ◌∙◌, arith}
 use Rattle.std.specs.Prelude.{slice_get}
 use Rattle.std.proofs.lemmas.List.{length-drop}
-use Rattle.index_reader.specs.Each.{rises}
+use Rattle.index_reader.specs.Layout.{rises}
 
 step_at : {X : Type 0} (less : X → X → Bool) (xs : List X) (i : ℕ) (a b : X) → slice_get xs i ≡ Some a → slice_get xs (suc i) ≡ Some b → rises less (drop i xs) ≡ (less a b && rises less (drop (suc i) xs))
 unfolding rises

@@ -8,10 +8,8 @@ use Rattle.std.specs.Cmp.{IsTotalOrder}
 use Rattle.std.proofs.lemmas.Bool.{cases_lt}
 use Rattle.std.proofs.lemmas.Cmp.{alike_right, nat_cmp_total, on_total, then_total}
 use Rattle.labels.specs.Labels.{text_cmp}
-use Rattle.index_reader.specs.Each.{rises}
-use Rattle.index_reader.specs.Bodies.{Label}
-use Rattle.index_reader.specs.Finding.{index_of, key_cmp}
-use Rattle.index_reader.specs.Reading.{ascending, is_less}
+use Rattle.index_reader.specs.Layout.{rises, Label, ascending, is_less}
+use Rattle.index_reader.specs.Lookups.{index_of, key_cmp}
 
 pub keys_total : IsTotalOrder key_cmp
 keys_total = then_total (on_total (λ (k : Label). k.0) nat_cmp_total) (on_total (λ (k : Label). k.1) nat_cmp_total)

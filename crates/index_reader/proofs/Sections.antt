@@ -7,12 +7,12 @@ use Rattle.std.specs.Borrow.{Bor}
 use Rattle.std.proofs.lemmas.Bool.{ltb-true, eqb-true}
 use Rattle.wire.specs.Reading.{number_at}
 use Rattle.index_reader.specs.declared.error.IndexError.TheVariants.{Postings}
-use Rattle.index_reader.specs.declared.table.Listed.{Listed}
-use Rattle.index_reader.specs.Reading.{or_refused}
-use Rattle.index_reader.specs.Words.{refs_of, IsList}
-use Rattle.index_reader.specs.Each.{each, rises}
-use Rattle.index_reader.specs.Table.{references_at, section_at, lists_at}
-use Rattle.index_reader.specs.Shown.{texts_of, all_shown}
+use Rattle.index_reader.specs.declared.offset_table.TableEntry.{TableEntry}
+use Rattle.index_reader.specs.Steps.{or_refused, each}
+use Rattle.index_reader.specs.References.{references_in, IsList}
+use Rattle.index_reader.specs.Layout.{rises}
+use Rattle.index_reader.specs.PostingsChecks.{references_at, section_at, lists_at}
+use Rattle.index_reader.specs.Seen.{bytes_of, table_seen}
 use Rattle.index_reader.proofs.WalkLoops.{bind_ok, guard_ended}
 use Rattle.index_reader.proofs.Walks.{ok_is}
 
@@ -33,33 +33,33 @@ list_sound : (content list : List ℕ) → references_at content ≡ Ok list →
 unfolding references_at
 list_sound content list h =
     let n = bind_ok (or_refused Postings (number_at 4 content)) _ list h in
-    let g = guard_ended (eqb (length n.0.1) (4 * n.0.0) && rises nat_lt (refs_of n.0.1)) Postings n.0.1 list n.2 in
-    let p = both (eqb (length n.0.1) (4 * n.0.0)) (rises nat_lt (refs_of n.0.1)) g.0 in
+    let g = guard_ended (eqb (length n.0.1) (4 * n.0.0) && rises nat_lt (references_in n.0.1)) Postings n.0.1 list n.2 in
+    let p = both (eqb (length n.0.1) (4 * n.0.0)) (rises nat_lt (references_in n.0.1)) g.0 in
     let e = eqb-true _ _ p.0 in
     let whole : length n.0.1 % 4 ≡ 0 = omega (arith, e) in
-    subst IsList g.1 (whole, rises_up (refs_of n.0.1) p.1)
+    subst IsList g.1 (whole, rises_up (references_in n.0.1) p.1)
 
-sound_each : (cs : List (List ℕ)) (ls : List (Bor (List ℕ))) → each references_at cs ≡ Ok (texts_of ls) → (k : ℕ) (d : Bor (List ℕ)) → k < length ls → IsList (get_or ls k d).now
+sound_each : (cs : List (List ℕ)) (ls : List (Bor (List ℕ))) → each references_at cs ≡ Ok (bytes_of ls) → (k : ℕ) (d : Bor (List ℕ)) → k < length ls → IsList (get_or ls k d).now
 unfolding each
 sound_each cs [] h k d lt = absurd (omega arith)
 sound_each [] (l ∷ ls) h k d lt = absurd cc
 sound_each (c ∷ cs) (l ∷ ls) h zero d lt =
-    let x = bind_ok (references_at c) _ (texts_of (l ∷ ls)) h in
-    let xs = bind_ok (each references_at cs) _ (texts_of (l ∷ ls)) x.2 in
-    let f : x.0 ∷ xs.0 ≡ l.now ∷ texts_of ls = ok_is (x.0 ∷ xs.0) (l.now ∷ texts_of ls) xs.2 in
+    let x = bind_ok (references_at c) _ (bytes_of (l ∷ ls)) h in
+    let xs = bind_ok (each references_at cs) _ (bytes_of (l ∷ ls)) x.2 in
+    let f : x.0 ∷ xs.0 ≡ l.now ∷ bytes_of ls = ok_is (x.0 ∷ xs.0) (l.now ∷ bytes_of ls) xs.2 in
     let e : x.0 ≡ l.now = cc in
     subst IsList e (list_sound c x.0 x.1)
 sound_each (c ∷ cs) (l ∷ ls) h (suc k) d lt =
-    let x = bind_ok (references_at c) _ (texts_of (l ∷ ls)) h in
-    let xs = bind_ok (each references_at cs) _ (texts_of (l ∷ ls)) x.2 in
-    let f : x.0 ∷ xs.0 ≡ l.now ∷ texts_of ls = ok_is (x.0 ∷ xs.0) (l.now ∷ texts_of ls) xs.2 in
-    let e : xs.0 ≡ texts_of ls = cc in
+    let x = bind_ok (references_at c) _ (bytes_of (l ∷ ls)) h in
+    let xs = bind_ok (each references_at cs) _ (bytes_of (l ∷ ls)) x.2 in
+    let f : x.0 ∷ xs.0 ≡ l.now ∷ bytes_of ls = ok_is (x.0 ∷ xs.0) (l.now ∷ bytes_of ls) xs.2 in
+    let e : xs.0 ≡ bytes_of ls = cc in
     sound_each cs ls (rw e at xs.1) k d (omega arith)
 
-pub lists_sound : (file : List ℕ) (to : ℕ) (table : List Listed) (lists : List (Bor (List ℕ))) → lists_at file to (all_shown table) ≡ Ok (texts_of lists) → All (λ (l : Bor (List ℕ)). IsList l.now) lists
+pub lists_sound : (file : List ℕ) (to : ℕ) (table : List TableEntry) (lists : List (Bor (List ℕ))) → lists_at file to (table_seen table) ≡ Ok (bytes_of lists) → All (λ (l : Bor (List ℕ)). IsList l.now) lists
 unfolding lists_at
 lists_sound file to table lists h =
-    let contents = bind_ok (each (section_at file to) (all_shown table)) _ (texts_of lists) h in
+    let contents = bind_ok (each (section_at file to) (table_seen table)) _ (bytes_of lists) h in
     λ k d lt. sound_each contents.0 lists contents.2 k d lt
 
 pub sound_lists : (cs ls : List (List ℕ)) → each references_at cs ≡ Ok ls → (k : ℕ) (d : List ℕ) → k < length ls → IsList (get_or ls k d)

@@ -6,53 +6,53 @@ use Rattle.std.specs.Borrow.{Bor}
 use Rattle.std.proofs.lemmas.List.{length-map, length-append, drop_all, append-nil}
 use Rattle.byteorder.specs.Endian.{big_bytes}
 use Rattle.index_reader.specs.declared.error.IndexError.{IndexError}
-use Rattle.index_reader.specs.declared.reading.Entry.{Entry}
-use Rattle.index_reader.specs.declared.reading.Opened.{Opened}
+use Rattle.index_reader.specs.declared.series_entries.SeriesEntry.{SeriesEntry}
+use Rattle.index_reader.specs.declared.layout.Layout.{Layout}
 use Rattle.index_reader.specs.declared.bodies.Row.{Row}
 use Rattle.index_reader.specs.declared.chunk.Chunk.{Chunk}
-use Rattle.index_reader.specs.declared.table.Listed.{Listed}
-use Rattle.index_reader.specs.Reading.{Parts, rounded, series_end}
-use Rattle.index_reader.specs.Grammar.{entry, symbol, IsWalk, IsParts}
-use Rattle.index_reader.specs.Seen.{places, seen}
-use Rattle.index_reader.specs.Bodies.{Label}
-use Rattle.index_reader.specs.Each.{each}
-use Rattle.index_reader.specs.Flat.{body_in, bodies_in, label_sets_in, AllIn, AreInside}
-use Rattle.index_reader.specs.Shown.{texts_of, all_shown, shown}
-use Rattle.index_reader.specs.Table.{section_at, references_at, lists_at}
-use Rattle.index_reader.specs.Opening.{label_sets, IsSound}
+use Rattle.index_reader.specs.declared.offset_table.TableEntry.{TableEntry}
+use Rattle.index_reader.specs.Layout.{rounded, series_end, Label}
+use Rattle.index_reader.specs.Layout as layout
+use Rattle.index_reader.specs.Grammar.{entry, symbol, IsWalk, IsLayout}
+use Rattle.index_reader.specs.Seen.{entries_seen, layout_seen, bytes_of, table_seen, table_entry_seen}
+use Rattle.index_reader.specs.Steps.{each}
+use Rattle.index_reader.specs.FlatBodies.{body_in, bodies_in, label_sets_in, AllIn, AreInside}
+use Rattle.index_reader.specs.PostingsChecks.{section_at, references_at, lists_at}
+use Rattle.index_reader.specs.Checks.{labels_of_each}
+use Rattle.index_reader.specs.CheckedFile.{IsSound}
 use Rattle.index_reader.proofs.WalkLoops.{bind_ok}
 use Rattle.index_reader.proofs.Walks.{flat_long, ok_is}
 use Rattle.index_reader.proofs.Whole.{omega_length, end_inside}
 use Rattle.index_reader.proofs.Eaches.{drop_at_place}
 
-walk_inside : (es : List Entry) (file : List ℕ) (end at len : ℕ) → IsWalk file end at (places es) → end ≤ len → (k : ℕ) (d : Entry) → k < length es → (get_or es k d).offset ≤ len
+walk_inside : (es : List SeriesEntry) (file : List ℕ) (end at len : ℕ) → IsWalk file end at (entries_seen es) → end ≤ len → (k : ℕ) (d : SeriesEntry) → k < length es → (get_or es k d).offset ≤ len
 walk_inside [] file end at len w le k d lt = absurd (omega arith)
 walk_inside (e ∷ es) file end at len w le zero d lt = omega (arith, w.0, w.1)
 walk_inside (e ∷ es) file end at len w le (suc k) d lt = walk_inside es file end (rounded (at + length (entry e.body.now))) len w.3 le k d (omega arith)
 
-pub few_symbols : (file : List ℕ) (x : Parts) → IsParts file x → length x.symbols < 2 ^ 32
+pub few_symbols : (file : List ℕ) (x : layout.Layout) → IsLayout file x → length x.symbols < 2 ^ 32
 few_symbols file x p =
     let content = p.symbols.0 in
     let size = omega_length file x.contents content p.symbols.1.0 p.symbols.1.1 p.placed in
     let long = ap length p.symbols.2.text ∙ length-append (big_bytes 4 (length x.symbols)) (flat_map symbol x.symbols) in
     omega (arith, size, long, flat_long x.symbols)
 
-sound : (file : List ℕ) (o : Opened) → IsParts file (seen o) → IsSound file o
+sound : (file : List ℕ) (o : Layout) → IsLayout file (layout_seen o) → IsSound file o
 sound file o p = record {
   placed = p.placed;
-  few = omega (arith, few_symbols file (seen o) p, length-map o.symbols.items (λ (s : Bor (List ℕ)). s.now));
+  few = omega (arith, few_symbols file (layout_seen o) p, length-map o.symbols.items (λ (s : Bor (List ℕ)). s.now));
   order = p.symbols.2.order;
   small = λ k d lt. omega (arith, p.placed.short, walk_inside o.entries.items file (series_end o.contents) (rounded o.contents.series) (length file) p.entries (end_inside o.contents (length file) p.placed) k d lt);
   offsets = λ k d lt. walk_inside o.entries.items file (series_end o.contents) (rounded o.contents.series) (length file) p.entries (end_inside o.contents (length file) p.placed) k d lt;
 }
 
-pub sound_found : (file : List ℕ) (r : Result Opened IndexError) → IfOk r (λ o. IsParts file (seen o)) → IfOk r (λ o. IsSound file o)
+pub sound_found : (file : List ℕ) (r : Result Layout IndexError) → IfOk r (λ o. IsLayout file (layout_seen o)) → IfOk r (λ o. IsSound file o)
 sound_found file (Ok o) p = sound file o p
 sound_found file (Err e) p = tt
 
 -- ---- flat lists
 
-pub sets_are : (labels : List Label) (chunks : List Chunk) (rows : List Row) → label_sets (bodies_in labels chunks rows) ≡ label_sets_in labels rows
+pub sets_are : (labels : List Label) (chunks : List Chunk) (rows : List Row) → labels_of_each (bodies_in labels chunks rows) ≡ label_sets_in labels rows
 sets_are labels chunks [] = refl
 sets_are labels chunks (r ∷ rows) = ap (λ (xs : List (List Label)). slice_range labels r.labels_start r.labels_end ∷ xs) (sets_are labels chunks rows)
 
@@ -73,13 +73,13 @@ each_length step (a ∷ as') xs h =
     let e : x.0 ∷ ys.0 ≡ xs = ok_is (x.0 ∷ ys.0) xs ys.2 in
     rw (← e) (ap suc (each_length step as' ys.0 ys.1))
 
-pub lists_counted : (file : List ℕ) (to : ℕ) (table : List Listed) (lists : List (Bor (List ℕ))) → lists_at file to (all_shown table) ≡ Ok (texts_of lists) → length lists ≡ length table
+pub lists_counted : (file : List ℕ) (to : ℕ) (table : List TableEntry) (lists : List (Bor (List ℕ))) → lists_at file to (table_seen table) ≡ Ok (bytes_of lists) → length lists ≡ length table
 unfolding lists_at
 lists_counted file to table lists h =
-    let contents = bind_ok (each (section_at file to) (all_shown table)) _ (texts_of lists) h in
-    let a = each_length (section_at file to) (all_shown table) contents.0 contents.1 in
-    let b = each_length references_at contents.0 (texts_of lists) contents.2 in
-    omega (arith, a, b, length-map lists (λ (x : Bor (List ℕ)). x.now), length-map table shown)
+    let contents = bind_ok (each (section_at file to) (table_seen table)) _ (bytes_of lists) h in
+    let a = each_length (section_at file to) (table_seen table) contents.0 contents.1 in
+    let b = each_length references_at contents.0 (bytes_of lists) contents.2 in
+    omega (arith, a, b, length-map lists (λ (x : Bor (List ℕ)). x.now), length-map table table_entry_seen)
 
 pub all_step : {X : Type 0} (f : X → Bool) (xs : List X) (i : ℕ) (a : X) (r whole : Bool) → slice_get xs i ≡ Some a → r ≡ f a → list_all f (drop i xs) ≡ whole → whole ≡ (r && list_all f (drop (i + 1) xs))
 all_step f xs i a r whole g e h =

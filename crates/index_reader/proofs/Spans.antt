@@ -9,12 +9,10 @@ use Rattle.std.proofs.lemmas.Bool.{cases_lt, cases_eq}
 use Rattle.std.proofs.lemmas.List.{length-map, length-take, length-drop, get_or-take, get_or-drop}
 use Rattle.labels.specs.Labels.{text_cmp}
 use Rattle.labels.proofs.Texts.{bytes_exact, bytes_self}
-use Rattle.index_reader.specs.Reading.{ascending}
-use Rattle.index_reader.specs.Bodies.{Label}
-use Rattle.index_reader.specs.Each.{rises}
-use Rattle.index_reader.specs.Finding.{next, index_of, key_cmp, key_before, symbol_of, place_of}
+use Rattle.index_reader.specs.Layout.{ascending, Label, rises}
+use Rattle.index_reader.specs.Lookups.{next, index_of, key_cmp, key_before, symbol_of, place_of}
 use Rattle.index_reader.specs.Indexes.{text_of, named, values_of}
-use Rattle.index_reader.specs.Kept.{AreInTable}
+use Rattle.index_reader.specs.KeptIndex.{AreInTable}
 use Rattle.index_reader.proofs.Orders.{number_greater}
 use Rattle.index_reader.proofs.Searching.{keys_total, strict_from_rises}
 use Rattle.index_reader.proofs.Placing.{mapped_at}

@@ -12,21 +12,20 @@ use Rattle.wire.specs.Reading.{byte_at, number_at, bytes_at, uvarint_at}
 use Rattle.wire.proofs.Fields.{IsBytes-front, IsBytes-back, IsBytes-take, IsBytes-drop, number_takes_4, bytes_takes, big_bytes_4}
 use Rattle.wire.proofs.Laws.{uvarint_takes}
 use Rattle.index_reader.specs.declared.chunk.Chunk.{Chunk}
-use Rattle.index_reader.specs.declared.contents.Contents.{Contents}
+use Rattle.index_reader.specs.declared.layout.TableOfContents.{TableOfContents}
 use Rattle.index_reader.specs.declared.error.IndexError.{IndexError}
 use Rattle.index_reader.specs.declared.error.IndexError.TheVariants.{Series, Offsets, Postings, PostingsCrc}
-use Rattle.index_reader.specs.Reading.{◌>>=◌, or_refused, frame_at, Place, rounded}
+use Rattle.index_reader.specs.Steps.{◌>>=◌, or_refused, steps, each}
+use Rattle.index_reader.specs.Frames.{frame_at}
+use Rattle.index_reader.specs.Layout.{SeriesEntry, rounded, rises, Label, Body, TableEntry, is_before, is_within, postings_end}
 use Rattle.index_reader.specs.Grammar.{frame, entry, symbol, StandsAt, IsWalk}
-use Rattle.index_reader.specs.Steps.{steps}
-use Rattle.index_reader.specs.Each.{each, rises}
-use Rattle.index_reader.specs.Bodies.{Label, Body, is_label, label_at, labels_at, or_series, chunk_at, chunks_at, behind, body_at}
-use Rattle.index_reader.specs.Chunks.{first_at, later_at}
-use Rattle.index_reader.specs.Flat.{body_of_place}
-use Rattle.index_reader.specs.Words.{words, refs_of, IsList}
-use Rattle.index_reader.specs.Table.{Listed, text_at, listed_at, is_before, is_within, table_at, section_at, references_at, label_offsets_at, table_content_at}
-use Rattle.index_reader.specs.Opening.{postings_end}
-use Rattle.index_reader.specs.Labelled.{AreLabels}
-use Rattle.index_reader.specs.Spelled.{label_text, IsLater, AreLater, AreChunks, IsBody, AreBodies, listed_text, table_text, IsTable, list_text, AreSections}
+use Rattle.index_reader.specs.BodyChecks.{is_label, label_at, labels_at, or_series, chunk_at, chunks_at, behind, body_at}
+use Rattle.index_reader.specs.ChunkChecks.{first_at, later_at}
+use Rattle.index_reader.specs.FlatBodies.{body_of_entry}
+use Rattle.index_reader.specs.References.{words, references_in, IsList}
+use Rattle.index_reader.specs.TableChecks.{text_at, table_entry_at, table_at, label_offsets_at, table_content_at}
+use Rattle.index_reader.specs.PostingsChecks.{section_at, references_at}
+use Rattle.index_reader.specs.Spelled.{AreLabels, label_text, IsLater, AreLater, AreChunks, IsBody, AreBodies, listed_text, table_text, IsTable, list_text, AreSections}
 use Rattle.index_reader.proofs.WalkLoops.{bind_ok, refused_ok, guard_ended}
 use Rattle.index_reader.proofs.Walks.{ok_is}
 use Rattle.index_reader.proofs.Fields.{Takes, takes, Takes-then, frame_takes}
@@ -154,7 +153,7 @@ body_spelled symbols bytes b fits h =
     let labelled : AreLabels symbols 0 l.0.0 = subst (λ (z : Body). AreLabels symbols 0 z.labels) (sym g.1) named in
     subst (λ (z : Body). IsBody symbols z bytes) g.1 (record { chunks_text = t1.0; spelled = text; labels = labelled; chunks = t1.2 })
 
-pub walk_bytes : (ps : List Place) (file : List ℕ) (end at : ℕ) → IsBytes file → IsWalk file end at ps → AllByRecursion (λ p. IsBytes p.body) ps
+pub walk_bytes : (ps : List SeriesEntry) (file : List ℕ) (end at : ℕ) → IsBytes file → IsWalk file end at ps → AllByRecursion (λ p. IsBytes p.body) ps
 walk_bytes [] file end at fits w = tt
 walk_bytes (p ∷ ps) file end at fits w =
     let rest = w.2.0 in
@@ -162,10 +161,10 @@ walk_bytes (p ∷ ps) file end at fits w =
     let body = IsBytes-front p.body (big_bytes 4 (crc32c p.body)) (IsBytes-back (uvarint (length p.body)) _ (IsBytes-front (entry p.body) rest text)) in
     (body, walk_bytes ps file end (rounded (at + length (entry p.body))) fits w.3)
 
-pub bodies_spelled : (symbols : List (List ℕ)) (ps : List Place) (bs : List Body) → AllByRecursion (λ p. IsBytes p.body) ps → each (body_of_place symbols) ps ≡ Ok bs → AreBodies symbols ps bs
-bodies_spelled symbols [] bs fits h = subst (AreBodies symbols []) (each_nil (body_of_place symbols) bs h) tt
+pub bodies_spelled : (symbols : List (List ℕ)) (ps : List SeriesEntry) (bs : List Body) → AllByRecursion (λ p. IsBytes p.body) ps → each (body_of_entry symbols) ps ≡ Ok bs → AreBodies symbols ps bs
+bodies_spelled symbols [] bs fits h = subst (AreBodies symbols []) (each_nil (body_of_entry symbols) bs h) tt
 bodies_spelled symbols (p ∷ ps) bs fits h =
-    let x = each_cons (body_of_place symbols) p ps bs h in
+    let x = each_cons (body_of_entry symbols) p ps bs h in
     subst (AreBodies symbols (p ∷ ps)) x.4 (body_spelled symbols p.body x.0 fits.0 x.2, bodies_spelled symbols ps x.1 fits.1 x.3)
 
 -- ---- the table
@@ -189,8 +188,8 @@ is_so : {A : Type 0} (b : Bool) (d : IndexError) (read : Result A IndexError) (y
 is_so true d read y h = (refl, h)
 is_so false d read y h = absurd cc
 
-listed_spelled : (bytes : List ℕ) (y : Listed × List ℕ) → IsBytes bytes → listed_at bytes ≡ Ok y → Takes bytes (listed_text y.0) y.1
-unfolding listed_at
+listed_spelled : (bytes : List ℕ) (y : TableEntry × List ℕ) → IsBytes bytes → table_entry_at bytes ≡ Ok y → Takes bytes (listed_text y.0) y.1
+unfolding table_entry_at
 listed_spelled bytes y fits h =
     let a = bind_ok (or_refused Offsets (byte_at bytes)) _ y h in
     let g = is_so (eqb a.0.0 2) Offsets _ y a.2 in
@@ -202,35 +201,35 @@ listed_spelled bytes y fits h =
     let t2 = text_spelled n.0.1 v.0 t1.rest_fits v.1 in
     let t3 = uvarint_read Offsets v.0.1 o.0 t2.rest_fits o.1 in
     let two : Takes bytes (2 ∷ []) a.0.1 = subst (λ (b : ℕ). Takes bytes (b ∷ []) a.0.1) (eqb-true a.0.0 2 g.0) t0 in
-    let made : Listed × List ℕ = (record { name = n.0.0; value = v.0.0; offset = o.0.0 }, o.0.1) in
+    let made : TableEntry × List ℕ = (record { name = n.0.0; value = v.0.0; offset = o.0.0 }, o.0.1) in
     let inner = Takes-then n.0.1 (symbol v.0.0) v.0.1 (uvarint o.0.0) o.0.1 t2 t3 in
     let middle = Takes-then a.0.1 (symbol n.0.0) n.0.1 (symbol v.0.0 ++ uvarint o.0.0) o.0.1 t1 inner in
     let whole = Takes-then bytes (2 ∷ []) a.0.1 (symbol n.0.0 ++ (symbol v.0.0 ++ uvarint o.0.0)) o.0.1 two middle in
-    subst (λ (z : Listed × List ℕ). Takes bytes (listed_text z.0) z.1) (ok_is made y o.2) whole
+    subst (λ (z : TableEntry × List ℕ). Takes bytes (listed_text z.0) z.1) (ok_is made y o.2) whole
 
-entries_spelled : (n : ℕ) (s : List ℕ) (x : List Listed × List ℕ) → IsBytes s → steps listed_at n s ≡ Ok x → Takes s (flat_map listed_text x.0) x.1 × (length x.0 ≡ n)
+entries_spelled : (n : ℕ) (s : List ℕ) (x : List TableEntry × List ℕ) → IsBytes s → steps table_entry_at n s ≡ Ok x → Takes s (flat_map listed_text x.0) x.1 × (length x.0 ≡ n)
 unfolding steps
 entries_spelled zero s x fits h =
-    let made : List Listed × List ℕ = ([], s) in
-    subst (λ (z : List Listed × List ℕ). Takes s (flat_map listed_text z.0) z.1 × (length z.0 ≡ 0)) (ok_is made x h) (nothing_taken s fits, refl)
+    let made : List TableEntry × List ℕ = ([], s) in
+    subst (λ (z : List TableEntry × List ℕ). Takes s (flat_map listed_text z.0) z.1 × (length z.0 ≡ 0)) (ok_is made x h) (nothing_taken s fits, refl)
 entries_spelled (suc n) s x fits h =
-    let a = bind_ok (listed_at s) _ x h in
-    let b = bind_ok (steps listed_at n a.0.1) _ x a.2 in
+    let a = bind_ok (table_entry_at s) _ x h in
+    let b = bind_ok (steps table_entry_at n a.0.1) _ x a.2 in
     let one = listed_spelled s a.0 fits a.1 in
     let more = entries_spelled n a.0.1 b.0 one.rest_fits b.1 in
-    let made : List Listed × List ℕ = (a.0.0 ∷ b.0.0, b.0.1) in
+    let made : List TableEntry × List ℕ = (a.0.0 ∷ b.0.0, b.0.1) in
     let whole = Takes-then s (listed_text a.0.0) a.0.1 (flat_map listed_text b.0.0) b.0.1 one more.0 in
-    subst (λ (z : List Listed × List ℕ). Takes s (flat_map listed_text z.0) z.1 × (length z.0 ≡ suc n)) (ok_is made x b.2) (rw flat_map-cons whole, ap suc more.1)
+    subst (λ (z : List TableEntry × List ℕ). Takes s (flat_map listed_text z.0) z.1 × (length z.0 ≡ suc n)) (ok_is made x b.2) (rw flat_map-cons whole, ap suc more.1)
 
 both : (p q : Bool) → (p && q) ≡ true → (p ≡ true) × (q ≡ true)
 both true q h = (refl, h)
 both false q h = absurd cc
 
-table_spelled : (from to : ℕ) (content : List ℕ) (table : List Listed) → IsBytes content → table_at from to content ≡ Ok table → (content ≡ table_text table) × (rises is_before table ≡ true) × (list_all (is_within from to) table ≡ true)
+table_spelled : (from to : ℕ) (content : List ℕ) (table : List TableEntry) → IsBytes content → table_at from to content ≡ Ok table → (content ≡ table_text table) × (rises is_before table ≡ true) × (list_all (is_within from to) table ≡ true)
 unfolding table_at
 table_spelled from to content table fits h =
     let n = bind_ok (or_refused Offsets (number_at 4 content)) _ table h in
-    let f = bind_ok (steps listed_at n.0.0 n.0.1) _ table n.2 in
+    let f = bind_ok (steps table_entry_at n.0.0 n.0.1) _ table n.2 in
     let g = guard_ended (eqb (length f.0.1) 0 && rises is_before f.0.0 && list_all (is_within from to) f.0.0) Offsets f.0.0 table f.2 in
     let p = both (eqb (length f.0.1) 0 && rises is_before f.0.0) (list_all (is_within from to) f.0.0) g.0 in
     let q = both (eqb (length f.0.1) 0) (rises is_before f.0.0) p.0 in
@@ -240,9 +239,9 @@ table_spelled from to content table fits h =
     let ended : f.0.1 ≡ [] = nil_from_length f.0.1 (eqb-true (length f.0.1) 0 q.0) in
     let body : n.0.1 ≡ flat_map listed_text f.0.0 = more.0.parts ∙ ap (λ (r : List ℕ). flat_map listed_text f.0.0 ++ r) ended ∙ append-nil (flat_map listed_text f.0.0) in
     let text : content ≡ table_text f.0.0 = t0.parts ∙ ap (λ (r : List ℕ). big_bytes 4 n.0.0 ++ r) body ∙ ap (λ (k : ℕ). big_bytes 4 k ++ flat_map listed_text f.0.0) (sym more.1) in
-    subst (λ (z : List Listed). (content ≡ table_text z) × (rises is_before z ≡ true) × (list_all (is_within from to) z ≡ true)) g.1 (text, q.1, p.1)
+    subst (λ (z : List TableEntry). (content ≡ table_text z) × (rises is_before z ≡ true) × (list_all (is_within from to) z ≡ true)) g.1 (text, q.1, p.1)
 
-others_spelled : (file : List ℕ) (t : Contents) (x : List ℕ) → IsBytes file → label_offsets_at file t ≡ Ok x → (t.label_offsets ≡ 0) ⊎ ((content : List ℕ) × StandsAt file t.label_offsets t.postings_offsets (frame content))
+others_spelled : (file : List ℕ) (t : TableOfContents) (x : List ℕ) → IsBytes file → label_offsets_at file t ≡ Ok x → (t.label_offsets ≡ 0) ⊎ ((content : List ℕ) × StandsAt file t.label_offsets t.postings_offsets (frame content))
 others_spelled file t x fits h = go (eqb t.label_offsets 0) refl h
   where
     go : (b : Bool) → eqb t.label_offsets 0 ≡ b → cond b (Ok []) (frame_at Offsets (slice_range file t.label_offsets t.postings_offsets) >>= λ f. Ok f.0) ≡ Ok x → (t.label_offsets ≡ 0) ⊎ ((content : List ℕ) × StandsAt file t.label_offsets t.postings_offsets (frame content))
@@ -251,7 +250,7 @@ others_spelled file t x fits h = go (eqb t.label_offsets 0) refl h
         let f = bind_ok (frame_at Offsets (slice_range file t.label_offsets t.postings_offsets)) _ x h' in
         inr (f.0.0, (f.0.1, (frame_takes Offsets (slice_range file t.label_offsets t.postings_offsets) f.0 (range_fits file t.label_offsets t.postings_offsets fits) f.1).parts))
 
-pub is_tabled : (file : List ℕ) (t : Contents) (content : List ℕ) (table : List Listed) → IsBytes file → table_content_at file t ≡ Ok content → table_at t.postings (postings_end t) content ≡ Ok table → IsTable file t table
+pub is_tabled : (file : List ℕ) (t : TableOfContents) (content : List ℕ) (table : List TableEntry) → IsBytes file → table_content_at file t ≡ Ok content → table_at t.postings (postings_end t) content ≡ Ok table → IsTable file t table
 unfolding table_content_at
 is_tabled file t content table fits h g =
     let o = bind_ok (label_offsets_at file t) _ content h in
@@ -277,7 +276,7 @@ words_spelled (suc n) bytes fits e =
     let rest = words_spelled n (drop 4 bytes) (IsBytes-drop 4 bytes fits) (omega (arith, e, length-drop 4 bytes)) in
     flat_map-cons (big_bytes 4) (big_number 4 bytes) (words n (drop 4 bytes)) ∙ ap (λ (r : List ℕ). big_bytes 4 (big_number 4 bytes) ++ r) rest ∙ ap (λ (f : List ℕ). f ++ drop 4 bytes) (big_bytes_4 bytes fits (omega (arith, e))) ∙ take-append-drop 4 bytes
 
-list_spelled : (content list : List ℕ) → IsBytes content → references_at content ≡ Ok list → content ≡ list_text (refs_of list)
+list_spelled : (content list : List ℕ) → IsBytes content → references_at content ≡ Ok list → content ≡ list_text (references_in list)
 unfolding references_at
 list_spelled content list fits h =
     let n = bind_ok (or_refused Postings (number_at 4 content)) _ list h in
@@ -287,11 +286,11 @@ list_spelled content list fits h =
     let ta = number_takes_4 content n.0.0 n.0.1 fits (refused_ok Postings (number_at 4 content) n.0 n.1) in
     let t0 = takes content (big_bytes 4 n.0.0) n.0.1 fits ta.0 in
     let m : length n.0.1 / 4 ≡ n.0.0 = omega (arith, e) in
-    let raw : flat_map (big_bytes 4) (refs_of n.0.1) ≡ n.0.1 = words_spelled (length n.0.1 / 4) n.0.1 t0.rest_fits (omega (arith, e)) in
-    let text : content ≡ list_text (refs_of n.0.1) = ta.0 ∙ ap (λ (k : ℕ). big_bytes 4 k ++ n.0.1) (sym (length-refs n.0.1 ∙ m)) ∙ ap (λ (r : List ℕ). big_bytes 4 (length (refs_of n.0.1)) ++ r) (sym raw) in
-    subst (λ (z : List ℕ). content ≡ list_text (refs_of z)) g.1 text
+    let raw : flat_map (big_bytes 4) (references_in n.0.1) ≡ n.0.1 = words_spelled (length n.0.1 / 4) n.0.1 t0.rest_fits (omega (arith, e)) in
+    let text : content ≡ list_text (references_in n.0.1) = ta.0 ∙ ap (λ (k : ℕ). big_bytes 4 k ++ n.0.1) (sym (length-refs n.0.1 ∙ m)) ∙ ap (λ (r : List ℕ). big_bytes 4 (length (references_in n.0.1)) ++ r) (sym raw) in
+    subst (λ (z : List ℕ). content ≡ list_text (references_in z)) g.1 text
 
-section_spelled : (file : List ℕ) (to : ℕ) (l : Listed) (content : List ℕ) → IsBytes file → section_at file to l ≡ Ok content → StandsAt file l.offset to (frame content) × IsBytes content
+section_spelled : (file : List ℕ) (to : ℕ) (l : TableEntry) (content : List ℕ) → IsBytes file → section_at file to l ≡ Ok content → StandsAt file l.offset to (frame content) × IsBytes content
 unfolding section_at
 section_spelled file to l content fits h =
     let bytes = slice_range file l.offset to in
@@ -302,11 +301,11 @@ section_spelled file to l content fits h =
     let inside : IsBytes f.0.0 = IsBytes-front f.0.0 (big_bytes 4 (crc32c f.0.0)) (IsBytes-back (big_bytes 4 (length f.0.0)) (f.0.0 ++ big_bytes 4 (crc32c f.0.0)) (IsBytes-front (frame f.0.0) f.0.1 (subst IsBytes took.parts (range_fits file l.offset to fits)))) in
     subst (λ (z : List ℕ). StandsAt file l.offset to (frame z) × IsBytes z) e (stands, inside)
 
-pub sections_spelled : (file : List ℕ) (to : ℕ) (table : List Listed) (contents lists : List (List ℕ)) → IsBytes file → each (section_at file to) table ≡ Ok contents → each references_at contents ≡ Ok lists → ((k : ℕ) (d : List ℕ) → k < length lists → IsList (get_or lists k d)) → AreSections file to table (map refs_of lists)
+pub sections_spelled : (file : List ℕ) (to : ℕ) (table : List TableEntry) (contents lists : List (List ℕ)) → IsBytes file → each (section_at file to) table ≡ Ok contents → each references_at contents ≡ Ok lists → ((k : ℕ) (d : List ℕ) → k < length lists → IsList (get_or lists k d)) → AreSections file to table (map references_in lists)
 sections_spelled file to [] contents lists fits h g whole =
     let e = each_nil (section_at file to) contents h in
     let f = each_nil references_at lists (subst (λ (z : List (List ℕ)). each references_at z ≡ Ok lists) (sym e) g) in
-    subst (λ (z : List (List ℕ)). AreSections file to [] (map refs_of z)) f tt
+    subst (λ (z : List (List ℕ)). AreSections file to [] (map references_in z)) f tt
 sections_spelled file to (l ∷ table) contents lists fits h g whole =
     let x = each_cons (section_at file to) l table contents h in
     let g' : each references_at (x.0 ∷ x.1) ≡ Ok lists = subst (λ (z : List (List ℕ)). each references_at z ≡ Ok lists) (sym x.4) g in
@@ -314,6 +313,6 @@ sections_spelled file to (l ∷ table) contents lists fits h g whole =
     let s = section_spelled file to l x.0 fits x.2 in
     let text = list_spelled x.0 y.0 s.1 y.2 in
     let whole' : (k : ℕ) (d : List ℕ) → k < suc (length y.1) → IsList (get_or (y.0 ∷ y.1) k d) = subst (λ (z : List (List ℕ)). (k : ℕ) (d : List ℕ) → k < length z → IsList (get_or z k d)) (sym y.4) whole in
-    let stands : StandsAt file l.offset to (frame (list_text (refs_of y.0))) = subst (λ (c : List ℕ). StandsAt file l.offset to (frame c)) text s.0 in
+    let stands : StandsAt file l.offset to (frame (list_text (references_in y.0))) = subst (λ (c : List ℕ). StandsAt file l.offset to (frame c)) text s.0 in
     let one : IsList y.0 = whole' 0 [] (omega arith) in
-    subst (λ (z : List (List ℕ)). AreSections file to (l ∷ table) (map refs_of z)) y.4 (stands, one.1, sections_spelled file to table x.1 y.1 fits x.3 y.3 (λ k d lt. whole' (suc k) d (omega arith)))
+    subst (λ (z : List (List ℕ)). AreSections file to (l ∷ table) (map references_in z)) y.4 (stands, one.1, sections_spelled file to table x.1 y.1 fits x.3 y.3 (λ k d lt. whole' (suc k) d (omega arith)))

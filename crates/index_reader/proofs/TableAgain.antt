@@ -16,46 +16,46 @@ use Rattle.wire.proofs.Fields.{IsBytes-front, IsBytes-back, IsBytes-take, IsByte
 use Rattle.wire.proofs.KnownReads.{chosen}
 use Rattle.wire.proofs.Laws.{uvarint_again, uvarint_long}
 use Rattle.labels.proofs.Lists.{rising-tail}
-use Rattle.index_reader.specs.declared.contents.Contents.{Contents}
+use Rattle.index_reader.specs.declared.layout.TableOfContents.{TableOfContents}
 use Rattle.index_reader.specs.declared.error.IndexError.{IndexError}
 use Rattle.index_reader.specs.declared.error.IndexError.TheVariants.{Offsets, PostingsCrc}
-use Rattle.index_reader.specs.Reading.{frame_at}
+use Rattle.index_reader.specs.Frames.{frame_at}
 use Rattle.index_reader.specs.Grammar.{frame, symbol, StandsAt}
-use Rattle.index_reader.specs.Steps.{steps}
-use Rattle.index_reader.specs.Each.{each, rises}
-use Rattle.index_reader.specs.Words.{words, refs_of}
-use Rattle.index_reader.specs.Table.{Listed, listed_at, is_before, is_within, table_at, section_at, references_at, label_offsets_at, table_content_at}
-use Rattle.index_reader.specs.Opening.{postings_end}
+use Rattle.index_reader.specs.Steps.{steps, each}
+use Rattle.index_reader.specs.Layout.{rises, TableEntry, is_before, is_within, postings_end}
+use Rattle.index_reader.specs.References.{words, references_in}
+use Rattle.index_reader.specs.TableChecks.{table_entry_at, table_at, label_offsets_at, table_content_at}
+use Rattle.index_reader.specs.PostingsChecks.{section_at, references_at}
 use Rattle.index_reader.specs.Spelled.{listed_text, table_text, IsTable, list_text, AreSections}
 use Rattle.index_reader.proofs.Fields.{eqb_same, frame_again}
 
 symbol_group : (s rest : List ℕ) → symbol s ++ rest ≡ uvarint (length s) ++ (s ++ rest)
 symbol_group s rest = append_assoc (uvarint (length s)) s rest
 
-abbrev pub IsSmall : Listed → Type 0
+abbrev pub IsSmall : TableEntry → Type 0
 IsSmall l = (length l.name < 2 ^ 64) × (length l.value < 2 ^ 64) × (l.offset < 2 ^ 64)
 
-listed_again : (l : Listed) (rest : List ℕ) → IsSmall l → listed_at (listed_text l ++ rest) ≡ Ok (l, rest)
-unfolding listed_at
+listed_again : (l : TableEntry) (rest : List ℕ) → IsSmall l → table_entry_at (listed_text l ++ rest) ≡ Ok (l, rest)
+unfolding table_entry_at
 listed_again l rest h =
     let last = uvarint l.offset ++ rest in
     let a : (symbol l.name ++ (symbol l.value ++ uvarint l.offset)) ++ rest ≡ symbol l.name ++ (symbol l.value ++ last) = append_assoc (symbol l.name) (symbol l.value ++ uvarint l.offset) rest ∙ ap (λ (x : List ℕ). symbol l.name ++ x) (append_assoc (symbol l.value) (uvarint l.offset) rest) in
     let b : symbol l.name ++ (symbol l.value ++ last) ≡ uvarint (length l.name) ++ (l.name ++ (uvarint (length l.value) ++ (l.value ++ last))) = symbol_group l.name (symbol l.value ++ last) ∙ ap (λ (x : List ℕ). uvarint (length l.name) ++ (l.name ++ x)) (symbol_group l.value last) in
-    ap (λ (x : List ℕ). listed_at (2 ∷ x)) (a ∙ b)
+    ap (λ (x : List ℕ). table_entry_at (2 ∷ x)) (a ∙ b)
     ∙ rw (uvarint_again (length l.name) (l.name ++ (uvarint (length l.value) ++ (l.value ++ last))) h.0, bytes_again l.name (uvarint (length l.value) ++ (l.value ++ last)), uvarint_again (length l.value) (l.value ++ last) h.1, bytes_again l.value last, uvarint_again l.offset rest h.2) refl
 
-entries_again : (table : List Listed) (rest : List ℕ) → AllByRecursion IsSmall table → steps listed_at (length table) (flat_map listed_text table ++ rest) ≡ Ok (table, rest)
+entries_again : (table : List TableEntry) (rest : List ℕ) → AllByRecursion IsSmall table → steps table_entry_at (length table) (flat_map listed_text table ++ rest) ≡ Ok (table, rest)
 unfolding steps
 entries_again [] rest h = refl
 entries_again (l ∷ ls) rest h =
     let grouped : flat_map listed_text (l ∷ ls) ++ rest ≡ listed_text l ++ (flat_map listed_text ls ++ rest) = ap (λ (x : List ℕ). x ++ rest) (flat_map-cons listed_text l ls) ∙ append_assoc (listed_text l) (flat_map listed_text ls) rest in
-    ap (steps listed_at (suc (length ls))) grouped ∙ rw (listed_again l (flat_map listed_text ls ++ rest) h.0, entries_again ls rest h.1) refl
+    ap (steps table_entry_at (suc (length ls))) grouped ∙ rw (listed_again l (flat_map listed_text ls ++ rest) h.0, entries_again ls rest h.1) refl
 
 both : (p q : Bool) → (p && q) ≡ true → (p ≡ true) × (q ≡ true)
 both true q h = (refl, h)
 both false q h = absurd cc
 
-listed_size : (l : Listed) → length l.name + length l.value < length (listed_text l)
+listed_size : (l : TableEntry) → length l.name + length l.value < length (listed_text l)
 listed_size l =
     let a = length-append (uvarint (length l.name)) l.name in
     let b = length-append (uvarint (length l.value)) l.value in
@@ -63,7 +63,7 @@ listed_size l =
     let d = length-append (symbol l.name) (symbol l.value ++ uvarint l.offset) in
     omega (arith, a, b, c, d, uvarint_long l.offset)
 
-all_small : (from to : ℕ) (table : List Listed) → length (flat_map listed_text table) < 2 ^ 64 → to ≤ 2 ^ 64 → list_all (is_within from to) table ≡ true → AllByRecursion IsSmall table
+all_small : (from to : ℕ) (table : List TableEntry) → length (flat_map listed_text table) < 2 ^ 64 → to ≤ 2 ^ 64 → list_all (is_within from to) table ≡ true → AllByRecursion IsSmall table
 all_small from to [] size le h = tt
 all_small from to (l ∷ ls) size le h =
     let p = both (is_within from to l) (list_all (is_within from to) ls) h in
@@ -74,18 +74,18 @@ all_small from to (l ∷ ls) size le h =
     let k = listed_size l in
     ((omega (arith, size, s, n, k), omega (arith, size, s, n, k), omega (arith, lt, le)), all_small from to ls (omega (arith, size, s, n)) le p.1)
 
-table_long : (table : List Listed) → length table ≤ length (flat_map listed_text table)
+table_long : (table : List TableEntry) → length table ≤ length (flat_map listed_text table)
 table_long [] = omega arith
 table_long (l ∷ ls) =
     let s = ap (λ (x : List ℕ). length x) (flat_map-cons listed_text l ls) in
     omega (arith, table_long ls, s, length-append (listed_text l) (flat_map listed_text ls), listed_size l)
 
-table_again : (from to : ℕ) (table : List Listed) → length (table_text table) < 2 ^ 32 → to ≤ 2 ^ 64 → rises is_before table ≡ true → list_all (is_within from to) table ≡ true → table_at from to (table_text table) ≡ Ok table
+table_again : (from to : ℕ) (table : List TableEntry) → length (table_text table) < 2 ^ 32 → to ≤ 2 ^ 64 → rises is_before table ≡ true → list_all (is_within from to) table ≡ true → table_at from to (table_text table) ≡ Ok table
 unfolding table_at
 table_again from to table size le rising within =
     let n = length-append (big_bytes 4 (length table)) (flat_map listed_text table) in
     let small = all_small from to table (omega (arith, size, n)) le within in
-    let nilled : steps listed_at (length table) (flat_map listed_text table) ≡ Ok (table, []) = ap (steps listed_at (length table)) (sym (append-nil (flat_map listed_text table))) ∙ entries_again table [] small in
+    let nilled : steps table_entry_at (length table) (flat_map listed_text table) ≡ Ok (table, []) = ap (steps table_entry_at (length table)) (sym (append-nil (flat_map listed_text table))) ∙ entries_again table [] small in
     rw (number_again_4 (length table) (flat_map listed_text table) (omega (arith, size, n, table_long table)), nilled, rising, within) refl
 
 -- ---- frames in the file
@@ -101,7 +101,7 @@ framed_again e file at end content fits small s =
     let size : length content < 2 ^ 32 = omega (arith, small, a, length-take (end - at) (drop at file), length-drop at file, length-append (frame content) s.0, length-append (big_bytes 4 (length content)) (content ++ big_bytes 4 (crc32c content)), length-append content (big_bytes 4 (crc32c content))) in
     ap (frame_at e) s.1 ∙ frame_again e content s.0 content_fits size
 
-others_again : (file : List ℕ) (t : Contents) → IsBytes file → length file < 2 ^ 32 → (t.label_offsets ≡ 0) ⊎ ((content : List ℕ) × StandsAt file t.label_offsets t.postings_offsets (frame content)) → (x : List ℕ) × (label_offsets_at file t ≡ Ok x)
+others_again : (file : List ℕ) (t : TableOfContents) → IsBytes file → length file < 2 ^ 32 → (t.label_offsets ≡ 0) ⊎ ((content : List ℕ) × StandsAt file t.label_offsets t.postings_offsets (frame content)) → (x : List ℕ) × (label_offsets_at file t ≡ Ok x)
 others_again file t fits small (inl e) = ([], rw e refl)
 others_again file t fits small (inr s) = go (eqb t.label_offsets 0) refl
   where
@@ -112,7 +112,7 @@ others_again file t fits small (inr s) = go (eqb t.label_offsets 0) refl
     go true e = ([], rw e refl)
     go false e = (s.0, rw (e, read) refl)
 
-pub tabled_again : (file : List ℕ) (t : Contents) (table : List Listed) → IsBytes file → length file < 2 ^ 32 → postings_end t ≤ 2 ^ 64 → IsTable file t table → (table_content_at file t ≡ Ok (table_text table)) × (table_at t.postings (postings_end t) (table_text table) ≡ Ok table)
+pub tabled_again : (file : List ℕ) (t : TableOfContents) (table : List TableEntry) → IsBytes file → length file < 2 ^ 32 → postings_end t ≤ 2 ^ 64 → IsTable file t table → (table_content_at file t ≡ Ok (table_text table)) × (table_at t.postings (postings_end t) (table_text table) ≡ Ok table)
 unfolding table_content_at
 tabled_again file t table fits small le h =
     let o = others_again file t fits small h.others in
@@ -168,7 +168,7 @@ words_again (r ∷ rs) h =
     ∙ ap (λ (x : List ℕ). r ∷ words (length rs) x) p.1
     ∙ ap (λ (x : List ℕ). r ∷ x) (words_again rs h.1)
 
-refs_again : (refs : List ℕ) → AreSmall refs → refs_of (flat_map (big_bytes 4) refs) ≡ refs
+refs_again : (refs : List ℕ) → AreSmall refs → references_in (flat_map (big_bytes 4) refs) ≡ refs
 refs_again refs h =
     let n : length (flat_map (big_bytes 4) refs) / 4 ≡ length refs = omega (arith, flat_size refs) in
     ap (λ (k : ℕ). words k (flat_map (big_bytes 4) refs)) n ∙ words_again refs h
@@ -180,10 +180,10 @@ list_again refs small inc size =
     let n = length-append (big_bytes 4 (length refs)) flat in
     let count : length refs < 2 ^ 32 = omega (arith, size, n, flat_size refs) in
     let sized : eqb (length flat) (4 * length refs) ≡ true = ap (λ (k : ℕ). eqb k (4 * length refs)) (flat_size refs) ∙ eqb_same (4 * length refs) in
-    let risen : rises nat_lt (refs_of flat) ≡ true = ap (rises nat_lt) (refs_again refs small) ∙ rise_again refs inc in
+    let risen : rises nat_lt (references_in flat) ≡ true = ap (rises nat_lt) (refs_again refs small) ∙ rise_again refs inc in
     rw (number_again_4 (length refs) flat count, sized, risen) refl
 
-section_again : (file : List ℕ) (to : ℕ) (l : Listed) (content : List ℕ) → IsBytes file → length file < 2 ^ 32 → StandsAt file l.offset to (frame content) → section_at file to l ≡ Ok content
+section_again : (file : List ℕ) (to : ℕ) (l : TableEntry) (content : List ℕ) → IsBytes file → length file < 2 ^ 32 → StandsAt file l.offset to (frame content) → section_at file to l ≡ Ok content
 unfolding section_at
 section_again file to l content fits small s = rw (framed_again PostingsCrc file l.offset to content fits small s) refl
 
@@ -192,8 +192,8 @@ stands_size file at end content small s =
     let a = ap (λ (x : List ℕ). length x) s.1 in
     omega (arith, small, a, length-take (end - at) (drop at file), length-drop at file, length-append (frame content) s.0, length-append (big_bytes 4 (length content)) (content ++ big_bytes 4 (crc32c content)), length-append content (big_bytes 4 (crc32c content)))
 
-pub sections_again : (file : List ℕ) (to : ℕ) (table : List Listed) (lists : List (List ℕ)) → IsBytes file → length file < 2 ^ 32 → AllByRecursion AreSmall lists → AreSections file to table lists
-    → (contents raws : List (List ℕ)) × (each (section_at file to) table ≡ Ok contents) × (each references_at contents ≡ Ok raws) × (map refs_of raws ≡ lists)
+pub sections_again : (file : List ℕ) (to : ℕ) (table : List TableEntry) (lists : List (List ℕ)) → IsBytes file → length file < 2 ^ 32 → AllByRecursion AreSmall lists → AreSections file to table lists
+    → (contents raws : List (List ℕ)) × (each (section_at file to) table ≡ Ok contents) × (each references_at contents ≡ Ok raws) × (map references_in raws ≡ lists)
 unfolding each
 sections_again file to [] [] fits small refs h = ([], [], refl, refl, refl)
 sections_again file to [] (r ∷ lists) fits small refs h = absurd h
@@ -203,4 +203,4 @@ sections_again file to (l ∷ table) (r ∷ lists) fits small refs h =
     let one = section_again file to l (list_text r) fits small h.0 in
     let list = list_again r refs.0 h.1 (stands_size file l.offset to (list_text r) small h.0) in
     let flat = flat_map (big_bytes 4) r in
-    (list_text r ∷ more.0, flat ∷ more.1, rw (one, more.2) refl, rw (list, more.3) refl, ap (λ (x : List ℕ). x ∷ map refs_of more.1) (refs_again r refs.0) ∙ ap (λ (xs : List (List ℕ)). r ∷ xs) more.4)
+    (list_text r ∷ more.0, flat ∷ more.1, rw (one, more.2) refl, rw (list, more.3) refl, ap (λ (x : List ℕ). x ∷ map references_in more.1) (refs_again r refs.0) ∙ ap (λ (xs : List (List ℕ)). r ∷ xs) more.4)

@@ -6,15 +6,13 @@ use Rattle.std.proofs.lemmas.List.{drop_all}
 use Rattle.index_reader.specs.declared.error.IndexError.{IndexError}
 use Rattle.index_reader.specs.declared.error.IndexError.TheVariants.{Memory, PostingsDisagree}
 use Rattle.index_reader.specs.Outcome.{Fails}
-use Rattle.index_reader.specs.Reading.{◌>>=◌}
-use Rattle.index_reader.specs.Bodies.{Label}
-use Rattle.index_reader.specs.Table.{Listed}
-use Rattle.index_reader.specs.Words.{refs_of}
-use Rattle.index_reader.specs.Each.{each}
-use Rattle.index_reader.specs.Agree.{Carried, is_first, all_empty, drained}
-use Rattle.index_reader.specs.Finding.{place_of}
-use Rattle.index_reader.specs.Agreement.{Tied, or_disagree, keys_at, place_at, placed_at, each_all, are_used, agreed_at}
-use Rattle.index_reader.specs.Taking.{in_turn, reference_taken, label_taken, series_taken, used_up_at}
+use Rattle.index_reader.specs.Steps.{◌>>=◌, each}
+use Rattle.index_reader.specs.Layout.{Label, TableEntry}
+use Rattle.index_reader.specs.References.{references_in}
+use Rattle.index_reader.specs.CarriedPairs.{Carried, is_first, all_empty, are_used_up}
+use Rattle.index_reader.specs.Lookups.{place_of}
+use Rattle.index_reader.specs.AgreementChecks.{Carrier, or_disagree, keys_at, list_of_label, lists_of_series, each_all, are_used, agreement_of}
+use Rattle.index_reader.specs.SeriesWalk.{in_turn, take_reference, take_label, take_series, keys_used_up}
 use Rattle.index_reader.proofs.Eaches.{drop_at_place}
 use Rattle.index_reader.proofs.OnlyDisagrees.{OnlyDisagrees, only_ok, only_then, only_refused, only_each, only_each_all, only_place, only_placed}
 
@@ -48,12 +46,12 @@ turn_done step s as' i total le so_far = sym so_far ∙ rw (drop_all i as' le) r
 
 -- ---- one reference
 
-pub taken_none : (r : ℕ) (lists : Lists) (k : ℕ) → get_or lists k [] ≡ [] → reference_taken r lists k ≡ Err PostingsDisagree
-unfolding reference_taken
+pub taken_none : (r : ℕ) (lists : Lists) (k : ℕ) → get_or lists k [] ≡ [] → take_reference r lists k ≡ Err PostingsDisagree
+unfolding take_reference
 taken_none r lists k e = rw e refl
 
-pub taken_other : (r : ℕ) (lists : Lists) (k x : ℕ) (xs : List ℕ) → get_or lists k [] ≡ x ∷ xs → (x ≡ r → ⊥) → reference_taken r lists k ≡ Err PostingsDisagree
-unfolding reference_taken
+pub taken_other : (r : ℕ) (lists : Lists) (k x : ℕ) (xs : List ℕ) → get_or lists k [] ≡ x ∷ xs → (x ≡ r → ⊥) → take_reference r lists k ≡ Err PostingsDisagree
+unfolding take_reference
 taken_other r lists k x xs e ne =
     let no : eqb x r ≡ false = false_from_ne_true (eqb x r) (λ t. ne (eqb-true x r t)) in
     rw (e, no) refl
@@ -61,8 +59,8 @@ taken_other r lists k x xs e ne =
 eqb_same : (n : ℕ) → eqb n n ≡ true
 eqb_same n = true_from_ne_false (eqb n n) (λ h. eqb-false n n h refl)
 
-pub taken_first : (r : ℕ) (lists : Lists) (k x : ℕ) (xs : List ℕ) → get_or lists k [] ≡ x ∷ xs → x ≡ r → reference_taken r lists k ≡ Ok (set lists k xs)
-unfolding reference_taken
+pub taken_first : (r : ℕ) (lists : Lists) (k x : ℕ) (xs : List ℕ) → get_or lists k [] ≡ x ∷ xs → x ≡ r → take_reference r lists k ≡ Ok (set lists k xs)
+unfolding take_reference
 taken_first r lists k x xs e same =
     let yes : eqb x r ≡ true = rw same (eqb_same r) in
     rw (e, yes) refl
@@ -89,7 +87,7 @@ swapped (Err e) (Err d) f a b = ap (λ (x : IndexError). Err x) (a e refl ∙ sy
 -- ---- all references of a list of pairs
 
 one_taken : Lists → Carried → Result Lists IndexError
-one_taken lists c = reference_taken c.1 lists c.0
+one_taken lists c = take_reference c.1 lists c.0
 
 taken : Lists → List Carried → Result Lists IndexError
 taken lists cs = in_turn one_taken lists cs
@@ -100,8 +98,8 @@ taken_both lists [] bs = refl
 taken_both lists (a ∷ as') bs =
     then_same (one_taken lists a) _ _ (λ t. taken_both t as' bs) ∙ sym (grouped (one_taken lists a) (λ t. in_turn one_taken t as') (λ rest. in_turn one_taken rest bs))
 
-only_one : (r : ℕ) (lists : Lists) (k : ℕ) → OnlyDisagrees (reference_taken r lists k)
-unfolding reference_taken
+only_one : (r : ℕ) (lists : Lists) (k : ℕ) → OnlyDisagrees (take_reference r lists k)
+unfolding take_reference
 only_one r lists k = go (is_first r (get_or lists k []))
   where
     go : (b : Bool) → OnlyDisagrees (cond b (Ok (set lists k (drop 1 (get_or lists k [])))) (Err PostingsDisagree))
@@ -111,47 +109,47 @@ only_one r lists k = go (is_first r (get_or lists k []))
 only_taken : (lists : Lists) (cs : List Carried) → OnlyDisagrees (taken lists cs)
 unfolding taken in_turn one_taken
 only_taken lists [] = only_ok lists
-only_taken lists (c ∷ cs) = only_then (reference_taken c.1 lists c.0) _ (only_one c.1 lists c.0) (λ t. only_taken t cs)
+only_taken lists (c ∷ cs) = only_then (take_reference c.1 lists c.0) _ (only_one c.1 lists c.0) (λ t. only_taken t cs)
 
 -- the first of them, and then those that a later reading gives
 first_taken : (r : ℕ) (lists : Lists) (k : ℕ) (read : Result (List Carried) IndexError) → OnlyDisagrees read
-    → (reference_taken r lists k >>= λ t. read >>= λ cs. taken t cs) ≡ (read >>= λ cs. taken lists ((k, r) ∷ cs))
+    → (take_reference r lists k >>= λ t. read >>= λ cs. taken t cs) ≡ (read >>= λ cs. taken lists ((k, r) ∷ cs))
 unfolding taken in_turn one_taken
-first_taken r lists k read only = swapped (reference_taken r lists k) read (λ t cs. in_turn one_taken t cs) (only_one r lists k) only
+first_taken r lists k read only = swapped (take_reference r lists k) read (λ t cs. in_turn one_taken t cs) (only_one r lists k) only
 
 -- a label, and then the others
-label_first : (keys : List Label) (r : ℕ) (ls : List Label) (lists : Lists) (o : Option ℕ) → ((t : Lists) → in_turn (label_taken keys r) t ls ≡ (each (place_at keys r) ls >>= λ cs. taken t cs))
-    → ((or_disagree o >>= λ at. reference_taken r lists (at + 1)) >>= λ t. in_turn (label_taken keys r) t ls)
-    ≡ (((or_disagree o >>= λ at. Ok (at + 1, r)) >>= λ x. each (place_at keys r) ls >>= λ xs. Ok (x ∷ xs)) >>= λ cs. taken lists cs)
+label_first : (keys : List Label) (r : ℕ) (ls : List Label) (lists : Lists) (o : Option ℕ) → ((t : Lists) → in_turn (take_label keys r) t ls ≡ (each (list_of_label keys r) ls >>= λ cs. taken t cs))
+    → ((or_disagree o >>= λ at. take_reference r lists (at + 1)) >>= λ t. in_turn (take_label keys r) t ls)
+    ≡ (((or_disagree o >>= λ at. Ok (at + 1, r)) >>= λ x. each (list_of_label keys r) ls >>= λ xs. Ok (x ∷ xs)) >>= λ cs. taken lists cs)
 label_first keys r ls lists None later = refl
 label_first keys r ls lists (Some k) later =
-    then_same (reference_taken r lists (k + 1)) _ _ later ∙ first_taken r lists (k + 1) (each (place_at keys r) ls) (only_each (place_at keys r) ls (only_place keys r))
-    ∙ sym (grouped (each (place_at keys r) ls) (λ xs. Ok ((k + 1, r) ∷ xs)) (λ cs. taken lists cs))
+    then_same (take_reference r lists (k + 1)) _ _ later ∙ first_taken r lists (k + 1) (each (list_of_label keys r) ls) (only_each (list_of_label keys r) ls (only_place keys r))
+    ∙ sym (grouped (each (list_of_label keys r) ls) (λ xs. Ok ((k + 1, r) ∷ xs)) (λ cs. taken lists cs))
 
-labels_are : (keys : List Label) (r : ℕ) (ls : List Label) (lists : Lists) → in_turn (label_taken keys r) lists ls ≡ (each (place_at keys r) ls >>= λ cs. taken lists cs)
-unfolding in_turn each label_taken place_at taken
+labels_are : (keys : List Label) (r : ℕ) (ls : List Label) (lists : Lists) → in_turn (take_label keys r) lists ls ≡ (each (list_of_label keys r) ls >>= λ cs. taken lists cs)
+unfolding in_turn each take_label list_of_label taken
 labels_are keys r [] lists = refl
 labels_are keys r (l ∷ ls) lists = label_first keys r ls lists (place_of keys l) (λ t. labels_are keys r ls t)
 
-one_series : (keys : List Label) (s : Tied) (lists : Lists) → series_taken keys lists s ≡ (placed_at keys s >>= λ cs. taken lists cs)
-unfolding series_taken placed_at
+one_series : (keys : List Label) (s : Carrier) (lists : Lists) → take_series keys lists s ≡ (lists_of_series keys s >>= λ cs. taken lists cs)
+unfolding take_series lists_of_series
 one_series keys s lists =
-    then_same (reference_taken s.0 lists 0) _ _ (λ t. labels_are keys s.0 s.1 t) ∙ first_taken s.0 lists 0 (each (place_at keys s.0) s.1) (only_each (place_at keys s.0) s.1 (only_place keys s.0))
-    ∙ sym (grouped (each (place_at keys s.0) s.1) (λ others. Ok ((0, s.0) ∷ others)) (λ cs. taken lists cs))
+    then_same (take_reference s.0 lists 0) _ _ (λ t. labels_are keys s.0 s.1 t) ∙ first_taken s.0 lists 0 (each (list_of_label keys s.0) s.1) (only_each (list_of_label keys s.0) s.1 (only_place keys s.0))
+    ∙ sym (grouped (each (list_of_label keys s.0) s.1) (λ others. Ok ((0, s.0) ∷ others)) (λ cs. taken lists cs))
 
-all_series : (keys : List Label) (ss : List Tied) (lists : Lists) → in_turn (series_taken keys) lists ss ≡ (each_all (placed_at keys) ss >>= λ cs. taken lists cs)
+all_series : (keys : List Label) (ss : List Carrier) (lists : Lists) → in_turn (take_series keys) lists ss ≡ (each_all (lists_of_series keys) ss >>= λ cs. taken lists cs)
 unfolding in_turn each_all taken
 all_series keys [] lists = refl
 all_series keys (s ∷ ss) lists =
-    let more = each_all (placed_at keys) ss in
-    ap (λ (r : Result Lists IndexError). r >>= λ t. in_turn (series_taken keys) t ss) (one_series keys s lists)
-    ∙ grouped (placed_at keys s) (λ cs. taken lists cs) (λ t. in_turn (series_taken keys) t ss)
-    ∙ then_same (placed_at keys s) _ _ (λ first.
+    let more = each_all (lists_of_series keys) ss in
+    ap (λ (r : Result Lists IndexError). r >>= λ t. in_turn (take_series keys) t ss) (one_series keys s lists)
+    ∙ grouped (lists_of_series keys s) (λ cs. taken lists cs) (λ t. in_turn (take_series keys) t ss)
+    ∙ then_same (lists_of_series keys s) _ _ (λ first.
     then_same (taken lists first) _ _ (λ t. all_series keys ss t)
-    ∙ swapped (taken lists first) more (λ t cs. taken t cs) (only_taken lists first) (only_each_all (placed_at keys) ss (only_placed keys))
+    ∙ swapped (taken lists first) more (λ t cs. taken t cs) (only_taken lists first) (only_each_all (lists_of_series keys) ss (only_placed keys))
     ∙ then_same more _ _ (λ others. sym (taken_both lists first others))
     ∙ sym (grouped more (λ others. Ok (first ++ others)) (λ cs. taken lists cs)))
-    ∙ sym (grouped (placed_at keys s) (λ first. more >>= λ others. Ok (first ++ others)) (λ cs. taken lists cs))
+    ∙ sym (grouped (lists_of_series keys s) (λ first. more >>= λ others. Ok (first ++ others)) (λ cs. taken lists cs))
 
 -- ---- the test
 
@@ -159,14 +157,14 @@ ends_empty : Result Lists IndexError → Bool
 ends_empty (Ok lists) = all_empty lists
 ends_empty (Err e) = false
 
-drained_first : (lists : Lists) (c : Carried) (cs : List Carried) (b : Bool) → drained (set lists c.0 (drop 1 (get_or lists c.0 []))) cs ≡ ends_empty (taken (set lists c.0 (drop 1 (get_or lists c.0 []))) cs)
-    → (b && drained (set lists c.0 (drop 1 (get_or lists c.0 []))) cs) ≡ ends_empty (cond b (Ok (set lists c.0 (drop 1 (get_or lists c.0 [])))) (Err PostingsDisagree) >>= λ t. in_turn one_taken t cs)
+drained_first : (lists : Lists) (c : Carried) (cs : List Carried) (b : Bool) → are_used_up (set lists c.0 (drop 1 (get_or lists c.0 []))) cs ≡ ends_empty (taken (set lists c.0 (drop 1 (get_or lists c.0 []))) cs)
+    → (b && are_used_up (set lists c.0 (drop 1 (get_or lists c.0 []))) cs) ≡ ends_empty (cond b (Ok (set lists c.0 (drop 1 (get_or lists c.0 [])))) (Err PostingsDisagree) >>= λ t. in_turn one_taken t cs)
 unfolding ends_empty taken
 drained_first lists c cs true later = later
 drained_first lists c cs false later = refl
 
-drained_is : (cs : List Carried) (lists : Lists) → drained lists cs ≡ ends_empty (taken lists cs)
-unfolding drained taken in_turn one_taken reference_taken ends_empty
+drained_is : (cs : List Carried) (lists : Lists) → are_used_up lists cs ≡ ends_empty (taken lists cs)
+unfolding are_used_up taken in_turn one_taken take_reference ends_empty
 drained_is [] lists = refl
 drained_is (c ∷ cs) lists = drained_first lists c cs (is_first c.1 (get_or lists c.0 [])) (drained_is cs (set lists c.0 (drop 1 (get_or lists c.0 []))))
 
@@ -177,12 +175,12 @@ decided used keys (Ok lists) only = refl
 decided true keys (Err e) only = ap (λ (d : IndexError). Err d) (only e refl)
 decided false keys (Err e) only = ap (λ (d : IndexError). Err d) (only e refl)
 
-pub used_up_is : (symbols : List (List ℕ)) (table : List Listed) (lists : Lists) (series : List Tied) → used_up_at symbols table lists series ≡ agreed_at symbols table lists series
-unfolding used_up_at agreed_at
+pub used_up_is : (symbols : List (List ℕ)) (table : List TableEntry) (lists : Lists) (series : List Carrier) → keys_used_up symbols table lists series ≡ agreement_of symbols table lists series
+unfolding keys_used_up agreement_of
 used_up_is symbols table lists series =
     then_same (keys_at symbols table) _ _ (λ keys.
-    ap (λ (r : Result Lists IndexError). r >>= λ rests. cond (are_used lists && all_empty rests) (Ok keys) (Err PostingsDisagree)) (all_series keys series (map refs_of lists))
-    ∙ grouped (each_all (placed_at keys) series) (λ cs. taken (map refs_of lists) cs) (λ rests. cond (are_used lists && all_empty rests) (Ok keys) (Err PostingsDisagree))
-    ∙ then_same (each_all (placed_at keys) series) _ _ (λ placed.
-    decided (are_used lists) keys (taken (map refs_of lists) placed) (only_taken (map refs_of lists) placed)
-    ∙ ap (λ (b : Bool). cond (are_used lists && b) (Ok keys) (Err PostingsDisagree)) (sym (drained_is placed (map refs_of lists)))))
+    ap (λ (r : Result Lists IndexError). r >>= λ rests. cond (are_used lists && all_empty rests) (Ok keys) (Err PostingsDisagree)) (all_series keys series (map references_in lists))
+    ∙ grouped (each_all (lists_of_series keys) series) (λ cs. taken (map references_in lists) cs) (λ rests. cond (are_used lists && all_empty rests) (Ok keys) (Err PostingsDisagree))
+    ∙ then_same (each_all (lists_of_series keys) series) _ _ (λ placed.
+    decided (are_used lists) keys (taken (map references_in lists) placed) (only_taken (map references_in lists) placed)
+    ∙ ap (λ (b : Bool). cond (are_used lists && b) (Ok keys) (Err PostingsDisagree)) (sym (drained_is placed (map references_in lists)))))

@@ -10,12 +10,11 @@ use Rattle.std.proofs.lemmas.Bool.{cases_lt, cases_eq}
 use Rattle.std.proofs.lemmas.Map.Lookups.{exact_pairs}
 use Rattle.labels.specs.Parts.{carries}
 use Rattle.index_reader.specs.declared.error.IndexError.{IndexError}
-use Rattle.index_reader.specs.Reading.{ascending}
-use Rattle.index_reader.specs.Bodies.{Label}
-use Rattle.index_reader.specs.Each.{each, rises}
-use Rattle.index_reader.specs.Agree.{Carried}
-use Rattle.index_reader.specs.Finding.{next, index_of, key_cmp, key_before, place_of}
-use Rattle.index_reader.specs.Agreement.{or_disagree, place_at}
+use Rattle.index_reader.specs.Layout.{ascending, Label, rises}
+use Rattle.index_reader.specs.Steps.{each}
+use Rattle.index_reader.specs.CarriedPairs.{Carried}
+use Rattle.index_reader.specs.Lookups.{next, index_of, key_cmp, key_before, place_of}
+use Rattle.index_reader.specs.AgreementChecks.{or_disagree, list_of_label}
 use Rattle.index_reader.proofs.Orders.{symbols_cmp, number_less, number_greater}
 use Rattle.index_reader.proofs.Searching.{keys_total, strict_from_rises, search_found}
 use Rattle.index_reader.proofs.WalkLoops.{bind_ok}
@@ -103,8 +102,8 @@ agreed_ok : {A : Type 0} (o : Option A) (x : A) → or_disagree o ≡ Ok x → o
 agreed_ok (Some y) x h = cc
 agreed_ok None x h = absurd cc
 
-pub placed_is : (keys : List Label) (r : ℕ) (l : Label) (c : Carried) → place_at keys r l ≡ Ok c → (a : ℕ) × (place_of keys l ≡ Some a) × (c.0 ≡ a + 1) × (c.1 ≡ r)
-unfolding place_at
+pub placed_is : (keys : List Label) (r : ℕ) (l : Label) (c : Carried) → list_of_label keys r l ≡ Ok c → (a : ℕ) × (place_of keys l ≡ Some a) × (c.0 ≡ a + 1) × (c.1 ≡ r)
+unfolding list_of_label
 placed_is keys r l c h =
     let a = bind_ok (or_disagree (place_of keys l)) _ c h in
     let made : Carried = (a.0 + 1, r) in

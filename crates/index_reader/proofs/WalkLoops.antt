@@ -13,7 +13,11 @@ use Rattle.wire.proofs.Laws.{uvarint_shorter}
 use Rattle.index_reader.specs.declared.error.IndexError.{IndexError}
 use Rattle.index_reader.specs.declared.error.IndexError.TheVariants.{Memory, SeriesCrc}
 use Rattle.index_reader.specs.Outcome.{Fails}
-use Rattle.index_reader.specs.Reading.{◌>>=◌, or_refused, checked_at, Place, symbol_at, symbols_from, entry_at, entries_from, rounded, ascending, is_less}
+use Rattle.index_reader.specs.Steps.{◌>>=◌, or_refused}
+use Rattle.index_reader.specs.Frames.{checked_at}
+use Rattle.index_reader.specs.Layout.{SeriesEntry, rounded, ascending, is_less}
+use Rattle.index_reader.specs.SymbolChecks.{symbol_at, symbols_from}
+use Rattle.index_reader.specs.EntryChecks.{entry_at, entries_from}
 use Rattle.std.proofs.Math.Seq.{drop-cons}
 
 not_ok : {A B : Type 0} (e : IndexError) (x : A) (whole : Result B IndexError) → Fails e (Ok x) → Fails e whole
@@ -51,7 +55,7 @@ fails_on e (Err g) next whole h f = fails_too e g (Err g) whole refl (sym h) f
 abbrev pub with_front : List (List ℕ) → Result (List (List ℕ) × List ℕ) IndexError → Result (List (List ℕ) × List ℕ) IndexError
 with_front front read = read >>= λ x. Ok (front ++ x.0, x.1)
 
-abbrev pub with_places : List Place → Result (List Place) IndexError → Result (List Place) IndexError
+abbrev pub with_places : List SeriesEntry → Result (List SeriesEntry) IndexError → Result (List SeriesEntry) IndexError
 with_places front read = read >>= λ x. Ok (front ++ x)
 
 regroup : (front : List (List ℕ)) (s : List ℕ) (read : Result (List (List ℕ) × List ℕ) IndexError) → with_front front (read >>= λ x. Ok (s ∷ x.0, x.1)) ≡ with_front (front ++ s ∷ []) read
@@ -131,34 +135,34 @@ entry_shorter bytes x h =
     let b = checked_shorter SeriesCrc a.0 x a.2 in
     omega (arith, b, uvarint_shorter bytes a.0 (refused_ok SeriesCrc (uvarint_at bytes) a.0 a.1))
 
-regroup_places : (front : List Place) (p : Place) (read : Result (List Place) IndexError) → with_places front (read >>= λ x. Ok (p ∷ x)) ≡ with_places (front ++ p ∷ []) read
-regroup_places front p (Ok x) = ap (λ (ps : List Place). Ok ps) (simp append_assoc)
+regroup_places : (front : List SeriesEntry) (p : SeriesEntry) (read : Result (List SeriesEntry) IndexError) → with_places front (read >>= λ x. Ok (p ∷ x)) ≡ with_places (front ++ p ∷ []) read
+regroup_places front p (Ok x) = ap (λ (ps : List SeriesEntry). Ok ps) (simp append_assoc)
 regroup_places front p (Err f) = refl
 
-pub walk_on : (n : ℕ) (front : List Place) (file : List ℕ) (end at : ℕ) (body after : List ℕ) (total : Result (List Place) IndexError) → at < end → end - at ≤ n → entry_at (slice_range file at end) ≡ Ok (body, after)
+pub walk_on : (n : ℕ) (front : List SeriesEntry) (file : List ℕ) (end at : ℕ) (body after : List ℕ) (total : Result (List SeriesEntry) IndexError) → at < end → end - at ≤ n → entry_at (slice_range file at end) ≡ Ok (body, after)
     → with_places front (entries_from n file end at) ≡ total → (m : ℕ) × (suc m ≡ n) × (with_places (front ++ (record { offset = at; body = body; end = end - length after }) ∷ []) (entries_from m file end (rounded (end - length after))) ≡ total)
 unfolding entries_from
 walk_on zero front file end at body after total lt le h so_far = absurd (omega arith)
 walk_on (suc m) front file end at body after total lt le h so_far =
-    let p : Place = record { offset = at; body = body; end = end - length after } in
+    let p : SeriesEntry = record { offset = at; body = body; end = end - length after } in
     let one : with_places front (entries_from (suc m) file end at) ≡ with_places (front ++ p ∷ []) (entries_from m file end (rounded (end - length after))) = rw (lt-ltb at end lt, h) (regroup_places front p (entries_from m file end (rounded (end - length after)))) in
     (m, refl, sym one ∙ so_far)
 
-pub walk_fails : (e : IndexError) (n : ℕ) (front : List Place) (file : List ℕ) (end at : ℕ) (total : Result (List Place) IndexError) → at < end → end - at ≤ n → Fails e (entry_at (slice_range file at end))
+pub walk_fails : (e : IndexError) (n : ℕ) (front : List SeriesEntry) (file : List ℕ) (end at : ℕ) (total : Result (List SeriesEntry) IndexError) → at < end → end - at ≤ n → Fails e (entry_at (slice_range file at end))
     → with_places front (entries_from n file end at) ≡ total → Fails e total
 unfolding entries_from
 walk_fails e zero front file end at total lt le h so_far = absurd (omega arith)
 walk_fails e (suc m) front file end at total lt le h so_far =
-    let others = λ (entry : List ℕ × List ℕ). entries_from m file end (rounded (end - length entry.1)) >>= λ (ps : List Place). Ok ((record { offset = at; body = entry.0; end = end - length entry.1 }) ∷ ps) in
-    let last : List Place → Result (List Place) IndexError = λ x. Ok (front ++ x) in
+    let others = λ (entry : List ℕ × List ℕ). entries_from m file end (rounded (end - length entry.1)) >>= λ (ps : List SeriesEntry). Ok ((record { offset = at; body = entry.0; end = end - length entry.1 }) ∷ ps) in
+    let last : List SeriesEntry → Result (List SeriesEntry) IndexError = λ x. Ok (front ++ x) in
     let one : (entry_at (slice_range file at end) >>= λ entry. (others entry >>= last)) ≡ with_places front (entries_from (suc m) file end at) = rw (lt-ltb at end lt) (chain (entry_at (slice_range file at end)) others last) in
     fails_on e (entry_at (slice_range file at end)) (λ entry. others entry >>= last) total (one ∙ so_far) h
 
-pub walk_done : (n : ℕ) (front : List Place) (file : List ℕ) (end at : ℕ) (total : Result (List Place) IndexError) → end ≤ at → with_places front (entries_from n file end at) ≡ total → total ≡ Ok front
+pub walk_done : (n : ℕ) (front : List SeriesEntry) (file : List ℕ) (end at : ℕ) (total : Result (List SeriesEntry) IndexError) → end ≤ at → with_places front (entries_from n file end at) ≡ total → total ≡ Ok front
 unfolding entries_from
-walk_done zero front file end at total le so_far = sym so_far ∙ ap (λ (ps : List Place). Ok ps) (append-nil front)
+walk_done zero front file end at total le so_far = sym so_far ∙ ap (λ (ps : List SeriesEntry). Ok ps) (append-nil front)
 walk_done (suc n) front file end at total le so_far =
-    let one : with_places front (entries_from (suc n) file end at) ≡ Ok front = rw (le-ltb at end le) (ap (λ (ps : List Place). Ok ps) (append-nil front)) in
+    let one : with_places front (entries_from (suc n) file end at) ≡ Ok front = rw (le-ltb at end le) (ap (λ (ps : List SeriesEntry). Ok ps) (append-nil front)) in
     sym so_far ∙ one
 
 -- ---- texts in order
@@ -195,6 +199,6 @@ after_entry file end at x lt le h =
     let n : length (slice_range file at end) ≡ end - at = omega (arith, length-take (end - at) (drop at file), length-drop at file) in
     (omega (arith, s, n), omega (arith, s, n))
 
-pub with_places_nil : (r : Result (List Place) IndexError) → with_places [] r ≡ r
+pub with_places_nil : (r : Result (List SeriesEntry) IndexError) → with_places [] r ≡ r
 with_places_nil (Ok x) = refl
 with_places_nil (Err e) = refl

@@ -17,7 +17,10 @@ use Rattle.wire.proofs.KnownReads.{chosen}
 use Rattle.wire.proofs.Laws.{uvarint_takes, uvarint_again, uvarint_long}
 use Rattle.index_reader.specs.declared.error.IndexError.{IndexError}
 use Rattle.index_reader.specs.declared.error.IndexError.TheVariants.{Symbols}
-use Rattle.index_reader.specs.Reading.{◌>>=◌, or_refused, symbol_at, symbols_from, symbols_of, ascending, Place, entry_at, entries_from, rounded}
+use Rattle.index_reader.specs.Steps.{◌>>=◌, or_refused}
+use Rattle.index_reader.specs.SymbolChecks.{symbol_at, symbols_from, symbols_of}
+use Rattle.index_reader.specs.Layout.{ascending, SeriesEntry, rounded}
+use Rattle.index_reader.specs.EntryChecks.{entry_at, entries_from}
 use Rattle.index_reader.specs.Grammar.{checked, entry, symbol, IsSymbolTable, IsWalk}
 use Rattle.index_reader.proofs.WalkLoops.{bind_ok, refused_ok, guard_ended, entry_shorter}
 use Rattle.index_reader.proofs.Fields.{Takes, takes, Takes-then, entry_takes, entry_again}
@@ -114,27 +117,27 @@ IsBytes-range file at end fits = IsBytes-take (end - at) (drop at file) (IsBytes
 pub range_length : (file : List ℕ) (at end : ℕ) → end ≤ length file → length (slice_range file at end) ≡ end - at
 range_length file at end le = omega (arith, length-take (end - at) (drop at file), length-drop at file)
 
-pub walk_takes : (n : ℕ) (file : List ℕ) (end at : ℕ) (ps : List Place) → IsBytes file → end ≤ length file → end - at ≤ n → entries_from n file end at ≡ Ok ps → IsWalk file end at ps
+pub walk_takes : (n : ℕ) (file : List ℕ) (end at : ℕ) (ps : List SeriesEntry) → IsBytes file → end ≤ length file → end - at ≤ n → entries_from n file end at ≡ Ok ps → IsWalk file end at ps
 unfolding entries_from
-walk_takes zero file end at ps fits inside enough h = subst (λ (y : List Place). IsWalk file end at y) (ok_is [] ps h) (omega arith)
+walk_takes zero file end at ps fits inside enough h = subst (λ (y : List SeriesEntry). IsWalk file end at y) (ok_is [] ps h) (omega arith)
 walk_takes (suc n) file end at ps fits inside enough h =
     elim (chosen (ltb at end) _ _ _ h) [
-      | inr t ↦ subst (λ (y : List Place). IsWalk file end at y) (ok_is [] ps t.1) (ltb-false _ _ t.0)
+      | inr t ↦ subst (λ (y : List SeriesEntry). IsWalk file end at y) (ok_is [] ps t.1) (ltb-false _ _ t.0)
       | inl t ↦
           let bytes = slice_range file at end in
           let a = bind_ok (entry_at bytes) (λ e. entries_from n file end (rounded (end - length e.1)) >>= λ others. Ok ((record { offset = at; body = e.0; end = end - length e.1 }) ∷ others)) ps t.1 in
-          let b = bind_ok (entries_from n file end (rounded (end - length a.0.1))) (λ (others : List Place). Ok ((record { offset = at; body = a.0.0; end = end - length a.0.1 }) ∷ others)) ps a.2 in
+          let b = bind_ok (entries_from n file end (rounded (end - length a.0.1))) (λ (others : List SeriesEntry). Ok ((record { offset = at; body = a.0.0; end = end - length a.0.1 }) ∷ others)) ps a.2 in
           let took = entry_takes bytes a.0 (IsBytes-range file at end fits) a.1 in
           let lt : at < end = ltb-true _ _ t.0 in
           let size : length (entry a.0.0) + length a.0.1 ≡ end - at = omega (arith, ap length took.parts, length-append (entry a.0.0) a.0.1, range_length file at end inside) in
           let shorter = entry_shorter bytes a.0 a.1 in
           let stop : end - length a.0.1 ≡ at + length (entry a.0.0) = omega (arith, size, shorter, range_length file at end inside) in
           let others : IsWalk file end (rounded (end - length a.0.1)) b.0 = walk_takes n file end (rounded (end - length a.0.1)) b.0 fits inside (omega (arith, stop, size, shorter, range_length file at end inside)) b.1 in
-          let p : Place = record { offset = at; body = a.0.0; end = end - length a.0.1 } in
-          subst (λ (y : List Place). IsWalk file end at y) (ok_is (p ∷ b.0) ps b.2) (refl, lt, (a.0.1, took.parts), rw (← stop) others, stop)
+          let p : SeriesEntry = record { offset = at; body = a.0.0; end = end - length a.0.1 } in
+          subst (λ (y : List SeriesEntry). IsWalk file end at y) (ok_is (p ∷ b.0) ps b.2) (refl, lt, (a.0.1, took.parts), rw (← stop) others, stop)
     ]
 
-pub walk_again : (n : ℕ) (file : List ℕ) (end at : ℕ) (ps : List Place) → IsBytes file → end ≤ length file → end < 2 ^ 32 → end - at ≤ n → IsWalk file end at ps → entries_from n file end at ≡ Ok ps
+pub walk_again : (n : ℕ) (file : List ℕ) (end at : ℕ) (ps : List SeriesEntry) → IsBytes file → end ≤ length file → end < 2 ^ 32 → end - at ≤ n → IsWalk file end at ps → entries_from n file end at ≡ Ok ps
 unfolding entries_from
 walk_again zero file end at [] fits inside small enough w = refl
 walk_again zero file end at (p ∷ ps) fits inside small enough w = absurd (omega (arith, w.1))
@@ -151,7 +154,7 @@ walk_again (suc n) file end at (p ∷ ps) fits inside small enough w =
     let read : entry_at bytes ≡ Ok (p.body, rest) = ap entry_at text ∙ entry_again p.body rest body_fits (omega (arith, size, long, long2)) in
     let stop : end - length rest ≡ at + length (entry p.body) = omega (arith, size, w.1) in
     let others = walk_again n file end (rounded (at + length (entry p.body))) ps fits inside small (omega (arith, size, long, some, w.1)) w.3 in
-    let made : Place = record { offset = at; body = p.body; end = end - length rest } in
+    let made : SeriesEntry = record { offset = at; body = p.body; end = end - length rest } in
     let same : made ≡ p = ap (λ (o : ℕ). record { offset = o; body = p.body; end = end - length rest }) (sym w.0) ∙ ap (λ (o : ℕ). record { offset = p.offset; body = p.body; end = o }) (stop ∙ sym w.4) in
     let next : entries_from n file end (rounded (end - length rest)) ≡ Ok ps = ap (λ (o : ℕ). entries_from n file end (rounded o)) stop ∙ others in
-    rw (lt-ltb at end w.1, read, next) (ap (λ (q : Place). done (q ∷ ps)) same)
+    rw (lt-ltb at end w.1, read, next) (ap (λ (q : SeriesEntry). done (q ∷ ps)) same)

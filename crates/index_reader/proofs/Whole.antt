@@ -10,11 +10,16 @@ use Rattle.wire.proofs.ChecksumBound.{crc32c_below}
 use Rattle.wire.specs.Spelling.{IsBytes}
 use Rattle.wire.proofs.Fields.{IsBytes-take, IsBytes-drop, IsBytes-front, IsBytes-back, big_bytes_4, big_bytes_8}
 use Rattle.wire.proofs.KnownReads.{chosen}
-use Rattle.index_reader.specs.declared.contents.Contents.{Contents}
+use Rattle.index_reader.specs.declared.layout.TableOfContents.{TableOfContents}
 use Rattle.index_reader.specs.declared.error.IndexError.{IndexError}
 use Rattle.index_reader.specs.declared.error.IndexError.TheVariants.{ContentsCrc, ContentsOrder, SymbolsCrc}
-use Rattle.index_reader.specs.Reading.{IsPlaced, in_order, has_magic, contents_at, table_of, head_of, frame_at, symbols_of, entries_from, rounded, series_end, Parts, parts_of}
-use Rattle.index_reader.specs.Grammar.{checked, frame, contents_text, IsParts}
+use Rattle.index_reader.specs.Layout.{IsPlaced, rounded, series_end, Layout}
+use Rattle.index_reader.specs.HeadChecks.{in_order, has_magic, contents_at, contents_of, head_of}
+use Rattle.index_reader.specs.Frames.{frame_at}
+use Rattle.index_reader.specs.SymbolChecks.{symbols_of}
+use Rattle.index_reader.specs.EntryChecks.{entries_from}
+use Rattle.index_reader.specs.Checks.{layout_of}
+use Rattle.index_reader.specs.Grammar.{checked, frame, contents_text, IsLayout}
 use Rattle.index_reader.specs.Outcome.{Gives}
 use Rattle.index_reader.proofs.WalkLoops.{bind_ok, guard_ended}
 use Rattle.index_reader.proofs.Head.{head_placed}
@@ -45,17 +50,17 @@ table_text table fits le =
 cell_4 : (bytes : List ℕ) → IsBytes bytes → length bytes ≡ 4 → big_bytes 4 (big_number 4 bytes) ≡ bytes
 cell_4 bytes fits len = big_bytes_4 bytes fits (omega arith) ∙ take_all 4 bytes (omega arith)
 
-contents_takes : (table : List ℕ) (t : Contents) → IsBytes table → length table ≡ 52 → table_of table ≡ Ok t → table ≡ checked (contents_text t)
-unfolding table_of
+contents_takes : (table : List ℕ) (t : TableOfContents) → IsBytes table → length table ≡ 52 → contents_of table ≡ Ok t → table ≡ checked (contents_text t)
+unfolding contents_of
 contents_takes table t fits len e =
     let g = guard_ended (eqb (big_number 4 (drop 48 table)) (crc32c (take 48 table))) ContentsCrc (contents_at table) t e in
     let text = table_text table fits (omega arith) in
     let front : take 48 table ≡ contents_text (contents_at table) = ap (take 48) text in
     let sum : big_number 4 (drop 48 table) ≡ crc32c (contents_text (contents_at table)) = eqb-true _ _ g.0 ∙ ap crc32c front in
     let back : drop 48 table ≡ big_bytes 4 (crc32c (contents_text (contents_at table))) = sym (cell_4 (drop 48 table) (IsBytes-drop 48 table fits) (omega (arith, length-drop 48 table))) ∙ ap (big_bytes 4) sum in
-    subst (λ (u : Contents). table ≡ checked (contents_text u)) g.1 (text ∙ ap (λ (r : List ℕ). contents_text (contents_at table) ++ r) back)
+    subst (λ (u : TableOfContents). table ≡ checked (contents_text u)) g.1 (text ∙ ap (λ (r : List ℕ). contents_text (contents_at table) ++ r) back)
 
-same_contents : (t u : Contents) → t.symbols ≡ u.symbols → t.series ≡ u.series → t.label_indices ≡ u.label_indices → t.label_offsets ≡ u.label_offsets → t.postings ≡ u.postings → t.postings_offsets ≡ u.postings_offsets → t ≡ u
+same_contents : (t u : TableOfContents) → t.symbols ≡ u.symbols → t.series ≡ u.series → t.label_indices ≡ u.label_indices → t.label_offsets ≡ u.label_offsets → t.postings ≡ u.postings → t.postings_offsets ≡ u.postings_offsets → t ≡ u
 same_contents t u a b c d e f =
     ap (λ (x : ℕ). record t { symbols = x }) a
     ∙ ap (λ (x : ℕ). record t { symbols = u.symbols; series = x }) b
@@ -64,8 +69,8 @@ same_contents t u a b c d e f =
     ∙ ap (λ (x : ℕ). record u { postings = x; postings_offsets = t.postings_offsets }) e
     ∙ ap (λ (x : ℕ). record u { postings_offsets = x }) f
 
-contents_again : (t : Contents) → IsBytes (contents_text t) → t.symbols < 2 ^ 64 → t.series < 2 ^ 64 → t.label_indices < 2 ^ 64 → t.label_offsets < 2 ^ 64 → t.postings < 2 ^ 64 → t.postings_offsets < 2 ^ 64 → table_of (checked (contents_text t)) ≡ Ok t
-unfolding table_of
+contents_again : (t : TableOfContents) → IsBytes (contents_text t) → t.symbols < 2 ^ 64 → t.series < 2 ^ 64 → t.label_indices < 2 ^ 64 → t.label_offsets < 2 ^ 64 → t.postings < 2 ^ 64 → t.postings_offsets < 2 ^ 64 → contents_of (checked (contents_text t)) ≡ Ok t
+unfolding contents_of
 contents_again t fits a b c d e f =
     let sum = crc32c (contents_text t) in
     let back : big_number 4 (big_bytes 4 sum ++ []) ≡ sum = big_number-reads_back 4 sum [] (crc32c_below (contents_text t) fits) in
@@ -109,11 +114,11 @@ starts xs le m v =
     rw (five xs le, e0, e1, e2, e3, e4) refl
 
 -- what the head says of the file
-pub record IsHead (file : List ℕ) (t : Contents) : Type 0 where
+pub record IsHead (file : List ℕ) (t : TableOfContents) : Type 0 where
   pub start : take 5 file ≡ 0xBA ∷ 0xAA ∷ 0xD7 ∷ 0 ∷ 2 ∷ []
   pub contents : drop (length file - 52) file ≡ checked (contents_text t)
 
-pub head_takes : (file : List ℕ) (t : Contents) → IsBytes file → head_of file ≡ Ok t → IsHead file t
+pub head_takes : (file : List ℕ) (t : TableOfContents) → IsBytes file → head_of file ≡ Ok t → IsHead file t
 unfolding head_of
 head_takes file t fits h =
     let table = drop (length file - 52) file in
@@ -130,9 +135,9 @@ head_takes file t fits h =
                         | inr v ↦ absurd (let f = v.1 in cc)
                         | inl v ↦
                             let long = ltb-false _ _ b.0 in
-                            let s = bind_ok (table_of table) (λ t. cond (in_order t (length file - 52)) (Ok t) (Err ContentsOrder)) t v.1 in
+                            let s = bind_ok (contents_of table) (λ t. cond (in_order t (length file - 52)) (Ok t) (Err ContentsOrder)) t v.1 in
                             let g = guard_ended (in_order s.0 (length file - 52)) ContentsOrder s.0 t s.2 in
-                            let same : table_of table ≡ done t = s.1 ∙ ap done g.1 in
+                            let same : contents_of table ≡ done t = s.1 ∙ ap done g.1 in
                             record { start = starts file (omega (arith, long)) m.0 v.0; contents = contents_takes table t (IsBytes-drop (length file - 52) file fits) (omega (arith, long, length-drop (length file - 52) file)) same }
                       ]
                 ]
@@ -151,7 +156,7 @@ between_true : (a b c : ℕ) → (b ≡ 0) ⊎ ((a ≤ b) × (b ≤ c)) → (eqb
 between_true a b c (inl e) = or_left (eqb b 0) _ (rw e refl)
 between_true a b c (inr p) = or_right (eqb b 0) _ (rw (le-leb a b p.0, le-leb b c p.1) refl)
 
-order_again : (t : Contents) (len : ℕ) → IsPlaced t len → in_order t (len - 52) ≡ true
+order_again : (t : TableOfContents) (len : ℕ) → IsPlaced t len → in_order t (len - 52) ≡ true
 order_again t len p =
     rw (p.symbols, lt-ltb 5 t.series p.series, le-leb t.series t.postings p.postings, le-leb t.postings t.postings_offsets p.postings_offsets, lt-ltb t.postings_offsets (len - 52) (omega (arith, p.end)), between_true t.series t.label_indices t.postings p.label_indices, between_true t.postings t.label_offsets t.postings_offsets p.label_offsets) refl
 
@@ -164,7 +169,7 @@ index_below : (b a c n : ℕ) → (b ≡ 0) ⊎ ((a ≤ b) × (b ≤ c)) → c <
 index_below b a c n (inl e) lt = omega arith
 index_below b a c n (inr p) lt = omega (arith, p.1)
 
-pub head_again : (file : List ℕ) (t : Contents) → IsBytes file → IsHead file t → IsPlaced t (length file) → head_of file ≡ Ok t
+pub head_again : (file : List ℕ) (t : TableOfContents) → IsBytes file → IsHead file t → IsPlaced t (length file) → head_of file ≡ Ok t
 unfolding head_of
 head_again file t fits h p =
     let table = drop (length file - 52) file in
@@ -173,7 +178,7 @@ head_again file t fits h p =
     let o : t.postings_offsets < length file = omega (arith, p.end) in
     let q : t.postings < length file = omega (arith, p.postings_offsets, o) in
     let big : length file < 2 ^ 64 = omega (arith, p.short) in
-    let read : table_of table ≡ Ok t = ap table_of h.contents ∙ contents_again t text_fits (omega (arith, p.symbols)) (omega (arith, p.postings, q, big)) (index_below _ _ _ _ p.label_indices (omega (arith, q, big))) (index_below _ _ _ _ p.label_offsets (omega (arith, o, big))) (omega (arith, q, big)) (omega (arith, o, big)) in
+    let read : contents_of table ≡ Ok t = ap contents_of h.contents ∙ contents_again t text_fits (omega (arith, p.symbols)) (omega (arith, p.postings, q, big)) (index_below _ _ _ _ p.label_indices (omega (arith, q, big))) (index_below _ _ _ _ p.label_offsets (omega (arith, o, big))) (omega (arith, q, big)) (omega (arith, o, big)) in
     rw (le-ltb 0x4000_0000 (length file) p.short, le-ltb (length file) 57 p.long, m.0, m.1, read, order_again t (length file) p) refl
 
 -- ---- the whole
@@ -183,7 +188,7 @@ end_chosen true x y len p q = p
 end_chosen false x y len p q = q
 
 -- the content of a frame that stands in the file is shorter than the file
-pub omega_length : (file : List ℕ) (t : Contents) (content rest : List ℕ) → slice_range file 5 t.series ≡ frame content ++ rest → IsPlaced t (length file) → length content < 2 ^ 31
+pub omega_length : (file : List ℕ) (t : TableOfContents) (content rest : List ℕ) → slice_range file 5 t.series ≡ frame content ++ rest → IsPlaced t (length file) → length content < 2 ^ 31
 omega_length file t content rest text p =
     let a = ap length text in
     let b = length-append (frame content) rest in
@@ -193,14 +198,14 @@ omega_length file t content rest text p =
     let f = length-drop 5 file in
     omega (arith, a, b, c, d, e, f, p.short)
 
-pub end_inside : (t : Contents) (len : ℕ) → IsPlaced t len → series_end t ≤ len
+pub end_inside : (t : TableOfContents) (len : ℕ) → IsPlaced t len → series_end t ≤ len
 end_inside t len p = end_chosen (eqb t.label_indices 0) t.postings t.label_indices len (omega (arith, p.postings_offsets, p.end)) (omega (arith, index_below t.label_indices t.series t.postings len p.label_indices (omega (arith, p.postings_offsets, p.end))))
 
 frame_length : (content : List ℕ) → length content + 13 ≡ 5 + length (frame content)
 frame_length content = omega (arith, length-append (big_bytes 4 (length content)) (checked content), length-append content (big_bytes 4 (crc32c content)))
 
-pub parts_take : (file : List ℕ) (x : Parts) → IsBytes file → parts_of file ≡ Ok x → IsParts file x
-unfolding parts_of
+pub parts_take : (file : List ℕ) (x : Layout) → IsBytes file → layout_of file ≡ Ok x → IsLayout file x
+unfolding layout_of
 parts_take file x fits h =
     let a = bind_ok (head_of file) _ x h in
     let t = a.0 in
@@ -215,12 +220,12 @@ parts_take file x fits h =
     let table = table_takes b.0.0 c.0 content_fits c.1 in
     let walk = walk_takes (length file) file (series_end t) (rounded t.series) d.0 fits (end_inside t (length file) placed) (omega (arith, end_inside t (length file) placed)) d.1 in
     let table_end : length b.0.0 + 13 ≡ 5 + length (frame b.0.0) = frame_length b.0.0 in
-    let made : Parts = record { contents = t; symbols = c.0; symbols_end = length b.0.0 + 13; entries = d.0 } in
-    let all : IsParts file made = record { start = head.start; contents = head.contents; placed = placed; symbols = (b.0.0, (b.0.1, fr.parts), table, table_end); entries = walk } in
-    subst (λ (y : Parts). IsParts file y) (ok_is made x d.2) all
+    let made : Layout = record { contents = t; symbols = c.0; symbols_end = length b.0.0 + 13; entries = d.0 } in
+    let all : IsLayout file made = record { start = head.start; contents = head.contents; placed = placed; symbols = (b.0.0, (b.0.1, fr.parts), table, table_end); entries = walk } in
+    subst (λ (y : Layout). IsLayout file y) (ok_is made x d.2) all
 
-pub parts_again : (file : List ℕ) (x : Parts) → IsBytes file → IsParts file x → parts_of file ≡ Ok x
-unfolding parts_of
+pub parts_again : (file : List ℕ) (x : Layout) → IsBytes file → IsLayout file x → layout_of file ≡ Ok x
+unfolding layout_of
 parts_again file x fits p =
     let t = x.contents in
     let head : head_of file ≡ Ok t = head_again file t fits (record { start = p.start; contents = p.contents }) p.placed in
@@ -237,6 +242,6 @@ parts_again file x fits p =
     let table_end : length content + 13 ≡ x.symbols_end = frame_length content ∙ sym p.symbols.3 in
     rw (head, fr, table, walk) (ap (λ (e : ℕ). done (record x { symbols_end = e })) table_end)
 
-pub is_found : {X : Type 0} (view : X → Parts) (file : List ℕ) (r : Result X IndexError) → IsBytes file → Gives view r (parts_of file) → IfOk r (λ x. IsParts file (view x))
+pub is_found : {X : Type 0} (view : X → Layout) (file : List ℕ) (r : Result X IndexError) → IsBytes file → Gives view r (layout_of file) → IfOk r (λ x. IsLayout file (view x))
 is_found view file (Ok x) fits h = parts_take file (view x) fits h
 is_found view file (Err e) fits h = tt

@@ -5,8 +5,8 @@ use Rattle.std.specs.Str.{IsUtf8}
 use Rattle.byteorder.specs.Endian.{big_bytes}
 use Rattle.wire.specs.Spelling.{uvarint}
 use Rattle.wire.specs.Checksum.{crc32c}
-use Rattle.index_reader.specs.declared.contents.Contents.{Contents}
-use Rattle.index_reader.specs.Reading.{IsPlaced, Place, Parts, ascending, rounded, series_end}
+use Rattle.index_reader.specs.declared.layout.TableOfContents.{TableOfContents}
+use Rattle.index_reader.specs.Layout.{IsPlaced, SeriesEntry, Layout, ascending, rounded, series_end}
 
 -- content, and its checksum
 abbrev pub checked : List ℕ → List ℕ
@@ -35,19 +35,31 @@ pub record IsSymbolTable (content : List ℕ) (symbols : List (List ℕ)) : Type
   pub texts : AllByRecursion IsUtf8 symbols
 
 -- the six offsets, of eight bytes each
-abbrev pub contents_text : Contents → List ℕ
+abbrev pub contents_text : TableOfContents → List ℕ
 contents_text t =
-    big_bytes 8 t.symbols ++ (big_bytes 8 t.series ++ (big_bytes 8 t.label_indices ++ (big_bytes 8 t.label_offsets ++ (big_bytes 8 t.postings ++ big_bytes 8 t.postings_offsets))))
+    big_bytes 8 t.symbols
+    ++ (big_bytes 8 t.series
+    ++ (big_bytes 8 t.label_indices
+    ++ (big_bytes 8 t.label_offsets
+    ++ (big_bytes 8 t.postings ++ big_bytes 8 t.postings_offsets))))
 
 -- From this place up to the end there are these entries, each at the next multiple of 16.
-abbrev pub IsWalk : List ℕ → ℕ → ℕ → List Place → Type 0
+abbrev pub IsWalk : List ℕ → ℕ → ℕ → List SeriesEntry → Type 0
 IsWalk file end at [] = end ≤ at
-IsWalk file end at (p ∷ ps) = (p.offset ≡ at) × (at < end) × StandsAt file at end (entry p.body) × IsWalk file end (rounded (at + length (entry p.body))) ps × (p.end ≡ at + length (entry p.body))
+IsWalk file end at (p ∷ ps) =
+    (p.offset ≡ at)
+    × (at < end)
+    × StandsAt file at end (entry p.body)
+    × IsWalk file end (rounded (at + length (entry p.body))) ps
+    × (p.end ≡ at + length (entry p.body))
 
--- the file is an index with these parts
-pub record IsParts (file : List ℕ) (x : Parts) : Type 0 where
+-- the file is an index of this layout
+pub record IsLayout (file : List ℕ) (x : Layout) : Type 0 where
   pub start : take 5 file ≡ 0xBA ∷ 0xAA ∷ 0xD7 ∷ 0 ∷ 2 ∷ []
   pub contents : drop (length file - 52) file ≡ checked (contents_text x.contents)
   pub placed : IsPlaced x.contents (length file)
-  pub symbols : (content : List ℕ) × StandsAt file 5 x.contents.series (frame content) × IsSymbolTable content x.symbols × (x.symbols_end ≡ 5 + length (frame content))
+  pub symbols : (content : List ℕ)
+      × StandsAt file 5 x.contents.series (frame content)
+      × IsSymbolTable content x.symbols
+      × (x.symbols_end ≡ 5 + length (frame content))
   pub entries : IsWalk file (series_end x.contents) (rounded x.contents.series) x.entries

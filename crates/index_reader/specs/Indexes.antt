@@ -7,8 +7,7 @@ use Rattle.std.specs.declared.cmp.Ordering.TheVariants.{Less}
 use Rattle.labels.specs.Labels.{Labels, labels_cmp, pair_cmp}
 use Rattle.labels.specs.Parts.{carries}
 use Rattle.index_reader.specs.declared.chunk.Chunk.{Chunk}
-use Rattle.index_reader.specs.Reading.{Place}
-use Rattle.index_reader.specs.Bodies.{Label, Body}
+use Rattle.index_reader.specs.Layout.{SeriesEntry, Label, Body}
 
 -- a series: its reference, its label set, and where its samples are
 pub record Series : Type 0 where
@@ -47,10 +46,14 @@ pub record IsConsistent (x : Indexed) : Type 0 where
   pub ascending : IsStrictlyIncreasing (references x.series)
   pub small : (k : ℕ) → k < length x.series → get_or (references x.series) k 0 < 2 ^ 32
   pub few : length x.series ≤ 1048576
-  pub in_order : (k : ℕ) → k + 1 < length x.series → labels_cmp (get_or (label_sets x.series) k []) (get_or (label_sets x.series) (k + 1) []) ≡ Less
-  pub pairs_in_order : (k : ℕ) → k + 1 < length x.pairs → pair_cmp (get_or x.pairs k ([], [])) (get_or x.pairs (k + 1) ([], [])) ≡ Less
-  pub carried : (name value : List ℕ) → Contains x.pairs (name, value) → references_with name value x.series ≡ [] → ⊥
-  pub listed : (name value : List ℕ) → (references_with name value x.series ≡ [] → ⊥) → Contains x.pairs (name, value)
+  pub in_order : (k : ℕ) → k + 1 < length x.series
+      → labels_cmp (get_or (label_sets x.series) k []) (get_or (label_sets x.series) (k + 1) []) ≡ Less
+  pub pairs_in_order : (k : ℕ) → k + 1 < length x.pairs
+      → pair_cmp (get_or x.pairs k ([], [])) (get_or x.pairs (k + 1) ([], [])) ≡ Less
+  pub carried : (name value : List ℕ) → Contains x.pairs (name, value)
+      → references_with name value x.series ≡ [] → ⊥
+  pub listed : (name value : List ℕ) → (references_with name value x.series ≡ [] → ⊥)
+      → Contains x.pairs (name, value)
 
 -- a name and a value by their symbols, as texts
 abbrev pub text_of : List (List ℕ) → Label → List ℕ × List ℕ
@@ -61,11 +64,15 @@ abbrev pub named : List (List ℕ) → List Label → List (List ℕ × List ℕ
 named symbols ls = map (text_of symbols) ls
 
 -- the series of an entry and its body; a reference is the sixteenth part of the entry's offset
-abbrev pub series_at : List (List ℕ) → Place → Body → Series
-series_at symbols p b = record { reference = p.offset / 16; labels = named symbols b.labels; chunks = b.chunks }
+abbrev pub series_at : List (List ℕ) → SeriesEntry → Body → Series
+series_at symbols p b = record {
+  reference = p.offset / 16;
+  labels = named symbols b.labels;
+  chunks = b.chunks;
+}
 
 -- the series of entries and their bodies
-unfoldable pub series_of : List (List ℕ) → List Place → List Body → List Series
+unfoldable pub series_of : List (List ℕ) → List SeriesEntry → List Body → List Series
 series_of symbols [] bs = []
 series_of symbols (p ∷ ps) [] = []
 series_of symbols (p ∷ ps) (b ∷ bs) = series_at symbols p b ∷ series_of symbols ps bs

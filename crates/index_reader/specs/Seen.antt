@@ -1,22 +1,52 @@
 -- What was read, without where it lies in memory.
-use Rattle.std.specs.Prelude.{ℕ, List, map}
 use Rattle.std.specs.Borrow.{Bor}
-use Rattle.index_reader.specs.declared.reading.Entry.{Entry}
-use Rattle.index_reader.specs.declared.reading.Opened.{Opened}
-use Rattle.index_reader.specs.Reading.{Place, Parts}
+use Rattle.std.specs.Prelude.{ℕ, List, map, Option, Some, None, string_bytes}
+use Rattle.std.specs.declared.string.String.{String}
+use Rattle.index_reader.specs.declared.chunk.Chunk.{Chunk}
+use Rattle.index_reader.specs.References.{references_in}
+use Rattle.index_reader.specs.declared.layout.Layout.{Layout}
+use Rattle.index_reader.specs.declared.series_entries.SeriesEntry.{SeriesEntry}
+use Rattle.index_reader.specs.declared.offset_table.TableEntry.{TableEntry}
+use Rattle.index_reader.specs.Layout as layout
 
--- texts as their bytes
-abbrev pub texts : List (Bor (List ℕ)) → List (List ℕ)
-texts ss = map (λ s. s.now) ss
+-- texts and lists as their bytes
+abbrev pub bytes_of : List (Bor (List ℕ)) → List (List ℕ)
+bytes_of ss = map (λ s. s.now) ss
+
+-- strings as their bytes
+abbrev pub strings_of : {Z : Type 0} → List (String Z) → List (List ℕ)
+strings_of xs = map (λ s. string_bytes s) xs
+
+-- the references of each section
+abbrev pub references_in_each : List (Bor (List ℕ)) → List (List ℕ)
+references_in_each xs = map (λ x. references_in x.now) xs
 
 -- an entry
-abbrev pub place : Entry → Place
-place e = record { offset = e.offset; body = e.body.now; end = e.end }
+abbrev pub entry_seen : SeriesEntry → layout.SeriesEntry
+entry_seen e = record { offset = e.offset; body = e.body.now; end = e.end }
 
 -- all entries
-abbrev pub places : List Entry → List Place
-places es = map place es
+abbrev pub entries_seen : List SeriesEntry → List layout.SeriesEntry
+entries_seen es = map entry_seen es
 
--- all of it
-abbrev pub seen : Opened → Parts
-seen o = record { contents = o.contents; symbols = texts o.symbols.items; symbols_end = o.symbols_end; entries = places o.entries.items }
+-- an entry of the table
+abbrev pub table_entry_seen : TableEntry → layout.TableEntry
+table_entry_seen l = record { name = l.name.now; value = l.value.now; offset = l.offset }
+
+-- all entries of the table
+abbrev pub table_seen : List TableEntry → List layout.TableEntry
+table_seen ls = map table_entry_seen ls
+
+-- the table of contents, the symbols and the entries
+abbrev pub layout_seen : Layout → layout.Layout
+layout_seen o = record {
+  contents = o.contents;
+  symbols = bytes_of o.symbols.items;
+  symbols_end = o.symbols_end;
+  entries = entries_seen o.entries.items;
+}
+
+-- a chunk that was read, and the bytes behind it
+abbrev pub chunk_seen : Option (Chunk × Bor (List ℕ)) → Option (Chunk × List ℕ)
+chunk_seen (Some x) = Some (x.0, x.1.now)
+chunk_seen None = None

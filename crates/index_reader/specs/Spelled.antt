@@ -3,18 +3,29 @@ use Rattle.std.specs.Prelude.{◌≡◌, ℕ, ◌+◌, ◌-◌, ◌^◌, ◌<◌
 use Rattle.std.specs.List.{flat_map, list_all, Contains}
 use Rattle.std.specs.List.Sorted.{IsStrictlyIncreasing}
 use Rattle.byteorder.specs.Endian.{big_bytes}
+use Rattle.labels.specs.Names.{is_name}
 use Rattle.wire.specs.Spelling.{uvarint, varint, zigzag}
-use Rattle.index_reader.specs.declared.contents.Contents.{Contents}
+use Rattle.index_reader.specs.declared.layout.TableOfContents.{TableOfContents}
 use Rattle.index_reader.specs.declared.chunk.Chunk.{Chunk}
-use Rattle.index_reader.specs.Reading.{Place, Parts, series_end}
-use Rattle.index_reader.specs.Grammar.{frame, symbol, StandsAt, IsParts}
-use Rattle.index_reader.specs.Chunks.{is_time}
-use Rattle.index_reader.specs.Bodies.{Label, Body}
-use Rattle.index_reader.specs.Table.{Listed, is_before, is_within}
-use Rattle.index_reader.specs.Each.{rises}
-use Rattle.index_reader.specs.Opening.{postings_end}
+use Rattle.index_reader.specs.Layout.{SeriesEntry, Layout, series_end, is_time, Label, Body, TableEntry, is_before, is_within, rises, postings_end}
+use Rattle.index_reader.specs.Grammar.{frame, symbol, StandsAt, IsLayout}
 use Rattle.index_reader.specs.Indexes.{Series, Indexed, references, references_with, series_of, IsConsistent}
-use Rattle.index_reader.specs.Labelled.{AreLabels}
+
+-- ---- labels, by the numbers of their symbols
+
+-- a label of these symbols: its name is a label name that stands at this place or behind it, its
+-- value is not empty
+pub record IsLabel (symbols : List (List ℕ)) (low : ℕ) (l : Label) : Type 0 where
+  pub from : low ≤ l.0
+  pub name_in : l.0 < length symbols
+  pub value_in : l.1 < length symbols
+  pub name : is_name (get_or symbols l.0 []) ≡ true
+  pub value : 0 < length (get_or symbols l.1 [])
+
+-- each name stands behind the one before
+abbrev pub AreLabels : List (List ℕ) → ℕ → List Label → Type 0
+AreLabels symbols low [] = Unit {0}
+AreLabels symbols low (l ∷ ls) = IsLabel symbols low l × AreLabels symbols (l.0 + 1) ls
 
 -- a label: the numbers of the symbols of its name and its value
 abbrev pub label_text : Label → List ℕ
@@ -30,8 +41,8 @@ pub record IsFirst (c : Chunk) (text : List ℕ) : Type 0 where
   pub begins_in_time : is_time c.mint ≡ true
   pub ends_in_time : is_time c.maxt ≡ true
 
--- a later chunk: how much later it begins than the one before it ends, how much later its last time is, how much greater
--- its reference is
+-- a later chunk: how much later it begins than the one before it ends, how much later its last time
+-- is, how much greater its reference is
 pub record IsLater (before c : Chunk) (text : List ℕ) : Type 0 where
   pub gap : ℕ
   pub span : ℕ
@@ -51,12 +62,18 @@ pub record IsLater (before c : Chunk) (text : List ℕ) : Type 0 where
 -- chunks behind another, one after the other
 abbrev pub AreLater : Chunk → List Chunk → List ℕ → Type 0
 AreLater before [] text = text ≡ []
-AreLater before (c ∷ cs) text = (first rest : List ℕ) × (text ≡ first ++ rest) × IsLater before c first × AreLater c cs rest
+AreLater before (c ∷ cs) text =
+    (first rest : List ℕ) × (text ≡ first ++ rest) × IsLater before c first × AreLater c cs rest
 
--- the chunks of a series, of which there is one at least: their count, the first, and the later ones
+-- the chunks of a series, of which there is one at least: their count, the first, and the later
+-- ones
 abbrev pub AreChunks : List Chunk → List ℕ → Type 0
 AreChunks [] text = ⊥
-AreChunks (c ∷ cs) text = (first rest : List ℕ) × (text ≡ uvarint (length cs + 1) ++ (first ++ rest)) × IsFirst c first × AreLater c cs rest
+AreChunks (c ∷ cs) text =
+    (first rest : List ℕ)
+    × (text ≡ uvarint (length cs + 1) ++ (first ++ rest))
+    × IsFirst c first
+    × AreLater c cs rest
 
 -- the body of a series entry: the count of its labels, the labels, its chunks
 pub record IsBody (symbols : List (List ℕ)) (b : Body) (text : List ℕ) : Type 0 where
@@ -66,33 +83,37 @@ pub record IsBody (symbols : List (List ℕ)) (b : Body) (text : List ℕ) : Typ
   pub chunks : AreChunks b.chunks chunks_text
 
 -- the body of each entry
-abbrev pub AreBodies : List (List ℕ) → List Place → List Body → Type 0
+abbrev pub AreBodies : List (List ℕ) → List SeriesEntry → List Body → Type 0
 AreBodies symbols [] [] = Unit {0}
 AreBodies symbols [] (b ∷ bs) = ⊥
 AreBodies symbols (p ∷ ps) [] = ⊥
 AreBodies symbols (p ∷ ps) (b ∷ bs) = IsBody symbols b p.body × AreBodies symbols ps bs
 
 -- a place in the file lies in an entry
-abbrev pub LiesIn : ℕ → Place → Type 0
+abbrev pub LiesIn : ℕ → SeriesEntry → Type 0
 LiesIn k p = (p.offset ≤ k) × (k < p.end)
 
 -- from one place up to another, each byte in no entry is 0
-abbrev pub AreZero : List ℕ → ℕ → ℕ → List Place → Type 0
+abbrev pub AreZero : List ℕ → ℕ → ℕ → List SeriesEntry → Type 0
 AreZero file from to entries =
-    (k : ℕ) → from ≤ k → k < to → ((p : Place) → Contains entries p → LiesIn k p → ⊥) → slice_index file k ≡ 0
+    (k : ℕ) → from ≤ k → k < to
+    → ((p : SeriesEntry) → Contains entries p → LiesIn k p → ⊥)
+    → slice_index file k ≡ 0
 
 -- an entry of the postings offset table
-abbrev pub listed_text : Listed → List ℕ
+abbrev pub listed_text : TableEntry → List ℕ
 listed_text l = (2 ∷ []) ++ (symbol l.name ++ (symbol l.value ++ uvarint l.offset))
 
 -- the content of the table
-abbrev pub table_text : List Listed → List ℕ
+abbrev pub table_text : List TableEntry → List ℕ
 table_text table = big_bytes 4 (length table) ++ flat_map listed_text table
 
--- the table stands at its place and ends where the table of contents begins; its entries ascend by name and value, and
--- name places among the postings; the frame of the label offset table is sound, where there is one
-pub record IsTable (file : List ℕ) (t : Contents) (table : List Listed) : Type 0 where
-  pub others : (t.label_offsets ≡ 0) ⊎ ((content : List ℕ) × StandsAt file t.label_offsets t.postings_offsets (frame content))
+-- the table stands at its place and ends where the table of contents begins; its entries ascend by
+-- name and value, and name places among the postings; the frame of the label offset table is sound,
+-- where there is one
+pub record IsTable (file : List ℕ) (t : TableOfContents) (table : List TableEntry) : Type 0 where
+  pub others : (t.label_offsets ≡ 0)
+      ⊎ ((content : List ℕ) × StandsAt file t.label_offsets t.postings_offsets (frame content))
   pub stands : slice_range file t.postings_offsets (length file - 52) ≡ frame (table_text table)
   pub rising : rises is_before table ≡ true
   pub within : list_all (is_within t.postings (postings_end t)) table ≡ true
@@ -102,33 +123,37 @@ abbrev pub list_text : List ℕ → List ℕ
 list_text refs = big_bytes 4 (length refs) ++ flat_map (big_bytes 4) refs
 
 -- the section of each entry of the table, below this place
-abbrev pub AreSections : List ℕ → ℕ → List Listed → List (List ℕ) → Type 0
+abbrev pub AreSections : List ℕ → ℕ → List TableEntry → List (List ℕ) → Type 0
 AreSections file end [] [] = Unit {0}
 AreSections file end [] (refs ∷ lists) = ⊥
 AreSections file end (l ∷ table) [] = ⊥
-AreSections file end (l ∷ table) (refs ∷ lists) = StandsAt file l.offset end (frame (list_text refs)) × IsStrictlyIncreasing refs × AreSections file end table lists
+AreSections file end (l ∷ table) (refs ∷ lists) =
+    StandsAt file l.offset end (frame (list_text refs))
+    × IsStrictlyIncreasing refs
+    × AreSections file end table lists
 
 -- the pairs of a table
-abbrev pub pairs_of : List Listed → List (List ℕ × List ℕ)
+abbrev pub pairs_of : List TableEntry → List (List ℕ × List ℕ)
 pairs_of table = map (λ l. (l.name, l.value)) table
 
 -- what each pair lists
 abbrev pub lists_for : List (List ℕ × List ℕ) → List Series → List (List ℕ)
 lists_for pairs series = map (λ p. references_with p.0 p.1 series) pairs
 
--- the file is an index of these series and pairs: its layout; a body in each entry, and zeros in no entry; a table that
--- lists the empty pair with all series, and behind it exactly the pairs that series carry, each with those series; and
--- no more than 64 labels in a series
+-- the file is an index of these series and pairs: its layout; a body in each entry, and zeros in no
+-- entry; a table that lists the empty pair with all series, and behind it exactly the pairs that
+-- series carry, each with those series; and no more than 64 labels in a series
 pub record IsIndex (file : List ℕ) (x : Indexed) : Type 0 where
-  pub parts : Parts
-  pub layout : IsParts file parts
+  pub parts : Layout
+  pub layout : IsLayout file parts
   pub bodies : List Body
   pub spelled : AreBodies parts.symbols parts.entries bodies
   pub gaps : AreZero file parts.symbols_end (series_end parts.contents) parts.entries
   pub series : x.series ≡ series_of parts.symbols parts.entries bodies
   pub few_labels : (k : ℕ) (d : Body) → k < length bodies → length (get_or bodies k d).labels ≤ 64
-  pub table : List Listed
+  pub table : List TableEntry
   pub tabled : IsTable file parts.contents table
   pub listed : pairs_of table ≡ ([], []) ∷ x.pairs
-  pub sections : AreSections file (postings_end parts.contents) table (references x.series ∷ lists_for x.pairs x.series)
+  pub sections : AreSections file (postings_end parts.contents) table
+      (references x.series ∷ lists_for x.pairs x.series)
   pub consistent : IsConsistent x

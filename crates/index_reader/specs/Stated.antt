@@ -3,11 +3,10 @@ use Rattle.std.specs.Prelude.{◌≡◌, ℕ, ◌≤◌, List, [], ◌∷◌, le
 use Rattle.std.specs.List.{AllByRecursion, Contains}
 use Rattle.index_reader.specs.declared.error.IndexError.{IndexError}
 use Rattle.index_reader.specs.declared.error.IndexError.TheVariants.{PostingsDisagree, Limit}
-use Rattle.index_reader.specs.Reading.{◌>>=◌, Parts, parts_of}
-use Rattle.index_reader.specs.Bodies.{Body}
-use Rattle.index_reader.specs.Table.{Listed}
-use Rattle.index_reader.specs.Words.{refs_of}
-use Rattle.index_reader.specs.Opening.{bodies_of, postings_of}
+use Rattle.index_reader.specs.Steps.{◌>>=◌}
+use Rattle.index_reader.specs.Layout.{Layout, Body, TableEntry}
+use Rattle.index_reader.specs.Checks.{layout_of, bodies_of, postings_of}
+use Rattle.index_reader.specs.References.{references_in}
 use Rattle.index_reader.specs.Indexes.{Series, Indexed, references, references_with, series_of}
 use Rattle.index_reader.specs.Spelled.{pairs_of, lists_for}
 
@@ -18,17 +17,17 @@ pub record Stated : Type 0 where
   pub lists : List (List ℕ)
 
 -- the same of what was read
-abbrev pub stated_in : Parts → List Body → List Listed → List (List ℕ) → Stated
+abbrev pub stated_in : Layout → List Body → List TableEntry → List (List ℕ) → Stated
 stated_in parts bodies table raws = record {
   series = series_of parts.symbols parts.entries bodies;
   pairs = pairs_of table;
-  lists = map refs_of raws;
+  lists = map references_in raws;
 }
 
 -- all checks but the last two, in their order
 unfoldable pub stated_of : List ℕ → Result Stated IndexError
 stated_of file = do
-  parts ← parts_of file
+  parts ← layout_of file
   bodies ← bodies_of file parts
   postings ← postings_of file parts.contents
   Ok (stated_in parts bodies postings.0 postings.1)
@@ -39,8 +38,10 @@ pub record Agrees (stated : Stated) : Type 0 where
   pub others : List (List ℕ × List ℕ)
   pub pairs : stated.pairs ≡ ([], []) ∷ others
   pub lists : stated.lists ≡ references stated.series ∷ lists_for others stated.series
-  pub carried : (name value : List ℕ) → Contains others (name, value) → references_with name value stated.series ≡ [] → ⊥
-  pub listed : (name value : List ℕ) → (references_with name value stated.series ≡ [] → ⊥) → Contains others (name, value)
+  pub carried : (name value : List ℕ) → Contains others (name, value)
+      → references_with name value stated.series ≡ [] → ⊥
+  pub listed : (name value : List ℕ) → (references_with name value stated.series ≡ [] → ⊥)
+      → Contains others (name, value)
 
 -- at most 1,048,576 series, none of more than 64 labels
 pub record AreFew (series : List Series) : Type 0 where
@@ -49,8 +50,10 @@ pub record AreFew (series : List Series) : Type 0 where
 
 -- what reading a whole index gives: the refusal of an earlier check; or `I14`, where the postings are not those of the
 -- series; or else `I15`, where there are too many series or labels; or else series and pairs
-pub record AreLastChecks (stated : Result Stated IndexError) (read : Result Indexed IndexError) : Type 0 where
+pub record AreLastChecks (stated : Result Stated IndexError) (read : Result Indexed IndexError)
+    : Type 0 where
   pub earlier : (e : IndexError) → stated ≡ Err e → read ≡ Err e
   pub disagree : (s : Stated) → stated ≡ Ok s → (Agrees s → ⊥) → read ≡ Err PostingsDisagree
   pub many : (s : Stated) → stated ≡ Ok s → Agrees s → (AreFew s.series → ⊥) → read ≡ Err Limit
-  pub sound : (s : Stated) → stated ≡ Ok s → (a : Agrees s) → AreFew s.series → read ≡ Ok (record { series = s.series; pairs = a.others })
+  pub sound : (s : Stated) → stated ≡ Ok s → (a : Agrees s) → AreFew s.series
+      → read ≡ Ok (record { series = s.series; pairs = a.others })

@@ -1,10 +1,23 @@
--- One thing read after another.
-use Rattle.std.specs.Prelude.{ℕ, zero, suc, List, [], ◌∷◌, ◌++◌, Result, Ok, Err}
+-- How checks follow one another: each comes where none before it has failed.
+use Rattle.std.specs.Prelude.{ℕ, List, [], ◌∷◌, ◌++◌, Result, Ok, Err, zero, suc}
+use Rattle.wire.specs.declared.error.WireError.{WireError}
 use Rattle.index_reader.specs.declared.error.IndexError.{IndexError}
-use Rattle.index_reader.specs.Reading.{◌>>=◌}
+
+infixl 10 ◌>>=◌
+-- the next check, where none has failed
+abbrev pub ◌>>=◌ : {A B : Type 0}
+    → Result A IndexError → (A → Result B IndexError) → Result B IndexError
+(Ok x) >>= f = f x
+(Err e) >>= f = Err e
+
+-- a field, whose refusal is that of the check which reads it
+abbrev pub or_refused : {A : Type 0} → IndexError → Result A WireError → Result A IndexError
+or_refused e (Ok x) = Ok x
+or_refused e (Err f) = Err e
 
 -- this many steps from a state: what each gave, and the state after them
-unfoldable pub steps : {S X : Type 0} → (S → Result (X × S) IndexError) → ℕ → S → Result (List X × S) IndexError
+unfoldable pub steps : {S X : Type 0}
+    → (S → Result (X × S) IndexError) → ℕ → S → Result (List X × S) IndexError
 steps step zero s = Ok ([], s)
 steps step (suc n) s = do
   first ← step s
@@ -12,6 +25,22 @@ steps step (suc n) s = do
   Ok (first.0 ∷ others.0, others.1)
 
 -- behind what was there before
-abbrev pub with_front : {S X : Type 0} → List X → Result (List X × S) IndexError → Result (List X × S) IndexError
+abbrev pub with_front : {S X : Type 0}
+    → List X → Result (List X × S) IndexError → Result (List X × S) IndexError
 with_front front (Ok x) = Ok (front ++ x.0, x.1)
 with_front front (Err e) = Err e
+
+-- what the step gives for each
+unfoldable pub each : {A X : Type 0}
+    → (A → Result X IndexError) → List A → Result (List X) IndexError
+each step [] = Ok []
+each step (a ∷ as') = do
+  x ← step a
+  xs ← each step as'
+  Ok (x ∷ xs)
+
+-- what was there before, and what was read
+abbrev pub behind_items : {X : Type 0}
+    → List X → Result (List X) IndexError → Result (List X) IndexError
+behind_items front (Ok xs) = Ok (front ++ xs)
+behind_items front (Err e) = Err e

@@ -1,40 +1,31 @@
 //! Whether the postings are those of the series.
 
-ghost use Rattle.std.specs.Prelude.{◌≡◌, ◌+◌, ◌-◌, ◌<◌, ◌^◌, ℕ, [], ◌∷◌, length, map, drop, slice_get, Some, All, MatchOption, IfOk, true, nat_lt, ◌==◌, ◌*◌};
 ghost use Rattle.std.specs.List.{list_all};
+ghost use Rattle.std.specs.Prelude.{◌≡◌, ◌+◌, ◌<◌, ◌^◌, length, nat_lt, All, IfOk, ◌==◌, [], MatchOption, true, ◌∷◌};
+ghost use Rattle.index_reader.specs.AgreementChecks.{are_used, agreement_of};
+ghost use Rattle.index_reader.specs.CheckedFile.{carriers_seen, symbol_texts};
+ghost use Rattle.index_reader.specs.CarriedPairs.{all_empty};
+ghost use Rattle.index_reader.specs.FlatBodies.{AreInside};
 ghost use Rattle.index_reader.specs.Outcome.{Gives};
-ghost use Rattle.index_reader.specs.Reading.{ascending};
-ghost use Rattle.index_reader.specs.Seen.{places};
-ghost use Rattle.index_reader.specs.Shown.{all_shown, texts_of};
-ghost use Rattle.index_reader.specs.Each.{rises};
-ghost use Rattle.index_reader.specs.Flat.{AreInside, label_sets_in};
-ghost use Rattle.index_reader.specs.Words.{refs_of};
-ghost use Rattle.index_reader.specs.Agree.{lists_of, all_empty};
-ghost use Rattle.index_reader.specs.Taking.{in_turn, reference_taken, label_taken, series_taken, used_up_at};
-ghost use Rattle.index_reader.specs.Finding.{key_before};
-ghost use Rattle.index_reader.specs.Agreement.{strings_of, references, tied, are_used, agreed_at};
+ghost use Rattle.index_reader.specs.References.{references_in};
+ghost use Rattle.index_reader.specs.Seen.{bytes_of, table_seen, references_in_each};
+ghost use Rattle.index_reader.specs.SeriesWalk.{in_turn, take_reference, take_label, take_series, keys_used_up};
 
-use crate::bodies::{Bodies, Row, entry_at, label_set_at};
+use crate::bodies::{Bodies, Row, label_set_at};
 use crate::error::IndexError;
-use crate::keys::{guesses_of, key_in, keys_of, place_near};
-use crate::reading::Entry;
-use crate::table::{Listed, content_at};
+use crate::keys::{Keys, guesses_of, key_in, place_near};
+use crate::offset_table::TableEntry;
+use crate::pairs::keys_of;
+use crate::postings::slice_at;
+use crate::series_entries::{SeriesEntry, reference_at};
+use crate::symbols::Symbols;
 use byteorder::{BigEndian, ByteOrder};
 use std::alloc::{AllocError, Global};
 
-/// The reference of the series at a place.
-pub fn reference_at(entries: &[Entry<'_>], i: usize) -> u32
-    requires i_in { i < length entries.now }
-    requires small { All (λ e. e.offset < 2 ^ 32) entries.now }
-    ensures { slice_get (references (places entries.now)) i ≡ Some result }
-{
-    let entry = entry_at(entries, i);
-    (entry.offset / 16) as u32
-}
-
 #[tactic(auto, using(crate::proofs::Firsts::of_firsts))]
 fn first_of(bytes: &[u8]) -> Option<(u32, &[u8])>
-    ensures { MatchOption result (refs_of bytes.now ≡ []) (λ x. refs_of bytes.now ≡ x.0 ∷ refs_of x.1.now) }
+    ensures { MatchOption result (references_in bytes.now ≡ [])
+        (λ x. references_in bytes.now ≡ x.0 ∷ references_in x.1.now) }
 {
     if bytes.len() < 4 {
         return None;
@@ -45,7 +36,7 @@ fn first_of(bytes: &[u8]) -> Option<(u32, &[u8])>
 
 // Whether no reference is left.
 fn is_empty(bytes: &[u8]) -> bool
-    ensures { result ≡ (length (refs_of bytes.now) == 0) }
+    ensures { result ≡ (length (references_in bytes.now) == 0) }
 {
     first_of(bytes).is_none()
 }
@@ -57,7 +48,8 @@ fn take_reference<'a>(
     place: usize,
 ) -> Result<(), IndexError>
     requires { place < length lists.old.items }
-    ensures exact { Gives (λ _. lists_of lists.new.items) result (reference_taken reference (lists_of lists.old.items) place) }
+    ensures exact { Gives (λ _. references_in_each lists.new.items) result
+        (take_reference reference (references_in_each lists.old.items) place) }
     ensures counted { length lists.new.items ≡ length lists.old.items }
 {
     let list = lists[place];
@@ -72,17 +64,17 @@ fn take_reference<'a>(
 }
 
 // Takes it from the list of a label.
-#[tactic(auto, unfolding(crate::specs::Taking::label_taken))]
+#[tactic(auto, unfolding(crate::specs::SeriesWalk::take_label))]
 fn take_label<'a>(
-    keys: &[(u32, u32)],
+    keys: &Keys,
     guesses: &[usize],
     reference: u32,
     lists: &mut Vec<&'a [u8]>,
     label: (u32, u32),
 ) -> Result<(), IndexError>
-    requires order { rises key_before keys.now ≡ true }
-    requires listed { length lists.old.items ≡ length keys.now + 1 }
-    ensures exact { Gives (λ _. lists_of lists.new.items) result (label_taken keys.now reference (lists_of lists.old.items) label) }
+    requires listed { length lists.old.items ≡ length keys.now.pairs.items + 1 }
+    ensures exact { Gives (λ _. references_in_each lists.new.items) result
+        (take_label keys.now.pairs.items reference (references_in_each lists.old.items) label) }
     ensures counted { length lists.new.items ≡ length lists.old.items }
 {
     let Some(at) = place_near(keys, guesses, label) else {
@@ -92,15 +84,16 @@ fn take_label<'a>(
 }
 
 fn take_labels<'a>(
-    keys: &[(u32, u32)],
+    keys: &Keys,
     guesses: &[usize],
     reference: u32,
     lists: &mut Vec<&'a [u8]>,
     labels: &[(u32, u32)],
 ) -> Result<(), IndexError>
-    requires order { rises key_before keys.now ≡ true }
-    requires listed { length lists.old.items ≡ length keys.now + 1 }
-    ensures exact { Gives (λ _. lists_of lists.new.items) result (in_turn (label_taken keys.now reference) (lists_of lists.old.items) labels.now) }
+    requires listed { length lists.old.items ≡ length keys.now.pairs.items + 1 }
+    ensures exact { Gives (λ _. references_in_each lists.new.items) result
+        (in_turn (take_label keys.now.pairs.items reference)
+        (references_in_each lists.old.items) labels.now) }
     ensures counted { length lists.new.items ≡ length lists.old.items }
 {
     for at in 0..labels.len() {
@@ -111,17 +104,18 @@ fn take_labels<'a>(
 }
 
 // Takes the reference of a series from the first list, and from that of each of its labels.
-#[tactic(auto, unfolding(crate::specs::Taking::series_taken))]
+#[tactic(auto, unfolding(crate::specs::SeriesWalk::take_series))]
 fn take_series<'a>(
-    keys: &[(u32, u32)],
+    keys: &Keys,
     guesses: &[usize],
     reference: u32,
     lists: &mut Vec<&'a [u8]>,
     labels: &[(u32, u32)],
 ) -> Result<(), IndexError>
-    requires order { rises key_before keys.now ≡ true }
-    requires listed { length lists.old.items ≡ length keys.now + 1 }
-    ensures exact { Gives (λ _. lists_of lists.new.items) result (series_taken keys.now (lists_of lists.old.items) (reference, labels.now)) }
+    requires listed { length lists.old.items ≡ length keys.now.pairs.items + 1 }
+    ensures exact { Gives (λ _. references_in_each lists.new.items) result
+        (take_series keys.now.pairs.items (references_in_each lists.old.items)
+        (reference, labels.now)) }
     ensures counted { length lists.new.items ≡ length lists.old.items }
 {
     take_reference(reference, lists, 0)?;
@@ -130,19 +124,20 @@ fn take_series<'a>(
 
 // Takes the references of all series, in their order.
 fn take_all<'a>(
-    keys: &[(u32, u32)],
+    keys: &Keys,
     guesses: &[usize],
     labels: &[(u32, u32)],
     rows: &[Row],
-    entries: &[Entry<'_>],
+    entries: &[SeriesEntry<'_>],
     lists: &mut Vec<&'a [u8]>,
 ) -> Result<(), IndexError>
-    requires order { rises key_before keys.now ≡ true }
-    requires listed { length lists.old.items ≡ length keys.now + 1 }
+    requires listed { length lists.old.items ≡ length keys.now.pairs.items + 1 }
     requires inside { AreInside labels.now rows.now }
     requires small { All (λ e. e.offset < 2 ^ 32) entries.now }
     requires counted { length rows.now ≡ length entries.now }
-    ensures { Gives (λ _. lists_of lists.new.items) result (in_turn (series_taken keys.now) (lists_of lists.old.items) (tied (references (places entries.now)) (label_sets_in labels.now rows.now))) }
+    ensures { Gives (λ _. references_in_each lists.new.items) result
+        (in_turn (take_series keys.now.pairs.items) (references_in_each lists.old.items)
+        (carriers_seen entries.now labels.now rows.now)) }
 {
     for at in 0..rows.len() {
         let reference = reference_at(entries, at);
@@ -153,7 +148,7 @@ fn take_all<'a>(
 }
 
 fn all_empty(rests: &[&[u8]]) -> bool
-    ensures { result ≡ all_empty (lists_of rests.now) }
+    ensures { result ≡ all_empty (references_in_each rests.now) }
 {
     for rest in rests {
         if !is_empty(rest) {
@@ -163,13 +158,13 @@ fn all_empty(rests: &[&[u8]]) -> bool
     true
 }
 
-fn copied<'a>(alloc: Global, lists: &[&'a [u8]]) -> Result<Vec<&'a [u8]>, AllocError>
-    ensures texts { IfOk result (λ v. texts_of v.items ≡ texts_of lists.now) }
+fn copy_slices<'a>(alloc: Global, lists: &[&'a [u8]]) -> Result<Vec<&'a [u8]>, AllocError>
+    ensures texts { IfOk result (λ v. bytes_of v.items ≡ bytes_of lists.now) }
     ensures counted { IfOk result (λ v. length v.items ≡ length lists.now) }
 {
     let mut copy = Vec::with_capacity(alloc, lists.len())?;
     for at in 0..lists.len() {
-        let list = content_at(lists, at);
+        let list = slice_at(lists, at);
         copy.push(list)?;
     }
     Ok(copy)
@@ -184,7 +179,7 @@ fn have_bytes(lists: &[&[u8]]) -> bool
 // Whether no list behind the first is empty.
 #[tactic(auto, using(crate::proofs::Placing::used_behind))]
 fn are_used(lists: &[&[u8]]) -> bool
-    ensures { result ≡ are_used (texts_of lists.now) }
+    ensures { result ≡ are_used (bytes_of lists.now) }
 {
     if lists.is_empty() {
         return true;
@@ -194,28 +189,27 @@ fn are_used(lists: &[&[u8]]) -> bool
 }
 
 // The series are walked once, in their order, each taking its reference from the lists of its labels.
-#[tactic(auto, using(crate::proofs::Placing::lists_are), unfolding(crate::specs::Taking::used_up_at))]
-fn used_up(
+#[tactic(auto, using(crate::proofs::Placing::lists_are), unfolding(crate::specs::SeriesWalk::keys_used_up))]
+fn use_up_lists(
     alloc: Global,
-    symbols: &[String],
-    table: &[Listed<'_>],
+    symbols: &Symbols,
+    table: &[TableEntry<'_>],
     lists: &[&[u8]],
     bodies: &Bodies,
-    entries: &[Entry<'_>],
-) -> Result<Vec<(u32, u32)>, IndexError>
-    requires few { length symbols.now < 2 ^ 32 }
-    requires order { ascending (strings_of symbols.now) ≡ true }
+    entries: &[SeriesEntry<'_>],
+) -> Result<Keys, IndexError>
     requires inside { AreInside bodies.now.labels.items bodies.now.rows.items }
     requires small { All (λ e. e.offset < 2 ^ 32) entries.now }
     requires counted { length bodies.now.rows.items ≡ length entries.now }
     requires listed { length lists.now ≡ length table.now }
-    ensures exact { Gives (λ v. v.items) result (used_up_at (strings_of symbols.now) (all_shown table.now) (texts_of lists.now) (tied (references (places entries.now)) (label_sets_in bodies.now.labels.items bodies.now.rows.items))) }
-    ensures rising { IfOk result (λ v. rises key_before v.items ≡ true) }
-    ensures keyed { IfOk result (λ v. length v.items + 1 ≡ length table.now) }
+    ensures exact { Gives (λ v. v.pairs.items) result
+        (keys_used_up (symbol_texts symbols.now) (table_seen table.now) (bytes_of lists.now)
+        (carriers_seen entries.now bodies.now.labels.items bodies.now.rows.items)) }
+    ensures keyed { IfOk result (λ v. length v.pairs.items + 1 ≡ length table.now) }
 {
     let keys = keys_of(alloc, symbols, table)?;
-    let guesses = guesses_of(alloc, symbols.len(), &keys)?;
-    let mut rests = copied(alloc, lists)?;
+    let guesses = guesses_of(alloc, symbols.texts.len(), &keys)?;
+    let mut rests = copy_slices(alloc, lists)?;
     take_all(
         &keys,
         &guesses,
@@ -233,23 +227,22 @@ fn used_up(
 
 /// The pairs of the table behind the empty one, where its lists are exactly the references of the series that carry
 /// them. It looks at each label of each series once, and keeps no list of them.
-pub fn agreed(
+pub fn check_agreement(
     alloc: Global,
-    symbols: &[String],
-    table: &[Listed<'_>],
+    symbols: &Symbols,
+    table: &[TableEntry<'_>],
     lists: &[&[u8]],
     bodies: &Bodies,
-    entries: &[Entry<'_>],
-) -> Result<Vec<(u32, u32)>, IndexError>
-    requires few { length symbols.now < 2 ^ 32 }
-    requires order { ascending (strings_of symbols.now) ≡ true }
+    entries: &[SeriesEntry<'_>],
+) -> Result<Keys, IndexError>
     requires inside { AreInside bodies.now.labels.items bodies.now.rows.items }
     requires small { All (λ e. e.offset < 2 ^ 32) entries.now }
     requires counted { length bodies.now.rows.items ≡ length entries.now }
     requires listed { length lists.now ≡ length table.now }
-    ensures exact { Gives (λ v. v.items) result (agreed_at (strings_of symbols.now) (all_shown table.now) (texts_of lists.now) (tied (references (places entries.now)) (label_sets_in bodies.now.labels.items bodies.now.rows.items))) }
-    ensures rising { IfOk result (λ v. rises key_before v.items ≡ true) }
-    ensures keyed { IfOk result (λ v. length v.items + 1 ≡ length table.now) }
+    ensures exact { Gives (λ v. v.pairs.items) result
+        (agreement_of (symbol_texts symbols.now) (table_seen table.now) (bytes_of lists.now)
+        (carriers_seen entries.now bodies.now.labels.items bodies.now.rows.items)) }
+    ensures keyed { IfOk result (λ v. length v.pairs.items + 1 ≡ length table.now) }
 {
-    used_up(alloc, symbols, table, lists, bodies, entries)
+    use_up_lists(alloc, symbols, table, lists, bodies, entries)
 }

@@ -1,16 +1,19 @@
-//! All bodies, in flat vectors.
-ghost use Rattle.std.specs.Prelude.{◌≡◌, ◌<◌, ◌^◌, length, slice_get, Some, IfOk, All, ◌≤◌, ◌==◌};
+//! The bodies of all series entries, in flat vectors.
+
 ghost use Rattle.std.specs.List.{list_all};
+ghost use Rattle.std.specs.Prelude.{◌≡◌, ◌<◌, ◌^◌, length, slice_get, Some, IfOk};
+ghost use Rattle.index_reader.specs.CheckedFile.{bodies_seen};
+ghost use Rattle.index_reader.specs.Checks.{is_small};
+ghost use Rattle.index_reader.specs.FlatBodies.{AllIn, body_of_entry, label_sets_in, labels_before, AreInside};
+ghost use Rattle.index_reader.specs.Layout.{rises};
 ghost use Rattle.index_reader.specs.Outcome.{Gives};
-ghost use Rattle.index_reader.specs.Seen.{texts, place, places};
-ghost use Rattle.index_reader.specs.Each.{each, rises};
-ghost use Rattle.index_reader.specs.Opening.{is_small};
-ghost use Rattle.index_reader.specs.Flat.{body_in, bodies_in, AllIn, body_of_place, label_sets_in, is_before, AreInside, zero_between, gaps_zero};
+ghost use Rattle.index_reader.specs.Seen.{bytes_of, entries_seen};
+ghost use Rattle.index_reader.specs.Steps.{each};
 
 use crate::body::body_into;
 use crate::chunk::Chunk;
 use crate::error::IndexError;
-use crate::reading::Entry;
+use crate::series_entries::{SeriesEntry, entry_at};
 use std::alloc::Global;
 use std::cmp::Ordering;
 
@@ -42,22 +45,15 @@ pub fn flat_parts(bodies: Bodies) -> (Vec<(u32, u32)>, Vec<Chunk>)
     (labels, chunks)
 }
 
-pub fn entry_at<'a>(entries: &[Entry<'a>], i: usize) -> Entry<'a>
-    requires { i < length entries.now }
-    ensures seen { slice_get (places entries.now) i ≡ Some (place result) }
-    ensures value { slice_get entries.now i ≡ Some result }
-{
-    entries[i]
-}
-
 /// The bodies of all entries.
 pub fn bodies_of(
     alloc: Global,
     symbols: &[&str],
-    entries: &[Entry<'_>],
+    entries: &[SeriesEntry<'_>],
 ) -> Result<Bodies, IndexError>
     requires { length symbols.now < 2 ^ 32 }
-    ensures exact { Gives (λ b. bodies_in b.labels.items b.chunks.items b.rows.items) result (each (body_of_place (texts symbols.now)) (places entries.now)) }
+    ensures exact { Gives bodies_seen result
+        (each (body_of_entry (bytes_of symbols.now)) (entries_seen entries.now)) }
     ensures inside { IfOk result (λ b. AllIn b.labels.items b.chunks.items b.rows.items) }
     ensures counted { IfOk result (λ b. length b.rows.items ≡ length entries.now) }
 {
@@ -101,7 +97,7 @@ pub fn label_set_at<'a>(labels: &'a [(u32, u32)], rows: &[Row], i: usize) -> &'a
 }
 
 fn is_before(a: &[(u32, u32)], b: &[(u32, u32)]) -> bool
-    ensures { result ≡ is_before a.now b.now }
+    ensures { result ≡ labels_before a.now b.now }
 {
     matches!(a.cmp(b), Ordering::Less)
 }
@@ -109,7 +105,7 @@ fn is_before(a: &[(u32, u32)], b: &[(u32, u32)]) -> bool
 /// Whether each label set is below the next.
 pub fn is_rising(labels: &[(u32, u32)], rows: &[Row]) -> bool
     requires { AreInside labels.now rows.now }
-    ensures { result ≡ rises is_before (label_sets_in labels.now rows.now) }
+    ensures { result ≡ rises labels_before (label_sets_in labels.now rows.now) }
 {
     let mut at = 1;
     while at < rows.len() {
@@ -141,39 +137,4 @@ pub fn are_small(labels: &[(u32, u32)], rows: &[Row]) -> bool
         }
     }
     true
-}
-
-/// Whether all bytes are 0.
-pub fn are_zero(bytes: &[u8]) -> bool
-    ensures { result ≡ list_all (λ b. b == 0) bytes.now }
-{
-    bytes.iter().all(|b| *b == 0)
-}
-
-#[tactic(auto, using(crate::proofs::Gaps::nothing_between))]
-fn zero_between(file: &[u8], from: usize, to: usize) -> bool
-    requires { to ≤ length file.now }
-    ensures { result ≡ zero_between file.now from to }
-{
-    if from >= to {
-        return true;
-    }
-    are_zero(&file[from..to])
-}
-
-/// Whether each byte from `first` up to `end` that lies in no entry is 0.
-pub fn gaps_are_zero(file: &[u8], first: usize, end: usize, entries: &[Entry<'_>]) -> bool
-    requires within { end ≤ length file.now }
-    requires inside { All (λ e. e.offset ≤ length file.now) entries.now }
-    ensures { result ≡ gaps_zero file.now end first (places entries.now) }
-{
-    let mut from = first;
-    for at in 0..entries.len() {
-        let entry = entry_at(entries, at);
-        if !zero_between(file, from, entry.offset) {
-            return false;
-        }
-        from = entry.end;
-    }
-    zero_between(file, from, end)
 }

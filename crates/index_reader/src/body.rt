@@ -2,19 +2,19 @@
 
 ghost use Rattle.std.specs.Prelude.{◌≡◌, ◌+◌, ◌<◌, ◌≤◌, ◌^◌, length, get_or, slice_get, Ok, true, nat_le, IsTrue, IfOk};
 ghost use Rattle.index_reader.specs.Outcome.{Gives};
-ghost use Rattle.index_reader.specs.Seen.{texts};
-ghost use Rattle.index_reader.specs.Chunks.{is_time};
+ghost use Rattle.index_reader.specs.Seen.{bytes_of};
+ghost use Rattle.index_reader.specs.Layout.{is_time};
 ghost use Rattle.index_reader.specs.Steps.{steps, with_front};
-ghost use Rattle.index_reader.specs.Bodies.{is_label, label_at, labels_at, chunk_at, chunks_at, body_at, behind_both};
+ghost use Rattle.index_reader.specs.BodyChecks.{is_label, label_at, labels_at, chunk_at, chunks_at, body_at, behind_both};
 
 use crate::chunk::{Chunk, first_of, later_of};
 use crate::error::IndexError;
 use labels::is_name;
 use wire::Cut;
 
-#[tactic(auto, unfolding(crate::specs::Bodies::is_label))]
+#[tactic(auto, unfolding(crate::specs::BodyChecks::is_label))]
 fn is_label(symbols: &[&str], low: u64, name: u64, value: u64) -> bool
-    ensures exact { result ≡ is_label (texts symbols.now) low name value }
+    ensures exact { result ≡ is_label (bytes_of symbols.now) low name value }
     ensures within { IsTrue result → (name < length symbols.now) × (value < length symbols.now) }
 {
     let within = (low <= name) & (name < symbols.len() as u64) & (value < symbols.len() as u64);
@@ -24,14 +24,15 @@ fn is_label(symbols: &[&str], low: u64, name: u64, value: u64) -> bool
     is_name(symbols[name as usize]) & !symbols[value as usize].is_empty()
 }
 
-#[tactic(auto, unfolding(crate::specs::Bodies::label_at))]
+#[tactic(auto, unfolding(crate::specs::BodyChecks::label_at))]
 fn label_of<'a>(
     symbols: &[&str],
     low: u64,
     bytes: &'a [u8],
 ) -> Result<((u32, u32), (u64, &'a [u8])), IndexError>
     requires { length symbols.now < 2 ^ 32 }
-    ensures { Gives (λ x. (x.0, (x.1.0, x.1.1.now))) result (label_at (texts symbols.now) (low, bytes.now)) }
+    ensures { Gives (λ x. (x.0, (x.1.0, x.1.1.now))) result
+        (label_at (bytes_of symbols.now) (low, bytes.now)) }
 {
     let mut cut = Cut::new(bytes);
     let Ok(name) = cut.uvarint() else {
@@ -53,7 +54,9 @@ fn more_labels<'a>(
     labels: &mut Vec<(u32, u32)>,
 ) -> Result<(u64, &'a [u8]), IndexError>
     requires { length symbols.now < 2 ^ 32 }
-    ensures { Gives (λ x. (labels.new.items, (x.0, x.1.now))) result (with_front labels.old.items (steps (label_at (texts symbols.now)) count (0, bytes.now))) }
+    ensures { Gives (λ x. (labels.new.items, (x.0, x.1.now))) result
+        (with_front labels.old.items
+        (steps (label_at (bytes_of symbols.now)) count (0, bytes.now))) }
 {
     let mut low = 0;
     let mut rest = bytes;
@@ -67,14 +70,15 @@ fn more_labels<'a>(
 }
 
 /// Adds the labels of a body, and gives what stands behind them.
-#[tactic(auto, unfolding(crate::specs::Bodies::labels_at))]
+#[tactic(auto, unfolding(crate::specs::BodyChecks::labels_at))]
 pub fn labels_into<'a>(
     symbols: &[&str],
     bytes: &'a [u8],
     labels: &mut Vec<(u32, u32)>,
 ) -> Result<(u64, &'a [u8]), IndexError>
     requires { length symbols.now < 2 ^ 32 }
-    ensures { Gives (λ x. (labels.new.items, (x.0, x.1.now))) result (with_front labels.old.items (labels_at (texts symbols.now) bytes.now)) }
+    ensures { Gives (λ x. (labels.new.items, (x.0, x.1.now))) result
+        (with_front labels.old.items (labels_at (bytes_of symbols.now) bytes.now)) }
 {
     let mut cut = Cut::new(bytes);
     let Ok(count) = cut.uvarint() else {
@@ -83,7 +87,7 @@ pub fn labels_into<'a>(
     more_labels(symbols, count, cut.rest(), labels)
 }
 
-#[tactic(auto, unfolding(crate::specs::Bodies::chunk_at))]
+#[tactic(auto, unfolding(crate::specs::BodyChecks::chunk_at))]
 fn chunk_of(before: Chunk, bytes: &[u8]) -> Result<(Chunk, (Chunk, &[u8])), IndexError>
     requires { is_time before.maxt ≡ true }
     ensures exact { Gives (λ x. (x.0, (x.1.0, x.1.1.now))) result (chunk_at (before, bytes.now)) }
@@ -102,7 +106,8 @@ fn more_chunks<'a>(
     chunks: &mut Vec<Chunk>,
 ) -> Result<(Chunk, &'a [u8]), IndexError>
     requires { is_time first.maxt ≡ true }
-    ensures { Gives (λ x. (chunks.new.items, (x.0, x.1.now))) result (with_front chunks.old.items (steps chunk_at count (first, bytes.now))) }
+    ensures { Gives (λ x. (chunks.new.items, (x.0, x.1.now))) result
+        (with_front chunks.old.items (steps chunk_at count (first, bytes.now))) }
 {
     let mut before = first;
     let mut rest = bytes;
@@ -116,12 +121,13 @@ fn more_chunks<'a>(
 }
 
 /// Adds the chunks of a body, and gives what stands behind them.
-#[tactic(auto, using(crate::proofs::Stepping::behind_front), unfolding(crate::specs::Bodies::chunks_at))]
+#[tactic(auto, using(crate::proofs::Stepping::behind_front), unfolding(crate::specs::BodyChecks::chunks_at))]
 pub fn chunks_into<'a>(
     bytes: &'a [u8],
     chunks: &mut Vec<Chunk>,
 ) -> Result<(Chunk, &'a [u8]), IndexError>
-    ensures { Gives (λ x. (chunks.new.items, (x.0, x.1.now))) result (with_front chunks.old.items (chunks_at bytes.now)) }
+    ensures { Gives (λ x. (chunks.new.items, (x.0, x.1.now))) result
+        (with_front chunks.old.items (chunks_at bytes.now)) }
 {
     let mut cut = Cut::new(bytes);
     let Ok(count) = cut.uvarint() else {
@@ -145,7 +151,9 @@ pub fn body_into(
     chunks: &mut Vec<Chunk>,
 ) -> Result<(), IndexError>
     requires { length symbols.now < 2 ^ 32 }
-    ensures { Gives (λ _. (labels.new.items, chunks.new.items)) result (behind_both labels.old.items chunks.old.items (body_at (texts symbols.now) body.now)) }
+    ensures { Gives (λ _. (labels.new.items, chunks.new.items)) result
+        (behind_both labels.old.items chunks.old.items
+        (body_at (bytes_of symbols.now) body.now)) }
 {
     let (_, rest) = labels_into(symbols, body, labels)?;
     let (_, rest) = chunks_into(rest, chunks)?;

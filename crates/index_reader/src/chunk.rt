@@ -1,7 +1,8 @@
 //! The chunks of a series body.
 ghost use Rattle.std.specs.Prelude.{◌≡◌, ◌<◌, IsTrue, true, IfSome};
-ghost use Rattle.index_reader.specs.Chunks.{is_time, time_after, reference_after, first_at, later_at};
-ghost use Rattle.index_reader.specs.SeenChunks.{seen_chunk};
+ghost use Rattle.index_reader.specs.Layout.{is_time};
+ghost use Rattle.index_reader.specs.ChunkChecks.{time_after, reference_after, first_at, later_at};
+ghost use Rattle.index_reader.specs.Seen.{chunk_seen};
 
 use labels::{MAX_TIME, MIN_TIME};
 use wire::Cut;
@@ -42,9 +43,9 @@ fn reference_after(before: u64, step: i64) -> Option<u64>
     Some(reference as u64)
 }
 
-#[tactic(auto, unfolding(crate::specs::Chunks::first_at))]
+#[tactic(auto, unfolding(crate::specs::ChunkChecks::first_at))]
 pub fn first_of(bytes: &[u8]) -> Option<(Chunk, &[u8])>
-    ensures exact { seen_chunk result ≡ first_at bytes.now }
+    ensures exact { chunk_seen result ≡ first_at bytes.now }
     ensures times { IfSome result (λ x. is_time x.0.maxt ≡ true) }
 {
     let mut cut = Cut::new(bytes);
@@ -65,10 +66,10 @@ pub fn first_of(bytes: &[u8]) -> Option<(Chunk, &[u8])>
     ))
 }
 
-#[tactic(auto, unfolding(crate::specs::Chunks::later_at))]
+#[tactic(auto, unfolding(crate::specs::ChunkChecks::later_at))]
 pub fn later_of(before: Chunk, bytes: &[u8]) -> Option<(Chunk, &[u8])>
     requires { is_time before.maxt ≡ true }
-    ensures exact { seen_chunk result ≡ later_at before bytes.now }
+    ensures exact { chunk_seen result ≡ later_at before bytes.now }
     ensures times { IfSome result (λ x. is_time x.0.maxt ≡ true) }
 {
     let mut cut = Cut::new(bytes);

@@ -3,18 +3,20 @@
 ghost use Rattle.std.specs.Prelude.{◌≡◌, ◌<◌, ℕ, ◌==◌, [], length, slice_get, Some, Ok, IfOk, IfSome, IfNone};
 ghost use Rattle.index_reader.specs.Outcome.{Gives};
 ghost use Rattle.index_reader.specs.Indexes.{Indexed, IsConsistent, references, label_sets, chunk_lists, references_with, values_of};
-ghost use Rattle.index_reader.specs.Opening.{indexed_of};
+ghost use Rattle.index_reader.specs.Checks.{indexed_of};
 ghost use Rattle.index_reader.specs.Spelled.{IsIndex};
 ghost use Rattle.index_reader.specs.Stated.{stated_of, AreLastChecks};
 
 use crate::bodies::flat_parts;
+use crate::checks::{Checked, check};
 use crate::chunk::Chunk;
-use crate::entries::Entries;
 use crate::error::IndexError;
-use crate::keys::{place_of_pair, value_at, value_count};
-use crate::lists::{Lists, kept};
-use crate::opening::{Checked, sound};
+use crate::keys::Keys;
+use crate::lists::{Lists, copy_lists};
+use crate::pairs::{place_of_pair, value_at, value_count};
+use crate::postings::PostingsList;
 use crate::series::{Series, label_set_of, series_of};
+use crate::symbols::Symbols;
 use labels::{LabelSet, SeriesRef};
 use std::alloc::{AllocError, Global};
 use std::marker::Model;
@@ -23,8 +25,8 @@ use std::marker::Model;
 /// and its lists of references as the bytes in which they were read.
 #[derive(Drop)]
 pub struct Index {
-    symbols: Vec<String>,
-    keys: Vec<(u32, u32)>,
+    symbols: Symbols,
+    keys: Keys,
     labels: Vec<(u32, u32)>,
     chunks: Vec<Chunk>,
     series: Vec<Series>,
@@ -36,12 +38,14 @@ impl Model for Index {
 
     ghost Value = { Indexed };
 
-    ghost use Rattle.index_reader.specs.Agreement.{strings_of};
-    ghost use Rattle.index_reader.specs.Kept.{indexed_in, IsKept};
+    ghost use Rattle.index_reader.specs.Seen.{strings_of};
+    ghost use Rattle.index_reader.specs.KeptIndex.{indexed_in, IsKept};
 
-    ghost view = { λ x. indexed_in (strings_of x.symbols.items) x.keys.items x.labels.items x.chunks.items x.series.items };
+    ghost view = { λ x. indexed_in (strings_of x.symbols.texts.items)
+        x.keys.pairs.items x.labels.items x.chunks.items x.series.items };
 
-    ghost invariant = { λ x. IsKept (strings_of x.symbols.items) x.keys.items x.labels.items x.chunks.items x.series.items x.lists };
+    ghost invariant = { λ x. IsKept (strings_of x.symbols.texts.items)
+        x.keys.pairs.items x.labels.items x.chunks.items x.series.items x.lists };
 }
 
 // The checks, and what they leave.
@@ -56,9 +60,9 @@ fn index_of(alloc: Global, file: &[u8]) -> Result<Index, IndexError>
         symbols,
         keys,
         lists,
-    } = sound(alloc, file)?;
+    } = check(alloc, file)?;
     let series = series_of(alloc, &symbols, &bodies, &layout.entries)?;
-    let lists = kept(alloc, &lists)?;
+    let lists = copy_lists(alloc, &lists)?;
     let (labels, chunks) = flat_parts(bodies);
     Ok(Index {
         symbols,
@@ -135,7 +139,7 @@ impl Index {
     }
 
     /// The references of all series. None of it is read yet.
-    pub fn all(&self) -> Entries<'_>
+    pub fn all(&self) -> PostingsList<'_>
         ensures { result ≡ (references self.now.series, 0) }
     {
         self.lists.entries_at(0)
@@ -143,10 +147,12 @@ impl Index {
 
     /// The references of the series with this value of a name, `None` where there is none. None of it is read yet. It
     /// takes time in proportion to the logarithms of the counts of symbols and of pairs, and no memory.
-    pub fn entries(&self, name: &str, value: &str) -> Option<Entries<'_>>
+    pub fn postings(&self, name: &str, value: &str) -> Option<PostingsList<'_>>
         ensures none { IfNone result (references_with name.now value.now self.now.series ≡ []) }
-        ensures listed { IfSome result (λ e. e ≡ (references_with name.now value.now self.now.series, 0)) }
-        ensures some { IfSome result (λ e. references_with name.now value.now self.now.series ≡ [] → ⊥) }
+        ensures listed { IfSome result
+            (λ e. e ≡ (references_with name.now value.now self.now.series, 0)) }
+        ensures some { IfSome result
+            (λ e. references_with name.now value.now self.now.series ≡ [] → ⊥) }
     {
         let Some(at) = place_of_pair(&self.symbols, &self.keys, name, value) else {
             return None;

@@ -1,18 +1,17 @@
 //! Lists of references, kept as the bytes in which they were read.
 
-ghost use Rattle.std.specs.Prelude.{◌≡◌, ◌++◌, ◌∷◌, [], ◌%◌, ◌<◌, length, map, slice_get, Some, All, IfOk, OnOk, OnErr};
 ghost use Rattle.std.specs.List.Sorted.{IsStrictlyIncreasing};
-ghost use Rattle.index_reader.specs.Words.{refs_of, IsList};
-ghost use Rattle.index_reader.specs.Shown.{texts_of};
+ghost use Rattle.std.specs.Prelude.{◌≡◌, ◌<◌, length, map, slice_get, Some, All, IfOk, [], ◌++◌, ◌∷◌, ◌%◌, OnOk, OnErr};
+ghost use Rattle.index_reader.specs.References.{references_in, IsList};
+ghost use Rattle.index_reader.specs.Seen.{bytes_of};
 
-use crate::entries::Entries;
-use crate::table::content_at;
+use crate::postings::{PostingsList, slice_at};
 use std::alloc::{AllocError, Global};
 use std::marker::Model;
 
 /// Where the references of a list stand.
 #[derive(Clone, Copy, Debug)]
-struct Place {
+struct ListSpan {
     start: usize,
     end: usize,
 }
@@ -21,7 +20,7 @@ struct Place {
 #[derive(Debug, Drop)]
 pub struct Lists {
     bytes: Vec<u8>,
-    places: Vec<Place>,
+    spans: Vec<ListSpan>,
 }
 
 impl Model for Lists {
@@ -29,11 +28,11 @@ impl Model for Lists {
 
     ghost Value = { List (List ℕ) };
 
-    ghost use Rattle.index_reader.specs.Held.{lists_at, AreHeld};
+    ghost use Rattle.index_reader.specs.KeptLists.{kept_lists_at, AreHeld};
 
-    ghost view = { λ l. lists_at l.bytes.items l.places.items };
+    ghost view = { λ l. kept_lists_at l.bytes.items l.spans.items };
 
-    ghost invariant = { λ l. AreHeld l.bytes.items l.places.items };
+    ghost invariant = { λ l. AreHeld l.bytes.items l.spans.items };
 }
 
 impl Lists {
@@ -43,44 +42,44 @@ impl Lists {
     {
         Lists {
             bytes: Vec::new(alloc),
-            places: Vec::new(alloc),
+            spans: Vec::new(alloc),
         }
     }
 
     /// Adds a list at the end. An `Err` changes nothing.
     pub fn push(&mut self, list: &[u8]) -> Result<(), AllocError>
         requires whole { length list.now % 4 ≡ 0 }
-        requires increasing { IsStrictlyIncreasing (refs_of list.now) }
-        ensures ok { OnOk result (self.new ≡ self.old ++ refs_of list.now ∷ []) }
+        requires increasing { IsStrictlyIncreasing (references_in list.now) }
+        ensures ok { OnOk result (self.new ≡ self.old ++ references_in list.now ∷ []) }
         ensures err { OnErr result (self.new ≡ self.old) }
     {
         let start = self.bytes.len();
         self.bytes.extend_from_slice(list)?;
         let end = self.bytes.len();
-        self.places.push(Place { start, end })?;
+        self.spans.push(ListSpan { start, end })?;
         Ok(())
     }
 
     /// The list at a place. None of it is read yet.
-    pub fn entries_at(&self, i: usize) -> Entries<'_>
+    pub fn entries_at(&self, i: usize) -> PostingsList<'_>
         requires { i < length self.now }
         ensures list { slice_get self.now i ≡ Some result.0 }
         ensures unread { result.1 ≡ 0 }
         ensures increasing { IsStrictlyIncreasing result.0 }
     {
-        let place = self.places[i];
-        Entries::new(&self.bytes[place.start..place.end])
+        let span = self.spans[i];
+        PostingsList::new(&self.bytes[span.start..span.end])
     }
 }
 
 /// A copy of lists.
-pub fn kept(alloc: Global, lists: &[&[u8]]) -> Result<Lists, AllocError>
+pub fn copy_lists(alloc: Global, lists: &[&[u8]]) -> Result<Lists, AllocError>
     requires { All (λ l. IsList l.now) lists.now }
-    ensures { IfOk result (λ l. l ≡ map refs_of (texts_of lists.now)) }
+    ensures { IfOk result (λ l. l ≡ map references_in (bytes_of lists.now)) }
 {
-    let mut kept = Lists::new(alloc);
+    let mut copy = Lists::new(alloc);
     for at in 0..lists.len() {
-        kept.push(content_at(lists, at))?;
+        copy.push(slice_at(lists, at))?;
     }
-    Ok(kept)
+    Ok(copy)
 }

@@ -1,18 +1,18 @@
-//! Series as they are kept.
+//! The series of an index, as they are kept.
 
-ghost use Rattle.std.specs.Prelude.{◌≡◌, ◌+◌, ◌<◌, ◌≤◌, ◌^◌, ℕ, length, get_or, slice_get, slice_range, string_bytes, Some, All, IfOk};
-ghost use Rattle.labels.specs.Pairs.{texts_of};
+ghost use Rattle.std.specs.Prelude.{◌≡◌, ◌<◌, ◌^◌, length, slice_range, All, IfOk};
 ghost use Rattle.labels.specs.LabelSets.{IsLabelSet};
-ghost use Rattle.index_reader.specs.Seen.{places};
-ghost use Rattle.index_reader.specs.Flat.{AllIn, bodies_in};
-ghost use Rattle.index_reader.specs.Agreement.{strings_of};
+ghost use Rattle.labels.specs.Pairs.{texts_of};
+ghost use Rattle.index_reader.specs.CheckedFile.{bodies_seen, symbol_texts};
+ghost use Rattle.index_reader.specs.FlatBodies.{AllIn};
 ghost use Rattle.index_reader.specs.Indexes.{text_of, named, series_of};
-ghost use Rattle.index_reader.specs.Kept.{all_in, AreWithin, AreInTable, AreLabelSets, of_row};
+ghost use Rattle.index_reader.specs.KeptIndex.{all_in, AreInTable, AllInTable, AreWithin, AreLabelSets, of_row};
+ghost use Rattle.index_reader.specs.Seen.{entries_seen};
 
-use crate::agreement::reference_at;
 use crate::bodies::{Bodies, Row, row_at};
-use crate::keys::{key_in, text_in};
-use crate::reading::Entry;
+use crate::keys::key_in;
+use crate::series_entries::{SeriesEntry, reference_at};
+use crate::symbols::{Symbols, text_in};
 use labels::{LabelSet, SeriesRef};
 use std::alloc::{AllocError, Global};
 
@@ -27,9 +27,10 @@ pub struct Series {
 }
 
 // The name and the value of a label.
-fn pair_of(symbols: &[String], label: (u32, u32)) -> (&str, &str)
-    requires { (label.0 < length symbols.now) × (label.1 < length symbols.now) }
-    ensures { (result.0.now, result.1.now) ≡ text_of (strings_of symbols.now) label }
+fn pair_of(symbols: &Symbols, label: (u32, u32)) -> (&str, &str)
+    requires { (label.0 < length symbols.now.texts.items)
+        × (label.1 < length symbols.now.texts.items) }
+    ensures { (result.0.now, result.1.now) ≡ text_of (symbol_texts symbols.now) label }
 {
     (
         text_in(symbols, label.0 as usize),
@@ -40,11 +41,12 @@ fn pair_of(symbols: &[String], label: (u32, u32)) -> (&str, &str)
 // The names and the values of labels.
 fn pairs_of<'a>(
     alloc: Global,
-    symbols: &'a [String],
+    symbols: &'a Symbols,
     labels: &[(u32, u32)],
 ) -> Result<Vec<(&'a str, &'a str)>, AllocError>
-    requires { AreInTable (strings_of symbols.now) labels.now }
-    ensures { IfOk result (λ pairs. texts_of pairs.items ≡ named (strings_of symbols.now) labels.now) }
+    requires { AreInTable (symbol_texts symbols.now) labels.now }
+    ensures { IfOk result
+        (λ pairs. texts_of pairs.items ≡ named (symbol_texts symbols.now) labels.now) }
 {
     let mut pairs = Vec::with_capacity(alloc, labels.len())?;
     for at in 0..labels.len() {
@@ -57,12 +59,12 @@ fn pairs_of<'a>(
 /// The label set of labels.
 pub fn label_set_of(
     alloc: Global,
-    symbols: &[String],
+    symbols: &Symbols,
     labels: &[(u32, u32)],
 ) -> Result<LabelSet, AllocError>
-    requires inside { AreInTable (strings_of symbols.now) labels.now }
-    requires labelled { IsLabelSet (named (strings_of symbols.now) labels.now) }
-    ensures { IfOk result (λ l. l ≡ named (strings_of symbols.now) labels.now) }
+    requires inside { AreInTable (symbol_texts symbols.now) labels.now }
+    requires labelled { IsLabelSet (named (symbol_texts symbols.now) labels.now) }
+    ensures { IfOk result (λ l. l ≡ named (symbol_texts symbols.now) labels.now) }
 {
     let pairs = pairs_of(alloc, symbols, labels)?;
     LabelSet::of_sorted_texts(alloc, &pairs)
@@ -84,17 +86,23 @@ fn of_row(row: Row, reference: u32) -> Series
 /// The series of all bodies. No label set is made.
 pub fn series_of(
     alloc: Global,
-    symbols: &[String],
+    symbols: &Symbols,
     bodies: &Bodies,
-    entries: &[Entry<'_>],
+    entries: &[SeriesEntry<'_>],
 ) -> Result<Vec<Series>, AllocError>
     requires within { AllIn bodies.now.labels.items bodies.now.chunks.items bodies.now.rows.items }
-    requires inside { All (λ r. AreInTable (strings_of symbols.now) (slice_range bodies.now.labels.items r.labels_start r.labels_end)) bodies.now.rows.items }
-    requires labelled { AreLabelSets (strings_of symbols.now) bodies.now.labels.items bodies.now.rows.items }
+    requires inside { AllInTable (symbol_texts symbols.now)
+        bodies.now.labels.items bodies.now.rows.items }
+    requires labelled { AreLabelSets (symbol_texts symbols.now)
+        bodies.now.labels.items bodies.now.rows.items }
     requires small { All (λ e. e.offset < 2 ^ 32) entries.now }
     requires counted { length bodies.now.rows.items ≡ length entries.now }
-    ensures exact { IfOk result (λ v. all_in (strings_of symbols.now) bodies.now.labels.items bodies.now.chunks.items v.items ≡ series_of (strings_of symbols.now) (places entries.now) (bodies_in bodies.now.labels.items bodies.now.chunks.items bodies.now.rows.items)) }
-    ensures within { IfOk result (λ v. AreWithin (strings_of symbols.now) bodies.now.labels.items bodies.now.chunks.items v.items) }
+    ensures exact { IfOk result (λ v.
+        all_in (symbol_texts symbols.now) bodies.now.labels.items bodies.now.chunks.items v.items
+        ≡ series_of (symbol_texts symbols.now) (entries_seen entries.now)
+        (bodies_seen bodies.now)) }
+    ensures within { IfOk result (λ v. AreWithin (symbol_texts symbols.now)
+        bodies.now.labels.items bodies.now.chunks.items v.items) }
 {
     let mut series = Vec::with_capacity(alloc, bodies.rows.len())?;
     for at in 0..bodies.rows.len() {

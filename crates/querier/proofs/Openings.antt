@@ -1,7 +1,7 @@
 -- The blocks of the directories so far, and of one more; and which directory is the first at fault.
-use Rattle.std.proofs.Common.{◌≡◌, ℕ, ◌+◌, ◌<◌, ℤ, List, [], ◌∷◌, ◌++◌, take, drop, length, get_or, map, Bor}
+use Rattle.std.proofs.Common.{◌≡◌, ℕ, ◌+◌, ◌<◌, ℤ, List, [], ◌∷◌, ◌++◌, append_assoc, refl, sym, ap, subst, ◌∙◌, take, drop, length, get_or, map, arith, Bor}
 use Rattle.std.specs.List.{AllZip}
-use Rattle.std.proofs.lemmas.List.{map-append, length-map}
+use Rattle.std.proofs.lemmas.List.{map-append, length-map, take-append-drop}
 use Rattle.std.proofs.lemmas.Slice.Zip.{AllZip-long}
 use Rattle.labels.specs.Parts.{Part}
 use Rattle.block.specs.Blocks.{Shown}
@@ -71,8 +71,9 @@ module _ (reads : Reads) (directory : List ℕ) (files : BlockFiles) (read : Are
 
 module _ (reads : Reads) (texts : List (Bor (List ℕ))) (i : ℕ) (d : Bor (List ℕ)) (blocks : List BlockPart) (within : i < length texts)
     (opened : AreBlocksAt reads (take i (paths_of texts)) blocks) where
-  first_at : (fault : Fault) → IsBlockFault reads (get_or texts i d).now fault → IsFirstFault reads (paths_of texts) fault
-  first_at fault h = record {
+  -- the next of the directories is the first at fault
+  pub first_fault : (fault : Fault) → IsBlockFault reads (get_or texts i d).now fault → IsFirstFault reads (paths_of texts) fault
+  first_fault fault h = record {
     before = take i (paths_of texts);
     directory = (get_or texts i d).now;
     after = drop (i + 1) (paths_of texts);
@@ -82,21 +83,81 @@ module _ (reads : Reads) (texts : List (Bor (List ℕ))) (i : ℕ) (d : Bor (Lis
     at = h;
   }
 
-  -- the next of the directories is the first at fault
-  pub first_fault : (fault : Fault) → IsBlockFault reads (get_or texts i d).now fault → IsOpeningFault reads (paths_of texts) fault
-  first_fault (CannotRead path) h = first_at (CannotRead path) h
-  first_fault (Refused (Block error)) h = first_at (Refused (Block error)) h
-  first_fault (Refused (Open store.Limit)) h = absurd h
-  first_fault (Refused (Open store.BadPasses)) h = h
-  first_fault (Refused (Open store.Unavailable)) h = h
-  first_fault (Refused (Open store.Memory)) h = h
-  first_fault (Refused (Snapshot error)) h = h
-  first_fault (Refused (Selector error)) h = h
-  first_fault (Refused (Query error)) h = h
-  first_fault (Refused (Labels error)) h = h
-  first_fault (Refused (Matcher error)) h = h
-  first_fault (Refused (Commit error)) h = h
-  first_fault (Words error) h = h
-  first_fault CannotWrite h = h
-  first_fault (CannotListen port) h = h
-  first_fault Memory h = h
+  -- memory runs out when one of the directories was opened
+  pub out_of_memory : (block : Shown) → IsBlockAt reads (get_or texts i d).now (part_in block) → IsFirstFault reads (paths_of texts) Memory
+  out_of_memory block one = first_fault Memory tt
+
+AllZip_both : {A B : Type 0} (R : A → B → Type 0) (xs us : List A) (ys vs : List B) → AllZip R xs ys → AllZip R us vs → AllZip R (xs ++ us) (ys ++ vs)
+AllZip_both R [] us [] vs front back = back
+AllZip_both R [] us (y ∷ ys) vs front back = absurd front
+AllZip_both R (x ∷ xs) us [] vs front back = absurd front
+AllZip_both R (x ∷ xs) us (y ∷ ys) vs front back = (front.0, AllZip_both R xs us ys vs front.1 back)
+
+-- the paths of a run of directories and of the rest
+pub paths_of_both : (texts : List (Bor (List ℕ))) (n : ℕ) → paths_of (take n texts) ++ paths_of (drop n texts) ≡ paths_of texts
+paths_of_both texts n = sym (map-append (λ (text : Bor (List ℕ)). text.now) (take n texts) (drop n texts)) ∙ ap paths_of (take-append-drop n texts)
+
+-- the blocks of a run of directories and of the rest
+pub both_opened : (reads : Reads) (texts : List (Bor (List ℕ))) (n : ℕ) (front back : List Shown) → AreBlocksAt reads (paths_of (take n texts)) (map part_in front)
+    → AreBlocksAt reads (paths_of (drop n texts)) (map part_in back) → AreBlocksAt reads (paths_of texts) (map part_in (front ++ back))
+both_opened reads texts n front back first second =
+    subst (λ (directories : List (List ℕ)). AreBlocksAt reads directories (map part_in (front ++ back))) (paths_of_both texts n)
+    (subst (λ (blocks : List BlockPart). AreBlocksAt reads (paths_of (take n texts) ++ paths_of (drop n texts)) blocks) (sym (map-append part_in front back))
+    (AllZip_both {A = List ℕ} {B = BlockPart} (IsBlockAt reads) (paths_of (take n texts)) (paths_of (drop n texts)) (map part_in front) (map part_in back) first second))
+
+-- the first at fault of a run of directories is that of all
+pub fault_in_front : (reads : Reads) (texts : List (Bor (List ℕ))) (n : ℕ) (fault : Fault) → IsFirstFault reads (paths_of (take n texts)) fault → IsFirstFault reads (paths_of texts) fault
+fault_in_front reads texts n fault h = record {
+  before = h.before;
+  directory = h.directory;
+  after = h.after ++ paths_of (drop n texts);
+  order = sym (paths_of_both texts n) ∙ ap (λ (l : List (List ℕ)). l ++ paths_of (drop n texts)) h.order ∙ append_assoc h.before (h.directory ∷ h.after) (paths_of (drop n texts));
+  blocks = h.blocks;
+  opened = h.opened;
+  at = h.at;
+}
+
+-- where a run of directories was opened, the first at fault of the rest is that of all
+pub fault_in_back : (reads : Reads) (texts : List (Bor (List ℕ))) (n : ℕ) (blocks : List Shown) (fault : Fault) → AreBlocksAt reads (paths_of (take n texts)) (map part_in blocks)
+    → IsFirstFault reads (paths_of (drop n texts)) fault → IsFirstFault reads (paths_of texts) fault
+fault_in_back reads texts n blocks fault opened h = record {
+  before = paths_of (take n texts) ++ h.before;
+  directory = h.directory;
+  after = h.after;
+  order = sym (paths_of_both texts n) ∙ ap (λ (l : List (List ℕ)). paths_of (take n texts) ++ l) h.order ∙ sym (append_assoc (paths_of (take n texts)) h.before (h.directory ∷ h.after));
+  blocks = map part_in blocks ++ h.blocks;
+  opened = AllZip_both {A = List ℕ} {B = BlockPart} (IsBlockAt reads) (paths_of (take n texts)) h.before (map part_in blocks) h.blocks opened h.opened;
+  at = h.at;
+}
+
+-- where memory runs out, it may be at the first directory
+pub fault_at_first : (reads : Reads) (texts : List (Bor (List ℕ))) → 0 < length texts → IsFirstFault reads (paths_of texts) Memory
+fault_at_first reads [] some = let none : ⊥ = omega (arith, some) in absurd none
+fault_at_first reads (text ∷ texts) some = record {
+  before = [];
+  directory = text.now;
+  after = paths_of texts;
+  order = refl;
+  blocks = [];
+  opened = tt;
+  at = tt;
+}
+
+-- the first of the directories at fault keeps all from being opened
+pub first_is_opening : (reads : Reads) (directories : List (List ℕ)) (fault : Fault) → IsFirstFault reads directories fault → IsOpeningFault reads directories fault
+first_is_opening reads directories (CannotRead path) h = h
+first_is_opening reads directories (Refused (Block error)) h = h
+first_is_opening reads directories (Refused (Open store.Limit)) h = absurd h.at
+first_is_opening reads directories (Refused (Open store.BadPasses)) h = h.at
+first_is_opening reads directories (Refused (Open store.Unavailable)) h = h.at
+first_is_opening reads directories (Refused (Open store.Memory)) h = h.at
+first_is_opening reads directories (Refused (Snapshot error)) h = h.at
+first_is_opening reads directories (Refused (Selector error)) h = h.at
+first_is_opening reads directories (Refused (Query error)) h = h.at
+first_is_opening reads directories (Refused (Labels error)) h = h.at
+first_is_opening reads directories (Refused (Matcher error)) h = h.at
+first_is_opening reads directories (Refused (Commit error)) h = h.at
+first_is_opening reads directories (Words error) h = h.at
+first_is_opening reads directories CannotWrite h = h.at
+first_is_opening reads directories (CannotListen port) h = h.at
+first_is_opening reads directories Memory h = tt

@@ -6,6 +6,7 @@ pub mod Opening
 pub mod Selecting
 pub mod Lines
 pub mod Sending
+pub mod Indexing
 pub mod Reading
 pub mod Judging
 pub mod Checking

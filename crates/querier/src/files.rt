@@ -1,12 +1,17 @@
 //! The files of a block, read from the host's file system or from memory.
 
 ghost use Rattle.std.specs.Prelude.{◌≡◌, ◌≤◌, ◌+◌, ℕ, List, Option, length, take, string_bytes, IfOk, IfErr, IfSome};
+ghost use Rattle.std.specs.Thread.{IsSync};
+ghost use Rattle.querier.specs.Indexing.{IsOpened};
+ghost use Rattle.querier.specs.declared.files.FileName.TheVariants as file_name;
 ghost use Rattle.querier.specs.Reading.{limit_of, path_of, text_of, AreFirst, AreRead, IsRead, IsReadFailure, IsFileFault, IsReadingFault};
 
 use crate::fault::Fault;
+use index_reader::{Index, IndexError};
 use std::alloc::{AllocError, Global};
 use std::fs::{File, OpenFile};
 use std::io::{self, ErrorKind, Read};
+use std::thread::{Threads, join};
 
 /// Why a file is not read.
 #[derive(Clone, Copy, Debug, PartialEq, Eq, Drop)]
@@ -17,8 +22,8 @@ pub enum ReadError {
     Memory,
 }
 
-/// What gives the bytes of files: the file system of the host, or files in memory.
-pub trait ReadFiles {
+/// What gives the bytes of files to any thread: the file system of the host, or files in memory.
+pub trait ReadFiles: Sync {
     /// What reading a path may find: the bytes of a file, or nothing where it cannot be read.
     ghost may_read: { Self → List ℕ → Option (List ℕ) → Type 0 };
 
@@ -49,7 +54,7 @@ fn first_of_file(alloc: Global, rt: &HostRuntime, path: &str, most: usize) -> io
     ensures { IfOk result (λ bytes. length bytes.items ≤ most) }
 {
     let file = File::open(rt, path)?;
-    let room = file.metadata()?.len().min(most as u64);
+    let room = file.metadata()?.len().saturating_add(1).min(most as u64);
     first_of(alloc, file, room as usize, most)
 }
 
@@ -101,11 +106,13 @@ impl FileName {
     }
 }
 
-/// The bytes of the files of a block. Of a file that is longer than it may be, they are the first that show it.
+/// The bytes of the files of a block, and what opening its index gave. Of a file that is longer
+/// than it may be, they are the first that show it.
 #[derive(Drop)]
 pub struct BlockFiles {
     pub meta: Vec<u8>,
     pub index: Vec<u8>,
+    pub opened: Result<Index, IndexError>,
     pub chunks: Vec<u8>,
     pub tombstones: Vec<u8>,
 }
@@ -135,23 +142,51 @@ fn read_one<F: ReadFiles>(
     }
 }
 
-/// Reads the files of the block in a directory, each once: the meta, the index, the chunks and the tombstones, up to
-/// the first that cannot be read.
-pub fn read_block<F: ReadFiles>(
+/// Reads the index of the block in a directory, and opens it.
+fn read_index<F: ReadFiles>(
+    alloc: Global,
+    files: &F,
+    directory: &str,
+) -> Result<(Vec<u8>, Result<Index, IndexError>), Fault>
+    ensures ok { IfOk result (λ read. IsRead (F.may_read files.now) directory.now file_name.Index read.0.items) }
+    ensures opened { IfOk result (λ read. IsOpened read.0.items read.1) }
+    ensures err { IfErr result (λ fault. IsFileFault (F.may_read files.now) directory.now file_name.Index fault) }
+{
+    let index = read_one(alloc, files, directory, FileName::Index)?;
+    let opened = Index::open(alloc, index.as_slice());
+    Ok((index, opened))
+}
+
+/// Reads the files of the block in a directory, each once: the meta, the index, the chunks and the
+/// tombstones, up to the first that cannot be read. The index is opened while a thread reads the
+/// chunks.
+pub fn read_block<T: Threads + Sync, F: ReadFiles>(
+    rt: &T,
     alloc: Global,
     files: &F,
     directory: &str,
 ) -> Result<BlockFiles, Fault>
     ensures ok { IfOk result (λ block. AreRead (F.may_read files.now) directory.now block) }
+    ensures opened { IfOk result (λ block. IsOpened block.index.items block.opened) }
     ensures err { IfErr result (λ fault. IsReadingFault (F.may_read files.now) directory.now fault) }
 {
     let meta = read_one(alloc, files, directory, FileName::Meta)?;
-    let index = read_one(alloc, files, directory, FileName::Index)?;
-    let chunks = read_one(alloc, files, directory, FileName::Chunks)?;
+    let apart = || -> Result<Vec<u8>, Fault>
+        requires { IsSync F.row }
+        ensures { (IfOk result (λ bytes. IsRead (F.may_read files.entry.now) directory.entry.now file_name.Chunks bytes.items)) × (IfErr result (λ fault. IsFileFault (F.may_read files.entry.now) directory.entry.now file_name.Chunks fault)) }
+    { read_one(alloc, files, directory, FileName::Chunks) };
+    let here = || -> Result<(Vec<u8>, Result<Index, IndexError>), Fault>
+        requires { IsSync F.row }
+        ensures { (IfOk result (λ read. IsRead (F.may_read files.entry.now) directory.entry.now file_name.Index read.0.items)) × (IfOk result (λ read. IsOpened read.0.items read.1)) × (IfErr result (λ fault. IsFileFault (F.may_read files.entry.now) directory.entry.now file_name.Index fault)) }
+    { read_index(alloc, files, directory) };
+    let (chunks, index) = join(rt, apart, here);
+    let (index, opened) = index?;
+    let chunks = chunks?;
     let tombstones = read_one(alloc, files, directory, FileName::Tombstones)?;
     Ok(BlockFiles {
         meta,
         index,
+        opened,
         chunks,
         tombstones,
     })

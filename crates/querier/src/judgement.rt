@@ -4,6 +4,7 @@ ghost use Rattle.std.specs.Prelude.{◌≡◌, ℤ, IfOk, Ok};
 ghost use Rattle.labels.specs.Parts.{Part};
 ghost use Rattle.block.specs.Metas.{or_meta, range_said};
 ghost use Rattle.block.specs.Outcome.{Gives};
+ghost use Rattle.querier.specs.Indexing.{IsOpened};
 ghost use Rattle.querier.specs.Judging.{block_in, bytes_of, IsJudged, IsRefusalOf, IsSpelledAs};
 ghost use Rattle.querier.specs.Checking.{is_refused};
 
@@ -57,6 +58,7 @@ pub fn open<T: Threads + Sync>(
     alloc: Global,
     files: BlockFiles,
 ) -> Result<Block, BlockError>
+    requires opened { IsOpened files.index.items files.opened }
     ensures exact { Gives (λ b. b) result (block_in (or_meta (range_said files.meta.items)) (bytes_of files)) }
     ensures found { IfOk result (λ b. IsSpelledAs (bytes_of files) b.range b.part) }
     ensures only { (range : ℤ × ℤ) (part : Part) → IsSpelledAs (bytes_of files) range part → Gives (λ b. b.part) result (Ok part) }
@@ -64,16 +66,18 @@ pub fn open<T: Threads + Sync>(
     let BlockFiles {
         meta,
         index,
+        opened,
         chunks,
         tombstones,
     } = files;
     let range = Range::read_meta(alloc, meta.as_slice())?;
-    Block::open_by(
+    Block::open_with(
         rt,
         THREADS,
         alloc,
         range,
         index.as_slice(),
+        opened,
         chunks,
         tombstones.as_slice(),
     )
@@ -95,6 +99,7 @@ pub fn judge<T: Threads + Sync>(
     alloc: Global,
     files: BlockFiles,
 ) -> Result<Judgement, AllocError>
+    requires { IsOpened files.index.items files.opened }
     ensures { IfOk result (λ judgement. IsJudged (bytes_of files) judgement) }
 {
     match open(rt, alloc, files) {

@@ -57,7 +57,7 @@ fn judge_at<T: Threads + Sync, F: ReadFiles>(
     ensures line { IfOk result (λ told. string_bytes told.1 ≡ judgement_line directory.now told.0) }
     ensures err { IfErr result (λ fault. IsReadingFault (F.may_read files.now) directory.now fault) }
 {
-    let block = read_block(alloc, files, directory)?;
+    let block = read_block(rt, alloc, files, directory)?;
     let judgement = judge(rt, alloc, block)?;
     let line = line_of(alloc, directory, &judgement)?;
     Ok((judgement, line))

@@ -10,6 +10,7 @@ mod serving;
 
 use self::directories::DIRECTORIES;
 use self::rows::{Told, told_by, words_of};
+use self::selections::A_THEN_B;
 use crate::demo::{first_batch, query, second_batch};
 use crate::fault::Fault;
 use crate::run::{Ending, run};
@@ -255,22 +256,36 @@ fn a_call_refused_memory_changes_nothing_and_answers_when_made_again(rt: HostRun
     assert_eq!(rt; answers_again(rt.alloc()), Some([true, true, true]));
 }
 
-/// Whether a run of the demo is whole, or told that a writer refused, or that there is no memory.
-fn is_whole_or_refused(told: &Told) -> bool {
+/// Whether a run wrote so many bytes, or told that a writer refused, or that there is no memory.
+fn is_whole_or_refused(told: &Told, whole: usize) -> bool {
     match told.ending.status {
-        0 => told.out.len() == 518,
+        0 => told.out.len() == whole,
         3 => told.err.as_slice() == b"cannot write\n".as_slice(),
         4 => told.out.is_empty() && told.err.as_slice() == b"no memory\n".as_slice(),
         _ => false,
     }
 }
 
+/// Whether a run with these words is whole or refused.
+fn is_run_or_refused<
+    Q: Wait + Threads + Net<Listener = TcpListener, Stream = TcpStream> + Clock + Eprint + Sync,
+>(rt: &Q, alloc: Global, words: &[&str], whole: usize) -> bool {
+    let told = match told_by(rt, alloc, &DIRECTORIES, words) {
+        Err(_) => told_by(rt, alloc, &DIRECTORIES, words),
+        told => told,
+    };
+    told.is_ok_and(|told| is_whole_or_refused(&told, whole))
+}
+
 /// `tests/allocations` runs this test with each of its allocations refused in turn.
 #[test]
 fn a_program_refused_memory_says_so(rt: HostRuntime) {
-    let told = match told_by(&rt, rt.alloc(), &DIRECTORIES, &["demo"]) {
-        Err(_) => told_by(&rt, rt.alloc(), &DIRECTORIES, &["demo"]),
-        told => told,
-    };
-    assert!(rt; told.is_ok_and(|told| is_whole_or_refused(&told)));
+    assert!(rt; is_run_or_refused(&rt, rt.alloc(), &["demo"], 518));
+}
+
+/// `tests/allocations` runs this test with each of its allocations refused in turn: those of two workers, of the merge
+/// and of the text.
+#[test]
+fn a_selection_refused_memory_says_so(rt: HostRuntime) {
+    assert!(rt; is_run_or_refused(&rt, rt.alloc(), &["select", "up", "a", "b"], A_THEN_B.len()));
 }

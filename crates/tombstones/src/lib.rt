@@ -24,8 +24,6 @@
 mod deletion;
 mod error;
 mod file;
-#[cfg(test)]
-mod tests;
 mod tombstones;
 
 pub use deletion::Deletion;

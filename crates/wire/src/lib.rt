@@ -27,8 +27,6 @@ mod cut;
 mod error;
 mod put;
 mod tables;
-#[cfg(test)]
-mod tests;
 
 pub use checksum::crc32c;
 pub use cut::Cut;

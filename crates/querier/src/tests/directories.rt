@@ -198,6 +198,7 @@ const READ: &[Directory] = &[
         [SHORT_META, LYING_INDEX, CHUNKS, TEN_DELETED],
     ),
     ("torn", [OTHER_META, INDEX, &[], NOTHING_DELETED]),
+    ("bare", [META, &[], &[], &[]]),
     ("a", [META, A_INDEX, A_CHUNKS, NOTHING_DELETED]),
     ("b", [META, B_INDEX, B_CHUNKS, NOTHING_DELETED]),
 ];

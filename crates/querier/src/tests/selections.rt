@@ -1,6 +1,6 @@
 //! Selections over directories.
 
-use super::rows::{Row, first_other};
+use super::rows::{Pieced, Row, first_other, first_without};
 
 const WORKED: &str =
     "{\"parts\":[{\"intervals\":[{\"from\":4,\"until\":6,\"verdict\":0},{\"from\":6,\"until\":7,\"verdict\":\"match\"},{\"from\":7,\"until\":8,\"verdict\":\"match\"},{\"from\":8,\"until\":4294967296,\"verdict\":1}],\"part\":\"block 0\",\"rows\":[{\"labels\":{\"__name__\":\"up\",\"job\":\"a\"},\"samples\":[[10,1]]},{\"labels\":{\"__name__\":\"up\",\"job\":\"a\",\"zone\":\"x\"},\"samples\":[[10,6]]}],\"separators\":[4,6,7,8]},{\"intervals\":[],\"part\":\"head\",\"rows\":[],\"separators\":[]}],\"rows\":[{\"labels\":{\"__name__\":\"up\",\"job\":\"a\"},\"samples\":[[10,1]]},{\"labels\":{\"__name__\":\"up\",\"job\":\"a\",\"zone\":\"x\"},\"samples\":[[10,6]]}]}\n";
@@ -9,11 +9,27 @@ const WORKED: &str =
 const SKIPPED: &str =
     "{\"parts\":[{\"part\":\"block 0\",\"skipped\":true},{\"intervals\":[],\"part\":\"head\",\"rows\":[],\"separators\":[]}],\"rows\":[]}\n";
 
-const A_THEN_B: &str =
+pub const A_THEN_B: &str =
     "{\"parts\":[{\"intervals\":[{\"from\":3,\"until\":4294967296,\"verdict\":\"match\"}],\"part\":\"block 0\",\"rows\":[{\"labels\":{\"__name__\":\"up\",\"job\":\"a\"},\"samples\":[[10,1],[15,2]]}],\"separators\":[3]},{\"intervals\":[{\"from\":3,\"until\":4294967296,\"verdict\":\"match\"}],\"part\":\"block 1\",\"rows\":[{\"labels\":{\"__name__\":\"up\",\"job\":\"a\"},\"samples\":[[10,9]]}],\"separators\":[3]},{\"intervals\":[],\"part\":\"head\",\"rows\":[],\"separators\":[]}],\"rows\":[{\"labels\":{\"__name__\":\"up\",\"job\":\"a\"},\"samples\":[[10,9],[15,2]]}]}\n";
 
 const B_THEN_A: &str =
     "{\"parts\":[{\"intervals\":[{\"from\":3,\"until\":4294967296,\"verdict\":\"match\"}],\"part\":\"block 0\",\"rows\":[{\"labels\":{\"__name__\":\"up\",\"job\":\"a\"},\"samples\":[[10,9]]}],\"separators\":[3]},{\"intervals\":[{\"from\":3,\"until\":4294967296,\"verdict\":\"match\"}],\"part\":\"block 1\",\"rows\":[{\"labels\":{\"__name__\":\"up\",\"job\":\"a\"},\"samples\":[[10,1],[15,2]]}],\"separators\":[3]},{\"intervals\":[],\"part\":\"head\",\"rows\":[],\"separators\":[]}],\"rows\":[{\"labels\":{\"__name__\":\"up\",\"job\":\"a\"},\"samples\":[[10,1],[15,2]]}]}\n";
+
+/// As many directories as a store has blocks, each a good one.
+const SIXTY_THREE: &[&str] = &[
+    "select", "up", "a", "b", "a", "b", "a", "b", "a", "b", "a", "b", "a", "b", "a", "b", "a", "b",
+    "a", "b", "a", "b", "a", "b", "a", "b", "a", "b", "a", "b", "a", "b", "a", "b", "a", "b", "a",
+    "b", "a", "b", "a", "b", "a", "b", "a", "b", "a", "b", "a", "b", "a", "b", "a", "b", "a", "b",
+    "a", "b", "a", "b", "a", "b", "a", "b", "a",
+];
+
+/// Of each sample the last of the directories that has it is told.
+const OF_MANY: &[Pieced] = &[(
+    SIXTY_THREE,
+    0,
+    ",\"part\":\"block 62\",\"rows\":[{\"labels\":{\"__name__\":\"up\",\"job\":\"a\"},\"samples\":[[10,1],[15,2]]}],\"separators\":[3]},{\"intervals\":[],\"part\":\"head\",\"rows\":[],\"separators\":[]}],\"rows\":[{\"labels\":{\"__name__\":\"up\",\"job\":\"a\"},\"samples\":[[10,1],[15,2]]}]}\n",
+    "",
+)];
 
 /// More directories than a store has blocks, each a good one.
 const MANY: &[&str] = &[
@@ -60,6 +76,19 @@ const AT_FAULT: &[Row] = &[
     ),
     (&["select", "up", "lying", "torn"], 1, "", "refused I14\n"),
     (
+        &["select", "up", "good", "short", "torn", "lying"],
+        1,
+        "",
+        "refused B1\n",
+    ),
+    (
+        &["select", "up", "good", "good", "torn", "lying"],
+        3,
+        "",
+        "cannot read torn/chunks/000001\n",
+    ),
+    (&["select", "up", "bare"], 3, "", "cannot read bare/index\n"),
+    (
         &["select", "up", "torn", "lying"],
         3,
         "",
@@ -89,4 +118,9 @@ fn a_selection_is_answered_over_the_blocks_in_their_order(rt: HostRuntime) {
 #[test]
 fn the_first_fault_of_a_selection_is_told_and_nothing_is_printed(rt: HostRuntime) {
     assert_eq!(rt; first_other(&rt, rt.alloc(), AT_FAULT), None);
+}
+
+#[test]
+fn a_selection_is_answered_over_as_many_blocks_as_a_store_has(rt: HostRuntime) {
+    assert_eq!(rt; first_without(&rt, rt.alloc(), OF_MANY), None);
 }

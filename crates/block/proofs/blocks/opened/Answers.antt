@@ -9,7 +9,7 @@ use Rattle.block.proofs.Chunked.{sound_of}
 use Rattle.block.proofs.Found.{block_spelled}
 use Rattle.block.proofs.Refusals.{block_fails_index, block_fails_chunks, block_fails_stored, block_fails_deleted, block_outside, block_opens}
 use Rattle.index_reader.specs.Indexes.{IsConsistent}
-use Rattle.index_reader.specs.Opening.{indexed_of}
+use Rattle.index_reader.specs.Checks.{indexed_of}
 use Rattle.index_reader.specs.Outcome as index_outcome
 use Rattle.index_reader.specs.Spelled.{IsIndex}
 use Rattle.block.proofs.blocks.opened.Goals as goal

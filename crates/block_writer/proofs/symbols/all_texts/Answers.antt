@@ -1,5 +1,5 @@
 use Rattle.std.proofs.Common.{◌++◌, ap, subst, ◌∙◌, arith}
-use Rattle.index_reader.specs.Seen.{texts}
+use Rattle.index_reader.specs.Seen.{bytes_of}
 use Rattle.labels.specs.Labels.{Labels}
 use Rattle.labels.specs.Rows.{Row}
 use Rattle.block_writer.specs.InUse.{label_texts}
@@ -13,8 +13,8 @@ loop-row-preserved c =
     let rows = c.args.rows.now in
     let row : Row = c.row-item.result in
     record {
-      text = flat_on (λ (r : Row). label_texts r.0) (texts c.loop-row.found.items) _ rows c.loop-row.row-index row _ (drop_read rows c.loop-row.row-index row (omega arith) c.row-item.is)
-          (c.in_ok-put_texts.ensures.text ∙ ap (λ (l : Labels). texts c.loop-row.found.items ++ label_texts l) c.labels.ensures) c.loop-row.invariant.text;
+      text = flat_on (λ (r : Row). label_texts r.0) (bytes_of c.loop-row.found.items) _ rows c.loop-row.row-index row _ (drop_read rows c.loop-row.row-index row (omega arith) c.row-item.is)
+          (c.in_ok-put_texts.ensures.text ∙ ap (λ (l : Labels). bytes_of c.loop-row.found.items ++ label_texts l) c.labels.ensures) c.loop-row.invariant.text;
       typed = all_and (λ (r : Row). AreOfTexts r.0) rows c.loop-row.row-index row (omega arith) c.row-item.is c.loop-row.invariant.typed (subst AreOfTexts c.labels.ensures c.in_ok-put_texts.ensures.typed);
     }
 

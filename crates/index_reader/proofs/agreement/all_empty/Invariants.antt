@@ -1,6 +1,7 @@
 use Rattle.std.proofs.Common.{◌≡◌, drop}
-use Rattle.index_reader.specs.Agree.{all_empty, lists_of}
+use Rattle.index_reader.specs.CarriedPairs.{all_empty}
+use Rattle.index_reader.specs.Seen.{references_in_each}
 use Rattle.index_reader.proofs.agreement.all_empty.Given as goal
 
 abbrev pub invariant-loop-rest : goal.invariant-loop-rest
-invariant-loop-rest l = all_empty (drop l.rest-index (lists_of l.rests)) ≡ all_empty (lists_of l.rests)
+invariant-loop-rest l = all_empty (drop l.rest-index (references_in_each l.rests)) ≡ all_empty (references_in_each l.rests)

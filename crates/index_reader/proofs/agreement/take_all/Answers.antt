@@ -1,13 +1,12 @@
 use Rattle.std.proofs.Common.{refl, ◌∙◌, length, arith}
 use Rattle.std.proofs.lemmas.Result.{err_from_is_err_and}
-use Rattle.index_reader.specs.Agree.{lists_of}
+use Rattle.index_reader.specs.Seen.{references_in_each, entries_seen}
 use Rattle.std.specs.Prelude.{slice_range}
 use Rattle.std.proofs.lemmas.List.{length-map}
 use Rattle.index_reader.specs.declared.bodies.Row.{Row}
-use Rattle.index_reader.specs.Seen.{places}
-use Rattle.index_reader.specs.Flat.{label_sets_in}
-use Rattle.index_reader.specs.Agreement.{references, tied}
-use Rattle.index_reader.specs.Taking.{series_taken}
+use Rattle.index_reader.specs.FlatBodies.{label_sets_in}
+use Rattle.index_reader.specs.AgreementChecks.{entry_references, carriers}
+use Rattle.index_reader.specs.SeriesWalk.{take_series}
 use Rattle.index_reader.proofs.Placing.{tied_at, length-tied}
 use Rattle.index_reader.proofs.Taken.{turn_on, turn_fails, turn_done}
 use Rattle.index_reader.proofs.agreement.take_all.Goals as goal
@@ -21,13 +20,13 @@ loop-at-init c = record {
 pub returns-in_err-take_series : goal.returns-in_err-take_series
 returns-in_err-take_series c =
     let p = err_from_is_err_and c.from_residual.result c.from_residual.ensures.1 in
-    rw (p.1, p.2) (turn_fails (series_taken c.args.keys.now) c.in_err-take_series.field-0.0 (lists_of c.loop-at.lists.items) (tied (references (places c.args.entries.now)) (label_sets_in c.args.labels.now c.args.rows.now)) c.loop-at.at _ _ (tied_at _ _ _ _ _ c.reference_at-reference.ensures c.label_set_at-carried.ensures) c.in_err-take_series.ensures.exact c.loop-at.invariant.so_far)
+    rw (p.1, p.2) (turn_fails (take_series c.args.keys.now.pairs.items) c.in_err-take_series.field-0.0 (references_in_each c.loop-at.lists.items) (carriers (entry_references (entries_seen c.args.entries.now)) (label_sets_in c.args.labels.now c.args.rows.now)) c.loop-at.at _ _ (tied_at _ _ _ _ _ c.reference_at-reference.ensures c.label_set_at-carried.ensures) c.in_err-take_series.ensures.exact c.loop-at.invariant.so_far)
 
 pub loop-at-preserved : goal.loop-at-preserved
 loop-at-preserved c = record {
   counted = c.in_ok-take_series.ensures.counted ∙ c.loop-at.invariant.counted;
-  so_far = turn_on (series_taken c.args.keys.now) (lists_of c.loop-at.lists.items) _ (tied (references (places c.args.entries.now)) (label_sets_in c.args.labels.now c.args.rows.now)) c.loop-at.at _ _ (tied_at _ _ _ _ _ c.reference_at-reference.ensures c.label_set_at-carried.ensures) c.in_ok-take_series.ensures.exact c.loop-at.invariant.so_far;
+  so_far = turn_on (take_series c.args.keys.now.pairs.items) (references_in_each c.loop-at.lists.items) _ (carriers (entry_references (entries_seen c.args.entries.now)) (label_sets_in c.args.labels.now c.args.rows.now)) c.loop-at.at _ _ (tied_at _ _ _ _ _ c.reference_at-reference.ensures c.label_set_at-carried.ensures) c.in_ok-take_series.ensures.exact c.loop-at.invariant.so_far;
 }
 
 pub returns : goal.returns
-returns c = turn_done (series_taken c.args.keys.now) (lists_of c.loop-at.lists.items) (tied (references (places c.args.entries.now)) (label_sets_in c.args.labels.now c.args.rows.now)) c.loop-at.at _ (omega (arith, length-tied (references (places c.args.entries.now)) (label_sets_in c.args.labels.now c.args.rows.now), length-map c.args.rows.now (λ (r : Row). slice_range c.args.labels.now r.labels_start r.labels_end))) c.loop-at.invariant.so_far
+returns c = turn_done (take_series c.args.keys.now.pairs.items) (references_in_each c.loop-at.lists.items) (carriers (entry_references (entries_seen c.args.entries.now)) (label_sets_in c.args.labels.now c.args.rows.now)) c.loop-at.at _ (omega (arith, length-tied (entry_references (entries_seen c.args.entries.now)) (label_sets_in c.args.labels.now c.args.rows.now), length-map c.args.rows.now (λ (r : Row). slice_range c.args.labels.now r.labels_start r.labels_end))) c.loop-at.invariant.so_far

@@ -1,14 +1,13 @@
 use Rattle.std.proofs.Common.{◌≡◌, drop, length}
-use Rattle.index_reader.specs.Seen.{places}
-use Rattle.index_reader.specs.Flat.{label_sets_in}
-use Rattle.index_reader.specs.Agree.{lists_of}
-use Rattle.index_reader.specs.Agreement.{references, tied}
-use Rattle.index_reader.specs.Taking.{in_turn, series_taken}
+use Rattle.index_reader.specs.Seen.{entries_seen, references_in_each}
+use Rattle.index_reader.specs.FlatBodies.{label_sets_in}
+use Rattle.index_reader.specs.AgreementChecks.{entry_references, carriers}
+use Rattle.index_reader.specs.SeriesWalk.{in_turn, take_series}
 use Rattle.index_reader.proofs.agreement.take_all.Given as goal
 
 abbrev pub invariant-loop-at : goal.invariant-loop-at
 invariant-loop-at l = record {
   counted : length l.lists.items ≡ length l.fn.lists.items;
-  so_far : in_turn (series_taken l.keys) (lists_of l.lists.items) (drop l.at (tied (references (places l.entries)) (label_sets_in l.labels l.rows)))
-      ≡ in_turn (series_taken l.keys) (lists_of l.fn.lists.items) (tied (references (places l.entries)) (label_sets_in l.labels l.rows));
+  so_far : in_turn (take_series l.keys.pairs.items) (references_in_each l.lists.items) (drop l.at (carriers (entry_references (entries_seen l.entries)) (label_sets_in l.labels l.rows)))
+      ≡ in_turn (take_series l.keys.pairs.items) (references_in_each l.fn.lists.items) (carriers (entry_references (entries_seen l.entries)) (label_sets_in l.labels l.rows));
 }

@@ -1,12 +1,12 @@
 use Rattle.std.proofs.Common.{◌≡◌, drop, length}
-use Rattle.index_reader.specs.Seen.{texts, places}
-use Rattle.index_reader.specs.Each.{each, behind_items}
-use Rattle.index_reader.specs.Flat.{bodies_in, AllIn, body_of_place}
+use Rattle.index_reader.specs.Seen.{bytes_of, entries_seen}
+use Rattle.index_reader.specs.Steps.{each, behind_items}
+use Rattle.index_reader.specs.FlatBodies.{bodies_in, AllIn, body_of_entry}
 use Rattle.index_reader.proofs.bodies.bodies_of.Given as goal
 
 abbrev pub invariant-loop-at : goal.invariant-loop-at
 invariant-loop-at l = record {
   inside : AllIn l.labels.items l.chunks.items l.rows.items;
   counted : length l.rows.items ≡ l.at;
-  so_far : behind_items (bodies_in l.labels.items l.chunks.items l.rows.items) (each (body_of_place (texts l.symbols)) (drop l.at (places l.entries))) ≡ each (body_of_place (texts l.symbols)) (places l.entries);
+  so_far : behind_items (bodies_in l.labels.items l.chunks.items l.rows.items) (each (body_of_entry (bytes_of l.symbols)) (drop l.at (entries_seen l.entries))) ≡ each (body_of_entry (bytes_of l.symbols)) (entries_seen l.entries);
 }

@@ -1,10 +1,10 @@
 use Rattle.std.proofs.Common.{◌≡◌, ◌<◌, ◌-◌, drop, length}
-use Rattle.index_reader.specs.Each.{rises}
-use Rattle.index_reader.specs.Flat.{is_before, label_sets_in}
+use Rattle.index_reader.specs.Layout.{rises}
+use Rattle.index_reader.specs.FlatBodies.{labels_before, label_sets_in}
 use Rattle.index_reader.proofs.bodies.is_rising.Given as goal
 
 abbrev pub invariant-loop-at : goal.invariant-loop-at
-invariant-loop-at l = (0 < l.at) × (rises is_before (drop (l.at - 1) (label_sets_in l.labels l.rows)) ≡ rises is_before (label_sets_in l.labels l.rows))
+invariant-loop-at l = (0 < l.at) × (rises labels_before (drop (l.at - 1) (label_sets_in l.labels l.rows)) ≡ rises labels_before (label_sets_in l.labels l.rows))
 
 abbrev pub decreases-loop-at : goal.decreases-loop-at
 decreases-loop-at l = length l.rows - l.at

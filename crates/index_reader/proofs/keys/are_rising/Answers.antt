@@ -1,5 +1,5 @@
 use Rattle.std.proofs.Common.{◌≡◌, ◌+◌, ◌-◌, sym, arith}
-use Rattle.index_reader.specs.Finding.{key_before}
+use Rattle.index_reader.specs.Lookups.{key_before}
 use Rattle.index_reader.proofs.Rising.{next, at_end}
 use Rattle.index_reader.proofs.keys.are_rising.Goals as goal
 

@@ -1,6 +1,6 @@
-use Rattle.index_reader.specs.Agreement.{strings_of}
+use Rattle.index_reader.specs.Seen.{strings_of}
 use Rattle.index_reader.specs.Indexes as indexes
-use Rattle.index_reader.specs.Kept.{series_in}
+use Rattle.index_reader.specs.KeptIndex.{series_in}
 use Rattle.index_reader.proofs.Placing.{mapped_at}
 use Rattle.index_reader.proofs.Held.{series_seen}
 use Rattle.index_reader.proofs.index.Index.reference_at.Goals as goal
@@ -9,4 +9,4 @@ pub returns : goal.returns
 returns c =
     let x = c.self.inside in
     let s = c.index.result.now in
-    mapped_at (λ (y : indexes.Series). y.reference) c.args.self.now.series c.args.i (series_in (strings_of x.symbols.items) x.labels.items x.chunks.items s) (series_seen (strings_of x.symbols.items) x.keys.items x.labels.items x.chunks.items x.series.items c.args.self.now c.args.i s c.self.view_is c.requires c.index.ensures)
+    mapped_at (λ (y : indexes.Series). y.reference) c.args.self.now.series c.args.i (series_in (strings_of x.symbols.texts.items) x.labels.items x.chunks.items s) (series_seen (strings_of x.symbols.texts.items) x.keys.pairs.items x.labels.items x.chunks.items x.series.items c.args.self.now c.args.i s c.self.view_is c.requires c.index.ensures)

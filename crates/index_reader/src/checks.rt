@@ -1,0 +1,109 @@
+//! All checks of an index, in their order.
+
+ghost use Rattle.std.specs.Prelude.{◌≡◌, length, IfOk};
+ghost use Rattle.index_reader.specs.CheckedFile.{bodies_seen, read_seen, IsHeldIn, IsSound};
+ghost use Rattle.index_reader.specs.Checks.{bodies_of, postings_of, read_of, indexed, IsRead};
+ghost use Rattle.index_reader.specs.FlatBodies.{AllIn};
+ghost use Rattle.index_reader.specs.Layout.{IsPlaced};
+ghost use Rattle.index_reader.specs.Outcome.{Gives};
+ghost use Rattle.index_reader.specs.Seen.{bytes_of, layout_seen, table_seen};
+ghost use Rattle.index_reader.specs.Spelled.{IsIndex};
+
+use crate::agreement::check_agreement;
+use crate::bodies::{Bodies, are_small, bodies_of, is_rising};
+use crate::error::IndexError;
+use crate::keys::Keys;
+use crate::layout::{Layout, TableOfContents, read_layout, series_end};
+use crate::offset_table::{TableEntry, table_content_of, table_of};
+use crate::postings::lists_of;
+use crate::series_entries::gaps_are_zero;
+use crate::symbols::{Symbols, copy_symbols};
+use std::alloc::Global;
+
+const MAX_SERIES: usize = 1_048_576;
+
+/// What an index holds, by symbols and in place.
+#[derive(Drop)]
+pub struct Checked<'a> {
+    pub layout: Layout<'a>,
+    pub bodies: Bodies,
+    pub symbols: Symbols,
+    pub keys: Keys,
+    pub lists: Vec<&'a [u8]>,
+}
+
+#[tactic(auto, using(crate::proofs::Sound::sets_are), unfolding(crate::specs::Checks::bodies_of))]
+fn check_bodies(alloc: Global, file: &[u8], layout: &Layout<'_>) -> Result<Bodies, IndexError>
+    requires { IsSound file.now layout.now }
+    ensures exact { Gives bodies_seen result (bodies_of file.now (layout_seen layout.now)) }
+    ensures inside { IfOk result (λ b. AllIn b.labels.items b.chunks.items b.rows.items) }
+    ensures counted { IfOk result (λ b. length b.rows.items ≡ length layout.now.entries.items) }
+{
+    let end = series_end(layout.contents) as usize;
+    let bodies = bodies_of(alloc, &layout.symbols, &layout.entries)?;
+    if !gaps_are_zero(file, layout.symbols_end, end, &layout.entries) {
+        return Err(IndexError::Series);
+    }
+    if !is_rising(&bodies.labels, &bodies.rows) {
+        return Err(IndexError::SeriesOrder);
+    }
+    Ok(bodies)
+}
+
+#[tactic(auto, unfolding(crate::specs::Checks::postings_of))]
+fn postings_of(
+    alloc: Global,
+    file: &[u8],
+    t: TableOfContents,
+) -> Result<(Vec<TableEntry<'_>>, Vec<&[u8]>), IndexError>
+    requires { IsPlaced t (length file.now) }
+    ensures exact { Gives (λ x. (table_seen x.0.items, bytes_of x.1.items)) result
+        (postings_of file.now t) }
+    ensures counted { IfOk result (λ x. length x.1.items ≡ length x.0.items) }
+{
+    let content = table_content_of(file, t)?;
+    let end = if t.label_offsets == 0 {
+        t.postings_offsets
+    } else {
+        t.label_offsets
+    };
+    let table = table_of(alloc, t.postings, end, content)?;
+    let lists = lists_of(alloc, file, end as usize, &table)?;
+    Ok((table, lists))
+}
+
+/// All checks of an index, in their order.
+#[tactic(auto, using(crate::proofs::Sound::sets_are, crate::proofs::Sound::count_is), unfolding(crate::specs::Checks::read_of))]
+pub fn check_all(alloc: Global, file: &[u8]) -> Result<Checked<'_>, IndexError>
+    ensures exact { Gives read_seen result (read_of file.now) }
+    ensures held { IfOk result (IsHeldIn file.now) }
+{
+    let layout = read_layout(alloc, file)?;
+    let bodies = check_bodies(alloc, file, &layout)?;
+    let (table, lists) = postings_of(alloc, file, layout.contents)?;
+    let symbols = copy_symbols(alloc, &layout.symbols)?;
+    let keys = check_agreement(alloc, &symbols, &table, &lists, &bodies, &layout.entries)?;
+    if bodies.rows.len() > MAX_SERIES {
+        return Err(IndexError::Limit);
+    }
+    if !are_small(&bodies.labels, &bodies.rows) {
+        return Err(IndexError::Limit);
+    }
+    Ok(Checked {
+        layout,
+        bodies,
+        symbols,
+        keys,
+        lists,
+    })
+}
+
+/// All checks, and what they leave.
+pub fn check(alloc: Global, file: &[u8]) -> Result<Checked<'_>, IndexError>
+    ensures exact { Gives read_seen result (read_of file.now) }
+    ensures held { IfOk result (IsHeldIn file.now) }
+    ensures read { IfOk result (λ c. IsRead (read_seen c)) }
+    ensures spelled { IfOk result (λ c. IsIndex file.now (indexed (read_seen c))) }
+{
+    check_all(alloc, file)
+}

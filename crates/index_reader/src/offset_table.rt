@@ -1,0 +1,182 @@
+//! The offset table: for each pair where the section of its list stands.
+
+ghost use Rattle.std.specs.List.{list_all};
+ghost use Rattle.std.specs.Prelude.{◌≡◌, ◌<◌, ◌≤◌, length, nat_lt, slice_get, Some, All, IsTrue, IfOk, nat_le, ◌&&◌};
+ghost use Rattle.index_reader.specs.Layout.{rises, IsPlaced, is_before, is_within};
+ghost use Rattle.index_reader.specs.Outcome.{Gives};
+ghost use Rattle.index_reader.specs.Seen.{table_entry_seen, table_seen};
+ghost use Rattle.index_reader.specs.Steps.{steps};
+ghost use Rattle.index_reader.specs.TableChecks.{text_at, table_entry_at, table_at, label_offsets_at, table_content_at};
+
+use crate::error::IndexError;
+use crate::layout::{TableOfContents, frame_of};
+use std::alloc::Global;
+use std::cmp::Ordering;
+use wire::Cut;
+
+/// An entry of the table.
+#[derive(Clone, Copy, Debug)]
+pub struct TableEntry<'a> {
+    pub name: &'a [u8],
+    pub value: &'a [u8],
+    pub offset: u64,
+}
+
+#[tactic(auto, unfolding(crate::specs::TableChecks::text_at))]
+fn read_text(bytes: &[u8]) -> Result<(&[u8], &[u8]), IndexError>
+    ensures { Gives (λ x. (x.0.now, x.1.now)) result (text_at bytes.now) }
+{
+    let mut cut = Cut::new(bytes);
+    let Ok(len) = cut.uvarint() else {
+        return Err(IndexError::Offsets);
+    };
+    let Ok(text) = cut.bytes(len as usize) else {
+        return Err(IndexError::Offsets);
+    };
+    Ok((text, cut.rest()))
+}
+
+#[tactic(auto, unfolding(crate::specs::TableChecks::table_entry_at))]
+fn read_entry(bytes: &[u8]) -> Result<(TableEntry<'_>, &[u8]), IndexError>
+    ensures { Gives (λ x. (table_entry_seen x.0, x.1.now)) result (table_entry_at bytes.now) }
+{
+    let mut cut = Cut::new(bytes);
+    let Ok(tag) = cut.u8() else {
+        return Err(IndexError::Offsets);
+    };
+    if tag != 2 {
+        return Err(IndexError::Offsets);
+    }
+    let (name, rest) = read_text(cut.rest())?;
+    let (value, rest) = read_text(rest)?;
+    let mut cut = Cut::new(rest);
+    let Ok(offset) = cut.uvarint() else {
+        return Err(IndexError::Offsets);
+    };
+    Ok((
+        TableEntry {
+            name,
+            value,
+            offset,
+        },
+        cut.rest(),
+    ))
+}
+
+fn read_entries(
+    alloc: Global,
+    count: u32,
+    bytes: &[u8],
+) -> Result<(Vec<TableEntry<'_>>, &[u8]), IndexError>
+    ensures { Gives (λ x. (table_seen x.0.items, x.1.now)) result
+        (steps table_entry_at count bytes.now) }
+{
+    let mut table = Vec::new(alloc);
+    let mut rest = bytes;
+    for _ in 0..count {
+        let (listed, after) = read_entry(rest)?;
+        table.push(listed)?;
+        rest = after;
+    }
+    Ok((table, rest))
+}
+
+fn is_before(a: &TableEntry<'_>, b: &TableEntry<'_>) -> bool
+    ensures { result ≡ is_before (table_entry_seen a.now) (table_entry_seen b.now) }
+{
+    match a.name.cmp(b.name) {
+        Ordering::Equal => matches!(a.value.cmp(b.value), Ordering::Less),
+        other => matches!(other, Ordering::Less),
+    }
+}
+
+pub fn table_entry_at<'a>(table: &[TableEntry<'a>], i: usize) -> TableEntry<'a>
+    requires { i < length table.now }
+    ensures seen { slice_get (table_seen table.now) i ≡ Some (table_entry_seen result) }
+    ensures value { slice_get table.now i ≡ Some result }
+{
+    table[i]
+}
+
+fn is_rising(table: &[TableEntry<'_>]) -> bool
+    ensures { result ≡ rises is_before (table_seen table.now) }
+{
+    let mut at = 1;
+    while at < table.len() {
+        if !is_before(&table_entry_at(table, at - 1), &table_entry_at(table, at)) {
+            return false;
+        }
+        at += 1;
+    }
+    true
+}
+
+fn all_within(table: &[TableEntry<'_>], from: u64, to: u64) -> bool
+    ensures { result ≡ list_all (λ l. nat_le from l.offset && nat_lt l.offset to) table.now }
+{
+    table
+        .iter()
+        .all(|listed| (from <= listed.offset) & (listed.offset < to))
+}
+
+#[tactic(auto, using(crate::proofs::Within::all_map, crate::proofs::Within::all_le))]
+fn are_within(table: &[TableEntry<'_>], from: u64, to: u64) -> bool
+    ensures exact { result ≡ list_all (is_within from to) (table_seen table.now) }
+    ensures fits { IsTrue result → All (λ l. l.offset ≤ to) table.now }
+{
+    all_within(table, from, to)
+}
+
+/// The entries of the table.
+#[tactic(auto, unfolding(crate::specs::TableChecks::table_at))]
+pub fn table_of(
+    alloc: Global,
+    from: u64,
+    to: u64,
+    content: &[u8],
+) -> Result<Vec<TableEntry<'_>>, IndexError>
+    ensures exact { Gives (λ v. table_seen v.items) result (table_at from to content.now) }
+    ensures within { IfOk result (λ v. All (λ l. l.offset ≤ to) v.items) }
+{
+    let mut cut = Cut::new(content);
+    let Ok(count) = cut.be32() else {
+        return Err(IndexError::Offsets);
+    };
+    let (table, rest) = read_entries(alloc, count, cut.rest())?;
+    let whole = rest.is_empty() & is_rising(&table) & are_within(&table, from, to);
+    if !whole {
+        return Err(IndexError::Offsets);
+    }
+    Ok(table)
+}
+
+fn label_offsets_of(file: &[u8], t: TableOfContents) -> Result<&[u8], IndexError>
+    requires { IsPlaced t (length file.now) }
+    ensures { Gives (λ x. x.now) result (label_offsets_at file.now t) }
+{
+    if t.label_offsets == 0 {
+        return Ok(&[]);
+    }
+    let (content, _) = frame_of(
+        &file[t.label_offsets as usize..t.postings_offsets as usize],
+        IndexError::Offsets,
+    )?;
+    Ok(content)
+}
+
+/// The content of the table.
+#[tactic(auto, unfolding(crate::specs::TableChecks::table_content_at))]
+pub fn table_content_of(file: &[u8], t: TableOfContents) -> Result<&[u8], IndexError>
+    requires { IsPlaced t (length file.now) }
+    ensures { Gives (λ x. x.now) result (table_content_at file.now t) }
+{
+    label_offsets_of(file, t)?;
+    let (content, rest) = frame_of(
+        &file[t.postings_offsets as usize..file.len() - 52],
+        IndexError::Offsets,
+    )?;
+    if !rest.is_empty() {
+        return Err(IndexError::Offsets);
+    }
+    Ok(content)
+}

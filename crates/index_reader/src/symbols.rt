@@ -1,0 +1,173 @@
+//! The symbols of an index: the texts that its series and its pairs name by their numbers.
+
+ghost use Rattle.std.specs.Prelude.{◌≡◌, ◌<◌, ◌^◌, length, slice_get, Some, IfOk, IfSome, MatchOption, true, false};
+ghost use Rattle.std.specs.Str.{is_utf8};
+ghost use Rattle.index_reader.specs.Layout.{is_less, ascending};
+ghost use Rattle.index_reader.specs.Lookups.{symbol_of};
+ghost use Rattle.index_reader.specs.Outcome.{Gives};
+ghost use Rattle.index_reader.specs.Seen.{bytes_of, strings_of};
+ghost use Rattle.index_reader.specs.SymbolChecks.{symbol_at, symbols_from, symbols_of};
+
+use crate::error::IndexError;
+use std::alloc::{AllocError, Global};
+use std::cmp::Ordering;
+use wire::Cut;
+
+/// The symbols of an index: fewer than 2^32 texts, each below the next by its bytes.
+#[derive(Drop)]
+pub struct Symbols {
+    pub texts: Vec<String>,
+    ghost few: { length texts.items < 2 ^ 32 },
+    ghost order: { ascending (strings_of texts.items) ≡ true },
+}
+
+fn text_of(bytes: &[u8]) -> Option<&str>
+    ensures { MatchOption result (is_utf8 bytes.now ≡ false)
+        (λ s. (is_utf8 bytes.now ≡ true) × (s.now ≡ bytes.now)) }
+{
+    str::from_utf8(bytes).ok()
+}
+
+#[tactic(auto, unfolding(crate::specs::SymbolChecks::symbol_at))]
+fn read_symbol(bytes: &[u8]) -> Result<(&str, &[u8]), IndexError>
+    ensures { Gives (λ x. (x.0.now, x.1.now)) result (symbol_at bytes.now) }
+{
+    let mut cut = Cut::new(bytes);
+    let Ok(len) = cut.uvarint() else {
+        return Err(IndexError::Symbols);
+    };
+    let Ok(text) = cut.bytes(len as usize) else {
+        return Err(IndexError::Symbols);
+    };
+    let Some(text) = text_of(text) else {
+        return Err(IndexError::Symbols);
+    };
+    Ok((text, cut.rest()))
+}
+
+fn symbols_from(alloc: Global, count: u32, bytes: &[u8]) -> Result<(Vec<&str>, &[u8]), IndexError>
+    ensures { Gives (λ x. (bytes_of x.0.items, x.1.now)) result (symbols_from count bytes.now) }
+{
+    let mut symbols = Vec::new(alloc);
+    let mut rest = bytes;
+    for _ in 0..count {
+        let (symbol, after) = read_symbol(rest)?;
+        symbols.push(symbol)?;
+        rest = after;
+    }
+    Ok((symbols, rest))
+}
+
+fn is_less(a: &[u8], b: &[u8]) -> bool
+    ensures { result ≡ is_less a.now b.now }
+{
+    matches!(a.cmp(b), Ordering::Less)
+}
+
+fn is_ascending(symbols: &[&str]) -> bool
+    ensures { result ≡ ascending (bytes_of symbols.now) }
+{
+    let mut at = 1;
+    while at < symbols.len() {
+        let before = symbols[at - 1];
+        let next = symbols[at];
+        if !is_less(before.as_bytes(), next.as_bytes()) {
+            return false;
+        }
+        at += 1;
+    }
+    true
+}
+
+/// The symbols of the content of a symbol table.
+#[tactic(auto, unfolding(crate::specs::SymbolChecks::symbols_of))]
+pub fn symbols_of(alloc: Global, content: &[u8]) -> Result<Vec<&str>, IndexError>
+    ensures { Gives (λ v. bytes_of v.items) result (symbols_of content.now) }
+{
+    let mut cut = Cut::new(content);
+    let Ok(count) = cut.be32() else {
+        return Err(IndexError::Symbols);
+    };
+    let (symbols, rest) = symbols_from(alloc, count, cut.rest())?;
+    let whole = rest.is_empty() & is_ascending(&symbols);
+    if !whole {
+        return Err(IndexError::Symbols);
+    }
+    Ok(symbols)
+}
+
+fn text_at<'a>(symbols: &[&'a str], i: usize) -> &'a str
+    requires { i < length symbols.now }
+    ensures { slice_get (bytes_of symbols.now) i ≡ Some result.now }
+{
+    symbols[i]
+}
+
+fn copy_texts(alloc: Global, symbols: &[&str]) -> Result<Vec<String>, AllocError>
+    ensures texts { IfOk result (λ v. strings_of v.items ≡ bytes_of symbols.now) }
+    ensures counted { IfOk result (λ v. length v.items ≡ length symbols.now) }
+{
+    let mut copy = Vec::with_capacity(alloc, symbols.len())?;
+    for at in 0..symbols.len() {
+        let symbol = text_at(symbols, at);
+        let text = String::from_str(alloc, symbol)?;
+        copy.push(text)?;
+    }
+    Ok(copy)
+}
+
+/// The symbols as texts of their own.
+pub fn copy_symbols(alloc: Global, symbols: &[&str]) -> Result<Symbols, AllocError>
+    requires few { length symbols.now < 2 ^ 32 }
+    requires order { ascending (bytes_of symbols.now) ≡ true }
+    ensures { IfOk result (λ v. strings_of v.texts.items ≡ bytes_of symbols.now) }
+{
+    let texts = copy_texts(alloc, symbols)?;
+    Ok(Symbols { texts })
+}
+
+fn bytes_at(symbols: &Symbols, i: usize) -> &[u8]
+    requires { i < length symbols.now.texts.items }
+    ensures { slice_get (strings_of symbols.now.texts.items) i ≡ Some result.now }
+{
+    symbols.texts[i].as_bytes()
+}
+
+/// The symbol at a place.
+pub fn text_in(symbols: &Symbols, i: usize) -> &str
+    requires { i < length symbols.now.texts.items }
+    ensures { slice_get (strings_of symbols.now.texts.items) i ≡ Some result.now }
+{
+    symbols.texts[i].as_str()
+}
+
+/// The symbol of a text.
+pub fn find_symbol(symbols: &Symbols, text: &[u8]) -> Option<usize>
+    ensures exact { result ≡ symbol_of (strings_of symbols.now.texts.items) text.now }
+    ensures within { IfSome result (λ i. i < length symbols.now.texts.items) }
+{
+    let mut low = 0;
+    let mut high = symbols.texts.len();
+    while low < high {
+        let middle = low + (high - low) / 2;
+        match bytes_at(symbols, middle).cmp(text) {
+            Ordering::Less => low = middle + 1,
+            Ordering::Equal => return Some(middle),
+            Ordering::Greater => high = middle,
+        }
+    }
+    None
+}
+
+/// The same as [`find_symbol`], where the symbol at a place is looked at first.
+pub fn find_symbol_near(symbols: &Symbols, guess: usize, text: &[u8]) -> Option<usize>
+    ensures exact { result ≡ symbol_of (strings_of symbols.now.texts.items) text.now }
+    ensures within { IfSome result (λ i. i < length symbols.now.texts.items) }
+{
+    if guess < symbols.texts.len()
+        && matches!(bytes_at(symbols, guess).cmp(text), Ordering::Equal)
+    {
+        return Some(guess);
+    }
+    find_symbol(symbols, text)
+}
