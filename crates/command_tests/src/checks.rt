@@ -1,0 +1,96 @@
+//! What `check` prints of directories.
+
+use crate::directories::{CHUNKS, INDEX, Pieces};
+use crate::rows::{Row, first_other};
+
+/// Of each file the first check that fails, in the order of the files and of the checks.
+const JUDGED: &[Row] = &[
+    (&["check", "good"], 0, "good: ok 6 series 6 samples\n", ""),
+    (
+        &["check", "deleted"],
+        0,
+        "deleted: ok 6 series 5 samples\n",
+        "",
+    ),
+    (&["check", "unknown"], 1, "unknown: refused T5\n", ""),
+    (&["check", "short"], 1, "short: refused B1\n", ""),
+    (
+        &["check", "unknown_short"],
+        1,
+        "unknown_short: refused T5\n",
+        "",
+    ),
+    (&["check", "other"], 1, "other: refused B2\n", ""),
+    (
+        &["check", "other_lying"],
+        1,
+        "other_lying: refused B2\n",
+        "",
+    ),
+    (&["check", "lying"], 1, "lying: refused I14\n", ""),
+    (
+        &["check", "lying_short"],
+        1,
+        "lying_short: refused I14\n",
+        "",
+    ),
+];
+
+const IN_ORDER: &[Row] = &[
+    (
+        &["check", "good", "good"],
+        0,
+        "good: ok 6 series 6 samples\ngood: ok 6 series 6 samples\n",
+        "",
+    ),
+    (
+        &["check", "other", "good"],
+        1,
+        "other: refused B2\ngood: ok 6 series 6 samples\n",
+        "",
+    ),
+    (
+        &["check", "good", "other"],
+        1,
+        "good: ok 6 series 6 samples\nother: refused B2\n",
+        "",
+    ),
+    (
+        &["check", "good", "torn", "other"],
+        3,
+        "good: ok 6 series 6 samples\n",
+        "cannot read torn/chunks/000001\n",
+    ),
+    (
+        &["check", "other", "torn"],
+        3,
+        "other: refused B2\n",
+        "cannot read torn/chunks/000001\n",
+    ),
+    (
+        &["check", "none", "good"],
+        3,
+        "",
+        "cannot read none/meta.json\n",
+    ),
+];
+
+fn length_of(pieces: Pieces) -> usize {
+    pieces.iter().fold(0, |length: usize, piece| length.saturating_add(piece.len()))
+}
+
+#[test]
+fn the_worked_files_have_their_lengths(rt: HostRuntime) {
+    assert_eq!(rt; length_of(INDEX), 442);
+    assert_eq!(rt; length_of(CHUNKS), 152);
+}
+
+#[test]
+fn each_block_is_told_in_its_line(rt: HostRuntime) {
+    assert_eq!(rt; first_other(&rt, rt.alloc(), JUDGED), None);
+}
+
+#[test]
+fn directories_are_told_in_their_order(rt: HostRuntime) {
+    assert_eq!(rt; first_other(&rt, rt.alloc(), IN_ORDER), None);
+}

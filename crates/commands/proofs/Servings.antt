@@ -1,0 +1,22 @@
+-- Why a store is not served.
+use Rattle.std.proofs.Common.{◌≡◌, refl, sym, subst}
+use Rattle.snapshots.specs.Seats.{IsRoom}
+use Rattle.snapshots.specs.declared.error.OpenError.{OpenError}
+use Rattle.snapshots.specs.declared.error.OpenError.TheVariants as store
+use Rattle.commands.specs.Faults.{open_fault}
+use Rattle.commands.specs.ServingRuns.{IsStoreFault}
+use Rattle.commands.specs.declared.command.Serving.{Serving}
+use Rattle.commands.specs.declared.fault.Fault.{Fault}
+use Rattle.commands.specs.declared.fault.Fault.TheVariants.{CannotListen}
+
+-- a store that is not opened
+pub not_opened : (serving : Serving) (e : OpenError) → (e ≡ store.BadPasses → ¬ IsRoom serving.workers serving.workers) → (e ≡ store.Limit → ⊥)
+    → IsStoreFault serving (open_fault e)
+not_opened serving store.BadPasses few many = few refl
+not_opened serving store.Limit few many = absurd (many refl)
+not_opened serving store.Unavailable few many = tt
+not_opened serving store.Memory few many = tt
+
+-- a port that is not listened on
+pub not_listened : (serving : Serving) (fault : Fault) → fault ≡ CannotListen serving.port → IsStoreFault serving fault
+not_listened serving fault e = subst (IsStoreFault serving) (sym e) refl

@@ -1,0 +1,7 @@
+use Rattle.std.specs.Prelude.{[]}
+use Rattle.head.specs.Blocks.{opening_of}
+use Rattle.commands.proofs.demo.demo_answer.Given as goal
+
+-- the store that was just made
+abbrev pub ghosts-answer_of : goal.ghosts-answer_of
+ghosts-answer_of g a = record { book = a.store.seen.book; opening = opening_of [] }

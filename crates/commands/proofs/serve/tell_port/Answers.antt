@@ -1,0 +1,10 @@
+use Rattle.std.proofs.Common.{ℕ, List, subst, ◌∙◌}
+use Rattle.std.specs.Io.KnownBytes.{Appends}
+use Rattle.commands.proofs.serve.tell_port.Goals as goal
+
+pub returns-clause-ok : goal.returns-clause-ok
+returns-clause-ok g c = record {
+  port = c.port.result;
+  written = subst (λ (bytes : List ℕ). Appends (g.W.Write.contents c.args.out.now) (g.W.Write.contents c.send.new.out) bytes)
+      (c.as_bytes.ensures.value ∙ c.in_ok-line.ensures) c.in_ok-send.ensures.ok;
+}

@@ -1,0 +1,103 @@
+-- The command line: what `clap` reads from the words, and what that asks for.
+use Rattle.std.specs.Prelude.{◌≡◌, ◌⊎◌, ℕ, ℤ, pos, negsuc, true, FitsSigned, List, [], map, Option, None, Some, codes, unwrap_or, string_bytes}
+use Rattle.std.specs.Int.{w64}
+use Rattle.std.specs.declared.string.String.{String}
+use Rattle.std.specs.Str.Parse.{IsNumeral, without_leading_sign, signed_digits_value}
+use Rattle.labels.specs.declared.sample.TheConstants.{MIN_TIME, MAX_TIME}
+use Rattle.clap.specs.Lexer.{usize_max}
+use Rattle.clap.specs.Words.{App, Row, Rule, Text, new_app, new_rule, with_rule, with_subcommand, first_of, one_of, all_of, subcommand_of}
+use Rattle.clap.specs.declared.builder.value_parser.ValueParser.TheVariants.{Signed}
+use Rattle.commands.specs.OptionRules.{directories_rule}
+use Rattle.commands.specs.ServingLines.{serve_app, IsServe}
+use Rattle.commands.specs.declared.command.Line.{Line}
+use Rattle.commands.specs.declared.command.Line.TheVariants.{Demo, Select, Check, Serve}
+
+-- words as bytes
+abbrev pub texts_of : {Z : Type 0} → List (String Z) → List Text
+texts_of words = map (λ word. string_bytes word) words
+
+-- an option with a signed number of 64 bits
+abbrev pub time_rule : Text → Rule
+time_rule name = record (new_rule name) {
+  long = Some name;
+  value_names = 1;
+  parser = Some (Signed (negsuc 9223372036854775807) (pos 9223372036854775807));
+}
+
+-- the selector, which must stand there
+abbrev pub selector_rule : Rule
+selector_rule = record (new_rule (codes "selector")) { value_names = 1; required = true }
+
+-- select [--from N] [--to N] SELECTOR [DIR]...
+abbrev pub select_app : App
+select_app = with_rule (with_rule (with_rule (with_rule (new_app (codes "select")) (time_rule (codes "from"))) (time_rule (codes "to"))) selector_rule) directories_rule
+
+-- the directories of `check`, one or more
+abbrev pub blocks_rule : Rule
+blocks_rule = record (new_rule (codes "directories")) {
+  value_names = 1;
+  required = true;
+  range = Some (record { start_inclusive = 1; end_inclusive = usize_max });
+}
+
+-- check DIR...
+abbrev pub check_app : App
+check_app = with_rule (new_app (codes "check")) blocks_rule
+
+-- the program, with `demo`, `check`, `select` and `serve`
+abbrev pub querier_app : App
+querier_app =
+    let app = new_app (codes "querier") in
+    let top = record app.top { has_version = true; subcommand_required = true; no_binary_name = true } in
+    with_subcommand (with_subcommand (with_subcommand (with_subcommand (record app { top = top }) (new_app (codes "demo")).top) check_app.top) select_app.top) serve_app.top
+
+-- the text is a signed number of 64 bits
+pub record IsNumber (text : List ℕ) : Type 0 where
+  pub numeral : IsNumeral 10 (without_leading_sign text)
+  pub fits : FitsSigned w64 (signed_digits_value 10 text)
+
+-- the time that a text writes, and another where none does
+abbrev pub IsTimeIn : Option Text → ℤ → ℤ → Type 0
+IsTimeIn None other time = time ≡ other
+IsTimeIn (Some text) other time =
+    (IsNumber text × (time ≡ signed_digits_value 10 text)) ⊎ ((IsNumber text → ⊥) × (time ≡ other))
+
+-- the selector and the range that the arguments of `select` give; the greatest range is the one of no option
+pub record IsSelectionIn (rows : List Row) (text : List ℕ) (from to : ℤ) : Type 0 where
+  pub selector : text ≡ unwrap_or (first_of (codes "selector") rows) []
+  pub first : IsTimeIn (one_of (codes "from") rows) MIN_TIME from
+  pub last : IsTimeIn (one_of (codes "to") rows) MAX_TIME to
+
+-- `demo` was found
+pub record IsDemo (found : Option (Text × List Row)) : Type 0 where
+  pub rows : List Row
+  pub is : found ≡ Some (codes "demo", rows)
+
+-- `select` was found, with this selection and these directories
+pub record IsSelect (found : Option (Text × List Row)) (text : List ℕ) (from to : ℤ) (directories : List Text) : Type 0 where
+  pub rows : List Row
+  pub is : found ≡ Some (codes "select", rows)
+  pub selection : IsSelectionIn rows text from to
+  pub given : directories ≡ unwrap_or (all_of (codes "directories") rows) []
+
+-- `check` was found, with these directories
+pub record IsCheck (found : Option (Text × List Row)) (directories : List Text) : Type 0 where
+  pub rows : List Row
+  pub is : found ≡ Some (codes "check", rows)
+  pub given : directories ≡ unwrap_or (all_of (codes "directories") rows) []
+
+-- what a found subcommand asks for
+abbrev pub IsLineIn : Option (Text × List Row) → Line → Type 0
+IsLineIn found Demo = IsDemo found
+IsLineIn found (Select s texts) = IsSelect found s.selector.now s.from s.to (map (λ text. text.now) texts.items)
+IsLineIn found (Check texts) = IsCheck found (map (λ text. text.now) texts.items)
+IsLineIn found (Serve serving texts) = IsServe found serving (map (λ text. text.now) texts.items)
+
+-- the line that a found subcommand asks for, or that it asks for none
+abbrev pub IsFoundLine : Option (Text × List Row) → Option Line → Type 0
+IsFoundLine found (Some line) = IsLineIn found line
+IsFoundLine found None = (line : Line) → IsLineIn found line → ⊥
+
+-- what the words ask for, as `clap` reads them
+abbrev pub IsLineOf : List Text → Line → Type 0
+IsLineOf words line = IsLineIn (subcommand_of querier_app words) line

@@ -1,0 +1,129 @@
+-- What a selection asks for, and why it is refused.
+use Rattle.std.specs.Prelude.{◌≡◌, ℕ, ◌<◌, ◌≤◌, true, false, List, Option, length}
+use Rattle.std.specs.Io.KnownBytes.{Appends, Keeps}
+use Rattle.matchers.specs.Grammar.{IsSelector}
+use Rattle.matchers.specs.Queries.{is_range}
+use Rattle.matchers.specs.Selectors.{AreMade, RefusedBy}
+use Rattle.matchers.specs.Views.{MatcherView, QueryView}
+use Rattle.matchers.specs.declared.error.QueryError.TheVariants.{BadRange, TooManyMatchers}
+use Rattle.matchers.specs.declared.error.SelectorError.{SelectorError}
+use Rattle.matchers.specs.declared.error.SelectorError.TheVariants as selector
+use Rattle.head.specs.Heads.{SnapshotParts}
+use Rattle.query_http.specs.Audited.{IsAudited}
+use Rattle.commands.specs.Opening.{IsOpeningOf, IsOpeningFault}
+use Rattle.commands.specs.Printed.{line_text}
+use Rattle.commands.specs.Reading.{Reads}
+use Rattle.query_http.specs.declared.audited.AuditedAnswer.{AuditedAnswer}
+use Rattle.commands.specs.declared.command.Selection.{Selection}
+use Rattle.commands.specs.declared.fault.Fault.{Fault}
+use Rattle.commands.specs.declared.fault.Fault.TheVariants.{Words, Refused, CannotRead, CannotWrite, CannotListen, Memory}
+use Rattle.commands.specs.declared.fault.Refusal.{Refusal}
+use Rattle.commands.specs.declared.fault.Refusal.TheVariants.{Labels, Matcher, Selector, Query, Commit, Block, Open, Snapshot}
+
+-- the text is accepted as a selector of these matchers: they are 1 to 16, and each can be made
+pub record IsAccepted (text : List ℕ) (ms : List MatcherView) : Type 0 where
+  pub selector : IsSelector text ms
+  pub some : 0 < length ms
+  pub few : length ms ≤ 16
+  pub made : AreMade ms
+
+-- the text of a selection is accepted as a selector of the query's matchers, and the ranges are one
+pub record IsQueryOf (asked : Selection) (query : QueryView) : Type 0 where
+  pub matchers : IsAccepted asked.selector.now query.matchers
+  pub is_range : is_range asked.from asked.to ≡ true
+  pub first : query.from ≡ asked.from
+  pub last : query.to ≡ asked.to
+
+-- the text of a selection is accepted as a selector, and its range is none
+pub record HasBadRange (asked : Selection) : Type 0 where
+  pub ms : List MatcherView
+  pub selector : IsAccepted asked.selector.now ms
+  pub no_range : is_range asked.from asked.to ≡ false
+
+-- when the text is refused
+abbrev pub IsTextRefusal : List ℕ → SelectorError → Type 0
+IsTextRefusal text (selector.Syntax at) = RefusedBy text (selector.Syntax at)
+IsTextRefusal text selector.Empty = RefusedBy text selector.Empty
+IsTextRefusal text selector.TooMany = RefusedBy text selector.TooMany
+IsTextRefusal text selector.PatternTooLong = RefusedBy text selector.PatternTooLong
+IsTextRefusal text selector.PatternRefused = RefusedBy text selector.PatternRefused
+IsTextRefusal text selector.Memory = ⊥
+
+-- when a selection is refused: by its text, and then by its range
+abbrev pub IsSelectionRefusal : Selection → Refusal → Type 0
+IsSelectionRefusal asked (Selector error) = IsTextRefusal asked.selector.now error
+IsSelectionRefusal asked (Query BadRange) = HasBadRange asked
+IsSelectionRefusal asked (Query TooManyMatchers) = ⊥
+IsSelectionRefusal asked (Labels error) = ⊥
+IsSelectionRefusal asked (Matcher error) = ⊥
+IsSelectionRefusal asked (Commit error) = ⊥
+IsSelectionRefusal asked (Block error) = ⊥
+IsSelectionRefusal asked (Open error) = ⊥
+IsSelectionRefusal asked (Snapshot error) = ⊥
+
+-- the selection is refused so, or memory failed
+abbrev pub IsSelectionFault : Selection → Fault → Type 0
+IsSelectionFault asked (Refused refusal) = IsSelectionRefusal asked refusal
+IsSelectionFault asked (Words error) = ⊥
+IsSelectionFault asked (CannotRead path) = ⊥
+IsSelectionFault asked CannotWrite = ⊥
+IsSelectionFault asked (CannotListen port) = ⊥
+IsSelectionFault asked Memory = Unit {0}
+
+-- an audited answer of the snapshot to the query was written, and a line feed
+pub record WritesAnswer (query : QueryView) (snapshot : SnapshotParts) (old new : Option (List ℕ)) : Type 0 where
+  pub answer : AuditedAnswer
+  pub audited : IsAudited query snapshot answer
+  pub written : Appends old new (line_text answer)
+
+-- an audited answer to the selection was written, over the blocks that the directories hold, and a line feed
+pub record WritesSelection (reads : Reads) (directories : List (List ℕ)) (asked : Selection) (old new : Option (List ℕ)) : Type 0 where
+  pub query : QueryView
+  pub is_asked : IsQueryOf asked query
+  pub snapshot : SnapshotParts
+  pub opened : IsOpeningOf reads directories snapshot
+  pub answered : WritesAnswer query snapshot old new
+
+-- the writer holds what it held, unless it failed
+abbrev pub KeepsAt : Fault → Option (List ℕ) → Option (List ℕ) → Type 0
+KeepsAt CannotWrite old new = Unit {0}
+KeepsAt (CannotListen port) old new = Keeps old new
+KeepsAt (Words error) old new = Keeps old new
+KeepsAt (CannotRead path) old new = Keeps old new
+KeepsAt (Refused refusal) old new = Keeps old new
+KeepsAt Memory old new = Keeps old new
+
+-- memory or the writer failed
+abbrev pub IsWritingFault : Fault → Type 0
+IsWritingFault CannotWrite = Unit {0}
+IsWritingFault (CannotListen port) = ⊥
+IsWritingFault Memory = Unit {0}
+IsWritingFault (Words error) = ⊥
+IsWritingFault (CannotRead path) = ⊥
+IsWritingFault (Refused refusal) = ⊥
+
+-- the selection is accepted, its text and its range
+pub record IsAllowed (asked : Selection) : Type 0 where
+  pub query : QueryView
+  pub is_asked : IsQueryOf asked query
+
+-- the directories hold the blocks of a snapshot
+pub record AreOpened (reads : Reads) (directories : List (List ℕ)) : Type 0 where
+  pub snapshot : SnapshotParts
+  pub opened : IsOpeningOf reads directories snapshot
+
+-- why a selection over directories ends before it is done: by the selection; by the directories, where the selection is
+-- accepted; or by memory or the writer, where the directories are opened too
+pub data IsSelectFault (reads : Reads) (directories : List (List ℕ)) (asked : Selection) (fault : Fault) : Type 0 where
+  by_selection : IsSelectionFault asked fault → IsSelectFault reads directories asked fault
+  by_directories : IsAllowed asked → IsOpeningFault reads directories fault → IsSelectFault reads directories asked fault
+  by_writing : IsAllowed asked → AreOpened reads directories → IsWritingFault fault → IsSelectFault reads directories asked fault
+
+-- memory alone failed
+abbrev pub IsOfMemory : Fault → Type 0
+IsOfMemory Memory = Unit {0}
+IsOfMemory (Words error) = ⊥
+IsOfMemory (CannotRead path) = ⊥
+IsOfMemory (Refused refusal) = ⊥
+IsOfMemory CannotWrite = ⊥
+IsOfMemory (CannotListen port) = ⊥

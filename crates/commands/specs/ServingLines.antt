@@ -1,0 +1,53 @@
+-- The command line of `serve`.
+use Rattle.std.specs.Prelude.{◌≡◌, ◌⊎◌, ℕ, ◌<◌, ◌^◌, List, [], Option, None, Some, true, codes, unwrap_or}
+use Rattle.std.specs.Str.Parse.{IsNumeral, without_leading_plus, digits_value}
+use Rattle.clap.specs.Words.{App, Row, Rule, Text, new_app, new_rule, with_rule, one_of, all_of}
+use Rattle.clap.specs.declared.builder.value_parser.ValueParser.TheVariants.{Unsigned}
+use Rattle.commands.specs.OptionRules.{directories_rule}
+use Rattle.commands.specs.declared.command.Serving.{Serving}
+
+-- an option with a number from one to another
+abbrev pub count_rule : Text → ℕ → ℕ → Rule
+count_rule name least most = record (new_rule name) {
+  long = Some name;
+  value_names = 1;
+  parser = Some (Unsigned least most);
+}
+
+-- the port, which must be given
+abbrev pub port_rule : Rule
+port_rule = record (new_rule (codes "port")) {
+  long = Some (codes "port");
+  value_names = 1;
+  required = true;
+  parser = Some (Unsigned 0 65535);
+}
+
+-- serve --port P [--workers W] [--requests N] [--idle-seconds S] [DIR]...
+abbrev pub serve_app : App
+serve_app = with_rule (with_rule (with_rule (with_rule (with_rule (new_app (codes "serve")) port_rule) (count_rule (codes "workers") 1 64)) (count_rule (codes "requests") 0 18446744073709551615)) (count_rule (codes "idle-seconds") 0 4294967295)) directories_rule
+
+-- the text is a number of 64 bits without a sign
+pub record IsCount (text : List ℕ) : Type 0 where
+  pub numeral : IsNumeral 10 (without_leading_plus text)
+  pub fits : digits_value 10 (without_leading_plus text) < 2 ^ 64
+
+-- the number that a text writes, and another where none does
+abbrev pub IsCountIn : Option Text → ℕ → ℕ → Type 0
+IsCountIn None other count = count ≡ other
+IsCountIn (Some text) other count =
+    (IsCount text × (count ≡ digits_value 10 (without_leading_plus text))) ⊎ ((IsCount text → ⊥) × (count ≡ other))
+
+-- how the arguments of `serve` have it served
+pub record IsServingIn (rows : List Row) (serving : Serving) : Type 0 where
+  pub port : IsCountIn (one_of (codes "port") rows) 0 serving.port
+  pub workers : IsCountIn (one_of (codes "workers") rows) 4 serving.workers
+  pub requests : IsCountIn (one_of (codes "requests") rows) 18446744073709551615 serving.requests
+  pub idle : IsCountIn (one_of (codes "idle-seconds") rows) 30 serving.idle_seconds
+
+-- `serve` was found, to be served so, with these directories
+pub record IsServe (found : Option (Text × List Row)) (serving : Serving) (directories : List Text) : Type 0 where
+  pub rows : List Row
+  pub is : found ≡ Some (codes "serve", rows)
+  pub asked : IsServingIn rows serving
+  pub given : directories ≡ unwrap_or (all_of (codes "directories") rows) []

@@ -1,0 +1,374 @@
+//! The command line.
+
+ghost use Rattle.std.specs.Prelude.{◌≡◌, ◌⊎◌, true, false, [], codes, map, unwrap_or, IfOk, IfErr};
+ghost use Rattle.commands.specs.ServingLines.{count_rule, port_rule, serve_app, IsCountIn, IsServingIn};
+ghost use Rattle.commands.specs.Running.{IsTaken};
+ghost use Rattle.clap.specs.Values.{kind_of};
+ghost use Rattle.clap.specs.Matches.{found_of};
+ghost use Rattle.clap.specs.Words.{app_of, new_app, rule_of, rows_of, one_of, first_of, all_of, subcommand_of, subcommand_rows_of, takes};
+ghost use Rattle.commands.specs.OptionRules.{directories_rule};
+ghost use Rattle.commands.specs.Lines.{time_rule, selector_rule, blocks_rule, select_app, check_app, querier_app, IsTimeIn, IsSelectionIn, IsFoundLine, IsLineOf, texts_of};
+
+use clap::builder::ValueParser;
+use clap::error::ErrorKind;
+use clap::{Arg, ArgMatches, Command, Error, value_parser};
+use labels::{MAX_TIME, MIN_TIME};
+use std::alloc::{AllocError, Global};
+
+/// A selector, and a closed range of times in milliseconds, as they were written: neither is checked.
+#[derive(Clone, Copy, Debug, PartialEq, Eq, Drop)]
+pub struct Selection<'a> {
+    pub selector: &'a str,
+    pub from: i64,
+    pub to: i64,
+}
+
+/// How a store is served, as it was written.
+#[derive(Clone, Copy, Debug, PartialEq, Eq, Drop)]
+pub struct Serving {
+    /// The port of 127.0.0.1; 0 for any that is free.
+    pub port: u64,
+    /// How many workers there are, each a thread.
+    pub workers: u64,
+    /// After how many connections a worker ends; the greatest number stands for never.
+    pub requests: u64,
+    /// For how many seconds a client may be silent; 0 for ever.
+    pub idle_seconds: u64,
+}
+
+/// What the words ask for.
+#[derive(Debug, Drop)]
+pub enum Line<'a> {
+    /// The answer to `up{job="a"}` over six series that two batches bring.
+    Demo,
+    /// The answer to a selection over the blocks in these directories.
+    Select(Selection<'a>, Vec<&'a str>),
+    /// What the blocks in these directories are judged to be.
+    Check(Vec<&'a str>),
+    /// A server over the blocks in these directories.
+    Serve(Serving, Vec<&'a str>),
+}
+
+const FROM: &str =
+    "The first time, in milliseconds; a negative one is written --from=-10 [default: -2^62]";
+
+const TO: &str = "The last time, in milliseconds [default: 2^62 - 1]";
+
+const STATUSES: &str =
+    "Exit status: 0 done; 1 refused, with the code on standard error, or by `check` in a line of its own;
+2 a fault of the words; 3 cannot read or write; 4 no memory";
+
+const CHECKS: &str =
+    "A block is a directory with the files meta.json, index, chunks/000001 and tombstones. All four are read
+before any is judged: the meta, the index, the chunks of each series, the tombstones.
+
+For each directory, in the order given, one line is printed:
+  DIR: ok 6 series 6 samples   a block, with so many series and samples that are not deleted
+  DIR: refused I14             not a block, and the code of the first check that fails
+
+  B2        meta.json is not that of a block: an object with minTime below maxTime and version 1
+  I1 to I15 the index, or a series of more than 1,048,576 samples (I15)
+  C1 to C8  the chunks; those that Prometheus itself writes are refused with C5
+  T1 to T5  the tombstones
+  B1        a chunk outside the range of the meta
+
+docs/FORMATS.md of the project explains each code.
+
+Exit status: 0 each is a block; 1 a line names a refusal; 2 a fault of the words; 3 a file cannot be
+read (it is named on standard error, and the lines of earlier directories are printed), or the lines
+cannot be written; 4 no memory";
+
+const EXAMPLE: &str =
+    "Example: querier select --from=-10 --to=100 'up{job=\"a\",zone=~\"x|\"}' data/0001 data/0002
+
+A selector is a metric name, matchers in braces, or both. Matchers are name=\"text\", name!=\"text\",
+name=~\"pattern\" and name!~\"pattern\"; an absent label counts as the empty text.
+
+The blocks in the directories are searched in the order given, as \"block 0\", \"block 1\" and so on, and
+after them an empty head. Their ranges may overlap: of two samples of one series at one time, that of the
+later block stands. Each directory is verified completely, as by `querier check`, before anything is printed.
+
+Refusals, the first that holds:
+  M4 at N  no selector; N is the length in bytes of its longest prefix that begins one
+  M6       no matcher
+  M5       more than 16 matchers
+  M3       a pattern of more than 256 bytes
+  M2       a pattern that is refused by the library of patterns
+  Q1       a range that ends before it begins, or an end of it that is no time
+  B2, I1 to I15, C1 to C8, T1 to T5, B1
+           the first directory at fault holds no block; `querier check --help` tells the codes
+  O3       more than 63 directories
+
+Exit status: 0 done; 1 refused, with the code on standard error; 2 a fault of the words; 3 a file cannot
+be read (it is named on standard error), or the answer cannot be written; 4 no memory";
+
+const PORT: &str = "The port of 127.0.0.1, 0 to 65535; 0 takes one that is free";
+
+const WORKERS: &str = "How many workers serve, each a thread, 1 to 64 [default: 4]";
+
+const REQUESTS: &str = "After how many connections a worker ends [default: never]";
+
+const IDLE: &str = "For how many seconds a client may be silent; 0 for ever [default: 30]";
+
+const SERVES: &str = "Example: querier serve --port 8080 data/0001 data/0002
+
+The directories are opened and verified as by `querier select`, and over them stands an empty head, in memory
+alone: what is written to it ends with the program. Then `listening P` is printed, P being the real port.
+
+  GET /select?selector=up%7Bjob%3D%22a%22%7D&from=0&to=100
+                 the audited answer, as `querier select` prints it
+  POST /write    rows, as [{\"labels\":{\"__name__\":\"up\",\"job\":\"a\"},\"samples\":[[10,1],[20,1]]}]
+  POST /delete   as {\"from\":0,\"selector\":\"{job=\\\"a\\\"}\",\"to\":1000}
+  POST /cut      as {\"at\":20}: what is before that time becomes a block
+
+A connection is served one request, and closed. A worker takes one connection after another; a client that gives
+no byte, or takes none, for the idle seconds is dropped. docs/HTTP.md of the project tells each reply and refusal.
+
+Exit status: 0 each worker has ended; 1 the directories are refused, as by `select`; 2 a fault of the words; 3 a
+file cannot be read, the port cannot be listened on, or its line cannot be written; 4 no memory";
+
+/// An option `--NAME N` with a signed number of 64 bits.
+fn time<'a>(alloc: Global, name: &'a str, help: &'a str) -> Arg<'a>
+    ensures rule { rule_of result ≡ time_rule name.entry.now }
+    ensures global { result.global ≡ false }
+{
+    Arg::new(alloc, name)
+        .long(name)
+        .value_name("N")
+        .value_parser(value_parser!(i64))
+        .help(help)
+}
+
+fn selector<'a>(alloc: Global) -> Arg<'a>
+    ensures rule { rule_of result ≡ selector_rule }
+    ensures global { result.global ≡ false }
+{
+    Arg::new(alloc, "selector")
+        .value_name("SELECTOR")
+        .required(true)
+        .help("Which series, as up{job=\"a\"}")
+}
+
+/// An option `--NAME VALUE` with a number from one to another.
+fn count<'a>(
+    alloc: Global,
+    name: &'a str,
+    value: &'a str,
+    range: (u64, u64),
+    help: &'a str,
+) -> Arg<'a>
+    ensures rule { rule_of result ≡ count_rule name.entry.now range.0 range.1 }
+    ensures global { result.global ≡ false }
+{
+    let (least, most) = range;
+    Arg::new(alloc, name)
+        .long(name)
+        .value_name(value)
+        .value_parser(ValueParser::unsigned(least, most))
+        .help(help)
+}
+
+/// The port, which must be given.
+fn port<'a>(alloc: Global) -> Arg<'a>
+    ensures rule { rule_of result ≡ port_rule }
+    ensures global { result.global ≡ false }
+{
+    Arg::new(alloc, "port")
+        .long("port")
+        .value_name("P")
+        .value_parser(ValueParser::unsigned(0, 65_535))
+        .required(true)
+        .help(PORT)
+}
+
+/// The directories of `select` and `serve`, as many as there are.
+fn directories<'a>(alloc: Global) -> Arg<'a>
+    ensures rule { rule_of result ≡ directories_rule }
+    ensures global { result.global ≡ false }
+{
+    Arg::new(alloc, "directories")
+        .value_name("DIR")
+        .num_args(..)
+        .help("A directory with a block, verified before anything is printed")
+}
+
+/// The directories of `check`, one or more.
+fn blocks<'a>(alloc: Global) -> Arg<'a>
+    ensures rule { rule_of result ≡ blocks_rule }
+    ensures global { result.global ≡ false }
+{
+    Arg::new(alloc, "directories")
+        .value_name("DIR")
+        .num_args(1..)
+        .required(true)
+        .help("A directory with a block")
+}
+
+fn demo<'a>(alloc: Global) -> Command<'a>
+    ensures { app_of result ≡ new_app (codes "demo") }
+{
+    Command::new(alloc, "demo").about(
+        "Commits two batches to an empty store and prints the audited answer to up{job=\"a\"}",
+    )
+}
+
+fn select<'a>(alloc: Global) -> Result<Command<'a>, AllocError>
+    ensures { IfOk result (λ command. app_of command ≡ select_app) }
+{
+    Command::new(alloc, "select")
+        .about("Prints the audited answer to a selector over blocks as one line of JSON")
+        .after_help(EXAMPLE)
+        .arg(time(alloc, "from", FROM))?
+        .arg(time(alloc, "to", TO))?
+        .arg(selector(alloc))?
+        .arg(directories(alloc))
+}
+
+fn check<'a>(alloc: Global) -> Result<Command<'a>, AllocError>
+    ensures { IfOk result (λ command. app_of command ≡ check_app) }
+{
+    Command::new(alloc, "check")
+        .about("Verifies blocks completely: each checksum, each chunk and each list of postings")
+        .after_help(CHECKS)
+        .arg(blocks(alloc))
+}
+
+fn serve<'a>(alloc: Global) -> Result<Command<'a>, AllocError>
+    ensures { IfOk result (λ command. app_of command ≡ serve_app) }
+{
+    Command::new(alloc, "serve")
+        .about("Serves a store over blocks to HTTP clients of this machine")
+        .after_help(SERVES)
+        .arg(port(alloc))?
+        .arg(count(alloc, "workers", "W", (1, 64), WORKERS))?
+        .arg(count(alloc, "requests", "N", (0, u64::MAX), REQUESTS))?
+        .arg(count(alloc, "idle-seconds", "S", (0, u32::MAX as u64), IDLE))?
+        .arg(directories(alloc))
+}
+
+fn querier<'a>(alloc: Global) -> Result<Command<'a>, AllocError>
+    ensures { IfOk result (λ command. app_of command ≡ querier_app) }
+{
+    Command::new(alloc, "querier")
+        .bin_name("querier")?
+        .about("Answers selectors over series, with a certificate that shows each answer whole")
+        .after_help(STATUSES)
+        .version("0.1.0")
+        .no_binary_name(true)
+        .subcommand_required(true)
+        .subcommand(demo(alloc))?
+        .subcommand(check(alloc)?)?
+        .subcommand(select(alloc)?)?
+        .subcommand(serve(alloc)?)
+}
+
+/// The time that an option gives, or another where it is not used.
+fn time_in(found: &ArgMatches<'_>, name: &str, other: i64) -> i64
+    ensures { IsTimeIn (one_of name.now (rows_of (found_of found.now))) other result }
+{
+    match found.get_one(name) {
+        Some(time) => time,
+        None => other,
+    }
+}
+
+/// The number that an option gives, or another where it is not used.
+fn count_in(found: &ArgMatches<'_>, name: &str, other: u64) -> u64
+    ensures { IsCountIn (one_of name.now (rows_of (found_of found.now))) other result }
+{
+    match found.get_one(name) {
+        Some(count) => count,
+        None => other,
+    }
+}
+
+fn text_in<'a>(found: &ArgMatches<'a>, name: &str) -> &'a str
+    ensures { result.now ≡ unwrap_or (first_of name.now (rows_of (found_of found.now))) [] }
+{
+    match found.get_str(name) {
+        Some(text) => text,
+        None => "",
+    }
+}
+
+fn selection_in<'a>(found: &ArgMatches<'a>) -> Selection<'a>
+    ensures { IsSelectionIn (rows_of (found_of found.now)) result.selector.now result.from result.to }
+{
+    let selector = text_in(found, "selector");
+    let from = time_in(found, "from", MIN_TIME);
+    let to = time_in(found, "to", MAX_TIME);
+    Selection { selector, from, to }
+}
+
+fn serving_in(found: &ArgMatches<'_>) -> Serving
+    ensures { IsServingIn (rows_of (found_of found.now)) result }
+{
+    let port = count_in(found, "port", 0);
+    let workers = count_in(found, "workers", 4);
+    let requests = count_in(found, "requests", u64::MAX);
+    let idle_seconds = count_in(found, "idle-seconds", 30);
+    Serving {
+        port,
+        workers,
+        requests,
+        idle_seconds,
+    }
+}
+
+fn directories_in<'a>(alloc: Global, found: &ArgMatches<'a>) -> Result<Vec<&'a str>, AllocError>
+    ensures { IfOk result (λ texts. map (λ text. text.now) texts.items ≡ unwrap_or (all_of (codes "directories") (rows_of (found_of found.now))) []) }
+{
+    match found.get_strs("directories") {
+        Some(texts) => Vec::from_slice(alloc, texts),
+        None => Ok(Vec::new(alloc)),
+    }
+}
+
+/// What a found subcommand asks for; none where there is none.
+fn line_in<'a>(alloc: Global, found: &ArgMatches<'a>) -> Result<Option<Line<'a>>, AllocError>
+    ensures { IfOk result (λ line. IsFoundLine (subcommand_rows_of found.now) line) }
+{
+    if found.subcommand_matches("demo").is_some() {
+        return Ok(Some(Line::Demo));
+    }
+    if let Some(arguments) = found.subcommand_matches("check") {
+        return Ok(Some(Line::Check(directories_in(alloc, arguments)?)));
+    }
+    if let Some(arguments) = found.subcommand_matches("serve") {
+        let directories = directories_in(alloc, arguments)?;
+        return Ok(Some(Line::Serve(serving_in(arguments), directories)));
+    }
+    let Some(arguments) = found.subcommand_matches("select") else {
+        return Ok(None);
+    };
+    let directories = directories_in(alloc, arguments)?;
+    Ok(Some(Line::Select(selection_in(arguments), directories)))
+}
+
+fn matches_in<'a>(alloc: Global, words: &'a [String]) -> Result<ArgMatches<'a>, Error>
+    ensures ok { IfOk result (λ found. subcommand_rows_of found ≡ subcommand_of querier_app (texts_of words.entry.now)) }
+    ensures err { IfErr result (λ e. takes querier_app (texts_of words.entry.now) ≡ true → kind_of e ≡ ErrorKind.OutOfMemory) }
+{
+    querier(alloc)?.try_get_matches_from(words)
+}
+
+/// The fault of words without a subcommand.
+fn no_subcommand(alloc: Global) -> Result<Error, AllocError>
+    ensures { IfOk result (λ e. kind_of e ≡ ErrorKind.MissingSubcommand) }
+{
+    querier(alloc)?.error(ErrorKind::MissingSubcommand, "a subcommand is missing")
+}
+
+/// What the words after the program's name ask for, or what to print in place of it: help, the version, or a fault of
+/// the words.
+pub fn read_line<'a>(alloc: Global, words: &'a [String]) -> Result<Line<'a>, Error>
+    ensures ok { IfOk result (λ line. IsLineOf (texts_of words.entry.now) line) }
+    ensures err { IfErr result (λ e. IsTaken (texts_of words.entry.now) → kind_of e ≡ ErrorKind.OutOfMemory) }
+    ensures refused { IfErr result (λ e. takes querier_app (texts_of words.entry.now) ≡ true → (kind_of e ≡ ErrorKind.OutOfMemory) ⊎ (kind_of e ≡ ErrorKind.MissingSubcommand)) }
+{
+    let found = matches_in(alloc, words)?;
+    match line_in(alloc, &found)? {
+        Some(line) => Ok(line),
+        None => Err(no_subcommand(alloc)?),
+    }
+}

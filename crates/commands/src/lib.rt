@@ -1,0 +1,41 @@
+//! What the program `querier` does: audited answers to selectors over Prometheus time series.
+//!
+//! `run` does what the words after the program's name ask for, over files, two writers and a host.
+//! `demo` opens an empty store, to which two seats commit a batch each, and writes the answer of a
+//! pass that learnt both receipts to `up{job="a"}` from 0 to 100 as one line of JSON: of each part
+//! its rows and the certificate that shows them to be all, and the rows of all parts. `select`
+//! asks any selector the same of the blocks in directories, which `opening` opens. What is written
+//! is the text of an audited answer, byte for byte, and a line feed (`demo`, `write_answer`,
+//! `select`). `check` verifies blocks completely and writes a line for each: `files` says what is
+//! read of a directory, `judgement` what that is judged to be, and `report` which lines are
+//! written. What is refused, and with which status a line ends, is said by `fault` and `run`.
+//! `serve` serves the blocks in directories, under an empty head, to HTTP clients.
+//! It stands on `server` for workers, on `query_http` for answers and their text, on `snapshots` for
+//! the store of the demo, on `block` for what a block is, on `clap` for words, and on `labels`,
+//! `matchers` and `head`. Certificates are the partition certificates of Barbay and Kenyon, SODA
+//! 2002.
+#![tactic(auto)]
+
+mod command;
+mod demo;
+mod fault;
+mod files;
+mod judgement;
+mod opening;
+mod report;
+mod run;
+mod select;
+mod sending;
+mod serve;
+
+pub use command::{Line, Selection, Serving, read_line};
+pub use demo::{demo_answer, first_batch, query, second_batch};
+pub use fault::{Fault, Refusal};
+pub use files::{BlockFiles, FileName, ReadError, ReadFiles, read_block};
+pub use judgement::{Judgement, judge, open};
+pub use opening::{open_blocks, open_store};
+pub use report::{Outcome, check};
+pub use run::{Ending, run, write_answer};
+pub use select::select;
+pub use sending::send;
+pub use serve::serve;

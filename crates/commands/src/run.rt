@@ -1,0 +1,176 @@
+//! What the program does.
+
+ghost use Rattle.std.specs.Prelude.{◌≡◌, ◌≤◌, ◌⊎◌, true, pos, IfOk, IfErr, OnOk};
+ghost use Rattle.std.specs.Io.KnownBytes.{Appends, Keeps};
+ghost use Rattle.commands.specs.Printed.{line_text};
+ghost use Rattle.commands.specs.Demo.{demo_events, demo_query};
+ghost use Rattle.clap.specs.Words.{takes};
+ghost use Rattle.commands.specs.Lines.{querier_app, texts_of, IsLineOf};
+ghost use Rattle.commands.specs.Running.{IsTaken, IsLineEnd, IsEnd, IsNoLine, IsWordsFault, IsEarlyLine, IsTold, HasEnded, KeepsAtEnd, status_at};
+ghost use Rattle.commands.specs.DemoAnswer.{IsDemoFault, WritesAnswerAfter};
+ghost use Rattle.commands.specs.Selecting.{IsWritingFault, KeepsAt, WritesAnswer};
+
+use crate::command::{Line, read_line};
+use crate::demo::demo_answer;
+use crate::fault::Fault;
+use crate::files::ReadFiles;
+use crate::report::{Outcome, check};
+use crate::select::select;
+use crate::sending::send;
+use crate::serve::serve;
+use clap::error::ErrorKind;
+use head::Snapshot;
+use matchers::Query;
+use query_http::{AuditedAnswer, answer_by_workers, body};
+use std::alloc::{AllocError, Global};
+use std::io::{self, Read, Write};
+use std::net::{Net, TcpListener, TcpStream};
+use std::sync::Wait;
+use std::thread::Threads;
+use std::time::Clock;
+
+/// The text of an answer, and a line feed.
+fn line_of(alloc: Global, answer: &AuditedAnswer) -> Result<Vec<u8>, AllocError>
+    ensures { IfOk result (λ line. line.items ≡ line_text answer.now) }
+{
+    let mut line = body(alloc, answer.parts.as_slice(), answer.rows.as_slice())?;
+    line.push(b'\n')?;
+    Ok(line)
+}
+
+/// Writes the audited answer to a query as one line, and nothing else. Each part is searched by a worker of its own.
+pub fn write_answer<T: Threads + Sync, W: Write>(
+    rt: &T,
+    alloc: Global,
+    snapshot: &Snapshot,
+    query: &Query,
+    out: &mut W,
+) -> Result<(), Fault>
+    ensures ok { OnOk result (WritesAnswer query.now snapshot.now (W.contents out.old) (W.contents out.new)) }
+    ensures faults { IfErr result (λ fault. IsWritingFault fault) }
+    ensures kept { IfErr result (λ fault. KeepsAt fault (W.contents out.old) (W.contents out.new)) }
+{
+    let answer = answer_by_workers(rt, alloc, snapshot, query)?;
+    let line = line_of(alloc, &answer)?;
+    send(out, line.as_slice())?;
+    Ok(())
+}
+
+/// Writes the audited answer to `up{job="a"}` from 0 to 100 over the store of the two batches.
+fn demo<R: Wait, W: Write>(rt: &R, alloc: Global, out: &mut W) -> Result<(), Fault>
+    ensures ok { OnOk result (WritesAnswerAfter demo_events (demo_query (pos 0) (pos 100)) (W.contents out.old) (W.contents out.new)) }
+    ensures faults { IfErr result (λ fault. IsDemoFault fault) }
+    ensures kept { IfErr result (λ fault. KeepsAt fault (W.contents out.old) (W.contents out.new)) }
+{
+    let answer = demo_answer(rt, alloc)?;
+    let line = line_of(alloc, &answer)?;
+    send(out, line.as_slice())?;
+    Ok(())
+}
+
+/// Does what a line asks for.
+fn answer_line<
+    Q: Wait + Threads + Net<Listener = TcpListener, Stream = TcpStream> + Clock + Eprint + Sync,
+    F: ReadFiles,
+    W: Write,
+>(rt: &Q, alloc: Global, files: &F, line: Line<'_>, out: &mut W) -> Result<Outcome, Fault>
+    ensures { IsLineEnd (F.may_read files.now) line.entry (W.contents out.old) (W.contents out.new) result }
+{
+    match line {
+        Line::Demo => demo(rt, alloc, out)?,
+        Line::Select(selection, directories) => {
+            select(rt, alloc, files, selection, directories.as_slice(), out)?;
+        }
+        Line::Check(directories) => return check(rt, alloc, files, directories.as_slice(), out),
+        Line::Serve(serving, directories) => {
+            serve(rt, alloc, files, serving, directories.as_slice(), out)?;
+        }
+    }
+    Ok(Outcome::Done)
+}
+
+fn execute<
+    Q: Wait + Threads + Net<Listener = TcpListener, Stream = TcpStream> + Clock + Eprint + Sync,
+    F: ReadFiles,
+    W: Write,
+>(rt: &Q, alloc: Global, files: &F, words: &[String], out: &mut W) -> Result<Outcome, Fault>
+    ensures ends { IsTaken (texts_of words.now) → IsEnd (F.may_read files.now) (texts_of words.now) (W.contents out.old) (W.contents out.new) result }
+    ensures no_line { ((line : Line) → IsLineOf (texts_of words.now) line → ⊥) → IsNoLine result }
+    ensures refused { takes querier_app (texts_of words.now) ≡ true → ((line : Line) → IsLineOf (texts_of words.now) line → ⊥) → IsWordsFault result }
+    ensures kept { IsEarlyLine (texts_of words.now) ⊎ KeepsAtEnd (W.contents out.old) (W.contents out.new) result }
+{
+    match read_line(alloc, words) {
+        Ok(line) => answer_line(rt, alloc, files, line, out),
+        Err(error) if matches!(error.kind(), ErrorKind::OutOfMemory) => Err(Fault::Memory),
+        Err(error) if error.use_stderr() => Err(Fault::Words(error)),
+        Err(help) => {
+            write!(out, "{help}")?;
+            Ok(Outcome::Done)
+        }
+    }
+}
+
+/// How the program ends.
+#[derive(Debug, Drop)]
+pub struct Ending {
+    /// The exit status.
+    pub status: u8,
+    /// Whether the fault was told, where there is one: an error is the second writer's.
+    pub told: io::Result<()>,
+}
+
+/// The exit status of an end.
+fn status_of(end: &Result<Outcome, Fault>) -> u8
+    ensures { result ≡ status_at end.now }
+{
+    match end {
+        Ok(Outcome::Done) => 0,
+        Ok(Outcome::Refused) => 1,
+        Err(fault) => fault.status(),
+    }
+}
+
+/// Tells the fault that an end is, and of another end nothing.
+fn tell<E: Write>(end: &Result<Outcome, Fault>, to: &mut E) -> io::Result<()>
+    ensures { IsTold end.now result (E.contents to.old) (E.contents to.new) }
+{
+    match end {
+        Ok(_) => Ok(()),
+        Err(fault) => fault.tell(to),
+    }
+}
+
+/// Does what the words after the program's name ask for, tells why where it ends before that is done, and gives the
+/// exit status.
+///
+/// 0 where it is done; 1 for a refusal, with its code on the second writer, or in the lines of a check; 2 for a fault
+/// of the words, with the usage on the second writer; 3 where a file cannot be read or a port not be listened on, which
+/// is named there, or the first writer fails; 4 where memory does. The store of the demo waits for nobody else's threads;
+/// a server waits for clients, and tells what becomes of them on the host's own standard error.
+pub fn run<
+    Q: Wait + Threads + Net<Listener = TcpListener, Stream = TcpStream> + Clock + Eprint + Sync,
+    F: ReadFiles,
+    R: Read,
+    W: Write,
+    E: Write,
+>(
+    rt: &Q,
+    alloc: Global,
+    files: &F,
+    words: &[String],
+    _input: &mut R,
+    out: &mut W,
+    err: &mut E,
+) -> Ending
+    ensures ended { HasEnded (F.may_read files.now) (texts_of words.now) (W.contents out.old) (W.contents out.new) (E.contents err.old) (E.contents err.new) result }
+    ensures few { result.status ≤ 4 }
+    ensures nothing_written { (result.status ≡ 0) ⊎ (result.status ≡ 3) ⊎ IsEarlyLine (texts_of words.now) ⊎ Keeps (W.contents out.old) (W.contents out.new) }
+    ensures nothing_told { result.status ≡ 0 → Keeps (E.contents err.old) (E.contents err.new) }
+{
+    let end = execute(rt, alloc, files, words, out);
+    let told = tell(&end, err);
+    Ending {
+        status: status_of(&end),
+        told,
+    }
+}

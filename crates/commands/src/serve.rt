@@ -1,0 +1,126 @@
+//! The server: a store over the blocks in directories, and its workers.
+
+ghost use Rattle.std.specs.Prelude.{◌≡◌, ◌≤◌, length, map, string_bytes, IfOk, IfErr, OnOk};
+ghost use Rattle.head.specs.Blocks.{part_in, opening_of};
+ghost use Rattle.commands.specs.Reading.{paths_of};
+ghost use Rattle.commands.specs.Selecting.{KeepsAt};
+ghost use Rattle.commands.specs.ServingRuns.{listening_line, TellsPort, IsServed, IsStoreFault, IsServeFault, IsServingFault};
+ghost use Rattle.commands.specs.declared.fault.Fault.TheVariants.{CannotListen};
+
+use crate::command::Serving;
+use crate::fault::Fault;
+use crate::files::ReadFiles;
+use crate::opening::open_blocks;
+use crate::sending::send;
+use block::Block;
+use server::{Terms, Workers};
+use snapshots::{Naming, Store};
+use std::alloc::{AllocError, Global};
+use std::io::Write;
+use std::marker::Brand;
+use std::net::{Net, TcpListener, TcpStream};
+use std::sync::Wait;
+use std::thread::Threads;
+use std::time::{Clock, Duration};
+
+/// Listens on a port of 127.0.0.1.
+fn listen<R: Net<Listener = TcpListener, Stream = TcpStream>>(
+    rt: &R,
+    port: u64,
+) -> Result<TcpListener, Fault>
+    ensures { IfErr result (λ fault. fault ≡ CannotListen port) }
+{
+    let Ok(number) = u16::try_from(port) else {
+        return Err(Fault::CannotListen(port));
+    };
+    match TcpListener::bind(rt, ("127.0.0.1", number)) {
+        Ok(listener) => Ok(listener),
+        Err(_) => Err(Fault::CannotListen(port)),
+    }
+}
+
+fn line_of(alloc: Global, port: u16) -> Result<String, AllocError>
+    ensures { IfOk result (λ line. string_bytes line ≡ listening_line port) }
+{
+    format!(in alloc; "listening {port}\n")
+}
+
+/// Tells the port of a listener in a line.
+fn tell_port<W: Write>(
+    alloc: Global,
+    listener: &TcpListener,
+    serving: Serving,
+    out: &mut W,
+) -> Result<(), Fault>
+    ensures ok { OnOk result (TellsPort (W.contents out.old) (W.contents out.new)) }
+    ensures faults { IfErr result (λ fault. IsStoreFault serving fault) }
+    ensures kept { IfErr result (λ fault. KeepsAt fault (W.contents out.old) (W.contents out.new)) }
+{
+    let Ok(address) = listener.local_addr() else {
+        return Err(Fault::CannotListen(serving.port));
+    };
+    let line = line_of(alloc, address.port())?;
+    send(out, line.as_bytes())?;
+    Ok(())
+}
+
+fn terms_of(serving: Serving) -> Terms {
+    let idle = match serving.idle_seconds {
+        0 => None,
+        seconds => Some(Duration::from_secs(seconds)),
+    };
+    Terms {
+        requests: serving.requests,
+        idle,
+    }
+}
+
+/// Serves a store over these blocks until each worker has ended.
+fn serve_blocks<
+    J: Naming + Send + Sync,
+    R: Wait + Threads + Net<Listener = TcpListener, Stream = TcpStream> + Clock + Eprint + Sync,
+    W: Write,
+>(
+    rt: &R,
+    alloc: Global,
+    store: Store,
+    blocks: Vec<Block>,
+    serving: Serving,
+    out: &mut W,
+) -> Result<(), Fault>
+    requires book { store.seen.book ≡ J.book }
+    requires opening { opening_of (map part_in blocks.items) ≡ J.opening }
+    requires few { length blocks.items ≤ 63 }
+    ensures ok { OnOk result (TellsPort (W.contents out.old) (W.contents out.new)) }
+    ensures err { IfErr result (λ fault.
+        IsServingFault serving (W.contents out.old) (W.contents out.new) fault) }
+{
+    let count = serving.workers as usize;
+    let workers = Workers::<J, &R>::open(rt, alloc, store, blocks, count)?;
+    let listener = listen(rt, serving.port)?;
+    tell_port(alloc, &listener, serving, out)?;
+    server::serve(rt, alloc, workers, &listener, terms_of(serving))?;
+    Ok(())
+}
+
+/// Serves a store over the blocks in these directories, and over them an empty head, until each worker has ended.
+///
+/// The directories are opened as by `select`; then the store is opened, the port listened on, and `listening P` written.
+pub fn serve<
+    R: Wait + Threads + Net<Listener = TcpListener, Stream = TcpStream> + Clock + Eprint + Sync,
+    F: ReadFiles,
+    W: Write,
+>(
+    rt: &R,
+    alloc: Global,
+    files: &F,
+    serving: Serving,
+    directories: &[&str],
+    out: &mut W,
+) -> Result<(), Fault>
+    ensures ok { OnOk result (IsServed (F.may_read files.now) (paths_of directories.now) (W.contents out.old) (W.contents out.new)) }
+    ensures err { IfErr result (λ fault. IsServeFault (F.may_read files.now) (paths_of directories.now) serving (W.contents out.old) (W.contents out.new) fault) }
+{
+    let blocks = open_blocks(rt, alloc, files, directories)?;
+    serve_blocks::<Brand, R, W>(rt, alloc, Store::new(), blocks, serving, out)
+}

@@ -1,8 +1,0 @@
-use Rattle.std.proofs.Common.{take}
-use Rattle.querier.specs.Checking.{IsChecked}
-use Rattle.querier.specs.Reading.{paths_of}
-use Rattle.querier.proofs.report.check.Given as goal
-
-abbrev pub invariant-loop-directory : goal.invariant-loop-directory
-invariant-loop-directory g l =
-    IsChecked (g.F.ReadFiles.may_read l.fn.files) (take l.directory-index (paths_of l.directories)) (g.W.Write.contents l.fn.out) (g.W.Write.contents l.out) l.outcome

@@ -1,8 +1,0 @@
-use Rattle.querier.specs.Lines.{texts_of}
-use Rattle.querier.proofs.LineEnds.{written_at_status}
-use Rattle.querier.proofs.run.run.Goals as goal
-
-pub returns-clause-nothing_written : goal.returns-clause-nothing_written
-returns-clause-nothing_written g c =
-    written_at_status (texts_of c.args.words.now) (g.W.Write.contents c.args.out.now) (g.W.Write.contents c.execute-end.new.out) c.execute-end.result c.status_of.result
-    c.status_of.ensures c.execute-end.ensures.kept

@@ -1,5 +1,0 @@
-use Rattle.querier.proofs.Sendings.{IsWrittenTo}
-use Rattle.querier.proofs.sending.write_text.Given as goal
-
-abbrev pub invariant-loop : goal.invariant-loop
-invariant-loop g l = IsWrittenTo (g.W.Write.contents l.fn.out) (g.W.Write.contents l.out) l.text l.rest
