@@ -1,7 +1,8 @@
 //! Rows of runs: words, and what the program gives for them.
 
 use crate::directories::DIRECTORIES;
-use commands::{Ending, ReadFiles, run};
+use commands::ReadFiles;
+use commands::run::{Ending, run};
 use std::alloc::{AllocError, Global};
 use std::net::{Net, TcpListener, TcpStream};
 use std::sync::Wait;
