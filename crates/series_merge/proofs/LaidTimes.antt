@@ -1,11 +1,12 @@
 -- Samples in the order of their times, laid over others.
-use Rattle.std.proofs.Common.{◌≡◌, ℤ, T, List, [], ◌∷◌, ◌++◌, refl, sym, ◌∙◌, ap, subst, length, arith}
+use Rattle.std.proofs.Common.{◌≡◌, ℤ, T, cond, List, [], ◌∷◌, ◌++◌, Option, None, Some, refl, sym, ◌∙◌, ap, subst, length, arith}
 use Rattle.std.specs.declared.cmp.Ordering.{Ordering}
 use Rattle.std.specs.declared.cmp.Ordering.TheVariants.{Less, Equal, Greater}
-use Rattle.std.specs.Ordering.{int_cmp, is_lt, ordering_reverse}
+use Rattle.std.specs.Ordering.{int_cmp, is_lt, ordering_reverse, eq_by_cmp}
 use Rattle.std.specs.FinMap.{int_cmp-IsAntisymmetric}
-use Rattle.std.specs.FinMap.Entries.{put, by_order, is_sorted, below_all, is_sorted-put}
+use Rattle.std.specs.FinMap.Entries.{put, find, by_order, is_sorted, below_all, is_sorted-put, find-put, same_entries}
 use Rattle.std.proofs.lemmas.Cmp.{int_cmp_total}
+use Rattle.labels.proofs.ContentLaws.{or_else, or_else_cond}
 use Rattle.labels.proofs.Times.{both_T, first_T, second_T, T_of}
 use Rattle.series_merge.specs.Merging.{laid_times}
 
@@ -118,3 +119,28 @@ laid-after over under x xs front last e f h k less =
     ap (λ o. laid_times o under) e ∙ ap (laid_times (x ∷ xs)) f
     ∙ laid-behind x xs front last (subst (λ (o : List (ℤ × ℤ)). T (is_sorted int_cmp o)) e h) (subst (λ (u : List (ℤ × ℤ)). T (is_sorted int_cmp u)) f k) less
     ∙ ap (λ (u : List (ℤ × ℤ)). u ++ x ∷ xs) (sym f) ∙ ap (λ (o : List (ℤ × ℤ)). under ++ o) (sym e)
+
+-- what is laid over samples is found first
+find-laid_times : (t : ℤ) (over under : List (ℤ × ℤ)) → find int_cmp t (laid_times over under) ≡ or_else (find int_cmp t over) (find int_cmp t under)
+find-laid_times t [] under = refl
+find-laid_times t (s ∷ ss) under =
+    find-put int_cmp int_cmp_total t s.0 s.1 (laid_times ss under)
+    ∙ ap (cond (eq_by_cmp int_cmp t s.0) (Some s.1)) (find-laid_times t ss under)
+    ∙ or_else_cond (eq_by_cmp int_cmp t s.0) s.1 (find int_cmp t ss) (find int_cmp t under)
+
+or_else_assoc : (x y z : Option ℤ) → or_else (or_else x y) z ≡ or_else x (or_else y z)
+or_else_assoc None y z = refl
+or_else_assoc (Some v) y z = refl
+
+-- it does not matter which two of three lists of samples are laid over each other first
+pub laid_times-assoc : (a b c : List (ℤ × ℤ)) → T (is_sorted int_cmp c) → laid_times (laid_times a b) c ≡ laid_times a (laid_times b c)
+laid_times-assoc a b c h =
+    let at = λ (t : ℤ) (ss : List (ℤ × ℤ)). find int_cmp t ss in
+    same_entries int_cmp int_cmp_total int_cmp-IsAntisymmetric (laid_times (laid_times a b) c) (laid_times a (laid_times b c))
+    (is_sorted-laid_times (laid_times a b) c h)
+    (is_sorted-laid_times a (laid_times b c) (is_sorted-laid_times b c h))
+    (λ t. find-laid_times t (laid_times a b) c
+    ∙ ap (λ o. or_else o (at t c)) (find-laid_times t a b)
+    ∙ or_else_assoc (at t a) (at t b) (at t c)
+    ∙ ap (or_else (at t a)) (sym (find-laid_times t b c))
+    ∙ sym (find-laid_times t a (laid_times b c)))

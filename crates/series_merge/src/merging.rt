@@ -1,6 +1,6 @@
 //! The rows of several answers as one list of rows.
 
-ghost use Rattle.std.specs.Prelude.{◌≡◌, ◌++◌, ◌+◌, ◌<◌, IfOk, OnOk, IfSome, IfNone, T, List, [], ◌∷◌, reverse, length};
+ghost use Rattle.std.specs.Prelude.{◌≡◌, ◌++◌, ◌+◌, ◌<◌, IfOk, OnOk, IfSome, IfNone, T, true, List, [], ◌∷◌, reverse, length};
 ghost use Rattle.std.specs.List.{All, Contains};
 ghost use Rattle.std.specs.Bool.{OnTrue};
 ghost use Rattle.std.specs.Ordering.{int_cmp};
@@ -103,43 +103,100 @@ fn lay_samples(
     Ok(laid)
 }
 
-/// Puts a row before those that come after it in label order, joined to the first of them where
-/// that has its label set. They stand in reverse.
-fn join_row(alloc: Global, later: &mut Vec<Row>, row: Row) -> Result<(), AllocError>
+/// A row laid over another of its label set.
+fn lay_row(alloc: Global, over: Row, under: Row) -> Result<Row, AllocError>
+    requires over_rises { T (is_sorted int_cmp over.1) }
+    requires under_rises { T (is_sorted int_cmp under.1) }
+    ensures laid { IfOk result (λ row. row ≡ (over.0, laid_times over.1 under.1)) }
+    ensures rises { IfOk result (λ row. T (is_sorted int_cmp row.1)) }
+{
+    let (labels, over) = over.into_parts();
+    let (_, under) = under.into_parts();
+    let samples = lay_samples(alloc, over.as_slice(), under)?;
+    Ok(Row::new(labels, samples))
+}
+
+/// Puts a row before those that come after it in label order, which stand in reverse. Where the
+/// first of them has its label set, it is joined to that row, unless that takes a copy of samples
+/// that were copied in this round: then it stays apart, and the answer is `false`. `fresh` says
+/// that the first row's samples were not copied in this round; `all` that this doesn't matter.
+fn join_row(
+    alloc: Global,
+    later: &mut Vec<Row>,
+    row: Row,
+    fresh: &mut bool,
+    all: bool,
+) -> Result<bool, AllocError>
     requires rises { T (is_sorted int_cmp row.1) }
     requires all_rise { All (λ r. T (is_sorted int_cmp r.1)) later.old.items }
-    ensures joined { OnOk result (reverse later.new.items ≡ join row (reverse later.old.items)) }
+    ensures same { OnOk result
+        (joined (reverse later.new.items) [] ≡ join row (joined (reverse later.old.items) [])) }
+    ensures whole { IfOk result (λ whole. whole ≡ true
+        → reverse later.new.items ≡ join row (reverse later.old.items)) }
+    ensures all { all ≡ true → IfOk result (λ whole. whole ≡ true) }
     ensures all_rise { OnOk result (All (λ r. T (is_sorted int_cmp r.1)) later.new.items) }
 {
     let Some(next) = later.pop() else {
         later.push(row)?;
-        return Ok(());
+        *fresh = true;
+        return Ok(true);
     };
-    if row.labels() == next.labels() {
-        let (labels, over) = row.into_parts();
-        let (_, under) = next.into_parts();
-        let samples = lay_samples(alloc, over.as_slice(), under)?;
-        later.push(Row::new(labels, samples))?;
-        return Ok(());
+    let same = row.labels() == next.labels();
+    let after = come_after(row.samples(), next.samples());
+    if same & (after | *fresh | all) {
+        *fresh = after & *fresh;
+        later.push(lay_row(alloc, row, next)?)?;
+        return Ok(true);
     }
     later.push(next)?;
     later.push(row)?;
-    Ok(())
+    *fresh = true;
+    Ok(!same)
+}
+
+/// One round of joining rows that stand in label order: each two neighbours of one label set that
+/// are left, or all of them. Tells whether each label set stands once now.
+fn join_round(alloc: Global, rows: Vec<Row>, all: bool) -> Result<(Vec<Row>, bool), AllocError>
+    requires { All (λ r. T (is_sorted int_cmp r.1)) rows.items }
+    ensures same { IfOk result (λ r. joined r.0.items [] ≡ joined rows.items []) }
+    ensures whole { IfOk result (λ r. r.1 ≡ true → r.0.items ≡ joined rows.items []) }
+    ensures all { all ≡ true → IfOk result (λ r. r.1 ≡ true) }
+    ensures rise { IfOk result (λ r. All (λ x. T (is_sorted int_cmp x.1)) r.0.items) }
+{
+    let mut rows = rows;
+    let mut later = Vec::new(alloc);
+    let mut fresh = true;
+    let mut whole = true;
+    while let Some(row) = rows.pop() {
+        let put = join_row(alloc, &mut later, row, &mut fresh, all)?;
+        whole = whole & put;
+    }
+    later.reverse();
+    Ok((later, whole))
 }
 
 /// Rows in label order, joined where they have one label set; of several samples at one time the
 /// first stands.
+///
+/// Neighbours are joined two by two, and then again, so that a sample is copied once for each time
+/// that the rows of its label set can be halved. Samples that come after the others are appended,
+/// and only they are copied.
 fn join_rows(alloc: Global, rows: Vec<Row>) -> Result<Vec<Row>, AllocError>
     requires { All (λ r. T (is_sorted int_cmp r.1)) rows.items }
     ensures { IfOk result (λ rows'. rows'.items ≡ joined rows.items []) }
 {
     let mut rows = rows;
-    let mut later = Vec::new(alloc);
-    while let Some(row) = rows.pop() {
-        join_row(alloc, &mut later, row)?;
+    let mut left = rows.len();
+    while left > 1 {
+        let (some, whole) = join_round(alloc, rows, false)?;
+        if whole {
+            return Ok(some);
+        }
+        rows = some;
+        left /= 2;
     }
-    later.reverse();
-    Ok(later)
+    let (each, _) = join_round(alloc, rows, true)?;
+    Ok(each)
 }
 
 fn copy_row(alloc: Global, row: &Row) -> Result<Row, AllocError>
@@ -174,8 +231,9 @@ fn gathered(alloc: Global, answers: &[PartAnswer]) -> Result<Vec<Row>, AllocErro
 
 /// The rows of several answers as one: in label order, one row for each label set, its samples in
 /// time order; of the samples at one time the last answer's stands. Each answer's rows are in
-/// label order, none of them empty, their times ascending (the caller's condition). Each row is
-/// copied once; it costs a sort of all rows.
+/// label order, none of them empty, their times ascending (the caller's condition). It costs a sort
+/// of all rows, a copy of each, and of the rows of one label set that do not come one after the
+/// other in time as many copies more as they can be halved.
 pub fn merge(alloc: Global, answers: &[PartAnswer]) -> Result<Vec<Row>, AllocError>
     requires { (answer : PartAnswer) → Contains answers.now answer → IsRowList answer.rows.items }
     ensures { IfOk result (λ rows. AreRows rows.items (merged_content answers.now)) }
