@@ -2,6 +2,7 @@
 
 ghost use Rattle.std.specs.Prelude.{◌≡◌, ◌<◌, ◌≤◌, ◌+◌, ◌*◌, ℕ, Bool, not, T, Ok, IfOk, IfErr, OnOk, length, [], ◌∷◌, map};
 ghost use Rattle.std.specs.Arc.{arc_value};
+ghost use Rattle.std.specs.Bool.{OnTrue};
 ghost use Rattle.std.specs.List.{list_all, Contains};
 ghost use Rattle.labels.specs.Labels.{Labels};
 ghost use Rattle.labels.specs.Parts.{AreDistinct};
@@ -131,6 +132,41 @@ fn search(slots: &[Slot], order: &[u32], labels: &LabelSet) -> Result<usize, usi
     Err(low)
 }
 
+/// Whether a label set stands at a position of the order.
+fn is_at(slots: &[Slot], order: &[u32], labels: &LabelSet, position: usize) -> bool
+    requires { IsOrder order.now (sets_of (series_in_each slots.now)) }
+    ensures { OnTrue result (IsFound order.now (sets_of (series_in_each slots.now)) labels.now position) }
+{
+    if position >= order.len() {
+        return false;
+    }
+    let place = order[position] as usize;
+    matches!(slots[place].series().labels().cmp(labels), Ordering::Equal)
+}
+
+/// The same as [`search`], which it asks only where the label set stands neither at a position nor
+/// at the next one. A batch often has the samples of one series, and series in their order, one
+/// after another.
+fn search_near(
+    slots: &[Slot],
+    order: &[u32],
+    labels: &LabelSet,
+    near: usize,
+) -> Result<usize, usize>
+    requires { IsOrder order.now (sets_of (series_in_each slots.now)) }
+    ensures found { IfOk result (IsFound order.now (sets_of (series_in_each slots.now)) labels.now) }
+    ensures room { IfErr result (IsRoom order.now (sets_of (series_in_each slots.now)) labels.now) }
+{
+    if is_at(slots, order, labels, near) {
+        return Ok(near);
+    }
+    let next = near.saturating_add(1);
+    if is_at(slots, order, labels, next) {
+        return Ok(next);
+    }
+    search(slots, order, labels)
+}
+
 /// The places of the series in the order of their label sets, no two of which are the same.
 pub(crate) fn order_of(alloc: Global, slots: &[Slot]) -> Result<Vec<u32>, AllocError>
     requires few { length slots.now ≤ MAX_SERIES }
@@ -207,11 +243,13 @@ fn add_new(
     Ok(())
 }
 
-/// Adds the sample that has the number `at` in its batch. Gives how many samples were copied.
+/// Adds the sample that has the number `at` in its batch. Gives how many samples were copied. It
+/// looks for the label set near the position where the last one was found.
 fn add(
     alloc: Global,
     slots: &mut Vec<Slot>,
     order: &mut Vec<u32>,
+    near: &mut usize,
     floor: i64,
     at: usize,
     labels: &LabelSet,
@@ -229,8 +267,9 @@ fn add(
     if sample.t() < floor {
         return Err(CommitError::OutOfBounds { at });
     }
-    match search(slots.as_slice(), order.as_slice(), labels) {
+    match search_near(slots.as_slice(), order.as_slice(), labels, *near) {
         Ok(position) => {
+            *near = position;
             let place = order[position] as usize;
             add_known(alloc, &mut slots[place], at, sample)
         }
@@ -259,10 +298,11 @@ pub(crate) fn add_each(
         → T (list_all (λ x. p x.0) batch.now) → AllOwn p slots.old.items → AllOwn p slots.new.items) }
 {
     let mut copied = 0;
+    let mut near = 0;
     let mut i = 0;
     while i < batch.len() {
         let item = &batch[i];
-        match add(alloc, slots, order, floor, i, &item.0, item.1) {
+        match add(alloc, slots, order, &mut near, floor, i, &item.0, item.1) {
             Ok(more) => copied += more,
             Err(refusal) => return Err(refusal),
         }
