@@ -1,4 +1,3 @@
 pub mod Certificates
 pub mod Asking
 pub mod Walking
-pub mod SixSeries

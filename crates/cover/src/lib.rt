@@ -15,13 +15,7 @@
 #![tactic(auto)]
 
 mod certificate;
-#[cfg(test)]
-mod counting;
 mod part_cover;
-#[cfg(test)]
-mod six_series;
-#[cfg(test)]
-mod tests;
 mod walk;
 
 pub use certificate::{Interval, Verdict, certificate_laws};

@@ -34,8 +34,6 @@ mod series;
 mod snapshot;
 mod source;
 mod span;
-#[cfg(test)]
-mod tests;
 
 pub use error::{AppendError, CommitError};
 pub use event::{Event, MAX_BATCH};

@@ -10,8 +10,6 @@ mod buffers;
 mod machine;
 mod reply;
 mod step;
-#[cfg(test)]
-mod tests;
 mod walk;
 
 pub use machine::run;

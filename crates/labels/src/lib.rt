@@ -30,8 +30,6 @@ mod reference;
 mod row;
 mod row_order;
 mod sample;
-#[cfg(test)]
-mod tests;
 mod text;
 
 pub use error::LabelError;

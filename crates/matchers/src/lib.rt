@@ -36,6 +36,3 @@ pub use pattern::MAX_PATTERN_BYTES;
 pub use query::{MAX_MATCHERS, Query};
 pub use selector::Selector;
 pub use tester::Tester;
-
-#[cfg(test)]
-mod tests;

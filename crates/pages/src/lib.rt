@@ -28,8 +28,6 @@ mod page;
 mod probe;
 mod search;
 mod sorted;
-#[cfg(test)]
-mod tests;
 mod walk;
 
 pub use change::Change;

@@ -1,5 +1,4 @@
 pub mod Values
 pub mod Differing
-pub mod FixtureThreeSeries
 pub mod Laws
 pub mod Standing

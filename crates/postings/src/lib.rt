@@ -27,10 +27,6 @@ mod chosen;
 mod counted;
 mod part_name;
 mod slice_list;
-#[cfg(test)]
-mod tests;
-#[cfg(test)]
-mod three_series;
 mod union;
 mod without;
 

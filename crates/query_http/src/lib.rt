@@ -32,8 +32,6 @@ mod reply;
 mod rows;
 mod samples;
 mod strings;
-#[cfg(test)]
-mod tests;
 
 pub use audited::{AnsweredPart, AuditedAnswer, answer, answer_by_workers};
 pub use engine::{Served, serve_one};

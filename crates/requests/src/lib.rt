@@ -45,8 +45,6 @@ mod request;
 mod select;
 mod status;
 mod target;
-#[cfg(test)]
-mod tests;
 mod times;
 mod write;
 

@@ -31,8 +31,6 @@ mod press;
 mod receipt;
 mod seat;
 mod store;
-#[cfg(test)]
-mod tests;
 mod version;
 
 pub use appender::Appender;

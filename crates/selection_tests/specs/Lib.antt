@@ -1,0 +1,2 @@
+pub mod ThreeSeries
+pub mod SixSeries

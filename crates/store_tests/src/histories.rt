@@ -1,0 +1,140 @@
+//! The replies to steps of several actors, as text.
+
+mod steps;
+
+use self::steps::ROWS;
+use crate::rows::{empty, job_a, put_samples, set_of};
+use head::{AppendError, Event};
+use history::{Reply, Step, run};
+use labels::{LabelSet, Row, Sample, is_time};
+use matchers::Query;
+use std::alloc::{AllocError, Global};
+
+/// What an actor does: it adds a sample of a series of this number, commits, deletes `{job="a"}` in a closed range,
+/// cuts, or asks for `{job="a"}` from 0 to 100.
+#[derive(Clone, Copy)]
+enum Act {
+    Add(usize, i64, i64),
+    Commit,
+    Delete(i64, i64),
+    Cut(i64),
+    Ask,
+}
+
+fn deletion(alloc: Global, actor: usize, from: i64, to: i64) -> Option<Step> {
+    let matchers = job_a(alloc)?;
+    if !Event::is_deletion(&matchers, from, to) {
+        return None;
+    }
+    Some(Step::delete(actor, matchers, from, to))
+}
+
+fn cut(actor: usize, at: i64) -> Option<Step> {
+    if !is_time(at) {
+        return None;
+    }
+    Some(Step::cut(actor, at))
+}
+
+fn step_of(alloc: Global, actor: usize, act: Act) -> Option<Step> {
+    match act {
+        Act::Add(number, t, v) => {
+            let labels = set_of(alloc, number)?;
+            Some(Step::append(actor, labels, Sample::new(t, v)))
+        }
+        Act::Commit => Some(Step::commit(actor)),
+        Act::Delete(from, to) => deletion(alloc, actor, from, to),
+        Act::Cut(at) => cut(actor, at),
+        Act::Ask => {
+            let query = Query::new(job_a(alloc)?, 0, 100).ok()?;
+            Some(Step::query(actor, query))
+        }
+    }
+}
+
+fn put_set(text: &mut String, set: &LabelSet) -> Result<(), AllocError> {
+    let (name, job, zone) = (set.value("__name__"), set.value("job"), set.value("zone"));
+    write!(text, " {name}/{job}/{zone}")
+}
+
+fn put_rows(text: &mut String, rows: &[Row]) -> Result<(), AllocError> {
+    text.push_str("rows")?;
+    for row in rows {
+        put_set(text, row.labels())?;
+        put_samples(text, row.samples())?;
+    }
+    Ok(())
+}
+
+fn put_reply(text: &mut String, reply: &Reply) -> Result<(), AllocError> {
+    match reply {
+        Reply::Done => text.push_str("done")?,
+        Reply::NotAppended(refusal) => text.push_str(refusal.code())?,
+        Reply::Refused(refusal) => write!(text, "{refusal}")?,
+        Reply::Rows(rows) => put_rows(text, rows.as_slice())?,
+    }
+    text.push('\n')
+}
+
+fn text_of(alloc: Global, replies: &[Reply]) -> Result<String, AllocError> {
+    let mut text = String::new(alloc);
+    for reply in replies {
+        put_reply(&mut text, reply)?;
+    }
+    Ok(text)
+}
+
+fn push_steps(alloc: Global, steps: &mut Vec<Step>, acts: &[(usize, Act)]) -> Option<()> {
+    for (actor, act) in acts {
+        steps.push(step_of(alloc, *actor, *act)?).ok()?;
+    }
+    Some(())
+}
+
+/// The replies to these steps in an empty store.
+fn replies_to(alloc: Global, steps: &[Step]) -> Option<Vec<Reply>> {
+    let opening = empty(alloc).ok()?;
+    run(alloc, &opening, steps).ok()
+}
+
+/// The replies to the later of these steps in an empty store, each on a line.
+fn told_after(alloc: Global, before: &[(usize, Act)], acts: &[(usize, Act)]) -> Option<String> {
+    let mut steps = Vec::new(alloc);
+    push_steps(alloc, &mut steps, before)?;
+    push_steps(alloc, &mut steps, acts)?;
+    let replies = replies_to(alloc, steps.as_slice())?;
+    let (_, later) = replies.as_slice().split_at(before.len().min(replies.len()));
+    text_of(alloc, later).ok()
+}
+
+#[test]
+fn steps_of_several_actors_are_replied_to_in_their_order(rt: HostRuntime) {
+    let alloc = rt.alloc();
+    let other = ROWS.iter().find(|row| {
+        let text = told_after(alloc, row.0, row.1);
+        !text.is_some_and(|text| text.as_str() == row.2)
+    });
+    assert_eq!(rt; other.map(|row| row.2), None);
+}
+
+/// The steps of an actor who adds so many samples of one series.
+fn many(alloc: Global, count: i64) -> Option<Vec<Step>> {
+    let mut steps = Vec::new(alloc);
+    for t in 0..count {
+        steps.push(step_of(alloc, 7, Act::Add(1, t, 1))?).ok()?;
+    }
+    Some(steps)
+}
+
+#[test]
+fn a_buffer_holds_4096_samples(rt: HostRuntime) {
+    let steps = many(rt.alloc(), 4_097).expect(&rt, "there is memory");
+    let replies = replies_to(rt.alloc(), steps.as_slice()).expect(&rt, "there is memory");
+    assert!(rt; matches!(replies.get(4_095), Some(Reply::Done)));
+    assert!(rt;
+        matches!(
+            replies.get(4_096),
+            Some(Reply::NotAppended(AppendError::Full))
+        )
+    );
+}
