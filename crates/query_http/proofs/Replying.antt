@@ -16,9 +16,10 @@ use Rattle.requests.specs.declared.status.Status.{Status}
 use Rattle.requests.specs.declared.status.Status.TheVariants.{Done, Conflict}
 use Rattle.requests.specs.Refusals.{told_cause}
 use Rattle.requests.specs.Replies.{cause_data, reply_text}
-use Rattle.query_http.specs.declared.actions.Reply.{Reply}
+use Rattle.query_http.specs.declared.made.Reply.{Reply}
 use Rattle.query_http.specs.declared.audited.AuditedAnswer.{AuditedAnswer}
 use Rattle.query_http.specs.Headline.{IsHeadline}
+use Rattle.query_http.specs.Made.{text_of}
 use Rattle.query_http.specs.Reply.{body_text}
 use Rattle.query_http.specs.Serving.{Worker, IsIdle, IsRefusal, IsQueryReply, IsEventReply, IsSilent, Serves, refused_at, conflict_body}
 use Rattle.query_http.specs.declared.engine.Served.{Served}
@@ -32,8 +33,8 @@ conflict_spelled cause error status text p code at =
 
 pub answer_replied : {E : Type 0} (opening : SnapshotParts) (query : QueryView) (before after : Known) (answer : AuditedAnswer) (result : Result Reply E)
     → IsHeadline opening query before after answer → IfOk result (λ r. r.status ≡ Done)
-    → IfOk result (λ r. r.text.items ≡ reply_text Done (body_text answer.parts.items answer.rows.items))
-    → IfOk result (λ r. IsQueryReply opening query before after r.status r.text.items)
+    → IfOk result (λ r. text_of r ≡ reply_text Done (body_text answer.parts.items answer.rows.items))
+    → IfOk result (λ r. IsQueryReply opening query before after r.status (text_of r))
 answer_replied opening query before after answer (Ok r) h number spelled =
     inl (record { answer = answer; headline = h; number = number; spelled = spelled })
 answer_replied opening query before after answer (Err e) h number spelled = tt
@@ -47,8 +48,8 @@ seat_refused opening event error (inr e) other = absurd (other e)
 pub conflict_replied : {E : Type 0} (opening : SnapshotParts) (event : Event) (before after : Worker) (error : CommitError) (result : Result Reply E)
     → after ≡ before → (error ≢ Memory → IsRefusedAfter opening error event)
     → IfOk result (λ _. error ≢ Memory) → IfOk result (λ r. r.status ≡ Conflict)
-    → IfOk result (λ r. r.text.items ≡ reply_text Conflict (conflict_body error))
-    → IfOk result (λ r. IsEventReply opening event before after r.status r.text.items)
+    → IfOk result (λ r. text_of r ≡ reply_text Conflict (conflict_body error))
+    → IfOk result (λ r. IsEventReply opening event before after r.status (text_of r))
 conflict_replied opening event before after error (Ok r) same found no_memory number spelled =
     inr (record { error = error; found = found no_memory; no_memory = no_memory; same = same; number = number; spelled = spelled })
 conflict_replied opening event before after error (Err e) same found no_memory number spelled = tt

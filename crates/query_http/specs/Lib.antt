@@ -6,3 +6,4 @@ pub mod Headline
 pub mod Refusals
 pub mod Writing
 pub mod Serving
+pub mod Made

@@ -9,6 +9,7 @@ ghost use Rattle.head.specs.declared.error.CommitError.TheVariants.{Memory};
 ghost use Rattle.requests.specs.Fitting.{IsFit};
 ghost use Rattle.requests.specs.Replies.{reply_text, done_text};
 ghost use Rattle.requests.specs.declared.status.Status.TheVariants.{Done, Conflict};
+ghost use Rattle.query_http.specs.Made.{text_of};
 ghost use Rattle.query_http.specs.Reply.{body_text};
 ghost use Rattle.query_http.specs.Serving.{worker, IsIdle, IsRefusal, conflict_body};
 ghost use Rattle.query_http.specs.Serving.{IsQueryReply, IsEventReply, IsRequestReply};
@@ -17,63 +18,53 @@ ghost use Rattle.query_http.specs.Serving.{refused_at as place_refused};
 use crate::audited::AuditedAnswer;
 use crate::error::AskError;
 use crate::headline::ask;
-use crate::reply::body;
+use crate::made::Reply;
+use crate::reply::body_behind;
 use head::CommitError;
 use labels::{LabelSet, Sample};
 use matchers::{Matcher, Query};
-use requests::{Cause, Refusal, Request, Status, done_reply, success_reply};
+use requests::{Cause, HEAD_ROOM, Refusal, Request, Status, done_reply, place_success_head};
 use snapshots::{Appender, Committer, Naming, Pass, Seat};
 use std::alloc::{AllocError, Global};
 use std::sync::Wait;
 
-/// A reply: its status, and its whole text.
-#[derive(Drop)]
-pub(crate) struct Reply {
-    pub(crate) status: Status,
-    pub(crate) text: Vec<u8>,
-}
-
 /// The reply of a refusal.
 pub(crate) fn refusal_reply(alloc: Global, refusal: &Refusal) -> Result<Reply, AllocError>
-    ensures { IfOk result (λ r. IsRefusal refusal.now r.status r.text.items) }
+    ensures { IfOk result (λ r. IsRefusal refusal.now r.status (text_of r)) }
 {
     let text = refusal.reply(alloc)?;
-    Ok(Reply {
-        status: refusal.status(),
-        text,
-    })
+    Ok(Reply::new(refusal.status(), text))
 }
 
 /// The reply of a change that was made.
 fn change_reply(alloc: Global) -> Result<Reply, AllocError>
     ensures number { IfOk result (λ r. r.status ≡ Done) }
-    ensures spelled { IfOk result (λ r. r.text.items ≡ done_text) }
+    ensures spelled { IfOk result (λ r. text_of r ≡ done_text) }
 {
     let text = done_reply(alloc)?;
-    Ok(Reply {
-        status: Status::Done,
-        text,
-    })
+    Ok(Reply::new(Status::Done, text))
 }
 
 /// The reply that carries an answer.
 fn answer_reply(alloc: Global, answer: &AuditedAnswer) -> Result<Reply, AllocError>
     ensures number { IfOk result (λ r. r.status ≡ Done) }
-    ensures spelled { IfOk result (λ r. r.text.items
+    ensures spelled { IfOk result (λ r. (text_of r)
         ≡ reply_text Done (body_text answer.now.parts.items answer.now.rows.items)) }
 {
-    let body = body(alloc, answer.parts.as_slice(), answer.rows.as_slice())?;
-    let text = success_reply(alloc, body.as_slice())?;
+    let parts = answer.parts.as_slice();
+    let mut bytes = body_behind(alloc, HEAD_ROOM, parts, answer.rows.as_slice())?;
+    let start = place_success_head(bytes.as_mut_slice(), HEAD_ROOM);
     Ok(Reply {
         status: Status::Done,
-        text,
+        bytes,
+        start,
     })
 }
 
 /// Answers a query from the pass's next snapshot, or with `H10`.
 fn select<J: Naming>(alloc: Global, pass: &mut Pass<J>, query: &Query) -> Result<Reply, AllocError>
     ensures reply { IfOk result (λ r.
-        IsQueryReply J.opening query.now pass.old pass.new r.status r.text.items) }
+        IsQueryReply J.opening query.now pass.old pass.new r.status (text_of r)) }
     ensures told { pass.new.told ≡ pass.old.told }
     ensures seen { IsPrefix pass.old.seen pass.new.seen }
 {
@@ -101,7 +92,7 @@ fn conflict_reply(alloc: Global, error: CommitError) -> Result<Reply, AllocError
     ensures no_memory { IfOk result (λ _. error ≢ Memory) }
     ensures number { IfOk result (λ r. r.status ≡ Conflict) }
     ensures spelled { IfOk result (λ r.
-        r.text.items ≡ reply_text Conflict (conflict_body error)) }
+        text_of r ≡ reply_text Conflict (conflict_body error)) }
 {
     if error == CommitError::Memory {
         return Err(AllocError);
@@ -136,7 +127,7 @@ fn write<J: Naming, C: Wait + Drop>(
     committer: &Committer<J, C>,
 ) -> Result<Reply, AllocError>
     ensures reply { IfOk result (λ r. IsEventReply J.opening (batch samples.items)
-        (worker pass.old seat.old) (worker pass.new seat.new) r.status r.text.items) }
+        (worker pass.old seat.old) (worker pass.new seat.new) r.status (text_of r)) }
     ensures kept { OnErr result ((pass.new ≡ pass.old) × (seat.new ≡ seat.old)) }
 {
     let appender = appender_of(alloc, samples)?;
@@ -162,7 +153,7 @@ fn delete<J: Naming, C: Wait + Drop>(
     requires { IsTrue (is_deletion asked.0.items asked.1 asked.2) }
     ensures reply { IfOk result (λ r. IsEventReply J.opening
         (deletion asked.0.items asked.1 asked.2)
-        (worker pass.old seat.old) (worker pass.new seat.new) r.status r.text.items) }
+        (worker pass.old seat.old) (worker pass.new seat.new) r.status (text_of r)) }
     ensures kept { OnErr result ((pass.new ≡ pass.old) × (seat.new ≡ seat.old)) }
 {
     let (matchers, from, to) = asked;
@@ -187,7 +178,7 @@ fn cut_at<J: Naming, C: Wait + Drop>(
 ) -> Result<Reply, AllocError>
     requires { IsTrue (is_time at) }
     ensures reply { IfOk result (λ r. IsEventReply J.opening (cut at)
-        (worker pass.old seat.old) (worker pass.new seat.new) r.status r.text.items) }
+        (worker pass.old seat.old) (worker pass.new seat.new) r.status (text_of r)) }
     ensures kept { OnErr result ((pass.new ≡ pass.old) × (seat.new ≡ seat.old)) }
 {
     let done = change_reply(alloc)?;
@@ -212,7 +203,7 @@ pub(crate) fn act<J: Naming, C: Wait + Drop>(
 ) -> Result<Reply, AllocError>
     requires { IsFit request }
     ensures reply { IfOk result (λ r. IsRequestReply J.opening request
-        (worker pass.old seat.old) (worker pass.new seat.new) r.status r.text.items) }
+        (worker pass.old seat.old) (worker pass.new seat.new) r.status (text_of r)) }
     ensures idle { OnErr result (IsIdle (worker pass.old seat.old) (worker pass.new seat.new)) }
 {
     match request {

@@ -3,10 +3,12 @@
 ghost use Rattle.std.specs.Prelude.{◌≡◌, [], IfOk, IfErr, IfSome, OnErr, IsErrOf};
 ghost use Rattle.requests.specs.Edge.{IsCounted};
 ghost use Rattle.requests.specs.Fitting.{IsFit};
+ghost use Rattle.query_http.specs.Made.{text_of};
 ghost use Rattle.query_http.specs.Serving.{worker, IsIdle, IsRefusal, IsSilent, Serves};
 ghost use Rattle.query_http.specs.Serving.{IsRequestReply, IsReply};
 
-use crate::actions::{Reply, act, refusal_reply};
+use crate::actions::{act, refusal_reply};
+use crate::made::Reply;
 use crate::outlet::{Outlet, write_whole};
 use requests::{Inlet, ReadError, Refusal, Request, Status, read_request};
 use snapshots::{Committer, Naming, Pass, Seat};
@@ -30,7 +32,7 @@ pub enum Served {
 
 /// The reply of a refusal, or that there is no memory for it.
 fn turn_away(alloc: Global, refusal: &Refusal) -> Result<Reply, Served>
-    ensures refusal { IfOk result (λ r. IsRefusal refusal.now r.status r.text.items) }
+    ensures refusal { IfOk result (λ r. IsRefusal refusal.now r.status (text_of r)) }
     ensures memory { IfErr result (λ s. s ≡ Served.NoMemory) }
 {
     match refusal_reply(alloc, refusal) {
@@ -50,7 +52,7 @@ fn do_asked<J: Naming, C: Wait + Drop>(
 ) -> Result<Reply, Served>
     requires { IsFit request }
     ensures reply { IfOk result (λ r. IsRequestReply J.opening request
-        (worker pass.old seat.old) (worker pass.new seat.new) r.status r.text.items) }
+        (worker pass.old seat.old) (worker pass.new seat.new) r.status (text_of r)) }
     ensures memory { IfErr result (λ s. s ≡ Served.NoMemory) }
     ensures idle { OnErr result (IsIdle (worker pass.old seat.old) (worker pass.new seat.new)) }
 {
@@ -70,7 +72,7 @@ fn reply_to<J: Naming, C: Wait + Drop, R: Inlet>(
     committer: &Committer<J, C>,
 ) -> Result<Reply, Served>
     ensures reply { IfOk result (λ r. IsReply J.opening (R.input reader.old)
-        (worker pass.old seat.old) (worker pass.new seat.new) r.status r.text.items) }
+        (worker pass.old seat.old) (worker pass.new seat.new) r.status (text_of r)) }
     ensures silent { IfErr result IsSilent }
     ensures idle { OnErr result (IsIdle (worker pass.old seat.old) (worker pass.new seat.new)) }
     ensures closed { IsErrOf result Served.Closed
@@ -120,7 +122,7 @@ pub fn serve_one<J: Naming, C: Wait + Drop, R: Inlet, W: Outlet>(
         Ok(reply) => reply,
         Err(served) => return served,
     };
-    match write_whole(writer, reply.text.as_slice()) {
+    match write_whole(writer, reply.text()) {
         Ok(()) => Served::Replied(reply.status),
         Err(_) => Served::WriteFault,
     }

@@ -8,7 +8,7 @@ ghost use Rattle.query_http.specs.Later.{later_interval, later_searched, later_s
 use crate::audited::AnsweredPart;
 use crate::brackets::close_list;
 use crate::number::append_natural;
-use crate::rows::append_rows;
+use crate::row_text::RowText;
 use crate::strings::append_string;
 use cover::{Interval, PartAnswer, Verdict};
 use labels::SeriesRef;
@@ -93,6 +93,7 @@ fn append_later_searched(
     alloc: Global,
     out: &mut Vec<u8>,
     answer: &PartAnswer,
+    rows: &RowText<'_>,
 ) -> Result<(), AllocError>
     ensures { OnOk result (out.new.items ≡ out.old.items ++ later_searched answer.now) }
 {
@@ -102,7 +103,7 @@ fn append_later_searched(
     out.extend_from_slice(b",\"part\":")?;
     append_string(out, name.as_str())?;
     out.extend_from_slice(b",\"rows\":")?;
-    append_rows(out, answer.rows.as_slice())?;
+    rows.append_part(out, answer.rows.as_slice())?;
     out.extend_from_slice(b",\"separators\":")?;
     append_references(out, answer.cover.separators.as_slice())?;
     out.push(b'}')?;
@@ -125,11 +126,12 @@ fn append_later_part(
     alloc: Global,
     out: &mut Vec<u8>,
     part: &AnsweredPart,
+    rows: &RowText<'_>,
 ) -> Result<(), AllocError>
     ensures { OnOk result (out.new.items ≡ out.old.items ++ later_part part.now) }
 {
     match part {
-        AnsweredPart::Searched(answer) => append_later_searched(alloc, out, answer),
+        AnsweredPart::Searched(answer) => append_later_searched(alloc, out, answer, rows),
         AnsweredPart::Skipped(name) => append_later_skipped(alloc, out, *name),
     }
 }
@@ -139,24 +141,26 @@ fn append_later_parts(
     alloc: Global,
     out: &mut Vec<u8>,
     parts: &[AnsweredPart],
+    rows: &RowText<'_>,
 ) -> Result<(), AllocError>
     ensures { OnOk result (out.new.items ≡ out.old.items ++ later_text part_data parts.now) }
 {
     for part in parts {
-        append_later_part(alloc, out, part)?;
+        append_later_part(alloc, out, part, rows)?;
     }
     Ok(())
 }
 
-/// Appends what is told of each part as a list.
+/// Appends what is told of each part as a list. The rows of all parts are known beside them.
 pub fn append_parts(
     alloc: Global,
     out: &mut Vec<u8>,
     parts: &[AnsweredPart],
+    rows: &RowText<'_>,
 ) -> Result<(), AllocError>
     ensures { OnOk result (out.new.items ≡ out.old.items ++ compact_text (list_data part_data parts.now)) }
 {
     let start = out.len();
-    append_later_parts(alloc, out, parts)?;
+    append_later_parts(alloc, out, parts, rows)?;
     close_list(out, start, b'[', b']')
 }

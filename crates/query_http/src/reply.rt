@@ -2,12 +2,12 @@
 //!
 //! Each item of a list is written with a comma before it; the first comma then becomes the opening bracket.
 
-ghost use Rattle.std.specs.Prelude.{◌≡◌, ◌++◌, OnOk, IfOk};
+ghost use Rattle.std.specs.Prelude.{◌≡◌, ◌≤◌, ◌++◌, OnOk, IfOk, drop, vec_len};
 ghost use Rattle.query_http.specs.Reply.{body_text};
 
 use crate::audited::AnsweredPart;
 use crate::parts::append_parts;
-use crate::rows::append_rows;
+use crate::row_text::{RowText, room_of_rows};
 use cover::PartAnswer;
 use labels::Row;
 use std::alloc::{AllocError, Global};
@@ -20,22 +20,13 @@ fn append_body(
 ) -> Result<(), AllocError>
     ensures { OnOk result (out.new.items ≡ out.old.items ++ body_text parts.now rows.now) }
 {
+    let text = RowText::new(alloc, rows)?;
     out.extend_from_slice(b"{\"parts\":")?;
-    append_parts(alloc, out, parts)?;
+    append_parts(alloc, out, parts, &text)?;
     out.extend_from_slice(b",\"rows\":")?;
-    append_rows(out, rows)?;
+    text.append(out)?;
     out.push(b'}')?;
     Ok(())
-}
-
-/// About as many bytes as rows take: the labels of most rows 256, and most samples 24.
-fn room_of_rows(rows: &[Row]) -> usize {
-    let mut room = 256usize;
-    for row in rows {
-        let samples = row.samples().len().saturating_mul(24);
-        room = room.saturating_add(256).saturating_add(samples);
-    }
-    room
 }
 
 /// About as many bytes as an answer takes: an interval with its separator 80.
@@ -56,13 +47,29 @@ fn room_of(parts: &[AnsweredPart], rows: &[Row]) -> usize {
     room
 }
 
-/// The text of the answer to a query: what is told of each part, and the rows of all, as compact JSON with the members
-/// in the order of their names. It takes time and memory as its length, and at most a few allocations beside one for
-/// each part.
+/// The text of the answer to a query behind so many bytes of room.
+pub(crate) fn body_behind(
+    alloc: Global,
+    room: usize,
+    parts: &[AnsweredPart],
+    rows: &[Row],
+) -> Result<Vec<u8>, AllocError>
+    ensures room { IfOk result (λ bytes. room ≤ vec_len bytes) }
+    ensures text { IfOk result (λ bytes. drop room bytes.items ≡ body_text parts.now rows.now) }
+{
+    let all = room_of(parts, rows).saturating_add(room);
+    let mut out = Vec::with_capacity(alloc, all)?;
+    out.resize(room, 0)?;
+    append_body(alloc, &mut out, parts, rows)?;
+    Ok(out)
+}
+
+/// The text of the answer to a query: what is told of each part, and the rows of all, as compact
+/// JSON with the members in the order of their names. Rows that are those of one part are written
+/// once and copied. It takes time and memory as its length, and at most a few allocations beside
+/// one for each part.
 pub fn body(alloc: Global, parts: &[AnsweredPart], rows: &[Row]) -> Result<Vec<u8>, AllocError>
     ensures { IfOk result (λ text. text.items ≡ body_text parts.now rows.now) }
 {
-    let mut out = Vec::with_capacity(alloc, room_of(parts, rows))?;
-    append_body(alloc, &mut out, parts, rows)?;
-    Ok(out)
+    body_behind(alloc, 0, parts, rows)
 }

@@ -8,10 +8,11 @@
 //! range and at most 16 matchers, a cut is at a time.
 //!
 //! A [`Refusal`] is one of `H1` to `H10`; its `reply` is the whole text that answers it.
-//! [`success_reply`] is the reply that carries a body, and [`done_reply`] the one of a change that
-//! was made. The writing side and what is done with a request belong to the caller. It stands on
-//! `labels` and `matchers`, on `httparse` for heads, `form_urlencoded` for query strings and
-//! `serde_json` for bodies; statuses are those of RFC 9110 and RFC 6585.
+//! [`place_success_head`] puts before a body what makes it a reply, and [`done_reply`] is the one of
+//! a change that was made. The writing side and what is done with a request belong to the caller.
+//! It stands on `labels` and `matchers`, on `httparse` for heads, `form_urlencoded` for query
+//! strings, `serde_json` for bodies and `itoa` for digits; statuses are those of RFC 9110 and RFC
+//! 6585.
 //!
 //! ```text
 //! match read_request(alloc, &mut inlet) {
@@ -51,6 +52,6 @@ mod write;
 pub use edge::{Fault, Inlet};
 pub use read::read_request;
 pub use refusal::{Cause, Refusal};
-pub use reply::{done_reply, success_reply};
+pub use reply::{HEAD_ROOM, done_reply, place_success_head};
 pub use request::{MAX_SAMPLES, ReadError, Request};
 pub use status::Status;

@@ -1,12 +1,13 @@
 //! The text of a reply.
 
-ghost use Rattle.std.specs.Prelude.{◌≡◌, IfOk, length, string_bytes};
+ghost use Rattle.std.specs.Prelude.{◌≡◌, ◌≤◌, ◌+◌, ◌++◌, IfOk, drop, length, string_bytes};
 ghost use Rattle.serde_json.specs.View.{view};
 ghost use Rattle.serde_json.specs.Written.{compact_text};
 ghost use Rattle.requests.specs.Refusals.{told_cause, code_of, status_of, cause_of};
 ghost use Rattle.requests.specs.Replies.{refusal_data, cause_data, done_data, head_text, reply_text, refusal_body, refusal_text, done_text};
 
 use crate::{Cause, Refusal, Status};
+use itoa::write_digits;
 use serde_json::{Value, json};
 use std::alloc::{AllocError, Global};
 
@@ -26,11 +27,42 @@ fn reply(alloc: Global, status: Status, body: &[u8]) -> Result<Vec<u8>, AllocErr
     Ok(text)
 }
 
-/// The reply of success that carries a body.
-pub fn success_reply(alloc: Global, body: &[u8]) -> Result<Vec<u8>, AllocError>
-    ensures { IfOk result (λ text. text.items ≡ reply_text Status.Done body.now) }
+/// Writes a text so that it ends at `end`, and returns where it starts.
+fn place_text(text: &[u8], buf: &mut [u8], end: usize) -> usize
+    requires room { length text.now ≤ end }
+    requires within { end ≤ length buf.old }
+    ensures start { result + length text.now ≡ end }
+    ensures written { drop result buf.new ≡ text.now ++ drop end buf.old }
 {
-    reply(alloc, Status::Done, body)
+    let mut at = end;
+    let mut left = text.len();
+    while left > 0 {
+        left -= 1;
+        at -= 1;
+        buf[at] = text[left];
+    }
+    at
+}
+
+/// The most bytes that a reply of success has before its body.
+pub const HEAD_ROOM: usize = 128;
+
+/// Writes what a reply of success has before its body, which goes from `end` to the end of the
+/// buffer, and returns where the reply starts.
+pub fn place_success_head(buf: &mut [u8], end: usize) -> usize
+    requires room { HEAD_ROOM ≤ end }
+    requires within { end ≤ length buf.old }
+    ensures start { result ≤ end }
+    ensures written { drop result buf.new ≡ reply_text Status.Done (drop end buf.old) }
+{
+    let len = (buf.len() - end) as u64;
+    let at = place_text(b"\r\nConnection: close\r\n\r\n", buf, end);
+    let at = write_digits(len, buf, at);
+    place_text(
+        b"HTTP/1.1 200 OK\r\nContent-Type: application/json\r\nContent-Length: ",
+        buf,
+        at,
+    )
 }
 
 /// The reply to a change that was made: the body is `{"ok":true}`.
@@ -38,7 +70,7 @@ pub fn done_reply(alloc: Global) -> Result<Vec<u8>, AllocError>
     ensures { IfOk result (λ text. text.items ≡ done_text) }
 {
     let body = done_value(alloc)?.to_vec(alloc)?;
-    success_reply(alloc, body.as_slice())
+    reply(alloc, Status::Done, body.as_slice())
 }
 
 fn done_value(alloc: Global) -> Result<Value, AllocError>

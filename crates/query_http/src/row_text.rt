@@ -1,0 +1,101 @@
+//! Rows with their text: those of all parts are told of once more in a part that alone has rows.
+
+ghost use Rattle.std.specs.Prelude.{◌≡◌, ◌++◌, OnOk, IfOk};
+ghost use Rattle.std.specs.Bool.{OnTrue};
+ghost use Rattle.serde_json.specs.Written.{compact_text};
+ghost use Rattle.query_http.specs.Reply.{row_data, list_data};
+
+use crate::rows::append_rows;
+use labels::{LabelSet, Row, Sample};
+use std::alloc::{AllocError, Global};
+
+/// About as many bytes as rows take: the labels of most rows 256, and most samples 24.
+pub fn room_of_rows(rows: &[Row]) -> usize {
+    let mut room = 256usize;
+    for row in rows {
+        let samples = row.samples().len().saturating_mul(24);
+        room = room.saturating_add(256).saturating_add(samples);
+    }
+    room
+}
+
+fn is_same_sample(a: Sample, b: Sample) -> bool
+    ensures { OnTrue result (a ≡ b) }
+{
+    a.t() == b.t() && a.v() == b.v()
+}
+
+fn are_same_samples(a: &[Sample], b: &[Sample]) -> bool
+    ensures { OnTrue result (a.now ≡ b.now) }
+{
+    if a.len() != b.len() {
+        return false;
+    }
+    for at in 0..a.len() {
+        if !is_same_sample(a[at], b[at]) {
+            return false;
+        }
+    }
+    true
+}
+
+fn is_same_set(a: &LabelSet, b: &LabelSet) -> bool
+    ensures { OnTrue result (a.now ≡ b.now) }
+{
+    a == b
+}
+
+fn is_same(a: &Row, b: &Row) -> bool
+    ensures { OnTrue result (a.now ≡ b.now) }
+{
+    is_same_set(a.labels(), b.labels()) && are_same_samples(a.samples(), b.samples())
+}
+
+fn are_same(a: &[Row], b: &[Row]) -> bool
+    ensures { OnTrue result (a.now ≡ b.now) }
+{
+    if a.len() != b.len() {
+        return false;
+    }
+    for at in 0..a.len() {
+        if !is_same(&a[at], &b[at]) {
+            return false;
+        }
+    }
+    true
+}
+
+/// Rows with their text, which is written once.
+#[derive(Drop)]
+pub struct RowText<'a> {
+    rows: &'a [Row],
+    text: Vec<u8>,
+    ghost spelled: { text.items ≡ compact_text (list_data row_data rows.now) },
+}
+
+impl<'a> RowText<'a> {
+    pub fn new(alloc: Global, rows: &'a [Row]) -> Result<RowText<'a>, AllocError>
+        ensures { IfOk result (λ text. text.rows.now ≡ rows.now) }
+    {
+        let mut text = Vec::with_capacity(alloc, room_of_rows(rows))?;
+        append_rows(&mut text, rows)?;
+        Ok(RowText { rows, text })
+    }
+
+    /// Appends the rows as a list.
+    pub fn append(&self, out: &mut Vec<u8>) -> Result<(), AllocError>
+        ensures { OnOk result (out.new.items ≡ out.old.items ++ compact_text (list_data row_data self.now.rows.now)) }
+    {
+        out.extend_from_slice(self.text.as_slice())
+    }
+
+    /// Appends the rows of a part as a list; where they are the same, their text is copied.
+    pub fn append_part(&self, out: &mut Vec<u8>, rows: &[Row]) -> Result<(), AllocError>
+        ensures { OnOk result (out.new.items ≡ out.old.items ++ compact_text (list_data row_data rows.now)) }
+    {
+        if are_same(rows, self.rows) {
+            return self.append(out);
+        }
+        append_rows(out, rows)
+    }
+}
