@@ -11,7 +11,7 @@ use Rattle.cover.specs.Certificates.{IsValidCertificate, IsLeftmost, IsLeast, Ar
 use Rattle.cover.specs.declared.certificate.Interval.{Interval}
 use Rattle.cover.specs.declared.part_cover.PartAnswer.{PartAnswer}
 use Rattle.block_search.specs.Skipping.{AskedPart}
-use Rattle.block_search.specs.Answers.{IsAnswerOf}
+use Rattle.block_search.specs.Answers.{IsAnswer, IsAnswerOf}
 
 pub answer_of : (query : QueryView) (p : AskedPart) (r : Result PartAnswer AllocError) → IsPart p.part
     → IfOk r (λ a. a.part ≡ p.name)
@@ -29,3 +29,9 @@ answer_of query p (Ok a) is_part name rows as_many leftmost least begins separat
   answers = record { rows = rows; as_many = as_many; leftmost = leftmost; least = least; begins = begins; separated = separated; moves = moves };
 }
 answer_of query p (Err e) is_part name rows as_many leftmost least begins separated moves = tt
+
+-- the same for an answer under the part's name
+pub named_answer : (query : QueryView) (p : AskedPart) (r : Result PartAnswer AllocError) → IsPart p.part
+    → IfOk r (λ a. a.part ≡ p.name) → IfOk r (IsAnswer query p.part) → IfOk r (IsAnswerOf query p)
+named_answer query p (Ok a) is_part name answers = record { name = name; is_part = is_part; answers = answers }
+named_answer query p (Err e) is_part name answers = tt

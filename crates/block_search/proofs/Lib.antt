@@ -1,6 +1,7 @@
 pub mod Found
 pub mod PartRows
 pub mod Lookups
+pub mod Sorted
 pub mod Steps
 pub mod Zips
 pub mod Skips

@@ -68,7 +68,7 @@ fn matched_row<S: SearchedPart>(
 }
 
 /// The rows of the series that match, in the order of their references.
-fn matched_rows<S: SearchedPart>(
+pub(crate) fn matched_rows<S: SearchedPart>(
     alloc: Global,
     source: &S,
     certificate: &[Interval],

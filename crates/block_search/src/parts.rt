@@ -6,6 +6,7 @@ ghost use Rattle.block_search.specs.Skipping.{LosesNothing};
 ghost use Rattle.block_search.specs.Places.{part_at};
 ghost use Rattle.block_search.specs.Answers.{IsAnswerOf, AreAnswers};
 
+use crate::block_rows::search_block;
 use crate::gate::Gate;
 use crate::one_part::search_part;
 use crate::skipping::searched_places;
@@ -32,6 +33,22 @@ pub(crate) fn search_place(
     }
 }
 
+/// The same, the rows of a block's many matches made by several threads.
+fn search_place_by<R: Threads + Sync>(
+    rt: &R,
+    alloc: Global,
+    snapshot: &Snapshot,
+    query: &Query,
+    place: usize,
+) -> Result<PartAnswer, AllocError>
+    ensures { IfOk result (IsAnswerOf query.now (part_at query.now snapshot.now place)) }
+{
+    match snapshot.block(place) {
+        Some(block) => search_block(rt, alloc, PartName::Block(place), block, query),
+        None => search_place(alloc, snapshot, query, place),
+    }
+}
+
 /// The answers of all parts that the query does not skip, one part after another: the blocks in their order, and then
 /// the head, which is always searched.
 pub fn search_one_by_one(
@@ -51,7 +68,8 @@ pub fn search_one_by_one(
 }
 
 /// The answer of the part at this place, of which the gate learns before the search.
-fn search_reached<G: Gate>(
+fn search_reached<R: Threads + Sync, G: Gate>(
+    rt: &R,
     alloc: Global,
     snapshot: &Snapshot,
     query: &Query,
@@ -61,7 +79,7 @@ fn search_reached<G: Gate>(
     ensures { IfOk result (IsAnswerOf query.now (part_at query.now snapshot.now place)) }
 {
     gate.reached(place);
-    search_place(alloc, snapshot, query, place)
+    search_place_by(rt, alloc, snapshot, query, place)
 }
 
 /// What the worker of each of these places found, in their order.
@@ -82,7 +100,7 @@ fn found_by_workers<R: Threads + Sync, G: Gate>(
         &|n: usize| -> Result<PartAnswer, AllocError>
             requires { n < length places.now }
             ensures { IfOk result (IsAnswerOf query.entry.now (part_at query.entry.now snapshot.entry.now (slice_index places.entry.now n))) }
-        { search_reached(alloc, snapshot, query, places[n], gate) },
+        { search_reached(rt, alloc, snapshot, query, places[n], gate) },
     )
 }
 
@@ -104,7 +122,7 @@ fn all_of(
 /// worker for each part that is searched.
 ///
 /// The calling thread is one of the workers, so that a store without blocks starts none; where no thread can be started,
-/// it searches that worker's part too. The gate learns of each part before it is searched, in the thread that does so.
+/// it searches that worker's part too. A worker whose block has many matches shares out their rows over more threads. The gate learns of each part before it is searched, in the thread that does so.
 /// It takes as long as the search of its longest part, where there are as many processors as parts.
 pub fn search<R: Threads + Sync, G: Gate>(
     rt: &R,

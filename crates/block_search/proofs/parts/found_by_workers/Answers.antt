@@ -12,11 +12,11 @@ use Rattle.block_search.proofs.parts.found_by_workers.Goals as goal
 use Rattle.block_search.proofs.parts.found_by_workers.Lts as lts
 
 -- Threads may share what the closure captures. It stands by itself, since the search for it also walks all that a goal knows.
-closure-sync : (g : Over) (κs : _) → IsSync (param 1 g.row.G) → IsSync (param 3 (lts.arg-0-3 g.row.R g.row.G g.R.laws g.G.laws g.R.Threads-dict g.G.Gate-dict κs))
-closure-sync g κs gate = search (sendable, heap.crosses, Query-sync, Snapshot-sync) depth 60 fits 20000
+closure-sync : (g : Over) (κs : _) → IsSync (param 1 g.row.G) → IsSync (param 0 g.row.R) → IsSync (param 3 (lts.arg-0-3 g.row.R g.row.G g.R.laws g.G.laws g.R.Threads-dict g.G.Gate-dict κs))
+closure-sync g κs gate rt = search (sendable, heap.crosses, Query-sync, Snapshot-sync) depth 60 fits 20000
 
 pub map_indices-requires-sync-F : goal.map_indices-requires-sync-F
-map_indices-requires-sync-F g c κs within = closure-sync g κs c.type_bounds.sync-G
+map_indices-requires-sync-F g c κs within = closure-sync g κs c.type_bounds.sync-G c.type_bounds.sync-R
 
 pub returns : goal.returns
 returns g c =

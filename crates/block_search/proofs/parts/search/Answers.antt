@@ -1,4 +1,4 @@
-use Rattle.std.proofs.Common.{ℕ, ◌≡◌, List, Ok, Result, map, sym, subst, ap, ◌∙◌, IfOk}
+use Rattle.std.proofs.Common.{ℕ, List, Result, map, sym, subst, ap, ◌∙◌, IfOk}
 use Rattle.std.specs.List.{AllZip}
 use Rattle.std.specs.declared.alloc.AllocError.{AllocError}
 use Rattle.std.proofs.lemmas.Result.{IfOk-weaker}

@@ -1,0 +1,37 @@
+-- The rows that a certificate stands for, sorted, are those of the part's content.
+use Rattle.std.proofs.Common.{◌≡◌, ap, sym, ◌∙◌, subst, length, List, [], ◌∷◌}
+use Rattle.std.specs.List.{filter_map}
+use Rattle.std.specs.List.Sorted.{IsPermutation, IsSortedBy, IsStableBy}
+use Rattle.std.proofs.lemmas.List.Sorted.{length_permutation}
+use Rattle.labels.specs.Contents.{selected}
+use Rattle.labels.specs.Rows.{Row, AreRows, row_before}
+use Rattle.labels.specs.Parts.{Part, IsPart, content_of}
+use Rattle.matchers.specs.Views.{QueryView}
+use Rattle.matchers.specs.Satisfies.{satisfies_all}
+use Rattle.cover.specs.Asking.{matching_references}
+use Rattle.cover.specs.Certificates.{matches_of}
+use Rattle.cover.specs.declared.certificate.Interval.{Interval}
+use Rattle.block_search.specs.Answering.{row_of}
+use Rattle.block_search.proofs.Found.{rows_found}
+use Rattle.block_search.proofs.Lookups.{rows_matched, length-found}
+use Rattle.block_search.proofs.PartRows.{AreRows-found}
+
+module _ (query : QueryView) (part : Part) (is : IsPart part) (certificate : List Interval) (matches : matches_of certificate ≡ matching_references part query) where
+  found : filter_map (row_of query.from query.to part) certificate ≡ rows_found (satisfies_all query.matchers) query.from query.to part
+  found = rows_matched (satisfies_all query.matchers) query.from query.to part certificate is.ascending matches
+
+  pub sorted_rows : (rows sorted : List Row) → rows ≡ filter_map (row_of query.from query.to part) certificate → IsPermutation rows sorted
+      → IsSortedBy row_before sorted → IsStableBy row_before rows sorted → AreRows sorted (selected (satisfies_all query.matchers) query.from query.to (content_of (part ∷ [])))
+  sorted_rows rows sorted e moved up stable =
+      AreRows-found (satisfies_all query.matchers) query.from query.to part is sorted
+      (subst (λ (xs : List Row). IsPermutation xs sorted) (e ∙ found) moved)
+      up
+      (subst (λ (xs : List Row). IsStableBy row_before xs sorted) (e ∙ found) stable)
+
+  pub sorted_length : (rows sorted : List Row) → rows ≡ filter_map (row_of query.from query.to part) certificate → IsPermutation rows sorted
+      → length sorted ≡ length (matches_of certificate)
+  sorted_length rows sorted e moved =
+      length_permutation rows sorted moved
+      ∙ ap length (e ∙ found)
+      ∙ length-found (satisfies_all query.matchers) query.from query.to part
+      ∙ sym (ap length matches)
