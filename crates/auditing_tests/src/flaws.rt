@@ -1,15 +1,13 @@
 //! Each flaw of an answer to `up{job="a"}`, 0 to 100, and which of two is told.
 
-use super::{
-    BY_JOB, BY_NAME, END, Intervals, MATCH, SILENT, SOUND, SPLIT, answer, query, table_with,
-    worked_rows, worked_table,
+use crate::answers::{
+    BY_JOB, BY_NAME, END, FOUND, Intervals, MATCH, PLACES, SILENT, SOUND, SOUND_INTERVALS, Said,
+    answer, query,
 };
-use crate::{AuditError, Flaw, audit, audit_skip};
+use crate::worked_block::{ALL_BUT_ONE, CHUNKS, INDEX, TOMBSTONES, walked};
+use auditor::{AuditError, Flaw, audit, audit_skip};
 use cover::Verdict;
 use std::alloc::Global;
-
-/// What is said of the part: the intervals, the separators, and the references of the rows.
-type Said = (Intervals<'static>, &'static [u32], &'static [u32]);
 
 /// What is said, and the flaw that is told.
 type Told = (Said, Flaw);
@@ -23,24 +21,29 @@ const JOB_IS_A: Flaw = Flaw::NotRejected { matcher: 1 };
 
 const FIRST_TWO: Flaw = Flaw::SeparatorsFit { at: 0 };
 
-const PLACES: &[u32] = &[4, 6, 7, 8];
+/// The sound intervals, the first run split.
+const SPLIT: Intervals = &[
+    (4, 5, BY_NAME),
+    (5, 6, BY_NAME),
+    (6, 7, MATCH),
+    (7, 8, MATCH),
+    (8, END, BY_JOB),
+];
 
 /// The places of the split answer: the first two share a run.
 const MORE_PLACES: &[u32] = &[4, 5, 6, 7, 8];
 
-const FOUND: &[u32] = &[6, 7];
-
 const NONE: &[u32] = &[];
 
 /// The last interval has another verdict, or another end.
-const LAST_ABSENT: Intervals<'static> = &[
+const LAST_ABSENT: Intervals = &[
     (4, 6, BY_NAME),
     (6, 7, MATCH),
     (7, 8, MATCH),
     (8, END, ABSENT),
 ];
 
-const TOO_SHORT: Intervals<'static> = &[
+const TOO_SHORT: Intervals = &[
     (4, 6, BY_NAME),
     (6, 7, MATCH),
     (7, 8, MATCH),
@@ -48,35 +51,35 @@ const TOO_SHORT: Intervals<'static> = &[
 ];
 
 /// 4, or 5, is in no run.
-const TOO_LATE: Intervals<'static> = &[
+const TOO_LATE: Intervals = &[
     (5, 6, BY_NAME),
     (6, 7, MATCH),
     (7, 8, MATCH),
     (8, END, BY_JOB),
 ];
 
-const GAP: Intervals<'static> = &[
+const GAP: Intervals = &[
     (4, 5, BY_NAME),
     (6, 7, MATCH),
     (7, 8, MATCH),
     (8, END, BY_JOB),
 ];
 
-const MATCH_AND_GAP: Intervals<'static> = &[
+const MATCH_AND_GAP: Intervals = &[
     (4, 5, MATCH),
     (6, 7, MATCH),
     (7, 8, MATCH),
     (8, END, BY_JOB),
 ];
 
-const JOB_AND_GAP: Intervals<'static> = &[
+const JOB_AND_GAP: Intervals = &[
     (4, 5, BY_JOB),
     (6, 7, MATCH),
     (7, 8, MATCH),
     (8, END, BY_JOB),
 ];
 
-const SILENT_AND_GAP: Intervals<'static> = &[
+const SILENT_AND_GAP: Intervals = &[
     (4, 5, SILENT),
     (6, 7, MATCH),
     (7, 8, MATCH),
@@ -84,9 +87,9 @@ const SILENT_AND_GAP: Intervals<'static> = &[
 ];
 
 /// A match of two series, and of one that is rejected.
-const TWO_MATCH: Intervals<'static> = &[(4, 6, BY_NAME), (6, 8, MATCH), (8, END, BY_JOB)];
+const TWO_MATCH: Intervals = &[(4, 6, BY_NAME), (6, 8, MATCH), (8, END, BY_JOB)];
 
-const OTHER_MATCHES: Intervals<'static> = &[
+const OTHER_MATCHES: Intervals = &[
     (4, 6, BY_NAME),
     (6, 7, MATCH),
     (7, 8, MATCH),
@@ -95,10 +98,10 @@ const OTHER_MATCHES: Intervals<'static> = &[
 ];
 
 /// 6 is rejected by its name.
-const ACCEPTED: Intervals<'static> = &[(4, 7, BY_NAME), (7, 8, MATCH), (8, END, BY_JOB)];
+const ACCEPTED: Intervals = &[(4, 7, BY_NAME), (7, 8, MATCH), (8, END, BY_JOB)];
 
 /// 4 and 5 have no sample.
-const SPOKEN: Intervals<'static> = &[
+const SPOKEN: Intervals = &[
     (4, 6, SILENT),
     (6, 7, MATCH),
     (7, 8, MATCH),
@@ -116,16 +119,22 @@ const ALONE: &[Told] = &[
     ((OTHER_MATCHES, &[4, 6, 7, 8, 9], FOUND), Flaw::NotMatching),
     ((ACCEPTED, &[4, 7, 8], FOUND), NAMED_UP),
     ((SPOKEN, PLACES, FOUND), Flaw::NotSilent),
-    ((&SOUND, &[6, 7, 8], FOUND), Flaw::SeparatorCount),
-    ((&SOUND, &[4, 7, 6, 8], FOUND), Flaw::SeparatorCount),
-    ((&SOUND, &[3, 6, 7, 8], FOUND), Flaw::SeparatorCount),
-    ((&SPLIT, PLACES, FOUND), Flaw::SeparatorCount),
-    ((&SPLIT, MORE_PLACES, FOUND), FIRST_TWO),
-    ((&SOUND, PLACES, NONE), Flaw::WrongRows),
-    ((&SOUND, PLACES, &[6]), Flaw::WrongRows),
-    ((&SOUND, PLACES, &[7, 6]), Flaw::WrongRows),
-    ((&SOUND, PLACES, &[6, 6]), Flaw::WrongRows),
-    ((&SOUND, PLACES, &[6, 7, 8]), Flaw::WrongRows),
+    ((SOUND_INTERVALS, &[6, 7, 8], FOUND), Flaw::SeparatorCount),
+    (
+        (SOUND_INTERVALS, &[4, 7, 6, 8], FOUND),
+        Flaw::SeparatorCount,
+    ),
+    (
+        (SOUND_INTERVALS, &[3, 6, 7, 8], FOUND),
+        Flaw::SeparatorCount,
+    ),
+    ((SPLIT, PLACES, FOUND), Flaw::SeparatorCount),
+    ((SPLIT, MORE_PLACES, FOUND), FIRST_TWO),
+    ((SOUND_INTERVALS, PLACES, NONE), Flaw::WrongRows),
+    ((SOUND_INTERVALS, PLACES, &[6]), Flaw::WrongRows),
+    ((SOUND_INTERVALS, PLACES, &[7, 6]), Flaw::WrongRows),
+    ((SOUND_INTERVALS, PLACES, &[6, 6]), Flaw::WrongRows),
+    ((SOUND_INTERVALS, PLACES, &[6, 7, 8]), Flaw::WrongRows),
 ];
 
 /// A missing matcher, and one thing more.
@@ -235,9 +244,9 @@ const MISFIT_AND_MORE: &[Told] = &[
 
 /// Wrong separators, and wrong separators or rows.
 const SEPARATORS_AND_MORE: &[Told] = &[
-    ((&SPLIT, &[4, 5, 6, 7], FOUND), Flaw::SeparatorCount),
-    ((&SOUND, &[6, 7, 8], NONE), Flaw::SeparatorCount),
-    ((&SPLIT, MORE_PLACES, NONE), FIRST_TWO),
+    ((SPLIT, &[4, 5, 6, 7], FOUND), Flaw::SeparatorCount),
+    ((SOUND_INTERVALS, &[6, 7, 8], NONE), Flaw::SeparatorCount),
+    ((SPLIT, MORE_PLACES, NONE), FIRST_TWO),
 ];
 
 /// What was computed from lists that lie: as if `job="a"` were 4, 6 and 8, or 7 and 9.
@@ -271,33 +280,29 @@ const FROM_LYING_LISTS: &[Told] = &[
     ),
 ];
 
-/// What an audit from a time to 100 answers, where the series of a reference has its sample at 20
-/// and the others at 10.
-fn told_of(alloc: Global, late: u32, from: i64, said: &Said) -> Option<Result<(), AuditError>> {
-    let (intervals, separators, rows) = said;
-    let table = table_with(alloc, late)?;
-    let query = query(alloc, from, 100)?;
-    let rows = worked_rows(alloc, rows)?;
-    let answer = answer(alloc, intervals, separators, rows)?;
+/// What an audit from a time to 100 answers, of the worked block with these deletions.
+fn told_of(
+    alloc: Global,
+    tombstones: &[u8],
+    from: i64,
+    said: &Said,
+) -> Option<Result<(), AuditError>> {
+    let table = walked(alloc, INDEX, CHUNKS, tombstones).ok()?;
+    let query = query(alloc, from)?;
+    let answer = answer(alloc, &table, said)?;
     Some(audit(alloc, &table, &query, &answer))
-}
-
-fn is_told(alloc: Global, told: &Told) -> bool {
-    told_of(alloc, 0, 0, &told.0) == Some(Err(AuditError::Flaw(told.1)))
 }
 
 /// The first that is not answered by its flaw.
 fn first_other(alloc: Global, rows: &'static [Told]) -> Option<&'static Told> {
-    rows.iter().find(|told| !is_told(alloc, told))
-}
-
-#[test]
-fn a_sound_answer_has_no_flaw(rt: HostRuntime) {
-    assert!(rt; told_of(rt.alloc(), 0, 0, &(&SOUND, PLACES, FOUND)) == Some(Ok(())));
+    rows.iter().find(|told| {
+        told_of(alloc, TOMBSTONES, 0, &told.0) != Some(Err(AuditError::Flaw(told.1)))
+    })
 }
 
 #[test]
 fn each_flaw_is_told(rt: HostRuntime) {
+    assert!(rt; told_of(rt.alloc(), TOMBSTONES, 0, &SOUND) == Some(Ok(())));
     assert!(rt; first_other(rt.alloc(), ALONE).is_none());
 }
 
@@ -315,7 +320,7 @@ fn answers_from_lists_that_lie_are_found_out(rt: HostRuntime) {
     assert!(rt; first_other(rt.alloc(), FROM_LYING_LISTS).is_none());
 }
 
-/// From 15 on 5 alone has a sample.
+/// Answers where 5 alone has a sample, or none has one in the range.
 const ALL_SILENT: Said = (&[(4, END, SILENT)], &[4], NONE);
 
 const MATCHED_SILENT: Said = (
@@ -331,24 +336,17 @@ fn one_sample_in_the_range_is_no_silence(rt: HostRuntime) {
     let alloc = rt.alloc();
     let silent = Some(Err(AuditError::Flaw(Flaw::NotSilent)));
     let unmatched = Some(Err(AuditError::Flaw(Flaw::NotMatching)));
-    assert!(rt; told_of(alloc, 5, 15, &ALL_SILENT) == silent);
-    assert!(rt; told_of(alloc, 5, 15, &MATCHED_SILENT) == unmatched);
-    assert!(rt; told_of(alloc, 5, 15, &REST_SILENT) == Some(Ok(())));
-}
-
-/// From 20 on no series has a sample.
-#[test]
-fn samples_outside_the_range_do_not_match(rt: HostRuntime) {
-    let alloc = rt.alloc();
-    let unmatched = Some(Err(AuditError::Flaw(Flaw::NotMatching)));
-    assert!(rt; told_of(alloc, 0, 20, &ALL_SILENT) == Some(Ok(())));
-    assert!(rt; told_of(alloc, 0, 20, &(&SOUND, PLACES, FOUND)) == unmatched);
+    assert!(rt; told_of(alloc, ALL_BUT_ONE, 0, &ALL_SILENT) == silent);
+    assert!(rt; told_of(alloc, ALL_BUT_ONE, 0, &MATCHED_SILENT) == unmatched);
+    assert!(rt; told_of(alloc, ALL_BUT_ONE, 0, &REST_SILENT) == Some(Ok(())));
+    assert!(rt; told_of(alloc, TOMBSTONES, 20, &ALL_SILENT) == Some(Ok(())));
+    assert!(rt; told_of(alloc, TOMBSTONES, 20, &SOUND) == unmatched);
 }
 
 /// What is told of the part where it is skipped.
 fn told_of_skip(alloc: Global, from: i64) -> Option<Result<(), AuditError>> {
-    let table = worked_table(alloc)?;
-    let query = query(alloc, from, 100)?;
+    let table = walked(alloc, INDEX, CHUNKS, TOMBSTONES).ok()?;
+    let query = query(alloc, from)?;
     Some(audit_skip(alloc, &table, &query))
 }
 
@@ -357,4 +355,22 @@ fn a_part_is_skipped_where_it_has_nothing_to_show(rt: HostRuntime) {
     let hidden = Some(Err(AuditError::Flaw(Flaw::Hidden)));
     assert!(rt; told_of_skip(rt.alloc(), 0) == hidden);
     assert!(rt; told_of_skip(rt.alloc(), 20) == Some(Ok(())));
+}
+
+const CODES: [(Flaw, &str); 10] = [
+    (Flaw::NotAPartition, "F1"),
+    (Flaw::NotMatching, "F2"),
+    (Flaw::NotRejected { matcher: 1 }, "F3"),
+    (Flaw::SeparatorCount, "F4"),
+    (Flaw::SeparatorsFit { at: 0 }, "F5"),
+    (Flaw::WrongRows, "F6"),
+    (Flaw::UnknownMatcher, "F7"),
+    (Flaw::NotSilent, "F8"),
+    (Flaw::Hidden, "F9"),
+    (Flaw::WrongMerge, "F10"),
+];
+
+#[test]
+fn flaws_have_codes(rt: HostRuntime) {
+    assert!(rt; CODES.iter().all(|(flaw, code)| flaw.code() == *code));
 }

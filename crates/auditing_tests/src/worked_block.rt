@@ -1,7 +1,12 @@
-//! The files of the worked block, byte for byte as docs/FORMATS.md has them.
+//! The worked block: its files, byte for byte as docs/FORMATS.md has them, and the part that they
+//! spell.
+
+use auditor::{Table, WalkError};
+use labels::{Row, Sample};
+use std::alloc::Global;
 
 /// The index.
-pub const INDEX: &[u8; 442] = b"\
+pub const INDEX: &[u8] = b"\
     \xBA\xAA\xD7\x00\x02\x00\x00\x00\x24\x00\x00\x00\x08\x08\x5F\x5F\x6E\x61\x6D\x65\x5F\x5F\x01\
     \x61\x01\x62\x04\x64\x6F\x77\x6E\x03\x6A\x6F\x62\x02\x75\x70\x01\x78\x04\x7A\x6F\x6E\x65\xFD\
     \xE3\xFA\xDD\x00\x00\x00\x00\x00\x00\x00\x00\x00\x00\x00\x00\x00\x00\x00\x09\x02\x00\x03\x04\
@@ -24,7 +29,7 @@ pub const INDEX: &[u8; 442] = b"\
     \x39\x52\x4C\xC9\x8A";
 
 /// The chunks file.
-pub const CHUNKS: &[u8; 152] = b"\
+pub const CHUNKS: &[u8] = b"\
     \x85\xBD\x40\xDD\x01\x00\x00\x00\x12\xE0\x00\x01\x00\x00\x00\x00\x00\x00\x00\x0A\x00\x00\x00\
     \x00\x00\x00\x00\x04\x5D\x31\x63\xEF\x12\xE0\x00\x01\x00\x00\x00\x00\x00\x00\x00\x0A\x00\x00\
     \x00\x00\x00\x00\x00\x05\xAF\x5A\xE0\xEC\x12\xE0\x00\x01\x00\x00\x00\x00\x00\x00\x00\x0A\x00\
@@ -34,5 +39,65 @@ pub const CHUNKS: &[u8; 152] = b"\
     \x00\x0A\x00\x00\x00\x00\x00\x00\x00\x03\x89\xFB\x07\x04";
 
 /// A file of no deletions.
-pub const TOMBSTONES: &[u8; 9] = b"\
+pub const TOMBSTONES: &[u8] = b"\
     \x01\x30\xBA\x30\x01\x00\x00\x00\x00";
+
+/// A file of deletions, which leaves no sample but that of 5.
+pub const ALL_BUT_ONE: &[u8] = b"\
+    \x01\x30\xBA\x30\x01\x04\x14\x14\x06\x14\x14\x07\x14\x14\x08\x14\x14\x09\x14\x14\xF0\x20\
+    \xF5\xAA";
+
+/// Of each series its reference, name, job and zone, and the value of its one sample, at 10.
+const SERIES: [(u32, &str, &str, &str, i64); 6] = [
+    (4, "down", "a", "", 4),
+    (5, "down", "b", "", 5),
+    (6, "up", "a", "", 1),
+    (7, "up", "a", "x", 6),
+    (8, "up", "b", "", 2),
+    (9, "up", "b", "x", 3),
+];
+
+/// The part that these files spell, or the refusal.
+pub fn walked(
+    alloc: Global,
+    index: &[u8],
+    chunks: &[u8],
+    tombstones: &[u8],
+) -> Result<Table, WalkError> {
+    let mut copy = Vec::new(alloc);
+    if copy.extend_from_slice(chunks).is_err() {
+        return Err(WalkError::Memory);
+    }
+    Table::walk(alloc, index, copy, tombstones)
+}
+
+fn is_row(row: &Row, name: &str, job: &str, zone: &str, value: i64) -> bool {
+    let labels = row.labels();
+    labels.value("__name__") == name
+        && labels.value("job") == job
+        && labels.value("zone") == zone
+        && row.samples() == [Sample::new(10, value)].as_slice()
+}
+
+fn is_worked(table: &Table) -> bool {
+    let series = table.series();
+    if series.len() != SERIES.len() {
+        return false;
+    }
+    for (at, (number, name, job, zone, value)) in SERIES.iter().enumerate() {
+        let (reference, row) = &series[at];
+        if reference.number() != *number || !is_row(row, name, job, zone, *value) {
+            return false;
+        }
+    }
+    true
+}
+
+/// The refusal of these files, or `part` where they spell the part of the worked block.
+pub fn told(alloc: Global, index: &[u8], chunks: &[u8], tombstones: &[u8]) -> &'static str {
+    match walked(alloc, index, chunks, tombstones) {
+        Ok(table) if is_worked(&table) => "part",
+        Ok(_) => "another part",
+        Err(error) => error.code(),
+    }
+}
