@@ -7,8 +7,8 @@ use std::marker::Brand;
 
 /// Pieces of texts as compact JSON has them: each kind of escape, and what needs none.
 const PIECES: [&str; 16] = [
-    r#"\""#, r"\\", r"\b", r"\f", r"\n", r"\r", r"\t", r"\u0000", r"\u001f", "/", " ", "é", "\u{7f}",
-    "\u{2028}", "😀", "a",
+    r#"\""#, r"\\", r"\b", r"\f", r"\n", r"\r", r"\t", r"\u0000", r"\u001f", "/", " ", "é",
+    "\u{7f}", "\u{2028}", "😀", "a",
 ];
 
 /// How many rows are made.
@@ -52,7 +52,7 @@ fn samples(k: u64, x: u64) -> [i64; 4] {
 
 /// The text of a row: its first label tells its place in the order of rows.
 fn row(alloc: Global, k: u64, x: u64) -> Option<String> {
-    let place = 10 + k;
+    let place = k.saturating_add(10);
     let (a, b, c) = (piece(x), piece(next(x)), piece(next(next(x))));
     let [t, v, u, w] = samples(k, x);
     let text = format!(in alloc;

@@ -67,7 +67,8 @@ struct Ended {
 #[derive(Drop)]
 struct Texts<'a> {
     alloc: Global,
-    rest: &'a [&'a [u8]],
+    all: &'a [&'a [u8]],
+    next: usize,
     past: Vec<Ended>,
     kept_all: bool,
 }
@@ -79,19 +80,19 @@ impl<'a> Connections for Texts<'a> {
 
     type Writer = Sheet;
 
-    ghost coming = { λ t. Some (map (λ text. text.now) t.rest.now) };
+    ghost coming = { λ _. None };
 
     ghost past = { λ t. if t.kept_all then Some (map
         (λ e. record { written = Some e.written.items; served = e.served }) t.past.items) else None };
 
     fn accept(&mut self) -> Option<(Script<'a>, Sheet)> {
-        let (first, rest) = self.rest.split_first()?;
-        self.rest = rest;
+        let next = self.all.get(self.next)?;
+        self.next = self.next.saturating_add(1);
         let sheet = Sheet {
             bytes: Vec::new(self.alloc),
             failed: 0,
         };
-        Some((Script { rest: first }, sheet))
+        Some((Script { rest: next }, sheet))
     }
 
     fn close(&mut self, _reader: Script<'a>, writer: Sheet, served: Served) {
@@ -146,7 +147,8 @@ pub fn served<J: Naming, R: Wait>(
 {
     let mut texts = Texts {
         alloc,
-        rest: connections,
+        all: connections,
+        next: 0,
         past: Vec::new(alloc),
         kept_all: true,
     };
@@ -167,11 +169,17 @@ const FOUR: &[&[u8]] = &[
 const REPLIES: &[u8] =
     b"HTTP/1.1 200 OK\r\nContent-Type: application/json\r\nContent-Length: 11\r\nConnection: close\r\n\r\n{\"ok\":true}HTTP/1.1 200 OK\r\nContent-Type: application/json\r\nContent-Length: 240\r\nConnection: close\r\n\r\n{\"parts\":[{\"intervals\":[{\"from\":1,\"until\":4294967296,\"verdict\":\"match\"}],\"part\":\"head\",\"rows\":[{\"labels\":{\"__name__\":\"up\",\"job\":\"a\"},\"samples\":[[30,5]]}],\"separators\":[1]}],\"rows\":[{\"labels\":{\"__name__\":\"up\",\"job\":\"a\"},\"samples\":[[30,5]]}]}HTTP/1.1 404 Not Found\r\nContent-Type: application/json\r\nContent-Length: 16\r\nConnection: close\r\n\r\n{\"refused\":\"H3\"}";
 
+/// Whether a worker with room for so many of the four serves so many, and writes this.
+fn serves<R: Wait>(rt: &R, alloc: Global, most: u64, count: u64, want: &[u8]) -> bool {
+    match served::<Brand, R>(rt, alloc, Store::new(), FOUR, most) {
+        Some((found, text)) => found == count && text.as_slice() == want,
+        None => false,
+    }
+}
+
 /// A worker ends where no more connections come, or after as many as asked.
 #[test]
 fn a_worker_serves_one_connection_after_another(rt: HostRuntime) {
-    let all = served::<Brand, _>(&rt, rt.alloc(), Store::new(), FOUR, 9);
-    assert!(rt; all.is_some_and(|(count, text)| count == 4 && text.as_slice() == REPLIES));
-    let one = served::<Brand, _>(&rt, rt.alloc(), Store::new(), FOUR, 1);
-    assert!(rt; one.is_some_and(|(count, text)| count == 1 && text.as_slice() == &REPLIES[..101]));
+    assert!(rt; serves(&rt, rt.alloc(), 9, 4, REPLIES));
+    assert!(rt; serves(&rt, rt.alloc(), 1, 1, &REPLIES[..101]));
 }
