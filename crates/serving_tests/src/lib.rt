@@ -1,8 +1,9 @@
 //! Tests of serving from outside: what requests are read as, what is answered over blocks and a head, and what a
-//! connection gets.
+//! connection gets; the loop of one worker over connections in memory, a server and its clients as threads of one
+//! process, and rows that are written and asked again.
 //!
-//! They stand in a crate of their own, so that the gate proves `requests` and `query_http` once each and not a second
-//! time with their tests.
+//! They stand in a crate of their own, so that the gate proves each crate of serving once and not a second time with
+//! its tests.
 #![tactic(auto)]
 
 #[cfg(test)]
@@ -10,6 +11,12 @@ mod answers;
 #[cfg(test)]
 mod connections;
 #[cfg(test)]
+mod generated;
+#[cfg(test)]
+mod memory;
+#[cfg(test)]
 mod reading;
 #[cfg(test)]
 mod script;
+#[cfg(test)]
+mod system;

@@ -1,0 +1,107 @@
+//! Rows that are made by a rule, written to an empty store and asked again.
+
+use crate::memory::served;
+use snapshots::Store;
+use std::alloc::Global;
+use std::marker::Brand;
+
+/// Pieces of texts as compact JSON has them: each kind of escape, and what needs none.
+const PIECES: [&str; 16] = [
+    r#"\""#, r"\\", r"\b", r"\f", r"\n", r"\r", r"\t", r"\u0000", r"\u001f", "/", " ", "é",
+    "\u{7f}", "\u{2028}", "😀", "a",
+];
+
+/// How many rows are made.
+const ROWS: u64 = 48;
+
+/// The number after a number, in no order that is seen.
+fn next(x: u64) -> u64 {
+    x.wrapping_mul(6_364_136_223_846_793_005)
+        .wrapping_add(1_442_695_040_888_963_407)
+}
+
+/// A number of at most so many binary digits, drawn from the first of 64.
+fn number(x: u64, digits: u32) -> i64 {
+    i64::try_from(x.wrapping_shr(64 - digits.min(63))).unwrap_or(0)
+}
+
+/// A piece that is drawn by a number.
+fn piece(x: u64) -> &'static str {
+    match PIECES.get((x >> 60) as usize) {
+        Some(piece) => *piece,
+        None => "a",
+    }
+}
+
+/// A sample at a time below 0 and one at a time above, each with a value of any sign. Each eighth
+/// row has the least time and the greatest, and the least value and the greatest.
+fn samples(k: u64, x: u64) -> [i64; 4] {
+    if k % 8 == 0 {
+        return [-(1 << 62), i64::MIN, (1 << 62) - 1, i64::MAX];
+    }
+    let digits = 1 + (x % 62) as u32;
+    let (early, late) = (next(x), next(next(x)));
+    let (first, second) = (next(late), next(next(late)));
+    [
+        !number(early, digits),
+        !number(first, digits + 1),
+        number(late, digits),
+        number(second, digits + 1),
+    ]
+}
+
+/// The text of a row: its first label tells its place in the order of rows.
+fn row(alloc: Global, k: u64, x: u64) -> Option<String> {
+    let place = k.saturating_add(10);
+    let (a, b, c) = (piece(x), piece(next(x)), piece(next(next(x))));
+    let [t, v, u, w] = samples(k, x);
+    let text = format!(in alloc;
+        "{{\"labels\":{{\"at\":\"{place}\",\"text\":\"{a}{b}{c}\"}},\"samples\":[[{t},{v}],[{u},{w}]]}}"
+    );
+    text.ok()
+}
+
+/// The rows as a list.
+fn rows(alloc: Global) -> Option<String> {
+    let mut text = row(alloc, 0, 1)?;
+    let mut x = 1;
+    for k in 1..ROWS {
+        x = next(x);
+        text.push_str(",").ok()?;
+        text.push_str(row(alloc, k, x)?.as_str()).ok()?;
+    }
+    format!(in alloc; "[{text}]").ok()
+}
+
+fn write_of(alloc: Global, rows: &str) -> Option<String> {
+    let len = rows.len();
+    format!(in alloc; "POST /write HTTP/1.1\r\nContent-Length: {len}\r\n\r\n{rows}").ok()
+}
+
+/// Each series, over all times.
+const SELECT: &[u8] =
+    b"GET /select?selector=%7Bat%21%3D%22%22%7D&from=-4611686018427387904&to=4611686018427387903 HTTP/1.1\r\n\r\n";
+
+/// What is replied to the batch.
+const DONE: &[u8] =
+    b"HTTP/1.1 200 OK\r\nContent-Type: application/json\r\nContent-Length: 11\r\nConnection: close\r\n\r\n{\"ok\":true}";
+
+/// Whether the batch was accepted, and the reply to the query ends with these rows.
+fn has_rows(replies: &[u8], rows: &str) -> bool {
+    match replies.strip_suffix(b"}") {
+        Some(front) => replies.starts_with(DONE) && front.ends_with(rows.as_bytes()),
+        None => false,
+    }
+}
+
+/// The rows of a reply are those that were written, byte for byte; so posted again to an empty
+/// store they give the same.
+#[test]
+fn generated_rows_are_read_back(rt: HostRuntime) {
+    let alloc = rt.alloc();
+    let text = rows(alloc).unwrap_or(String::new(alloc));
+    let input = write_of(alloc, &text).unwrap_or(String::new(alloc));
+    let connections = [input.as_bytes(), SELECT];
+    let replies = served::<Brand, _>(&rt, alloc, Store::new(), &connections, 2);
+    assert!(rt; replies.is_some_and(|(_, replies)| has_rows(replies.as_slice(), &text)));
+}

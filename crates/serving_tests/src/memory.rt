@@ -1,0 +1,185 @@
+//! One worker over connections in memory.
+
+ghost use Rattle.std.specs.Prelude.{◌≡◌, []};
+ghost use Rattle.head.specs.Blocks.{opening_of};
+
+use query_http::{Outlet, Served};
+use requests::{Fault, Inlet};
+use server::{Connections, work};
+use snapshots::{Naming, Store};
+use std::alloc::Global;
+use std::marker::Brand;
+use std::sync::Wait;
+
+/// Bytes that come seven at a time.
+#[derive(Drop)]
+pub struct Script<'a> {
+    rest: &'a [u8],
+}
+
+impl Inlet for Script<'_> {
+    ghost use Rattle.std.specs.Prelude.{Some};
+
+    ghost input = { λ s. Some s.rest.now };
+
+    ghost failed_reads = { λ s. 0 };
+
+    fn read(&mut self, buf: &mut [u8]) -> Result<usize, Fault> {
+        let n = self.rest.len().min(buf.len()).min(7);
+        let (front, others) = self.rest.split_at(n);
+        buf[..n].copy_from_slice(front);
+        self.rest = others;
+        Ok(n)
+    }
+}
+
+/// What was written to one connection.
+#[derive(Drop)]
+pub struct Sheet {
+    bytes: Vec<u8>,
+    failed: u64,
+}
+
+impl Outlet for Sheet {
+    ghost use Rattle.std.specs.Prelude.{Some};
+
+    ghost output = { λ s. Some s.bytes.items };
+
+    ghost failed_writes = { λ s. s.failed };
+
+    fn write(&mut self, buf: &[u8]) -> Result<usize, Fault> {
+        if self.bytes.extend_from_slice(buf).is_ok() {
+            return Ok(buf.len());
+        }
+        self.failed = self.failed.saturating_add(1);
+        Err(Fault)
+    }
+}
+
+/// A connection that has ended.
+#[derive(Drop)]
+struct Ended {
+    written: Vec<u8>,
+    served: Served,
+}
+
+/// Connections whose texts stand in memory, and those that have ended, as long as each was kept.
+#[derive(Drop)]
+struct Texts<'a> {
+    alloc: Global,
+    all: &'a [&'a [u8]],
+    next: usize,
+    past: Vec<Ended>,
+    kept_all: bool,
+}
+
+impl<'a> Connections for Texts<'a> {
+    ghost use Rattle.std.specs.Prelude.{Some, None, map, if◌then◌else◌};
+
+    type Reader = Script<'a>;
+
+    type Writer = Sheet;
+
+    ghost coming = { λ _. None };
+
+    ghost past = { λ t. if t.kept_all then Some (map
+        (λ e. record { written = Some e.written.items; served = e.served }) t.past.items) else None };
+
+    fn accept(&mut self) -> Option<(Script<'a>, Sheet)> {
+        let next = self.all.get(self.next)?;
+        self.next = self.next.saturating_add(1);
+        let sheet = Sheet {
+            bytes: Vec::new(self.alloc),
+            failed: 0,
+        };
+        Some((Script { rest: next }, sheet))
+    }
+
+    fn close(&mut self, _reader: Script<'a>, writer: Sheet, served: Served) {
+        let Sheet { bytes, failed: _ } = writer;
+        let ended = Ended {
+            written: bytes,
+            served,
+        };
+        if self.past.push(ended).is_err() {
+            self.kept_all = false;
+        }
+    }
+}
+
+/// The work of one worker with a store of its own: how many connections it served.
+fn work_alone<J: Naming, R: Wait>(
+    rt: &R,
+    alloc: Global,
+    store: Store,
+    texts: &mut Texts<'_>,
+    most: u64,
+) -> Option<u64>
+    requires book { store.seen.book ≡ J.book }
+    requires opening { opening_of [] ≡ J.opening }
+{
+    let opened = store.open::<J, &R>(rt, alloc, Vec::new(alloc), 1, 1);
+    let (committer, mut passes, mut seats) = opened.ok()?;
+    let (mut pass, mut seat) = passes.pop().zip(seats.pop())?;
+    Some(work(rt, alloc, texts, &mut pass, &mut seat, &committer, most))
+}
+
+/// All that was written, one connection after another.
+fn written(alloc: Global, past: &[Ended]) -> Option<Vec<u8>> {
+    let mut all = Vec::new(alloc);
+    for ended in past {
+        all.extend_from_slice(&ended.written).ok()?;
+    }
+    Some(all)
+}
+
+/// How many of these connections one worker of an empty store serves, with room for so many, and
+/// all that it writes.
+pub fn served<J: Naming, R: Wait>(
+    rt: &R,
+    alloc: Global,
+    store: Store,
+    connections: &[&[u8]],
+    most: u64,
+) -> Option<(u64, Vec<u8>)>
+    requires book { store.seen.book ≡ J.book }
+    requires opening { opening_of [] ≡ J.opening }
+{
+    let mut texts = Texts {
+        alloc,
+        all: connections,
+        next: 0,
+        past: Vec::new(alloc),
+        kept_all: true,
+    };
+    let count = work_alone::<J, R>(rt, alloc, store, &mut texts, most)?;
+    let all = written(alloc, &texts.past)?;
+    Some((count, all))
+}
+
+/// A batch, a connection that says nothing, the query of the batch, and a path that is none.
+const FOUR: &[&[u8]] = &[
+    b"POST /write HTTP/1.1\r\nContent-Length: 59\r\n\r\n[{\"labels\":{\"__name__\":\"up\",\"job\":\"a\"},\"samples\":[[30,5]]}]",
+    b"",
+    b"GET /select?selector=up&from=0&to=100 HTTP/1.1\r\n\r\n",
+    b"GET /none HTTP/1.1\r\n\r\n",
+];
+
+/// What a worker is to write to the four.
+const REPLIES: &[u8] =
+    b"HTTP/1.1 200 OK\r\nContent-Type: application/json\r\nContent-Length: 11\r\nConnection: close\r\n\r\n{\"ok\":true}HTTP/1.1 200 OK\r\nContent-Type: application/json\r\nContent-Length: 240\r\nConnection: close\r\n\r\n{\"parts\":[{\"intervals\":[{\"from\":1,\"until\":4294967296,\"verdict\":\"match\"}],\"part\":\"head\",\"rows\":[{\"labels\":{\"__name__\":\"up\",\"job\":\"a\"},\"samples\":[[30,5]]}],\"separators\":[1]}],\"rows\":[{\"labels\":{\"__name__\":\"up\",\"job\":\"a\"},\"samples\":[[30,5]]}]}HTTP/1.1 404 Not Found\r\nContent-Type: application/json\r\nContent-Length: 16\r\nConnection: close\r\n\r\n{\"refused\":\"H3\"}";
+
+/// Whether a worker with room for so many of the four serves so many, and writes this.
+fn serves<R: Wait>(rt: &R, alloc: Global, most: u64, count: u64, want: &[u8]) -> bool {
+    match served::<Brand, R>(rt, alloc, Store::new(), FOUR, most) {
+        Some((found, text)) => found == count && text.as_slice() == want,
+        None => false,
+    }
+}
+
+/// A worker ends where no more connections come, or after as many as asked.
+#[test]
+fn a_worker_serves_one_connection_after_another(rt: HostRuntime) {
+    assert!(rt; serves(&rt, rt.alloc(), 9, 4, REPLIES));
+    assert!(rt; serves(&rt, rt.alloc(), 1, 1, &REPLIES[..101]));
+}

@@ -1,0 +1,140 @@
+//! Workers and clients as threads of one process.
+
+ghost use Rattle.std.specs.Prelude.{◌≡◌, []};
+ghost use Rattle.head.specs.Blocks.{opening_of};
+
+use server::{Terms, Workers, serve};
+use snapshots::{Naming, Store};
+use std::alloc::Global;
+use std::io::{Read, Write};
+use std::marker::Brand;
+use std::net::{Net, TcpListener, TcpStream};
+use std::sync::Wait;
+use std::thread::{Threads, join};
+use std::time::{Clock, Duration};
+
+/// Asks once, and adds the reply.
+fn ask<R: Net<Stream = TcpStream>>(
+    rt: &R,
+    port: u16,
+    request: &[u8],
+    replies: &mut Vec<u8>,
+) -> Option<usize> {
+    let mut stream = TcpStream::connect(rt, ("127.0.0.1", port)).ok()?;
+    stream.write_all(request).ok()?;
+    stream.read_to_end(replies).ok()
+}
+
+/// All replies to these requests, asked one after another while so many clients stay silent.
+fn ask_all<R: Net<Stream = TcpStream>>(
+    rt: &R,
+    alloc: Global,
+    port: u16,
+    silent: usize,
+    requests: &[&[u8]],
+) -> Option<Vec<u8>> {
+    let mut waiting = Vec::new(alloc);
+    for _ in 0..silent {
+        let stream = TcpStream::connect(rt, ("127.0.0.1", port)).ok()?;
+        waiting.push(stream).ok()?;
+    }
+    let mut replies = Vec::new(alloc);
+    for request in requests {
+        let _count = ask(rt, port, request, &mut replies)?;
+    }
+    Some(replies)
+}
+
+/// Whether the workers all ended, and the replies to these requests, asked by a thread beside them.
+fn serve_beside<
+    J: Naming + Send + Sync,
+    C: Wait + Drop + Send + Sync,
+    R: Threads + Wait + Clock + Eprint + Net<Stream = TcpStream> + Sync,
+>(
+    rt: &R,
+    alloc: Global,
+    workers: Workers<J, C>,
+    listener: &TcpListener,
+    port: u16,
+    asked: (usize, &[&[u8]]),
+) -> (bool, Option<Vec<u8>>) {
+    let terms = Terms {
+        requests: 2,
+        idle: Some(Duration::from_secs(1)),
+    };
+    let (silent, requests) = asked;
+    join(
+        rt,
+        || serve(rt, alloc, workers, listener, terms).is_ok(),
+        || ask_all(rt, alloc, port, silent, requests),
+    )
+}
+
+/// The replies to these requests by two workers of an empty store, of two connections each, while so
+/// many clients stay silent.
+fn replies_of_two<
+    J: Naming + Send + Sync,
+    R: Threads + Wait + Clock + Eprint + Net<Stream = TcpStream> + Sync,
+>(
+    rt: &R,
+    alloc: Global,
+    store: Store,
+    listener: &TcpListener,
+    silent: usize,
+    requests: &[&[u8]],
+) -> Option<Vec<u8>>
+    requires book { store.seen.book ≡ J.book }
+    requires opening { opening_of [] ≡ J.opening }
+{
+    let port = listener.local_addr().ok()?.port();
+    let workers = Workers::<J, &R>::open(rt, alloc, store, Vec::new(alloc), 2).ok()?;
+    let asked = (silent, requests);
+    let (served, replies) = serve_beside(rt, alloc, workers, listener, port, asked);
+    replies.filter(|_| served)
+}
+
+const WRITE: &[u8] =
+    b"POST /write HTTP/1.1\r\nContent-Length: 59\r\n\r\n[{\"labels\":{\"__name__\":\"up\",\"job\":\"a\"},\"samples\":[[30,5]]}]";
+
+const NOWHERE: &[u8] = b"GET /none HTTP/1.1\r\n\r\n";
+
+const CUT: &[u8] = b"POST /cut HTTP/1.1\r\nContent-Length: 9\r\n\r\n{\"at\":31}";
+
+const SELECT: &[u8] = b"GET /select?selector=up&from=31&to=100 HTTP/1.1\r\n\r\n";
+
+/// The replies of a store to which a sample is written and then cut away, and to a path that is none.
+const REPLIES: &[u8] =
+    b"HTTP/1.1 200 OK\r\nContent-Type: application/json\r\nContent-Length: 11\r\nConnection: close\r\n\r\n{\"ok\":true}HTTP/1.1 404 Not Found\r\nContent-Type: application/json\r\nContent-Length: 16\r\nConnection: close\r\n\r\n{\"refused\":\"H3\"}HTTP/1.1 200 OK\r\nContent-Type: application/json\r\nContent-Length: 11\r\nConnection: close\r\n\r\n{\"ok\":true}HTTP/1.1 200 OK\r\nContent-Type: application/json\r\nContent-Length: 112\r\nConnection: close\r\n\r\n{\"parts\":[{\"part\":\"block 0\",\"skipped\":true},{\"intervals\":[],\"part\":\"head\",\"rows\":[],\"separators\":[]}],\"rows\":[]}";
+
+/// Two replies to a path that is none.
+const NOWHERE_TWICE: &[u8] =
+    b"HTTP/1.1 404 Not Found\r\nContent-Type: application/json\r\nContent-Length: 16\r\nConnection: close\r\n\r\n{\"refused\":\"H3\"}HTTP/1.1 404 Not Found\r\nContent-Type: application/json\r\nContent-Length: 16\r\nConnection: close\r\n\r\n{\"refused\":\"H3\"}";
+
+fn is_replied<R: Threads + Wait + Clock + Eprint + Net<Stream = TcpStream> + Sync>(
+    rt: &R,
+    alloc: Global,
+    listener: &TcpListener,
+    silent: usize,
+    requests: &[&[u8]],
+    replies: &[u8],
+) -> bool {
+    let found = replies_of_two::<Brand, R>(rt, alloc, Store::new(), listener, silent, requests);
+    found.is_some_and(|text| text.as_slice() == replies)
+}
+
+#[test]
+fn two_workers_serve_one_store(rt: HostRuntime) {
+    let alloc = rt.alloc();
+    let requests = [WRITE, NOWHERE, CUT, SELECT];
+    let listener = TcpListener::bind(&rt, "127.0.0.1:0");
+    assert!(rt; listener.is_ok_and(|it| is_replied(&rt, alloc, &it, 0, &requests, REPLIES)));
+}
+
+/// Two workers, two clients that say nothing, and one that asks twice.
+#[test]
+fn silent_clients_hold_no_worker_for_ever(rt: HostRuntime) {
+    let alloc = rt.alloc();
+    let requests = [NOWHERE, NOWHERE];
+    let listener = TcpListener::bind(&rt, "127.0.0.1:0");
+    assert!(rt; listener.is_ok_and(|it| is_replied(&rt, alloc, &it, 2, &requests, NOWHERE_TWICE)));
+}
