@@ -8,7 +8,6 @@ pub mod Comparing
 pub mod Judging
 pub mod Merging
 pub mod Neighbours
-pub mod Parting
 pub mod Excluding
 mod IndexFile
 mod BlockFiles

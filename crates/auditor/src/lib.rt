@@ -28,8 +28,6 @@ mod intervals;
 mod judgement;
 mod looks;
 mod merged;
-#[cfg(test)]
-mod parted;
 mod reading;
 mod reply;
 mod report;
@@ -37,8 +35,6 @@ mod rows;
 mod separators;
 mod skip;
 mod table;
-#[cfg(test)]
-mod tests;
 mod walk;
 
 pub use answer::{audit, audit_laws};

@@ -19,7 +19,5 @@ mod series_entries;
 mod stored;
 mod symbols;
 mod table;
-#[cfg(test)]
-mod tests;
 
 pub use error::WalkError;

@@ -1,0 +1,104 @@
+//! Answers of the worked block's part.
+
+use auditor::Table;
+use cover::{Interval, PartAnswer, PartCover, Verdict};
+use labels::{Row, SeriesRef};
+use matchers::{Query, Selector};
+use postings::PartName;
+use std::alloc::Global;
+
+/// The end of all references.
+pub const END: u64 = 4_294_967_296;
+
+pub const MATCH: Verdict = Verdict::Match;
+
+pub const SILENT: Verdict = Verdict::NoSample;
+
+pub const BY_NAME: Verdict = Verdict::Rejected(0);
+
+pub const BY_JOB: Verdict = Verdict::Rejected(1);
+
+/// A certificate: from, until and verdict of each interval.
+pub type Intervals = &'static [(u32, u64, Verdict)];
+
+/// What is said of the part: the intervals, the separators, and the references of the rows.
+pub type Said = (Intervals, &'static [u32], &'static [u32]);
+
+pub const PLACES: &[u32] = &[4, 6, 7, 8];
+
+pub const FOUND: &[u32] = &[6, 7];
+
+pub const SOUND_INTERVALS: Intervals = &[
+    (4, 6, BY_NAME),
+    (6, 7, MATCH),
+    (7, 8, MATCH),
+    (8, END, BY_JOB),
+];
+
+/// The answer to `up{job="a"}`, 0 to 100.
+pub const SOUND: Said = (SOUND_INTERVALS, PLACES, FOUND);
+
+/// The query `up{job="a"}` from a time to 100.
+pub fn query(alloc: Global, from: i64) -> Option<Query> {
+    let matchers = Selector::parse(alloc, "up{job=\"a\"}").ok()?;
+    Query::new(matchers, from, 100).ok()
+}
+
+fn copied(alloc: Global, row: &Row) -> Option<Row> {
+    let samples = row.samples().iter().copied().collect(alloc).ok()?;
+    Some(Row::new(row.labels().try_clone().ok()?, samples))
+}
+
+fn row_at(alloc: Global, table: &Table, reference: u32) -> Option<Row> {
+    let mut series = table.series().iter();
+    let entry = series.find(|entry| entry.0.number() == reference)?;
+    copied(alloc, &entry.1)
+}
+
+/// The rows of these references.
+pub fn rows_at(alloc: Global, table: &Table, references: &[u32]) -> Option<Vec<Row>> {
+    let mut rows = Vec::new(alloc);
+    for reference in references {
+        rows.push(row_at(alloc, table, *reference)?).ok()?;
+    }
+    Some(rows)
+}
+
+fn certificate_of(alloc: Global, intervals: Intervals) -> Option<Vec<Interval>> {
+    let mut certificate = Vec::new(alloc);
+    for (from, until, verdict) in intervals {
+        let interval = Interval {
+            from: SeriesRef::new(*from),
+            until: *until,
+            verdict: *verdict,
+        };
+        certificate.push(interval).ok()?;
+    }
+    Some(certificate)
+}
+
+fn separators_of(alloc: Global, references: &[u32]) -> Option<Vec<SeriesRef>> {
+    let mut separators = Vec::new(alloc);
+    for reference in references {
+        separators.push(SeriesRef::new(*reference)).ok()?;
+    }
+    Some(separators)
+}
+
+/// The answer that says this of the part.
+pub fn answer(alloc: Global, table: &Table, said: &Said) -> Option<PartAnswer> {
+    let (intervals, separators, references) = *said;
+    let rows = rows_at(alloc, table, references)?;
+    let certificate = certificate_of(alloc, intervals)?;
+    let separators = separators_of(alloc, separators)?;
+    let cover = PartCover {
+        certificate,
+        separators,
+        moves: 0,
+    };
+    Some(PartAnswer {
+        part: PartName::Block(0),
+        rows,
+        cover,
+    })
+}

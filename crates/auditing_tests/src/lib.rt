@@ -1,0 +1,25 @@
+//! Tests of the auditor, from outside: what it says of walks, answers, replies and merged rows, how
+//! its program's runs end, and an audit of each answer of a store while many threads change it.
+//!
+//! They stand in a crate of their own, so that the gate proves the auditor once and not a second
+//! time with its tests.
+#![tactic(auto)]
+
+#[cfg(test)]
+mod answers;
+#[cfg(test)]
+mod damage;
+#[cfg(test)]
+mod flaws;
+#[cfg(test)]
+mod host;
+#[cfg(test)]
+mod many;
+#[cfg(test)]
+mod refused_memory;
+#[cfg(test)]
+mod replies;
+#[cfg(test)]
+mod runs;
+#[cfg(test)]
+mod worked_block;

@@ -1,0 +1,439 @@
+//! Many threads at once: eight commit, one cuts, one deletes and four ask. Each answer is audited,
+//! and what was accepted is replayed.
+
+ghost use Rattle.std.specs.Prelude.{◌≡◌, []};
+ghost use Rattle.head.specs.Blocks.{opening_of};
+
+use audit_laws::{audited, audited_by_workers};
+use head::{Event, Snapshot};
+use history::{Reply, Step, run};
+use labels::{LabelSet, Row, Sample, is_time};
+use matchers::{Matcher, Query, Selector};
+use snapshots::{Appender, Committer, Naming, Pass, Receipt, Seat, Store};
+use std::alloc::Global;
+use std::marker::Brand;
+use std::sync::atomic::{AtomicU64, Ordering};
+use std::sync::{Mutex, Wait};
+use std::thread::{Threads, map_vec, yield_now};
+
+/// The numbers of the seats: those below commit.
+const CUTTER: usize = 8;
+
+const DELETER: usize = 9;
+
+/// How many events each seat of the first eight tries, and how many each of the last two.
+const COMMITS: u64 = 50;
+
+const CHANGES: u64 = 10;
+
+/// How far the clock goes from one cut or deletion to the next. In all it goes 1,604 times on.
+const PACE: u64 = 160;
+
+/// How far behind the clock a cut is made: late batches have their times.
+const LAG: u64 = 80;
+
+/// How far a deletion reaches.
+const WIDTH: i64 = 40;
+
+/// An accepted event: how many events its receipt has, the seat, and its time.
+type Done = (u64, usize, i64);
+
+const JOBS: [&str; 8] = ["0", "1", "2", "3", "4", "5", "6", "7"];
+
+const ZONES: [&str; 4] = ["a", "b", "c", "d"];
+
+/// What is asked: a selector, and the range.
+type Asked = (&'static str, i64, i64);
+
+const EVERYTHING: Asked = ("{job=~\".+\"}", 0, 2_000);
+
+const ASKED: [Asked; 4] = [
+    EVERYTHING,
+    ("up{job=~\"0|3|5\",zone!=\"b\"}", 0, 900),
+    ("{zone=\"a\"}", 400, 1_200),
+    ("{job!=\"2\",zone=~\"a|c\"}", 800, 2_000),
+];
+
+/// What threads share: the next time, how many of them still change the store, and the receipt of
+/// an event.
+#[derive(Drop)]
+struct Board<J: Naming> {
+    clock: AtomicU64,
+    at_work: AtomicU64,
+    receipt: Mutex<Option<Receipt<J>>>,
+}
+
+/// Who takes part in it, with a seat or a pass.
+#[derive(Drop)]
+enum Actor<J: Naming> {
+    Changing(Seat<J>),
+    Asking(usize, Pass<J>),
+}
+
+impl<J: Naming> Board<J> {
+    /// The time of a seat's event. For a batch the clock goes on; a cut and a deletion wait for it.
+    fn time_of(&self, rt: &impl Wait, seat: usize, round: u64) -> i64 {
+        if seat < CUTTER {
+            let time = self.clock.fetch_add(4, Ordering::SeqCst);
+            return i64::try_from(time).unwrap_or(0);
+        }
+        let due = round.saturating_add(1).saturating_mul(PACE);
+        for _ in rt.forever() {
+            if self.clock.load(Ordering::SeqCst) >= due {
+                break;
+            }
+            yield_now();
+        }
+        i64::try_from(due.saturating_sub(LAG)).unwrap_or(0)
+    }
+
+    /// Lets a pass learn the receipt.
+    fn tell(&self, rt: &impl Wait, pass: &mut Pass<J>) {
+        let told = self.receipt.lock(rt);
+        if let Some(receipt) = &*told {
+            pass.learn(receipt);
+        }
+    }
+}
+
+fn pair_of(alloc: Global, name: &str, value: &str) -> Option<(String, String)> {
+    let name = String::from_str(alloc, name).ok()?;
+    Some((name, String::from_str(alloc, value).ok()?))
+}
+
+/// `up` of a job and a zone.
+fn labels_of(alloc: Global, job: &str, zone: &str) -> Option<LabelSet> {
+    let mut pairs = Vec::new(alloc);
+    for (name, value) in [("__name__", "up"), ("job", job), ("zone", zone)] {
+        pairs.push(pair_of(alloc, name, value)?).ok()?;
+    }
+    LabelSet::new(alloc, pairs).ok()
+}
+
+/// The four samples of a batch: one in each zone, at times that follow one another.
+fn batch_of(alloc: Global, seat: usize, at: i64) -> Option<Vec<(LabelSet, Sample)>> {
+    let job = JOBS.get(seat)?;
+    let mut batch = Vec::new(alloc);
+    let mut time = at;
+    for zone in &ZONES {
+        let labels = labels_of(alloc, job, zone)?;
+        batch.push((labels, Sample::new(time, at))).ok()?;
+        time = time.saturating_add(1);
+    }
+    Some(batch)
+}
+
+fn appender_of(alloc: Global, seat: usize, at: i64) -> Option<Appender> {
+    let mut appender = Appender::new(alloc);
+    for (labels, sample) in batch_of(alloc, seat, at)? {
+        appender.append(labels, sample).ok()?;
+    }
+    Some(appender)
+}
+
+fn query_of(alloc: Global, asked: Asked) -> Option<Query> {
+    let matchers = Selector::parse(alloc, asked.0).ok()?;
+    Query::new(matchers, asked.1, asked.2).ok()
+}
+
+/// The matchers of a deletion.
+fn deleted(alloc: Global) -> Option<Vec<Matcher>> {
+    Selector::parse(alloc, "{zone=~\"b|c\"}").ok()
+}
+
+/// The receipt of a deletion from a time on.
+fn delete<J: Naming, C: Wait + Drop>(
+    rt: &impl Wait,
+    alloc: Global,
+    committer: &Committer<J, C>,
+    seat: &mut Seat<J>,
+    at: i64,
+) -> Option<Receipt<J>> {
+    let matchers = deleted(alloc)?;
+    let to = at.saturating_add(WIDTH);
+    if !Event::is_deletion(&matchers, at, to) {
+        return None;
+    }
+    committer.delete(rt, seat, matchers, at, to).ok()
+}
+
+/// The receipt of a seat's event; none where it is refused.
+fn change<J: Naming, C: Wait + Drop>(
+    rt: &impl Wait,
+    alloc: Global,
+    committer: &Committer<J, C>,
+    seat: &mut Seat<J>,
+    at: i64,
+) -> Option<Receipt<J>> {
+    let number = seat.number();
+    if number == DELETER {
+        return delete(rt, alloc, committer, seat, at);
+    }
+    if number == CUTTER {
+        return if is_time(at) {
+            committer.cut(rt, seat, at).ok()
+        } else {
+            None
+        };
+    }
+    let appender = appender_of(alloc, number, at)?;
+    committer.commit(rt, seat, appender).ok()
+}
+
+/// So many events of a seat's, and which of them were accepted.
+fn change_often<J: Naming, C: Wait + Drop>(
+    rt: &impl Wait,
+    alloc: Global,
+    committer: &Committer<J, C>,
+    board: &Board<J>,
+    seat: &mut Seat<J>,
+    rounds: u64,
+) -> Option<Vec<Done>> {
+    let mut done = Vec::new(alloc);
+    for round in 0..rounds {
+        let at = board.time_of(rt, seat.number(), round);
+        if let Some(receipt) = change(rt, alloc, committer, seat, at) {
+            done.push((receipt.events(), seat.number(), at)).ok()?;
+            *board.receipt.lock(rt) = Some(receipt);
+        }
+    }
+    Some(done)
+}
+
+/// Asks until no other thread changes the store, and once more; none where an audit tells a flaw.
+fn ask_often<J: Naming, R: Threads + Wait + Sync>(
+    rt: &R,
+    alloc: Global,
+    board: &Board<J>,
+    pass: &mut Pass<J>,
+    query: &Query,
+) -> Option<()> {
+    for _ in rt.forever() {
+        let is_over = board.at_work.load(Ordering::SeqCst) == 0;
+        board.tell(rt, pass);
+        let snapshot = pass.snapshot().ok()?;
+        audited_by_workers(rt, alloc, &snapshot, query).ok()?;
+        if is_over {
+            break;
+        }
+    }
+    Some(())
+}
+
+/// The events of an actor that were accepted: none of one that asks.
+fn act<J: Naming, C: Wait + Drop, R: Threads + Wait + Sync>(
+    rt: &R,
+    alloc: Global,
+    committer: &Committer<J, C>,
+    board: &Board<J>,
+    actor: Actor<J>,
+) -> Option<Vec<Done>> {
+    match actor {
+        Actor::Asking(place, mut pass) => {
+            let query = query_of(alloc, *ASKED.get(place)?)?;
+            ask_often(rt, alloc, board, &mut pass, &query)?;
+            Some(Vec::new(alloc))
+        }
+        Actor::Changing(mut seat) => {
+            let rounds = if seat.number() < CUTTER {
+                COMMITS
+            } else {
+                CHANGES
+            };
+            let done = change_often(rt, alloc, committer, board, &mut seat, rounds);
+            board.at_work.fetch_sub(1, Ordering::SeqCst);
+            done
+        }
+    }
+}
+
+/// The actors, those that change the store first.
+fn actors_of<J: Naming>(
+    alloc: Global,
+    seats: Vec<Seat<J>>,
+    passes: Vec<Pass<J>>,
+) -> Option<Vec<Actor<J>>> {
+    let mut actors = Vec::new(alloc);
+    for seat in seats {
+        actors.push(Actor::Changing(seat)).ok()?;
+    }
+    for (place, pass) in passes.into_iter().enumerate() {
+        actors.push(Actor::Asking(place, pass)).ok()?;
+    }
+    Some(actors)
+}
+
+/// The events of all actors that were accepted, each actor in a thread of its own.
+fn act_at_once<J: Naming + Send + Sync, C: Wait + Drop + Send + Sync, R: Threads + Wait + Sync>(
+    rt: &R,
+    alloc: Global,
+    committer: &Committer<J, C>,
+    board: &Board<J>,
+    actors: Vec<Actor<J>>,
+) -> Option<Vec<Done>> {
+    let told = map_vec(
+        rt,
+        actors,
+        &|actor: Actor<J>| -> Option<Vec<Done>> { act(rt, alloc, committer, board, actor) },
+    );
+    let mut all = Vec::new(alloc);
+    for done in told.ok()? {
+        all.append(&mut done?).ok()?;
+    }
+    Some(all)
+}
+
+/// Whether receipts have the numbers of so many events, from 1, each number once.
+fn are_numbered(done: &[Done], events: u64) -> bool {
+    let mut next = 1u64;
+    for (number, _, _) in done {
+        if *number != next {
+            return false;
+        }
+        next = next.saturating_add(1);
+    }
+    next == events.saturating_add(1)
+}
+
+fn same_rows(a: &[Row], b: &[Row]) -> bool {
+    a.len() == b.len()
+        && a.iter().zip(b).all(|(x, y)| x.labels() == y.labels() && x.samples() == y.samples())
+}
+
+/// All rows of a snapshot, after an audit.
+fn rows_of(alloc: Global, snapshot: &Snapshot) -> Option<Vec<Row>> {
+    let query = query_of(alloc, EVERYTHING)?;
+    let found = audited(alloc, snapshot, &query).ok()?;
+    Some(found.rows)
+}
+
+/// Adds the steps of an accepted event.
+fn push_steps(alloc: Global, steps: &mut Vec<Step>, done: Done) -> Option<()> {
+    let (_, seat, at) = done;
+    if seat == CUTTER {
+        return if is_time(at) {
+            steps.push(Step::cut(seat, at)).ok()
+        } else {
+            None
+        };
+    }
+    if seat == DELETER {
+        let matchers = deleted(alloc)?;
+        let to = at.saturating_add(WIDTH);
+        if !Event::is_deletion(&matchers, at, to) {
+            return None;
+        }
+        return steps.push(Step::delete(seat, matchers, at, to)).ok();
+    }
+    for (labels, sample) in batch_of(alloc, seat, at)? {
+        steps.push(Step::append(seat, labels, sample)).ok()?;
+    }
+    steps.push(Step::commit(seat)).ok()
+}
+
+/// The steps of accepted events in this order, and then a query for all rows.
+fn steps_of(alloc: Global, done: &[Done]) -> Option<Vec<Step>> {
+    let mut steps = Vec::new(alloc);
+    for one in done {
+        push_steps(alloc, &mut steps, *one)?;
+    }
+    let query = query_of(alloc, EVERYTHING)?;
+    steps.push(Step::query(0, query)).ok()?;
+    Some(steps)
+}
+
+/// Whether the last reply has these rows, and no other is a refusal.
+fn are_replies(replies: &[Reply], rows: &[Row]) -> bool {
+    match replies.split_last() {
+        Some((Reply::Rows(found), others)) => {
+            same_rows(found.as_slice(), rows)
+                && others.iter().all(|reply| matches!(reply, Reply::Done))
+        }
+        _ => false,
+    }
+}
+
+/// Whether accepted events, replayed in this order from an empty store, give these rows.
+fn are_replayed(alloc: Global, done: &[Done], rows: &[Row]) -> Option<bool> {
+    let steps = steps_of(alloc, done)?;
+    let opening = Snapshot::opening(alloc, Vec::new(alloc)).ok()?;
+    let replies = run(alloc, &opening, steps.as_slice()).ok()?;
+    Some(are_replies(replies.as_slice(), rows))
+}
+
+/// The events that were accepted, after those that were before, in their order.
+fn all_done<J: Naming + Send + Sync, C: Wait + Drop + Send + Sync, R: Threads + Wait + Sync>(
+    rt: &R,
+    alloc: Global,
+    committer: &Committer<J, C>,
+    board: &Board<J>,
+    mut before: Vec<Done>,
+    actors: Vec<Actor<J>>,
+) -> Option<Vec<Done>> {
+    let mut done = act_at_once(rt, alloc, committer, board, actors)?;
+    before.append(&mut done).ok()?;
+    before.sort().ok()?;
+    Some(before)
+}
+
+/// Whether a pass shows the replay of these events, as many as there are, and a snapshot that was
+/// held shows the rows that it showed.
+fn is_kept<J: Naming>(
+    alloc: Global,
+    pass: &mut Pass<J>,
+    done: &[Done],
+    held: &Snapshot,
+    shown: &[Row],
+) -> Option<bool> {
+    let last = pass.snapshot().ok()?;
+    let rows = rows_of(alloc, &last)?;
+    let again = rows_of(alloc, held)?;
+    let replayed = are_replayed(alloc, done, rows.as_slice())?;
+    Some(replayed && are_numbered(done, pass.events()) && same_rows(again.as_slice(), shown))
+}
+
+/// How many events of a store are accepted, where all that is to hold does.
+fn accepted<J: Naming + Send + Sync, C: Wait + Drop + Send + Sync, R: Threads + Wait + Sync>(
+    rt: &R,
+    alloc: Global,
+    committer: &Committer<J, C>,
+    mut passes: Vec<Pass<J>>,
+    mut seats: Vec<Seat<J>>,
+) -> Option<usize> {
+    let board = Board {
+        clock: AtomicU64::new(0),
+        at_work: AtomicU64::new(10),
+        receipt: Mutex::new(None),
+    };
+    let mut pass = passes.pop()?;
+    let before = change_often(rt, alloc, committer, &board, seats.first_mut()?, 1)?;
+    board.tell(rt, &mut pass);
+    let held = pass.snapshot().ok()?;
+    let shown = rows_of(alloc, &held)?;
+    let actors = actors_of(alloc, seats, passes)?;
+    let done = all_done(rt, alloc, committer, &board, before, actors)?;
+    board.tell(rt, &mut pass);
+    let kept = is_kept(alloc, &mut pass, &done, &held, shown.as_slice())?;
+    if kept { Some(done.len()) } else { None }
+}
+
+fn accepted_by<J: Naming + Send + Sync, R: Threads + Wait + Sync>(
+    rt: &R,
+    alloc: Global,
+    store: Store,
+) -> Option<usize>
+    requires book { store.seen.book ≡ J.book }
+    requires opening { opening_of [] ≡ J.opening }
+{
+    let opened = store.open::<J, &R>(rt, alloc, Vec::new(alloc), 5, 10);
+    let (committer, passes, seats) = opened.ok()?;
+    accepted(rt, alloc, &committer, passes, seats)
+}
+
+/// Of 401 batches each of ten cuts can refuse one of each seat, where it comes between the batch's
+/// time and its commit.
+#[test]
+fn each_answer_is_audited_while_others_change_the_store(rt: HostRuntime) {
+    let accepted = accepted_by::<Brand, _>(&rt, rt.alloc(), Store::new());
+    assert!(rt; accepted.is_some_and(|events| events >= 341));
+}

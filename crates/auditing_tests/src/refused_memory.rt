@@ -1,0 +1,79 @@
+//! Calls that are refused memory, made again. `tests/allocations` runs these tests with each of
+//! their allocations refused in turn.
+
+use crate::answers::{FOUND, SOUND, answer, query, rows_at};
+use crate::worked_block::{CHUNKS, INDEX, TOMBSTONES, told, walked};
+use auditor::{AuditError, Flaw, Table, audit, audit_merge, audit_skip};
+use cover::PartAnswer;
+use labels::Row;
+use matchers::Query;
+use std::alloc::Global;
+
+type Audited = Result<(), AuditError>;
+
+fn audit_again(alloc: Global, table: &Table, query: &Query, answer: &PartAnswer) -> Audited {
+    match audit(alloc, table, query, answer) {
+        Err(AuditError::Memory) => audit(alloc, table, query, answer),
+        told => told,
+    }
+}
+
+fn skip_again(alloc: Global, table: &Table, query: &Query) -> Audited {
+    match audit_skip(alloc, table, query) {
+        Err(AuditError::Memory) => audit_skip(alloc, table, query),
+        told => told,
+    }
+}
+
+fn merge_again(alloc: Global, answers: &[PartAnswer], rows: &[Row]) -> Audited {
+    match audit_merge(alloc, answers, rows) {
+        Err(AuditError::Memory) => audit_merge(alloc, answers, rows),
+        told => told,
+    }
+}
+
+/// Whether a sound answer is valid and its part is hidden, in one range, and not in another.
+fn are_judged(alloc: Global, table: &Table, answer: &PartAnswer) -> Option<bool> {
+    let early = query(alloc, 0)?;
+    let late = query(alloc, 20)?;
+    let hidden = Err(AuditError::Flaw(Flaw::Hidden));
+    Some(
+        audit_again(alloc, table, &early, answer).is_ok()
+            && skip_again(alloc, table, &early) == hidden
+            && skip_again(alloc, table, &late).is_ok(),
+    )
+}
+
+/// Whether the rows of an answer are those of all answers, and not those of none.
+fn are_merged(alloc: Global, answers: &[PartAnswer], rows: &[Row]) -> bool {
+    let wrong = Err(AuditError::Flaw(Flaw::WrongMerge));
+    merge_again(alloc, answers, rows).is_ok() && merge_again(alloc, &[], rows) == wrong
+}
+
+/// Whether all is told as it should be; `None` where the part, the answer or a query are refused
+/// memory.
+fn is_told(alloc: Global) -> Option<bool> {
+    let table = walked(alloc, INDEX, CHUNKS, TOMBSTONES).ok()?;
+    let answers = [answer(alloc, &table, &SOUND)?];
+    let rows = rows_at(alloc, &table, FOUND)?;
+    let judged = are_judged(alloc, &table, &answers[0])?;
+    Some(judged && are_merged(alloc, &answers, rows.as_slice()))
+}
+
+#[test]
+fn audits_refused_memory_answer_when_made_again(rt: HostRuntime) {
+    let told = match is_told(rt.alloc()) {
+        None => is_told(rt.alloc()),
+        told => told,
+    };
+    assert_eq!(rt; told, Some(true));
+}
+
+#[test]
+fn a_walk_refused_memory_answers_when_made_again(rt: HostRuntime) {
+    let told = match told(rt.alloc(), INDEX, CHUNKS, TOMBSTONES) {
+        "Memory" => told(rt.alloc(), INDEX, CHUNKS, TOMBSTONES),
+        told => told,
+    };
+    assert_eq!(rt; told, "part");
+}
