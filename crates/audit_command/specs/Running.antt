@@ -13,7 +13,7 @@ use Rattle.audit_command.specs.declared.fault.Fault.TheVariants as fault
 use Rattle.audit_command.specs.declared.report.Outcome.{Outcome}
 use Rattle.audit_command.specs.declared.report.Outcome.TheVariants.{Done, Flawed}
 use Rattle.audit_command.specs.declared.report.Report.{Report}
-use Rattle.audit_command.specs.declared.run.Ending.{Ending}
+use Rattle.audit_command.specs.declared.program.Ending.{Ending}
 
 -- the lines of the report were written, and nothing else; the outcome is that of the report
 pub record IsAudited (reads : Reads) (input : Option (List ℕ)) (asked : Asked)

@@ -16,9 +16,9 @@ mod command;
 mod fault;
 mod files;
 mod input;
+mod program;
 mod report;
-mod run;
 mod tables;
 
 pub use files::{ReadError, ReadFiles};
-pub use run::{Ending, run};
+pub use program::{Ending, run};

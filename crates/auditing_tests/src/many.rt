@@ -104,9 +104,9 @@ fn pair_of(alloc: Global, name: &str, value: &str) -> Option<(String, String)> {
 /// `up` of a job and a zone.
 fn labels_of(alloc: Global, job: &str, zone: &str) -> Option<LabelSet> {
     let mut pairs = Vec::new(alloc);
-    for (name, value) in [("__name__", "up"), ("job", job), ("zone", zone)] {
-        pairs.push(pair_of(alloc, name, value)?).ok()?;
-    }
+    pairs.push(pair_of(alloc, "__name__", "up")?).ok()?;
+    pairs.push(pair_of(alloc, "job", job)?).ok()?;
+    pairs.push(pair_of(alloc, "zone", zone)?).ok()?;
     LabelSet::new(alloc, pairs).ok()
 }
 

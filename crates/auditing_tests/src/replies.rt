@@ -149,6 +149,15 @@ fn is_lined(alloc: Global, lined: &Lined) -> bool {
     }
 }
 
+fn are_lined(alloc: Global, rows: &[Lined]) -> bool {
+    for lined in rows {
+        if !is_lined(alloc, lined) {
+            return false;
+        }
+    }
+    true
+}
+
 /// The answer of an empty store to `up{job="a"}`.
 pub const EMPTY: &str =
     r#"{"parts":[{"intervals":[],"part":"head","rows":[],"separators":[]}],"rows":[]}"#;
@@ -306,7 +315,7 @@ const LINED: &[Lined] = &[
 #[test]
 fn each_part_has_its_line(rt: HostRuntime) {
     assert_eq!(rt; EMPTY.len(), 78);
-    assert!(rt; LINED.iter().all(|lined| is_lined(rt.alloc(), lined)));
+    assert!(rt; are_lined(rt.alloc(), LINED));
 }
 
 const SPACED: &str = " { \"rows\" : 1 , \"rows\" : [ ] , \"parts\" : [ ] } ";
@@ -381,5 +390,5 @@ const MERGES: &[Lined] = &[
 
 #[test]
 fn the_value_listed_last_stands(rt: HostRuntime) {
-    assert!(rt; MERGES.iter().all(|lined| is_lined(rt.alloc(), lined)));
+    assert!(rt; are_lined(rt.alloc(), MERGES));
 }

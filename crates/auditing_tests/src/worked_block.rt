@@ -76,7 +76,7 @@ fn is_row(row: &Row, name: &str, job: &str, zone: &str, value: i64) -> bool {
     labels.value("__name__") == name
         && labels.value("job") == job
         && labels.value("zone") == zone
-        && row.samples() == [Sample::new(10, value)]
+        && row.samples() == [Sample::new(10, value)].as_slice()
 }
 
 fn is_worked(table: &Table) -> bool {

@@ -3,7 +3,7 @@ use Rattle.std.specs.Io.KnownBytes.{Appends}
 use Rattle.std.proofs.lemmas.Result.{err_from_is_err_and}
 use Rattle.audit_command.specs.Auditing.{by_writing}
 use Rattle.audit_command.proofs.Endings.{unused}
-use Rattle.audit_command.proofs.run.write_audit.Goals as goal
+use Rattle.audit_command.proofs.program.write_audit.Goals as goal
 
 pub returns-in_err-report : goal.returns-in_err-report
 returns-in_err-report g c =
