@@ -12,10 +12,14 @@ mod damage;
 #[cfg(test)]
 mod flaws;
 #[cfg(test)]
+mod host;
+#[cfg(test)]
 mod many;
 #[cfg(test)]
 mod refused_memory;
 #[cfg(test)]
 mod replies;
+#[cfg(test)]
+mod runs;
 #[cfg(test)]
 mod worked_block;
