@@ -142,23 +142,38 @@ fn read_one<F: ReadFiles>(
     }
 }
 
-/// Reads the index of the block in a directory, and opens it.
-fn read_index<F: ReadFiles>(
+/// An index of fewer bytes is opened by the thread that reads the chunks: another would not repay.
+const LONG_INDEX: usize = 65_536;
+
+/// Reads the chunks of the block in a directory, and opens its index: a long one while a thread
+/// reads the chunks.
+fn read_chunks_and_open<T: Threads + Sync, F: ReadFiles>(
+    rt: &T,
     alloc: Global,
     files: &F,
     directory: &str,
-) -> Result<(Vec<u8>, Result<Index, IndexError>), Fault>
-    ensures ok { IfOk result (λ read. IsRead (F.may_read files.now) directory.now file_name.Index read.0.items) }
-    ensures opened { IfOk result (λ read. IsOpened read.0.items read.1) }
-    ensures err { IfErr result (λ fault. IsFileFault (F.may_read files.now) directory.now file_name.Index fault) }
+    index: &[u8],
+) -> (Result<Vec<u8>, Fault>, Result<Index, IndexError>)
+    ensures ok { IfOk result.0 (λ bytes. IsRead (F.may_read files.now) directory.now file_name.Chunks bytes.items) }
+    ensures err { IfErr result.0 (λ fault. IsFileFault (F.may_read files.now) directory.now file_name.Chunks fault) }
+    ensures opened { IsOpened index.now result.1 }
 {
-    let index = read_one(alloc, files, directory, FileName::Index)?;
-    let opened = Index::open(alloc, index.as_slice());
-    Ok((index, opened))
+    if index.len() < LONG_INDEX {
+        let chunks = read_one(alloc, files, directory, FileName::Chunks);
+        return (chunks, Index::open(alloc, index));
+    }
+    let apart = || -> Result<Vec<u8>, Fault>
+        requires { IsSync F.row }
+        ensures { (IfOk result (λ bytes. IsRead (F.may_read files.entry.now) directory.entry.now file_name.Chunks bytes.items)) × (IfErr result (λ fault. IsFileFault (F.may_read files.entry.now) directory.entry.now file_name.Chunks fault)) }
+    { read_one(alloc, files, directory, FileName::Chunks) };
+    let here = || -> Result<Index, IndexError>
+        ensures { IsOpened index.entry.now result }
+    { Index::open(alloc, index) };
+    join(rt, apart, here)
 }
 
 /// Reads the files of the block in a directory, each once: the meta, the index, the chunks and the
-/// tombstones, up to the first that cannot be read. The index is opened while a thread reads the
+/// tombstones, up to the first that cannot be read. A long index is opened while a thread reads the
 /// chunks.
 pub fn read_block<T: Threads + Sync, F: ReadFiles>(
     rt: &T,
@@ -171,16 +186,8 @@ pub fn read_block<T: Threads + Sync, F: ReadFiles>(
     ensures err { IfErr result (λ fault. IsReadingFault (F.may_read files.now) directory.now fault) }
 {
     let meta = read_one(alloc, files, directory, FileName::Meta)?;
-    let apart = || -> Result<Vec<u8>, Fault>
-        requires { IsSync F.row }
-        ensures { (IfOk result (λ bytes. IsRead (F.may_read files.entry.now) directory.entry.now file_name.Chunks bytes.items)) × (IfErr result (λ fault. IsFileFault (F.may_read files.entry.now) directory.entry.now file_name.Chunks fault)) }
-    { read_one(alloc, files, directory, FileName::Chunks) };
-    let here = || -> Result<(Vec<u8>, Result<Index, IndexError>), Fault>
-        requires { IsSync F.row }
-        ensures { (IfOk result (λ read. IsRead (F.may_read files.entry.now) directory.entry.now file_name.Index read.0.items)) × (IfOk result (λ read. IsOpened read.0.items read.1)) × (IfErr result (λ fault. IsFileFault (F.may_read files.entry.now) directory.entry.now file_name.Index fault)) }
-    { read_index(alloc, files, directory) };
-    let (chunks, index) = join(rt, apart, here);
-    let (index, opened) = index?;
+    let index = read_one(alloc, files, directory, FileName::Index)?;
+    let (chunks, opened) = read_chunks_and_open(rt, alloc, files, directory, index.as_slice());
     let chunks = chunks?;
     let tombstones = read_one(alloc, files, directory, FileName::Tombstones)?;
     Ok(BlockFiles {

@@ -1,0 +1,197 @@
+//! A store of six series, and what is asked of it.
+
+mod counting;
+
+use block_search::search_part;
+use counting::Counting;
+use head::{Event, Snapshot, apply};
+use labels::{LabelSet, Sample, is_time};
+use matchers::{Query, Selector};
+use postings::PartName;
+use query_http::{answer, answer_by_workers, body};
+use std::alloc::Global;
+use std::thread::Threads;
+
+const SERIES: [(&str, &str, &str); 6] = [
+    ("up", "a", ""),
+    ("up", "b", ""),
+    ("up", "b", "x"),
+    ("down", "a", ""),
+    ("down", "b", ""),
+    ("up", "a", "x"),
+];
+
+fn label(alloc: Global, name: &str, value: &str) -> Option<(String, String)> {
+    let name = String::from_str(alloc, name).ok()?;
+    let value = String::from_str(alloc, value).ok()?;
+    Some((name, value))
+}
+
+fn labels(alloc: Global, name: &str, job: &str, zone: &str) -> Option<LabelSet> {
+    let name = label(alloc, "__name__", name)?;
+    let job = label(alloc, "job", job)?;
+    let zone = label(alloc, "zone", zone)?;
+    let pairs = vec![in alloc; name, job, zone].ok()?;
+    LabelSet::new(alloc, pairs).ok()
+}
+
+fn batch(samples: Vec<(LabelSet, Sample)>) -> Option<Event> {
+    if !Event::is_batch(&samples) {
+        return None;
+    }
+    Some(Event::batch(samples))
+}
+
+/// A sample of each of the six series at this time.
+fn at(alloc: Global, t: i64) -> Option<Event> {
+    let mut samples = Vec::new(alloc);
+    for (name, job, zone) in SERIES {
+        let labels = labels(alloc, name, job, zone)?;
+        samples.push((labels, Sample::new(t, t))).ok()?;
+    }
+    batch(samples)
+}
+
+/// As many series of one sample at time 10, the job of each its number.
+fn many_series(alloc: Global, count: u32) -> Option<Event> {
+    let mut samples = Vec::new(alloc);
+    for n in 0..count {
+        let job = format!(in alloc; "{n}").ok()?;
+        let labels = labels(alloc, "up", job.as_str(), "")?;
+        samples.push((labels, Sample::new(10, 1))).ok()?;
+    }
+    batch(samples)
+}
+
+fn empty(alloc: Global) -> Option<Snapshot> {
+    Snapshot::opening(alloc, Vec::new(alloc)).ok()
+}
+
+/// What was before a time as a block of its own.
+fn cut(alloc: Global, snapshot: &Snapshot, t: i64) -> Option<Snapshot> {
+    if !is_time(t) {
+        return None;
+    }
+    apply(alloc, snapshot, &Event::cut(t)).ok()
+}
+
+/// A block of the six series for each of these times, and an empty head.
+fn blocks_at(alloc: Global, times: &[i64]) -> Option<Snapshot> {
+    let mut snapshot = empty(alloc)?;
+    for t in times {
+        let more = apply(alloc, &snapshot, &at(alloc, *t)?).ok()?;
+        snapshot = cut(alloc, &more, t.saturating_add(5))?;
+    }
+    Some(snapshot)
+}
+
+fn query(alloc: Global, selector: &str) -> Option<Query> {
+    let matchers = Selector::parse(alloc, selector).ok()?;
+    Query::new(matchers, 0, 1_000).ok()
+}
+
+/// Of a search over the six series in a head: how many lists of pairs were lent, how many values
+/// told, whether all lists moved no more often than is told, and how many rows there are.
+fn walked(alloc: Global, selector: &str) -> Option<(u64, u64, bool, usize)> {
+    let snapshot = apply(alloc, &empty(alloc)?, &at(alloc, 10)?).ok()?;
+    let counting = Counting::new(snapshot.head());
+    let query = query(alloc, selector)?;
+    let answer = search_part(alloc, PartName::Head, &&counting, &query).ok()?;
+    Some((
+        counting.lists(),
+        counting.values(),
+        counting.moves() <= answer.cover.moves,
+        answer.rows.len(),
+    ))
+}
+
+#[test]
+fn a_search_walks_no_other_list(rt: HostRuntime) {
+    for (selector, want) in [
+        (r#"up{job="a"}"#, (2, 0, true, 2)),
+        (r#"up{zone="x"}"#, (2, 0, true, 2)),
+        (r#"{job="z"}"#, (0, 0, true, 0)),
+        (r#"{__name__=~"u.*"}"#, (1, 2, true, 4)),
+    ] {
+        assert_eq!(rt; walked(rt.alloc(), selector), Some(want), "{selector}");
+    }
+}
+
+/// The text of the answer that one thread gives.
+fn text_of_one(alloc: Global, snapshot: &Snapshot, query: &Query) -> Option<Vec<u8>> {
+    let answer = answer(alloc, snapshot, query).ok()?;
+    body(alloc, &answer.parts, &answer.rows).ok()
+}
+
+/// The text of the answer that workers give.
+fn text_of_many<R: Threads + Sync>(
+    rt: &R,
+    alloc: Global,
+    snapshot: &Snapshot,
+    query: &Query,
+) -> Option<Vec<u8>> {
+    let answer = answer_by_workers(rt, alloc, snapshot, query).ok()?;
+    body(alloc, &answer.parts, &answer.rows).ok()
+}
+
+/// How long the text is of what workers answer to `up`, where one thread answers the same.
+fn length_of_both<R: Threads + Sync>(rt: &R, alloc: Global, snapshot: &Snapshot) -> Option<usize> {
+    let query = query(alloc, "up")?;
+    let one = text_of_one(alloc, snapshot, &query)?;
+    let many = text_of_many(rt, alloc, snapshot, &query)?;
+    if one.as_slice() != many.as_slice() {
+        return None;
+    }
+    Some(many.len())
+}
+
+fn blocks_and_many<R: Threads + Sync>(rt: &R, alloc: Global) -> Option<[bool; 2]> {
+    let mut times = [0; 63];
+    for n in 0..times.len() {
+        times[n] = n as i64 * 10;
+    }
+    let blocks = blocks_at(alloc, &times)?;
+    let head = apply(alloc, &empty(alloc)?, &many_series(alloc, 4_000)?).ok()?;
+    let block = cut(alloc, &head, 15)?;
+    let of_blocks = length_of_both(rt, alloc, &blocks)?;
+    let of_block = length_of_both(rt, alloc, &block)?;
+    // Of each block's four rows, twice, and of each of the 4,000, no text is shorter than this.
+    Some([of_blocks > 63 * 4 * 2 * 40, of_block > 4_000 * 2 * 40])
+}
+
+#[test]
+fn workers_answer_as_one_thread_does(rt: HostRuntime) {
+    assert_eq!(rt; blocks_and_many(&rt, rt.alloc()), Some([true, true]));
+}
+
+const MERGED: &str =
+    r#""rows":[{"labels":{"__name__":"down","job":"a"},"samples":[[10,10],[20,20]]}]}"#;
+
+/// Whether the answer over a snapshot, asked for again where memory was refused, has these rows.
+fn tells_again<R: Threads + Sync>(rt: &R, alloc: Global, snapshot: &Snapshot) -> Option<bool> {
+    let selector = r#"down{job="a"}"#;
+    let query = match query(alloc, selector) {
+        None => query(alloc, selector)?,
+        Some(query) => query,
+    };
+    let text = match text_of_many(rt, alloc, snapshot, &query) {
+        None => text_of_many(rt, alloc, snapshot, &query)?,
+        Some(text) => text,
+    };
+    Some(text.ends_with(MERGED.as_bytes()))
+}
+
+fn answers_again<R: Threads + Sync>(rt: &R, alloc: Global) -> Option<bool> {
+    let snapshot = match blocks_at(alloc, &[10, 20]) {
+        None => blocks_at(alloc, &[10, 20])?,
+        Some(snapshot) => snapshot,
+    };
+    tells_again(rt, alloc, &snapshot)
+}
+
+/// `tests/allocations` runs this test with each of its allocations refused in turn: those of two
+/// blocks, of the search by workers, of the merge and of the text.
+#[test]
+fn an_answer_refused_memory_is_the_same_when_asked_for_again(rt: HostRuntime) {
+    assert_eq!(rt; answers_again(&rt, rt.alloc()), Some(true));
+}
