@@ -8,10 +8,12 @@ pub no_refs : (bytes : List ℕ) → length bytes < 4 → references_in bytes �
 unfolding words
 no_refs bytes lt = let e : length bytes / 4 ≡ 0 = omega arith in rw e refl
 
-pub some_refs : (bytes : List ℕ) → 4 ≤ length bytes → references_in bytes ≡ big_number 4 bytes ∷ references_in (drop 4 bytes)
+pub some_refs : (bytes : List ℕ) → 4 ≤ length bytes
+    → references_in bytes ≡ big_number 4 bytes ∷ references_in (drop 4 bytes)
 unfolding words
 some_refs bytes le =
-    let e : length bytes / 4 ≡ suc (length (drop 4 bytes) / 4) = omega (arith, length-drop 4 bytes) in
+    let e : length bytes / 4 ≡ suc (length (drop 4 bytes) / 4) =
+    omega (arith, length-drop 4 bytes) in
     rw e refl
 
 pub ruleset of_firsts = (no_refs, some_refs)

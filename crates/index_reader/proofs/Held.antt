@@ -33,27 +33,36 @@ use Rattle.index_reader.proofs.Found.{is_index}
 use Rattle.index_reader.proofs.Facts.{read_is, series_length}
 use Rattle.index_reader.proofs.Texts.{got, stands_at}
 
-pub is_read : (file : List ℕ) (r : Result Checked IndexError) → Gives read_seen r (read_of file) → IfOk r (IsHeldIn file) → IfOk r (λ c. IsRead (read_seen c))
+pub is_read : (file : List ℕ) (r : Result Checked IndexError) → Gives read_seen r (read_of file)
+    → IfOk r (IsHeldIn file) → IfOk r (λ c. IsRead (read_seen c))
 is_read file (Ok c) g h = read_is file (read_seen c) h.parts g
 is_read file (Err e) g h = tt
 
-pub is_spelled : (file : List ℕ) (r : Result Checked IndexError) → IsBytes file → Gives read_seen r (read_of file) → IfOk r (IsHeldIn file) → IfOk r (λ c. IsIndex file (indexed (read_seen c)))
+pub is_spelled : (file : List ℕ) (r : Result Checked IndexError) → IsBytes file
+    → Gives read_seen r (read_of file) → IfOk r (IsHeldIn file)
+    → IfOk r (λ c. IsIndex file (indexed (read_seen c)))
 is_spelled file (Ok c) fits g h = is_index file (read_seen c) fits h.parts g
 is_spelled file (Err e) fits g h = tt
 
 -- ---- what is copied one by one
 
-pub moved_on : {X : Type 0} (front whole : List X) (i : ℕ) (x y : X) → slice_get whole i ≡ Some x → y ≡ x → front ++ drop i whole ≡ whole → (front ++ y ∷ []) ++ drop (i + 1) whole ≡ whole
+pub moved_on : {X : Type 0} (front whole : List X) (i : ℕ) (x y : X) → slice_get whole i ≡ Some x
+    → y ≡ x → front ++ drop i whole ≡ whole → (front ++ y ∷ []) ++ drop (i + 1) whole ≡ whole
 moved_on front whole i x y g e h =
     let s : i + 1 ≡ suc i = omega arith in
-    append_assoc front (y ∷ []) (drop (i + 1) whole) ∙ rw (e, s) (ap (λ r. front ++ r) (sym (drop_at_place whole i x g)) ∙ h)
+    append_assoc front (y ∷ []) (drop (i + 1) whole)
+    ∙ rw (e, s) (ap (λ r. front ++ r) (sym (drop_at_place whole i x g)) ∙ h)
 
-pub ended_so : {X : Type 0} (front whole : List X) (i : ℕ) → length whole ≤ i → front ++ drop i whole ≡ whole → front ≡ whole
-ended_so front whole i le h = sym (append-nil front) ∙ ap (λ r. front ++ r) (sym (drop_all i whole le)) ∙ h
+pub ended_so : {X : Type 0} (front whole : List X) (i : ℕ) → length whole ≤ i
+    → front ++ drop i whole ≡ whole → front ≡ whole
+ended_so front whole i le h =
+    sym (append-nil front) ∙ ap (λ r. front ++ r) (sym (drop_all i whole le)) ∙ h
 
 -- ---- the series of an entry and its body
 
-pub series_here : (symbols : List (List ℕ)) (ps : List SeriesEntry) (bs : List Body) (i : ℕ) (p : SeriesEntry) (b : Body) → slice_get ps i ≡ Some p → slice_get bs i ≡ Some b → slice_get (series_of symbols ps bs) i ≡ Some (series_at symbols p b)
+pub series_here : (symbols : List (List ℕ)) (ps : List SeriesEntry) (bs : List Body) (i : ℕ)
+    (p : SeriesEntry) (b : Body) → slice_get ps i ≡ Some p → slice_get bs i ≡ Some b
+    → slice_get (series_of symbols ps bs) i ≡ Some (series_at symbols p b)
 unfolding series_of
 series_here symbols [] bs i p b g h = absurd cc
 series_here symbols (x ∷ ps) [] i p b g h = absurd cc
@@ -69,43 +78,70 @@ made r ls cs = record { reference = r; labels = ls; chunks = cs }
 some_number : (a b : ℕ) → Some a ≡ Some b → a ≡ b
 some_number a b e = cc
 
-reference_is : (ps : List SeriesEntry) (i r : ℕ) (p : SeriesEntry) → slice_get (agreement.entry_references ps) i ≡ Some r → slice_get ps i ≡ Some p → r ≡ p.offset / 16
-reference_is ps i r p g h = some_number r (p.offset / 16) (sym g ∙ mapped_at (λ (q : SeriesEntry). q.offset / 16) ps i p h)
+reference_is : (ps : List SeriesEntry) (i r : ℕ) (p : SeriesEntry)
+    → slice_get (agreement.entry_references ps) i ≡ Some r
+    → slice_get ps i ≡ Some p → r ≡ p.offset / 16
+reference_is ps i r p g h =
+    some_number r (p.offset / 16) (sym g ∙ mapped_at (λ (q : SeriesEntry). q.offset / 16) ps i p h)
 
 -- ---- what stands at a place
 
-pub all_here : {X : Type 0} (P : X → Type 0) (xs : List X) (i : ℕ) (x : X) → All P xs → slice_get xs i ≡ Some x → P x
+pub all_here : {X : Type 0} (P : X → Type 0) (xs : List X) (i : ℕ) (x : X) → All P xs
+    → slice_get xs i ≡ Some x → P x
 all_here P [] i x h g = absurd cc
 all_here P (y ∷ xs) zero x h g = let e : y ≡ x = cc in subst P e (h 0 y (omega arith))
 all_here P (y ∷ xs) (suc i) x h g = all_here P xs i x (λ k d lt. h (suc k) d (omega arith)) g
 
-pub list_here : (lists : List (Bor (List ℕ))) (i : ℕ) (x : List ℕ) → All (λ (l : Bor (List ℕ)). IsList l.now) lists → slice_get (bytes_of lists) i ≡ Some x → IsList x
+pub list_here : (lists : List (Bor (List ℕ))) (i : ℕ) (x : List ℕ)
+    → All (λ (l : Bor (List ℕ)). IsList l.now) lists
+    → slice_get (bytes_of lists) i ≡ Some x → IsList x
 list_here [] i x h g = absurd cc
 list_here (y ∷ xs) zero x h g = let e : y.now ≡ x = cc in subst IsList e (h 0 y (omega arith))
 list_here (y ∷ xs) (suc i) x h g = list_here xs i x (λ k d lt. h (suc k) d (omega arith)) g
 
-stands_so : {X : Type 0} (xs : List X) (i : ℕ) (x : X) → i < length xs → x ≡ get_or xs i x → slice_get xs i ≡ Some x
+stands_so : {X : Type 0} (xs : List X) (i : ℕ) (x : X) → i < length xs → x ≡ get_or xs i x
+    → slice_get xs i ≡ Some x
 stands_so xs i x lt e = stands_at xs i x lt ∙ ap (λ y. Some y) (sym e)
 
 -- ---- series as they are kept
 
-series_is : (symbols : List (List ℕ)) (labels : List Label) (chunks : List Chunk) (r : Row) (reference : ℕ) (p : SeriesEntry) → reference ≡ p.offset / 16 → series_in symbols labels chunks (of_row r reference) ≡ series_at symbols p (body_in labels chunks r)
-series_is symbols labels chunks r reference p e = ap (λ (n : ℕ). made n (named symbols (slice_range labels r.labels_start r.labels_end)) (slice_range chunks r.chunks_start r.chunks_end)) e
+series_is : (symbols : List (List ℕ)) (labels : List Label) (chunks : List Chunk) (r : Row)
+    (reference : ℕ) (p : SeriesEntry) → reference ≡ p.offset / 16
+    → series_in symbols labels chunks (of_row r reference)
+    ≡ series_at symbols p (body_in labels chunks r)
+series_is symbols labels chunks r reference p e =
+    ap (λ (n : ℕ). made n (named symbols (slice_range labels r.labels_start r.labels_end))
+    (slice_range chunks r.chunks_start r.chunks_end)) e
 
-pub series_on : (symbols : List (List ℕ)) (labels : List Label) (chunks : List Chunk) (rows : List Row) (ps : List SeriesEntry) (front : List Series) (i : ℕ) (r : Row) (reference : ℕ) → slice_get rows i ≡ Some r → slice_get (agreement.entry_references ps) i ≡ Some reference → i < length ps
-    → all_in symbols labels chunks front ++ drop i (series_of symbols ps (bodies_in labels chunks rows)) ≡ series_of symbols ps (bodies_in labels chunks rows)
-    → all_in symbols labels chunks (front ++ of_row r reference ∷ []) ++ drop (i + 1) (series_of symbols ps (bodies_in labels chunks rows)) ≡ series_of symbols ps (bodies_in labels chunks rows)
+pub series_on : (symbols : List (List ℕ)) (labels : List Label) (chunks : List Chunk)
+    (rows : List Row) (ps : List SeriesEntry) (front : List Series) (i : ℕ) (r : Row)
+    (reference : ℕ) → slice_get rows i ≡ Some r
+    → slice_get (agreement.entry_references ps) i ≡ Some reference → i < length ps
+    → all_in symbols labels chunks front
+    ++ drop i (series_of symbols ps (bodies_in labels chunks rows))
+    ≡ series_of symbols ps (bodies_in labels chunks rows)
+    → all_in symbols labels chunks (front ++ of_row r reference ∷ [])
+    ++ drop (i + 1) (series_of symbols ps (bodies_in labels chunks rows))
+    ≡ series_of symbols ps (bodies_in labels chunks rows)
 series_on symbols labels chunks rows ps front i r reference g f lt so_far =
     let none : SeriesEntry = record { offset = 0; body = []; end = 0 } in
     let p = get_or ps i none in
     let here = stands_at ps i none lt in
     let whole = series_of symbols ps (bodies_in labels chunks rows) in
     let s = of_row r reference in
-    let one = series_here symbols ps (bodies_in labels chunks rows) i p (body_in labels chunks r) here (mapped_at (body_in labels chunks) rows i r g) in
+    let one =
+    series_here symbols ps (bodies_in labels chunks rows) i p (body_in labels chunks r) here
+    (mapped_at (body_in labels chunks) rows i r g) in
     let is = series_is symbols labels chunks r reference p (reference_is ps i reference p f here) in
-    ap (λ (front' : List indexes.Series). front' ++ drop (i + 1) whole) (map_push (series_in symbols labels chunks) front s) ∙ moved_on (all_in symbols labels chunks front) whole i (series_at symbols p (body_in labels chunks r)) (series_in symbols labels chunks s) one is so_far
+    ap (λ (front' : List indexes.Series). front' ++ drop (i + 1) whole)
+    (map_push (series_in symbols labels chunks) front s)
+    ∙ moved_on (all_in symbols labels chunks front) whole i (series_at symbols p
+    (body_in labels chunks r)) (series_in symbols labels chunks s) one is so_far
 
-row_within : (symbols : List (List ℕ)) (labels : List Label) (chunks : List Chunk) (r : Row) (reference : ℕ) → IsIn labels chunks r → AreInTable symbols (slice_range labels r.labels_start r.labels_end) → IsLabelSet (named symbols (slice_range labels r.labels_start r.labels_end))
+row_within : (symbols : List (List ℕ)) (labels : List Label) (chunks : List Chunk) (r : Row)
+    (reference : ℕ) → IsIn labels chunks r
+    → AreInTable symbols (slice_range labels r.labels_start r.labels_end)
+    → IsLabelSet (named symbols (slice_range labels r.labels_start r.labels_end))
     → IsWithin symbols labels chunks (of_row r reference)
 row_within symbols labels chunks r reference o t l = record {
   labels_ordered = o.labels_ordered;
@@ -116,109 +152,175 @@ row_within symbols labels chunks r reference o t l = record {
   labelled = l;
 }
 
-pub within_on : (symbols : List (List ℕ)) (labels : List Label) (chunks : List Chunk) (front : List Series) (r : Row) (reference : ℕ) → IsIn labels chunks r → AreInTable symbols (slice_range labels r.labels_start r.labels_end) → IsLabelSet (named symbols (slice_range labels r.labels_start r.labels_end))
-    → AreWithin symbols labels chunks front → AreWithin symbols labels chunks (front ++ of_row r reference ∷ [])
+pub within_on : (symbols : List (List ℕ)) (labels : List Label) (chunks : List Chunk)
+    (front : List Series) (r : Row) (reference : ℕ) → IsIn labels chunks r
+    → AreInTable symbols (slice_range labels r.labels_start r.labels_end)
+    → IsLabelSet (named symbols (slice_range labels r.labels_start r.labels_end))
+    → AreWithin symbols labels chunks front
+    → AreWithin symbols labels chunks (front ++ of_row r reference ∷ [])
 within_on symbols labels chunks front r reference o t l w = λ k d lt.
     elim (cases_lt k (length front)) [
       | inl below ↦ rw (get_or_append_left front (of_row r reference ∷ []) d k below) (w k d below)
       | inr from ↦
           let n : length front ≡ k = omega (arith, lt, length_push front (of_row r reference)) in
-          rw (get_or_at front (of_row r reference) [] d k n) (row_within symbols labels chunks r reference o t l)
+          rw (get_or_at front (of_row r reference) [] d k n)
+          (row_within symbols labels chunks r reference o t l)
     ]
 
-pub series_counted : (symbols : List (List ℕ)) (labels : List Label) (chunks : List Chunk) (rows : List Row) (ps : List SeriesEntry) → length rows ≡ length ps → length (series_of symbols ps (bodies_in labels chunks rows)) ≡ length rows
+pub series_counted : (symbols : List (List ℕ)) (labels : List Label) (chunks : List Chunk)
+    (rows : List Row) (ps : List SeriesEntry) → length rows ≡ length ps
+    → length (series_of symbols ps (bodies_in labels chunks rows)) ≡ length rows
 series_counted symbols labels chunks rows ps e =
     let n = length-map rows (body_in labels chunks) in
     series_length symbols ps (bodies_in labels chunks rows) (omega (arith, n, e)) ∙ n
 
 -- ---- what an index shows of what it keeps
 
-pub series_seen : (symbols : List (List ℕ)) (keys labels : List Label) (chunks : List Chunk) (ss : List Series) (x : indexes.Indexed) (i : ℕ) (s : Series) → indexed_in symbols keys labels chunks ss ≡ x → i < length x.series → s ≡ get_or ss i s → slice_get x.series i ≡ Some (series_in symbols labels chunks s)
+pub series_seen : (symbols : List (List ℕ)) (keys labels : List Label) (chunks : List Chunk)
+    (ss : List Series) (x : indexes.Indexed) (i : ℕ) (s : Series)
+    → indexed_in symbols keys labels chunks ss ≡ x → i < length x.series → s ≡ get_or ss i s
+    → slice_get x.series i ≡ Some (series_in symbols labels chunks s)
 series_seen symbols keys labels chunks ss x i s view lt e =
-    let v : all_in symbols labels chunks ss ≡ x.series = ap (λ (y : indexes.Indexed). y.series) view in
-    let n : i < length ss = omega (arith, lt, ap (λ (zs : List indexes.Series). length zs) v, length-map ss (series_in symbols labels chunks)) in
-    subst (λ (zs : List indexes.Series). slice_get zs i ≡ Some (series_in symbols labels chunks s)) v (mapped_at (series_in symbols labels chunks) ss i s (stands_so ss i s n e))
+    let v : all_in symbols labels chunks ss ≡ x.series =
+    ap (λ (y : indexes.Indexed). y.series) view in
+    let n : i < length ss = omega (
+      arith,
+      lt,
+      ap (λ (zs : List indexes.Series). length zs) v,
+      length-map ss (series_in symbols labels chunks),
+    ) in
+    subst (λ (zs : List indexes.Series). slice_get zs i ≡ Some (series_in symbols labels chunks s))
+    v (mapped_at (series_in symbols labels chunks) ss i s (stands_so ss i s n e))
 
-pub listed_entry : (symbols : List (List ℕ)) (keys : List Label) (series : List indexes.Series) (lists : List (List ℕ)) → IsListing symbols keys series lists → (name value : List ℕ) (i : ℕ) → i < length keys → text_of symbols (get_or keys i (0, 0)) ≡ (name, value)
-    → (e : List ℕ × ℕ) → slice_get lists (i + 1) ≡ Some e.0 → e.1 ≡ 0 → e ≡ (references_with name value series, 0)
+pub listed_entry : (symbols : List (List ℕ)) (keys : List Label) (series : List indexes.Series)
+    (lists : List (List ℕ)) → IsListing symbols keys series lists → (name value : List ℕ) (i : ℕ)
+    → i < length keys → text_of symbols (get_or keys i (0, 0)) ≡ (name, value)
+    → (e : List ℕ × ℕ) → slice_get lists (i + 1) ≡ Some e.0 → e.1 ≡ 0
+    → e ≡ (references_with name value series, 0)
 listed_entry symbols keys series lists l name value i lt t e g z =
-    let f : e.0 ≡ references_with name value series = sym (got lists (i + 1) e.0 [] g) ∙ l.listed i lt ∙ ap (λ (p : List ℕ × List ℕ). references_with p.0 p.1 series) t in
+    let f : e.0 ≡ references_with name value series =
+    sym (got lists (i + 1) e.0 [] g)
+    ∙ l.listed i lt
+    ∙ ap (λ (p : List ℕ × List ℕ). references_with p.0 p.1 series) t in
     λ j. (f j, z j)
 
-pub all_entry : (symbols : List (List ℕ)) (keys : List Label) (series : List indexes.Series) (lists : List (List ℕ)) → IsListing symbols keys series lists → (e : List ℕ × ℕ) → slice_get lists 0 ≡ Some e.0 → e.1 ≡ 0 → e ≡ (references series, 0)
+pub all_entry : (symbols : List (List ℕ)) (keys : List Label) (series : List indexes.Series)
+    (lists : List (List ℕ)) → IsListing symbols keys series lists → (e : List ℕ × ℕ)
+    → slice_get lists 0 ≡ Some e.0 → e.1 ≡ 0 → e ≡ (references series, 0)
 all_entry symbols keys series lists l e g z =
     let f : e.0 ≡ references series = sym (got lists 0 e.0 [] g) ∙ l.all in
     λ j. (f j, z j)
 
 -- ---- what opening leaves
 
-pub err_fails : (file : List ℕ) (e : IndexError) → Fails e (read_of file) → Fails e (indexed_of file)
+pub err_fails : (file : List ℕ) (e : IndexError) → Fails e (read_of file)
+    → Fails e (indexed_of file)
 unfolding indexed_of
 err_fails file e f = fails_on e (read_of file) (λ r. Ok (indexed r)) (indexed_of file) refl f
 
-pub exact_is : (file : List ℕ) (c : Checked) (x : indexes.Indexed) → read_of file ≡ Ok (read_seen c) → indexed (read_seen c) ≡ x → indexed_of file ≡ Ok x
+pub exact_is : (file : List ℕ) (c : Checked) (x : indexes.Indexed) → read_of file ≡ Ok (read_seen c)
+    → indexed (read_seen c) ≡ x → indexed_of file ≡ Ok x
 unfolding indexed_of
 exact_is file c x h e = rw h (ap (λ (y : indexes.Indexed). done y) e)
 
-pub rows_inside : (file : List ℕ) (c : Checked) → IsHeldIn file c → IsRead (read_seen c) → All (λ (r : Row). AreInTable (strings_of c.symbols.texts.items) (slice_range c.bodies.labels.items r.labels_start r.labels_end)) c.bodies.rows.items
+pub rows_inside : (file : List ℕ) (c : Checked) → IsHeldIn file c → IsRead (read_seen c)
+    → All (λ (r : Row). AreInTable (strings_of c.symbols.texts.items)
+    (slice_range c.bodies.labels.items r.labels_start r.labels_end)) c.bodies.rows.items
 rows_inside file c h i = λ k d lt.
     let ls = c.bodies.labels.items in
     let cs = c.bodies.chunks.items in
     let rs = c.bodies.rows.items in
-    let e : get_or (bodies_in ls cs rs) k (body_in ls cs d) ≡ body_in ls cs (get_or rs k d) = get_or-map (body_in ls cs) rs k d (body_in ls cs d) lt in
+    let e : get_or (bodies_in ls cs rs) k (body_in ls cs d) ≡ body_in ls cs (get_or rs k d) =
+    get_or-map (body_in ls cs) rs k d (body_in ls cs d) lt in
     let o = i.inside k (body_in ls cs d) (omega (arith, lt, length-map rs (body_in ls cs))) in
     let r = get_or rs k d in
-    subst (λ (symbols : List (List ℕ)). AreInTable symbols (slice_range ls r.labels_start r.labels_end)) (sym h.symbols) (subst (λ (b : Body). AreInTable (bytes_of c.layout.symbols.items) b.labels) e o)
+    subst (λ (symbols : List (List ℕ)). AreInTable symbols
+    (slice_range ls r.labels_start r.labels_end)) (sym h.symbols)
+    (subst (λ (b : Body). AreInTable (bytes_of c.layout.symbols.items) b.labels) e o)
 
-pub rows_labelled : (file : List ℕ) (c : Checked) → IsHeldIn file c → IsRead (read_seen c) → AreLabelSets (strings_of c.symbols.texts.items) c.bodies.labels.items c.bodies.rows.items
+pub rows_labelled : (file : List ℕ) (c : Checked) → IsHeldIn file c → IsRead (read_seen c)
+    → AreLabelSets (strings_of c.symbols.texts.items) c.bodies.labels.items c.bodies.rows.items
 rows_labelled file c h i = λ k d lt.
     let ls = c.bodies.labels.items in
     let cs = c.bodies.chunks.items in
     let rs = c.bodies.rows.items in
-    let e : get_or (bodies_in ls cs rs) k (body_in ls cs d) ≡ body_in ls cs (get_or rs k d) = get_or-map (body_in ls cs) rs k d (body_in ls cs d) lt in
+    let e : get_or (bodies_in ls cs rs) k (body_in ls cs d) ≡ body_in ls cs (get_or rs k d) =
+    get_or-map (body_in ls cs) rs k d (body_in ls cs d) lt in
     let o = i.labelled k (body_in ls cs d) (omega (arith, lt, length-map rs (body_in ls cs))) in
     let r = get_or rs k d in
-    subst (λ (symbols : List (List ℕ)). IsLabelSet (named symbols (slice_range ls r.labels_start r.labels_end))) (sym h.symbols) (subst (λ (b : Body). IsLabelSet (named (bytes_of c.layout.symbols.items) b.labels)) e o)
+    subst (λ (symbols : List (List ℕ)).
+    IsLabelSet (named symbols (slice_range ls r.labels_start r.labels_end))) (sym h.symbols)
+    (subst (λ (b : Body). IsLabelSet (named (bytes_of c.layout.symbols.items) b.labels)) e o)
 
-pub lists_whole : (c : Checked) → IsRead (read_seen c) → All (λ (l : Bor (List ℕ)). IsList l.now) c.lists.items
+pub lists_whole : (c : Checked) → IsRead (read_seen c)
+    → All (λ (l : Bor (List ℕ)). IsList l.now) c.lists.items
 lists_whole c i = λ k d lt.
-    let e : get_or (bytes_of c.lists.items) k d.now ≡ (get_or c.lists.items k d).now = get_or-map (λ (l : Bor (List ℕ)). l.now) c.lists.items k d d.now lt in
-    subst IsList e (i.lists k d.now (omega (arith, lt, length-map c.lists.items (λ (l : Bor (List ℕ)). l.now))))
+    let e : get_or (bytes_of c.lists.items) k d.now ≡ (get_or c.lists.items k d).now =
+    get_or-map (λ (l : Bor (List ℕ)). l.now) c.lists.items k d d.now lt in
+    subst IsList e
+    (i.lists k d.now (omega (arith, lt, length-map c.lists.items (λ (l : Bor (List ℕ)). l.now))))
 
 abbrev of_both : List indexes.Series → List (List ℕ × List ℕ) → indexes.Indexed
 of_both ss ps = record { series = ss; pairs = ps }
 
-pub whole_is : (file : List ℕ) (c : Checked) (labels : List Label) (chunks : List Chunk) (ss : List Series) → IsHeldIn file c → labels ≡ c.bodies.labels.items → chunks ≡ c.bodies.chunks.items
-    → all_in (strings_of c.symbols.texts.items) c.bodies.labels.items c.bodies.chunks.items ss ≡ series_of (strings_of c.symbols.texts.items) (entries_seen c.layout.entries.items) (bodies_in c.bodies.labels.items c.bodies.chunks.items c.bodies.rows.items)
-    → indexed (read_seen c) ≡ indexed_in (strings_of c.symbols.texts.items) c.keys.pairs.items labels chunks ss
+pub whole_is : (file : List ℕ) (c : Checked) (labels : List Label) (chunks : List Chunk)
+    (ss : List Series) → IsHeldIn file c → labels ≡ c.bodies.labels.items
+    → chunks ≡ c.bodies.chunks.items
+    → all_in (strings_of c.symbols.texts.items) c.bodies.labels.items c.bodies.chunks.items ss
+    ≡ series_of (strings_of c.symbols.texts.items) (entries_seen c.layout.entries.items)
+    (bodies_in c.bodies.labels.items c.bodies.chunks.items c.bodies.rows.items)
+    → indexed (read_seen c)
+    ≡ indexed_in (strings_of c.symbols.texts.items) c.keys.pairs.items labels chunks ss
 whole_is file c labels chunks ss h f e exact =
     let bs = bodies_in c.bodies.labels.items c.bodies.chunks.items c.bodies.rows.items in
     let ps = entries_seen c.layout.entries.items in
     let symbols = strings_of c.symbols.texts.items in
     let a : series_of (bytes_of c.layout.symbols.items) ps bs ≡ all_in symbols labels chunks ss =
-    ap (λ (y : List (List ℕ)). series_of y ps bs) (sym h.symbols) ∙ sym exact ∙ ap (λ (ls : List Label). all_in symbols ls c.bodies.chunks.items ss) (sym f) ∙ ap (λ (cs : List Chunk). all_in symbols labels cs ss) (sym e) in
-    let b : named (bytes_of c.layout.symbols.items) c.keys.pairs.items ≡ named symbols c.keys.pairs.items = ap (λ (y : List (List ℕ)). named y c.keys.pairs.items) (sym h.symbols) in
-    ap (λ (x : List indexes.Series). of_both x (named (bytes_of c.layout.symbols.items) c.keys.pairs.items)) a ∙ ap (of_both (all_in symbols labels chunks ss)) b
+    ap (λ (y : List (List ℕ)). series_of y ps bs) (sym h.symbols)
+    ∙ sym exact
+    ∙ ap (λ (ls : List Label). all_in symbols ls c.bodies.chunks.items ss) (sym f)
+    ∙ ap (λ (cs : List Chunk). all_in symbols labels cs ss) (sym e) in
+    let b : named (bytes_of c.layout.symbols.items) c.keys.pairs.items
+    ≡ named symbols c.keys.pairs.items =
+    ap (λ (y : List (List ℕ)). named y c.keys.pairs.items) (sym h.symbols) in
+    ap (λ (x : List indexes.Series). of_both x
+    (named (bytes_of c.layout.symbols.items) c.keys.pairs.items)) a
+    ∙ ap (of_both (all_in symbols labels chunks ss)) b
 
-pub is_kept : (file : List ℕ) (c : Checked) (labels : List Label) (chunks : List Chunk) (ss : List Series) (lists : List (List ℕ)) → IsHeldIn file c → IsRead (read_seen c) → labels ≡ c.bodies.labels.items → chunks ≡ c.bodies.chunks.items
+pub is_kept : (file : List ℕ) (c : Checked) (labels : List Label) (chunks : List Chunk)
+    (ss : List Series) (lists : List (List ℕ)) → IsHeldIn file c → IsRead (read_seen c)
+    → labels ≡ c.bodies.labels.items → chunks ≡ c.bodies.chunks.items
     → AreWithin (strings_of c.symbols.texts.items) c.bodies.labels.items c.bodies.chunks.items ss
-    → all_in (strings_of c.symbols.texts.items) c.bodies.labels.items c.bodies.chunks.items ss ≡ series_of (strings_of c.symbols.texts.items) (entries_seen c.layout.entries.items) (bodies_in c.bodies.labels.items c.bodies.chunks.items c.bodies.rows.items)
-    → lists ≡ map references_in (bytes_of c.lists.items) → IsKept (strings_of c.symbols.texts.items) c.keys.pairs.items labels chunks ss lists
+    → all_in (strings_of c.symbols.texts.items) c.bodies.labels.items c.bodies.chunks.items ss
+    ≡ series_of (strings_of c.symbols.texts.items) (entries_seen c.layout.entries.items)
+    (bodies_in c.bodies.labels.items c.bodies.chunks.items c.bodies.rows.items)
+    → lists ≡ map references_in (bytes_of c.lists.items)
+    → IsKept (strings_of c.symbols.texts.items) c.keys.pairs.items labels chunks ss lists
 is_kept file c labels chunks ss lists h i f e within exact copied =
     let bs = bodies_in c.bodies.labels.items c.bodies.chunks.items c.bodies.rows.items in
     let ps = entries_seen c.layout.entries.items in
     let symbols = strings_of c.symbols.texts.items in
     let keys = c.keys.pairs.items in
     let raws = map references_in (bytes_of c.lists.items) in
-    let read : IsListing symbols keys (series_of symbols ps bs) raws = subst (λ (y : List (List ℕ)). IsListing y keys (series_of y ps bs) raws) (sym h.symbols) i.listing in
-    let same : series_of symbols ps bs ≡ all_in symbols labels chunks ss = sym exact ∙ ap (λ (ls : List Label). all_in symbols ls c.bodies.chunks.items ss) (sym f) ∙ ap (λ (cs : List Chunk). all_in symbols labels cs ss) (sym e) in
+    let read : IsListing symbols keys (series_of symbols ps bs) raws =
+    subst (λ (y : List (List ℕ)). IsListing y keys (series_of y ps bs) raws)
+    (sym h.symbols) i.listing in
+    let same : series_of symbols ps bs ≡ all_in symbols labels chunks ss =
+    sym exact
+    ∙ ap (λ (ls : List Label). all_in symbols ls c.bodies.chunks.items ss) (sym f)
+    ∙ ap (λ (cs : List Chunk). all_in symbols labels cs ss) (sym e) in
     record {
-      within = subst (λ (ls : List Label). AreWithin symbols ls chunks ss) (sym f) (subst (λ (cs : List Chunk). AreWithin symbols c.bodies.labels.items cs ss) (sym e) within);
-      listing = subst (IsListing symbols keys (all_in symbols labels chunks ss)) (sym copied) (subst (λ (series : List indexes.Series). IsListing symbols keys series raws) same read);
+      within =
+          subst (λ (ls : List Label). AreWithin symbols ls chunks ss) (sym f) (subst
+          (λ (cs : List Chunk). AreWithin symbols c.bodies.labels.items cs ss) (sym e) within);
+      listing =
+          subst (IsListing symbols keys (all_in symbols labels chunks ss)) (sym copied)
+          (subst (λ (series : List indexes.Series). IsListing symbols keys series raws) same read);
     }
 
 -- ---- the label set of a series
 
-pub set_here : {E : Type 0} (r : Result Labels E) (ls : Labels) (sets : List Labels) (i : ℕ) → slice_get sets i ≡ Some ls → IfOk r (λ l. l ≡ ls) → IfOk r (λ l. slice_get sets i ≡ Some l)
+pub set_here : {E : Type 0} (r : Result Labels E) (ls : Labels) (sets : List Labels) (i : ℕ)
+    → slice_get sets i ≡ Some ls → IfOk r (λ l. l ≡ ls) → IfOk r (λ l. slice_get sets i ≡ Some l)
 set_here (Ok l) ls sets i g e = g ∙ ap (λ (x : Labels). Some x) (sym e)
 set_here (Err e) ls sets i g h = tt

@@ -42,49 +42,76 @@ both false q h = absurd cc
 
 -- ---- the one refusal
 
-only_agreed : (symbols : List (List ℕ)) (table : List TableEntry) (lists : List (List ℕ)) (series : List Carrier) → OnlyDisagrees (agreement_of symbols table lists series)
+only_agreed : (symbols : List (List ℕ)) (table : List TableEntry) (lists : List (List ℕ))
+    (series : List Carrier) → OnlyDisagrees (agreement_of symbols table lists series)
 unfolding agreement_of
 only_agreed symbols table lists series =
-    only_then (keys_at symbols table) _ (only_keys symbols table) (λ keys. only_then (each_all (lists_of_series keys) series) _ (only_each_all (lists_of_series keys) series (only_placed keys))
-    (λ placed. only_where (are_used lists && are_used_up (map references_in lists) placed) (done keys) (only_ok keys)))
+    only_then (keys_at symbols table) _ (only_keys symbols table) (λ keys. only_then
+    (each_all (lists_of_series keys) series) _
+    (only_each_all (lists_of_series keys) series (only_placed keys))
+    (λ placed. only_where (are_used lists
+    && are_used_up (map references_in lists) placed) (done keys) (only_ok keys)))
 
 -- ---- pairs of a table whose entries ascend
 
-pairs_rise : (table : List TableEntry) → rises is_before table ≡ true → (k : ℕ) → k + 1 < length table → pair_cmp (get_or (pairs_of table) k ([], [])) (get_or (pairs_of table) (k + 1) ([], [])) ≡ Less
+pairs_rise : (table : List TableEntry) → rises is_before table ≡ true
+    → (k : ℕ) → k + 1 < length table → pair_cmp (get_or (pairs_of table) k (
+      [],
+      [],
+    )) (get_or (pairs_of table) (k + 1) ([], [])) ≡ Less
 unfolding rises
 pairs_rise [] h k lt = absurd (omega arith)
 pairs_rise (a ∷ []) h k lt = absurd (omega arith)
-pairs_rise (a ∷ b ∷ table) h zero lt = less_is _ (both (is_before a b) (rises is_before (b ∷ table)) h).0
+pairs_rise (a ∷ b ∷ table) h zero lt =
+    less_is _ (both (is_before a b) (rises is_before (b ∷ table)) h).0
 pairs_rise (a ∷ b ∷ table) h (suc k) lt =
     let e : suc k + 1 ≡ suc (k + 1) = omega arith in
-    rw e (pairs_rise (b ∷ table) (both (is_before a b) (rises is_before (b ∷ table)) h).1 k (omega arith))
+    rw e (pairs_rise (b ∷ table)
+    (both (is_before a b) (rises is_before (b ∷ table)) h).1 k (omega arith))
 
-others_rise : (table : List TableEntry) (others : List Pair) → rises is_before table ≡ true → pairs_of table ≡ ([], []) ∷ others → (k : ℕ) → k + 1 < length others → pair_cmp (get_or others k ([], [])) (get_or others (k + 1) ([], [])) ≡ Less
+others_rise : (table : List TableEntry) (others : List Pair) → rises is_before table ≡ true
+    → pairs_of table ≡ ([], []) ∷ others → (k : ℕ) → k + 1 < length others
+    → pair_cmp (get_or others k ([], [])) (get_or others (k + 1) ([], [])) ≡ Less
 others_rise table others rising same k lt =
     let e : suc k + 1 ≡ suc (k + 1) = omega arith in
     let first : Pair = ([], []) in
-    let inside : suc k + 1 < length table = omega (arith, lt, ap (λ (ps : List Pair). length ps) same, length-map table pair_of) in
-    let up : pair_cmp (get_or (first ∷ others) (suc k) ([], [])) (get_or (first ∷ others) (suc k + 1) ([], [])) ≡ Less =
-    subst (λ (ps : List Pair). pair_cmp (get_or ps (suc k) ([], [])) (get_or ps (suc k + 1) ([], [])) ≡ Less) same (pairs_rise table rising (suc k) inside) in
+    let inside : suc k + 1 < length table =
+    omega (arith, lt, ap (λ (ps : List Pair). length ps) same, length-map table pair_of) in
+    let up : pair_cmp (get_or (first ∷ others) (suc k) ([], []))
+    (get_or (first ∷ others) (suc k + 1) ([], [])) ≡ Less =
+    subst (λ (ps : List Pair). pair_cmp (get_or ps (suc k) ([], [])) (get_or ps (suc k + 1) (
+      [],
+      [],
+    )) ≡ Less) same (pairs_rise table rising (suc k) inside) in
     rw e at up
 
 -- ---- few labels
 
-small_is : (symbols : List (List ℕ)) (ps : List SeriesEntry) (bs : List Body) → list_all is_small (labels_of_each bs) ≡ true → AllByRecursion (λ (s : Series). length s.labels ≤ 64) (series_of symbols ps bs)
+small_is : (symbols : List (List ℕ)) (ps : List SeriesEntry) (bs : List Body)
+    → list_all is_small (labels_of_each bs) ≡ true
+    → AllByRecursion (λ (s : Series). length s.labels ≤ 64) (series_of symbols ps bs)
 unfolding series_of
 small_is symbols [] bs h = tt
 small_is symbols (p ∷ ps) [] h = tt
 small_is symbols (p ∷ ps) (b ∷ bs) h =
-    let q = both (is_small b.labels) (list_all is_small (labels_of_each bs)) h in
-    (omega (arith, leb-true (length b.labels) 64 q.0, length-map b.labels (text_of symbols)), small_is symbols ps bs q.1)
+    let q = both (is_small b.labels) (list_all is_small (labels_of_each bs)) h in (
+      omega (arith, leb-true (length b.labels) 64 q.0, length-map b.labels (text_of symbols)),
+      small_is symbols ps bs q.1,
+    )
 
-small_again : (symbols : List (List ℕ)) (ps : List SeriesEntry) (bs : List Body) → length bs ≡ length ps → AllByRecursion (λ (s : Series). length s.labels ≤ 64) (series_of symbols ps bs) → list_all is_small (labels_of_each bs) ≡ true
+small_again : (symbols : List (List ℕ)) (ps : List SeriesEntry) (bs : List Body)
+    → length bs ≡ length ps
+    → AllByRecursion (λ (s : Series). length s.labels ≤ 64) (series_of symbols ps bs)
+    → list_all is_small (labels_of_each bs) ≡ true
 unfolding series_of
 small_again symbols [] [] n h = refl
 small_again symbols [] (b ∷ bs) n h = absurd (omega (arith, n))
 small_again symbols (p ∷ ps) [] n h = refl
 small_again symbols (p ∷ ps) (b ∷ bs) n h =
-    rw (le-leb (length b.labels) 64 (omega (arith, h.0, length-map b.labels (text_of symbols))), small_again symbols ps bs (omega (arith, n)) h.1) refl
+    rw (
+      le-leb (length b.labels) 64 (omega (arith, h.0, length-map b.labels (text_of symbols))),
+      small_again symbols ps bs (omega (arith, n)) h.1,
+    ) refl
 
 -- ---- what was read before the last two checks
 
@@ -115,11 +142,13 @@ stated_parts file s h =
       is = ok_is (stated_in p.0 b.0 q.0.0 q.0.1) s q.2;
     }
 
-bind_err : {A B : Type 0} (r : Result A IndexError) (f : A → Result B IndexError) (e : IndexError) → (r >>= f) ≡ Err e → (r ≡ Err e) ⊎ ((x : A) × (r ≡ Ok x) × (f x ≡ Err e))
+bind_err : {A B : Type 0} (r : Result A IndexError) (f : A → Result B IndexError) (e : IndexError)
+    → (r >>= f) ≡ Err e → (r ≡ Err e) ⊎ ((x : A) × (r ≡ Ok x) × (f x ≡ Err e))
 bind_err (Ok x) f e h = inr (x, refl, h)
 bind_err (Err d) f e h = let same : d ≡ e = cc in inl (ap (λ (y : IndexError). Err y) same)
 
-refused_earlier : (file : List ℕ) (e : IndexError) → stated_of file ≡ Err e → indexed_of file ≡ Err e
+refused_earlier : (file : List ℕ) (e : IndexError) → stated_of file ≡ Err e
+    → indexed_of file ≡ Err e
 unfolding stated_of indexed_of read_of
 refused_earlier file e h =
     elim (bind_err (layout_of file) _ e h) [
@@ -135,9 +164,13 @@ refused_earlier file e h =
           ]
     ]
 
-module _ (file : List ℕ) (p : Layout) (bs : List Body) (table : List TableEntry) (raws : List (List ℕ)) (parts : layout_of file ≡ Ok p) (bodies : bodies_of file p ≡ Ok bs) (postings : postings_of file p.contents ≡ Ok (table, raws)) where
+module _ (file : List ℕ) (p : Layout) (bs : List Body) (table : List TableEntry)
+    (raws : List (List ℕ)) (parts : layout_of file ≡ Ok p) (bodies : bodies_of file p ≡ Ok bs)
+    (postings : postings_of file p.contents ≡ Ok (table, raws)) where
   abbrev agreed : Result (List Label) IndexError
-  agreed = agreement_of p.symbols table raws (carriers (agreement.entry_references p.entries) (labels_of_each bs))
+  agreed =
+      agreement_of p.symbols table raws
+      (carriers (agreement.entry_references p.entries) (labels_of_each bs))
 
   abbrev states : Stated
   states = stated_in p bs table raws
@@ -146,15 +179,19 @@ module _ (file : List ℕ) (p : Layout) (bs : List Body) (table : List TableEntr
   unfolding indexed_of read_of
   when_refused e h = rw (parts, bodies, postings, h) refl
 
-  when_many : (keys : List Label) → agreed ≡ Ok keys → nat_lt 1048576 (length bs) ≡ true → indexed_of file ≡ Err Limit
+  when_many : (keys : List Label) → agreed ≡ Ok keys → nat_lt 1048576 (length bs) ≡ true
+      → indexed_of file ≡ Err Limit
   unfolding indexed_of read_of
   when_many keys h n = rw (parts, bodies, postings, h, n) refl
 
-  when_large : (keys : List Label) → agreed ≡ Ok keys → nat_lt 1048576 (length bs) ≡ false → list_all is_small (labels_of_each bs) ≡ false → indexed_of file ≡ Err Limit
+  when_large : (keys : List Label) → agreed ≡ Ok keys → nat_lt 1048576 (length bs) ≡ false
+      → list_all is_small (labels_of_each bs) ≡ false → indexed_of file ≡ Err Limit
   unfolding indexed_of read_of
   when_large keys h n s = rw (parts, bodies, postings, h, n, s) refl
 
-  when_sound : (keys : List Label) → agreed ≡ Ok keys → nat_lt 1048576 (length bs) ≡ false → list_all is_small (labels_of_each bs) ≡ true → indexed_of file ≡ Ok (record { series = series_of p.symbols p.entries bs; pairs = named p.symbols keys })
+  when_sound : (keys : List Label) → agreed ≡ Ok keys → nat_lt 1048576 (length bs) ≡ false
+      → list_all is_small (labels_of_each bs) ≡ true → indexed_of file
+      ≡ Ok (record { series = series_of p.symbols p.entries bs; pairs = named p.symbols keys })
   unfolding indexed_of read_of
   when_sound keys h n s = rw (parts, bodies, postings, h, n, s) refl
 
@@ -172,8 +209,12 @@ module _ (file : List ℕ) (p : Layout) (bs : List Body) (table : List TableEntr
         let post = listed_in file p.contents (table, raws) postings in
         let labelled = bodies_take symbols p.entries bs (bodied file p bs bodies).read in
         let lists = counted_lists file (postings_end p.contents) table raws post.lists_are in
-        let a = agreed_parts symbols table raws (carriers (agreement.entry_references p.entries) (labels_of_each bs)) keys h in
-        let l = listing symbols table raws p.entries bs keys (few_symbols file p laid) laid.symbols.2.order lists.1 labelled lists.0 a in
+        let a =
+        agreed_parts symbols table raws
+        (carriers (agreement.entry_references p.entries) (labels_of_each bs)) keys h in
+        let l =
+        listing symbols table raws p.entries bs keys (few_symbols file p laid) laid.symbols.2.order
+        lists.1 labelled lists.0 a in
         record {
           others = named symbols keys;
           pairs = table_pairs symbols table keys (keyed symbols table keys a.keys_are);
@@ -182,22 +223,33 @@ module _ (file : List ℕ) (p : Layout) (bs : List Body) (table : List TableEntr
           listed = listed_so symbols keys series (map references_in raws) l;
         }
 
-    agrees_again : (a : Agrees states) → (keys : List Label) × (agreed ≡ Ok keys) × (named p.symbols keys ≡ a.others)
+    agrees_again : (a : Agrees states)
+        → (keys : List Label) × (agreed ≡ Ok keys) × (named p.symbols keys ≡ a.others)
     agrees_again a =
         let symbols = p.symbols in
         let x : Indexed = record { series = series_of symbols p.entries bs; pairs = a.others } in
         let post = listed_in file p.contents (table, raws) postings in
-        let tabled = is_tabled file p.contents post.content table fits post.content_is post.table_is in
+        let tabled =
+        is_tabled file p.contents post.content table fits post.content_is post.table_is in
         let labelled = bodies_take symbols p.entries bs (bodied file p bs bodies).read in
-        let pairs : HasItsPairs x = record { in_order = others_rise table a.others tabled.rising a.pairs; carried = a.carried; listed = a.listed } in
-        agreement_again symbols p.entries bs x table raws laid.symbols.2.order refl counted labelled pairs a.pairs a.lists
+        let pairs : HasItsPairs x = record {
+          in_order = others_rise table a.others tabled.rising a.pairs;
+          carried = a.carried;
+          listed = a.listed;
+        } in
+        agreement_again symbols p.entries bs x table raws laid.symbols.2.order refl counted labelled
+        pairs a.pairs a.lists
 
     disagrees : (Agrees states → ⊥) → indexed_of file ≡ Err PostingsDisagree
     disagrees n = go agreed refl
       where
-        go : (r : Result (List Label) IndexError) → agreed ≡ r → indexed_of file ≡ Err PostingsDisagree
+        go : (r : Result (List Label) IndexError) → agreed ≡ r
+            → indexed_of file ≡ Err PostingsDisagree
         go (Ok keys) h = absurd (n (agrees keys h))
-        go (Err e) h = when_refused e h ∙ ap (λ (d : IndexError). Err d) (only_agreed p.symbols table raws (carriers (agreement.entry_references p.entries) (labels_of_each bs)) e h)
+        go (Err e) h =
+            when_refused e h
+            ∙ ap (λ (d : IndexError). Err d) (only_agreed p.symbols table raws
+            (carriers (agreement.entry_references p.entries) (labels_of_each bs)) e h)
 
     series_counted : length (series_of p.symbols p.entries bs) ≡ length bs
     series_counted = series_length p.symbols p.entries bs counted
@@ -205,16 +257,22 @@ module _ (file : List ℕ) (p : Layout) (bs : List Body) (table : List TableEntr
     too_many : Agrees states → (AreFew states.series → ⊥) → indexed_of file ≡ Err Limit
     too_many a n = go (nat_lt 1048576 (length bs)) refl (list_all is_small (labels_of_each bs)) refl
       where
-        go : (b : Bool) → nat_lt 1048576 (length bs) ≡ b → (c : Bool) → list_all is_small (labels_of_each bs) ≡ c → indexed_of file ≡ Err Limit
+        go : (b : Bool) → nat_lt 1048576 (length bs) ≡ b → (c : Bool)
+            → list_all is_small (labels_of_each bs) ≡ c → indexed_of file ≡ Err Limit
         go true h c g = let k = agrees_again a in when_many k.0 k.1 h
         go false h false g = let k = agrees_again a in when_large k.0 k.1 h g
-        go false h true g = absurd (n (record { few = omega (arith, series_counted, ltb-false 1048576 (length bs) h); few_labels = small_is p.symbols p.entries bs g }))
+        go false h true g = absurd (n (record {
+          few = omega (arith, series_counted, ltb-false 1048576 (length bs) h);
+          few_labels = small_is p.symbols p.entries bs g;
+        }))
 
-    is_sound : (a : Agrees states) → AreFew states.series → indexed_of file ≡ Ok (record { series = states.series; pairs = a.others })
+    is_sound : (a : Agrees states) → AreFew states.series
+        → indexed_of file ≡ Ok (record { series = states.series; pairs = a.others })
     is_sound a f =
         let k = agrees_again a in
         let n = le-ltb 1048576 (length bs) (omega (arith, series_counted, f.few)) in
-        when_sound k.0 k.1 n (small_again p.symbols p.entries bs counted f.few_labels) ∙ ap (λ (ps : List Pair). done (with_pairs ps)) k.2
+        when_sound k.0 k.1 n (small_again p.symbols p.entries bs counted f.few_labels)
+        ∙ ap (λ (ps : List Pair). done (with_pairs ps)) k.2
       where
         with_pairs : List Pair → Indexed
         with_pairs ps = record { series = states.series; pairs = ps }
@@ -224,13 +282,18 @@ last_checks file fits = record {
   earlier = refused_earlier file;
   disagree = λ s h n.
       let i = stated_parts file s h in
-      disagrees file i.parts i.bodies i.table i.raws i.parts_are i.bodies_are i.postings_are fits (λ a. n (subst Agrees i.is a));
+      disagrees file i.parts i.bodies i.table i.raws i.parts_are i.bodies_are i.postings_are fits
+      (λ a. n (subst Agrees i.is a));
   many = λ s h a n.
       let i = stated_parts file s h in
-      too_many file i.parts i.bodies i.table i.raws i.parts_are i.bodies_are i.postings_are fits (subst Agrees (sym i.is) a) (λ f. n (subst (λ (t : Stated). AreFew t.series) i.is f));
+      too_many file i.parts i.bodies i.table i.raws i.parts_are i.bodies_are i.postings_are fits
+      (subst Agrees (sym i.is) a) (λ f. n (subst (λ (t : Stated). AreFew t.series) i.is f));
   sound = λ s h a f. sound_of file fits s (stated_parts file s h) a f;
 }
   where
-    sound_of : (file : List ℕ) → IsBytes file → (s : Stated) (i : IsStated file s) (a : Agrees s) → AreFew s.series → indexed_of file ≡ Ok (record { series = s.series; pairs = a.others })
-    sound_of file fits s i = subst (λ (t : Stated). (a : Agrees t) → AreFew t.series → indexed_of file ≡ Ok (record { series = t.series; pairs = a.others })) i.is
+    sound_of : (file : List ℕ) → IsBytes file → (s : Stated) (i : IsStated file s) (a : Agrees s)
+        → AreFew s.series → indexed_of file ≡ Ok (record { series = s.series; pairs = a.others })
+    sound_of file fits s i =
+        subst (λ (t : Stated). (a : Agrees t) → AreFew t.series
+        → indexed_of file ≡ Ok (record { series = t.series; pairs = a.others })) i.is
         (is_sound file i.parts i.bodies i.table i.raws i.parts_are i.bodies_are i.postings_are fits)

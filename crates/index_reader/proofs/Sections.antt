@@ -33,13 +33,17 @@ list_sound : (content list : List ℕ) → references_at content ≡ Ok list →
 unfolding references_at
 list_sound content list h =
     let n = bind_ok (or_refused Postings (number_at 4 content)) _ list h in
-    let g = guard_ended (eqb (length n.0.1) (4 * n.0.0) && rises nat_lt (references_in n.0.1)) Postings n.0.1 list n.2 in
+    let g =
+    guard_ended (eqb (length n.0.1) (4 * n.0.0)
+    && rises nat_lt (references_in n.0.1)) Postings n.0.1 list n.2 in
     let p = both (eqb (length n.0.1) (4 * n.0.0)) (rises nat_lt (references_in n.0.1)) g.0 in
     let e = eqb-true _ _ p.0 in
     let whole : length n.0.1 % 4 ≡ 0 = omega (arith, e) in
     subst IsList g.1 (whole, rises_up (references_in n.0.1) p.1)
 
-sound_each : (cs : List (List ℕ)) (ls : List (Bor (List ℕ))) → each references_at cs ≡ Ok (bytes_of ls) → (k : ℕ) (d : Bor (List ℕ)) → k < length ls → IsList (get_or ls k d).now
+sound_each : (cs : List (List ℕ)) (ls : List (Bor (List ℕ)))
+    → each references_at cs ≡ Ok (bytes_of ls) → (k : ℕ) (d : Bor (List ℕ)) → k < length ls
+    → IsList (get_or ls k d).now
 unfolding each
 sound_each cs [] h k d lt = absurd (omega arith)
 sound_each [] (l ∷ ls) h k d lt = absurd cc
@@ -56,21 +60,27 @@ sound_each (c ∷ cs) (l ∷ ls) h (suc k) d lt =
     let e : xs.0 ≡ bytes_of ls = cc in
     sound_each cs ls (rw e at xs.1) k d (omega arith)
 
-pub lists_sound : (file : List ℕ) (to : ℕ) (table : List TableEntry) (lists : List (Bor (List ℕ))) → lists_at file to (table_seen table) ≡ Ok (bytes_of lists) → All (λ (l : Bor (List ℕ)). IsList l.now) lists
+pub lists_sound : (file : List ℕ) (to : ℕ) (table : List TableEntry) (lists : List (Bor (List ℕ)))
+    → lists_at file to (table_seen table) ≡ Ok (bytes_of lists)
+    → All (λ (l : Bor (List ℕ)). IsList l.now) lists
 unfolding lists_at
 lists_sound file to table lists h =
     let contents = bind_ok (each (section_at file to) (table_seen table)) _ (bytes_of lists) h in
     λ k d lt. sound_each contents.0 lists contents.2 k d lt
 
-pub sound_lists : (cs ls : List (List ℕ)) → each references_at cs ≡ Ok ls → (k : ℕ) (d : List ℕ) → k < length ls → IsList (get_or ls k d)
+pub sound_lists : (cs ls : List (List ℕ)) → each references_at cs ≡ Ok ls → (k : ℕ) (d : List ℕ)
+    → k < length ls → IsList (get_or ls k d)
 unfolding each
 sound_lists [] ls h k d lt = let e : [] ≡ ls = ok_is [] ls h in absurd (omega (arith, ap length e))
 sound_lists (c ∷ cs) ls h k d lt =
     let x = bind_ok (references_at c) _ ls h in
     let xs = bind_ok (each references_at cs) _ ls x.2 in
     let e : x.0 ∷ xs.0 ≡ ls = ok_is (x.0 ∷ xs.0) ls xs.2 in
-    subst (λ (ys : List (List ℕ)). k < length ys → IsList (get_or ys k d)) e (λ l. at_place x.0 xs.0 (list_sound c x.0 x.1) (λ j q lj. sound_lists cs xs.0 xs.1 j q lj) k d l) lt
+    subst (λ (ys : List (List ℕ)). k < length ys → IsList (get_or ys k d)) e (λ l. at_place x.0 xs.0
+    (list_sound c x.0 x.1) (λ j q lj. sound_lists cs xs.0 xs.1 j q lj) k d l) lt
   where
-    at_place : (x : List ℕ) (xs : List (List ℕ)) → IsList x → ((j : ℕ) (q : List ℕ) → j < length xs → IsList (get_or xs j q)) → (k : ℕ) (d : List ℕ) → k < suc (length xs) → IsList (get_or (x ∷ xs) k d)
+    at_place : (x : List ℕ) (xs : List (List ℕ)) → IsList x
+        → ((j : ℕ) (q : List ℕ) → j < length xs → IsList (get_or xs j q)) → (k : ℕ) (d : List ℕ)
+        → k < suc (length xs) → IsList (get_or (x ∷ xs) k d)
     at_place x xs one more zero d lt = one
     at_place x xs one more (suc k) d lt = more k d (omega arith)

@@ -25,46 +25,70 @@ use Rattle.index_reader.proofs.Walks.{flat_long, ok_is}
 use Rattle.index_reader.proofs.Whole.{omega_length, end_inside}
 use Rattle.index_reader.proofs.Eaches.{drop_at_place}
 
-walk_inside : (es : List SeriesEntry) (file : List ℕ) (end at len : ℕ) → IsWalk file end at (entries_seen es) → end ≤ len → (k : ℕ) (d : SeriesEntry) → k < length es → (get_or es k d).offset ≤ len
+walk_inside : (es : List SeriesEntry) (file : List ℕ) (end at len : ℕ)
+    → IsWalk file end at (entries_seen es) → end ≤ len → (k : ℕ) (d : SeriesEntry) → k < length es
+    → (get_or es k d).offset ≤ len
 walk_inside [] file end at len w le k d lt = absurd (omega arith)
 walk_inside (e ∷ es) file end at len w le zero d lt = omega (arith, w.0, w.1)
-walk_inside (e ∷ es) file end at len w le (suc k) d lt = walk_inside es file end (rounded (at + length (entry e.body.now))) len w.3 le k d (omega arith)
+walk_inside (e ∷ es) file end at len w le (suc k) d lt =
+    walk_inside es file end (rounded (at + length (entry e.body.now))) len w.3 le k d (omega arith)
 
 pub few_symbols : (file : List ℕ) (x : layout.Layout) → IsLayout file x → length x.symbols < 2 ^ 32
 few_symbols file x p =
     let content = p.symbols.0 in
     let size = omega_length file x.contents content p.symbols.1.0 p.symbols.1.1 p.placed in
-    let long = ap length p.symbols.2.text ∙ length-append (big_bytes 4 (length x.symbols)) (flat_map symbol x.symbols) in
+    let long =
+    ap length p.symbols.2.text
+    ∙ length-append (big_bytes 4 (length x.symbols)) (flat_map symbol x.symbols) in
     omega (arith, size, long, flat_long x.symbols)
 
 sound : (file : List ℕ) (o : Layout) → IsLayout file (layout_seen o) → IsSound file o
 sound file o p = record {
   placed = p.placed;
-  few = omega (arith, few_symbols file (layout_seen o) p, length-map o.symbols.items (λ (s : Bor (List ℕ)). s.now));
+  few = omega (
+    arith,
+    few_symbols file (layout_seen o) p,
+    length-map o.symbols.items (λ (s : Bor (List ℕ)). s.now),
+  );
   order = p.symbols.2.order;
-  small = λ k d lt. omega (arith, p.placed.short, walk_inside o.entries.items file (series_end o.contents) (rounded o.contents.series) (length file) p.entries (end_inside o.contents (length file) p.placed) k d lt);
-  offsets = λ k d lt. walk_inside o.entries.items file (series_end o.contents) (rounded o.contents.series) (length file) p.entries (end_inside o.contents (length file) p.placed) k d lt;
+  small = λ k d lt. omega (
+    arith,
+    p.placed.short,
+    walk_inside o.entries.items file (series_end o.contents) (rounded o.contents.series)
+        (length file) p.entries (end_inside o.contents (length file) p.placed) k d lt,
+  );
+  offsets =
+      λ k d lt. walk_inside o.entries.items file (series_end o.contents) (rounded o.contents.series)
+      (length file) p.entries (end_inside o.contents (length file) p.placed) k d lt;
 }
 
-pub sound_found : (file : List ℕ) (r : Result Layout IndexError) → IfOk r (λ o. IsLayout file (layout_seen o)) → IfOk r (λ o. IsSound file o)
+pub sound_found : (file : List ℕ) (r : Result Layout IndexError)
+    → IfOk r (λ o. IsLayout file (layout_seen o)) → IfOk r (λ o. IsSound file o)
 sound_found file (Ok o) p = sound file o p
 sound_found file (Err e) p = tt
 
 -- ---- flat lists
 
-pub sets_are : (labels : List Label) (chunks : List Chunk) (rows : List Row) → labels_of_each (bodies_in labels chunks rows) ≡ label_sets_in labels rows
+pub sets_are : (labels : List Label) (chunks : List Chunk) (rows : List Row)
+    → labels_of_each (bodies_in labels chunks rows) ≡ label_sets_in labels rows
 sets_are labels chunks [] = refl
-sets_are labels chunks (r ∷ rows) = ap (λ (xs : List (List Label)). slice_range labels r.labels_start r.labels_end ∷ xs) (sets_are labels chunks rows)
+sets_are labels chunks (r ∷ rows) =
+    ap (λ (xs : List (List Label)). slice_range labels r.labels_start r.labels_end ∷ xs)
+    (sets_are labels chunks rows)
 
-pub count_is : (labels : List Label) (chunks : List Chunk) (rows : List Row) → length (bodies_in labels chunks rows) ≡ length rows
+pub count_is : (labels : List Label) (chunks : List Chunk) (rows : List Row)
+    → length (bodies_in labels chunks rows) ≡ length rows
 count_is labels chunks rows = length-map rows (body_in labels chunks)
 
-pub labels_inside : (labels : List Label) (chunks : List Chunk) (rows : List Row) → AllIn labels chunks rows → AreInside labels rows
-labels_inside labels chunks rows h = λ k d lt. let o = h k d lt in (o.labels_ordered, o.labels_inside)
+pub labels_inside : (labels : List Label) (chunks : List Chunk) (rows : List Row)
+    → AllIn labels chunks rows → AreInside labels rows
+labels_inside labels chunks rows h =
+    λ k d lt. let o = h k d lt in (o.labels_ordered, o.labels_inside)
 
 -- ---- one after another
 
-pub each_length : {A X : Type 0} (step : A → Result X IndexError) (as' : List A) (xs : List X) → each step as' ≡ Ok xs → length xs ≡ length as'
+pub each_length : {A X : Type 0} (step : A → Result X IndexError) (as' : List A) (xs : List X)
+    → each step as' ≡ Ok xs → length xs ≡ length as'
 unfolding each
 each_length step [] xs h = let e : [] ≡ xs = ok_is [] xs h in rw (← e) refl
 each_length step (a ∷ as') xs h =
@@ -73,28 +97,37 @@ each_length step (a ∷ as') xs h =
     let e : x.0 ∷ ys.0 ≡ xs = ok_is (x.0 ∷ ys.0) xs ys.2 in
     rw (← e) (ap suc (each_length step as' ys.0 ys.1))
 
-pub lists_counted : (file : List ℕ) (to : ℕ) (table : List TableEntry) (lists : List (Bor (List ℕ))) → lists_at file to (table_seen table) ≡ Ok (bytes_of lists) → length lists ≡ length table
+pub lists_counted : (file : List ℕ) (to : ℕ) (table : List TableEntry) (lists : List (Bor (List ℕ)))
+    → lists_at file to (table_seen table) ≡ Ok (bytes_of lists) → length lists ≡ length table
 unfolding lists_at
 lists_counted file to table lists h =
     let contents = bind_ok (each (section_at file to) (table_seen table)) _ (bytes_of lists) h in
     let a = each_length (section_at file to) (table_seen table) contents.0 contents.1 in
     let b = each_length references_at contents.0 (bytes_of lists) contents.2 in
-    omega (arith, a, b, length-map lists (λ (x : Bor (List ℕ)). x.now), length-map table table_entry_seen)
+    omega
+    (arith, a, b, length-map lists (λ (x : Bor (List ℕ)). x.now), length-map table table_entry_seen)
 
-pub all_step : {X : Type 0} (f : X → Bool) (xs : List X) (i : ℕ) (a : X) (r whole : Bool) → slice_get xs i ≡ Some a → r ≡ f a → list_all f (drop i xs) ≡ whole → whole ≡ (r && list_all f (drop (i + 1) xs))
+pub all_step : {X : Type 0} (f : X → Bool) (xs : List X) (i : ℕ) (a : X) (r whole : Bool)
+    → slice_get xs i ≡ Some a → r ≡ f a → list_all f (drop i xs) ≡ whole
+    → whole ≡ (r && list_all f (drop (i + 1) xs))
 all_step f xs i a r whole g e h =
     let s : i + 1 ≡ suc i = omega arith in
     sym h ∙ rw (drop_at_place xs i a g, s, e) refl
 
-pub all_end : {X : Type 0} (f : X → Bool) (xs : List X) (i : ℕ) (whole : Bool) → length xs ≤ i → list_all f (drop i xs) ≡ whole → true ≡ whole
+pub all_end : {X : Type 0} (f : X → Bool) (xs : List X) (i : ℕ) (whole : Bool) → length xs ≤ i
+    → list_all f (drop i xs) ≡ whole → true ≡ whole
 all_end f xs i whole le h = rw (drop_all i xs le) at h
 
 -- ---- a list that is copied
 
-pub moved : (front whole : List (List ℕ)) (i : ℕ) (x y : List ℕ) → slice_get whole i ≡ Some x → y ≡ x → front ++ drop i whole ≡ whole → (front ++ y ∷ []) ++ drop (i + 1) whole ≡ whole
+pub moved : (front whole : List (List ℕ)) (i : ℕ) (x y : List ℕ) → slice_get whole i ≡ Some x
+    → y ≡ x → front ++ drop i whole ≡ whole → (front ++ y ∷ []) ++ drop (i + 1) whole ≡ whole
 moved front whole i x y g e h =
     let s : i + 1 ≡ suc i = omega arith in
-    append_assoc front (y ∷ []) (drop (i + 1) whole) ∙ rw (e, s) (ap (λ (r : List (List ℕ)). front ++ r) (sym (drop_at_place whole i x g)) ∙ h)
+    append_assoc front (y ∷ []) (drop (i + 1) whole)
+    ∙ rw (e, s) (ap (λ (r : List (List ℕ)). front ++ r) (sym (drop_at_place whole i x g)) ∙ h)
 
-pub ended : (front whole : List (List ℕ)) (i : ℕ) → length whole ≤ i → front ++ drop i whole ≡ whole → front ≡ whole
-ended front whole i le h = sym (append-nil front) ∙ ap (λ (r : List (List ℕ)). front ++ r) (sym (drop_all i whole le)) ∙ h
+pub ended : (front whole : List (List ℕ)) (i : ℕ) → length whole ≤ i
+    → front ++ drop i whole ≡ whole → front ≡ whole
+ended front whole i le h =
+    sym (append-nil front) ∙ ap (λ (r : List (List ℕ)). front ++ r) (sym (drop_all i whole le)) ∙ h

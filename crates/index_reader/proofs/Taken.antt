@@ -24,33 +24,43 @@ Lists = List (List ℕ)
 
 -- ---- steps in turn
 
-fails_then : {A B : Type 0} (e : IndexError) (r : Result A IndexError) (f : A → Result B IndexError) (total : Result B IndexError) → Fails e r → (r >>= f) ≡ total → Fails e total
+fails_then : {A B : Type 0} (e : IndexError) (r : Result A IndexError) (f : A → Result B IndexError)
+    (total : Result B IndexError) → Fails e r → (r >>= f) ≡ total → Fails e total
 fails_then Memory r f total h so_far = tt
 fails_then e r f total h so_far = sym (rw h at so_far)
 
-pub turn_on : {S A : Type 0} (step : S → A → Result S IndexError) (s t : S) (as' : List A) (i : ℕ) (a : A) (total : Result S IndexError) → slice_get as' i ≡ Some a → step s a ≡ Ok t
+pub turn_on : {S A : Type 0} (step : S → A → Result S IndexError) (s t : S) (as' : List A) (i : ℕ)
+    (a : A) (total : Result S IndexError) → slice_get as' i ≡ Some a → step s a ≡ Ok t
     → in_turn step s (drop i as') ≡ total → in_turn step t (drop (i + 1) as') ≡ total
 unfolding in_turn
 turn_on step s t as' i a total g h so_far =
     let f : i + 1 ≡ suc i = omega arith in
     rw f (sym (rw h at (rw (drop_at_place as' i a g) at (sym so_far))))
 
-pub turn_fails : {S A : Type 0} (step : S → A → Result S IndexError) (e : IndexError) (s : S) (as' : List A) (i : ℕ) (a : A) (total : Result S IndexError) → slice_get as' i ≡ Some a → Fails e (step s a)
+pub turn_fails : {S A : Type 0} (step : S → A → Result S IndexError) (e : IndexError) (s : S)
+    (as' : List A) (i : ℕ) (a : A) (total : Result S IndexError) → slice_get as' i ≡ Some a
+    → Fails e (step s a)
     → in_turn step s (drop i as') ≡ total → Fails e total
 unfolding in_turn
-turn_fails step e s as' i a total g h so_far = fails_then e (step s a) (λ t. in_turn step t (drop (suc i) as')) total h (rw (drop_at_place as' i a g) at so_far)
+turn_fails step e s as' i a total g h so_far =
+    fails_then e (step s a) (λ t. in_turn step t (drop (suc i) as')) total h
+    (rw (drop_at_place as' i a g) at so_far)
 
-pub turn_done : {S A : Type 0} (step : S → A → Result S IndexError) (s : S) (as' : List A) (i : ℕ) (total : Result S IndexError) → length as' ≤ i → in_turn step s (drop i as') ≡ total → total ≡ Ok s
+pub turn_done : {S A : Type 0} (step : S → A → Result S IndexError) (s : S) (as' : List A) (i : ℕ)
+    (total : Result S IndexError) → length as' ≤ i → in_turn step s (drop i as') ≡ total
+    → total ≡ Ok s
 unfolding in_turn
 turn_done step s as' i total le so_far = sym so_far ∙ rw (drop_all i as' le) refl
 
 -- ---- one reference
 
-pub taken_none : (r : ℕ) (lists : Lists) (k : ℕ) → get_or lists k [] ≡ [] → take_reference r lists k ≡ Err PostingsDisagree
+pub taken_none : (r : ℕ) (lists : Lists) (k : ℕ) → get_or lists k [] ≡ []
+    → take_reference r lists k ≡ Err PostingsDisagree
 unfolding take_reference
 taken_none r lists k e = rw e refl
 
-pub taken_other : (r : ℕ) (lists : Lists) (k x : ℕ) (xs : List ℕ) → get_or lists k [] ≡ x ∷ xs → (x ≡ r → ⊥) → take_reference r lists k ≡ Err PostingsDisagree
+pub taken_other : (r : ℕ) (lists : Lists) (k x : ℕ) (xs : List ℕ) → get_or lists k [] ≡ x ∷ xs
+    → (x ≡ r → ⊥) → take_reference r lists k ≡ Err PostingsDisagree
 unfolding take_reference
 taken_other r lists k x xs e ne =
     let no : eqb x r ≡ false = false_from_ne_true (eqb x r) (λ t. ne (eqb-true x r t)) in
@@ -59,7 +69,8 @@ taken_other r lists k x xs e ne =
 eqb_same : (n : ℕ) → eqb n n ≡ true
 eqb_same n = true_from_ne_false (eqb n n) (λ h. eqb-false n n h refl)
 
-pub taken_first : (r : ℕ) (lists : Lists) (k x : ℕ) (xs : List ℕ) → get_or lists k [] ≡ x ∷ xs → x ≡ r → take_reference r lists k ≡ Ok (set lists k xs)
+pub taken_first : (r : ℕ) (lists : Lists) (k x : ℕ) (xs : List ℕ) → get_or lists k [] ≡ x ∷ xs
+    → x ≡ r → take_reference r lists k ≡ Ok (set lists k xs)
 unfolding take_reference
 taken_first r lists k x xs e same =
     let yes : eqb x r ≡ true = rw same (eqb_same r) in
@@ -67,19 +78,24 @@ taken_first r lists k x xs e same =
 
 -- ---- the order of refusals does not count, since there is one
 
-then_refused : {A B : Type 0} (r : Result A IndexError) (f : A → Result B IndexError) → OnlyDisagrees r → ((x : A) → f x ≡ Err PostingsDisagree) → (r >>= f) ≡ Err PostingsDisagree
+then_refused : {A B : Type 0} (r : Result A IndexError) (f : A → Result B IndexError)
+    → OnlyDisagrees r → ((x : A) → f x ≡ Err PostingsDisagree) → (r >>= f) ≡ Err PostingsDisagree
 then_refused (Ok x) f only h = h x
 then_refused (Err e) f only h = ap (λ (d : IndexError). Err d) (only e refl)
 
-then_same : {A B : Type 0} (r : Result A IndexError) (f g : A → Result B IndexError) → ((x : A) → f x ≡ g x) → (r >>= f) ≡ (r >>= g)
+then_same : {A B : Type 0} (r : Result A IndexError) (f g : A → Result B IndexError)
+    → ((x : A) → f x ≡ g x) → (r >>= f) ≡ (r >>= g)
 then_same (Ok x) f g h = h x
 then_same (Err e) f g h = refl
 
-grouped : {A B C : Type 0} (r : Result A IndexError) (f : A → Result B IndexError) (g : B → Result C IndexError) → ((r >>= f) >>= g) ≡ (r >>= λ x. f x >>= g)
+grouped : {A B C : Type 0} (r : Result A IndexError) (f : A → Result B IndexError)
+    (g : B → Result C IndexError) → ((r >>= f) >>= g) ≡ (r >>= λ x. f x >>= g)
 grouped (Ok x) f g = refl
 grouped (Err e) f g = refl
 
-swapped : {A B C : Type 0} (r : Result A IndexError) (s : Result B IndexError) (f : A → B → Result C IndexError) → OnlyDisagrees r → OnlyDisagrees s → (r >>= λ x. s >>= λ y. f x y) ≡ (s >>= λ y. r >>= λ x. f x y)
+swapped : {A B C : Type 0} (r : Result A IndexError) (s : Result B IndexError)
+    (f : A → B → Result C IndexError) → OnlyDisagrees r → OnlyDisagrees s
+    → (r >>= λ x. s >>= λ y. f x y) ≡ (s >>= λ y. r >>= λ x. f x y)
 swapped (Ok x) s f a b = refl
 swapped (Err e) (Ok y) f a b = refl
 swapped (Err e) (Err d) f a b = ap (λ (x : IndexError). Err x) (a e refl ∙ sym (b d refl))
@@ -92,64 +108,94 @@ one_taken lists c = take_reference c.1 lists c.0
 taken : Lists → List Carried → Result Lists IndexError
 taken lists cs = in_turn one_taken lists cs
 
-taken_both : (lists : Lists) (as' bs : List Carried) → taken lists (as' ++ bs) ≡ (taken lists as' >>= λ rest. taken rest bs)
+taken_both : (lists : Lists) (as' bs : List Carried)
+    → taken lists (as' ++ bs) ≡ (taken lists as' >>= λ rest. taken rest bs)
 unfolding taken in_turn
 taken_both lists [] bs = refl
 taken_both lists (a ∷ as') bs =
-    then_same (one_taken lists a) _ _ (λ t. taken_both t as' bs) ∙ sym (grouped (one_taken lists a) (λ t. in_turn one_taken t as') (λ rest. in_turn one_taken rest bs))
+    then_same (one_taken lists a) _ _ (λ t. taken_both t as' bs)
+    ∙ sym (grouped (one_taken lists a) (λ t. in_turn one_taken t as') (λ rest.
+    in_turn one_taken rest bs))
 
 only_one : (r : ℕ) (lists : Lists) (k : ℕ) → OnlyDisagrees (take_reference r lists k)
 unfolding take_reference
 only_one r lists k = go (is_first r (get_or lists k []))
   where
-    go : (b : Bool) → OnlyDisagrees (cond b (Ok (set lists k (drop 1 (get_or lists k [])))) (Err PostingsDisagree))
+    go : (b : Bool) → OnlyDisagrees (cond b (Ok (set lists k (drop 1 (get_or lists k []))))
+        (Err PostingsDisagree))
     go true = only_ok _
     go false = only_refused
 
 only_taken : (lists : Lists) (cs : List Carried) → OnlyDisagrees (taken lists cs)
 unfolding taken in_turn one_taken
 only_taken lists [] = only_ok lists
-only_taken lists (c ∷ cs) = only_then (take_reference c.1 lists c.0) _ (only_one c.1 lists c.0) (λ t. only_taken t cs)
+only_taken lists (c ∷ cs) =
+    only_then (take_reference c.1 lists c.0) _ (only_one c.1 lists c.0) (λ t. only_taken t cs)
 
 -- the first of them, and then those that a later reading gives
-first_taken : (r : ℕ) (lists : Lists) (k : ℕ) (read : Result (List Carried) IndexError) → OnlyDisagrees read
-    → (take_reference r lists k >>= λ t. read >>= λ cs. taken t cs) ≡ (read >>= λ cs. taken lists ((k, r) ∷ cs))
+first_taken : (r : ℕ) (lists : Lists) (k : ℕ) (read : Result (List Carried) IndexError)
+    → OnlyDisagrees read
+    → (take_reference r lists k >>= λ t. read >>= λ cs. taken t cs)
+    ≡ (read >>= λ cs. taken lists ((k, r) ∷ cs))
 unfolding taken in_turn one_taken
-first_taken r lists k read only = swapped (take_reference r lists k) read (λ t cs. in_turn one_taken t cs) (only_one r lists k) only
+first_taken r lists k read only =
+    swapped (take_reference r lists k) read (λ t cs. in_turn one_taken t cs)
+    (only_one r lists k) only
 
 -- a label, and then the others
-label_first : (keys : List Label) (r : ℕ) (ls : List Label) (lists : Lists) (o : Option ℕ) → ((t : Lists) → in_turn (take_label keys r) t ls ≡ (each (list_of_label keys r) ls >>= λ cs. taken t cs))
-    → ((or_disagree o >>= λ at. take_reference r lists (at + 1)) >>= λ t. in_turn (take_label keys r) t ls)
-    ≡ (((or_disagree o >>= λ at. Ok (at + 1, r)) >>= λ x. each (list_of_label keys r) ls >>= λ xs. Ok (x ∷ xs)) >>= λ cs. taken lists cs)
+label_first : (keys : List Label) (r : ℕ) (ls : List Label) (lists : Lists) (o : Option ℕ)
+    → ((t : Lists)
+    → in_turn (take_label keys r) t ls ≡ (each (list_of_label keys r) ls >>= λ cs. taken t cs))
+    → ((or_disagree o >>= λ at. take_reference r lists (at + 1))
+    >>= λ t. in_turn (take_label keys r) t ls)
+    ≡ (((or_disagree o >>= λ at. Ok (at + 1, r))
+    >>= λ x. each (list_of_label keys r) ls >>= λ xs. Ok (x ∷ xs)) >>= λ cs. taken lists cs)
 label_first keys r ls lists None later = refl
 label_first keys r ls lists (Some k) later =
-    then_same (take_reference r lists (k + 1)) _ _ later ∙ first_taken r lists (k + 1) (each (list_of_label keys r) ls) (only_each (list_of_label keys r) ls (only_place keys r))
-    ∙ sym (grouped (each (list_of_label keys r) ls) (λ xs. Ok ((k + 1, r) ∷ xs)) (λ cs. taken lists cs))
+    then_same (take_reference r lists (k + 1)) _ _ later
+    ∙ first_taken r lists (k + 1) (each (list_of_label keys r) ls)
+    (only_each (list_of_label keys r) ls (only_place keys r))
+    ∙ sym (grouped (each (list_of_label keys r) ls) (λ xs. Ok ((k + 1, r) ∷ xs))
+    (λ cs. taken lists cs))
 
-labels_are : (keys : List Label) (r : ℕ) (ls : List Label) (lists : Lists) → in_turn (take_label keys r) lists ls ≡ (each (list_of_label keys r) ls >>= λ cs. taken lists cs)
+labels_are : (keys : List Label) (r : ℕ) (ls : List Label) (lists : Lists)
+    → in_turn (take_label keys r) lists ls
+    ≡ (each (list_of_label keys r) ls >>= λ cs. taken lists cs)
 unfolding in_turn each take_label list_of_label taken
 labels_are keys r [] lists = refl
-labels_are keys r (l ∷ ls) lists = label_first keys r ls lists (place_of keys l) (λ t. labels_are keys r ls t)
+labels_are keys r (l ∷ ls) lists =
+    label_first keys r ls lists (place_of keys l) (λ t. labels_are keys r ls t)
 
-one_series : (keys : List Label) (s : Carrier) (lists : Lists) → take_series keys lists s ≡ (lists_of_series keys s >>= λ cs. taken lists cs)
+one_series : (keys : List Label) (s : Carrier) (lists : Lists)
+    → take_series keys lists s ≡ (lists_of_series keys s >>= λ cs. taken lists cs)
 unfolding take_series lists_of_series
 one_series keys s lists =
-    then_same (take_reference s.0 lists 0) _ _ (λ t. labels_are keys s.0 s.1 t) ∙ first_taken s.0 lists 0 (each (list_of_label keys s.0) s.1) (only_each (list_of_label keys s.0) s.1 (only_place keys s.0))
-    ∙ sym (grouped (each (list_of_label keys s.0) s.1) (λ others. Ok ((0, s.0) ∷ others)) (λ cs. taken lists cs))
+    then_same (take_reference s.0 lists 0) _ _ (λ t. labels_are keys s.0 s.1 t)
+    ∙ first_taken s.0 lists 0 (each (list_of_label keys s.0) s.1)
+    (only_each (list_of_label keys s.0) s.1 (only_place keys s.0))
+    ∙ sym (grouped (each (list_of_label keys s.0) s.1) (λ others. Ok ((
+      0,
+      s.0,
+    ) ∷ others)) (λ cs. taken lists cs))
 
-all_series : (keys : List Label) (ss : List Carrier) (lists : Lists) → in_turn (take_series keys) lists ss ≡ (each_all (lists_of_series keys) ss >>= λ cs. taken lists cs)
+all_series : (keys : List Label) (ss : List Carrier) (lists : Lists)
+    → in_turn (take_series keys) lists ss
+    ≡ (each_all (lists_of_series keys) ss >>= λ cs. taken lists cs)
 unfolding in_turn each_all taken
 all_series keys [] lists = refl
 all_series keys (s ∷ ss) lists =
     let more = each_all (lists_of_series keys) ss in
-    ap (λ (r : Result Lists IndexError). r >>= λ t. in_turn (take_series keys) t ss) (one_series keys s lists)
+    ap (λ (r : Result Lists IndexError). r >>= λ t. in_turn (take_series keys) t ss)
+    (one_series keys s lists)
     ∙ grouped (lists_of_series keys s) (λ cs. taken lists cs) (λ t. in_turn (take_series keys) t ss)
     ∙ then_same (lists_of_series keys s) _ _ (λ first.
     then_same (taken lists first) _ _ (λ t. all_series keys ss t)
-    ∙ swapped (taken lists first) more (λ t cs. taken t cs) (only_taken lists first) (only_each_all (lists_of_series keys) ss (only_placed keys))
+    ∙ swapped (taken lists first) more (λ t cs. taken t cs) (only_taken lists first)
+    (only_each_all (lists_of_series keys) ss (only_placed keys))
     ∙ then_same more _ _ (λ others. sym (taken_both lists first others))
     ∙ sym (grouped more (λ others. Ok (first ++ others)) (λ cs. taken lists cs)))
-    ∙ sym (grouped (lists_of_series keys s) (λ first. more >>= λ others. Ok (first ++ others)) (λ cs. taken lists cs))
+    ∙ sym (grouped (lists_of_series keys s) (λ first. more >>= λ others. Ok (first ++ others))
+    (λ cs. taken lists cs))
 
 -- ---- the test
 
@@ -157,30 +203,45 @@ ends_empty : Result Lists IndexError → Bool
 ends_empty (Ok lists) = all_empty lists
 ends_empty (Err e) = false
 
-drained_first : (lists : Lists) (c : Carried) (cs : List Carried) (b : Bool) → are_used_up (set lists c.0 (drop 1 (get_or lists c.0 []))) cs ≡ ends_empty (taken (set lists c.0 (drop 1 (get_or lists c.0 []))) cs)
-    → (b && are_used_up (set lists c.0 (drop 1 (get_or lists c.0 []))) cs) ≡ ends_empty (cond b (Ok (set lists c.0 (drop 1 (get_or lists c.0 [])))) (Err PostingsDisagree) >>= λ t. in_turn one_taken t cs)
+drained_first : (lists : Lists) (c : Carried) (cs : List Carried) (b : Bool)
+    → are_used_up (set lists c.0 (drop 1 (get_or lists c.0 []))) cs
+    ≡ ends_empty (taken (set lists c.0 (drop 1 (get_or lists c.0 []))) cs)
+    → (b && are_used_up (set lists c.0 (drop 1 (get_or lists c.0 []))) cs)
+    ≡ ends_empty (cond b (Ok (set lists c.0 (drop 1 (get_or lists c.0 [])))) (Err PostingsDisagree)
+    >>= λ t. in_turn one_taken t cs)
 unfolding ends_empty taken
 drained_first lists c cs true later = later
 drained_first lists c cs false later = refl
 
-drained_is : (cs : List Carried) (lists : Lists) → are_used_up lists cs ≡ ends_empty (taken lists cs)
+drained_is : (cs : List Carried) (lists : Lists)
+    → are_used_up lists cs ≡ ends_empty (taken lists cs)
 unfolding are_used_up taken in_turn one_taken take_reference ends_empty
 drained_is [] lists = refl
-drained_is (c ∷ cs) lists = drained_first lists c cs (is_first c.1 (get_or lists c.0 [])) (drained_is cs (set lists c.0 (drop 1 (get_or lists c.0 []))))
+drained_is (c ∷ cs) lists =
+    drained_first lists c cs (is_first c.1 (get_or lists c.0 []))
+    (drained_is cs (set lists c.0 (drop 1 (get_or lists c.0 []))))
 
 decided : (used : Bool) (keys : List Label) (r : Result Lists IndexError) → OnlyDisagrees r
-    → (r >>= λ rests. cond (used && all_empty rests) (Ok keys) (Err PostingsDisagree)) ≡ cond (used && ends_empty r) (Ok keys) (Err PostingsDisagree)
+    → (r >>= λ rests. cond (used && all_empty rests) (Ok keys) (Err PostingsDisagree))
+    ≡ cond (used && ends_empty r) (Ok keys) (Err PostingsDisagree)
 unfolding ends_empty
 decided used keys (Ok lists) only = refl
 decided true keys (Err e) only = ap (λ (d : IndexError). Err d) (only e refl)
 decided false keys (Err e) only = ap (λ (d : IndexError). Err d) (only e refl)
 
-pub used_up_is : (symbols : List (List ℕ)) (table : List TableEntry) (lists : Lists) (series : List Carrier) → keys_used_up symbols table lists series ≡ agreement_of symbols table lists series
+pub used_up_is : (symbols : List (List ℕ)) (table : List TableEntry) (lists : Lists)
+    (series : List Carrier)
+    → keys_used_up symbols table lists series ≡ agreement_of symbols table lists series
 unfolding keys_used_up agreement_of
 used_up_is symbols table lists series =
     then_same (keys_at symbols table) _ _ (λ keys.
-    ap (λ (r : Result Lists IndexError). r >>= λ rests. cond (are_used lists && all_empty rests) (Ok keys) (Err PostingsDisagree)) (all_series keys series (map references_in lists))
-    ∙ grouped (each_all (lists_of_series keys) series) (λ cs. taken (map references_in lists) cs) (λ rests. cond (are_used lists && all_empty rests) (Ok keys) (Err PostingsDisagree))
+    ap (λ (r : Result Lists IndexError). r
+    >>= λ rests. cond (are_used lists && all_empty rests) (Ok keys) (Err PostingsDisagree))
+    (all_series keys series (map references_in lists))
+    ∙ grouped (each_all (lists_of_series keys) series) (λ cs. taken (map references_in lists) cs)
+    (λ rests. cond (are_used lists && all_empty rests) (Ok keys) (Err PostingsDisagree))
     ∙ then_same (each_all (lists_of_series keys) series) _ _ (λ placed.
-    decided (are_used lists) keys (taken (map references_in lists) placed) (only_taken (map references_in lists) placed)
-    ∙ ap (λ (b : Bool). cond (are_used lists && b) (Ok keys) (Err PostingsDisagree)) (sym (drained_is placed (map references_in lists)))))
+    decided (are_used lists) keys (taken (map references_in lists) placed)
+    (only_taken (map references_in lists) placed)
+    ∙ ap (λ (b : Bool). cond (are_used lists && b) (Ok keys) (Err PostingsDisagree))
+    (sym (drained_is placed (map references_in lists)))))

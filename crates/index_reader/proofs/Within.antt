@@ -7,9 +7,12 @@ use Rattle.index_reader.specs.declared.offset_table.TableEntry.{TableEntry}
 use Rattle.index_reader.specs.Layout.{is_within}
 use Rattle.index_reader.specs.Seen.{table_entry_seen, table_seen}
 
-pub all_map : (from to : ℕ) (ls : List TableEntry) → list_all (λ (l : TableEntry). nat_le from l.offset && nat_lt l.offset to) ls ≡ list_all (is_within from to) (table_seen ls)
+pub all_map : (from to : ℕ) (ls : List TableEntry)
+    → list_all (λ (l : TableEntry). nat_le from l.offset && nat_lt l.offset to) ls
+    ≡ list_all (is_within from to) (table_seen ls)
 all_map from to [] = refl
-all_map from to (l ∷ ls) = ap (λ (b : Bool). is_within from to (table_entry_seen l) && b) (all_map from to ls)
+all_map from to (l ∷ ls) =
+    ap (λ (b : Bool). is_within from to (table_entry_seen l) && b) (all_map from to ls)
 
 both : (p q : Bool) → (p && q) ≡ true → (p ≡ true) × (q ≡ true)
 both true q h = (refl, h)
@@ -18,11 +21,15 @@ both false q h = absurd cc
 abbrev all_in : ℕ → ℕ → List TableEntry → Bool
 all_in from to ls = list_all (λ (l : TableEntry). nat_le from l.offset && nat_lt l.offset to) ls
 
-pub all_le : (from to : ℕ) (ls : List TableEntry) → list_all (λ (l : TableEntry). nat_le from l.offset && nat_lt l.offset to) ls ≡ true → (k : ℕ) (d : TableEntry) → k < length ls → (get_or ls k d).offset ≤ to
+pub all_le : (from to : ℕ) (ls : List TableEntry)
+    → list_all (λ (l : TableEntry). nat_le from l.offset && nat_lt l.offset to) ls ≡ true
+    → (k : ℕ) (d : TableEntry) → k < length ls → (get_or ls k d).offset ≤ to
 all_le from to [] h k d lt = absurd (omega arith)
 all_le from to (l ∷ ls) h zero d lt =
     let p = both (nat_le from l.offset && nat_lt l.offset to) (all_in from to ls) h in
     let q = both (nat_le from l.offset) (nat_lt l.offset to) p.0 in
     let e = ltb-true l.offset to q.1 in
     omega (arith, e)
-all_le from to (l ∷ ls) h (suc j) d lt = all_le from to ls (both (nat_le from l.offset && nat_lt l.offset to) (all_in from to ls) h).1 j d (omega arith)
+all_le from to (l ∷ ls) h (suc j) d lt =
+    all_le from to ls
+    (both (nat_le from l.offset && nat_lt l.offset to) (all_in from to ls) h).1 j d (omega arith)

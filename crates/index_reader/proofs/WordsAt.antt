@@ -10,15 +10,19 @@ unfolding words
 length-words zero bytes = refl
 length-words (suc n) bytes = ap suc (length-words n (drop 4 bytes))
 
-word_at : (n i : ℕ) (bytes : List ℕ) → i < n → slice_get (words n bytes) i ≡ Some (big_number 4 (drop (4 * i) bytes))
+word_at : (n i : ℕ) (bytes : List ℕ) → i < n
+    → slice_get (words n bytes) i ≡ Some (big_number 4 (drop (4 * i) bytes))
 unfolding words
 word_at zero i bytes lt = absurd (omega arith)
 word_at (suc n) zero bytes lt = refl
 word_at (suc n) (suc i) bytes lt =
     let e : 4 + 4 * i ≡ 4 * suc i = omega arith in
-    word_at n i (drop 4 bytes) (omega arith) ∙ ap (λ (xs : List ℕ). Some (big_number 4 xs)) (drop-drop (4 * i) 4 bytes ∙ ap (λ (k : ℕ). drop k bytes) e)
+    word_at n i (drop 4 bytes) (omega arith)
+    ∙ ap (λ (xs : List ℕ). Some (big_number 4 xs)) (drop-drop (4 * i) 4 bytes
+    ∙ ap (λ (k : ℕ). drop k bytes) e)
 
-pub ref_at : (i : ℕ) (bytes : List ℕ) → i < length bytes / 4 → slice_get (references_in bytes) i ≡ Some (big_number 4 (drop (4 * i) bytes))
+pub ref_at : (i : ℕ) (bytes : List ℕ) → i < length bytes / 4
+    → slice_get (references_in bytes) i ≡ Some (big_number 4 (drop (4 * i) bytes))
 ref_at i bytes lt = word_at (length bytes / 4) i bytes lt
 
 pub length-refs : (bytes : List ℕ) → length (references_in bytes) ≡ length bytes / 4

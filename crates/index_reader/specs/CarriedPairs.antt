@@ -15,7 +15,8 @@ references_carrying k (c ∷ cs) =
 abbrev pub Agree : List (List ℕ) → List Carried → Type 0
 Agree lists carried = (k : ℕ) → k < length lists → get_or lists k [] ≡ references_carrying k carried
 
--- The same as a test: the lists are used up, one reference after the other, in the order in which the series carry them.
+-- The same as a test: the lists are used up, one reference after the other, in the order in which
+-- the series carry them.
 abbrev pub is_first : ℕ → List ℕ → Bool
 is_first r [] = false
 is_first r (x ∷ xs) = x == r
@@ -26,7 +27,8 @@ all_empty [] = true
 all_empty ([] ∷ xs) = all_empty xs
 all_empty ((x ∷ ys) ∷ xs) = false
 
--- whether each series finds its reference at the front of the list of each of its pairs, and nothing is left
+-- whether each series finds its reference at the front of the list of each of its pairs, and
+-- nothing is left
 unfoldable pub are_used_up : List (List ℕ) → List Carried → Bool
 are_used_up rests [] = all_empty rests
 are_used_up rests (c ∷ cs) =

@@ -39,4 +39,5 @@ text_of PostingsCrc = codes "I11: a list of postings is cut short, or its checks
 text_of Postings = codes "I12: a list of postings is not well formed, or does not ascend"
 text_of Offsets = codes "I13: a table of offsets is not well formed, or its checksum is wrong"
 text_of PostingsDisagree = codes "I14: the postings are not those of the series"
-text_of Limit = codes "I15: the index is longer than 1 GiB, or has too many series, labels or samples"
+text_of Limit =
+    codes "I15: the index is longer than 1 GiB, or has too many series, labels or samples"

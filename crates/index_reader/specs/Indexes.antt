@@ -40,14 +40,15 @@ references_with name value ss = references (filter (λ s. carries name value s.l
 abbrev pub values_of : List ℕ → List (List ℕ × List ℕ) → List (List ℕ)
 values_of name pairs = map (λ p. p.1) (filter (λ p. bytes_eq p.0 name) pairs)
 
--- what every index keeps: references ascend and are below 2^32, no more than 1,048,576 series ascend by their label
--- sets, and the pairs, which ascend too, are exactly those that series carry
+-- what every index keeps: references ascend and are below 2^32, no more than 1,048,576 series
+-- ascend by their label sets, and the pairs, which ascend too, are exactly those that series carry
 pub record IsConsistent (x : Indexed) : Type 0 where
   pub ascending : IsStrictlyIncreasing (references x.series)
   pub small : (k : ℕ) → k < length x.series → get_or (references x.series) k 0 < 2 ^ 32
   pub few : length x.series ≤ 1048576
   pub in_order : (k : ℕ) → k + 1 < length x.series
-      → labels_cmp (get_or (label_sets x.series) k []) (get_or (label_sets x.series) (k + 1) []) ≡ Less
+      → labels_cmp (get_or (label_sets x.series) k []) (get_or (label_sets x.series) (k + 1) [])
+      ≡ Less
   pub pairs_in_order : (k : ℕ) → k + 1 < length x.pairs
       → pair_cmp (get_or x.pairs k ([], [])) (get_or x.pairs (k + 1) ([], [])) ≡ Less
   pub carried : (name value : List ℕ) → Contains x.pairs (name, value)

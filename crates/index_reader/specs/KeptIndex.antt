@@ -34,7 +34,8 @@ abbrev pub AreInTable : List (List ℕ) → List Label → Type 0
 AreInTable symbols ls = All (λ l. (l.0 < length symbols) × (l.1 < length symbols)) ls
 
 -- the labels and the chunks of a series are there, and its labels make a label set
-pub record IsWithin (symbols : List (List ℕ)) (labels : List Label) (chunks : List Chunk) (s : Series)
+pub record IsWithin (symbols : List (List ℕ)) (labels : List Label)
+    (chunks : List Chunk) (s : Series)
     : Type 0 where
   pub labels_ordered : s.labels_start ≤ s.labels_end
   pub labels_inside : s.labels_end ≤ length labels
@@ -52,8 +53,9 @@ abbrev pub references_of_label : List (List ℕ) → Label → List indexes.Seri
 references_of_label symbols l series =
     references_with (get_or symbols l.0 []) (get_or symbols l.1 []) series
 
--- symbols and pairs of them ascend; the first list is that of all series, and behind it stands for each pair the list of
--- the series that carry it, of which there are some; other pairs no series carries
+-- symbols and pairs of them ascend; the first list is that of all series, and behind it stands for
+-- each pair the list of the series that carry it, of which there are some; other pairs no series
+-- carries
 pub record IsListing (symbols : List (List ℕ)) (keys : List Label) (series : List indexes.Series)
     (lists : List (List ℕ)) : Type 0 where
   pub few : length symbols < 2 ^ 32

@@ -1,4 +1,5 @@
--- What an index states before its postings are held against its series, and which of the last two checks fails.
+-- What an index states before its postings are held against its series, and which of the last two
+-- checks fails.
 use Rattle.std.specs.Prelude.{◌≡◌, ℕ, ◌≤◌, List, [], ◌∷◌, length, map, Result, Ok, Err}
 use Rattle.std.specs.List.{AllByRecursion, Contains}
 use Rattle.index_reader.specs.declared.error.IndexError.{IndexError}
@@ -32,8 +33,8 @@ stated_of file = do
   postings ← postings_of file parts.contents
   Ok (stated_in parts bodies postings.0 postings.1)
 
--- the pairs are the empty one and behind it exactly those that series carry; the empty pair lists all series, and each
--- other pair the series that carry it
+-- the pairs are the empty one and behind it exactly those that series carry; the empty pair lists
+-- all series, and each other pair the series that carry it
 pub record Agrees (stated : Stated) : Type 0 where
   pub others : List (List ℕ × List ℕ)
   pub pairs : stated.pairs ≡ ([], []) ∷ others
@@ -48,8 +49,9 @@ pub record AreFew (series : List Series) : Type 0 where
   pub few : length series ≤ 1048576
   pub few_labels : AllByRecursion (λ s. length s.labels ≤ 64) series
 
--- what reading a whole index gives: the refusal of an earlier check; or `I14`, where the postings are not those of the
--- series; or else `I15`, where there are too many series or labels; or else series and pairs
+-- what reading a whole index gives: the refusal of an earlier check; or `I14`, where the postings
+-- are not those of the series; or else `I15`, where there are too many series or labels; or else
+-- series and pairs
 pub record AreLastChecks (stated : Result Stated IndexError) (read : Result Indexed IndexError)
     : Type 0 where
   pub earlier : (e : IndexError) → stated ≡ Err e → read ≡ Err e

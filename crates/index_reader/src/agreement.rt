@@ -188,7 +188,8 @@ fn are_used(lists: &[&[u8]]) -> bool
     have_bytes(rest)
 }
 
-// The series are walked once, in their order, each taking its reference from the lists of its labels.
+// The series are walked once, in their order, each taking its reference from the lists of its
+// labels.
 #[tactic(auto, using(crate::proofs::Placing::lists_are), unfolding(crate::specs::SeriesWalk::keys_used_up))]
 fn use_up_lists(
     alloc: Global,
@@ -225,8 +226,8 @@ fn use_up_lists(
     Ok(keys)
 }
 
-/// The pairs of the table behind the empty one, where its lists are exactly the references of the series that carry
-/// them. It looks at each label of each series once, and keeps no list of them.
+/// The pairs of the table behind the empty one, where its lists are exactly the references of the
+/// series that carry them. It looks at each label of each series once, and keeps no list of them.
 pub fn check_agreement(
     alloc: Global,
     symbols: &Symbols,

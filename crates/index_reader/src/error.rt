@@ -36,11 +36,13 @@ pub enum IndexError {
     PostingsCrc,
     /// `I12`: a postings section is not of the form, or its references do not ascend strictly.
     Postings,
-    /// `I13`: a table of offsets is not whole or not of the form, or names a place outside the postings.
+    /// `I13`: a table of offsets is not whole or not of the form, or names a place outside the
+    /// postings.
     Offsets,
     /// `I14`: the postings are not those of the series.
     PostingsDisagree,
-    /// `I15`: the file is longer than 1 GiB, or has more than 1,048,576 series, or a series of more than 64 labels.
+    /// `I15`: the file is longer than 1 GiB, or has more than 1,048,576 series, or a series of more
+    /// than 64 labels.
     Limit,
 }
 

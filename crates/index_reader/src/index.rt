@@ -21,8 +21,8 @@ use labels::{LabelSet, SeriesRef};
 use std::alloc::{AllocError, Global};
 use std::marker::Model;
 
-/// What an index holds, seen as its series in file order and the pairs that it lists. It keeps no borrow of the file,
-/// and its lists of references as the bytes in which they were read.
+/// What an index holds, seen as its series in file order and the pairs that it lists. It keeps no
+/// borrow of the file, and its lists of references as the bytes in which they were read.
 #[derive(Drop)]
 pub struct Index {
     symbols: Symbols,
@@ -75,20 +75,23 @@ fn index_of(alloc: Global, file: &[u8]) -> Result<Index, IndexError>
 }
 
 impl Index {
-    /// What the bytes of an index hold, or the refusal of the first check that fails, in this order: `I15` (length),
-    /// `I1` to `I10`, `I13`, `I11`, `I12`, `I14`, `I15` (counts), each over the whole file before the next. Time in
-    /// proportion to the file and to what its table of offsets lists; it copies the texts, the chunks' places and the
-    /// lists, and keeps no borrow of the file.
+    /// What the bytes of an index hold, or the refusal of the first check that fails, in this
+    /// order: `I15` (length), `I1` to `I10`, `I13`, `I11`, `I12`, `I14`, `I15` (counts), each over
+    /// the whole file before the next. Time in proportion to the file and to what its table of
+    /// offsets lists; it copies the texts, the chunks' places and the lists, and keeps no borrow of
+    /// the file.
     pub fn open(alloc: Global, file: &[u8]) -> Result<Index, IndexError>
         // The first check that fails is answered; where none does, what was read is given.
         ensures exact { Gives (λ x. x) result (indexed_of file.now) }
-        // What is given is what the bytes spell: series, their chunks, and lists that are exactly those of the series.
+        // What is given is what the bytes spell: series, their chunks, and lists that are exactly
+        // those of the series.
         ensures found { IfOk result (IsIndex file.now) }
         // Bytes that spell an index are opened, and give what they spell, unless memory runs out.
         ensures only { (x : Indexed) → IsIndex file.now x → Gives (λ i. i) result (Ok x) }
         // References and label sets ascend, and the lists are those of the series.
         ensures consistent { IfOk result IsConsistent }
-        // `I14` is answered where the postings are not those of the series, and else `I15` for too many.
+        // `I14` is answered where the postings are not those of the series, and else `I15` for too
+        // many.
         ensures last { AreLastChecks (stated_of file.now) (indexed_of file.now) }
     {
         index_of(alloc, file)
@@ -145,8 +148,9 @@ impl Index {
         self.lists.entries_at(0)
     }
 
-    /// The references of the series with this value of a name, `None` where there is none. None of it is read yet. It
-    /// takes time in proportion to the logarithms of the counts of symbols and of pairs, and no memory.
+    /// The references of the series with this value of a name, `None` where there is none. None of
+    /// it is read yet. It takes time in proportion to the logarithms of the counts of symbols and
+    /// of pairs, and no memory.
     pub fn postings(&self, name: &str, value: &str) -> Option<PostingsList<'_>>
         ensures none { IfNone result (references_with name.now value.now self.now.series ≡ []) }
         ensures listed { IfSome result

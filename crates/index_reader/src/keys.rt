@@ -54,7 +54,8 @@ pub fn place_of(keys: &Keys, key: (u32, u32)) -> Option<usize>
     None
 }
 
-/// For each symbol the place of a pair whose value it is, where there is one: the first place to look at.
+/// For each symbol the place of a pair whose value it is, where there is one: the first place to
+/// look at.
 pub fn guesses_of(alloc: Global, symbols: usize, keys: &Keys) -> Result<Vec<usize>, AllocError> {
     let mut guesses = Vec::new(alloc);
     guesses.resize(symbols, 0usize)?;

@@ -11,7 +11,8 @@ pub bind_ok : {A B E : Type 0} (r : Result A E) (f : A → Result B E) (y : B) �
 bind_ok (Ok x) f y e = (x, refl, e)
 bind_ok (Err d) f y e = absurd cc
 
-pub refused_ok : {A E F : Type 0} (e : E) (r : Result A F) (x : A) → or_refused e r ≡ Ok x → r ≡ Ok x
+pub refused_ok : {A E F : Type 0} (e : E) (r : Result A F) (x : A)
+    → or_refused e r ≡ Ok x → r ≡ Ok x
 refused_ok e (Ok y) x h = cc
 refused_ok e (Err f) x h = absurd cc
 
@@ -27,7 +28,8 @@ pub passed : {A E : Type 0} (b : Bool) (d : E) (r : Result A E) (y : A) → cond
 passed true d r y e = (refl, e)
 passed false d r y e = absurd cc
 
-pub not_failed : {A E : Type 0} (b : Bool) (d : E) (r : Result A E) (y : A) → cond b (Err d) r ≡ Ok y
+pub not_failed : {A E : Type 0} (b : Bool) (d : E) (r : Result A E) (y : A)
+    → cond b (Err d) r ≡ Ok y
     → (b ≡ false) × (r ≡ Ok y)
 not_failed true d r y e = absurd cc
 not_failed false d r y e = (refl, e)
@@ -50,13 +52,15 @@ not_ok false e x whole f = absurd cc
 abbrev refusal : {A E : Type 0} → E → Result A E
 refusal e = Err e
 
-same_error : {B E : Type 0} (A : Type 0) (is_memory : Bool) (e g : E) (whole : Result B E) → refusal g ≡ whole
+same_error : {B E : Type 0} (A : Type 0) (is_memory : Bool) (e g : E) (whole : Result B E)
+    → refusal g ≡ whole
     → MatchBool is_memory ⊤ (refusal {A = A} g ≡ Err e) → MatchBool is_memory ⊤ (whole ≡ Err e)
 same_error A true e g whole h f = tt
 same_error A false e g whole h f = cc
 
 -- a call failed: the whole is no value then, or memory ran out
-pub fails_on : {A B E : Type 0} (is_memory : E → Bool) (e : E) (read : Result A E) (next : A → Result B E) (whole : Result B E)
+pub fails_on : {A B E : Type 0} (is_memory : E → Bool) (e : E) (read : Result A E)
+    (next : A → Result B E) (whole : Result B E)
     → (read >>= next) ≡ whole → Fails is_memory e read → Fails is_memory e whole
 fails_on {A} is_memory e (Ok x) next whole h f = not_ok (is_memory e) e x whole f
 fails_on {A} is_memory e (Err g) next whole h f = same_error A (is_memory e) e g whole h f

@@ -18,7 +18,8 @@ follows_on [] ys = true
 follows_on (x ∷ xs) [] = false
 follows_on (x ∷ xs) (y ∷ ys) = eqb y (shifted 8 x) && follows_on xs ys
 
-starts_at : (n : ℕ) (xs : List ℕ) (i d : ℕ) → starts n xs ≡ true → i < length xs → get_or xs i d ≡ shifted 8 (n + i)
+starts_at : (n : ℕ) (xs : List ℕ) (i d : ℕ) → starts n xs ≡ true → i < length xs
+    → get_or xs i d ≡ shifted 8 (n + i)
 unfolding starts
 starts_at n [] i d h lt = absurd (omega arith)
 starts_at n (x ∷ xs) zero d h lt =
@@ -28,14 +29,17 @@ starts_at n (x ∷ xs) (suc i) d h lt =
     let e : suc n + i ≡ n + suc i = omega arith in
     starts_at (suc n) xs i d (both_of _ _ h).1 (omega arith) ∙ ap (shifted 8) e
 
-follows_at : (xs ys : List ℕ) (i d : ℕ) → follows_on xs ys ≡ true → i < length xs → get_or ys i d ≡ shifted 8 (get_or xs i d)
+follows_at : (xs ys : List ℕ) (i d : ℕ) → follows_on xs ys ≡ true → i < length xs
+    → get_or ys i d ≡ shifted 8 (get_or xs i d)
 unfolding follows_on
 follows_at [] ys i d h lt = absurd (omega arith)
 follows_at (x ∷ xs) [] i d h lt = absurd cc
 follows_at (x ∷ xs) (y ∷ ys) zero d h lt = eqb-true y (shifted 8 x) (both_of _ _ h).0
 follows_at (x ∷ xs) (y ∷ ys) (suc i) d h lt = follows_at xs ys i d (both_of _ _ h).1 (omega arith)
 
-next : (k : ℕ) (xs ys : List ℕ) → follows_on xs ys ≡ true → length xs ≡ 256 → ((i d : ℕ) → i < 256 → get_or xs i d ≡ shifted k i) → (i d : ℕ) → i < 256 → get_or ys i d ≡ shifted (k + 8) i
+next : (k : ℕ) (xs ys : List ℕ) → follows_on xs ys ≡ true → length xs ≡ 256
+    → ((i d : ℕ) → i < 256 → get_or xs i d ≡ shifted k i) → (i d : ℕ) → i < 256
+    → get_or ys i d ≡ shifted (k + 8) i
 next k xs ys h len before i d lt =
     follows_at xs ys i d h (omega arith) ∙ ap (shifted 8) (before i d lt) ∙ sym (shifted-add k 8 i)
 

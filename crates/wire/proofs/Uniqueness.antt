@@ -6,4 +6,5 @@ use Rattle.wire.proofs.Laws.{uvarint_again}
 use Rattle.wire.proofs.KnownReads.{same_read}
 
 pub uvarint_alone : (n : ℕ) → n < 2 ^ 64 → BeginsNoOther (λ (m : ℕ). m < 2 ^ 64) uvarint n
-uvarint_alone n n_lt m x y m_lt e = same_read n m x y (sym (uvarint_again n x n_lt) ∙ ap uvarint_at e ∙ uvarint_again m y m_lt)
+uvarint_alone n n_lt m x y m_lt e =
+    same_read n m x y (sym (uvarint_again n x n_lt) ∙ ap uvarint_at e ∙ uvarint_again m y m_lt)

@@ -16,7 +16,8 @@ loop-rest-preserved c =
     let i = c.loop-rest.rest-index in
     let same = length-map xs (λ (x : Bor (List ℕ)). references_in x.now) in
     let h = eqb-true _ 0 (sym c.is_empty.ensures ∙ c.if-not-is_empty.false) in
-    empty_step (references_in_each xs) i _ (omega (arith, same, c.loop-rest-test.true)) (list_at xs i none c.loop-rest-test.true ∙ nil_from_length _ h) c.loop-rest.invariant
+    empty_step (references_in_each xs) i _ (omega (arith, same, c.loop-rest-test.true))
+    (list_at xs i none c.loop-rest-test.true ∙ nil_from_length _ h) c.loop-rest.invariant
 
 pub returns-then-not-is_empty : goal.returns-then-not-is_empty
 returns-then-not-is_empty c =
@@ -25,10 +26,12 @@ returns-then-not-is_empty c =
     let same = length-map xs (λ (x : Bor (List ℕ)). references_in x.now) in
     let h = eqb-false _ 0 (sym c.is_empty.ensures ∙ c.if-not-is_empty.true) in
     let p = is_cons (references_in (get_or xs i none).now) (omega (arith, h)) in
-    empty_stops (references_in_each xs) i p.0 p.1 _ (omega (arith, same, c.loop-rest-test.true)) (list_at xs i none c.loop-rest-test.true ∙ p.2) c.loop-rest.invariant
+    empty_stops (references_in_each xs) i p.0 p.1 _ (omega (arith, same, c.loop-rest-test.true))
+    (list_at xs i none c.loop-rest-test.true ∙ p.2) c.loop-rest.invariant
 
 pub returns : goal.returns
 returns c =
     let xs = c.args.rests.now in
     let same = length-map xs (λ (x : Bor (List ℕ)). references_in x.now) in
-    empty_done (references_in_each xs) c.loop-rest.rest-index _ (omega (arith, same, c.loop-rest-test.false)) c.loop-rest.invariant
+    empty_done (references_in_each xs) c.loop-rest.rest-index _
+    (omega (arith, same, c.loop-rest-test.false)) c.loop-rest.invariant

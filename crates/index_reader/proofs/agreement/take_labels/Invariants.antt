@@ -6,5 +6,7 @@ use Rattle.index_reader.proofs.agreement.take_labels.Given as goal
 abbrev pub invariant-loop-at : goal.invariant-loop-at
 invariant-loop-at l = record {
   counted : length l.lists.items ≡ length l.fn.lists.items;
-  so_far : in_turn (take_label l.keys.pairs.items l.reference) (references_in_each l.lists.items) (drop l.at l.labels) ≡ in_turn (take_label l.keys.pairs.items l.reference) (references_in_each l.fn.lists.items) l.labels;
+  so_far : in_turn (take_label l.keys.pairs.items l.reference) (references_in_each l.lists.items)
+      (drop l.at l.labels) ≡ in_turn (take_label l.keys.pairs.items l.reference)
+      (references_in_each l.fn.lists.items) l.labels;
 }

@@ -4,7 +4,9 @@ use Rattle.index_reader.specs.FlatBodies.{labels_before, label_sets_in}
 use Rattle.index_reader.proofs.bodies.is_rising.Given as goal
 
 abbrev pub invariant-loop-at : goal.invariant-loop-at
-invariant-loop-at l = (0 < l.at) × (rises labels_before (drop (l.at - 1) (label_sets_in l.labels l.rows)) ≡ rises labels_before (label_sets_in l.labels l.rows))
+invariant-loop-at l =
+    (0 < l.at) × (rises labels_before (drop (l.at - 1) (label_sets_in l.labels l.rows))
+    ≡ rises labels_before (label_sets_in l.labels l.rows))
 
 abbrev pub decreases-loop-at : goal.decreases-loop-at
 decreases-loop-at l = length l.rows - l.at

@@ -5,4 +5,8 @@ use Rattle.index_reader.specs.BodyChecks.{label_at}
 use Rattle.index_reader.proofs.body.more_labels.Given as goal
 
 abbrev pub invariant-loop : goal.invariant-loop
-invariant-loop l = with_front l.labels.items (steps (label_at (bytes_of l.symbols)) (l.count - l.counter) (l.low, l.rest)) ≡ with_front l.fn.labels.items (steps (label_at (bytes_of l.symbols)) l.count (0, l.bytes))
+invariant-loop l =
+    with_front l.labels.items (steps (label_at (bytes_of l.symbols)) (l.count - l.counter) (
+      l.low,
+      l.rest,
+    )) ≡ with_front l.fn.labels.items (steps (label_at (bytes_of l.symbols)) l.count (0, l.bytes))

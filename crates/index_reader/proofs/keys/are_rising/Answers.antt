@@ -5,12 +5,16 @@ use Rattle.index_reader.proofs.keys.are_rising.Goals as goal
 
 pub returns-then-not-is_before : goal.returns-then-not-is_before
 returns-then-not-is_before c =
-    let n = next key_before c.args.keys.now c.loop-at.at _ _ c.is_before.result _ c.loop-at.invariant.0 c.key_in.ensures c.key_in-in-loop-at.ensures c.is_before.ensures c.loop-at.invariant.1 in
+    let n =
+    next key_before c.args.keys.now c.loop-at.at _ _ c.is_before.result _ c.loop-at.invariant.0
+    c.key_in.ensures c.key_in-in-loop-at.ensures c.is_before.ensures c.loop-at.invariant.1 in
     sym (rw c.if-not-is_before.true at n)
 
 pub loop-at-preserved : goal.loop-at-preserved
 loop-at-preserved c =
-    let n = next key_before c.args.keys.now c.loop-at.at _ _ c.is_before.result _ c.loop-at.invariant.0 c.key_in.ensures c.key_in-in-loop-at.ensures c.is_before.ensures c.loop-at.invariant.1 in
+    let n =
+    next key_before c.args.keys.now c.loop-at.at _ _ c.is_before.result _ c.loop-at.invariant.0
+    c.key_in.ensures c.key_in-in-loop-at.ensures c.is_before.ensures c.loop-at.invariant.1 in
     let e : c.loop-at.at + 1 - 1 ≡ c.loop-at.at = omega arith in
     (omega arith, rw e (sym (rw c.if-not-is_before.false at n)))
 

@@ -8,7 +8,10 @@ loop-low-preserved-then-symbol-name c =
     record {
       ordered = omega arith;
       inside = l.invariant.inside;
-      below = below_so c.args.keys.now.pairs.items (l.low + (l.high - l.low) / 2) c.args.name _ c.args.keys.now.rising c.pair_at.ensures (omega (arith, l.invariant.inside)) (omega arith);
+      below =
+          below_so c.args.keys.now.pairs.items (l.low + (l.high - l.low) / 2) c.args.name _
+          c.args.keys.now.rising c.pair_at.ensures
+          (omega (arith, l.invariant.inside)) (omega arith);
       above = l.invariant.above;
     }
 
@@ -19,5 +22,7 @@ loop-low-preserved c =
       ordered = omega arith;
       inside = omega (arith, l.invariant.inside);
       below = l.invariant.below;
-      above = above_so c.args.keys.now.pairs.items (l.low + (l.high - l.low) / 2) c.args.name _ c.args.keys.now.rising c.pair_at.ensures (omega arith);
+      above =
+          above_so c.args.keys.now.pairs.items (l.low + (l.high - l.low) / 2) c.args.name _
+          c.args.keys.now.rising c.pair_at.ensures (omega arith);
     }

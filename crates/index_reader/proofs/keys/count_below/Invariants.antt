@@ -6,7 +6,8 @@ invariant-loop-low l = record {
   ordered : l.low ≤ l.high;
   inside : l.high ≤ length l.keys.pairs.items;
   below : (k : ℕ) → k < l.low → (get_or l.keys.pairs.items k (0, 0)).0 < l.name;
-  above : (k : ℕ) → l.high ≤ k → k < length l.keys.pairs.items → l.name ≤ (get_or l.keys.pairs.items k (0, 0)).0;
+  above : (k : ℕ) → l.high ≤ k → k < length l.keys.pairs.items
+      → l.name ≤ (get_or l.keys.pairs.items k (0, 0)).0;
 }
 
 abbrev pub decreases-loop-low : goal.decreases-loop-low

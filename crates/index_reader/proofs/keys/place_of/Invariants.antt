@@ -9,8 +9,10 @@ abbrev pub invariant-loop-low : goal.invariant-loop-low
 invariant-loop-low l = record {
   ordered : l.low ≤ l.high;
   inside : l.high ≤ length l.keys.pairs.items;
-  below : (k : ℕ) (a : Label) → k < l.low → slice_get l.keys.pairs.items k ≡ Some a → key_cmp a l.key ≡ Less;
-  above : (k : ℕ) (a : Label) → l.high ≤ k → slice_get l.keys.pairs.items k ≡ Some a → key_cmp a l.key ≡ Greater;
+  below : (k : ℕ) (a : Label) → k < l.low → slice_get l.keys.pairs.items k ≡ Some a
+      → key_cmp a l.key ≡ Less;
+  above : (k : ℕ) (a : Label) → l.high ≤ k → slice_get l.keys.pairs.items k ≡ Some a
+      → key_cmp a l.key ≡ Greater;
 }
 
 abbrev pub decreases-loop-low : goal.decreases-loop-low

@@ -8,7 +8,8 @@ use Rattle.index_reader.specs.HeadChecks.{head_of}
 use Rattle.index_reader.proofs.Head.{head_placed}
 use Rattle.index_reader.proofs.layout.check_head.Goals as goal
 
-is_placed : (file : List ℕ) (r : Result TableOfContents IndexError) → Gives (λ t. t) r (head_of file) → IfOk r (λ t. IsPlaced t (length file))
+is_placed : (file : List ℕ) (r : Result TableOfContents IndexError)
+    → Gives (λ t. t) r (head_of file) → IfOk r (λ t. IsPlaced t (length file))
 is_placed file (Ok t) h = head_placed file t h
 is_placed file (Err e) h = tt
 

@@ -12,18 +12,23 @@ pub loop-at-init : goal.loop-at-init
 loop-at-init c = rw c.new-copy.ensures refl
 
 pub push-requires-clause-whole : goal.push-requires-clause-whole
-push-requires-clause-whole c = (list_here c.args.lists.now c.loop-at.at _ c.requires c.slice_at.ensures).0
+push-requires-clause-whole c =
+    (list_here c.args.lists.now c.loop-at.at _ c.requires c.slice_at.ensures).0
 
 pub push-requires-clause-increasing : goal.push-requires-clause-increasing
-push-requires-clause-increasing c = (list_here c.args.lists.now c.loop-at.at _ c.requires c.slice_at.ensures).1
+push-requires-clause-increasing c =
+    (list_here c.args.lists.now c.loop-at.at _ c.requires c.slice_at.ensures).1
 
 pub loop-at-preserved : goal.loop-at-preserved
 loop-at-preserved c =
     let l = c.loop-at in
-    rw c.in_ok-push.ensures.ok (moved_on l.copy (map references_in (bytes_of c.args.lists.now)) l.at _ _ (mapped_at references_in (bytes_of c.args.lists.now) l.at _ c.slice_at.ensures) refl l.invariant)
+    rw c.in_ok-push.ensures.ok (moved_on l.copy (map references_in (bytes_of c.args.lists.now)) l.at
+    _ _ (mapped_at references_in (bytes_of c.args.lists.now) l.at _ c.slice_at.ensures) refl
+    l.invariant)
 
 pub returns : goal.returns
 returns c =
     let n = length-map c.args.lists.now (λ (x : Bor (List ℕ)). x.now) in
     let m = length-map (bytes_of c.args.lists.now) references_in in
-    ended_so c.loop-at.copy (map references_in (bytes_of c.args.lists.now)) c.loop-at.at (omega (arith, n, m)) c.loop-at.invariant
+    ended_so c.loop-at.copy (map references_in (bytes_of c.args.lists.now)) c.loop-at.at
+    (omega (arith, n, m)) c.loop-at.invariant

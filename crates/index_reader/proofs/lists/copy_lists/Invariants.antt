@@ -5,4 +5,6 @@ use Rattle.index_reader.specs.Seen.{bytes_of}
 use Rattle.index_reader.proofs.lists.copy_lists.Given as goal
 
 abbrev pub invariant-loop-at : goal.invariant-loop-at
-invariant-loop-at l = l.copy ++ drop l.at (map references_in (bytes_of l.lists)) ≡ map references_in (bytes_of l.lists)
+invariant-loop-at l =
+    l.copy ++ drop l.at (map references_in (bytes_of l.lists))
+    ≡ map references_in (bytes_of l.lists)

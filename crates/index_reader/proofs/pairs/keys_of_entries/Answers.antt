@@ -14,15 +14,29 @@ loop-at-init c = record {
 
 pub returns-in_err-key-clause-exact : goal.returns-in_err-key-clause-exact
 returns-in_err-key-clause-exact c =
-    let p = err_from_is_err_and c.from_residual-in_err-key.result c.from_residual-in_err-key.ensures.1 in
-    rw (p.1, p.2) (each_fails (key_at (strings_of c.args.symbols.now.texts.items)) c.in_err-key.field-0.0 (table_seen c.args.table.now) c.loop-at.at _ c.loop-at.keys.items _ c.table_entry_at-listed.ensures.seen c.in_err-key.ensures c.loop-at.invariant.so_far)
+    let p =
+    err_from_is_err_and c.from_residual-in_err-key.result c.from_residual-in_err-key.ensures.1 in
+    rw (p.1, p.2) (each_fails (key_at (strings_of c.args.symbols.now.texts.items))
+    c.in_err-key.field-0.0 (table_seen c.args.table.now) c.loop-at.at _ c.loop-at.keys.items _
+    c.table_entry_at-listed.ensures.seen c.in_err-key.ensures c.loop-at.invariant.so_far)
 
 pub loop-at-preserved : goal.loop-at-preserved
 loop-at-preserved c =
     record {
-      counted = rw c.in_ok-push.ensures.items (omega (arith, length_push c.loop-at.keys.items c.in_ok-key.key, c.loop-at.invariant.counted));
-      so_far = rw c.in_ok-push.ensures.items (each_on (key_at (strings_of c.args.symbols.now.texts.items)) (table_seen c.args.table.now) c.loop-at.at _ c.in_ok-key.key c.loop-at.keys.items _ c.table_entry_at-listed.ensures.seen c.in_ok-key.ensures c.loop-at.invariant.so_far);
+      counted = rw c.in_ok-push.ensures.items (omega (
+        arith,
+        length_push c.loop-at.keys.items c.in_ok-key.key,
+        c.loop-at.invariant.counted,
+      ));
+      so_far =
+          rw c.in_ok-push.ensures.items
+          (each_on (key_at (strings_of c.args.symbols.now.texts.items))
+          (table_seen c.args.table.now) c.loop-at.at _ c.in_ok-key.key c.loop-at.keys.items _
+          c.table_entry_at-listed.ensures.seen c.in_ok-key.ensures c.loop-at.invariant.so_far);
     }
 
 pub returns-clause-exact : goal.returns-clause-exact
-returns-clause-exact c = each_done (key_at (strings_of c.args.symbols.now.texts.items)) (table_seen c.args.table.now) c.loop-at.at c.loop-at.keys.items _ (omega (arith, length-map c.args.table.now table_entry_seen)) c.loop-at.invariant.so_far
+returns-clause-exact c =
+    each_done (key_at (strings_of c.args.symbols.now.texts.items)) (table_seen c.args.table.now)
+    c.loop-at.at c.loop-at.keys.items _
+    (omega (arith, length-map c.args.table.now table_entry_seen)) c.loop-at.invariant.so_far

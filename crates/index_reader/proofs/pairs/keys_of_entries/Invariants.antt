@@ -7,5 +7,7 @@ use Rattle.index_reader.proofs.pairs.keys_of_entries.Given as goal
 abbrev pub invariant-loop-at : goal.invariant-loop-at
 invariant-loop-at l = record {
   counted : length l.keys.items ≡ l.at;
-  so_far : behind_items l.keys.items (each (key_at (strings_of l.symbols.texts.items)) (drop l.at (table_seen l.table))) ≡ each (key_at (strings_of l.symbols.texts.items)) (table_seen l.table);
+  so_far : behind_items l.keys.items
+      (each (key_at (strings_of l.symbols.texts.items)) (drop l.at (table_seen l.table)))
+      ≡ each (key_at (strings_of l.symbols.texts.items)) (table_seen l.table);
 }

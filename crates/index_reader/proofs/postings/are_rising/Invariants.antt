@@ -5,7 +5,9 @@ use Rattle.index_reader.specs.Layout.{rises}
 use Rattle.index_reader.proofs.postings.are_rising.Given as goal
 
 abbrev pub invariant-loop-at : goal.invariant-loop-at
-invariant-loop-at l = (0 < l.at) × (rises nat_lt (drop (l.at - 1) (references_in l.bytes)) ≡ rises nat_lt (references_in l.bytes))
+invariant-loop-at l =
+    (0 < l.at) × (rises nat_lt (drop (l.at - 1) (references_in l.bytes))
+    ≡ rises nat_lt (references_in l.bytes))
 
 abbrev pub decreases-loop-at : goal.decreases-loop-at
 decreases-loop-at l = l.len - l.at

@@ -12,13 +12,25 @@ loop-at-init c = rw c.in_ok-lists.ensures.items (items_nil _)
 
 pub returns-in_err-list : goal.returns-in_err-list
 returns-in_err-list c =
-    let p = err_from_is_err_and c.from_residual-in_err-list.result c.from_residual-in_err-list.ensures.1 in
-    rw (p.1, p.2) (each_fails references_at c.in_err-list.field-0.0 (bytes_of c.args.contents.now) c.loop-at.at _ (bytes_of c.loop-at.lists.items) _ c.slice_at.ensures c.in_err-list.ensures c.loop-at.invariant)
+    let p =
+    err_from_is_err_and c.from_residual-in_err-list.result c.from_residual-in_err-list.ensures.1 in
+    rw (p.1, p.2)
+    (each_fails references_at c.in_err-list.field-0.0 (bytes_of c.args.contents.now) c.loop-at.at _
+    (bytes_of c.loop-at.lists.items) _ c.slice_at.ensures c.in_err-list.ensures c.loop-at.invariant)
 
 pub loop-at-preserved : goal.loop-at-preserved
 loop-at-preserved c =
-    let e : bytes_of c.push.new.self.items ≡ bytes_of c.loop-at.lists.items ++ c.in_ok-list.list.now ∷ [] = rw c.in_ok-push.ensures.items (map_push (λ (x : Bor (List ℕ)). x.now) c.loop-at.lists.items c.in_ok-list.list) in
-    rw e (each_on references_at (bytes_of c.args.contents.now) c.loop-at.at _ c.in_ok-list.list.now (bytes_of c.loop-at.lists.items) _ c.slice_at.ensures c.in_ok-list.ensures c.loop-at.invariant)
+    let e : bytes_of c.push.new.self.items
+    ≡ bytes_of c.loop-at.lists.items ++ c.in_ok-list.list.now ∷ [] =
+    rw c.in_ok-push.ensures.items
+    (map_push (λ (x : Bor (List ℕ)). x.now) c.loop-at.lists.items c.in_ok-list.list) in
+    rw e (each_on references_at (bytes_of c.args.contents.now) c.loop-at.at _ c.in_ok-list.list.now
+    (bytes_of c.loop-at.lists.items) _ c.slice_at.ensures c.in_ok-list.ensures c.loop-at.invariant)
 
 pub returns : goal.returns
-returns c = each_done references_at (bytes_of c.args.contents.now) c.loop-at.at (bytes_of c.loop-at.lists.items) _ (omega (arith, length-map c.args.contents.now (λ (x : Bor (List ℕ)). x.now))) c.loop-at.invariant
+returns c =
+    each_done references_at (bytes_of c.args.contents.now) c.loop-at.at
+    (bytes_of c.loop-at.lists.items) _ (omega (
+      arith,
+      length-map c.args.contents.now (λ (x : Bor (List ℕ)). x.now),
+    )) c.loop-at.invariant

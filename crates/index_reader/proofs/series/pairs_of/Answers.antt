@@ -13,15 +13,31 @@ loop-at-init c = rw c.in_ok-pairs.ensures.items refl
 
 pub pair_of-requires : goal.pair_of-requires
 pair_of-requires c =
-    let o = all_here (λ (l : Label). (l.0 < length (strings_of c.args.symbols.now.texts.items)) × (l.1 < length (strings_of c.args.symbols.now.texts.items))) c.args.labels.now c.loop-at.at _ c.requires c.key_in-label.ensures in
+    let o =
+    all_here (λ (l : Label). (l.0 < length (strings_of c.args.symbols.now.texts.items))
+    × (l.1 < length (strings_of c.args.symbols.now.texts.items))) c.args.labels.now c.loop-at.at _
+    c.requires c.key_in-label.ensures in
     let n = length-map c.args.symbols.now.texts.items (λ s. string_bytes s) in
     (omega (arith, o.0, n), omega (arith, o.1, n))
 
 pub loop-at-preserved : goal.loop-at-preserved
 loop-at-preserved c =
     let l = c.loop-at in
-    let e : texts_of c.push.new.self.items ≡ texts_of l.pairs.items ++ (c.pair_of.result.0.now, c.pair_of.result.1.now) ∷ [] = rw c.in_ok-push.ensures.items (map_push (λ p. (p.0.now, p.1.now)) l.pairs.items c.pair_of.result) in
-    rw e (moved_on (texts_of l.pairs.items) (named (strings_of c.args.symbols.now.texts.items) c.args.labels.now) l.at _ _ (mapped_at (text_of (strings_of c.args.symbols.now.texts.items)) c.args.labels.now l.at _ c.key_in-label.ensures) c.pair_of.ensures l.invariant)
+    let e : texts_of c.push.new.self.items ≡ texts_of l.pairs.items ++ (
+      c.pair_of.result.0.now,
+      c.pair_of.result.1.now,
+    ) ∷ [] = rw c.in_ok-push.ensures.items (map_push (λ p. (
+      p.0.now,
+      p.1.now,
+    )) l.pairs.items c.pair_of.result) in
+    rw e (moved_on (texts_of l.pairs.items) (named (strings_of c.args.symbols.now.texts.items)
+    c.args.labels.now) l.at _ _ (mapped_at (text_of (strings_of c.args.symbols.now.texts.items))
+    c.args.labels.now l.at _ c.key_in-label.ensures) c.pair_of.ensures l.invariant)
 
 pub returns : goal.returns
-returns c = ended_so (texts_of c.loop-at.pairs.items) (named (strings_of c.args.symbols.now.texts.items) c.args.labels.now) c.loop-at.at (omega (arith, length-map c.args.labels.now (text_of (strings_of c.args.symbols.now.texts.items)))) c.loop-at.invariant
+returns c =
+    ended_so (texts_of c.loop-at.pairs.items)
+    (named (strings_of c.args.symbols.now.texts.items) c.args.labels.now) c.loop-at.at (omega (
+      arith,
+      length-map c.args.labels.now (text_of (strings_of c.args.symbols.now.texts.items)),
+    )) c.loop-at.invariant

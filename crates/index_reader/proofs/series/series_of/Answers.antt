@@ -23,16 +23,36 @@ loop-at-preserved c =
     let symbols = strings_of c.args.symbols.now.texts.items in
     let g = rw c.deref.ensures.value at c.row_at-row.ensures in
     let o = all_here (IsIn b.labels.items b.chunks.items) b.rows.items l.at _ c.requires.within g in
-    let t = all_here (λ (r : Row). AreInTable symbols (slice_range b.labels.items r.labels_start r.labels_end)) b.rows.items l.at _ c.requires.inside g in
-    let s = all_here (λ (r : Row). IsLabelSet (named symbols (slice_range b.labels.items r.labels_start r.labels_end))) b.rows.items l.at _ c.requires.labelled g in
+    let t =
+    all_here
+    (λ (r : Row). AreInTable symbols (slice_range b.labels.items r.labels_start r.labels_end))
+    b.rows.items l.at _ c.requires.inside g in
+    let s =
+    all_here (λ (r : Row).
+    IsLabelSet (named symbols (slice_range b.labels.items r.labels_start r.labels_end)))
+    b.rows.items l.at _ c.requires.labelled g in
     record {
-      within = rw (c.in_ok-push.ensures.items, c.of_row-one.ensures) (within_on symbols b.labels.items b.chunks.items l.series.items _ _ o t s l.invariant.within);
-      so_far = rw (c.in_ok-push.ensures.items, c.of_row-one.ensures) (series_on symbols b.labels.items b.chunks.items b.rows.items (entries_seen c.args.entries.now) l.series.items l.at _ _ g c.reference_at-reference.ensures (omega (arith, c.requires.counted, length-map c.args.entries.now entry_seen)) l.invariant.so_far);
+      within =
+          rw (c.in_ok-push.ensures.items, c.of_row-one.ensures) (within_on symbols b.labels.items
+          b.chunks.items l.series.items _ _ o t s l.invariant.within);
+      so_far =
+          rw (c.in_ok-push.ensures.items, c.of_row-one.ensures) (series_on symbols b.labels.items
+          b.chunks.items b.rows.items (entries_seen c.args.entries.now) l.series.items l.at _ _ g
+          c.reference_at-reference.ensures (omega (
+            arith,
+            c.requires.counted,
+            length-map c.args.entries.now entry_seen,
+          )) l.invariant.so_far);
     }
 
 pub returns-clause-exact : goal.returns-clause-exact
 returns-clause-exact c =
     let b = c.args.bodies.now in
     let n = length-map c.args.entries.now entry_seen in
-    let s = series_counted (strings_of c.args.symbols.now.texts.items) b.labels.items b.chunks.items b.rows.items (entries_seen c.args.entries.now) (omega (arith, n, c.requires.counted)) in
-    ended_so (all_in (strings_of c.args.symbols.now.texts.items) b.labels.items b.chunks.items c.loop-at.series.items) (series_of (strings_of c.args.symbols.now.texts.items) (entries_seen c.args.entries.now) (bodies_in b.labels.items b.chunks.items b.rows.items)) c.loop-at.at (omega (arith, s)) c.loop-at.invariant.so_far
+    let s =
+    series_counted (strings_of c.args.symbols.now.texts.items) b.labels.items b.chunks.items
+    b.rows.items (entries_seen c.args.entries.now) (omega (arith, n, c.requires.counted)) in
+    ended_so (all_in (strings_of c.args.symbols.now.texts.items) b.labels.items b.chunks.items
+    c.loop-at.series.items) (series_of (strings_of c.args.symbols.now.texts.items)
+    (entries_seen c.args.entries.now) (bodies_in b.labels.items b.chunks.items b.rows.items))
+    c.loop-at.at (omega (arith, s)) c.loop-at.invariant.so_far

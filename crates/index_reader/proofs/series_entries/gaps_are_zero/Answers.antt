@@ -8,21 +8,34 @@ use Rattle.index_reader.specs.Seen.{entry_seen, entries_seen}
 use Rattle.index_reader.proofs.Gaps.{gap_step, gap_end}
 use Rattle.index_reader.proofs.series_entries.gaps_are_zero.Goals as goal
 
-offset_inside : (entries : List SeriesEntry) (len i : ℕ) (e : SeriesEntry) → All (λ (x : SeriesEntry). x.offset ≤ len) entries → i < length entries → slice_get entries i ≡ Some e → e.offset ≤ len
+offset_inside : (entries : List SeriesEntry) (len i : ℕ) (e : SeriesEntry)
+    → All (λ (x : SeriesEntry). x.offset ≤ len) entries → i < length entries
+    → slice_get entries i ≡ Some e → e.offset ≤ len
 offset_inside entries len i e h lt g = rw (get_or_from_slice_get entries i e e g) at (h i e lt)
 
 pub zero_between-requires : goal.zero_between-requires
-zero_between-requires c = offset_inside c.args.entries.now (length c.args.file.now) c.loop-at.at _ c.requires.inside c.loop-at-test.true c.entry_at-entry.ensures.value
+zero_between-requires c =
+    offset_inside c.args.entries.now (length c.args.file.now) c.loop-at.at _ c.requires.inside
+    c.loop-at-test.true c.entry_at-entry.ensures.value
 
 pub returns-then-not-zero_between : goal.returns-then-not-zero_between
 returns-then-not-zero_between c =
-    let n = gap_step c.args.file.now c.args.end c.loop-at.from (entries_seen c.args.entries.now) c.loop-at.at _ c.zero_between.result _ c.entry_at-entry.ensures.seen c.zero_between.ensures c.loop-at.invariant in
+    let n =
+    gap_step c.args.file.now c.args.end c.loop-at.from (entries_seen c.args.entries.now)
+    c.loop-at.at _ c.zero_between.result _ c.entry_at-entry.ensures.seen c.zero_between.ensures
+    c.loop-at.invariant in
     sym (rw c.if-not-zero_between.true at n)
 
 pub loop-at-preserved : goal.loop-at-preserved
 loop-at-preserved c =
-    let n = gap_step c.args.file.now c.args.end c.loop-at.from (entries_seen c.args.entries.now) c.loop-at.at _ c.zero_between.result _ c.entry_at-entry.ensures.seen c.zero_between.ensures c.loop-at.invariant in
+    let n =
+    gap_step c.args.file.now c.args.end c.loop-at.from (entries_seen c.args.entries.now)
+    c.loop-at.at _ c.zero_between.result _ c.entry_at-entry.ensures.seen c.zero_between.ensures
+    c.loop-at.invariant in
     sym (rw c.if-not-zero_between.false at n)
 
 pub returns : goal.returns
-returns c = c.zero_between-2.ensures ∙ gap_end c.args.file.now c.args.end c.loop-at.from (entries_seen c.args.entries.now) c.loop-at.at _ (omega (arith, length-map c.args.entries.now entry_seen)) c.loop-at.invariant
+returns c =
+    c.zero_between-2.ensures
+    ∙ gap_end c.args.file.now c.args.end c.loop-at.from (entries_seen c.args.entries.now)
+    c.loop-at.at _ (omega (arith, length-map c.args.entries.now entry_seen)) c.loop-at.invariant

@@ -5,4 +5,6 @@ use Rattle.index_reader.proofs.Placing.{mapped_at}
 use Rattle.index_reader.proofs.series_entries.reference_at.Goals as goal
 
 pub returns : goal.returns
-returns c = mapped_at (λ (p : SeriesEntry). p.offset / 16) (entries_seen c.args.entries.now) c.args.i _ c.entry_at-entry.ensures.seen
+returns c =
+    mapped_at (λ (p : SeriesEntry). p.offset / 16) (entries_seen c.args.entries.now) c.args.i _
+    c.entry_at-entry.ensures.seen

@@ -12,7 +12,8 @@ use Rattle.index_reader.proofs.symbols.find_symbol.Goals as goal
 strict : (xs : List (List ℕ)) → ascending xs ≡ true → Strict text_cmp xs
 strict xs h = strict_from_rises text_cmp nat_list_cmp_total xs (sym (ascending_is xs) ∙ h)
 
-past : {X : Type 0} {C : Type 0} (xs : List X) (k : ℕ) (a : X) → length xs ≤ k → slice_get xs k ≡ Some a → C
+past : {X : Type 0} {C : Type 0} (xs : List X) (k : ℕ) (a : X) → length xs ≤ k
+    → slice_get xs k ≡ Some a → C
 past xs k a le g = let e = slice_get_past xs k le in absurd cc
 
 pub loop-low-init : goal.loop-low-init
@@ -31,7 +32,10 @@ loop-low-preserved-in-Less c =
     record {
       ordered = omega arith;
       inside = l.invariant.inside;
-      below = below_middle text_cmp nat_list_cmp_total (strings_of c.args.symbols.now.texts.items) c.args.text.now _ (l.low + (l.high - l.low) / 2) (strict _ c.args.symbols.now.order) c.bytes_at.ensures (sym c.cmp.ensures ∙ c.in-Less.is);
+      below =
+          below_middle text_cmp nat_list_cmp_total (strings_of c.args.symbols.now.texts.items)
+          c.args.text.now _ (l.low + (l.high - l.low) / 2) (strict _ c.args.symbols.now.order)
+          c.bytes_at.ensures (sym c.cmp.ensures ∙ c.in-Less.is);
       above = l.invariant.above;
     }
 
@@ -42,15 +46,21 @@ loop-low-preserved c =
       ordered = omega arith;
       inside = omega arith;
       below = l.invariant.below;
-      above = above_middle text_cmp nat_list_cmp_total (strings_of c.args.symbols.now.texts.items) c.args.text.now _ (l.low + (l.high - l.low) / 2) (strict _ c.args.symbols.now.order) c.bytes_at.ensures (sym c.cmp.ensures ∙ c.in-Greater.is);
+      above =
+          above_middle text_cmp nat_list_cmp_total (strings_of c.args.symbols.now.texts.items)
+          c.args.text.now _ (l.low + (l.high - l.low) / 2) (strict _ c.args.symbols.now.order)
+          c.bytes_at.ensures (sym c.cmp.ensures ∙ c.in-Greater.is);
     }
 
 pub returns-in-Equal-clause-exact : goal.returns-in-Equal-clause-exact
 returns-in-Equal-clause-exact c =
     let l = c.loop-low in
-    sym (search_found text_cmp nat_list_cmp_total (strings_of c.args.symbols.now.texts.items) c.args.text.now _ (l.low + (l.high - l.low) / 2) (strict _ c.args.symbols.now.order) c.bytes_at.ensures (sym c.cmp.ensures ∙ c.in-Equal.is))
+    sym (search_found text_cmp nat_list_cmp_total (strings_of c.args.symbols.now.texts.items)
+    c.args.text.now _ (l.low + (l.high - l.low) / 2) (strict _ c.args.symbols.now.order)
+    c.bytes_at.ensures (sym c.cmp.ensures ∙ c.in-Equal.is))
 
 pub returns-clause-exact : goal.returns-clause-exact
 returns-clause-exact c =
     let l = c.loop-low in
-    sym (search_none text_cmp (strings_of c.args.symbols.now.texts.items) c.args.text.now l.low l.high (omega arith) l.invariant.below l.invariant.above)
+    sym (search_none text_cmp (strings_of c.args.symbols.now.texts.items) c.args.text.now l.low
+    l.high (omega arith) l.invariant.below l.invariant.above)

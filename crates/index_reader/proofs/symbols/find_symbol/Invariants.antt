@@ -9,8 +9,10 @@ abbrev pub invariant-loop-low : goal.invariant-loop-low
 invariant-loop-low l = record {
   ordered : l.low ≤ l.high;
   inside : l.high ≤ length l.symbols.texts.items;
-  below : (k : ℕ) (a : List ℕ) → k < l.low → slice_get (strings_of l.symbols.texts.items) k ≡ Some a → text_cmp a l.text ≡ Less;
-  above : (k : ℕ) (a : List ℕ) → l.high ≤ k → slice_get (strings_of l.symbols.texts.items) k ≡ Some a → text_cmp a l.text ≡ Greater;
+  below : (k : ℕ) (a : List ℕ) → k < l.low → slice_get (strings_of l.symbols.texts.items) k ≡ Some a
+      → text_cmp a l.text ≡ Less;
+  above : (k : ℕ) (a : List ℕ) → l.high ≤ k
+      → slice_get (strings_of l.symbols.texts.items) k ≡ Some a → text_cmp a l.text ≡ Greater;
 }
 
 abbrev pub decreases-loop-low : goal.decreases-loop-low

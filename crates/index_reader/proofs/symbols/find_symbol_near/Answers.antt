@@ -13,6 +13,9 @@ strict xs h = strict_from_rises text_cmp nat_list_cmp_total xs (sym (ascending_i
 pub returns-then-matches-clause-exact : goal.returns-then-matches-clause-exact
 returns-then-matches-clause-exact c =
     elim c.match-matches.branch [
-      | in-Equal w ↦ sym (search_found text_cmp nat_list_cmp_total (strings_of c.args.symbols.now.texts.items) c.args.text.now _ _ (strict _ c.args.symbols.now.order) c.bytes_at.ensures (sym c.cmp.ensures ∙ w.in-Equal.is))
+      | in-Equal w ↦
+          sym (search_found text_cmp nat_list_cmp_total (strings_of c.args.symbols.now.texts.items)
+          c.args.text.now _ _ (strict _ c.args.symbols.now.order) c.bytes_at.ensures
+          (sym c.cmp.ensures ∙ w.in-Equal.is))
       | in_default w ↦ absurd (let e = w.matches-is in let f = c.if-matches.true in cc)
     ]

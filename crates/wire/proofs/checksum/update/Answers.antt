@@ -7,8 +7,12 @@ use Rattle.wire.proofs.checksum.update.Goals as goal
 pub loop-at-2-preserved : goal.loop-at-2-preserved
 loop-at-2-preserved c =
     let l = c.loop-at-2 in
-    let xs = c.args.bytes.now in
-    (omega arith, ap (λ r. register r (drop (l.at + 1) xs)) c.step-state.ensures ∙ sym (register_step l.state xs l.at c.loop-at-2-test.true) ∙ l.invariant.1)
+    let xs = c.args.bytes.now in (
+      omega arith,
+      ap (λ r. register r (drop (l.at + 1) xs)) c.step-state.ensures
+          ∙ sym (register_step l.state xs l.at c.loop-at-2-test.true)
+          ∙ l.invariant.1,
+    )
 
 pub returns : goal.returns
 returns c =

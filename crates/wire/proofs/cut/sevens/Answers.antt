@@ -7,41 +7,61 @@ use Rattle.wire.proofs.Loops.{with_low_one, with_low, with_low-below, next_weigh
 use Rattle.wire.proofs.cut.sevens.Goals as goal
 
 -- how the invariant answers, by what stands next
-ends : (place low : ℕ) (rest text : List ℕ) (whole read : Result (ℕ × List ℕ) WireError) → rest ≡ text → groups_at place text ≡ read → with_low (2 ^ (7 * place)) low (groups_at place rest) ≡ whole
+ends : (place low : ℕ) (rest text : List ℕ) (whole read : Result (ℕ × List ℕ) WireError)
+    → rest ≡ text → groups_at place text ≡ read
+    → with_low (2 ^ (7 * place)) low (groups_at place rest) ≡ whole
     → whole ≡ with_low (2 ^ (7 * place)) low read
-ends place low rest text whole read e r h = sym h ∙ ap (λ (t : List ℕ). with_low (2 ^ (7 * place)) low (groups_at place t)) e ∙ ap (with_low (2 ^ (7 * place)) low) r
+ends place low rest text whole read e r h =
+    sym h
+    ∙ ap (λ (t : List ℕ). with_low (2 ^ (7 * place)) low (groups_at place t)) e
+    ∙ ap (with_low (2 ^ (7 * place)) low) r
 
 pub loop-place-init : goal.loop-place-init
 unfolding uvarint_at
-loop-place-init c = record { few = omega arith; low = omega arith; so_far = with_low_one (groups_at 0 c.args.bytes.now) }
+loop-place-init c = record {
+  few = omega arith;
+  low = omega arith;
+  so_far = with_low_one (groups_at 0 c.args.bytes.now);
+}
 
 pub returns-in_default : goal.returns-in_default
 returns-in_default c =
     let l = c.loop-place in
-    ends l.place l.low l.rest.now [] _ _ (nil_from_length l.rest.now c.in_default.ensures.cases) (empty_is l.place) l.invariant.so_far
+    ends l.place l.low l.rest.now [] _ _ (nil_from_length l.rest.now c.in_default.ensures.cases)
+    (empty_is l.place) l.invariant.so_far
 
 pub returns-then-too_big : goal.returns-then-too_big
 returns-then-too_big c =
     let l = c.loop-place in
-    ends l.place l.low l.rest.now _ _ _ c.in-Some.ensures.cases.0 (too_big_is l.place c.in-Some.first.now c.in-Some.after.now c.if-too_big.true) l.invariant.so_far
+    ends l.place l.low l.rest.now _ _ _ c.in-Some.ensures.cases.0 (too_big_is l.place
+    c.in-Some.first.now c.in-Some.after.now c.if-too_big.true) l.invariant.so_far
 
 pub returns-then-long_form : goal.returns-then-long_form
 returns-then-long_form c =
     let l = c.loop-place in
-    ends l.place l.low l.rest.now _ _ _ c.in-Some.ensures.cases.0 (long_form_is l.place c.in-Some.first.now c.in-Some.after.now c.if-too_big.false c.if-byte-lt128.true c.if-long_form.true) l.invariant.so_far
+    ends l.place l.low l.rest.now _ _ _ c.in-Some.ensures.cases.0
+    (long_form_is l.place c.in-Some.first.now c.in-Some.after.now c.if-too_big.false
+    c.if-byte-lt128.true c.if-long_form.true) l.invariant.so_far
 
 pub overflow_add-result : goal.overflow_add-result
 overflow_add-result c =
     let l = c.loop-place in
-    let g = group_at_place l.low c.in-Some.first.now l.place c.loop-place-test.true c.if-byte-lt128.true c.if-too_big.false l.invariant.low in
+    let g =
+    group_at_place l.low c.in-Some.first.now l.place c.loop-place-test.true c.if-byte-lt128.true
+    c.if-too_big.false l.invariant.low in
     rw (c.from.ensures, g.0) (omega (arith, g.1))
 
 pub returns-then-byte-lt128 : goal.returns-then-byte-lt128
 returns-then-byte-lt128 c =
     let l = c.loop-place in
     let b = c.in-Some.first.now in
-    let g = group_at_place l.low b l.place c.loop-place-test.true c.if-byte-lt128.true c.if-too_big.false l.invariant.low in
-    let e = ends l.place l.low l.rest.now _ _ _ c.in-Some.ensures.cases.0 (last_is l.place b c.in-Some.after.now c.if-too_big.false c.if-byte-lt128.true c.if-long_form.false) l.invariant.so_far in
+    let g =
+    group_at_place l.low b l.place c.loop-place-test.true c.if-byte-lt128.true
+    c.if-too_big.false l.invariant.low in
+    let e =
+    ends l.place l.low l.rest.now _ _ _ c.in-Some.ensures.cases.0 (last_is l.place b
+    c.in-Some.after.now c.if-too_big.false c.if-byte-lt128.true c.if-long_form.false)
+    l.invariant.so_far in
     rw (c.from.ensures, g.0, mul_comm b (2 ^ (7 * l.place))) e
 
 -- a byte that the number goes on after
@@ -51,7 +71,8 @@ record Goes (low b place : ℕ) : Type 0 where
   fits : low + (b - 128) * 2 ^ (7 * place) < 2 ^ 64
   below_next : low + (b - 128) * 2 ^ (7 * place) < 2 ^ (7 * (place + 1))
 
-goes : (low b place : ℕ) → place < 10 → 128 ≤ b → b < 256 → (eqb place 9 && ltb 1 b) ≡ false → low < 2 ^ (7 * place) → Goes low b place
+goes : (low b place : ℕ) → place < 10 → 128 ≤ b → b < 256 → (eqb place 9 && ltb 1 b) ≡ false
+    → low < 2 ^ (7 * place) → Goes low b place
 goes low b place lt le small h under =
     let p = place_below place b lt le h in
     let e : 7 * (place + 1) ≡ 7 + 7 * place = omega arith in
@@ -65,18 +86,27 @@ goes low b place lt le small h under =
 pub overflow_add-low : goal.overflow_add-low
 overflow_add-low c =
     let l = c.loop-place in
-    let g = goes l.low c.in-Some.first.now l.place c.loop-place-test.true c.if-byte-lt128.false (omega arith) c.if-too_big.false l.invariant.low in
+    let g =
+    goes l.low c.in-Some.first.now l.place c.loop-place-test.true c.if-byte-lt128.false
+    (omega arith) c.if-too_big.false l.invariant.low in
     rw (c.from-in-loop-place.ensures, g.whole) (omega (arith, g.fits))
 
 pub loop-place-preserved : goal.loop-place-preserved
 loop-place-preserved c =
     let l = c.loop-place in
     let b = c.in-Some.first.now in
-    let g = goes l.low b l.place c.loop-place-test.true c.if-byte-lt128.false (omega arith) c.if-too_big.false l.invariant.low in
-    let e = ends l.place l.low l.rest.now _ _ _ c.in-Some.ensures.cases.0 (goes_on l.place b c.in-Some.after.now c.if-too_big.false c.if-byte-lt128.false) l.invariant.so_far in
+    let g =
+    goes l.low b l.place c.loop-place-test.true c.if-byte-lt128.false (omega arith)
+    c.if-too_big.false l.invariant.low in
+    let e =
+    ends l.place l.low l.rest.now _ _ _ c.in-Some.ensures.cases.0 (goes_on l.place b
+    c.in-Some.after.now c.if-too_big.false c.if-byte-lt128.false) l.invariant.so_far in
     rw (c.from-in-loop-place.ensures, g.whole)
     (record {
       few = omega (arith, g.place_below);
       low = g.below_next;
-      so_far = rw (next_weight l.place) (sym (e ∙ with_low-below (2 ^ (7 * l.place)) l.low (b - 128) (groups_at (l.place + 1) c.in-Some.after.now)));
+      so_far =
+          rw (next_weight l.place) (sym (e
+          ∙ with_low-below (2 ^ (7 * l.place)) l.low (b - 128)
+          (groups_at (l.place + 1) c.in-Some.after.now)));
     })

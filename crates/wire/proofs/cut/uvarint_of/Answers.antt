@@ -14,4 +14,6 @@ is_found view (Ok x) bytes fits h = (uvarint_takes bytes (view x).0 (view x).1 f
 is_found view (Err e) bytes fits h = tt
 
 pub returns-clause-found : goal.returns-clause-found
-returns-clause-found c = is_found (λ x. (x.0, x.1.now)) c.sevens.result c.args.bytes.now (λ i. omega (arith, c.type_inv.bytes i)) c.sevens.ensures
+returns-clause-found c =
+    is_found (λ x. (x.0, x.1.now)) c.sevens.result c.args.bytes.now
+    (λ i. omega (arith, c.type_inv.bytes i)) c.sevens.ensures

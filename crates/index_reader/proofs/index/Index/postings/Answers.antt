@@ -9,11 +9,19 @@ use Rattle.index_reader.proofs.index.Index.postings.Goals as goal
 pub returns-in_default-clause-none : goal.returns-in_default-clause-none
 returns-in_default-clause-none c =
     let a = c.in_default.ensures.absent in
-    subst (λ (ss : List indexes.Series). references_with c.args.name.now c.args.value.now ss ≡ []) (ap (λ (y : Indexed). y.series) c.self.view_is) (c.self.invariant.listing.absent c.args.name.now c.args.value.now a)
+    subst (λ (ss : List indexes.Series). references_with c.args.name.now c.args.value.now ss ≡ [])
+    (ap (λ (y : Indexed). y.series) c.self.view_is)
+    (c.self.invariant.listing.absent c.args.name.now c.args.value.now a)
 
 pub returns-clause-listed : goal.returns-clause-listed
 returns-clause-listed c =
     let x = c.self.inside in
     let f = c.in-Some.ensures.found in
-    subst (λ (ss : List indexes.Series). c.entries_at.result ≡ (references_with c.args.name.now c.args.value.now ss, 0)) (ap (λ (y : Indexed). y.series) c.self.view_is)
-    (listed_entry (strings_of x.symbols.texts.items) x.keys.pairs.items (all_in (strings_of x.symbols.texts.items) x.labels.items x.chunks.items x.series.items) x.lists c.self.invariant.listing c.args.name.now c.args.value.now c.in-Some.at f.0 f.1 c.entries_at.result c.entries_at.ensures.list c.entries_at.ensures.unread)
+    subst (λ (ss : List indexes.Series). c.entries_at.result ≡ (
+      references_with c.args.name.now c.args.value.now ss,
+      0,
+    )) (ap (λ (y : Indexed). y.series) c.self.view_is)
+    (listed_entry (strings_of x.symbols.texts.items) x.keys.pairs.items
+    (all_in (strings_of x.symbols.texts.items) x.labels.items x.chunks.items x.series.items) x.lists
+    c.self.invariant.listing c.args.name.now c.args.value.now c.in-Some.at f.0 f.1
+    c.entries_at.result c.entries_at.ensures.list c.entries_at.ensures.unread)
