@@ -45,16 +45,19 @@ pub record IsBatch (samples : List (ℤ × ℤ)) : Type 0 where
   pub times : T (list_all (λ s. in_range MIN_TIME MAX_TIME s.0) samples)
   pub values : AllByRecursion (λ s. FitsSigned w64 s.1) samples
 
--- the upper 32 bits of a reference are the number of a segment file, from 0; the lower 32 are a place in it
+-- the upper 32 bits of a reference are the number of a segment file, from 0; the lower 32 are a
+-- place in it
 abbrev pub segment_of : ℕ → ℕ
 segment_of reference = reference / 2 ^ 32
 
--- the reference is of the first segment, which this file is; and at this place behind the head stands a chunk of these
--- samples, which begin and end at these times
-pub record IsChunk (file : List ℕ) (reference : ℕ) (mint maxt : ℤ) (samples : List (ℤ × ℤ)) : Type 0 where
+-- the reference is of the first segment, which this file is; and at this place behind the head
+-- stands a chunk of these samples, which begin and end at these times
+pub record IsChunk (file : List ℕ) (reference : ℕ) (mint maxt : ℤ)
+    (samples : List (ℤ × ℤ)) : Type 0 where
   pub segment : segment_of reference ≡ 0
   pub behind_head : 8 ≤ reference
-  pub stands : (rest : List ℕ) × (drop reference file ≡ chunk_text plain (body_text samples) ++ rest)
+  pub stands : (rest : List ℕ)
+      × (drop reference file ≡ chunk_text plain (body_text samples) ++ rest)
   pub batch : IsBatch samples
   pub first : time_at samples 0 ≡ mint
   pub last : time_at samples (length samples - 1) ≡ maxt

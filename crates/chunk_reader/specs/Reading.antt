@@ -12,7 +12,8 @@ use Rattle.chunk_reader.specs.declared.error.ChunkError.TheVariants.{Magic, Vers
 use Rattle.chunk_reader.specs.Grammar.{plain, segment_of, time_at}
 
 infixl 10 ◌>>=◌
-abbrev pub ◌>>=◌ : {A B : Type 0} → Result A ChunkError → (A → Result B ChunkError) → Result B ChunkError
+abbrev pub ◌>>=◌ : {A B : Type 0} → Result A ChunkError → (A → Result B ChunkError)
+    → Result B ChunkError
 (Ok x) >>= f = f x
 (Err e) >>= f = Err e
 
@@ -44,7 +45,8 @@ signed_at bytes = cast_signed w64 (big_number 8 bytes)
 -- this many samples
 unfoldable pub samples_from : ℕ → List ℕ → List (ℤ × ℤ)
 samples_from zero bytes = []
-samples_from (suc n) bytes = (signed_at bytes, signed_at (drop 8 bytes)) ∷ samples_from n (drop 16 bytes)
+samples_from (suc n) bytes =
+    (signed_at bytes, signed_at (drop 8 bytes)) ∷ samples_from n (drop 16 bytes)
 
 -- as many samples as the bytes hold
 abbrev pub samples_in : List ℕ → List (ℤ × ℤ)
@@ -59,7 +61,8 @@ rises before (s ∷ samples) = int_lt before s.0 && int_le s.0 MAX_TIME && rises
 unfoldable pub batch_in : List ℕ → Result (List (ℤ × ℤ)) ChunkError
 batch_in body =
     if nat_lt (length body) 2 then Err Shape
-    else if nat_lt 0 (big_number 2 body) && length body == 2 + 16 * big_number 2 body && rises (MIN_TIME -ℤ pos 1) (samples_in (drop 2 body)) then Ok (samples_in (drop 2 body))
+    else if nat_lt 0 (big_number 2 body) && length body == 2 + 16 * big_number 2 body && rises
+    (MIN_TIME -ℤ pos 1) (samples_in (drop 2 body)) then Ok (samples_in (drop 2 body))
     else Err Shape
 
 unfoldable pub decoded : ℕ → List ℕ → Result (List (ℤ × ℤ)) ChunkError
@@ -70,11 +73,13 @@ decoded encoding body =
 
 -- whether the samples begin and end at these times
 abbrev pub spans : ℤ → ℤ → List (ℤ × ℤ) → Bool
-spans mint maxt samples = int_eq (time_at samples 0) mint && int_eq (time_at samples (length samples - 1)) maxt
+spans mint maxt samples =
+    int_eq (time_at samples 0) mint && int_eq (time_at samples (length samples - 1)) maxt
 
 -- whether a reference is of another segment, or of no place behind the head of this one
 abbrev pub is_outside : List ℕ → ℕ → Bool
-is_outside file reference = not (segment_of reference == 0) || nat_lt reference 8 || nat_le (length file) reference
+is_outside file reference =
+    not (segment_of reference == 0) || nat_lt reference 8 || nat_le (length file) reference
 
 unfoldable pub samples_of : List ℕ → ℕ → ℤ → ℤ → Result (List (ℤ × ℤ)) ChunkError
 samples_of file reference mint maxt =

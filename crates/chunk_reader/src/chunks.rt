@@ -50,8 +50,8 @@ impl Model for Chunks {
 impl Chunks {
     /// The chunks of a file.
     ///
-    /// `C7` where it is longer than 1,073,741,824 bytes; `C1` where it does not begin with `85 BD 40 DD`; `C2` where
-    /// `01 00 00 00` does not follow. No chunk is looked at.
+    /// `C7` where it is longer than 1,073,741,824 bytes; `C1` where it does not begin with
+    /// `85 BD 40 DD`; `C2` where `01 00 00 00` does not follow. No chunk is looked at.
     pub fn open(file: Vec<u8>) -> Result<Chunks, ChunkError>
         ensures exact { Answers (λ c. c) result (opened file.items) }
         ensures found { IfOk result (λ c. IsSegment c) }
@@ -61,25 +61,28 @@ impl Chunks {
         Ok(Chunks { file })
     }
 
-    /// The samples of the chunk at `reference`, in place. It takes time in proportion to the chunk, and no memory.
+    /// The samples of the chunk at `reference`, in place. It takes time in proportion to the chunk,
+    /// and no memory.
     ///
-    /// `C3` where the upper 32 bits of the reference are not 0, or it is below 8 or not below the file's length; `C4` where the chunk's length is not
-    /// spelled, its end is above the file's, or its checksum is wrong; `C5` where the encoding is XOR, `C6` where it is
-    /// neither XOR nor `E0`; `C7` where the count is 0 or not that of the body, or times do not ascend strictly or are
-    /// outside [`MIN_TIME`](labels::MIN_TIME) to [`MAX_TIME`](labels::MAX_TIME); `C8` where the first time is not
-    /// `mint` or the last is not `maxt`. The first of these is answered.
+    /// `C3` where the upper 32 bits of the reference are not 0, or it is below 8 or not below the
+    /// file's length; `C4` where the chunk's length is not spelled, its end is above the file's, or
+    /// its checksum is wrong; `C5` where the encoding is XOR, `C6` where it is neither XOR nor
+    /// `E0`; `C7` where the count is 0 or not that of the body, or times do not ascend strictly or
+    /// are outside [`MIN_TIME`](labels::MIN_TIME) to [`MAX_TIME`](labels::MAX_TIME); `C8` where the
+    /// first time is not `mint` or the last is not `maxt`. The first of these is answered.
     pub fn find(&self, reference: u64, mint: i64, maxt: i64) -> Result<Samples<'_>, ChunkError>
         ensures exact { Answers (λ s. s) result (samples_of self.now reference mint maxt) }
         ensures found { IfOk result (IsChunk self.now reference mint maxt) }
-        ensures only { (samples : List (ℤ × ℤ)) → IsChunk self.now reference mint maxt samples → result ≡ Ok samples }
+        ensures only { (samples : List (ℤ × ℤ)) → IsChunk self.now reference mint maxt samples
+            → result ≡ Ok samples }
         // The head of the file is sound.
         ensures segment { IsSegment self.now }
     {
         chunk_at(self.file.as_slice(), reference, mint, maxt)
     }
 
-    /// The samples of a chunk that [`Chunks::find`] is known to accept, in place, with none of its checks made again.
-    /// It takes a time that does not grow with the chunk, and no memory.
+    /// The samples of a chunk that [`Chunks::find`] is known to accept, in place, with none of its
+    /// checks made again. It takes a time that does not grow with the chunk, and no memory.
     pub fn stored(&self, reference: u64, mint: i64, maxt: i64) -> Samples<'_>
         requires known { (samples : List (ℤ × ℤ)) × IsChunk self.now reference mint maxt samples }
         ensures exact { samples_of self.now reference mint maxt ≡ Ok result }
@@ -98,7 +101,8 @@ impl Chunks {
     ) -> Result<Vec<Sample>, ChunkError>
         ensures exact { Gives (λ v. v.items) result (samples_of self.now reference mint maxt) }
         ensures found { IfOk result (λ v. IsChunk self.now reference mint maxt v.items) }
-        ensures only { (samples : List (ℤ × ℤ)) → IsChunk self.now reference mint maxt samples → Gives (λ v. v.items) result (Ok samples) }
+        ensures only { (samples : List (ℤ × ℤ)) → IsChunk self.now reference mint maxt samples
+            → Gives (λ v. v.items) result (Ok samples) }
     {
         let samples = self.find(reference, mint, maxt)?;
         Ok(samples.to_vec(alloc)?)
@@ -139,7 +143,8 @@ fn read_head(file: &[u8]) -> Result<(), ChunkError>
 fn chunk_at(file: &[u8], reference: u64, mint: i64, maxt: i64) -> Result<Samples<'_>, ChunkError>
     ensures exact { Answers (λ s. s) result (samples_of file.now reference mint maxt) }
     ensures found { IfOk result (IsChunk file.now reference mint maxt) }
-    ensures only { (samples : List (ℤ × ℤ)) → IsChunk file.now reference mint maxt samples → result ≡ Ok samples }
+    ensures only { (samples : List (ℤ × ℤ)) → IsChunk file.now reference mint maxt samples
+        → result ≡ Ok samples }
 {
     samples_of(file, reference, mint, maxt)
 }
@@ -229,8 +234,10 @@ fn batch_of(body: &[u8]) -> Result<Samples<'_>, ChunkError>
 ///
 /// The encoding's byte and the count, the three bytes before them, are not looked at.
 fn sample_bytes(file: &[u8], reference: u64) -> &[u8]
-    requires { (span : ℤ × ℤ) × (samples : List (ℤ × ℤ)) × IsChunk file.now reference span.0 span.1 samples }
-    ensures { (mint maxt : ℤ) (samples : List (ℤ × ℤ)) → IsChunk file.now reference mint maxt samples → result.now ≡ flat_map sample_text samples }
+    requires { (span : ℤ × ℤ) × (samples : List (ℤ × ℤ))
+        × IsChunk file.now reference span.0 span.1 samples }
+    ensures { (mint maxt : ℤ) (samples : List (ℤ × ℤ))
+        → IsChunk file.now reference mint maxt samples → result.now ≡ flat_map sample_text samples }
 {
     let (_, bytes) = file.split_at(reference as usize);
     let mut cut = Cut::new(bytes);

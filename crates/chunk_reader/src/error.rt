@@ -24,7 +24,8 @@ pub enum ChunkError {
     XorEncoding,
     /// `C6`: the encoding is neither XOR nor `E0`.
     OtherEncoding,
-    /// `C7`: the data is not of the form, times do not ascend strictly or are none, or the file is above 1 GiB.
+    /// `C7`: the data is not of the form, times do not ascend strictly or are none, or the file is
+    /// above 1 GiB.
     Shape,
     /// `C8`: the first or the last time is not the one asked for.
     TimesDisagree,

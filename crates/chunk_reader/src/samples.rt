@@ -8,7 +8,8 @@ use labels::{MAX_TIME, MIN_TIME, Sample};
 use std::alloc::{AllocError, Global};
 use std::marker::Model;
 
-/// Samples that stand one behind the other, sixteen bytes each, and are decoded as they are asked for.
+/// Samples that stand one behind the other, sixteen bytes each, and are decoded as they are asked
+/// for.
 #[derive(Drop)]
 pub struct Samples<'a> {
     bytes: &'a [u8],

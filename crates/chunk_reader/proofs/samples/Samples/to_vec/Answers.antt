@@ -4,4 +4,6 @@ use Rattle.chunk_reader.proofs.samples.Samples.to_vec.Goals as goal
 
 pub loop-i-preserved : goal.loop-i-preserved
 loop-i-preserved c =
-    c.in_ok-push.ensures.items ∙ ap (λ front. front ++ c.get.result ∷ []) c.loop-i.invariant ∙ sym (take_next c.args.self.now c.loop-i.i c.get.result c.get.ensures)
+    c.in_ok-push.ensures.items
+    ∙ ap (λ front. front ++ c.get.result ∷ []) c.loop-i.invariant
+    ∙ sym (take_next c.args.self.now c.loop-i.i c.get.result c.get.ensures)
