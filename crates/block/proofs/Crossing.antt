@@ -1,4 +1,5 @@
--- Threads may share a block: each type that it has may be shared, and moved where an `Arc` holds it.
+-- Threads may share a block: each type that it has may be shared, and moved where an `Arc` holds
+-- it.
 use denote.Param.Send.{IsSend, IsSync, sendable}
 use Rattle.std.proofs.Crossing as heap
 use Rattle.std.proofs.MapsCrossing as maps
@@ -70,10 +71,16 @@ pub Keys-sync : IsSync keys.the_field.row
 Keys-sync = search (sendable, heap.Vec-sync) depth 60 fits 20000
 
 pub Index-send : IsSend index.the_field.row
-Index-send = search (sendable, heap.Vec-send, Symbols-send, Keys-send, Place-send, IndexSeries-send, Lists-send) depth 60 fits 20000
+Index-send =
+    search
+    (sendable, heap.Vec-send, Symbols-send, Keys-send, Place-send, IndexSeries-send, Lists-send)
+    depth 60 fits 20000
 
 pub Index-sync : IsSync index.the_field.row
-Index-sync = search (sendable, heap.Vec-sync, Symbols-sync, Keys-sync, Place-sync, IndexSeries-sync, Lists-sync) depth 60 fits 20000
+Index-sync =
+    search
+    (sendable, heap.Vec-sync, Symbols-sync, Keys-sync, Place-sync, IndexSeries-sync, Lists-sync)
+    depth 60 fits 20000
 
 pub Files-send : IsSend files.the_field.row
 Files-send = search (sendable, Index-send, Chunks-send) depth 60 fits 20000
@@ -82,7 +89,9 @@ pub Files-sync : IsSync files.the_field.row
 Files-sync = search (sendable, Index-sync, Chunks-sync) depth 60 fits 20000
 
 pub Block-send : IsSend block.the_field.row
-Block-send = search (sendable, heap.Arc-send, Files-send, Files-sync, Tombstones-send) depth 60 fits 20000
+Block-send =
+    search (sendable, heap.Arc-send, Files-send, Files-sync, Tombstones-send) depth 60 fits 20000
 
 pub Block-sync : IsSync block.the_field.row
-Block-sync = search (sendable, heap.Arc-sync, Files-send, Files-sync, Tombstones-sync) depth 60 fits 20000
+Block-sync =
+    search (sendable, heap.Arc-sync, Files-send, Files-sync, Tombstones-sync) depth 60 fits 20000

@@ -30,9 +30,11 @@ use Rattle.block.proofs.Stages.{stage_ok, test_ok, tombstones_ok}
 
 -- chunks
 
-pub are_spelled : (file : List ℕ) (cs : List Chunk) → AllByRecursion (IsHeld file) cs → AreSpelled file cs (samples_in file cs)
+pub are_spelled : (file : List ℕ) (cs : List Chunk) → AllByRecursion (IsHeld file) cs
+    → AreSpelled file cs (samples_in file cs)
 are_spelled file [] held = refl
-are_spelled file (c ∷ cs) held = (chunk_samples file c, samples_in file cs, refl, held.0.stands, are_spelled file cs held.1)
+are_spelled file (c ∷ cs) held =
+    (chunk_samples file c, samples_in file cs, refl, held.0.stands, are_spelled file cs held.1)
 
 -- the chunks of all series are held, and each has few samples
 pub record AreHeld (file : List ℕ) (ss : List Series) : Type 0 where
@@ -41,29 +43,48 @@ pub record AreHeld (file : List ℕ) (ss : List Series) : Type 0 where
 
 -- deletions
 
-pub record AreKnown (tombstones : List ℕ) (ss : List Series) (deletions : List Deletion) : Type 0 where
+pub record AreKnown (tombstones : List ℕ) (ss : List Series)
+    (deletions : List Deletion) : Type 0 where
   pub deleted : IsTombstones tombstones deletions
   pub known : AllByRecursion (λ (d : Deletion). Contains (references ss) d.reference) deletions
 
-pub known_each : (ss : List Series) (deletions : List Deletion) → list_all (is_known ss) deletions ≡ true → AllByRecursion (λ (d : Deletion). Contains (references ss) d.reference) deletions
-known_each ss deletions h = weaken (λ d. is_known ss d ≡ true) (λ d. Contains (references ss) d.reference) (λ d e. known_in d ss e) deletions (all_pass (is_known ss) deletions h)
+pub known_each : (ss : List Series) (deletions : List Deletion)
+    → list_all (is_known ss) deletions ≡ true
+    → AllByRecursion (λ (d : Deletion). Contains (references ss) d.reference) deletions
+known_each ss deletions h =
+    weaken (λ d. is_known ss d ≡ true) (λ d. Contains (references ss) d.reference)
+    (λ d e. known_in d ss e) deletions (all_pass (is_known ss) deletions h)
 
-pub deleted_known : (tombstones : List ℕ) (ss : List Series) (deletions : List Deletion) → IsBytes tombstones → deleted_of tombstones ss ≡ Ok deletions → AreKnown tombstones ss deletions
+pub deleted_known : (tombstones : List ℕ) (ss : List Series) (deletions : List Deletion)
+    → IsBytes tombstones → deleted_of tombstones ss ≡ Ok deletions
+    → AreKnown tombstones ss deletions
 unfolding deleted_of
 deleted_known tombstones ss deletions fits h =
     let a = stage_ok (or_tombstones (deletions_of tombstones)) _ deletions h in
     let b = test_ok (list_all (is_known ss) a.0) UnknownSeries a.0 deletions a.2 in
-    subst (AreKnown tombstones ss) b.1 (record { deleted = tombstones_take tombstones a.0 fits (tombstones_ok (deletions_of tombstones) a.0 a.1); known = known_each ss a.0 b.0 })
+    subst (AreKnown tombstones ss) b.1 (record {
+      deleted =
+          tombstones_take tombstones a.0 fits (tombstones_ok (deletions_of tombstones) a.0 a.1);
+      known = known_each ss a.0 b.0;
+    })
 
 -- the range
 
-pub inside_each : (range : ℤ × ℤ) (ss : List Series) → list_all (is_inside range) ss ≡ true → AllByRecursion (λ (s : Series). AllByRecursion (λ (c : Chunk). lies_in range c ≡ true) s.chunks) ss
-inside_each range ss h = weaken (λ s. is_inside range s ≡ true) (λ s. AllByRecursion (λ (c : Chunk). lies_in range c ≡ true) s.chunks) (λ s e. all_pass (lies_in range) s.chunks e) ss (all_pass (is_inside range) ss h)
+pub inside_each : (range : ℤ × ℤ) (ss : List Series) → list_all (is_inside range) ss ≡ true
+    → AllByRecursion
+    (λ (s : Series). AllByRecursion (λ (c : Chunk). lies_in range c ≡ true) s.chunks) ss
+inside_each range ss h =
+    weaken (λ s. is_inside range s ≡ true)
+    (λ s. AllByRecursion (λ (c : Chunk). lies_in range c ≡ true) s.chunks)
+    (λ s e. all_pass (lies_in range) s.chunks e) ss (all_pass (is_inside range) ss h)
 
 -- the rows
 
-pub are_rows : (range : ℤ × ℤ) (file : List ℕ) (deletions : List Deletion) (ss : List Series) → AllByRecursion (λ (s : Series). AllByRecursion (IsHeld file) s.chunks) ss
-    → AllByRecursion (λ (s : Series). length (samples_in file s.chunks) ≤ 1048576) ss → AllByRecursion (λ (s : Series). AllByRecursion (λ (c : Chunk). lies_in range c ≡ true) s.chunks) ss
+pub are_rows : (range : ℤ × ℤ) (file : List ℕ) (deletions : List Deletion) (ss : List Series)
+    → AllByRecursion (λ (s : Series). AllByRecursion (IsHeld file) s.chunks) ss
+    → AllByRecursion (λ (s : Series). length (samples_in file s.chunks) ≤ 1048576) ss
+    → AllByRecursion
+    (λ (s : Series). AllByRecursion (λ (c : Chunk). lies_in range c ≡ true) s.chunks) ss
     → AreRows range file deletions ss (part_of file deletions ss)
 are_rows range file deletions [] held few inside = tt
 are_rows range file deletions (s ∷ ss) held few inside = (
@@ -93,12 +114,19 @@ opened_same file x h =
 
 -- the whole, of what the checks leave
 
-pub block_spelled : (range : ℤ × ℤ) (index chunks tombstones : List ℕ) (x : Indexed) (file : List ℕ) (deletions sorted : List Deletion) → IsBytes tombstones → IsIndex index x → opened chunks ≡ Ok file → IsSegment file
-    → AllByRecursion (AllByRecursion (IsHeld file)) (chunk_lists x.series) → list_all (have_few file) (chunk_lists x.series) ≡ true → deleted_of tombstones x.series ≡ Ok deletions → IsPermutation deletions sorted
-    → list_all (list_all (lies_in range)) (chunk_lists x.series) ≡ true → IsBlock range index chunks tombstones (part_of file sorted x.series)
-block_spelled range index chunks tombstones x file deletions sorted tombstones_fit indexed read segment held few deleted order inside =
+pub block_spelled : (range : ℤ × ℤ) (index chunks tombstones : List ℕ) (x : Indexed) (file : List ℕ)
+    (deletions sorted : List Deletion) → IsBytes tombstones → IsIndex index x
+    → opened chunks ≡ Ok file → IsSegment file
+    → AllByRecursion (AllByRecursion (IsHeld file)) (chunk_lists x.series)
+    → list_all (have_few file) (chunk_lists x.series) ≡ true
+    → deleted_of tombstones x.series ≡ Ok deletions → IsPermutation deletions sorted
+    → list_all (list_all (lies_in range)) (chunk_lists x.series) ≡ true
+    → IsBlock range index chunks tombstones (part_of file sorted x.series)
+block_spelled range index chunks tombstones x file deletions sorted tombstones_fit indexed read
+    segment held few deleted order inside =
     let known = deleted_known tombstones x.series deletions tombstones_fit deleted in
-    let few_each : AllByRecursion (λ (s : Series). is_few file s ≡ true) x.series = all_pass (is_few file) x.series (all_lists (have_few file) x.series ∙ few) in
+    let few_each : AllByRecursion (λ (s : Series). is_few file s ≡ true) x.series =
+    all_pass (is_few file) x.series (all_lists (have_few file) x.series ∙ few) in
     let whole : IsBlock range index file tombstones (part_of file deletions x.series) = record {
       x = x;
       indexed = indexed;
@@ -106,9 +134,14 @@ block_spelled range index chunks tombstones x file deletions sorted tombstones_f
       deletions = deletions;
       deleted = known.deleted;
       known = known.known;
-      rows = are_rows range file deletions x.series (facts_of_lists (AllByRecursion (IsHeld file)) x.series held)
-          (weaken (λ s. is_few file s ≡ true) (λ s. length (samples_in file s.chunks) ≤ 1048576) (λ s e. leb-true (length (samples_in file s.chunks)) 1048576 e) x.series few_each)
+      rows =
+          are_rows range file deletions x.series
+          (facts_of_lists (AllByRecursion (IsHeld file)) x.series held)
+          (weaken (λ s. is_few file s ≡ true) (λ s. length (samples_in file s.chunks) ≤ 1048576)
+          (λ s e. leb-true (length (samples_in file s.chunks)) 1048576 e) x.series few_each)
           (inside_each range x.series (all_lists (list_all (lies_in range)) x.series ∙ inside));
     } in
-    subst (λ (c : List ℕ). IsBlock range index c tombstones (part_of file sorted x.series)) (opened_same chunks file read)
-    (subst (IsBlock range index file tombstones) (part_any_order file deletions sorted order x.series) whole)
+    subst (λ (c : List ℕ). IsBlock range index c tombstones (part_of file sorted x.series))
+    (opened_same chunks file read)
+    (subst (IsBlock range index file tombstones)
+    (part_any_order file deletions sorted order x.series) whole)

@@ -28,33 +28,47 @@ use Rattle.block.proofs.Turns.{weaker, all_append, all_filter, is_below, is_upto
 
 -- references
 
-pub references_same : (file : List ℕ) (deletions : List Deletion) (ss : List Series) → references (part_of file deletions ss) ≡ indexes.references ss
+pub references_same : (file : List ℕ) (deletions : List Deletion) (ss : List Series)
+    → references (part_of file deletions ss) ≡ indexes.references ss
 references_same file deletions [] = refl
-references_same file deletions (s ∷ ss) = ap (λ (xs : List ℕ). s.reference ∷ xs) (references_same file deletions ss)
+references_same file deletions (s ∷ ss) =
+    ap (λ (xs : List ℕ). s.reference ∷ xs) (references_same file deletions ss)
 
-small_at : (ss : List Series) (r : ℕ) → ((k : ℕ) → k < length ss → get_or (indexes.references ss) k 0 < 4294967296) → Contains (indexes.references ss) r → r < 4294967296
+small_at : (ss : List Series) (r : ℕ)
+    → ((k : ℕ) → k < length ss → get_or (indexes.references ss) k 0 < 4294967296)
+    → Contains (indexes.references ss) r → r < 4294967296
 small_at ss r small held =
-    let size : length (indexes.references ss) ≡ length ss = length-map ss (λ (s : Series). s.reference) in
+    let size : length (indexes.references ss) ≡ length ss =
+    length-map ss (λ (s : Series). s.reference) in
     let lt : held.0 < length ss = omega (arith, size, held.1) in
-    let e : get_or (indexes.references ss) held.0 r ≡ get_or (indexes.references ss) held.0 0 = get_or_default (indexes.references ss) held.0 r 0 held.1 in
+    let e : get_or (indexes.references ss) held.0 r ≡ get_or (indexes.references ss) held.0 0 =
+    get_or_default (indexes.references ss) held.0 r 0 held.1 in
     omega (arith, small held.0 lt, e, held.2)
 
 -- label sets
 
-tail_ordered : (x : Labels) (xs : List Labels) → ((k : ℕ) → k + 1 < length (x ∷ xs) → labels_cmp (get_or (x ∷ xs) k []) (get_or (x ∷ xs) (k + 1) []) ≡ Less)
+tail_ordered : (x : Labels) (xs : List Labels) → ((k : ℕ) → k + 1 < length (x ∷ xs)
+    → labels_cmp (get_or (x ∷ xs) k []) (get_or (x ∷ xs) (k + 1) []) ≡ Less)
     → (k : ℕ) → k + 1 < length xs → labels_cmp (get_or xs k []) (get_or xs (k + 1) []) ≡ Less
 tail_ordered x xs h k lt =
     let n : suc k + 1 ≡ suc (k + 1) = omega arith in
-    subst (λ (m : ℕ). labels_cmp (get_or xs k []) (get_or (x ∷ xs) m []) ≡ Less) n (h (suc k) (omega arith))
+    subst (λ (m : ℕ). labels_cmp (get_or xs k []) (get_or (x ∷ xs) m []) ≡ Less) n
+    (h (suc k) (omega arith))
 
-less_each : (x : Labels) (xs : List Labels) → ((k : ℕ) → k + 1 < length (x ∷ xs) → labels_cmp (get_or (x ∷ xs) k []) (get_or (x ∷ xs) (k + 1) []) ≡ Less)
+less_each : (x : Labels) (xs : List Labels) → ((k : ℕ) → k + 1 < length (x ∷ xs)
+    → labels_cmp (get_or (x ∷ xs) k []) (get_or (x ∷ xs) (k + 1) []) ≡ Less)
     → AllByRecursion (λ (y : Labels). labels_cmp x y ≡ Less) xs
 less_each x [] h = tt
 less_each x (y ∷ ys) h =
-    let e : labels_cmp x y ≡ Less = h 0 (omega arith) in
-    (e, weaker (λ (z : Labels). labels_cmp y z ≡ Less) (λ (z : Labels). labels_cmp x z ≡ Less) (λ z p. labels_total.trans x y z e p) ys (less_each y ys (tail_ordered x (y ∷ ys) h)))
+    let e : labels_cmp x y ≡ Less = h 0 (omega arith) in (
+      e,
+      weaker (λ (z : Labels). labels_cmp y z ≡ Less) (λ (z : Labels). labels_cmp x z ≡ Less)
+          (λ z p. labels_total.trans x y z e p) ys (less_each y ys (tail_ordered x (y ∷ ys) h)),
+    )
 
-apart_from : (l : Labels) (file : List ℕ) (deletions : List Deletion) (ss : List Series) (other : ℕ × Row) → AllByRecursion (λ (y : Labels). labels_cmp l y ≡ Less) (label_sets ss) → Contains (part_of file deletions ss) other
+apart_from : (l : Labels) (file : List ℕ) (deletions : List Deletion) (ss : List Series)
+    (other : ℕ × Row) → AllByRecursion (λ (y : Labels). labels_cmp l y ≡ Less) (label_sets ss)
+    → Contains (part_of file deletions ss) other
     → same_labels l other.1.0 ≡ false
 apart_from l file deletions [] other less held = absurd (none_in_nil other held)
 apart_from l file deletions (s ∷ ss) other less held =
@@ -63,31 +77,52 @@ apart_from l file deletions (s ∷ ss) other less held =
       | inr rest ↦ apart_from l file deletions ss other less.1 rest
     ]
 
-distinct_in : (file : List ℕ) (deletions : List Deletion) (ss : List Series) → ((k : ℕ) → k + 1 < length (label_sets ss) → labels_cmp (get_or (label_sets ss) k []) (get_or (label_sets ss) (k + 1) []) ≡ Less)
+distinct_in : (file : List ℕ) (deletions : List Deletion) (ss : List Series)
+    → ((k : ℕ) → k + 1 < length (label_sets ss)
+    → labels_cmp (get_or (label_sets ss) k []) (get_or (label_sets ss) (k + 1) []) ≡ Less)
     → AreDistinct (part_of file deletions ss)
 distinct_in file deletions [] h = tt
-distinct_in file deletions (s ∷ ss) h =
-    (λ other held. apart_from s.labels file deletions ss other (less_each s.labels (label_sets ss) h) held, distinct_in file deletions ss (tail_ordered s.labels (label_sets ss) h))
+distinct_in file deletions (s ∷ ss) h = (
+  λ other held.
+      apart_from s.labels file deletions ss other (less_each s.labels (label_sets ss) h) held,
+  distinct_in file deletions ss (tail_ordered s.labels (label_sets ss) h),
+)
 
 -- times
 
-pub sorted_row : (range : ℤ × ℤ) (file : List ℕ) (deletions : List Deletion) (s : Series) → IsStored range file s → T (is_sorted int_cmp (undeleted deletions s.reference (samples_in file s.chunks)))
-sorted_row range file deletions s x = is_sorted-where_key int_cmp (λ (t : ℤ). not (covered deletions s.reference t)) (samples_in file s.chunks) (sorted_in file s.chunks x.in_turn x.held)
+pub sorted_row : (range : ℤ × ℤ) (file : List ℕ) (deletions : List Deletion) (s : Series)
+    → IsStored range file s
+    → T (is_sorted int_cmp (undeleted deletions s.reference (samples_in file s.chunks)))
+sorted_row range file deletions s x =
+    is_sorted-where_key int_cmp (λ (t : ℤ). not (covered deletions s.reference t))
+    (samples_in file s.chunks) (sorted_in file s.chunks x.in_turn x.held)
 
-sorted_rows : (range : ℤ × ℤ) (file : List ℕ) (deletions : List Deletion) (ss : List Series) → AllByRecursion (IsStored range file) ss → AllByRecursion (λ (row : ℕ × Row). T (is_sorted int_cmp row.1.1)) (part_of file deletions ss)
+sorted_rows : (range : ℤ × ℤ) (file : List ℕ) (deletions : List Deletion) (ss : List Series)
+    → AllByRecursion (IsStored range file) ss
+    → AllByRecursion (λ (row : ℕ × Row). T (is_sorted int_cmp row.1.1)) (part_of file deletions ss)
 sorted_rows range file deletions [] a = tt
-sorted_rows range file deletions (s ∷ ss) a = (sorted_row range file deletions s a.0, sorted_rows range file deletions ss a.1)
+sorted_rows range file deletions (s ∷ ss) a =
+    (sorted_row range file deletions s a.0, sorted_rows range file deletions ss a.1)
 
-pub is_part : (range : ℤ × ℤ) (file : List ℕ) (x : Indexed) (deletions : List Deletion) → IsSound range file x → IsPart (part_of file deletions x.series)
+pub is_part : (range : ℤ × ℤ) (file : List ℕ) (x : Indexed) (deletions : List Deletion)
+    → IsSound range file x → IsPart (part_of file deletions x.series)
 is_part range file x deletions sound =
     let same = references_same file deletions x.series in
-    let size : length (label_sets x.series) ≡ length x.series = length-map x.series (λ (s : Series). s.labels) in
+    let size : length (label_sets x.series) ≡ length x.series =
+    length-map x.series (λ (s : Series). s.labels) in
     record {
       ascending = subst IsStrictlyIncreasing (sym same) sound.consistent.ascending;
-      in_range = λ r held. small_at x.series r sound.consistent.small (subst (λ (xs : List ℕ). Contains xs r) same held);
-      distinct = distinct_in file deletions x.series (λ k lt. sound.consistent.in_order k (omega (arith, size, lt)));
-      times = λ row held. All-contains (λ (r : ℕ × Row). T (is_sorted int_cmp r.1.1)) (part_of file deletions x.series) row
-          (All-from_recursion (λ (r : ℕ × Row). T (is_sorted int_cmp r.1.1)) (part_of file deletions x.series) (sorted_rows range file deletions x.series sound.stored)) held;
+      in_range =
+          λ r held. small_at x.series r sound.consistent.small
+          (subst (λ (xs : List ℕ). Contains xs r) same held);
+      distinct =
+          distinct_in file deletions x.series (λ k lt.
+          sound.consistent.in_order k (omega (arith, size, lt)));
+      times =
+          λ row held. All-contains (λ (r : ℕ × Row). T (is_sorted int_cmp r.1.1))
+          (part_of file deletions x.series) row
+          (All-from_recursion (λ (r : ℕ × Row). T (is_sorted int_cmp r.1.1)) (part_of file deletions
+          x.series) (sorted_rows range file deletions x.series sound.stored)) held;
     }
 
 -- the range
@@ -100,32 +135,48 @@ both_true : (a b : Bool) → a ≡ true → b ≡ true → (a && b) ≡ true
 both_true true b e f = f
 both_true false b e f = absurd cc
 
-covered_all : (range : ℤ × ℤ) (mint maxt : ℤ) (ss : List (ℤ × ℤ)) → range.0 ≤ℤ mint → maxt <ℤ range.1 → AllByRecursion (λ (s : ℤ × ℤ). mint ≤ℤ s.0) ss → AllByRecursion (λ (s : ℤ × ℤ). s.0 ≤ℤ maxt) ss
+covered_all : (range : ℤ × ℤ) (mint maxt : ℤ) (ss : List (ℤ × ℤ)) → range.0 ≤ℤ mint
+    → maxt <ℤ range.1 → AllByRecursion (λ (s : ℤ × ℤ). mint ≤ℤ s.0) ss
+    → AllByRecursion (λ (s : ℤ × ℤ). s.0 ≤ℤ maxt) ss
     → AllByRecursion (λ (s : ℤ × ℤ). covers range s.0 ≡ true) ss
 covered_all range mint maxt [] le lt a b = tt
 covered_all range mint maxt (s ∷ ss) le lt a b =
     let low : mint ≤ℤ s.0 = a.0 in
     let high : s.0 ≤ℤ maxt = b.0 in
     let first : range.0 ≤ℤ s.0 = omega (arith, ints) in
-    let last : s.0 <ℤ range.1 = omega (arith, ints) in
-    (both_true (int_le range.0 s.0) (int_lt s.0 range.1) (is_upto range.0 s.0 first) (is_below s.0 range.1 last), covered_all range mint maxt ss le lt a.1 b.1)
+    let last : s.0 <ℤ range.1 = omega (arith, ints) in (
+      both_true (int_le range.0 s.0) (int_lt s.0 range.1) (is_upto range.0 s.0 first)
+          (is_below s.0 range.1 last),
+      covered_all range mint maxt ss le lt a.1 b.1,
+    )
 
-pub chunk_inside : (range : ℤ × ℤ) (file : List ℕ) (c : Chunk) → IsHeld file c → lies_in range c ≡ true → AllByRecursion (λ (s : ℤ × ℤ). covers range s.0 ≡ true) (chunk_samples file c)
+pub chunk_inside : (range : ℤ × ℤ) (file : List ℕ) (c : Chunk) → IsHeld file c
+    → lies_in range c ≡ true
+    → AllByRecursion (λ (s : ℤ × ℤ). covers range s.0 ≡ true) (chunk_samples file c)
 chunk_inside range file c held inside =
     let span = span_of file c.reference c.mint c.maxt (chunk_samples file c) held.stands in
     let ends = and_true (int_le range.0 c.mint) (int_lt c.maxt range.1) inside in
-    covered_all range c.mint c.maxt (chunk_samples file c) (upto range.0 c.mint ends.0) (below c.maxt range.1 ends.1) span.begin span.end
+    covered_all range c.mint c.maxt (chunk_samples file c) (upto range.0 c.mint ends.0)
+    (below c.maxt range.1 ends.1) span.begin span.end
 
-pub chunks_inside : (range : ℤ × ℤ) (file : List ℕ) (cs : List Chunk) → AllByRecursion (IsHeld file) cs → AllByRecursion (λ (c : Chunk). lies_in range c ≡ true) cs
+pub chunks_inside : (range : ℤ × ℤ) (file : List ℕ) (cs : List Chunk)
+    → AllByRecursion (IsHeld file) cs → AllByRecursion (λ (c : Chunk). lies_in range c ≡ true) cs
     → AllByRecursion (λ (s : ℤ × ℤ). covers range s.0 ≡ true) (samples_in file cs)
 chunks_inside range file [] held inside = tt
 chunks_inside range file (c ∷ cs) held inside =
-    all_append (λ (s : ℤ × ℤ). covers range s.0 ≡ true) (chunk_samples file c) (samples_in file cs) (chunk_inside range file c held.0 inside.0) (chunks_inside range file cs held.1 inside.1)
+    all_append (λ (s : ℤ × ℤ). covers range s.0 ≡ true) (chunk_samples file c) (samples_in file cs)
+    (chunk_inside range file c held.0 inside.0) (chunks_inside range file cs held.1 inside.1)
 
-inside_each : (range : ℤ × ℤ) (file : List ℕ) (deletions : List Deletion) (ss : List Series) → AllByRecursion (IsStored range file) ss → AreInside range (part_of file deletions ss)
+inside_each : (range : ℤ × ℤ) (file : List ℕ) (deletions : List Deletion) (ss : List Series)
+    → AllByRecursion (IsStored range file) ss → AreInside range (part_of file deletions ss)
 inside_each range file deletions [] a = tt
-inside_each range file deletions (s ∷ ss) a =
-    (all_filter (λ (e : ℤ × ℤ). covers range e.0 ≡ true) (λ (e : ℤ × ℤ). not (covered deletions s.reference e.0)) (samples_in file s.chunks) (chunks_inside range file s.chunks a.0.held a.0.inside), inside_each range file deletions ss a.1)
+inside_each range file deletions (s ∷ ss) a = (
+  all_filter (λ (e : ℤ × ℤ). covers range e.0 ≡ true)
+      (λ (e : ℤ × ℤ). not (covered deletions s.reference e.0)) (samples_in file s.chunks)
+      (chunks_inside range file s.chunks a.0.held a.0.inside),
+  inside_each range file deletions ss a.1,
+)
 
-pub is_inside : (range : ℤ × ℤ) (file : List ℕ) (x : Indexed) (deletions : List Deletion) → IsSound range file x → AreInside range (part_of file deletions x.series)
+pub is_inside : (range : ℤ × ℤ) (file : List ℕ) (x : Indexed) (deletions : List Deletion)
+    → IsSound range file x → AreInside range (part_of file deletions x.series)
 is_inside range file x deletions sound = inside_each range file deletions x.series sound.stored

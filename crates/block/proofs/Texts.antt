@@ -7,10 +7,12 @@ use Rattle.serde_json.specs.Data.{Data}
 use Rattle.serde_json.specs.Read.{read}
 use Rattle.block.specs.Metas.{json_of}
 
-pub json_when : (bytes : List ℕ) (d : Data) → IsUtf8 bytes → read bytes ≡ Some d → json_of bytes ≡ Some d
+pub json_when : (bytes : List ℕ) (d : Data) → IsUtf8 bytes → read bytes ≡ Some d
+    → json_of bytes ≡ Some d
 json_when bytes d text e = rw (is_utf8-from_IsUtf8 bytes text, e)
 
-unless_at : (bytes : List ℕ) (text : Bool) → is_utf8 bytes ≡ text → (IsUtf8 bytes → read bytes ≡ None) → (if text then read bytes else None) ≡ None
+unless_at : (bytes : List ℕ) (text : Bool) → is_utf8 bytes ≡ text
+    → (IsUtf8 bytes → read bytes ≡ None) → (if text then read bytes else None) ≡ None
 unless_at bytes true e none = none (IsUtf8-from_is_utf8 bytes e)
 unless_at bytes false e none = refl
 

@@ -24,39 +24,53 @@ module _ (deletions : List Deletion) (reference : ℕ) (from to : ℤ) where
   is_asked s = is_wanted deletions reference from to s.0
 
   abbrev pub has_end : Chunk → Bool
-  has_end c = is_wanted deletions reference from to c.mint || is_wanted deletions reference from to c.maxt
+  has_end c =
+      is_wanted deletions reference from to c.mint || is_wanted deletions reference from to c.maxt
 
   -- what the test of the sample at a place says
-  told : (samples : List (ℤ × ℤ)) (i : ℕ) (s : ℤ × ℤ) (b v : Bool) → slice_get samples i ≡ Some s → b ≡ is_asked s → b ≡ v → is_asked (get_or samples i s) ≡ v
+  told : (samples : List (ℤ × ℤ)) (i : ℕ) (s : ℤ × ℤ) (b v : Bool) → slice_get samples i ≡ Some s
+      → b ≡ is_asked s → b ≡ v → is_asked (get_or samples i s) ≡ v
   told samples i s b v at is h =
       ap is_asked (get_or_from_slice_get samples i s s at) ∙ sym is ∙ h
 
-  pub sample_passed : (samples : List (ℤ × ℤ)) (i : ℕ) (s : ℤ × ℤ) (b : Bool) → i < length samples → slice_get samples i ≡ Some s → b ≡ is_asked s → b ≡ false
+  pub sample_passed : (samples : List (ℤ × ℤ)) (i : ℕ) (s : ℤ × ℤ) (b : Bool) → i < length samples
+      → slice_get samples i ≡ Some s → b ≡ is_asked s → b ≡ false
       → list_any is_asked (drop (i + 1) samples) ≡ list_any is_asked (drop i samples)
-  sample_passed samples i s b l at is h = any_passed is_asked samples i s l (told samples i s b false at is h)
+  sample_passed samples i s b l at is h =
+      any_passed is_asked samples i s l (told samples i s b false at is h)
 
-  pub sample_found : (samples : List (ℤ × ℤ)) (i : ℕ) (s : ℤ × ℤ) (b : Bool) → i < length samples → slice_get samples i ≡ Some s → b ≡ is_asked s → b ≡ true
+  pub sample_found : (samples : List (ℤ × ℤ)) (i : ℕ) (s : ℤ × ℤ) (b : Bool) → i < length samples
+      → slice_get samples i ≡ Some s → b ≡ is_asked s → b ≡ true
       → list_any is_asked (drop i samples) ≡ true
-  sample_found samples i s b l at is h = any_found is_asked samples i s l (told samples i s b true at is h)
+  sample_found samples i s b l at is h =
+      any_found is_asked samples i s l (told samples i s b true at is h)
 
-  pub sample_kept : (samples : List (ℤ × ℤ)) (i : ℕ) (s : ℤ × ℤ) (b : Bool) (before after all : List (ℤ × ℤ)) → i < length samples → slice_get samples i ≡ Some s → b ≡ is_asked s → b ≡ true
-      → after ≡ before ++ s ∷ [] → before ++ filter is_asked (drop i samples) ≡ all → after ++ filter is_asked (drop (i + 1) samples) ≡ all
+  pub sample_kept : (samples : List (ℤ × ℤ)) (i : ℕ) (s : ℤ × ℤ) (b : Bool)
+      (before after all : List (ℤ × ℤ)) → i < length samples → slice_get samples i ≡ Some s
+      → b ≡ is_asked s → b ≡ true
+      → after ≡ before ++ s ∷ [] → before ++ filter is_asked (drop i samples) ≡ all
+      → after ++ filter is_asked (drop (i + 1) samples) ≡ all
   sample_kept samples i s b before after all l at is h f inv =
       kept_one is_asked samples i s before after all l (told samples i s b true at is h)
       (f ∙ ap (λ (x : ℤ × ℤ). before ++ x ∷ []) (sym (get_or_from_slice_get samples i s s at))) inv
 
-  pub sample_left : (samples : List (ℤ × ℤ)) (i : ℕ) (s : ℤ × ℤ) (b : Bool) (before after all : List (ℤ × ℤ)) → i < length samples → slice_get samples i ≡ Some s → b ≡ is_asked s → b ≡ false
-      → after ≡ before → before ++ filter is_asked (drop i samples) ≡ all → after ++ filter is_asked (drop (i + 1) samples) ≡ all
+  pub sample_left : (samples : List (ℤ × ℤ)) (i : ℕ) (s : ℤ × ℤ) (b : Bool)
+      (before after all : List (ℤ × ℤ)) → i < length samples → slice_get samples i ≡ Some s
+      → b ≡ is_asked s → b ≡ false
+      → after ≡ before → before ++ filter is_asked (drop i samples) ≡ all
+      → after ++ filter is_asked (drop (i + 1) samples) ≡ all
   sample_left samples i s b before after all l at is h f inv =
       ap (λ (xs : List (ℤ × ℤ)). xs ++ filter is_asked (drop (i + 1) samples)) f
       ∙ kept_none is_asked samples i s before all l (told samples i s b false at is h) inv
 
-  pub end_passed : (chunks : List Chunk) (i : ℕ) (d : Chunk) (b : Bool) → i < length chunks → b ≡ has_end (get_or chunks i d) → b ≡ false
+  pub end_passed : (chunks : List Chunk) (i : ℕ) (d : Chunk) (b : Bool) → i < length chunks
+      → b ≡ has_end (get_or chunks i d) → b ≡ false
       → list_any has_end (drop (i + 1) chunks) ≡ list_any has_end (drop i chunks)
   end_passed chunks i d b l is e = any_passed has_end chunks i d l (sym is ∙ e)
 
   -- at a chunk whose times do not meet the range no sample is asked for
-  unmet_time : (c : Chunk) (t : ℤ) → c.mint ≤ℤ t → t ≤ℤ c.maxt → meets from to c ≡ false → in_range from to t ≡ false
+  unmet_time : (c : Chunk) (t : ℤ) → c.mint ≤ℤ t → t ≤ℤ c.maxt → meets from to c ≡ false
+      → in_range from to t ≡ false
   unmet_time c t low high e = go (int_lt c.maxt from) refl
     where
       before : c.maxt <ℤ from → in_range from to t ≡ false
@@ -67,57 +81,88 @@ module _ (deletions : List Deletion) (reference : ℕ) (from to : ℤ) where
       behind : to <ℤ c.mint → in_range from to t ≡ false
       behind lt =
           let above_to : to <ℤ t = omega (arith, ints) in
-          ap (λ b. not (int_lt t from) && not b) (is_below to t above_to) ∙ and_false (not (int_lt t from))
+          ap (λ b. not (int_lt t from) && not b) (is_below to t above_to)
+          ∙ and_false (not (int_lt t from))
 
-      last : (b : Bool) → int_lt c.maxt from ≡ false → int_lt to c.mint ≡ b → in_range from to t ≡ false
+      last : (b : Bool) → int_lt c.maxt from ≡ false → int_lt to c.mint ≡ b
+          → in_range from to t ≡ false
       last true f g = behind (below to c.mint g)
-      last false f g = absurd (true_not_false (sym (ap (λ b. not b && not (int_lt to c.mint)) f ∙ ap not g) ∙ e))
+      last false f g =
+          absurd (true_not_false (sym (ap (λ b. not b && not (int_lt to c.mint)) f ∙ ap not g) ∙ e))
 
       go : (b : Bool) → int_lt c.maxt from ≡ b → in_range from to t ≡ false
       go true f = before (below c.maxt from f)
       go false f = last (int_lt to c.mint) f refl
 
-  unmet_each : (c : Chunk) (ss : List (ℤ × ℤ)) → meets from to c ≡ false → AllByRecursion (λ (s : ℤ × ℤ). c.mint ≤ℤ s.0) ss → AllByRecursion (λ (s : ℤ × ℤ). s.0 ≤ℤ c.maxt) ss → AllByRecursion (λ (s : ℤ × ℤ). is_asked s ≡ false) ss
+  unmet_each : (c : Chunk) (ss : List (ℤ × ℤ)) → meets from to c ≡ false
+      → AllByRecursion (λ (s : ℤ × ℤ). c.mint ≤ℤ s.0) ss
+      → AllByRecursion (λ (s : ℤ × ℤ). s.0 ≤ℤ c.maxt) ss
+      → AllByRecursion (λ (s : ℤ × ℤ). is_asked s ≡ false) ss
   unmet_each c [] e low high = tt
-  unmet_each c (s ∷ ss) e low high =
-      (ap (λ b. b && not (covered deletions reference s.0)) (unmet_time c s.0 low.0 high.0 e), unmet_each c ss e low.1 high.1)
+  unmet_each c (s ∷ ss) e low high = (
+    ap (λ b. b && not (covered deletions reference s.0)) (unmet_time c s.0 low.0 high.0 e),
+    unmet_each c ss e low.1 high.1,
+  )
 
-  pub unmet : (file : List ℕ) (c : Chunk) → IsHeld file c → meets from to c ≡ false → AllByRecursion (λ (s : ℤ × ℤ). is_asked s ≡ false) (chunk_samples file c)
+  pub unmet : (file : List ℕ) (c : Chunk) → IsHeld file c → meets from to c ≡ false
+      → AllByRecursion (λ (s : ℤ × ℤ). is_asked s ≡ false) (chunk_samples file c)
   unmet file c held e =
       let span = span_of file c.reference c.mint c.maxt (chunk_samples file c) held.stands in
       unmet_each c (chunk_samples file c) e span.begin span.end
 
   -- one chunk more is read
-  pub chunk_kept : (file : List ℕ) (chunks : List Chunk) (i : ℕ) (d : Chunk) (before after all : List (ℤ × ℤ)) → i < length chunks → after ≡ before ++ filter is_asked (chunk_samples file (get_or chunks i d))
-      → before ++ filter is_asked (samples_in file (drop i chunks)) ≡ all → after ++ filter is_asked (samples_in file (drop (i + 1) chunks)) ≡ all
+  pub chunk_kept : (file : List ℕ) (chunks : List Chunk) (i : ℕ) (d : Chunk)
+      (before after all : List (ℤ × ℤ)) → i < length chunks
+      → after ≡ before ++ filter is_asked (chunk_samples file (get_or chunks i d))
+      → before ++ filter is_asked (samples_in file (drop i chunks)) ≡ all
+      → after ++ filter is_asked (samples_in file (drop (i + 1) chunks)) ≡ all
   chunk_kept file chunks i d before after all l f h =
       ap (λ (xs : List (ℤ × ℤ)). xs ++ filter is_asked (samples_in file (drop (i + 1) chunks))) f
-      ∙ append_assoc before (filter is_asked (chunk_samples file (get_or chunks i d))) (filter is_asked (samples_in file (drop (i + 1) chunks)))
-      ∙ ap (λ (xs : List (ℤ × ℤ)). before ++ xs) (sym (ap (λ cs. filter is_asked (samples_in file cs)) (drop_more chunks i d l) ∙ filter-append is_asked (chunk_samples file (get_or chunks i d)) (samples_in file (drop (i + 1) chunks))))
+      ∙ append_assoc before (filter is_asked (chunk_samples file (get_or chunks i d)))
+      (filter is_asked (samples_in file (drop (i + 1) chunks)))
+      ∙ ap (λ (xs : List (ℤ × ℤ)). before ++ xs)
+      (sym (ap (λ cs. filter is_asked (samples_in file cs)) (drop_more chunks i d l)
+      ∙ filter-append is_asked (chunk_samples file (get_or chunks i d))
+      (samples_in file (drop (i + 1) chunks))))
       ∙ h
 
-  pub chunk_passed : (file : List ℕ) (chunks : List Chunk) (i : ℕ) (d : Chunk) (b : Bool) → i < length chunks → b ≡ list_any is_asked (chunk_samples file (get_or chunks i d)) → b ≡ false
-      → list_any is_asked (samples_in file (drop (i + 1) chunks)) ≡ list_any is_asked (samples_in file (drop i chunks))
+  pub chunk_passed : (file : List ℕ) (chunks : List Chunk) (i : ℕ) (d : Chunk) (b : Bool)
+      → i < length chunks
+      → b ≡ list_any is_asked (chunk_samples file (get_or chunks i d)) → b ≡ false
+      → list_any is_asked (samples_in file (drop (i + 1) chunks))
+      ≡ list_any is_asked (samples_in file (drop i chunks))
   chunk_passed file chunks i d b l is e =
       sym (ap (λ cs. list_any is_asked (samples_in file cs)) (drop_more chunks i d l)
-      ∙ list_any-append is_asked (chunk_samples file (get_or chunks i d)) (samples_in file (drop (i + 1) chunks))
+      ∙ list_any-append is_asked (chunk_samples file (get_or chunks i d))
+      (samples_in file (drop (i + 1) chunks))
       ∙ ap (λ v. v || list_any is_asked (samples_in file (drop (i + 1) chunks))) (sym is ∙ e))
 
-  pub chunk_found : (file : List ℕ) (chunks : List Chunk) (i : ℕ) (d : Chunk) (b : Bool) → i < length chunks → b ≡ list_any is_asked (chunk_samples file (get_or chunks i d)) → b ≡ true
+  pub chunk_found : (file : List ℕ) (chunks : List Chunk) (i : ℕ) (d : Chunk) (b : Bool)
+      → i < length chunks
+      → b ≡ list_any is_asked (chunk_samples file (get_or chunks i d)) → b ≡ true
       → list_any is_asked (samples_in file (drop i chunks)) ≡ true
   chunk_found file chunks i d b l is e =
       ap (λ cs. list_any is_asked (samples_in file cs)) (drop_more chunks i d l)
-      ∙ list_any-append is_asked (chunk_samples file (get_or chunks i d)) (samples_in file (drop (i + 1) chunks))
+      ∙ list_any-append is_asked (chunk_samples file (get_or chunks i d))
+      (samples_in file (drop (i + 1) chunks))
       ∙ ap (λ v. v || list_any is_asked (samples_in file (drop (i + 1) chunks))) (sym is ∙ e)
 
-  pub chunks_ended : (file : List ℕ) (chunks : List Chunk) (i : ℕ) → length chunks ≤ i → list_any is_asked (samples_in file (drop i chunks)) ≡ false
-  chunks_ended file chunks i l = ap (λ cs. list_any is_asked (samples_in file cs)) (drop_all i chunks l)
+  pub chunks_ended : (file : List ℕ) (chunks : List Chunk) (i : ℕ) → length chunks ≤ i
+      → list_any is_asked (samples_in file (drop i chunks)) ≡ false
+  chunks_ended file chunks i l =
+      ap (λ cs. list_any is_asked (samples_in file cs)) (drop_all i chunks l)
 
-  pub chunks_kept : (file : List ℕ) (chunks : List Chunk) (i : ℕ) (before all : List (ℤ × ℤ)) → length chunks ≤ i → before ++ filter is_asked (samples_in file (drop i chunks)) ≡ all → before ≡ all
-  chunks_kept file chunks i before all l h = sym (ap (λ cs. before ++ filter is_asked (samples_in file cs)) (drop_all i chunks l) ∙ append-nil before) ∙ h
+  pub chunks_kept : (file : List ℕ) (chunks : List Chunk) (i : ℕ) (before all : List (ℤ × ℤ))
+      → length chunks ≤ i
+      → before ++ filter is_asked (samples_in file (drop i chunks)) ≡ all → before ≡ all
+  chunks_kept file chunks i before all l h =
+      sym (ap (λ cs. before ++ filter is_asked (samples_in file cs)) (drop_all i chunks l)
+      ∙ append-nil before)
+      ∙ h
 
   -- the first or the last sample of a chunk
-  end_asked : (file : List ℕ) (c : Chunk) → IsHeld file c → has_end c ≡ true → list_any is_asked (chunk_samples file c) ≡ true
+  end_asked : (file : List ℕ) (c : Chunk) → IsHeld file c → has_end c ≡ true
+      → list_any is_asked (chunk_samples file c) ≡ true
   end_asked file c held e = go (is_wanted deletions reference from to c.mint) refl
     where
       some : 0 < length (chunk_samples file c)
@@ -126,20 +171,37 @@ module _ (deletions : List Deletion) (reference : ℕ) (from to : ℤ) where
       last_inside : length (chunk_samples file c) - 1 < length (chunk_samples file c)
       last_inside = let s = some in omega arith
 
-      at_first : is_wanted deletions reference from to c.mint ≡ true → list_any is_asked (chunk_samples file c) ≡ true
-      at_first f = list_any_at is_asked (chunk_samples file c) 0 (pos 0, pos 0) some (ap (is_wanted deletions reference from to) held.stands.first ∙ f)
+      at_first : is_wanted deletions reference from to c.mint ≡ true
+          → list_any is_asked (chunk_samples file c) ≡ true
+      at_first f =
+          list_any_at is_asked (chunk_samples file c) 0 (pos 0, pos 0) some
+          (ap (is_wanted deletions reference from to) held.stands.first ∙ f)
 
-      at_last : is_wanted deletions reference from to c.maxt ≡ true → list_any is_asked (chunk_samples file c) ≡ true
-      at_last f = list_any_at is_asked (chunk_samples file c) (length (chunk_samples file c) - 1) (pos 0, pos 0) last_inside (ap (is_wanted deletions reference from to) held.stands.last ∙ f)
+      at_last : is_wanted deletions reference from to c.maxt ≡ true
+          → list_any is_asked (chunk_samples file c) ≡ true
+      at_last f = list_any_at is_asked (chunk_samples file c) (length (chunk_samples file c) - 1) (
+        pos 0,
+        pos 0,
+      ) last_inside (ap (is_wanted deletions reference from to) held.stands.last ∙ f)
 
-      go : (b : Bool) → is_wanted deletions reference from to c.mint ≡ b → list_any is_asked (chunk_samples file c) ≡ true
+      go : (b : Bool) → is_wanted deletions reference from to c.mint ≡ b
+          → list_any is_asked (chunk_samples file c) ≡ true
       go true f = at_first f
       go false f = at_last (sym (ap (λ b. b || is_wanted deletions reference from to c.maxt) f) ∙ e)
 
-  pub ends_asked : (file : List ℕ) (chunks : List Chunk) → AreHeld file chunks → list_any has_end chunks ≡ true → list_any is_asked (samples_in file chunks) ≡ true
+  pub ends_asked : (file : List ℕ) (chunks : List Chunk) → AreHeld file chunks
+      → list_any has_end chunks ≡ true → list_any is_asked (samples_in file chunks) ≡ true
   ends_asked file [] held e = absurd (true_not_false (sym e))
-  ends_asked file (c ∷ cs) held e = list_any-append is_asked (chunk_samples file c) (samples_in file cs) ∙ go (has_end c) refl (ends_asked file cs held.1)
+  ends_asked file (c ∷ cs) held e =
+      list_any-append is_asked (chunk_samples file c) (samples_in file cs)
+      ∙ go (has_end c) refl (ends_asked file cs held.1)
     where
-      go : (b : Bool) → has_end c ≡ b → (list_any has_end cs ≡ true → list_any is_asked (samples_in file cs) ≡ true) → (list_any is_asked (chunk_samples file c) || list_any is_asked (samples_in file cs)) ≡ true
-      go true f ih = ap (λ b. b || list_any is_asked (samples_in file cs)) (end_asked file c held.0 f)
-      go false f ih = or_true (list_any is_asked (chunk_samples file c)) (list_any is_asked (samples_in file cs)) (ih (sym (ap (λ b. b || list_any has_end cs) f) ∙ e))
+      go : (b : Bool) → has_end c ≡ b
+          → (list_any has_end cs ≡ true → list_any is_asked (samples_in file cs) ≡ true)
+          → (list_any is_asked (chunk_samples file c) || list_any is_asked (samples_in file cs))
+          ≡ true
+      go true f ih =
+          ap (λ b. b || list_any is_asked (samples_in file cs)) (end_asked file c held.0 f)
+      go false f ih =
+          or_true (list_any is_asked (chunk_samples file c)) (list_any is_asked
+          (samples_in file cs)) (ih (sym (ap (λ b. b || list_any has_end cs) f) ∙ e))

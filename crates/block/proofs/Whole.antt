@@ -11,7 +11,9 @@ use Rattle.block.specs.Opening.{block_of}
 use Rattle.block.specs.Outcome.{Gives}
 use Rattle.block.proofs.Only.{block_again}
 
-pub is_only : (range : ℤ × ℤ) (file chunks tombstones : List ℕ) (part : Part) (r : Result Shown BlockError) → IsBytes file → IsBytes tombstones → Gives (λ (b : Shown). b) r (block_of range file chunks tombstones)
+pub is_only : (range : ℤ × ℤ) (file chunks tombstones : List ℕ) (part : Part)
+    (r : Result Shown BlockError) → IsBytes file → IsBytes tombstones
+    → Gives (λ (b : Shown). b) r (block_of range file chunks tombstones)
     → IsBlock range file chunks tombstones part → Gives (λ (b : Shown). b.part) r (Ok part)
 is_only range file chunks tombstones part (Ok b) one two exact spelled =
     let a = block_again range file chunks tombstones part one two spelled in

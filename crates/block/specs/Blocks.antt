@@ -16,7 +16,8 @@ pub record Shown : Type 0 where
 
 -- a series: its reference, its label set, and the samples of its chunks less the deleted ones
 abbrev pub row_of : List ℕ → List Deletion → Series → ℕ × Row
-row_of chunks deletions s = (s.reference, (s.labels, undeleted deletions s.reference (samples_in chunks s.chunks)))
+row_of chunks deletions s =
+    (s.reference, (s.labels, undeleted deletions s.reference (samples_in chunks s.chunks)))
 
 -- all series
 abbrev pub part_of : List ℕ → List Deletion → List Series → Part
@@ -24,11 +25,14 @@ part_of chunks deletions series = map (row_of chunks deletions) series
 
 -- a range, the chunks' file, what the index holds and the deletions, as what a block shows
 abbrev pub shown_of : ℤ × ℤ → List ℕ → Indexed → List Deletion → Shown
-shown_of range chunks x deletions = record { range = range; part = part_of chunks deletions x.series; pairs = x.pairs }
+shown_of range chunks x deletions =
+    record { range = range; part = part_of chunks deletions x.series; pairs = x.pairs }
 
 -- the time of each sample lies in the range
 abbrev pub AreInside : ℤ × ℤ → Part → Type 0
-AreInside range part = AllByRecursion (λ (row : ℕ × Row). AllByRecursion (λ (s : ℤ × ℤ). covers range s.0 ≡ true) row.1.1) part
+AreInside range part =
+    AllByRecursion
+    (λ (row : ℕ × Row). AllByRecursion (λ (s : ℤ × ℤ). covers range s.0 ≡ true) row.1.1) part
 
 -- how many samples a part has
 abbrev pub sample_count : Part → ℕ

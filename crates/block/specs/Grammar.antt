@@ -15,11 +15,14 @@ use Rattle.block.specs.Sound.{lies_in}
 -- these samples stand in these chunks, one chunk behind the other
 abbrev pub AreSpelled : List ℕ → List Chunk → List (ℤ × ℤ) → Type 0
 AreSpelled file [] samples = samples ≡ []
-AreSpelled file (c ∷ cs) samples = (first rest : List (ℤ × ℤ)) × (samples ≡ first ++ rest) × IsChunk file c.reference c.mint c.maxt first × AreSpelled file cs rest
+AreSpelled file (c ∷ cs) samples =
+    (first rest : List (ℤ × ℤ)) × (samples ≡ first ++ rest)
+    × IsChunk file c.reference c.mint c.maxt first × AreSpelled file cs rest
 
--- the row of a series: its reference, its label set, and the samples of its chunks that no deletion covers; it has no
--- more than 1,048,576 samples, and the times of its chunks lie in the range
-pub record IsRow (range : ℤ × ℤ) (file : List ℕ) (deletions : List Deletion) (s : Series) (row : ℕ × Row) : Type 0 where
+-- the row of a series: its reference, its label set, and the samples of its chunks that no deletion
+-- covers; it has no more than 1,048,576 samples, and the times of its chunks lie in the range
+pub record IsRow (range : ℤ × ℤ) (file : List ℕ) (deletions : List Deletion) (s : Series)
+    (row : ℕ × Row) : Type 0 where
   pub reference : row.0 ≡ s.reference
   pub labels : row.1.0 ≡ s.labels
   pub samples : List (ℤ × ℤ)
@@ -33,15 +36,17 @@ abbrev pub AreRows : ℤ × ℤ → List ℕ → List Deletion → List Series �
 AreRows range file deletions [] [] = Unit {0}
 AreRows range file deletions [] (row ∷ rows) = ⊥
 AreRows range file deletions (s ∷ ss) [] = ⊥
-AreRows range file deletions (s ∷ ss) (row ∷ rows) = IsRow range file deletions s row × AreRows range file deletions ss rows
+AreRows range file deletions (s ∷ ss) (row ∷ rows) =
+    IsRow range file deletions s row × AreRows range file deletions ss rows
 
--- the three files are an index, a segment that holds the chunks which the index names, and deletions of its series; and
--- the rows of the series are the part
+-- the three files are an index, a segment that holds the chunks which the index names, and
+-- deletions of its series; and the rows of the series are the part
 pub record IsBlock (range : ℤ × ℤ) (index chunks tombstones : List ℕ) (part : Part) : Type 0 where
   pub x : Indexed
   pub indexed : IsIndex index x
   pub segment : IsSegment chunks
   pub deletions : List Deletion
   pub deleted : IsTombstones tombstones deletions
-  pub known : AllByRecursion (λ (d : Deletion). Contains (references x.series) d.reference) deletions
+  pub known : AllByRecursion (λ (d : Deletion). Contains (references x.series) d.reference)
+      deletions
   pub rows : AreRows range chunks deletions x.series part

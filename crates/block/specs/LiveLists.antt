@@ -12,4 +12,6 @@ abbrev pub live_in : LiveList → List ℕ
 live_in live = live_references live.times.from live.times.to (drop live.place live.block.now.part)
 
 pub live_rises : (live : LiveList) → IsStrictlyIncreasing (live_in live)
-live_rises live = kept_rises (λ (row : ℕ × Row). has_sample live.times.from live.times.to row.1.1) (drop live.place live.block.now.part) (rises_from live.block.now.part live.place live.rising)
+live_rises live =
+    kept_rises (λ (row : ℕ × Row). has_sample live.times.from live.times.to row.1.1)
+    (drop live.place live.block.now.part) (rises_from live.block.now.part live.place live.rising)

@@ -21,12 +21,15 @@ integer_at name d = option_and_then as_i64 (option_and_then as_number (get name 
 abbrev pub range_in : Data → Option (ℤ × ℤ)
 range_in d =
     option_and_then (λ version. if int_eq version (pos 1)
-    then option_and_then (λ min. option_and_then (λ max. range_of min max) (integer_at (codes "maxTime") d)) (integer_at (codes "minTime") d)
+    then option_and_then
+    (λ min. option_and_then (λ max. range_of min max) (integer_at (codes "maxTime") d))
+    (integer_at (codes "minTime") d)
     else None) (integer_at (codes "version") d)
 
 -- the range that a text of at most 1,048,576 bytes says
 abbrev pub range_said : List ℕ → Option (ℤ × ℤ)
-range_said bytes = if nat_lt 1048576 (length bytes) then None else option_and_then range_in (json_of bytes)
+range_said bytes =
+    if nat_lt 1048576 (length bytes) then None else option_and_then range_in (json_of bytes)
 
 -- a value that is there, or `B2`
 abbrev pub or_meta : {A : Type 0} → Option A → Result A BlockError

@@ -20,7 +20,8 @@ use Rattle.block.specs.Samples.{chunk_read, samples_in}
 use Rattle.block.specs.Sound.{lies_in}
 
 infixl 10 ◌>>=◌
-abbrev pub ◌>>=◌ : {A B : Type 0} → Result A BlockError → (A → Result B BlockError) → Result B BlockError
+abbrev pub ◌>>=◌ : {A B : Type 0} → Result A BlockError → (A → Result B BlockError)
+    → Result B BlockError
 (Ok x) >>= f = f x
 (Err e) >>= f = Err e
 
@@ -40,7 +41,8 @@ or_tombstones (Ok x) = Ok x
 or_tombstones (Err e) = Err (of_tombstone e)
 
 -- nothing, where a check accepts all of a list; else the first refusal
-unfoldable pub each : {A : Type 0} → (A → Result (Unit {0}) ChunkError) → List A → Result (Unit {0}) ChunkError
+unfoldable pub each : {A : Type 0} → (A → Result (Unit {0}) ChunkError) → List A
+    → Result (Unit {0}) ChunkError
 each check [] = Ok tt
 each check (a ∷ as') = chunks.◌>>=◌ (check a) (λ _. each check as')
 
@@ -87,4 +89,5 @@ block_of range index chunks tombstones = do
   file ← or_chunks (opened chunks)
   stored ← stored_of file x.series
   deletions ← deleted_of tombstones x.series
-  if list_all (is_inside range) x.series then Ok (shown_of range file x deletions) else Err OutsideRange
+  if list_all (is_inside range) x.series then Ok (shown_of range file x deletions)
+      else Err OutsideRange

@@ -23,7 +23,8 @@ Gives view (Err e) read = Fails e read
 
 -- what was returned holds the deletions that reading gives, in an order of its own
 abbrev pub GivesAll : Result (List Deletion) BlockError → Result (List Deletion) BlockError → Type 0
-GivesAll (Ok held) read = (deletions : List Deletion) × (read ≡ Ok deletions) × IsPermutation deletions held
+GivesAll (Ok held) read =
+    (deletions : List Deletion) × (read ≡ Ok deletions) × IsPermutation deletions held
 GivesAll (Err e) read = Fails e read
 
 -- the refusal of an index, as that of its block

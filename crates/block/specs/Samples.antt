@@ -26,4 +26,5 @@ samples_in file chunks = flat_map (chunk_samples file) chunks
 
 -- those samples of a series that no deletion covers
 abbrev pub undeleted : List Deletion → ℕ → List (ℤ × ℤ) → List (ℤ × ℤ)
-undeleted deletions reference samples = filter (λ (s : ℤ × ℤ). not (covered deletions reference s.0)) samples
+undeleted deletions reference samples =
+    filter (λ (s : ℤ × ℤ). not (covered deletions reference s.0)) samples

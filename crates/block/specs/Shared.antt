@@ -12,8 +12,10 @@ use Rattle.block.specs.Sound.{IsHeld}
 abbrev pub lists_between : List Series → ℕ → ℕ → List (List Chunk)
 lists_between series from count = take count (drop from (chunk_lists series))
 
--- the first chunk that is refused is answered; else each is held, and the answer is whether each series has few samples
-pub record IsLookedAt (file : List ℕ) (lists : List (List Chunk)) (r : Result Bool ChunkError) : Type 0 where
+-- the first chunk that is refused is answered; else each is held, and the answer is whether each
+-- series has few samples
+pub record IsLookedAt (file : List ℕ) (lists : List (List Chunk))
+    (r : Result Bool ChunkError) : Type 0 where
   pub exact : Answers (λ _. tt) r (each (each (chunk_check file)) lists)
   pub few : IfOk r (λ few. few ≡ list_all (have_few file) lists)
   pub held : OnOk r (AllByRecursion (AllByRecursion (IsHeld file)) lists)

@@ -31,7 +31,8 @@ abbrev pub AreInTurn : List Chunk → Type 0
 AreInTurn [] = Unit {0}
 AreInTurn (c ∷ cs) = (c.mint ≤ℤ c.maxt) × AreBehind c cs
 
--- the chunks of a series are held, in the order of their times, not too many samples, and inside the range
+-- the chunks of a series are held, in the order of their times, not too many samples, and inside
+-- the range
 pub record IsStored (range : ℤ × ℤ) (file : List ℕ) (s : Series) : Type 0 where
   pub held : AllByRecursion (IsHeld file) s.chunks
   pub in_turn : AreInTurn s.chunks

@@ -34,8 +34,8 @@ pub(crate) struct Files {
     pub(crate) chunks: Chunks,
 }
 
-/// A block of files that were checked, seen as the times that it covers, its part, and the pairs of a name and a value
-/// that its series carry. Its samples stay in the bytes of the chunks file.
+/// A block of files that were checked, seen as the times that it covers, its part, and the pairs of
+/// a name and a value that its series carry. Its samples stay in the bytes of the chunks file.
 #[derive(Drop)]
 pub struct Block {
     range: Range,
@@ -52,7 +52,8 @@ impl Model for Block {
     ghost use Rattle.block.specs.Blocks.{shown_of};
     ghost use Rattle.block.specs.Sound.{IsSound};
 
-    ghost view = { λ b. shown_of b.range (arc_value b.files).chunks (arc_value b.files).index b.tombstones };
+    ghost view = { λ b.
+        shown_of b.range (arc_value b.files).chunks (arc_value b.files).index b.tombstones };
 
     ghost invariant = { λ b. IsSound b.range (arc_value b.files).chunks (arc_value b.files).index };
 }
@@ -93,12 +94,13 @@ fn opened<C: Checker>(
 impl Block {
     /// The block of an index, a chunks file and a file of deletions, which covers `range`.
     ///
-    /// The first check that fails is answered, each over the whole file before the next: those of the index, `I1` to
-    /// `I15`; of the head of the chunks file, `C7`, `C1`, `C2`; of each chunk that the index names, in its order, `C3`
-    /// to `C8`; `I15` where a series has more than 1,048,576 samples; of the deletions, `T1` to `T4`; `T5` where one is
-    /// of a series that the index does not have; `B1` where a chunk begins before the range or does not end before its
-    /// end. Time in proportion to the files, and to what the index names: a list or a chunk that it names twice is read
-    /// twice. It keeps the chunks file and copies none of it.
+    /// The first check that fails is answered, each over the whole file before the next: those of
+    /// the index, `I1` to `I15`; of the head of the chunks file, `C7`, `C1`, `C2`; of each chunk
+    /// that the index names, in its order, `C3` to `C8`; `I15` where a series has more than
+    /// 1,048,576 samples; of the deletions, `T1` to `T4`; `T5` where one is of a series that the
+    /// index does not have; `B1` where a chunk begins before the range or does not end before its
+    /// end. Time in proportion to the files, and to what the index names: a list or a chunk that it
+    /// names twice is read twice. It keeps the chunks file and copies none of it.
     pub fn open(
         alloc: Global,
         range: Range,
@@ -107,20 +109,24 @@ impl Block {
         tombstones: &[u8],
     ) -> Result<Block, BlockError>
         // The first check that fails is answered; where none does, the block shows what was read.
-        ensures exact { Gives (λ b. b) result (block_of range index.now chunks.items tombstones.now) }
+        ensures exact { Gives (λ b. b) result
+            (block_of range index.now chunks.items tombstones.now) }
         // The part is what the bytes of the files spell.
-        ensures found { IfOk result (λ b. IsBlock range index.now chunks.items tombstones.now b.part) }
+        ensures found { IfOk result (λ b.
+            IsBlock range index.now chunks.items tombstones.now b.part) }
         // Files that spell a block are opened, and show its part, unless memory runs out.
-        ensures only { (part : Part) → IsBlock range index.now chunks.items tombstones.now part → Gives (λ b. b.part) result (Ok part) }
+        ensures only { (part : Part) → IsBlock range index.now chunks.items tombstones.now part
+            → Gives (λ b. b.part) result (Ok part) }
         ensures range { IfOk result (λ b. b.range ≡ range) }
     {
         let read = Index::open(alloc, index);
         opened(&OneThread, alloc, range, index, read, chunks, tombstones)
     }
 
-    /// The same as [`Block::open`], with the checks of the chunks shared out over at most `threads` threads, the
-    /// calling one among them. The answer does not depend on their number, nor on whether they can be started. Ask for
-    /// four for each processor: the shares are equal in series, not in work.
+    /// The same as [`Block::open`], with the checks of the chunks shared out over at most `threads`
+    /// threads, the calling one among them. The answer does not depend on their number, nor on
+    /// whether they can be started. Ask for four for each processor: the shares are equal in
+    /// series, not in work.
     pub fn open_by<R: Threads + Sync>(
         rt: &R,
         threads: usize,
@@ -130,9 +136,12 @@ impl Block {
         chunks: Vec<u8>,
         tombstones: &[u8],
     ) -> Result<Block, BlockError>
-        ensures exact { Gives (λ b. b) result (block_of range index.now chunks.items tombstones.now) }
-        ensures found { IfOk result (λ b. IsBlock range index.now chunks.items tombstones.now b.part) }
-        ensures only { (part : Part) → IsBlock range index.now chunks.items tombstones.now part → Gives (λ b. b.part) result (Ok part) }
+        ensures exact { Gives (λ b. b) result
+            (block_of range index.now chunks.items tombstones.now) }
+        ensures found { IfOk result (λ b.
+            IsBlock range index.now chunks.items tombstones.now b.part) }
+        ensures only { (part : Part) → IsBlock range index.now chunks.items tombstones.now part
+            → Gives (λ b. b.part) result (Ok part) }
         ensures range { IfOk result (λ b. b.range ≡ range) }
     {
         let read = Index::open(alloc, index);
@@ -140,8 +149,9 @@ impl Block {
         opened(&workers, alloc, range, index, read, chunks, tombstones)
     }
 
-    /// The same as [`Block::open_by`], where the index was opened before: `read` is what [`Index::open`] gave for the
-    /// bytes of `index`. So a caller can open the index by one thread while another reads the chunks file.
+    /// The same as [`Block::open_by`], where the index was opened before: `read` is what
+    /// [`Index::open`] gave for the bytes of `index`. So a caller can open the index by one thread
+    /// while another reads the chunks file.
     pub fn open_with<R: Threads + Sync>(
         rt: &R,
         threads: usize,
@@ -155,9 +165,12 @@ impl Block {
         requires read { index_outcome.Gives (λ x. x) read (indexed_of index.now) }
         requires spelled { IfOk read (IsIndex index.now) }
         requires consistent { IfOk read IsConsistent }
-        ensures exact { Gives (λ b. b) result (block_of range index.now chunks.items tombstones.now) }
-        ensures found { IfOk result (λ b. IsBlock range index.now chunks.items tombstones.now b.part) }
-        ensures only { (part : Part) → IsBlock range index.now chunks.items tombstones.now part → Gives (λ b. b.part) result (Ok part) }
+        ensures exact { Gives (λ b. b) result
+            (block_of range index.now chunks.items tombstones.now) }
+        ensures found { IfOk result (λ b.
+            IsBlock range index.now chunks.items tombstones.now b.part) }
+        ensures only { (part : Part) → IsBlock range index.now chunks.items tombstones.now part
+            → Gives (λ b. b.part) result (Ok part) }
         ensures range { IfOk result (λ b. b.range ≡ range) }
     {
         let by = Workers { rt, threads };
@@ -183,16 +196,16 @@ impl Block {
         self.files.index.len()
     }
 
-    /// How many samples the block has that are not deleted. It looks at each chunk: at its length alone where the series
-    /// has no deletions, else at each of its samples.
+    /// How many samples the block has that are not deleted. It looks at each chunk: at its length
+    /// alone where the series has no deletions, else at each of its samples.
     pub fn sample_count(&self) -> u64
         ensures { result ≡ sample_count self.now.part }
     {
         count_live(&self.files.index, &self.files.chunks, &self.tombstones)
     }
 
-    /// The block without the samples of these series in the closed range of times, in milliseconds. It shares the
-    /// files, and takes memory for the deletions alone.
+    /// The block without the samples of these series in the closed range of times, in milliseconds.
+    /// It shares the files, and takes memory for the deletions alone.
     pub fn without(
         &self,
         alloc: Global,
@@ -200,7 +213,8 @@ impl Block {
         from: i64,
         to: i64,
     ) -> Result<Block, AllocError>
-        ensures part { IfOk result (λ b. b.part ≡ part_without references.now from to self.now.part) }
+        ensures part { IfOk result (λ b.
+            b.part ≡ part_without references.now from to self.now.part) }
         ensures range { IfOk result (λ b. b.range ≡ self.now.range) }
         ensures pairs { IfOk result (λ b. b.pairs ≡ self.now.pairs) }
     {

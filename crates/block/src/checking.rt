@@ -57,8 +57,8 @@ fn few_between(
     Ok(few)
 }
 
-// The same by at most so many threads, the calling one among them. Nothing is allocated; where a thread can't be
-// started, the calling one does its share.
+// The same by at most so many threads, the calling one among them. Nothing is allocated; where a
+// thread can't be started, the calling one does its share.
 #[cycle(halves)]
 fn few_among<R: Threads + Sync>(
     rt: &R,
@@ -82,11 +82,13 @@ fn few_among<R: Threads + Sync>(
     let rest = threads - helpers;
     let front = || -> Result<bool, ChunkError>
         requires { IsSync R.row × (from + low ≤ length index.now.series) × (from + low < 2 ^ 64) }
-        ensures { IsLookedAt chunks.entry.now (lists_between index.entry.now.series from low) result }
+        ensures { IsLookedAt chunks.entry.now
+            (lists_between index.entry.now.series from low) result }
     { few_among(rt, index, chunks, from, low, helpers) };
     let back = || -> Result<bool, ChunkError>
         requires { IsSync R.row × (up + high ≤ length index.now.series) × (up + high < 2 ^ 64) }
-        ensures { IsLookedAt chunks.entry.now (lists_between index.entry.now.series up high) result }
+        ensures { IsLookedAt chunks.entry.now
+            (lists_between index.entry.now.series up high) result }
     { few_among(rt, index, chunks, up, high, rest) };
     let (first, second) = join(rt, front, back);
     let few = first?;
@@ -99,8 +101,8 @@ pub(crate) trait Checker {
     // What its looking takes: that threads may share what starts them.
     ghost is_ready: { Self → Type 0 };
 
-    /// Looks at each chunk that the index names, in its order: the first that is refused, or else whether the chunks of
-    /// each series hold few samples.
+    /// Looks at each chunk that the index names, in its order: the first that is refused, or else
+    /// whether the chunks of each series hold few samples.
     fn check(&self, index: &Index, chunks: &Chunks) -> Result<bool, ChunkError>
         requires ready { is_ready self.now }
         ensures { IsLookedAt chunks.now (chunk_lists index.now.series) result };

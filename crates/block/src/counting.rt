@@ -28,7 +28,8 @@ fn live_among(samples: &Samples<'_>, tombstones: &Tombstones, reference: SeriesR
 
 fn live_in(chunks: &Chunks, chunk: &Chunk, tombstones: &Tombstones, reference: SeriesRef) -> u64
     requires { IsHeld chunks.now chunk.now }
-    ensures { result ≡ length (undeleted tombstones.now reference (chunk_samples chunks.now chunk.now)) }
+    ensures { result
+        ≡ length (undeleted tombstones.now reference (chunk_samples chunks.now chunk.now)) }
 {
     let samples = chunk_samples(chunks, *chunk);
     if !tombstones.has_deletion_of(reference) {
@@ -44,7 +45,8 @@ fn live_in_all(
     reference: SeriesRef,
 ) -> u64
     requires { AreHeld chunks.now list.now }
-    ensures { result ≡ min (length (undeleted tombstones.now reference (samples_in chunks.now list.now))) (2 ^ 64 - 1) }
+    ensures { result ≡ min (length (undeleted tombstones.now reference
+        (samples_in chunks.now list.now))) (2 ^ 64 - 1) }
 {
     let mut count = 0u64;
     for chunk in list {
@@ -56,7 +58,8 @@ fn live_in_all(
 /// How many samples of all series are not deleted, up to the greatest number.
 pub(crate) fn count_live(index: &Index, chunks: &Chunks, tombstones: &Tombstones) -> u64
     requires { AllByRecursion (AreHeld chunks.now) (chunk_lists index.now.series) }
-    ensures { result ≡ min (sample_count (part_of chunks.now tombstones.now index.now.series)) (2 ^ 64 - 1) }
+    ensures { result
+        ≡ min (sample_count (part_of chunks.now tombstones.now index.now.series)) (2 ^ 64 - 1) }
 {
     let mut count = 0u64;
     for at in 0..index.len() {

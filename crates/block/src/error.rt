@@ -18,7 +18,8 @@ pub enum BlockError {
     Memory,
     /// `B2`: the text is no `meta.json` of a block, or is longer than 1,048,576 bytes.
     Meta,
-    /// `I1` to `I15`: the index is refused. `I15` also where a series has more than 1,048,576 samples.
+    /// `I1` to `I15`: the index is refused. `I15` also where a series has more than 1,048,576
+    /// samples.
     Index(IndexError),
     /// `C1` to `C8`: the chunks file or a chunk of it is refused.
     Chunks(ChunkError),

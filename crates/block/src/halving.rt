@@ -8,13 +8,16 @@ ghost use Rattle.index_reader.specs.Indexes.{references};
 use index_reader::Index;
 use labels::SeriesRef;
 
-/// The place of the first series, from a place on, whose reference is not below the target, or the end.
+/// The place of the first series, from a place on, whose reference is not below the target, or the
+/// end.
 pub(crate) fn place_from(index: &Index, from: usize, target: SeriesRef) -> usize
     requires rising { IsStrictlyIncreasing (references index.now.series) }
     requires within { from ≤ length index.now.series }
     ensures place { (from ≤ result) × (result ≤ length index.now.series) }
-    ensures below { (k : ℕ) → from ≤ k → k < result → get_or (references index.now.series) k 0 < target }
-    ensures above { result < length index.now.series → target ≤ get_or (references index.now.series) result 0 }
+    ensures below { (k : ℕ) → from ≤ k → k < result
+        → get_or (references index.now.series) k 0 < target }
+    ensures above { result < length index.now.series
+        → target ≤ get_or (references index.now.series) result 0 }
 {
     let mut low = from;
     let mut high = index.len();
@@ -33,7 +36,8 @@ pub(crate) fn place_from(index: &Index, from: usize, target: SeriesRef) -> usize
 /// The place of the series with this reference.
 pub(crate) fn place_of(index: &Index, reference: SeriesRef) -> Option<usize>
     requires { IsStrictlyIncreasing (references index.now.series) }
-    ensures found { IfSome result (λ i. slice_get (references index.now.series) i ≡ Some reference) }
+    ensures found { IfSome result (λ i.
+        slice_get (references index.now.series) i ≡ Some reference) }
     ensures none { IfNone result (Contains (references index.now.series) reference → ⊥) }
 {
     let at = place_from(index, 0, reference);

@@ -1,19 +1,20 @@
 //! A block: an unchanging part that is read from files.
 //!
-//! [`Range`] is the range of times that a block covers, and `read_meta` reads it from the text of a `meta.json`,
-//! exactly where that has the three members that count, else it answers `B2`. [`Block::open`] opens the index, the
-//! chunks and the deletions of a block exactly where they spell one, and names the first check that fails where they do
-//! not. What was checked then is not checked again.
+//! [`Range`] is the range of times that a block covers, and `read_meta` reads it from the text of a
+//! `meta.json`, exactly where that has the three members that count, else it answers `B2`.
+//! [`Block::open`] opens the index, the chunks and the deletions of a block exactly where they
+//! spell one, and names the first check that fails where they do not. What was checked then is not
+//! checked again.
 //!
-//! A block tells the label set and the undeleted samples of a series, or of all of them, and a [`BlockView`] of it
-//! lends lists. [`RawList`] is a list of references that stay in the bytes of the index: a seek leaves exactly what is
-//! not below its target, and reads no more references than the length of what remained has binary digits. [`LiveList`]
-//! lists the series with an undeleted sample in a range, and reads a chunk only where the times of the chunks leave it
-//! open.
+//! A block tells the label set and the undeleted samples of a series, or of all of them, and a
+//! [`BlockView`] of it lends lists. [`RawList`] is a list of references that stay in the bytes of
+//! the index: a seek leaves exactly what is not below its target, and reads no more references than
+//! the length of what remained has binary digits. [`LiveList`] lists the series with an undeleted
+//! sample in a range, and reads a chunk only where the times of the chunks leave it open.
 //!
-//! It stands on `labels`, `postings`, `wire`, `index_reader`, `chunk_reader`, `tombstones`, `byteorder` and
-//! `serde_json`. The files are those of Prometheus's TSDB format documents; that other members of `meta.json` are
-//! ignored is this project's own.
+//! It stands on `labels`, `postings`, `wire`, `index_reader`, `chunk_reader`, `tombstones`,
+//! `byteorder` and `serde_json`. The files are those of Prometheus's TSDB format documents; that
+//! other members of `meta.json` are ignored is this project's own.
 #![tactic(auto)]
 
 mod blocks;

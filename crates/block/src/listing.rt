@@ -23,10 +23,11 @@ impl Block {
         Ok((self.reference_at(i), Row::new(labels, samples)))
     }
 
-    /// Each series of the block, ascending by reference, with its label set and its undeleted samples; also a series
-    /// without a sample.
+    /// Each series of the block, ascending by reference, with its label set and its undeleted
+    /// samples; also a series without a sample.
     ///
-    /// It reads each chunk once. It takes memory in proportion to the series, the texts of their labels and the samples.
+    /// It reads each chunk once. It takes memory in proportion to the series, the texts of their
+    /// labels and the samples.
     pub fn list_all(&self, alloc: Global) -> Result<Vec<(SeriesRef, Row)>, AllocError>
         ensures { IfOk result (λ rows. rows.items ≡ self.now.part) }
     {

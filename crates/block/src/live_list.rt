@@ -10,12 +10,15 @@ use crate::wanted::Times;
 use labels::SeriesRef;
 use postings::Postings;
 
-/// The place of the first series, from a place on, that has an undeleted sample in the range, or the end.
+/// The place of the first series, from a place on, that has an undeleted sample in the range, or
+/// the end.
 fn next_live(block: &Block, start: usize, times: Times) -> usize
     requires { start ≤ length block.now.part }
     ensures within { result ≤ length block.now.part }
-    ensures moved { live_references times.from times.to (drop result block.now.part) ≡ live_references times.from times.to (drop start block.now.part) }
-    ensures settled { first_of (live_references times.from times.to (drop result block.now.part)) ≡ first_of (references (drop result block.now.part)) }
+    ensures moved { live_references times.from times.to (drop result block.now.part)
+        ≡ live_references times.from times.to (drop start block.now.part) }
+    ensures settled { first_of (live_references times.from times.to (drop result block.now.part))
+        ≡ first_of (references (drop result block.now.part)) }
 {
     let mut place = start;
     while place < block.series_count() && !block.is_live_at(place, times) {
@@ -24,9 +27,10 @@ fn next_live(block: &Block, start: usize, times: Times) -> usize
     place
 }
 
-/// The list of the series that have an undeleted sample in a closed range. It stands at such a series, or at the end,
-/// and looks at the series only as it goes on: it finds the chunks whose times meet the range by halving, looks at
-/// their ends first, and reads a chunk only where the ends leave it open.
+/// The list of the series that have an undeleted sample in a closed range. It stands at such a
+/// series, or at the end, and looks at the series only as it goes on: it finds the chunks whose
+/// times meet the range by halving, looks at their ends first, and reads a chunk only where the
+/// ends leave it open.
 #[derive(Drop)]
 pub struct LiveList<'a> {
     block: &'a Block,
@@ -34,7 +38,8 @@ pub struct LiveList<'a> {
     times: Times,
     ghost within: { place ≤ length block.now.part },
     ghost rising: { IsStrictlyIncreasing (references block.now.part) },
-    ghost settled: { first_of (live_references times.from times.to (drop place block.now.part)) ≡ first_of (references (drop place block.now.part)) },
+    ghost settled: { first_of (live_references times.from times.to (drop place block.now.part))
+        ≡ first_of (references (drop place block.now.part)) },
 }
 
 impl<'a> LiveList<'a> {

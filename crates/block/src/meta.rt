@@ -13,10 +13,10 @@ use std::alloc::Global;
 const LIMIT: usize = 1_048_576;
 
 impl Range {
-    /// The range that the text of a `meta.json` says, in milliseconds: a JSON object with the members `minTime`,
-    /// `maxTime` and `version`, integers of 64 bits written as such, the version 1, both others times and the first
-    /// below the second. Other members are ignored; of one that is given twice the last counts. `B2` for anything else,
-    /// and for more than 1,048,576 bytes.
+    /// The range that the text of a `meta.json` says, in milliseconds: a JSON object with the
+    /// members `minTime`, `maxTime` and `version`, integers of 64 bits written as such, the version
+    /// 1, both others times and the first below the second. Other members are ignored; of one that
+    /// is given twice the last counts. `B2` for anything else, and for more than 1,048,576 bytes.
     pub fn read_meta(alloc: Global, text: &[u8]) -> Result<Range, BlockError>
         ensures { Gives (λ range. range) result (or_meta (range_said text.now)) }
     {

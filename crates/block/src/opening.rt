@@ -18,7 +18,8 @@ use labels::SeriesRef;
 use std::alloc::Global;
 use tombstones::{Deletion, Tombstones};
 
-/// Looks at each chunk that the index names, in its order, and then whether a series has too many samples.
+/// Looks at each chunk that the index names, in its order, and then whether a series has too many
+/// samples.
 #[tactic(auto, unfolding(crate::specs::Opening::stored_of))]
 pub(crate) fn check_stored<C: Checker>(
     checker: &C,
@@ -27,8 +28,10 @@ pub(crate) fn check_stored<C: Checker>(
 ) -> Result<(), BlockError>
     requires ready { C.is_ready checker.now }
     ensures exact { Gives (λ _. tt) result (stored_of chunks.now index.now.series) }
-    ensures held { OnOk result (AllByRecursion (AllByRecursion (IsHeld chunks.now)) (chunk_lists index.now.series)) }
-    ensures few { OnOk result (list_all (have_few chunks.now) (chunk_lists index.now.series) ≡ true) }
+    ensures held { OnOk result
+        (AllByRecursion (AllByRecursion (IsHeld chunks.now)) (chunk_lists index.now.series)) }
+    ensures few { OnOk result
+        (list_all (have_few chunks.now) (chunk_lists index.now.series) ≡ true) }
 {
     let few = checker.check(index, chunks)?;
     if !few {

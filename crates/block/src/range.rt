@@ -29,7 +29,8 @@ impl Model for Range {
 impl Range {
     ghost use Rattle.block.specs.Ranges.{covers};
 
-    /// The range from `min` up to, not including, `max`: exactly where `min` is below `max` and both are times.
+    /// The range from `min` up to, not including, `max`: exactly where `min` is below `max` and
+    /// both are times.
     pub fn new(min: i64, max: i64) -> Option<Range>
         ensures { result ≡ range_of min max }
     {

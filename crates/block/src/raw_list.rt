@@ -8,8 +8,8 @@ use index_reader::PostingsList;
 use labels::SeriesRef;
 use postings::Postings;
 
-/// A list over entries. It keeps the reference at its place, so that `current` reads none, and it tells how many it has
-/// read.
+/// A list over entries. It keeps the reference at its place, so that `current` reads none, and it
+/// tells how many it has read.
 #[derive(Drop)]
 pub struct RawList<'a> {
     entries: PostingsList<'a>,
@@ -18,7 +18,8 @@ pub struct RawList<'a> {
     ghost placed: { IsAtPlace entries.0 at head },
 }
 
-/// The first place, from a place on, of a reference that is not below the target, and that reference.
+/// The first place, from a place on, of a reference that is not below the target, and that
+/// reference.
 fn place_of(
     entries: &mut PostingsList,
     from: usize,
@@ -78,7 +79,8 @@ impl<'a> RawList<'a> {
         }
     }
 
-    /// How many references it and the entries that it was made of have read so far, up to the greatest number.
+    /// How many references it and the entries that it was made of have read so far, up to the
+    /// greatest number.
     pub fn reads(&self) -> u64
         ensures { result ≡ reads_of self.now }
     {
@@ -108,12 +110,14 @@ impl<'a> Postings for RawList<'a> {
         }
     }
 
-    /// It reads at most as many references as the length of what remained has binary digits, and none where the target
-    /// is not above the first.
+    /// It reads at most as many references as the length of what remained has binary digits, and
+    /// none where the target is not above the first.
     fn seek(&mut self, target: SeriesRef)
         ensures list { remaining_of self.new ≡ not_below target (remaining_of self.old) }
-        ensures few { HasReadWithinDigits (length (remaining_of self.old)) (reads_of self.old) (reads_of self.new) }
-        ensures still { target ≤ first_or_end (remaining_of self.old) → reads_of self.new ≡ reads_of self.old }
+        ensures few { HasReadWithinDigits (length (remaining_of self.old)) (reads_of self.old)
+            (reads_of self.new) }
+        ensures still { target ≤ first_or_end (remaining_of self.old)
+            → reads_of self.new ≡ reads_of self.old }
     {
         let Some(head) = self.head else {
             return;

@@ -13,8 +13,8 @@ use labels::{LabelSet, Sample, SeriesRef};
 use std::alloc::{AllocError, Global};
 
 impl Block {
-    /// The label set of a series, `None` for an unknown reference. It finds the series by halving, and makes the set of
-    /// the texts of the index.
+    /// The label set of a series, `None` for an unknown reference. It finds the series by halving,
+    /// and makes the set of the texts of the index.
     pub fn labels_of(
         &self,
         alloc: Global,
@@ -32,9 +32,11 @@ impl Block {
         }
     }
 
-    /// The undeleted samples of a series in a closed range of times, in milliseconds; none for an unknown reference.
+    /// The undeleted samples of a series in a closed range of times, in milliseconds; none for an
+    /// unknown reference.
     ///
-    /// It finds the series, and those of its chunks whose times meet the range, by halving, and reads no other chunk.
+    /// It finds the series, and those of its chunks whose times meet the range, by halving, and
+    /// reads no other chunk.
     pub fn samples_of(
         &self,
         alloc: Global,
@@ -42,7 +44,8 @@ impl Block {
         from: i64,
         to: i64,
     ) -> Result<Vec<Sample>, AllocError>
-        ensures { IfOk result (λ samples. samples.items ≡ samples_within from to (row_at reference self.now.part)) }
+        ensures { IfOk result (λ samples.
+            samples.items ≡ samples_within from to (row_at reference self.now.part)) }
     {
         match place_of(&self.files.index, reference) {
             Some(at) => self.samples_at(alloc, at, Times { from, to }),
@@ -58,7 +61,8 @@ impl Block {
         times: Times,
     ) -> Result<Vec<Sample>, AllocError>
         requires { i < length self.now.part }
-        ensures { IfOk result (λ samples. (row : ℕ × Row) → slice_get self.now.part i ≡ Some row → samples.items ≡ within times.from times.to row.1.1) }
+        ensures { IfOk result (λ samples. (row : ℕ × Row) → slice_get self.now.part i ≡ Some row
+            → samples.items ≡ within times.from times.to row.1.1) }
     {
         let mut found = Vec::new(alloc);
         let files = &*self.files;
@@ -74,7 +78,8 @@ impl Block {
     /// The label set of the series at a place, from 0.
     pub(crate) fn labels_at(&self, alloc: Global, i: usize) -> Result<LabelSet, AllocError>
         requires { i < length self.now.part }
-        ensures { IfOk result (λ labels. (row : ℕ × Row) → slice_get self.now.part i ≡ Some row → labels ≡ row.1.0) }
+        ensures { IfOk result (λ labels.
+            (row : ℕ × Row) → slice_get self.now.part i ≡ Some row → labels ≡ row.1.0) }
     {
         self.files.index.labels_at(alloc, i)
     }
@@ -90,7 +95,8 @@ impl Block {
     /// Whether the series at a place has an undeleted sample in the closed range.
     pub(crate) fn is_live_at(&self, i: usize, times: Times) -> bool
         requires { i < length self.now.part }
-        ensures { (row : ℕ × Row) → slice_get self.now.part i ≡ Some row → result ≡ has_sample times.from times.to row.1.1 }
+        ensures { (row : ℕ × Row) → slice_get self.now.part i ≡ Some row
+            → result ≡ has_sample times.from times.to row.1.1 }
     {
         let files = &*self.files;
         let wanted = Wanted {
@@ -101,12 +107,15 @@ impl Block {
         is_any_wanted(&files.chunks, files.index.chunks_at(i), &wanted)
     }
 
-    /// The place of the first series, from a place on, whose reference is not below the target, or the end.
+    /// The place of the first series, from a place on, whose reference is not below the target, or
+    /// the end.
     pub(crate) fn place_from(&self, from: usize, target: SeriesRef) -> usize
         requires { from ≤ length self.now.part }
         ensures place { (from ≤ result) × (result ≤ length self.now.part) }
-        ensures below { (k : ℕ) → from ≤ k → k < result → get_or (references self.now.part) k 0 < target }
-        ensures above { result < length self.now.part → target ≤ get_or (references self.now.part) result 0 }
+        ensures below { (k : ℕ) → from ≤ k → k < result
+            → get_or (references self.now.part) k 0 < target }
+        ensures above { result < length self.now.part
+            → target ≤ get_or (references self.now.part) result 0 }
     {
         place_from(&self.files.index, from, target)
     }
@@ -118,11 +127,15 @@ impl Block {
         self.files.index.all()
     }
 
-    /// The references of the series with this value of a name, `None` where there is none. None of it is read yet.
+    /// The references of the series with this value of a name, `None` where there is none. None of
+    /// it is read yet.
     pub(crate) fn list(&self, name: &str, value: &str) -> Option<PostingsList<'_>>
-        ensures none { IfNone result (references_where (carries name.now value.now) self.now.part ≡ []) }
-        ensures listed { IfSome result (λ entries. entries ≡ (references_where (carries name.now value.now) self.now.part, 0)) }
-        ensures some { IfSome result (λ entries. references_where (carries name.now value.now) self.now.part ≡ [] → ⊥) }
+        ensures none { IfNone result
+            (references_where (carries name.now value.now) self.now.part ≡ []) }
+        ensures listed { IfSome result (λ entries.
+            entries ≡ (references_where (carries name.now value.now) self.now.part, 0)) }
+        ensures some { IfSome result (λ entries.
+            references_where (carries name.now value.now) self.now.part ≡ [] → ⊥) }
     {
         self.files.index.postings(name, value)
     }

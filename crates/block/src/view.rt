@@ -48,7 +48,8 @@ impl<'a> BlockView<'a> {
         self.block.labels_of(alloc, reference)
     }
 
-    /// The undeleted samples of a series in a closed range of times, in milliseconds; none for an unknown reference.
+    /// The undeleted samples of a series in a closed range of times, in milliseconds; none for an
+    /// unknown reference.
     pub fn samples_of(
         &self,
         alloc: Global,
@@ -56,7 +57,8 @@ impl<'a> BlockView<'a> {
         from: i64,
         to: i64,
     ) -> Result<Vec<Sample>, AllocError>
-        ensures { IfOk result (λ samples. samples.items ≡ samples_within from to (row_at reference (part_of self.now))) }
+        ensures { IfOk result (λ samples.
+            samples.items ≡ samples_within from to (row_at reference (part_of self.now))) }
     {
         self.block.samples_of(alloc, reference, from, to)
     }
@@ -102,5 +104,6 @@ impl<'a> Source for BlockView<'a> {
 
     ghost is_part = { λ view. view.is_part };
 
-    ghost are_values = { λ view name. are_values_of view.block.now.part view.block.now.pairs name view.named };
+    ghost are_values = { λ view name.
+        are_values_of view.block.now.part view.block.now.pairs name view.named };
 }

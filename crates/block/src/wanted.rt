@@ -29,20 +29,24 @@ pub(crate) struct Wanted<'a> {
 
 impl<'a> Wanted<'a> {
     fn is_time(&self, t: i64) -> bool
-        ensures { result ≡ is_wanted self.now.tombstones.now self.now.reference self.now.times.from self.now.times.to t }
+        ensures { result ≡ is_wanted self.now.tombstones.now self.now.reference self.now.times.from
+            self.now.times.to t }
     {
         self.times.from <= t && t <= self.times.to && !self.tombstones.deleted(self.reference, t)
     }
 
     fn has(&self, sample: Sample) -> bool
-        ensures { result ≡ is_wanted self.now.tombstones.now self.now.reference self.now.times.from self.now.times.to sample.0 }
+        ensures { result ≡ is_wanted self.now.tombstones.now self.now.reference self.now.times.from
+            self.now.times.to sample.0 }
     {
         self.is_time(sample.t())
     }
 
     /// Whether the first or the last time of the chunk is wanted.
     fn has_end(&self, chunk: Chunk) -> bool
-        ensures { result ≡ (is_wanted self.now.tombstones.now self.now.reference self.now.times.from self.now.times.to chunk.mint || is_wanted self.now.tombstones.now self.now.reference self.now.times.from self.now.times.to chunk.maxt) }
+        ensures { result ≡ (is_wanted self.now.tombstones.now self.now.reference self.now.times.from
+            self.now.times.to chunk.mint || is_wanted self.now.tombstones.now self.now.reference
+            self.now.times.from self.now.times.to chunk.maxt) }
     {
         self.is_time(chunk.mint) || self.is_time(chunk.maxt)
     }
@@ -72,7 +76,9 @@ fn push_wanted(
     samples: &Samples<'_>,
     wanted: &Wanted<'_>,
 ) -> Result<(), AllocError>
-    ensures { OnOk result (found.new.items ≡ found.old.items ++ filter (λ (s : ℤ × ℤ). is_wanted wanted.now.tombstones.now wanted.now.reference wanted.now.times.from wanted.now.times.to s.0) samples.now) }
+    ensures { OnOk result (found.new.items
+        ≡ found.old.items ++ filter (λ (s : ℤ × ℤ). is_wanted wanted.now.tombstones.now
+        wanted.now.reference wanted.now.times.from wanted.now.times.to s.0) samples.now) }
 {
     for i in 0..samples.len() {
         let sample = samples.get(i);
@@ -83,7 +89,8 @@ fn push_wanted(
     Ok(())
 }
 
-/// Adds the samples that are wanted. It finds the chunks whose times meet the range by halving, and reads no other.
+/// Adds the samples that are wanted. It finds the chunks whose times meet the range by halving, and
+/// reads no other.
 pub(crate) fn push_each(
     found: &mut Vec<Sample>,
     chunks: &Chunks,
@@ -92,7 +99,9 @@ pub(crate) fn push_each(
 ) -> Result<(), AllocError>
     requires held { AreHeld chunks.now series.now }
     requires in_turn { AreInTurn series.now }
-    ensures { OnOk result (found.new.items ≡ found.old.items ++ filter (λ (s : ℤ × ℤ). is_wanted wanted.now.tombstones.now wanted.now.reference wanted.now.times.from wanted.now.times.to s.0) (samples_in chunks.now series.now)) }
+    ensures { OnOk result (found.new.items ≡ found.old.items
+        ++ filter (λ (s : ℤ × ℤ). is_wanted wanted.now.tombstones.now wanted.now.reference
+        wanted.now.times.from wanted.now.times.to s.0) (samples_in chunks.now series.now)) }
 {
     let met = meeting(series, wanted.times);
     for chunk in met {
@@ -102,7 +111,8 @@ pub(crate) fn push_each(
 }
 
 fn has_wanted(samples: &Samples<'_>, wanted: &Wanted<'_>) -> bool
-    ensures { result ≡ list_any (λ (s : ℤ × ℤ). is_wanted wanted.now.tombstones.now wanted.now.reference wanted.now.times.from wanted.now.times.to s.0) samples.now }
+    ensures { result ≡ list_any (λ (s : ℤ × ℤ). is_wanted wanted.now.tombstones.now
+        wanted.now.reference wanted.now.times.from wanted.now.times.to s.0) samples.now }
 {
     for i in 0..samples.len() {
         if wanted.has(samples.get(i)) {
@@ -114,7 +124,9 @@ fn has_wanted(samples: &Samples<'_>, wanted: &Wanted<'_>) -> bool
 
 /// Whether a chunk begins or ends with a sample that is wanted. It reads no chunk.
 fn has_wanted_end(series: &[Chunk], wanted: &Wanted<'_>) -> bool
-    ensures { result ≡ list_any (λ c. is_wanted wanted.now.tombstones.now wanted.now.reference wanted.now.times.from wanted.now.times.to c.mint || is_wanted wanted.now.tombstones.now wanted.now.reference wanted.now.times.from wanted.now.times.to c.maxt) series.now }
+    ensures { result ≡ list_any (λ c. is_wanted wanted.now.tombstones.now wanted.now.reference
+        wanted.now.times.from wanted.now.times.to c.mint || is_wanted wanted.now.tombstones.now
+        wanted.now.reference wanted.now.times.from wanted.now.times.to c.maxt) series.now }
 {
     for chunk in series {
         if wanted.has_end(*chunk) {
@@ -127,7 +139,9 @@ fn has_wanted_end(series: &[Chunk], wanted: &Wanted<'_>) -> bool
 /// Whether one of the samples is wanted. It reads the chunks up to the first that has one.
 fn has_wanted_within(chunks: &Chunks, series: &[Chunk], wanted: &Wanted<'_>) -> bool
     requires { AreHeld chunks.now series.now }
-    ensures { result ≡ list_any (λ (s : ℤ × ℤ). is_wanted wanted.now.tombstones.now wanted.now.reference wanted.now.times.from wanted.now.times.to s.0) (samples_in chunks.now series.now) }
+    ensures { result
+        ≡ list_any (λ (s : ℤ × ℤ). is_wanted wanted.now.tombstones.now wanted.now.reference
+        wanted.now.times.from wanted.now.times.to s.0) (samples_in chunks.now series.now) }
 {
     for chunk in series {
         if has_wanted(&chunk_samples(chunks, *chunk), wanted) {
@@ -137,12 +151,14 @@ fn has_wanted_within(chunks: &Chunks, series: &[Chunk], wanted: &Wanted<'_>) -> 
     false
 }
 
-/// Whether one of the samples is wanted. It finds the chunks whose times meet the range by halving; where the first or
-/// the last time of one of them says so it reads no chunk.
+/// Whether one of the samples is wanted. It finds the chunks whose times meet the range by halving;
+/// where the first or the last time of one of them says so it reads no chunk.
 pub(crate) fn is_any_wanted(chunks: &Chunks, series: &[Chunk], wanted: &Wanted<'_>) -> bool
     requires held { AreHeld chunks.now series.now }
     requires in_turn { AreInTurn series.now }
-    ensures { result ≡ list_any (λ (s : ℤ × ℤ). is_wanted wanted.now.tombstones.now wanted.now.reference wanted.now.times.from wanted.now.times.to s.0) (samples_in chunks.now series.now) }
+    ensures { result
+        ≡ list_any (λ (s : ℤ × ℤ). is_wanted wanted.now.tombstones.now wanted.now.reference
+        wanted.now.times.from wanted.now.times.to s.0) (samples_in chunks.now series.now) }
 {
     let met = meeting(series, wanted.times);
     if has_wanted_end(met, wanted) {

@@ -12,9 +12,11 @@ returns-in_err-few g t c =
     let file = c.args.chunks.now in
     let front = lists_between series c.args.from low in
     let back = lists_between series (c.args.from + low) high in
-    let whole = between_both series c.args.from low high (c.args.from + low) c.args.count (omega arith) refl in
+    let whole =
+    between_both series c.args.from low high (c.args.from + low) c.args.count (omega arith) refl in
     let p = err_from_is_err_and c.from_residual.result c.from_residual.ensures.1 in
-    rw (p.1, p.2, whole) (looked_front file front back _ (subst (IsLookedAt file front) c.in_err-few.was c.join-first.ensures.first))
+    rw (p.1, p.2, whole) (looked_front file front back _
+    (subst (IsLookedAt file front) c.in_err-few.was c.join-first.ensures.first))
 
 pub returns-in_err-more : goal.returns-in_err-more
 returns-in_err-more g t c =
@@ -24,8 +26,10 @@ returns-in_err-more g t c =
     let file = c.args.chunks.now in
     let front = lists_between series c.args.from low in
     let back = lists_between series (c.args.from + low) high in
-    let whole = between_both series c.args.from low high (c.args.from + low) c.args.count (omega arith) refl in
-    let p = err_from_is_err_and c.from_residual-in_err-more.result c.from_residual-in_err-more.ensures.1 in
+    let whole =
+    between_both series c.args.from low high (c.args.from + low) c.args.count (omega arith) refl in
+    let p =
+    err_from_is_err_and c.from_residual-in_err-more.result c.from_residual-in_err-more.ensures.1 in
     rw (p.1, p.2, whole) (looked_back file front back _ _
     (subst (IsLookedAt file front) c.in_ok-few.was c.join-first.ensures.first)
     (subst (IsLookedAt file back) c.in_err-more.was c.join-first.ensures.second))
@@ -38,7 +42,8 @@ returns g t c =
     let file = c.args.chunks.now in
     let front = lists_between series c.args.from low in
     let back = lists_between series (c.args.from + low) high in
-    let whole = between_both series c.args.from low high (c.args.from + low) c.args.count (omega arith) refl in
+    let whole =
+    between_both series c.args.from low high (c.args.from + low) c.args.count (omega arith) refl in
     rw whole (looked_both file front back _ _
     (subst (IsLookedAt file front) c.in_ok-few.was c.join-first.ensures.first)
     (subst (IsLookedAt file back) c.in_ok-more.was c.join-first.ensures.second))

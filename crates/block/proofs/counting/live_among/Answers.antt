@@ -15,11 +15,21 @@ loop-at-preserved c =
     let told = ap (covered ds r) (sym time) ∙ sym c.deleted.ensures in
     elim c.if-not-deleted.branch [
       | then-not-deleted w ↦
-          let next = live_next ds r c.args.samples.now l.at c.get.result false c.get.ensures (told ∙ w.if-not-deleted.true) in
+          let next =
+          live_next ds r c.args.samples.now l.at c.get.result false c.get.ensures (told
+          ∙ w.if-not-deleted.true) in
           let count = w.count-is in
-          record { counted = omega (arith, next, count, l.invariant.counted); few = omega (arith, count, l.invariant.few) }
+          record {
+            counted = omega (arith, next, count, l.invariant.counted);
+            few = omega (arith, count, l.invariant.few);
+          }
       | else-not-deleted w ↦
-          let next = live_next ds r c.args.samples.now l.at c.get.result true c.get.ensures (told ∙ w.if-not-deleted.false) in
+          let next =
+          live_next ds r c.args.samples.now l.at c.get.result true c.get.ensures (told
+          ∙ w.if-not-deleted.false) in
           let count = w.count-is in
-          record { counted = omega (arith, next, count, l.invariant.counted); few = omega (arith, count, l.invariant.few) }
+          record {
+            counted = omega (arith, next, count, l.invariant.counted);
+            few = omega (arith, count, l.invariant.few);
+          }
     ]

@@ -11,4 +11,5 @@ returns-in-Ok c =
 
 pub returns-else-is_memory : goal.returns-else-is_memory
 returns-else-is_memory c =
-    ap (λ (d : Option Data). or_meta d) (json_unless _ (c.in-Err.ensures.err (λ m. true≢false (sym (c.is_memory.ensures.1 m) ∙ c.if-is_memory.false))))
+    ap (λ (d : Option Data). or_meta d) (json_unless _
+    (c.in-Err.ensures.err (λ m. true≢false (sym (c.is_memory.ensures.1 m) ∙ c.if-is_memory.false))))

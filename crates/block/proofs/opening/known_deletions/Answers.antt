@@ -8,14 +8,22 @@ use Rattle.block.proofs.opening.known_deletions.Goals as goal
 pub returns-then-not-are_known : goal.returns-then-not-are_known
 returns-then-not-are_known c =
     let x = c.in_ok-tombstones.ensures.exact in
-    deleted_unknown c.args.file.now c.args.index.now.series x.0 c.in_ok-tombstones.tombstones x.1 x.2
-    (ap (λ (ds : List Deletion). list_all (is_known c.args.index.now.series) ds) (sym c.deletions.ensures) ∙ sym c.are_known.ensures ∙ c.if-not-are_known.true)
+    deleted_unknown c.args.file.now c.args.index.now.series x.0
+    c.in_ok-tombstones.tombstones x.1 x.2
+    (ap (λ (ds : List Deletion). list_all (is_known c.args.index.now.series) ds)
+    (sym c.deletions.ensures)
+    ∙ sym c.are_known.ensures
+    ∙ c.if-not-are_known.true)
 
 pub returns : goal.returns
 returns c =
     let x = c.in_ok-tombstones.ensures.exact in (
       x.0,
-      deleted_known c.args.file.now c.args.index.now.series x.0 c.in_ok-tombstones.tombstones x.1 x.2
-          (ap (λ (ds : List Deletion). list_all (is_known c.args.index.now.series) ds) (sym c.deletions.ensures) ∙ sym c.are_known.ensures ∙ c.if-not-are_known.false),
+      deleted_known c.args.file.now c.args.index.now.series x.0
+          c.in_ok-tombstones.tombstones x.1 x.2
+          (ap (λ (ds : List Deletion). list_all (is_known c.args.index.now.series) ds)
+          (sym c.deletions.ensures)
+          ∙ sym c.are_known.ensures
+          ∙ c.if-not-are_known.false),
       x.2,
     )

@@ -9,7 +9,8 @@ loop-low-preserved-then-number c =
     let l = c.loop-low in
     let m = l.low + (l.high - l.low) / 2 in
     let e = ap (λ (p : List ℕ × ℕ). p.0) c.get-reference.ensures.counted in
-    let once : c.get-reference.new.self.1 ≤ l.entries.1 + 1 = omega (arith, ap (λ (p : List ℕ × ℕ). p.1) c.get-reference.ensures.counted) in
+    let once : c.get-reference.new.self.1 ≤ l.entries.1 + 1 =
+    omega (arith, ap (λ (p : List ℕ × ℕ). p.1) c.get-reference.ensures.counted) in
     let up : IsStrictlyIncreasing l.entries.0 = rw l.invariant.same c.requires.increasing in
     let less : c.get-reference.result < c.args.target = omega arith in
     record {
@@ -18,8 +19,12 @@ loop-low-preserved-then-number c =
       ordered = omega arith;
       inside = rw e l.invariant.inside;
       risen = omega (arith, l.invariant.risen, c.get-reference.ensures.risen);
-      few = λ k h. halved l.entries.1 _ (l.high - l.low) _ _ (l.invariant.few k (rw e at h)) (omega arith) (omega arith) once;
-      below = λ k a b. rw e (below_middle l.entries.0 m c.args.target c.get-reference.result up (omega arith) c.get-reference.ensures.value less k (omega arith));
+      few =
+          λ k h. halved l.entries.1 _ (l.high - l.low) _ _ (l.invariant.few k (rw e at h))
+          (omega arith) (omega arith) once;
+      below =
+          λ k a b. rw e (below_middle l.entries.0 m c.args.target c.get-reference.result up
+          (omega arith) c.get-reference.ensures.value less k (omega arith));
       above = rw e l.invariant.above;
       head = rw e l.invariant.head;
     }
@@ -29,8 +34,10 @@ loop-low-preserved c =
     let l = c.loop-low in
     let m = l.low + (l.high - l.low) / 2 in
     let e = ap (λ (p : List ℕ × ℕ). p.0) c.get-reference.ensures.counted in
-    let once : c.get-reference.new.self.1 ≤ l.entries.1 + 1 = omega (arith, ap (λ (p : List ℕ × ℕ). p.1) c.get-reference.ensures.counted) in
-    let here : get_or l.entries.0 m 0 ≡ c.get-reference.result = get_or_from_slice_get l.entries.0 m c.get-reference.result 0 c.get-reference.ensures.value in
+    let once : c.get-reference.new.self.1 ≤ l.entries.1 + 1 =
+    omega (arith, ap (λ (p : List ℕ × ℕ). p.1) c.get-reference.ensures.counted) in
+    let here : get_or l.entries.0 m 0 ≡ c.get-reference.result =
+    get_or_from_slice_get l.entries.0 m c.get-reference.result 0 c.get-reference.ensures.value in
     let less : c.args.target ≤ c.get-reference.result = omega arith in
     record {
       same = e ∙ l.invariant.same;
@@ -38,7 +45,9 @@ loop-low-preserved c =
       ordered = omega arith;
       inside = rw e (omega (arith, l.invariant.inside));
       risen = omega (arith, l.invariant.risen, c.get-reference.ensures.risen);
-      few = λ k h. halved l.entries.1 _ (l.high - l.low) _ _ (l.invariant.few k (rw e at h)) (omega arith) (omega arith) once;
+      few =
+          λ k h. halved l.entries.1 _ (l.high - l.low) _ _ (l.invariant.few k (rw e at h))
+          (omega arith) (omega arith) once;
       below = rw e l.invariant.below;
       above = λ _. rw e (rw here less);
       head = rw e (sym c.get-reference.ensures.value);
@@ -50,5 +59,7 @@ returns-clause-few c =
     record {
       reads = l.entries.1 - c.args.entries.now.1;
       added = omega (arith, l.invariant.risen);
-      few = λ digits h. omega (arith, l.invariant.risen, (l.invariant.few digits (rw l.invariant.same h)).1);
+      few =
+          λ digits h.
+          omega (arith, l.invariant.risen, (l.invariant.few digits (rw l.invariant.same h)).1);
     }

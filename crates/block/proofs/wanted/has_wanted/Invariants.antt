@@ -5,5 +5,7 @@ use Rattle.block.proofs.wanted.has_wanted.Given as goal
 
 abbrev pub invariant-loop-i : goal.invariant-loop-i
 invariant-loop-i l =
-    list_any (λ (s : ℤ × ℤ). is_wanted l.wanted.tombstones.now l.wanted.reference l.wanted.times.from l.wanted.times.to s.0) (drop l.i l.samples)
-    ≡ list_any (λ (s : ℤ × ℤ). is_wanted l.wanted.tombstones.now l.wanted.reference l.wanted.times.from l.wanted.times.to s.0) l.samples
+    list_any (λ (s : ℤ × ℤ). is_wanted l.wanted.tombstones.now l.wanted.reference
+    l.wanted.times.from l.wanted.times.to s.0) (drop l.i l.samples)
+    ≡ list_any (λ (s : ℤ × ℤ). is_wanted l.wanted.tombstones.now l.wanted.reference
+    l.wanted.times.from l.wanted.times.to s.0) l.samples

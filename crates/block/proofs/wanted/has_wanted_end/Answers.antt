@@ -6,10 +6,13 @@ use Rattle.block.proofs.wanted.has_wanted_end.Goals as goal
 pub loop-chunk-preserved : goal.loop-chunk-preserved
 loop-chunk-preserved c =
     let w = c.args.wanted.now in
-    end_passed w.tombstones.now w.reference w.times.from w.times.to c.args.series.now c.loop-chunk.chunk-index _ c.has_end.result (omega arith) c.has_end.ensures c.if-has_end.false
+    end_passed w.tombstones.now w.reference w.times.from w.times.to c.args.series.now
+    c.loop-chunk.chunk-index _ c.has_end.result (omega arith) c.has_end.ensures c.if-has_end.false
     ∙ c.loop-chunk.invariant
 
 pub returns : goal.returns
 returns c =
     let w = c.args.wanted.now in
-    sym (any_ended (has_end w.tombstones.now w.reference w.times.from w.times.to) c.args.series.now c.loop-chunk.chunk-index (omega arith)) ∙ c.loop-chunk.invariant
+    sym (any_ended (has_end w.tombstones.now w.reference w.times.from w.times.to) c.args.series.now
+    c.loop-chunk.chunk-index (omega arith))
+    ∙ c.loop-chunk.invariant

@@ -6,5 +6,7 @@ use Rattle.block.proofs.wanted.has_wanted_within.Given as goal
 
 abbrev pub invariant-loop-chunk : goal.invariant-loop-chunk
 invariant-loop-chunk l =
-    list_any (λ (s : ℤ × ℤ). is_wanted l.wanted.tombstones.now l.wanted.reference l.wanted.times.from l.wanted.times.to s.0) (samples_in l.chunks (drop l.chunk-index l.series))
-    ≡ list_any (λ (s : ℤ × ℤ). is_wanted l.wanted.tombstones.now l.wanted.reference l.wanted.times.from l.wanted.times.to s.0) (samples_in l.chunks l.series)
+    list_any (λ (s : ℤ × ℤ). is_wanted l.wanted.tombstones.now l.wanted.reference
+    l.wanted.times.from l.wanted.times.to s.0) (samples_in l.chunks (drop l.chunk-index l.series))
+    ≡ list_any (λ (s : ℤ × ℤ). is_wanted l.wanted.tombstones.now l.wanted.reference
+    l.wanted.times.from l.wanted.times.to s.0) (samples_in l.chunks l.series)

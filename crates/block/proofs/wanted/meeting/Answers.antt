@@ -12,6 +12,14 @@ returns c =
     let to = c.args.times.to in
     let j = c.partition_point-end.result in
     let i = c.partition_point-start.result in
-    let begins = IsPartitionPoint-from_clause (λ x. not (int_lt to x.mint)) cs j c.partition_point-end.ensures.partitioned (begins_parted to cs c.requires) (λ a r f' k. search rules) in
-    let ends = IsPartitionPoint-from_clause (λ x. int_lt x.maxt from) (take j cs) i c.partition_point-start.ensures.partitioned (ends_parted from (take j cs) (in_turn_take cs j c.requires)) (λ a r f' k. search rules) in
-    take_rest (take j cs) i ∙ met_is from to cs i j c.partition_point-end.ensures.bound c.partition_point-start.ensures.bound begins ends
+    let begins =
+    IsPartitionPoint-from_clause (λ x. not (int_lt to x.mint)) cs j
+    c.partition_point-end.ensures.partitioned (begins_parted to cs c.requires)
+    (λ a r f' k. search rules) in
+    let ends =
+    IsPartitionPoint-from_clause (λ x. int_lt x.maxt from) (take j cs) i
+    c.partition_point-start.ensures.partitioned
+    (ends_parted from (take j cs) (in_turn_take cs j c.requires)) (λ a r f' k. search rules) in
+    take_rest (take j cs) i
+    ∙ met_is from to cs i j c.partition_point-end.ensures.bound
+    c.partition_point-start.ensures.bound begins ends

@@ -7,4 +7,6 @@ returns-clause-found c = c.opened.ensures.found
 
 pub returns-clause-only : goal.returns-clause-only
 returns-clause-only c part x =
-    is_only c.args.range c.args.index.now c.args.chunks.items c.args.tombstones.now part c.opened.result (λ i. omega (arith, c.type_inv.index i)) (λ i. omega (arith, c.type_inv.tombstones i)) c.opened.ensures.exact x
+    is_only c.args.range c.args.index.now c.args.chunks.items c.args.tombstones.now part
+    c.opened.result (λ i. omega (arith, c.type_inv.index i))
+    (λ i. omega (arith, c.type_inv.tombstones i)) c.opened.ensures.exact x

@@ -8,9 +8,11 @@ use Rattle.block.proofs.blocks.Block.range.Goals as goal
 pub returns-clause-inside : goal.returns-clause-inside
 returns-clause-inside c =
     let b = c.self.inside in
-    subst (λ (shown : Shown). AreInside shown.range shown.part) c.self.view_is (is_inside b.range (arc_value b.files).chunks (arc_value b.files).index b.tombstones c.self.invariant)
+    subst (λ (shown : Shown). AreInside shown.range shown.part) c.self.view_is (is_inside b.range
+    (arc_value b.files).chunks (arc_value b.files).index b.tombstones c.self.invariant)
 
 pub returns-clause-is_part : goal.returns-clause-is_part
 returns-clause-is_part c =
     let b = c.self.inside in
-    subst (λ (shown : Shown). IsPart shown.part) c.self.view_is (is_part b.range (arc_value b.files).chunks (arc_value b.files).index b.tombstones c.self.invariant)
+    subst (λ (shown : Shown). IsPart shown.part) c.self.view_is (is_part b.range
+    (arc_value b.files).chunks (arc_value b.files).index b.tombstones c.self.invariant)

@@ -11,7 +11,8 @@ use Rattle.block.proofs.blocks.Block.sample_count.Goals as goal
 
 pub count_live-requires : goal.count_live-requires
 count_live-requires c =
-    subst (λ (f : Files). AllByRecursion (AreHeld f.chunks) (chunk_lists c.deref.result.now.index.series)) (c.deref.ensures ∙ sym c.deref-2.ensures)
+    subst (λ (f : Files). AllByRecursion (AreHeld f.chunks)
+    (chunk_lists c.deref.result.now.index.series)) (c.deref.ensures ∙ sym c.deref-2.ensures)
     (all_held c.deref.result.now c.self.inside c.deref.ensures c.self.invariant)
 
 pub returns : goal.returns
@@ -20,4 +21,6 @@ returns c =
     let f = arc_value b.files in
     let d = c.deref.ensures in
     let e = rw (c.deref.ensures, c.deref-2.ensures) at c.count_live.ensures in
-    count_whole b.range f.chunks b.tombstones f.index.series c.count_live.result c.self.invariant.stored c.self.invariant.consistent.few e ∙ ap (λ (s : Shown). sample_count s.part) c.self.view_is
+    count_whole b.range f.chunks b.tombstones f.index.series c.count_live.result
+    c.self.invariant.stored c.self.invariant.consistent.few e
+    ∙ ap (λ (s : Shown). sample_count s.part) c.self.view_is

@@ -12,6 +12,10 @@ invariant_of-result c =
     let b = c.self.inside in
     let f = arc_value b.files in
     record {
-      is_part = subst (λ (s : Shown). IsPart s.part) c.self.view_is (is_part b.range f.chunks f.index b.tombstones c.self.invariant);
-      named = subst (λ (s : Shown). AreNamed s.part s.pairs) c.self.view_is (named_in f.chunks b.tombstones f.index c.self.invariant.consistent);
+      is_part =
+          subst (λ (s : Shown). IsPart s.part) c.self.view_is
+          (is_part b.range f.chunks f.index b.tombstones c.self.invariant);
+      named =
+          subst (λ (s : Shown). AreNamed s.part s.pairs) c.self.view_is
+          (named_in f.chunks b.tombstones f.index c.self.invariant.consistent);
     }

@@ -14,6 +14,9 @@ returns-clause-part c =
     let f = arc_value b.files in
     let rs = c.args.references.now in
     let clone = c.in_ok-files.ensures in
-    ap (λ (x : Files). part_of x.chunks c.in_ok-tombstones.tombstones x.index.series) c.in_ok-files.ensures
-    ∙ part_removed f.chunks rs _ _ c.args.from c.args.to b.tombstones c.in_ok-tombstones.tombstones f.index.series (to_z-of_z w64 c.args.from c.ranges.from) (to_z-of_z w64 c.args.to c.ranges.to) c.in_ok-tombstones.ensures.ok
+    ap (λ (x : Files). part_of x.chunks c.in_ok-tombstones.tombstones x.index.series)
+    c.in_ok-files.ensures
+    ∙ part_removed f.chunks rs _ _ c.args.from c.args.to b.tombstones c.in_ok-tombstones.tombstones
+    f.index.series (to_z-of_z w64 c.args.from c.ranges.from) (to_z-of_z w64 c.args.to c.ranges.to)
+    c.in_ok-tombstones.ensures.ok
     ∙ ap (λ (s : Shown). part_without rs c.args.from c.args.to s.part) c.self.view_is

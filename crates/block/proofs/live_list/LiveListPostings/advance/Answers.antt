@@ -7,4 +7,6 @@ use Rattle.block.proofs.live_list.LiveListPostings.advance.Goals as goal
 pub returns-then-self-series_count : goal.returns-then-self-series_count
 returns-then-self-series_count c =
     let live = c.args.self.now in
-    c.next_live-self.ensures.moved ∙ rest_at (λ (row : ℕ × Row). has_sample live.times.from live.times.to row.1.1) live.block.now.part live.place (omega arith) live.rising live.settled
+    c.next_live-self.ensures.moved
+    ∙ rest_at (λ (row : ℕ × Row). has_sample live.times.from live.times.to row.1.1)
+    live.block.now.part live.place (omega arith) live.rising live.settled

@@ -5,4 +5,5 @@ use Rattle.block.proofs.live_list.LiveListPostings.current.Goals as goal
 pub returns-then-self-series_count : goal.returns-then-self-series_count
 returns-then-self-series_count c =
     let live = c.args.self.now in
-    sym (live.settled ∙ head_is live.block.now.part live.place c.reference_at.result c.reference_at.ensures)
+    sym (live.settled
+    ∙ head_is live.block.now.part live.place c.reference_at.result c.reference_at.ensures)

@@ -8,4 +8,6 @@ use Rattle.block.proofs.view.BlockViewSource.list.Goals as goal
 pub new-requires : goal.new-requires
 new-requires c =
     let view = c.args.self.now in
-    subst (λ (x : List ℕ × ℕ). IsStrictlyIncreasing x.0) (sym c.in-Some.ensures.listed) (kept_rises (λ (row : ℕ × Row). carries c.args.name.now c.args.value.now row.1.0) view.block.now.part view.is_part.ascending)
+    subst (λ (x : List ℕ × ℕ). IsStrictlyIncreasing x.0) (sym c.in-Some.ensures.listed)
+    (kept_rises (λ (row : ℕ × Row). carries c.args.name.now c.args.value.now row.1.0)
+    view.block.now.part view.is_part.ascending)
