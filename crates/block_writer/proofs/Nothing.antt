@@ -3,7 +3,8 @@ use Rattle.std.proofs.Common.{◌≡◌, ℕ, List, [], ◌∷◌, length, ap, a
 use Rattle.wire.specs.Checksum.{crc32c, register}
 use Rattle.tombstones.specs.Grammar.{IsTombstones}
 
-pub nothing_deleted : (file : List ℕ) → file ≡ 0x01 ∷ 0x30 ∷ 0xBA ∷ 0x30 ∷ 1 ∷ 0 ∷ 0 ∷ 0 ∷ 0 ∷ [] → IsTombstones file []
+pub nothing_deleted : (file : List ℕ) → file ≡ 0x01 ∷ 0x30 ∷ 0xBA ∷ 0x30 ∷ 1 ∷ 0 ∷ 0 ∷ 0 ∷ 0 ∷ []
+    → IsTombstones file []
 unfolding crc32c register
 nothing_deleted file e =
     let size : length file ≡ 9 = ap length e in

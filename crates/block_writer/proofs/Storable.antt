@@ -12,14 +12,18 @@ use Rattle.block.specs.Ranges.{covers}
 use Rattle.block_writer.specs.EntryBodies.{chunks_of}
 use Rattle.block_writer.specs.Writing.{series_text}
 
--- a series for each row: its label set, and its chunks, which stand one after another from a place on
+-- a series for each row: its label set, and its chunks, which stand one after another from a place
+-- on
 abbrev pub AreSeriesOf : ℕ → List Series → List Row → Type 0
 AreSeriesOf at [] [] = Unit {0}
 AreSeriesOf at [] (row ∷ rows) = ⊥
 AreSeriesOf at (s ∷ ss) [] = ⊥
-AreSeriesOf at (s ∷ ss) (row ∷ rows) = (s.labels ≡ row.0) × (s.chunks ≡ chunks_of at row.1) × AreSeriesOf (at + length (series_text row.1)) ss rows
+AreSeriesOf at (s ∷ ss) (row ∷ rows) =
+    (s.labels ≡ row.0) × (s.chunks ≡ chunks_of at row.1)
+    × AreSeriesOf (at + length (series_text row.1)) ss rows
 
--- samples that a block of a range may have: each time is a time and lies in the range, each value has 64 bits
+-- samples that a block of a range may have: each time is a time and lies in the range, each value
+-- has 64 bits
 pub record AreStorable (range : ℤ × ℤ) (samples : List (ℤ × ℤ)) : Type 0 where
   pub inside : AllByRecursion (λ (s : ℤ × ℤ). covers range s.0 ≡ true) samples
   pub times : T (list_all (λ (s : ℤ × ℤ). in_range MIN_TIME MAX_TIME s.0) samples)

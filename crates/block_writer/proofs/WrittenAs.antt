@@ -14,28 +14,33 @@ use Rattle.block_writer.specs.Writing.{series_text}
 unfoldable pub places_from : ℕ → List (List ℕ) → List SeriesEntry
 places_from at [] = []
 places_from at (body ∷ bodies) =
-    record { offset = rounded at; body = body; end = rounded at + length (entry body) } ∷ places_from (rounded at + length (entry body)) bodies
+    record { offset = rounded at; body = body; end = rounded at + length (entry body) }
+    ∷ places_from (rounded at + length (entry body)) bodies
 
 -- what the entries of rows say, whose chunks stand one after another from a place on
 unfoldable pub entries_of : List (List ℕ) → ℕ → List Row → List Body
 entries_of symbols at [] = []
 entries_of symbols at (row ∷ rows) =
-    record { labels = map (numbers_of symbols) row.0; chunks = chunks_of at row.1 } ∷ entries_of symbols (at + length (series_text row.1)) rows
+    record { labels = map (numbers_of symbols) row.0; chunks = chunks_of at row.1 }
+    ∷ entries_of symbols (at + length (series_text row.1)) rows
 
 -- the series of rows, under these references, whose chunks stand one after another from a place on
 unfoldable pub series_from : ℕ → List ℕ → List Row → List Series
 series_from at references [] = []
 series_from at [] (row ∷ rows) = []
 series_from at (r ∷ references) (row ∷ rows) =
-    record { reference = r; labels = row.0; chunks = chunks_of at row.1 } ∷ series_from (at + length (series_text row.1)) references rows
+    record { reference = r; labels = row.0; chunks = chunks_of at row.1 }
+    ∷ series_from (at + length (series_text row.1)) references rows
 
 -- the references of the rows in an index of these symbols
 abbrev pub references_in : List (List ℕ) → List Row → List ℕ
-references_in symbols rows = references_from (length (start_text symbols)) (bodies_of symbols 8 rows)
+references_in symbols rows =
+    references_from (length (start_text symbols)) (bodies_of symbols 8 rows)
 
 -- what the index holds: the rows as series, and the pairs
 abbrev pub indexed_from : List (List ℕ) → List (List ℕ × List ℕ) → List Row → Indexed
-indexed_from symbols pairs rows = record { series = series_from 8 (references_in symbols rows) rows; pairs = pairs }
+indexed_from symbols pairs rows =
+    record { series = series_from 8 (references_in symbols rows) rows; pairs = pairs }
 
 -- what stands before the postings
 abbrev pub front_text : List (List ℕ) → List Row → List ℕ
@@ -43,16 +48,20 @@ front_text symbols rows = with_entries (start_text symbols) (bodies_of symbols 8
 
 -- the references of the empty pair, and of each pair
 abbrev pub all_lists : List (List ℕ) → List (List ℕ × List ℕ) → List Row → List (List ℕ)
-all_lists symbols pairs rows = references_in symbols rows ∷ lists_of pairs rows (references_in symbols rows)
+all_lists symbols pairs rows =
+    references_in symbols rows ∷ lists_of pairs rows (references_in symbols rows)
 
 -- the entries of the offset table
 abbrev pub table_of : List (List ℕ) → List (List ℕ × List ℕ) → List Row → List TableEntry
-table_of symbols pairs rows = listed_from (length (front_text symbols rows)) (([], []) ∷ pairs) (all_lists symbols pairs rows)
+table_of symbols pairs rows =
+    listed_from (length (front_text symbols rows)) (([], []) ∷ pairs) (all_lists symbols pairs rows)
 
 -- the table of contents
 abbrev pub contents_in : List (List ℕ) → List (List ℕ × List ℕ) → List Row → TableOfContents
 contents_in symbols pairs rows =
-    contents_of (length (start_text symbols)) (length (front_text symbols rows)) (length (front_text symbols rows) + length (flat_map section_text (all_lists symbols pairs rows)))
+    contents_of (length (start_text symbols)) (length (front_text symbols rows))
+    (length (front_text symbols rows)
+    + length (flat_map section_text (all_lists symbols pairs rows)))
 
 -- the parts of the index
 abbrev pub parts_in : List (List ℕ) → List (List ℕ × List ℕ) → List Row → Layout

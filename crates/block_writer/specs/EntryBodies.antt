@@ -13,10 +13,12 @@ use Rattle.chunk_reader.specs.Grammar.{time_at}
 use Rattle.labels.specs.Labels.{text_cmp}
 use Rattle.block_writer.specs.Writing.{pieces, piece_text, series_text}
 
--- how many of a list are below something: its place among them, where it is one of them and they ascend
+-- how many of a list are below something: its place among them, where it is one of them and they
+-- ascend
 unfoldable pub place_among : {X : Type 0} → (X → X → Ordering) → List X → X → ℕ
 place_among cmp [] x = 0
-place_among cmp (y ∷ ys) x = if is_lt (cmp y x) then suc (place_among cmp ys x) else place_among cmp ys x
+place_among cmp (y ∷ ys) x =
+    if is_lt (cmp y x) then suc (place_among cmp ys x) else place_among cmp ys x
 
 -- the place of a text among the symbols
 abbrev pub number_of : List (List ℕ) → List ℕ → ℕ
@@ -28,12 +30,14 @@ numbers_of symbols p = (number_of symbols p.0, number_of symbols p.1)
 
 -- the chunk of samples that stands at a place: its first and its last time, and the place
 abbrev pub chunk_of : ℕ → List (ℤ × ℤ) → Chunk
-chunk_of at samples = record { mint = time_at samples 0; maxt = time_at samples (length samples - 1); reference = at }
+chunk_of at samples =
+    record { mint = time_at samples 0; maxt = time_at samples (length samples - 1); reference = at }
 
 -- chunks that stand one after another from a place on
 unfoldable pub chunks_from : ℕ → List (List (ℤ × ℤ)) → List Chunk
 chunks_from at [] = []
-chunks_from at (samples ∷ rest) = chunk_of at samples ∷ chunks_from (at + length (piece_text samples)) rest
+chunks_from at (samples ∷ rest) =
+    chunk_of at samples ∷ chunks_from (at + length (piece_text samples)) rest
 
 -- the chunks of a series, which stand from a place on
 abbrev pub chunks_of : ℕ → List (ℤ × ℤ) → List Chunk
@@ -47,10 +51,12 @@ apart from to = unsigned_abs (to -ℤ from)
 abbrev pub first_text : Chunk → List ℕ
 first_text c = varint c.mint ++ (uvarint (apart c.mint c.maxt) ++ uvarint c.reference)
 
--- a later chunk: how much later it begins than the one before it ends, how much later its last time is, how much further
--- it stands
+-- a later chunk: how much later it begins than the one before it ends, how much later its last time
+-- is, how much further it stands
 abbrev pub later_text : Chunk → Chunk → List ℕ
-later_text before c = uvarint (apart before.maxt c.mint) ++ (uvarint (apart c.mint c.maxt) ++ varint (pos c.reference -ℤ pos before.reference))
+later_text before c =
+    uvarint (apart before.maxt c.mint)
+    ++ (uvarint (apart c.mint c.maxt) ++ varint (pos c.reference -ℤ pos before.reference))
 
 -- chunks behind another
 unfoldable pub later_texts : Chunk → List Chunk → List ℕ
@@ -64,7 +70,8 @@ chunk_texts (c ∷ cs) = first_text c ++ later_texts c cs
 
 -- the count of the labels, and the labels
 abbrev pub labels_text : List (List ℕ) → List (List ℕ × List ℕ) → List ℕ
-labels_text symbols labels = uvarint (length labels) ++ flat_map (λ p. label_text (numbers_of symbols p)) labels
+labels_text symbols labels =
+    uvarint (length labels) ++ flat_map (λ p. label_text (numbers_of symbols p)) labels
 
 -- the count of the chunks, and the chunks
 abbrev pub places_text : List Chunk → List ℕ
@@ -77,4 +84,5 @@ body_of symbols at row = labels_text symbols row.0 ++ places_text (chunks_of at 
 -- the bodies of all rows, whose chunks stand one after another from a place on
 unfoldable pub bodies_of : List (List ℕ) → ℕ → List Row → List (List ℕ)
 bodies_of symbols at [] = []
-bodies_of symbols at (row ∷ rows) = body_of symbols at row ∷ bodies_of symbols (at + length (series_text row.1)) rows
+bodies_of symbols at (row ∷ rows) =
+    body_of symbols at row ∷ bodies_of symbols (at + length (series_text row.1)) rows

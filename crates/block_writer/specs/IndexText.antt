@@ -28,17 +28,20 @@ unfoldable pub with_entries : List ℕ → List (List ℕ) → List ℕ
 with_entries out [] = out
 with_entries out (body ∷ bodies) = with_entries (padded out ++ entry body) bodies
 
--- the references of entries that stand behind a place: each is the sixteenth part of where the entry stands
+-- the references of entries that stand behind a place: each is the sixteenth part of where the
+-- entry stands
 unfoldable pub references_from : ℕ → List (List ℕ) → List ℕ
 references_from at [] = []
-references_from at (body ∷ bodies) = rounded at / 16 ∷ references_from (rounded at + length (entry body)) bodies
+references_from at (body ∷ bodies) =
+    rounded at / 16 ∷ references_from (rounded at + length (entry body)) bodies
 
 -- the references of the rows that carry a pair
 unfoldable pub carriers : List ℕ → List ℕ → List Row → List ℕ → List ℕ
 carriers name value [] references = []
 carriers name value (row ∷ rows) [] = []
 carriers name value (row ∷ rows) (r ∷ references) =
-    if carries name value row.0 then r ∷ carriers name value rows references else carriers name value rows references
+    if carries name value row.0 then r ∷ carriers name value rows references
+    else carriers name value rows references
 
 -- the references of the rows that carry each pair
 abbrev pub lists_of : List (List ℕ × List ℕ) → List Row → List ℕ → List (List ℕ)
@@ -47,7 +50,10 @@ lists_of pairs rows references = map (λ p. carriers p.0 p.1 rows references) pa
 -- a reference behind the list of each pair that its labels carry, and the other lists as they were
 abbrev pub IsGivenTo : List (List ℕ × List ℕ) → Labels → ℕ → List (List ℕ) → List (List ℕ) → Type 0
 IsGivenTo pairs labels r old new =
-    (k : ℕ) → k < length pairs → get_or new k [] ≡ get_or old k [] ++ (if carries (get_or pairs k ([], [])).0 (get_or pairs k ([], [])).1 labels then r ∷ [] else [])
+    (k : ℕ) → k < length pairs → get_or new k [] ≡ get_or old k [] ++ (if carries (get_or pairs k (
+      [],
+      [],
+    )).0 (get_or pairs k ([], [])).1 labels then r ∷ [] else [])
 
 -- a postings section
 abbrev pub section_text : List ℕ → List ℕ
@@ -58,23 +64,36 @@ unfoldable pub listed_from : ℕ → List (List ℕ × List ℕ) → List (List 
 listed_from at [] lists = []
 listed_from at (p ∷ pairs) [] = []
 listed_from at (p ∷ pairs) (references ∷ lists) =
-    record { name = p.0; value = p.1; offset = at } ∷ listed_from (at + length (section_text references)) pairs lists
+    record { name = p.0; value = p.1; offset = at }
+    ∷ listed_from (at + length (section_text references)) pairs lists
 
--- the table of contents of an index without label indices: where the series, the postings and the offset table stand
+-- the table of contents of an index without label indices: where the series, the postings and the
+-- offset table stand
 abbrev pub contents_of : ℕ → ℕ → ℕ → TableOfContents
 contents_of series postings offsets =
-    record { symbols = 5; series = series; label_indices = 0; label_offsets = 0; postings = postings; postings_offsets = offsets }
+    record {
+      symbols = 5;
+      series = series;
+      label_indices = 0;
+      label_offsets = 0;
+      postings = postings;
+      postings_offsets = offsets;
+    }
 
--- what stands behind the series: the sections of the pairs in their order, the offset table, the table of contents
+-- what stands behind the series: the sections of the pairs in their order, the offset table, the
+-- table of contents
 unfoldable pub postings_text : ℕ → ℕ → List (List ℕ × List ℕ) → List (List ℕ) → List ℕ
 postings_text series at pairs lists =
     flat_map section_text lists
-    ++ (frame (table_text (listed_from at pairs lists)) ++ checked (contents_text (contents_of series at (at + length (flat_map section_text lists)))))
+    ++ (frame (table_text (listed_from at pairs lists))
+    ++ checked (contents_text (contents_of series at (at + length (flat_map section_text lists)))))
 
 -- the symbols, the series, the sections of the empty pair and of all pairs, and the tables
 unfoldable pub index_text : List (List ℕ) → List (List ℕ × List ℕ) → List Row → List ℕ
 index_text symbols pairs rows =
     with_entries (start_text symbols) (bodies_of symbols 8 rows)
-    ++ postings_text (length (start_text symbols)) (length (with_entries (start_text symbols) (bodies_of symbols 8 rows))) (([], []) ∷ pairs)
+    ++ postings_text (length (start_text symbols))
+    (length (with_entries (start_text symbols) (bodies_of symbols 8 rows))) (([], []) ∷ pairs)
     (references_from (length (start_text symbols)) (bodies_of symbols 8 rows)
-    ∷ lists_of pairs rows (references_from (length (start_text symbols)) (bodies_of symbols 8 rows)))
+    ∷ lists_of pairs rows
+    (references_from (length (start_text symbols)) (bodies_of symbols 8 rows)))

@@ -20,4 +20,5 @@ series_text samples = flat_map piece_text (pieces (length samples) samples)
 
 -- magic and version, and the chunks of the series, one series after another, nothing between
 abbrev pub chunks_text : List Row → List ℕ
-chunks_text rows = 0x85 ∷ 0xBD ∷ 0x40 ∷ 0xDD ∷ 1 ∷ 0 ∷ 0 ∷ 0 ∷ flat_map (λ (row : Row). series_text row.1) rows
+chunks_text rows =
+    0x85 ∷ 0xBD ∷ 0x40 ∷ 0xDD ∷ 1 ∷ 0 ∷ 0 ∷ 0 ∷ flat_map (λ (row : Row). series_text row.1) rows

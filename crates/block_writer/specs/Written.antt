@@ -8,8 +8,8 @@ use Rattle.block_writer.specs.InUse.{texts_in, pairs_in, HoldsEachOnce}
 use Rattle.block_writer.specs.IndexText.{index_text}
 use Rattle.block_writer.specs.Writing.{chunks_text}
 
--- the text of an index of these rows: its symbols are exactly the names and values in use, its pairs exactly those in use,
--- each once, ascending by their bytes
+-- the text of an index of these rows: its symbols are exactly the names and values in use, its
+-- pairs exactly those in use, each once, ascending by their bytes
 pub record IsWrittenIndex (rows : List Row) (text : List ℕ) : Type 0 where
   pub symbols : List (List ℕ)
   pub pairs : List (List ℕ × List ℕ)
@@ -28,5 +28,7 @@ IsReason text Memory = Unit {0}
 
 -- a refusal of rows: a file of them would be too long
 abbrev pub IsTooLong : List Row → WriteError → Type 0
-IsTooLong rows Limit = (limit < length (chunks_text rows)) ⊎ ((text : List ℕ) × IsWrittenIndex rows text × (limit < length text))
+IsTooLong rows Limit =
+    (limit < length (chunks_text rows))
+    ⊎ ((text : List ℕ) × IsWrittenIndex rows text × (limit < length text))
 IsTooLong rows Memory = Unit {0}

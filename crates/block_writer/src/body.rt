@@ -16,8 +16,8 @@ use labels::{LabelSet, Row, Sample};
 use std::alloc::{AllocError, Global};
 use wire::{put_uvarint, put_varint};
 
-/// Appends the body of a row's entry, whose chunks stand from a place of the chunks file on, and gives the place behind
-/// them.
+/// Appends the body of a row's entry, whose chunks stand from a place of the chunks file on, and
+/// gives the place behind them.
 #[tactic(auto, unfolding(crate::specs::EntryBodies::body_of))]
 pub fn put_body(
     alloc: Global,
@@ -28,7 +28,8 @@ pub fn put_body(
 ) -> Result<usize, AllocError>
     requires ascending { IsStrictlySortedBy text_cmp (bytes_of symbols.now) }
     requires within { at + length (series_text row.now.1) ≤ limit }
-    ensures text { OnOk result (out.new.items ≡ out.old.items ++ body_of (bytes_of symbols.now) at row.now) }
+    ensures text { OnOk result (out.new.items
+        ≡ out.old.items ++ body_of (bytes_of symbols.now) at row.now) }
     ensures behind { IfOk result (λ place. place ≡ at + length (series_text row.now.1)) }
 {
     put_labels(out, symbols, row.labels())?;
@@ -39,7 +40,8 @@ pub fn put_body(
 
 fn put_labels(out: &mut Vec<u8>, symbols: &[&str], labels: &LabelSet) -> Result<(), AllocError>
     requires { IsStrictlySortedBy text_cmp (bytes_of symbols.now) }
-    ensures { OnOk result (out.new.items ≡ out.old.items ++ labels_text (bytes_of symbols.now) labels.now) }
+    ensures { OnOk result (out.new.items
+        ≡ out.old.items ++ labels_text (bytes_of symbols.now) labels.now) }
 {
     put_uvarint(out, labels.len() as u64)?;
     for i in 0..labels.len() {

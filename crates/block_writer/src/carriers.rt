@@ -12,8 +12,9 @@ ghost use Rattle.block_writer.specs.IndexText.{lists_of, IsGivenTo};
 use labels::{LabelSet, Row};
 use std::alloc::{AllocError, Global};
 
-/// The references of the rows that carry each pair, in the order of the rows. It goes over the rows once, and finds the
-/// place of each of their pairs in time in proportion to the logarithm of the count of pairs.
+/// The references of the rows that carry each pair, in the order of the rows. It goes over the rows
+/// once, and finds the place of each of their pairs in time in proportion to the logarithm of the
+/// count of pairs.
 pub fn lists_of(
     alloc: Global,
     pairs: &[(&str, &str)],
@@ -22,7 +23,8 @@ pub fn lists_of(
 ) -> Result<Vec<Vec<u32>>, AllocError>
     requires held { HoldsEachOnce pair_cmp (pairs_in rows.now) (texts_of pairs.now) }
     requires each { length references.now ≡ length rows.now }
-    ensures { IfOk result (λ v. map (λ l. l.items) v.items ≡ lists_of (texts_of pairs.now) rows.now references.now) }
+    ensures { IfOk result (λ v.
+        map (λ l. l.items) v.items ≡ lists_of (texts_of pairs.now) rows.now references.now) }
 {
     let mut lists = empty_lists(alloc, pairs.len())?;
     for (i, row) in rows.iter().enumerate() {
@@ -52,7 +54,8 @@ fn put_row(
     requires ascending { IsStrictlySortedBy pair_cmp (texts_of pairs.now) }
     requires held { All (Contains (texts_of pairs.now)) labels.now }
     requires each { vec_len lists.old ≡ length pairs.now }
-    ensures given { OnOk result (IsGivenTo (texts_of pairs.now) labels.now reference (map (λ l. l.items) lists.old.items) (map (λ l. l.items) lists.new.items)) }
+    ensures given { OnOk result (IsGivenTo (texts_of pairs.now) labels.now reference
+        (map (λ l. l.items) lists.old.items) (map (λ l. l.items) lists.new.items)) }
     ensures each { vec_len lists.new ≡ vec_len lists.old }
 {
     for i in 0..labels.len() {
@@ -63,7 +66,9 @@ fn put_row(
 
 fn put_at(lists: &mut Vec<Vec<u32>>, at: usize, reference: u32) -> Result<(), AllocError>
     requires { at < vec_len lists.old }
-    ensures added { OnOk result (map (λ l. l.items) lists.new.items ≡ slice_set (map (λ l. l.items) lists.old.items) at (slice_index_or (map (λ l. l.items) lists.old.items) at [] ++ reference ∷ [])) }
+    ensures added { OnOk result (map (λ l. l.items) lists.new.items
+        ≡ slice_set (map (λ l. l.items) lists.old.items) at
+        (slice_index_or (map (λ l. l.items) lists.old.items) at [] ++ reference ∷ [])) }
     ensures each { vec_len lists.new ≡ vec_len lists.old }
 {
     lists[at].push(reference)?;
@@ -73,7 +78,8 @@ fn put_at(lists: &mut Vec<Vec<u32>>, at: usize, reference: u32) -> Result<(), Al
 // How many of the pairs are below one: its place, where it is one of them.
 fn place_of(pairs: &[(&str, &str)], pair: (&str, &str)) -> usize
     requires { IsStrictlySortedBy pair_cmp (texts_of pairs.now) }
-    ensures { result ≡ place_among pair_cmp (texts_of pairs.now) (pair.entry.0.now, pair.entry.1.now) }
+    ensures { result
+        ≡ place_among pair_cmp (texts_of pairs.now) (pair.entry.0.now, pair.entry.1.now) }
 {
     pairs.partition_point(|held| held.cmp(&pair).is_lt())
 }

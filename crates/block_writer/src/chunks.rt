@@ -15,8 +15,9 @@ const HEAD: [u8; 8] = [0x85, 0xBD, 0x40, 0xDD, 0x01, 0x00, 0x00, 0x00];
 
 const PIECE: usize = 120;
 
-/// The bytes of the chunks file: the chunks of the rows in their order, 120 samples a chunk, the last of a row with
-/// what is left, nothing between them. It takes time and memory in proportion to the samples.
+/// The bytes of the chunks file: the chunks of the rows in their order, 120 samples a chunk, the
+/// last of a row with what is left, nothing between them. It takes time and memory in proportion to
+/// the samples.
 pub(crate) fn chunks_file(alloc: Global, rows: &PartRows) -> Result<Vec<u8>, AllocError>
     ensures spelled { IfOk result (λ file. file.items ≡ chunks_text rows.now) }
     ensures typed { OnOk result (Have64Bits rows.now) }

@@ -26,9 +26,12 @@ pub fn put_entries(
 ) -> Result<Vec<u32>, WriteError>
     requires ascending { IsStrictlySortedBy text_cmp (bytes_of symbols.now) }
     requires within { length (chunks_text rows.now) ≤ limit }
-    ensures text { OnOk result (out.new.items ≡ with_entries out.old.items (bodies_of (bytes_of symbols.now) 8 rows.now)) }
-    ensures references { IfOk result (λ v. v.items ≡ references_from (length out.old.items) (bodies_of (bytes_of symbols.now) 8 rows.now)) }
-    ensures reason { IfErr result (IsReason (with_entries out.old.items (bodies_of (bytes_of symbols.now) 8 rows.now))) }
+    ensures text { OnOk result (out.new.items
+        ≡ with_entries out.old.items (bodies_of (bytes_of symbols.now) 8 rows.now)) }
+    ensures references { IfOk result (λ v. v.items
+        ≡ references_from (length out.old.items) (bodies_of (bytes_of symbols.now) 8 rows.now)) }
+    ensures reason { IfErr result
+        (IsReason (with_entries out.old.items (bodies_of (bytes_of symbols.now) 8 rows.now))) }
 {
     let mut references = Vec::new(alloc);
     let mut place = 8;

@@ -25,12 +25,13 @@ pub struct BlockBytes {
     pub tombstones: Vec<u8>,
 }
 
-/// The files of a block with exactly these rows, of which nothing is deleted. `N1` where the chunks file or the index
-/// would be longer than 1,073,741,824 bytes. It takes time and memory in proportion to the samples, and to the labels
-/// times the logarithm of their count.
+/// The files of a block with exactly these rows, of which nothing is deleted. `N1` where the chunks
+/// file or the index would be longer than 1,073,741,824 bytes. It takes time and memory in
+/// proportion to the samples, and to the labels times the logarithm of their count.
 ///
-/// `Block::open` refuses the files for want of memory alone, and shows a part with exactly the rows, for each range that
-/// has their times, where there are at most 1,048,576 rows of at most 1,048,576 samples.
+/// `Block::open` refuses the files for want of memory alone, and shows a part with exactly the
+/// rows, for each range that has their times, where there are at most 1,048,576 rows of at most
+/// 1,048,576 samples.
 pub fn write(alloc: Global, rows: &PartRows) -> Result<BlockBytes, WriteError>
     // The index lists exactly the rows, their labels and the places of their chunks.
     ensures index { IfOk result (λ files. IsWrittenIndex rows.now files.index.items) }
@@ -41,7 +42,8 @@ pub fn write(alloc: Global, rows: &PartRows) -> Result<BlockBytes, WriteError>
     // Both files are short enough to be read.
     ensures short { IfOk result (λ files. length files.index.items ≤ limit) }
     ensures chunks_short { IfOk result (λ files. length files.chunks.items ≤ limit) }
-    // By the grammar of blocks, they are a block with exactly the rows, in each range that has them.
+    // By the grammar of blocks, they are a block with exactly the rows, in each range that has
+    // them.
     ensures block { IfOk result (λ files.
         SpellRowsAnywhere files.index.items files.chunks.items files.tombstones.items rows.now) }
     // Rows are refused only where a file of them is too long.

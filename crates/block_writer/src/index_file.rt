@@ -25,10 +25,11 @@ use wire::{put_be32, put_bytes};
 
 const HEAD: [u8; 5] = [0xBA, 0xAA, 0xD7, 0x00, 0x02];
 
-/// The bytes of the index of rows whose chunks file is no longer than 1 GiB: exactly the symbols in use, each once; the
-/// series in the order of the rows, each at a multiple of 16; the postings of the empty pair and of exactly the pairs
-/// in use. `N1` where it would be longer than 1,073,741,824 bytes. It takes time in proportion to the rows' labels,
-/// times the logarithm of their count, and memory in proportion to the labels and the chunks.
+/// The bytes of the index of rows whose chunks file is no longer than 1 GiB: exactly the symbols in
+/// use, each once; the series in the order of the rows, each at a multiple of 16; the postings of
+/// the empty pair and of exactly the pairs in use. `N1` where it would be longer than 1,073,741,824
+/// bytes. It takes time in proportion to the rows' labels, times the logarithm of their count, and
+/// memory in proportion to the labels and the chunks.
 pub(crate) fn index_file(alloc: Global, rows: &PartRows) -> Result<Vec<u8>, WriteError>
     requires { length (chunks_text rows.now) ≤ limit }
     ensures written { IfOk result (λ file. IsWrittenIndex rows.now file.items) }
@@ -56,8 +57,10 @@ fn spelled(
     requires ascending { IsStrictlySortedBy text_cmp (bytes_of symbols.now) }
     requires held { HoldsEachOnce pair_cmp (pairs_in rows.now) (texts_of pairs.now) }
     requires within { length (chunks_text rows.now) ≤ limit }
-    ensures text { IfOk result (λ file. file.items ≡ index_text (bytes_of symbols.now) (texts_of pairs.now) rows.now) }
-    ensures reason { IfErr result (IsReason (index_text (bytes_of symbols.now) (texts_of pairs.now) rows.now)) }
+    ensures text { IfOk result (λ file.
+        file.items ≡ index_text (bytes_of symbols.now) (texts_of pairs.now) rows.now) }
+    ensures reason { IfErr result
+        (IsReason (index_text (bytes_of symbols.now) (texts_of pairs.now) rows.now)) }
 {
     let mut file = start_of(alloc, symbols)?;
     let series = file.len();

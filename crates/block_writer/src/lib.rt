@@ -1,16 +1,18 @@
 //! The files of a block, as bytes that spell exactly the given rows.
 //!
-//! [`PartRows`] keeps rows that a part may have: it is made exactly of rows strictly in label order, each with samples,
-//! strictly in the order of their times. [`write`] gives the three files of a block with these rows: the index, whose
-//! symbols and pairs are exactly those in use, each once, ascending (`IsWrittenIndex`); the chunks file, 120 samples a
-//! chunk, nothing between (`chunks_text`); and the tombstones of a block of which nothing is deleted. It refuses rows
-//! (`N1`) only where one of the two files would be longer than 1 GiB. What it gives is a block with exactly these rows,
-//! in each range that has their times (`SpellRowsAnywhere`), so `Block::open` refuses it for want of memory alone.
+//! [`PartRows`] keeps rows that a part may have: it is made exactly of rows strictly in label
+//! order, each with samples, strictly in the order of their times. [`write`] gives the three files
+//! of a block with these rows: the index, whose symbols and pairs are exactly those in use, each
+//! once, ascending (`IsWrittenIndex`); the chunks file, 120 samples a chunk, nothing between
+//! (`chunks_text`); and the tombstones of a block of which nothing is deleted. It refuses rows
+//! (`N1`) only where one of the two files would be longer than 1 GiB. What it gives is a block with
+//! exactly these rows, in each range that has their times (`SpellRowsAnywhere`), so `Block::open`
+//! refuses it for want of memory alone.
 //!
-//! It stands on `labels`, `wire` and `byteorder`, and on `index_reader`, `chunk_reader`, `tombstones` and `block` for
-//! the words that say how their files are spelled. The files are those of Prometheus's TSDB format documents; where
-//! entries stand, that a reference is the sixteenth part of an offset, and that a chunk has 120 samples, is this
-//! project's own.
+//! It stands on `labels`, `wire` and `byteorder`, and on `index_reader`, `chunk_reader`,
+//! `tombstones` and `block` for the words that say how their files are spelled. The files are those
+//! of Prometheus's TSDB format documents; where entries stand, that a reference is the sixteenth
+//! part of an offset, and that a chunk has 120 samples, is this project's own.
 #![tactic(auto)]
 
 mod body;

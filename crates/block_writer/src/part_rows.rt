@@ -10,7 +10,8 @@ ghost use Rattle.block_writer.specs.PartRows.{are_part_rows, is_series, part_row
 use labels::{Row, Sample};
 use std::marker::Model;
 
-/// Rows strictly in the order of their label sets, each with one sample at least, strictly in the order of their times.
+/// Rows strictly in the order of their label sets, each with one sample at least, strictly in the
+/// order of their times.
 #[derive(Drop)]
 pub struct PartRows {
     rows: Vec<Row>,
@@ -29,7 +30,8 @@ impl Model for PartRows {
 }
 
 impl PartRows {
-    /// These rows, exactly where they are strictly in label order, each has a sample, and its times ascend strictly.
+    /// These rows, exactly where they are strictly in label order, each has a sample, and its times
+    /// ascend strictly.
     pub fn new(rows: Vec<Row>) -> Option<PartRows>
         ensures { result ≡ part_rows rows.items }
     {

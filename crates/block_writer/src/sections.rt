@@ -1,4 +1,5 @@
-//! What stands behind the series: the postings sections, the table of their offsets, the table of contents.
+//! What stands behind the series: the postings sections, the table of their offsets, the table of
+//! contents.
 
 ghost use Rattle.std.specs.Prelude.{◌≡◌, ◌≤◌, ◌++◌, ◌∷◌, [], length, map, drop, string_bytes, OnOk, IfOk, IfErr};
 ghost use Rattle.std.specs.List.{flat_map};
@@ -15,8 +16,8 @@ use crate::limits::within;
 use std::alloc::{AllocError, Global};
 use wire::{crc32c, put_be32, put_be64, put_bytes, put_u8, put_uvarint};
 
-/// Appends the sections of the empty pair and of all pairs, the table of their offsets and the table of contents, where
-/// the series stand from a place on.
+/// Appends the sections of the empty pair and of all pairs, the table of their offsets and the
+/// table of contents, where the series stand from a place on.
 #[tactic(auto, unfolding(crate::specs::IndexText::postings_text))]
 pub fn put_postings(
     alloc: Global,
@@ -27,8 +28,10 @@ pub fn put_postings(
     lists: &[Vec<u32>],
 ) -> Result<(), WriteError>
     requires { length lists.now ≡ length pairs.now }
-    ensures text { OnOk result (out.new.items ≡ out.old.items ++ postings_text series (length out.old.items) (([], []) ∷ texts_of pairs.now) (all.now ∷ map (λ l. l.items) lists.now)) }
-    ensures reason { IfErr result (IsReason (postings_text series (length out.old.items) (([], []) ∷ texts_of pairs.now) (all.now ∷ map (λ l. l.items) lists.now))) }
+    ensures text { OnOk result (out.new.items ≡ out.old.items ++ postings_text series (length
+        out.old.items) (([], []) ∷ texts_of pairs.now) (all.now ∷ map (λ l. l.items) lists.now)) }
+    ensures reason { IfErr result (IsReason (postings_text series (length out.old.items)
+        (([], []) ∷ texts_of pairs.now) (all.now ∷ map (λ l. l.items) lists.now))) }
 {
     let postings = out.len();
     let table = put_sections(alloc, out, pairs, all, lists)?;
@@ -47,9 +50,12 @@ fn put_sections(
     lists: &[Vec<u32>],
 ) -> Result<Vec<u8>, WriteError>
     requires { length lists.now ≡ length pairs.now }
-    ensures text { OnOk result (out.new.items ≡ out.old.items ++ flat_map section_text (all.now ∷ map (λ l. l.items) lists.now)) }
-    ensures table { IfOk result (λ t. t.items ≡ table_text (listed_from (length out.old.items) (([], []) ∷ texts_of pairs.now) (all.now ∷ map (λ l. l.items) lists.now))) }
-    ensures reason { IfErr result (IsReason (flat_map section_text (all.now ∷ map (λ l. l.items) lists.now))) }
+    ensures text { OnOk result (out.new.items
+        ≡ out.old.items ++ flat_map section_text (all.now ∷ map (λ l. l.items) lists.now)) }
+    ensures table { IfOk result (λ t. t.items ≡ table_text (listed_from (length out.old.items)
+        (([], []) ∷ texts_of pairs.now) (all.now ∷ map (λ l. l.items) lists.now))) }
+    ensures reason { IfErr result
+        (IsReason (flat_map section_text (all.now ∷ map (λ l. l.items) lists.now))) }
 {
     let mut table = Vec::new(alloc);
     put_be32(&mut table, within(pairs.len() + 1)?)?;
@@ -69,7 +75,8 @@ fn put_listed(
     value: &str,
     references: &[u32],
 ) -> Result<(), WriteError>
-    ensures listed { OnOk result (table.new.items ≡ table.old.items ++ listed_text record { name = name.now; value = value.now; offset = length out.old.items }) }
+    ensures listed { OnOk result (table.new.items ≡ table.old.items ++ listed_text
+        record { name = name.now; value = value.now; offset = length out.old.items }) }
     ensures text { OnOk result (out.new.items ≡ out.old.items ++ section_text references.now) }
     ensures reason { IfErr result (IsReason (section_text references.now)) }
 {
@@ -106,7 +113,8 @@ fn put_references(out: &mut Vec<u8>, references: &[u32]) -> Result<(), AllocErro
 /// Appends the checksum of what stands from a place on.
 pub fn put_sum(out: &mut Vec<u8>, start: usize) -> Result<(), AllocError>
     requires { start ≤ length out.old.items }
-    ensures { OnOk result (out.new.items ≡ out.old.items ++ big_bytes 4 (crc32c (drop start out.old.items))) }
+    ensures { OnOk result (out.new.items
+        ≡ out.old.items ++ big_bytes 4 (crc32c (drop start out.old.items))) }
 {
     let sum = crc32c(&out[start..]);
     put_be32(out, sum)
@@ -137,7 +145,8 @@ fn put_contents(
     postings: usize,
     offsets: usize,
 ) -> Result<(), AllocError>
-    ensures { OnOk result (out.new.items ≡ out.old.items ++ checked (contents_text (contents_of series postings offsets))) }
+    ensures { OnOk result (out.new.items
+        ≡ out.old.items ++ checked (contents_text (contents_of series postings offsets))) }
 {
     let start = out.len();
     put_be64(out, 5)?;

@@ -15,7 +15,8 @@ use std::alloc::{AllocError, Global};
 
 /// The names and the values of all rows, each once, ascending by their bytes.
 pub fn symbols_of<'a>(alloc: Global, rows: &'a [Row]) -> Result<Vec<&'a str>, AllocError>
-    ensures held { IfOk result (λ v. HoldsEachOnce text_cmp (texts_in rows.now) (bytes_of v.items)) }
+    ensures held { IfOk result (λ v.
+        HoldsEachOnce text_cmp (texts_in rows.now) (bytes_of v.items)) }
     ensures typed { OnOk result (HaveTexts rows.now) }
 {
     let mut symbols = all_texts(alloc, rows)?;
@@ -36,7 +37,8 @@ fn all_texts<'a>(alloc: Global, rows: &'a [Row]) -> Result<Vec<&'a str>, AllocEr
 }
 
 fn put_texts<'a>(found: &mut Vec<&'a str>, labels: &'a LabelSet) -> Result<(), AllocError>
-    ensures text { OnOk result (bytes_of found.new.items ≡ bytes_of found.old.items ++ label_texts labels.now) }
+    ensures text { OnOk result (bytes_of found.new.items
+        ≡ bytes_of found.old.items ++ label_texts labels.now) }
     ensures typed { OnOk result (AreOfTexts labels.now) }
 {
     for i in 0..labels.len() {
@@ -48,7 +50,8 @@ fn put_texts<'a>(found: &mut Vec<&'a str>, labels: &'a LabelSet) -> Result<(), A
 }
 
 fn put_text<'a>(found: &mut Vec<&'a str>, text: &'a str) -> Result<(), AllocError>
-    ensures text { OnOk result (bytes_of found.new.items ≡ bytes_of found.old.items ++ text.now ∷ []) }
+    ensures text { OnOk result (bytes_of found.new.items
+        ≡ bytes_of found.old.items ++ text.now ∷ []) }
     ensures typed { OnOk result (IsUtf8 text.now) }
 {
     found.push(text)?;
@@ -87,8 +90,8 @@ fn put_pairs<'a>(
     Ok(())
 }
 
-/// How many of the symbols are below a text: its place, where it is one of them. It takes time in proportion to the
-/// logarithm of their count.
+/// How many of the symbols are below a text: its place, where it is one of them. It takes time in
+/// proportion to the logarithm of their count.
 pub fn number_of(symbols: &[&str], text: &str) -> usize
     requires { IsStrictlySortedBy text_cmp (bytes_of symbols.now) }
     ensures { result ≡ number_of (bytes_of symbols.now) text.now }

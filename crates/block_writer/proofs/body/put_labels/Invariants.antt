@@ -6,4 +6,7 @@ use Rattle.block_writer.specs.EntryBodies.{numbers_of, labels_text}
 use Rattle.block_writer.proofs.body.put_labels.Given as goal
 
 abbrev pub invariant-loop-i : goal.invariant-loop-i
-invariant-loop-i l = l.out.items ++ flat_map (λ p. label_text (numbers_of (bytes_of l.symbols) p)) (drop l.i l.labels) ≡ l.fn.out.items ++ labels_text (bytes_of l.symbols) l.labels
+invariant-loop-i l =
+    l.out.items
+    ++ flat_map (λ p. label_text (numbers_of (bytes_of l.symbols) p)) (drop l.i l.labels)
+    ≡ l.fn.out.items ++ labels_text (bytes_of l.symbols) l.labels

@@ -7,5 +7,10 @@ use Rattle.block_writer.proofs.carriers.lists_of.Given as goal
 abbrev pub invariant-loop-i : goal.invariant-loop-i
 invariant-loop-i l =
     (length l.lists.items ≡ length l.pairs)
-    × ((k : ℕ) → k < length (texts_of l.pairs) → get_or (map (λ x. x.items) l.lists.items) k [] ++ carriers (get_or (texts_of l.pairs) k ([], [])).0 (get_or (texts_of l.pairs) k ([], [])).1 (drop l.i l.rows) (drop l.i l.references)
-    ≡ carriers (get_or (texts_of l.pairs) k ([], [])).0 (get_or (texts_of l.pairs) k ([], [])).1 l.rows l.references)
+    × ((k : ℕ) → k < length (texts_of l.pairs)
+    → get_or (map (λ x. x.items) l.lists.items) k [] ++ carriers (get_or (texts_of l.pairs) k (
+      [],
+      [],
+    )).0 (get_or (texts_of l.pairs) k ([], [])).1 (drop l.i l.rows) (drop l.i l.references)
+    ≡ carriers (get_or (texts_of l.pairs) k ([], [])).0 (get_or (texts_of l.pairs) k ([], [])).1
+    l.rows l.references)

@@ -9,4 +9,10 @@ returns-clause-added c =
     let at = c.args.at in
     map-set (λ l. l.items) xs at c.push.new.self
     ∙ ap (slice_set (map (λ l. l.items) xs) at)
-    (c.in_ok-push.ensures.items ∙ ap (λ (l : List ℕ). l ++ c.args.reference ∷ []) (ap (λ v. v.items) c.index_mut.ensures.value ∙ sym (get_or-map (λ l. l.items) xs at c.index_mut.result.now [] (omega (arith, c.requires, c.args.lists.now.ok.0)))))
+    (c.in_ok-push.ensures.items
+    ∙ ap (λ (l : List ℕ). l ++ c.args.reference ∷ []) (ap (λ v. v.items) c.index_mut.ensures.value
+    ∙ sym (get_or-map (λ l. l.items) xs at c.index_mut.result.now [] (omega (
+      arith,
+      c.requires,
+      c.args.lists.now.ok.0,
+    )))))

@@ -11,9 +11,16 @@ loop-sample-preserved c =
     let i = c.loop-sample.sample-index in
     let sample = c.sample-item.result in
     record {
-      text = one_more sample_text c.args.out.now.items c.loop-sample.out.items _ samples i sample (omega arith) c.sample-item.is c.loop-sample.invariant.text c.in_ok-put_sample.ensures.text;
-      typed = all_and IsOf64Bits samples i sample (omega arith) c.sample-item.is c.loop-sample.invariant.typed c.in_ok-put_sample.ensures.typed;
+      text =
+          one_more sample_text c.args.out.now.items c.loop-sample.out.items _ samples i sample
+          (omega arith) c.sample-item.is c.loop-sample.invariant.text
+          c.in_ok-put_sample.ensures.text;
+      typed =
+          all_and IsOf64Bits samples i sample (omega arith) c.sample-item.is
+          c.loop-sample.invariant.typed c.in_ok-put_sample.ensures.typed;
     }
 
 pub returns-clause-typed : goal.returns-clause-typed
-returns-clause-typed c = all_of_them IsOf64Bits c.args.samples.now c.loop-sample.sample-index (omega arith) c.loop-sample.invariant.typed
+returns-clause-typed c =
+    all_of_them IsOf64Bits c.args.samples.now c.loop-sample.sample-index (omega arith)
+    c.loop-sample.invariant.typed

@@ -13,11 +13,18 @@ loop-row-preserved c =
     let i = c.loop-row.row-index in
     let row : Row = c.row-item.result in
     record {
-      text = one_more (λ (r : Row). series_text r.1) (0x85 ∷ 0xBD ∷ 0x40 ∷ 0xDD ∷ 1 ∷ 0 ∷ 0 ∷ 0 ∷ []) c.loop-row.file.items _ rows i row (omega arith) c.row-item.is c.loop-row.invariant.text
-          (c.in_ok-put_series.ensures.text ∙ ap (λ (ss : List (ℤ × ℤ)). c.loop-row.file.items ++ series_text ss) c.samples.ensures);
-      typed = all_and (λ (r : Row). All IsOf64Bits r.1) rows i row (omega arith) c.row-item.is c.loop-row.invariant.typed (subst (All IsOf64Bits) c.samples.ensures c.in_ok-put_series.ensures.typed);
+      text =
+          one_more (λ (r : Row). series_text r.1) (0x85 ∷ 0xBD ∷ 0x40 ∷ 0xDD ∷ 1 ∷ 0 ∷ 0 ∷ 0 ∷ [])
+          c.loop-row.file.items _ rows i row (omega arith) c.row-item.is c.loop-row.invariant.text
+          (c.in_ok-put_series.ensures.text
+          ∙ ap (λ (ss : List (ℤ × ℤ)). c.loop-row.file.items ++ series_text ss) c.samples.ensures);
+      typed =
+          all_and (λ (r : Row). All IsOf64Bits r.1) rows i row (omega arith) c.row-item.is
+          c.loop-row.invariant.typed
+          (subst (All IsOf64Bits) c.samples.ensures c.in_ok-put_series.ensures.typed);
     }
 
 pub returns-clause-typed : goal.returns-clause-typed
 returns-clause-typed c =
-    subst Have64Bits c.rows-row-items.ensures.shown (all_of_them (λ (r : Row). All IsOf64Bits r.1) c.rows-row-items.result.now c.loop-row.row-index (omega arith) c.loop-row.invariant.typed)
+    subst Have64Bits c.rows-row-items.ensures.shown (all_of_them (λ (r : Row). All IsOf64Bits r.1)
+    c.rows-row-items.result.now c.loop-row.row-index (omega arith) c.loop-row.invariant.typed)

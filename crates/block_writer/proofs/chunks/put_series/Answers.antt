@@ -14,8 +14,14 @@ loop-rest-preserved c =
     let l = c.loop-rest in
     let some : 0 < length l.rest.now = grind arith in
     record {
-      text = one_piece l.out.items c.put_chunk.new.out.items l.rest.now c.first_piece.result.0.now c.first_piece.result.1.now _ some c.first_piece.ensures.front c.first_piece.ensures.back c.in_ok-put_chunk.ensures.text l.invariant.text;
-      typed = λ after. l.invariant.typed (all_joined IsOf64Bits l.rest.now c.first_piece.result.0.now c.first_piece.result.1.now c.first_piece.ensures.front c.first_piece.ensures.back c.in_ok-put_chunk.ensures.typed after);
+      text =
+          one_piece l.out.items c.put_chunk.new.out.items l.rest.now c.first_piece.result.0.now
+          c.first_piece.result.1.now _ some c.first_piece.ensures.front c.first_piece.ensures.back
+          c.in_ok-put_chunk.ensures.text l.invariant.text;
+      typed =
+          λ after. l.invariant.typed (all_joined IsOf64Bits l.rest.now c.first_piece.result.0.now
+          c.first_piece.result.1.now c.first_piece.ensures.front c.first_piece.ensures.back
+          c.in_ok-put_chunk.ensures.typed after);
     }
 
 pub returns-clause-text : goal.returns-clause-text

@@ -10,6 +10,10 @@ use Rattle.block_writer.proofs.entries.put_entries.Given as goal
 
 abbrev pub invariant-loop-row : goal.invariant-loop-row
 invariant-loop-row l =
-    (with_entries l.out.items (bodies_of (bytes_of l.symbols) l.place (drop l.row-index l.rows)) ≡ with_entries l.initial.out.items (bodies_of (bytes_of l.symbols) 8 l.rows))
-    × (l.references.items ++ references_from (length l.out.items) (bodies_of (bytes_of l.symbols) l.place (drop l.row-index l.rows)) ≡ references_from (length l.initial.out.items) (bodies_of (bytes_of l.symbols) 8 l.rows))
-    × (l.place + length (flat_map (λ (row : Row). series_text row.1) (drop l.row-index l.rows)) ≤ limit)
+    (with_entries l.out.items (bodies_of (bytes_of l.symbols) l.place (drop l.row-index l.rows))
+    ≡ with_entries l.initial.out.items (bodies_of (bytes_of l.symbols) 8 l.rows))
+    × (l.references.items ++ references_from (length l.out.items)
+    (bodies_of (bytes_of l.symbols) l.place (drop l.row-index l.rows))
+    ≡ references_from (length l.initial.out.items) (bodies_of (bytes_of l.symbols) 8 l.rows))
+    × (l.place + length (flat_map (λ (row : Row). series_text row.1) (drop l.row-index l.rows))
+    ≤ limit)

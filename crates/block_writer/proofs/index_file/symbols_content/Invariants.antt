@@ -6,4 +6,6 @@ use Rattle.block_writer.specs.IndexText.{symbols_text}
 use Rattle.block_writer.proofs.index_file.symbols_content.Given as goal
 
 abbrev pub invariant-loop-symbol : goal.invariant-loop-symbol
-invariant-loop-symbol l = l.content.items ++ flat_map symbol (drop l.symbol-index (bytes_of l.symbols)) ≡ symbols_text (bytes_of l.symbols)
+invariant-loop-symbol l =
+    l.content.items ++ flat_map symbol (drop l.symbol-index (bytes_of l.symbols))
+    ≡ symbols_text (bytes_of l.symbols)

@@ -6,11 +6,18 @@ use Rattle.block_writer.proofs.part_rows.times_rise.Goals as goal
 
 pub returns-then-not-is_earlier : goal.returns-then-not-is_earlier
 returns-then-not-is_earlier c =
-    stops int_cmp int_cmp_total c.args.samples.now c.loop-i.i c.index-samples-i.result c.index-samples-i-in-loop-i.result _ (omega arith) (omega arith) c.index-samples-i.is c.index-samples-i-in-loop-i.is (sym c.is_earlier.ensures ∙ c.if-not-is_earlier.true) c.loop-i.invariant
+    stops int_cmp int_cmp_total c.args.samples.now c.loop-i.i c.index-samples-i.result
+    c.index-samples-i-in-loop-i.result _ (omega arith) (omega arith) c.index-samples-i.is
+    c.index-samples-i-in-loop-i.is (sym c.is_earlier.ensures
+    ∙ c.if-not-is_earlier.true) c.loop-i.invariant
 
 pub loop-i-preserved : goal.loop-i-preserved
 loop-i-preserved c =
-    goes_on int_cmp int_cmp_total c.args.samples.now c.loop-i.i c.index-samples-i.result c.index-samples-i-in-loop-i.result _ (omega arith) (omega arith) c.index-samples-i.is c.index-samples-i-in-loop-i.is (sym c.is_earlier.ensures ∙ c.if-not-is_earlier.false) c.loop-i.invariant
+    goes_on int_cmp int_cmp_total c.args.samples.now c.loop-i.i c.index-samples-i.result
+    c.index-samples-i-in-loop-i.result _ (omega arith) (omega arith) c.index-samples-i.is
+    c.index-samples-i-in-loop-i.is (sym c.is_earlier.ensures
+    ∙ c.if-not-is_earlier.false) c.loop-i.invariant
 
 pub returns : goal.returns
-returns c = sym (is_sorted-last int_cmp c.args.samples.now c.loop-i.i (omega arith)) ∙ c.loop-i.invariant
+returns c =
+    sym (is_sorted-last int_cmp c.args.samples.now c.loop-i.i (omega arith)) ∙ c.loop-i.invariant

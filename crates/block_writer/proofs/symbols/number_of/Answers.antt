@@ -8,7 +8,9 @@ use Rattle.block_writer.proofs.symbols.number_of.Goals as goal
 
 pub returns : goal.returns
 returns c =
-    place_is (λ x. x.now) text_cmp c.args.text.now c.args.symbols.now c.partition_point.result c.partition_point.ensures.bound
-    (IsPartitionPoint-from_clause (λ x. is_lt (text_cmp x.now c.args.text.now)) c.args.symbols.now c.partition_point.result c.partition_point.ensures.partitioned
+    place_is (λ x. x.now) text_cmp c.args.text.now c.args.symbols.now c.partition_point.result
+    c.partition_point.ensures.bound
+    (IsPartitionPoint-from_clause (λ x. is_lt (text_cmp x.now c.args.text.now)) c.args.symbols.now
+    c.partition_point.result c.partition_point.ensures.partitioned
     (parted (λ x. x.now) text_cmp text_total c.args.text.now c.args.symbols.now c.requires)
     (λ a r f' k. search rules))

@@ -7,5 +7,8 @@ use Rattle.block_writer.proofs.symbols.pairs_of.Goals as goal
 
 pub returns : goal.returns
 returns c =
-    held_once (λ x. (x.0.now, x.1.now)) pair_cmp pair_total pair_exact (λ x y. bytes_eq x.0.now y.0.now && bytes_eq x.1.now y.1.now) pair_ties c.in_ok-pairs.pairs.items c.sort_unstable.new.self.items c.dedup.new.self.items _
-    c.in_ok-pairs.ensures c.sort_unstable.ensures.permutation c.sort_unstable.ensures.sorted c.dedup.ensures.filtered
+    held_once (λ x. (x.0.now, x.1.now)) pair_cmp pair_total pair_exact
+    (λ x y. bytes_eq x.0.now y.0.now && bytes_eq x.1.now y.1.now) pair_ties
+    c.in_ok-pairs.pairs.items c.sort_unstable.new.self.items c.dedup.new.self.items _
+    c.in_ok-pairs.ensures c.sort_unstable.ensures.permutation c.sort_unstable.ensures.sorted
+    c.dedup.ensures.filtered

@@ -7,6 +7,7 @@ use Rattle.block_writer.proofs.symbols.put_texts.Given as goal
 
 abbrev pub invariant-loop-i : goal.invariant-loop-i
 invariant-loop-i l = record {
-  text : bytes_of l.found.items ++ label_texts (drop l.i l.labels) ≡ bytes_of l.initial.found.items ++ label_texts l.labels;
+  text : bytes_of l.found.items ++ label_texts (drop l.i l.labels)
+      ≡ bytes_of l.initial.found.items ++ label_texts l.labels;
   typed : All IsOfTexts (take l.i l.labels);
 }
