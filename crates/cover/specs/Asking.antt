@@ -31,7 +31,9 @@ asked part query = record {
   live = λ r. has_sample query.from query.to (samples_at part r);
 }
 
--- The references whose label set satisfies every matcher and that have an undeleted sample in the range.
+-- The references whose label set satisfies every matcher and that have an undeleted sample in the
+-- range.
 abbrev pub matching_references : Part → QueryView → List ℕ
 matching_references part query =
-    references_of (λ row. satisfies_all query.matchers row.1.0 && has_sample query.from query.to row.1.1) part
+    references_of (λ row. satisfies_all query.matchers row.1.0
+    && has_sample query.from query.to row.1.1) part

@@ -7,8 +7,9 @@ use Rattle.cover.specs.declared.certificate.Interval.{Interval}
 use Rattle.cover.specs.declared.certificate.Verdict.{Verdict}
 use Rattle.cover.specs.declared.certificate.Verdict.TheVariants.{Match, NoSample, Rejected}
 
--- A part and what is asked of it: its references, the number of matchers, whether matcher j accepts the label set of
--- reference r, and whether reference r is live, which is to have an undeleted sample in the range.
+-- A part and what is asked of it: its references, the number of matchers, whether matcher j accepts
+-- the label set of reference r, and whether reference r is live, which is to have an undeleted
+-- sample in the range.
 pub record Asked : Type 0 where
   pub references : List ℕ
   pub matchers : ℕ
@@ -42,8 +43,9 @@ pub record IsPartition (a : Asked) (runs : List (List ℕ)) : Type 0 where
 abbrev pub IsMatching : Asked → ℕ → Type 0
 IsMatching a r = ((j : ℕ) → j < a.matchers → a.accepts j r ≡ true) × (a.live r ≡ true)
 
--- A run fits under Match where it is one reference and that matches, under NoSample where no reference of it is live,
--- and under Rejected j where there is a matcher j and it accepts no reference of the run.
+-- A run fits under Match where it is one reference and that matches, under NoSample where no
+-- reference of it is live, and under Rejected j where there is a matcher j and it accepts no
+-- reference of the run.
 abbrev pub FitsUnder : Asked → Verdict → List ℕ → Type 0
 FitsUnder a Match run = (r : ℕ) × (run ≡ r ∷ []) × IsMatching a r
 FitsUnder a NoSample run = (r : ℕ) → Contains run r → a.live r ≡ false
@@ -55,7 +57,8 @@ pub record IsFittingRun (a : Asked) (run : List ℕ) : Type 0 where
   pub verdict : Verdict
   pub fits : FitsUnder a verdict run
 
--- The references that an interval stands for: those from its first number up to, not including, its second.
+-- The references that an interval stands for: those from its first number up to, not including, its
+-- second.
 abbrev pub run_of : Asked → Interval → List ℕ
 run_of a i = filter (λ r. nat_le i.from r && nat_lt r i.until) a.references
 
@@ -78,7 +81,8 @@ pub record IsValidCertificate (a : Asked) (certificate : List Interval) : Type 0
 
 -- No valid certificate has fewer intervals.
 abbrev pub IsLeast : Asked → List Interval → Type 0
-IsLeast a certificate = (other : List Interval) → IsValidCertificate a other → length certificate ≤ length other
+IsLeast a certificate =
+    (other : List Interval) → IsValidCertificate a other → length certificate ≤ length other
 
 -- Strictly ascending references of the part, such that no fitting run contains two of them.
 pub record AreSeparators (a : Asked) (separators : List ℕ) : Type 0 where
@@ -89,15 +93,19 @@ pub record AreSeparators (a : Asked) (separators : List ℕ) : Type 0 where
 
 -- No fitting run that begins where the interval's run begins is longer than it.
 abbrev pub IsLongest : Asked → Interval → Type 0
-IsLongest a i = (run : List ℕ) → IsFittingRun a run → first_of run ≡ Some i.from → length run ≤ length (run_of a i)
+IsLongest a i =
+    (run : List ℕ) → IsFittingRun a run → first_of run ≡ Some i.from
+    → length run ≤ length (run_of a i)
 
--- A Rejected verdict names the smallest matcher under which the run fits, and NoSample stands only where none is.
+-- A Rejected verdict names the smallest matcher under which the run fits, and NoSample stands only
+-- where none is.
 abbrev pub NamesSmallest : Asked → Verdict → List ℕ → Type 0
 NamesSmallest a Match run = Unit {0}
 NamesSmallest a NoSample run = (k : ℕ) → FitsUnder a (Rejected k) run → ⊥
 NamesSmallest a (Rejected j) run = (k : ℕ) → FitsUnder a (Rejected k) run → j ≤ k
 
--- The leftmost certificate: a valid one whose runs are each as long as can be, with the verdict to be preferred.
+-- The leftmost certificate: a valid one whose runs are each as long as can be, with the verdict to
+-- be preferred.
 pub record IsLeftmost (a : Asked) (certificate : List Interval) : Type 0 where
   pub valid : IsValidCertificate a certificate
   pub longest : (i : Interval) → Contains certificate i → IsLongest a i

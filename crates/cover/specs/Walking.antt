@@ -21,19 +21,28 @@ list_at [] j = []
 list_at (xs ∷ xss) zero = xs
 list_at (xs ∷ xss) (suc j) = list_at xss j
 
--- what is asked by a list of all references, a list of the accepted ones for each matcher, and a list of the live ones
+-- what is asked by a list of all references, a list of the accepted ones for each matcher, and a
+-- list of the live ones
 abbrev pub asked_of : List ℕ → List (List ℕ) → List ℕ → Asked
-asked_of references lists live = record { references = references; matchers = length lists; accepts = λ j r. has (list_at lists j) r; live = λ r. has live r }
+asked_of references lists live = record {
+  references = references;
+  matchers = length lists;
+  accepts = λ j r. has (list_at lists j) r;
+  live = λ r. has live r;
+}
 
--- of n lists that begin at `begins k` and the live list, which begins at `live`: none begins past `end`; under Match
--- that is `from`, under Rejected j list j is the first of those that begin there, past `from`, and under NoSample the
--- live list alone begins there
+-- of n lists that begin at `begins k` and the live list, which begins at `live`: none begins past
+-- `end`; under Match that is `from`, under Rejected j list j is the first of those that begin
+-- there, past `from`, and under NoSample the live list alone begins there
 abbrev pub IsFarthestAt : (ℕ → ℕ) → ℕ → ℕ → ℕ → Verdict → ℕ → Type 0
 IsFarthestAt begins n live from Match end = end ≡ from
-IsFarthestAt begins n live from NoSample end = (live ≡ end) × (from < end) × ((k : ℕ) → k < n → begins k < end)
-IsFarthestAt begins n live from (Rejected j) end = (j < n) × (begins j ≡ end) × (from < end) × ((k : ℕ) → k < j → begins k < end)
+IsFarthestAt begins n live from NoSample end =
+    (live ≡ end) × (from < end) × ((k : ℕ) → k < n → begins k < end)
+IsFarthestAt begins n live from (Rejected j) end =
+    (j < n) × (begins j ≡ end) × (from < end) × ((k : ℕ) → k < j → begins k < end)
 
-pub record TellsFarthest (begins : ℕ → ℕ) (n live from : ℕ) (verdict : Verdict) (end : ℕ) : Type 0 where
+pub record TellsFarthest (begins : ℕ → ℕ) (n live from : ℕ) (verdict : Verdict)
+    (end : ℕ) : Type 0 where
   pub least : (k : ℕ) → k < n → begins k ≤ end
   pub live_least : live ≤ end
   pub not_before : from ≤ end
@@ -42,9 +51,11 @@ pub record TellsFarthest (begins : ℕ → ℕ) (n live from : ℕ) (verdict : V
 -- what remains of the list of all and the reference that is next, after a seek to `end`
 abbrev pub Sought : List ℕ → List ℕ → ℕ → Option ℕ → Type 0
 Sought before after end next =
-    (end < 4294967296 → (after ≡ not_below end before) × (next ≡ first_of after)) × (4294967296 ≤ end → next ≡ None)
+    (end < 4294967296 → (after ≡ not_below end before) × (next ≡ first_of after))
+    × (4294967296 ≤ end → next ≡ None)
 
--- what remains of the list of all and the reference that is next, after a verdict that goes up to `end`
+-- what remains of the list of all and the reference that is next, after a verdict that goes up to
+-- `end`
 abbrev pub MovesOn : List ℕ → List ℕ → Verdict → ℕ → Option ℕ → Type 0
 MovesOn before after Match end next = (after ≡ rest_of before) × (next ≡ first_of after)
 MovesOn before after NoSample end next = Sought before after end next

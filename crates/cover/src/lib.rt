@@ -1,17 +1,20 @@
 //! Certificates that say, of each run of a part's references, why it answers a query or does not.
 //!
-//! A certificate cuts all references of a part into runs, one after another. A run is one series that answers, or
-//! series that one and the same matcher rejects, or series without an undeleted sample in the range. The crate stands
-//! on `labels`, `matchers` and `postings`; `specs/Certificates.antt` holds its words.
+//! A certificate cuts all references of a part into runs, one after another. A run is one series
+//! that answers, or series that one and the same matcher rejects, or series without an undeleted
+//! sample in the range. The crate stands on `labels`, `matchers` and `postings`;
+//! `specs/Certificates.antt` holds its words.
 //!
-//! [`cover`] gives the leftmost certificate: each run is as long as any fitting run from its first reference, and the
-//! smallest matcher that rejects it is named. So it is valid and no valid certificate has fewer runs, over all ways of
-//! cutting the references, and the first references of its runs, which no two in one fitting run, show that by
-//! themselves. Its lists make at most `m + 2` moves for each interval of any valid certificate, with `m` matchers. The
-//! laws behind it are those of [`certificate_laws`].
+//! [`cover`] gives the leftmost certificate: each run is as long as any fitting run from its first
+//! reference, and the smallest matcher that rejects it is named. So it is valid and no valid
+//! certificate has fewer runs, over all ways of cutting the references, and the first references of
+//! its runs, which no two in one fitting run, show that by themselves. Its lists make at most
+//! `m + 2` moves for each interval of any valid certificate, with `m` matchers. The laws behind it
+//! are those of [`certificate_laws`].
 //!
-//! Partition certificates, and the walk that goes to the farthest list at each step, are those of Barbay and Kenyon,
-//! "Adaptive intersection and t-threshold problems" (SODA 2002), here with any matcher in place of a sorted set.
+//! Partition certificates, and the walk that goes to the farthest list at each step, are those of
+//! Barbay and Kenyon, "Adaptive intersection and t-threshold problems" (SODA 2002), here with any
+//! matcher in place of a sorted set.
 #![tactic(auto)]
 
 mod certificate;

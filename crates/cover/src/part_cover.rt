@@ -39,8 +39,11 @@ fn chosen_lists<S: Source>(
     source: &S,
     matchers: &[Matcher],
 ) -> Result<Vec<Counted<Chosen<S::List>>>, AllocError>
-    ensures lists { IfOk result (λ v. map (λ l. ⟦<Chosen<S::List> as Postings>⟧.remaining l.0) v.items ≡ map (λ m. references_where (λ labels. satisfies m labels) (S.part source.now)) matchers.now) }
-    ensures fresh { IfOk result (λ v. (k : ℕ) (d : _) → k < length v.items → (slice_index_or v.items k d).1 ≡ 0) }
+    ensures lists { IfOk result (λ v.
+        map (λ l. ⟦<Chosen<S::List> as Postings>⟧.remaining l.0) v.items ≡ map
+        (λ m. references_where (λ labels. satisfies m labels) (S.part source.now)) matchers.now) }
+    ensures fresh { IfOk result (λ v.
+        (k : ℕ) (d : _) → k < length v.items → (slice_index_or v.items k d).1 ≡ 0) }
 {
     let mut lists = Vec::new(alloc);
     for matcher in matchers {
@@ -52,7 +55,9 @@ fn chosen_lists<S: Source>(
 
 /// The moves of all lists together, up to the greatest number.
 fn sum_moves<P>(first: u64, lists: &[Counted<P>]) -> u64
-    ensures { (n : ℕ) → ((k : ℕ) (d : Counted P) → k < length lists.now → (slice_index_or lists.now k d).1 ≤ n) → result ≤ first + n * length lists.now }
+    ensures { (n : ℕ)
+        → ((k : ℕ) (d : Counted P) → k < length lists.now → (slice_index_or lists.now k d).1 ≤ n)
+        → result ≤ first + n * length lists.now }
 {
     let mut sum = first;
     for list in lists.iter() {
@@ -87,17 +92,29 @@ pub fn cover_with_moves<S: Source>(
     source: &S,
     query: &Query,
 ) -> Result<(PartCover, Moves), AllocError>
-    ensures leftmost { IfOk result (λ c. IsLeftmost (asked (S.part source.now) query.now) c.0.certificate.items) }
-    ensures valid { IfOk result (λ c. IsValidCertificate (asked (S.part source.now) query.now) c.0.certificate.items) }
-    ensures least { IfOk result (λ c. IsLeast (asked (S.part source.now) query.now) c.0.certificate.items) }
-    ensures matches { IfOk result (λ c. matches_of c.0.certificate.items ≡ matching_references (S.part source.now) query.now) }
+    ensures leftmost { IfOk result (λ c.
+        IsLeftmost (asked (S.part source.now) query.now) c.0.certificate.items) }
+    ensures valid { IfOk result (λ c.
+        IsValidCertificate (asked (S.part source.now) query.now) c.0.certificate.items) }
+    ensures least { IfOk result (λ c.
+        IsLeast (asked (S.part source.now) query.now) c.0.certificate.items) }
+    ensures matches { IfOk result (λ c.
+        matches_of c.0.certificate.items ≡ matching_references (S.part source.now) query.now) }
     ensures begins { IfOk result (λ c. c.0.separators.items ≡ begins_of c.0.certificate.items) }
-    ensures as_many { IfOk result (λ c. length c.0.separators.items ≡ length c.0.certificate.items) }
-    ensures separated { IfOk result (λ c. AreSeparators (asked (S.part source.now) query.now) c.0.separators.items) }
+    ensures as_many { IfOk result (λ c.
+        length c.0.separators.items ≡ length c.0.certificate.items) }
+    ensures separated { IfOk result (λ c.
+        AreSeparators (asked (S.part source.now) query.now) c.0.separators.items) }
     ensures sum { IfOk result (λ c. c.0.moves ≡ min (c.1.of_lists + c.1.of_live) (2 ^ 64 - 1)) }
-    ensures of_lists { IfOk result (λ c. (other : List Interval) → IsValidCertificate (asked (S.part source.now) query.now) other → c.1.of_lists ≤ (length query.now.matchers + 1) * length other) }
-    ensures of_live { IfOk result (λ c. (other : List Interval) → IsValidCertificate (asked (S.part source.now) query.now) other → c.1.of_live ≤ length other) }
-    ensures moves { IfOk result (λ c. (other : List Interval) → IsValidCertificate (asked (S.part source.now) query.now) other → c.0.moves ≤ (length query.now.matchers + 2) * length other) }
+    ensures of_lists { IfOk result (λ c.
+        (other : List Interval) → IsValidCertificate (asked (S.part source.now) query.now) other
+        → c.1.of_lists ≤ (length query.now.matchers + 1) * length other) }
+    ensures of_live { IfOk result (λ c.
+        (other : List Interval) → IsValidCertificate (asked (S.part source.now) query.now) other
+        → c.1.of_live ≤ length other) }
+    ensures moves { IfOk result (λ c.
+        (other : List Interval) → IsValidCertificate (asked (S.part source.now) query.now) other
+        → c.0.moves ≤ (length query.now.matchers + 2) * length other) }
 {
     let mut all = Counted::new(source.all());
     let mut lists = chosen_lists(alloc, source, query.matchers())?;
@@ -116,16 +133,24 @@ pub fn cover_with_moves<S: Source>(
     ))
 }
 
-/// The leftmost certificate of a part for a query, its separators, and how many moves its lists made.
+/// The leftmost certificate of a part for a query, its separators, and how many moves its lists
+/// made.
 pub fn cover<S: Source>(alloc: Global, source: &S, query: &Query) -> Result<PartCover, AllocError>
-    ensures leftmost { IfOk result (λ c. IsLeftmost (asked (S.part source.now) query.now) c.certificate.items) }
-    ensures valid { IfOk result (λ c. IsValidCertificate (asked (S.part source.now) query.now) c.certificate.items) }
-    ensures least { IfOk result (λ c. IsLeast (asked (S.part source.now) query.now) c.certificate.items) }
-    ensures matches { IfOk result (λ c. matches_of c.certificate.items ≡ matching_references (S.part source.now) query.now) }
+    ensures leftmost { IfOk result (λ c.
+        IsLeftmost (asked (S.part source.now) query.now) c.certificate.items) }
+    ensures valid { IfOk result (λ c.
+        IsValidCertificate (asked (S.part source.now) query.now) c.certificate.items) }
+    ensures least { IfOk result (λ c.
+        IsLeast (asked (S.part source.now) query.now) c.certificate.items) }
+    ensures matches { IfOk result (λ c.
+        matches_of c.certificate.items ≡ matching_references (S.part source.now) query.now) }
     ensures begins { IfOk result (λ c. c.separators.items ≡ begins_of c.certificate.items) }
     ensures as_many { IfOk result (λ c. length c.separators.items ≡ length c.certificate.items) }
-    ensures separated { IfOk result (λ c. AreSeparators (asked (S.part source.now) query.now) c.separators.items) }
-    ensures moves { IfOk result (λ c. (other : List Interval) → IsValidCertificate (asked (S.part source.now) query.now) other → c.moves ≤ (length query.now.matchers + 2) * length other) }
+    ensures separated { IfOk result (λ c.
+        AreSeparators (asked (S.part source.now) query.now) c.separators.items) }
+    ensures moves { IfOk result (λ c.
+        (other : List Interval) → IsValidCertificate (asked (S.part source.now) query.now) other
+        → c.moves ≤ (length query.now.matchers + 2) * length other) }
 {
     let (cover, _) = cover_with_moves(alloc, source, query)?;
     Ok(cover)

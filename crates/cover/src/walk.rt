@@ -26,8 +26,11 @@ fn number_or_end(next: Option<SeriesRef>) -> u64
 
 /// Moves each list to the reference.
 fn seek_each<P: Postings>(lists: &mut [Counted<P>], from: SeriesRef)
-    ensures moved { (k : ℕ) (d : Counted P) → k < length lists.old → P.remaining (slice_index_or lists.new k d).0 ≡ not_below from (P.remaining (slice_index_or lists.old k d).0) }
-    ensures counted { (k : ℕ) (d : Counted P) → k < length lists.old → (slice_index_or lists.new k d).1 ≤ (slice_index_or lists.old k d).1 + 1 }
+    ensures moved { (k : ℕ) (d : Counted P) → k < length lists.old
+        → P.remaining (slice_index_or lists.new k d).0
+        ≡ not_below from (P.remaining (slice_index_or lists.old k d).0) }
+    ensures counted { (k : ℕ) (d : Counted P) → k < length lists.old
+        → (slice_index_or lists.new k d).1 ≤ (slice_index_or lists.old k d).1 + 1 }
 {
     for list in lists.iter_mut() {
         list.seek(from);
@@ -46,13 +49,16 @@ fn farther(verdict: Verdict, end: u64, other: Verdict, begins: u64) -> (Verdict,
     }
 }
 
-/// Which list begins farthest past the reference, and where; the first of those that do, the live list last.
+/// Which list begins farthest past the reference, and where; the first of those that do, the live
+/// list last.
 fn farthest<P: Postings, L: Postings>(
     lists: &[Counted<P>],
     live: &Counted<L>,
     from: SeriesRef,
 ) -> (Verdict, u64)
-    ensures { TellsFarthest (λ (k : ℕ). slice_index (map (λ (l : Counted P). first_or_end (P.remaining l.0)) lists.now) k) (length lists.now) (first_or_end (L.remaining live.now.0)) from result.0 result.1 }
+    ensures { TellsFarthest (λ (k : ℕ).
+        slice_index (map (λ (l : Counted P). first_or_end (P.remaining l.0)) lists.now) k)
+        (length lists.now) (first_or_end (L.remaining live.now.0)) from result.0 result.1 }
 {
     let mut verdict = Verdict::Match;
     let mut end = u64::from(from.number());
@@ -93,15 +99,22 @@ pub(crate) fn walk<P: Postings, Q: Postings, L: Postings>(
     lists: &mut [Counted<Q>],
     live: &mut Counted<L>,
 ) -> Result<Vec<Interval>, AllocError>
-    requires part { IsAsked (asked_of (P.remaining all.old.0) (map (λ l. Q.remaining l.0) lists.old) (L.remaining live.old.0)) }
-    requires accepted { (j : ℕ) (d : Counted Q) → j < length lists.old → Q.remaining (slice_index_or lists.old j d).0 ≡ accepted (asked_of (P.remaining all.old.0) (map (λ l. Q.remaining l.0) lists.old) (L.remaining live.old.0)) j }
-    requires living { L.remaining live.old.0 ≡ alive (asked_of (P.remaining all.old.0) (map (λ l. Q.remaining l.0) lists.old) (L.remaining live.old.0)) }
+    requires part { IsAsked (asked_of (P.remaining all.old.0) (map (λ l. Q.remaining l.0) lists.old)
+        (L.remaining live.old.0)) }
+    requires accepted { (j : ℕ) (d : Counted Q) → j < length lists.old
+        → Q.remaining (slice_index_or lists.old j d).0 ≡ accepted (asked_of (P.remaining all.old.0)
+        (map (λ l. Q.remaining l.0) lists.old) (L.remaining live.old.0)) j }
+    requires living { L.remaining live.old.0 ≡ alive (asked_of (P.remaining all.old.0)
+        (map (λ l. Q.remaining l.0) lists.old) (L.remaining live.old.0)) }
     requires fresh { all.old.1 ≡ 0 }
-    requires each_fresh { (j : ℕ) (d : Counted Q) → j < length lists.old → (slice_index_or lists.old j d).1 ≡ 0 }
+    requires each_fresh { (j : ℕ) (d : Counted Q) → j < length lists.old
+        → (slice_index_or lists.old j d).1 ≡ 0 }
     requires live_fresh { live.old.1 ≡ 0 }
-    ensures leftmost { IfOk result (λ c. IsLeftmost (asked_of (P.remaining all.old.0) (map (λ l. Q.remaining l.0) lists.old) (L.remaining live.old.0)) c.items) }
+    ensures leftmost { IfOk result (λ c. IsLeftmost (asked_of (P.remaining all.old.0)
+        (map (λ l. Q.remaining l.0) lists.old) (L.remaining live.old.0)) c.items) }
     ensures moves { IfOk result (λ c. all.new.1 ≤ length c.items) }
-    ensures each_moves { IfOk result (λ c. (j : ℕ) (d : Counted Q) → j < length lists.old → (slice_index_or lists.new j d).1 ≤ length c.items) }
+    ensures each_moves { IfOk result (λ c. (j : ℕ) (d : Counted Q) → j < length lists.old
+        → (slice_index_or lists.new j d).1 ≤ length c.items) }
     ensures live_moves { IfOk result (λ c. live.new.1 ≤ length c.items) }
 {
     let mut certificate = Vec::new(alloc);

@@ -7,7 +7,11 @@ use Rattle.cover.proofs.part_cover.chosen_lists.Given as goal
 
 abbrev pub invariant-loop-matcher : goal.invariant-loop-matcher
 invariant-loop-matcher g l = record {
-  lists : map (λ x. (chosen_ghosts g.row.S-List g.S.List.Postings g.S.List.Postings-dict (union_ghosts g.row.S-List g.S.List.Postings g.S.List.Postings-dict g.S.List.Destruct-dict) (union_dict g.row.S-List g.S.List.Postings g.S.List.Postings-dict g.S.List.Destruct-dict)).remaining x.0) l.lists.items
-      ≡ map (λ m. references_where (λ labels. satisfies m labels) (g.S.Source.part l.source)) (take l.matcher-index l.matchers);
+  lists : map (λ x. (chosen_ghosts g.row.S-List g.S.List.Postings g.S.List.Postings-dict
+      (union_ghosts g.row.S-List g.S.List.Postings g.S.List.Postings-dict g.S.List.Destruct-dict)
+      (union_dict g.row.S-List g.S.List.Postings g.S.List.Postings-dict
+      g.S.List.Destruct-dict)).remaining x.0) l.lists.items
+      ≡ map (λ m. references_where (λ labels. satisfies m labels) (g.S.Source.part l.source))
+      (take l.matcher-index l.matchers);
   fresh : (k : ℕ) (d : _) → k < length l.lists.items → (slice_index_or l.lists.items k d).1 ≡ 0;
 }
