@@ -14,11 +14,18 @@ loop-row-preserved c =
     let whole = joined c.args.rows.items [] in
     let put = c.in_ok-put.ensures in
     record {
-      same = joined_step l.rows.items rest row (joined (reverse l.later.items) []) (joined (reverse c.join_row.new.later.items) []) whole c.in-Some.ensures.items l.invariant.same put.same;
+      same =
+          joined_step l.rows.items rest row (joined (reverse l.later.items) [])
+          (joined (reverse c.join_row.new.later.items) []) whole c.in-Some.ensures.items
+          l.invariant.same put.same;
       whole = λ w.
           let both = and_parts l.whole c.in_ok-put.put w in
-          joined_step l.rows.items rest row (reverse l.later.items) (reverse c.join_row.new.later.items) whole c.in-Some.ensures.items (l.invariant.whole both.0) (put.whole both.1);
+          joined_step l.rows.items rest row (reverse l.later.items)
+          (reverse c.join_row.new.later.items) whole c.in-Some.ensures.items
+          (l.invariant.whole both.0) (put.whole both.1);
       all = λ a. and_from l.whole c.in_ok-put.put (l.invariant.all a) (put.all a);
-      rows_rise = (All-pop Rises l.rows.items rest c.pop.result c.pop.ensures.items l.invariant.rows_rise).0;
+      rows_rise =
+          (All-pop Rises l.rows.items rest c.pop.result c.pop.ensures.items
+          l.invariant.rows_rise).0;
       later_rise = put.all_rise;
     }

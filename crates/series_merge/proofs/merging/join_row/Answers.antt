@@ -13,12 +13,17 @@ returns-then-same-after-clause-same c =
     let next : Row = c.in-Some.next in
     let rest : List Row = c.pop.new.self.items in
     let same : same_labels row.0 next.0 ≡ true =
-    (λ i. same_labels (sym c.labels.ensures i) (sym c.labels-2.ensures i)) ∙ sym c.eq-same.ensures ∙ (and_parts c.eq-same.result _ c.if-same-after.true).0 in
-    joined_over row next c.in_ok-lay_row.field-0 c.args.later.now.items rest c.push-then-same-after.new.self.items c.in-Some.ensures.items c.in_ok-push-2.ensures.items
-    c.in_ok-lay_row.ensures.laid same (All-pop Rises c.args.later.now.items rest c.pop.result c.pop.ensures.items c.requires.all_rise).0
+    (λ i. same_labels (sym c.labels.ensures i) (sym c.labels-2.ensures i))
+    ∙ sym c.eq-same.ensures
+    ∙ (and_parts c.eq-same.result _ c.if-same-after.true).0 in
+    joined_over row next c.in_ok-lay_row.field-0 c.args.later.now.items rest
+    c.push-then-same-after.new.self.items c.in-Some.ensures.items c.in_ok-push-2.ensures.items
+    c.in_ok-lay_row.ensures.laid same (All-pop Rises c.args.later.now.items rest c.pop.result
+    c.pop.ensures.items c.requires.all_rise).0
 
 pub returns-then-same-after-clause-all_rise : goal.returns-then-same-after-clause-all_rise
 returns-then-same-after-clause-all_rise c =
     let rest : List Row = c.pop.new.self.items in
     subst (All Rises) (sym c.in_ok-push-2.ensures.items)
-    (All-push Rises rest c.in_ok-lay_row.field-0 (All-pop Rises c.args.later.now.items rest c.pop.result c.pop.ensures.items c.requires.all_rise).0 c.in_ok-lay_row.ensures.rises)
+    (All-push Rises rest c.in_ok-lay_row.field-0 (All-pop Rises c.args.later.now.items rest
+    c.pop.result c.pop.ensures.items c.requires.all_rise).0 c.in_ok-lay_row.ensures.rises)
