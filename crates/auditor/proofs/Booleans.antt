@@ -38,13 +38,16 @@ pub either : (x : Bool) → (x ≡ true) ⊎ (x ≡ false)
 either true = inl refl
 either false = inr refl
 
-pub all_true : {X : Type 0} (p : X → Bool) (xs : List X) → list_all p xs ≡ true → (x : X) → Contains xs x → p x ≡ true
+pub all_true : {X : Type 0} (p : X → Bool) (xs : List X) → list_all p xs ≡ true → (x : X)
+    → Contains xs x → p x ≡ true
 all_true p [] h x c = absurd (none_in_nil x c)
 all_true {X} p (y ∷ ys) h x c = elim (Contains-cases y ys x c) [
   | inl e ↦ subst (λ (z : X). p z ≡ true) e (and_left (p y) (list_all p ys) h)
   | inr d ↦ all_true p ys (and_right (p y) (list_all p ys) h) x d
 ]
 
-pub true_all : {X : Type 0} (p : X → Bool) (xs : List X) → ((x : X) → Contains xs x → p x ≡ true) → list_all p xs ≡ true
+pub true_all : {X : Type 0} (p : X → Bool) (xs : List X) → ((x : X) → Contains xs x → p x ≡ true)
+    → list_all p xs ≡ true
 true_all p [] h = refl
-true_all p (y ∷ ys) h = and_both (p y) (list_all p ys) (h y (here y ys)) (true_all p ys (λ x c. h x (there y x ys c)))
+true_all p (y ∷ ys) h =
+    and_both (p y) (list_all p ys) (h y (here y ys)) (true_all p ys (λ x c. h x (there y x ys c)))

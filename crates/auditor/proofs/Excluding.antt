@@ -25,24 +25,44 @@ misfits_not a (i ∷ is) v h fit = elim h [
 
 -- no two of these share a fitting run
 abbrev AreApart : Asked → List ℕ → Type 0
-AreApart a seps = (r s : ℕ) → Contains seps r → Contains seps s → r < s → (run : List ℕ) → IsFittingRun a run → Contains run r → Contains run s → ⊥
+AreApart a seps =
+    (r s : ℕ) → Contains seps r → Contains seps s → r < s → (run : List ℕ) → IsFittingRun a run
+    → Contains run r → Contains run s → ⊥
 
-shared_not : (a : Asked) (seps : List ℕ) (at : ℕ) → ShareAt a seps at → IsStrictlyIncreasing seps → AreApart a seps → ⊥
+shared_not : (a : Asked) (seps : List ℕ) (at : ℕ) → ShareAt a seps at → IsStrictlyIncreasing seps
+    → AreApart a seps → ⊥
 shared_not a [] at h up apart = h
 shared_not a (r ∷ []) at h up apart = h
 shared_not a (r ∷ s ∷ ss) zero h up apart =
-    apart r s (here r (s ∷ ss)) (there r s (s ∷ ss) (here s ss)) (rising-head r (s ∷ ss) up s (here s ss)) h.run h.fitting h.has_first h.has_second
+    apart r s (here r (s ∷ ss)) (there r s (s ∷ ss) (here s ss))
+    (rising-head r (s ∷ ss) up s (here s ss)) h.run h.fitting h.has_first h.has_second
 shared_not a (r ∷ s ∷ ss) (suc at) h up apart =
-    shared_not a (s ∷ ss) at h (rising-tail r (s ∷ ss) up) (λ x y cx cy. apart x y (there r x (s ∷ ss) cx) (there r y (s ∷ ss) cy))
+    shared_not a (s ∷ ss) at h (rising-tail r (s ∷ ss) up) (λ x y cx cy.
+    apart x y (there r x (s ∷ ss) cx) (there r y (s ∷ ss) cy))
 
-pub sound_not : (part : Part) (q : QueryView) (answer : PartAnswer) (flaw : Flaw) → IsSound part q answer → IsFlaw part q answer flaw → ⊥
+pub sound_not : (part : Part) (q : QueryView) (answer : PartAnswer) (flaw : Flaw)
+    → IsSound part q answer → IsFlaw part q answer flaw → ⊥
 sound_not part q answer UnknownMatcher sound h = true_not_false (sym sound.known ∙ h)
-sound_not part q answer NotAPartition sound h = h.1 (record { partition = sound.valid.partition; begins = sound.valid.begins; chained = sound.valid.chained })
-sound_not part q answer NotMatching sound h = misfits_not (asked part q) answer.cover.certificate.items Match h.1 sound.valid.fits
-sound_not part q answer (NotRejected matcher) sound h = misfits_not (asked part q) answer.cover.certificate.items (Rejected matcher) h.1 sound.valid.fits
-sound_not part q answer NotSilent sound h = misfits_not (asked part q) answer.cover.certificate.items NoSample h.1 sound.valid.fits
-sound_not part q answer SeparatorCount sound h = h.2 (record { ascending = sound.separated.ascending; of_part = sound.separated.of_part; as_many = sound.as_many })
-sound_not part q answer (SeparatorsFit at) sound h = shared_not (asked part q) answer.cover.separators.items at h.3.shared sound.separated.ascending sound.separated.apart
+sound_not part q answer NotAPartition sound h = h.1 (record {
+  partition = sound.valid.partition;
+  begins = sound.valid.begins;
+  chained = sound.valid.chained;
+})
+sound_not part q answer NotMatching sound h =
+    misfits_not (asked part q) answer.cover.certificate.items Match h.1 sound.valid.fits
+sound_not part q answer (NotRejected matcher) sound h =
+    misfits_not (asked part q) answer.cover.certificate.items (Rejected matcher)
+    h.1 sound.valid.fits
+sound_not part q answer NotSilent sound h =
+    misfits_not (asked part q) answer.cover.certificate.items NoSample h.1 sound.valid.fits
+sound_not part q answer SeparatorCount sound h = h.2 (record {
+  ascending = sound.separated.ascending;
+  of_part = sound.separated.of_part;
+  as_many = sound.as_many;
+})
+sound_not part q answer (SeparatorsFit at) sound h =
+    shared_not (asked part q) answer.cover.separators.items at h.3.shared sound.separated.ascending
+    sound.separated.apart
 sound_not part q answer WrongRows sound h = h.4 sound.rows
 sound_not part q answer Hidden sound h = h
 sound_not part q answer WrongMerge sound h = h

@@ -13,26 +13,32 @@ both_hold : (a b : Bool) → (a && b) ≡ true → (a ≡ true) × (b ≡ true)
 both_hold true b h = (refl, h)
 both_hold false b h = absurd cc
 
-pub all_pass : {X : Type 0} (p : X → Bool) (xs : List X) → list_all p xs ≡ true → AllByRecursion (λ x. p x ≡ true) xs
+pub all_pass : {X : Type 0} (p : X → Bool) (xs : List X) → list_all p xs ≡ true
+    → AllByRecursion (λ x. p x ≡ true) xs
 all_pass p [] h = tt
 all_pass p (x ∷ xs) h = let a = both_hold (p x) (list_all p xs) h in (a.0, all_pass p xs a.1)
 
-pub pass_all : {X : Type 0} (p : X → Bool) (xs : List X) → AllByRecursion (λ x. p x ≡ true) xs → list_all p xs ≡ true
+pub pass_all : {X : Type 0} (p : X → Bool) (xs : List X) → AllByRecursion (λ x. p x ≡ true) xs
+    → list_all p xs ≡ true
 pass_all p [] a = refl
 pass_all p (x ∷ xs) a = rw (a.0) (pass_all p xs a.1)
 
-pub weaken : {X : Type 0} (P Q : X → Type 0) → ((x : X) → P x → Q x) → (xs : List X) → AllByRecursion P xs → AllByRecursion Q xs
+pub weaken : {X : Type 0} (P Q : X → Type 0) → ((x : X) → P x → Q x) → (xs : List X)
+    → AllByRecursion P xs → AllByRecursion Q xs
 weaken P Q h [] a = tt
 weaken P Q h (x ∷ xs) a = (h x a.0, weaken P Q h xs a.1)
 
 -- the checks of all, one after the other
 
-pub each_pass : {A : Type 0} (check : A → Result (Unit {0}) ChunkError) (xs : List A) → each check xs ≡ Ok tt → AllByRecursion (λ x. check x ≡ Ok tt) xs
+pub each_pass : {A : Type 0} (check : A → Result (Unit {0}) ChunkError) (xs : List A)
+    → each check xs ≡ Ok tt → AllByRecursion (λ x. check x ≡ Ok tt) xs
 unfolding each
 each_pass check [] h = tt
-each_pass check (x ∷ xs) h = let a = bind_ok (check x) (λ _. each check xs) tt h in (a.1, each_pass check xs a.2)
+each_pass check (x ∷ xs) h =
+    let a = bind_ok (check x) (λ _. each check xs) tt h in (a.1, each_pass check xs a.2)
 
-pub pass_each : {A : Type 0} (check : A → Result (Unit {0}) ChunkError) (xs : List A) → AllByRecursion (λ x. check x ≡ Ok tt) xs → each check xs ≡ Ok tt
+pub pass_each : {A : Type 0} (check : A → Result (Unit {0}) ChunkError) (xs : List A)
+    → AllByRecursion (λ x. check x ≡ Ok tt) xs → each check xs ≡ Ok tt
 unfolding each
 pass_each check [] a = refl
 pass_each check (x ∷ xs) a = rw (a.0) (pass_each check xs a.1)
@@ -43,11 +49,14 @@ either_holds : (a b : Bool) → (a || b) ≡ true → (a ≡ true) ⊎ (b ≡ tr
 either_holds true b h = inl refl
 either_holds false b h = inr h
 
-pub known_in : (d : Deletion) (ss : List Series) → is_known ss d ≡ true → Contains (references ss) d.reference
+pub known_in : (d : Deletion) (ss : List Series) → is_known ss d ≡ true
+    → Contains (references ss) d.reference
 known_in d [] h = absurd cc
 known_in d (s ∷ ss) h =
     elim (either_holds (eqb s.reference d.reference) (is_known ss d) h) [
-      | inl e ↦ subst (λ (r : ℕ). Contains (s.reference ∷ references ss) r) (eqb-true s.reference d.reference e) (here s.reference (references ss))
+      | inl e ↦
+          subst (λ (r : ℕ). Contains (s.reference ∷ references ss) r)
+          (eqb-true s.reference d.reference e) (here s.reference (references ss))
       | inr rest ↦ there s.reference d.reference (references ss) (known_in d ss rest)
     ]
 
@@ -59,10 +68,12 @@ or_right : (a b : Bool) → b ≡ true → (a || b) ≡ true
 or_right true b h = refl
 or_right false b h = h
 
-pub in_known : (d : Deletion) (ss : List Series) → Contains (references ss) d.reference → is_known ss d ≡ true
+pub in_known : (d : Deletion) (ss : List Series) → Contains (references ss) d.reference
+    → is_known ss d ≡ true
 in_known d [] c = absurd (none_in_nil d.reference c)
 in_known d (s ∷ ss) c =
     elim (Contains-cases s.reference (references ss) d.reference c) [
-      | inl e ↦ or_left (eqb s.reference d.reference) (is_known ss d) (eq-eqb s.reference d.reference e)
+      | inl e ↦
+          or_left (eqb s.reference d.reference) (is_known ss d) (eq-eqb s.reference d.reference e)
       | inr rest ↦ or_right (eqb s.reference d.reference) (is_known ss d) (in_known d ss rest)
     ]

@@ -28,9 +28,11 @@ use Rattle.auditor.proofs.BlockFiles.Stages.{stage_ok, test_ok, tombstones_ok}
 
 -- chunks
 
-pub are_spelled : (file : List ℕ) (cs : List Chunk) → AllByRecursion (IsHeld file) cs → AreSpelled file cs (samples_in file cs)
+pub are_spelled : (file : List ℕ) (cs : List Chunk) → AllByRecursion (IsHeld file) cs
+    → AreSpelled file cs (samples_in file cs)
 are_spelled file [] held = refl
-are_spelled file (c ∷ cs) held = (chunk_samples file c, samples_in file cs, refl, held.0.stands, are_spelled file cs held.1)
+are_spelled file (c ∷ cs) held =
+    (chunk_samples file c, samples_in file cs, refl, held.0.stands, are_spelled file cs held.1)
 
 -- the chunks of all series are held, and each has few samples
 pub record AreHeld (file : List ℕ) (ss : List Series) : Type 0 where
@@ -39,27 +41,47 @@ pub record AreHeld (file : List ℕ) (ss : List Series) : Type 0 where
 
 -- deletions
 
-pub record AreKnown (tombstones : List ℕ) (ss : List Series) (deletions : List Deletion) : Type 0 where
+pub record AreKnown (tombstones : List ℕ) (ss : List Series)
+    (deletions : List Deletion) : Type 0 where
   pub deleted : IsTombstones tombstones deletions
   pub known : AllByRecursion (λ (d : Deletion). Contains (references ss) d.reference) deletions
 
-pub known_each : (ss : List Series) (deletions : List Deletion) → list_all (is_known ss) deletions ≡ true → AllByRecursion (λ (d : Deletion). Contains (references ss) d.reference) deletions
-known_each ss deletions h = weaken (λ d. is_known ss d ≡ true) (λ d. Contains (references ss) d.reference) (λ d e. known_in d ss e) deletions (all_pass (is_known ss) deletions h)
+pub known_each : (ss : List Series) (deletions : List Deletion)
+    → list_all (is_known ss) deletions ≡ true
+    → AllByRecursion (λ (d : Deletion). Contains (references ss) d.reference) deletions
+known_each ss deletions h =
+    weaken (λ d. is_known ss d ≡ true) (λ d. Contains (references ss) d.reference)
+    (λ d e. known_in d ss e) deletions (all_pass (is_known ss) deletions h)
 
-pub deleted_known : (tombstones : List ℕ) (ss : List Series) (deletions : List Deletion) → IsBytes tombstones → deleted_of tombstones ss ≡ Ok deletions → AreKnown tombstones ss deletions
+pub deleted_known : (tombstones : List ℕ) (ss : List Series) (deletions : List Deletion)
+    → IsBytes tombstones → deleted_of tombstones ss ≡ Ok deletions
+    → AreKnown tombstones ss deletions
 unfolding deleted_of
 deleted_known tombstones ss deletions fits h =
     let a = stage_ok (or_tombstones (deletions_of tombstones)) _ deletions h in
     let b = test_ok (list_all (is_known ss) a.0) UnknownSeries a.0 deletions a.2 in
-    subst (AreKnown tombstones ss) b.1 (record { deleted = tombstones_take tombstones a.0 fits (tombstones_ok (deletions_of tombstones) a.0 a.1); known = known_each ss a.0 b.0 })
+    subst (AreKnown tombstones ss) b.1 (record {
+      deleted =
+          tombstones_take tombstones a.0 fits (tombstones_ok (deletions_of tombstones) a.0 a.1);
+      known = known_each ss a.0 b.0;
+    })
 
 -- the rows
 
-pub are_rows : (file : List ℕ) (deletions : List Deletion) (ss : List Series) → AllByRecursion (λ (s : Series). AllByRecursion (IsHeld file) s.chunks) ss
-    → AllByRecursion (λ (s : Series). length (samples_in file s.chunks) ≤ 1048576) ss → AreRows file deletions ss (part_of file deletions ss)
+pub are_rows : (file : List ℕ) (deletions : List Deletion) (ss : List Series)
+    → AllByRecursion (λ (s : Series). AllByRecursion (IsHeld file) s.chunks) ss
+    → AllByRecursion (λ (s : Series). length (samples_in file s.chunks) ≤ 1048576) ss
+    → AreRows file deletions ss (part_of file deletions ss)
 are_rows file deletions [] held few = tt
 are_rows file deletions (s ∷ ss) held few = (
-  record { reference = refl; labels = refl; samples = samples_in file s.chunks; spelled = are_spelled file s.chunks held.0; few = few.0; kept = refl },
+  record {
+    reference = refl;
+    labels = refl;
+    samples = samples_in file s.chunks;
+    spelled = are_spelled file s.chunks held.0;
+    few = few.0;
+    kept = refl;
+  },
   are_rows file deletions ss held.1 few.1,
 )
 
@@ -77,12 +99,18 @@ opened_same file x h =
 
 -- the whole, of what the checks leave
 
-pub walk_spelled : (index chunks tombstones : List ℕ) (ss : List Series) (file : List ℕ) (deletions sorted : List Deletion) → IsBytes tombstones → IsIndex index ss → opened chunks ≡ Ok file → IsSegment file
-    → AllByRecursion (AllByRecursion (IsHeld file)) (chunk_lists ss) → list_all (have_few file) (chunk_lists ss) ≡ true → deleted_of tombstones ss ≡ Ok deletions → IsPermutation deletions sorted
+pub walk_spelled : (index chunks tombstones : List ℕ) (ss : List Series) (file : List ℕ)
+    (deletions sorted : List Deletion) → IsBytes tombstones → IsIndex index ss
+    → opened chunks ≡ Ok file → IsSegment file
+    → AllByRecursion (AllByRecursion (IsHeld file)) (chunk_lists ss)
+    → list_all (have_few file) (chunk_lists ss) ≡ true → deleted_of tombstones ss ≡ Ok deletions
+    → IsPermutation deletions sorted
     → IsWalked index chunks tombstones (part_of file sorted ss)
-walk_spelled index chunks tombstones ss file deletions sorted tombstones_fit indexed read segment held few deleted order =
+walk_spelled index chunks tombstones ss file deletions sorted tombstones_fit indexed read segment
+    held few deleted order =
     let known = deleted_known tombstones ss deletions tombstones_fit deleted in
-    let few_each : AllByRecursion (λ (s : Series). is_few file s ≡ true) ss = all_pass (is_few file) ss (all_lists (have_few file) ss ∙ few) in
+    let few_each : AllByRecursion (λ (s : Series). is_few file s ≡ true) ss =
+    all_pass (is_few file) ss (all_lists (have_few file) ss ∙ few) in
     let whole : IsWalked index file tombstones (part_of file deletions ss) = record {
       series = ss;
       indexed = indexed;
@@ -91,7 +119,9 @@ walk_spelled index chunks tombstones ss file deletions sorted tombstones_fit ind
       deleted = known.deleted;
       known = known.known;
       rows = are_rows file deletions ss (facts_of_lists (AllByRecursion (IsHeld file)) ss held)
-          (weaken (λ s. is_few file s ≡ true) (λ s. length (samples_in file s.chunks) ≤ 1048576) (λ s e. leb-true (length (samples_in file s.chunks)) 1048576 e) ss few_each);
+          (weaken (λ s. is_few file s ≡ true) (λ s. length (samples_in file s.chunks) ≤ 1048576)
+          (λ s e. leb-true (length (samples_in file s.chunks)) 1048576 e) ss few_each);
     } in
-    subst (λ (c : List ℕ). IsWalked index c tombstones (part_of file sorted ss)) (opened_same chunks file read)
+    subst (λ (c : List ℕ). IsWalked index c tombstones (part_of file sorted ss))
+    (opened_same chunks file read)
     (subst (IsWalked index file tombstones) (part_any_order file deletions sorted order ss) whole)

@@ -31,45 +31,60 @@ pub fails : {A : Type 0} (e : WalkError) (read : Result A WalkError) → read �
 fails Memory read h = tt
 fails e read h = h
 
-pub fails_next : {A B : Type 0} (e : WalkError) (read : Result A WalkError) (f : A → Result B WalkError) → Fails e read → Fails e (read >>= f)
+pub fails_next : {A B : Type 0} (e : WalkError) (read : Result A WalkError)
+    (f : A → Result B WalkError) → Fails e read → Fails e (read >>= f)
 fails_next Memory read f h = tt
 fails_next e read f h = rw h refl
 
-pub chunks_fail : {A B : Type 0} (e : ChunkError) (read : Result A ChunkError) (f : A → Result B WalkError) → read ≡ Err e → Fails (of_chunk e) (or_chunks read >>= f)
+pub chunks_fail : {A B : Type 0} (e : ChunkError) (read : Result A ChunkError)
+    (f : A → Result B WalkError) → read ≡ Err e → Fails (of_chunk e) (or_chunks read >>= f)
 chunks_fail chunk.Memory read f h = tt
 chunks_fail e read f h = rw h refl
 
-pub tombstones_fail : {A B : Type 0} (e : TombstoneError) (read : Result A TombstoneError) (f : A → Result B WalkError) → tombstone_outcome.Fails e read → Fails (of_tombstone e) (or_tombstones read >>= f)
+pub tombstones_fail : {A B : Type 0} (e : TombstoneError) (read : Result A TombstoneError)
+    (f : A → Result B WalkError) → tombstone_outcome.Fails e read
+    → Fails (of_tombstone e) (or_tombstones read >>= f)
 tombstones_fail tombstone.Memory read f h = tt
 tombstones_fail e read f h = rw h refl
 
 -- checks of series, as checks of their chunks
 
-pub each_lists : (check : List Chunk → Result (Unit {0}) ChunkError) (ss : List Series) → each (λ (s : Series). check s.chunks) ss ≡ each check (chunk_lists ss)
+pub each_lists : (check : List Chunk → Result (Unit {0}) ChunkError) (ss : List Series)
+    → each (λ (s : Series). check s.chunks) ss ≡ each check (chunk_lists ss)
 unfolding each
 each_lists check [] = refl
-each_lists check (s ∷ ss) = ap (λ r. chunk_reading.◌>>=◌ (check s.chunks) (λ _. r)) (each_lists check ss)
+each_lists check (s ∷ ss) =
+    ap (λ r. chunk_reading.◌>>=◌ (check s.chunks) (λ _. r)) (each_lists check ss)
 
-pub all_lists : (test : List Chunk → Bool) (ss : List Series) → list_all (λ (s : Series). test s.chunks) ss ≡ list_all test (chunk_lists ss)
+pub all_lists : (test : List Chunk → Bool) (ss : List Series)
+    → list_all (λ (s : Series). test s.chunks) ss ≡ list_all test (chunk_lists ss)
 all_lists test [] = refl
 all_lists test (s ∷ ss) = ap (λ b. test s.chunks && b) (all_lists test ss)
 
-pub facts_of_lists : (P : List Chunk → Type 0) (ss : List Series) → AllByRecursion P (chunk_lists ss) → AllByRecursion (λ (s : Series). P s.chunks) ss
+pub facts_of_lists : (P : List Chunk → Type 0) (ss : List Series)
+    → AllByRecursion P (chunk_lists ss) → AllByRecursion (λ (s : Series). P s.chunks) ss
 facts_of_lists P [] a = tt
 facts_of_lists P (s ∷ ss) a = (a.0, facts_of_lists P ss a.1)
 
-pub stored_fails : (file : List ℕ) (ss : List Series) (e : ChunkError) → each (each (chunk_check file)) (chunk_lists ss) ≡ Err e → Fails (of_chunk e) (stored_of file ss)
+pub stored_fails : (file : List ℕ) (ss : List Series) (e : ChunkError)
+    → each (each (chunk_check file)) (chunk_lists ss) ≡ Err e
+    → Fails (of_chunk e) (stored_of file ss)
 unfolding stored_of
-stored_fails file ss e h = chunks_fail e (each (series_check file) ss) _ (each_lists (each (chunk_check file)) ss ∙ h)
+stored_fails file ss e h =
+    chunks_fail e (each (series_check file) ss) _ (each_lists (each (chunk_check file)) ss ∙ h)
 
-pub stored_many : (file : List ℕ) (ss : List Series) → each (each (chunk_check file)) (chunk_lists ss) ≡ Ok tt → list_all (have_few file) (chunk_lists ss) ≡ false → stored_of file ss ≡ Err Limit
+pub stored_many : (file : List ℕ) (ss : List Series)
+    → each (each (chunk_check file)) (chunk_lists ss) ≡ Ok tt
+    → list_all (have_few file) (chunk_lists ss) ≡ false → stored_of file ss ≡ Err Limit
 unfolding stored_of
 stored_many file ss h few =
     let one : each (series_check file) ss ≡ Ok tt = each_lists (each (chunk_check file)) ss ∙ h in
     let two : list_all (is_few file) ss ≡ false = all_lists (have_few file) ss ∙ few in
     rw (one, two) refl
 
-pub stored_few : (file : List ℕ) (ss : List Series) → each (each (chunk_check file)) (chunk_lists ss) ≡ Ok tt → list_all (have_few file) (chunk_lists ss) ≡ true → stored_of file ss ≡ Ok tt
+pub stored_few : (file : List ℕ) (ss : List Series)
+    → each (each (chunk_check file)) (chunk_lists ss) ≡ Ok tt
+    → list_all (have_few file) (chunk_lists ss) ≡ true → stored_of file ss ≡ Ok tt
 unfolding stored_of
 stored_few file ss h few =
     let one : each (series_check file) ss ≡ Ok tt = each_lists (each (chunk_check file)) ss ∙ h in
@@ -85,19 +100,28 @@ not_true false h = refl
 contains_at : (xs : List ℕ) (j b : ℕ) → slice_get xs j ≡ Some b → Contains xs b
 contains_at xs j b h = (j, slice_get_within xs j b h, get_or_from_slice_get xs j b b h)
 
-pub known_is : (ss : List Series) (d : Deletion) (r : ℕ) (o : Option ℕ) → r ≡ d.reference → IfSome o (λ i. slice_get (references ss) i ≡ Some r) → IfNone o (Contains (references ss) r → ⊥) → is_some o ≡ is_known ss d
-known_is ss d r (Some i) e found none = sym (in_known d ss (subst (Contains (references ss)) e (contains_at (references ss) i r found)))
-known_is ss d r None e found none = sym (not_true (is_known ss d) (λ h. none (subst (Contains (references ss)) (sym e) (known_in d ss h))))
+pub known_is : (ss : List Series) (d : Deletion) (r : ℕ) (o : Option ℕ) → r ≡ d.reference
+    → IfSome o (λ i. slice_get (references ss) i ≡ Some r)
+    → IfNone o (Contains (references ss) r → ⊥) → is_some o ≡ is_known ss d
+known_is ss d r (Some i) e found none =
+    sym (in_known d ss (subst (Contains (references ss)) e (contains_at (references ss) i r found)))
+known_is ss d r None e found none =
+    sym (not_true (is_known ss d) (λ h.
+    none (subst (Contains (references ss)) (sym e) (known_in d ss h))))
 
 -- deletions of known series
 
-pub deleted_unknown : (file : List ℕ) (ss : List Series) (ds held : List Deletion) → deletions_of file ≡ Ok ds → IsPermutation ds held → list_all (is_known ss) held ≡ false → deleted_of file ss ≡ Err UnknownSeries
+pub deleted_unknown : (file : List ℕ) (ss : List Series) (ds held : List Deletion)
+    → deletions_of file ≡ Ok ds → IsPermutation ds held → list_all (is_known ss) held ≡ false
+    → deleted_of file ss ≡ Err UnknownSeries
 unfolding deleted_of
 deleted_unknown file ss ds held h p unknown =
     let e : list_all (is_known ss) ds ≡ false = known_any_order ss ds held p ∙ unknown in
     rw (h, e) refl
 
-pub deleted_known : (file : List ℕ) (ss : List Series) (ds held : List Deletion) → deletions_of file ≡ Ok ds → IsPermutation ds held → list_all (is_known ss) held ≡ true → deleted_of file ss ≡ Ok ds
+pub deleted_known : (file : List ℕ) (ss : List Series) (ds held : List Deletion)
+    → deletions_of file ≡ Ok ds → IsPermutation ds held → list_all (is_known ss) held ≡ true
+    → deleted_of file ss ≡ Ok ds
 unfolding deleted_of
 deleted_known file ss ds held h p known =
     let e : list_all (is_known ss) ds ≡ true = known_any_order ss ds held p ∙ known in
@@ -105,24 +129,38 @@ deleted_known file ss ds held h p known =
 
 -- the whole
 
-pub walk_fails_index : (file chunks tombstones : List ℕ) (e : WalkError) → Fails e (indexed_of file) → Fails e (walked_of file chunks tombstones)
+pub walk_fails_index : (file chunks tombstones : List ℕ) (e : WalkError) → Fails e (indexed_of file)
+    → Fails e (walked_of file chunks tombstones)
 unfolding walked_of
 walk_fails_index file chunks tombstones e h = fails_next e (indexed_of file) _ h
 
-pub walk_fails_chunks : (file chunks tombstones : List ℕ) (ss : List Series) (e : ChunkError) → indexed_of file ≡ Ok ss → chunk_reading.opened chunks ≡ Err e → Fails (of_chunk e) (walked_of file chunks tombstones)
+pub walk_fails_chunks : (file chunks tombstones : List ℕ) (ss : List Series) (e : ChunkError)
+    → indexed_of file ≡ Ok ss → chunk_reading.opened chunks ≡ Err e
+    → Fails (of_chunk e) (walked_of file chunks tombstones)
 unfolding walked_of
-walk_fails_chunks file chunks tombstones ss e one h = rw one (chunks_fail e (chunk_reading.opened chunks) _ h)
+walk_fails_chunks file chunks tombstones ss e one h =
+    rw one (chunks_fail e (chunk_reading.opened chunks) _ h)
 
-pub walk_fails_stored : (file chunks tombstones : List ℕ) (ss : List Series) (segment : List ℕ) (e : WalkError) → indexed_of file ≡ Ok ss → chunk_reading.opened chunks ≡ Ok segment → Fails e (stored_of segment ss) → Fails e (walked_of file chunks tombstones)
+pub walk_fails_stored : (file chunks tombstones : List ℕ) (ss : List Series) (segment : List ℕ)
+    (e : WalkError) → indexed_of file ≡ Ok ss → chunk_reading.opened chunks ≡ Ok segment
+    → Fails e (stored_of segment ss) → Fails e (walked_of file chunks tombstones)
 unfolding walked_of
-walk_fails_stored file chunks tombstones ss segment e one two h = rw (one, two) (fails_next e (stored_of segment ss) _ h)
+walk_fails_stored file chunks tombstones ss segment e one two h =
+    rw (one, two) (fails_next e (stored_of segment ss) _ h)
 
-pub walk_fails_deleted : (file chunks tombstones : List ℕ) (ss : List Series) (segment : List ℕ) (e : WalkError) → indexed_of file ≡ Ok ss → chunk_reading.opened chunks ≡ Ok segment → stored_of segment ss ≡ Ok tt
+pub walk_fails_deleted : (file chunks tombstones : List ℕ) (ss : List Series) (segment : List ℕ)
+    (e : WalkError) → indexed_of file ≡ Ok ss → chunk_reading.opened chunks ≡ Ok segment
+    → stored_of segment ss ≡ Ok tt
     → Fails e (deleted_of tombstones ss) → Fails e (walked_of file chunks tombstones)
 unfolding walked_of
-walk_fails_deleted file chunks tombstones ss segment e one two three h = rw (one, two, three) (fails_next e (deleted_of tombstones ss) _ h)
+walk_fails_deleted file chunks tombstones ss segment e one two three h =
+    rw (one, two, three) (fails_next e (deleted_of tombstones ss) _ h)
 
-pub walk_gives : (file chunks tombstones : List ℕ) (ss : List Series) (segment : List ℕ) (ds held : List Deletion) → indexed_of file ≡ Ok ss → chunk_reading.opened chunks ≡ Ok segment → stored_of segment ss ≡ Ok tt
-    → deleted_of tombstones ss ≡ Ok ds → IsPermutation ds held → walked_of file chunks tombstones ≡ Ok (part_of segment held ss)
+pub walk_gives : (file chunks tombstones : List ℕ) (ss : List Series) (segment : List ℕ)
+    (ds held : List Deletion) → indexed_of file ≡ Ok ss → chunk_reading.opened chunks ≡ Ok segment
+    → stored_of segment ss ≡ Ok tt
+    → deleted_of tombstones ss ≡ Ok ds → IsPermutation ds held
+    → walked_of file chunks tombstones ≡ Ok (part_of segment held ss)
 unfolding walked_of
-walk_gives file chunks tombstones ss segment ds held one two three four p = rw (one, two, three, four) (ap (λ (part : Part). Ok part) (part_any_order segment ds held p ss))
+walk_gives file chunks tombstones ss segment ds held one two three four p =
+    rw (one, two, three, four) (ap (λ (part : Part). Ok part) (part_any_order segment ds held p ss))

@@ -6,15 +6,18 @@ use Rattle.auditor.specs.BlockFiles.Reading.{or_tombstones}
 use Rattle.auditor.specs.IndexFile.Reading.{◌>>=◌}
 
 -- the value of a stage that did not fail
-pub stage_ok : {A B : Type 0} (r : Result A WalkError) (f : A → Result B WalkError) (y : B) → (r >>= f) ≡ Ok y → (x : A) × (r ≡ Ok x) × (f x ≡ Ok y)
+pub stage_ok : {A B : Type 0} (r : Result A WalkError) (f : A → Result B WalkError) (y : B)
+    → (r >>= f) ≡ Ok y → (x : A) × (r ≡ Ok x) × (f x ≡ Ok y)
 stage_ok (Ok x) f y e = (x, refl, e)
 stage_ok (Err d) f y e = absurd cc
 
 -- a test that had to hold
-pub test_ok : {A : Type 0} (b : Bool) (d : WalkError) (x y : A) → cond b (Ok x) (Err d) ≡ Ok y → (b ≡ true) × (x ≡ y)
+pub test_ok : {A : Type 0} (b : Bool) (d : WalkError) (x y : A) → cond b (Ok x) (Err d) ≡ Ok y
+    → (b ≡ true) × (x ≡ y)
 test_ok true d x y e = (refl, cc)
 test_ok false d x y e = absurd cc
 
-pub tombstones_ok : {A : Type 0} (r : Result A TombstoneError) (x : A) → or_tombstones r ≡ Ok x → r ≡ Ok x
+pub tombstones_ok : {A : Type 0} (r : Result A TombstoneError) (x : A)
+    → or_tombstones r ≡ Ok x → r ≡ Ok x
 tombstones_ok (Ok y) x h = cc
 tombstones_ok (Err e) x h = absurd cc

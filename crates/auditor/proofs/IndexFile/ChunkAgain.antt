@@ -12,26 +12,57 @@ use Rattle.auditor.specs.IndexFile.Spelled.{IsFirst, IsLater}
 time_again : (z : ℤ) (n : ℕ) (t : ℤ) → t ≡ z +ℤ pos n → is_time t ≡ true → time_after z n ≡ Some t
 time_again z n t e h = subst (λ (w : ℤ). cond (is_time w) (Some w) None ≡ Some t) e (rw h refl)
 
-reference_again : (n : ℕ) (z : ℤ) (m : ℕ) → pos m ≡ pos n +ℤ z → m < 2 ^ 64 → reference_after n z ≡ Some m
-reference_again n z m e lt = subst (λ (w : ℤ). cond (is_reference w) (Some (natural w)) None ≡ Some m) e (rw (lt-ltb m (2 ^ 64) lt) refl)
+reference_again : (n : ℕ) (z : ℤ) (m : ℕ) → pos m ≡ pos n +ℤ z → m < 2 ^ 64
+    → reference_after n z ≡ Some m
+reference_again n z m e lt =
+    subst (λ (w : ℤ). cond (is_reference w) (Some (natural w)) None ≡ Some m) e
+    (rw (lt-ltb m (2 ^ 64) lt) refl)
 
 zigzag_time : (z : ℤ) → is_time z ≡ true → zigzag z < 2 ^ 64
 zigzag_time (pos n) h = omega (arith, ltb-true n (2 ^ 62) h)
 zigzag_time (negsuc n) h = omega (arith, ltb-true n (2 ^ 62) h)
 
 not_zero : (n : ℕ) → 0 < n → eqb n 0 ≡ false
-not_zero n lt = false_from_ne_true (eqb n 0) (λ (h : eqb n 0 ≡ true). absurd (omega (arith, lt, eqb-true n 0 h)))
+not_zero n lt =
+    false_from_ne_true (eqb n 0) (λ (h : eqb n 0 ≡ true).
+    absurd (omega (arith, lt, eqb-true n 0 h)))
 
-pub first_again : (c : Chunk) (text rest : List ℕ) → IsFirst c text → first_at (text ++ rest) ≡ Some (c, rest)
+pub first_again : (c : Chunk) (text rest : List ℕ) → IsFirst c text
+    → first_at (text ++ rest) ≡ Some (c, rest)
 unfolding first_at
 first_again c text rest f =
-    let grouped : text ++ rest ≡ varint c.mint ++ (uvarint f.span ++ (uvarint c.reference ++ rest)) = ap (λ (x : List ℕ). x ++ rest) f.spelled ∙ append_assoc (varint c.mint) (uvarint f.span ++ uvarint c.reference) rest ∙ ap (λ (x : List ℕ). varint c.mint ++ x) (append_assoc (uvarint f.span) (uvarint c.reference) rest) in
+    let grouped : text ++ rest
+    ≡ varint c.mint ++ (uvarint f.span ++ (uvarint c.reference ++ rest)) =
+    ap (λ (x : List ℕ). x ++ rest) f.spelled
+    ∙ append_assoc (varint c.mint) (uvarint f.span ++ uvarint c.reference) rest
+    ∙ ap (λ (x : List ℕ). varint c.mint ++ x)
+    (append_assoc (uvarint f.span) (uvarint c.reference) rest) in
     ap first_at grouped
-    ∙ rw (varint_again c.mint (uvarint f.span ++ (uvarint c.reference ++ rest)) (zigzag_time c.mint f.begins_in_time), uvarint_again f.span (uvarint c.reference ++ rest) f.span_fits, uvarint_again c.reference rest f.fits, f.begins_in_time, time_again c.mint f.span c.maxt f.ends f.ends_in_time) refl
+    ∙ rw (
+      varint_again c.mint (uvarint f.span ++ (uvarint c.reference ++ rest))
+          (zigzag_time c.mint f.begins_in_time),
+      uvarint_again f.span (uvarint c.reference ++ rest) f.span_fits,
+      uvarint_again c.reference rest f.fits,
+      f.begins_in_time,
+      time_again c.mint f.span c.maxt f.ends f.ends_in_time,
+    ) refl
 
-pub later_again : (before c : Chunk) (text rest : List ℕ) → IsLater before c text → later_at before (text ++ rest) ≡ Some (c, rest)
+pub later_again : (before c : Chunk) (text rest : List ℕ) → IsLater before c text
+    → later_at before (text ++ rest) ≡ Some (c, rest)
 unfolding later_at
 later_again before c text rest l =
-    let grouped : text ++ rest ≡ uvarint l.gap ++ (uvarint l.span ++ (varint l.step ++ rest)) = ap (λ (x : List ℕ). x ++ rest) l.spelled ∙ append_assoc (uvarint l.gap) (uvarint l.span ++ varint l.step) rest ∙ ap (λ (x : List ℕ). uvarint l.gap ++ x) (append_assoc (uvarint l.span) (varint l.step) rest) in
+    let grouped : text ++ rest ≡ uvarint l.gap ++ (uvarint l.span ++ (varint l.step ++ rest)) =
+    ap (λ (x : List ℕ). x ++ rest) l.spelled
+    ∙ append_assoc (uvarint l.gap) (uvarint l.span ++ varint l.step) rest
+    ∙ ap (λ (x : List ℕ). uvarint l.gap ++ x)
+    (append_assoc (uvarint l.span) (varint l.step) rest) in
     ap (later_at before) grouped
-    ∙ rw (uvarint_again l.gap (uvarint l.span ++ (varint l.step ++ rest)) l.gap_fits, uvarint_again l.span (varint l.step ++ rest) l.span_fits, varint_again l.step rest l.step_fits, not_zero l.gap l.later, time_again before.maxt l.gap c.mint l.begins l.begins_in_time, time_again c.mint l.span c.maxt l.ends l.ends_in_time, reference_again before.reference l.step c.reference l.refers l.fits) refl
+    ∙ rw (
+      uvarint_again l.gap (uvarint l.span ++ (varint l.step ++ rest)) l.gap_fits,
+      uvarint_again l.span (varint l.step ++ rest) l.span_fits,
+      varint_again l.step rest l.step_fits,
+      not_zero l.gap l.later,
+      time_again before.maxt l.gap c.mint l.begins l.begins_in_time,
+      time_again c.mint l.span c.maxt l.ends l.ends_in_time,
+      reference_again before.reference l.step c.reference l.refers l.fits,
+    ) refl

@@ -12,7 +12,8 @@ use Rattle.auditor.specs.IndexFile.Chunks.{is_time, is_reference, natural, time_
 use Rattle.auditor.specs.IndexFile.Spelled.{IsFirst, IsLater}
 use Rattle.auditor.proofs.IndexFile.Fields.{Takes, takes, Takes-then}
 
-some_bind : {A B : Type 0} (o : Option A) (f : A → Option B) (y : B) → (o >>= f) ≡ Some y → (x : A) × (o ≡ Some x) × (f x ≡ Some y)
+some_bind : {A B : Type 0} (o : Option A) (f : A → Option B) (y : B) → (o >>= f) ≡ Some y
+    → (x : A) × (o ≡ Some x) × (f x ≡ Some y)
 some_bind (Some x) f y h = (x, refl, h)
 some_bind None f y h = absurd cc
 
@@ -26,11 +27,13 @@ read_ok : {A : Type 0} (r : Result A WireError) (x : A) → read r ≡ Some x �
 read_ok (Ok y) x h = let e : y ≡ x = some_is y x h in ap (λ z. Ok z) e
 read_ok (Err e) x h = absurd cc
 
-so : {A : Type 0} (b : Bool) (o : Option A) (y : A) → cond b o None ≡ Some y → (b ≡ true) × (o ≡ Some y)
+so : {A : Type 0} (b : Bool) (o : Option A) (y : A) → cond b o None ≡ Some y
+    → (b ≡ true) × (o ≡ Some y)
 so true o y h = (refl, h)
 so false o y h = absurd cc
 
-not_so : {A : Type 0} (b : Bool) (o : Option A) (y : A) → cond b None o ≡ Some y → (b ≡ false) × (o ≡ Some y)
+not_so : {A : Type 0} (b : Bool) (o : Option A) (y : A) → cond b None o ≡ Some y
+    → (b ≡ false) × (o ≡ Some y)
 not_so true o y h = absurd cc
 not_so false o y h = (refl, h)
 
@@ -41,7 +44,8 @@ time_is z n t h =
     let e : w ≡ t = some_is w t g.1 in
     (sym e, subst (λ (x : ℤ). is_time x ≡ true) e g.0)
 
-from_sum : (w : ℤ) (m : ℕ) → cond (is_reference w) (Some (natural w)) None ≡ Some m → (pos m ≡ w) × (m < 2 ^ 64)
+from_sum : (w : ℤ) (m : ℕ) → cond (is_reference w) (Some (natural w)) None ≡ Some m
+    → (pos m ≡ w) × (m < 2 ^ 64)
 from_sum (pos k) m h =
     let g = so (nat_lt k (2 ^ 64)) (Some k) m h in
     let e : k ≡ m = some_is k m g.1 in
@@ -49,14 +53,16 @@ from_sum (pos k) m h =
     (ap (λ (x : ℕ). pos x) (sym e), omega (arith, e, lt))
 from_sum (negsuc k) m h = absurd cc
 
-reference_is : (n : ℕ) (z : ℤ) (m : ℕ) → reference_after n z ≡ Some m → (pos m ≡ pos n +ℤ z) × (m < 2 ^ 64)
+reference_is : (n : ℕ) (z : ℤ) (m : ℕ) → reference_after n z ≡ Some m
+    → (pos m ≡ pos n +ℤ z) × (m < 2 ^ 64)
 reference_is n z m h = from_sum (pos n +ℤ z) m h
 
 above_zero : (n : ℕ) → eqb n 0 ≡ false → 0 < n
 above_zero zero h = absurd cc
 above_zero (suc n) h = omega arith
 
-pub first_spelled : (bytes : List ℕ) (y : Chunk × List ℕ) → IsBytes bytes → first_at bytes ≡ Some y → (text : List ℕ) × Takes bytes text y.1 × IsFirst y.0 text
+pub first_spelled : (bytes : List ℕ) (y : Chunk × List ℕ) → IsBytes bytes → first_at bytes ≡ Some y
+    → (text : List ℕ) × Takes bytes text y.1 × IsFirst y.0 text
 unfolding first_at
 first_spelled bytes y fits h =
     let a = some_bind (read (varint_at bytes)) _ y h in
@@ -73,11 +79,24 @@ first_spelled bytes y fits h =
     let k = time_is a.0.0 b.0.0 t.0 t.1 in
     let made : Chunk × List ℕ = (record { mint = a.0.0; maxt = t.0; reference = c.0.0 }, c.0.1) in
     let text = varint a.0.0 ++ (uvarint b.0.0 ++ uvarint c.0.0) in
-    let took = Takes-then bytes (varint a.0.0) a.0.1 (uvarint b.0.0 ++ uvarint c.0.0) c.0.1 t0 (Takes-then a.0.1 (uvarint b.0.0) b.0.1 (uvarint c.0.0) c.0.1 t1 t2) in
-    let whole : IsFirst made.0 text = record { span = b.0.0; spelled = refl; span_fits = tb.1; fits = tc.1; ends = k.0; begins_in_time = g.0; ends_in_time = k.1 } in
-    subst (λ (z : Chunk × List ℕ). (x : List ℕ) × Takes bytes x z.1 × IsFirst z.0 x) (some_is made y t.2) (text, took, whole)
+    let took =
+    Takes-then bytes (varint a.0.0) a.0.1 (uvarint b.0.0 ++ uvarint c.0.0) c.0.1 t0
+    (Takes-then a.0.1 (uvarint b.0.0) b.0.1 (uvarint c.0.0) c.0.1 t1 t2) in
+    let whole : IsFirst made.0 text = record {
+      span = b.0.0;
+      spelled = refl;
+      span_fits = tb.1;
+      fits = tc.1;
+      ends = k.0;
+      begins_in_time = g.0;
+      ends_in_time = k.1;
+    } in
+    subst (λ (z : Chunk × List ℕ). (x : List ℕ) × Takes bytes x z.1 × IsFirst z.0 x)
+    (some_is made y t.2) (text, took, whole)
 
-pub later_spelled : (before : Chunk) (bytes : List ℕ) (y : Chunk × List ℕ) → IsBytes bytes → later_at before bytes ≡ Some y → (text : List ℕ) × Takes bytes text y.1 × IsLater before y.0 text
+pub later_spelled : (before : Chunk) (bytes : List ℕ) (y : Chunk × List ℕ) → IsBytes bytes
+    → later_at before bytes ≡ Some y
+    → (text : List ℕ) × Takes bytes text y.1 × IsLater before y.0 text
 unfolding later_at
 later_spelled before bytes y fits h =
     let a = some_bind (read (uvarint_at bytes)) _ y h in
@@ -98,6 +117,24 @@ later_spelled before bytes y fits h =
     let n = reference_is before.reference c.0.0 r.0 r.1 in
     let made : Chunk × List ℕ = (record { mint = m.0; maxt = t.0; reference = r.0 }, c.0.1) in
     let text = uvarint a.0.0 ++ (uvarint b.0.0 ++ varint c.0.0) in
-    let took = Takes-then bytes (uvarint a.0.0) a.0.1 (uvarint b.0.0 ++ varint c.0.0) c.0.1 t0 (Takes-then a.0.1 (uvarint b.0.0) b.0.1 (varint c.0.0) c.0.1 t1 t2) in
-    let whole : IsLater before made.0 text = record { gap = a.0.0; span = b.0.0; step = c.0.0; spelled = refl; gap_fits = ta.1; span_fits = tb.1; step_fits = tc.1; later = above_zero a.0.0 g.0; begins = i.0; ends = k.0; refers = n.0; begins_in_time = i.1; ends_in_time = k.1; fits = n.1 } in
-    subst (λ (z : Chunk × List ℕ). (x : List ℕ) × Takes bytes x z.1 × IsLater before z.0 x) (some_is made y r.2) (text, took, whole)
+    let took =
+    Takes-then bytes (uvarint a.0.0) a.0.1 (uvarint b.0.0 ++ varint c.0.0) c.0.1 t0
+    (Takes-then a.0.1 (uvarint b.0.0) b.0.1 (varint c.0.0) c.0.1 t1 t2) in
+    let whole : IsLater before made.0 text = record {
+      gap = a.0.0;
+      span = b.0.0;
+      step = c.0.0;
+      spelled = refl;
+      gap_fits = ta.1;
+      span_fits = tb.1;
+      step_fits = tc.1;
+      later = above_zero a.0.0 g.0;
+      begins = i.0;
+      ends = k.0;
+      refers = n.0;
+      begins_in_time = i.1;
+      ends_in_time = k.1;
+      fits = n.1;
+    } in
+    subst (λ (z : Chunk × List ℕ). (x : List ℕ) × Takes bytes x z.1 × IsLater before z.0 x)
+    (some_is made y r.2) (text, took, whole)

@@ -35,11 +35,13 @@ both : (p q : Bool) → (p && q) ≡ true → (p ≡ true) × (q ≡ true)
 both true q h = (refl, h)
 both false q h = absurd cc
 
-not_so : (c : Bool) (d : WalkError) (read : Result Read WalkError) (y : Read) → cond c (Err d) read ≡ Ok y → (c ≡ false) × (read ≡ Ok y)
+not_so : (c : Bool) (d : WalkError) (read : Result Read WalkError) (y : Read)
+    → cond c (Err d) read ≡ Ok y → (c ≡ false) × (read ≡ Ok y)
 not_so true d read y h = absurd cc
 not_so false d read y h = (refl, h)
 
-is_so : (c : Bool) (d : WalkError) (read : Result (List Body) WalkError) (y : List Body) → cond c read (Err d) ≡ Ok y → (c ≡ true) × (read ≡ Ok y)
+is_so : (c : Bool) (d : WalkError) (read : Result (List Body) WalkError) (y : List Body)
+    → cond c read (Err d) ≡ Ok y → (c ≡ true) × (read ≡ Ok y)
 is_so true d read y h = (refl, h)
 is_so false d read y h = absurd cc
 
@@ -56,11 +58,13 @@ pub record Chain (file : List ℕ) (r : Read) : Type 0 where
   pub few : length r.bodies ≤ 1048576
   pub small : list_all is_small (label_sets r.bodies) ≡ true
 
-pub bodied : (file : List ℕ) (p : Parts) (bs : List Body) → bodies_of file p ≡ Ok bs → AreRead file p bs
+pub bodied : (file : List ℕ) (p : Parts) (bs : List Body)
+    → bodies_of file p ≡ Ok bs → AreRead file p bs
 unfolding bodies_of
 bodied file p bs h =
     let e = bind_ok (each (body_of_place p.symbols) p.entries) _ bs h in
-    let g = is_so (gaps_zero file (series_end p.contents) p.symbols_end p.entries) Series _ bs e.2 in
+    let g =
+    is_so (gaps_zero file (series_end p.contents) p.symbols_end p.entries) Series _ bs e.2 in
     let k = guard_ended (rises is_before (label_sets e.0)) SeriesOrder e.0 bs g.1 in
     subst (AreRead file p) k.1 (record { read = e.1; gaps = g.0; rising = k.0 })
 
@@ -73,24 +77,31 @@ chain file r h =
     let made : Read = record { parts = p.0; bodies = b.0 } in
     let s = guard_ended (list_all is_small (label_sets b.0)) Limit made r n.1 in
     let le = ltb-false 1048576 (length b.0) n.0 in
-    subst (Chain file) s.1 (record { parts = p.1; bodies = bodied file p.0 b.0 b.1; few = omega (arith, le); small = s.0 })
+    subst (Chain file) s.1
+    (record { parts = p.1; bodies = bodied file p.0 b.0 b.1; few = omega (arith, le); small = s.0 })
 
 -- ---- the order of series
 
-pub refs_are : (symbols : List (List ℕ)) (ps : List Place) (bs : List Body) → length bs ≡ length ps → references (series_of symbols ps bs) ≡ map (λ (p : Place). p.offset / 16) ps
+pub refs_are : (symbols : List (List ℕ)) (ps : List Place) (bs : List Body) → length bs ≡ length ps
+    → references (series_of symbols ps bs) ≡ map (λ (p : Place). p.offset / 16) ps
 unfolding series_of
 refs_are symbols [] bs e = refl
 refs_are symbols (p ∷ ps) [] e = absurd (omega (arith, e))
-refs_are symbols (p ∷ ps) (b ∷ bs) e = ap (λ (rs : List ℕ). p.offset / 16 ∷ rs) (refs_are symbols ps bs (omega (arith, e)))
+refs_are symbols (p ∷ ps) (b ∷ bs) e =
+    ap (λ (rs : List ℕ). p.offset / 16 ∷ rs) (refs_are symbols ps bs (omega (arith, e)))
 
-pub sets_are : (symbols : List (List ℕ)) (ps : List Place) (bs : List Body) → length bs ≡ length ps → indexes.label_sets (series_of symbols ps bs) ≡ map (named symbols) (label_sets bs)
+pub sets_are : (symbols : List (List ℕ)) (ps : List Place) (bs : List Body) → length bs ≡ length ps
+    → indexes.label_sets (series_of symbols ps bs) ≡ map (named symbols) (label_sets bs)
 unfolding series_of
 sets_are symbols [] [] e = refl
 sets_are symbols [] (b ∷ bs) e = absurd (omega (arith, e))
 sets_are symbols (p ∷ ps) [] e = absurd (omega (arith, e))
-sets_are symbols (p ∷ ps) (b ∷ bs) e = ap (λ (rs : List (List (List ℕ × List ℕ))). named symbols b.labels ∷ rs) (sets_are symbols ps bs (omega (arith, e)))
+sets_are symbols (p ∷ ps) (b ∷ bs) e =
+    ap (λ (rs : List (List (List ℕ × List ℕ))). named symbols b.labels ∷ rs)
+    (sets_are symbols ps bs (omega (arith, e)))
 
-pub series_length : (symbols : List (List ℕ)) (ps : List Place) (bs : List Body) → length bs ≡ length ps → length (series_of symbols ps bs) ≡ length bs
+pub series_length : (symbols : List (List ℕ)) (ps : List Place) (bs : List Body)
+    → length bs ≡ length ps → length (series_of symbols ps bs) ≡ length bs
 unfolding series_of
 series_length symbols [] [] e = refl
 series_length symbols [] (b ∷ bs) e = absurd (omega (arith, e))
@@ -98,7 +109,11 @@ series_length symbols (p ∷ ps) [] e = absurd (omega (arith, e))
 series_length symbols (p ∷ ps) (b ∷ bs) e = ap suc (series_length symbols ps bs (omega (arith, e)))
 
 entry_some : (body : List ℕ) → 0 < length (entry body)
-entry_some body = omega (arith, length-append (uvarint (length body)) (body ++ big_bytes 4 (crc32c body)), uvarint_long (length body))
+entry_some body = omega (
+  arith,
+  length-append (uvarint (length body)) (body ++ big_bytes 4 (crc32c body)),
+  uvarint_long (length body),
+)
 
 pub whole_rounds : (n : ℕ) → rounded n % 16 ≡ 0
 whole_rounds n = omega arith
@@ -106,7 +121,8 @@ whole_rounds n = omega arith
 goes_up : (at n : ℕ) → at % 16 ≡ 0 → 0 < n → at / 16 < rounded (at + n) / 16
 goes_up at n whole some = omega (arith, whole, some)
 
-pub walk_rises : (ps : List Place) (file : List ℕ) (end at : ℕ) → at % 16 ≡ 0 → IsWalk file end at ps → IsStrictlyIncreasing (map (λ (p : Place). p.offset / 16) ps)
+pub walk_rises : (ps : List Place) (file : List ℕ) (end at : ℕ) → at % 16 ≡ 0
+    → IsWalk file end at ps → IsStrictlyIncreasing (map (λ (p : Place). p.offset / 16) ps)
 walk_rises [] file end at whole w k lt = absurd (omega arith)
 walk_rises (p ∷ []) file end at whole w k lt = absurd (omega arith)
 walk_rises (p ∷ q ∷ ps) file end at whole w zero lt =
@@ -115,47 +131,65 @@ walk_rises (p ∷ q ∷ ps) file end at whole w zero lt =
     rw (e, f) (goes_up at (length (entry p.body)) whole (entry_some p.body))
 walk_rises (p ∷ q ∷ ps) file end at whole w (suc k) lt =
     let e : suc k + 1 ≡ suc (k + 1) = omega arith in
-    rw e (walk_rises (q ∷ ps) file end (rounded (at + length (entry p.body))) (whole_rounds (at + length (entry p.body))) w.3 k (omega arith))
+    rw e (walk_rises (q ∷ ps) file end (rounded (at + length (entry p.body)))
+    (whole_rounds (at + length (entry p.body))) w.3 k (omega arith))
 
-pub walk_small : (ps : List Place) (file : List ℕ) (end at : ℕ) → IsWalk file end at ps → end ≤ 2 ^ 32 → (k : ℕ) → k < length ps → get_or (map (λ (p : Place). p.offset / 16) ps) k 0 < 2 ^ 32
+pub walk_small : (ps : List Place) (file : List ℕ) (end at : ℕ) → IsWalk file end at ps
+    → end ≤ 2 ^ 32 → (k : ℕ) → k < length ps
+    → get_or (map (λ (p : Place). p.offset / 16) ps) k 0 < 2 ^ 32
 walk_small [] file end at w le k lt = absurd (omega arith)
 walk_small (p ∷ ps) file end at w le zero lt =
     let e : p.offset ≡ at = w.0 in
     let l : at < end = w.1 in
     omega (arith, e, l, le)
-walk_small (p ∷ ps) file end at w le (suc k) lt = walk_small ps file end (rounded (at + length (entry p.body))) w.3 le k (omega arith)
+walk_small (p ∷ ps) file end at w le (suc k) lt =
+    walk_small ps file end (rounded (at + length (entry p.body))) w.3 le k (omega arith)
 
 less_is : (o : Ordering) → is_lt o ≡ true → o ≡ Less
 less_is Less h = refl
 less_is Equal h = absurd cc
 less_is Greater h = absurd cc
 
-pub in_table : (symbols : List (List ℕ)) (low : ℕ) (ls : List Label) → AreLabels symbols low ls → InTable symbols ls
+pub in_table : (symbols : List (List ℕ)) (low : ℕ) (ls : List Label) → AreLabels symbols low ls
+    → InTable symbols ls
 in_table symbols low [] h = tt
 in_table symbols low (l ∷ ls) h = ((h.0.name_in, h.0.value_in), in_table symbols (l.0 + 1) ls h.1)
 
-sets_rise : (symbols : List (List ℕ)) (ls : List (List Label)) → ascending symbols ≡ true → ((k : ℕ) (d : List Label) → k < length ls → InTable symbols (get_or ls k d)) → rises is_before ls ≡ true
-    → (k : ℕ) → k + 1 < length ls → labels_cmp (get_or (map (named symbols) ls) k []) (get_or (map (named symbols) ls) (k + 1) []) ≡ Less
+sets_rise : (symbols : List (List ℕ)) (ls : List (List Label)) → ascending symbols ≡ true
+    → ((k : ℕ) (d : List Label) → k < length ls → InTable symbols (get_or ls k d))
+    → rises is_before ls ≡ true
+    → (k : ℕ) → k + 1 < length ls
+    → labels_cmp (get_or (map (named symbols) ls) k []) (get_or (map (named symbols) ls) (k + 1) [])
+    ≡ Less
 unfolding rises labels_cmp
 sets_rise symbols [] order inside h k lt = absurd (omega arith)
 sets_rise symbols (a ∷ []) order inside h k lt = absurd (omega arith)
-sets_rise symbols (a ∷ b ∷ ls) order inside h zero lt = label_sets_cmp symbols a b order (inside 0 a (omega arith)) (inside 1 a (omega arith)) ∙ less_is _ (both (is_before a b) (rises is_before (b ∷ ls)) h).0
+sets_rise symbols (a ∷ b ∷ ls) order inside h zero lt =
+    label_sets_cmp symbols a b order (inside 0 a (omega arith)) (inside 1 a (omega arith))
+    ∙ less_is _ (both (is_before a b) (rises is_before (b ∷ ls)) h).0
 sets_rise symbols (a ∷ b ∷ ls) order inside h (suc k) lt =
     let e : suc k + 1 ≡ suc (k + 1) = omega arith in
-    rw e (sets_rise symbols (b ∷ ls) order (λ j d l. inside (suc j) d (omega arith)) (both (is_before a b) (rises is_before (b ∷ ls)) h).1 k (omega arith))
+    rw e (sets_rise symbols (b ∷ ls) order (λ j d l. inside (suc j) d (omega arith))
+    (both (is_before a b) (rises is_before (b ∷ ls)) h).1 k (omega arith))
 
-pub few_labels : (bs : List Body) (k : ℕ) (d : Body) → list_all is_small (label_sets bs) ≡ true → k < length bs → length (get_or bs k d).labels ≤ 64
+pub few_labels : (bs : List Body) (k : ℕ) (d : Body) → list_all is_small (label_sets bs) ≡ true
+    → k < length bs → length (get_or bs k d).labels ≤ 64
 few_labels [] k d h lt = absurd (omega arith)
-few_labels (b ∷ bs) zero d h lt = leb-true (length b.labels) 64 (both (is_small b.labels) (list_all is_small (label_sets bs)) h).0
-few_labels (b ∷ bs) (suc k) d h lt = few_labels bs k d (both (is_small b.labels) (list_all is_small (label_sets bs)) h).1 (omega arith)
+few_labels (b ∷ bs) zero d h lt =
+    leb-true (length b.labels) 64 (both (is_small b.labels) (list_all is_small (label_sets bs)) h).0
+few_labels (b ∷ bs) (suc k) d h lt =
+    few_labels bs k d
+    (both (is_small b.labels) (list_all is_small (label_sets bs)) h).1 (omega arith)
 
-pub set_at : (bs : List Body) (k : ℕ) (d : List Label) → k < length (label_sets bs) → (e : Body) × (get_or (label_sets bs) k d ≡ (get_or bs k e).labels) × (k < length bs)
+pub set_at : (bs : List Body) (k : ℕ) (d : List Label) → k < length (label_sets bs)
+    → (e : Body) × (get_or (label_sets bs) k d ≡ (get_or bs k e).labels) × (k < length bs)
 set_at [] k d lt = absurd (omega arith)
 set_at (b ∷ bs) zero d lt = (b, refl, omega arith)
 set_at (b ∷ bs) (suc k) d lt = let r = set_at bs k d (omega arith) in (r.0, r.1, omega (arith, r.2))
 
 -- bodies that were read are in the order of their label sets
-pub in_order_so : (file : List ℕ) (p : Parts) (bs : List Body) → IsParts file p → AreRead file p bs → AreInOrder (series_of p.symbols p.entries bs)
+pub in_order_so : (file : List ℕ) (p : Parts) (bs : List Body) → IsParts file p → AreRead file p bs
+    → AreInOrder (series_of p.symbols p.entries bs)
 in_order_so file p bs layout r =
     let symbols = p.symbols in
     let order : ascending symbols ≡ true = layout.symbols.2.order in
@@ -163,12 +197,16 @@ in_order_so file p bs layout r =
     let size = each_length (body_of_place symbols) p.entries bs r.read in
     let sets = sets_are symbols p.entries bs size in
     let count = series_length symbols p.entries bs size in
-    λ k lt. subst (λ (ss : List (List (List ℕ × List ℕ))). labels_cmp (get_or ss k []) (get_or ss (k + 1) []) ≡ Less) (sym sets)
-    (sets_rise symbols (label_sets bs) order (λ j d lj. let o = set_at bs j d lj in subst (InTable symbols) (sym o.1) (in_table symbols 0 (get_or bs j o.0).labels (labelled j o.0 o.2))) r.rising k (omega (arith, lt, count, length-map bs (λ (b : Body). b.labels))))
+    λ k lt. subst (λ (ss : List (List (List ℕ × List ℕ))).
+    labels_cmp (get_or ss k []) (get_or ss (k + 1) []) ≡ Less) (sym sets)
+    (sets_rise symbols (label_sets bs) order (λ j d lj. let o = set_at bs j d lj in subst
+    (InTable symbols) (sym o.1) (in_table symbols 0 (get_or bs j o.0).labels (labelled j o.0 o.2)))
+    r.rising k (omega (arith, lt, count, length-map bs (λ (b : Body). b.labels))))
 
 -- ---- all of it
 
-pub is_index : (file : List ℕ) (r : Read) → IsBytes file → IsParts file r.parts → read_of file ≡ Ok r → IsIndex file (series_in r)
+pub is_index : (file : List ℕ) (r : Read) → IsBytes file → IsParts file r.parts
+    → read_of file ≡ Ok r → IsIndex file (series_in r)
 is_index file r fits p h =
     let c = chain file r h in
     let symbols = r.parts.symbols in
@@ -179,7 +217,10 @@ is_index file r fits p h =
       parts = r.parts;
       layout = p;
       bodies = r.bodies;
-      spelled = bodies_spelled symbols entries r.bodies (walk_bytes entries file (series_end r.parts.contents) (rounded r.parts.contents.series) fits p.entries) c.bodies.read;
+      spelled =
+          bodies_spelled symbols entries r.bodies (walk_bytes entries file
+          (series_end r.parts.contents) (rounded r.parts.contents.series) fits p.entries)
+          c.bodies.read;
       gaps = c.bodies.gaps;
       series_are = refl;
       in_order = in_order_so file r.parts r.bodies p c.bodies;

@@ -19,14 +19,16 @@ either false q h = inr h
 le_true : (a b : ℕ) → nat_le a b ≡ true → a ≤ b
 le_true a b h = leb-true a b h
 
-between : (a b c : ℕ) → (eqb b 0 || (nat_le a b && nat_le b c)) ≡ true → (b ≡ 0) ⊎ ((a ≤ b) × (b ≤ c))
+between : (a b c : ℕ) → (eqb b 0 || (nat_le a b && nat_le b c)) ≡ true
+    → (b ≡ 0) ⊎ ((a ≤ b) × (b ≤ c))
 between a b c h =
     elim (either (eqb b 0) (nat_le a b && nat_le b c) h) [
       | inl t ↦ inl (eqb-true b 0 t)
       | inr t ↦ let p = both (nat_le a b) (nat_le b c) t in inr (le_true a b p.0, le_true b c p.1)
     ]
 
-pub order_placed : (t : Contents) (len : ℕ) → 57 ≤ len → len ≤ 0x4000_0000 → in_order t (len - 52) ≡ true → IsPlaced t len
+pub order_placed : (t : Contents) (len : ℕ) → 57 ≤ len → len ≤ 0x4000_0000
+    → in_order t (len - 52) ≡ true → IsPlaced t len
 order_placed t len long short h =
     let a6 = both _ _ h in
     let a5 = both _ _ a6.0 in
@@ -61,9 +63,14 @@ head_placed file t h =
                       elim (chosen (eqb (slice_index file 4) 2) _ _ _ m.1) [
                         | inr v ↦ absurd (let f = v.1 in cc)
                         | inl v ↦
-                            let s = bind_ok (table_of (drop (length file - 52) file)) (λ t. cond (in_order t (length file - 52)) (Ok t) (Err ContentsOrder)) t v.1 in
-                            let g = guard_ended (in_order s.0 (length file - 52)) ContentsOrder s.0 t s.2 in
-                            rw (← g.1) (order_placed s.0 (length file) (ltb-false _ _ b.0) (ltb-false _ _ a.0) g.0)
+                            let s =
+                            bind_ok (table_of (drop (length file - 52) file))
+                            (λ t. cond (in_order t (length file - 52)) (Ok t) (Err ContentsOrder)) t
+                            v.1 in
+                            let g =
+                            guard_ended (in_order s.0 (length file - 52)) ContentsOrder s.0 t s.2 in
+                            rw (← g.1) (order_placed s.0 (length file) (ltb-false _ _ b.0)
+                            (ltb-false _ _ a.0) g.0)
                       ]
                 ]
           ]

@@ -25,24 +25,30 @@ equal_is Less h = absurd cc
 equal_is Equal h = refl
 equal_is Greater h = absurd cc
 
-head_less : (a : List ℕ) (rest : List (List ℕ)) (k : ℕ) → ascending (a ∷ rest) ≡ true → k < length rest → text_cmp a (get_or rest k []) ≡ Less
+head_less : (a : List ℕ) (rest : List (List ℕ)) (k : ℕ) → ascending (a ∷ rest) ≡ true
+    → k < length rest → text_cmp a (get_or rest k []) ≡ Less
 unfolding ascending
 head_less a [] k h lt = absurd (omega arith)
-head_less a (b ∷ rest) zero h lt = less_is (text_cmp a b) (both (is_less a b) (ascending (b ∷ rest)) h).0
+head_less a (b ∷ rest) zero h lt =
+    less_is (text_cmp a b) (both (is_less a b) (ascending (b ∷ rest)) h).0
 head_less a (b ∷ rest) (suc k) h lt =
     let p = both (is_less a b) (ascending (b ∷ rest)) h in
-    nat_list_cmp_total.trans a b (get_or rest k []) (less_is (text_cmp a b) p.0) (head_less b rest k p.1 (omega arith))
+    nat_list_cmp_total.trans a b (get_or rest k []) (less_is (text_cmp a b) p.0)
+    (head_less b rest k p.1 (omega arith))
 
-tail_ascends : (a : List ℕ) (rest : List (List ℕ)) → ascending (a ∷ rest) ≡ true → ascending rest ≡ true
+tail_ascends : (a : List ℕ) (rest : List (List ℕ)) → ascending (a ∷ rest) ≡ true
+    → ascending rest ≡ true
 unfolding ascending
 tail_ascends a [] h = refl
 tail_ascends a (b ∷ rest) h = (both (is_less a b) (ascending (b ∷ rest)) h).1
 
-pub symbols_less : (xs : List (List ℕ)) (i j : ℕ) → ascending xs ≡ true → i < j → j < length xs → text_cmp (get_or xs i []) (get_or xs j []) ≡ Less
+pub symbols_less : (xs : List (List ℕ)) (i j : ℕ) → ascending xs ≡ true → i < j → j < length xs
+    → text_cmp (get_or xs i []) (get_or xs j []) ≡ Less
 symbols_less [] i j h lt inside = absurd (omega arith)
 symbols_less (a ∷ rest) i zero h lt inside = absurd (omega arith)
 symbols_less (a ∷ rest) zero (suc j) h lt inside = head_less a rest j h (omega arith)
-symbols_less (a ∷ rest) (suc i) (suc j) h lt inside = symbols_less rest i j (tail_ascends a rest h) (omega arith) (omega arith)
+symbols_less (a ∷ rest) (suc i) (suc j) h lt inside =
+    symbols_less rest i j (tail_ascends a rest h) (omega arith) (omega arith)
 
 pub number_less : (i j : ℕ) → i < j → nat_cmp i j ≡ Less
 number_less i j lt = rw (lt-ltb i j lt) refl
@@ -54,22 +60,28 @@ number_equal i =
 
 pub number_greater : (i j : ℕ) → j < i → nat_cmp i j ≡ Greater
 number_greater i j lt =
-    let no : eqb i j ≡ false = false_from_ne_true (eqb i j) (λ h. absurd (omega (arith, eqb-true i j h))) in
+    let no : eqb i j ≡ false =
+    false_from_ne_true (eqb i j) (λ h. absurd (omega (arith, eqb-true i j h))) in
     rw (le-ltb i j (omega arith), no) refl
 
 -- two symbols compare as their numbers
-pub symbols_cmp : (xs : List (List ℕ)) (i j : ℕ) → ascending xs ≡ true → i < length xs → j < length xs → text_cmp (get_or xs i []) (get_or xs j []) ≡ nat_cmp i j
+pub symbols_cmp : (xs : List (List ℕ)) (i j : ℕ) → ascending xs ≡ true → i < length xs
+    → j < length xs → text_cmp (get_or xs i []) (get_or xs j []) ≡ nat_cmp i j
 symbols_cmp xs i j h a b =
     elim (cases_lt i j) [
       | inl lt ↦ symbols_less xs i j h lt b ∙ sym (number_less i j lt)
       | inr le ↦
           elim (cases_eq i j) [
             | inl e ↦
-                let same : text_cmp (get_or xs i []) (get_or xs i []) ≡ Equal = equal_is (text_cmp (get_or xs i []) (get_or xs i [])) (nat_list_cmp_total.antisymm (get_or xs i []) (get_or xs i [])) in
+                let same : text_cmp (get_or xs i []) (get_or xs i []) ≡ Equal =
+                equal_is (text_cmp (get_or xs i []) (get_or xs i []))
+                (nat_list_cmp_total.antisymm (get_or xs i []) (get_or xs i [])) in
                 rw (← e) (same ∙ sym (number_equal i))
             | inr n ↦
                 let lt : j < i = omega arith in
-                nat_list_cmp_total.antisymm (get_or xs i []) (get_or xs j []) ∙ ap ordering_reverse (symbols_less xs j i h lt a) ∙ sym (number_greater i j lt)
+                nat_list_cmp_total.antisymm (get_or xs i []) (get_or xs j [])
+                ∙ ap ordering_reverse (symbols_less xs j i h lt a)
+                ∙ sym (number_greater i j lt)
           ]
     ]
 
@@ -82,12 +94,18 @@ text_of xs p = (get_or xs p.0 [], get_or xs p.1 [])
 abbrev pub InTable : List (List ℕ) → List (ℕ × ℕ) → Type 0
 InTable xs ps = AllByRecursion (λ p. (p.0 < length xs) × (p.1 < length xs)) ps
 
-pub pairs_cmp : (xs : List (List ℕ)) (a b : ℕ × ℕ) → ascending xs ≡ true → (a.0 < length xs) × (a.1 < length xs) → (b.0 < length xs) × (b.1 < length xs) → pair_cmp (text_of xs a) (text_of xs b) ≡ number_pair_cmp a b
-pairs_cmp xs a b h p q = rw (symbols_cmp xs a.0 b.0 h p.0 q.0, symbols_cmp xs a.1 b.1 h p.1 q.1) refl
+pub pairs_cmp : (xs : List (List ℕ)) (a b : ℕ × ℕ) → ascending xs ≡ true
+    → (a.0 < length xs) × (a.1 < length xs) → (b.0 < length xs) × (b.1 < length xs)
+    → pair_cmp (text_of xs a) (text_of xs b) ≡ number_pair_cmp a b
+pairs_cmp xs a b h p q =
+    rw (symbols_cmp xs a.0 b.0 h p.0 q.0, symbols_cmp xs a.1 b.1 h p.1 q.1) refl
 
 -- label sets compare as the lists of the numbers of their symbols
-pub label_sets_cmp : (xs : List (List ℕ)) (ps qs : List (ℕ × ℕ)) → ascending xs ≡ true → InTable xs ps → InTable xs qs → slice_cmp pair_cmp (map (text_of xs) ps) (map (text_of xs) qs) ≡ slice_cmp number_pair_cmp ps qs
+pub label_sets_cmp : (xs : List (List ℕ)) (ps qs : List (ℕ × ℕ)) → ascending xs ≡ true
+    → InTable xs ps → InTable xs qs → slice_cmp pair_cmp (map (text_of xs) ps) (map (text_of xs) qs)
+    ≡ slice_cmp number_pair_cmp ps qs
 label_sets_cmp xs [] [] h p q = refl
 label_sets_cmp xs [] (b ∷ qs) h p q = refl
 label_sets_cmp xs (a ∷ ps) [] h p q = refl
-label_sets_cmp xs (a ∷ ps) (b ∷ qs) h p q = rw (pairs_cmp xs a b h p.0 q.0, label_sets_cmp xs ps qs h p.1 q.1) refl
+label_sets_cmp xs (a ∷ ps) (b ∷ qs) h p q =
+    rw (pairs_cmp xs a b h p.0 q.0, label_sets_cmp xs ps qs h p.1 q.1) refl

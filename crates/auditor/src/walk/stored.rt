@@ -42,7 +42,8 @@ fn are_few(chunks: &Chunks, list: &[Chunk]) -> Result<bool, ChunkError>
 fn all_few(entries: &SeriesEntries<'_>, chunks: &Chunks) -> Result<bool, ChunkError>
     ensures exact { Answers (λ _. tt) result
         (each (each (chunk_check chunks.now)) (chunk_lists entries.now)) }
-    ensures few { IfOk result (λ few. few ≡ list_all (have_few chunks.now) (chunk_lists entries.now)) }
+    ensures few { IfOk result (λ few.
+        few ≡ list_all (have_few chunks.now) (chunk_lists entries.now)) }
     ensures held { OnOk result
         (AllByRecursion (AllByRecursion (IsHeld chunks.now)) (chunk_lists entries.now)) }
 {

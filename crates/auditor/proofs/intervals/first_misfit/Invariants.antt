@@ -10,5 +10,6 @@ invariant-loop-interval l = record {
   same : l.looks ≡ l.initial.looks;
   rises : IsStrictlyIncreasing (references l.rest);
   known : all_known (length l.initial.looks.matchers) (drop l.interval-index l.certificate) ≡ true;
-  left : first_misfit l.initial.looks (drop l.interval-index l.certificate) l.rest ≡ first_misfit l.initial.looks l.certificate l.series;
+  left : first_misfit l.initial.looks (drop l.interval-index l.certificate) l.rest
+      ≡ first_misfit l.initial.looks l.certificate l.series;
 }

@@ -6,5 +6,6 @@ use Rattle.auditor.proofs.looks.one_rejects_each.Given as goal
 abbrev pub invariant-loop-judge : goal.invariant-loop-judge
 invariant-loop-judge l = record {
   same : l.judges ≡ l.initial.judges;
-  accepted : list_any (λ matcher. rejects_each matcher l.series) (take l.judge-index l.initial.judges) ≡ false;
+  accepted : list_any (λ matcher. rejects_each matcher l.series)
+      (take l.judge-index l.initial.judges) ≡ false;
 }

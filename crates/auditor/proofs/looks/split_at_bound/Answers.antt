@@ -7,14 +7,20 @@ use Rattle.auditor.proofs.looks.split_at_bound.Goals as goal
 
 pub returns-clause-below : goal.returns-clause-below
 returns-clause-below c =
-    c.split_at.ensures.front ∙ ap (λ n. take n c.args.series.now) c.count_below.ensures ∙ take-below c.args.bound c.args.series.now c.requires
+    c.split_at.ensures.front
+    ∙ ap (λ n. take n c.args.series.now) c.count_below.ensures
+    ∙ take-below c.args.bound c.args.series.now c.requires
 
 pub returns-clause-others : goal.returns-clause-others
 returns-clause-others c =
-    c.split_at.ensures.back ∙ ap (λ n. drop n c.args.series.now) c.count_below.ensures ∙ drop-below c.args.bound c.args.series.now c.requires
+    c.split_at.ensures.back
+    ∙ ap (λ n. drop n c.args.series.now) c.count_below.ensures
+    ∙ drop-below c.args.bound c.args.series.now c.requires
 
 pub returns-clause-rises : goal.returns-clause-rises
 returns-clause-rises c =
     subst (λ (rows : Part). IsStrictlyIncreasing (references rows))
-    (sym (c.split_at.ensures.back ∙ ap (λ n. drop n c.args.series.now) c.count_below.ensures ∙ drop-below c.args.bound c.args.series.now c.requires))
+    (sym (c.split_at.ensures.back
+    ∙ ap (λ n. drop n c.args.series.now) c.count_below.ensures
+    ∙ drop-below c.args.bound c.args.series.now c.requires))
     (rises_from c.args.bound c.args.series.now c.requires)

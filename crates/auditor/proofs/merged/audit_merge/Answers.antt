@@ -11,9 +11,16 @@ use Rattle.auditor.proofs.merged.audit_merge.Goals.{then-not-are_in_order-via-th
 pub returns-then-not-are_in_order-clause-unmerged : goal.returns-then-not-are_in_order-clause-unmerged
 returns-then-not-are_in_order-clause-unmerged c =
     elim c.then-not-are_in_order.branch [
-      | then-not-are_in_order-via-then-not-are_in_order w ↦ (refl, λ are. subst T (sym c.are_in_order.ensures ∙ w.if-not-are_in_order.true) are.ascending)
-      | then-not-are_in_order-via-else-not-are_in_order+then-not-are_full w ↦
-          (refl, λ are. true_not_false (sym (full_all c.args.rows.now are.full) ∙ sym w.are_full.ensures ∙ w.if-not-are_full.true))
+      | then-not-are_in_order-via-then-not-are_in_order w ↦ (
+        refl,
+        λ are. subst T (sym c.are_in_order.ensures ∙ w.if-not-are_in_order.true) are.ascending,
+      )
+      | then-not-are_in_order-via-else-not-are_in_order+then-not-are_full w ↦ (
+        refl,
+        λ are. true_not_false (sym (full_all c.args.rows.now are.full)
+            ∙ sym w.are_full.ensures
+            ∙ w.if-not-are_full.true),
+      )
     ]
 
 pub returns-clause-merged : goal.returns-clause-merged
@@ -23,6 +30,8 @@ returns-clause-merged c = record {
       ∙ sym c.in_ok-list_rows.ensures ∙ sym c.as_slice.ensures.value
       ∙ c.same_listed.ensures.0 c.if-not-same_listed.false
       ∙ c.as_slice-2.ensures.value ∙ c.in_ok-last.ensures;
-  ascending = T_of (is_sorted labels_cmp c.args.rows.now) (sym c.are_in_order.ensures ∙ c.if-not-are_in_order.false);
+  ascending =
+      T_of (is_sorted labels_cmp c.args.rows.now) (sym c.are_in_order.ensures
+      ∙ c.if-not-are_in_order.false);
   full = all_full c.args.rows.now (sym c.are_full.ensures ∙ c.if-not-are_full.false);
 }

@@ -9,4 +9,5 @@ returns c =
     let sorted : List Sample = c.sort_listed.new.all.items in
     c.keep_first.ensures
     ∙ last_is (listed c.args.answers.now) sorted c.in_ok-sort_listed.ensures.sorted
-    (subst (λ (xs : List Sample). IsStableBy point_before xs sorted) (c.reverse.ensures.items ∙ ap reverse c.in_ok-all.ensures) c.in_ok-sort_listed.ensures.stable)
+    (subst (λ (xs : List Sample). IsStableBy point_before xs sorted) (c.reverse.ensures.items
+    ∙ ap reverse c.in_ok-all.ensures) c.in_ok-sort_listed.ensures.stable)

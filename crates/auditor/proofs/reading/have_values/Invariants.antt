@@ -5,4 +5,6 @@ use Rattle.labels.specs.Pairs.{texts_of}
 use Rattle.auditor.proofs.reading.have_values.Given as goal
 
 abbrev pub invariant-loop-value : goal.invariant-loop-value
-invariant-loop-value l = list_all has_value (texts_of l.pairs) ≡ list_all has_value (texts_of (drop l.value-index l.pairs))
+invariant-loop-value l =
+    list_all has_value (texts_of l.pairs)
+    ≡ list_all has_value (texts_of (drop l.value-index l.pairs))

@@ -6,5 +6,8 @@ use Rattle.auditor.proofs.reading.labels_of.Goals as goal
 
 pub of_sorted_texts-requires : goal.of_sorted_texts-requires
 of_sorted_texts-requires c =
-    let same : c.as_slice.result.now ≡ c.as_slice-2.result.now = c.as_slice.ensures.value ∙ sym c.as_slice-2.ensures.value in
-    is_label_set _ (ap (λ ps. are_labels (texts_of ps)) (sym same) ∙ sym c.are_labels.ensures ∙ c.if-not-are_labels.false)
+    let same : c.as_slice.result.now ≡ c.as_slice-2.result.now =
+    c.as_slice.ensures.value ∙ sym c.as_slice-2.ensures.value in
+    is_label_set _ (ap (λ ps. are_labels (texts_of ps)) (sym same)
+    ∙ sym c.are_labels.ensures
+    ∙ c.if-not-are_labels.false)

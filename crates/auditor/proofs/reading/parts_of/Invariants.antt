@@ -5,4 +5,6 @@ use Rattle.auditor.proofs.reading.parts_of.Given as goal
 
 abbrev pub invariant-loop-item : goal.invariant-loop-item
 invariant-loop-item l =
-    each_said part_said (items_view l.items) ≡ option_map (λ xs. map told_of_part l.parts.items ++ xs) (each_said part_said (items_view (drop l.item-index l.items)))
+    each_said part_said (items_view l.items)
+    ≡ option_map (λ xs. map told_of_part l.parts.items ++ xs)
+    (each_said part_said (items_view (drop l.item-index l.items)))

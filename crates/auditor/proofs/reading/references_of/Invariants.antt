@@ -5,4 +5,5 @@ use Rattle.auditor.proofs.reading.references_of.Given as goal
 
 abbrev pub invariant-loop-item : goal.invariant-loop-item
 invariant-loop-item l =
-    each_said reference_said (items_view l.items) ≡ option_map (λ xs. l.references.items ++ xs) (each_said reference_said (items_view (drop l.item-index l.items)))
+    each_said reference_said (items_view l.items) ≡ option_map (λ xs. l.references.items ++ xs)
+    (each_said reference_said (items_view (drop l.item-index l.items)))

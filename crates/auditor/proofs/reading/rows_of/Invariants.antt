@@ -5,4 +5,5 @@ use Rattle.auditor.proofs.reading.rows_of.Given as goal
 
 abbrev pub invariant-loop-item : goal.invariant-loop-item
 invariant-loop-item l =
-    each_said row_said (items_view l.items) ≡ option_map (λ xs. l.rows.items ++ xs) (each_said row_said (items_view (drop l.item-index l.items)))
+    each_said row_said (items_view l.items) ≡ option_map (λ xs. l.rows.items ++ xs)
+    (each_said row_said (items_view (drop l.item-index l.items)))

@@ -9,6 +9,10 @@ loop-name-preserved c =
     let text = c.in-Some-as_str.text in
     let done = c.loop-name.texts.items in
     let name = c.as_str-in-loop-name in
-    member_more _ c.loop-name.name-iterator c.next.new.self (c.in-Some.name.now, c.in-Some.value.now) _ _ text.now c.in-Some.ensures.steps c.in-Some-as_str.ensures
-    (ap texts_of c.in_ok-push.ensures.items ∙ map_push pair_now done (name.result, text) ∙ ap (λ (n : List ℕ). texts_of done ++ (n, text.now) ∷ []) name.ensures.value)
+    member_more _ c.loop-name.name-iterator c.next.new.self
+    (c.in-Some.name.now, c.in-Some.value.now) _ _ text.now c.in-Some.ensures.steps
+    c.in-Some-as_str.ensures
+    (ap texts_of c.in_ok-push.ensures.items
+    ∙ map_push pair_now done (name.result, text)
+    ∙ ap (λ (n : List ℕ). texts_of done ++ (n, text.now) ∷ []) name.ensures.value)
     c.loop-name.invariant

@@ -7,4 +7,5 @@ use Rattle.auditor.proofs.reading.texts_of.Given as goal
 
 abbrev pub invariant-loop-name : goal.invariant-loop-name
 invariant-loop-name l =
-    texts_said (members_view l.members.entries) ≡ with_left (texts_of l.texts.items) (texts_said (members_view l.name-iterator))
+    texts_said (members_view l.members.entries)
+    ≡ with_left (texts_of l.texts.items) (texts_said (members_view l.name-iterator))

@@ -5,4 +5,6 @@ use Rattle.auditor.specs.Judgements.{answers_of}
 use Rattle.auditor.proofs.report.answers_of.Given as goal
 
 abbrev pub invariant-loop-part : goal.invariant-loop-part
-invariant-loop-part l = flat_map answers_of l.fn.parts.items ≡ l.answers.items ++ flat_map answers_of (into_iter_items l.part-iterator)
+invariant-loop-part l =
+    flat_map answers_of l.fn.parts.items
+    ≡ l.answers.items ++ flat_map answers_of (into_iter_items l.part-iterator)

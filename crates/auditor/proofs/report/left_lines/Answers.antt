@@ -14,8 +14,12 @@ loop-number-preserved c =
     let R = IsLeftLine c.args.blocks.now c.args.query.now in
     elim c.if-not-is_named.branch [
       | then-not-is_named+in_ok-left_line+in_ok-push w ↦
-          left_more R told n done.items c.if-not-is_named.lines.items w.in_ok-left_line.field-0 (sym c.is_named.ensures ∙ w.if-not-is_named.true)
-          (ap (λ (v : Vec Line Global). v.items) w.lines-is ∙ w.in_ok-push.ensures.items) c.loop-number.invariant w.in_ok-left_line.ensures
+          left_more R told n done.items c.if-not-is_named.lines.items w.in_ok-left_line.field-0
+          (sym c.is_named.ensures ∙ w.if-not-is_named.true)
+          (ap (λ (v : Vec Line Global). v.items) w.lines-is
+          ∙ w.in_ok-push.ensures.items) c.loop-number.invariant w.in_ok-left_line.ensures
       | else-not-is_named w ↦
-          subst (λ (v : Vec Line Global). AllZip R (unnamed told (n + 1)) v.items) (sym w.lines-is) (left_same R told n done.items (sym c.is_named.ensures ∙ w.if-not-is_named.false) c.loop-number.invariant)
+          subst (λ (v : Vec Line Global). AllZip R (unnamed told (n + 1)) v.items) (sym w.lines-is)
+          (left_same R told n done.items (sym c.is_named.ensures
+          ∙ w.if-not-is_named.false) c.loop-number.invariant)
     ]

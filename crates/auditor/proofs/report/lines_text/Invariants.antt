@@ -3,4 +3,5 @@ use Rattle.auditor.specs.Judgements.{lines_text}
 use Rattle.auditor.proofs.report.lines_text.Given as goal
 
 abbrev pub invariant-loop-line : goal.invariant-loop-line
-invariant-loop-line l = lines_text l.lines ≡ string_bytes l.text ++ lines_text (drop l.line-index l.lines)
+invariant-loop-line l =
+    lines_text l.lines ≡ string_bytes l.text ++ lines_text (drop l.line-index l.lines)

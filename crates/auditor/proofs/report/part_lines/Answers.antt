@@ -5,8 +5,11 @@ use Rattle.auditor.proofs.report.part_lines.Goals as goal
 
 pub loop-part-preserved : goal.loop-part-preserved
 loop-part-preserved c =
-    zip_more (IsPartLine c.args.blocks.now c.args.query.now) c.args.parts.now c.loop-part.part-index c.part-item.result c.loop-part.lines.items _ c.in_ok-part_line.field-0 c.loop-part-test.true c.part-item.is c.in_ok-push.ensures.items c.loop-part.invariant c.in_ok-part_line.ensures
+    zip_more (IsPartLine c.args.blocks.now c.args.query.now) c.args.parts.now c.loop-part.part-index
+    c.part-item.result c.loop-part.lines.items _ c.in_ok-part_line.field-0 c.loop-part-test.true
+    c.part-item.is c.in_ok-push.ensures.items c.loop-part.invariant c.in_ok-part_line.ensures
 
 pub returns : goal.returns
 returns c =
-    zip_whole (IsPartLine c.args.blocks.now c.args.query.now) c.args.parts.now c.loop-part.part-index c.loop-part.lines.items (omega arith) c.loop-part.invariant
+    zip_whole (IsPartLine c.args.blocks.now c.args.query.now) c.args.parts.now
+    c.loop-part.part-index c.loop-part.lines.items (omega arith) c.loop-part.invariant

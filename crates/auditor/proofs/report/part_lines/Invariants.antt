@@ -4,4 +4,5 @@ use Rattle.auditor.specs.Judgements.{IsPartLine}
 use Rattle.auditor.proofs.report.part_lines.Given as goal
 
 abbrev pub invariant-loop-part : goal.invariant-loop-part
-invariant-loop-part l = AllZip (IsPartLine l.blocks l.query) (take l.part-index l.parts) l.lines.items
+invariant-loop-part l =
+    AllZip (IsPartLine l.blocks l.query) (take l.part-index l.parts) l.lines.items

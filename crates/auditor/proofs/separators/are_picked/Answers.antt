@@ -11,9 +11,19 @@ pub loop-separator-preserved : goal.loop-separator-preserved
 loop-separator-preserved c =
     let is = c.in-Some.ensures.cases.0 in
     let same : c.in-Some.first.now.0 ≡ c.separator-item.result = grind (arith, common_steps) in
-    let cut : c.split_at_bound.result.1.now ≡ rows_from c.separator-item.result c.loop-separator.rest.now = c.split_at_bound.ensures.others ∙ ap (λ n. rows_from n c.loop-separator.rest.now) (c.from.ensures ∙ c.number.ensures) in
+    let cut : c.split_at_bound.result.1.now
+    ≡ rows_from c.separator-item.result c.loop-separator.rest.now =
+    c.split_at_bound.ensures.others
+    ∙ ap (λ n. rows_from n c.loop-separator.rest.now) (c.from.ensures ∙ c.number.ensures) in
     record {
-      rises = rising-tail c.in-Some.first.now.0 (references c.in-Some.later.now) (subst (λ (rows : Part). IsStrictlyIncreasing (references rows)) is c.split_at_bound.ensures.rises);
-      left = picked_step c.args.separators.now c.loop-separator.separator-index c.separator-item.result c.loop-separator.rest.now c.split_at_bound.result.1.now c.in-Some.later.now c.in-Some.first.now
-          (are_picked c.args.separators.now c.args.series.now) c.loop-separator-test.true c.separator-item.is cut is same c.loop-separator.invariant.left;
+      rises =
+          rising-tail c.in-Some.first.now.0 (references c.in-Some.later.now)
+          (subst (λ (rows : Part). IsStrictlyIncreasing (references rows)) is
+          c.split_at_bound.ensures.rises);
+      left =
+          picked_step c.args.separators.now c.loop-separator.separator-index c.separator-item.result
+          c.loop-separator.rest.now c.split_at_bound.result.1.now c.in-Some.later.now
+          c.in-Some.first.now
+          (are_picked c.args.separators.now c.args.series.now) c.loop-separator-test.true
+          c.separator-item.is cut is same c.loop-separator.invariant.left;
     }

@@ -8,5 +8,6 @@ abbrev pub invariant-loop-at : goal.invariant-loop-at
 invariant-loop-at l = record {
   same : l.looks ≡ l.initial.looks;
   rises : IsStrictlyIncreasing (references l.rest);
-  left : first_shared l.initial.looks l.at (drop l.at l.later) l.rest ≡ first_shared l.initial.looks 0 l.later l.initial.rest;
+  left : first_shared l.initial.looks l.at (drop l.at l.later) l.rest
+      ≡ first_shared l.initial.looks 0 l.later l.initial.rest;
 }

@@ -14,15 +14,26 @@ returns-then-answers-clause-hidden c =
     let q = c.args.query.now in
     let entry = c.entry-item.result in
     let yes : answers q entry ≡ true =
-    ap (λ (p : QueryView). answers p entry) (sym (c.loop-entry.invariant.same ∙ c.in_ok-looks.ensures)) ∙ sym c.answers.ensures.answers ∙ c.if-answers.true in
-    let at : list_any (answers q) c.series-series.result.now ≡ true = list_any_at (answers q) c.series-series.result.now c.loop-entry.entry-index entry c.loop-entry-test.true (ap (answers q) (sym c.entry-item.is) ∙ yes) in
-    let some : list_any (answers q) c.args.table.now ≡ true = ap (λ (rows : Part). list_any (answers q) rows) (sym c.series-series.ensures.items) ∙ at in
+    ap (λ (p : QueryView). answers p entry)
+    (sym (c.loop-entry.invariant.same ∙ c.in_ok-looks.ensures))
+    ∙ sym c.answers.ensures.answers
+    ∙ c.if-answers.true in
+    let at : list_any (answers q) c.series-series.result.now ≡ true =
+    list_any_at (answers q) c.series-series.result.now c.loop-entry.entry-index entry
+    c.loop-entry-test.true (ap (answers q) (sym c.entry-item.is) ∙ yes) in
+    let some : list_any (answers q) c.args.table.now ≡ true =
+    ap (λ (rows : Part). list_any (answers q) rows) (sym c.series-series.ensures.items) ∙ at in
     (refl, selected_some (satisfies_all q.matchers) q.from q.to c.args.table.now some)
 
 pub returns-clause-empty : goal.returns-clause-empty
 returns-clause-empty c =
     let q = c.args.query.now in
-    let whole : take c.loop-entry.entry-index c.series-series.result.now ≡ c.args.table.now = take_all c.loop-entry.entry-index c.series-series.result.now (omega arith) ∙ c.series-series.ensures.items in
+    let whole : take c.loop-entry.entry-index c.series-series.result.now ≡ c.args.table.now =
+    take_all c.loop-entry.entry-index c.series-series.result.now (omega arith)
+    ∙ c.series-series.ensures.items in
     let none : list_any (answers q) c.args.table.now ≡ false =
-    ap (λ (rows : Part). list_any (answers q) rows) (sym whole) ∙ ap (λ (p : QueryView). list_any (answers p) (take c.loop-entry.entry-index c.series-series.result.now)) (sym c.in_ok-looks.ensures) ∙ c.loop-entry.invariant.none in
+    ap (λ (rows : Part). list_any (answers q) rows) (sym whole)
+    ∙ ap (λ (p : QueryView). list_any (answers p)
+    (take c.loop-entry.entry-index c.series-series.result.now)) (sym c.in_ok-looks.ensures)
+    ∙ c.loop-entry.invariant.none in
     selected_none (satisfies_all q.matchers) q.from q.to c.args.table.now none

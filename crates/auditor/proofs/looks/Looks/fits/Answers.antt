@@ -17,11 +17,13 @@ returns-in-Rejected-clause-fitting c =
     let rows = c.args.series.now in
     let number = c.in-Rejected.number in
     let judges : List MatcherView = c.self.inside.judges.items in
-    let known : nat_lt number (length q.matchers) ≡ true = sym (ap (names_known (length q.matchers)) c.in-Rejected.is) ∙ c.requires in
+    let known : nat_lt number (length q.matchers) ≡ true =
+    sym (ap (names_known (length q.matchers)) c.in-Rejected.is) ∙ c.requires in
     let same : judges ≡ q.matchers = ap (λ (p : QueryView). p.matchers) c.self.view_is in
     let as_many : length judges ≡ length q.matchers = ap length same in
     let below : number < length judges = grind (arith, nat_tests) in
     c.rejects_each.ensures.rejected
     ∙ rejected_by judges number c.index_mut.result.now rows below c.index_mut.ensures.value
-    ∙ ap (λ (ms : List MatcherView). list_all (λ (row : Entry). not (satisfies_at ms number row.1.0)) rows) same
+    ∙ ap (λ (ms : List MatcherView).
+    list_all (λ (row : Entry). not (satisfies_at ms number row.1.0)) rows) same
     ∙ ap (λ (v : Verdict). fits q v rows) (sym c.in-Rejected.is)

@@ -11,9 +11,19 @@ pub returns-clause-only : goal.returns-clause-only
 returns-clause-only c part w =
     let index = c.args.index.now in
     let tombstones = c.args.tombstones.now in
-    is_only part (walked_of index c.args.chunks.items tombstones) c.walked.result c.walked.ensures.exact (walk_again index c.args.chunks.items tombstones part (λ i. omega (arith, c.type_inv.index i)) (λ i. omega (arith, c.type_inv.tombstones i)) w)
+    is_only part (walked_of index c.args.chunks.items tombstones) c.walked.result
+    c.walked.ensures.exact (walk_again index c.args.chunks.items tombstones part (λ i. omega (
+      arith,
+      c.type_inv.index i,
+    )) (λ i. omega (arith, c.type_inv.tombstones i)) w)
 
 pub returns-clause-refused : goal.returns-clause-refused
 returns-clause-refused c =
-    let f : Files = record { index = c.args.index.now; chunks = c.args.chunks.items; tombstones = c.args.tombstones.now } in
-    first_failing f c.walked.result (λ i. omega (arith, c.type_inv.index i)) (subst IsBytes c.as_slice.ensures.value c.are_bytes.ensures) (λ i. omega (arith, c.type_inv.tombstones i)) c.walked.ensures.exact
+    let f : Files = record {
+      index = c.args.index.now;
+      chunks = c.args.chunks.items;
+      tombstones = c.args.tombstones.now;
+    } in
+    first_failing f c.walked.result (λ i. omega (arith, c.type_inv.index i))
+    (subst IsBytes c.as_slice.ensures.value c.are_bytes.ensures)
+    (λ i. omega (arith, c.type_inv.tombstones i)) c.walked.ensures.exact

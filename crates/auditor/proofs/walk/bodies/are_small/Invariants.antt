@@ -5,4 +5,6 @@ use Rattle.auditor.specs.IndexFile.Whole.{is_small}
 use Rattle.auditor.proofs.walk.bodies.are_small.Given as goal
 
 abbrev pub invariant-loop-at : goal.invariant-loop-at
-invariant-loop-at l = list_all is_small (drop l.at (label_sets_in l.labels l.rows)) ≡ list_all is_small (label_sets_in l.labels l.rows)
+invariant-loop-at l =
+    list_all is_small (drop l.at (label_sets_in l.labels l.rows))
+    ≡ list_all is_small (label_sets_in l.labels l.rows)

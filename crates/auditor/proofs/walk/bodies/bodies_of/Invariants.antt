@@ -8,5 +8,7 @@ abbrev pub invariant-loop-at : goal.invariant-loop-at
 invariant-loop-at l = record {
   inside : AllIn l.labels.items l.chunks.items l.rows.items;
   counted : length l.rows.items ≡ l.at;
-  so_far : behind_items (bodies_in l.labels.items l.chunks.items l.rows.items) (each (body_of_place (texts l.symbols)) (drop l.at (places l.entries))) ≡ each (body_of_place (texts l.symbols)) (places l.entries);
+  so_far : behind_items (bodies_in l.labels.items l.chunks.items l.rows.items)
+      (each (body_of_place (texts l.symbols)) (drop l.at (places l.entries)))
+      ≡ each (body_of_place (texts l.symbols)) (places l.entries);
 }

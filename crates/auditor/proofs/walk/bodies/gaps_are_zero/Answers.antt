@@ -8,21 +8,34 @@ use Rattle.auditor.specs.IndexFile.Seen.{place, places}
 use Rattle.auditor.proofs.IndexFile.Gaps.{gap_step, gap_end}
 use Rattle.auditor.proofs.walk.bodies.gaps_are_zero.Goals as goal
 
-offset_inside : (entries : List Entry) (len i : ℕ) (e : Entry) → All (λ (x : Entry). x.offset ≤ len) entries → i < length entries → slice_get entries i ≡ Some e → e.offset ≤ len
+offset_inside : (entries : List Entry) (len i : ℕ) (e : Entry)
+    → All (λ (x : Entry). x.offset ≤ len) entries → i < length entries
+    → slice_get entries i ≡ Some e → e.offset ≤ len
 offset_inside entries len i e h lt g = rw (get_or_from_slice_get entries i e e g) at (h i e lt)
 
 pub zero_between-requires : goal.zero_between-requires
-zero_between-requires c = offset_inside c.args.entries.now (length c.args.file.now) c.loop-at.at _ c.requires.inside c.loop-at-test.true c.entry_in-entry.ensures.value
+zero_between-requires c =
+    offset_inside c.args.entries.now (length c.args.file.now) c.loop-at.at _ c.requires.inside
+    c.loop-at-test.true c.entry_in-entry.ensures.value
 
 pub returns-then-not-zero_between : goal.returns-then-not-zero_between
 returns-then-not-zero_between c =
-    let n = gap_step c.args.file.now c.args.end c.loop-at.from (places c.args.entries.now) c.loop-at.at _ c.zero_between.result _ c.entry_in-entry.ensures.seen c.zero_between.ensures c.loop-at.invariant in
+    let n =
+    gap_step c.args.file.now c.args.end c.loop-at.from (places c.args.entries.now) c.loop-at.at _
+    c.zero_between.result _ c.entry_in-entry.ensures.seen c.zero_between.ensures
+    c.loop-at.invariant in
     sym (rw c.if-not-zero_between.true at n)
 
 pub loop-at-preserved : goal.loop-at-preserved
 loop-at-preserved c =
-    let n = gap_step c.args.file.now c.args.end c.loop-at.from (places c.args.entries.now) c.loop-at.at _ c.zero_between.result _ c.entry_in-entry.ensures.seen c.zero_between.ensures c.loop-at.invariant in
+    let n =
+    gap_step c.args.file.now c.args.end c.loop-at.from (places c.args.entries.now) c.loop-at.at _
+    c.zero_between.result _ c.entry_in-entry.ensures.seen c.zero_between.ensures
+    c.loop-at.invariant in
     sym (rw c.if-not-zero_between.false at n)
 
 pub returns : goal.returns
-returns c = c.zero_between-2.ensures ∙ gap_end c.args.file.now c.args.end c.loop-at.from (places c.args.entries.now) c.loop-at.at _ (omega (arith, length-map c.args.entries.now place)) c.loop-at.invariant
+returns c =
+    c.zero_between-2.ensures
+    ∙ gap_end c.args.file.now c.args.end c.loop-at.from (places c.args.entries.now) c.loop-at.at _
+    (omega (arith, length-map c.args.entries.now place)) c.loop-at.invariant

@@ -4,4 +4,6 @@ use Rattle.auditor.specs.IndexFile.Seen.{places}
 use Rattle.auditor.proofs.walk.bodies.gaps_are_zero.Given as goal
 
 abbrev pub invariant-loop-at : goal.invariant-loop-at
-invariant-loop-at l = gaps_zero l.file l.fn.end l.from (drop l.at (places l.entries)) ≡ gaps_zero l.file l.fn.end l.fn.first (places l.entries)
+invariant-loop-at l =
+    gaps_zero l.file l.fn.end l.from (drop l.at (places l.entries))
+    ≡ gaps_zero l.file l.fn.end l.fn.first (places l.entries)

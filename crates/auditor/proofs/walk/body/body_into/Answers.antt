@@ -10,11 +10,18 @@ returns-in_err-rest c =
 
 pub returns-in_err-rest-2 : goal.returns-in_err-rest-2
 returns-in_err-rest-2 c =
-    let p = err_from_is_err_and c.from_residual-in_err-rest-2.result c.from_residual-in_err-rest-2.ensures.1 in
-    rw (p.1, p.2) (chunks_fail c.in_err-rest-2.field-0.0 _ _ _ _ _ _ c.in_ok-rest.ensures c.in_err-rest-2.ensures)
+    let p =
+    err_from_is_err_and c.from_residual-in_err-rest-2.result
+    c.from_residual-in_err-rest-2.ensures.1 in
+    rw (p.1, p.2)
+    (chunks_fail c.in_err-rest-2.field-0.0 _ _ _ _ _ _ c.in_ok-rest.ensures c.in_err-rest-2.ensures)
 
 pub returns-then-not-is_empty : goal.returns-then-not-is_empty
-returns-then-not-is_empty c = ends_late _ _ _ _ _ _ _ _ c.in_ok-rest.ensures c.in_ok-rest-2.ensures (sym c.is_empty.ensures ∙ c.if-not-is_empty.true)
+returns-then-not-is_empty c =
+    ends_late _ _ _ _ _ _ _ _ c.in_ok-rest.ensures c.in_ok-rest-2.ensures (sym c.is_empty.ensures
+    ∙ c.if-not-is_empty.true)
 
 pub returns : goal.returns
-returns c = ends_well _ _ _ _ _ _ _ _ c.in_ok-rest.ensures c.in_ok-rest-2.ensures (sym c.is_empty.ensures ∙ c.if-not-is_empty.false)
+returns c =
+    ends_well _ _ _ _ _ _ _ _ c.in_ok-rest.ensures c.in_ok-rest-2.ensures (sym c.is_empty.ensures
+    ∙ c.if-not-is_empty.false)

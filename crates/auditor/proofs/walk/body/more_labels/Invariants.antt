@@ -5,4 +5,8 @@ use Rattle.auditor.specs.IndexFile.Bodies.{label_at}
 use Rattle.auditor.proofs.walk.body.more_labels.Given as goal
 
 abbrev pub invariant-loop : goal.invariant-loop
-invariant-loop l = with_front l.labels.items (steps (label_at (texts l.symbols)) (l.count - l.counter) (l.low, l.rest)) ≡ with_front l.fn.labels.items (steps (label_at (texts l.symbols)) l.count (0, l.bytes))
+invariant-loop l =
+    with_front l.labels.items (steps (label_at (texts l.symbols)) (l.count - l.counter) (
+      l.low,
+      l.rest,
+    )) ≡ with_front l.fn.labels.items (steps (label_at (texts l.symbols)) l.count (0, l.bytes))

@@ -7,7 +7,8 @@ use Rattle.auditor.specs.IndexFile.Reading.{IsPlaced, head_of}
 use Rattle.auditor.proofs.IndexFile.Head.{head_placed}
 use Rattle.auditor.proofs.walk.contents.contents_of.Goals as goal
 
-is_placed : (file : List ℕ) (r : Result Contents WalkError) → Gives (λ t. t) r (head_of file) → IfOk r (λ t. IsPlaced t (length file))
+is_placed : (file : List ℕ) (r : Result Contents WalkError) → Gives (λ t. t) r (head_of file)
+    → IfOk r (λ t. IsPlaced t (length file))
 is_placed file (Ok t) h = head_placed file t h
 is_placed file (Err e) h = tt
 

@@ -8,13 +8,17 @@ pub returns-then-not-is_known : goal.returns-then-not-is_known
 returns-then-not-is_known c =
     let l = c.loop-deletion in
     let at = slice_get-get_or c.args.deletions.now l.deletion-index _ c.loop-deletion-test.true in
-    sym (tests_stop (is_known c.args.entries.now) c.args.deletions.now l.deletion-index _ _ at (sym c.is_known.ensures ∙ c.if-not-is_known.true) l.invariant)
+    sym (tests_stop (is_known c.args.entries.now) c.args.deletions.now l.deletion-index _ _ at
+    (sym c.is_known.ensures ∙ c.if-not-is_known.true) l.invariant)
 
 pub loop-deletion-preserved : goal.loop-deletion-preserved
 loop-deletion-preserved c =
     let l = c.loop-deletion in
     let at = slice_get-get_or c.args.deletions.now l.deletion-index _ c.loop-deletion-test.true in
-    tests_next (is_known c.args.entries.now) c.args.deletions.now l.deletion-index _ _ at (sym c.is_known.ensures ∙ c.if-not-is_known.false) l.invariant
+    tests_next (is_known c.args.entries.now) c.args.deletions.now l.deletion-index _ _ at
+    (sym c.is_known.ensures ∙ c.if-not-is_known.false) l.invariant
 
 pub returns : goal.returns
-returns c = sym (tests_end (is_known c.args.entries.now) c.args.deletions.now c.loop-deletion.deletion-index _ c.loop-deletion-test.false c.loop-deletion.invariant)
+returns c =
+    sym (tests_end (is_known c.args.entries.now) c.args.deletions.now c.loop-deletion.deletion-index
+    _ c.loop-deletion-test.false c.loop-deletion.invariant)

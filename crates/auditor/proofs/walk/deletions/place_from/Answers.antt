@@ -15,7 +15,9 @@ loop-low-preserved-then-number c =
     record {
       ordered = omega arith;
       inside = l.invariant.inside;
-      below = λ k b. below_middle (references ss) m c.args.target c.reference_at-reference.result c.requires (omega arith) c.reference_at-reference.ensures less k (omega arith);
+      below =
+          λ k b. below_middle (references ss) m c.args.target c.reference_at-reference.result
+          c.requires (omega arith) c.reference_at-reference.ensures less k (omega arith);
       above = l.invariant.above;
     }
 
@@ -24,7 +26,9 @@ loop-low-preserved c =
     let l = c.loop-low in
     let ss = c.args.entries.now in
     let m = l.low + (l.high - l.low) / 2 in
-    let here : get_or (references ss) m 0 ≡ c.reference_at-reference.result = get_or_from_slice_get (references ss) m c.reference_at-reference.result 0 c.reference_at-reference.ensures in
+    let here : get_or (references ss) m 0 ≡ c.reference_at-reference.result =
+    get_or_from_slice_get (references ss) m c.reference_at-reference.result 0
+    c.reference_at-reference.ensures in
     record {
       ordered = omega arith;
       inside = omega (arith, l.invariant.inside);

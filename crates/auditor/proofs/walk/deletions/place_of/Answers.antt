@@ -14,9 +14,11 @@ returns-clause-none c =
     let above : at < length (references ss) → c.args.reference < get_or (references ss) at 0 =
     λ lt. elim c.else-at-len.branch [
       | else-at-len-via-then-at-len+else-number w ↦
-          let here : get_or (references ss) at 0 ≡ w.reference_at.result = get_or_from_slice_get (references ss) at w.reference_at.result 0 w.reference_at.ensures in
+          let here : get_or (references ss) at 0 ≡ w.reference_at.result =
+          get_or_from_slice_get (references ss) at w.reference_at.result 0 w.reference_at.ensures in
           let reached = c.place_from-at.ensures.above (omega (arith, lt, size)) in
           omega (arith, here, reached, w.if-number.false)
       | else-at-len-via-else-at-len w ↦ absurd (omega (arith, lt, size, w.if-at-len.false))
     ] in
-    nowhere_at (references ss) c.args.reference at c.requires (λ k lt. c.place_from-at.ensures.below k lt) above
+    nowhere_at (references ss) c.args.reference at c.requires
+    (λ k lt. c.place_from-at.ensures.below k lt) above

@@ -5,7 +5,10 @@ use Rattle.auditor.proofs.IndexFile.WalkLoops.{with_places}
 use Rattle.auditor.proofs.walk.entries.entries_of.Given as goal
 
 abbrev pub invariant-loop-at : goal.invariant-loop-at
-invariant-loop-at l = (n : ℕ) × (l.end - l.at ≤ n) × (with_places (places l.entries.items) (entries_from n l.file l.end l.at) ≡ entries_from (length l.file) l.file l.end l.start)
+invariant-loop-at l =
+    (n : ℕ) × (l.end - l.at ≤ n)
+    × (with_places (places l.entries.items) (entries_from n l.file l.end l.at)
+    ≡ entries_from (length l.file) l.file l.end l.start)
 
 abbrev pub decreases-loop-at : goal.decreases-loop-at
 decreases-loop-at l = l.end - l.at

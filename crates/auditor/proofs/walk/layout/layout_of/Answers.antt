@@ -6,10 +6,19 @@ use Rattle.auditor.proofs.IndexFile.Sound.{sound_found}
 use Rattle.auditor.proofs.walk.layout.layout_of.Goals as goal
 
 pub returns-clause-found : goal.returns-clause-found
-returns-clause-found c = is_found seen c.args.file.now c.parts_of.result (λ i. omega (arith, c.type_inv.file i)) c.parts_of.ensures
+returns-clause-found c = is_found seen c.args.file.now c.parts_of.result (λ i. omega (
+  arith,
+  c.type_inv.file i,
+)) c.parts_of.ensures
 
 pub returns-clause-only : goal.returns-clause-only
-returns-clause-only c = λ x p. subst (λ f. Gives seen c.parts_of.result f) (parts_again c.args.file.now x (λ i. omega (arith, c.type_inv.file i)) p) c.parts_of.ensures
+returns-clause-only c =
+    λ x p. subst (λ f. Gives seen c.parts_of.result f) (parts_again c.args.file.now x (λ i. omega (
+      arith,
+      c.type_inv.file i,
+    )) p) c.parts_of.ensures
 
 pub returns-clause-sound : goal.returns-clause-sound
-returns-clause-sound c = sound_found c.args.file.now c.parts_of.result (is_found seen c.args.file.now c.parts_of.result (λ i. omega (arith, c.type_inv.file i)) c.parts_of.ensures)
+returns-clause-sound c =
+    sound_found c.args.file.now c.parts_of.result (is_found seen c.args.file.now c.parts_of.result
+    (λ i. omega (arith, c.type_inv.file i)) c.parts_of.ensures)

@@ -5,8 +5,13 @@ use Rattle.auditor.proofs.BlockFiles.Rows.{held_there, row_there}
 use Rattle.auditor.proofs.walk.samples.row_at.Goals as goal
 
 pub samples_of-requires : goal.samples_of-requires
-samples_of-requires c = held_there (AllByRecursion (IsHeld c.args.chunks.now)) (chunk_lists c.args.entries.now) c.args.i _ c.requires.held c.chunks_at.ensures
+samples_of-requires c =
+    held_there (AllByRecursion (IsHeld c.args.chunks.now)) (chunk_lists c.args.entries.now) c.args.i
+    _ c.requires.held c.chunks_at.ensures
 
 pub returns : goal.returns
 returns c =
-    rw c.new.ensures (row_there c.args.chunks.now c.args.tombstones.now c.args.entries.now c.args.i c.reference_at-reference.result c.in_ok-labels.labels _ c.in_ok-samples.samples.items c.reference_at-reference.ensures c.in_ok-labels.ensures c.chunks_at.ensures c.in_ok-samples.ensures)
+    rw c.new.ensures (row_there c.args.chunks.now c.args.tombstones.now c.args.entries.now c.args.i
+    c.reference_at-reference.result c.in_ok-labels.labels _ c.in_ok-samples.samples.items
+    c.reference_at-reference.ensures c.in_ok-labels.ensures c.chunks_at.ensures
+    c.in_ok-samples.ensures)

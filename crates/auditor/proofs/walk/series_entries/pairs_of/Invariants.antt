@@ -5,4 +5,6 @@ use Rattle.auditor.specs.IndexFile.Series.{named}
 use Rattle.auditor.proofs.walk.series_entries.pairs_of.Given as goal
 
 abbrev pub invariant-loop-at : goal.invariant-loop-at
-invariant-loop-at l = texts_of l.pairs.items ++ drop l.at (named (texts l.symbols) l.labels) ≡ named (texts l.symbols) l.labels
+invariant-loop-at l =
+    texts_of l.pairs.items ++ drop l.at (named (texts l.symbols) l.labels)
+    ≡ named (texts l.symbols) l.labels

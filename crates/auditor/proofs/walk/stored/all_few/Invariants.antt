@@ -7,7 +7,8 @@ use Rattle.auditor.proofs.walk.stored.all_few.Given as goal
 
 abbrev pub invariant-loop-at : goal.invariant-loop-at
 invariant-loop-at l = record {
-  so_far : each (each (chunk_check l.chunks)) (drop l.at (chunk_lists l.entries)) ≡ each (each (chunk_check l.chunks)) (chunk_lists l.entries);
+  so_far : each (each (chunk_check l.chunks)) (drop l.at (chunk_lists l.entries))
+      ≡ each (each (chunk_check l.chunks)) (chunk_lists l.entries);
   held : AllByRecursion (AllByRecursion (IsHeld l.chunks)) (take l.at (chunk_lists l.entries));
   few_is : l.few ≡ list_all (have_few l.chunks) (take l.at (chunk_lists l.entries));
 }

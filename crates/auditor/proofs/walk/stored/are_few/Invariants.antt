@@ -7,7 +7,8 @@ use Rattle.auditor.proofs.walk.stored.are_few.Given as goal
 
 abbrev pub invariant-loop-chunk : goal.invariant-loop-chunk
 invariant-loop-chunk l = record {
-  so_far : each (chunk_check l.chunks) (drop l.chunk-index l.list) ≡ each (chunk_check l.chunks) l.list;
+  so_far : each (chunk_check l.chunks) (drop l.chunk-index l.list)
+      ≡ each (chunk_check l.chunks) l.list;
   held : AllByRecursion (IsHeld l.chunks) (take l.chunk-index l.list);
   counted : l.count ≡ min (length (samples_in l.chunks (take l.chunk-index l.list))) (2 ^ 64 - 1);
 }

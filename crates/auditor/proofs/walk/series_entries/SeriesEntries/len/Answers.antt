@@ -3,4 +3,8 @@ use Rattle.auditor.proofs.IndexFile.Keeping.{rows_long}
 use Rattle.auditor.proofs.walk.series_entries.SeriesEntries.len.Goals as goal
 
 pub returns : goal.returns
-returns c = omega (arith, c.len.ensures, rows_long c.self.inside.checked c.args.self.now c.self.invariant c.self.view_is)
+returns c = omega (
+  arith,
+  c.len.ensures,
+  rows_long c.self.inside.checked c.args.self.now c.self.invariant c.self.view_is,
+)

@@ -4,4 +4,9 @@ use Rattle.auditor.proofs.IndexFile.Again.{index_again}
 use Rattle.auditor.proofs.walk.series_entries.SeriesEntries.read.Goals as goal
 
 pub returns-clause-only : goal.returns-clause-only
-returns-clause-only c = λ x p. subst (λ f. Gives (λ i. i) c.entries_of.result f) (index_again c.args.file.now x (λ i. omega (arith, c.type_inv.file i)) p) c.entries_of.ensures.exact
+returns-clause-only c =
+    λ x p.
+    subst (λ f. Gives (λ i. i) c.entries_of.result f) (index_again c.args.file.now x (λ i. omega (
+      arith,
+      c.type_inv.file i,
+    )) p) c.entries_of.ensures.exact
