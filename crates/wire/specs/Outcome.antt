@@ -1,6 +1,7 @@
 -- What a call answered, against what reading gives. Readers of other crates say it by these words,
 -- each over an error of its own.
 use Rattle.std.specs.Prelude.{◌≡◌, ◌++◌, ⊤, ℕ, Bool, List, MatchBool, Result, Ok, Err}
+use Rattle.std.specs.List.Sorted.{IsPermutation}
 
 infixl 10 ◌>>=◌
 -- the next check, where none has failed
@@ -26,6 +27,12 @@ Fails is_memory e read = MatchBool (is_memory e) ⊤ (read ≡ Err e)
 abbrev pub Gives : {X Y E : Type 0} → (E → Bool) → (X → Y) → Result X E → Result Y E → Type 0
 Gives is_memory view (Ok x) read = read ≡ Ok (view x)
 Gives is_memory view (Err e) read = Fails is_memory e read
+
+-- what was returned holds all that reading gives, in an order of its own, unless memory ran out
+abbrev pub GivesAll : {A E : Type 0} → (E → Bool) → Result (List A) E → Result (List A) E → Type 0
+GivesAll {A} is_memory (Ok held) read =
+    (all : List A) × (read ≡ Ok all) × IsPermutation all held
+GivesAll is_memory (Err e) read = Fails is_memory e read
 
 -- the bytes began with this text, and those after it are left
 abbrev pub Takes : List ℕ → List ℕ → List ℕ → Type 0
