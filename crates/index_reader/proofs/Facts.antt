@@ -35,7 +35,8 @@ use Rattle.index_reader.specs.AgreementChecks as agreement
 use Rattle.index_reader.specs.Indexes.{references, references_with, text_of, named, series_at, series_of, IsConsistent}
 use Rattle.index_reader.specs.Indexes as indexes
 use Rattle.index_reader.specs.KeptIndex.{IsListing}
-use Rattle.index_reader.proofs.WalkLoops.{bind_ok, guard_ended}
+use Rattle.index_reader.proofs.WalkLoops.{guard_ended}
+use Rattle.wire.proofs.Steps.{bind_ok}
 use Rattle.index_reader.proofs.Walks.{ok_is}
 use Rattle.index_reader.proofs.Whole.{end_inside}
 use Rattle.index_reader.proofs.WordsAt.{length-refs}

@@ -11,11 +11,12 @@ use Rattle.wire.proofs.Fields.{IsBytes-back, number_takes_4, number_again_4, byt
 use Rattle.wire.proofs.Laws.{uvarint_takes, uvarint_again}
 use Rattle.index_reader.specs.declared.error.IndexError.{IndexError}
 use Rattle.index_reader.specs.declared.error.IndexError.TheVariants.{SeriesCrc}
-use Rattle.index_reader.specs.Steps.{or_refused}
+use Rattle.wire.specs.Outcome.{or_refused}
 use Rattle.index_reader.specs.Frames.{checked_at, frame_at}
 use Rattle.index_reader.specs.EntryChecks.{entry_at}
 use Rattle.index_reader.specs.Grammar.{checked, frame, entry}
-use Rattle.index_reader.proofs.WalkLoops.{bind_ok, refused_ok, guard_ended}
+use Rattle.index_reader.proofs.WalkLoops.{guard_ended}
+use Rattle.wire.proofs.Steps.{bind_ok, refused_ok}
 
 -- what a reader took from the front
 pub record Takes (bytes text rest : List ℕ) : Type 0 where

@@ -15,7 +15,7 @@ use Rattle.index_reader.specs.Indexes.{Series, references, references_with, text
 use Rattle.index_reader.specs.KeptIndex.{IsListing}
 use Rattle.index_reader.specs.Spelled.{pairs_of, lists_for, AreSections, IsIndex}
 use Rattle.index_reader.proofs.Gaps.{zeros_of}
-use Rattle.index_reader.proofs.WalkLoops.{bind_ok}
+use Rattle.wire.proofs.Steps.{bind_ok}
 use Rattle.index_reader.proofs.Walks.{ok_is}
 use Rattle.index_reader.proofs.Texts.{each_cons, each_nil}
 use Rattle.index_reader.proofs.Spans.{symbol_found}

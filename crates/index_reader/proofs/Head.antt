@@ -7,7 +7,8 @@ use Rattle.index_reader.specs.declared.layout.TableOfContents.{TableOfContents}
 use Rattle.index_reader.specs.declared.error.IndexError.TheVariants.{ContentsOrder}
 use Rattle.index_reader.specs.Layout.{IsPlaced}
 use Rattle.index_reader.specs.HeadChecks.{in_order, has_magic, contents_of, head_of}
-use Rattle.index_reader.proofs.WalkLoops.{bind_ok, guard_ended}
+use Rattle.index_reader.proofs.WalkLoops.{guard_ended}
+use Rattle.wire.proofs.Steps.{bind_ok}
 
 both : (p q : Bool) → (p && q) ≡ true → (p ≡ true) × (q ≡ true)
 both true q h = (refl, h)

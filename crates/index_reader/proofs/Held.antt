@@ -13,7 +13,7 @@ use Rattle.index_reader.specs.declared.chunk.Chunk.{Chunk}
 use Rattle.index_reader.specs.declared.series.Series.{Series}
 use Rattle.index_reader.specs.declared.bodies.Row.{Row}
 use Rattle.index_reader.specs.declared.checks.Checked.{Checked}
-use Rattle.index_reader.specs.Outcome.{Gives, Fails}
+use Rattle.index_reader.specs.Outcome.{is_memory, Gives, Fails}
 use Rattle.index_reader.specs.Layout.{SeriesEntry, Label, Body}
 use Rattle.index_reader.specs.FlatBodies.{body_in, bodies_in, IsIn}
 use Rattle.index_reader.specs.References.{references_in, IsList}
@@ -25,7 +25,7 @@ use Rattle.index_reader.specs.KeptIndex.{series_in, all_in, indexed_in, of_row, 
 use Rattle.index_reader.specs.Checks.{read_of, indexed, indexed_of, IsRead}
 use Rattle.index_reader.specs.Spelled.{IsIndex}
 use Rattle.index_reader.specs.CheckedFile.{read_seen, IsHeldIn}
-use Rattle.index_reader.proofs.WalkLoops.{fails_on}
+use Rattle.wire.proofs.Steps.{fails_on}
 use Rattle.index_reader.proofs.Walks.{done}
 use Rattle.index_reader.proofs.Eaches.{drop_at_place}
 use Rattle.index_reader.proofs.Placing.{mapped_at}
@@ -216,7 +216,7 @@ all_entry symbols keys series lists l e g z =
 pub err_fails : (file : List ℕ) (e : IndexError) → Fails e (read_of file)
     → Fails e (indexed_of file)
 unfolding indexed_of
-err_fails file e f = fails_on e (read_of file) (λ r. Ok (indexed r)) (indexed_of file) refl f
+err_fails file e f = fails_on is_memory e (read_of file) (λ r. Ok (indexed r)) (indexed_of file) refl f
 
 pub exact_is : (file : List ℕ) (c : Checked) (x : indexes.Indexed) → read_of file ≡ Ok (read_seen c)
     → indexed (read_seen c) ≡ x → indexed_of file ≡ Ok x

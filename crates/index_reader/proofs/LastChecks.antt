@@ -9,7 +9,8 @@ use Rattle.wire.specs.Spelling.{IsBytes}
 use Rattle.labels.specs.Labels.{pair_cmp}
 use Rattle.index_reader.specs.declared.error.IndexError.{IndexError}
 use Rattle.index_reader.specs.declared.error.IndexError.TheVariants.{PostingsDisagree, Limit}
-use Rattle.index_reader.specs.Steps.{◌>>=◌, each}
+use Rattle.index_reader.specs.Steps.{each}
+use Rattle.wire.specs.Outcome.{◌>>=◌}
 use Rattle.index_reader.specs.Layout.{SeriesEntry, Layout, ascending, Label, Body, TableEntry, is_before, rises, postings_end}
 use Rattle.index_reader.specs.Checks.{layout_of, labels_of_each, bodies_of, postings_of, is_small, read_of, indexed_of}
 use Rattle.index_reader.specs.Grammar.{IsLayout}
@@ -22,7 +23,7 @@ use Rattle.index_reader.specs.AgreementChecks as agreement
 use Rattle.index_reader.specs.Indexes.{Series, Indexed, references, references_with, text_of, named, series_of}
 use Rattle.index_reader.specs.Spelled.{pairs_of, lists_for}
 use Rattle.index_reader.specs.Stated.{Stated, stated_in, stated_of, Agrees, AreFew, AreLastChecks}
-use Rattle.index_reader.proofs.WalkLoops.{bind_ok}
+use Rattle.wire.proofs.Steps.{bind_ok}
 use Rattle.index_reader.proofs.Walks.{done, ok_is}
 use Rattle.index_reader.proofs.Whole.{parts_take}
 use Rattle.index_reader.proofs.Sound.{each_length, few_symbols}

@@ -13,7 +13,7 @@ use Rattle.index_reader.specs.AgreementChecks.{list_of_label, Carrier, lists_of_
 use Rattle.index_reader.specs.AgreementChecks as agreement
 use Rattle.index_reader.specs.Indexes.{Series, references, references_with, text_of, named, series_at, series_of}
 use Rattle.index_reader.specs.Checks as checks
-use Rattle.index_reader.proofs.WalkLoops.{bind_ok}
+use Rattle.wire.proofs.Steps.{bind_ok}
 use Rattle.index_reader.proofs.Walks.{ok_is}
 use Rattle.index_reader.specs.Spelled.{AreLabels}
 use Rattle.index_reader.proofs.Draining.{with_same, with_other}

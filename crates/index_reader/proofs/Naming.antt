@@ -7,13 +7,15 @@ use Rattle.wire.specs.Reading.{uvarint_at}
 use Rattle.labels.specs.Names.{is_name}
 use Rattle.labels.specs.LabelSets.{IsLabelSet}
 use Rattle.index_reader.specs.declared.error.IndexError.TheVariants.{Series}
-use Rattle.index_reader.specs.Steps.{or_refused, steps, each}
+use Rattle.index_reader.specs.Steps.{steps, each}
+use Rattle.wire.specs.Outcome.{or_refused}
 use Rattle.index_reader.specs.Layout.{SeriesEntry, ascending, Label, Body}
 use Rattle.index_reader.specs.Spelled.{IsLabel, AreLabels}
 use Rattle.index_reader.specs.BodyChecks.{is_label, label_at, labels_at, chunks_at, body_at}
 use Rattle.index_reader.specs.FlatBodies.{body_of_entry}
 use Rattle.index_reader.specs.Indexes.{text_of, named}
-use Rattle.index_reader.proofs.WalkLoops.{bind_ok, guard_ended}
+use Rattle.index_reader.proofs.WalkLoops.{guard_ended}
+use Rattle.wire.proofs.Steps.{bind_ok}
 use Rattle.index_reader.proofs.Walks.{ok_is}
 use Rattle.index_reader.proofs.Orders.{symbols_less}
 

@@ -20,7 +20,7 @@ use Rattle.index_reader.specs.FlatBodies.{body_in, bodies_in, label_sets_in, All
 use Rattle.index_reader.specs.PostingsChecks.{section_at, references_at, lists_at}
 use Rattle.index_reader.specs.Checks.{labels_of_each}
 use Rattle.index_reader.specs.CheckedFile.{IsSound}
-use Rattle.index_reader.proofs.WalkLoops.{bind_ok}
+use Rattle.wire.proofs.Steps.{bind_ok}
 use Rattle.index_reader.proofs.Walks.{flat_long, ok_is}
 use Rattle.index_reader.proofs.Whole.{omega_length, end_inside}
 use Rattle.index_reader.proofs.Eaches.{drop_at_place}

@@ -4,7 +4,8 @@ use Rattle.std.proofs.lemmas.List.{append-nil}
 use Rattle.index_reader.specs.declared.error.IndexError.{IndexError}
 use Rattle.index_reader.specs.declared.error.IndexError.TheVariants.{Memory}
 use Rattle.index_reader.specs.Outcome.{Fails}
-use Rattle.index_reader.specs.Steps.{◌>>=◌, steps, with_front}
+use Rattle.index_reader.specs.Steps.{steps, with_front}
+use Rattle.wire.specs.Outcome.{◌>>=◌}
 use Rattle.index_reader.specs.declared.chunk.Chunk.{Chunk}
 use Rattle.index_reader.specs.BodyChecks.{behind}
 

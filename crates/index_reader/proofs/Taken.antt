@@ -6,7 +6,8 @@ use Rattle.std.proofs.lemmas.List.{drop_all}
 use Rattle.index_reader.specs.declared.error.IndexError.{IndexError}
 use Rattle.index_reader.specs.declared.error.IndexError.TheVariants.{Memory, PostingsDisagree}
 use Rattle.index_reader.specs.Outcome.{Fails}
-use Rattle.index_reader.specs.Steps.{◌>>=◌, each}
+use Rattle.index_reader.specs.Steps.{each}
+use Rattle.wire.specs.Outcome.{◌>>=◌}
 use Rattle.index_reader.specs.Layout.{Label, TableEntry}
 use Rattle.index_reader.specs.References.{references_in}
 use Rattle.index_reader.specs.CarriedPairs.{Carried, is_first, all_empty, are_used_up}

@@ -17,7 +17,7 @@ use Rattle.index_reader.specs.Lookups.{next, index_of, key_cmp, key_before, plac
 use Rattle.index_reader.specs.AgreementChecks.{or_disagree, list_of_label}
 use Rattle.index_reader.proofs.Orders.{symbols_cmp, number_less, number_greater}
 use Rattle.index_reader.proofs.Searching.{keys_total, strict_from_rises, search_found}
-use Rattle.index_reader.proofs.WalkLoops.{bind_ok}
+use Rattle.wire.proofs.Steps.{bind_ok}
 use Rattle.index_reader.proofs.Walks.{ok_is}
 
 pub got : {X : Type 0} (xs : List X) (i : ℕ) (x d : X) → slice_get xs i ≡ Some x → get_or xs i d ≡ x

@@ -21,7 +21,8 @@ use Rattle.index_reader.specs.EntryChecks.{entries_from}
 use Rattle.index_reader.specs.Checks.{layout_of}
 use Rattle.index_reader.specs.Grammar.{checked, frame, contents_text, IsLayout}
 use Rattle.index_reader.specs.Outcome.{Gives}
-use Rattle.index_reader.proofs.WalkLoops.{bind_ok, guard_ended}
+use Rattle.index_reader.proofs.WalkLoops.{guard_ended}
+use Rattle.wire.proofs.Steps.{bind_ok}
 use Rattle.index_reader.proofs.Head.{head_placed}
 use Rattle.index_reader.proofs.Fields.{eqb_same, frame_takes, frame_again}
 use Rattle.index_reader.proofs.Walks.{done, ok_is, table_takes, table_again, walk_takes, walk_again}

@@ -7,7 +7,8 @@ use Rattle.index_reader.specs.CarriedPairs.{Carried, are_used_up}
 use Rattle.index_reader.specs.Layout.{rises, SeriesEntry, TableEntry, Label}
 use Rattle.index_reader.specs.Lookups.{key_before, symbol_of, place_of}
 use Rattle.index_reader.specs.References.{references_in}
-use Rattle.index_reader.specs.Steps.{◌>>=◌, each}
+use Rattle.index_reader.specs.Steps.{each}
+use Rattle.wire.specs.Outcome.{◌>>=◌}
 
 -- what was found, or the refusal of postings that are not those of the series
 abbrev pub or_disagree : {A : Type 0} → Option A → Result A IndexError

@@ -7,7 +7,8 @@ use Rattle.index_reader.specs.declared.error.IndexError.{IndexError}
 use Rattle.index_reader.specs.declared.error.IndexError.TheVariants.{Series}
 use Rattle.index_reader.specs.ChunkChecks.{first_at, later_at}
 use Rattle.index_reader.specs.Layout.{Label, Body}
-use Rattle.index_reader.specs.Steps.{◌>>=◌, or_refused, steps}
+use Rattle.index_reader.specs.Steps.{steps}
+use Rattle.wire.specs.Outcome.{◌>>=◌, or_refused}
 
 -- a name from this symbol on, and a value that is not empty
 unfoldable pub is_label : List (List ℕ) → ℕ → ℕ → ℕ → Bool

@@ -16,7 +16,8 @@ use Rattle.index_reader.specs.KeptIndex.{AreInTable, IsListing}
 use Rattle.index_reader.specs.Layout.{rises, postings_end, series_end, rounded, Layout, TableEntry, Label, Body}
 use Rattle.index_reader.specs.PostingsChecks.{lists_at}
 use Rattle.index_reader.specs.References.{references_in, IsList}
-use Rattle.index_reader.specs.Steps.{◌>>=◌, each}
+use Rattle.index_reader.specs.Steps.{each}
+use Rattle.wire.specs.Outcome.{◌>>=◌}
 use Rattle.index_reader.specs.SymbolChecks.{symbols_of}
 use Rattle.index_reader.specs.TableChecks.{table_at, table_content_at}
 

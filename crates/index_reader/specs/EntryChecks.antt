@@ -6,7 +6,7 @@ use Rattle.index_reader.specs.declared.error.IndexError.{IndexError}
 use Rattle.index_reader.specs.declared.error.IndexError.TheVariants.{SeriesCrc}
 use Rattle.index_reader.specs.Frames.{checked_at}
 use Rattle.index_reader.specs.Layout.{SeriesEntry, rounded}
-use Rattle.index_reader.specs.Steps.{◌>>=◌, or_refused}
+use Rattle.wire.specs.Outcome.{◌>>=◌, or_refused}
 
 -- a series entry: its body, and what stands behind it
 unfoldable pub entry_at : List ℕ → Result (List ℕ × List ℕ) IndexError

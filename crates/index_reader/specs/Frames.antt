@@ -3,7 +3,7 @@ use Rattle.std.specs.Prelude.{ℕ, List, Result, Ok, Err, ◌==◌, if◌then◌
 use Rattle.wire.specs.Checksum.{crc32c}
 use Rattle.wire.specs.Reading.{number_at, bytes_at}
 use Rattle.index_reader.specs.declared.error.IndexError.{IndexError}
-use Rattle.index_reader.specs.Steps.{◌>>=◌, or_refused}
+use Rattle.wire.specs.Outcome.{◌>>=◌, or_refused}
 
 -- content of this length and its checksum, and what stands behind them
 abbrev pub checked_at : IndexError → ℕ × List ℕ → Result (List ℕ × List ℕ) IndexError

@@ -5,7 +5,7 @@ use Rattle.wire.specs.Checksum.{crc32c}
 use Rattle.index_reader.specs.declared.error.IndexError.{IndexError}
 use Rattle.index_reader.specs.declared.error.IndexError.TheVariants.{Limit, TooShort, Magic, Version, ContentsCrc, ContentsOrder}
 use Rattle.index_reader.specs.declared.layout.TableOfContents.{TableOfContents}
-use Rattle.index_reader.specs.Steps.{◌>>=◌}
+use Rattle.wire.specs.Outcome.{◌>>=◌}
 
 -- the six offsets
 abbrev pub contents_at : List ℕ → TableOfContents

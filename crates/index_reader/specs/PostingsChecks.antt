@@ -6,7 +6,8 @@ use Rattle.index_reader.specs.declared.error.IndexError.TheVariants.{PostingsCrc
 use Rattle.index_reader.specs.Frames.{frame_at}
 use Rattle.index_reader.specs.Layout.{rises, TableEntry}
 use Rattle.index_reader.specs.References.{references_in}
-use Rattle.index_reader.specs.Steps.{◌>>=◌, each, or_refused}
+use Rattle.index_reader.specs.Steps.{each}
+use Rattle.wire.specs.Outcome.{◌>>=◌, or_refused}
 
 -- the content of the section of an entry, below this place
 unfoldable pub section_at : List ℕ → ℕ → TableEntry → Result (List ℕ) IndexError

@@ -7,7 +7,7 @@ use Rattle.index_reader.specs.CarriedPairs.{is_first, all_empty}
 use Rattle.index_reader.specs.Layout.{TableEntry, Label}
 use Rattle.index_reader.specs.Lookups.{place_of}
 use Rattle.index_reader.specs.References.{references_in}
-use Rattle.index_reader.specs.Steps.{◌>>=◌}
+use Rattle.wire.specs.Outcome.{◌>>=◌}
 
 -- the state after one step for each of a list, or the first refusal
 unfoldable pub in_turn : {S A : Type 0}

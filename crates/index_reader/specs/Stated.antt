@@ -4,7 +4,7 @@ use Rattle.std.specs.Prelude.{◌≡◌, ℕ, ◌≤◌, List, [], ◌∷◌, le
 use Rattle.std.specs.List.{AllByRecursion, Contains}
 use Rattle.index_reader.specs.declared.error.IndexError.{IndexError}
 use Rattle.index_reader.specs.declared.error.IndexError.TheVariants.{PostingsDisagree, Limit}
-use Rattle.index_reader.specs.Steps.{◌>>=◌}
+use Rattle.wire.specs.Outcome.{◌>>=◌}
 use Rattle.index_reader.specs.Layout.{Layout, Body, TableEntry}
 use Rattle.index_reader.specs.Checks.{layout_of, bodies_of, postings_of}
 use Rattle.index_reader.specs.References.{references_in}

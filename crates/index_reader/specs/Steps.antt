@@ -1,19 +1,7 @@
 -- How checks follow one another: each comes where none before it has failed.
 use Rattle.std.specs.Prelude.{ℕ, List, [], ◌∷◌, ◌++◌, Result, Ok, Err, zero, suc}
-use Rattle.wire.specs.declared.error.WireError.{WireError}
+use Rattle.wire.specs.Outcome.{◌>>=◌}
 use Rattle.index_reader.specs.declared.error.IndexError.{IndexError}
-
-infixl 10 ◌>>=◌
--- the next check, where none has failed
-abbrev pub ◌>>=◌ : {A B : Type 0}
-    → Result A IndexError → (A → Result B IndexError) → Result B IndexError
-(Ok x) >>= f = f x
-(Err e) >>= f = Err e
-
--- a field, whose refusal is that of the check which reads it
-abbrev pub or_refused : {A : Type 0} → IndexError → Result A WireError → Result A IndexError
-or_refused e (Ok x) = Ok x
-or_refused e (Err f) = Err e
 
 -- this many steps from a state: what each gave, and the state after them
 unfoldable pub steps : {S X : Type 0}

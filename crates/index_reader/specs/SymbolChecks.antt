@@ -5,7 +5,7 @@ use Rattle.wire.specs.Reading.{number_at, bytes_at, uvarint_at}
 use Rattle.index_reader.specs.declared.error.IndexError.{IndexError}
 use Rattle.index_reader.specs.declared.error.IndexError.TheVariants.{Symbols}
 use Rattle.index_reader.specs.Layout.{ascending}
-use Rattle.index_reader.specs.Steps.{◌>>=◌, or_refused}
+use Rattle.wire.specs.Outcome.{◌>>=◌, or_refused}
 
 -- a text with its length before it
 unfoldable pub symbol_at : List ℕ → Result (List ℕ × List ℕ) IndexError

@@ -7,7 +7,8 @@ use Rattle.index_reader.specs.declared.error.IndexError.TheVariants.{Offsets}
 use Rattle.index_reader.specs.declared.layout.TableOfContents.{TableOfContents}
 use Rattle.index_reader.specs.Frames.{frame_at}
 use Rattle.index_reader.specs.Layout.{rises, TableEntry, is_before, is_within}
-use Rattle.index_reader.specs.Steps.{◌>>=◌, or_refused, steps}
+use Rattle.index_reader.specs.Steps.{steps}
+use Rattle.wire.specs.Outcome.{◌>>=◌, or_refused}
 
 -- a text with its length before it
 abbrev pub text_at : List ℕ → Result (List ℕ × List ℕ) IndexError
