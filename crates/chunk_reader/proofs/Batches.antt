@@ -21,7 +21,7 @@ use Rattle.chunk_reader.specs.Reading.{samples_from, samples_in, rises, batch_in
 use Rattle.chunk_reader.proofs.Places.{length-samples_in}
 use Rattle.chunk_reader.proofs.Rising.{and_true, rises-is_sorted, rises-times, rises_from_times}
 use Rattle.chunk_reader.proofs.SampleTexts.{Fit, samples_take, samples_fit, samples_again, length-texts, big_bytes_2}
-use Rattle.chunk_reader.proofs.Steps.{kept, passed, value, same_value}
+use Rattle.wire.proofs.Steps.{not_failed, passed, value, same_value}
 
 values_of : (samples : List (ℤ × ℤ)) → AllByRecursion Fit samples
     → AllByRecursion (λ (s : ℤ × ℤ). FitsSigned w64 s.1) samples
@@ -92,7 +92,7 @@ pub batch_takes : (body : List ℕ) (samples : List (ℤ × ℤ)) → IsBytes bo
 unfolding batch_in
 batch_takes body samples fits h =
     let n = big_number 2 body in
-    let a = kept (ltb (length body) 2) Shape _ samples h in
+    let a = not_failed (ltb (length body) 2) Shape _ samples h in
     let b =
     passed ((ltb 0 n && eqb (length body) (2 + 16 * n))
     && rises (MIN_TIME -ℤ pos 1) (samples_in (drop 2 body))) Shape _ samples a.1 in

@@ -3,6 +3,5 @@ pub mod Places
 pub mod Rising
 pub mod SampleTexts
 pub mod Spans
-pub mod Steps
 pub mod Stored
 pub mod Whole

@@ -18,19 +18,19 @@ use Rattle.wire.proofs.Laws.{uvarint_takes, uvarint_again, uvarint_long}
 use Rattle.chunk_reader.specs.declared.error.ChunkError.{ChunkError}
 use Rattle.chunk_reader.specs.declared.error.ChunkError.TheVariants.{Magic, Version, Reference, Crc, XorEncoding, OtherEncoding, Shape, TimesDisagree}
 use Rattle.chunk_reader.specs.Grammar.{checked, chunk_text, body_text, sample_text, signed_text, plain, segment_of, time_at, IsChunk, IsSegment}
-use Rattle.chunk_reader.specs.Outcome.{Answers}
-use Rattle.chunk_reader.specs.Reading.{or_refused, opened, content_at, decoded, batch_in, is_outside, spans, samples_of}
+use Rattle.wire.specs.Outcome.{Answers, or_refused}
+use Rattle.chunk_reader.specs.Reading.{opened, content_at, decoded, batch_in, is_outside, spans, samples_of}
 use Rattle.chunk_reader.proofs.Batches.{IsBody, batch_takes, batch_again, length-body_text, eqb_same}
 use Rattle.chunk_reader.proofs.Rising.{and_true}
 use Rattle.chunk_reader.proofs.Spans.{int_eq-true, int_eq_same}
-use Rattle.chunk_reader.proofs.Steps.{bind_ok, refused_ok, kept, passed, same_value, rest_fits}
+use Rattle.wire.proofs.Steps.{bind_ok, refused_ok, not_failed, passed, same_value, rest_fits}
 
 -- the head of the file
 
 pub segment_takes : (file x : List ℕ) → IsBytes file → opened file ≡ Ok x → IsSegment file
 unfolding opened
 segment_takes file x fits h =
-    let a = kept (ltb 0x4000_0000 (length file)) Shape _ x h in
+    let a = not_failed (ltb 0x4000_0000 (length file)) Shape _ x h in
     let m = bind_ok (or_refused Magic (number_at 4 file)) _ x a.1 in
     let mt = passed (eqb m.0.0 0x85BD_40DD) Magic _ x m.2 in
     let v = bind_ok (or_refused Version (number_at 4 m.0.1)) _ x mt.1 in
@@ -140,7 +140,7 @@ pub decoded_takes : (encoding : ℕ) (body : List ℕ) (samples : List (ℤ × �
     → decoded encoding body ≡ Ok samples → (encoding ≡ plain) × IsBody body samples
 unfolding decoded
 decoded_takes encoding body samples fits h =
-    let a = kept (eqb encoding 1) XorEncoding _ samples h in
+    let a = not_failed (eqb encoding 1) XorEncoding _ samples h in
     let b = passed (eqb encoding plain) OtherEncoding _ samples a.1 in
     (eqb-true _ _ b.0, batch_takes body samples fits b.1)
 
@@ -164,7 +164,7 @@ pub chunk_takes : (file : List ℕ) (reference : ℕ) (mint maxt : ℤ) (samples
     → IsChunk file reference mint maxt samples
 unfolding samples_of
 chunk_takes file reference mint maxt samples fits h =
-    let a = kept (is_outside file reference) Reference _ samples h in
+    let a = not_failed (is_outside file reference) Reference _ samples h in
     let inside =
     neither (not (segment_of reference == 0) || ltb reference 8)
     (nat_le (length file) reference) a.0 in

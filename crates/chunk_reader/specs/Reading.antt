@@ -4,23 +4,12 @@ use Rattle.std.specs.Ordering.{int_eq}
 use Rattle.std.specs.Int.{w64, cast_signed}
 use Rattle.byteorder.specs.Endian.{big_number}
 use Rattle.labels.specs.declared.sample.TheConstants.{MIN_TIME, MAX_TIME}
-use Rattle.wire.specs.declared.error.WireError.{WireError}
 use Rattle.wire.specs.Reading.{number_at, bytes_at, uvarint_at}
 use Rattle.wire.specs.Checksum.{crc32c}
+use Rattle.wire.specs.Outcome.{◌>>=◌, or_refused}
 use Rattle.chunk_reader.specs.declared.error.ChunkError.{ChunkError}
 use Rattle.chunk_reader.specs.declared.error.ChunkError.TheVariants.{Magic, Version, Reference, Crc, XorEncoding, OtherEncoding, Shape, TimesDisagree}
 use Rattle.chunk_reader.specs.Grammar.{plain, segment_of, time_at}
-
-infixl 10 ◌>>=◌
-abbrev pub ◌>>=◌ : {A B : Type 0} → Result A ChunkError → (A → Result B ChunkError)
-    → Result B ChunkError
-(Ok x) >>= f = f x
-(Err e) >>= f = Err e
-
--- a field, whose refusal is that of the check which reads it
-abbrev pub or_refused : {A : Type 0} → ChunkError → Result A WireError → Result A ChunkError
-or_refused e (Ok x) = Ok x
-or_refused e (Err f) = Err e
 
 -- a file that begins as it must
 unfoldable pub opened : List ℕ → Result (List ℕ) ChunkError

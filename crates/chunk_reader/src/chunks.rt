@@ -3,7 +3,8 @@
 ghost use Rattle.std.specs.Prelude.{◌≡◌, ◌<◌, ◌≤◌, ℤ, List, length, IfOk, IsOk, OnOk, Ok};
 ghost use Rattle.std.specs.List.{flat_map};
 ghost use Rattle.chunk_reader.specs.Grammar.{IsChunk, IsSegment, sample_text};
-ghost use Rattle.chunk_reader.specs.Outcome.{Answers, Gives};
+ghost use Rattle.chunk_reader.specs.Outcome.{Gives};
+ghost use Rattle.wire.specs.Outcome.{Answers};
 ghost use Rattle.chunk_reader.specs.Reading.{batch_in, content_at, decoded, is_outside, opened, samples_of, spans};
 
 use crate::error::ChunkError;
