@@ -1,6 +1,5 @@
 -- What a call answered, against what reading gives.
-use Rattle.std.specs.Prelude.{◌≡◌, Bool, true, false, List, Result, Ok, Err}
-use Rattle.std.specs.List.Sorted.{IsPermutation}
+use Rattle.std.specs.Prelude.{Bool, true, false, List, Result}
 use Rattle.wire.specs.Outcome as outcome
 use Rattle.tombstones.specs.declared.deletion.Deletion.{Deletion}
 use Rattle.tombstones.specs.declared.error.TombstoneError.{TombstoneError}
@@ -23,6 +22,4 @@ Gives view result read = outcome.Gives is_memory view result read
 -- what was returned holds the deletions that reading gives, in an order of its own
 abbrev pub GivesAll : Result (List Deletion) TombstoneError → Result (List Deletion) TombstoneError
     → Type 0
-GivesAll (Ok held) read =
-    (deletions : List Deletion) × (read ≡ Ok deletions) × IsPermutation deletions held
-GivesAll (Err e) read = Fails e read
+GivesAll result read = outcome.GivesAll is_memory result read
