@@ -11,8 +11,9 @@ use Rattle.index_reader.specs.Indexes.{Series, Indexed, references, chunk_lists}
 use Rattle.index_reader.specs.Spelled.{IsIndex}
 use Rattle.chunk_reader.specs.Grammar.{IsSegment}
 use Rattle.chunk_reader.specs.declared.error.ChunkError.TheVariants.{Magic, Version, Shape}
-use Rattle.chunk_reader.specs.Reading.{or_refused, opened}
-use Rattle.chunk_reader.proofs.Steps.{bind_ok, kept, passed, same_value}
+use Rattle.chunk_reader.specs.Reading.{opened}
+use Rattle.wire.specs.Outcome.{or_refused}
+use Rattle.wire.proofs.Steps.{bind_ok, not_failed, passed, same_value}
 use Rattle.tombstones.specs.declared.deletion.Deletion.{Deletion}
 use Rattle.tombstones.specs.Grammar.{IsTombstones}
 use Rattle.tombstones.specs.Reading.{deletions_of}
@@ -26,7 +27,7 @@ use Rattle.block.specs.Grammar.{AreSpelled, AreRows, IsBlock}
 use Rattle.block.proofs.Checks.{all_pass, weaken, known_in}
 use Rattle.block.proofs.AnyOrder.{part_any_order}
 use Rattle.block.proofs.Refusals.{all_lists, facts_of_lists}
-use Rattle.block.proofs.Stages.{stage_ok, test_ok, tombstones_ok}
+use Rattle.block.proofs.Stages.{test_ok, tombstones_ok}
 
 -- chunks
 
@@ -60,7 +61,7 @@ pub deleted_known : (tombstones : List ℕ) (ss : List Series) (deletions : List
     → AreKnown tombstones ss deletions
 unfolding deleted_of
 deleted_known tombstones ss deletions fits h =
-    let a = stage_ok (or_tombstones (deletions_of tombstones)) _ deletions h in
+    let a = bind_ok (or_tombstones (deletions_of tombstones)) _ deletions h in
     let b = test_ok (list_all (is_known ss) a.0) UnknownSeries a.0 deletions a.2 in
     subst (AreKnown tombstones ss) b.1 (record {
       deleted =
@@ -105,7 +106,7 @@ are_rows range file deletions (s ∷ ss) held few inside = (
 opened_same : (file x : List ℕ) → opened file ≡ Ok x → x ≡ file
 unfolding opened
 opened_same file x h =
-    let a = kept (ltb 0x4000_0000 (length file)) Shape _ x h in
+    let a = not_failed (ltb 0x4000_0000 (length file)) Shape _ x h in
     let m = bind_ok (or_refused Magic (number_at 4 file)) _ x a.1 in
     let mt = passed (eqb m.0.0 0x85BD_40DD) Magic _ x m.2 in
     let v = bind_ok (or_refused Version (number_at 4 m.0.1)) _ x mt.1 in

@@ -25,7 +25,8 @@ use Rattle.block.specs.declared.error.BlockError.TheVariants.{Memory, Index, Unk
 use Rattle.block.specs.Outcome.{Fails, of_index, of_chunk, of_tombstone}
 use Rattle.block.specs.Blocks.{Shown, shown_of}
 use Rattle.block.specs.Sound.{lies_in}
-use Rattle.block.specs.Opening.{◌>>=◌, or_index, or_chunks, or_tombstones, each, chunk_check, series_check, have_few, is_few, is_known, is_inside, stored_of, deleted_of, block_of}
+use Rattle.block.specs.Opening.{or_index, or_chunks, or_tombstones, each, chunk_check, series_check, have_few, is_few, is_known, is_inside, stored_of, deleted_of, block_of}
+use Rattle.wire.specs.Outcome.{◌>>=◌}
 
 -- a refusal ends what follows it
 
@@ -62,7 +63,7 @@ pub each_lists : (check : List Chunk → Result (Unit {0}) ChunkError) (ss : Lis
 unfolding each
 each_lists check [] = refl
 each_lists check (s ∷ ss) =
-    ap (λ r. chunk_reading.◌>>=◌ (check s.chunks) (λ _. r)) (each_lists check ss)
+    ap (λ r. check s.chunks >>= λ _. r) (each_lists check ss)
 
 pub all_lists : (test : List Chunk → Bool) (ss : List Series)
     → list_all (λ (s : Series). test s.chunks) ss ≡ list_all test (chunk_lists ss)

@@ -7,7 +7,7 @@ use Rattle.std.proofs.lemmas.List.{length-map, length-take-le, length-drop, drop
 use Rattle.std.proofs.lemmas.Option.{slice_get_read, get_or_from_slice_get}
 use Rattle.index_reader.specs.declared.chunk.Chunk.{Chunk}
 use Rattle.index_reader.specs.Indexes.{Series, chunk_lists}
-use Rattle.chunk_reader.specs.Reading as chunks
+use Rattle.wire.specs.Outcome.{◌>>=◌}
 use Rattle.chunk_reader.specs.declared.error.ChunkError.{ChunkError}
 use Rattle.block.specs.Opening.{each, chunk_check, have_few}
 use Rattle.block.specs.Shared.{IsLookedAt, lists_between}
@@ -48,14 +48,14 @@ between_all series =
     take_all (length series) (chunk_lists series)
     (omega (arith, length-map series (λ (s : Series). s.chunks)))
 
-then_next : (r rest all whole : Result (Unit {0}) ChunkError) → chunks.◌>>=◌ r (λ _. rest) ≡ Ok tt
-    → (rest ≡ Ok tt → all ≡ whole) → chunks.◌>>=◌ r (λ _. all) ≡ whole
+then_next : (r rest all whole : Result (Unit {0}) ChunkError) → (r >>= λ _. rest) ≡ Ok tt
+    → (rest ≡ Ok tt → all ≡ whole) → (r >>= λ _. all) ≡ whole
 then_next (Ok x) rest all whole p h = h p
 then_next (Err x) rest all whole p h = absurd cc
 
 then_fails : (r rest all : Result (Unit {0}) ChunkError) (e : ChunkError)
-    → chunks.◌>>=◌ r (λ _. rest) ≡ Err e → (rest ≡ Err e → all ≡ Err e)
-    → chunks.◌>>=◌ r (λ _. all) ≡ Err e
+    → (r >>= λ _. rest) ≡ Err e → (rest ≡ Err e → all ≡ Err e)
+    → (r >>= λ _. all) ≡ Err e
 then_fails (Ok x) rest all e p h = h p
 then_fails (Err x) rest all e p h = p
 

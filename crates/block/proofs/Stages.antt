@@ -2,13 +2,7 @@
 use Rattle.std.proofs.Common.{◌≡◌, Bool, true, false, cond, Result, Ok, Err, refl}
 use Rattle.tombstones.specs.declared.error.TombstoneError.{TombstoneError}
 use Rattle.block.specs.declared.error.BlockError.{BlockError}
-use Rattle.block.specs.Opening.{◌>>=◌, or_tombstones}
-
--- the value of a stage that did not fail
-pub stage_ok : {A B : Type 0} (r : Result A BlockError) (f : A → Result B BlockError) (y : B)
-    → (r >>= f) ≡ Ok y → (x : A) × (r ≡ Ok x) × (f x ≡ Ok y)
-stage_ok (Ok x) f y e = (x, refl, e)
-stage_ok (Err d) f y e = absurd cc
+use Rattle.block.specs.Opening.{or_tombstones}
 
 -- a test that had to hold
 pub test_ok : {A : Type 0} (b : Bool) (d : BlockError) (x y : A) → cond b (Ok x) (Err d) ≡ Ok y

@@ -1,6 +1,7 @@
 -- All checks of a block, in their order.
 use Rattle.std.specs.Prelude.{ℕ, ℤ, Bool, List, [], ◌∷◌, length, Result, Ok, Err, nat_le, ◌==◌, if◌then◌else◌}
 use Rattle.std.specs.List.{list_all, list_any}
+use Rattle.wire.specs.Outcome.{◌>>=◌}
 use Rattle.index_reader.specs.declared.error.IndexError.{IndexError}
 use Rattle.index_reader.specs.declared.error.IndexError.TheVariants.{Limit}
 use Rattle.index_reader.specs.declared.chunk.Chunk.{Chunk}
@@ -8,7 +9,6 @@ use Rattle.index_reader.specs.Indexes.{Series}
 use Rattle.index_reader.specs.Checks.{indexed_of}
 use Rattle.chunk_reader.specs.declared.error.ChunkError.{ChunkError}
 use Rattle.chunk_reader.specs.Reading.{opened}
-use Rattle.chunk_reader.specs.Reading as chunks
 use Rattle.tombstones.specs.declared.deletion.Deletion.{Deletion}
 use Rattle.tombstones.specs.declared.error.TombstoneError.{TombstoneError}
 use Rattle.tombstones.specs.Reading.{deletions_of}
@@ -18,12 +18,6 @@ use Rattle.block.specs.Blocks.{Shown, shown_of}
 use Rattle.block.specs.Outcome.{of_index, of_chunk, of_tombstone}
 use Rattle.block.specs.Samples.{chunk_read, samples_in}
 use Rattle.block.specs.Sound.{lies_in}
-
-infixl 10 ◌>>=◌
-abbrev pub ◌>>=◌ : {A B : Type 0} → Result A BlockError → (A → Result B BlockError)
-    → Result B BlockError
-(Ok x) >>= f = f x
-(Err e) >>= f = Err e
 
 -- what was read of the index, or its refusal
 abbrev pub or_index : {A : Type 0} → Result A IndexError → Result A BlockError
@@ -44,11 +38,11 @@ or_tombstones (Err e) = Err (of_tombstone e)
 unfoldable pub each : {A : Type 0} → (A → Result (Unit {0}) ChunkError) → List A
     → Result (Unit {0}) ChunkError
 each check [] = Ok tt
-each check (a ∷ as') = chunks.◌>>=◌ (check a) (λ _. each check as')
+each check (a ∷ as') = check a >>= λ _. each check as'
 
 -- a chunk that can be read
 abbrev pub chunk_check : List ℕ → Chunk → Result (Unit {0}) ChunkError
-chunk_check file c = chunks.◌>>=◌ (chunk_read file c) (λ _. Ok tt)
+chunk_check file c = chunk_read file c >>= λ _. Ok tt
 
 -- all chunks of a series
 abbrev pub series_check : List ℕ → Series → Result (Unit {0}) ChunkError

@@ -1,6 +1,6 @@
 -- What a call answered, against what reading gives.
-use Rattle.std.specs.Prelude.{◌≡◌, List, Result, Ok, Err}
-use Rattle.std.specs.List.Sorted.{IsPermutation}
+use Rattle.std.specs.Prelude.{Bool, true, false, List, Result}
+use Rattle.wire.specs.Outcome as outcome
 use Rattle.index_reader.specs.declared.error.IndexError.{IndexError}
 use Rattle.index_reader.specs.declared.error.IndexError.TheVariants as index
 use Rattle.chunk_reader.specs.declared.error.ChunkError.{ChunkError}
@@ -11,21 +11,22 @@ use Rattle.tombstones.specs.declared.deletion.Deletion.{Deletion}
 use Rattle.block.specs.declared.error.BlockError.{BlockError}
 use Rattle.block.specs.declared.error.BlockError.TheVariants.{Memory, Index, Chunks, Tombstones}
 
+-- whether an error says nothing of the files
+abbrev pub is_memory : BlockError → Bool
+is_memory Memory = true
+is_memory e = false
+
 -- the refusal is that of reading; a want of memory says nothing of it
 abbrev pub Fails : {Y : Type 0} → BlockError → Result Y BlockError → Type 0
-Fails Memory read = Unit {0}
-Fails e read = read ≡ Err e
+Fails e read = outcome.Fails is_memory e read
 
 -- what a function returned, seen by view, is what reading gives, unless memory ran out
 abbrev pub Gives : {X Y : Type 0} → (X → Y) → Result X BlockError → Result Y BlockError → Type 0
-Gives view (Ok x) read = read ≡ Ok (view x)
-Gives view (Err e) read = Fails e read
+Gives view result read = outcome.Gives is_memory view result read
 
 -- what was returned holds the deletions that reading gives, in an order of its own
 abbrev pub GivesAll : Result (List Deletion) BlockError → Result (List Deletion) BlockError → Type 0
-GivesAll (Ok held) read =
-    (deletions : List Deletion) × (read ≡ Ok deletions) × IsPermutation deletions held
-GivesAll (Err e) read = Fails e read
+GivesAll result read = outcome.GivesAll is_memory result read
 
 -- the refusal of an index, as that of its block
 abbrev pub of_index : IndexError → BlockError

@@ -4,7 +4,7 @@ use Rattle.std.specs.List.{AllByRecursion, list_all}
 use Rattle.index_reader.specs.declared.chunk.Chunk.{Chunk}
 use Rattle.index_reader.specs.Indexes.{Series, chunk_lists}
 use Rattle.chunk_reader.specs.declared.error.ChunkError.{ChunkError}
-use Rattle.chunk_reader.specs.Outcome.{Answers}
+use Rattle.wire.specs.Outcome.{Answers}
 use Rattle.block.specs.Opening.{each, chunk_check, have_few}
 use Rattle.block.specs.Sound.{IsHeld}
 

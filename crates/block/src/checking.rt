@@ -4,7 +4,7 @@ ghost use Rattle.std.specs.Prelude.{◌≡◌, ◌+◌, ◌<◌, ◌≤◌, ◌^
 ghost use Rattle.std.specs.List.{AllByRecursion};
 ghost use Rattle.std.specs.Thread.{IsSync};
 ghost use Rattle.index_reader.specs.Indexes.{chunk_lists};
-ghost use Rattle.chunk_reader.specs.Outcome.{Answers};
+ghost use Rattle.wire.specs.Outcome.{Answers};
 ghost use Rattle.block.specs.Opening.{each, chunk_check, have_few};
 ghost use Rattle.block.specs.Shared.{IsLookedAt, lists_between};
 ghost use Rattle.block.specs.Sound.{IsHeld, IsCounted};
