@@ -8,3 +8,4 @@ pub mod Turns
 pub mod Farthest
 pub mod Agreement
 pub mod Choices
+pub mod Covering

@@ -1,3 +1,4 @@
 pub mod Certificates
 pub mod Asking
 pub mod Walking
+pub mod Covers

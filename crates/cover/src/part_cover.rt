@@ -3,8 +3,9 @@
 ghost use Rattle.std.specs.Prelude.{◌≡◌, ℕ, ◌+◌, ◌-◌, ◌^◌, min, ◌*◌, ◌<◌, ◌≤◌, List, [], ◌∷◌, length, map, slice_index_or, IfOk};
 ghost use Rattle.matchers.specs.Satisfies.{satisfies};
 ghost use Rattle.labels.specs.Parts.{references_where};
-ghost use Rattle.cover.specs.Certificates.{IsValidCertificate, IsLeftmost, IsLeast, AreSeparators, begins_of, matches_of};
-ghost use Rattle.cover.specs.Asking.{asked, matching_references};
+ghost use Rattle.cover.specs.Certificates.{IsValidCertificate, IsLeftmost, begins_of};
+ghost use Rattle.cover.specs.Asking.{asked};
+ghost use Rattle.cover.specs.Covers.{IsCoverOf};
 
 use crate::certificate::Interval;
 use crate::walk::walk;
@@ -86,25 +87,34 @@ pub struct Moves {
     pub of_live: u64,
 }
 
+/// The leftmost certificate, and the moves that its lists made.
+fn leftmost_with_moves<S: Source>(
+    alloc: Global,
+    source: &S,
+    query: &Query,
+) -> Result<(Vec<Interval>, Moves), AllocError>
+    ensures leftmost { IfOk result (λ c.
+        IsLeftmost (asked (S.part source.now) query.now) c.0.items) }
+    ensures of_lists { IfOk result (λ c.
+        c.1.of_lists ≤ (length query.now.matchers + 1) * length c.0.items) }
+    ensures of_live { IfOk result (λ c. c.1.of_live ≤ length c.0.items) }
+{
+    let mut all = Counted::new(source.all());
+    let mut lists = chosen_lists(alloc, source, query.matchers())?;
+    let mut live = Counted::new(source.live(alloc, query.from(), query.to())?);
+    let certificate = walk(alloc, &mut all, lists.as_mut_slice(), &mut live)?;
+    let of_lists = sum_moves(all.moves(), lists.as_slice());
+    let of_live = live.moves();
+    Ok((certificate, Moves { of_lists, of_live }))
+}
+
 /// As [`cover`], with the moves of its lists apart.
 pub fn cover_with_moves<S: Source>(
     alloc: Global,
     source: &S,
     query: &Query,
 ) -> Result<(PartCover, Moves), AllocError>
-    ensures leftmost { IfOk result (λ c.
-        IsLeftmost (asked (S.part source.now) query.now) c.0.certificate.items) }
-    ensures valid { IfOk result (λ c.
-        IsValidCertificate (asked (S.part source.now) query.now) c.0.certificate.items) }
-    ensures least { IfOk result (λ c.
-        IsLeast (asked (S.part source.now) query.now) c.0.certificate.items) }
-    ensures matches { IfOk result (λ c.
-        matches_of c.0.certificate.items ≡ matching_references (S.part source.now) query.now) }
-    ensures begins { IfOk result (λ c. c.0.separators.items ≡ begins_of c.0.certificate.items) }
-    ensures as_many { IfOk result (λ c.
-        length c.0.separators.items ≡ length c.0.certificate.items) }
-    ensures separated { IfOk result (λ c.
-        AreSeparators (asked (S.part source.now) query.now) c.0.separators.items) }
+    ensures cover { IfOk result (λ c. IsCoverOf (S.part source.now) query.now c.0) }
     ensures sum { IfOk result (λ c. c.0.moves ≡ min (c.1.of_lists + c.1.of_live) (2 ^ 64 - 1)) }
     ensures of_lists { IfOk result (λ c.
         (other : List Interval) → IsValidCertificate (asked (S.part source.now) query.now) other
@@ -112,45 +122,21 @@ pub fn cover_with_moves<S: Source>(
     ensures of_live { IfOk result (λ c.
         (other : List Interval) → IsValidCertificate (asked (S.part source.now) query.now) other
         → c.1.of_live ≤ length other) }
-    ensures moves { IfOk result (λ c.
-        (other : List Interval) → IsValidCertificate (asked (S.part source.now) query.now) other
-        → c.0.moves ≤ (length query.now.matchers + 2) * length other) }
 {
-    let mut all = Counted::new(source.all());
-    let mut lists = chosen_lists(alloc, source, query.matchers())?;
-    let mut live = Counted::new(source.live(alloc, query.from(), query.to())?);
-    let certificate = walk(alloc, &mut all, lists.as_mut_slice(), &mut live)?;
+    let (certificate, moves) = leftmost_with_moves(alloc, source, query)?;
     let separators = first_references(alloc, certificate.as_slice())?;
-    let of_lists = sum_moves(all.moves(), lists.as_slice());
-    let of_live = live.moves();
-    Ok((
-        PartCover {
-            certificate,
-            separators,
-            moves: of_lists.saturating_add(of_live),
-        },
-        Moves { of_lists, of_live },
-    ))
+    let cover = PartCover {
+        certificate,
+        separators,
+        moves: moves.of_lists.saturating_add(moves.of_live),
+    };
+    Ok((cover, moves))
 }
 
 /// The leftmost certificate of a part for a query, its separators, and how many moves its lists
 /// made.
 pub fn cover<S: Source>(alloc: Global, source: &S, query: &Query) -> Result<PartCover, AllocError>
-    ensures leftmost { IfOk result (λ c.
-        IsLeftmost (asked (S.part source.now) query.now) c.certificate.items) }
-    ensures valid { IfOk result (λ c.
-        IsValidCertificate (asked (S.part source.now) query.now) c.certificate.items) }
-    ensures least { IfOk result (λ c.
-        IsLeast (asked (S.part source.now) query.now) c.certificate.items) }
-    ensures matches { IfOk result (λ c.
-        matches_of c.certificate.items ≡ matching_references (S.part source.now) query.now) }
-    ensures begins { IfOk result (λ c. c.separators.items ≡ begins_of c.certificate.items) }
-    ensures as_many { IfOk result (λ c. length c.separators.items ≡ length c.certificate.items) }
-    ensures separated { IfOk result (λ c.
-        AreSeparators (asked (S.part source.now) query.now) c.separators.items) }
-    ensures moves { IfOk result (λ c.
-        (other : List Interval) → IsValidCertificate (asked (S.part source.now) query.now) other
-        → c.moves ≤ (length query.now.matchers + 2) * length other) }
+    ensures { IfOk result (λ c. IsCoverOf (S.part source.now) query.now c) }
 {
     let (cover, _) = cover_with_moves(alloc, source, query)?;
     Ok(cover)
