@@ -4,7 +4,7 @@ use Rattle.std.specs.List.{AllByRecursion, Contains, list_all}
 use Rattle.std.proofs.lemmas.Bool.{eq-eqb, eqb-true}
 use Rattle.labels.proofs.Lists.{here, there, Contains-cases, none_in_nil}
 use Rattle.chunk_reader.specs.declared.error.ChunkError.{ChunkError}
-use Rattle.chunk_reader.proofs.Steps.{bind_ok}
+use Rattle.wire.proofs.Steps.{bind_ok}
 use Rattle.auditor.specs.IndexFile.Series.{Series, references}
 use Rattle.tombstones.specs.declared.deletion.Deletion.{Deletion}
 use Rattle.auditor.specs.BlockFiles.Reading.{each, is_known}

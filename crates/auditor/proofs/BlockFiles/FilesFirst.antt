@@ -8,7 +8,7 @@ use Rattle.wire.proofs.KnownReads.{chosen}
 use Rattle.labels.specs.Parts.{Part}
 use Rattle.chunk_reader.specs.declared.error.ChunkError.{ChunkError}
 use Rattle.chunk_reader.specs.Reading.{opened}
-use Rattle.chunk_reader.proofs.Steps.{bind_ok}
+use Rattle.wire.proofs.Steps.{bind_ok}
 use Rattle.chunk_reader.proofs.Whole.{segment_takes, segment_again, chunk_takes}
 use Rattle.tombstones.specs.declared.deletion.Deletion.{Deletion}
 use Rattle.tombstones.specs.declared.error.TombstoneError.{TombstoneError}
@@ -25,7 +25,6 @@ use Rattle.auditor.specs.BlockFiles.Samples.{or_none, chunk_read, chunk_samples,
 use Rattle.auditor.specs.BlockFiles.Sound.{IsHeld}
 use Rattle.auditor.specs.BlockFiles.Reading.{or_chunks, or_tombstones, each, chunk_check, series_check, is_few, is_known, stored_of, deleted_of, walked_of}
 use Rattle.auditor.specs.BlockFiles.Checks.{Files, Check, FirstFailing, HasSamples, HasFewSamples, checks, IsRefusal}
-use Rattle.auditor.proofs.IndexFile.WalkLoops.{bind_ok as walk_ok}
 use Rattle.auditor.proofs.IndexFile.Again.{index_again}
 use Rattle.auditor.proofs.BlockFiles.Checks.{all_pass, pass_all, each_pass, pass_each, weaken}
 use Rattle.auditor.proofs.BlockFiles.Found.{are_spelled, opened_same}
@@ -173,7 +172,7 @@ unfolding stored_of
 stored_passes f e rest ss fits read h more =
     let file = f.chunks in
     let checked = each (series_check file) ss in
-    let a = walk_ok (or_chunks checked) _ tt h in
+    let a = bind_ok (or_chunks checked) _ tt h in
     let passed : checked ≡ Ok tt = chunks_given checked tt a.1 in
     let few = guard_passed (list_all (is_few file) ss) a.2 in
     let sampled : AllByRecursion (HasSamples file) ss =

@@ -7,8 +7,9 @@ use Rattle.wire.specs.Spelling.{IsBytes}
 use Rattle.wire.specs.Reading.{number_at}
 use Rattle.chunk_reader.specs.Grammar.{IsSegment}
 use Rattle.chunk_reader.specs.declared.error.ChunkError.TheVariants.{Magic, Version, Shape}
-use Rattle.chunk_reader.specs.Reading.{or_refused, opened}
-use Rattle.chunk_reader.proofs.Steps.{bind_ok, kept, passed, same_value}
+use Rattle.chunk_reader.specs.Reading.{opened}
+use Rattle.wire.specs.Outcome.{or_refused}
+use Rattle.wire.proofs.Steps.{bind_ok, not_failed, passed, same_value}
 use Rattle.tombstones.specs.declared.deletion.Deletion.{Deletion}
 use Rattle.tombstones.specs.Grammar.{IsTombstones}
 use Rattle.tombstones.specs.Reading.{deletions_of}
@@ -24,7 +25,7 @@ use Rattle.auditor.specs.BlockFiles.Spelled.{AreSpelled, AreRows, IsWalked}
 use Rattle.auditor.proofs.BlockFiles.Checks.{all_pass, weaken, known_in}
 use Rattle.auditor.proofs.BlockFiles.AnyOrder.{part_any_order}
 use Rattle.auditor.proofs.BlockFiles.Refusals.{all_lists, facts_of_lists}
-use Rattle.auditor.proofs.BlockFiles.Stages.{stage_ok, test_ok, tombstones_ok}
+use Rattle.auditor.proofs.BlockFiles.Stages.{test_ok, tombstones_ok}
 
 -- chunks
 
@@ -58,7 +59,7 @@ pub deleted_known : (tombstones : List ℕ) (ss : List Series) (deletions : List
     → AreKnown tombstones ss deletions
 unfolding deleted_of
 deleted_known tombstones ss deletions fits h =
-    let a = stage_ok (or_tombstones (deletions_of tombstones)) _ deletions h in
+    let a = bind_ok (or_tombstones (deletions_of tombstones)) _ deletions h in
     let b = test_ok (list_all (is_known ss) a.0) UnknownSeries a.0 deletions a.2 in
     subst (AreKnown tombstones ss) b.1 (record {
       deleted =
@@ -90,7 +91,7 @@ are_rows file deletions (s ∷ ss) held few = (
 pub opened_same : (file x : List ℕ) → opened file ≡ Ok x → x ≡ file
 unfolding opened
 opened_same file x h =
-    let a = kept (ltb 0x4000_0000 (length file)) Shape _ x h in
+    let a = not_failed (ltb 0x4000_0000 (length file)) Shape _ x h in
     let m = bind_ok (or_refused Magic (number_at 4 file)) _ x a.1 in
     let mt = passed (eqb m.0.0 0x85BD_40DD) Magic _ x m.2 in
     let v = bind_ok (or_refused Version (number_at 4 m.0.1)) _ x mt.1 in

@@ -13,7 +13,8 @@ use Rattle.wire.proofs.KnownReads.{chosen}
 use Rattle.auditor.specs.declared.walk.contents.Contents.{Contents}
 use Rattle.auditor.specs.declared.walk.error.WalkError.{WalkError}
 use Rattle.auditor.specs.declared.walk.error.WalkError.TheVariants.{TooShort, Magic, Version, ContentsCrc, ContentsOrder, SymbolsCrc, Limit}
-use Rattle.auditor.specs.IndexFile.Reading.{◌>>=◌, IsPlaced, in_order, has_magic, table_of, head_of, frame_at, symbols_of, entries_from, rounded, series_end, parts_of}
+use Rattle.auditor.specs.IndexFile.Reading.{IsPlaced, in_order, has_magic, table_of, head_of, frame_at, symbols_of, entries_from, rounded, series_end, parts_of}
+use Rattle.wire.specs.Outcome.{◌>>=◌}
 use Rattle.auditor.specs.IndexFile.Grammar.{checked, frame, contents_text}
 use Rattle.auditor.specs.BlockFiles.Checks.{Files, Check, FirstFailing, HasContents, HasFrame}
 use Rattle.auditor.proofs.IndexFile.Fields.{eqb_same, frame_takes, frame_again}

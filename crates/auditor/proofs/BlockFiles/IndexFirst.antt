@@ -15,7 +15,7 @@ use Rattle.auditor.specs.IndexFile.Whole.{label_sets, bodies_of, is_small, Read,
 use Rattle.auditor.specs.IndexFile.Series as indexes
 use Rattle.auditor.specs.IndexFile.Spelled.{IsIndex}
 use Rattle.auditor.specs.BlockFiles.Checks.{Files, Check, FirstFailing, HasFrame, HasBodies}
-use Rattle.auditor.proofs.IndexFile.WalkLoops.{bind_ok}
+use Rattle.wire.proofs.Steps.{bind_ok}
 use Rattle.auditor.proofs.IndexFile.Walks.{ok_is}
 use Rattle.auditor.proofs.IndexFile.Whole.{parts_take, parts_again}
 use Rattle.auditor.proofs.IndexFile.Sound.{few_symbols}

@@ -8,7 +8,7 @@ use Rattle.labels.specs.Parts.{Part}
 use Rattle.labels.specs.Rows.{Row}
 use Rattle.chunk_reader.specs.Grammar.{IsChunk}
 use Rattle.chunk_reader.specs.Reading.{opened}
-use Rattle.chunk_reader.proofs.Steps.{value}
+use Rattle.wire.proofs.Steps.{value}
 use Rattle.chunk_reader.proofs.Whole.{segment_again, chunk_again}
 use Rattle.tombstones.specs.declared.deletion.Deletion.{Deletion}
 use Rattle.tombstones.specs.Reading.{deletions_of}

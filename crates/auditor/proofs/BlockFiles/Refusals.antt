@@ -17,7 +17,7 @@ use Rattle.auditor.specs.declared.walk.chunk.Chunk.{Chunk}
 use Rattle.auditor.specs.declared.walk.error.WalkError.{WalkError}
 use Rattle.auditor.specs.declared.walk.error.WalkError.TheVariants.{Memory, Limit, UnknownSeries}
 use Rattle.auditor.specs.IndexFile.Outcome.{Fails, of_chunk, of_tombstone}
-use Rattle.auditor.specs.IndexFile.Reading.{◌>>=◌}
+use Rattle.wire.specs.Outcome.{◌>>=◌}
 use Rattle.auditor.specs.IndexFile.Series.{Series, references, chunk_lists}
 use Rattle.auditor.specs.IndexFile.Whole.{indexed_of}
 use Rattle.auditor.specs.BlockFiles.Samples.{part_of}
@@ -54,7 +54,7 @@ pub each_lists : (check : List Chunk → Result (Unit {0}) ChunkError) (ss : Lis
 unfolding each
 each_lists check [] = refl
 each_lists check (s ∷ ss) =
-    ap (λ r. chunk_reading.◌>>=◌ (check s.chunks) (λ _. r)) (each_lists check ss)
+    ap (λ r. check s.chunks >>= λ _. r) (each_lists check ss)
 
 pub all_lists : (test : List Chunk → Bool) (ss : List Series)
     → list_all (λ (s : Series). test s.chunks) ss ≡ list_all test (chunk_lists ss)

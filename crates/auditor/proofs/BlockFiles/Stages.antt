@@ -3,13 +3,6 @@ use Rattle.std.proofs.Common.{◌≡◌, Bool, true, false, cond, Result, Ok, Er
 use Rattle.tombstones.specs.declared.error.TombstoneError.{TombstoneError}
 use Rattle.auditor.specs.declared.walk.error.WalkError.{WalkError}
 use Rattle.auditor.specs.BlockFiles.Reading.{or_tombstones}
-use Rattle.auditor.specs.IndexFile.Reading.{◌>>=◌}
-
--- the value of a stage that did not fail
-pub stage_ok : {A B : Type 0} (r : Result A WalkError) (f : A → Result B WalkError) (y : B)
-    → (r >>= f) ≡ Ok y → (x : A) × (r ≡ Ok x) × (f x ≡ Ok y)
-stage_ok (Ok x) f y e = (x, refl, e)
-stage_ok (Err d) f y e = absurd cc
 
 -- a test that had to hold
 pub test_ok : {A : Type 0} (b : Bool) (d : WalkError) (x y : A) → cond b (Ok x) (Err d) ≡ Ok y

@@ -7,7 +7,8 @@ use Rattle.wire.proofs.KnownReads.{chosen}
 use Rattle.auditor.specs.declared.walk.chunk.Chunk.{Chunk}
 use Rattle.auditor.specs.declared.walk.error.WalkError.{WalkError}
 use Rattle.auditor.specs.declared.walk.error.WalkError.TheVariants.{Symbols, SeriesCrc, Series}
-use Rattle.auditor.specs.IndexFile.Reading.{◌>>=◌, or_refused, checked_at, frame_at, symbol_at, symbols_from, symbols_of, entry_at, entries_from, Place}
+use Rattle.auditor.specs.IndexFile.Reading.{checked_at, frame_at, symbol_at, symbols_from, symbols_of, entry_at, entries_from, Place}
+use Rattle.wire.specs.Outcome.{◌>>=◌, or_refused}
 use Rattle.auditor.specs.IndexFile.Steps.{steps}
 use Rattle.auditor.specs.IndexFile.Each.{each}
 use Rattle.auditor.specs.IndexFile.Bodies.{label_at, labels_at, or_series, chunk_at, behind, chunks_at, body_at}

@@ -5,7 +5,7 @@ use Rattle.std.proofs.lemmas.List.{append-nil, drop_all}
 use Rattle.auditor.specs.declared.walk.error.WalkError.{WalkError}
 use Rattle.auditor.specs.declared.walk.error.WalkError.TheVariants.{Memory}
 use Rattle.auditor.specs.IndexFile.Outcome.{Fails}
-use Rattle.auditor.specs.IndexFile.Reading.{◌>>=◌}
+use Rattle.wire.specs.Outcome.{◌>>=◌}
 use Rattle.auditor.specs.IndexFile.Each.{each, behind_items}
 
 grouped : {X : Type 0} (front : List X) (x : X) (read : Result (List X) WalkError)

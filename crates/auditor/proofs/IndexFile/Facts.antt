@@ -25,7 +25,8 @@ use Rattle.auditor.specs.IndexFile.Whole.{label_sets, bodies_of, is_small, Read,
 use Rattle.auditor.specs.IndexFile.Series.{references, named, series_of}
 use Rattle.auditor.specs.IndexFile.Series as indexes
 use Rattle.auditor.specs.IndexFile.Spelled.{AreInOrder, IsIndex}
-use Rattle.auditor.proofs.IndexFile.WalkLoops.{bind_ok, guard_ended}
+use Rattle.auditor.proofs.IndexFile.WalkLoops.{guard_ended}
+use Rattle.wire.proofs.Steps.{bind_ok}
 use Rattle.auditor.proofs.IndexFile.OneByOne.{each_length}
 use Rattle.auditor.proofs.IndexFile.Orders.{InTable, label_sets_cmp}
 use Rattle.auditor.proofs.IndexFile.Naming.{bodies_take}

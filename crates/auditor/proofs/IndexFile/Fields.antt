@@ -11,9 +11,11 @@ use Rattle.wire.proofs.Fields.{IsBytes-back, number_takes_4, number_again_4, byt
 use Rattle.wire.proofs.Laws.{uvarint_takes, uvarint_again}
 use Rattle.auditor.specs.declared.walk.error.WalkError.{WalkError}
 use Rattle.auditor.specs.declared.walk.error.WalkError.TheVariants.{SeriesCrc}
-use Rattle.auditor.specs.IndexFile.Reading.{or_refused, checked_at, frame_at, entry_at}
+use Rattle.auditor.specs.IndexFile.Reading.{checked_at, frame_at, entry_at}
+use Rattle.wire.specs.Outcome.{or_refused}
 use Rattle.auditor.specs.IndexFile.Grammar.{checked, frame, entry}
-use Rattle.auditor.proofs.IndexFile.WalkLoops.{bind_ok, refused_ok, guard_ended}
+use Rattle.auditor.proofs.IndexFile.WalkLoops.{guard_ended}
+use Rattle.wire.proofs.Steps.{bind_ok, refused_ok}
 
 -- what a reader took from the front
 pub record Takes (bytes text rest : List ℕ) : Type 0 where

@@ -6,7 +6,8 @@ use Rattle.wire.proofs.KnownReads.{chosen}
 use Rattle.auditor.specs.declared.walk.contents.Contents.{Contents}
 use Rattle.auditor.specs.declared.walk.error.WalkError.TheVariants.{ContentsOrder}
 use Rattle.auditor.specs.IndexFile.Reading.{IsPlaced, in_order, has_magic, table_of, head_of}
-use Rattle.auditor.proofs.IndexFile.WalkLoops.{bind_ok, guard_ended}
+use Rattle.auditor.proofs.IndexFile.WalkLoops.{guard_ended}
+use Rattle.wire.proofs.Steps.{bind_ok}
 
 both : (p q : Bool) → (p && q) ≡ true → (p ≡ true) × (q ≡ true)
 both true q h = (refl, h)

@@ -8,7 +8,7 @@ use Rattle.auditor.specs.declared.walk.checked.Checked.{Checked}
 use Rattle.auditor.specs.declared.walk.bodies.Span.{Span}
 use Rattle.auditor.specs.declared.walk.entries.Entry.{Entry}
 use Rattle.auditor.specs.declared.walk.chunk.Chunk.{Chunk}
-use Rattle.auditor.specs.IndexFile.Outcome.{Fails}
+use Rattle.auditor.specs.IndexFile.Outcome.{is_memory, Fails}
 use Rattle.auditor.specs.IndexFile.Reading.{Place, ascending}
 use Rattle.auditor.specs.IndexFile.Seen.{place, places, texts}
 use Rattle.auditor.specs.IndexFile.Bodies.{Label, Body}
@@ -17,7 +17,7 @@ use Rattle.auditor.specs.IndexFile.Flat.{body_in, bodies_in}
 use Rattle.auditor.specs.IndexFile.Whole.{read_of, series_in, indexed_of}
 use Rattle.auditor.specs.IndexFile.Series.{Series, named, series_at, series_of}
 use Rattle.auditor.specs.IndexFile.Kept.{read_seen, series_seen, IsHeldIn, AreInTable, IsKept}
-use Rattle.auditor.proofs.IndexFile.WalkLoops.{fails_on}
+use Rattle.wire.proofs.Steps.{fails_on}
 use Rattle.auditor.proofs.IndexFile.Naming.{first_below, bodies_take, is_label_set}
 use Rattle.auditor.proofs.IndexFile.Facts.{chain, few_labels, series_length}
 use Rattle.auditor.proofs.IndexFile.Places.{mapped_at, stands_at}
@@ -141,7 +141,7 @@ is_kept file c h read =
 
 pub err_fails : (file : List ℕ) (e : WalkError) → Fails e (read_of file) → Fails e (indexed_of file)
 unfolding indexed_of
-err_fails file e f = fails_on e (read_of file) (λ r. Ok (series_in r)) (indexed_of file) refl f
+err_fails file e f = fails_on is_memory e (read_of file) (λ r. Ok (series_in r)) (indexed_of file) refl f
 
 pub exact_is : (file : List ℕ) (c : Checked) → read_of file ≡ Ok (read_seen c)
     → indexed_of file ≡ Ok (series_seen c)

@@ -7,14 +7,16 @@ use Rattle.wire.specs.Reading.{uvarint_at}
 use Rattle.labels.specs.Names.{is_name}
 use Rattle.labels.specs.LabelSets.{IsLabelSet}
 use Rattle.auditor.specs.declared.walk.error.WalkError.TheVariants.{Series}
-use Rattle.auditor.specs.IndexFile.Reading.{or_refused, Place, ascending}
+use Rattle.auditor.specs.IndexFile.Reading.{Place, ascending}
+use Rattle.wire.specs.Outcome.{or_refused}
 use Rattle.auditor.specs.IndexFile.Labelled.{IsLabel, AreLabels}
 use Rattle.auditor.specs.IndexFile.Steps.{steps}
 use Rattle.auditor.specs.IndexFile.Bodies.{Label, Body, is_label, label_at, labels_at, chunks_at, body_at}
 use Rattle.auditor.specs.IndexFile.Each.{each}
 use Rattle.auditor.specs.IndexFile.Flat.{body_of_place}
 use Rattle.auditor.specs.IndexFile.Series.{text_of, named}
-use Rattle.auditor.proofs.IndexFile.WalkLoops.{bind_ok, guard_ended}
+use Rattle.auditor.proofs.IndexFile.WalkLoops.{guard_ended}
+use Rattle.wire.proofs.Steps.{bind_ok}
 use Rattle.auditor.proofs.IndexFile.Walks.{ok_is}
 use Rattle.auditor.proofs.IndexFile.Orders.{symbols_less}
 

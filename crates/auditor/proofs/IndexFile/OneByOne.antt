@@ -2,7 +2,7 @@
 use Rattle.std.proofs.Common.{◌≡◌, suc, length, List, [], ◌∷◌, Result, Ok, refl, ap}
 use Rattle.auditor.specs.declared.walk.error.WalkError.{WalkError}
 use Rattle.auditor.specs.IndexFile.Each.{each}
-use Rattle.auditor.proofs.IndexFile.WalkLoops.{bind_ok}
+use Rattle.wire.proofs.Steps.{bind_ok}
 use Rattle.auditor.proofs.IndexFile.Walks.{ok_is}
 
 pub each_cons : {A X : Type 0} (step : A → Result X WalkError) (a : A) (as' : List A) (xs : List X)

@@ -14,7 +14,8 @@ use Rattle.wire.proofs.Laws.{uvarint_takes}
 use Rattle.auditor.specs.declared.walk.chunk.Chunk.{Chunk}
 use Rattle.auditor.specs.declared.walk.error.WalkError.{WalkError}
 use Rattle.auditor.specs.declared.walk.error.WalkError.TheVariants.{Series}
-use Rattle.auditor.specs.IndexFile.Reading.{or_refused, Place, rounded}
+use Rattle.auditor.specs.IndexFile.Reading.{Place, rounded}
+use Rattle.wire.specs.Outcome.{or_refused}
 use Rattle.auditor.specs.IndexFile.Grammar.{entry, IsWalk}
 use Rattle.auditor.specs.IndexFile.Steps.{steps}
 use Rattle.auditor.specs.IndexFile.Each.{each}
@@ -23,7 +24,8 @@ use Rattle.auditor.specs.IndexFile.Chunks.{first_at, later_at}
 use Rattle.auditor.specs.IndexFile.Flat.{body_of_place}
 use Rattle.auditor.specs.IndexFile.Labelled.{AreLabels}
 use Rattle.auditor.specs.IndexFile.Spelled.{label_text, IsLater, AreLater, AreChunks, IsBody, AreBodies}
-use Rattle.auditor.proofs.IndexFile.WalkLoops.{bind_ok, refused_ok, guard_ended}
+use Rattle.auditor.proofs.IndexFile.WalkLoops.{guard_ended}
+use Rattle.wire.proofs.Steps.{bind_ok, refused_ok}
 use Rattle.auditor.proofs.IndexFile.Walks.{ok_is}
 use Rattle.auditor.proofs.IndexFile.Fields.{Takes, takes, Takes-then}
 use Rattle.auditor.proofs.IndexFile.Naming.{body_takes}

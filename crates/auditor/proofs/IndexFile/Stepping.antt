@@ -4,7 +4,7 @@ use Rattle.std.proofs.lemmas.List.{append-nil}
 use Rattle.auditor.specs.declared.walk.error.WalkError.{WalkError}
 use Rattle.auditor.specs.declared.walk.error.WalkError.TheVariants.{Memory}
 use Rattle.auditor.specs.IndexFile.Outcome.{Fails}
-use Rattle.auditor.specs.IndexFile.Reading.{◌>>=◌}
+use Rattle.wire.specs.Outcome.{◌>>=◌}
 use Rattle.auditor.specs.IndexFile.Steps.{steps, with_front}
 use Rattle.auditor.specs.declared.walk.chunk.Chunk.{Chunk}
 use Rattle.auditor.specs.IndexFile.Bodies.{behind}

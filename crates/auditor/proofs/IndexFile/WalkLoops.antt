@@ -5,37 +5,17 @@ use Rattle.std.proofs.lemmas.Bool.{lt-ltb, le-ltb, ltb-false}
 use Rattle.std.proofs.lemmas.List.{append-nil, length-drop, length-take}
 use Rattle.byteorder.specs.Endian.{big_number}
 use Rattle.wire.specs.Checksum.{crc32c}
-use Rattle.wire.specs.declared.error.WireError.{WireError}
 use Rattle.wire.specs.declared.error.WireError.TheVariants.{Short}
 use Rattle.wire.specs.Reading.{number_at, bytes_at, uvarint_at}
+use Rattle.wire.proofs.Steps.{bind_ok, refused_ok, chain, fails_on}
 use Rattle.wire.proofs.KnownReads.{chosen}
 use Rattle.wire.proofs.Laws.{uvarint_shorter}
 use Rattle.auditor.specs.declared.walk.error.WalkError.{WalkError}
-use Rattle.auditor.specs.declared.walk.error.WalkError.TheVariants.{Memory, SeriesCrc}
-use Rattle.auditor.specs.IndexFile.Outcome.{Fails}
-use Rattle.auditor.specs.IndexFile.Reading.{◌>>=◌, or_refused, checked_at, Place, symbol_at, symbols_from, entry_at, entries_from, rounded, ascending, is_less}
+use Rattle.auditor.specs.declared.walk.error.WalkError.TheVariants.{SeriesCrc}
+use Rattle.auditor.specs.IndexFile.Outcome.{is_memory, Fails}
+use Rattle.auditor.specs.IndexFile.Reading.{checked_at, Place, symbol_at, symbols_from, entry_at, entries_from, rounded, ascending, is_less}
+use Rattle.wire.specs.Outcome.{◌>>=◌, or_refused}
 use Rattle.std.proofs.Math.Seq.{drop-cons}
-
-not_ok : {A B : Type 0} (e : WalkError) (x : A) (whole : Result B WalkError)
-    → Fails e (Ok x) → Fails e whole
-not_ok Memory x whole f = tt
-not_ok e x whole f = absurd cc
-
-fails_too : {A B : Type 0} (e g : WalkError) (read : Result A WalkError)
-    (whole : Result B WalkError) → read ≡ Err g → whole ≡ Err g → Fails e read → Fails e whole
-fails_too Memory g read whole r h f = tt
-fails_too e g read whole r h f = cc
-
--- the value of a step that did not fail
-pub bind_ok : {A B : Type 0} (r : Result A WalkError) (f : A → Result B WalkError) (y : B)
-    → (r >>= f) ≡ Ok y → (x : A) × (r ≡ Ok x) × (f x ≡ Ok y)
-bind_ok (Ok x) f y e = (x, refl, e)
-bind_ok (Err d) f y e = absurd cc
-
-pub refused_ok : {A : Type 0} (e : WalkError) (r : Result A WireError) (x : A)
-    → or_refused e r ≡ Ok x → r ≡ Ok x
-refused_ok e (Ok y) x h = cc
-refused_ok e (Err f) x h = absurd cc
 
 -- a test that did not fail
 pub guard_ok : {A E : Type 0} (b : Bool) (d : E) (x y : A) → cond b (Err d) (Ok x) ≡ Ok y
@@ -47,13 +27,6 @@ pub guard_ended : {A E : Type 0} (b : Bool) (d : E) (x y : A) → cond b (Ok x) 
     → (b ≡ true) × (x ≡ y)
 guard_ended true d x y e = (refl, cc)
 guard_ended false d x y e = absurd cc
-
--- a call failed: the whole is no value then, or memory ran out
-pub fails_on : {A B : Type 0} (e : WalkError) (read : Result A WalkError)
-    (next : A → Result B WalkError) (whole : Result B WalkError) → (read >>= next) ≡ whole
-    → Fails e read → Fails e whole
-fails_on e (Ok x) next whole h f = not_ok e x whole f
-fails_on e (Err g) next whole h f = fails_too e g (Err g) whole refl (sym h) f
 
 -- what was read before, and what is still read
 abbrev pub with_front : List (List ℕ) → Result (List (List ℕ) × List ℕ) WalkError
@@ -81,12 +54,6 @@ goes_on front count i bytes s after total lt h so_far =
     rw (k, h) (regroup front s (symbols_from (count - (i + 1)) after)) in
     sym one ∙ so_far
 
--- a chain of two steps, seen as one
-chain : {A B C : Type 0} (r : Result A WalkError) (f : A → Result B WalkError)
-    (g : B → Result C WalkError) → (r >>= λ x. (f x >>= g)) ≡ ((r >>= f) >>= g)
-chain (Ok x) f g = refl
-chain (Err e) f g = refl
-
 pub ends : (e : WalkError) (front : List (List ℕ)) (count i : ℕ) (bytes : List ℕ)
     (total : Result (List (List ℕ) × List ℕ) WalkError) → i < count → Fails e (symbol_at bytes)
     → with_front front (symbols_from (count - i) bytes) ≡ total → Fails e total
@@ -101,7 +68,7 @@ ends e front count i bytes total lt h so_far =
     let one : (symbol_at bytes >>= λ first. (others first >>= last))
     ≡ with_front front (symbols_from (count - i) bytes) =
     rw k (chain (symbol_at bytes) others last) in
-    fails_on e (symbol_at bytes) (λ first. others first >>= last) total (one ∙ so_far) h
+    fails_on is_memory e (symbol_at bytes) (λ first. others first >>= last) total (one ∙ so_far) h
 
 pub is_done : (front : List (List ℕ)) (count i : ℕ) (bytes : List ℕ)
     (total : Result (List (List ℕ) × List ℕ) WalkError) → count ≤ i
@@ -200,7 +167,7 @@ walk_fails e (suc m) front file end at total lt le h so_far =
     let one : (entry_at (slice_range file at end) >>= λ entry. (others entry >>= last))
     ≡ with_places front (entries_from (suc m) file end at) =
     rw (lt-ltb at end lt) (chain (entry_at (slice_range file at end)) others last) in
-    fails_on e (entry_at (slice_range file at end)) (λ entry. others entry >>= last)
+    fails_on is_memory e (entry_at (slice_range file at end)) (λ entry. others entry >>= last)
     total (one ∙ so_far) h
 
 pub walk_done : (n : ℕ) (front : List Place) (file : List ℕ) (end at : ℕ)

@@ -17,9 +17,11 @@ use Rattle.wire.proofs.KnownReads.{chosen}
 use Rattle.wire.proofs.Laws.{uvarint_takes, uvarint_again, uvarint_long}
 use Rattle.auditor.specs.declared.walk.error.WalkError.{WalkError}
 use Rattle.auditor.specs.declared.walk.error.WalkError.TheVariants.{Symbols}
-use Rattle.auditor.specs.IndexFile.Reading.{◌>>=◌, or_refused, symbol_at, symbols_from, symbols_of, ascending, Place, entry_at, entries_from, rounded}
+use Rattle.auditor.specs.IndexFile.Reading.{symbol_at, symbols_from, symbols_of, ascending, Place, entry_at, entries_from, rounded}
+use Rattle.wire.specs.Outcome.{◌>>=◌, or_refused}
 use Rattle.auditor.specs.IndexFile.Grammar.{checked, entry, symbol, IsSymbolTable, IsWalk}
-use Rattle.auditor.proofs.IndexFile.WalkLoops.{bind_ok, refused_ok, guard_ended, entry_shorter}
+use Rattle.auditor.proofs.IndexFile.WalkLoops.{guard_ended, entry_shorter}
+use Rattle.wire.proofs.Steps.{bind_ok, refused_ok}
 use Rattle.auditor.proofs.IndexFile.Fields.{Takes, takes, Takes-then, entry_takes, entry_again}
 
 abbrev pub done : {A : Type 0} → A → Result A WalkError

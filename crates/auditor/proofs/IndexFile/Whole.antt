@@ -16,7 +16,8 @@ use Rattle.auditor.specs.declared.walk.error.WalkError.TheVariants.{ContentsCrc,
 use Rattle.auditor.specs.IndexFile.Reading.{IsPlaced, in_order, has_magic, contents_at, table_of, head_of, frame_at, symbols_of, entries_from, rounded, series_end, Parts, parts_of}
 use Rattle.auditor.specs.IndexFile.Grammar.{checked, frame, contents_text, IsParts}
 use Rattle.auditor.specs.IndexFile.Outcome.{Gives}
-use Rattle.auditor.proofs.IndexFile.WalkLoops.{bind_ok, guard_ended}
+use Rattle.auditor.proofs.IndexFile.WalkLoops.{guard_ended}
+use Rattle.wire.proofs.Steps.{bind_ok}
 use Rattle.auditor.proofs.IndexFile.Head.{head_placed}
 use Rattle.auditor.proofs.IndexFile.Fields.{eqb_same, frame_takes, frame_again}
 use Rattle.auditor.proofs.IndexFile.Walks.{done, ok_is, table_takes, table_again, walk_takes, walk_again}

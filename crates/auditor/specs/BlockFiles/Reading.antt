@@ -5,7 +5,6 @@ use Rattle.std.specs.List.{list_all, list_any}
 use Rattle.labels.specs.Parts.{Part}
 use Rattle.chunk_reader.specs.declared.error.ChunkError.{ChunkError}
 use Rattle.chunk_reader.specs.Reading.{opened}
-use Rattle.chunk_reader.specs.Reading as chunks
 use Rattle.tombstones.specs.declared.deletion.Deletion.{Deletion}
 use Rattle.tombstones.specs.declared.error.TombstoneError.{TombstoneError}
 use Rattle.tombstones.specs.Reading.{deletions_of}
@@ -13,7 +12,7 @@ use Rattle.auditor.specs.declared.walk.chunk.Chunk.{Chunk}
 use Rattle.auditor.specs.declared.walk.error.WalkError.{WalkError}
 use Rattle.auditor.specs.declared.walk.error.WalkError.TheVariants.{Limit, UnknownSeries}
 use Rattle.auditor.specs.IndexFile.Outcome.{of_chunk, of_tombstone}
-use Rattle.auditor.specs.IndexFile.Reading.{◌>>=◌}
+use Rattle.wire.specs.Outcome.{◌>>=◌}
 use Rattle.auditor.specs.IndexFile.Series.{Series}
 use Rattle.auditor.specs.IndexFile.Whole.{indexed_of}
 use Rattle.auditor.specs.BlockFiles.Samples.{chunk_read, samples_in, part_of}
@@ -32,11 +31,11 @@ or_tombstones (Err e) = Err (of_tombstone e)
 unfoldable pub each : {A : Type 0} → (A → Result (Unit {0}) ChunkError) → List A
     → Result (Unit {0}) ChunkError
 each check [] = Ok tt
-each check (a ∷ as') = chunks.◌>>=◌ (check a) (λ _. each check as')
+each check (a ∷ as') = check a >>= λ _. each check as'
 
 -- a chunk that can be read
 abbrev pub chunk_check : List ℕ → Chunk → Result (Unit {0}) ChunkError
-chunk_check file c = chunks.◌>>=◌ (chunk_read file c) (λ _. Ok tt)
+chunk_check file c = chunk_read file c >>= λ _. Ok tt
 
 -- all chunks of a series
 abbrev pub series_check : List ℕ → Series → Result (Unit {0}) ChunkError

@@ -5,7 +5,7 @@ use Rattle.labels.specs.Names.{is_name}
 use Rattle.wire.specs.Reading.{uvarint_at}
 use Rattle.auditor.specs.declared.walk.error.WalkError.{WalkError}
 use Rattle.auditor.specs.declared.walk.error.WalkError.TheVariants.{Series}
-use Rattle.auditor.specs.IndexFile.Reading.{◌>>=◌, or_refused}
+use Rattle.wire.specs.Outcome.{◌>>=◌, or_refused}
 use Rattle.auditor.specs.declared.walk.chunk.Chunk.{Chunk}
 use Rattle.auditor.specs.IndexFile.Chunks.{first_at, later_at}
 use Rattle.auditor.specs.IndexFile.Steps.{steps}

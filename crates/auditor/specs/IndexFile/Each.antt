@@ -1,7 +1,7 @@
 -- The same step for each of a list, and lists in order.
 use Rattle.std.specs.Prelude.{List, [], ◌∷◌, ◌++◌, Result, Ok, Err, Bool, true, ◌&&◌}
 use Rattle.auditor.specs.declared.walk.error.WalkError.{WalkError}
-use Rattle.auditor.specs.IndexFile.Reading.{◌>>=◌}
+use Rattle.wire.specs.Outcome.{◌>>=◌}
 
 -- what the step gives for each
 unfoldable pub each : {A X : Type 0} → (A → Result X WalkError) → List A → Result (List X) WalkError

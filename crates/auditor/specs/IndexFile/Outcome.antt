@@ -1,5 +1,6 @@
 -- What a call answered, against what reading gives.
-use Rattle.std.specs.Prelude.{◌≡◌, Result, Ok, Err}
+use Rattle.std.specs.Prelude.{Bool, true, false, Result}
+use Rattle.wire.specs.Outcome as outcome
 use Rattle.chunk_reader.specs.declared.error.ChunkError.{ChunkError}
 use Rattle.chunk_reader.specs.declared.error.ChunkError.TheVariants as chunk
 use Rattle.tombstones.specs.declared.error.TombstoneError.{TombstoneError}
@@ -7,15 +8,18 @@ use Rattle.tombstones.specs.declared.error.TombstoneError.TheVariants as tombsto
 use Rattle.auditor.specs.declared.walk.error.WalkError.{WalkError}
 use Rattle.auditor.specs.declared.walk.error.WalkError.TheVariants.{Memory, Chunks, Tombstones}
 
+-- whether an error says nothing of the files
+abbrev pub is_memory : WalkError → Bool
+is_memory Memory = true
+is_memory e = false
+
 -- the refusal is that of reading; a want of memory says nothing of it
 abbrev pub Fails : {Y : Type 0} → WalkError → Result Y WalkError → Type 0
-Fails Memory read = Unit {0}
-Fails e read = read ≡ Err e
+Fails e read = outcome.Fails is_memory e read
 
 -- what a function returned, seen by view, is what reading gives, unless memory ran out
 abbrev pub Gives : {X Y : Type 0} → (X → Y) → Result X WalkError → Result Y WalkError → Type 0
-Gives view (Ok x) read = read ≡ Ok (view x)
-Gives view (Err e) read = Fails e read
+Gives view result read = outcome.Gives is_memory view result read
 
 -- the refusal of chunks, as that of the walk
 abbrev pub of_chunk : ChunkError → WalkError

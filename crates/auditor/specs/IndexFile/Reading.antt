@@ -7,26 +7,14 @@ use Rattle.std.specs.Ordering.{nat_cmp, is_lt}
 use Rattle.std.specs.Cmp.Lexicographic.{slice_cmp}
 use Rattle.std.specs.Str.{is_utf8}
 use Rattle.byteorder.specs.Endian.{big_number}
-use Rattle.wire.specs.declared.error.WireError.{WireError}
 use Rattle.wire.specs.Reading.{number_at, bytes_at, uvarint_at}
 use Rattle.wire.specs.Checksum.{crc32c}
+use Rattle.wire.specs.Outcome.{◌>>=◌, or_refused}
 use Rattle.auditor.specs.declared.walk.contents.Contents.{Contents}
 use Rattle.auditor.specs.declared.walk.error.WalkError.{WalkError}
 use Rattle.auditor.specs.declared.walk.error.WalkError.TheVariants.{Limit, TooShort, Magic, Version}
 use Rattle.auditor.specs.declared.walk.error.WalkError.TheVariants.{ContentsCrc, ContentsOrder}
 use Rattle.auditor.specs.declared.walk.error.WalkError.TheVariants.{SymbolsCrc, Symbols, SeriesCrc}
-
-infixl 10 ◌>>=◌
--- the next check, where none has failed
-abbrev pub ◌>>=◌ : {A B : Type 0} → Result A WalkError → (A → Result B WalkError)
-    → Result B WalkError
-(Ok x) >>= f = f x
-(Err e) >>= f = Err e
-
--- a field, whose refusal is that of the check which reads it
-abbrev pub or_refused : {A : Type 0} → WalkError → Result A WireError → Result A WalkError
-or_refused e (Ok x) = Ok x
-or_refused e (Err f) = Err e
 
 -- ---- the table of contents
 

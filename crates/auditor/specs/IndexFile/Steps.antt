@@ -1,7 +1,7 @@
 -- One thing read after another.
 use Rattle.std.specs.Prelude.{ℕ, zero, suc, List, [], ◌∷◌, ◌++◌, Result, Ok, Err}
 use Rattle.auditor.specs.declared.walk.error.WalkError.{WalkError}
-use Rattle.auditor.specs.IndexFile.Reading.{◌>>=◌}
+use Rattle.wire.specs.Outcome.{◌>>=◌}
 
 -- this many steps from a state: what each gave, and the state after them
 unfoldable pub steps : {S X : Type 0} → (S → Result (X × S) WalkError) → ℕ → S

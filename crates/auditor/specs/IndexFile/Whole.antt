@@ -4,7 +4,8 @@ use Rattle.std.specs.Prelude.{if◌then◌else◌}
 use Rattle.std.specs.List.{list_all}
 use Rattle.auditor.specs.declared.walk.error.WalkError.{WalkError}
 use Rattle.auditor.specs.declared.walk.error.WalkError.TheVariants.{Series, SeriesOrder, Limit}
-use Rattle.auditor.specs.IndexFile.Reading.{◌>>=◌, Parts, series_end, parts_of}
+use Rattle.auditor.specs.IndexFile.Reading.{Parts, series_end, parts_of}
+use Rattle.wire.specs.Outcome.{◌>>=◌}
 use Rattle.auditor.specs.IndexFile.Bodies.{Label, Body}
 use Rattle.auditor.specs.IndexFile.Each.{each, rises}
 use Rattle.auditor.specs.IndexFile.Flat.{body_of_place, is_before, gaps_zero}

@@ -2,7 +2,7 @@
 
 ghost use Rattle.std.specs.Prelude.{◌≡◌, true, IfOk, OnOk};
 ghost use Rattle.std.specs.List.{AllByRecursion, list_all};
-ghost use Rattle.chunk_reader.specs.Outcome.{Answers};
+ghost use Rattle.wire.specs.Outcome.{Answers};
 ghost use Rattle.auditor.specs.IndexFile.Outcome.{Gives};
 ghost use Rattle.auditor.specs.IndexFile.Series.{chunk_lists};
 ghost use Rattle.auditor.specs.BlockFiles.Sound.{IsHeld, IsCounted};
