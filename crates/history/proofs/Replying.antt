@@ -17,9 +17,11 @@ use Rattle.history.specs.Machine.{Buffers, with_buffer, Machine, Outcome, done, 
 use Rattle.history.specs.Replies.{IsReply, IsSettled, IsStep}
 use Rattle.history.proofs.Keeping.{replaced, put_back}
 
-is_step : (old new : Machine) (step : Step) (reply : Reply) (o : Outcome × Machine) → machine_step old step ≡ o → IsReply o.0 reply → o.1 ≡ new → IsStep old step reply new
+is_step : (old new : Machine) (step : Step) (reply : Reply) (o : Outcome × Machine)
+    → machine_step old step ≡ o → IsReply o.0 reply → o.1 ≡ new → IsStep old step reply new
 is_step old new step reply o is said after = record {
-  answer = subst (λ (x : Outcome). IsReply x reply) (sym (ap (λ (p : Outcome × Machine). p.0) is)) said;
+  answer =
+      subst (λ (x : Outcome). IsReply x reply) (sym (ap (λ (p : Outcome × Machine). p.0) is)) said;
   after = ap (λ (p : Outcome × Machine). p.1) is ∙ after;
 }
 
@@ -32,58 +34,108 @@ not_full n h = grind (arith, nat_tests)
 at_buffers : World → Buffers → Machine
 at_buffers w buffers = record { world = w; buffers = buffers }
 
-module _ (w : World) (old left new : Buffers) (actor : ℕ) (taken : left ≡ with_buffer actor [] old) where
-  module _ (l : Labels) (s : ℤ × ℤ) (own samples : Batch) (reply : Reply) (own_is : own ≡ old actor) (put : new ≡ with_buffer actor samples left) where
+module _ (w : World) (old left new : Buffers) (actor : ℕ)
+    (taken : left ≡ with_buffer actor [] old) where
+  module _ (l : Labels) (s : ℤ × ℤ) (own samples : Batch) (reply : Reply) (own_is : own ≡ old actor)
+      (put : new ≡ with_buffer actor samples left) where
     pub full_step : samples ≡ own → reply ≡ NotAppended Full → 4096 ≤ length own
-        → IsStep (record { world = w; buffers = old }) (append actor l s) reply (record { world = w; buffers = new })
+        → IsStep (record { world = w; buffers = old }) (append actor l s) reply (record {
+          world = w;
+          buffers = new;
+        })
     full_step same said many =
         let m : Machine = record { world = w; buffers = old } in
-        is_step m (record { world = w; buffers = new }) (append actor l s) reply (not_appended Full, m)
-        (ap (λ b. if b then (not_appended Full, m) else (if is_time s.0 then (done, record { world = w; buffers = with_buffer actor (old actor ++ (l, s) ∷ []) old }) else (not_appended TimeRange, m))) (ap (λ xs. nat_le 4096 (length xs)) (sym own_is) ∙ full (length own) many))
+        is_step m (record { world = w; buffers = new }) (append actor l s) reply
+        (not_appended Full, m)
+        (ap (λ b. if b then (not_appended Full, m) else (if is_time s.0 then (
+          done,
+          record { world = w; buffers = with_buffer actor (old actor ++ (l, s) ∷ []) old },
+        ) else (not_appended TimeRange, m))) (ap (λ xs. nat_le 4096 (length xs)) (sym own_is)
+        ∙ full (length own) many))
         (subst (IsReply (not_appended Full)) (sym said) refl)
-        (ap (λ (b : Buffers). record { world = w; buffers = b }) (put_back actor samples old left new (same ∙ own_is) taken put))
+        (ap (λ (b : Buffers). record { world = w; buffers = b })
+        (put_back actor samples old left new (same ∙ own_is) taken put))
 
-    pub untimed_step : samples ≡ own → reply ≡ NotAppended TimeRange → length own < 4096 → is_time s.0 ≡ false
-        → IsStep (record { world = w; buffers = old }) (append actor l s) reply (record { world = w; buffers = new })
+    pub untimed_step : samples ≡ own → reply ≡ NotAppended TimeRange → length own < 4096
+        → is_time s.0 ≡ false
+        → IsStep (record { world = w; buffers = old }) (append actor l s) reply (record {
+          world = w;
+          buffers = new;
+        })
     untimed_step same said few timed =
         let m : Machine = record { world = w; buffers = old } in
-        is_step m (record { world = w; buffers = new }) (append actor l s) reply (not_appended TimeRange, m)
-        (ap (λ b. if b then (not_appended Full, m) else (if is_time s.0 then (done, record { world = w; buffers = with_buffer actor (old actor ++ (l, s) ∷ []) old }) else (not_appended TimeRange, m))) (ap (λ xs. nat_le 4096 (length xs)) (sym own_is) ∙ not_full (length own) few)
-        ∙ ap (λ b. if b then (done, record { world = w; buffers = with_buffer actor (old actor ++ (l, s) ∷ []) old }) else (not_appended TimeRange, m)) timed)
+        is_step m (record { world = w; buffers = new }) (append actor l s) reply
+        (not_appended TimeRange, m)
+        (ap (λ b. if b then (not_appended Full, m) else (if is_time s.0 then (
+          done,
+          record { world = w; buffers = with_buffer actor (old actor ++ (l, s) ∷ []) old },
+        ) else (not_appended TimeRange, m))) (ap (λ xs. nat_le 4096 (length xs)) (sym own_is)
+        ∙ not_full (length own) few)
+        ∙ ap (λ b. if b then (
+          done,
+          record { world = w; buffers = with_buffer actor (old actor ++ (l, s) ∷ []) old },
+        ) else (not_appended TimeRange, m)) timed)
         (subst (IsReply (not_appended TimeRange)) (sym said) refl)
-        (ap (λ (b : Buffers). record { world = w; buffers = b }) (put_back actor samples old left new (same ∙ own_is) taken put))
+        (ap (λ (b : Buffers). record { world = w; buffers = b })
+        (put_back actor samples old left new (same ∙ own_is) taken put))
 
-    pub appended_step : samples ≡ own ++ (l, s) ∷ [] → reply ≡ Done → length own < 4096 → is_time s.0 ≡ true
-        → IsStep (record { world = w; buffers = old }) (append actor l s) reply (record { world = w; buffers = new })
+    pub appended_step : samples ≡ own ++ (l, s) ∷ [] → reply ≡ Done → length own < 4096
+        → is_time s.0 ≡ true
+        → IsStep (record { world = w; buffers = old }) (append actor l s) reply (record {
+          world = w;
+          buffers = new;
+        })
     appended_step more said few timed =
         let m : Machine = record { world = w; buffers = old } in
-        let next : Machine = record { world = w; buffers = with_buffer actor (old actor ++ (l, s) ∷ []) old } in
+        let next : Machine =
+        record { world = w; buffers = with_buffer actor (old actor ++ (l, s) ∷ []) old } in
         is_step m (record { world = w; buffers = new }) (append actor l s) reply (done, next)
-        (ap (λ b. if b then (not_appended Full, m) else (if is_time s.0 then (done, next) else (not_appended TimeRange, m))) (ap (λ xs. nat_le 4096 (length xs)) (sym own_is) ∙ not_full (length own) few)
+        (ap (λ b. if b then (not_appended Full, m) else (if is_time s.0 then (done, next) else (
+          not_appended TimeRange,
+          m,
+        ))) (ap (λ xs. nat_le 4096 (length xs)) (sym own_is) ∙ not_full (length own) few)
         ∙ ap (λ b. if b then (done, next) else (not_appended TimeRange, m)) timed)
         (subst (IsReply done) (sym said) refl)
         (ap (λ (b : Buffers). record { world = w; buffers = b })
-        (sym (replaced actor samples old left new taken put ∙ ap (λ xs. with_buffer actor xs old) (more ∙ ap (λ xs. xs ++ (l, s) ∷ []) own_is))))
+        (sym (replaced actor samples old left new taken put
+        ∙ ap (λ xs. with_buffer actor xs old) (more ∙ ap (λ xs. xs ++ (l, s) ∷ []) own_is))))
 
   -- a batch that was refused is the buffer again
-  pub refused_step : (own samples : Batch) (event : Event) (error : CommitError) → own ≡ old actor → event ≡ batch own → IsSettled (stepped most w event) (Err error)
-      → batch_of event ≡ Some samples → new ≡ with_buffer actor samples left → IsStep (record { world = w; buffers = old }) (commit actor) (Refused error) (record { world = w; buffers = new })
+  pub refused_step : (own samples : Batch) (event : Event) (error : CommitError) → own ≡ old actor
+      → event ≡ batch own → IsSettled (stepped most w event) (Err error)
+      → batch_of event ≡ Some samples → new ≡ with_buffer actor samples left → IsStep (record {
+        world = w;
+        buffers = old;
+      }) (commit actor) (Refused error) (record { world = w; buffers = new })
   refused_step own samples event error own_is is settles back put =
       let m : Machine = record { world = w; buffers = old } in
       let same : Some own ≡ Some samples = sym (ap batch_of is) ∙ back in
       let samples_is : samples ≡ own = cc in
-      is_step m (record { world = w; buffers = new }) (commit actor) (Refused error) (refused settles.0, m)
-      (ap (settled m (with_buffer actor [] old)) (ap (λ xs. stepped most w (batch xs)) (sym own_is) ∙ ap (stepped most w) (sym is) ∙ settles.1))
+      is_step m (record { world = w; buffers = new }) (commit actor) (Refused error)
+      (refused settles.0, m)
+      (ap (settled m (with_buffer actor [] old)) (ap (λ xs. stepped most w (batch xs)) (sym own_is)
+      ∙ ap (stepped most w) (sym is)
+      ∙ settles.1))
       (settles.0, refl, settles.2)
-      (ap (λ (b : Buffers). record { world = w; buffers = b }) (put_back actor samples old left new (samples_is ∙ own_is) taken put))
+      (ap (λ (b : Buffers). record { world = w; buffers = b })
+      (put_back actor samples old left new (samples_is ∙ own_is) taken put))
 
 -- replies to a step more
-pub reply_step : (first m next : Machine) (steps : List Step) (i : ℕ) (step : Step) (reply : Reply) (old new : List Reply) → i < length steps → step ≡ get_or steps i step → IsStep m step reply next
+pub reply_step : (first m next : Machine) (steps : List Step) (i : ℕ) (step : Step) (reply : Reply)
+    (old new : List Reply) → i < length steps → step ≡ get_or steps i step
+    → IsStep m step reply next
     → new ≡ old ++ reply ∷ []
-    → ((rest : List Reply) → AllZip IsReply (machine_replies m (drop i steps)) rest → AllZip IsReply (machine_replies first steps) (old ++ rest))
-    → (rest : List Reply) → AllZip IsReply (machine_replies next (drop (i + 1) steps)) rest → AllZip IsReply (machine_replies first steps) (new ++ rest)
+    → ((rest : List Reply) → AllZip IsReply (machine_replies m (drop i steps)) rest
+    → AllZip IsReply (machine_replies first steps) (old ++ rest))
+    → (rest : List Reply) → AllZip IsReply (machine_replies next (drop (i + 1) steps)) rest
+    → AllZip IsReply (machine_replies first steps) (new ++ rest)
 reply_step first m next steps i step reply old new inside at is pushed before rest h =
-    subst (AllZip IsReply (machine_replies first steps)) (sym (ap (λ rs. rs ++ rest) pushed ∙ append_assoc old (reply ∷ []) rest))
+    subst (AllZip IsReply (machine_replies first steps))
+    (sym (ap (λ rs. rs ++ rest) pushed ∙ append_assoc old (reply ∷ []) rest))
     (before (reply ∷ rest)
-    (subst (λ (ss : List Step). AllZip IsReply (machine_replies m ss) (reply ∷ rest)) (sym (drop_more steps i step inside ∙ ap (λ x. x ∷ drop (i + 1) steps) (sym at)))
-    (is.answer, subst (λ (n : Machine). AllZip IsReply (machine_replies n (drop (i + 1) steps)) rest) (sym is.after) h)))
+    (subst (λ (ss : List Step). AllZip IsReply (machine_replies m ss) (reply ∷ rest))
+    (sym (drop_more steps i step inside ∙ ap (λ x. x ∷ drop (i + 1) steps) (sym at))) (
+      is.answer,
+      subst (λ (n : Machine). AllZip IsReply (machine_replies n (drop (i + 1) steps)) rest)
+          (sym is.after) h,
+    )))

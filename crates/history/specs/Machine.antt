@@ -1,4 +1,5 @@
--- The machine of which every interleaving is a list of steps: a world that all actors share, and a buffer for each.
+-- The machine of which every interleaving is a list of steps: a world that all actors share, and a
+-- buffer for each.
 use Rattle.std.specs.Prelude.{ℕ, ℤ, List, [], ◌∷◌, ◌++◌, Result, Ok, Err, nat_eq, nat_le, length, if◌then◌else◌}
 use Rattle.labels.specs.Labels.{Labels}
 use Rattle.labels.specs.Contents.{Content, selected, is_time}
@@ -26,7 +27,8 @@ pub record Machine : Type 0 where
 abbrev pub started : World → Machine
 started w = record { world = w; buffers = λ _. [] }
 
--- what a step comes to: it is done, or its sample is not taken, or its event is refused, or it finds a content
+-- what a step comes to: it is done, or its sample is not taken, or its event is refused, or it
+-- finds a content
 pub data Outcome : Type 0 where
   done : Outcome
   not_appended : AppendError → Outcome

@@ -28,7 +28,8 @@ impl Model for Buffer {
     ghost invariant = { λ b. IsTrue (is_batch b.samples.items) };
 }
 
-/// The buffers of actors, each of at most 4,096 samples, all at times. An actor that is not there has an empty one.
+/// The buffers of actors, each of at most 4,096 samples, all at times. An actor that is not there
+/// has an empty one.
 #[derive(Drop)]
 pub(crate) struct Held {
     buffers: BTreeMap<usize, Buffer>,

@@ -40,7 +40,8 @@ fn append(
     sample: Sample,
 ) -> Result<Reply, AllocError>
     ensures { IfOk result (λ reply. (w : World)
-        → IsStep (machine_at w held.old) (append actor labels.now sample) reply (machine_at w held.new)) }
+        → IsStep (machine_at w held.old) (append actor labels.now sample) reply
+        (machine_at w held.new)) }
 {
     let mut samples = held.take(alloc, actor);
     let reply = if samples.len() >= MAX_BATCH {
@@ -124,9 +125,10 @@ fn latest_of<'a>(opening: &'a Snapshot, latest: &'a Option<Snapshot>) -> &'a Sna
 
 /// What each of the steps is answered, one after another, from a snapshot on.
 ///
-/// An actor's `append` is refused with `A1` where its buffer has 4,096 samples, else with `A2` where the time is none; a
-/// commit hands over the actor's buffer as one batch, and leaves it empty where that is accepted and as it was where it
-/// is refused. Where memory ends there are no replies. A query looks at every sample of every part.
+/// An actor's `append` is refused with `A1` where its buffer has 4,096 samples, else with `A2`
+/// where the time is none; a commit hands over the actor's buffer as one batch, and leaves it empty
+/// where that is accepted and as it was where it is refused. Where memory ends there are no
+/// replies. A query looks at every sample of every part.
 pub fn run(alloc: Global, opening: &Snapshot, steps: &[Step]) -> Result<Vec<Reply>, AllocError>
     ensures { IfOk result (λ replies.
         AllZip IsReply (machine_replies (started (world_of opening.now)) steps.now) replies.items) }

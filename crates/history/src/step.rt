@@ -58,7 +58,8 @@ impl Step {
         }
     }
 
-    /// The actor deletes the samples from one time to another, both included, of the series that satisfy all matchers.
+    /// The actor deletes the samples from one time to another, both included, of the series that
+    /// satisfy all matchers.
     pub fn delete(actor: usize, matchers: Vec<Matcher>, from: i64, to: i64) -> Step
         requires { IsTrue (is_deletion matchers.items from to) }
         ensures { result ≡ change actor (deletion matchers.items from to) }

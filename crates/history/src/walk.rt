@@ -41,10 +41,12 @@ fn has_time(query: &Query, t: i64) -> bool
     query.from() <= t && t <= query.to()
 }
 
-/// Puts the samples of a row that lie in the range into a content, in place of those at the same points.
+/// Puts the samples of a row that lie in the range into a content, in place of those at the same
+/// points.
 fn lay_row(content: &mut Content, row: Row, query: &Query) -> Result<(), AllocError>
     ensures { OnOk result (content.new.entries
-        ≡ laid_over (points_in row.0 (within query.now.from query.now.to row.1)) content.old.entries) }
+        ≡ laid_over (points_in row.0 (within query.now.from query.now.to row.1))
+        content.old.entries) }
 {
     let (labels, samples) = row.into_parts();
     let mut samples = samples;
@@ -95,7 +97,8 @@ fn list_head(
     Ok(part)
 }
 
-/// What is asked of the parts of a snapshot; where several have a sample of one label set at one time, the last part's.
+/// What is asked of the parts of a snapshot; where several have a sample of one label set at one
+/// time, the last part's.
 fn found(alloc: Global, snapshot: &Snapshot, query: &Query) -> Result<Content, AllocError>
     ensures { IfOk result (λ content. content.entries
         ≡ asked query.now (content_of (parts_of snapshot.now))) }
@@ -165,7 +168,8 @@ fn grouped(alloc: Global, content: Content) -> Result<Vec<Row>, AllocError>
 
 /// The rows that a query finds: in label order, none of them empty, their samples in time order.
 ///
-/// It looks at every sample of every part, and is plain on purpose: it asks for no list, and leaves nothing out.
+/// It looks at every sample of every part, and is plain on purpose: it asks for no list, and leaves
+/// nothing out.
 pub(crate) fn rows_of(
     alloc: Global,
     snapshot: &Snapshot,

@@ -16,9 +16,13 @@ returns-after-into_batch c =
     let event : Event = c.batch-event.result in
     elim c.match-into_batch.branch [
       | in-Some+in_ok-put-in-Err x ↦
-          refused_step w (buffers_of c.args.held.now) (buffers_of c.take.new.self) (buffers_of c.match-into_batch.held) c.args.actor c.take.ensures.left
-          own x.in-Some.samples.items event c.in-Err.refusal c.take.ensures.taken c.batch-event.ensures
+          refused_step w (buffers_of c.args.held.now) (buffers_of c.take.new.self)
+          (buffers_of c.match-into_batch.held) c.args.actor c.take.ensures.left
+          own x.in-Some.samples.items event c.in-Err.refusal c.take.ensures.taken
+          c.batch-event.ensures
           (subst (IsSettled (stepped most w event)) c.in-Err.is c.in_ok-next.ensures)
           x.in-Some.ensures.given_back (ap buffers_of x.held-is ∙ x.in_ok-put-in-Err.ensures)
-      | in_default x ↦ absurd (no_some own (sym x.in_default.ensures.given_back ∙ ap batch_of c.batch-event.ensures))
+      | in_default x ↦
+          absurd (no_some own (sym x.in_default.ensures.given_back
+          ∙ ap batch_of c.batch-event.ensures))
     ]

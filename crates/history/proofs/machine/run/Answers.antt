@@ -12,7 +12,9 @@ returns c =
     let opening = c.args.opening.now in
     let steps : List Step = c.args.steps.now in
     let loop = c.loop-step in
-    subst (AllZip IsReply (machine_replies (started (world_of opening)) steps)) (append-nil loop.replies.items)
+    subst (AllZip IsReply (machine_replies (started (world_of opening)) steps))
+    (append-nil loop.replies.items)
     (loop.invariant []
-    (subst (λ (left : List Step). AllZip IsReply (machine_replies (machine_at (world_after opening loop.latest) loop.held) left) [])
+    (subst (λ (left : List Step). AllZip IsReply
+    (machine_replies (machine_at (world_after opening loop.latest) loop.held) left) [])
     (sym (drop_all loop.step-index steps c.loop-step-test.false)) tt))

@@ -10,5 +10,7 @@ use Rattle.history.proofs.machine.run.Given as goal
 abbrev pub invariant-loop-step : goal.invariant-loop-step
 invariant-loop-step l =
     (rest : List Reply)
-    → AllZip IsReply (machine_replies (machine_at (world_after l.opening l.latest) l.held) (drop l.step-index l.steps)) rest
-    → AllZip IsReply (machine_replies (started (world_of l.opening)) l.steps) (l.replies.items ++ rest)
+    → AllZip IsReply (machine_replies (machine_at (world_after l.opening l.latest) l.held)
+    (drop l.step-index l.steps)) rest
+    → AllZip IsReply (machine_replies (started (world_of l.opening)) l.steps)
+    (l.replies.items ++ rest)

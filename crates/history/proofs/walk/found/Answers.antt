@@ -20,7 +20,9 @@ loop-block-preserved c =
     c.in_ok-lay_part.ensures
     ∙ (λ j. laid_over (asked q (points_of (rows_in (list_is j)))) (c.loop-block.invariant j))
     ∙ sym (asked-part q parts block.part)
-    ∙ ap (λ (ps : List Part). asked q (content_of ps)) (ap (λ (b : Shown). parts ++ b.part ∷ []) c.block-item.is ∙ sym (map_more (λ (b : Shown). b.part) blocks i block c.loop-block-test.true))
+    ∙ ap (λ (ps : List Part). asked q (content_of ps))
+    (ap (λ (b : Shown). parts ++ b.part ∷ []) c.block-item.is
+    ∙ sym (map_more (λ (b : Shown). b.part) blocks i block c.loop-block-test.true))
 
 pub returns : goal.returns
 returns c =
@@ -29,10 +31,15 @@ returns c =
     let blocks : List Shown = c.blocks-block-items.result.now in
     let i = c.loop-block.block-index in
     let list_is : c.in_ok-list_head.field-0.items ≡ part_within q (head_part snapshot.head)
-    = c.in_ok-list_head.ensures ∙ ap (λ (hs : List HeadSeries). part_within q (head_part hs)) c.head.ensures.series in
-    let parts_is : map (λ (b : Shown). b.part) (take i blocks) ≡ map (λ (b : BlockPart). b.part) snapshot.blocks
-    = ap (map (λ (b : Shown). b.part)) (take_all i blocks c.loop-block-test.false) ∙ sym (parts_in_blocks blocks) ∙ ap (map (λ (b : BlockPart). b.part)) c.blocks-block-items.ensures in
+    = c.in_ok-list_head.ensures
+    ∙ ap (λ (hs : List HeadSeries). part_within q (head_part hs)) c.head.ensures.series in
+    let parts_is : map (λ (b : Shown). b.part) (take i blocks)
+    ≡ map (λ (b : BlockPart). b.part) snapshot.blocks
+    = ap (map (λ (b : Shown). b.part)) (take_all i blocks c.loop-block-test.false)
+    ∙ sym (parts_in_blocks blocks)
+    ∙ ap (map (λ (b : BlockPart). b.part)) c.blocks-block-items.ensures in
     c.in_ok-lay_part-2.ensures
     ∙ (λ j. laid_over (asked q (points_of (rows_in (list_is j)))) (c.loop-block.invariant j))
-    ∙ (λ j. laid_over (asked_within q (head_part snapshot.head) j) (asked q (content_of (parts_is j))))
+    ∙ (λ j.
+    laid_over (asked_within q (head_part snapshot.head) j) (asked q (content_of (parts_is j))))
     ∙ sym (asked-part q (map (λ (b : BlockPart). b.part) snapshot.blocks) (head_part snapshot.head))

@@ -4,4 +4,6 @@ use Rattle.history.specs.Asking.{asked}
 use Rattle.history.proofs.walk.found.Given as goal
 
 abbrev pub invariant-loop-block : goal.invariant-loop-block
-invariant-loop-block l = l.content.entries ≡ asked l.query (content_of (map (λ b. b.part) (take l.block-index l.block-items)))
+invariant-loop-block l =
+    l.content.entries
+    ≡ asked l.query (content_of (map (λ b. b.part) (take l.block-index l.block-items)))

@@ -11,15 +11,19 @@ loop-labels-preserved c =
     let q = c.args.query.now in
     let hs = series_of c.args.head.now in
     let r = c.new-reference.result in
-    let from_is : to_z w64 (of_z w64 c.from.result) ≡ q.from = search rules ∙ c.from.ensures.value in
+    let from_is : to_z w64 (of_z w64 c.from.result) ≡ q.from =
+    search rules ∙ c.from.ensures.value in
     let to_is : to_z w64 (of_z w64 c.to.result) ≡ q.to = search rules ∙ c.to.ensures in
     let one : c.new.result ≡ r = c.new.ensures ∙ sym c.new-reference.ensures in
-    listed_step q hs c.loop-labels.number r c.in-Some.labels.now c.in_ok-try_clone.field-0 c.in_ok-samples.samples.items c.loop-labels.part.items c.push.new.self.items
+    listed_step q hs c.loop-labels.number r c.in-Some.labels.now c.in_ok-try_clone.field-0
+    c.in_ok-samples.samples.items c.loop-labels.part.items c.push.new.self.items
     c.new-reference.ensures
     (ap (λ x. labels_in (row_at x (head_part hs))) (sym one) ∙ c.in-Some.ensures.some)
     c.in_ok-try_clone.ensures
-    (c.in_ok-samples.ensures ∙ (λ i. samples_within (from_is i) (to_is i) (row_at r (head_part hs))))
-    (c.in_ok-push.ensures.items ∙ ap (λ (row : Row). c.loop-labels.part.items ++ (r, row) ∷ []) c.new-in-Some.ensures)
+    (c.in_ok-samples.ensures
+    ∙ (λ i. samples_within (from_is i) (to_is i) (row_at r (head_part hs))))
+    (c.in_ok-push.ensures.items
+    ∙ ap (λ (row : Row). c.loop-labels.part.items ++ (r, row) ∷ []) c.new-in-Some.ensures)
     c.loop-labels.invariant
 
 pub loop-labels-smaller : goal.loop-labels-smaller
@@ -27,19 +31,25 @@ loop-labels-smaller c =
     let q = c.args.query.now in
     let hs = series_of c.args.head.now in
     let r = c.new-reference.result in
-    let from_is : to_z w64 (of_z w64 c.from.result) ≡ q.from = search rules ∙ c.from.ensures.value in
+    let from_is : to_z w64 (of_z w64 c.from.result) ≡ q.from =
+    search rules ∙ c.from.ensures.value in
     let to_is : to_z w64 (of_z w64 c.to.result) ≡ q.to = search rules ∙ c.to.ensures in
     let one : c.new.result ≡ r = c.new.ensures ∙ sym c.new-reference.ensures in
-    let next : AreListed q hs (c.loop-labels.number + 1) c.push.new.self.items = listed_step q hs c.loop-labels.number r c.in-Some.labels.now c.in_ok-try_clone.field-0 c.in_ok-samples.samples.items c.loop-labels.part.items c.push.new.self.items
+    let next : AreListed q hs (c.loop-labels.number + 1) c.push.new.self.items = listed_step q hs
+    c.loop-labels.number r c.in-Some.labels.now c.in_ok-try_clone.field-0
+    c.in_ok-samples.samples.items c.loop-labels.part.items c.push.new.self.items
     c.new-reference.ensures
     (ap (λ x. labels_in (row_at x (head_part hs))) (sym one) ∙ c.in-Some.ensures.some)
     c.in_ok-try_clone.ensures
-    (c.in_ok-samples.ensures ∙ (λ i. samples_within (from_is i) (to_is i) (row_at r (head_part hs))))
-    (c.in_ok-push.ensures.items ∙ ap (λ (row : Row). c.loop-labels.part.items ++ (r, row) ∷ []) c.new-in-Some.ensures)
+    (c.in_ok-samples.ensures
+    ∙ (λ i. samples_within (from_is i) (to_is i) (row_at r (head_part hs))))
+    (c.in_ok-push.ensures.items
+    ∙ ap (λ (row : Row). c.loop-labels.part.items ++ (r, row) ∷ []) c.new-in-Some.ensures)
     c.loop-labels.invariant in
     let upto = next.upto in
     omega arith
 
 pub returns : goal.returns
 returns c =
-    listed_all c.args.query.now (series_of c.args.head.now) c.loop-labels.number c.new.result c.loop-labels.part.items c.new.ensures c.in_default.ensures.none c.loop-labels.invariant
+    listed_all c.args.query.now (series_of c.args.head.now) c.loop-labels.number c.new.result
+    c.loop-labels.part.items c.new.ensures c.in_default.ensures.none c.loop-labels.invariant

@@ -8,4 +8,5 @@ use Rattle.history.proofs.walk.rows_of.Goals as goal
 
 pub grouped-requires : goal.grouped-requires
 grouped-requires c =
-    subst (λ (content : Content). T (is_sorted point_cmp content)) (sym c.in_ok-found.ensures) (is_sorted-asked c.args.query.now (parts_of c.args.snapshot.now))
+    subst (λ (content : Content). T (is_sorted point_cmp content)) (sym c.in_ok-found.ensures)
+    (is_sorted-asked c.args.query.now (parts_of c.args.snapshot.now))
