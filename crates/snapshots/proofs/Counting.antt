@@ -11,28 +11,35 @@ pub count_of-snoc : (k : ℕ) (es : List Entry) (e : Entry)
 count_of-snoc k [] e = omega arith
 count_of-snoc k (f ∷ es) e = omega (arith, count_of-snoc k es e)
 
-counts_at : (counts : List ℕ) (es : List Entry) (e : Entry) → AreCounts counts es → e.seat < length counts
+counts_at : (counts : List ℕ) (es : List Entry) (e : Entry) → AreCounts counts es
+    → e.seat < length counts
     → (k : ℕ) → k < length counts → (b : Bool) → (k == e.seat) ≡ b
-    → slice_index (slice_set counts e.seat (slice_index counts e.seat + 1)) k ≡ count_of k es + (if b then 1 else 0)
+    → slice_index (slice_set counts e.seat (slice_index counts e.seat + 1)) k
+    ≡ count_of k es + (if b then 1 else 0)
 counts_at counts es e are in_range k le true is =
     let same : k ≡ e.seat = grind (arith, nat_tests) in
     let old = are e.seat in_range in
-    rw same (get_or-set_same counts e.seat (slice_index counts e.seat + 1) 0 in_range ∙ ap (λ n. n + 1) old)
+    rw same (get_or-set_same counts e.seat (slice_index counts e.seat + 1) 0 in_range
+    ∙ ap (λ n. n + 1) old)
 counts_at counts es e are in_range k le false is =
     let apart : k ≢ e.seat = (λ same. absurd (grind (arith, nat_tests))) in
-    get_or-set_other counts e.seat k (slice_index counts e.seat + 1) 0 apart ∙ (are k le ∙ omega arith)
+    get_or-set_other counts e.seat k (slice_index counts e.seat + 1) 0 apart
+    ∙ (are k le ∙ omega arith)
 
-pub counts_grow : (counts : List ℕ) (es : List Entry) (e : Entry) → AreCounts counts es → e.seat < length counts
+pub counts_grow : (counts : List ℕ) (es : List Entry) (e : Entry) → AreCounts counts es
+    → e.seat < length counts
     → AreCounts (slice_set counts e.seat (slice_index counts e.seat + 1)) (es ++ e ∷ [])
 counts_grow counts es e are in_range k less =
-    let within = subst (λ n. k < n) (length-set counts e.seat (slice_index counts e.seat + 1)) less in
+    let within =
+    subst (λ n. k < n) (length-set counts e.seat (slice_index counts e.seat + 1)) less in
     counts_at counts es e are in_range k within (k == e.seat) refl ∙ sym (count_of-snoc k es e)
 
 count_one : (k : ℕ) (b : Bool) → (k == k) ≡ b → ◌≡◌ {A = ℕ} (if b then 1 else 0) 1
 count_one k true is = refl
 count_one k false is = absurd (grind (arith, nat_tests))
 
-pub counts_own : (counts : List ℕ) (es : List Entry) (e : Entry) → AreCounts counts es → e.seat < length counts
+pub counts_own : (counts : List ℕ) (es : List Entry) (e : Entry) → AreCounts counts es
+    → e.seat < length counts
     → count_of e.seat (es ++ e ∷ []) ≡ slice_index counts e.seat + 1
 counts_own counts es e are in_range =
     let old = are e.seat in_range in
@@ -40,18 +47,24 @@ counts_own counts es e are in_range =
     omega (arith, count_of-snoc e.seat es e)
 
 -- the counts where one event more was published, and the count of its seat is one more
-pub counts_next : (counts : List ℕ) (es all : List Entry) (e : Entry) (number n : ℕ) → AreCounts counts es
-    → all ≡ es ++ e ∷ [] → e.seat ≡ number → number < length counts → n ≡ slice_index counts number + 1
+pub counts_next : (counts : List ℕ) (es all : List Entry) (e : Entry) (number n : ℕ)
+    → AreCounts counts es
+    → all ≡ es ++ e ∷ [] → e.seat ≡ number → number < length counts
+    → n ≡ slice_index counts number + 1
     → AreCounts (slice_set counts number n) all
 counts_next counts es all e number n are is seat in_range more =
-    rw (is, more, ← seat) (counts_grow counts es e are (subst (λ (k : ℕ). k < length counts) (sym seat) in_range))
+    rw (is, more, ← seat)
+    (counts_grow counts es e are (subst (λ (k : ℕ). k < length counts) (sym seat) in_range))
 
 -- and there are as many events of that seat
-pub counted_next : (counts : List ℕ) (es all : List Entry) (e : Entry) (number n : ℕ) → AreCounts counts es
-    → all ≡ es ++ e ∷ [] → e.seat ≡ number → number < length counts → n ≡ slice_index counts number + 1
+pub counted_next : (counts : List ℕ) (es all : List Entry) (e : Entry) (number n : ℕ)
+    → AreCounts counts es
+    → all ≡ es ++ e ∷ [] → e.seat ≡ number → number < length counts
+    → n ≡ slice_index counts number + 1
     → count_of number all ≡ n
 counted_next counts es all e number n are is seat in_range more =
-    rw (is, more, ← seat) (counts_own counts es e are (subst (λ (k : ℕ). k < length counts) (sym seat) in_range))
+    rw (is, more, ← seat)
+    (counts_own counts es e are (subst (λ (k : ℕ). k < length counts) (sym seat) in_range))
 
 pub fresh-snoc : (n m : ℕ) (ss : List Place) (s : Place)
     → AreFresh n ss → length ss ≡ m → s.number ≡ n + m → s.count ≡ 0 → AreFresh n (ss ++ s ∷ [])

@@ -14,7 +14,8 @@ use Rattle.snapshots.specs.Grows.{IsOf, Keeps, SeesList}
 use Rattle.snapshots.proofs.Prefixes.{prefix_self, prefix_trans}
 
 module _ (book : Book) (opening : SnapshotParts) where
-  pub rises : (seat : ℕ) (v : List Entry) (x y : Edition) → IsPrefix (list_of x.marks) (list_of y.marks) → IsOf book opening y
+  pub rises : (seat : ℕ) (v : List Entry) (x y : Edition)
+      → IsPrefix (list_of x.marks) (list_of y.marks) → IsOf book opening y
       → TurnsAt (Keeps book opening) seat v x y (SeesList book opening)
   rises seat v x y up of views h at = (
     list_of y.marks,
@@ -22,7 +23,8 @@ module _ (book : Book) (opening : SnapshotParts) where
       of,
       (λ j u e. ⊎_elim
           (λ (t : (j ≡ seat) × (list_of y.marks ≡ u)).
-          subst (λ (z : List Entry). IsPrefix z (list_of y.marks)) t.1 (prefix_self (list_of y.marks)))
+          subst (λ (z : List Entry). IsPrefix z (list_of y.marks)) t.1
+          (prefix_self (list_of y.marks)))
           (λ (t : (j ≢ seat) × (get_elem? views j ≡ some u)).
           prefix_trans u (list_of x.marks) (list_of y.marks) (h.1 j u t.1) up)
           (at_set views seat j (list_of y.marks) u e)),
@@ -30,14 +32,16 @@ module _ (book : Book) (opening : SnapshotParts) where
     (prefix_trans v (list_of x.marks) (list_of y.marks) (h.1 seat v at) up, refl, of),
   )
 
-  pub enters : (seat : ℕ) (v : List Entry) → Turns (Keeps book opening) seat v (λ x. x) (SeesList book opening)
+  pub enters : (seat : ℕ) (v : List Entry)
+      → Turns (Keeps book opening) seat v (λ x. x) (SeesList book opening)
   enters seat v x views h at = rises seat v x x (prefix_self (list_of x.marks)) h.0 views h at
 
   pub admits : Admits (Keeps book opening) []
   admits x views h = (
     h.0,
     λ seat v at. ⊎_elim (h.1 seat v)
-        (λ (e : [] ≡ v). subst (λ (z : List Entry). IsPrefix z (list_of x.marks)) e (list_of x.marks, refl))
+        (λ (e : [] ≡ v).
+        subst (λ (z : List Entry). IsPrefix z (list_of x.marks)) e (list_of x.marks, refl))
         (at_snoc views [] v seat at),
   )
 
@@ -46,12 +50,14 @@ module _ (book : Book) (opening : SnapshotParts) where
     of,
     λ seat v at. ⊎_elim
         (λ (e : get_elem? [] seat ≡ some v). absurd cc)
-        (λ (e : [] ≡ v). subst (λ (z : List Entry). IsPrefix z (list_of x.marks)) e (list_of x.marks, refl))
+        (λ (e : [] ≡ v).
+        subst (λ (z : List Entry). IsPrefix z (list_of x.marks)) e (list_of x.marks, refl))
         (at_snoc [] [] v seat at),
   )
 
 -- of operations that are each the whole next version, the last is what is shown
-pub fold_last : {A : Type 0} (x : A) (xs : List A) (y : A) → fold (λ (before next : A). next) x (xs ++ y ∷ []) ≡ y
+pub fold_last : {A : Type 0} (x : A) (xs : List A) (y : A)
+    → fold (λ (before next : A). next) x (xs ++ y ∷ []) ≡ y
 fold_last x [] y = refl
 fold_last x (z ∷ xs) y = fold_last z xs y
 

@@ -14,26 +14,32 @@ use Rattle.snapshots.proofs.Accepts.{accepted_done, accepted_try}
 abbrev pub edition : Book → List Mark → SnapshotParts → Edition
 edition b m s = record { book = b; marks = m; parts = s }
 
-module _ (book : Book) (opening : SnapshotParts) (log tried : List Mark) (e : Entry) (s : SnapshotParts) (x y : Edition)
+module _ (book : Book) (opening : SnapshotParts) (log tried : List Mark) (e : Entry)
+    (s : SnapshotParts) (x y : Edition)
     (is_tried : tried ≡ log ++ Try e ∷ []) (shows : Shows book opening x (accepted log))
     (next : IsAfter opening (accepted log ++ e ∷ []) s) (y_is : y ≡ edition book tried s) where
   list_y : list_of y.marks ≡ accepted log ++ e ∷ []
-  list_y = ap (λ (z : Edition). list_of z.marks) y_is ∙ (ap list_of is_tried ∙ accepted_done None log e)
+  list_y =
+      ap (λ (z : Edition). list_of z.marks) y_is ∙ (ap list_of is_tried ∙ accepted_done None log e)
 
   of_y : IsOf book opening y
   of_y = (
     ap (λ (z : Edition). z.book) y_is,
     subst (λ (z : List Entry). IsAfter opening z y.parts) (sym list_y)
-        (subst (λ (z : SnapshotParts). IsAfter opening (accepted log ++ e ∷ []) z) (sym (ap (λ (z : Edition). z.parts) y_is)) next),
+        (subst (λ (z : SnapshotParts). IsAfter opening (accepted log ++ e ∷ []) z)
+        (sym (ap (λ (z : Edition). z.parts) y_is)) next),
   )
 
   pub may_publish : MayFollow book opening x y
   may_publish = ((e ∷ [], ap (λ z. z ++ e ∷ []) shows.1 ∙ sym list_y), of_y)
 
-  pub list_done : (done : List Mark) → done ≡ tried ++ Done ∷ [] → accepted done ≡ accepted log ++ e ∷ []
-  list_done done is = ap accepted (is ∙ ap (λ z. z ++ Done ∷ []) is_tried) ∙ accepted_done None log e
+  pub list_done : (done : List Mark) → done ≡ tried ++ Done ∷ []
+      → accepted done ≡ accepted log ++ e ∷ []
+  list_done done is =
+      ap accepted (is ∙ ap (λ z. z ++ Done ∷ []) is_tried) ∙ accepted_done None log e
 
-  pub shows_done : (done : List Mark) → done ≡ tried ++ Done ∷ [] → Shows book opening y (accepted done)
+  pub shows_done : (done : List Mark) → done ≡ tried ++ Done ∷ []
+      → Shows book opening y (accepted done)
   shows_done done is = (of_y, list_y ∙ sym (list_done done is))
 
   pub list_failed : accepted tried ≡ accepted log
@@ -45,4 +51,8 @@ module _ (book : Book) (opening : SnapshotParts) (log tried : List Mark) (e : En
 pub length_tried : (log tried : List Mark) (e : Entry) (n : ℕ)
     → tried ≡ log ++ Try e ∷ [] → n ≡ length (accepted log) + 1 → n ≡ length (list_of tried)
 length_tried log tried e n is_tried is =
-    omega (arith, length-append (accepted log) (e ∷ []), ap length (ap list_of is_tried ∙ accepted_done None log e))
+    omega (
+      arith,
+      length-append (accepted log) (e ∷ []),
+      ap length (ap list_of is_tried ∙ accepted_done None log e),
+    )

@@ -24,14 +24,19 @@ replayed_from-snoc (Err x) (f ∷ es) e v is = absurd (cc is)
 replayed_from-snoc (Ok w) (f ∷ es) e v is = replayed_from-snoc (stepped most w f) es e v is
 
 -- an event leaves the blocks that there were first, each with its frame
-keeps_frames : (event : Event) (s t : SnapshotParts) → KeepsBlocks event s t.blocks → KeepsFrames s t
+keeps_frames : (event : Event) (s t : SnapshotParts)
+    → KeepsBlocks event s t.blocks → KeepsFrames s t
 keeps_frames (batch xs) s t kept =
-    subst (λ (bs : List BlockPart). IsPrefix (map frame_of s.blocks) (map frame_of bs)) (sym kept) (prefix_self _)
+    subst (λ (bs : List BlockPart). IsPrefix (map frame_of s.blocks) (map frame_of bs))
+    (sym kept) (prefix_self _)
 keeps_frames (deletion ms from to) s t kept =
     subst (IsPrefix (map frame_of s.blocks)) (sym kept) (prefix_self _)
 keeps_frames (cut at) s t kept = elim kept [
-  | inl same ↦ subst (λ (bs : List BlockPart). IsPrefix (map frame_of s.blocks) (map frame_of bs)) (sym same) (prefix_self _)
-  | inr more ↦ (frame_of more.0 ∷ [], sym (ap (map frame_of) more.1 ∙ map_push frame_of s.blocks more.0))
+  | inl same ↦
+      subst (λ (bs : List BlockPart). IsPrefix (map frame_of s.blocks) (map frame_of bs))
+      (sym same) (prefix_self _)
+  | inr more ↦
+      (frame_of more.0 ∷ [], sym (ap (map frame_of) more.1 ∙ map_push frame_of s.blocks more.0))
 ]
 
 leads-snoc : (s : SnapshotParts) (es : List Event) (e : Event) (t u : SnapshotParts)
@@ -49,22 +54,29 @@ after-none opening = record { replay = refl; blocks = prefix_self _; reached = r
 pub after-snoc : (opening : SnapshotParts) (es : List Entry) (e : Entry) (s t : SnapshotParts)
     → IsAfter opening es s → Steps s e.event t → IsAfter opening (es ++ e ∷ []) t
 after-snoc opening es e s t after step =
-    let events : events_in (es ++ e ∷ []) ≡ events_in es ++ e.event ∷ [] = map_push (λ (x : Entry). x.event) es e in
+    let events : events_in (es ++ e ∷ []) ≡ events_in es ++ e.event ∷ [] =
+    map_push (λ (x : Entry). x.event) es e in
     record {
       replay = ap (replayed most (world_of opening)) events
-          ∙ (replayed_from-snoc (Ok (world_of opening)) (events_in es) e.event (world_of s) after.replay ∙ step.world);
-      blocks = prefix_trans (map frame_of opening.blocks) (map frame_of s.blocks) (map frame_of t.blocks)
+          ∙ (replayed_from-snoc (Ok (world_of opening)) (events_in es) e.event (world_of s)
+          after.replay
+          ∙ step.world);
+      blocks =
+          prefix_trans (map frame_of opening.blocks) (map frame_of s.blocks) (map frame_of t.blocks)
           after.blocks (keeps_frames e.event s t step.kept);
       reached = subst (λ (events : List Event). Leads opening events t) (sym events)
           (leads-snoc opening (events_in es) e.event s t after.reached step);
     }
 
 -- the snapshot after one event more than the published version has
-pub after_shown : (book : Book) (opening : SnapshotParts) (x : Edition) (es : List Entry) (e : Entry) (s t : SnapshotParts)
+pub after_shown : (book : Book) (opening : SnapshotParts) (x : Edition) (es : List Entry)
+    (e : Entry) (s t : SnapshotParts)
     → Shows book opening x es → s ≡ x.parts → Steps s e.event t → IsAfter opening (es ++ e ∷ []) t
 after_shown book opening x es e s t shows at step =
-    let here : IsAfter opening es x.parts = subst (λ (z : List Entry). IsAfter opening z x.parts) shows.1 shows.0.1 in
-    after-snoc opening es e x.parts t here (subst (λ (z : SnapshotParts). Steps z e.event t) at step)
+    let here : IsAfter opening es x.parts =
+    subst (λ (z : List Entry). IsAfter opening z x.parts) shows.1 shows.0.1 in
+    after-snoc opening es e x.parts t here
+    (subst (λ (z : SnapshotParts). Steps z e.event t) at step)
 
 module _ (s : SnapshotParts) (ms : List MatcherView) (from to : ℤ) where
   by_seat_or_memory : (e : CommitError) → IsRefusal e s (deletion ms from to) → IsOfSeatOrMemory e
@@ -78,6 +90,7 @@ module _ (s : SnapshotParts) (ms : List MatcherView) (from to : ℤ) where
   by_seat_or_memory TooManyParts is = absurd (cc (is (λ same. absurd (cc same))))
 
 -- the step of a deletion refuses nothing
-pub deletion_refused : (opening : SnapshotParts) (e : CommitError) (ms : List MatcherView) (from to : ℤ)
+pub deletion_refused : (opening : SnapshotParts) (e : CommitError)
+    (ms : List MatcherView) (from to : ℤ)
     → IsRefusedAfter opening e (deletion ms from to) → IsOfSeatOrMemory e
 deletion_refused opening e ms from to refused = by_seat_or_memory refused.1 ms from to e refused.3

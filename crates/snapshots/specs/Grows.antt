@@ -31,6 +31,7 @@ SeesList book opening v x y w = IsPrefix v w × (w ≡ list_of y.marks) × IsOf 
 abbrev pub Shows : Book → SnapshotParts → Edition → List Entry → Type 0
 Shows book opening x entries = IsOf book opening x × (list_of x.marks ≡ entries)
 
--- the second version may follow the first: it is of this store, and the first one's list is a prefix of its own
+-- the second version may follow the first: it is of this store, and the first one's list is a
+-- prefix of its own
 abbrev pub MayFollow : Book → SnapshotParts → Edition → Edition → Type 0
 MayFollow book opening x y = IsPrefix (list_of x.marks) (list_of y.marks) × IsOf book opening y

@@ -14,8 +14,8 @@ use Rattle.snapshots.specs.declared.entry.Entry.{Entry}
 abbrev pub events_in : List Entry → List Event
 events_in entries = map (λ e. e.event) entries
 
--- the event takes the snapshot to the other one: the world of that is the step's, and its blocks are those that the
--- event leaves
+-- the event takes the snapshot to the other one: the world of that is the step's, and its blocks
+-- are those that the event leaves
 pub record Steps (s : SnapshotParts) (event : Event) (t : SnapshotParts) : Type 0 where
   pub world : stepped most (world_of s) event ≡ Ok (world_of t)
   pub kept : KeepsBlocks event s t.blocks
@@ -26,16 +26,17 @@ Leads s [] t = t ≡ s
 Leads s (event ∷ events) t =
     (next : SnapshotParts) × Steps s event next × Leads next events t
 
--- the blocks of the one snapshot stand first in the other, each with its range, its references and its label sets:
--- all but the samples that deletions took
+-- the blocks of the one snapshot stand first in the other, each with its range, its references and
+-- its label sets: all but the samples that deletions took
 abbrev pub KeepsFrames : SnapshotParts → SnapshotParts → Type 0
 KeepsFrames s t = IsPrefix (map frame_of s.blocks) (map frame_of t.blocks)
 
--- The snapshot is what the entries' events make of the opening. Its world is the replay of the events from the
--- opening's world. The opening's blocks stand first in it, each with the range, the references and the label sets that
--- it had, whatever was committed, deleted and cut. It was reached event by event, so before the first event it is the
--- opening itself.
-pub record IsAfter (opening : SnapshotParts) (entries : List Entry) (s : SnapshotParts) : Type 0 where
+-- The snapshot is what the entries' events make of the opening. Its world is the replay of the
+-- events from the opening's world. The opening's blocks stand first in it, each with the range, the
+-- references and the label sets that it had, whatever was committed, deleted and cut. It was
+-- reached event by event, so before the first event it is the opening itself.
+pub record IsAfter (opening : SnapshotParts) (entries : List Entry)
+    (s : SnapshotParts) : Type 0 where
   pub replay : replayed most (world_of opening) (events_in entries) ≡ Ok (world_of s)
   pub blocks : KeepsFrames opening s
   pub reached : Leads opening (events_in entries) s

@@ -3,7 +3,8 @@ use Rattle.std.specs.Prelude.{ℕ, ◌≡◌, ◌==◌, true, List, [], ◌∷�
 use Rattle.logbook.specs.Pages.{Cell, Step, View, Book, Named}
 use Rattle.snapshots.specs.declared.entry.Mark.{Mark}
 
--- the first word is the length of the log; a book has two words, of which this one leaves the second at 0
+-- the first word is the length of the log; a book has two words, of which this one leaves the
+-- second at 0
 abbrev pub IsKept : List Cell → List Mark → Type 0
 IsKept cells log = cells ≡ (length log, true) ∷ (0, true) ∷ []
 

@@ -24,7 +24,8 @@ abbrev pub AreCounts : List ℕ → List Entry → Type 0
 AreCounts counts entries =
     (k : ℕ) → k < length counts → slice_index counts k ≡ count_of k entries
 
--- the seat has published one event more, and the list has as many under its number as its count says
+-- the seat has published one event more, and the list has as many under its number as its count
+-- says
 abbrev pub IsCounted : Place → Place → List Entry → Type 0
 IsCounted old new entries =
     (new ≡ record old { count = old.count + 1 }) × (count_of old.number entries ≡ new.count)

@@ -55,8 +55,8 @@ impl Appender {
         self.samples.is_empty()
     }
 
-    /// The sample goes last. `A1` where it holds 4,096 samples, and then `A2` where the time is below -2^62 or above
-    /// 2^62 - 1 ms; the label set comes back.
+    /// The sample goes last. `A1` where it holds 4,096 samples, and then `A2` where the time is
+    /// below -2^62 or above 2^62 - 1 ms; the label set comes back.
     pub fn append(
         &mut self,
         labels: LabelSet,
@@ -65,8 +65,10 @@ impl Appender {
         ensures added { OnOk result (self.new ≡ self.old ++ (labels, sample) ∷ []) }
         ensures kept { OnErr result (self.new ≡ self.old) }
         ensures returned { IfErr result (λ e. e.0 ≡ labels) }
-        ensures full { MatchResult result (λ _. length self.old < 4096) (λ e. (e.1 ≡ full) ↔ (4096 ≤ length self.old)) }
-        ensures time { MatchResult result (λ _. IsTrue (is_time sample.0)) (λ e. (e.1 ≡ untimed) ↔ ((length self.old < 4096) × (is_time sample.0 ≡ false))) }
+        ensures full { MatchResult result (λ _. length self.old < 4096) (λ e.
+            (e.1 ≡ full) ↔ (4096 ≤ length self.old)) }
+        ensures time { MatchResult result (λ _. IsTrue (is_time sample.0)) (λ e.
+            (e.1 ≡ untimed) ↔ ((length self.old < 4096) × (is_time sample.0 ≡ false))) }
     {
         if self.samples.len() >= MAX_BATCH {
             return Err((labels, NotAppended::Refused(AppendError::Full)));

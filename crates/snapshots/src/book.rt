@@ -29,7 +29,8 @@ const ROOM: u64 = 1 << 61;
 
 /// Whether the seat's number is one of the store's, and its count is the book's and may grow.
 fn fits<J: Naming>(counts: &Vec<u64>, seat: &Seat<J>) -> bool
-    ensures { MatchBool result (FitsSeat seat.now counts.now.items) (¬ FitsSeat seat.now counts.now.items) }
+    ensures { MatchBool result (FitsSeat seat.now counts.now.items)
+        (¬ FitsSeat seat.now counts.now.items) }
 {
     match counts.get(seat.number()) {
         Some(count) => *count == seat.count() && seat.count() < u64::MAX,
@@ -49,8 +50,8 @@ fn applied(alloc: Global, at: &Snapshot, event: &Event) -> Result<Arc<Snapshot>,
     }
 }
 
-/// What lies under the lock: the list of the published events, the count of each seat and the writer of the versions.
-/// Contracts see it as that list, those counts and the published snapshot.
+/// What lies under the lock: the list of the published events, the count of each seat and the
+/// writer of the versions. Contracts see it as that list, those counts and the published snapshot.
 pub struct Book<J: Naming, R: Wait + Drop> {
     end: LogEnd<J>,
     log: LogPrefix<J>,
@@ -70,9 +71,15 @@ impl<J: Naming, R: Wait + Drop> Model for Book<J, R> {
 
     ghost Value = { Ledger };
 
-    ghost view = { λ b. record { entries = accepted b.log; counts = b.counts.items; parts = b.press.desk.shown.value.parts } };
+    ghost view = { λ b. record {
+      entries = accepted b.log;
+      counts = b.counts.items;
+      parts = b.press.desk.shown.value.parts;
+    } };
 
-    ghost invariant = { λ b. AreCounts b.counts.items (accepted b.log) × (b.events ≡ length (accepted b.log)) × Shows J.book J.opening b.press.desk.shown.value (accepted b.log) };
+    ghost invariant = { λ b.
+        AreCounts b.counts.items (accepted b.log) × (b.events ≡ length (accepted b.log))
+        × Shows J.book J.opening b.press.desk.shown.value (accepted b.log) };
 }
 
 impl<J: Naming, R: Wait + Drop> Book<J, R> {
@@ -88,7 +95,11 @@ impl<J: Naming, R: Wait + Drop> Book<J, R> {
         requires shown { Shows J.book J.opening press.desk.shown.value (accepted log) }
         requires counts { AreCounts counts.items (accepted log) }
         requires empty { accepted log ≡ [] }
-        ensures { result ≡ record { entries = accepted log; counts = counts.items; parts = press.desk.shown.value.parts } }
+        ensures { result ≡ record {
+          entries = accepted log;
+          counts = counts.items;
+          parts = press.desk.shown.value.parts;
+        } }
     {
         Book {
             end,
@@ -101,23 +112,27 @@ impl<J: Naming, R: Wait + Drop> Book<J, R> {
         }
     }
 
-    /// Publishes one event under a seat's number: one whole version, seen by each pass that enters from then on. `E7`
-    /// where the number is none of this store's, or the seat's count is not the book's for it, or cannot grow; else the
-    /// refusal of the event's step on the published version. It waits for the readers of the version before.
+    /// Publishes one event under a seat's number: one whole version, seen by each pass that enters
+    /// from then on. `E7` where the number is none of this store's, or the seat's count is not the
+    /// book's for it, or cannot grow; else the refusal of the event's step on the published
+    /// version. It waits for the readers of the version before.
     pub fn step(
         &mut self,
         seat: &mut Seat<J>,
         event: Event,
     ) -> Result<Receipt<J>, (Event, CommitError)>
         ensures fits { OnOk result (FitsSeat seat.old self.old.counts) }
-        ensures seat { IfErr result (λ e. (e.1 ≡ CommitError.Seat) ↔ (¬ FitsSeat seat.old self.old.counts)) }
+        ensures seat { IfErr result (λ e.
+            (e.1 ≡ CommitError.Seat) ↔ (¬ FitsSeat seat.old self.old.counts)) }
         ensures steps { OnOk result (Steps self.old.parts event self.new.parts) }
         ensures refused { IfErr result (λ e. IsRefusal e.1 self.old.parts event) }
         ensures returned { IfErr result (λ e. e.0 ≡ event) }
         ensures kept { OnErr result ((self.new ≡ self.old) × (seat.new ≡ seat.old)) }
-        ensures list { IfOk result (λ r. r ≡ self.old.entries ++ record { event = event; seat = seat.old.number } ∷ []) }
+        ensures list { IfOk result (λ r.
+            r ≡ self.old.entries ++ record { event = event; seat = seat.old.number } ∷ []) }
         ensures added { IfOk result (λ r. self.new.entries ≡ r) }
-        ensures counts { OnOk result (self.new.counts ≡ slice_set self.old.counts seat.old.number (seat.old.count + 1)) }
+        ensures counts { OnOk result (self.new.counts
+            ≡ slice_set self.old.counts seat.old.number (seat.old.count + 1)) }
         ensures counted { IfOk result (λ r. IsCounted seat.old seat.new r) }
         ensures books { AreCounts self.new.counts self.new.entries }
         ensures world { IsAfter J.opening self.new.entries self.new.parts }

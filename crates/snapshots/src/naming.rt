@@ -2,7 +2,8 @@
 
 use std::marker::Brand;
 
-/// Which store it is, and the snapshot that it opened with. The call that opens a store is generic in it.
+/// Which store it is, and the snapshot that it opened with. The call that opens a store is generic
+/// in it.
 pub trait Naming {
     ghost use Rattle.logbook.specs.Pages.{Book};
     ghost use Rattle.head.specs.Heads.{SnapshotParts};

@@ -18,8 +18,8 @@ use left_right::reader::Reader;
 use std::marker::Model;
 use std::sync::Arc;
 
-/// A reader of a store that does not wait. Contracts see it as the list of its last entry and the list that receipts
-/// told it.
+/// A reader of a store that does not wait. Contracts see it as the list of its last entry and the
+/// list that receipts told it.
 #[derive(Drop)]
 pub struct Pass<J: Naming> {
     reader: Option<Reader<Version, [Entry; 0], Grows<J>>>,
@@ -35,9 +35,13 @@ impl<J: Naming> Model for Pass<J> {
 
     ghost Value = { Known };
 
-    ghost view = { λ p. record { seen = elim p.reader [ Some r ↦ seen_by r.place | None ↦ [] ]; told = accepted p.told } };
+    ghost view = { λ p. record {
+      seen = elim p.reader [ Some r ↦ seen_by r.place | None ↦ [] ];
+      told = accepted p.told;
+    } };
 
-    ghost invariant = { λ p. elim p.reader [ Some r ↦ p.events ≡ length (seen_by r.place) | None ↦ ⊥ ] };
+    ghost invariant = { λ p.
+        elim p.reader [ Some r ↦ p.events ≡ length (seen_by r.place) | None ↦ ⊥ ] };
 }
 
 impl<J: Naming> Pass<J> {
@@ -68,11 +72,12 @@ impl<J: Naming> Pass<J> {
         self.told = self.told.longer(receipt.log());
     }
 
-    /// The snapshot of the published version. Its list begins with all that the pass had seen and with the list of each
-    /// receipt that it learnt, and is what the pass has seen from then on. It waits for nobody, takes no lock and no
-    /// memory. `S1` where the version is not available: where `left_right` refuses the entry, or `Arc` one sharer more,
-    /// which leaves the pass knowing no less; it is answered also where the version is older than what the pass was
-    /// told of, which does not occur.
+    /// The snapshot of the published version. Its list begins with all that the pass had seen and
+    /// with the list of each receipt that it learnt, and is what the pass has seen from then on. It
+    /// waits for nobody, takes no lock and no memory. `S1` where the version is not available:
+    /// where `left_right` refuses the entry, or `Arc` one sharer more, which leaves the pass
+    /// knowing no less; it is answered also where the version is older than what the pass was told
+    /// of, which does not occur.
     pub fn snapshot(&mut self) -> Result<Arc<Snapshot>, SnapshotError>
         ensures world { IfOk result (λ s. IsAfter J.opening self.new.seen (arc_value s)) }
         ensures told { IfOk result (λ s. IsPrefix self.old.told self.new.seen) }

@@ -68,11 +68,12 @@ impl<J: Naming> LogPrefix<J> {
         self.seen.again()
     }
 
-    /// Whether this is longer by one mark at most than a log of that length: then what this accepted is a prefix of the
-    /// list of that log.
+    /// Whether this is longer by one mark at most than a log of that length: then what this
+    /// accepted is a prefix of the list of that log.
     pub fn begins(&self, marks: u64, seen: &Seen<Mark, u64, Law>) -> bool
         requires { (seen.now.book ≡ J.book) × (marks ≡ length seen.now.log) }
-        ensures begins { MatchBool result (IsPrefix (accepted self.now) (list_of seen.now.log)) (Unit {0}) }
+        ensures begins { MatchBool result
+            (IsPrefix (accepted self.now) (list_of seen.now.log)) (Unit {0}) }
         ensures near { IsTrue result ↔ (length self.now ≤ marks + 1) }
     {
         let mut both = self.seen.again();
@@ -98,7 +99,8 @@ impl<J: Naming> LogPrefix<J> {
     fn adds<M: Plain<Entry, Mark, u64>>(&mut self, end: &LogEnd<J>, entry: &Entry) -> bool
         requires room { length self.old < 2 ^ 62 }
         requires plain { M.state entry.now ≡ None }
-        ensures { MatchBool result (self.new ≡ self.old ++ M.ask entry.now ∷ []) (self.new ≡ self.old) }
+        ensures { MatchBool result (self.new ≡ self.old ++ M.ask entry.now ∷ [])
+            (self.new ≡ self.old) }
     {
         let mut seen = self.seen.again();
         let mut offer: Offer<Mark, u64, Law, Nothing> = seen.plain::<Nothing, Entry, M>(entry);

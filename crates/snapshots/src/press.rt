@@ -19,10 +19,12 @@ use std::sync::{Arc, Wait};
 /// The writer of the versions of a store.
 pub type Press<J> = Writer<Version, Version, [Entry; 0], Grows<J>>;
 
-/// Publishes one whole version. Where it is refused, the version is left pending, and the next one overtakes it.
+/// Publishes one whole version. Where it is refused, the version is left pending, and the next one
+/// overtakes it.
 fn publish<J: Naming, R: Wait>(rt: &R, mut press: Press<J>, next: Version) -> (Press<J>, bool)
     requires { MayFollow J.book J.opening press.desk.shown.value next }
-    ensures { MatchBool result.1 (result.0.desk.shown.value ≡ next) (result.0.desk.shown.value ≡ press.desk.shown.value) }
+    ensures { MatchBool result.1 (result.0.desk.shown.value ≡ next) (result.0.desk.shown.value
+        ≡ press.desk.shown.value) }
 {
     let Ok(()) = press.append(next) else {
         return (press, false);
@@ -48,9 +50,11 @@ pub fn publish_entry<J: Naming, R: Wait>(
     requires shown { Shows J.book J.opening press.old.desk.shown.value (accepted log.old) }
     requires next { IsAfter J.opening (accepted log.old ++ entry.now ∷ []) (arc_value snapshot) }
     requires events { events ≡ length (accepted log.old) + 1 }
-    ensures list { MatchBool result (accepted log.new ≡ accepted log.old ++ entry.now ∷ []) (accepted log.new ≡ accepted log.old) }
+    ensures list { MatchBool result (accepted log.new ≡ accepted log.old ++ entry.now ∷ [])
+        (accepted log.new ≡ accepted log.old) }
     ensures shown { Shows J.book J.opening press.new.desk.shown.value (accepted log.new) }
-    ensures parts { MatchBool result (press.new.desk.shown.value.parts ≡ arc_value snapshot) (press.new.desk.shown.value ≡ press.old.desk.shown.value) }
+    ensures parts { MatchBool result (press.new.desk.shown.value.parts ≡ arc_value snapshot)
+        (press.new.desk.shown.value ≡ press.old.desk.shown.value) }
 {
     log.add::<Tries, R>(rt, end, entry);
     let next = Version::of(snapshot, events, log);
@@ -59,7 +63,8 @@ pub fn publish_entry<J: Naming, R: Wait>(
         next,
         |press: Press<J>, next: Version| -> (Press<J>, bool)
             requires { MayFollow J.book J.opening press.desk.shown.value next }
-            ensures { MatchBool result.1 (result.0.desk.shown.value ≡ next) (result.0.desk.shown.value ≡ press.desk.shown.value) }
+            ensures { MatchBool result.1 (result.0.desk.shown.value ≡ next)
+                (result.0.desk.shown.value ≡ press.desk.shown.value) }
         { publish(rt, press, next) },
     );
     if published {

@@ -7,8 +7,8 @@ use crate::naming::Naming;
 use crate::prefix::LogPrefix;
 use std::marker::Model;
 
-/// What was published up to an event of the caller's. Contracts see it as the events up to this one, each with the
-/// number of its seat.
+/// What was published up to an event of the caller's. Contracts see it as the events up to this
+/// one, each with the number of its seat.
 #[derive(Drop)]
 pub struct Receipt<J: Naming> {
     log: LogPrefix<J>,

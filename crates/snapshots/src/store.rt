@@ -105,10 +105,11 @@ impl Store {
         }
     }
 
-    /// Opens the store over these blocks, in this order, with so many passes and seats, which are numbered from 0. Its
-    /// first version has these blocks, an empty head and the empty list. `O2` where there are not 1 to 64 passes and 1
-    /// to 64 seats, then `O3` where there are more than 63 blocks, then `O4` where `left_right` refuses a reader. The
-    /// committer keeps the handle `rt`, since its drop waits for the readers.
+    /// Opens the store over these blocks, in this order, with so many passes and seats, which are
+    /// numbered from 0. Its first version has these blocks, an empty head and the empty list. `O2`
+    /// where there are not 1 to 64 passes and 1 to 64 seats, then `O3` where there are more than 63
+    /// blocks, then `O4` where `left_right` refuses a reader. The committer keeps the handle `rt`,
+    /// since its drop waits for the readers.
     pub fn open<J: Naming, R: Wait + Drop>(
         self,
         rt: R,
@@ -119,9 +120,12 @@ impl Store {
     ) -> Result<(Committer<J, R>, Vec<Pass<J>>, Vec<Seat<J>>), OpenError>
         requires book { self.seen.book ≡ J.book }
         requires opening { opening_of (map part_in blocks.items) ≡ J.opening }
-        ensures room { MatchResult result (λ _. IsRoom passes seats) (λ e. (e ≡ OpenError.BadPasses) ↔ (¬ IsRoom passes seats)) }
-        ensures few { MatchResult result (λ _. length blocks.items ≤ 63) (λ e. (e ≡ OpenError.Limit) ↔ (IsRoom passes seats × (63 < length blocks.items))) }
-        ensures passes { IfOk result (λ r. (vec_len r.1 ≡ passes) × All (λ p. p ≡ nothing) r.1.items) }
+        ensures room { MatchResult result (λ _. IsRoom passes seats) (λ e.
+            (e ≡ OpenError.BadPasses) ↔ (¬ IsRoom passes seats)) }
+        ensures few { MatchResult result (λ _. length blocks.items ≤ 63) (λ e.
+            (e ≡ OpenError.Limit) ↔ (IsRoom passes seats × (63 < length blocks.items))) }
+        ensures passes { IfOk result (λ r.
+            (vec_len r.1 ≡ passes) × All (λ p. p ≡ nothing) r.1.items) }
         ensures seats { IfOk result (λ r. (vec_len r.2 ≡ seats) × AreFresh 0 r.2.items) }
     {
         if passes < 1 || passes > MAX_HANDLES || seats < 1 || seats > MAX_HANDLES {

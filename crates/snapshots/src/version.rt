@@ -34,9 +34,11 @@ impl Model for Version {
 
     ghost Value = { Edition };
 
-    ghost view = { λ v. record { book = v.seen.book; marks = v.seen.log; parts = arc_value v.snapshot } };
+    ghost view = { λ v.
+        record { book = v.seen.book; marks = v.seen.log; parts = arc_value v.snapshot } };
 
-    ghost invariant = { λ v. (v.marks ≡ length v.seen.log) × (v.events ≡ length (list_of v.seen.log)) };
+    ghost invariant = { λ v.
+        (v.marks ≡ length v.seen.log) × (v.events ≡ length (list_of v.seen.log)) };
 }
 
 impl Version {

@@ -6,5 +6,8 @@ pub loop-number-preserved : goal.loop-number-preserved
 loop-number-preserved g c =
     let len : length c.loop-number.seats.items ≡ c.loop-number.number = search rules in (
       search rules,
-      rw c.in_ok-push.ensures.items (fresh-snoc 0 c.loop-number.number c.loop-number.seats.items _ c.loop-number.invariant.1 len (omega (arith, ap (λ z. z.number) c.new.ensures)) (ap (λ z. z.count) c.new.ensures)),
+      rw c.in_ok-push.ensures.items
+          (fresh-snoc 0 c.loop-number.number c.loop-number.seats.items _
+          c.loop-number.invariant.1 len
+          (omega (arith, ap (λ z. z.number) c.new.ensures)) (ap (λ z. z.count) c.new.ensures)),
     )

@@ -9,8 +9,10 @@ use Rattle.snapshots.proofs.book.Book.step.Goals as goal
 pub publish_entry-published-requires-clause-next : goal.publish_entry-published-requires-clause-next
 publish_entry-published-requires-clause-next g c =
     let at = c.snapshot.ensures ∙ ap (λ z. z.parts) c.published.ensures in
-    after_shown g.J.Naming.book g.J.Naming.opening c.self.inside.press.desk.shown.value (accepted c.self.inside.log)
-    (record { event = c.args.event; seat = c.number-number.result }) _ _ c.self.invariant.2 at c.in-Ok.ensures.ok
+    after_shown g.J.Naming.book g.J.Naming.opening c.self.inside.press.desk.shown.value
+    (accepted c.self.inside.log)
+    (record { event = c.args.event; seat = c.number-number.result }) _ _ c.self.invariant.2
+    at c.in-Ok.ensures.ok
 
 pub invariant_of-self-2 : goal.invariant_of-self-2
 invariant_of-self-2 g c =
@@ -18,11 +20,17 @@ invariant_of-self-2 g c =
     let log = accepted c.self.inside.log in
     let entry : Entry = record { event = c.args.event; seat = c.number-number.result } in
     let in_range : c.args.seat.now.number < length counts = c.if-not-fits.ensures.0 in
-    let same : slice_index counts c.args.seat.now.number ≡ c.args.seat.now.count = c.if-not-fits.ensures.1 in
+    let same : slice_index counts c.args.seat.now.number ≡ c.args.seat.now.count =
+    c.if-not-fits.ensures.1 in
     let within = subst (λ (k : ℕ). k < length counts) (sym c.number-number.ensures) in_range in
-    let more = ap (λ (k : ℕ). k + 1) (c.count.ensures ∙ sym (ap (slice_index counts) c.number-number.ensures ∙ same)) in (
-      counts_next counts log (accepted c.publish_entry-published.new.log) entry c.number-number.result (c.count.result + 1) c.self.invariant.0 c.if-not-published.ensures.list refl within more,
-      rw c.if-not-published.ensures.list (omega (arith, c.self.invariant.1, length-append log (entry ∷ []))),
+    let more = ap (λ (k : ℕ). k + 1)
+    (c.count.ensures ∙ sym (ap (slice_index counts) c.number-number.ensures ∙ same)) in (
+      counts_next counts log (accepted c.publish_entry-published.new.log) entry
+          c.number-number.result (c.count.result + 1) c.self.invariant.0
+          c.if-not-published.ensures.list
+          refl within more,
+      rw c.if-not-published.ensures.list
+          (omega (arith, c.self.invariant.1, length-append log (entry ∷ []))),
       c.publish_entry-published.ensures.shown,
     )
 
@@ -32,10 +40,14 @@ returns-clause-books g c =
     let log = accepted c.self.inside.log in
     let entry : Entry = record { event = c.args.event; seat = c.number-number.result } in
     let in_range : c.args.seat.now.number < length counts = c.if-not-fits.ensures.0 in
-    let same : slice_index counts c.args.seat.now.number ≡ c.args.seat.now.count = c.if-not-fits.ensures.1 in
+    let same : slice_index counts c.args.seat.now.number ≡ c.args.seat.now.count =
+    c.if-not-fits.ensures.1 in
     let within = subst (λ (k : ℕ). k < length counts) (sym c.number-number.ensures) in_range in
-    let more = ap (λ (k : ℕ). k + 1) (c.count.ensures ∙ sym (ap (slice_index counts) c.number-number.ensures ∙ same)) in
-    counts_next counts log (accepted c.publish_entry-published.new.log) entry c.number-number.result (c.count.result + 1) c.self.invariant.0 c.if-not-published.ensures.list refl within more
+    let more =
+    ap (λ (k : ℕ). k + 1)
+    (c.count.ensures ∙ sym (ap (slice_index counts) c.number-number.ensures ∙ same)) in
+    counts_next counts log (accepted c.publish_entry-published.new.log) entry c.number-number.result
+    (c.count.result + 1) c.self.invariant.0 c.if-not-published.ensures.list refl within more
 
 pub returns-clause-counted : goal.returns-clause-counted
 returns-clause-counted g c =
@@ -43,10 +55,14 @@ returns-clause-counted g c =
     let log = accepted c.self.inside.log in
     let entry : Entry = record { event = c.args.event; seat = c.number-number.result } in
     let in_range : c.args.seat.now.number < length counts = c.if-not-fits.ensures.0 in
-    let same : slice_index counts c.args.seat.now.number ≡ c.args.seat.now.count = c.if-not-fits.ensures.1 in (
+    let same : slice_index counts c.args.seat.now.number ≡ c.args.seat.now.count =
+    c.if-not-fits.ensures.1 in (
       c.add_one.ensures,
       rw (c.of.ensures, c.share.ensures, c.add_one.ensures)
-          (counted_next counts log (accepted c.publish_entry-published.new.log) entry c.args.seat.now.number (c.args.seat.now.count + 1) c.self.invariant.0 c.if-not-published.ensures.list c.number-number.ensures in_range (ap (λ (k : ℕ). k + 1) (sym same))),
+          (counted_next counts log (accepted c.publish_entry-published.new.log) entry
+          c.args.seat.now.number (c.args.seat.now.count + 1) c.self.invariant.0
+          c.if-not-published.ensures.list c.number-number.ensures in_range
+          (ap (λ (k : ℕ). k + 1) (sym same))),
     )
 
 pub overflow_add-events : goal.overflow_add-events

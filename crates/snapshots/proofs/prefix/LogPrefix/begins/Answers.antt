@@ -7,5 +7,8 @@ use Rattle.snapshots.proofs.prefix.LogPrefix.begins.Goals as goal
 pub returns-clause-begins : goal.returns-clause-begins
 returns-clause-begins g c =
     let both = c.learn.new.self.log in
-    let this : IsPrefix c.self.inside.seen.log both = subst (λ (l : List Mark). IsPrefix l both) (ap (λ s. s.log) c.again-both.ensures) c.learn.ensures.2 in
-    rw (← c.self.view_is, c.saturating_sub.ensures, c.self.invariant.0, c.requires.1) (covers_when c.self.inside.seen.log c.args.seen.now.log both this c.learn.ensures.3 _ refl)
+    let this : IsPrefix c.self.inside.seen.log both =
+    subst (λ (l : List Mark). IsPrefix l both) (ap (λ s. s.log) c.again-both.ensures)
+    c.learn.ensures.2 in
+    rw (← c.self.view_is, c.saturating_sub.ensures, c.self.invariant.0, c.requires.1)
+    (covers_when c.self.inside.seen.log c.args.seen.now.log both this c.learn.ensures.3 _ refl)
