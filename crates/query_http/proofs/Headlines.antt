@@ -19,8 +19,10 @@ pub world_content : (s : SnapshotParts) → content_of (parts_of s) ≡ (world_o
 unfolding world_of
 world_content s = refl
 
-module _ (opening : SnapshotParts) (query : QueryView) (before after : Known) (answer : AuditedAnswer) where
-  pub headline : (s : SnapshotParts) → IsPrefix before.seen after.seen → IsPrefix before.told after.seen → IsAfter opening after.seen s
+module _ (opening : SnapshotParts) (query : QueryView) (before after : Known)
+    (answer : AuditedAnswer) where
+  pub headline : (s : SnapshotParts) → IsPrefix before.seen after.seen
+      → IsPrefix before.told after.seen → IsAfter opening after.seen s
       → AreRows answer.rows.items (asked_of (content_of (parts_of s)) query)
       → LosesNothing query s
       → AllZip (IsAnswered query) (asked_parts query s) answer.parts.items
@@ -30,7 +32,9 @@ module _ (opening : SnapshotParts) (query : QueryView) (before after : Known) (a
     told = told;
     snapshot = s;
     replay = after_events;
-    rows = subst (λ (c : Content). AreRows answer.rows.items (asked_of c query)) (world_content s) rows;
+    rows =
+        subst (λ (c : Content). AreRows answer.rows.items (asked_of c query))
+        (world_content s) rows;
     whole = whole;
     parts = parts;
   }

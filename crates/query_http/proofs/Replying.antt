@@ -25,41 +25,64 @@ use Rattle.query_http.specs.Serving.{Worker, IsIdle, IsRefusal, IsQueryReply, Is
 use Rattle.query_http.specs.declared.engine.Served.{Served}
 use Rattle.query_http.specs.declared.engine.Served.TheVariants as served
 
-pub conflict_spelled : (cause : Cause) (error : CommitError) (status : Status) (text : List ℕ) → IsRefusal (Refused cause) status text
-    → cause.code.now ≡ commit_code error → cause.at ≡ refused_at error → text ≡ reply_text Conflict (conflict_body error)
+pub conflict_spelled : (cause : Cause) (error : CommitError) (status : Status) (text : List ℕ)
+    → IsRefusal (Refused cause) status text
+    → cause.code.now ≡ commit_code error → cause.at ≡ refused_at error
+    → text ≡ reply_text Conflict (conflict_body error)
 conflict_spelled cause error status text p code at =
     let same : told_cause cause ≡ (commit_code error, refused_at error) = rw (code, at) refl in
-    p.spelled ∙ ap (λ (x : List ℕ × Option ℕ). reply_text Conflict (compact_text (cause_data (codes "H9") x))) same
+    p.spelled
+    ∙ ap (λ (x : List ℕ × Option ℕ). reply_text Conflict (compact_text (cause_data (codes "H9") x)))
+    same
 
-pub answer_replied : {E : Type 0} (opening : SnapshotParts) (query : QueryView) (before after : Known) (answer : AuditedAnswer) (result : Result Reply E)
+pub answer_replied : {E : Type 0} (opening : SnapshotParts) (query : QueryView)
+    (before after : Known) (answer : AuditedAnswer) (result : Result Reply E)
     → IsHeadline opening query before after answer → IfOk result (λ r. r.status ≡ Done)
-    → IfOk result (λ r. text_of r ≡ reply_text Done (body_text answer.parts.items answer.rows.items))
+    → IfOk result (λ r.
+    text_of r ≡ reply_text Done (body_text answer.parts.items answer.rows.items))
     → IfOk result (λ r. IsQueryReply opening query before after r.status (text_of r))
 answer_replied opening query before after answer (Ok r) h number spelled =
     inl (record { answer = answer; headline = h; number = number; spelled = spelled })
 answer_replied opening query before after answer (Err e) h number spelled = tt
 
--- where a refusal is the seat's or memory's, and not memory's, it is that of the store's opening too
-pub seat_refused : (opening : SnapshotParts) (event : Event) (error : CommitError) → IsOfSeatOrMemory error → error ≢ Memory
+-- where a refusal is the seat's or memory's, and not memory's, it is that of the store's opening
+-- too
+pub seat_refused : (opening : SnapshotParts) (event : Event) (error : CommitError)
+    → IsOfSeatOrMemory error → error ≢ Memory
     → IsRefusedAfter opening error event
-seat_refused opening event error (inl e) other = ([], opening, after-none opening, λ seat. absurd (seat e))
+seat_refused opening event error (inl e) other =
+    ([], opening, after-none opening, λ seat. absurd (seat e))
 seat_refused opening event error (inr e) other = absurd (other e)
 
-pub conflict_replied : {E : Type 0} (opening : SnapshotParts) (event : Event) (before after : Worker) (error : CommitError) (result : Result Reply E)
+pub conflict_replied : {E : Type 0} (opening : SnapshotParts) (event : Event)
+    (before after : Worker) (error : CommitError) (result : Result Reply E)
     → after ≡ before → (error ≢ Memory → IsRefusedAfter opening error event)
     → IfOk result (λ _. error ≢ Memory) → IfOk result (λ r. r.status ≡ Conflict)
     → IfOk result (λ r. text_of r ≡ reply_text Conflict (conflict_body error))
     → IfOk result (λ r. IsEventReply opening event before after r.status (text_of r))
 conflict_replied opening event before after error (Ok r) same found no_memory number spelled =
-    inr (record { error = error; found = found no_memory; no_memory = no_memory; same = same; number = number; spelled = spelled })
+    inr (record {
+      error = error;
+      found = found no_memory;
+      no_memory = no_memory;
+      same = same;
+      number = number;
+      spelled = spelled;
+    })
 conflict_replied opening event before after error (Err e) same found no_memory number spelled = tt
 
 -- a connection that got no reply
-pub silent_served : (opening : SnapshotParts) (input : Option (List ℕ)) (before after : Worker) (old new : Option (List ℕ)) (how : Served) → IsSilent how
-    → (how ≡ served.Closed → IfSome input (λ bytes. bytes ≡ [])) → (how ≡ served.Closed → after ≡ before) → (how ≡ served.ReadFault → after ≡ before)
+pub silent_served : (opening : SnapshotParts) (input : Option (List ℕ)) (before after : Worker)
+    (old new : Option (List ℕ)) (how : Served) → IsSilent how
+    → (how ≡ served.Closed → IfSome input (λ bytes. bytes ≡ []))
+    → (how ≡ served.Closed → after ≡ before) → (how ≡ served.ReadFault → after ≡ before)
     → IsIdle before after → Serves opening input before after old new how
-silent_served opening input before after old new (served.Replied status) p closed unasked unread idle = absurd p
-silent_served opening input before after old new served.WriteFault p closed unasked unread idle = absurd p
-silent_served opening input before after old new served.Closed p closed unasked unread idle = (closed refl, unasked refl)
-silent_served opening input before after old new served.ReadFault p closed unasked unread idle = unread refl
+silent_served opening input before after old new (served.Replied status) p closed unasked
+    unread idle = absurd p
+silent_served opening input before after old new served.WriteFault p closed unasked unread idle =
+    absurd p
+silent_served opening input before after old new served.Closed p closed unasked unread idle =
+    (closed refl, unasked refl)
+silent_served opening input before after old new served.ReadFault p closed unasked unread idle =
+    unread refl
 silent_served opening input before after old new served.NoMemory p closed unasked unread idle = idle

@@ -18,22 +18,30 @@ use Rattle.query_http.specs.Telling.{told_of_one, left_after}
 -- what is told of these parts, given the answers of those that are searched
 abbrev pub told_of : List AskedPart → List PartAnswer → List AnsweredPart
 told_of [] answers = []
-told_of (p ∷ ps) answers = told_of_one p.skipped p.name answers ++ told_of ps (left_after p.skipped answers)
+told_of (p ∷ ps) answers =
+    told_of_one p.skipped p.name answers ++ told_of ps (left_after p.skipped answers)
 
 module _ (query : QueryView) where
-  told_searched : (p : AskedPart) (ps : List AskedPart) (answers : List PartAnswer) → p.skipped ≡ false
-      → ((others : List PartAnswer) → AllZip (IsAnswerOf query) (filter (λ q. not q.skipped) ps) others → AllZip (IsAnswered query) ps (told_of ps others))
+  told_searched : (p : AskedPart) (ps : List AskedPart) (answers : List PartAnswer)
+      → p.skipped ≡ false
+      → ((others : List PartAnswer) → AllZip (IsAnswerOf query) (filter (λ q. not q.skipped) ps)
+      others → AllZip (IsAnswered query) ps (told_of ps others))
       → AllZip (IsAnswerOf query) (p ∷ filter (λ q. not q.skipped) ps) answers
-      → AllZip (IsAnswered query) (p ∷ ps) (told_of_one false p.name answers ++ told_of ps (left_after false answers))
+      → AllZip (IsAnswered query) (p ∷ ps)
+      (told_of_one false p.name answers ++ told_of ps (left_after false answers))
   told_searched p ps [] e rest are = absurd are
   told_searched p ps (a ∷ later) e rest are = ((e, are.0), rest later are.1)
 
-  pub told_is : (ps : List AskedPart) (answers : List PartAnswer) → AllZip (IsAnswerOf query) (filter (λ p. not p.skipped) ps) answers → AllZip (IsAnswered query) ps (told_of ps answers)
+  pub told_is : (ps : List AskedPart) (answers : List PartAnswer)
+      → AllZip (IsAnswerOf query) (filter (λ p. not p.skipped) ps) answers
+      → AllZip (IsAnswered query) ps (told_of ps answers)
   told_is [] answers are = tt
   told_is (p ∷ ps) answers are =
       let others = filter (λ q. not q.skipped) ps in
-      elim p.skipped as (λ b. p.skipped ≡ b → AllZip (IsAnswerOf query) (cond (not b) (p ∷ others) others) answers
-      → AllZip (IsAnswered query) (p ∷ ps) (told_of_one b p.name answers ++ told_of ps (left_after b answers))) [
+      elim p.skipped as (λ b. p.skipped ≡ b
+      → AllZip (IsAnswerOf query) (cond (not b) (p ∷ others) others) answers
+      → AllZip (IsAnswered query) (p ∷ ps)
+      (told_of_one b p.name answers ++ told_of ps (left_after b answers))) [
         | true ↦ λ e are. ((e, refl), told_is ps answers are)
         | false ↦ λ e are. told_searched p ps answers e (told_is ps) are
       ] refl are
@@ -42,20 +50,27 @@ module _ (query : QueryView) where
   next n = omega arith
 
   -- one block more
-  pub next_told : (n : ℕ) (bs : List Shown) (b : Shown) (last : List AskedPart) (old new whole : List AnsweredPart) (left rest : List PartAnswer)
-      → n < length bs → b ≡ get_or bs n b → new ≡ old ++ told_of_one (is_skipped query b.range) (BlockName n) left
+  pub next_told : (n : ℕ) (bs : List Shown) (b : Shown) (last : List AskedPart)
+      (old new whole : List AnsweredPart) (left rest : List PartAnswer)
+      → n < length bs → b ≡ get_or bs n b
+      → new ≡ old ++ told_of_one (is_skipped query b.range) (BlockName n) left
       → rest ≡ left_after (is_skipped query b.range) left
       → old ++ told_of (asked_blocks query n (map part_in (drop n bs)) ++ last) left ≡ whole
-      → new ++ told_of (asked_blocks query (n + 1) (map part_in (drop (n + 1) bs)) ++ last) rest ≡ whole
+      → new ++ told_of (asked_blocks query (n + 1) (map part_in (drop (n + 1) bs)) ++ last) rest
+      ≡ whole
   next_told n bs b last old new whole left rest lt is moved taken inv =
       let one = told_of_one (is_skipped query b.range) (BlockName n) left in
-      let later = λ (answers : List PartAnswer). told_of (asked_blocks query (n + 1) (map part_in (drop (n + 1) bs)) ++ last) answers in
-      let blocks : drop n bs ≡ b ∷ drop (n + 1) bs = drop-cons bs n b lt ∙ (λ i. sym is i ∷ drop (next n i) bs) in
+      let later =
+      λ (answers : List PartAnswer).
+      told_of (asked_blocks query (n + 1) (map part_in (drop (n + 1) bs)) ++ last) answers in
+      let blocks : drop n bs ≡ b ∷ drop (n + 1) bs =
+      drop-cons bs n b lt ∙ (λ i. sym is i ∷ drop (next n i) bs) in
       (λ i. moved i ++ later (taken i))
       ∙ append_assoc old one (later (left_after (is_skipped query b.range) left))
       ∙ ap (λ xs. old ++ told_of (asked_blocks query n (map part_in xs) ++ last) left) (sym blocks)
       ∙ inv
 
 -- the last of the answers that are left is the next one
-pub next_left : (old new : List PartAnswer) (answer : PartAnswer) → old ≡ new ++ answer ∷ [] → reverse old ≡ answer ∷ reverse new
+pub next_left : (old new : List PartAnswer) (answer : PartAnswer) → old ≡ new ++ answer ∷ []
+    → reverse old ≡ answer ∷ reverse new
 next_left old new answer e = ap reverse e ∙ reverse-append new (answer ∷ [])

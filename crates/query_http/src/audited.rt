@@ -38,16 +38,18 @@ pub struct AuditedAnswer {
     pub rows: Vec<Row>,
 }
 
-/// Adds what is told of a part, which takes the next answer where it was searched. The next answer is the last of those
-/// that are left.
+/// Adds what is told of a part, which takes the next answer where it was searched. The next answer
+/// is the last of those that are left.
 fn push_part(
     parts: &mut Vec<AnsweredPart>,
     left: &mut Vec<PartAnswer>,
     name: PartName,
     skipped: bool,
 ) -> Result<(), AllocError>
-    ensures told { OnOk result (parts.new.items ≡ parts.old.items ++ told_of_one skipped name (reverse left.old.items)) }
-    ensures left { OnOk result (reverse left.new.items ≡ left_after skipped (reverse left.old.items)) }
+    ensures told { OnOk result (parts.new.items
+        ≡ parts.old.items ++ told_of_one skipped name (reverse left.old.items)) }
+    ensures left { OnOk result (reverse left.new.items
+        ≡ left_after skipped (reverse left.old.items)) }
 {
     if skipped {
         parts.push(AnsweredPart::Skipped(name))?;
@@ -65,7 +67,8 @@ fn answered_parts(
     answers: Vec<PartAnswer>,
 ) -> Result<Vec<AnsweredPart>, AllocError>
     requires { AreAnswers query.now snapshot.now answers.items }
-    ensures { IfOk result (λ parts. AllZip (IsAnswered query.now) (asked_parts query.now snapshot.now) parts.items) }
+    ensures { IfOk result (λ parts.
+        AllZip (IsAnswered query.now) (asked_parts query.now snapshot.now) parts.items) }
 {
     let mut left = answers;
     left.reverse();
@@ -88,8 +91,11 @@ fn audited(
 ) -> Result<AuditedAnswer, AllocError>
     requires each { AreAnswers query.now snapshot.now answers.items }
     requires whole { LosesNothing query.now snapshot.now }
-    ensures each { IfOk result (λ a. AllZip (IsAnswered query.now) (asked_parts query.now snapshot.now) a.parts.items) }
-    ensures rows { IfOk result (λ a. AreRows a.rows.items (selected (satisfies_all query.now.matchers) query.now.from query.now.to (content_of (parts_of snapshot.now)))) }
+    ensures each { IfOk result (λ a.
+        AllZip (IsAnswered query.now) (asked_parts query.now snapshot.now) a.parts.items) }
+    ensures rows { IfOk result (λ a.
+        AreRows a.rows.items (selected (satisfies_all query.now.matchers) query.now.from
+        query.now.to (content_of (parts_of snapshot.now)))) }
 {
     let rows = merge(alloc, answers.as_slice())?;
     let parts = answered_parts(alloc, snapshot, query, answers)?;
@@ -102,23 +108,30 @@ pub fn answer(
     snapshot: &Snapshot,
     query: &Query,
 ) -> Result<AuditedAnswer, AllocError>
-    ensures each { IfOk result (λ a. AllZip (IsAnswered query.now) (asked_parts query.now snapshot.now) a.parts.items) }
-    ensures rows { IfOk result (λ a. AreRows a.rows.items (selected (satisfies_all query.now.matchers) query.now.from query.now.to (content_of (parts_of snapshot.now)))) }
+    ensures each { IfOk result (λ a.
+        AllZip (IsAnswered query.now) (asked_parts query.now snapshot.now) a.parts.items) }
+    ensures rows { IfOk result (λ a.
+        AreRows a.rows.items (selected (satisfies_all query.now.matchers) query.now.from
+        query.now.to (content_of (parts_of snapshot.now)))) }
     ensures whole { OnOk result (LosesNothing query.now snapshot.now) }
 {
     let answers = search_one_by_one(alloc, snapshot, query)?;
     audited(alloc, snapshot, query, answers)
 }
 
-/// The audited answer to a query, each part searched by a worker of its own: that of [`answer`] but for the moves.
+/// The audited answer to a query, each part searched by a worker of its own: that of [`answer`] but
+/// for the moves.
 pub fn answer_by_workers<R: Threads + Sync>(
     rt: &R,
     alloc: Global,
     snapshot: &Snapshot,
     query: &Query,
 ) -> Result<AuditedAnswer, AllocError>
-    ensures each { IfOk result (λ a. AllZip (IsAnswered query.now) (asked_parts query.now snapshot.now) a.parts.items) }
-    ensures rows { IfOk result (λ a. AreRows a.rows.items (selected (satisfies_all query.now.matchers) query.now.from query.now.to (content_of (parts_of snapshot.now)))) }
+    ensures each { IfOk result (λ a.
+        AllZip (IsAnswered query.now) (asked_parts query.now snapshot.now) a.parts.items) }
+    ensures rows { IfOk result (λ a.
+        AreRows a.rows.items (selected (satisfies_all query.now.matchers) query.now.from
+        query.now.to (content_of (parts_of snapshot.now)))) }
     ensures whole { OnOk result (LosesNothing query.now snapshot.now) }
 {
     let answers = search(rt, alloc, snapshot, query, &OpenGate)?;

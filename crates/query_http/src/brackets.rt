@@ -5,10 +5,12 @@ ghost use Rattle.query_http.specs.Later.{opened};
 
 use std::alloc::AllocError;
 
-/// Puts the opening bracket in place of the comma at `start`, or at the end where nothing stands there.
+/// Puts the opening bracket in place of the comma at `start`, or at the end where nothing stands
+/// there.
 fn open_list(out: &mut Vec<u8>, start: usize, first: u8) -> Result<(), AllocError>
     requires { start ≤ vec_len out.old }
-    ensures { OnOk result (out.new.items ≡ take start out.old.items ++ opened first (drop start out.old.items)) }
+    ensures { OnOk result (out.new.items
+        ≡ take start out.old.items ++ opened first (drop start out.old.items)) }
 {
     if start == out.len() {
         out.push(first)?;
@@ -26,7 +28,8 @@ pub(crate) fn close_list(
     last: u8,
 ) -> Result<(), AllocError>
     requires { start ≤ vec_len out.old }
-    ensures { OnOk result (out.new.items ≡ take start out.old.items ++ (opened first (drop start out.old.items) ++ last ∷ [])) }
+    ensures { OnOk result (out.new.items
+        ≡ take start out.old.items ++ (opened first (drop start out.old.items) ++ last ∷ [])) }
 {
     open_list(out, start, first)?;
     out.push(last)?;

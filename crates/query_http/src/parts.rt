@@ -1,4 +1,5 @@
-//! The text of what is told of each part: its certificate, its rows and its separators, or that it is skipped.
+//! The text of what is told of each part: its certificate, its rows and its separators, or that it
+//! is skipped.
 
 ghost use Rattle.std.specs.Prelude.{◌≡◌, ◌++◌, OnOk, IfOk, string_bytes};
 ghost use Rattle.serde_json.specs.Written.{compact_text};
@@ -42,7 +43,8 @@ fn append_later_interval(out: &mut Vec<u8>, interval: &Interval) -> Result<(), A
 
 /// Appends the intervals, each with a comma before it.
 fn append_later_intervals(out: &mut Vec<u8>, intervals: &[Interval]) -> Result<(), AllocError>
-    ensures { OnOk result (out.new.items ≡ out.old.items ++ later_text interval_data intervals.now) }
+    ensures { OnOk result (out.new.items
+        ≡ out.old.items ++ later_text interval_data intervals.now) }
 {
     for interval in intervals {
         append_later_interval(out, interval)?;
@@ -52,7 +54,8 @@ fn append_later_intervals(out: &mut Vec<u8>, intervals: &[Interval]) -> Result<(
 
 /// Appends the intervals as a list.
 fn append_intervals(out: &mut Vec<u8>, intervals: &[Interval]) -> Result<(), AllocError>
-    ensures { OnOk result (out.new.items ≡ out.old.items ++ compact_text (list_data interval_data intervals.now)) }
+    ensures { OnOk result (out.new.items
+        ≡ out.old.items ++ compact_text (list_data interval_data intervals.now)) }
 {
     let start = out.len();
     append_later_intervals(out, intervals)?;
@@ -72,7 +75,8 @@ fn append_later_references(out: &mut Vec<u8>, references: &[SeriesRef]) -> Resul
 
 /// Appends the references as a list.
 fn append_references(out: &mut Vec<u8>, references: &[SeriesRef]) -> Result<(), AllocError>
-    ensures { OnOk result (out.new.items ≡ out.old.items ++ compact_text (list_data natural references.now)) }
+    ensures { OnOk result (out.new.items
+        ≡ out.old.items ++ compact_text (list_data natural references.now)) }
 {
     let start = out.len();
     append_later_references(out, references)?;
@@ -158,7 +162,8 @@ pub fn append_parts(
     parts: &[AnsweredPart],
     rows: &RowText<'_>,
 ) -> Result<(), AllocError>
-    ensures { OnOk result (out.new.items ≡ out.old.items ++ compact_text (list_data part_data parts.now)) }
+    ensures { OnOk result (out.new.items
+        ≡ out.old.items ++ compact_text (list_data part_data parts.now)) }
 {
     let start = out.len();
     append_later_parts(alloc, out, parts, rows)?;

@@ -1,6 +1,7 @@
 //! The text of an answer, written straight into one vector of bytes.
 //!
-//! Each item of a list is written with a comma before it; the first comma then becomes the opening bracket.
+//! Each item of a list is written with a comma before it; the first comma then becomes the opening
+//! bracket.
 
 ghost use Rattle.std.specs.Prelude.{◌≡◌, ◌≤◌, ◌++◌, OnOk, IfOk, drop, vec_len};
 ghost use Rattle.query_http.specs.Reply.{body_text};

@@ -84,14 +84,16 @@ impl<'a> RowText<'a> {
 
     /// Appends the rows as a list.
     pub fn append(&self, out: &mut Vec<u8>) -> Result<(), AllocError>
-        ensures { OnOk result (out.new.items ≡ out.old.items ++ compact_text (list_data row_data self.now.rows.now)) }
+        ensures { OnOk result (out.new.items
+            ≡ out.old.items ++ compact_text (list_data row_data self.now.rows.now)) }
     {
         out.extend_from_slice(self.text.as_slice())
     }
 
     /// Appends the rows of a part as a list; where they are the same, their text is copied.
     pub fn append_part(&self, out: &mut Vec<u8>, rows: &[Row]) -> Result<(), AllocError>
-        ensures { OnOk result (out.new.items ≡ out.old.items ++ compact_text (list_data row_data rows.now)) }
+        ensures { OnOk result (out.new.items
+            ≡ out.old.items ++ compact_text (list_data row_data rows.now)) }
     {
         if are_same(rows, self.rows) {
             return self.append(out);

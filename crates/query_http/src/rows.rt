@@ -33,7 +33,8 @@ fn append_members(out: &mut Vec<u8>, labels: &LabelSet) -> Result<(), AllocError
 
 /// Appends the label set as an object.
 pub fn append_labels(out: &mut Vec<u8>, labels: &LabelSet) -> Result<(), AllocError>
-    ensures { OnOk result (out.new.items ≡ out.old.items ++ compact_text (object (label_members labels.now))) }
+    ensures { OnOk result (out.new.items
+        ≡ out.old.items ++ compact_text (object (label_members labels.now))) }
 {
     let _count = labels.len();
     let start = out.len();
@@ -66,7 +67,8 @@ fn append_later_rows(out: &mut Vec<u8>, rows: &[Row]) -> Result<(), AllocError>
 
 /// Appends the rows as a list.
 pub fn append_rows(out: &mut Vec<u8>, rows: &[Row]) -> Result<(), AllocError>
-    ensures { OnOk result (out.new.items ≡ out.old.items ++ compact_text (list_data row_data rows.now)) }
+    ensures { OnOk result (out.new.items
+        ≡ out.old.items ++ compact_text (list_data row_data rows.now)) }
 {
     let start = out.len();
     append_later_rows(out, rows)?;

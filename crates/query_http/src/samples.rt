@@ -27,7 +27,8 @@ fn place_byte(byte: u8, buf: &mut [u8], end: usize) -> usize
     end - 1
 }
 
-/// Writes the sample so that it ends at `end`, with a comma before it, and returns where that starts.
+/// Writes the sample so that it ends at `end`, with a comma before it, and returns where that
+/// starts.
 #[inline(always)]
 fn place_sample(sample: Sample, buf: &mut [u8], end: usize) -> usize
     requires room { 44 ≤ end }
@@ -83,7 +84,8 @@ pub fn append_samples(
     buf: &mut [u8; ROOM],
     samples: &[Sample],
 ) -> Result<(), AllocError>
-    ensures { OnOk result (out.new.items ≡ out.old.items ++ compact_text (list_data sample_data samples.now)) }
+    ensures { OnOk result (out.new.items
+        ≡ out.old.items ++ compact_text (list_data sample_data samples.now)) }
 {
     let start = out.len();
     append_later(out, buf, samples)?;

@@ -7,7 +7,9 @@ use Rattle.query_http.proofs.actions.delete.Goals as goal
 pub returns-in-Err-clause-reply : goal.returns-in-Err-clause-reply
 returns-in-Err-clause-reply g c =
     let event = deletion c.args.asked.0.items c.args.asked.1 c.args.asked.2 in
-    conflict_replied g.J.Naming.opening event (worker c.args.pass.now c.args.seat.now) _ c.in-Err.error c.conflict_reply.result
+    conflict_replied g.J.Naming.opening event (worker c.args.pass.now c.args.seat.now) _
+    c.in-Err.error c.conflict_reply.result
     (ap (worker _) c.in-Err.ensures.kept.1)
     (seat_refused g.J.Naming.opening event c.in-Err.error c.in-Err.ensures.refused)
-    c.conflict_reply.ensures.no_memory c.conflict_reply.ensures.number c.conflict_reply.ensures.spelled
+    c.conflict_reply.ensures.no_memory c.conflict_reply.ensures.number
+    c.conflict_reply.ensures.spelled

@@ -23,8 +23,10 @@ loop-n-preserved c =
     let last = asked_head c.args.snapshot.now ∷ [] in
     let old : List AnsweredPart = c.loop-n.parts.items in
     let left : List PartAnswer = reverse c.loop-n.left.items in
-    let skips : c.is_skipped-skipped.result ≡ is_skipped query block.range = c.is_skipped-skipped.ensures ∙ ap (is_skipped query) c.range.ensures.range in
-    next_told query n blocks block last old c.push_part.new.parts.items (told_of (asked_blocks query 0 (map part_in blocks) ++ last) c.args.answers.items)
+    let skips : c.is_skipped-skipped.result ≡ is_skipped query block.range =
+    c.is_skipped-skipped.ensures ∙ ap (is_skipped query) c.range.ensures.range in
+    next_told query n blocks block last old c.push_part.new.parts.items
+    (told_of (asked_blocks query 0 (map part_in blocks) ++ last) c.args.answers.items)
     left (reverse c.push_part.new.left.items) c.loop-n-test.true c.index-blocks-n.is
     (c.in_ok-push_part.ensures.told ∙ ap (λ b. old ++ told_of_one b (BlockName n) left) skips)
     (c.in_ok-push_part.ensures.left ∙ ap (λ b. left_after b left) skips)
@@ -42,10 +44,13 @@ returns c =
     let new : List AnsweredPart = c.push_part-2.new.parts.items in
     let left : List PartAnswer = reverse c.loop-n.left.items in
     let all_told : told_of (asked_parts query snapshot) answers ≡ new =
-    ap (λ (bs : List BlockPart). told_of (asked_blocks query 0 bs ++ last) answers) (sym c.blocks-blocks.ensures)
+    ap (λ (bs : List BlockPart). told_of (asked_blocks query 0 bs ++ last) answers)
+    (sym c.blocks-blocks.ensures)
     ∙ sym c.loop-n.invariant
-    ∙ ap (λ (bs : List Shown). old ++ told_of (asked_blocks query n (map part_in bs) ++ last) left) (drop_all n blocks c.loop-n-test.false)
+    ∙ ap (λ (bs : List Shown). old ++ told_of (asked_blocks query n (map part_in bs) ++ last) left)
+    (drop_all n blocks c.loop-n-test.false)
     ∙ ap (λ (told : List AnsweredPart). old ++ told) (append-nil (told_of_one false Head left))
     ∙ sym c.in_ok-push_part-2.ensures.told in
-    subst (λ (parts : List AnsweredPart). AllZip (IsAnswered query) (asked_parts query snapshot) parts) all_told
+    subst (λ (parts : List AnsweredPart). AllZip (IsAnswered query)
+    (asked_parts query snapshot) parts) all_told
     (told_is query (asked_parts query snapshot) answers c.requires)

@@ -12,7 +12,8 @@ merge-requires c = λ a h.
     let query = c.args.query.now in
     let asked = searched_parts query c.args.snapshot.now in
     let answers = c.args.answers.items in
-    each_row_list query (map (λ p. p.part) asked) answers (each_answers query asked answers c.requires.each) a
+    each_row_list query (map (λ p. p.part) asked) answers
+    (each_answers query asked answers c.requires.each) a
     (subst (λ (xs : List PartAnswer). Contains xs a) c.as_slice.ensures.value h)
 
 pub returns-clause-rows : goal.returns-clause-rows
@@ -22,6 +23,7 @@ returns-clause-rows c =
     let answers = c.args.answers.items in
     subst (AreRows c.in_ok-rows.rows.items)
     (ap merged_content c.as_slice.ensures.value
-    ∙ merged_is_selected query (map (λ p. p.part) asked) answers (each_answers query asked answers c.requires.each)
+    ∙ merged_is_selected query (map (λ p. p.part) asked) answers
+    (each_answers query asked answers c.requires.each)
     ∙ c.requires.whole)
     c.in_ok-rows.ensures

@@ -7,5 +7,8 @@ use Rattle.query_http.proofs.brackets.open_list.Goals as goal
 pub returns : goal.returns
 returns c =
     let xs = c.args.out.now.items in
-    let within : c.args.start < length xs = omega (arith, c.requires, c.if-start-len.false, c.len.ensures) in
-    set_split xs c.args.start c.args.first within ∙ ap (λ s. take c.args.start xs ++ opened c.args.first s) (sym (drop-cons xs c.args.start 0 within))
+    let within : c.args.start < length xs =
+    omega (arith, c.requires, c.if-start-len.false, c.len.ensures) in
+    set_split xs c.args.start c.args.first within
+    ∙ ap (λ s. take c.args.start xs ++ opened c.args.first s)
+    (sym (drop-cons xs c.args.start 0 within))

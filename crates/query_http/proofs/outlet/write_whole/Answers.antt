@@ -19,6 +19,7 @@ returns-then-taken-eq0-clause-err g c =
 pub loop-done-preserved : goal.loop-done-preserved
 loop-done-preserved g c =
     let some : 0 < c.in_ok-taken.taken = omega (arith, c.if-taken-eq0.false) in
-    let more = written_more _ _ _ c.loop-done.done c.in_ok-taken.taken c.args.text.now c.loop-done.invariant.0 c.in_ok-taken.ensures.bound
+    let more = written_more _ _ _ c.loop-done.done c.in_ok-taken.taken c.args.text.now
+    c.loop-done.invariant.0 c.in_ok-taken.ensures.bound
     c.loop-done.invariant.1 c.in_ok-taken.ensures.bytes in
     (more.0, more.1, c.in_ok-taken.ensures.ok some ∙ c.loop-done.invariant.2)

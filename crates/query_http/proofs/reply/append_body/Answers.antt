@@ -10,11 +10,14 @@ returns c =
     let parts = c.args.parts.now in
     let rows = c.args.rows.now in
     joined_5 c.args.out.now.items
-    (codes "{\"parts\":") (compact_text (list_data part_data parts)) (codes ",\"rows\":") (compact_text (list_data row_data rows)) (125 ∷ [])
+    (codes "{\"parts\":") (compact_text (list_data part_data parts)) (codes ",\"rows\":")
+    (compact_text (list_data row_data rows)) (125 ∷ [])
     _ c.append_parts.new.out.items _ c.append.new.out.items _
     c.in_ok-extend_from_slice.ensures.items
     c.in_ok-append_parts.ensures
     c.in_ok-extend_from_slice-2.ensures.items
-    (c.in_ok-append.ensures ∙ ap (λ xs. c.extend_from_slice-2.new.self.items ++ compact_text (list_data row_data xs)) c.in_ok-text.ensures)
+    (c.in_ok-append.ensures
+    ∙ ap (λ xs. c.extend_from_slice-2.new.self.items ++ compact_text (list_data row_data xs))
+    c.in_ok-text.ensures)
     c.in_ok-push.ensures.items
     ∙ ap (λ s. c.args.out.now.items ++ s) (sym (whole_text parts rows))

@@ -10,5 +10,8 @@ returns c =
     let old = c.args.out.now.items in
     let labels = c.args.labels.now in
     on_ok_weaker c.close_list.result
-    (λ e. e ∙ bracketed old (later_members labels) c.append_members.new.out.items c.len-start.result 123 125 (omega (arith, c.len-start.ensures)) c.in_ok-append_members.ensures
-    ∙ ap (λ s. old ++ s) (opened_labels labels c.len-count.ensures.label_set.by_name)) c.close_list.ensures
+    (λ e. e
+    ∙ bracketed old (later_members labels) c.append_members.new.out.items c.len-start.result 123 125
+    (omega (arith, c.len-start.ensures)) c.in_ok-append_members.ensures
+    ∙ ap (λ s. old ++ s) (opened_labels labels c.len-count.ensures.label_set.by_name))
+    c.close_list.ensures

@@ -12,5 +12,7 @@ loop-at-preserved c =
     let none : List ℕ × List ℕ = ([], []) in
     let pair : List ℕ × List ℕ = (c.pair.result.0.now, c.pair.result.1.now) in
     moved _ _ _ _ _ _ c.in_ok-append_member.ensures
-    (at_drop_more later_members labels at none (omega arith) ∙ ap (λ p. later_members (p ∷ drop (at + 1) labels)) (get_or_from_slice_get labels at pair none c.pair.ensures))
+    (at_drop_more later_members labels at none (omega arith)
+    ∙ ap (λ p. later_members (p ∷ drop (at + 1) labels))
+    (get_or_from_slice_get labels at pair none c.pair.ensures))
     c.loop-at.invariant

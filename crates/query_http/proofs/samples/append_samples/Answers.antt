@@ -7,4 +7,9 @@ use Rattle.query_http.proofs.samples.append_samples.Goals as goal
 pub returns : goal.returns
 returns c =
     on_ok_weaker c.close_list.result
-    (λ e. e ∙ listed sample_data c.args.samples.now c.args.out.now.items c.append_later.new.out.items c.len-start.result (omega (arith, c.len-start.ensures)) c.in_ok-append_later.ensures) c.close_list.ensures
+    (λ e. e
+    ∙ listed sample_data c.args.samples.now c.args.out.now.items
+    c.append_later.new.out.items c.len-start.result (omega (
+      arith,
+      c.len-start.ensures,
+    )) c.in_ok-append_later.ensures) c.close_list.ensures

@@ -9,5 +9,8 @@ loop-left-init c = record {
   within = omega arith;
   room = omega (arith, c.requires);
   start = omega arith;
-  written = drop_all 2816 c.args.buf.now (omega arith) ∙ sym (ap (later_text sample_data) (drop_all (length c.args.samples.now) c.args.samples.now (omega arith)));
+  written =
+      drop_all 2816 c.args.buf.now (omega arith)
+      ∙ sym (ap (later_text sample_data)
+      (drop_all (length c.args.samples.now) c.args.samples.now (omega arith)));
 }

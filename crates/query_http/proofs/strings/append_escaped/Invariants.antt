@@ -5,7 +5,8 @@ use Rattle.query_http.proofs.strings.append_escaped.Given as goal
 abbrev pub invariant-loop-out : goal.invariant-loop-out
 invariant-loop-out l = record {
   within : l.at ≤ length l.text;
-  written : l.out.items ++ (escape (drop l.at l.text) ++ l.close) ≡ l.fn.out.items ++ (escape l.text ++ l.close);
+  written : l.out.items ++ (escape (drop l.at l.text) ++ l.close)
+      ≡ l.fn.out.items ++ (escape l.text ++ l.close);
 }
 
 abbrev pub decreases-loop-out : goal.decreases-loop-out
