@@ -28,7 +28,8 @@ none_farther w = record {
 }
 
 -- a connection more
-pub farther_more : (before between after : Worker) (count : ℕ) → IsFarther before between count → IsFarther between after 1
+pub farther_more : (before between after : Worker) (count : ℕ) → IsFarther before between count
+    → IsFarther between after 1
     → IsFarther before after (count + 1)
 farther_more before between after count h one = record {
   seen = prefix_trans before.known.seen between.known.seen after.known.seen h.seen one.seen;
@@ -59,7 +60,8 @@ idle_farther before after h =
       most = omega (arith, count);
     }
 
-event_farther : (opening : SnapshotParts) (event : Event) (before after : Worker) (status : Status) (text : List ℕ)
+event_farther : (opening : SnapshotParts) (event : Event) (before after : Worker)
+    (status : Status) (text : List ℕ)
     → IsEventReply opening event before after status text → IsFarther before after 1
 event_farther opening event before after status text (inl h) =
     let number : after.seat.number ≡ before.seat.number = ap (λ p. p.number) h.counted.0 in
@@ -73,26 +75,37 @@ event_farther opening event before after status text (inl h) =
     }
 event_farther opening event before after status text (inr h) = same_farther before after h.same
 
-asked_farther : (opening : SnapshotParts) (request : Request) (before after : Worker) (status : Status) (text : List ℕ)
+asked_farther : (opening : SnapshotParts) (request : Request) (before after : Worker)
+    (status : Status) (text : List ℕ)
     → IsRequestReply opening request before after status text → IsFarther before after 1
 asked_farther opening (asks.Select query) before after status text h = idle_farther before after h.1
-asked_farther opening (asks.Write samples) before after status text h = event_farther opening _ before after status text h
-asked_farther opening (asks.Delete matchers from to) before after status text h = event_farther opening _ before after status text h
-asked_farther opening (asks.Cut t) before after status text h = event_farther opening _ before after status text h
+asked_farther opening (asks.Write samples) before after status text h =
+    event_farther opening _ before after status text h
+asked_farther opening (asks.Delete matchers from to) before after status text h =
+    event_farther opening _ before after status text h
+asked_farther opening (asks.Cut t) before after status text h =
+    event_farther opening _ before after status text h
 
-reply_farther : (opening : SnapshotParts) (input : Option (List ℕ)) (before after : Worker) (status : Status) (text : List ℕ)
+reply_farther : (opening : SnapshotParts) (input : Option (List ℕ)) (before after : Worker)
+    (status : Status) (text : List ℕ)
     → IsReply opening input before after status text → IsFarther before after 1
 reply_farther opening input before after status text (inl h) = same_farther before after h.same
-reply_farther opening input before after status text (inr h) = asked_farther opening h.request before after status text h.done
+reply_farther opening input before after status text (inr h) =
+    asked_farther opening h.request before after status text h.done
 
-serves_farther : (opening : SnapshotParts) (input : Option (List ℕ)) (before after : Worker) (old new : Option (List ℕ)) (s : Served)
+serves_farther : (opening : SnapshotParts) (input : Option (List ℕ)) (before after : Worker)
+    (old new : Option (List ℕ)) (s : Served)
     → Serves opening input before after old new s → IsFarther before after 1
-serves_farther opening input before after old new (served.Replied status) h = reply_farther opening input before after status h.text h.reply
-serves_farther opening input before after old new served.WriteFault h = reply_farther opening input before after h.status h.text h.reply
+serves_farther opening input before after old new (served.Replied status) h =
+    reply_farther opening input before after status h.text h.reply
+serves_farther opening input before after old new served.WriteFault h =
+    reply_farther opening input before after h.status h.text h.reply
 serves_farther opening input before after old new served.Closed h = same_farther before after h.1
 serves_farther opening input before after old new served.ReadFault h = same_farther before after h
 serves_farther opening input before after old new served.NoMemory h = idle_farther before after h
 
 -- a connection takes its worker no farther than one event
-pub served_farther : (opening : SnapshotParts) (before after : Worker) (s : Session) → IsServed opening before after s → IsFarther before after 1
-served_farther opening before after s h = serves_farther opening s.input before after h.output s.ending.written s.ending.served h.serves
+pub served_farther : (opening : SnapshotParts) (before after : Worker) (s : Session)
+    → IsServed opening before after s → IsFarther before after 1
+served_farther opening before after s h =
+    serves_farther opening s.input before after h.output s.ending.written s.ending.served h.serves

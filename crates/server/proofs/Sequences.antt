@@ -6,7 +6,8 @@ use Rattle.query_http.specs.Serving.{Worker}
 use Rattle.server.specs.Sessions.{Session, Ending, IsServed, AreServed, Arrives, AreFirst, AreAdded}
 use Rattle.server.specs.Working.{Works}
 
-served_more : (opening : SnapshotParts) (before between after : Worker) (ss : List Session) (s : Session)
+served_more : (opening : SnapshotParts) (before between after : Worker)
+    (ss : List Session) (s : Session)
     → AreServed opening before ss between → IsServed opening between after s
     → AreServed opening before (ss ++ s ∷ []) after
 served_more opening before between after [] s e one =
@@ -28,7 +29,8 @@ first_more (Some old) (Some mid) left ss s h here =
       h.2
           ∙ ap (λ (l : List (Option (List ℕ))). inputs ss ++ l) (same ∙ next)
           ∙ sym (append_assoc (inputs ss) (s.input ∷ []) (map Some here.1))
-          ∙ ap (λ (l : List (Option (List ℕ))). l ++ map Some here.1) (sym (map-append (λ (t : Session). t.input) ss (s ∷ []))),
+          ∙ ap (λ (l : List (Option (List ℕ))). l ++ map Some here.1)
+          (sym (map-append (λ (t : Session). t.input) ss (s ∷ []))),
     )
 
 pub added_more : (old mid new : Option (List Ending)) (xs ys : List Ending)
@@ -40,19 +42,24 @@ added_more (Some old) (Some mid) (Some new) xs ys h more =
     more ∙ ap (λ (l : List Ending). l ++ ys) h ∙ append_assoc old xs ys
 
 -- a connection more was served
-pub works_more : (opening : SnapshotParts) (before between after : Worker) (coming mid left : Option (List (List ℕ)))
+pub works_more : (opening : SnapshotParts) (before between after : Worker)
+    (coming mid left : Option (List (List ℕ)))
     (past told ended : Option (List Ending)) (count : ℕ) (s : Session)
     → Works opening before between coming mid past told count → IsServed opening between after s
     → Arrives mid left s.input → AreAdded told ended (s.ending ∷ [])
     → Works opening before after coming left past ended (count + 1)
-works_more opening before between after coming mid left past told ended count s done one here added = record {
-  sessions = done.sessions ++ s ∷ [];
-  counted = length-append done.sessions (s ∷ []) ∙ ap (λ (n : ℕ). n + 1) done.counted;
-  served = served_more opening before between after done.sessions s done.served one;
-  first = first_more coming mid left done.sessions s done.first here;
-  told = subst (λ (l : List Ending). AreAdded past ended l) (sym (map-append (λ (t : Session). t.ending) done.sessions (s ∷ [])))
-      (added_more past told ended (map (λ (t : Session). t.ending) done.sessions) (s.ending ∷ []) done.told added);
-}
+works_more opening before between after coming mid left past told ended count s done one
+    here added = record {
+      sessions = done.sessions ++ s ∷ [];
+      counted = length-append done.sessions (s ∷ []) ∙ ap (λ (n : ℕ). n + 1) done.counted;
+      served = served_more opening before between after done.sessions s done.served one;
+      first = first_more coming mid left done.sessions s done.first here;
+      told =
+          subst (λ (l : List Ending). AreAdded past ended l)
+          (sym (map-append (λ (t : Session). t.ending) done.sessions (s ∷ [])))
+          (added_more past told ended (map (λ (t : Session). t.ending) done.sessions)
+          (s.ending ∷ []) done.told added);
+    }
 
 none_first : (coming : Option (List (List ℕ))) → AreFirst coming coming []
 none_first None = tt
@@ -63,7 +70,8 @@ none_added None = tt
 none_added (Some old) = sym (append-nil old)
 
 -- no connection was served
-pub works_none : (opening : SnapshotParts) (before : Worker) (coming : Option (List (List ℕ))) (past : Option (List Ending))
+pub works_none : (opening : SnapshotParts) (before : Worker) (coming : Option (List (List ℕ)))
+    (past : Option (List Ending))
     → Works opening before before coming coming past past 0
 works_none opening before coming past = record {
   sessions = [];

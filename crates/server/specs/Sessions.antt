@@ -48,8 +48,8 @@ AreFirst (Some old) new ss =
     (rest : List (List ℕ)) × (new ≡ Some rest)
     × (map Some old ≡ map (λ s. s.input) ss ++ map Some rest)
 
--- these ends were added to those that are known, in their order, and nothing else; who has lost sight
--- of an end tells none from then on
+-- these ends were added to those that are known, in their order, and nothing else; who has lost
+-- sight of an end tells none from then on
 abbrev pub AreAdded : Option (List Ending) → Option (List Ending) → List Ending → Type 0
 AreAdded old None more = ⊤
 AreAdded None (Some new) more = ⊥

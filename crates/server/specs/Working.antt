@@ -8,7 +8,8 @@ use Rattle.server.specs.Sessions.{Session, Ending, AreServed, AreFirst, AreAdded
 -- The worker served so many connections, one after another, the first of those that were to come,
 -- and each ended as its connection was served.
 pub record Works (opening : SnapshotParts) (before after : Worker)
-    (coming left : Option (List (List ℕ))) (past ended : Option (List Ending)) (count : ℕ) : Type 0 where
+    (coming left : Option (List (List ℕ))) (past ended : Option (List Ending))
+    (count : ℕ) : Type 0 where
   pub sessions : List Session
   pub counted : length sessions ≡ count
   pub served : AreServed opening before sessions after

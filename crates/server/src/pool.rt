@@ -67,9 +67,9 @@ fn places_of<J: Naming>(
 }
 
 impl<J: Naming, C: Wait + Drop> Workers<J, C> {
-    /// Opens a store over these blocks with so many workers, each with a pass and a seat of its own.
-    /// `O2` where there are not 1 to 64 workers, then `O3` where there are more than 63 blocks, then
-    /// `O4` and memory.
+    /// Opens a store over these blocks with so many workers, each with a pass and a seat of its
+    /// own. `O2` where there are not 1 to 64 workers, then `O3` where there are more than 63
+    /// blocks, then `O4` and memory.
     pub fn open(
         rt: C,
         alloc: Global,

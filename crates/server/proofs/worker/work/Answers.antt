@@ -22,15 +22,22 @@ loop-done-preserved g c =
       fresh = c.in-Some.ensures.fresh;
       serves = c.serve_one-served.ensures.serves;
     } in
-    let arrives : Arrives (g.A.Connections.coming c.loop-done.connections) (g.A.Connections.coming c.close.new.self) s.input =
-    subst (λ (left : Option (List (List ℕ))). Arrives (g.A.Connections.coming c.loop-done.connections) left s.input)
+    let arrives : Arrives (g.A.Connections.coming c.loop-done.connections)
+    (g.A.Connections.coming c.close.new.self) s.input =
+    subst (λ (left : Option (List (List ℕ))).
+    Arrives (g.A.Connections.coming c.loop-done.connections) left s.input)
     (sym c.close.ensures.coming) c.in-Some.ensures.arrives in
-    let added : AreAdded (g.A.Connections.past c.loop-done.connections) (g.A.Connections.past c.close.new.self) (s.ending ∷ []) =
-    subst (λ (past : Option (List Ending)). AreAdded past (g.A.Connections.past c.close.new.self) (s.ending ∷ []))
+    let added : AreAdded (g.A.Connections.past c.loop-done.connections)
+    (g.A.Connections.past c.close.new.self) (s.ending ∷ []) =
+    subst (λ (past : Option (List Ending)).
+    AreAdded past (g.A.Connections.past c.close.new.self) (s.ending ∷ []))
     c.accept.ensures.past c.close.ensures.past in (
       works_more g.J.Naming.opening before between after
-          (g.A.Connections.coming c.args.connections.now) (g.A.Connections.coming c.loop-done.connections) (g.A.Connections.coming c.close.new.self)
-          (g.A.Connections.past c.args.connections.now) (g.A.Connections.past c.loop-done.connections) (g.A.Connections.past c.close.new.self)
+          (g.A.Connections.coming c.args.connections.now)
+          (g.A.Connections.coming c.loop-done.connections) (g.A.Connections.coming c.close.new.self)
+          (g.A.Connections.past c.args.connections.now)
+          (g.A.Connections.past c.loop-done.connections) (g.A.Connections.past c.close.new.self)
           c.loop-done.done s c.loop-done.invariant.0 one arrives added,
-      farther_more before between after c.loop-done.done c.loop-done.invariant.1 (served_farther g.J.Naming.opening between after s one),
+      farther_more before between after c.loop-done.done c.loop-done.invariant.1
+          (served_farther g.J.Naming.opening between after s one),
     )
