@@ -14,10 +14,14 @@ use Rattle.commands.specs.declared.command.Line.TheVariants.{Demo, Select, Check
 use Rattle.commands.specs.declared.command.Serving.{Serving}
 
 -- a text that was read is the number
-pub time_given : (f : Found) (name : Text) (other time shown : ℤ) → (FitsSigned w64 time → shown ≡ time) → (one_text f name ≡ None → Some time ≡ None)
-    → ((t : Text) → one_text f name ≡ Some t → (IsNumeral 10 (without_leading_sign t) × FitsSigned w64 (signed_digits_value 10 t)) × (time ≡ signed_digits_value 10 t))
+pub time_given : (f : Found) (name : Text) (other time shown : ℤ)
+    → (FitsSigned w64 time → shown ≡ time) → (one_text f name ≡ None → Some time ≡ None)
+    → ((t : Text) → one_text f name ≡ Some t → (IsNumeral 10 (without_leading_sign t)
+    × FitsSigned w64 (signed_digits_value 10 t)) × (time ≡ signed_digits_value 10 t))
     → IsTimeIn (one_of name (rows_of f)) other shown
-time_given f name other time shown same none value = subst (λ (o : Option Text). IsTimeIn o other shown) (one_text-rows f name) (go (one_text f name) refl)
+time_given f name other time shown same none value =
+    subst (λ (o : Option Text). IsTimeIn o other shown) (one_text-rows f name)
+    (go (one_text f name) refl)
   where
     go : (o : Option Text) → one_text f name ≡ o → IsTimeIn o other shown
     go None e = let no : Some time ≡ None = none e in cc
@@ -28,19 +32,27 @@ time_given f name other time shown same none value = subst (λ (o : Option Text)
 
 -- the other time stands where no text is, or one that is no number
 pub time_missing : (f : Found) (name : Text) (other : ℤ)
-    → ((t : Text) → one_text f name ≡ Some t → IsNumeral 10 (without_leading_sign t) × FitsSigned w64 (signed_digits_value 10 t) → ⊥)
+    → ((t : Text) → one_text f name ≡ Some t
+    → IsNumeral 10 (without_leading_sign t) × FitsSigned w64 (signed_digits_value 10 t) → ⊥)
     → IsTimeIn (one_of name (rows_of f)) other other
-time_missing f name other value = subst (λ (o : Option Text). IsTimeIn o other other) (one_text-rows f name) (go (one_text f name) refl)
+time_missing f name other value =
+    subst (λ (o : Option Text). IsTimeIn o other other) (one_text-rows f name)
+    (go (one_text f name) refl)
   where
     go : (o : Option Text) → one_text f name ≡ o → IsTimeIn o other other
     go None e = refl
     go (Some t) e = inr (λ n. value t e (n.numeral, n.fits), refl)
 
 -- a text that was read is the number
-pub count_given : (f : Found) (name : Text) (other count : ℕ) → (one_text f name ≡ None → Some count ≡ None)
-    → ((t : Text) → one_text f name ≡ Some t → (IsNumeral 10 (without_leading_plus t) × (digits_value 10 (without_leading_plus t) < 2 ^ 64)) × (count ≡ digits_value 10 (without_leading_plus t)))
+pub count_given : (f : Found) (name : Text) (other count : ℕ)
+    → (one_text f name ≡ None → Some count ≡ None)
+    → ((t : Text) → one_text f name ≡ Some t
+    → (IsNumeral 10 (without_leading_plus t) × (digits_value 10 (without_leading_plus t) < 2 ^ 64))
+    × (count ≡ digits_value 10 (without_leading_plus t)))
     → IsCountIn (one_of name (rows_of f)) other count
-count_given f name other count none value = subst (λ (o : Option Text). IsCountIn o other count) (one_text-rows f name) (go (one_text f name) refl)
+count_given f name other count none value =
+    subst (λ (o : Option Text). IsCountIn o other count) (one_text-rows f name)
+    (go (one_text f name) refl)
   where
     go : (o : Option Text) → one_text f name ≡ o → IsCountIn o other count
     go None e = let no : Some count ≡ None = none e in cc
@@ -50,27 +62,34 @@ count_given f name other count none value = subst (λ (o : Option Text). IsCount
 
 -- the other number stands where no text is, or one that is no number
 pub count_missing : (f : Found) (name : Text) (other : ℕ)
-    → ((t : Text) → one_text f name ≡ Some t → IsNumeral 10 (without_leading_plus t) × (digits_value 10 (without_leading_plus t) < 2 ^ 64) → ⊥)
+    → ((t : Text) → one_text f name ≡ Some t → IsNumeral 10 (without_leading_plus t)
+    × (digits_value 10 (without_leading_plus t) < 2 ^ 64) → ⊥)
     → IsCountIn (one_of name (rows_of f)) other other
-count_missing f name other value = subst (λ (o : Option Text). IsCountIn o other other) (one_text-rows f name) (go (one_text f name) refl)
+count_missing f name other value =
+    subst (λ (o : Option Text). IsCountIn o other other) (one_text-rows f name)
+    (go (one_text f name) refl)
   where
     go : (o : Option Text) → one_text f name ≡ o → IsCountIn o other other
     go None e = refl
     go (Some t) e = inr (λ n. value t e (n.numeral, n.fits), refl)
 
-mapped_twice : {A B C : Type 0} (f : B → C) (g : A → B) (o : Option A) → option_map f (option_map g o) ≡ option_map (λ a. f (g a)) o
+mapped_twice : {A B C : Type 0} (f : B → C) (g : A → B) (o : Option A)
+    → option_map f (option_map g o) ≡ option_map (λ a. f (g a)) o
 mapped_twice f g None = refl
 mapped_twice f g (Some a) = refl
 
 -- the name of the subcommand that was met stands beside its arguments
-pub name_of_rows : (m : ArgMatches) → option_map (λ (p : Text × List Row). p.0) (subcommand_rows_of m) ≡ subcommand_name_of m
+pub name_of_rows : (m : ArgMatches)
+    → option_map (λ (p : Text × List Row). p.0) (subcommand_rows_of m) ≡ subcommand_name_of m
 name_of_rows m = mapped_twice (λ (p : Text × List Row). p.0) _ _
 
-pub some_is_kept : {A B : Type 0} (f : A → B) (o : Option A) → is_some o ≡ true → option_map f o ≡ None → ⊥
+pub some_is_kept : {A B : Type 0} (f : A → B) (o : Option A) → is_some o ≡ true
+    → option_map f o ≡ None → ⊥
 some_is_kept f None some e = cc
 some_is_kept f (Some a) some e = cc
 
-pub none_is_kept : {A B : Type 0} (f : A → B) (o : Option A) → is_some o ≡ false → option_map f o ≡ None
+pub none_is_kept : {A B : Type 0} (f : A → B) (o : Option A) → is_some o ≡ false
+    → option_map f o ≡ None
 none_is_kept f None none = refl
 none_is_kept f (Some a) none = cc
 
@@ -82,46 +101,67 @@ third_denied true false true rest e = cc
 third_denied true true true rest e = cc
 
 -- a name found is a subcommand found
-pub demo_found : (o : Option (Text × List Row)) → option_map (λ p. p.0) o ≡ Some (codes "demo") → IsDemo o
+pub demo_found : (o : Option (Text × List Row))
+    → option_map (λ p. p.0) o ≡ Some (codes "demo") → IsDemo o
 demo_found None e = cc
-demo_found (Some p) e = record { rows = p.1; is = ap (λ (n : Option Text). Some (unwrap_or n p.0, p.1)) e }
+demo_found (Some p) e =
+    record { rows = p.1; is = ap (λ (n : Option Text). Some (unwrap_or n p.0, p.1)) e }
 
 -- and so with its arguments
-pub select_found : (o : Option (Text × List Row)) (rows : List Row) (text : List ℕ) (from to : ℤ) (directories : List Text) → option_map (λ p. p.0) o ≡ Some (codes "select")
-    → option_map (λ p. p.1) o ≡ Some rows → IsSelectionIn rows text from to → directories ≡ unwrap_or (all_of (codes "directories") rows) [] → IsSelect o text from to directories
+pub select_found : (o : Option (Text × List Row)) (rows : List Row) (text : List ℕ) (from to : ℤ)
+    (directories : List Text) → option_map (λ p. p.0) o ≡ Some (codes "select")
+    → option_map (λ p. p.1) o ≡ Some rows → IsSelectionIn rows text from to
+    → directories ≡ unwrap_or (all_of (codes "directories") rows) []
+    → IsSelect o text from to directories
 select_found None rows text from to directories e f selection given = cc
 select_found (Some p) rows text from to directories e f selection given = record {
   rows = rows;
-  is = ap₂ (λ (n : Option Text) (r : Option (List Row)). Some (unwrap_or n p.0, unwrap_or r p.1)) e f;
+  is =
+      ap₂ (λ (n : Option Text) (r : Option (List Row)). Some (unwrap_or n p.0, unwrap_or r p.1)) e
+      f;
   selection = selection;
   given = given;
 }
 
 -- and so with the directories of `check`
-pub check_found : (o : Option (Text × List Row)) (rows : List Row) (directories : List Text) → option_map (λ p. p.0) o ≡ Some (codes "check")
-    → option_map (λ p. p.1) o ≡ Some rows → directories ≡ unwrap_or (all_of (codes "directories") rows) [] → IsCheck o directories
+pub check_found : (o : Option (Text × List Row)) (rows : List Row) (directories : List Text)
+    → option_map (λ p. p.0) o ≡ Some (codes "check")
+    → option_map (λ p. p.1) o ≡ Some rows
+    → directories ≡ unwrap_or (all_of (codes "directories") rows) [] → IsCheck o directories
 check_found None rows directories e f given = cc
 check_found (Some p) rows directories e f given = record {
   rows = rows;
-  is = ap₂ (λ (n : Option Text) (r : Option (List Row)). Some (unwrap_or n p.0, unwrap_or r p.1)) e f;
+  is =
+      ap₂ (λ (n : Option Text) (r : Option (List Row)). Some (unwrap_or n p.0, unwrap_or r p.1)) e
+      f;
   given = given;
 }
 
 -- and so with what `serve` is to serve
-pub serve_found : (o : Option (Text × List Row)) (rows : List Row) (serving : Serving) (directories : List Text) → option_map (λ p. p.0) o ≡ Some (codes "serve")
-    → option_map (λ p. p.1) o ≡ Some rows → IsServingIn rows serving → directories ≡ unwrap_or (all_of (codes "directories") rows) [] → IsServe o serving directories
+pub serve_found : (o : Option (Text × List Row)) (rows : List Row) (serving : Serving)
+    (directories : List Text) → option_map (λ p. p.0) o ≡ Some (codes "serve")
+    → option_map (λ p. p.1) o ≡ Some rows → IsServingIn rows serving
+    → directories ≡ unwrap_or (all_of (codes "directories") rows) [] → IsServe o serving directories
 serve_found None rows serving directories e f served given = cc
 serve_found (Some p) rows serving directories e f served given = record {
   rows = rows;
-  is = ap₂ (λ (n : Option Text) (r : Option (List Row)). Some (unwrap_or n p.0, unwrap_or r p.1)) e f;
+  is =
+      ap₂ (λ (n : Option Text) (r : Option (List Row)). Some (unwrap_or n p.0, unwrap_or r p.1)) e
+      f;
   asked = served;
   given = given;
 }
 
 -- none of the four is no line
-pub no_line : (o : Option (Text × List Row)) → (option_map (λ p. p.0) o ≡ Some (codes "demo") → ⊥) → (option_map (λ p. p.0) o ≡ Some (codes "check") → ⊥)
-    → (option_map (λ p. p.0) o ≡ Some (codes "select") → ⊥) → (option_map (λ p. p.0) o ≡ Some (codes "serve") → ⊥) → (line : Line) → IsLineIn o line → ⊥
-no_line o no_demo no_check no_select no_serve Demo h = no_demo (ap (option_map (λ (p : Text × List Row). p.0)) h.is)
-no_line o no_demo no_check no_select no_serve (Check texts) h = no_check (ap (option_map (λ (p : Text × List Row). p.0)) h.is)
-no_line o no_demo no_check no_select no_serve (Select s texts) h = no_select (ap (option_map (λ (p : Text × List Row). p.0)) h.is)
-no_line o no_demo no_check no_select no_serve (Serve serving texts) h = no_serve (ap (option_map (λ (p : Text × List Row). p.0)) h.is)
+pub no_line : (o : Option (Text × List Row)) → (option_map (λ p. p.0) o ≡ Some (codes "demo") → ⊥)
+    → (option_map (λ p. p.0) o ≡ Some (codes "check") → ⊥)
+    → (option_map (λ p. p.0) o ≡ Some (codes "select") → ⊥)
+    → (option_map (λ p. p.0) o ≡ Some (codes "serve") → ⊥) → (line : Line) → IsLineIn o line → ⊥
+no_line o no_demo no_check no_select no_serve Demo h =
+    no_demo (ap (option_map (λ (p : Text × List Row). p.0)) h.is)
+no_line o no_demo no_check no_select no_serve (Check texts) h =
+    no_check (ap (option_map (λ (p : Text × List Row). p.0)) h.is)
+no_line o no_demo no_check no_select no_serve (Select s texts) h =
+    no_select (ap (option_map (λ (p : Text × List Row). p.0)) h.is)
+no_line o no_demo no_check no_select no_serve (Serve serving texts) h =
+    no_serve (ap (option_map (λ (p : Text × List Row). p.0)) h.is)

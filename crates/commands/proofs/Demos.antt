@@ -1,4 +1,5 @@
--- What a pass has seen that was told of the two events of the demo, and why the demo is not answered.
+-- What a pass has seen that was told of the two events of the demo, and why the demo is not
+-- answered.
 use Rattle.std.proofs.Common.{◌≡◌, ℕ, List, [], ◌∷◌, ◌++◌, length, length-append, sym, ap, ◌∙◌, subst, arith, lit<, append_assoc}
 use Rattle.std.proofs.lemmas.List.{append-nil}
 use mathlib.Core.List.{IsPrefix}
@@ -26,32 +27,41 @@ whole_by xs ys (r ∷ rest) e none = absurd (omega (arith, none))
 
 -- a prefix as long as the list is the list
 whole : {A : Type 0} (xs ys : List A) → IsPrefix xs ys → length xs ≡ length ys → xs ≡ ys
-whole xs ys p same = whole_by xs ys p.0 p.1 (omega (arith, length-append xs p.0, ap length p.1, same))
+whole xs ys p same =
+    whole_by xs ys p.0 p.1 (omega (arith, length-append xs p.0, ap length p.1, same))
 
-alone : {A : Type 0} (xs before : List A) (x : A) → xs ≡ before ++ x ∷ [] → length xs ≡ 1 → xs ≡ x ∷ []
+alone : {A : Type 0} (xs before : List A) (x : A) → xs ≡ before ++ x ∷ []
+    → length xs ≡ 1 → xs ≡ x ∷ []
 alone xs [] x e one = e
-alone xs (b ∷ before) x e one = absurd (omega (arith, length-append before (x ∷ []), ap length e, one))
+alone xs (b ∷ before) x e one =
+    absurd (omega (arith, length-append before (x ∷ []), ap length e, one))
 
 -- of two items the second is the last, and the first what a prefix of one item has
 pair_of : {A : Type 0} (xs before rest : List A) (x y : A) → xs ≡ before ++ y ∷ [] → length xs ≡ 2
     → (x ∷ []) ++ rest ≡ xs → xs ≡ x ∷ y ∷ []
 pair_of xs [] rest x y e two p = absurd (omega (arith, ap length e, two))
-pair_of xs (b ∷ []) rest x y e two p = let same : x ≡ b = cc (p ∙ e) in e ∙ ap (λ z. z ∷ y ∷ []) (sym same)
+pair_of xs (b ∷ []) rest x y e two p =
+    let same : x ≡ b = cc (p ∙ e) in e ∙ ap (λ z. z ∷ y ∷ []) (sym same)
 pair_of xs (b ∷ c ∷ before) rest x y e two p =
     absurd (omega (arith, length-append before (y ∷ []), ap length e, two))
 
-module _ (first second seen : List Entry) (n m : ℕ) (ends_first : EndsWith first_event n first) (ends_second : EndsWith second_event m second)
+module _ (first second seen : List Entry) (n m : ℕ) (ends_first : EndsWith first_event n first)
+    (ends_second : EndsWith second_event m second)
     (one : length first ≡ 1) (two : length second ≡ 2) (both : length seen ≡ 2) where
-  -- a list of two events which begins with each of two lists, of which one ends with the first event and the other with the second
+  -- a list of two events which begins with each of two lists, of which one ends with the first
+  -- event and the other with the second
   events_seen : IsPrefix first seen → IsPrefix second seen → events_in seen ≡ demo_events
   events_seen p q =
       let is_second : second ≡ seen = whole second seen q (two ∙ sym both) in
       let is_first = alone first ends_first.0 _ ends_first.1 one in
-      ap events_in (pair_of seen ends_second.0 p.0 _ _ (sym is_second ∙ ends_second.1) both (subst (λ (xs : List Entry). xs ++ p.0 ≡ seen) is_first p.1))
+      ap events_in (pair_of seen ends_second.0 p.0 _ _ (sym is_second ∙ ends_second.1) both
+      (subst (λ (xs : List Entry). xs ++ p.0 ≡ seen) is_first p.1))
 
-module _ (opening : SnapshotParts) (query : QueryView) (before after : Known) (answer : AuditedAnswer) where
+module _ (opening : SnapshotParts) (query : QueryView) (before after : Known)
+    (answer : AuditedAnswer) where
   -- the headline of a store that was opened empty, where the events that were seen are the demo's
-  answer_after : opening_of [] ≡ opening → IsHeadline opening query before after answer → events_in after.seen ≡ demo_events
+  answer_after : opening_of [] ≡ opening → IsHeadline opening query before after answer
+      → events_in after.seen ≡ demo_events
       → IsAnswerAfter demo_events query answer
   answer_after empty h events = record {
     snapshot = h.snapshot;
@@ -65,22 +75,34 @@ module _ (opening : SnapshotParts) (query : QueryView) (before after : Known) (a
   }
 
   pub demo_answered : opening_of [] ≡ opening → IsHeadline opening query before after answer
-      → (first second told : List Entry) (n m : ℕ) → EndsWith first_event n first → EndsWith second_event m second
+      → (first second told : List Entry) (n m : ℕ) → EndsWith first_event n first
+      → EndsWith second_event m second
       → IsPrefix first told → IsPrefix told before.told → IsPrefix second before.told
-      → length first ≡ 1 → length second ≡ 2 → length after.seen ≡ 2 → IsAnswerAfter demo_events query answer
+      → length first ≡ 1 → length second ≡ 2 → length after.seen ≡ 2
+      → IsAnswerAfter demo_events query answer
   demo_answered empty h first second told n m ends_first ends_second p q r one two both =
       let up = prefix_trans told before.told after.seen q h.told in
-      answer_after empty h (events_seen first second after.seen n m ends_first ends_second one two both
-      (prefix_trans first told after.seen p up) (prefix_trans second before.told after.seen r h.told))
+      answer_after empty h (events_seen first second after.seen n m ends_first
+      ends_second one two both
+      (prefix_trans first told after.seen p up) (prefix_trans second before.told
+      after.seen r h.told))
 
-module _ (opening : SnapshotParts) (empty : opening_of [] ≡ opening) (event : Event) (fault : Fault) (h : IsCommitFault opening event fault) where
+module _ (opening : SnapshotParts) (empty : opening_of [] ≡ opening) (event : Event) (fault : Fault)
+    (h : IsCommitFault opening event fault) where
   pub first_refused : event ≡ first_event → IsDemoFault fault
-  first_refused is = by_commit event (0, lit< tt, sym is) (subst (λ (s : SnapshotParts). IsCommitFault s event fault) (sym empty) h)
+  first_refused is =
+      by_commit event (0, lit< tt, sym is)
+      (subst (λ (s : SnapshotParts). IsCommitFault s event fault) (sym empty) h)
 
   pub second_refused : event ≡ second_event → IsDemoFault fault
-  second_refused is = by_commit event (1, lit< tt, sym is) (subst (λ (s : SnapshotParts). IsCommitFault s event fault) (sym empty) h)
+  second_refused is =
+      by_commit event (1, lit< tt, sym is)
+      (subst (λ (s : SnapshotParts). IsCommitFault s event fault) (sym empty) h)
 
 -- two items more
-pub two_more : {A : Type 0} (xs ys zs : List A) (x y v w : A) → ys ≡ xs ++ x ∷ [] → x ≡ v → y ≡ w → zs ≡ ys ++ y ∷ [] → zs ≡ xs ++ v ∷ w ∷ []
+pub two_more : {A : Type 0} (xs ys zs : List A) (x y v w : A) → ys ≡ xs ++ x ∷ [] → x ≡ v → y ≡ w
+    → zs ≡ ys ++ y ∷ [] → zs ≡ xs ++ v ∷ w ∷ []
 two_more xs ys zs x y v w one same_x same_y two =
-    two ∙ (ap (λ l. l ++ y ∷ []) one ∙ (append_assoc xs (x ∷ []) (y ∷ []) ∙ (λ i. xs ++ same_x i ∷ same_y i ∷ [])))
+    two
+    ∙ (ap (λ l. l ++ y ∷ []) one
+    ∙ (append_assoc xs (x ∷ []) (y ∷ []) ∙ (λ i. xs ++ same_x i ∷ same_y i ∷ [])))

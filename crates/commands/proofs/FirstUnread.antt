@@ -7,13 +7,18 @@ use Rattle.commands.specs.declared.fault.Fault.TheVariants.{Words, Refused, Cann
 use Rattle.commands.specs.declared.files.FileName.{FileName}
 
 -- a file that was read can be read
-pub found : (reads : Reads) (directory : List ℕ) (name : FileName) (bytes : List ℕ) → IsRead reads directory name bytes → IsFound reads directory name
+pub found : (reads : Reads) (directory : List ℕ) (name : FileName) (bytes : List ℕ)
+    → IsRead reads directory name bytes → IsFound reads directory name
 found reads directory name bytes read = record { file = read.file; found = read.found }
 
 -- the fault of a file, after those before it were read
-pub fault_after : (reads : Reads) (directory : List ℕ) (before : List FileName) (name : FileName) (after : List FileName) → reading_order ≡ before ++ name ∷ after
-    → AllByRecursion (λ (earlier : FileName). IsFound reads directory earlier) before → (fault : Fault) → IsFileFault reads directory name fault → IsReadingFault reads directory fault
-fault_after reads directory before name after order each (CannotRead path) h = record { before = before; name = name; after = after; order = order; each = each; at = h }
+pub fault_after : (reads : Reads) (directory : List ℕ) (before : List FileName) (name : FileName)
+    (after : List FileName) → reading_order ≡ before ++ name ∷ after
+    → AllByRecursion (λ (earlier : FileName). IsFound reads directory earlier) before
+    → (fault : Fault) → IsFileFault reads directory name fault
+    → IsReadingFault reads directory fault
+fault_after reads directory before name after order each (CannotRead path) h =
+    record { before = before; name = name; after = after; order = order; each = each; at = h }
 fault_after reads directory before name after order each Memory h = tt
 fault_after reads directory before name after order each CannotWrite h = h
 fault_after reads directory before name after order each (CannotListen port) h = h
@@ -21,7 +26,8 @@ fault_after reads directory before name after order each (Words error) h = h
 fault_after reads directory before name after order each (Refused refusal) h = h
 
 -- what keeps a directory from being judged keeps its line from being written
-pub unwritten : (reads : Reads) (directory : List ℕ) (fault : Fault) → IsReadingFault reads directory fault → IsDirectoryFault reads directory fault
+pub unwritten : (reads : Reads) (directory : List ℕ) (fault : Fault)
+    → IsReadingFault reads directory fault → IsDirectoryFault reads directory fault
 unwritten reads directory (CannotRead path) h = h
 unwritten reads directory Memory h = h
 unwritten reads directory CannotWrite h = absurd h

@@ -32,7 +32,8 @@ unused (fault.CannotListen port) old = keeps_itself old
 unused fault.Memory old = keeps_itself old
 
 -- no line of any directory was written
-pub none_begun : (reads : Reads) (directories : List (List ℕ)) (old : Option (List ℕ)) → IsBegun reads directories old old
+pub none_begun : (reads : Reads) (directories : List (List ℕ)) (old : Option (List ℕ))
+    → IsBegun reads directories old old
 none_begun reads directories old = record {
   before = [];
   rest = directories;
@@ -41,26 +42,33 @@ none_begun reads directories old = record {
   checked = none_checked reads old;
 }
 
-memory_fault : (reads : Reads) (line : Line) (old : Option (List ℕ)) → IsLineFault reads line old old fault.Memory
+memory_fault : (reads : Reads) (line : Line) (old : Option (List ℕ))
+    → IsLineFault reads line old old fault.Memory
 memory_fault reads Demo old = (by_writing tt, keeps_itself old)
 memory_fault reads (Select s texts) old = (by_selection tt, keeps_itself old)
 memory_fault reads (Check texts) old = none_begun reads (map (λ text. text.now) texts.items) old
 memory_fault reads (Serve serving texts) old = by_directories tt (keeps_itself old)
 
 -- a line may end by want of memory before it begins
-pub end_without_memory : (reads : Reads) (words : List Text) (old : Option (List ℕ)) → IsTaken words → IsEnd reads words old old (Err fault.Memory)
-end_without_memory reads words old taken = record { line = taken.line; is = taken.is; ends = memory_fault reads taken.line old }
+pub end_without_memory : (reads : Reads) (words : List Text) (old : Option (List ℕ)) → IsTaken words
+    → IsEnd reads words old old (Err fault.Memory)
+end_without_memory reads words old taken =
+    record { line = taken.line; is = taken.is; ends = memory_fault reads taken.line old }
 
 -- the end of a line is that of its words
-pub end_of_line : (reads : Reads) (words : List Text) (line : Line) (old new : Option (List ℕ)) (end : Result Outcome Fault) → IsLineOf words line
+pub end_of_line : (reads : Reads) (words : List Text) (line : Line) (old new : Option (List ℕ))
+    (end : Result Outcome Fault) → IsLineOf words line
     → IsLineEnd reads line old new end → IsEnd reads words old new end
 end_of_line reads words line old new end is ends = record { line = line; is = is; ends = ends }
 
 -- what the writer holds at the end of a line
-pub kept_at_end : (reads : Reads) (words : List Text) (line : Line) (old new : Option (List ℕ)) (end : Result Outcome Fault) → IsLineOf words line
+pub kept_at_end : (reads : Reads) (words : List Text) (line : Line) (old new : Option (List ℕ))
+    (end : Result Outcome Fault) → IsLineOf words line
     → IsLineEnd reads line old new end → IsEarlyLine words ⊎ KeepsAtEnd old new end
-kept_at_end reads words (Check texts) old new end is ends = inl (record { line = Check texts; is = is; tells = tt })
-kept_at_end reads words (Serve serving texts) old new end is ends = inl (record { line = Serve serving texts; is = is; tells = tt })
+kept_at_end reads words (Check texts) old new end is ends =
+    inl (record { line = Check texts; is = is; tells = tt })
+kept_at_end reads words (Serve serving texts) old new end is ends =
+    inl (record { line = Serve serving texts; is = is; tells = tt })
 kept_at_end reads words Demo old new (Ok Done) is ends = inr tt
 kept_at_end reads words Demo old new (Ok Refused) is ends = absurd ends
 kept_at_end reads words Demo old new (Err fault) is ends = inr ends.1
@@ -69,15 +77,20 @@ kept_at_end reads words (Select s texts) old new (Ok Refused) is ends = absurd e
 kept_at_end reads words (Select s texts) old new (Err fault) is ends = inr ends.1
 
 -- what is written at an end, by its exit status
-pub written_at_status : (words : List Text) (old new : Option (List ℕ)) (end : Result Outcome Fault) (status : ℕ)
+pub written_at_status : (words : List Text) (old new : Option (List ℕ))
+    (end : Result Outcome Fault) (status : ℕ)
     → status ≡ status_at end → IsEarlyLine words ⊎ KeepsAtEnd old new end
     → (status ≡ 0) ⊎ ((status ≡ 3) ⊎ (IsEarlyLine words ⊎ Keeps old new))
 written_at_status words old new end status is (inl early) = inr (inr (inl early))
 written_at_status words old new (Ok Done) status is (inr kept) = inl is
 written_at_status words old new (Ok Refused) status is (inr kept) = inr (inr (inr kept))
-written_at_status words old new (Err (fault.Words error)) status is (inr kept) = inr (inr (inr kept))
-written_at_status words old new (Err (fault.Refused refusal)) status is (inr kept) = inr (inr (inr kept))
-written_at_status words old new (Err (fault.CannotRead path)) status is (inr kept) = inr (inr (inr kept))
+written_at_status words old new (Err (fault.Words error)) status is (inr kept) =
+    inr (inr (inr kept))
+written_at_status words old new (Err (fault.Refused refusal)) status is (inr kept) =
+    inr (inr (inr kept))
+written_at_status words old new (Err (fault.CannotRead path)) status is (inr kept) =
+    inr (inr (inr kept))
 written_at_status words old new (Err fault.CannotWrite) status is (inr kept) = inr (inl is)
-written_at_status words old new (Err (fault.CannotListen port)) status is (inr kept) = inr (inr (inr kept))
+written_at_status words old new (Err (fault.CannotListen port)) status is (inr kept) =
+    inr (inr (inr kept))
 written_at_status words old new (Err fault.Memory) status is (inr kept) = inr (inr (inr kept))

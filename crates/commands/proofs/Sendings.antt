@@ -13,7 +13,9 @@ IsWrittenTo old new text rest = (front : List ℕ) × (text ≡ front ++ rest) �
 pub begun : (old : Option (List ℕ)) (text : List ℕ) → IsWrittenTo old old text text
 begun old text = ([], refl, appends_none old)
 
-pub more : (old mid new : Option (List ℕ)) (text rest after : List ℕ) (count : ℕ) → IsWrittenTo old mid text rest → Appends mid new (take count rest) → after ≡ take (length rest - count) (drop count rest) → IsWrittenTo old new text after
+pub more : (old mid new : Option (List ℕ)) (text rest after : List ℕ) (count : ℕ)
+    → IsWrittenTo old mid text rest → Appends mid new (take count rest)
+    → after ≡ take (length rest - count) (drop count rest) → IsWrittenTo old new text after
 more old mid new text rest after count (front, parts, came) next is =
     let behind : after ≡ drop count rest = is ∙ take_rest rest count in (
       front ++ take count rest,
@@ -24,18 +26,27 @@ more old mid new text rest after count (front, parts, came) next is =
       appends_on old mid new front (take count rest) came next,
     )
 
-pub stayed : (old mid new : Option (List ℕ)) (text rest after : List ℕ) → IsWrittenTo old mid text rest → Keeps mid new → after ≡ rest → IsWrittenTo old new text after
-stayed old mid new text rest after (front, parts, came) kept same = (front, parts ∙ ap (λ (l : List ℕ). front ++ l) (sym same), kept_on old mid new front came kept)
+pub stayed : (old mid new : Option (List ℕ)) (text rest after : List ℕ)
+    → IsWrittenTo old mid text rest → Keeps mid new → after ≡ rest → IsWrittenTo old new text after
+stayed old mid new text rest after (front, parts, came) kept same =
+    (front, parts ∙ ap (λ (l : List ℕ). front ++ l) (sym same), kept_on old mid new front came kept)
 
-pub whole : (old new : Option (List ℕ)) (text rest : List ℕ) → IsWrittenTo old new text rest → rest ≡ [] → Appends old new text
-whole old new text rest (front, parts, came) none = subst (Appends old new) (sym (parts ∙ ap (λ (l : List ℕ). front ++ l) none ∙ append-nil front)) came
+pub whole : (old new : Option (List ℕ)) (text rest : List ℕ) → IsWrittenTo old new text rest
+    → rest ≡ [] → Appends old new text
+whole old new text rest (front, parts, came) none =
+    subst (Appends old new)
+    (sym (parts ∙ ap (λ (l : List ℕ). front ++ l) none ∙ append-nil front)) came
 
-pub prefix : (old new : Option (List ℕ)) (text rest : List ℕ) → IsWrittenTo old new text rest → AppendsPrefix old new text
-prefix old new text rest (front, parts, came) = record { front = front; rest = rest; parts = parts; appended = came }
+pub prefix : (old new : Option (List ℕ)) (text rest : List ℕ) → IsWrittenTo old new text rest
+    → AppendsPrefix old new text
+prefix old new text rest (front, parts, came) =
+    record { front = front; rest = rest; parts = parts; appended = came }
 
 -- all of a text is a prefix of it
-pub all_of : (old new : Option (List ℕ)) (text : List ℕ) → Appends old new text → AppendsPrefix old new text
-all_of old new text came = record { front = text; rest = []; parts = sym (append-nil text); appended = came }
+pub all_of : (old new : Option (List ℕ)) (text : List ℕ) → Appends old new text
+    → AppendsPrefix old new text
+all_of old new text came =
+    record { front = text; rest = []; parts = sym (append-nil text); appended = came }
 
 pub on_ok : {A B P : Type 0} (r : Result A B) → P → OnOk r P
 on_ok (Ok x) p = p

@@ -10,7 +10,8 @@ use Rattle.commands.specs.declared.fault.Fault.{Fault}
 use Rattle.commands.specs.declared.fault.Fault.TheVariants.{CannotListen}
 
 -- a store that is not opened
-pub not_opened : (serving : Serving) (e : OpenError) → (e ≡ store.BadPasses → ¬ IsRoom serving.workers serving.workers) → (e ≡ store.Limit → ⊥)
+pub not_opened : (serving : Serving) (e : OpenError)
+    → (e ≡ store.BadPasses → ¬ IsRoom serving.workers serving.workers) → (e ≡ store.Limit → ⊥)
     → IsStoreFault serving (open_fault e)
 not_opened serving store.BadPasses few many = few refl
 not_opened serving store.Limit few many = absurd (many refl)
@@ -18,5 +19,6 @@ not_opened serving store.Unavailable few many = tt
 not_opened serving store.Memory few many = tt
 
 -- a port that is not listened on
-pub not_listened : (serving : Serving) (fault : Fault) → fault ≡ CannotListen serving.port → IsStoreFault serving fault
+pub not_listened : (serving : Serving) (fault : Fault) → fault ≡ CannotListen serving.port
+    → IsStoreFault serving fault
 not_listened serving fault e = subst (IsStoreFault serving) (sym e) refl

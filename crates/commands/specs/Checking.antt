@@ -15,12 +15,14 @@ use Rattle.block.specs.Codes.{code_of}
 
 -- what a line says of a judgement
 abbrev pub judgement_text : Judgement → List ℕ
-judgement_text (judgement.Sound series samples) = codes "ok " ++ decimal series ++ codes " series " ++ decimal samples ++ codes " samples"
+judgement_text (judgement.Sound series samples) =
+    codes "ok " ++ decimal series ++ codes " series " ++ decimal samples ++ codes " samples"
 judgement_text (judgement.Refused error) = codes "refused " ++ code_of error
 
 -- the line of a directory
 abbrev pub judgement_line : List ℕ → Judgement → List ℕ
-judgement_line directory judgement = directory ++ (codes ": " ++ (judgement_text judgement ++ 10 ∷ []))
+judgement_line directory judgement =
+    directory ++ (codes ": " ++ (judgement_text judgement ++ 10 ∷ []))
 
 -- what the files of a directory, each of them whole, are judged to be
 pub record IsJudgedAt (reads : Reads) (directory : List ℕ) (judgement : Judgement) : Type 0 where
@@ -42,7 +44,8 @@ abbrev pub outcome_of : List Judged → Outcome
 outcome_of judged = if list_any (λ j. is_refused j.1) judged then outcome.Refused else outcome.Done
 
 -- exactly the lines of these directories were written, in this order
-pub record IsChecked (reads : Reads) (directories : List (List ℕ)) (old new : Option (List ℕ)) (outcome : Outcome) : Type 0 where
+pub record IsChecked (reads : Reads) (directories : List (List ℕ)) (old new : Option (List ℕ))
+    (outcome : Outcome) : Type 0 where
   pub judged : List Judged
   pub order : map (λ j. j.0) judged ≡ directories
   pub each : AllByRecursion (λ (j : Judged). IsJudgedAt reads j.0 j.1) judged
@@ -50,7 +53,8 @@ pub record IsChecked (reads : Reads) (directories : List (List ℕ)) (old new : 
   pub outcome_is : outcome ≡ outcome_of judged
 
 -- exactly the lines of the directories before some place were written
-pub record IsBegun (reads : Reads) (directories : List (List ℕ)) (old new : Option (List ℕ)) : Type 0 where
+pub record IsBegun (reads : Reads) (directories : List (List ℕ))
+    (old new : Option (List ℕ)) : Type 0 where
   pub before : List (List ℕ)
   pub rest : List (List ℕ)
   pub order : directories ≡ before ++ rest
@@ -58,7 +62,8 @@ pub record IsBegun (reads : Reads) (directories : List (List ℕ)) (old new : Op
   pub checked : IsChecked reads before old new outcome
 
 -- exactly the lines of the directories before one of which a file cannot be read
-pub record IsUnreadCheck (reads : Reads) (directories : List (List ℕ)) (old new : Option (List ℕ)) (path : List ℕ) : Type 0 where
+pub record IsUnreadCheck (reads : Reads) (directories : List (List ℕ)) (old new : Option (List ℕ))
+    (path : List ℕ) : Type 0 where
   pub before : List (List ℕ)
   pub directory : List ℕ
   pub after : List (List ℕ)
@@ -69,11 +74,14 @@ pub record IsUnreadCheck (reads : Reads) (directories : List (List ℕ)) (old ne
 
 -- where the writer failed, a prefix of the right line of a directory was written
 abbrev pub IsCutAt : Reads → List ℕ → Option (List ℕ) → Option (List ℕ) → Fault → Type 0
-IsCutAt reads directory old new CannotWrite = (judgement : Judgement) × IsJudgedAt reads directory judgement × AppendsPrefix old new (judgement_line directory judgement)
+IsCutAt reads directory old new CannotWrite =
+    (judgement : Judgement) × IsJudgedAt reads directory judgement
+    × AppendsPrefix old new (judgement_line directory judgement)
 IsCutAt reads directory old new fault = Unit {0}
 
 -- a prefix of the lines of the first directories was written, each of them judged
-pub record IsCutShort (reads : Reads) (directories : List (List ℕ)) (old new : Option (List ℕ)) : Type 0 where
+pub record IsCutShort (reads : Reads) (directories : List (List ℕ))
+    (old new : Option (List ℕ)) : Type 0 where
   pub judged : List Judged
   pub rest : List (List ℕ)
   pub order : directories ≡ map (λ j. j.0) judged ++ rest
@@ -82,7 +90,8 @@ pub record IsCutShort (reads : Reads) (directories : List (List ℕ)) (old new :
 
 -- why a check ends before it is done, and what was written by then
 abbrev pub IsCheckFault : Reads → List (List ℕ) → Option (List ℕ) → Option (List ℕ) → Fault → Type 0
-IsCheckFault reads directories old new (CannotRead path) = IsUnreadCheck reads directories old new (string_bytes path)
+IsCheckFault reads directories old new (CannotRead path) =
+    IsUnreadCheck reads directories old new (string_bytes path)
 IsCheckFault reads directories old new Memory = IsBegun reads directories old new
 IsCheckFault reads directories old new CannotWrite = IsCutShort reads directories old new
 IsCheckFault reads directories old new (CannotListen port) = ⊥

@@ -22,13 +22,15 @@ use Rattle.commands.specs.declared.fault.Fault.TheVariants.{Refused}
 use Rattle.commands.specs.declared.fault.Refusal.TheVariants.{Open, Snapshot}
 
 -- an audited answer to the query, of what an empty store is after these events
-pub record IsAnswerAfter (events : List Event) (query : QueryView) (answer : AuditedAnswer) : Type 0 where
+pub record IsAnswerAfter (events : List Event) (query : QueryView)
+    (answer : AuditedAnswer) : Type 0 where
   pub snapshot : SnapshotParts
   pub replayed : replayed most (world_of (opening_of [])) events ≡ Ok (world_of snapshot)
   pub audited : IsAudited query snapshot answer
 
 -- such an answer was written, and a line feed
-pub record WritesAnswerAfter (events : List Event) (query : QueryView) (old new : Option (List ℕ)) : Type 0 where
+pub record WritesAnswerAfter (events : List Event) (query : QueryView)
+    (old new : Option (List ℕ)) : Type 0 where
   pub answer : AuditedAnswer
   pub is : IsAnswerAfter events query answer
   pub written : Appends old new (line_text answer)
@@ -38,11 +40,12 @@ abbrev pub IsCommitFault : SnapshotParts → Event → Fault → Type 0
 IsCommitFault opening event fault =
     (error : CommitError) × (fault ≡ commit_fault error) × IsRefusedAfter opening error event
 
--- why the demo ends before it is done: memory or the writer failed, the store had no room for another
--- reader, it refused a batch after events that it had accepted, or it had no snapshot
+-- why the demo ends before it is done: memory or the writer failed, the store had no room for
+-- another reader, it refused a batch after events that it had accepted, or it had no snapshot
 pub data IsDemoFault (fault : Fault) : Type 0 where
   by_writing : IsWritingFault fault → IsDemoFault fault
   by_opening : fault ≡ Refused (Open store.Unavailable) → IsDemoFault fault
-  by_commit : (event : Event) → Contains demo_events event → IsCommitFault (opening_of []) event fault
+  by_commit : (event : Event) → Contains demo_events event
+      → IsCommitFault (opening_of []) event fault
       → IsDemoFault fault
   by_snapshot : fault ≡ Refused (Snapshot snapshot.Unavailable) → IsDemoFault fault

@@ -30,7 +30,9 @@ selector_rule = record (new_rule (codes "selector")) { value_names = 1; required
 
 -- select [--from N] [--to N] SELECTOR [DIR]...
 abbrev pub select_app : App
-select_app = with_rule (with_rule (with_rule (with_rule (new_app (codes "select")) (time_rule (codes "from"))) (time_rule (codes "to"))) selector_rule) directories_rule
+select_app =
+    with_rule (with_rule (with_rule (with_rule (new_app (codes "select"))
+    (time_rule (codes "from"))) (time_rule (codes "to"))) selector_rule) directories_rule
 
 -- the directories of `check`, one or more
 abbrev pub blocks_rule : Rule
@@ -48,8 +50,11 @@ check_app = with_rule (new_app (codes "check")) blocks_rule
 abbrev pub querier_app : App
 querier_app =
     let app = new_app (codes "querier") in
-    let top = record app.top { has_version = true; subcommand_required = true; no_binary_name = true } in
-    with_subcommand (with_subcommand (with_subcommand (with_subcommand (record app { top = top }) (new_app (codes "demo")).top) check_app.top) select_app.top) serve_app.top
+    let top =
+    record app.top { has_version = true; subcommand_required = true; no_binary_name = true } in
+    with_subcommand (with_subcommand (with_subcommand (with_subcommand (record app {
+      top = top;
+    }) (new_app (codes "demo")).top) check_app.top) select_app.top) serve_app.top
 
 -- the text is a signed number of 64 bits
 pub record IsNumber (text : List ℕ) : Type 0 where
@@ -62,7 +67,8 @@ IsTimeIn None other time = time ≡ other
 IsTimeIn (Some text) other time =
     (IsNumber text × (time ≡ signed_digits_value 10 text)) ⊎ ((IsNumber text → ⊥) × (time ≡ other))
 
--- the selector and the range that the arguments of `select` give; the greatest range is the one of no option
+-- the selector and the range that the arguments of `select` give; the greatest range is the one of
+-- no option
 pub record IsSelectionIn (rows : List Row) (text : List ℕ) (from to : ℤ) : Type 0 where
   pub selector : text ≡ unwrap_or (first_of (codes "selector") rows) []
   pub first : IsTimeIn (one_of (codes "from") rows) MIN_TIME from
@@ -74,7 +80,8 @@ pub record IsDemo (found : Option (Text × List Row)) : Type 0 where
   pub is : found ≡ Some (codes "demo", rows)
 
 -- `select` was found, with this selection and these directories
-pub record IsSelect (found : Option (Text × List Row)) (text : List ℕ) (from to : ℤ) (directories : List Text) : Type 0 where
+pub record IsSelect (found : Option (Text × List Row)) (text : List ℕ) (from to : ℤ)
+    (directories : List Text) : Type 0 where
   pub rows : List Row
   pub is : found ≡ Some (codes "select", rows)
   pub selection : IsSelectionIn rows text from to
@@ -89,7 +96,8 @@ pub record IsCheck (found : Option (Text × List Row)) (directories : List Text)
 -- what a found subcommand asks for
 abbrev pub IsLineIn : Option (Text × List Row) → Line → Type 0
 IsLineIn found Demo = IsDemo found
-IsLineIn found (Select s texts) = IsSelect found s.selector.now s.from s.to (map (λ text. text.now) texts.items)
+IsLineIn found (Select s texts) =
+    IsSelect found s.selector.now s.from s.to (map (λ text. text.now) texts.items)
 IsLineIn found (Check texts) = IsCheck found (map (λ text. text.now) texts.items)
 IsLineIn found (Serve serving texts) = IsServe found serving (map (λ text. text.now) texts.items)
 

@@ -22,10 +22,12 @@ pub record IsBlockAt (reads : Reads) (directory : List ℕ) (block : BlockPart) 
 abbrev pub AreBlocksAt : Reads → List (List ℕ) → List BlockPart → Type 0
 AreBlocksAt reads directories blocks = AllZip (IsBlockAt reads) directories blocks
 
--- why the block of a directory is not opened: a file cannot be read, or the files are judged to be no block
+-- why the block of a directory is not opened: a file cannot be read, or the files are judged to be
+-- no block
 abbrev pub IsBlockFault : Reads → List ℕ → Fault → Type 0
 IsBlockFault reads directory (CannotRead path) = IsUnread reads directory (string_bytes path)
-IsBlockFault reads directory (Refused (Block error)) = IsJudgedAt reads directory (judgement.Refused error)
+IsBlockFault reads directory (Refused (Block error)) =
+    IsJudgedAt reads directory (judgement.Refused error)
 IsBlockFault reads directory (Refused (Open error)) = ⊥
 IsBlockFault reads directory (Refused (Snapshot error)) = ⊥
 IsBlockFault reads directory (Refused (Selector error)) = ⊥
@@ -56,8 +58,10 @@ pub record AreTooMany (reads : Reads) (directories : List (List ℕ)) : Type 0 w
 
 -- why directories are not opened: by the first of them that is at fault, and then by their number
 abbrev pub IsOpeningFault : Reads → List (List ℕ) → Fault → Type 0
-IsOpeningFault reads directories (CannotRead path) = IsFirstFault reads directories (CannotRead path)
-IsOpeningFault reads directories (Refused (Block error)) = IsFirstFault reads directories (Refused (Block error))
+IsOpeningFault reads directories (CannotRead path) =
+    IsFirstFault reads directories (CannotRead path)
+IsOpeningFault reads directories (Refused (Block error)) =
+    IsFirstFault reads directories (Refused (Block error))
 IsOpeningFault reads directories (Refused (Open store.Limit)) = AreTooMany reads directories
 IsOpeningFault reads directories (Refused (Open store.BadPasses)) = ⊥
 IsOpeningFault reads directories (Refused (Open store.Unavailable)) = ⊥
@@ -74,7 +78,8 @@ IsOpeningFault reads directories (CannotListen port) = ⊥
 IsOpeningFault reads directories Memory = Unit {0}
 
 -- the snapshot of the blocks that the directories hold, in their order, and of an empty head
-pub record IsOpeningOf (reads : Reads) (directories : List (List ℕ)) (snapshot : SnapshotParts) : Type 0 where
+pub record IsOpeningOf (reads : Reads) (directories : List (List ℕ))
+    (snapshot : SnapshotParts) : Type 0 where
   pub blocks : List BlockPart
   pub opened : AreBlocksAt reads directories blocks
   pub few : length directories ≤ 63

@@ -47,8 +47,10 @@ limit_of Index = 1073741824
 limit_of Chunks = 1073741824
 limit_of Tombstones = 1073741824
 
--- the bytes are those of a file of a directory; of one that is longer than it may be, the first that show it
-pub record IsRead (reads : Reads) (directory : List ℕ) (name : FileName) (bytes : List ℕ) : Type 0 where
+-- the bytes are those of a file of a directory; of one that is longer than it may be, the first
+-- that show it
+pub record IsRead (reads : Reads) (directory : List ℕ) (name : FileName)
+    (bytes : List ℕ) : Type 0 where
   pub file : List ℕ
   pub found : reads (path_of directory name) (Some file)
   pub first : bytes ≡ take (limit_of name + 1) file
@@ -80,13 +82,15 @@ pub record IsFound (reads : Reads) (directory : List ℕ) (name : FileName) : Ty
   pub found : reads (path_of directory name) (Some file)
 
 -- the path is that of a file of a directory, and nothing can be read there
-pub record IsUnreadAt (reads : Reads) (directory : List ℕ) (name : FileName) (path : List ℕ) : Type 0 where
+pub record IsUnreadAt (reads : Reads) (directory : List ℕ) (name : FileName)
+    (path : List ℕ) : Type 0 where
   pub is : path ≡ path_of directory name
   pub unread : reads path None
 
 -- why a file of a directory is not read
 abbrev pub IsFileFault : Reads → List ℕ → FileName → Fault → Type 0
-IsFileFault reads directory name (CannotRead path) = IsUnreadAt reads directory name (string_bytes path)
+IsFileFault reads directory name (CannotRead path) =
+    IsUnreadAt reads directory name (string_bytes path)
 IsFileFault reads directory name Memory = Unit {0}
 IsFileFault reads directory name CannotWrite = ⊥
 IsFileFault reads directory name (CannotListen port) = ⊥

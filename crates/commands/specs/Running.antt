@@ -26,7 +26,8 @@ pub record IsTaken (words : List Text) : Type 0 where
 
 -- what a line asks for was written; the demo, a selection and a server end with their text alone
 abbrev pub IsDone : Reads → Line → Option (List ℕ) → Option (List ℕ) → Outcome → Type 0
-IsDone reads Demo old new Done = WritesAnswerAfter demo_events (demo_query (pos 0) (pos 100)) old new
+IsDone reads Demo old new Done =
+    WritesAnswerAfter demo_events (demo_query (pos 0) (pos 100)) old new
 IsDone reads Demo old new Refused = ⊥
 IsDone reads (Select s texts) old new Done = WritesSelection reads (paths_of texts.items) s old new
 IsDone reads (Select s texts) old new Refused = ⊥
@@ -37,17 +38,22 @@ IsDone reads (Serve serving texts) old new Refused = ⊥
 -- why a line ends before it is done, and what was written by then
 abbrev pub IsLineFault : Reads → Line → Option (List ℕ) → Option (List ℕ) → Fault → Type 0
 IsLineFault reads Demo old new fault = IsDemoFault fault × KeepsAt fault old new
-IsLineFault reads (Select s texts) old new fault = IsSelectFault reads (paths_of texts.items) s fault × KeepsAt fault old new
-IsLineFault reads (Check texts) old new fault = IsCheckFault reads (paths_of texts.items) old new fault
-IsLineFault reads (Serve serving texts) old new fault = IsServeFault reads (paths_of texts.items) serving old new fault
+IsLineFault reads (Select s texts) old new fault =
+    IsSelectFault reads (paths_of texts.items) s fault × KeepsAt fault old new
+IsLineFault reads (Check texts) old new fault =
+    IsCheckFault reads (paths_of texts.items) old new fault
+IsLineFault reads (Serve serving texts) old new fault =
+    IsServeFault reads (paths_of texts.items) serving old new fault
 
 -- how a line ends
-abbrev pub IsLineEnd : Reads → Line → Option (List ℕ) → Option (List ℕ) → Result Outcome Fault → Type 0
+abbrev pub IsLineEnd : Reads → Line → Option (List ℕ) → Option (List ℕ)
+    → Result Outcome Fault → Type 0
 IsLineEnd reads line old new (Ok outcome) = IsDone reads line old new outcome
 IsLineEnd reads line old new (Err fault) = IsLineFault reads line old new fault
 
 -- the words are a line, and it ends so
-pub record IsEnd (reads : Reads) (words : List Text) (old new : Option (List ℕ)) (end : Result Outcome Fault) : Type 0 where
+pub record IsEnd (reads : Reads) (words : List Text) (old new : Option (List ℕ))
+    (end : Result Outcome Fault) : Type 0 where
   pub line : Line
   pub is : IsLineOf words line
   pub ends : IsLineEnd reads line old new end
@@ -58,8 +64,8 @@ status_at (Ok Done) = 0
 status_at (Ok Refused) = 1
 status_at (Err fault) = status_of fault
 
--- how words that are no line may end: help or the version was written, or the words are at fault, or memory or the writer
--- failed
+-- how words that are no line may end: help or the version was written, or the words are at fault,
+-- or memory or the writer failed
 abbrev pub IsNoLine : Result Outcome Fault → Type 0
 IsNoLine (Ok Done) = Unit {0}
 IsNoLine (Ok Refused) = ⊥
@@ -81,17 +87,20 @@ IsWordsFault (Err (fault.Refused refusal)) = ⊥
 IsWordsFault (Err (fault.CannotRead path)) = ⊥
 
 -- the line of a fault was written, or the writer failed; of an end without a fault nothing was
-abbrev pub IsTold : {E : Type 0} → Result Outcome Fault → Result (Unit {0}) E → Option (List ℕ) → Option (List ℕ) → Type 0
+abbrev pub IsTold : {E : Type 0} → Result Outcome Fault → Result (Unit {0}) E → Option (List ℕ)
+    → Option (List ℕ) → Type 0
 IsTold (Ok outcome) told old new = IsOk told × Keeps old new
 IsTold (Err fault) told old new = OnOk told (IfSome (line_of fault) (Appends old new))
 
--- The words that are a line end as that line does, and others as no line may. The exit status says which end it is, and a
--- fault was told.
-pub record HasEnded (reads : Reads) (words : List Text) (old new told_old told_new : Option (List ℕ)) (ending : Ending) : Type 0 where
+-- The words that are a line end as that line does, and others as no line may. The exit status says
+-- which end it is, and a fault was told.
+pub record HasEnded (reads : Reads) (words : List Text)
+    (old new told_old told_new : Option (List ℕ)) (ending : Ending) : Type 0 where
   pub end : Result Outcome Fault
   pub line : IsTaken words → IsEnd reads words old new end
   pub no_line : ((line : Line) → IsLineOf words line → ⊥) → IsNoLine end
-  pub refused : takes querier_app words ≡ true → ((line : Line) → IsLineOf words line → ⊥) → IsWordsFault end
+  pub refused : takes querier_app words ≡ true
+      → ((line : Line) → IsLineOf words line → ⊥) → IsWordsFault end
   pub status : ending.status ≡ status_at end
   pub told : IsTold end ending.told told_old told_new
 
@@ -102,7 +111,8 @@ TellsEarly (Select s texts) = ⊥
 TellsEarly (Check texts) = Unit {0}
 TellsEarly (Serve serving texts) = Unit {0}
 
--- the words are a line of `check` or `serve`, which alone may write before they end otherwise than done
+-- the words are a line of `check` or `serve`, which alone may write before they end otherwise than
+-- done
 pub record IsEarlyLine (words : List Text) : Type 0 where
   pub line : Line
   pub is : IsLineOf words line

@@ -71,13 +71,16 @@ IsSelectionFault asked (CannotListen port) = ⊥
 IsSelectionFault asked Memory = Unit {0}
 
 -- an audited answer of the snapshot to the query was written, and a line feed
-pub record WritesAnswer (query : QueryView) (snapshot : SnapshotParts) (old new : Option (List ℕ)) : Type 0 where
+pub record WritesAnswer (query : QueryView) (snapshot : SnapshotParts)
+    (old new : Option (List ℕ)) : Type 0 where
   pub answer : AuditedAnswer
   pub audited : IsAudited query snapshot answer
   pub written : Appends old new (line_text answer)
 
--- an audited answer to the selection was written, over the blocks that the directories hold, and a line feed
-pub record WritesSelection (reads : Reads) (directories : List (List ℕ)) (asked : Selection) (old new : Option (List ℕ)) : Type 0 where
+-- an audited answer to the selection was written, over the blocks that the directories hold, and a
+-- line feed
+pub record WritesSelection (reads : Reads) (directories : List (List ℕ)) (asked : Selection)
+    (old new : Option (List ℕ)) : Type 0 where
   pub query : QueryView
   pub is_asked : IsQueryOf asked query
   pub snapshot : SnapshotParts
@@ -112,12 +115,15 @@ pub record AreOpened (reads : Reads) (directories : List (List ℕ)) : Type 0 wh
   pub snapshot : SnapshotParts
   pub opened : IsOpeningOf reads directories snapshot
 
--- why a selection over directories ends before it is done: by the selection; by the directories, where the selection is
--- accepted; or by memory or the writer, where the directories are opened too
-pub data IsSelectFault (reads : Reads) (directories : List (List ℕ)) (asked : Selection) (fault : Fault) : Type 0 where
+-- why a selection over directories ends before it is done: by the selection; by the directories,
+-- where the selection is accepted; or by memory or the writer, where the directories are opened too
+pub data IsSelectFault (reads : Reads) (directories : List (List ℕ)) (asked : Selection)
+    (fault : Fault) : Type 0 where
   by_selection : IsSelectionFault asked fault → IsSelectFault reads directories asked fault
-  by_directories : IsAllowed asked → IsOpeningFault reads directories fault → IsSelectFault reads directories asked fault
-  by_writing : IsAllowed asked → AreOpened reads directories → IsWritingFault fault → IsSelectFault reads directories asked fault
+  by_directories : IsAllowed asked → IsOpeningFault reads directories fault
+      → IsSelectFault reads directories asked fault
+  by_writing : IsAllowed asked → AreOpened reads directories → IsWritingFault fault
+      → IsSelectFault reads directories asked fault
 
 -- memory alone failed
 abbrev pub IsOfMemory : Fault → Type 0

@@ -25,7 +25,10 @@ port_rule = record (new_rule (codes "port")) {
 
 -- serve --port P [--workers W] [--requests N] [--idle-seconds S] [DIR]...
 abbrev pub serve_app : App
-serve_app = with_rule (with_rule (with_rule (with_rule (with_rule (new_app (codes "serve")) port_rule) (count_rule (codes "workers") 1 64)) (count_rule (codes "requests") 0 18446744073709551615)) (count_rule (codes "idle-seconds") 0 4294967295)) directories_rule
+serve_app =
+    with_rule (with_rule (with_rule (with_rule (with_rule (new_app (codes "serve")) port_rule)
+    (count_rule (codes "workers") 1 64)) (count_rule (codes "requests") 0 18446744073709551615))
+    (count_rule (codes "idle-seconds") 0 4294967295)) directories_rule
 
 -- the text is a number of 64 bits without a sign
 pub record IsCount (text : List ℕ) : Type 0 where
@@ -36,7 +39,8 @@ pub record IsCount (text : List ℕ) : Type 0 where
 abbrev pub IsCountIn : Option Text → ℕ → ℕ → Type 0
 IsCountIn None other count = count ≡ other
 IsCountIn (Some text) other count =
-    (IsCount text × (count ≡ digits_value 10 (without_leading_plus text))) ⊎ ((IsCount text → ⊥) × (count ≡ other))
+    (IsCount text × (count ≡ digits_value 10 (without_leading_plus text)))
+    ⊎ ((IsCount text → ⊥) × (count ≡ other))
 
 -- how the arguments of `serve` have it served
 pub record IsServingIn (rows : List Row) (serving : Serving) : Type 0 where
@@ -46,7 +50,8 @@ pub record IsServingIn (rows : List Row) (serving : Serving) : Type 0 where
   pub idle : IsCountIn (one_of (codes "idle-seconds") rows) 30 serving.idle_seconds
 
 -- `serve` was found, to be served so, with these directories
-pub record IsServe (found : Option (Text × List Row)) (serving : Serving) (directories : List Text) : Type 0 where
+pub record IsServe (found : Option (Text × List Row)) (serving : Serving)
+    (directories : List Text) : Type 0 where
   pub rows : List Row
   pub is : found ≡ Some (codes "serve", rows)
   pub asked : IsServingIn rows serving

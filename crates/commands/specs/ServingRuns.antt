@@ -28,12 +28,13 @@ pub record AreServable (reads : Reads) (directories : List (List ℕ)) : Type 0 
   pub few : length directories ≤ 63
 
 -- the directories hold blocks, and the port at which a store over them is served was told
-pub record IsServed (reads : Reads) (directories : List (List ℕ)) (old new : Option (List ℕ)) : Type 0 where
+pub record IsServed (reads : Reads) (directories : List (List ℕ))
+    (old new : Option (List ℕ)) : Type 0 where
   pub servable : AreServable reads directories
   pub told : TellsPort old new
 
--- why a store over blocks is not served: there are not 1 to 64 workers, the store has no room for so many readers, the
--- port cannot be listened on, or memory or the writer failed
+-- why a store over blocks is not served: there are not 1 to 64 workers, the store has no room for
+-- so many readers, the port cannot be listened on, or memory or the writer failed
 abbrev pub IsStoreFault : Serving → Fault → Type 0
 IsStoreFault serving (Refused (Open store.BadPasses)) = ¬ IsRoom serving.workers serving.workers
 IsStoreFault serving (Refused (Open store.Unavailable)) = Unit {0}
@@ -52,13 +53,18 @@ IsStoreFault serving Memory = Unit {0}
 IsStoreFault serving (Words error) = ⊥
 IsStoreFault serving (CannotRead path) = ⊥
 
--- why a store over blocks is not served, or not until each worker has ended, and what was written by then
+-- why a store over blocks is not served, or not until each worker has ended, and what was written
+-- by then
 abbrev pub IsServingFault : Serving → Option (List ℕ) → Option (List ℕ) → Fault → Type 0
 IsServingFault serving old new fault =
     (IsStoreFault serving fault × KeepsAt fault old new) ⊎ (TellsPort old new × IsOfMemory fault)
 
--- Why a line of `serve` ends before each worker has: by the directories; or, where they hold blocks, by the store, the port
--- or the writer, or by want of memory once the port was told. Before that the writer holds what it held, unless it failed.
-pub data IsServeFault (reads : Reads) (directories : List (List ℕ)) (serving : Serving) (old new : Option (List ℕ)) (fault : Fault) : Type 0 where
-  by_directories : IsOpeningFault reads directories fault → KeepsAt fault old new → IsServeFault reads directories serving old new fault
-  by_serving : AreServable reads directories → IsServingFault serving old new fault → IsServeFault reads directories serving old new fault
+-- Why a line of `serve` ends before each worker has: by the directories; or, where they hold
+-- blocks, by the store, the port or the writer, or by want of memory once the port was told. Before
+-- that the writer holds what it held, unless it failed.
+pub data IsServeFault (reads : Reads) (directories : List (List ℕ)) (serving : Serving)
+    (old new : Option (List ℕ)) (fault : Fault) : Type 0 where
+  by_directories : IsOpeningFault reads directories fault → KeepsAt fault old new
+      → IsServeFault reads directories serving old new fault
+  by_serving : AreServable reads directories → IsServingFault serving old new fault
+      → IsServeFault reads directories serving old new fault

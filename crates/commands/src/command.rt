@@ -15,7 +15,8 @@ use clap::{Arg, ArgMatches, Command, Error, value_parser};
 use labels::{MAX_TIME, MIN_TIME};
 use std::alloc::{AllocError, Global};
 
-/// A selector, and a closed range of times in milliseconds, as they were written: neither is checked.
+/// A selector, and a closed range of times in milliseconds, as they were written: neither is
+/// checked.
 #[derive(Clone, Copy, Debug, PartialEq, Eq, Drop)]
 pub struct Selection<'a> {
     pub selector: &'a str,
@@ -292,7 +293,8 @@ fn text_in<'a>(found: &ArgMatches<'a>, name: &str) -> &'a str
 }
 
 fn selection_in<'a>(found: &ArgMatches<'a>) -> Selection<'a>
-    ensures { IsSelectionIn (rows_of (found_of found.now)) result.selector.now result.from result.to }
+    ensures { IsSelectionIn (rows_of (found_of found.now)) result.selector.now
+        result.from result.to }
 {
     let selector = text_in(found, "selector");
     let from = time_in(found, "from", MIN_TIME);
@@ -316,7 +318,8 @@ fn serving_in(found: &ArgMatches<'_>) -> Serving
 }
 
 fn directories_in<'a>(alloc: Global, found: &ArgMatches<'a>) -> Result<Vec<&'a str>, AllocError>
-    ensures { IfOk result (λ texts. map (λ text. text.now) texts.items ≡ unwrap_or (all_of (codes "directories") (rows_of (found_of found.now))) []) }
+    ensures { IfOk result (λ texts. map (λ text. text.now) texts.items
+        ≡ unwrap_or (all_of (codes "directories") (rows_of (found_of found.now))) []) }
 {
     match found.get_strs("directories") {
         Some(texts) => Vec::from_slice(alloc, texts),
@@ -346,8 +349,10 @@ fn line_in<'a>(alloc: Global, found: &ArgMatches<'a>) -> Result<Option<Line<'a>>
 }
 
 fn matches_in<'a>(alloc: Global, words: &'a [String]) -> Result<ArgMatches<'a>, Error>
-    ensures ok { IfOk result (λ found. subcommand_rows_of found ≡ subcommand_of querier_app (texts_of words.entry.now)) }
-    ensures err { IfErr result (λ e. takes querier_app (texts_of words.entry.now) ≡ true → kind_of e ≡ ErrorKind.OutOfMemory) }
+    ensures ok { IfOk result (λ found.
+        subcommand_rows_of found ≡ subcommand_of querier_app (texts_of words.entry.now)) }
+    ensures err { IfErr result (λ e.
+        takes querier_app (texts_of words.entry.now) ≡ true → kind_of e ≡ ErrorKind.OutOfMemory) }
 {
     querier(alloc)?.try_get_matches_from(words)
 }
@@ -359,12 +364,14 @@ fn no_subcommand(alloc: Global) -> Result<Error, AllocError>
     querier(alloc)?.error(ErrorKind::MissingSubcommand, "a subcommand is missing")
 }
 
-/// What the words after the program's name ask for, or what to print in place of it: help, the version, or a fault of
-/// the words.
+/// What the words after the program's name ask for, or what to print in place of it: help, the
+/// version, or a fault of the words.
 pub fn read_line<'a>(alloc: Global, words: &'a [String]) -> Result<Line<'a>, Error>
     ensures ok { IfOk result (λ line. IsLineOf (texts_of words.entry.now) line) }
-    ensures err { IfErr result (λ e. IsTaken (texts_of words.entry.now) → kind_of e ≡ ErrorKind.OutOfMemory) }
-    ensures refused { IfErr result (λ e. takes querier_app (texts_of words.entry.now) ≡ true → (kind_of e ≡ ErrorKind.OutOfMemory) ⊎ (kind_of e ≡ ErrorKind.MissingSubcommand)) }
+    ensures err { IfErr result (λ e.
+        IsTaken (texts_of words.entry.now) → kind_of e ≡ ErrorKind.OutOfMemory) }
+    ensures refused { IfErr result (λ e. takes querier_app (texts_of words.entry.now) ≡ true
+        → (kind_of e ≡ ErrorKind.OutOfMemory) ⊎ (kind_of e ≡ ErrorKind.MissingSubcommand)) }
 {
     let found = matches_in(alloc, words)?;
     match line_in(alloc, &found)? {

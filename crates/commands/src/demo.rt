@@ -175,9 +175,9 @@ fn answer_of<J: Naming, R: Wait>(
 /// The audited answer to `up{job="a"}` from 0 to 100, of a store to which two seats commit a batch
 /// each: a pass that learnt both receipts is asked.
 ///
-/// Besides memory, `O4` and `S1` and a refusal of a batch are answered where the store answers them.
-/// `S1` stands too for a pass that sees other events than the two, which does not occur: nobody else
-/// has the store.
+/// Besides memory, `O4` and `S1` and a refusal of a batch are answered where the store answers
+/// them. `S1` stands too for a pass that sees other events than the two, which does not occur:
+/// nobody else has the store.
 pub fn demo_answer<R: Wait>(rt: &R, alloc: Global) -> Result<AuditedAnswer, Fault>
     ensures ok { IfOk result (IsAnswerAfter demo_events (demo_query (pos 0) (pos 100))) }
     ensures err { IfErr result (λ fault. IsDemoFault fault) }

@@ -52,7 +52,8 @@ impl Refusal {
         }
     }
 
-    /// The place of the fault: in a selector in bytes, in a batch the number of the sample, both from 0.
+    /// The place of the fault: in a selector in bytes, in a batch the number of the sample, both
+    /// from 0.
     pub fn place(&self) -> Option<usize>
         ensures { result ≡ refusal_place self.now }
     {
@@ -99,8 +100,8 @@ pub enum Fault {
 }
 
 impl Fault {
-    /// The exit status: 1 for a refusal, 2 for a fault of the words, 3 for a file that cannot be read, a writer that
-    /// refused or a port that cannot be listened on, 4 for no memory.
+    /// The exit status: 1 for a refusal, 2 for a fault of the words, 3 for a file that cannot be
+    /// read, a writer that refused or a port that cannot be listened on, 4 for no memory.
     pub fn status(&self) -> u8
         ensures { result ≡ status_of self.now }
     {
@@ -112,9 +113,11 @@ impl Fault {
         }
     }
 
-    /// Tells the fault in a line, as `refused M4 at 7` or `cannot read DIR/index`, or how the program is used.
+    /// Tells the fault in a line, as `refused M4 at 7` or `cannot read DIR/index`, or how the
+    /// program is used.
     pub fn tell<W: Write>(&self, to: &mut W) -> io::Result<()>
-        ensures { OnOk result (IfSome (line_of self.now) (Appends (W.contents to.old) (W.contents to.new))) }
+        ensures { OnOk result
+            (IfSome (line_of self.now) (Appends (W.contents to.old) (W.contents to.new))) }
     {
         match self {
             Fault::Refused(refusal) => writeln!(to, "refused {refusal}"),

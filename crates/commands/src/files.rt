@@ -41,7 +41,8 @@ fn first_of<R: Read + Drop>(
     most: usize,
 ) -> io::Result<Vec<u8>>
     ensures few { IfOk result (λ bytes. length bytes.items ≤ most) }
-    ensures first { IfOk result (λ bytes. IfSome (R.remaining reader) (λ all. bytes.items ≡ take most all)) }
+    ensures first { IfOk result (λ bytes. IfSome (R.remaining reader) (λ all.
+        bytes.items ≡ take most all)) }
 {
     let mut bytes = Vec::with_capacity(alloc, room)?;
     reader.take(most as u64).read_to_end(&mut bytes)?;
@@ -131,8 +132,10 @@ fn read_one<F: ReadFiles>(
     directory: &str,
     name: FileName,
 ) -> Result<Vec<u8>, Fault>
-    ensures ok { IfOk result (λ bytes. IsRead (F.may_read files.now) directory.now name bytes.items) }
-    ensures err { IfErr result (λ fault. IsFileFault (F.may_read files.now) directory.now name fault) }
+    ensures ok { IfOk result (λ bytes.
+        IsRead (F.may_read files.now) directory.now name bytes.items) }
+    ensures err { IfErr result (λ fault.
+        IsFileFault (F.may_read files.now) directory.now name fault) }
 {
     let path = path_of(alloc, directory, name)?;
     match files.read_file(alloc, path.as_str(), name.limit() + 1) {
@@ -148,9 +151,11 @@ fn read_index<F: ReadFiles>(
     files: &F,
     directory: &str,
 ) -> Result<(Vec<u8>, Result<Index, IndexError>), Fault>
-    ensures ok { IfOk result (λ read. IsRead (F.may_read files.now) directory.now file_name.Index read.0.items) }
+    ensures ok { IfOk result (λ read.
+        IsRead (F.may_read files.now) directory.now file_name.Index read.0.items) }
     ensures opened { IfOk result (λ read. IsOpened read.0.items read.1) }
-    ensures err { IfErr result (λ fault. IsFileFault (F.may_read files.now) directory.now file_name.Index fault) }
+    ensures err { IfErr result (λ fault.
+        IsFileFault (F.may_read files.now) directory.now file_name.Index fault) }
 {
     let index = read_one(alloc, files, directory, FileName::Index)?;
     let opened = Index::open(alloc, index.as_slice());
@@ -168,16 +173,23 @@ pub fn read_block<T: Threads + Sync, F: ReadFiles>(
 ) -> Result<BlockFiles, Fault>
     ensures ok { IfOk result (λ block. AreRead (F.may_read files.now) directory.now block) }
     ensures opened { IfOk result (λ block. IsOpened block.index.items block.opened) }
-    ensures err { IfErr result (λ fault. IsReadingFault (F.may_read files.now) directory.now fault) }
+    ensures err { IfErr result (λ fault.
+        IsReadingFault (F.may_read files.now) directory.now fault) }
 {
     let meta = read_one(alloc, files, directory, FileName::Meta)?;
     let apart = || -> Result<Vec<u8>, Fault>
         requires { IsSync F.row }
-        ensures { (IfOk result (λ bytes. IsRead (F.may_read files.entry.now) directory.entry.now file_name.Chunks bytes.items)) × (IfErr result (λ fault. IsFileFault (F.may_read files.entry.now) directory.entry.now file_name.Chunks fault)) }
+        ensures { (IfOk result (λ bytes.
+            IsRead (F.may_read files.entry.now) directory.entry.now file_name.Chunks bytes.items))
+            × (IfErr result (λ fault.
+            IsFileFault (F.may_read files.entry.now) directory.entry.now file_name.Chunks fault)) }
     { read_one(alloc, files, directory, FileName::Chunks) };
     let here = || -> Result<(Vec<u8>, Result<Index, IndexError>), Fault>
         requires { IsSync F.row }
-        ensures { (IfOk result (λ read. IsRead (F.may_read files.entry.now) directory.entry.now file_name.Index read.0.items)) × (IfOk result (λ read. IsOpened read.0.items read.1)) × (IfErr result (λ fault. IsFileFault (F.may_read files.entry.now) directory.entry.now file_name.Index fault)) }
+        ensures { (IfOk result (λ read.
+            IsRead (F.may_read files.entry.now) directory.entry.now file_name.Index read.0.items))
+            × (IfOk result (λ read. IsOpened read.0.items read.1)) × (IfErr result (λ fault.
+            IsFileFault (F.may_read files.entry.now) directory.entry.now file_name.Index fault)) }
     { read_index(alloc, files, directory) };
     let (chunks, index) = join(rt, apart, here);
     let (index, opened) = index?;

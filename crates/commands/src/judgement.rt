@@ -52,16 +52,19 @@ impl fmt::Display for Judgement {
     }
 }
 
-/// The block that files are, or the first check that fails: that of the meta, and then those of the other files.
+/// The block that files are, or the first check that fails: that of the meta, and then those of the
+/// other files.
 pub fn open<T: Threads + Sync>(
     rt: &T,
     alloc: Global,
     files: BlockFiles,
 ) -> Result<Block, BlockError>
     requires opened { IsOpened files.index.items files.opened }
-    ensures exact { Gives (λ b. b) result (block_in (or_meta (range_said files.meta.items)) (bytes_of files)) }
+    ensures exact { Gives (λ b. b) result
+        (block_in (or_meta (range_said files.meta.items)) (bytes_of files)) }
     ensures found { IfOk result (λ b. IsSpelledAs (bytes_of files) b.range b.part) }
-    ensures only { (range : ℤ × ℤ) (part : Part) → IsSpelledAs (bytes_of files) range part → Gives (λ b. b.part) result (Ok part) }
+    ensures only { (range : ℤ × ℤ) (part : Part) → IsSpelledAs (bytes_of files) range part
+        → Gives (λ b. b.part) result (Ok part) }
 {
     let BlockFiles {
         meta,

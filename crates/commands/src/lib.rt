@@ -3,17 +3,16 @@
 //! `run` does what the words after the program's name ask for, over files, two writers and a host.
 //! `demo` opens an empty store, to which two seats commit a batch each, and writes the answer of a
 //! pass that learnt both receipts to `up{job="a"}` from 0 to 100 as one line of JSON: of each part
-//! its rows and the certificate that shows them to be all, and the rows of all parts. `select`
-//! asks any selector the same of the blocks in directories, which `opening` opens. What is written
-//! is the text of an audited answer, byte for byte, and a line feed (`demo`, `write_answer`,
+//! its rows and the certificate that shows them to be all, and the rows of all parts. `select` asks
+//! any selector the same of the blocks in directories, which `opening` opens. What is written is
+//! the text of an audited answer, byte for byte, and a line feed (`demo`, `write_answer`,
 //! `select`). `check` verifies blocks completely and writes a line for each: `files` says what is
 //! read of a directory, `judgement` what that is judged to be, and `report` which lines are
 //! written. What is refused, and with which status a line ends, is said by `fault` and `run`.
-//! `serve` serves the blocks in directories, under an empty head, to HTTP clients.
-//! It stands on `server` for workers, on `query_http` for answers and their text, on `snapshots` for
-//! the store of the demo, on `block` for what a block is, on `clap` for words, and on `labels`,
-//! `matchers` and `head`. Certificates are the partition certificates of Barbay and Kenyon, SODA
-//! 2002.
+//! `serve` serves the blocks in directories, under an empty head, to HTTP clients. It stands on
+//! `server` for workers, on `query_http` for answers and their text, on `snapshots` for the store
+//! of the demo, on `block` for what a block is, on `clap` for words, and on `labels`, `matchers`
+//! and `head`. Certificates are the partition certificates of Barbay and Kenyon, SODA 2002.
 #![tactic(auto)]
 
 mod command;

@@ -40,8 +40,10 @@ fn open_each<T: Threads + Sync, F: ReadFiles>(
     files: &F,
     directories: &[&str],
 ) -> Result<Vec<Block>, Fault>
-    ensures ok { IfOk result (λ blocks. AreBlocksAt (F.may_read files.now) (paths_of directories.now) (map part_in blocks.items)) }
-    ensures err { IfErr result (λ fault. IsFirstFault (F.may_read files.now) (paths_of directories.now) fault) }
+    ensures ok { IfOk result (λ blocks.
+        AreBlocksAt (F.may_read files.now) (paths_of directories.now) (map part_in blocks.items)) }
+    ensures err { IfErr result (λ fault.
+        IsFirstFault (F.may_read files.now) (paths_of directories.now) fault) }
 {
     let mut blocks = Vec::new(alloc);
     for directory in directories {
@@ -61,8 +63,10 @@ fn open_among<T: Threads + Sync, F: ReadFiles>(
     directories: &[&str],
     threads: usize,
 ) -> Result<Vec<Block>, Fault>
-    ensures ok { IfOk result (λ blocks. AreBlocksAt (F.may_read files.now) (paths_of directories.now) (map part_in blocks.items)) }
-    ensures err { IfErr result (λ fault. IsFirstFault (F.may_read files.now) (paths_of directories.now) fault) }
+    ensures ok { IfOk result (λ blocks.
+        AreBlocksAt (F.may_read files.now) (paths_of directories.now) (map part_in blocks.items)) }
+    ensures err { IfErr result (λ fault.
+        IsFirstFault (F.may_read files.now) (paths_of directories.now) fault) }
 {
     let count = directories.len();
     if threads < 2 || count < 2 {
@@ -73,11 +77,15 @@ fn open_among<T: Threads + Sync, F: ReadFiles>(
     let (front, back) = directories.split_at(count / 2);
     let early = || -> Result<Vec<Block>, Fault>
         requires { IsSync T.row × IsSync F.row }
-        ensures { (IfOk result (λ blocks. AreBlocksAt (F.may_read files.entry.now) (paths_of front.entry.now) (map part_in blocks.items))) × (IfErr result (λ fault. IsFirstFault (F.may_read files.entry.now) (paths_of front.entry.now) fault)) }
+        ensures { (IfOk result (λ blocks. AreBlocksAt (F.may_read files.entry.now)
+            (paths_of front.entry.now) (map part_in blocks.items))) × (IfErr result (λ fault.
+            IsFirstFault (F.may_read files.entry.now) (paths_of front.entry.now) fault)) }
     { open_among(rt, alloc, files, front, helpers) };
     let late = || -> Result<Vec<Block>, Fault>
         requires { IsSync T.row × IsSync F.row }
-        ensures { (IfOk result (λ blocks. AreBlocksAt (F.may_read files.entry.now) (paths_of back.entry.now) (map part_in blocks.items))) × (IfErr result (λ fault. IsFirstFault (F.may_read files.entry.now) (paths_of back.entry.now) fault)) }
+        ensures { (IfOk result (λ blocks. AreBlocksAt (F.may_read files.entry.now)
+            (paths_of back.entry.now) (map part_in blocks.items))) × (IfErr result (λ fault.
+            IsFirstFault (F.may_read files.entry.now) (paths_of back.entry.now) fault)) }
     { open_among(rt, alloc, files, back, rest) };
     let (first, second) = join(rt, early, late);
     let mut blocks = first?;
@@ -96,9 +104,11 @@ pub fn open_blocks<T: Threads + Sync, F: ReadFiles>(
     files: &F,
     directories: &[&str],
 ) -> Result<Vec<Block>, Fault>
-    ensures ok { IfOk result (λ blocks. AreBlocksAt (F.may_read files.now) (paths_of directories.now) (map part_in blocks.items)) }
+    ensures ok { IfOk result (λ blocks.
+        AreBlocksAt (F.may_read files.now) (paths_of directories.now) (map part_in blocks.items)) }
     ensures few { IfOk result (λ blocks. length blocks.items ≤ 63) }
-    ensures err { IfErr result (λ fault. IsOpeningFault (F.may_read files.now) (paths_of directories.now) fault) }
+    ensures err { IfErr result (λ fault.
+        IsOpeningFault (F.may_read files.now) (paths_of directories.now) fault) }
 {
     let opened = open_among(rt, alloc, files, directories, THREADS)?;
     if opened.len() > MAX_BLOCKS {
@@ -116,8 +126,10 @@ pub fn open_store<T: Threads + Sync, F: ReadFiles>(
     files: &F,
     directories: &[&str],
 ) -> Result<Snapshot, Fault>
-    ensures ok { IfOk result (λ s. IsOpeningOf (F.may_read files.now) (paths_of directories.now) s) }
-    ensures err { IfErr result (λ fault. IsOpeningFault (F.may_read files.now) (paths_of directories.now) fault) }
+    ensures ok { IfOk result (λ s.
+        IsOpeningOf (F.may_read files.now) (paths_of directories.now) s) }
+    ensures err { IfErr result (λ fault.
+        IsOpeningFault (F.may_read files.now) (paths_of directories.now) fault) }
 {
     let blocks = open_blocks(rt, alloc, files, directories)?;
     Ok(Snapshot::opening(alloc, blocks)?)

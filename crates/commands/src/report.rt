@@ -55,7 +55,8 @@ fn judge_at<T: Threads + Sync, F: ReadFiles>(
 ) -> Result<(Judgement, String), Fault>
     ensures judged { IfOk result (λ told. IsJudgedAt (F.may_read files.now) directory.now told.0) }
     ensures line { IfOk result (λ told. string_bytes told.1 ≡ judgement_line directory.now told.0) }
-    ensures err { IfErr result (λ fault. IsReadingFault (F.may_read files.now) directory.now fault) }
+    ensures err { IfErr result (λ fault.
+        IsReadingFault (F.may_read files.now) directory.now fault) }
 {
     let block = read_block(rt, alloc, files, directory)?;
     let judgement = judge(rt, alloc, block)?;
@@ -71,11 +72,15 @@ fn check_one<T: Threads + Sync, F: ReadFiles, W: Write>(
     directory: &str,
     out: &mut W,
 ) -> Result<Judgement, Fault>
-    ensures judged { IfOk result (λ judgement. IsJudgedAt (F.may_read files.now) directory.now judgement) }
-    ensures told { IfOk result (λ judgement. Appends (W.contents out.old) (W.contents out.new) (judgement_line directory.now judgement)) }
-    ensures err { IfErr result (λ fault. IsDirectoryFault (F.may_read files.now) directory.now fault) }
+    ensures judged { IfOk result (λ judgement.
+        IsJudgedAt (F.may_read files.now) directory.now judgement) }
+    ensures told { IfOk result (λ judgement. Appends (W.contents out.old) (W.contents out.new)
+        (judgement_line directory.now judgement)) }
+    ensures err { IfErr result (λ fault.
+        IsDirectoryFault (F.may_read files.now) directory.now fault) }
     ensures kept { IfErr result (λ fault. KeepsAt fault (W.contents out.old) (W.contents out.new)) }
-    ensures cut { IfErr result (λ fault. IsCutAt (F.may_read files.now) directory.now (W.contents out.old) (W.contents out.new) fault) }
+    ensures cut { IfErr result (λ fault. IsCutAt (F.may_read files.now) directory.now
+        (W.contents out.old) (W.contents out.new) fault) }
 {
     let (judgement, line) = judge_at(rt, alloc, files, directory)?;
     send(out, line.as_bytes())?;
@@ -90,8 +95,10 @@ pub fn check<T: Threads + Sync, F: ReadFiles, W: Write>(
     directories: &[&str],
     out: &mut W,
 ) -> Result<Outcome, Fault>
-    ensures ok { IfOk result (λ outcome. IsChecked (F.may_read files.now) (paths_of directories.now) (W.contents out.old) (W.contents out.new) outcome) }
-    ensures err { IfErr result (λ fault. IsCheckFault (F.may_read files.now) (paths_of directories.now) (W.contents out.old) (W.contents out.new) fault) }
+    ensures ok { IfOk result (λ outcome. IsChecked (F.may_read files.now) (paths_of directories.now)
+        (W.contents out.old) (W.contents out.new) outcome) }
+    ensures err { IfErr result (λ fault. IsCheckFault (F.may_read files.now)
+        (paths_of directories.now) (W.contents out.old) (W.contents out.new) fault) }
 {
     let mut outcome = Outcome::Done;
     for directory in directories {

@@ -38,7 +38,8 @@ fn line_of(alloc: Global, answer: &AuditedAnswer) -> Result<Vec<u8>, AllocError>
     Ok(line)
 }
 
-/// Writes the audited answer to a query as one line, and nothing else. Each part is searched by a worker of its own.
+/// Writes the audited answer to a query as one line, and nothing else. Each part is searched by a
+/// worker of its own.
 pub fn write_answer<T: Threads + Sync, W: Write>(
     rt: &T,
     alloc: Global,
@@ -46,7 +47,8 @@ pub fn write_answer<T: Threads + Sync, W: Write>(
     query: &Query,
     out: &mut W,
 ) -> Result<(), Fault>
-    ensures ok { OnOk result (WritesAnswer query.now snapshot.now (W.contents out.old) (W.contents out.new)) }
+    ensures ok { OnOk result
+        (WritesAnswer query.now snapshot.now (W.contents out.old) (W.contents out.new)) }
     ensures faults { IfErr result (λ fault. IsWritingFault fault) }
     ensures kept { IfErr result (λ fault. KeepsAt fault (W.contents out.old) (W.contents out.new)) }
 {
@@ -58,7 +60,8 @@ pub fn write_answer<T: Threads + Sync, W: Write>(
 
 /// Writes the audited answer to `up{job="a"}` from 0 to 100 over the store of the two batches.
 fn demo<R: Wait, W: Write>(rt: &R, alloc: Global, out: &mut W) -> Result<(), Fault>
-    ensures ok { OnOk result (WritesAnswerAfter demo_events (demo_query (pos 0) (pos 100)) (W.contents out.old) (W.contents out.new)) }
+    ensures ok { OnOk result (WritesAnswerAfter demo_events (demo_query (pos 0) (pos 100))
+        (W.contents out.old) (W.contents out.new)) }
     ensures faults { IfErr result (λ fault. IsDemoFault fault) }
     ensures kept { IfErr result (λ fault. KeepsAt fault (W.contents out.old) (W.contents out.new)) }
 {
@@ -74,7 +77,8 @@ fn answer_line<
     F: ReadFiles,
     W: Write,
 >(rt: &Q, alloc: Global, files: &F, line: Line<'_>, out: &mut W) -> Result<Outcome, Fault>
-    ensures { IsLineEnd (F.may_read files.now) line.entry (W.contents out.old) (W.contents out.new) result }
+    ensures { IsLineEnd (F.may_read files.now) line.entry (W.contents out.old)
+        (W.contents out.new) result }
 {
     match line {
         Line::Demo => demo(rt, alloc, out)?,
@@ -94,10 +98,13 @@ fn execute<
     F: ReadFiles,
     W: Write,
 >(rt: &Q, alloc: Global, files: &F, words: &[String], out: &mut W) -> Result<Outcome, Fault>
-    ensures ends { IsTaken (texts_of words.now) → IsEnd (F.may_read files.now) (texts_of words.now) (W.contents out.old) (W.contents out.new) result }
+    ensures ends { IsTaken (texts_of words.now) → IsEnd (F.may_read files.now) (texts_of words.now)
+        (W.contents out.old) (W.contents out.new) result }
     ensures no_line { ((line : Line) → IsLineOf (texts_of words.now) line → ⊥) → IsNoLine result }
-    ensures refused { takes querier_app (texts_of words.now) ≡ true → ((line : Line) → IsLineOf (texts_of words.now) line → ⊥) → IsWordsFault result }
-    ensures kept { IsEarlyLine (texts_of words.now) ⊎ KeepsAtEnd (W.contents out.old) (W.contents out.new) result }
+    ensures refused { takes querier_app (texts_of words.now) ≡ true
+        → ((line : Line) → IsLineOf (texts_of words.now) line → ⊥) → IsWordsFault result }
+    ensures kept { IsEarlyLine (texts_of words.now)
+        ⊎ KeepsAtEnd (W.contents out.old) (W.contents out.new) result }
 {
     match read_line(alloc, words) {
         Ok(line) => answer_line(rt, alloc, files, line, out),
@@ -140,13 +147,14 @@ fn tell<E: Write>(end: &Result<Outcome, Fault>, to: &mut E) -> io::Result<()>
     }
 }
 
-/// Does what the words after the program's name ask for, tells why where it ends before that is done, and gives the
-/// exit status.
+/// Does what the words after the program's name ask for, tells why where it ends before that is
+/// done, and gives the exit status.
 ///
-/// 0 where it is done; 1 for a refusal, with its code on the second writer, or in the lines of a check; 2 for a fault
-/// of the words, with the usage on the second writer; 3 where a file cannot be read or a port not be listened on, which
-/// is named there, or the first writer fails; 4 where memory does. The store of the demo waits for nobody else's threads;
-/// a server waits for clients, and tells what becomes of them on the host's own standard error.
+/// 0 where it is done; 1 for a refusal, with its code on the second writer, or in the lines of a
+/// check; 2 for a fault of the words, with the usage on the second writer; 3 where a file cannot be
+/// read or a port not be listened on, which is named there, or the first writer fails; 4 where
+/// memory does. The store of the demo waits for nobody else's threads; a server waits for clients,
+/// and tells what becomes of them on the host's own standard error.
 pub fn run<
     Q: Wait + Threads + Net<Listener = TcpListener, Stream = TcpStream> + Clock + Eprint + Sync,
     F: ReadFiles,
@@ -162,9 +170,11 @@ pub fn run<
     out: &mut W,
     err: &mut E,
 ) -> Ending
-    ensures ended { HasEnded (F.may_read files.now) (texts_of words.now) (W.contents out.old) (W.contents out.new) (E.contents err.old) (E.contents err.new) result }
+    ensures ended { HasEnded (F.may_read files.now) (texts_of words.now) (W.contents out.old)
+        (W.contents out.new) (E.contents err.old) (E.contents err.new) result }
     ensures few { result.status ≤ 4 }
-    ensures nothing_written { (result.status ≡ 0) ⊎ (result.status ≡ 3) ⊎ IsEarlyLine (texts_of words.now) ⊎ Keeps (W.contents out.old) (W.contents out.new) }
+    ensures nothing_written { (result.status ≡ 0) ⊎ (result.status ≡ 3)
+        ⊎ IsEarlyLine (texts_of words.now) ⊎ Keeps (W.contents out.old) (W.contents out.new) }
     ensures nothing_told { result.status ≡ 0 → Keeps (E.contents err.old) (E.contents err.new) }
 {
     let end = execute(rt, alloc, files, words, out);

@@ -23,9 +23,11 @@ fn query_of(alloc: Global, selection: Selection<'_>) -> Result<Query, Fault>
     Ok(Query::new(matchers, selection.from, selection.to)?)
 }
 
-/// Writes the audited answer to a selection over the blocks in these directories as one line, and nothing else.
+/// Writes the audited answer to a selection over the blocks in these directories as one line, and
+/// nothing else.
 ///
-/// The selector is checked, then the range, then each directory in the order given, and then their number.
+/// The selector is checked, then the range, then each directory in the order given, and then their
+/// number.
 pub fn select<T: Threads + Sync, F: ReadFiles, W: Write>(
     rt: &T,
     alloc: Global,
@@ -34,8 +36,10 @@ pub fn select<T: Threads + Sync, F: ReadFiles, W: Write>(
     directories: &[&str],
     out: &mut W,
 ) -> Result<(), Fault>
-    ensures ok { OnOk result (WritesSelection (F.may_read files.now) (paths_of directories.now) selection.entry (W.contents out.old) (W.contents out.new)) }
-    ensures err { IfErr result (λ fault. IsSelectFault (F.may_read files.now) (paths_of directories.now) selection.entry fault) }
+    ensures ok { OnOk result (WritesSelection (F.may_read files.now) (paths_of directories.now)
+        selection.entry (W.contents out.old) (W.contents out.new)) }
+    ensures err { IfErr result (λ fault.
+        IsSelectFault (F.may_read files.now) (paths_of directories.now) selection.entry fault) }
     ensures kept { IfErr result (λ fault. KeepsAt fault (W.contents out.old) (W.contents out.new)) }
 {
     let query = query_of(alloc, selection)?;

@@ -103,9 +103,11 @@ fn serve_blocks<
     Ok(())
 }
 
-/// Serves a store over the blocks in these directories, and over them an empty head, until each worker has ended.
+/// Serves a store over the blocks in these directories, and over them an empty head, until each
+/// worker has ended.
 ///
-/// The directories are opened as by `select`; then the store is opened, the port listened on, and `listening P` written.
+/// The directories are opened as by `select`; then the store is opened, the port listened on, and
+/// `listening P` written.
 pub fn serve<
     R: Wait + Threads + Net<Listener = TcpListener, Stream = TcpStream> + Clock + Eprint + Sync,
     F: ReadFiles,
@@ -118,8 +120,10 @@ pub fn serve<
     directories: &[&str],
     out: &mut W,
 ) -> Result<(), Fault>
-    ensures ok { OnOk result (IsServed (F.may_read files.now) (paths_of directories.now) (W.contents out.old) (W.contents out.new)) }
-    ensures err { IfErr result (λ fault. IsServeFault (F.may_read files.now) (paths_of directories.now) serving (W.contents out.old) (W.contents out.new) fault) }
+    ensures ok { OnOk result (IsServed (F.may_read files.now) (paths_of directories.now)
+        (W.contents out.old) (W.contents out.new)) }
+    ensures err { IfErr result (λ fault. IsServeFault (F.may_read files.now)
+        (paths_of directories.now) serving (W.contents out.old) (W.contents out.new) fault) }
 {
     let blocks = open_blocks(rt, alloc, files, directories)?;
     serve_blocks::<Brand, R, W>(rt, alloc, Store::new(), blocks, serving, out)

@@ -9,4 +9,5 @@ returns-in-Some c =
 
 pub returns-in-None : goal.returns-in-None
 returns-in-None c =
-    count_missing (found_of c.args.found.now) c.args.name.now c.args.other (λ t e. (c.in-None.ensures.value t e).1.0)
+    count_missing (found_of c.args.found.now) c.args.name.now c.args.other (λ t e.
+    (c.in-None.ensures.value t e).1.0)

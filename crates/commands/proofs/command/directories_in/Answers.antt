@@ -7,10 +7,14 @@ use Rattle.commands.proofs.command.directories_in.Goals as goal
 
 pub returns-in-Some : goal.returns-in-Some
 returns-in-Some c =
-    let same = ap (λ (o : Option (List Text)). unwrap_or o []) (c.in-Some.ensures ∙ raw_values-rows (found_of c.args.found.now) (codes "directories")) in
+    let same =
+    ap (λ (o : Option (List Text)). unwrap_or o [])
+    (c.in-Some.ensures ∙ raw_values-rows (found_of c.args.found.now) (codes "directories")) in
     IfOk-weaker c.from_slice.result _ _ (λ v items. rw items same) c.from_slice.ensures.items
 
 pub returns-in-None : goal.returns-in-None
 returns-in-None c =
-    let same = ap (λ (o : Option (List Text)). unwrap_or o []) (c.in-None.ensures ∙ raw_values-rows (found_of c.args.found.now) (codes "directories")) in
+    let same =
+    ap (λ (o : Option (List Text)). unwrap_or o [])
+    (c.in-None.ensures ∙ raw_values-rows (found_of c.args.found.now) (codes "directories")) in
     rw c.new.ensures.items same

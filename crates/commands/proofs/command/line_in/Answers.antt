@@ -7,5 +7,6 @@ pub returns : goal.returns
 returns c =
     let named : subcommand_name_of c.args.found.now ≡ Some (codes "select") = search rules in
     let found = found_of c.in-Some-subcommand_matches-2.arguments.now in
-    select_found (subcommand_rows_of c.args.found.now) (rows_of found) _ _ _ _ (name_of_rows c.args.found.now ∙ named) c.in-Some-subcommand_matches-2.ensures.rows
+    select_found (subcommand_rows_of c.args.found.now) (rows_of found) _ _ _ _
+    (name_of_rows c.args.found.now ∙ named) c.in-Some-subcommand_matches-2.ensures.rows
     c.selection_in.ensures c.in_ok-directories-2.ensures

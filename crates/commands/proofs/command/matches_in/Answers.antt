@@ -7,9 +7,13 @@ use Rattle.commands.proofs.command.matches_in.Goals as goal
 pub returns-clause-ok : goal.returns-clause-ok
 returns-clause-ok c =
     let is : app_of c.in_ok-querier.field-0 ≡ querier_app = c.in_ok-querier.ensures in
-    IfOk-weaker c.try_get_matches_from.result _ _ (λ m h. (h (ap is_simple is)).1 ∙ ap (λ a. subcommand_of a (texts_of c.args.words.now)) is) c.try_get_matches_from.ensures.matches
+    IfOk-weaker c.try_get_matches_from.result _ _
+    (λ m h. (h (ap is_simple is)).1 ∙ ap (λ a. subcommand_of a (texts_of c.args.words.now)) is)
+    c.try_get_matches_from.ensures.matches
 
 pub returns-clause-err : goal.returns-clause-err
 returns-clause-err c =
     let is : app_of c.in_ok-querier.field-0 ≡ querier_app = c.in_ok-querier.ensures in
-    IfErr-weaker c.try_get_matches_from.result _ _ (λ e h taken. h (ap (λ a. takes a (texts_of c.args.words.now)) is ∙ taken)) c.try_get_matches_from.ensures.passes
+    IfErr-weaker c.try_get_matches_from.result _ _
+    (λ e h taken. h (ap (λ a. takes a (texts_of c.args.words.now)) is ∙ taken))
+    c.try_get_matches_from.ensures.passes

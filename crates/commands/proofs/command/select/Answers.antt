@@ -10,4 +10,5 @@ returns c =
     ∙ ap₂ with_rule (c.in_ok-arg-3.ensures.shape c.selector.ensures.global
     ∙ ap₂ with_rule (c.in_ok-arg-2.ensures.shape c.time-2.ensures.global
     ∙ ap₂ with_rule (c.in_ok-arg.ensures.shape c.time.ensures.global
-    ∙ ap₂ with_rule start_is c.time.ensures.rule) c.time-2.ensures.rule) c.selector.ensures.rule) c.directories.ensures.rule) c.arg-4.ensures
+    ∙ ap₂ with_rule start_is c.time.ensures.rule) c.time-2.ensures.rule) c.selector.ensures.rule)
+    c.directories.ensures.rule) c.arg-4.ensures

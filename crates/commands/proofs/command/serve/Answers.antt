@@ -11,4 +11,5 @@ returns c =
     ∙ ap₂ with_rule (c.in_ok-arg-3.ensures.shape c.count-2.ensures.global
     ∙ ap₂ with_rule (c.in_ok-arg-2.ensures.shape c.count.ensures.global
     ∙ ap₂ with_rule (c.in_ok-arg.ensures.shape c.port.ensures.global
-    ∙ ap₂ with_rule start_is c.port.ensures.rule) c.count.ensures.rule) c.count-2.ensures.rule) c.count-3.ensures.rule) c.directories.ensures.rule) c.arg-5.ensures
+    ∙ ap₂ with_rule start_is c.port.ensures.rule) c.count.ensures.rule) c.count-2.ensures.rule)
+    c.count-3.ensures.rule) c.directories.ensures.rule) c.arg-5.ensures

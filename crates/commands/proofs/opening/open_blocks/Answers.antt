@@ -7,7 +7,11 @@ use Rattle.commands.proofs.opening.open_blocks.Goals as goal
 pub returns-then-len-gt-MAX_BLOCKS-clause-err : goal.returns-then-len-gt-MAX_BLOCKS-clause-err
 returns-then-len-gt-MAX_BLOCKS-clause-err g c =
     let same = as_many _ _ _ c.in_ok-opened.ensures.ok in
-    record { blocks = map part_in c.in_ok-opened.opened.items; opened = c.in_ok-opened.ensures.ok; many = omega (arith, same) }
+    record {
+      blocks = map part_in c.in_ok-opened.opened.items;
+      opened = c.in_ok-opened.ensures.ok;
+      many = omega (arith, same);
+    }
 
 pub returns-in_err-opened-clause-err : goal.returns-in_err-opened-clause-err
 returns-in_err-opened-clause-err g c =

@@ -5,4 +5,5 @@ use Rattle.commands.proofs.report.check.Given as goal
 
 abbrev pub invariant-loop-directory : goal.invariant-loop-directory
 invariant-loop-directory g l =
-    IsChecked (g.F.ReadFiles.may_read l.fn.files) (take l.directory-index (paths_of l.directories)) (g.W.Write.contents l.fn.out) (g.W.Write.contents l.out) l.outcome
+    IsChecked (g.F.ReadFiles.may_read l.fn.files) (take l.directory-index (paths_of l.directories))
+    (g.W.Write.contents l.fn.out) (g.W.Write.contents l.out) l.outcome

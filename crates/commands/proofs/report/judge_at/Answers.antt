@@ -5,5 +5,6 @@ pub returns-clause-judged : goal.returns-clause-judged
 returns-clause-judged g c = record {
   files = whole_of _ _ c.in_ok-block.block c.in_ok-block.ensures.ok;
   found = whole_found _ _ c.in_ok-block.block c.in_ok-block.ensures.ok;
-  judged = whole_judged _ _ c.in_ok-block.block c.in_ok-block.ensures.ok _ c.in_ok-judgement.ensures;
+  judged =
+      whole_judged _ _ c.in_ok-block.block c.in_ok-block.ensures.ok _ c.in_ok-judgement.ensures;
 }

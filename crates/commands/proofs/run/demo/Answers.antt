@@ -6,6 +6,8 @@ pub returns-clause-ok : goal.returns-clause-ok
 returns-clause-ok g c = record {
   answer = c.in_ok-answer.answer;
   is = c.in_ok-answer.ensures.ok;
-  written = subst (λ (bytes : List ℕ). Appends (g.W.Write.contents c.args.out.now) (g.W.Write.contents c.send.new.out) bytes)
+  written =
+      subst (λ (bytes : List ℕ).
+      Appends (g.W.Write.contents c.args.out.now) (g.W.Write.contents c.send.new.out) bytes)
       (c.as_slice.ensures.value ∙ c.in_ok-line.ensures) c.in_ok-send.ensures.ok;
 }

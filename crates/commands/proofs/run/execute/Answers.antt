@@ -10,5 +10,6 @@ returns-in-Ok-clause-no_line g c = λ none. absurd (none c.in-Ok.line c.in-Ok.en
 
 pub returns-in-Ok-clause-kept : goal.returns-in-Ok-clause-kept
 returns-in-Ok-clause-kept g c =
-    kept_at_end (g.F.ReadFiles.may_read c.args.files.now) (texts_of c.args.words.now) c.in-Ok.line (g.W.Write.contents c.args.out.now) (g.W.Write.contents c.answer_line.new.out)
+    kept_at_end (g.F.ReadFiles.may_read c.args.files.now) (texts_of c.args.words.now) c.in-Ok.line
+    (g.W.Write.contents c.args.out.now) (g.W.Write.contents c.answer_line.new.out)
     c.answer_line.result c.in-Ok.ensures.ok c.answer_line.ensures

@@ -10,7 +10,8 @@ use Rattle.commands.proofs.serve.serve.Goals as goal
 pub returns-in_err-blocks-clause-err : goal.returns-in_err-blocks-clause-err
 returns-in_err-blocks-clause-err g c =
     let p = err_from_is_err_and c.from_residual.result c.from_residual.ensures.1 in
-    rw (p.1, p.2) (by_directories c.in_err-blocks.ensures.err (unused _ (g.W.Write.contents c.args.out.now)))
+    rw (p.1, p.2)
+    (by_directories c.in_err-blocks.ensures.err (unused _ (g.W.Write.contents c.args.out.now)))
 
 pub returns-clause-ok : goal.returns-clause-ok
 returns-clause-ok g c =
@@ -27,7 +28,8 @@ returns-clause-ok g c =
 pub returns-clause-err : goal.returns-clause-err
 returns-clause-err g c =
     let same = as_many _ _ _ c.in_ok-blocks.ensures.ok in
-    let few : length (paths_of c.args.directories.now) ≤ 63 = omega (arith, same, c.in_ok-blocks.ensures.few) in
+    let few : length (paths_of c.args.directories.now) ≤ 63 =
+    omega (arith, same, c.in_ok-blocks.ensures.few) in
     IfErr-weaker c.serve_blocks.result _ _ (λ fault failed. by_serving (record {
       blocks = map part_in c.in_ok-blocks.blocks.items;
       opened = c.in_ok-blocks.ensures.ok;

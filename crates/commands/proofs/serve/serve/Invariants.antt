@@ -4,4 +4,5 @@ use Rattle.commands.proofs.serve.serve.Given as goal
 
 -- the store that was just made, over the blocks that were opened
 abbrev pub ghosts-serve_blocks : goal.ghosts-serve_blocks
-ghosts-serve_blocks g a = record { book = a.store.seen.book; opening = opening_of (map part_in a.blocks.items) }
+ghosts-serve_blocks g a =
+    record { book = a.store.seen.book; opening = opening_of (map part_in a.blocks.items) }

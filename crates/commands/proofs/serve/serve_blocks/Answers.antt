@@ -8,21 +8,31 @@ pub returns-in_err-workers-clause-err : goal.returns-in_err-workers-clause-err
 returns-in_err-workers-clause-err g c =
     let p = err_from_is_err_and c.from_residual.result c.from_residual.ensures.1 in
     rw (p.1, p.2) (inl (
-      not_opened c.args.serving _ c.in_err-workers.ensures.refused (λ limit. absurd (omega (arith, c.in_err-workers.ensures.few limit, c.requires.few))),
+      not_opened c.args.serving _ c.in_err-workers.ensures.refused (λ limit.
+          absurd (omega (arith, c.in_err-workers.ensures.few limit, c.requires.few))),
       unused _ (g.W.Write.contents c.args.out.now),
     ))
 
 pub returns-in_err-listener-clause-err : goal.returns-in_err-listener-clause-err
 returns-in_err-listener-clause-err g c =
-    let p = err_from_is_err_and c.from_residual-in_err-listener.result c.from_residual-in_err-listener.ensures.1 in
-    rw (p.1, p.2) (inl (not_listened c.args.serving _ c.in_err-listener.ensures, unused _ (g.W.Write.contents c.args.out.now)))
+    let p =
+    err_from_is_err_and c.from_residual-in_err-listener.result
+    c.from_residual-in_err-listener.ensures.1 in
+    rw (p.1, p.2) (inl (
+      not_listened c.args.serving _ c.in_err-listener.ensures,
+      unused _ (g.W.Write.contents c.args.out.now),
+    ))
 
 pub returns-in_err-tell_port-clause-err : goal.returns-in_err-tell_port-clause-err
 returns-in_err-tell_port-clause-err g c =
-    let p = err_from_is_err_and c.from_residual-in_err-tell_port.result c.from_residual-in_err-tell_port.ensures.1 in
+    let p =
+    err_from_is_err_and c.from_residual-in_err-tell_port.result
+    c.from_residual-in_err-tell_port.ensures.1 in
     rw (p.1, p.2) (inl (c.in_err-tell_port.ensures.faults, c.in_err-tell_port.ensures.kept))
 
 pub returns-in_err-serve-clause-err : goal.returns-in_err-serve-clause-err
 returns-in_err-serve-clause-err g c =
-    let p = err_from_is_err_and c.from_residual-in_err-serve.result c.from_residual-in_err-serve.ensures.1 in
+    let p =
+    err_from_is_err_and c.from_residual-in_err-serve.result
+    c.from_residual-in_err-serve.ensures.1 in
     rw (p.1, p.2) (inr (c.in_ok-tell_port.ensures.ok, tt))

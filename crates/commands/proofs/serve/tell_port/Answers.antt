@@ -5,6 +5,8 @@ use Rattle.commands.proofs.serve.tell_port.Goals as goal
 pub returns-clause-ok : goal.returns-clause-ok
 returns-clause-ok g c = record {
   port = c.port.result;
-  written = subst (λ (bytes : List ℕ). Appends (g.W.Write.contents c.args.out.now) (g.W.Write.contents c.send.new.out) bytes)
+  written =
+      subst (λ (bytes : List ℕ).
+      Appends (g.W.Write.contents c.args.out.now) (g.W.Write.contents c.send.new.out) bytes)
       (c.as_bytes.ensures.value ∙ c.in_ok-line.ensures) c.in_ok-send.ensures.ok;
 }
