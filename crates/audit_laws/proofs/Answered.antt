@@ -23,33 +23,45 @@ use Rattle.block_search.proofs.Skips.{none_outside, none_kept}
 use Rattle.auditor.specs.Auditing.{names_known, all_known, IsSound, selected_content}
 
 -- a verdict under which a run fits names a matcher that is there, if it names one
-known : (a : Asked) (verdict : Verdict) (run : List ℕ) → FitsUnder a verdict run → names_known a.matchers verdict ≡ true
+known : (a : Asked) (verdict : Verdict) (run : List ℕ) → FitsUnder a verdict run
+    → names_known a.matchers verdict ≡ true
 known a Match run fits = refl
 known a NoSample run fits = refl
 known a (Rejected j) run fits = lt-ltb j a.matchers fits.0
 
-each_known : (a : Asked) (certificate : List Interval) → ((i : Interval) → Contains certificate i → FitsUnder a i.verdict (run_of a i)) → all_known a.matchers certificate ≡ true
+each_known : (a : Asked) (certificate : List Interval)
+    → ((i : Interval) → Contains certificate i → FitsUnder a i.verdict (run_of a i))
+    → all_known a.matchers certificate ≡ true
 each_known a [] fits = refl
 each_known a (i ∷ is) fits =
     ap (λ b. b && all_known a.matchers is) (known a i.verdict (run_of a i) (fits i (here i is)))
     ∙ each_known a is (λ j h. fits j (there i j is h))
 
-pub answer_sound : (query : QueryView) (part : Part) (answer : PartAnswer) → IsAnswer query part answer → IsSound part query answer
+pub answer_sound : (query : QueryView) (part : Part) (answer : PartAnswer)
+    → IsAnswer query part answer → IsSound part query answer
 answer_sound query part answer is = record {
   known = each_known (asked part query) answer.cover.certificate.items is.leftmost.valid.fits;
   valid = is.leftmost.valid;
   separated = is.separated;
-  as_many = ap length is.begins ∙ length-map answer.cover.certificate.items (λ (i : Interval). i.from);
+  as_many =
+      ap length is.begins ∙ length-map answer.cover.certificate.items (λ (i : Interval). i.from);
   rows = is.rows;
 }
 
-pub sound_of_asked : (query : QueryView) (p : AskedPart) (answer : PartAnswer) → IsAnswerOf query p answer → IsSound p.part query answer
+pub sound_of_asked : (query : QueryView) (p : AskedPart) (answer : PartAnswer)
+    → IsAnswerOf query p answer → IsSound p.part query answer
 sound_of_asked query p answer is = answer_sound query p.part answer is.answers
 
-pub nothing_selected : (query : QueryView) (part : Part) → HasNoSample query.from query.to part → selected_content part query ≡ []
+pub nothing_selected : (query : QueryView) (part : Part) → HasNoSample query.from query.to part
+    → selected_content part query ≡ []
 nothing_selected query part none =
-    kept-over (λ p. satisfies_all query.matchers p.0 && in_range query.from query.to p.1) (part ∷ []) [] tt
-    ∙ ap (λ es. laid_over es []) (none_kept (satisfies_all query.matchers) query.from query.to part none)
+    kept-over (λ p. satisfies_all query.matchers p.0
+    && in_range query.from query.to p.1) (part ∷ []) [] tt
+    ∙ ap (λ es. laid_over es [])
+    (none_kept (satisfies_all query.matchers) query.from query.to part none)
 
-pub skipped_silent : (query : QueryView) (block : Shown) → AreInside block.range block.part → is_skipped query block.range ≡ true → selected_content block.part query ≡ []
-skipped_silent query block inside skipped = nothing_selected query block.part (none_outside block.range query.from query.to block.part skipped inside)
+pub skipped_silent : (query : QueryView) (block : Shown) → AreInside block.range block.part
+    → is_skipped query block.range ≡ true → selected_content block.part query ≡ []
+skipped_silent query block inside skipped =
+    nothing_selected query block.part
+    (none_outside block.range query.from query.to block.part skipped inside)

@@ -40,7 +40,12 @@ abbrev pub place_told : index_layout.SeriesEntry → Place
 place_told p = record { offset = p.offset; body = p.body; end = p.end }
 
 abbrev pub parts_told : index_layout.Layout → Parts
-parts_told x = record { contents = contents_told x.contents; symbols = x.symbols; symbols_end = x.symbols_end; entries = map place_told x.entries }
+parts_told x = record {
+  contents = contents_told x.contents;
+  symbols = x.symbols;
+  symbols_end = x.symbols_end;
+  entries = map place_told x.entries;
+}
 
 abbrev pub chunk_told : kept_chunk.Chunk → Chunk
 chunk_told c = record { mint = c.mint; maxt = c.maxt; reference = c.reference }
@@ -49,11 +54,13 @@ abbrev pub body_told : index_layout.Body → Body
 body_told b = record { labels = b.labels; chunks = map chunk_told b.chunks }
 
 abbrev pub series_told : indexes.Series → Series
-series_told s = record { reference = s.reference; labels = s.labels; chunks = map chunk_told s.chunks }
+series_told s =
+    record { reference = s.reference; labels = s.labels; chunks = map chunk_told s.chunks }
 
 -- the layout
 
-placed_again : (t : kept_contents.TableOfContents) (len : ℕ) → index_layout.IsPlaced t len → IsPlaced (contents_told t) len
+placed_again : (t : kept_contents.TableOfContents) (len : ℕ) → index_layout.IsPlaced t len
+    → IsPlaced (contents_told t) len
 placed_again t len p = record {
   long = p.long;
   short = p.short;
@@ -72,31 +79,54 @@ ascending_again [] = refl
 ascending_again (a ∷ []) = refl
 ascending_again (a ∷ b ∷ rest) = ap (λ x. is_less a b && x) (ascending_again (b ∷ rest))
 
-symbols_again : (content : List ℕ) (symbols : List (List ℕ)) → grammar.IsSymbolTable content symbols → IsSymbolTable content symbols
-symbols_again content symbols t = record { text = t.text; order = ascending_again symbols ∙ t.order; texts = t.texts }
+symbols_again : (content : List ℕ) (symbols : List (List ℕ)) → grammar.IsSymbolTable content symbols
+    → IsSymbolTable content symbols
+symbols_again content symbols t =
+    record { text = t.text; order = ascending_again symbols ∙ t.order; texts = t.texts }
 
-walk_again : (ps : List index_layout.SeriesEntry) (file : List ℕ) (end at : ℕ) → grammar.IsWalk file end at ps → IsWalk file end at (map place_told ps)
+walk_again : (ps : List index_layout.SeriesEntry) (file : List ℕ) (end at : ℕ)
+    → grammar.IsWalk file end at ps → IsWalk file end at (map place_told ps)
 walk_again [] file end at w = w
-walk_again (p ∷ ps) file end at w = (w.0, w.1, w.2, walk_again ps file end (index_layout.rounded (at + length (grammar.entry p.body))) w.3, w.4)
+walk_again (p ∷ ps) file end at w = (
+  w.0,
+  w.1,
+  w.2,
+  walk_again ps file end (index_layout.rounded (at + length (grammar.entry p.body))) w.3,
+  w.4,
+)
 
-layout_again : (file : List ℕ) (x : index_layout.Layout) → grammar.IsLayout file x → IsParts file (parts_told x)
+layout_again : (file : List ℕ) (x : index_layout.Layout) → grammar.IsLayout file x
+    → IsParts file (parts_told x)
 layout_again file x i = record {
   start = i.start;
   contents = i.contents;
   placed = placed_again x.contents (length file) i.placed;
-  symbols = (i.symbols.0, i.symbols.1, symbols_again i.symbols.0 x.symbols i.symbols.2, i.symbols.3);
-  entries = walk_again x.entries file (index_layout.series_end x.contents) (index_layout.rounded x.contents.series) i.entries;
+  symbols =
+      (i.symbols.0, i.symbols.1, symbols_again i.symbols.0 x.symbols i.symbols.2, i.symbols.3);
+  entries =
+      walk_again x.entries file (index_layout.series_end x.contents)
+      (index_layout.rounded x.contents.series) i.entries;
 }
 
 -- the bodies
 
-labels_again : (symbols : List (List ℕ)) (low : ℕ) (ls : List Label) → spelled.AreLabels symbols low ls → AreLabels symbols low ls
+labels_again : (symbols : List (List ℕ)) (low : ℕ) (ls : List Label)
+    → spelled.AreLabels symbols low ls → AreLabels symbols low ls
 labels_again symbols low [] are = tt
 labels_again symbols low (l ∷ ls) are =
-    let i = are.0 in
-    (record { from = i.from; name_in = i.name_in; value_in = i.value_in; name = i.name; value = i.value }, labels_again symbols (l.0 + 1) ls are.1)
+    let i = are.0 in (
+      record {
+        from = i.from;
+        name_in = i.name_in;
+        value_in = i.value_in;
+        name = i.name;
+        value = i.value;
+      },
+      labels_again symbols (l.0 + 1) ls are.1,
+    )
 
-first_again : (c : kept_chunk.Chunk) (text : List ℕ) → spelled.IsFirst c text → IsFirst (chunk_told c) text
+first_again : (c : kept_chunk.Chunk) (text : List ℕ) → spelled.IsFirst c text
+    → IsFirst (chunk_told c) text
 first_again c text i = record {
   span = i.span;
   spelled = i.spelled;
@@ -107,7 +137,8 @@ first_again c text i = record {
   ends_in_time = i.ends_in_time;
 }
 
-later_again : (before c : kept_chunk.Chunk) (text : List ℕ) → spelled.IsLater before c text → IsLater (chunk_told before) (chunk_told c) text
+later_again : (before c : kept_chunk.Chunk) (text : List ℕ) → spelled.IsLater before c text
+    → IsLater (chunk_told before) (chunk_told c) text
 later_again before c text i = record {
   gap = i.gap;
   span = i.span;
@@ -125,11 +156,14 @@ later_again before c text i = record {
   fits = i.fits;
 }
 
-later_ones_again : (before : kept_chunk.Chunk) (cs : List kept_chunk.Chunk) (text : List ℕ) → spelled.AreLater before cs text → AreLater (chunk_told before) (map chunk_told cs) text
+later_ones_again : (before : kept_chunk.Chunk) (cs : List kept_chunk.Chunk) (text : List ℕ)
+    → spelled.AreLater before cs text → AreLater (chunk_told before) (map chunk_told cs) text
 later_ones_again before [] text are = are
-later_ones_again before (c ∷ cs) text are = (are.0, are.1, are.2, later_again before c are.0 are.3, later_ones_again c cs are.1 are.4)
+later_ones_again before (c ∷ cs) text are =
+    (are.0, are.1, are.2, later_again before c are.0 are.3, later_ones_again c cs are.1 are.4)
 
-chunks_again : (cs : List kept_chunk.Chunk) (text : List ℕ) → spelled.AreChunks cs text → AreChunks (map chunk_told cs) text
+chunks_again : (cs : List kept_chunk.Chunk) (text : List ℕ) → spelled.AreChunks cs text
+    → AreChunks (map chunk_told cs) text
 chunks_again [] text are = are
 chunks_again (c ∷ cs) text are = (
   are.0,
@@ -139,7 +173,8 @@ chunks_again (c ∷ cs) text are = (
   later_ones_again c cs are.1 are.4,
 )
 
-body_again : (symbols : List (List ℕ)) (b : index_layout.Body) (text : List ℕ) → spelled.IsBody symbols b text → IsBody symbols (body_told b) text
+body_again : (symbols : List (List ℕ)) (b : index_layout.Body) (text : List ℕ)
+    → spelled.IsBody symbols b text → IsBody symbols (body_told b) text
 body_again symbols b text i = record {
   chunks_text = i.chunks_text;
   spelled = i.spelled;
@@ -147,65 +182,97 @@ body_again symbols b text i = record {
   chunks = chunks_again b.chunks i.chunks_text i.chunks;
 }
 
-bodies_again : (symbols : List (List ℕ)) (ps : List index_layout.SeriesEntry) (bs : List index_layout.Body) → spelled.AreBodies symbols ps bs → AreBodies symbols (map place_told ps) (map body_told bs)
+bodies_again : (symbols : List (List ℕ)) (ps : List index_layout.SeriesEntry)
+    (bs : List index_layout.Body) → spelled.AreBodies symbols ps bs
+    → AreBodies symbols (map place_told ps) (map body_told bs)
 bodies_again symbols [] [] are = tt
 bodies_again symbols [] (b ∷ bs) are = absurd are
 bodies_again symbols (p ∷ ps) [] are = absurd are
-bodies_again symbols (p ∷ ps) (b ∷ bs) are = (body_again symbols b p.body are.0, bodies_again symbols ps bs are.1)
+bodies_again symbols (p ∷ ps) (b ∷ bs) are =
+    (body_again symbols b p.body are.0, bodies_again symbols ps bs are.1)
 
-few_again : (bs : List index_layout.Body) → ((k : ℕ) (d : index_layout.Body) → k < length bs → length (get_or bs k d).labels ≤ 64)
-    → (k : ℕ) (d : Body) → k < length (map body_told bs) → length (get_or (map body_told bs) k d).labels ≤ 64
+few_again : (bs : List index_layout.Body)
+    → ((k : ℕ) (d : index_layout.Body) → k < length bs → length (get_or bs k d).labels ≤ 64)
+    → (k : ℕ) (d : Body) → k < length (map body_told bs)
+    → length (get_or (map body_told bs) k d).labels ≤ 64
 few_again [] few k d lt = absurd (omega (arith, lt))
 few_again (b ∷ bs) few zero d lt = few zero b (omega arith)
-few_again (b ∷ bs) few (suc k) d lt = few_again bs (λ j e l. few (suc j) e (omega (arith, l))) k d (omega (arith, lt))
+few_again (b ∷ bs) few (suc k) d lt =
+    few_again bs (λ j e l. few (suc j) e (omega (arith, l))) k d (omega (arith, lt))
 
 -- the bytes between the entries
 
-gaps_again : (ps : List index_layout.SeriesEntry) (file : List ℕ) (end from : ℕ) → gaps_zero file end from (map place_told ps) ≡ entry_checks.gaps_zero file end from ps
+gaps_again : (ps : List index_layout.SeriesEntry) (file : List ℕ) (end from : ℕ)
+    → gaps_zero file end from (map place_told ps) ≡ entry_checks.gaps_zero file end from ps
 unfolding gaps_zero entry_checks.gaps_zero
 gaps_again [] file end from = refl
-gaps_again (p ∷ ps) file end from = ap (λ b. zero_between file from p.offset && b) (gaps_again ps file end p.end)
+gaps_again (p ∷ ps) file end from =
+    ap (λ b. zero_between file from p.offset && b) (gaps_again ps file end p.end)
 
-zeros_again : (file : List ℕ) (x : index_layout.Layout) → grammar.IsLayout file x → spelled.AreZero file x.symbols_end (index_layout.series_end x.contents) x.entries
-    → gaps_zero file (index_layout.series_end x.contents) x.symbols_end (map place_told x.entries) ≡ true
+zeros_again : (file : List ℕ) (x : index_layout.Layout) → grammar.IsLayout file x
+    → spelled.AreZero file x.symbols_end (index_layout.series_end x.contents) x.entries
+    → gaps_zero file (index_layout.series_end x.contents) x.symbols_end (map place_told x.entries)
+    ≡ true
 zeros_again file x i zeros =
     let t = x.contents in
     let stands = i.symbols.1 in
-    let front : x.symbols_end ≤ index_layout.rounded t.series = omega (arith, i.symbols.3, i.placed.series, ap length stands.1, length-append (grammar.frame i.symbols.0) stands.0, length-take (t.series - 5) (drop 5 file)) in
-    gaps_again x.entries file (index_layout.series_end t) x.symbols_end ∙ gaps_of x.entries file (index_layout.series_end t) (index_layout.rounded t.series) x.symbols_end i.entries front zeros
+    let front : x.symbols_end ≤ index_layout.rounded t.series = omega (
+      arith,
+      i.symbols.3,
+      i.placed.series,
+      ap length stands.1,
+      length-append (grammar.frame i.symbols.0) stands.0,
+      length-take (t.series - 5) (drop 5 file),
+    ) in
+    gaps_again x.entries file (index_layout.series_end t) x.symbols_end
+    ∙ gaps_of x.entries file (index_layout.series_end t) (index_layout.rounded t.series)
+    x.symbols_end i.entries front zeros
 
 -- the series
 
-pub series_again : (symbols : List (List ℕ)) (ps : List index_layout.SeriesEntry) (bs : List index_layout.Body) → series_of symbols (map place_told ps) (map body_told bs) ≡ map series_told (indexes.series_of symbols ps bs)
+pub series_again : (symbols : List (List ℕ)) (ps : List index_layout.SeriesEntry)
+    (bs : List index_layout.Body) → series_of symbols (map place_told ps) (map body_told bs)
+    ≡ map series_told (indexes.series_of symbols ps bs)
 unfolding series_of indexes.series_of
 series_again symbols [] bs = refl
 series_again symbols (p ∷ ps) [] = refl
-series_again symbols (p ∷ ps) (b ∷ bs) = ap (λ (ss : List Series). series_at symbols (place_told p) (body_told b) ∷ ss) (series_again symbols ps bs)
+series_again symbols (p ∷ ps) (b ∷ bs) =
+    ap (λ (ss : List Series). series_at symbols (place_told p) (body_told b) ∷ ss)
+    (series_again symbols ps bs)
 
 sets_again : (ss : List indexes.Series) → label_sets (map series_told ss) ≡ indexes.label_sets ss
 sets_again [] = refl
 sets_again (s ∷ ss) = ap (λ (ls : List Labels). s.labels ∷ ls) (sets_again ss)
 
-pub references_again : (ss : List indexes.Series) → references (map series_told ss) ≡ indexes.references ss
+pub references_again : (ss : List indexes.Series)
+    → references (map series_told ss) ≡ indexes.references ss
 references_again [] = refl
 references_again (s ∷ ss) = ap (λ (rs : List ℕ). s.reference ∷ rs) (references_again ss)
 
-order_again : (ss : List indexes.Series) → ((k : ℕ) → k + 1 < length ss → labels_cmp (get_or (indexes.label_sets ss) k []) (get_or (indexes.label_sets ss) (k + 1) []) ≡ Less) → AreInOrder (map series_told ss)
+order_again : (ss : List indexes.Series) → ((k : ℕ) → k + 1 < length ss
+    → labels_cmp (get_or (indexes.label_sets ss) k []) (get_or (indexes.label_sets ss) (k + 1) [])
+    ≡ Less) → AreInOrder (map series_told ss)
 order_again ss order k lt =
     let inside : k + 1 < length ss = omega (arith, lt, length-map ss series_told) in
-    subst (λ (ls : List Labels). labels_cmp (get_or ls k []) (get_or ls (k + 1) []) ≡ Less) (sym (sets_again ss)) (order k inside)
+    subst (λ (ls : List Labels). labels_cmp (get_or ls k []) (get_or ls (k + 1) []) ≡ Less)
+    (sym (sets_again ss)) (order k inside)
 
 -- the whole
 
-pub index_again : (file : List ℕ) (x : indexes.Indexed) → spelled.IsIndex file x → IsIndex file (map series_told x.series)
+pub index_again : (file : List ℕ) (x : indexes.Indexed) → spelled.IsIndex file x
+    → IsIndex file (map series_told x.series)
 index_again file x i = record {
   parts = parts_told i.parts;
   layout = layout_again file i.parts i.layout;
   bodies = map body_told i.bodies;
   spelled = bodies_again i.parts.symbols i.parts.entries i.bodies i.spelled;
   gaps = zeros_again file i.parts i.layout i.gaps;
-  series_are = ap (λ (ss : List indexes.Series). map series_told ss) i.series ∙ sym (series_again i.parts.symbols i.parts.entries i.bodies);
+  series_are =
+      ap (λ (ss : List indexes.Series). map series_told ss) i.series
+      ∙ sym (series_again i.parts.symbols i.parts.entries i.bodies);
   in_order = order_again x.series i.consistent.in_order;
-  few = let n : length (map series_told x.series) ≡ length x.series = length-map x.series series_told in omega (arith, n, i.consistent.few);
+  few =
+      let n : length (map series_told x.series) ≡ length x.series =
+      length-map x.series series_told in omega (arith, n, i.consistent.few);
   few_labels = few_again i.bodies i.few_labels;
 }

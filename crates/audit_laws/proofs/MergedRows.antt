@@ -35,58 +35,85 @@ not_tied Equal h = absurd h
 not_tied Greater h = absurd h
 
 -- nothing is found at a point that is below all
-none_below : (p : Point) (es : List Sample) → T (below_all point_cmp p es) → find point_cmp p es ≡ None
+none_below : (p : Point) (es : List Sample) → T (below_all point_cmp p es)
+    → find point_cmp p es ≡ None
 none_below p [] h = refl
-none_below p (e ∷ es) h = ap (λ b. cond b (Some e.1) (find point_cmp p es)) (not_tied (point_cmp p e.0) (first_T _ _ h)) ∙ none_below p es (second_T _ _ h)
+none_below p (e ∷ es) h =
+    ap (λ b. cond b (Some e.1) (find point_cmp p es)) (not_tied (point_cmp p e.0) (first_T _ _ h))
+    ∙ none_below p es (second_T _ _ h)
 
 -- in samples of rising points the same is found from behind
-find-reverse : (q : Point) (es : List Sample) → T (is_sorted point_cmp es) → find point_cmp q (reverse es) ≡ find point_cmp q es
+find-reverse : (q : Point) (es : List Sample) → T (is_sorted point_cmp es)
+    → find point_cmp q (reverse es) ≡ find point_cmp q es
 find-reverse q [] h = refl
 find-reverse q (e ∷ es) h =
     ap (find point_cmp q) (reverse_onto es e [])
     ∙ find-++ q (reverse es) (e ∷ [])
-    ∙ ap (λ o. or_else o (cond (eq_by_cmp point_cmp q e.0) (Some e.1) None)) (find-reverse q es (second_T _ _ h))
-    ∙ elim (eq_by_cmp point_cmp q e.0) as (λ b. eq_by_cmp point_cmp q e.0 ≡ b → or_else (find point_cmp q es) (cond b (Some e.1) None) ≡ cond b (Some e.1) (find point_cmp q es)) [
+    ∙ ap (λ o. or_else o (cond (eq_by_cmp point_cmp q e.0) (Some e.1) None))
+    (find-reverse q es (second_T _ _ h))
+    ∙ elim (eq_by_cmp point_cmp q e.0)
+    as (λ b. eq_by_cmp point_cmp q e.0 ≡ b → or_else (find point_cmp q es) (cond b (Some e.1) None)
+    ≡ cond b (Some e.1) (find point_cmp q es)) [
       | true ↦ λ tied.
           let same : e.0 ≡ q = sym (point_exact q e.0 ((Equal-is (point_cmp q e.0)).0 tied)) in
-          let none : find point_cmp q es ≡ None = none_below q es (subst (λ (p : Point). T (below_all point_cmp p es)) same (first_T _ _ h)) in
+          let none : find point_cmp q es ≡ None =
+          none_below q es
+          (subst (λ (p : Point). T (below_all point_cmp p es)) same (first_T _ _ h)) in
           ap (λ o. or_else o (Some e.1)) none
       | false ↦ λ apart. or_else_none (find point_cmp q es)
     ] refl
 
-with_each-++ : (xs ys : List Sample) (c : Content) → with_each (xs ++ ys) c ≡ with_each ys (with_each xs c)
+with_each-++ : (xs ys : List Sample) (c : Content)
+    → with_each (xs ++ ys) c ≡ with_each ys (with_each xs c)
 with_each-++ [] ys c = refl
 with_each-++ (x ∷ xs) ys c = with_each-++ xs ys (put point_cmp x.0 x.1 c)
 
-is_sorted-with_each : (es : List Sample) (c : Content) → T (is_sorted point_cmp c) → T (is_sorted point_cmp (with_each es c))
+is_sorted-with_each : (es : List Sample) (c : Content) → T (is_sorted point_cmp c)
+    → T (is_sorted point_cmp (with_each es c))
 is_sorted-with_each [] c h = h
-is_sorted-with_each (e ∷ es) c h = is_sorted-with_each es (put point_cmp e.0 e.1 c) (is_sorted-put point_cmp point_total e.0 e.1 c h)
+is_sorted-with_each (e ∷ es) c h =
+    is_sorted-with_each es (put point_cmp e.0 e.1 c)
+    (is_sorted-put point_cmp point_total e.0 e.1 c h)
 
 -- rising samples are put one after another as they are laid over
-laid_with : (es : List Sample) (c : Content) → T (is_sorted point_cmp es) → T (is_sorted point_cmp c) → laid_over es c ≡ with_each es c
+laid_with : (es : List Sample) (c : Content) → T (is_sorted point_cmp es)
+    → T (is_sorted point_cmp c) → laid_over es c ≡ with_each es c
 laid_with es c rising h =
-    same_content (laid_over es c) (with_each es c) (is_sorted-laid_over es c h) (is_sorted-with_each es c h)
-    (λ q. find-laid_over q es c ∙ ap (λ o. or_else o (find point_cmp q c)) (sym (find-reverse q es rising)) ∙ sym (find-with_each q es c))
+    same_content (laid_over es c) (with_each es c) (is_sorted-laid_over es c h)
+    (is_sorted-with_each es c h)
+    (λ q. find-laid_over q es c
+    ∙ ap (λ o. or_else o (find point_cmp q c)) (sym (find-reverse q es rising))
+    ∙ sym (find-with_each q es c))
 
-laid_listed : (answers : List PartAnswer) (c : Content) → ((a : PartAnswer) → Contains answers a → IsRowList a.rows.items) → T (is_sorted point_cmp c)
+laid_listed : (answers : List PartAnswer) (c : Content)
+    → ((a : PartAnswer) → Contains answers a → IsRowList a.rows.items) → T (is_sorted point_cmp c)
     → laid_each c (row_lists answers) ≡ with_each (listed answers) c
 laid_listed [] c are h = refl
 laid_listed (a ∷ rest) c are h =
     let points = points_of a.rows.items in
     ap (λ d. laid_each d (row_lists rest)) (laid_with points c (are a (here a rest)).content h)
-    ∙ laid_listed rest (with_each points c) (λ b k. are b (there a b rest k)) (is_sorted-with_each points c h)
+    ∙ laid_listed rest (with_each points c) (λ b k. are b (there a b rest k))
+    (is_sorted-with_each points c h)
     ∙ sym (with_each-++ points (listed rest) c)
 
 -- the rows of an answer are those of some content
 module _ (query : QueryView) where
-  row_list : (p : AskedPart) (answer : PartAnswer) → IsAnswerOf query p answer → IsRowList answer.rows.items
+  row_list : (p : AskedPart) (answer : PartAnswer) → IsAnswerOf query p answer
+      → IsRowList answer.rows.items
   row_list p answer is = record {
-    of_content = record { points = refl; ascending = is.answers.rows.ascending; full = is.answers.rows.full };
+    of_content = record {
+      points = refl;
+      ascending = is.answers.rows.ascending;
+      full = is.answers.rows.full;
+    };
     content = subst (λ (c : Content). T (is_sorted point_cmp c)) (sym is.answers.rows.points)
-        (is_sorted-where_key point_cmp (λ q. satisfies_all query.matchers q.0 && in_range query.from query.to q.1) (content_of (p.part ∷ [])) (is_sorted-over (p.part ∷ []) [] tt));
+        (is_sorted-where_key point_cmp
+        (λ q. satisfies_all query.matchers q.0 && in_range query.from query.to q.1)
+        (content_of (p.part ∷ [])) (is_sorted-over (p.part ∷ []) [] tt));
   }
 
-  each_row_list : (parts : List AskedPart) (answers : List PartAnswer) → AllZip (IsAnswerOf query) parts answers
+  each_row_list : (parts : List AskedPart) (answers : List PartAnswer)
+      → AllZip (IsAnswerOf query) parts answers
       → (answer : PartAnswer) → Contains answers answer → IsRowList answer.rows.items
   each_row_list [] [] are answer h = absurd (none_in_nil answer h)
   each_row_list [] (a ∷ rest) are answer h = absurd are
@@ -96,8 +123,12 @@ module _ (query : QueryView) where
     | inr later ↦ each_row_list ps rest are.1 answer later
   ]
 
-  pub row_lists_of : (s : SnapshotParts) (answers : List PartAnswer) → AreAnswers query s answers → (answer : PartAnswer) → Contains answers answer → IsRowList answer.rows.items
+  pub row_lists_of : (s : SnapshotParts) (answers : List PartAnswer) → AreAnswers query s answers
+      → (answer : PartAnswer) → Contains answers answer → IsRowList answer.rows.items
   row_lists_of s answers are = each_row_list (searched_parts query s) answers are
 
-  pub merged_last : (s : SnapshotParts) (answers : List PartAnswer) (rows : List Row) → AreAnswers query s answers → AreRows rows (merged_content answers) → AreRows rows (last_listed answers)
-  merged_last s answers rows are h = subst (AreRows rows) (laid_listed answers [] (row_lists_of s answers are) tt) h
+  pub merged_last : (s : SnapshotParts) (answers : List PartAnswer) (rows : List Row)
+      → AreAnswers query s answers → AreRows rows (merged_content answers)
+      → AreRows rows (last_listed answers)
+  merged_last s answers rows are h =
+      subst (AreRows rows) (laid_listed answers [] (row_lists_of s answers are) tt) h

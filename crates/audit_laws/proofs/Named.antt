@@ -30,43 +30,62 @@ some_same : {A : Type 0} (x y : A) → Some x ≡ Some y → x ≡ y
 some_same x y e = cc
 
 module _ (query : QueryView) (s : SnapshotParts) (answer : PartAnswer) where
-  pub head_sound : IsToldOf query s answer → answer.part ≡ Head → IsSound (head_part s.head) query answer
+  pub head_sound : IsToldOf query s answer → answer.part ≡ Head
+      → IsSound (head_part s.head) query answer
   head_sound told name =
-      let go : (o : Option BlockPart) → IsAnswerOf query (block_or_head query s told.0 o) answer → IsSound (head_part s.head) query answer = λ o. elim o as (λ p. IsAnswerOf query (block_or_head query s told.0 p) answer → IsSound (head_part s.head) query answer) [
+      let go : (o : Option BlockPart) → IsAnswerOf query (block_or_head query s told.0 o) answer
+      → IsSound (head_part s.head) query answer = λ o. elim o
+      as (λ p. IsAnswerOf query (block_or_head query s told.0 p) answer
+      → IsSound (head_part s.head) query answer) [
         | None ↦ λ is. sound_of_asked query (block_or_head query s told.0 None) answer is
         | Some b ↦ λ is. absurd (true_not_false (ap is_head (sym name ∙ is.name)))
       ] in
       go (slice_get s.blocks told.0) told.1
 
-  pub block_sound : (n : ℕ) (b : BlockPart) → IsToldOf query s answer → answer.part ≡ BlockName n → slice_get s.blocks n ≡ Some b → IsSound b.part query answer
+  pub block_sound : (n : ℕ) (b : BlockPart) → IsToldOf query s answer → answer.part ≡ BlockName n
+      → slice_get s.blocks n ≡ Some b → IsSound b.part query answer
   block_sound n b told name at =
-      let go : (o : Option BlockPart) → slice_get s.blocks told.0 ≡ o → IsAnswerOf query (block_or_head query s told.0 o) answer → IsSound b.part query answer = λ o. elim o as (λ p. slice_get s.blocks told.0 ≡ p → IsAnswerOf query (block_or_head query s told.0 p) answer → IsSound b.part query answer) [
+      let go : (o : Option BlockPart) → slice_get s.blocks told.0 ≡ o
+      → IsAnswerOf query (block_or_head query s told.0 o) answer
+      → IsSound b.part query answer = λ o. elim o as (λ p. slice_get s.blocks told.0 ≡ p
+      → IsAnswerOf query (block_or_head query s told.0 p) answer → IsSound b.part query answer) [
         | None ↦ λ e is. absurd (true_not_false (ap is_head (sym is.name ∙ name)))
         | Some c ↦ λ e is.
             let place : told.0 ≡ n = ap number_in (sym is.name ∙ name) in
             let same : c ≡ b = some_same c b (sym e ∙ (ap (slice_get s.blocks) place ∙ at)) in
-            subst (λ (p : BlockPart). IsSound p.part query answer) same (sound_of_asked query (block_or_head query s told.0 (Some c)) answer is)
+            subst (λ (p : BlockPart). IsSound p.part query answer) same
+            (sound_of_asked query (block_or_head query s told.0 (Some c)) answer is)
       ] in
       go (slice_get s.blocks told.0) refl told.1
 
-  pub no_such_block : (n : ℕ) → IsToldOf query s answer → answer.part ≡ BlockName n → length s.blocks ≤ n → ⊥
+  pub no_such_block : (n : ℕ) → IsToldOf query s answer → answer.part ≡ BlockName n
+      → length s.blocks ≤ n → ⊥
   no_such_block n told name past =
-      let go : (o : Option BlockPart) → slice_get s.blocks told.0 ≡ o → IsAnswerOf query (block_or_head query s told.0 o) answer → ⊥ = λ o. elim o as (λ p. slice_get s.blocks told.0 ≡ p → IsAnswerOf query (block_or_head query s told.0 p) answer → ⊥) [
+      let go : (o : Option BlockPart) → slice_get s.blocks told.0 ≡ o
+      → IsAnswerOf query (block_or_head query s told.0 o) answer
+      → ⊥ = λ o. elim o as (λ p. slice_get s.blocks told.0 ≡ p
+      → IsAnswerOf query (block_or_head query s told.0 p) answer → ⊥) [
         | None ↦ λ e is. true_not_false (ap is_head (sym is.name ∙ name))
         | Some c ↦ λ e is.
             let place : told.0 ≡ n = ap number_in (sym is.name ∙ name) in
-            true_not_false (ap (λ (p : Option BlockPart). is_none p) (sym (slice_get_past s.blocks n past) ∙ (sym (ap (slice_get s.blocks) place) ∙ e)))
+            true_not_false (ap (λ (p : Option BlockPart). is_none p)
+            (sym (slice_get_past s.blocks n past) ∙ (sym (ap (slice_get s.blocks) place) ∙ e)))
       ] in
       go (slice_get s.blocks told.0) refl told.1
 
 module _ (query : QueryView) (s : SnapshotParts) where
-  told_at : (places : List ℕ) (answers : List PartAnswer) → AllZip (IsAnswerOf query) (map (part_at query s) places) answers → All (IsToldOf query s) answers
+  told_at : (places : List ℕ) (answers : List PartAnswer)
+      → AllZip (IsAnswerOf query) (map (part_at query s) places) answers
+      → All (IsToldOf query s) answers
   told_at [] [] are = All-nil (IsToldOf query s)
   told_at [] (a ∷ rest) are = absurd are
   told_at (p ∷ ps) [] are = absurd are
-  told_at (p ∷ ps) (a ∷ rest) are = All-cons (IsToldOf query s) a rest (p, are.0) (told_at ps rest are.1)
+  told_at (p ∷ ps) (a ∷ rest) are =
+      All-cons (IsToldOf query s) a rest (p, are.0) (told_at ps rest are.1)
 
-  pub all_told : (answers : List PartAnswer) → AreAnswers query s answers → All (IsToldOf query s) answers
+  pub all_told : (answers : List PartAnswer) → AreAnswers query s answers
+      → All (IsToldOf query s) answers
   all_told answers are =
       told_at (searched_places query s) answers
-      (subst (λ (parts : List AskedPart). AllZip (IsAnswerOf query) parts answers) (sym (parts_at_places query s)) are)
+      (subst (λ (parts : List AskedPart). AllZip (IsAnswerOf query) parts answers)
+      (sym (parts_at_places query s)) are)

@@ -12,9 +12,11 @@ use auditor::{Table, WalkError};
 use block::{Block, BlockError, Range};
 use std::alloc::{AllocError, Global};
 
-/// The law of the two readers: files that spell a block of a part spell that part without the postings and the range.
+/// The law of the two readers: files that spell a block of a part spell that part without the
+/// postings and the range.
 pub fn blocks_are_walked()
-    ensures { (range : ℤ × ℤ) (index chunks tombstones : List ℕ) (part : Part) → IsBlock range index chunks tombstones part → IsWalked index chunks tombstones part }
+    ensures { (range : ℤ × ℤ) (index chunks tombstones : List ℕ) (part : Part)
+        → IsBlock range index chunks tombstones part → IsWalked index chunks tombstones part }
 {}
 
 /// A block that was opened, and what a walk over the same files gave.
@@ -32,8 +34,8 @@ fn copied(alloc: Global, bytes: &[u8]) -> Result<Vec<u8>, AllocError>
     Ok(copy)
 }
 
-/// Opens the files of a block, and then walks them without the postings: the walk gives the part that the block shows,
-/// unless memory runs out. What the opening refuses is refused with its code.
+/// Opens the files of a block, and then walks them without the postings: the walk gives the part
+/// that the block shows, unless memory runs out. What the opening refuses is refused with its code.
 pub fn open_and_walk(
     alloc: Global,
     range: Range,
@@ -41,7 +43,8 @@ pub fn open_and_walk(
     chunks: Vec<u8>,
     tombstones: &[u8],
 ) -> Result<Opened, BlockError>
-    ensures opened { Opens (λ o. o.block) result (block_of range index.now chunks.items tombstones.now) }
+    ensures opened { Opens (λ o. o.block) result
+        (block_of range index.now chunks.items tombstones.now) }
     ensures walked { IfOk result (λ o. Gives (λ t. t) o.walked (Ok o.block.part)) }
 {
     let copy = copied(alloc, chunks.as_slice())?;

@@ -9,5 +9,7 @@ pub returns : goal.returns
 returns c =
     let block = c.args.block.now in
     let query = c.args.query.now in
-    silent_passes block.part query c.audit_skip.result (skipped_silent query block c.range.ensures.inside c.requires)
-    (subst (λ (part : Part). IfErr c.audit_skip.result (IsHiding part query)) c.in_ok-table.ensures c.audit_skip.ensures.hidden)
+    silent_passes block.part query c.audit_skip.result
+    (skipped_silent query block c.range.ensures.inside c.requires)
+    (subst (λ (part : Part). IfErr c.audit_skip.result (IsHiding part query)) c.in_ok-table.ensures
+    c.audit_skip.ensures.hidden)
