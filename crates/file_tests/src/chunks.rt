@@ -1,5 +1,5 @@
-//! The worked chunks file of the format, what is refused of it, and each refusal of a file that is spoiled in one
-//! place.
+//! The worked chunks file of the format, what is refused of it, and each refusal of a file that is
+//! spoiled in one place.
 
 use chunk_reader::{ChunkError, Chunks, Samples};
 use labels::{MAX_TIME, MIN_TIME, Sample};

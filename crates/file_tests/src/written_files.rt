@@ -249,7 +249,8 @@ fn a_later_chunk_is_told_by_its_distance(rt: HostRuntime) -> Result<(), Fail> {
     rows.push(row_of(rt.alloc(), "job", &times_up_to(rt.alloc(), 121)?)?)?;
     let part = PartRows::new(rows).ok_or("no part")?;
     let files = write(rt.alloc(), &part)?;
-    // One label, of one symbol; two chunks: from 0 to 119 at 8, and 1 later, no longer than itself, 1929 further.
+    // One label, of one symbol; two chunks: from 0 to 119 at 8, and 1 later, no longer than itself,
+    // 1929 further.
     let body = [
         0x0B, 0x01, 0x00, 0x00, 0x02, 0x00, 0x77, 0x08, 0x01, 0x00, 0x92, 0x1E,
     ];

@@ -167,8 +167,8 @@ fn one_series(alloc: Global, chunks: &[u8]) -> Result<Vec<u8>, AllocError> {
     Ok(out)
 }
 
-/// The index and the chunks file of one series with samples at the times 0, 1, .., in chunks of these lengths. Each
-/// value is 7.
+/// The index and the chunks file of one series with samples at the times 0, 1, .., in chunks of
+/// these lengths. Each value is 7.
 pub fn counted(alloc: Global, lengths: &[u64]) -> Result<(Vec<u8>, Vec<u8>), AllocError> {
     let mut chunks = empty_chunks(alloc)?;
     let mut places = Vec::new(alloc);

@@ -89,8 +89,8 @@ fn put_digits(out: &mut Vec<u8>, number: u32) -> Result<(), AllocError> {
     Ok(())
 }
 
-/// The symbols `0000` to `0999` and `n`, and 1,000 series of one label each, whose references are 314 to 1,313. The one
-/// chunk of each is the first of the file.
+/// The symbols `0000` to `0999` and `n`, and 1,000 series of one label each, whose references are
+/// 314 to 1,313. The one chunk of each is the first of the file.
 fn put_series(alloc: Global, out: &mut Vec<u8>) -> Result<(), AllocError> {
     let mut symbols = Vec::new(alloc);
     put_be32(&mut symbols, 1001)?;

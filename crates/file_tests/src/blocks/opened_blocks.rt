@@ -191,7 +191,8 @@ fn samples_are_left_out(rt: HostRuntime) -> Result<(), Fail> {
     Ok(())
 }
 
-/// What a block of one series with samples from 0 on in chunks of these lengths has, or is refused with.
+/// What a block of one series with samples from 0 on in chunks of these lengths has, or is refused
+/// with.
 fn counted_in(
     alloc: Global,
     lengths: &[u64],
