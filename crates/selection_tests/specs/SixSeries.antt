@@ -1,5 +1,5 @@
--- A part of six series for tests: 1 up of job a, 2 up of job b, 3 up of job b in zone x, 4 down of job a, 5 down of
--- job b and 6 up of job a in zone x, each with samples at 10 and 20.
+-- A part of six series for tests: 1 up of job a, 2 up of job b, 3 up of job b in zone x, 4 down of
+-- job a, 5 down of job b and 6 up of job a in zone x, each with samples at 10 and 20.
 use Rattle.std.proofs.Common.{◌≡◌, ℕ, zero, suc, ◌+◌, ◌<◌, Bool, true, false, cond, ◌||◌, List, [], ◌∷◌, get_or, refl, sym, ◌∙◌, ap, subst, T, lit<, arith}
 use Rattle.std.specs.Prelude.{ℤ, pos}
 use Rattle.std.specs.List.{Contains}
@@ -67,21 +67,27 @@ abbrev pub six_series : Part
 six_series = row_1 ∷ row_2 ∷ row_3 ∷ row_4 ∷ row_5 ∷ row_6 ∷ []
 
 abbrev pub values_in : List ℕ → List (List ℕ)
-values_in name = cond (bytes_eq name named) (down ∷ up ∷ []) (cond (bytes_eq name job) (a ∷ b ∷ []) (cond (bytes_eq name zone) (x ∷ []) []))
+values_in name =
+    cond (bytes_eq name named) (down ∷ up ∷ [])
+    (cond (bytes_eq name job) (a ∷ b ∷ []) (cond (bytes_eq name zone) (x ∷ []) []))
 
 -- which of the six have a value of a name
 abbrev pub listed_in : List ℕ → List ℕ → List ℕ
 listed_in name value =
-    cond (bytes_eq name named) (cond (bytes_eq value up) (1 ∷ 2 ∷ 3 ∷ 6 ∷ []) (cond (bytes_eq value down) (4 ∷ 5 ∷ []) []))
-    (cond (bytes_eq name job) (cond (bytes_eq value a) (1 ∷ 4 ∷ 6 ∷ []) (cond (bytes_eq value b) (2 ∷ 3 ∷ 5 ∷ []) []))
+    cond (bytes_eq name named)
+    (cond (bytes_eq value up) (1 ∷ 2 ∷ 3 ∷ 6 ∷ []) (cond (bytes_eq value down) (4 ∷ 5 ∷ []) []))
+    (cond (bytes_eq name job)
+    (cond (bytes_eq value a) (1 ∷ 4 ∷ 6 ∷ []) (cond (bytes_eq value b) (2 ∷ 3 ∷ 5 ∷ []) []))
     (cond (bytes_eq name zone) (cond (bytes_eq value x) (3 ∷ 6 ∷ []) []) []))
 
 -- which of the six have a sample in the range
 abbrev pub live_in : ℤ → ℤ → List ℕ
-live_in from to = cond (in_range from to (pos 10) || in_range from to (pos 20)) (1 ∷ 2 ∷ 3 ∷ 4 ∷ 5 ∷ 6 ∷ []) []
+live_in from to =
+    cond (in_range from to (pos 10) || in_range from to (pos 20)) (1 ∷ 2 ∷ 3 ∷ 4 ∷ 5 ∷ 6 ∷ []) []
 
 -- a fact of each of the six
-each : (P : ℕ × Row → Type 0) → P row_1 → P row_2 → P row_3 → P row_4 → P row_5 → P row_6 → (row : ℕ × Row) → Contains six_series row → P row
+each : (P : ℕ × Row → Type 0) → P row_1 → P row_2 → P row_3 → P row_4 → P row_5 → P row_6
+    → (row : ℕ × Row) → Contains six_series row → P row
 each P p q r s t u row (zero, l, e) = subst P e p
 each P p q r s t u row (suc zero, l, e) = subst P e q
 each P p q r s t u row (suc (suc zero), l, e) = subst P e r
@@ -112,15 +118,18 @@ abbrev IsNoneOf : Labels → Part → Type 0
 IsNoneOf labels [] = Unit {0}
 IsNoneOf labels (row ∷ rows) = (same_labels labels row.1.0 ≡ false) × IsNoneOf labels rows
 
-none_of : (labels : Labels) (rows : Part) → IsNoneOf labels rows → (row : ℕ × Row) → Contains rows row → same_labels labels row.1.0 ≡ false
+none_of : (labels : Labels) (rows : Part) → IsNoneOf labels rows → (row : ℕ × Row)
+    → Contains rows row → same_labels labels row.1.0 ≡ false
 none_of labels [] n row (k, l, e) = absurd (omega (arith, l))
-none_of labels (y ∷ ys) n row (zero, l, e) = subst (λ (z : ℕ × Row). same_labels labels z.1.0 ≡ false) e n.0
+none_of labels (y ∷ ys) n row (zero, l, e) =
+    subst (λ (z : ℕ × Row). same_labels labels z.1.0 ≡ false) e n.0
 none_of labels (y ∷ ys) n row (suc k, l, e) = none_of labels ys n.1 row (k, omega (arith, l), e)
 
 distinct : AreDistinct six_series
 unfolding labels_cmp
 distinct = (
-  none_of row_1.1.0 (row_2 ∷ row_3 ∷ row_4 ∷ row_5 ∷ row_6 ∷ []) (refl, (refl, (refl, (refl, (refl, tt))))),
+  none_of row_1.1.0 (row_2 ∷ row_3 ∷ row_4 ∷ row_5 ∷ row_6 ∷ [])
+      (refl, (refl, (refl, (refl, (refl, tt))))),
   (
     none_of row_2.1.0 (row_3 ∷ row_4 ∷ row_5 ∷ row_6 ∷ []) (refl, (refl, (refl, (refl, tt)))),
     (
@@ -144,7 +153,8 @@ is_part = record {
   times = each (λ row. T (is_sorted int_cmp row.1.1)) tt tt tt tt tt tt;
 }
 
-two_rise : (v w : List ℕ) → slice_cmp nat_cmp v w ≡ Less → (k : ℕ) → k + 1 < 2 → slice_cmp nat_cmp (get_or (v ∷ w ∷ []) k []) (get_or (v ∷ w ∷ []) (k + 1) []) ≡ Less
+two_rise : (v w : List ℕ) → slice_cmp nat_cmp v w ≡ Less → (k : ℕ) → k + 1 < 2
+    → slice_cmp nat_cmp (get_or (v ∷ w ∷ []) k []) (get_or (v ∷ w ∷ []) (k + 1) []) ≡ Less
 two_rise v w less zero l = less
 two_rise v w less (suc k) l = absurd (omega (arith, l))
 
@@ -152,7 +162,9 @@ of_named : AreValuesOf six_series named (down ∷ up ∷ [])
 of_named = record {
   ascending = two_rise down up refl;
   carried = held;
-  present = each (λ row. bytes_eq (value_of row.1.0 named) [] ≡ false → Contains (down ∷ up ∷ []) (value_of row.1.0 named))
+  present =
+      each (λ row. bytes_eq (value_of row.1.0 named) [] ≡ false
+      → Contains (down ∷ up ∷ []) (value_of row.1.0 named))
       (λ e. second) (λ e. second) (λ e. second) (λ e. first) (λ e. first) (λ e. second);
 }
   where
@@ -162,16 +174,25 @@ of_named = record {
     second : Contains (down ∷ up ∷ []) up
     second = (1, lit< tt, refl)
 
-    held : (value : List ℕ) → Contains (down ∷ up ∷ []) value → (row : ℕ × Row) × (Contains six_series row × (carries named value row.1.0 ≡ true))
-    held value (zero, l, e) = (row_4, ((3, lit< tt, refl), subst (λ (v : List ℕ). carries named v row_4.1.0 ≡ true) e refl))
-    held value (suc zero, l, e) = (row_1, ((0, lit< tt, refl), subst (λ (v : List ℕ). carries named v row_1.1.0 ≡ true) e refl))
+    held : (value : List ℕ) → Contains (down ∷ up ∷ []) value
+        → (row : ℕ × Row) × (Contains six_series row × (carries named value row.1.0 ≡ true))
+    held value (zero, l, e) = (
+      row_4,
+      ((3, lit< tt, refl), subst (λ (v : List ℕ). carries named v row_4.1.0 ≡ true) e refl),
+    )
+    held value (suc zero, l, e) = (
+      row_1,
+      ((0, lit< tt, refl), subst (λ (v : List ℕ). carries named v row_1.1.0 ≡ true) e refl),
+    )
     held value (suc (suc k), l, e) = absurd (omega (arith, l))
 
 of_job : AreValuesOf six_series job (a ∷ b ∷ [])
 of_job = record {
   ascending = two_rise a b refl;
   carried = held;
-  present = each (λ row. bytes_eq (value_of row.1.0 job) [] ≡ false → Contains (a ∷ b ∷ []) (value_of row.1.0 job))
+  present =
+      each (λ row.
+      bytes_eq (value_of row.1.0 job) [] ≡ false → Contains (a ∷ b ∷ []) (value_of row.1.0 job))
       (λ e. first) (λ e. second) (λ e. second) (λ e. first) (λ e. second) (λ e. first);
 }
   where
@@ -181,106 +202,169 @@ of_job = record {
     second : Contains (a ∷ b ∷ []) b
     second = (1, lit< tt, refl)
 
-    held : (value : List ℕ) → Contains (a ∷ b ∷ []) value → (row : ℕ × Row) × (Contains six_series row × (carries job value row.1.0 ≡ true))
-    held value (zero, l, e) = (row_1, ((0, lit< tt, refl), subst (λ (v : List ℕ). carries job v row_1.1.0 ≡ true) e refl))
-    held value (suc zero, l, e) = (row_2, ((1, lit< tt, refl), subst (λ (v : List ℕ). carries job v row_2.1.0 ≡ true) e refl))
+    held : (value : List ℕ) → Contains (a ∷ b ∷ []) value
+        → (row : ℕ × Row) × (Contains six_series row × (carries job value row.1.0 ≡ true))
+    held value (zero, l, e) =
+        (row_1, ((0, lit< tt, refl), subst (λ (v : List ℕ). carries job v row_1.1.0 ≡ true) e refl))
+    held value (suc zero, l, e) =
+        (row_2, ((1, lit< tt, refl), subst (λ (v : List ℕ). carries job v row_2.1.0 ≡ true) e refl))
     held value (suc (suc k), l, e) = absurd (omega (arith, l))
 
 of_zone : AreValuesOf six_series zone (x ∷ [])
 of_zone = record {
   ascending = λ k l. absurd (omega (arith, l));
   carried = held;
-  present = each (λ row. bytes_eq (value_of row.1.0 zone) [] ≡ false → Contains (x ∷ []) (value_of row.1.0 zone))
-      (λ e. absurd cc) (λ e. absurd cc) (λ e. (0, lit< tt, refl)) (λ e. absurd cc) (λ e. absurd cc) (λ e. (0, lit< tt, refl));
+  present =
+      each (λ row.
+      bytes_eq (value_of row.1.0 zone) [] ≡ false → Contains (x ∷ []) (value_of row.1.0 zone))
+      (λ e. absurd cc) (λ e. absurd cc) (λ e. (0, lit< tt, refl)) (λ e. absurd cc) (λ e. absurd cc)
+      (λ e. (0, lit< tt, refl));
 }
   where
-    held : (value : List ℕ) → Contains (x ∷ []) value → (row : ℕ × Row) × (Contains six_series row × (carries zone value row.1.0 ≡ true))
-    held value (zero, l, e) = (row_3, ((2, lit< tt, refl), subst (λ (v : List ℕ). carries zone v row_3.1.0 ≡ true) e refl))
+    held : (value : List ℕ) → Contains (x ∷ []) value
+        → (row : ℕ × Row) × (Contains six_series row × (carries zone value row.1.0 ≡ true))
+    held value (zero, l, e) = (
+      row_3,
+      ((2, lit< tt, refl), subst (λ (v : List ℕ). carries zone v row_3.1.0 ≡ true) e refl),
+    )
     held value (suc k, l, e) = absurd (omega (arith, l))
 
 turned : (v w : List ℕ) → bytes_eq v w ≡ false → bytes_eq w v ≡ false
 turned v w q = go (bytes_eq w v) refl
   where
     go : (s : Bool) → bytes_eq w v ≡ s → bytes_eq w v ≡ false
-    go true e = absurd (let t : bytes_eq v w ≡ true = (bytes_decides v w).1 (sym ((bytes_decides w v).0 e)) in cc)
+    go true e =
+        absurd (let t : bytes_eq v w ≡ true =
+        (bytes_decides v w).1 (sym ((bytes_decides w v).0 e)) in cc)
     go false e = e
 
 -- no series has a value of another name
-absent : (name v w : List ℕ) (rest : Labels) → bytes_eq named name ≡ false → bytes_eq job name ≡ false → value_of (labels_of v w rest) name ≡ value_of rest name
+absent : (name v w : List ℕ) (rest : Labels) → bytes_eq named name ≡ false
+    → bytes_eq job name ≡ false → value_of (labels_of v w rest) name ≡ value_of rest name
 absent name v w rest p q =
-    ap (λ s. cond s v (cond (bytes_eq job name) w (value_of rest name))) p ∙ ap (λ s. cond s w (value_of rest name)) q
+    ap (λ s. cond s v (cond (bytes_eq job name) w (value_of rest name))) p
+    ∙ ap (λ s. cond s w (value_of rest name)) q
 
 absent_zone : (name v : List ℕ) → bytes_eq zone name ≡ false → value_of ((zone, v) ∷ []) name ≡ []
 absent_zone name v q = ap (λ s. cond s v []) q
 
-of_other : (name : List ℕ) → bytes_eq named name ≡ false → bytes_eq job name ≡ false → bytes_eq zone name ≡ false → AreValuesOf six_series name []
+of_other : (name : List ℕ) → bytes_eq named name ≡ false → bytes_eq job name ≡ false
+    → bytes_eq zone name ≡ false → AreValuesOf six_series name []
 of_other name p q r = record {
   ascending = λ k l. absurd (omega (arith, l));
   carried = λ value c. absurd (omega (arith, c.1));
-  present = each (λ row. bytes_eq (value_of row.1.0 name) [] ≡ false → Contains [] (value_of row.1.0 name))
+  present =
+      each (λ row.
+      bytes_eq (value_of row.1.0 name) [] ≡ false → Contains [] (value_of row.1.0 name))
       (none (labels_of up a []) (absent name up a [] p q))
       (none (labels_of up b []) (absent name up b [] p q))
-      (none (labels_of up b ((zone, x) ∷ [])) (absent name up b ((zone, x) ∷ []) p q ∙ absent_zone name x r))
+      (none (labels_of up b ((zone, x) ∷ [])) (absent name up b ((zone, x) ∷ []) p q
+      ∙ absent_zone name x r))
       (none (labels_of down a []) (absent name down a [] p q))
       (none (labels_of down b []) (absent name down b [] p q))
-      (none (labels_of up a ((zone, x) ∷ [])) (absent name up a ((zone, x) ∷ []) p q ∙ absent_zone name x r));
+      (none (labels_of up a ((zone, x) ∷ [])) (absent name up a ((zone, x) ∷ []) p q
+      ∙ absent_zone name x r));
 }
   where
-    none : (labels : Labels) → value_of labels name ≡ [] → bytes_eq (value_of labels name) [] ≡ false → Contains [] (value_of labels name)
-    none labels is e = absurd (let f : bytes_eq [] [] ≡ false = ap (λ v. bytes_eq v []) (sym is) ∙ e in cc)
+    none : (labels : Labels) → value_of labels name ≡ []
+        → bytes_eq (value_of labels name) [] ≡ false → Contains [] (value_of labels name)
+    none labels is e =
+        absurd (let f : bytes_eq [] [] ≡ false = ap (λ v. bytes_eq v []) (sym is) ∙ e in cc)
 
 pub are_values : (name : List ℕ) → AreValuesOf six_series name (values_in name)
 are_values name = go (bytes_eq name named) refl (bytes_eq name job) refl (bytes_eq name zone) refl
   where
-    go : (s : Bool) → bytes_eq name named ≡ s → (t : Bool) → bytes_eq name job ≡ t → (u : Bool) → bytes_eq name zone ≡ u
-        → AreValuesOf six_series name (cond s (down ∷ up ∷ []) (cond t (a ∷ b ∷ []) (cond u (x ∷ []) [])))
-    go true p t q u r = subst (λ (n : List ℕ). AreValuesOf six_series n (down ∷ up ∷ [])) (sym ((bytes_decides name named).0 p)) of_named
-    go false p true q u r = subst (λ (n : List ℕ). AreValuesOf six_series n (a ∷ b ∷ [])) (sym ((bytes_decides name job).0 q)) of_job
-    go false p false q true r = subst (λ (n : List ℕ). AreValuesOf six_series n (x ∷ [])) (sym ((bytes_decides name zone).0 r)) of_zone
-    go false p false q false r = of_other name (turned name named p) (turned name job q) (turned name zone r)
+    go : (s : Bool) → bytes_eq name named ≡ s → (t : Bool) → bytes_eq name job ≡ t → (u : Bool)
+        → bytes_eq name zone ≡ u
+        → AreValuesOf six_series name
+        (cond s (down ∷ up ∷ []) (cond t (a ∷ b ∷ []) (cond u (x ∷ []) [])))
+    go true p t q u r =
+        subst (λ (n : List ℕ). AreValuesOf six_series n (down ∷ up ∷ []))
+        (sym ((bytes_decides name named).0 p)) of_named
+    go false p true q u r =
+        subst (λ (n : List ℕ). AreValuesOf six_series n (a ∷ b ∷ []))
+        (sym ((bytes_decides name job).0 q)) of_job
+    go false p false q true r =
+        subst (λ (n : List ℕ). AreValuesOf six_series n (x ∷ []))
+        (sym ((bytes_decides name zone).0 r)) of_zone
+    go false p false q false r =
+        of_other name (turned name named p) (turned name job q) (turned name zone r)
 
-listed_of_named : (value : List ℕ) → references_where (carries named value) six_series ≡ cond (bytes_eq value up) (1 ∷ 2 ∷ 3 ∷ 6 ∷ []) (cond (bytes_eq value down) (4 ∷ 5 ∷ []) [])
+listed_of_named : (value : List ℕ) → references_where (carries named value) six_series
+    ≡ cond (bytes_eq value up) (1 ∷ 2 ∷ 3 ∷ 6 ∷ []) (cond (bytes_eq value down) (4 ∷ 5 ∷ []) [])
 listed_of_named [] = refl
 listed_of_named (y ∷ ys) = go (bytes_eq (y ∷ ys) up) refl (bytes_eq (y ∷ ys) down) refl
   where
-    go : (s : Bool) → bytes_eq (y ∷ ys) up ≡ s → (t : Bool) → bytes_eq (y ∷ ys) down ≡ t → references_where (carries named (y ∷ ys)) six_series ≡ cond s (1 ∷ 2 ∷ 3 ∷ 6 ∷ []) (cond t (4 ∷ 5 ∷ []) [])
-    go true e t f = subst (λ (v : List ℕ). references_where (carries named v) six_series ≡ 1 ∷ 2 ∷ 3 ∷ 6 ∷ []) (sym ((bytes_decides (y ∷ ys) up).0 e)) refl
-    go false e true f = subst (λ (v : List ℕ). references_where (carries named v) six_series ≡ 4 ∷ 5 ∷ []) (sym ((bytes_decides (y ∷ ys) down).0 f)) refl
+    go : (s : Bool) → bytes_eq (y ∷ ys) up ≡ s → (t : Bool) → bytes_eq (y ∷ ys) down ≡ t
+        → references_where (carries named (y ∷ ys)) six_series
+        ≡ cond s (1 ∷ 2 ∷ 3 ∷ 6 ∷ []) (cond t (4 ∷ 5 ∷ []) [])
+    go true e t f =
+        subst (λ (v : List ℕ). references_where (carries named v) six_series ≡ 1 ∷ 2 ∷ 3 ∷ 6 ∷ [])
+        (sym ((bytes_decides (y ∷ ys) up).0 e)) refl
+    go false e true f =
+        subst (λ (v : List ℕ). references_where (carries named v) six_series ≡ 4 ∷ 5 ∷ [])
+        (sym ((bytes_decides (y ∷ ys) down).0 f)) refl
     go false e false f = rw (turned (y ∷ ys) up e, turned (y ∷ ys) down f) refl
 
-listed_of_job : (value : List ℕ) → references_where (carries job value) six_series ≡ cond (bytes_eq value a) (1 ∷ 4 ∷ 6 ∷ []) (cond (bytes_eq value b) (2 ∷ 3 ∷ 5 ∷ []) [])
+listed_of_job : (value : List ℕ) → references_where (carries job value) six_series
+    ≡ cond (bytes_eq value a) (1 ∷ 4 ∷ 6 ∷ []) (cond (bytes_eq value b) (2 ∷ 3 ∷ 5 ∷ []) [])
 listed_of_job [] = refl
 listed_of_job (y ∷ ys) = go (bytes_eq (y ∷ ys) a) refl (bytes_eq (y ∷ ys) b) refl
   where
-    go : (s : Bool) → bytes_eq (y ∷ ys) a ≡ s → (t : Bool) → bytes_eq (y ∷ ys) b ≡ t → references_where (carries job (y ∷ ys)) six_series ≡ cond s (1 ∷ 4 ∷ 6 ∷ []) (cond t (2 ∷ 3 ∷ 5 ∷ []) [])
-    go true e t f = subst (λ (v : List ℕ). references_where (carries job v) six_series ≡ 1 ∷ 4 ∷ 6 ∷ []) (sym ((bytes_decides (y ∷ ys) a).0 e)) refl
-    go false e true f = subst (λ (v : List ℕ). references_where (carries job v) six_series ≡ 2 ∷ 3 ∷ 5 ∷ []) (sym ((bytes_decides (y ∷ ys) b).0 f)) refl
+    go : (s : Bool) → bytes_eq (y ∷ ys) a ≡ s → (t : Bool) → bytes_eq (y ∷ ys) b ≡ t
+        → references_where (carries job (y ∷ ys)) six_series
+        ≡ cond s (1 ∷ 4 ∷ 6 ∷ []) (cond t (2 ∷ 3 ∷ 5 ∷ []) [])
+    go true e t f =
+        subst (λ (v : List ℕ). references_where (carries job v) six_series ≡ 1 ∷ 4 ∷ 6 ∷ [])
+        (sym ((bytes_decides (y ∷ ys) a).0 e)) refl
+    go false e true f =
+        subst (λ (v : List ℕ). references_where (carries job v) six_series ≡ 2 ∷ 3 ∷ 5 ∷ [])
+        (sym ((bytes_decides (y ∷ ys) b).0 f)) refl
     go false e false f = rw (turned (y ∷ ys) a e, turned (y ∷ ys) b f) refl
 
-listed_of_zone : (value : List ℕ) → references_where (carries zone value) six_series ≡ cond (bytes_eq value x) (3 ∷ 6 ∷ []) []
+listed_of_zone : (value : List ℕ)
+    → references_where (carries zone value) six_series ≡ cond (bytes_eq value x) (3 ∷ 6 ∷ []) []
 listed_of_zone [] = refl
 listed_of_zone (y ∷ ys) = go (bytes_eq (y ∷ ys) x) refl
   where
-    go : (s : Bool) → bytes_eq (y ∷ ys) x ≡ s → references_where (carries zone (y ∷ ys)) six_series ≡ cond s (3 ∷ 6 ∷ []) []
-    go true e = subst (λ (v : List ℕ). references_where (carries zone v) six_series ≡ 3 ∷ 6 ∷ []) (sym ((bytes_decides (y ∷ ys) x).0 e)) refl
+    go : (s : Bool) → bytes_eq (y ∷ ys) x ≡ s
+        → references_where (carries zone (y ∷ ys)) six_series ≡ cond s (3 ∷ 6 ∷ []) []
+    go true e =
+        subst (λ (v : List ℕ). references_where (carries zone v) six_series ≡ 3 ∷ 6 ∷ [])
+        (sym ((bytes_decides (y ∷ ys) x).0 e)) refl
     go false e = rw (turned (y ∷ ys) x e) refl
 
-listed_of_other : (name value : List ℕ) → bytes_eq named name ≡ false → bytes_eq job name ≡ false → bytes_eq zone name ≡ false → references_where (carries name value) six_series ≡ []
+listed_of_other : (name value : List ℕ) → bytes_eq named name ≡ false → bytes_eq job name ≡ false
+    → bytes_eq zone name ≡ false → references_where (carries name value) six_series ≡ []
 listed_of_other name [] p q r = refl
 listed_of_other name (y ∷ ys) p q r = rw (p, q, r) refl
 
-pub listed : (name value : List ℕ) → references_where (carries name value) six_series ≡ listed_in name value
+pub listed : (name value : List ℕ)
+    → references_where (carries name value) six_series ≡ listed_in name value
 listed name value = go (bytes_eq name named) refl (bytes_eq name job) refl (bytes_eq name zone) refl
   where
-    go : (s : Bool) → bytes_eq name named ≡ s → (t : Bool) → bytes_eq name job ≡ t → (u : Bool) → bytes_eq name zone ≡ u
+    go : (s : Bool) → bytes_eq name named ≡ s → (t : Bool) → bytes_eq name job ≡ t → (u : Bool)
+        → bytes_eq name zone ≡ u
         → references_where (carries name value) six_series
-        ≡ cond s (cond (bytes_eq value up) (1 ∷ 2 ∷ 3 ∷ 6 ∷ []) (cond (bytes_eq value down) (4 ∷ 5 ∷ []) []))
-        (cond t (cond (bytes_eq value a) (1 ∷ 4 ∷ 6 ∷ []) (cond (bytes_eq value b) (2 ∷ 3 ∷ 5 ∷ []) []))
+        ≡ cond s
+        (cond (bytes_eq value up) (1 ∷ 2 ∷ 3 ∷ 6 ∷ []) (cond (bytes_eq value down) (4 ∷ 5 ∷ []) []))
+        (cond t
+        (cond (bytes_eq value a) (1 ∷ 4 ∷ 6 ∷ []) (cond (bytes_eq value b) (2 ∷ 3 ∷ 5 ∷ []) []))
         (cond u (cond (bytes_eq value x) (3 ∷ 6 ∷ []) []) []))
-    go true p t q u r = subst (λ (n : List ℕ). references_where (carries n value) six_series ≡ cond (bytes_eq value up) (1 ∷ 2 ∷ 3 ∷ 6 ∷ []) (cond (bytes_eq value down) (4 ∷ 5 ∷ []) [])) (sym ((bytes_decides name named).0 p)) (listed_of_named value)
-    go false p true q u r = subst (λ (n : List ℕ). references_where (carries n value) six_series ≡ cond (bytes_eq value a) (1 ∷ 4 ∷ 6 ∷ []) (cond (bytes_eq value b) (2 ∷ 3 ∷ 5 ∷ []) [])) (sym ((bytes_decides name job).0 q)) (listed_of_job value)
-    go false p false q true r = subst (λ (n : List ℕ). references_where (carries n value) six_series ≡ cond (bytes_eq value x) (3 ∷ 6 ∷ []) []) (sym ((bytes_decides name zone).0 r)) (listed_of_zone value)
-    go false p false q false r = listed_of_other name value (turned name named p) (turned name job q) (turned name zone r)
+    go true p t q u r =
+        subst (λ (n : List ℕ). references_where (carries n value) six_series ≡ cond (bytes_eq value
+        up) (1 ∷ 2 ∷ 3 ∷ 6 ∷ []) (cond (bytes_eq value down) (4 ∷ 5 ∷ []) []))
+        (sym ((bytes_decides name named).0 p)) (listed_of_named value)
+    go false p true q u r =
+        subst (λ (n : List ℕ). references_where (carries n value) six_series
+        ≡ cond (bytes_eq value a) (1 ∷ 4 ∷ 6 ∷ []) (cond (bytes_eq value b) (2 ∷ 3 ∷ 5 ∷ []) []))
+        (sym ((bytes_decides name job).0 q)) (listed_of_job value)
+    go false p false q true r =
+        subst (λ (n : List ℕ). references_where (carries n value) six_series
+        ≡ cond (bytes_eq value x) (3 ∷ 6 ∷ []) []) (sym ((bytes_decides name zone).0 r))
+        (listed_of_zone value)
+    go false p false q false r =
+        listed_of_other name value (turned name named p) (turned name job q) (turned name zone r)
 
 pub live : (from to : ℤ) → live_references from to six_series ≡ live_in from to
 live from to = go (in_range from to (pos 10)) refl (in_range from to (pos 20)) refl

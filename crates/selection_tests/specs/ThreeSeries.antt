@@ -38,7 +38,8 @@ abbrev pub values_in : List ℕ → List (List ℕ)
 values_in name = cond (bytes_eq name job) (a ∷ b ∷ []) []
 
 -- a fact of each of the three
-each : (P : ℕ × Row → Type 0) → P first → P second → P third → (row : ℕ × Row) → Contains three_series row → P row
+each : (P : ℕ × Row → Type 0) → P first → P second → P third → (row : ℕ × Row)
+    → Contains three_series row → P row
 each P p q r row (zero, l, e) = subst P e p
 each P p q r row (suc zero, l, e) = subst P e q
 each P p q r row (suc (suc zero), l, e) = subst P e r
@@ -55,7 +56,8 @@ small r (suc zero, l, e) = omega (arith, e)
 small r (suc (suc zero), l, e) = omega (arith, e)
 small r (suc (suc (suc k)), l, e) = absurd (omega (arith, l))
 
-others : (row : ℕ × Row) → Contains (second ∷ third ∷ []) row → same_labels first.1.0 row.1.0 ≡ false
+others : (row : ℕ × Row) → Contains (second ∷ third ∷ []) row
+    → same_labels first.1.0 row.1.0 ≡ false
 unfolding labels_cmp
 others row (zero, l, e) = subst (λ (x : ℕ × Row). same_labels first.1.0 x.1.0 ≡ false) e refl
 others row (suc zero, l, e) = subst (λ (x : ℕ × Row). same_labels first.1.0 x.1.0 ≡ false) e refl
@@ -77,36 +79,56 @@ is_part = record {
 of_job : AreValuesOf three_series job (a ∷ b ∷ [])
 of_job = record { ascending = rising; carried = held; present = there_is }
   where
-    rising : (k : ℕ) → k + 1 < 2 → slice_cmp nat_cmp (get_or (a ∷ b ∷ []) k []) (get_or (a ∷ b ∷ []) (k + 1) []) ≡ Less
+    rising : (k : ℕ) → k + 1 < 2
+        → slice_cmp nat_cmp (get_or (a ∷ b ∷ []) k []) (get_or (a ∷ b ∷ []) (k + 1) []) ≡ Less
     rising zero l = refl
     rising (suc k) l = absurd (omega (arith, l))
 
-    held : (value : List ℕ) → Contains (a ∷ b ∷ []) value → (row : ℕ × Row) × (Contains three_series row × (carries job value row.1.0 ≡ true))
-    held value (zero, l, e) = (first, ((0, lit< tt, refl), subst (λ (v : List ℕ). carries job v first.1.0 ≡ true) e refl))
-    held value (suc zero, l, e) = (second, ((1, lit< tt, refl), subst (λ (v : List ℕ). carries job v second.1.0 ≡ true) e refl))
+    held : (value : List ℕ) → Contains (a ∷ b ∷ []) value
+        → (row : ℕ × Row) × (Contains three_series row × (carries job value row.1.0 ≡ true))
+    held value (zero, l, e) =
+        (first, ((0, lit< tt, refl), subst (λ (v : List ℕ). carries job v first.1.0 ≡ true) e refl))
+    held value (suc zero, l, e) = (
+      second,
+      ((1, lit< tt, refl), subst (λ (v : List ℕ). carries job v second.1.0 ≡ true) e refl),
+    )
     held value (suc (suc k), l, e) = absurd (omega (arith, l))
 
-    there_is : (row : ℕ × Row) → Contains three_series row → bytes_eq (value_of row.1.0 job) [] ≡ false → Contains (a ∷ b ∷ []) (value_of row.1.0 job)
-    there_is = each (λ row. bytes_eq (value_of row.1.0 job) [] ≡ false → Contains (a ∷ b ∷ []) (value_of row.1.0 job)) (λ e. (0, lit< tt, refl)) (λ e. (1, lit< tt, refl)) (λ e. absurd cc)
+    there_is : (row : ℕ × Row) → Contains three_series row
+        → bytes_eq (value_of row.1.0 job) [] ≡ false → Contains (a ∷ b ∷ []) (value_of row.1.0 job)
+    there_is =
+        each (λ row. bytes_eq (value_of row.1.0 job) [] ≡ false
+        → Contains (a ∷ b ∷ []) (value_of row.1.0 job)) (λ e. (0, lit< tt, refl))
+        (λ e. (1, lit< tt, refl)) (λ e. absurd cc)
 
 -- no series has a value of another name
-absent : (name : List ℕ) → bytes_eq name job ≡ false → (value : List ℕ) → value_of ((job, value) ∷ []) name ≡ []
+absent : (name : List ℕ) → bytes_eq name job ≡ false → (value : List ℕ)
+    → value_of ((job, value) ∷ []) name ≡ []
 absent name q value = go (bytes_eq job name) refl
   where
     go : (s : Bool) → bytes_eq job name ≡ s → value_of ((job, value) ∷ []) name ≡ []
-    go true e = absurd (let same : job ≡ name = (bytes_decides job name).0 e in let t : bytes_eq name job ≡ true = (bytes_decides name job).1 (sym same) in cc)
+    go true e =
+        absurd (let same : job ≡ name = (bytes_decides job name).0 e in
+        let t : bytes_eq name job ≡ true = (bytes_decides name job).1 (sym same) in cc)
     go false e = ap (λ s. cond s value []) e
 
 pub are_values : (name : List ℕ) → AreValuesOf three_series name (values_in name)
 are_values name = go (bytes_eq name job) refl
   where
     go : (s : Bool) → bytes_eq name job ≡ s → AreValuesOf three_series name (cond s (a ∷ b ∷ []) [])
-    go true q = let same : name ≡ job = (bytes_decides name job).0 q in subst (λ (n : List ℕ). AreValuesOf three_series n (a ∷ b ∷ [])) (sym same) of_job
+    go true q =
+        let same : name ≡ job = (bytes_decides name job).0 q in
+        subst (λ (n : List ℕ). AreValuesOf three_series n (a ∷ b ∷ [])) (sym same) of_job
     go false q = record {
       ascending = λ k l. absurd (omega (arith, l));
       carried = λ value c. absurd (omega (arith, c.1));
-      present = each (λ row. bytes_eq (value_of row.1.0 name) [] ≡ false → Contains [] (value_of row.1.0 name)) (none a) (none b) (λ e. absurd cc);
+      present =
+          each (λ row. bytes_eq (value_of row.1.0 name) [] ≡ false
+          → Contains [] (value_of row.1.0 name)) (none a) (none b) (λ e. absurd cc);
     }
       where
-        none : (value : List ℕ) → bytes_eq (value_of ((job, value) ∷ []) name) [] ≡ false → Contains [] (value_of ((job, value) ∷ []) name)
-        none value e = absurd (let f : bytes_eq [] [] ≡ false = ap (λ v. bytes_eq v []) (sym (absent name q value)) ∙ e in cc)
+        none : (value : List ℕ) → bytes_eq (value_of ((job, value) ∷ []) name) [] ≡ false
+            → Contains [] (value_of ((job, value) ∷ []) name)
+        none value e =
+            absurd (let f : bytes_eq [] [] ≡ false =
+            ap (λ v. bytes_eq v []) (sym (absent name q value)) ∙ e in cc)

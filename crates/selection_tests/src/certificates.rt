@@ -173,8 +173,8 @@ const COUNTED: &[(Pairs, i64, i64)] = &[
     (&[], 10, 10),
 ];
 
-/// Whether the moves that are told are those that were made; a seek to where a list stands already is told, and moves
-/// no list.
+/// Whether the moves that are told are those that were made; a seek to where a list stands already
+/// is told, and moves no list.
 fn tells_all_moves(alloc: Global, query: Option<Query>) -> Option<bool> {
     let six = SixSeries::new();
     let counting = Counting::new(&six);

@@ -1,8 +1,9 @@
-//! Tests of what a selection is made of, from outside: label sets and their order, matchers and the text of selectors,
-//! lists of references, certificates, and lists in pages.
+//! Tests of what a selection is made of, from outside: label sets and their order, matchers and the
+//! text of selectors, lists of references, certificates, and lists in pages.
 //!
-//! They stand in a crate of their own, so that the gate proves each of those crates once and not a second time with
-//! its tests. `specs/` has the parts that some of them stand on, with the proofs that they are parts.
+//! They stand in a crate of their own, so that the gate proves each of those crates once and not a
+//! second time with its tests. `specs/` has the parts that some of them stand on, with the proofs
+//! that they are parts.
 #![tactic(auto)]
 
 #[cfg(test)]

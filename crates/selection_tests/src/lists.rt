@@ -160,7 +160,8 @@ fn the_example_of_the_first_page(rt: HostRuntime) {
     assert_eq!(rt; list.moves(), 1);
 }
 
-/// How often a list of 2, 5 and 9 has moved: before a seek of 3, after it, and after another and three steps.
+/// How often a list of 2, 5 and 9 has moved: before a seek of 3, after it, and after another and
+/// three steps.
 fn counts() -> Option<(u64, u64, u64)> {
     let three = [SeriesRef::new(2), SeriesRef::new(5), SeriesRef::new(9)];
     let mut list = Counted::new(list_of(&three)?);

@@ -125,7 +125,8 @@ fn insert(alloc: Global, sorted: &mut SortedPages<u32>, n: u32) -> Result<(), Al
     }
 }
 
-/// Every number from 1 to 40,008, by the powers of 11 modulo the prime 40,009: pages and groups split.
+/// Every number from 1 to 40,008, by the powers of 11 modulo the prime 40,009: pages and groups
+/// split.
 fn scattered(alloc: Global) -> Result<SortedPages<u32>, AllocError> {
     let mut sorted = SortedPages::new(alloc)?;
     let mut n = 1u32;

@@ -36,8 +36,8 @@ impl<'a, P: Postings> Postings for Tally<'a, P> {
     ghost two_seeks = { λ t a b. P.two_seeks t.list a b };
 }
 
-/// A source whose lists count their moves: those of all series and of pairs in one count, those of live series in
-/// another.
+/// A source whose lists count their moves: those of all series and of pairs in one count, those of
+/// live series in another.
 #[derive(Drop)]
 pub struct Counting<S> {
     source: S,

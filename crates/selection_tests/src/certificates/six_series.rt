@@ -8,8 +8,8 @@ use labels::SeriesRef;
 use postings::{SliceList, Source};
 use std::alloc::{AllocError, Global};
 
-/// A part of six series: 1 up of job a, 2 up of job b, 3 up of job b in zone x, 4 down of job a, 5 down of job b and 6
-/// up of job a in zone x, each with samples at 10 and 20.
+/// A part of six series: 1 up of job a, 2 up of job b, 3 up of job b in zone x, 4 down of job a, 5
+/// down of job b and 6 up of job a in zone x, each with samples at 10 and 20.
 #[derive(Drop)]
 pub struct SixSeries {
     all: [SeriesRef; 6],
