@@ -5,6 +5,7 @@ pub mod SelectorTexts
 pub mod JsonTexts
 pub mod RowTexts
 pub mod Conversions
+pub mod UsualLabels
 pub mod UsualTexts
 pub mod HeadTexts
 pub mod FieldTexts

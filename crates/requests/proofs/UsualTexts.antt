@@ -1,10 +1,6 @@
 -- What the tokens of a usual body give the whole.
-use Rattle.std.proofs.Common.{◌≡◌, ℕ, ℤ, ◌+◌, ◌-◌, ◌<◌, ◌≤◌, List, [], ◌∷◌, ◌++◌, length, true, Option, None, Some, option_map, Ordering, Less, Greater, refl, sym, ap, ◌∙◌, arith, append-nil, append_assoc, codes, IsUtf8, String, Global, string_bytes}
+use Rattle.std.proofs.Common.{◌≡◌, ℕ, ℤ, ◌+◌, ◌-◌, ◌<◌, ◌≤◌, List, [], ◌∷◌, ◌++◌, length, true, Option, None, Some, option_map, refl, sym, ap, ◌∙◌, arith, append-nil, append_assoc, codes, IsUtf8}
 use Rattle.std.specs.Prelude.{option_and_then}
-use Rattle.std.specs.Cmp.Lexicographic.{slice_cmp}
-use Rattle.std.specs.Ordering.{nat_cmp, ordering_reverse}
-use Rattle.std.proofs.lemmas.Cmp.{nat_list_cmp_total}
-use Rattle.std.proofs.lemmas.List.{map-append}
 use Rattle.json.specs.Token.{Token}
 use Rattle.json.specs.Json as json
 use Rattle.json.specs.Json.{parse_map, after_end_array, read_key, items, members, value}
@@ -14,13 +10,13 @@ use Rattle.serde_json.specs.Data.{Num, Data, number, string, array, object, Item
 use Rattle.serde_json.specs.Find.{as_array, as_object, as_i64}
 use Rattle.serde_json.specs.Read.{of_json, of_items, of_members, converted, number_of}
 use Rattle.labels.specs.Contents.{is_time}
-use Rattle.labels.specs.Pairs.{pairs_of}
 use Rattle.requests.specs.Json.{integer_in, json_of}
 use Rattle.requests.specs.Rows.{WrittenRow, pairs_in, sample_in, is_labelled, row_in, rows_in, rows_of}
 use Rattle.requests.specs.Usual.{Comes, pairs_of_object, samples_of_list, rows_of_list}
 use Rattle.requests.proofs.Conversions.{converted_some, converted-array, converted-object, item_read, items_over, member_read, members_over, text_read}
 use Rattle.requests.proofs.JsonTexts.{json_when}
 use Rattle.requests.proofs.RowTexts.{row_when}
+use Rattle.requests.proofs.UsualLabels.{IsBehind}
 
 -- ---- one value
 
@@ -109,7 +105,7 @@ pub items_begin : {A : Type 0} (all : Items → Option (List A)) (deep : ℕ) (w
 items_begin all deep whole = record { turns = length whole; enough = omega arith; same = λ depth le. none_before _ }
 
 module _ (A : Type 0) (one : Data → Option A) (all : Items → Option (List A)) (none : all no_items ≡ Some [])
-  (more : (d : Data) (ds : Items) → all (item d ds) ≡ option_and_then (λ x. option_map (λ xs. x ∷ xs) (all ds)) (one d)) where
+    (more : (d : Data) (ds : Items) → all (item d ds) ≡ option_and_then (λ x. option_map (λ xs. x ∷ xs) (all ds)) (one d)) where
   with_one : (d : Data) (x : A) → one d ≡ Some x → (o : Option (Items × List Token)) → converted all (parse_map (item d) o) ≡ parse_map (λ xs. x ∷ xs) (converted all o)
   with_one d x e None = refl
   with_one d x e (Some p) = rw (more d p.0, e) (one_taken x p.1 (all p.0))
@@ -158,26 +154,6 @@ pairs_in_texts : (ps : List (List ℕ × List ℕ)) → pairs_in (texts ps) ≡ 
 pairs_in_texts [] = refl
 pairs_in_texts (p ∷ ps) = rw (pairs_in_texts ps)
 
--- the name is behind each of the pairs
-abbrev pub IsBehind : List ℕ → List (List ℕ × List ℕ) → Type 0
-IsBehind name [] = Unit {0}
-IsBehind name (p ∷ ps) = (slice_cmp nat_cmp name p.0 ≡ Greater) × IsBehind name ps
-
-behind_more : (name : List ℕ) (ps : List (List ℕ × List ℕ)) (p : List ℕ × List ℕ) → IsBehind name ps → slice_cmp nat_cmp name p.0 ≡ Greater → IsBehind name (ps ++ p ∷ [])
-behind_more name [] p all one = (one, tt)
-behind_more name (q ∷ ps) p all one = (all.0, behind_more name ps p all.1 one)
-
-behind_through : (a b c : List ℕ) → slice_cmp nat_cmp a b ≡ Greater → slice_cmp nat_cmp b c ≡ Greater → slice_cmp nat_cmp a c ≡ Greater
-behind_through a b c h k =
-    let first : slice_cmp nat_cmp b a ≡ Less = nat_list_cmp_total.antisymm b a ∙ ap ordering_reverse h in
-    let second : slice_cmp nat_cmp c b ≡ Less = nat_list_cmp_total.antisymm c b ∙ ap ordering_reverse k in
-    nat_list_cmp_total.antisymm a c ∙ ap ordering_reverse (nat_list_cmp_total.trans c b a second first)
-
--- what is behind the last name is behind all
-pub behind_last : (last : List ℕ) (done : List (List ℕ × List ℕ)) (name text : List ℕ) → ((n : List ℕ) → slice_cmp nat_cmp n last ≡ Greater → IsBehind n done)
-    → slice_cmp nat_cmp name last ≡ Greater → (n : List ℕ) → slice_cmp nat_cmp n name ≡ Greater → IsBehind n (done ++ (name, text) ∷ [])
-behind_last last done name text all one n above = behind_more n done (name, text) (all n (behind_through n name last above one)) above
-
 -- a name that is behind the others goes last
 put_behind : (name text : List ℕ) (ps : List (List ℕ × List ℕ)) → IsBehind name ps → put name (string text) (texts ps) ≡ texts (ps ++ (name, text) ∷ [])
 put_behind name text [] all = refl
@@ -187,10 +163,6 @@ pub record PairsSoFar (whole : List Token) (done : List (List ℕ × List ℕ)) 
   pub turns : ℕ
   pub enough : length rest ≤ turns
   pub same : (depth : ℕ) → converted (λ ms. of_members ms no_members) (members (value depth) (length whole) whole) ≡ converted (λ ms. of_members ms (texts done)) (members (value depth) turns rest)
-
-pub pairs_pushed : (done next : List (String Global × String Global)) (pair : String Global × String Global) (name text : List ℕ) → next ≡ done ++ pair ∷ [] → string_bytes pair.0 ≡ name
-    → string_bytes pair.1 ≡ text → pairs_of next ≡ pairs_of done ++ (name, text) ∷ []
-pairs_pushed done next pair name text e named valued = rw (e, map-append, named, valued)
 
 pub pairs_begin : (whole : List Token) → PairsSoFar whole [] whole
 pairs_begin whole = record { turns = length whole; enough = omega arith; same = λ depth. refl }

@@ -7,19 +7,23 @@ ghost use Rattle.std.specs.Ordering.{nat_cmp};
 ghost use Rattle.std.specs.declared.cmp.Ordering.TheVariants.{Greater};
 ghost use Rattle.std.specs.Cmp.Lexicographic.{slice_cmp};
 ghost use Rattle.json.specs.Token as token;
-ghost use Rattle.labels.specs.Pairs.{pairs_of};
+ghost use Rattle.labels.specs.LabelSets.{has_value};
+ghost use Rattle.labels.specs.Names.{is_name};
+ghost use Rattle.labels.specs.Pairs.{texts_of};
 ghost use Rattle.serde_json.specs.Find.{as_i64};
 ghost use Rattle.serde_json.specs.Read.{number_from, number_of};
 ghost use Rattle.requests.specs.Json.{integer_in};
 ghost use Rattle.requests.specs.Rows.{WrittenRow, AreRowsOf, IsRowOf, row_in, rows_of, sample_in};
-ghost use Rattle.requests.specs.Usual.{Comes, pairs_of_object, rows_of_list, samples_of_list};
+ghost use Rattle.requests.specs.Usual.{AreLabels, Comes, pairs_of_object, rows_of_list, samples_of_list};
 
-use crate::write::label_set;
 use fast_float::Numeral;
 use json::{Invalid, Reader, Scratch, Token};
-use labels::{Row, Sample, is_time};
+use labels::{LabelSet, Row, Sample, is_name, is_time};
 use std::alloc::{AllocError, AllocFailed, Global};
 use std::cmp::Ordering;
+
+// The most labels of a label set.
+const MAX_LABELS: usize = 64;
 
 // Why no rows were read.
 #[derive(Clone, Copy, Debug, PartialEq, Eq, Drop)]
@@ -180,26 +184,29 @@ fn samples(alloc: Global, reader: &mut Reader<'_>) -> Result<Vec<Sample>, Stop>
     Ok(samples)
 }
 
-// Whether a name is behind another in the order of bytes.
-fn is_behind(name: &str, last: &str) -> bool
-    ensures { result ≡ true → slice_cmp nat_cmp name.now last.now ≡ Greater }
+// Whether a pair may stand in a label set behind the pair of the name `last`.
+fn may_follow(last: &str, name: &str, value: &str) -> bool
+    ensures behind { IsTrue result → slice_cmp nat_cmp name.now last.now ≡ Greater }
+    ensures named { IsTrue result → is_name name.now ≡ true }
+    ensures valued { IsTrue result → has_value (name.now, value.now) ≡ true }
 {
-    name.cmp(last) == Ordering::Greater
+    name.cmp(last) == Ordering::Greater && is_name(name) && !value.is_empty()
 }
 
-fn pairs(alloc: Global, reader: &mut Reader<'_>) -> Result<Vec<(String, String)>, Stop>
-    ensures { IfOk result (λ v. Comes pairs_of_object 1 reader.old (pairs_of v.items) reader.new) }
+fn pairs<'t>(alloc: Global, reader: &mut Reader<'t>) -> Result<Vec<(&'t str, &'t str)>, Stop>
+    ensures comes { IfOk result
+        (λ v. Comes pairs_of_object 1 reader.old (texts_of v.items) reader.new) }
+    ensures labels { IfOk result (λ v. AreLabels (texts_of v.items)) }
 {
     begin_object(reader)?;
     let mut pairs = Vec::new(alloc);
     let mut last = "";
     'pairs: while let Some(name) = reader.next_key()? {
-        if !is_behind(name, last) {
+        let value = text(reader)?;
+        if pairs.len() == MAX_LABELS || !may_follow(last, name, value) {
             return Err(Stop::Unusual);
         }
-        let value = text(reader)?;
-        let name_copy = String::from_str(alloc, name)?;
-        pairs.push((name_copy, String::from_str(alloc, value)?))?;
+        pairs.push((name, value))?;
         last = name;
     }
     Ok(pairs)
@@ -215,10 +222,8 @@ fn row(alloc: Global, reader: &mut Reader<'_>) -> Result<Row, Stop>
     key(reader, "samples")?;
     let samples = samples(alloc, reader)?;
     end_object(reader)?;
-    match label_set(alloc, pairs)? {
-        Some(labels) => Ok(Row::new(labels, samples)),
-        None => Err(Stop::Unusual),
-    }
+    let labels = LabelSet::of_sorted_texts(alloc, pairs.as_slice())?;
+    Ok(Row::new(labels, samples))
 }
 
 fn rows(alloc: Global, reader: &mut Reader<'_>) -> Result<Vec<Row>, Stop>

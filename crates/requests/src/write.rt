@@ -111,11 +111,8 @@ fn samples_at(alloc: Global, value: &Value) -> Result<Option<Vec<Sample>>, Alloc
     }
 }
 
-/// The label set of these pairs, if they make one.
-pub fn label_set(
-    alloc: Global,
-    pairs: Vec<(String, String)>,
-) -> Result<Option<LabelSet>, AllocError>
+// The label set of these pairs, if they make one.
+fn label_set(alloc: Global, pairs: Vec<(String, String)>) -> Result<Option<LabelSet>, AllocError>
     ensures { IfOk result (λ o. MatchOption o (is_labelled (pairs_of pairs.items) ≡ false)
         (λ labels. (is_labelled (pairs_of pairs.items) ≡ true)
         × IsMadeOf labels (pairs_of pairs.items))) }
