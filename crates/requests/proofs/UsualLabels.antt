@@ -1,6 +1,5 @@
 -- Pairs in the order of their names are a label set as they stand.
-use Rattle.std.proofs.Common.{◌≡◌, ℕ, ◌+◌, ◌<◌, ◌≤◌, List, [], ◌∷◌, ◌++◌, length, get_or, zero, suc, true, false, not, Ordering, Less, Greater, Bor, inl, inr, refl, sym, ap, ◌∙◌, subst, arith, length-append}
-use Rattle.std.specs.List.{list_all, filter}
+use Rattle.std.proofs.Common.{◌≡◌, ℕ, ◌+◌, ◌<◌, ◌≤◌, List, [], ◌∷◌, ◌++◌, length, get_or, zero, suc, true, Less, Greater, Bor, inl, inr, refl, sym, ap, ◌∙◌, arith, length-append}
 use Rattle.std.specs.Cmp.Lexicographic.{slice_cmp}
 use Rattle.std.specs.Ordering.{nat_cmp, ordering_reverse}
 use Rattle.std.proofs.lemmas.Bool.{cases_lt}
@@ -11,7 +10,7 @@ use Rattle.std.proofs.lemmas.List.Elements.{filter-append}
 use Rattle.std.proofs.lemmas.List.Folds.{list_all-append}
 use Rattle.std.proofs.lemmas.List.Sorted.{IsPermutation-refl}
 use Rattle.labels.specs.Labels.{IsByName}
-use Rattle.labels.specs.LabelSets.{are_named, has_value, with_values, refusal_of}
+use Rattle.labels.specs.LabelSets.{are_named, has_value, with_values}
 use Rattle.labels.specs.Names.{is_name}
 use Rattle.labels.specs.Pairs.{texts_of}
 use Rattle.labels.proofs.NamedPairs.{IsMadeOf-with_values, repeats-by_name}

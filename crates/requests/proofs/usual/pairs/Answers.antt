@@ -1,4 +1,4 @@
-use Rattle.std.proofs.Common.{◌≡◌, ◌<◌, None, Some, Greater, true, length, map, sym, subst, arith, rules}
+use Rattle.std.proofs.Common.{◌≡◌, ◌<◌, None, Some, Greater, true, length, sym, subst, arith, rules}
 use denote.Text.{Utf8}
 use denote.Shadow.{shadow}
 use Rattle.std.specs.Cmp.Lexicographic.{slice_cmp}
@@ -26,9 +26,9 @@ pairs-preserved c =
     let grown = texts_pushed c.pairs.pairs.items c.push.new.self.items (c.in-Some.name, c.in_ok-value.value) c.in_ok-push.ensures.items in (
       utf8,
       subst (λ ps. PairsSoFar c.begin_object.new.reader ps c.text.new.reader) (sym grown)
-      (pairs_turn c.begin_object.new.reader c.pairs.reader c.next_key.new.self c.text.new.reader done name value so_far.1 key c.in_ok-value.ensures (so_far.2.behind name above)),
+          (pairs_turn c.begin_object.new.reader c.pairs.reader c.next_key.new.self c.text.new.reader done name value so_far.1 key c.in_ok-value.ensures (so_far.2.behind name above)),
       subst (LabelsSoFar name) (sym grown)
-      (one_label_more c.pairs.last.now done (name, value) so_far.2 above named valued (omega (arith, room, length_texts c.pairs.pairs.items))),
+          (one_label_more c.pairs.last.now done (name, value) so_far.2 above named valued (omega (arith, room, length_texts c.pairs.pairs.items))),
     )
 
 pub returns : goal.returns
