@@ -10,7 +10,7 @@ use Rattle.requests.specs.declared.request.ReadError.TheVariants.{Closed, Fault,
 use Rattle.requests.specs.declared.target.Path.{Path}
 use Rattle.requests.specs.declared.target.Path.TheVariants as to_path
 use Rattle.requests.specs.Ending.{IsOfBytes, EndsReading}
-use Rattle.requests.specs.Fields.{is_decimal, allowed, length_in, length_alone, length_told, length_asked, field_values, has_field}
+use Rattle.requests.specs.Fields.{is_decimal, allowed, length_alone, length_told, length_asked, field_values, has_field}
 use Rattle.requests.specs.QueryStrings.{only}
 use Rattle.requests.specs.Requests.{Meaning, Told}
 use Rattle.requests.specs.Selecting.{SelectMeans}

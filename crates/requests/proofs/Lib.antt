@@ -4,6 +4,9 @@ pub mod Found
 pub mod SelectorTexts
 pub mod JsonTexts
 pub mod RowTexts
+pub mod Conversions
+pub mod UsualLabels
+pub mod UsualTexts
 pub mod HeadTexts
 pub mod FieldTexts
 pub mod ReadTexts

@@ -23,7 +23,7 @@ pub row_when : (d : Data) (pairs : List (List ℕ × List ℕ)) (samples : List 
     → is_labelled pairs ≡ true → Some samples ≡ samples_at d → row_in d ≡ Some (pairs, samples)
 row_when d pairs samples two labels labelled e = rw (two, ← labels, labelled, ← e)
 
-zip_more : (written : List WrittenRow) (rows : List Row) (one : WrittenRow) (row : Row) → AreRowsOf written rows → IsRowOf one row
+pub zip_more : (written : List WrittenRow) (rows : List Row) (one : WrittenRow) (row : Row) → AreRowsOf written rows → IsRowOf one row
     → AreRowsOf (written ++ one ∷ []) (rows ++ row ∷ [])
 zip_more [] [] one row p q = (q, tt)
 zip_more [] (y ∷ ys) one row p q = absurd p

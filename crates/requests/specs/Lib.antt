@@ -10,6 +10,7 @@ pub mod Selecting
 pub mod Json
 pub mod Changes
 pub mod Rows
+pub mod Usual
 pub mod Writing
 pub mod Edge
 pub mod Heads

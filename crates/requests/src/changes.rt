@@ -5,8 +5,8 @@ ghost use Rattle.serde_json.specs.View.{view};
 ghost use Rattle.requests.specs.Changes.{cut_in, cut_of, deletion_in, CutMeans, DeleteMeans};
 ghost use Rattle.requests.specs.Requests.{Told};
 
-use crate::json::{has_members, json_of, text_at, time_at};
 use crate::select::matchers_of;
+use crate::values::{has_members, json_of, text_at, time_at};
 use crate::{ReadError, Refusal, Request};
 use serde_json::Value;
 use std::alloc::{AllocError, Global};

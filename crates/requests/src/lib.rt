@@ -38,7 +38,6 @@ mod changes;
 mod edge;
 mod fields;
 mod head;
-mod json;
 mod read;
 mod refusal;
 mod reply;
@@ -47,6 +46,8 @@ mod select;
 mod status;
 mod target;
 mod times;
+mod usual;
+mod values;
 mod write;
 
 pub use edge::{Fault, Inlet};

@@ -9,7 +9,8 @@ ghost use Rattle.requests.specs.Rows.{pairs_in, labels_at, time_item, integer_it
 ghost use Rattle.requests.specs.Writing.{WriteMeans};
 ghost use Rattle.requests.specs.Requests.{Told};
 
-use crate::json::{has_members, json_of};
+use crate::usual::usual_rows;
+use crate::values::{has_members, json_of};
 use crate::{MAX_SAMPLES, ReadError, Refusal, Request};
 use labels::{LabelError, LabelSet, Row, Sample, is_time};
 use serde_json::{Map, Value};
@@ -161,7 +162,8 @@ fn rows_in(alloc: Global, items: &[Value]) -> Result<Option<Vec<Row>>, AllocErro
     Ok(Some(rows))
 }
 
-fn rows_of(alloc: Global, body: &[u8]) -> Result<Option<Vec<Row>>, AllocError>
+// The rows by way of a tree of JSON values.
+fn rows_by_tree(alloc: Global, body: &[u8]) -> Result<Option<Vec<Row>>, AllocError>
     ensures { IfOk result (λ o. MatchOption o (rows_of body.now ≡ None)
         (λ rows. (written : List WrittenRow) × (rows_of body.now ≡ Some written)
         × AreRowsOf written rows.items)) }
@@ -172,6 +174,17 @@ fn rows_of(alloc: Global, body: &[u8]) -> Result<Option<Vec<Row>>, AllocError>
     match value.as_array() {
         Some(items) => rows_in(alloc, items.as_slice()),
         None => Ok(None),
+    }
+}
+
+fn rows_of(alloc: Global, body: &[u8]) -> Result<Option<Vec<Row>>, AllocError>
+    ensures { IfOk result (λ o. MatchOption o (rows_of body.now ≡ None)
+        (λ rows. (written : List WrittenRow) × (rows_of body.now ≡ Some written)
+        × AreRowsOf written rows.items)) }
+{
+    match usual_rows(alloc, body)? {
+        Some(rows) => Ok(Some(rows)),
+        None => rows_by_tree(alloc, body),
     }
 }
 

@@ -1,6 +1,6 @@
 use Rattle.std.proofs.Common.{sym, ◌∙◌, true≢false}
 use Rattle.requests.proofs.JsonTexts.{json_when, json_unless}
-use Rattle.requests.proofs.json.json_of.Goals as goal
+use Rattle.requests.proofs.values.json_of.Goals as goal
 
 pub returns-in-Ok : goal.returns-in-Ok
 returns-in-Ok c = json_when _ _ c.in-Ok.ensures.ok.0 c.in-Ok.ensures.ok.1

@@ -1,0 +1,32 @@
+-- What the tokens of a body write, one value at a time, where it is written as usual.
+use Rattle.std.specs.Prelude.{◌≡◌, ◌≤◌, ℕ, ℤ, true, List, Option, Some, option_and_then}
+use Rattle.json.specs.Token.{Token}
+use Rattle.json.specs.Json.{value}
+use Rattle.serde_json.specs.Data.{Data}
+use Rattle.serde_json.specs.Find.{as_array, as_object}
+use Rattle.serde_json.specs.Read.{of_json, converted}
+use Rattle.labels.specs.LabelSets.{IsMadeOf}
+use Rattle.requests.specs.Rows.{WrittenRow, is_labelled, pairs_in, samples_in, rows_in}
+
+-- Where values may nest so deep, or deeper, the grammar takes a value from the front of the tokens
+-- `old`, this is what it means, and the tokens `new` follow it.
+abbrev pub Comes : {A : Type 0} → (Data → Option A) → ℕ → List Token → A → List Token → Type 0
+Comes meaning deep old a new =
+    (depth : ℕ) → deep ≤ depth
+    → converted meaning (converted of_json (value depth old)) ≡ Some (a, new)
+
+-- the pairs of an object whose members are texts
+abbrev pub pairs_of_object : Data → Option (List (List ℕ × List ℕ))
+pairs_of_object d = option_and_then pairs_in (as_object d)
+
+-- pairs that are a label set as they stand
+abbrev pub AreLabels : List (List ℕ × List ℕ) → Type 0
+AreLabels pairs = (is_labelled pairs ≡ true) × IsMadeOf pairs pairs
+
+-- the samples of a list of samples
+abbrev pub samples_of_list : Data → Option (List (ℤ × ℤ))
+samples_of_list d = option_and_then samples_in (as_array d)
+
+-- the rows of a list of rows
+abbrev pub rows_of_list : Data → Option (List WrittenRow)
+rows_of_list d = option_and_then rows_in (as_array d)
