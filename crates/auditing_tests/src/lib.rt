@@ -1,5 +1,5 @@
-//! Tests of the auditor, from outside: what it says of walks, answers, replies and merged rows, and
-//! an audit of each answer of a store while many threads change it.
+//! Tests of the auditor, from outside: what it says of walks, answers, replies and merged rows, how
+//! its program's runs end, and an audit of each answer of a store while many threads change it.
 //!
 //! They stand in a crate of their own, so that the gate proves the auditor once and not a second
 //! time with its tests.
@@ -12,10 +12,14 @@ mod damage;
 #[cfg(test)]
 mod flaws;
 #[cfg(test)]
+mod host;
+#[cfg(test)]
 mod many;
 #[cfg(test)]
 mod refused_memory;
 #[cfg(test)]
 mod replies;
+#[cfg(test)]
+mod runs;
 #[cfg(test)]
 mod worked_block;

@@ -76,7 +76,11 @@ const IN_ORDER: &[Row] = &[
 ];
 
 fn length_of(pieces: Pieces) -> usize {
-    pieces.iter().fold(0, |length: usize, piece| length.saturating_add(piece.len()))
+    let mut length: usize = 0;
+    for piece in pieces {
+        length = length.saturating_add(piece.len());
+    }
+    length
 }
 
 #[test]

@@ -6,10 +6,10 @@ mod refusals;
 
 use crate::rows::{
     AFTER_BOTH, AFTER_BOTH_TURNED, FIRST, SECOND, after, after_both, counted, empty, holds,
-    put_labels, samples_in, shown, six_series, with_samples,
+    is_text, put_labels, samples_in, shown, six_series, with_samples,
 };
 use head::{HeadView, PartName, Snapshot};
-use labels::SeriesRef;
+use labels::{Sample, SeriesRef};
 use postings::{Postings, Source};
 use std::alloc::{AllocError, Global};
 
@@ -35,27 +35,32 @@ fn labels_of(alloc: Global, head: &HeadView, number: u32) -> Result<String, Allo
 }
 
 fn has_series(alloc: Global, snapshot: &Snapshot, row: &(u32, &str, &str)) -> bool {
-    labels_of(alloc, snapshot.head(), row.0).is_ok_and(|labels| labels.as_str() == row.1)
-        && holds(alloc, snapshot, row.0, row.2)
+    is_text(labels_of(alloc, snapshot.head(), row.0), row.1) && holds(alloc, snapshot, row.0, row.2)
 }
 
 /// The samples of the series 1 in a closed range.
 const RANGES: &[(i64, i64, &str)] = &[(10, 10, " 10:1"), (11, 20, " 20:1"), (11, 19, "")];
 
 fn has_in_range(alloc: Global, snapshot: &Snapshot, row: &(i64, i64, &str)) -> bool {
-    let found = samples_in(alloc, snapshot.head(), 1, (row.0, row.1));
-    found.is_ok_and(|found| found.as_str() == row.2)
+    is_text(samples_in(alloc, snapshot.head(), 1, (row.0, row.1)), row.2)
 }
 
 #[test]
 fn series_are_numbered_in_order_of_creation(rt: HostRuntime) {
     let alloc = rt.alloc();
     let six = six_series(alloc).expect(&rt, "both batches are accepted");
-    let other = SERIES.iter().find(|row| !has_series(alloc, &six, row));
-    assert_eq!(rt; other, None);
-    assert!(rt; shown(alloc, &six).is_ok_and(|all| all.as_str() == AFTER_BOTH));
-    let other = RANGES.iter().find(|row| !has_in_range(alloc, &six, row));
-    assert_eq!(rt; other, None);
+    for row in SERIES {
+        assert!(rt; has_series(alloc, &six, row), "series {}", row.0);
+    }
+    assert!(rt; is_text(shown(alloc, &six), AFTER_BOTH));
+    for row in RANGES {
+        assert!(rt;
+            has_in_range(alloc, &six, row),
+            "from {} to {}",
+            row.0,
+            row.1
+        );
+    }
 }
 
 fn put_references<P: Postings + Drop>(text: &mut String, mut list: P) -> Result<(), AllocError> {
@@ -87,7 +92,7 @@ const LISTS: &[(&str, &str, &str)] = &[
 
 fn has_list(alloc: Global, head: &HeadView, row: &(&str, &str, &str)) -> bool {
     match head.list(row.0, row.1) {
-        Some(list) => references(alloc, list).is_ok_and(|found| found.as_str() == row.2),
+        Some(list) => is_text(references(alloc, list), row.2),
         None => row.2.is_empty(),
     }
 }
@@ -110,21 +115,20 @@ fn values_of(alloc: Global, head: &HeadView, name: &str) -> Result<String, Alloc
 }
 
 fn has_values(alloc: Global, head: &HeadView, row: &(&str, &str)) -> bool {
-    values_of(alloc, head, row.0).is_ok_and(|found| found.as_str() == row.1)
+    is_text(values_of(alloc, head, row.0), row.1)
 }
 
 #[test]
 fn a_head_lends_the_lists_of_its_pairs(rt: HostRuntime) {
     let alloc = rt.alloc();
     let six = six_series(alloc).expect(&rt, "both batches are accepted");
-    let all = references(alloc, six.head().all());
-    assert!(rt; all.is_ok_and(|all| all.as_str() == " 1 2 3 4 5 6"));
-    let other = LISTS.iter().find(|row| !has_list(alloc, six.head(), row));
-    assert_eq!(rt; other, None);
-    let other = VALUES
-        .iter()
-        .find(|row| !has_values(alloc, six.head(), row));
-    assert_eq!(rt; other, None);
+    assert!(rt; is_text(references(alloc, six.head().all()), " 1 2 3 4 5 6"));
+    for row in LISTS {
+        assert!(rt; has_list(alloc, six.head(), row), "{}={}", row.0, row.1);
+    }
+    for row in VALUES {
+        assert!(rt; has_values(alloc, six.head(), row), "{}", row.0);
+    }
 }
 
 /// The references of the series that have a sample in a closed range.
@@ -149,18 +153,19 @@ fn of_two_times(alloc: Global) -> Option<Snapshot> {
 fn live_series_have_a_sample_in_range(rt: HostRuntime) {
     let alloc = rt.alloc();
     let more = of_two_times(alloc).expect(&rt, "the batch is accepted");
-    let other = LIVE.iter().find(|row| {
-        !live(alloc, more.head(), row.0, row.1).is_ok_and(|found| found.as_str() == row.2)
-    });
-    assert_eq!(rt; other, None);
+    for (from, to, want) in LIVE {
+        assert!(rt;
+            is_text(live(alloc, more.head(), *from, *to), want),
+            "from {from} to {to}"
+        );
+    }
 }
 
 #[test]
 fn the_order_of_batches_is_that_of_references(rt: HostRuntime) {
     let alloc = rt.alloc();
     let turned = after_both(alloc, SECOND, FIRST).expect(&rt, "both batches are accepted");
-    let found = shown(alloc, &turned);
-    assert!(rt; found.is_ok_and(|found| found.as_str() == AFTER_BOTH_TURNED));
+    assert!(rt; is_text(shown(alloc, &turned), AFTER_BOTH_TURNED));
 }
 
 /// The six series, after a batch that repeats the newest sample of one.
@@ -177,12 +182,27 @@ fn a_repeat_of_the_newest_sample_changes_nothing(rt: HostRuntime) {
     assert_eq!(rt; again.head().copied(), 0);
 }
 
+/// Whether these are samples at the times from 0, so many of them.
+fn are_counted(samples: &[Sample], count: i64) -> bool {
+    let mut next = 0;
+    for sample in samples {
+        if sample.t() != next {
+            return false;
+        }
+        next = next.saturating_add(1);
+    }
+    next == count
+}
+
 /// Whether the samples of the series 1 are at the times from 0, so many of them.
 fn counts_up(alloc: Global, snapshot: &Snapshot, count: i64) -> bool {
-    let found = snapshot
+    match snapshot
         .head()
-        .samples_of(alloc, SeriesRef::new(1), 0, count);
-    found.is_ok_and(|found| found.iter().map(|sample| sample.t()).eq(0..count))
+        .samples_of(alloc, SeriesRef::new(1), 0, count)
+    {
+        Ok(found) => are_counted(&found, count),
+        Err(_) => false,
+    }
 }
 
 /// How many samples the next commit to so many copies, and what the series then ends with.
@@ -207,10 +227,9 @@ fn is_sealed(alloc: Global, row: &(i64, u64, &str)) -> Option<bool> {
 
 #[test]
 fn chunks_are_sealed_at_120_samples(rt: HostRuntime) {
-    let other = SEALED
-        .iter()
-        .find(|row| is_sealed(rt.alloc(), row) != Some(true));
-    assert_eq!(rt; other, None);
+    for row in SEALED {
+        assert!(rt; is_sealed(rt.alloc(), row) == Some(true), "after {}", row.0);
+    }
 }
 
 /// A snapshot with 1,000 samples of the series 1, and then as many of the series 2.
@@ -221,10 +240,13 @@ fn of_two_thousand(alloc: Global) -> Option<Snapshot> {
 }
 
 fn count_of_second(alloc: Global, snapshot: &Snapshot) -> Option<usize> {
-    let found = snapshot
+    match snapshot
         .head()
-        .samples_of(alloc, SeriesRef::new(2), 0, 3_000);
-    found.ok().map(|found| found.len())
+        .samples_of(alloc, SeriesRef::new(2), 0, 3_000)
+    {
+        Ok(found) => Some(found.len()),
+        Err(_) => None,
+    }
 }
 
 #[test]
@@ -239,12 +261,18 @@ fn a_commit_copies_open_chunks_alone(rt: HostRuntime) {
     assert_eq!(rt; count_of_second(alloc, &three), Some(1_001));
 }
 
+fn has_head_alone(alloc: Global, snapshot: &Snapshot) -> bool {
+    match snapshot.parts(alloc) {
+        Ok(parts) => matches!(parts.as_slice(), [PartName::Head]),
+        Err(_) => false,
+    }
+}
+
 #[test]
 fn an_opening_has_an_empty_head(rt: HostRuntime) {
     let alloc = rt.alloc();
     let snapshot = empty(alloc).ok().expect(&rt, "it opens");
-    let parts = snapshot.parts(alloc);
-    assert!(rt; parts.is_ok_and(|parts| parts.as_slice() == [PartName::Head].as_slice()));
+    assert!(rt; has_head_alone(alloc, &snapshot));
     assert!(rt; snapshot.block(0).is_none());
     assert_eq!(rt; snapshot.head().copied(), 0);
     assert!(rt; snapshot.head().labels_of(SeriesRef::new(1)).is_none());

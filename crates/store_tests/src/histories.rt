@@ -2,7 +2,7 @@
 
 mod steps;
 
-use self::steps::ROWS;
+use self::steps::{ROWS, Row as Steps};
 use crate::rows::{empty, job_a, put_samples, set_of};
 use head::{AppendError, Event};
 use history::{Reply, Step, run};
@@ -107,14 +107,19 @@ fn told_after(alloc: Global, before: &[(usize, Act)], acts: &[(usize, Act)]) -> 
     text_of(alloc, later).ok()
 }
 
+fn are_replied_to(alloc: Global, row: &Steps) -> bool {
+    match told_after(alloc, row.0, row.1) {
+        Some(text) => text.as_str() == row.2,
+        None => false,
+    }
+}
+
 #[test]
 fn steps_of_several_actors_are_replied_to_in_their_order(rt: HostRuntime) {
     let alloc = rt.alloc();
-    let other = ROWS.iter().find(|row| {
-        let text = told_after(alloc, row.0, row.1);
-        !text.is_some_and(|text| text.as_str() == row.2)
-    });
-    assert_eq!(rt; other.map(|row| row.2), None);
+    for row in ROWS {
+        assert!(rt; are_replied_to(alloc, row), "{}", row.2);
+    }
 }
 
 /// The steps of an actor who adds so many samples of one series.

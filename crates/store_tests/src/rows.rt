@@ -97,6 +97,29 @@ pub fn after(alloc: Global, at: &Snapshot, wanted: &[Wanted]) -> Result<Snapshot
     }
 }
 
+/// Whether a sample more is refused so.
+pub fn refuses(alloc: Global, at: &Snapshot, sample: Wanted, refusal: CommitError) -> bool {
+    is_refused(after(alloc, at, &[sample]), refusal)
+}
+
+/// Whether an event was refused so.
+pub fn is_refused(made: Result<Snapshot, CommitError>, refusal: CommitError) -> bool {
+    match made {
+        Ok(_) => false,
+        Err(other) => other == refusal,
+    }
+}
+
+/// Whether the blocks have so many samples each, and no block is left.
+pub fn counts(at: &Snapshot, want: &[u64]) -> bool {
+    for (block, count) in at.blocks().iter().zip(want) {
+        if block.sample_count() != *count {
+            return false;
+        }
+    }
+    at.blocks().len() == want.len()
+}
+
 /// A store without blocks and series.
 pub fn empty(alloc: Global) -> Result<Snapshot, AllocError> {
     Snapshot::opening(alloc, Vec::new(alloc))
@@ -184,14 +207,26 @@ pub fn samples_in(
     Ok(text)
 }
 
+/// Whether this text was made.
+pub fn is_text(made: Result<String, AllocError>, want: &str) -> bool {
+    match made {
+        Ok(text) => text.as_str() == want,
+        Err(_) => false,
+    }
+}
+
 /// Whether these are the samples of the series from 0 to 100,000.
 pub fn holds(alloc: Global, snapshot: &Snapshot, number: u32, want: &str) -> bool {
-    let found = samples_in(alloc, snapshot.head(), number, (0, 100_000));
-    found.is_ok_and(|found| found.as_str() == want)
+    is_text(
+        samples_in(alloc, snapshot.head(), number, (0, 100_000)),
+        want,
+    )
 }
 
 /// The same, or that there is no memory to look.
 pub fn holds_if_seen(alloc: Global, snapshot: &Snapshot, number: u32, want: &str) -> bool {
-    let found = samples_in(alloc, snapshot.head(), number, (0, 100_000));
-    found.map_or(true, |found| found.as_str() == want)
+    match samples_in(alloc, snapshot.head(), number, (0, 100_000)) {
+        Ok(found) => found.as_str() == want,
+        Err(_) => true,
+    }
 }

@@ -5,7 +5,7 @@ ghost use Rattle.head.specs.Blocks.{opening_of};
 
 mod threads;
 
-use crate::rows::{AFTER_BOTH, AFTER_FIRST, FIRST, SECOND, Wanted, set_of, shown};
+use crate::rows::{AFTER_BOTH, AFTER_FIRST, FIRST, SECOND, Wanted, is_text, set_of, shown};
 use head::AppendError;
 use labels::{LabelSet, MAX_TIME, MIN_TIME, Sample};
 use snapshots::{
@@ -116,10 +116,18 @@ fn seen_by_a_pass<J: Naming, R: Wait + Abort>(
     look_after_both(rt, alloc, &mut store)
 }
 
+/// Whether so many events and this text were seen.
+fn are_seen(seen: Option<(u64, String)>, events: u64, want: &str) -> bool {
+    match seen {
+        Some((count, text)) => count == events && text.as_str() == want,
+        None => false,
+    }
+}
+
 #[test]
 fn a_pass_sees_what_two_seats_committed(rt: HostRuntime) {
     let seen = seen_by_a_pass::<Brand, _>(&rt, rt.alloc(), Store::new());
-    assert!(rt; seen.is_some_and(|(events, text)| events == 2 && text.as_str() == AFTER_BOTH));
+    assert!(rt; are_seen(seen, 2, AFTER_BOTH));
 }
 
 fn commit<J: Naming, R: Wait + Drop>(
@@ -152,7 +160,9 @@ fn look_twice<J: Naming, R: Wait + Drop>(
     store: &mut EmptyStore<J, R>,
 ) -> Option<(String, u64, String)> {
     let before = store.passes.0.snapshot().ok()?;
-    commit_after_learning(rt, alloc, store).filter(|events| *events == 2)?;
+    if commit_after_learning(rt, alloc, store)? != 2 {
+        return None;
+    }
     let (events, text) = look(alloc, &mut store.passes.1)?;
     Some((shown(alloc, &before).ok()?, events, text))
 }
@@ -206,7 +216,7 @@ fn refused<J: Naming, R: Wait + Abort>(rt: &R, alloc: Global, store: Store) -> O
 #[test]
 fn a_refused_batch_changes_nothing(rt: HostRuntime) {
     let seen = refused::<Brand, _>(&rt, rt.alloc(), Store::new());
-    assert!(rt; seen.is_some_and(|(events, text)| events == 1 && text.as_str() == AFTER_FIRST));
+    assert!(rt; are_seen(seen, 1, AFTER_FIRST));
 }
 
 /// The code of what is answered to a sample of this label set, which a refusal gives back.
@@ -241,7 +251,7 @@ fn an_appender_holds_4096_samples_at_times(rt: HostRuntime) {
 
 /// Whether an error is told by this text.
 fn is_told(alloc: Global, error: &impl Display, text: &str) -> bool {
-    format!(in alloc; "{error}").is_ok_and(|told| told.as_str() == text)
+    is_text(format!(in alloc; "{error}"), text)
 }
 
 #[test]

@@ -1,6 +1,6 @@
 //! Cuts.
 
-use crate::rows::{Wanted, after, empty, holds, six_series};
+use crate::rows::{after, counts, empty, holds, is_refused, is_text, refuses, shown, six_series};
 use head::{CommitError, Event, Snapshot, apply};
 use labels::is_time;
 use std::alloc::Global;
@@ -18,16 +18,8 @@ fn six_cut(alloc: Global, time: i64) -> Option<Snapshot> {
     cut(alloc, &six, time).ok()
 }
 
-/// Whether the blocks have so many samples each, and no block is left.
-fn counts(at: &Snapshot, want: &[u64]) -> bool {
-    at.blocks()
-        .iter()
-        .map(|b| b.sample_count())
-        .eq(want.iter().copied())
-}
-
-fn refusal_after(alloc: Global, at: &Snapshot, sample: Wanted) -> Option<CommitError> {
-    after(alloc, at, &[sample]).err()
+fn refuses_cut(alloc: Global, at: &Snapshot, time: i64, refusal: CommitError) -> bool {
+    is_refused(cut(alloc, at, time), refusal)
 }
 
 #[test]
@@ -38,11 +30,9 @@ fn a_cut_leaves_the_samples_from_its_time_on(rt: HostRuntime) {
     assert!(rt; counts(&now, &[6]));
     assert!(rt; holds(alloc, &now, 1, " 20:1"));
     assert!(rt; holds(alloc, &now, 6, " 20:6"));
-    let refusal = refusal_after(alloc, &now, (1, 20, 9));
-    assert_eq!(rt; refusal, Some(CommitError::Duplicate { at: 0 }));
+    assert!(rt; refuses(alloc, &now, (1, 20, 9), CommitError::Duplicate { at: 0 }));
     // A new series begins above the floor.
-    let refusal = refusal_after(alloc, &now, (7, 15, 1));
-    assert_eq!(rt; refusal, Some(CommitError::OutOfBounds { at: 0 }));
+    assert!(rt; refuses(alloc, &now, (7, 15, 1), CommitError::OutOfBounds { at: 0 }));
 }
 
 #[test]
@@ -50,10 +40,9 @@ fn a_cut_above_all_samples_leaves_no_series(rt: HostRuntime) {
     let alloc = rt.alloc();
     let now = six_cut(alloc, 21).expect(&rt, "the cut is accepted");
     assert!(rt; counts(&now, &[12]));
-    assert!(rt; now.head().list_all(alloc).is_ok_and(|all| all.is_empty()));
-    let refusal = refusal_after(alloc, &now, (1, 20, 1));
-    assert_eq!(rt; refusal, Some(CommitError::OutOfBounds { at: 0 }));
-    assert_eq!(rt; cut(alloc, &now, 21).err(), Some(CommitError::CutTooLow));
+    assert!(rt; is_text(shown(alloc, &now), ""));
+    assert!(rt; refuses(alloc, &now, (1, 20, 1), CommitError::OutOfBounds { at: 0 }));
+    assert!(rt; refuses_cut(alloc, &now, 21, CommitError::CutTooLow));
 }
 
 /// The snapshot after a sample at a time and a cut right above it.
@@ -75,11 +64,8 @@ fn full(alloc: Global) -> Option<Snapshot> {
 fn a_64th_block_is_refused(rt: HostRuntime) {
     let alloc = rt.alloc();
     let last = full(alloc).expect(&rt, "63 cuts are accepted");
-    assert_eq!(rt;
-        cut(alloc, &last, 65).err(),
-        Some(CommitError::TooManyParts)
-    );
-    assert_eq!(rt; cut(alloc, &last, 64).err(), Some(CommitError::CutTooLow));
+    assert!(rt; refuses_cut(alloc, &last, 65, CommitError::TooManyParts));
+    assert!(rt; refuses_cut(alloc, &last, 64, CommitError::CutTooLow));
     assert!(rt; counts(&last, &[1; 63]));
     assert!(rt; holds(alloc, &last, 1, " 64:64"));
 }

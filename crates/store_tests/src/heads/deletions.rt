@@ -1,6 +1,6 @@
 //! Deletions, in the head and in blocks.
 
-use crate::rows::{Wanted, after, holds, holds_if_seen, job_a, six_series};
+use crate::rows::{Wanted, after, counts, holds, holds_if_seen, job_a, six_series};
 use block::{Block, Range};
 use head::{CommitError, Event, Snapshot, apply};
 use std::alloc::Global;
@@ -21,7 +21,10 @@ const DELETED: &[(u32, &str)] = &[(1, ""), (2, " 10:2 20:2"), (4, ""), (6, "")];
 
 /// Whether the series 1 has these samples after one more at a time.
 fn then_holds(alloc: Global, at: &Snapshot, sample: Wanted, want: &str) -> bool {
-    after(alloc, at, &[sample]).is_ok_and(|later| holds(alloc, &later, 1, want))
+    match after(alloc, at, &[sample]) {
+        Ok(later) => holds(alloc, &later, 1, want),
+        Err(_) => false,
+    }
 }
 
 /// The six series without the samples of job `a`.
@@ -34,10 +37,9 @@ fn six_without_a(alloc: Global) -> Option<Snapshot> {
 fn a_deletion_takes_what_stands_now_and_leaves_the_newest_time(rt: HostRuntime) {
     let alloc = rt.alloc();
     let less = six_without_a(alloc).expect(&rt, "the deletion is accepted");
-    let other = DELETED
-        .iter()
-        .find(|row| !holds(alloc, &less, row.0, row.1));
-    assert_eq!(rt; other, None);
+    for (number, want) in DELETED {
+        assert!(rt; holds(alloc, &less, *number, want), "series {number}");
+    }
     assert!(rt; then_holds(alloc, &less, (1, 30, 5), " 30:5"));
     assert!(rt; then_holds(alloc, &less, (1, 20, 1), ""));
 }
@@ -51,15 +53,19 @@ const ENDS: &[(i64, i64, &str)] = &[
 ];
 
 fn leaves(alloc: Global, at: &Snapshot, row: &(i64, i64, &str)) -> bool {
-    without_a(alloc, at, row.0, row.1).is_ok_and(|less| holds(alloc, &less, 1, row.2))
+    match without_a(alloc, at, row.0, row.1) {
+        Ok(less) => holds(alloc, &less, 1, row.2),
+        Err(_) => false,
+    }
 }
 
 #[test]
 fn both_ends_of_a_deletion_belong_to_it(rt: HostRuntime) {
     let alloc = rt.alloc();
     let six = six_series(alloc).expect(&rt, "both batches are accepted");
-    let other = ENDS.iter().find(|row| !leaves(alloc, &six, row));
-    assert_eq!(rt; other, None);
+    for row in ENDS {
+        assert!(rt; leaves(alloc, &six, row), "from {} to {}", row.0, row.1);
+    }
 }
 
 /// The index and the chunks of a block from 0 to 20.
@@ -100,8 +106,7 @@ fn a_deletion_marks_hidden_samples_too(rt: HostRuntime) {
     let two = of_two(alloc).expect(&rt, "both blocks open");
     let less = without_a(alloc, &two, 10, 10).ok();
     let less = less.expect(&rt, "the deletion is accepted");
-    let counts = less.blocks().iter().map(|block| block.sample_count());
-    assert!(rt; counts.eq([1, 0]));
+    assert!(rt; counts(&less, &[1, 0]));
 }
 
 /// The snapshot after a deletion, which is made again where it was refused.

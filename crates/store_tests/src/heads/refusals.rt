@@ -1,11 +1,11 @@
 //! What a batch is made of, and refused batches.
 
-use crate::rows::{Wanted, after, batch_of, counted, holds, holds_if_seen, six_series};
+use crate::rows::{Wanted, after, batch_of, counted, holds, holds_if_seen, is_refused, six_series};
 use head::{AppendError, CommitError, Event, MAX_BATCH, Snapshot};
-use labels::MAX_TIME;
+use labels::{LabelSet, MAX_TIME, Sample};
 use std::alloc::Global;
 
-fn code_of<T: Drop>(made: Result<T, CommitError>) -> &'static str {
+fn code_of(made: Result<Event, CommitError>) -> &'static str {
     match made {
         Ok(_) => "ok",
         Err(refusal) => refusal.code(),
@@ -25,24 +25,31 @@ fn the_first_refused_sample_refuses_the_batch(rt: HostRuntime) {
     let alloc = rt.alloc();
     let six = six_series(alloc).expect(&rt, "both batches are accepted");
     for (samples, want) in REFUSED {
-        let refusal = after(alloc, &six, samples).err();
-        assert_eq!(rt; refusal, Some(*want));
+        assert!(rt; is_refused(after(alloc, &six, samples), *want));
         assert!(rt; holds(alloc, &six, 1, " 10:1 20:1"));
     }
 }
 
-fn given_back(batch: Event) -> Option<bool> {
-    let samples = batch.into_batch()?;
-    let told = samples
-        .iter()
-        .map(|(set, sample)| (set.len(), sample.t(), sample.v()));
-    Some(told.eq([(2, 10, 1), (2, 5, 7)]))
+/// Whether a sample is that of a label set of two pairs.
+fn is_sample(sample: &(LabelSet, Sample), t: i64, v: i64) -> bool {
+    sample.0.len() == 2 && sample.1.t() == t && sample.1.v() == v
+}
+
+fn gives_back(batch: Event) -> bool {
+    match batch.into_batch() {
+        Some(samples) => match samples.as_slice() {
+            [first, second] => is_sample(first, 10, 1) && is_sample(second, 5, 7),
+            _ => false,
+        },
+        None => false,
+    }
 }
 
 #[test]
 fn an_event_gives_back_its_batch(rt: HostRuntime) {
     let batch = batch_of(rt.alloc(), &[(2, 10, 1), (1, 5, 7)]).ok();
-    assert_eq!(rt; batch.and_then(given_back), Some(true));
+    let batch = batch.expect(&rt, "it is a batch");
+    assert!(rt; gives_back(batch));
 }
 
 fn code_of_many(alloc: Global, count: i64) -> &'static str {
@@ -74,8 +81,9 @@ const CODES: &[(CommitError, &str)] = &[
 
 #[test]
 fn refusals_have_numbers(rt: HostRuntime) {
-    let other = CODES.iter().find(|(refusal, code)| refusal.code() != *code);
-    assert_eq!(rt; other, None);
+    for (refusal, code) in CODES {
+        assert!(rt; refusal.code() == *code, "{code}");
+    }
     assert_eq!(rt; AppendError::Full.code(), "A1");
     assert_eq!(rt; AppendError::TimeRange.code(), "A2");
 }

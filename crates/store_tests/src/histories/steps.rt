@@ -37,7 +37,7 @@ const OF_TWO: &[(usize, Act)] = &[
 ];
 
 /// Steps, those that come after them, and the replies to the later ones.
-type Row = (
+pub type Row = (
     &'static [(usize, Act)],
     &'static [(usize, Act)],
     &'static str,

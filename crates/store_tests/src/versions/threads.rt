@@ -8,7 +8,7 @@ ghost use Rattle.head.specs.Worlds.{batch};
 ghost use Rattle.snapshots.specs.Replays.{IsAfter, EndsWith};
 
 use super::{EmptyStore, appender_of, open_empty};
-use crate::rows::{AFTER_BOTH, AFTER_BOTH_TURNED, FIRST, SECOND, shown};
+use crate::rows::{AFTER_BOTH, AFTER_BOTH_TURNED, FIRST, SECOND, is_text, shown};
 use head::Snapshot;
 use snapshots::{Appender, Committer, Naming, Pass, Receipt, Seat, Store};
 use std::alloc::Global;
@@ -104,8 +104,7 @@ fn has_seen_both<J: Naming>(
     } else {
         AFTER_BOTH_TURNED
     };
-    let text = shown(alloc, &seen.1);
-    seen.0.events() == 2 && text.is_ok_and(|text| text.as_str() == want)
+    seen.0.events() == 2 && is_text(shown(alloc, &seen.1), want)
 }
 
 #[test]

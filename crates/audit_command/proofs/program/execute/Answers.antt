@@ -1,0 +1,10 @@
+use Rattle.std.proofs.Common.{refl}
+use Rattle.audit_command.specs.Running.{by_audit, by_memory}
+use Rattle.audit_command.proofs.Endings.{keeps_itself}
+use Rattle.audit_command.proofs.program.execute.Goals as goal
+
+pub returns-in-Ok-clause-ends : goal.returns-in-Ok-clause-ends
+returns-in-Ok-clause-ends g c = λ taken. by_audit c.in-Ok.asked c.in-Ok.ensures.ok c.write_audit.ensures
+
+pub returns-in-Err-clause-ends : goal.returns-in-Err-clause-ends
+returns-in-Err-clause-ends g c = λ taken. by_memory refl (keeps_itself _)

@@ -1,0 +1,84 @@
+-- How the program ends.
+use Rattle.std.specs.Prelude.{◌≡◌, ℕ, List, Option, Result, Ok, Err, IsOk, OnOk, IfSome}
+use Rattle.std.specs.Prelude.{string_bytes}
+use Rattle.std.specs.Io.KnownBytes.{Appends, Keeps}
+use Rattle.clap.specs.Words.{Text}
+use Rattle.audit_command.specs.Asking.{AreTaken, IsAskedBy}
+use Rattle.audit_command.specs.Auditing.{IsReport, IsAuditFault}
+use Rattle.audit_command.specs.Faults.{status_of, line_of}
+use Rattle.audit_command.specs.Reading.{Reads}
+use Rattle.audit_command.specs.declared.command.Asked.{Asked}
+use Rattle.audit_command.specs.declared.fault.Fault.{Fault}
+use Rattle.audit_command.specs.declared.fault.Fault.TheVariants as fault
+use Rattle.audit_command.specs.declared.report.Outcome.{Outcome}
+use Rattle.audit_command.specs.declared.report.Outcome.TheVariants.{Done, Flawed}
+use Rattle.audit_command.specs.declared.report.Report.{Report}
+use Rattle.audit_command.specs.declared.program.Ending.{Ending}
+
+-- the lines of the report were written, and nothing else; the outcome is that of the report
+pub record IsAudited (reads : Reads) (input : Option (List ℕ)) (asked : Asked)
+    (old new : Option (List ℕ)) (outcome : Outcome) : Type 0 where
+  pub report : Report
+  pub is : IsReport reads input asked report
+  pub written : Appends old new (string_bytes report.text)
+  pub outcome_is : outcome ≡ report.outcome
+
+-- the writer holds what it held, unless it failed
+abbrev pub KeepsAt : Fault → Option (List ℕ) → Option (List ℕ) → Type 0
+KeepsAt fault.CannotWrite old new = Unit {0}
+KeepsAt (fault.Words error) old new = Keeps old new
+KeepsAt (fault.Refused refusal) old new = Keeps old new
+KeepsAt fault.CannotReadInput old new = Keeps old new
+KeepsAt fault.BadReply old new = Keeps old new
+KeepsAt (fault.CannotRead path) old new = Keeps old new
+KeepsAt fault.Memory old new = Keeps old new
+
+-- how an audit ends
+abbrev pub IsAuditEnd : Reads → Option (List ℕ) → Asked → Option (List ℕ) → Option (List ℕ)
+    → Result Outcome Fault → Type 0
+IsAuditEnd reads input asked old new (Ok outcome) = IsAudited reads input asked old new outcome
+IsAuditEnd reads input asked old new (Err fault) = IsAuditFault reads input asked fault
+    × KeepsAt fault old new
+
+-- how words that `clap` takes end: as the audit that they ask for, or by want of memory before it
+-- begins
+pub data IsEnd (reads : Reads) (input : Option (List ℕ)) (words : List Text)
+    (old new : Option (List ℕ)) (end : Result Outcome Fault) : Type 0 where
+  by_audit : (asked : Asked) → IsAskedBy words asked → IsAuditEnd reads input asked old new end
+      → IsEnd reads input words old new end
+  by_memory : end ≡ Err fault.Memory → Keeps old new → IsEnd reads input words old new end
+
+-- how words that `clap` does not take may end: help or the version was written, or the words are at
+-- fault, or memory or the writer failed
+abbrev pub IsNoAudit : Result Outcome Fault → Type 0
+IsNoAudit (Ok Done) = Unit {0}
+IsNoAudit (Ok Flawed) = ⊥
+IsNoAudit (Err (fault.Words error)) = Unit {0}
+IsNoAudit (Err fault.CannotWrite) = Unit {0}
+IsNoAudit (Err fault.Memory) = Unit {0}
+IsNoAudit (Err (fault.Refused refusal)) = ⊥
+IsNoAudit (Err fault.CannotReadInput) = ⊥
+IsNoAudit (Err fault.BadReply) = ⊥
+IsNoAudit (Err (fault.CannotRead path)) = ⊥
+
+-- the exit status of an end
+abbrev pub status_at : Result Outcome Fault → ℕ
+status_at (Ok Done) = 0
+status_at (Ok Flawed) = 1
+status_at (Err fault) = status_of fault
+
+-- the line of a fault was written, or the writer failed; of an end without a fault nothing was
+abbrev pub IsTold : {E : Type 0} → Result Outcome Fault → Result (Unit {0}) E → Option (List ℕ)
+    → Option (List ℕ) → Type 0
+IsTold (Ok outcome) told old new = IsOk told × Keeps old new
+IsTold (Err fault) told old new = OnOk told (IfSome (line_of fault) (Appends old new))
+
+-- Words that `clap` takes end as the audit that they ask for, and others as no audit. The exit
+-- status says which end it is, and a fault was told.
+pub record HasEnded (reads : Reads) (input : Option (List ℕ)) (words : List Text)
+    (old new told_old told_new : Option (List ℕ)) (ending : Ending) : Type 0 where
+  pub end : Result Outcome Fault
+  pub audit : AreTaken words → IsEnd reads input words old new end
+  pub no_audit : (AreTaken words → ⊥) → IsNoAudit end
+  pub status : ending.status ≡ status_at end
+  pub told : IsTold end ending.told told_old told_new

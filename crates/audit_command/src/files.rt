@@ -1,0 +1,149 @@
+//! The files of a block, read from the host's file system or from memory.
+
+ghost use Rattle.std.specs.Prelude.{◌≡◌, ◌≤◌, ◌+◌, ℕ, List, Option, length, take, string_bytes};
+ghost use Rattle.std.specs.Prelude.{IfOk, IfErr, IfSome};
+ghost use Rattle.audit_command.specs.Reading.{path_of, text_of, AreFirst, AreRead, IsRead};
+ghost use Rattle.audit_command.specs.Reading.{IsReadFailure, IsFileFault, IsReadingFault};
+
+use crate::fault::Fault;
+use std::alloc::{AllocError, Global};
+use std::fs::{File, OpenFile};
+use std::io::{self, ErrorKind, Read};
+
+/// Why a file is not read.
+#[derive(Clone, Copy, Debug, PartialEq, Eq, Drop)]
+pub enum ReadError {
+    /// Nothing can be read there.
+    Unreadable,
+    /// No memory is left.
+    Memory,
+}
+
+/// What gives the bytes of files: the file system of the host, or files in memory.
+pub trait ReadFiles {
+    /// What reading a path may find: the bytes of a file, or nothing where it cannot be read.
+    ghost may_read: { Self → List ℕ → Option (List ℕ) → Type 0 };
+
+    /// The first bytes of the file at a path, at most so many.
+    fn read_file(&self, alloc: Global, path: &str, most: usize) -> Result<Vec<u8>, ReadError>
+        ensures ok { IfOk result (λ bytes. AreFirst (may_read self.now) path.now most bytes.items) }
+        ensures err { IfErr result (λ error. IsReadFailure (may_read self.now) path.now error) };
+}
+
+/// The first bytes that a reader gives, at most so many, in a list that is made with this room.
+fn first_of<R: Read + Drop>(
+    alloc: Global,
+    reader: R,
+    room: usize,
+    most: usize,
+) -> io::Result<Vec<u8>>
+    ensures few { IfOk result (λ bytes. length bytes.items ≤ most) }
+    ensures first { IfOk result (λ bytes. IfSome (R.remaining reader) (λ all. bytes.items ≡ take most all)) }
+{
+    let mut bytes = Vec::with_capacity(alloc, room)?;
+    reader.take(most as u64).read_to_end(&mut bytes)?;
+    bytes.truncate(most);
+    Ok(bytes)
+}
+
+/// The first bytes of the file of the host at a path, at most so many.
+fn first_of_file(alloc: Global, rt: &HostRuntime, path: &str, most: usize) -> io::Result<Vec<u8>>
+    ensures { IfOk result (λ bytes. length bytes.items ≤ most) }
+{
+    let file = File::open(rt, path)?;
+    let room = file.metadata()?.len().min(most as u64);
+    first_of(alloc, file, room as usize, most)
+}
+
+/// What the host's files hold, no clause can say.
+impl ReadFiles for HostRuntime {
+    ghost use Rattle.std.specs.Prelude.{⊤};
+
+    ghost may_read = { λ _ _ _. ⊤ };
+
+    fn read_file(&self, alloc: Global, path: &str, most: usize) -> Result<Vec<u8>, ReadError> {
+        match first_of_file(alloc, self, path, most) {
+            Ok(bytes) => Ok(bytes),
+            Err(error) if error.kind() == ErrorKind::OutOfMemory => Err(ReadError::Memory),
+            Err(_) => Err(ReadError::Unreadable),
+        }
+    }
+}
+
+/// How many bytes a file may have.
+const MAX_FILE: usize = 1_073_741_824;
+
+/// A file of a block that is read.
+#[derive(Clone, Copy, Debug, PartialEq, Eq)]
+pub enum FileName {
+    Index,
+    Chunks,
+    Tombstones,
+}
+
+impl FileName {
+    /// Where the file stands in its directory.
+    fn text(self) -> &'static str
+        ensures { result.now ≡ text_of self }
+    {
+        match self {
+            FileName::Index => "index",
+            FileName::Chunks => "chunks/000001",
+            FileName::Tombstones => "tombstones",
+        }
+    }
+}
+
+/// The bytes of the files of a block. Of a file that is longer than it may be, they are the first
+/// that show it.
+#[derive(Drop)]
+pub struct BlockFiles {
+    pub index: Vec<u8>,
+    pub chunks: Vec<u8>,
+    pub tombstones: Vec<u8>,
+}
+
+fn path_of(alloc: Global, directory: &str, name: FileName) -> Result<String, AllocError>
+    ensures { IfOk result (λ path. string_bytes path ≡ path_of directory.now name) }
+{
+    let name = name.text();
+    format!(in alloc; "{directory}/{name}")
+}
+
+/// Reads a file of the block in a directory.
+fn read_one<F: ReadFiles>(
+    alloc: Global,
+    files: &F,
+    directory: &str,
+    name: FileName,
+) -> Result<Vec<u8>, Fault>
+    ensures ok { IfOk result (λ bytes. IsRead (F.may_read files.now) directory.now name bytes.items) }
+    ensures err { IfErr result (λ fault. IsFileFault (F.may_read files.now) directory.now name fault) }
+{
+    let path = path_of(alloc, directory, name)?;
+    match files.read_file(alloc, path.as_str(), MAX_FILE + 1) {
+        Ok(bytes) => Ok(bytes),
+        Err(ReadError::Unreadable) => Err(Fault::CannotRead(path)),
+        Err(ReadError::Memory) => Err(Fault::Memory),
+    }
+}
+
+/// Reads the files of the block in a directory, each once: the index, the chunks and the
+/// tombstones, up to the first that cannot be read.
+pub fn read_block<F: ReadFiles>(
+    alloc: Global,
+    files: &F,
+    directory: &str,
+) -> Result<BlockFiles, Fault>
+    ensures ok { IfOk result (λ block. AreRead (F.may_read files.now) directory.now block) }
+    ensures err { IfErr result (λ fault. IsReadingFault (F.may_read files.now) directory.now fault) }
+{
+    let index = read_one(alloc, files, directory, FileName::Index)?;
+    let chunks = read_one(alloc, files, directory, FileName::Chunks)?;
+    let tombstones = read_one(alloc, files, directory, FileName::Tombstones)?;
+    Ok(BlockFiles {
+        index,
+        chunks,
+        tombstones,
+    })
+}

@@ -1,0 +1,35 @@
+//! The reply on standard input.
+
+ghost use Rattle.std.specs.Prelude.{◌≡◌, IfOk, IfErr, IfSome};
+ghost use Rattle.audit_command.specs.Auditing.{IsInputFault, IsReplyIn, IsReplyFault};
+
+use crate::fault::Fault;
+use auditor::{Reply, ReplyError};
+use std::alloc::Global;
+use std::io::{ErrorKind, Read};
+
+/// All that a reader gives.
+fn all_of<R: Read>(alloc: Global, input: &mut R) -> Result<Vec<u8>, Fault>
+    ensures ok { IfOk result (λ text. IfSome (R.remaining input.old) (λ all. text.items ≡ all)) }
+    ensures err { IfErr result (λ fault. IsInputFault fault) }
+{
+    let mut text = Vec::new(alloc);
+    match input.read_to_end(&mut text) {
+        Ok(_) => Ok(text),
+        Err(error) if matches!(error.kind(), ErrorKind::OutOfMemory) => Err(Fault::Memory),
+        Err(_) => Err(Fault::CannotReadInput),
+    }
+}
+
+/// The reply that a reader gives, which is read to its end.
+pub fn reply_in<R: Read>(alloc: Global, input: &mut R) -> Result<Reply, Fault>
+    ensures ok { IfOk result (λ reply. IsReplyIn (R.remaining input.old) reply) }
+    ensures err { IfErr result (λ fault. IsReplyFault (R.remaining input.old) fault) }
+{
+    let text = all_of(alloc, input)?;
+    match Reply::read(alloc, text.as_slice()) {
+        Ok(reply) => Ok(reply),
+        Err(ReplyError::BadReply) => Err(Fault::BadReply),
+        Err(ReplyError::Memory) => Err(Fault::Memory),
+    }
+}

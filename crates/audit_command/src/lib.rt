@@ -1,0 +1,24 @@
+//! What the program `auditor` does: it reads a reply and the files of blocks, and says whether the
+//! reply is right. It trusts nothing of the store that sent it.
+//!
+//! [`run`] does what the words after the program's name ask for, over files, a reader and two
+//! writers: `--selector S [--from N] [--to N] [DIR]...` has it write a line for each part of the
+//! reply, for each block that no part names, and for the rows of all. `command` says what the
+//! words ask for, `input` reads the reply, `files` the files in a directory, and `tables` what is
+//! known of their blocks; `report` makes the lines, and `fault` says why there are none. The audit
+//! itself is the library `auditor`, whose definitions say what each line means.
+//!
+//! It stands on `auditor`, on `labels` and `matchers` for times and queries, and on `clap` for
+//! words.
+#![tactic(auto)]
+
+mod command;
+mod fault;
+mod files;
+mod input;
+mod program;
+mod report;
+mod tables;
+
+pub use files::{ReadError, ReadFiles};
+pub use program::{Ending, run};

@@ -1,6 +1,0 @@
-use Rattle.std.proofs.Common.{◌≡◌, drop}
-use Rattle.auditor_program.specs.Auditing.{has_fault}
-use Rattle.auditor_program.proofs.report.has_fault.Given as goal
-
-abbrev pub invariant-loop-line : goal.invariant-loop-line
-invariant-loop-line l = has_fault l.lines ≡ has_fault (drop l.line-index l.lines)

@@ -1,8 +1,0 @@
-use Rattle.std.proofs.Common.{take}
-use Rattle.auditor_program.specs.Reading.{paths_of}
-use Rattle.auditor_program.specs.Walking.{AreTablesAt}
-use Rattle.auditor_program.proofs.tables.tables_at.Given as goal
-
-abbrev pub invariant-loop-directory : goal.invariant-loop-directory
-invariant-loop-directory g l =
-    AreTablesAt (g.F.ReadFiles.may_read l.fn.files) (take l.directory-index (paths_of l.directories)) l.tables.items
