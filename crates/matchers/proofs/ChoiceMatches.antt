@@ -21,7 +21,7 @@ use Rattle.regex.proofs.ForCallers.{find_str_sound, find_str_complete}
 use Rattle.labels.proofs.Lists.{here, there, Contains-cases, none_in_nil}
 use Rattle.matchers.specs.Choices.{has_meaning, is_plain, is_plain_text, is_choice, between_bars}
 use Rattle.matchers.specs.Patterns.{anchored, tree_of, is_full_match}
-use Rattle.matchers.proofs.Choices.{first_plain, first_filled, others_plain, itself, branch_of, group_of, tree_of_choice, between, read_choice}
+use Rattle.matchers.proofs.ChoiceReading.{first_plain, first_filled, others_plain, itself, branch_of, group_of, tree_of_choice, between, read_choice}
 
 small_of : (c : ℕ) → nat_lt c 128 ≡ true → c < 128
 small_of c h = grind (arith, nat_tests)
@@ -50,8 +50,7 @@ text_is_read hay [] rest i j all e h = e ∙ add-zero i
 text_is_read hay (c ∷ cs) rest i j all e h =
     let parts = and_parts _ _ all in
     let one = itself_is c parts.0 in
-    let stands : drop i hay ≡ encode_utf8 c ++ (cs ++ rest) = h ∙ ap (λ bs. bs ++ (cs ++ rest)) (sym one) in
-    (
+    let stands : drop i hay ≡ encode_utf8 c ++ (cs ++ rest) = h ∙ ap (λ bs. bs ++ (cs ++ rest)) (sym one) in (
       i + 1,
       (has_bytes_at_from hay i (encode_utf8 c) (cs ++ rest) stands, ap (λ bs. i + length bs) (sym one)),
       text_is_read hay cs rest (i + 1) j parts.1 (omega arith) (one_more hay i c (cs ++ rest) h),
@@ -178,3 +177,14 @@ choice_matches pattern all value =
     let is : is_full_match pattern value ≡ is_some (find_str (tree_of_choice ts) value 0) =
     ap (λ o. is_some (option_and_then (λ tree. find_str tree value 0) o)) tree in
     (λ e. match_is_one ts all value (sym is ∙ e), λ c. is ∙ one_is_match ts all value c)
+
+no_empty : (ts : List (List ℕ)) → list_all is_plain_text ts ≡ true → Contains ts [] → ⊥
+no_empty [] all c = none_in_nil [] c
+no_empty (u ∷ ts) all c = elim (Contains-cases u ts [] c) [
+  | inl same ↦ omega (arith, first_filled u ts all, ap length same)
+  | inr later ↦ no_empty ts (others_plain u ts all) later
+]
+
+-- none of its texts is empty
+pub no_empty_choice : (pattern : List ℕ) → is_choice pattern ≡ true → Contains (between_bars pattern) [] → ⊥
+no_empty_choice pattern all = no_empty (between_bars pattern) all

@@ -1,6 +1,7 @@
 -- Patterns that are a choice of plain texts, as `a|b|c`.
-use Rattle.std.specs.Prelude.{ℕ, Bool, not, ◌&&◌, ◌||◌, ◌==◌, nat_lt, List, length}
-use Rattle.std.specs.List.{list_all, slice_split}
+use Rattle.std.specs.Prelude.{◌≡◌, ◌↔◌, ℕ, Bool, true, not, ◌&&◌, ◌||◌, ◌==◌, nat_lt, List, length}
+use Rattle.std.specs.List.{list_all, slice_split, Contains}
+use Rattle.matchers.specs.Patterns.{is_full_match}
 
 -- whether a byte has a meaning of its own in a pattern: \ . + * ? ( ) | [ ] { } ^ $
 abbrev pub has_meaning : ℕ → Bool
@@ -23,3 +24,7 @@ between_bars pattern = slice_split (λ b. b == 124) pattern
 -- whether a pattern is a choice of plain texts
 abbrev pub is_choice : List ℕ → Bool
 is_choice pattern = list_all is_plain_text (between_bars pattern)
+
+-- the values that match a pattern from the first byte to the last are these texts
+pub record AreFullMatches (pattern : List ℕ) (texts : List (List ℕ)) : Type 0 where
+  pub each : (value : List ℕ) → (is_full_match pattern value ≡ true) ↔ Contains texts value
