@@ -1,5 +1,6 @@
 pub mod Views
 pub mod Patterns
+pub mod Choices
 pub mod Satisfies
 pub mod Tests
 pub mod Queries

@@ -22,6 +22,7 @@
 //! patterns. The operators are those of Prometheus's selectors.
 #![tactic(auto)]
 
+mod choices;
 mod error;
 mod matcher;
 mod pattern;

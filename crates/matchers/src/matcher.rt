@@ -1,11 +1,14 @@
 //! Matchers.
 
-ghost use Rattle.std.specs.Prelude.{◌≡◌, ◌↔◌, ◌<◌, ◌≤◌, true, false, length, IfNone, IfSome, IfOk, OnOk, OnErr, IsErrOf, string_bytes};
+ghost use Rattle.std.specs.Prelude.{◌≡◌, ◌↔◌, ◌<◌, ◌≤◌, true, false, [], map, length, IfNone, IfSome, IfOk, OnOk, OnErr, IsErrOf, string_bytes};
+ghost use Rattle.std.specs.List.{Contains};
 ghost use Rattle.labels.specs.Names.{is_name};
 ghost use Rattle.matchers.specs.Patterns.{IsPattern, IsRefusedPattern};
 ghost use Rattle.matchers.specs.Satisfies.{accepts_text, takes_pattern};
 ghost use Rattle.matchers.specs.Tests.{op_of, text_of};
+ghost use Rattle.matchers.specs.Choices.{is_choice, AreFullMatches};
 
+use crate::choices::choices;
 use crate::pattern::Pattern;
 use crate::{MatcherError, Tester};
 use labels::is_name;
@@ -161,6 +164,26 @@ impl Matcher {
     {
         let mut tester = self.tester(alloc)?;
         Ok(tester.accepts(value))
+    }
+
+    /// The texts of a pattern that is a choice of plain texts, as `a|b|c`: no text is empty, and
+    /// each of its bytes stands for itself. The values that match the pattern are these texts.
+    /// `None` of any other pattern, and where it compares with a text.
+    pub fn choices(&self, alloc: Global) -> Result<Option<Vec<&str>>, AllocError>
+        ensures told { IfOk result (λ found. IfSome found (λ texts.
+            AreFullMatches self.now.text (map (λ text. text.now) texts.items))) }
+        ensures filled { IfOk result (λ found. IfSome found (λ texts.
+            Contains (map (λ text. text.now) texts.items) [] → ⊥)) }
+        ensures some { IfOk result (λ found. IfSome found (λ _.
+            (takes_pattern self.now.op ≡ true) × (is_choice self.now.text ≡ true))) }
+        ensures none { IfOk result (λ found. IfNone found (takes_pattern self.now.op ≡ true
+            → is_choice self.now.text ≡ false)) }
+        ensures memory { OnErr result (takes_pattern self.now.op ≡ true) }
+    {
+        match self.test.pattern() {
+            None => Ok(None),
+            Some(pattern) => choices(alloc, pattern.text()),
+        }
     }
 
     /// The same test for many values: a pattern's search is made once. Memory is taken only for a

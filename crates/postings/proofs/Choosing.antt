@@ -1,10 +1,11 @@
 -- What the lists of a matcher's values hold together.
-use Rattle.std.proofs.Common.{◌≡◌, ℕ, zero, suc, ◌+◌, ◌<◌, Bool, true, false, not, cond, ◌&&◌, ◌⊎◌, inl, inr, List, [], ◌∷◌, ◌++◌, length, map, get_or, Some, slice_get, refl, sym, ◌∙◌, ap, subst, arith}
+use Rattle.std.proofs.Common.{◌≡◌, ℕ, zero, suc, ◌+◌, ◌<◌, Bool, true, false, not, cond, ◌&&◌, ◌⊎◌, inl, inr, List, [], ◌∷◌, ◌++◌, length, map, get_or, Some, slice_get, refl, sym, ◌∙◌, ap, subst, arith, true≢false}
 use Rattle.std.specs.Bool.{beq}
 use Rattle.std.specs.List.{filter, Contains}
 use Rattle.std.specs.List.Sorted.{IsStrictlyIncreasing}
 use Rattle.std.specs.Str.{bytes_eq}
 use Rattle.std.specs.Cmp.Lexicographic.{bytes_decides}
+use Rattle.std.proofs.lemmas.Bool.{cases_Bool}
 use Rattle.std.proofs.lemmas.List.{get_or_default}
 use Rattle.std.proofs.lemmas.List.Elements.{Contains-push_cases, Contains-append_left, Contains-push}
 use Rattle.labels.specs.Labels.{Labels, value_of}
@@ -14,9 +15,13 @@ use Rattle.labels.specs.Sets.{union_all, has, difference}
 use Rattle.labels.proofs.Lists.{here, there, Contains-cases, none_in_nil, rising-tail, rising-head, rising-cons, filter-has, filter-from, filter-same}
 use Rattle.labels.proofs.SetLemmas.{same_lists, union-rises, union-has, union-from, difference-rises, Contains-has, not_in-has}
 use Rattle.matchers.specs.Views.{MatcherView}
-use Rattle.matchers.specs.Satisfies.{accepts_text, satisfies}
+use Rattle.matchers.specs.Satisfies.{accepts_by, accepts_text, satisfies, takes_pattern}
+use Rattle.matchers.specs.Patterns.{is_full_match}
+use Rattle.matchers.specs.Choices.{AreFullMatches}
+use Rattle.matchers.specs.declared.matcher.Op.{Op}
+use Rattle.matchers.specs.declared.matcher.Op.TheVariants.{Equal, NotEqual, Like, NotLike}
 use Rattle.postings.specs.Values.{AreValuesOf}
-use Rattle.postings.specs.Differing.{differs, differs_in}
+use Rattle.postings.specs.Differing.{differs, differs_in, AreDiffering}
 
 -- a row of a part
 abbrev pub Entry : Type 0
@@ -163,20 +168,19 @@ carries_value name v labels e = go (bytes_eq v []) refl
 carries_own : (name : List ℕ) (labels : Labels) → bytes_eq (value_of labels name) [] ≡ false → carries name (value_of labels name) labels ≡ true
 carries_own name labels e = ap (λ x. not x && bytes_eq (value_of labels name) (value_of labels name)) e ∙ (bytes_decides (value_of labels name) (value_of labels name)).1 refl
 
--- a row whose value is not empty and passes the test has its reference in the union
-gathered_has : (part : Part) (name : List ℕ) (test : List ℕ → Bool) (values : List (List ℕ)) (union : List ℕ) → AreValuesOf part name values → Gathered part name test values (length values) union
-    → (row : Entry) → Contains part row → bytes_eq (value_of row.1.0 name) [] ≡ false → test (value_of row.1.0 name) ≡ true → Contains union row.0
-gathered_has part name test values union are g row c some t =
-    let k : Contains values (value_of row.1.0 name) = are.present row c some in
+-- a row whose value is not empty and passes the test has its reference in the union, where the value was tried
+gathered_has : (part : Part) (name : List ℕ) (test : List ℕ → Bool) (values : List (List ℕ)) (union : List ℕ) → Gathered part name test values (length values) union
+    → (row : Entry) → Contains part row → bytes_eq (value_of row.1.0 name) [] ≡ false → test (value_of row.1.0 name) ≡ true → Contains values (value_of row.1.0 name) → Contains union row.0
+gathered_has part name test values union g row c some t k =
     let same : get_or values k.0 [] ≡ value_of row.1.0 name = get_or_default values k.0 [] (value_of row.1.0 name) k.1 ∙ k.2 in
     g.to k.0 k.1 (ap test same ∙ t) row.0
     (subst (λ (w : List ℕ). Contains (references_where (carries name w) part) row.0) (sym same) (to_where (carries name (value_of row.1.0 name)) part row c (carries_own name row.1.0 some)))
 
--- with all values tried, where the test fails for the empty text: the series whose value passes
-pub gathered_all : (part : Part) (name : List ℕ) (test : List ℕ → Bool) (values : List (List ℕ)) (union : List ℕ) → IsPart part → AreValuesOf part name values
-    → IsStrictlyIncreasing union → test [] ≡ false → Gathered part name test values (length values) union
-    → union ≡ references_where (λ labels. test (value_of labels name)) part
-gathered_all part name test values union is are rising absent g =
+-- with all those values tried of which the test holds, and not for the empty text: the series whose value passes
+pub gathered_where : (part : Part) (name : List ℕ) (test : List ℕ → Bool) (values : List (List ℕ)) (union : List ℕ) → IsPart part → IsStrictlyIncreasing union → test [] ≡ false
+    → ((row : Entry) → Contains part row → bytes_eq (value_of row.1.0 name) [] ≡ false → test (value_of row.1.0 name) ≡ true → Contains values (value_of row.1.0 name))
+    → Gathered part name test values (length values) union → union ≡ references_where (λ labels. test (value_of labels name)) part
+gathered_where part name test values union is rising absent tried g =
     same_lists union (references_where (λ labels. test (value_of labels name)) part) rising (where_rises (λ labels. test (value_of labels name)) part is.ascending)
     (record {
       from_left = λ r c.
@@ -187,8 +191,9 @@ gathered_all part name test values union is are rising absent g =
           (to_where (λ labels. test (value_of labels name)) part row.0 row.1.0 (ap test value.0 ∙ k.1.0));
       from_right = λ r c.
           let row : (row : Entry) × (Contains part row × (test (value_of row.1.0 name) ≡ true) × (row.0 ≡ r)) = in_where (λ labels. test (value_of labels name)) part r c in
+          let some : bytes_eq (value_of row.0.1.0 name) [] ≡ false = not_empty test absent (value_of row.0.1.0 name) row.1.1 in
           subst (λ (z : ℕ). Contains union z) row.1.2
-          (gathered_has part name test values union are g row.0 row.1.0 (not_empty test absent (value_of row.0.1.0 name) row.1.1) row.1.1);
+          (gathered_has part name test values union g row.0 row.1.0 some row.1.1 (tried row.0 row.1.0 some row.1.1));
     })
   where
     not_empty : (test : List ℕ → Bool) → test [] ≡ false → (v : List ℕ) → test v ≡ true → bytes_eq v [] ≡ false
@@ -197,6 +202,13 @@ gathered_all part name test values union is are rising absent g =
         go : (b : Bool) → bytes_eq v [] ≡ b → bytes_eq v [] ≡ false
         go true q = absurd (let e : v ≡ [] = (bytes_decides v []).0 q in let f : test [] ≡ true = ap test (sym e) ∙ t in cc)
         go false q = q
+
+-- with all values tried, where the test fails for the empty text: the series whose value passes
+pub gathered_all : (part : Part) (name : List ℕ) (test : List ℕ → Bool) (values : List (List ℕ)) (union : List ℕ) → IsPart part → AreValuesOf part name values
+    → IsStrictlyIncreasing union → test [] ≡ false → Gathered part name test values (length values) union
+    → union ≡ references_where (λ labels. test (value_of labels name)) part
+gathered_all part name test values union is are rising absent g =
+    gathered_where part name test values union is rising absent (λ row c some t. are.present row c some) g
 
 -- tests that agree list the same
 pub where-same : (t u : Labels → Bool) (part : Part) → ((labels : Labels) → t labels ≡ u labels) → references_where t part ≡ references_where u part
@@ -284,3 +296,33 @@ pub carried_alone : (m : MatcherView) (text : List ℕ) (part : Part) → bytes_
 carried_alone m text part some alone =
     where-same (carries m.name text) (differs_in m) part
     (λ labels. ap (λ b. not b && bytes_eq (value_of labels m.name) text) some ∙ sym (alone (value_of labels m.name)))
+
+-- a matcher whose pattern does not match the empty text treats otherwise what the pattern matches
+pub differs_alike : (m : MatcherView) → takes_pattern m.op ≡ true → is_full_match m.text [] ≡ false → (value : List ℕ) → differs m value ≡ is_full_match m.text value
+differs_alike m takes absent value = go m.op takes
+  where
+    go : (op : Op) → takes_pattern op ≡ true → cond (accepts_by op m.text []) (not (accepts_by op m.text value)) (accepts_by op m.text value) ≡ is_full_match m.text value
+    go Equal e = absurd (true≢false (sym e))
+    go NotEqual e = absurd (true≢false (sym e))
+    go Like e = ap (λ b. cond b (not (is_full_match m.text value)) (is_full_match m.text value)) absent
+    go NotLike e = ap (λ b. cond (not b) (not (not (is_full_match m.text value))) (not (is_full_match m.text value))) absent ∙ twice (is_full_match m.text value)
+      where
+        twice : (b : Bool) → not (not b) ≡ b
+        twice true = refl
+        twice false = refl
+
+-- and so exactly its choices
+pub differs_in_choices : (m : MatcherView) (choices : List (List ℕ)) → takes_pattern m.op ≡ true → AreFullMatches m.text choices → (Contains choices [] → ⊥)
+    → AreDiffering m choices
+differs_in_choices m choices takes told filled = record {
+  each = λ value. (λ e. (told.each value).0 (sym (same value) ∙ e), λ c. same value ∙ (told.each value).1 c);
+}
+  where
+    absent : is_full_match m.text [] ≡ false
+    absent = elim (cases_Bool (is_full_match m.text [])) [
+      | inl e ↦ absurd (filled ((told.each []).0 e))
+      | inr e ↦ e
+    ]
+
+    same : (value : List ℕ) → differs m value ≡ is_full_match m.text value
+    same = differs_alike m takes absent

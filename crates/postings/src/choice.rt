@@ -6,7 +6,7 @@ ghost use Rattle.labels.specs.Labels.{value_of};
 ghost use Rattle.labels.specs.Parts.{references_where, carries};
 ghost use Rattle.labels.specs.Sets.{union_all};
 ghost use Rattle.matchers.specs.Satisfies.{accepts_text, satisfies};
-ghost use Rattle.postings.specs.Differing.{differs, differs_in};
+ghost use Rattle.postings.specs.Differing.{differs, differs_in, AreDiffering};
 
 use crate::{Chosen, Postings, Source, Union, Without};
 use matchers::{Matcher, Op, Tester};
@@ -34,6 +34,27 @@ fn lists_of_text<S: Source>(
     let mut lists = Vec::new(alloc);
     if let Some(list) = source.list(name, text) {
         lists.push(list)?;
+    }
+    Ok(lists)
+}
+
+/// The lists of the values that the matcher treats otherwise than an absent label, where these
+/// are known.
+fn lists_of_choices<S: Source>(
+    alloc: Global,
+    source: &S,
+    matcher: &Matcher,
+    choices: &[&str],
+) -> Result<Vec<S::List>, AllocError>
+    requires { AreDiffering matcher.now (map (λ choice. choice.now) choices.now) }
+    ensures { IfOk result (λ lists. union_all (map S.List.remaining lists.items)
+        ≡ references_where (differs_in matcher.now) (S.part source.now)) }
+{
+    let mut lists = Vec::new(alloc);
+    for choice in choices {
+        if let Some(list) = source.list(matcher.name(), choice) {
+            lists.push(list)?;
+        }
     }
     Ok(lists)
 }
@@ -78,16 +99,19 @@ fn differing_lists<S: Source>(
         ≡ references_where (differs_in matcher.now) (S.part source.now)) }
 {
     if singles_out_its_text(matcher) {
-        lists_of_text(alloc, source, matcher.name(), matcher.text())
-    } else {
-        lists_of_values(alloc, source, matcher.name(), tester, with_absent)
+        return lists_of_text(alloc, source, matcher.name(), matcher.text());
+    }
+    match matcher.choices(alloc)? {
+        Some(choices) => lists_of_choices(alloc, source, matcher, &choices),
+        None => lists_of_values(alloc, source, matcher.name(), tester, with_absent),
     }
 }
 
 /// The series that satisfy the matcher, an absent label counting as the empty text.
 ///
-/// A matcher that compares with a text other than the empty one takes one list of the source. Any
-/// other is tried on each value of its name, a pattern's search being made once for all of them.
+/// A matcher that compares with a text other than the empty one takes one list of the source, and
+/// one whose pattern is a choice of plain texts, as `a|b|c`, a list for each of them. Any other is
+/// tried on each value of its name, a pattern's search being made once for all of them.
 /// The room of the answer is made here: its moves take no memory.
 pub fn choose<S: Source>(
     alloc: Global,
