@@ -5,6 +5,7 @@ mod heads;
 mod limits;
 mod queries;
 mod replies;
+mod spellings;
 
 use crate::script::Script;
 use requests::{ReadError, Request, read_request};
