@@ -1,6 +1,6 @@
 -- The full matches of a choice of plain texts are these texts.
-use Rattle.std.proofs.Common.{◌≡◌, ◌↔◌, ℕ, zero, suc, ◌+◌, ◌<◌, ◌≤◌, Bool, true, false, not, ◌&&◌, ◌==◌, List, [], ◌∷◌, ◌++◌, length, map, drop, Option, Some, None, encode_utf8, is_some, option_map, IsSome, refl, sym, ap, ◌∙◌, subst, arith, inl, inr, ◌⊎◌, length-append, length-drop, append-nil, append_assoc, zero-add, add-zero, true≢false, drop-drop, nat_lt}
-use Rattle.std.proofs.lemmas.Bool.{cases_lt, and_parts, and_from, cases_Bool}
+use Rattle.std.proofs.Common.{◌≡◌, ◌↔◌, ℕ, zero, suc, ◌+◌, ◌<◌, ◌≤◌, true, not, ◌==◌, List, [], ◌∷◌, ◌++◌, length, drop, Some, encode_utf8, is_some, refl, sym, ap, ◌∙◌, subst, arith, inl, inr, length-append, length-drop, append-nil, append_assoc, zero-add, add-zero, true≢false, drop-drop, nat_lt}
+use Rattle.std.proofs.lemmas.Bool.{cases_lt, and_parts, and_from}
 use Rattle.std.proofs.lemmas.Bool.Decides.{nat_tests}
 use Rattle.std.proofs.lemmas.List.{nil_from_length}
 use Rattle.std.proofs.lemmas.List.Splits.{length-slice_split, join_with_byte-slice_split}
@@ -9,10 +9,9 @@ use Rattle.std.proofs.lemmas.Str.{encode_ascii, chars-IsAscii, IsUtf8-from_ascii
 use Rattle.std.proofs.lemmas.Str.Ascii.{IsAscii-cons, IsAscii-nil}
 use Rattle.std.specs.Prelude.{option_and_then}
 use Rattle.std.specs.List.{list_all, join_with_byte, Contains}
-use Rattle.std.specs.Str.{IsAscii, IsCharBoundary}
+use Rattle.std.specs.Str.{IsAscii}
 use Rattle.regex_class.proofs.RangesLemmas.{in_ranges-nil}
 use Rattle.regex_hir.specs.Looks.{holds, holds_between}
-use Rattle.regex_hir.specs.Meaning.{cat_all, alt_all}
 use Rattle.regex_hir.specs.Matches.{Matches}
 use Rattle.regex_hir.proofs.OptionLemmas.{value_of_IsSome, option_cases}
 use Rattle.regex_hir.proofs.TextLemmas.{has_bytes_at_parts, has_bytes_at_from, byte_before-zero, byte_before-add-one}
@@ -21,7 +20,7 @@ use Rattle.regex.proofs.ForCallers.{find_str_sound, find_str_complete}
 use Rattle.labels.proofs.Lists.{here, there, Contains-cases, none_in_nil}
 use Rattle.matchers.specs.Choices.{has_meaning, is_plain, is_plain_text, is_choice, between_bars}
 use Rattle.matchers.specs.Patterns.{anchored, tree_of, is_full_match}
-use Rattle.matchers.proofs.ChoiceReading.{first_plain, first_filled, others_plain, itself, branch_of, group_of, tree_of_choice, between, read_choice}
+use Rattle.matchers.proofs.ChoiceReading.{first_plain, first_filled, others_plain, branch_of, group_of, tree_of_choice, between, read_choice}
 
 small_of : (c : ℕ) → nat_lt c 128 ≡ true → c < 128
 small_of c h = grind (arith, nat_tests)

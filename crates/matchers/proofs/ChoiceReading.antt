@@ -1,22 +1,21 @@
 -- A choice of plain texts is read as one, and its full matches are these texts.
-use Rattle.std.proofs.Common.{◌≡◌, ℕ, zero, suc, ◌+◌, ◌-◌, ◌*◌, ◌<◌, ◌≤◌, Bool, true, false, cond, not, ◌&&◌, ◌||◌, ◌==◌, ne_eqb, nat_lt, List, [], ◌∷◌, ◌++◌, length, map, take, drop, get_or, Option, Some, None, encode_utf8, is_some, option_map, refl, sym, ap, ◌∙◌, subst, arith, if◌then◌else◌, append-nil, append_assoc, length-append, chars, codes, inl, inr, ◌⊎◌, zero-add, add-zero}
-use Rattle.std.proofs.lemmas.Bool.{both_ways, cases_Bool, cond-false, and_left, and_right, and_parts, and_from}
+use Rattle.std.proofs.Common.{◌≡◌, ℕ, ◌+◌, ◌-◌, ◌*◌, ◌<◌, true, false, not, ◌==◌, ne_eqb, List, [], ◌∷◌, ◌++◌, length, map, Some, None, encode_utf8, option_map, refl, sym, ap, ◌∙◌, arith, append-nil, append_assoc, length-append, zero-add}
+use Rattle.std.proofs.lemmas.Bool.{both_ways, cond-false, and_left, and_parts}
 use Rattle.std.proofs.lemmas.Bool.Decides.{nat_tests}
-use Rattle.std.specs.List.{list_all, join_with_byte, Contains}
+use Rattle.std.specs.List.{list_all, join_with_byte}
 use Rattle.regex_hir.specs.declared.look.Look.TheVariants.{Start, End}
 use Rattle.regex_hir.specs.Meaning.{cat_all, alt_all}
-use Rattle.regex_hir.specs.Re.{Re, literal, empty, cat, look}
+use Rattle.regex_hir.specs.Re.{Re, literal, look}
 use Rattle.regex_syntax.proofs.BranchLemmas.{ends_branch, Read, repetitions_end, join_after, branch_ends, branch_goes, more_parts, group_inside, close_group, join_parts_is, branches_go, more_branches, join_ends}
 use Rattle.regex_syntax.proofs.ReadingLemmas.{skip-false}
 use Rattle.regex_syntax.specs.Brackets.{Nested, flat, join}
 use Rattle.regex_syntax.specs.declared.Config.{Config}
-use Rattle.regex_syntax.specs.declared.flags.Flags.{Flags}
 use Rattle.regex_syntax.specs.Escapes.{is_verbose}
-use Rattle.regex_syntax.specs.Grammar.{Names, Place, Opening, opens, rest_of_group, atom, char_meaning, item, with_repetitions, items, read, join_parts, branches, opening, set_flags, set_flag}
+use Rattle.regex_syntax.specs.Grammar.{Names, Place, opens, rest_of_group, atom, char_meaning, item, with_repetitions, items, read, join_parts, branches, opening, set_flags, set_flag}
 use Rattle.regex_syntax.specs.Reading.{Text, is_at, first, skip, ◌>>=◌}
 use Rattle.regex_syntax.specs.Sets.{verbatim}
 use Rattle.regex.specs.Patterns.{default_config}
-use Rattle.matchers.specs.Choices.{has_meaning, is_plain, is_plain_text}
+use Rattle.matchers.specs.Choices.{is_plain, is_plain_text}
 
 plain_differs : (c d : ℕ) → is_plain c ≡ true → is_plain d ≡ false → (c == d) ≡ false
 plain_differs c d plain other = ne_eqb c d (λ e. both_ways _ other (ap is_plain (sym e) ∙ plain))

@@ -61,6 +61,6 @@ pub(crate) fn choices(alloc: Global, pattern: &str) -> Result<Option<Vec<&str>>,
     if !is_choice(pattern) {
         return Ok(None);
     }
-    let texts = pattern.split('|').collect(alloc)?;
+    let texts: Vec<&str> = pattern.split('|').collect(alloc)?;
     Ok(Some(texts))
 }
