@@ -9,6 +9,8 @@ pub mod BlockNaming
 pub mod Opening
 pub mod PartLaws
 pub mod OrderPlaces
+pub mod Keyed
+pub mod PlacedSets
 pub mod SlotLaws
 pub mod Counting
 pub mod Placing

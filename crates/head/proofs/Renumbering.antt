@@ -24,7 +24,7 @@ has_row n (h ∷ hs) (suc k) d l =
     (there (n, (h.labels, h.samples)) ((n + 1) + k, ((get_or hs k d).labels, (get_or hs k d).samples)) (numbered (n + 1) hs) (has_row (n + 1) hs k d (omega (arith, l))))
 
 -- two places, two label sets
-differ_at : (n : ℕ) (hs : List HeadSeries) (j k : ℕ) (d : HeadSeries) → AreDistinct (numbered n hs) → j < k → k < length hs → same_labels (get_or hs j d).labels (get_or hs k d).labels ≡ false
+pub differ_at : (n : ℕ) (hs : List HeadSeries) (j k : ℕ) (d : HeadSeries) → AreDistinct (numbered n hs) → j < k → k < length hs → same_labels (get_or hs j d).labels (get_or hs k d).labels ≡ false
 differ_at n [] j k d apart low l = absurd (omega (arith, l))
 differ_at n (h ∷ hs) j zero d apart low l = absurd (omega (arith, low))
 differ_at n (h ∷ hs) zero (suc k) d apart low l = apart.0 ((n + 1) + k, ((get_or hs k d).labels, (get_or hs k d).samples)) (has_row (n + 1) hs k d (omega (arith, l)))

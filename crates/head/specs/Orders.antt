@@ -1,11 +1,12 @@
 -- The places of series in the order of their label sets.
-use Rattle.std.specs.Prelude.{◌≡◌, ◌<◌, ◌≤◌, ℕ, T, List, [], ◌++◌, map, length, nat_eq, slice_index, slice_index_or}
+use Rattle.std.specs.Prelude.{◌≡◌, ◌<◌, ◌≤◌, ◌+◌, ℕ, T, List, [], ◌∷◌, ◌++◌, Option, None, Some, map, length, nat_eq, slice_index, slice_index_or, if◌then◌else◌}
 use Rattle.std.specs.List.{list_any}
 use Rattle.std.specs.declared.cmp.Ordering.TheVariants.{Less, Equal, Greater}
 use Rattle.std.specs.Ordering.{is_lt}
-use Rattle.std.specs.Coded.{Π_prop, →_prop, le_prop}
+use Rattle.std.specs.Coded.{Π_prop, →_prop, le_prop, Coded-set, coded_option, coded_ℕ}
+use Rattle.std.specs.FinMap.Entries.{find, is_sorted}
 use Rattle.std.proofs.Math.Dec.{T_prop}
-use Rattle.labels.specs.Labels.{Labels, labels_cmp}
+use Rattle.labels.specs.Labels.{Labels, labels_cmp, same_labels}
 use Rattle.head.specs.Heads.{HeadSeries}
 
 -- the label sets of series
@@ -43,3 +44,19 @@ pub record IsRoom (order : List ℕ) (sets : List Labels) (l : Labels) (at : ℕ
   pub inside : at ≤ length order
   pub below : (i : ℕ) → i < at → labels_cmp (set_along order sets i) l ≡ Less
   pub above : (i : ℕ) → at ≤ i → i < length order → labels_cmp (set_along order sets i) l ≡ Greater
+
+-- the place at which a label set stands first, where the first of these has this place
+abbrev pub set_place_from : Labels → ℕ → List Labels → Option ℕ
+set_place_from l n [] = None
+set_place_from l n (s ∷ sets) = if same_labels l s then Some n else set_place_from l (n + 1) sets
+
+-- a map, by ascending label sets, from each label set to the place at which it stands first
+pub record IsOrderOf (order : List (Labels × ℕ)) (sets : List Labels) : Type 0 where
+  pub ascending : T (is_sorted labels_cmp order)
+  pub places : (l : Labels) → find labels_cmp l order ≡ set_place_from l 0 sets
+
+pub IsOrderOf-prop : (order : List (Labels × ℕ)) (sets : List Labels) → IsProp (IsOrderOf order sets)
+IsOrderOf-prop order sets a b = λ i. record {
+  ascending = T_prop _ a.ascending b.ascending i;
+  places = Π_prop (λ l. Coded-set (coded_option coded_ℕ) _ _) a.places b.places i;
+}
