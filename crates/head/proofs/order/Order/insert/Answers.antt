@@ -1,4 +1,4 @@
-use Rattle.std.proofs.Common.{◌≡◌, ◌∙◌, ℕ, List, OnOk, refl, ap}
+use Rattle.std.proofs.Common.{◌≡◌, ℕ, List, OnOk, refl}
 use Rattle.std.specs.Arc.{arc_value}
 use Rattle.std.specs.FinMap.Entries.{put}
 use Rattle.labels.specs.Labels.{Labels, labels_cmp}
