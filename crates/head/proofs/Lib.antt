@@ -9,6 +9,7 @@ pub mod BlockNaming
 pub mod Opening
 pub mod PartLaws
 pub mod Ordered
+pub mod Keyed
 pub mod SlotLaws
 pub mod Counting
 pub mod Placing

@@ -106,11 +106,34 @@ impl Order {
         Ok(Order { sets })
     }
 
+    /// The place of a label set, if its entry stands at a spot.
+    fn place_at(&self, labels: &LabelSet, spot: Spot) -> Option<u32>
+        ensures { IfSome result (λ place. find labels_cmp labels.now self.now ≡ Some place) }
+    {
+        let placed = self.sets.get(spot)?;
+        match placed.labels().cmp(labels) {
+            Ordering::Equal => Some(placed.place()),
+            _ => None,
+        }
+    }
+
     /// The place of a label set. It looks first where the last search ended, and at the spot after it: a batch often
     /// has the samples of one series, and series in their order, one after another.
     pub(crate) fn place_of(&self, labels: &LabelSet, near: &mut Spot) -> Option<u32>
         ensures { result ≡ find labels_cmp labels.now self.now }
     {
+        if let Some(place) = self.place_at(labels, *near) {
+            return Some(place);
+        }
+        let next = Spot {
+            group: near.group,
+            page: near.page,
+            at: near.at.saturating_add(1),
+        };
+        if let Some(place) = self.place_at(labels, next) {
+            *near = next;
+            return Some(place);
+        }
         match self.sets.find(&Sought { labels }) {
             Ok(spot) => {
                 *near = spot;
