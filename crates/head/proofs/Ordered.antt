@@ -1,5 +1,5 @@
 -- The places of series by their label sets, as a head grows and is cut.
-use Rattle.std.specs.Prelude.{◌≡◌, ◌<◌, ◌≤◌, ◌+◌, ℕ, zero, suc, ℤ, Bool, true, false, cond, List, [], ◌∷◌, ◌++◌, Option, None, Some, length, take, is_some, int_lt, not, refl, filter, slice_index_or}
+use Rattle.std.specs.Prelude.{◌≡◌, ◌<◌, ◌≤◌, ◌+◌, ℕ, zero, suc, ℤ, Bool, true, false, cond, List, [], ◌∷◌, ◌++◌, Option, None, Some, length, take, is_some, int_lt, not, refl, filter, slice_index_or, unwrap_or}
 use Rattle.std.specs.FinMap.Entries.{find, put, find-put}
 use Rattle.std.proofs.Common.{sym, ◌∙◌, ap, subst, arith}
 use Rattle.labels.specs.Labels.{Labels, labels_cmp, same_labels}
@@ -13,7 +13,7 @@ use Rattle.head.specs.Taking.{place_from}
 use Rattle.head.proofs.HeadLaws.{same_path}
 
 -- the place, or else another one
-or_place : Option ℕ → Option ℕ → Option ℕ
+abbrev or_place : Option ℕ → Option ℕ → Option ℕ
 or_place (Some i) o = Some i
 or_place None o = o
 
@@ -31,6 +31,9 @@ or_none : (o : Option ℕ) → o ≡ or_place o None
 or_none (Some i) = refl
 or_none None = refl
 
+from_zero : (n : ℕ) → n ≡ 0 + n
+from_zero n = omega arith
+
 -- one series more
 pub ordered_more : (order : List (Labels × ℕ)) (head : List HeadSeries) (h : HeadSeries) (k : ℕ) → k ≡ length head → place_from h.labels 0 head ≡ None → IsOrderOf order head
     → IsOrderOf (put labels_cmp h.labels k order) (head ++ h ∷ [])
@@ -38,7 +41,7 @@ ordered_more order head h k is none ordered = record {
   placed = λ l.
       find-put labels_cmp labels_total l h.labels k order
       ∙ elim (same_labels l h.labels) as (λ b. same_labels l h.labels ≡ b → cond b (Some k) (find labels_cmp l order) ≡ or_place (place_from l 0 head) (cond b (Some (0 + length head)) None)) [
-        | true ↦ λ e. ap (λ m. Some m) is ∙ ap (λ o. or_place o (Some (0 + length head))) (sym (ap (λ (m : Labels). place_from m 0 head) (same_path l h.labels e) ∙ none))
+        | true ↦ λ e. ap (λ m. Some m) (is ∙ from_zero (length head)) ∙ ap (λ o. or_place o (Some (0 + length head))) (sym (ap (λ (m : Labels). place_from m 0 head) (same_path l h.labels e) ∙ none))
         | false ↦ λ e. ordered.placed l ∙ or_none (place_from l 0 head)
       ] refl
       ∙ sym (place_more l 0 head h);
@@ -99,3 +102,12 @@ absent_left t l n m (h ∷ hs) none =
 -- a series that stays is not found among those before it that stay
 pub absent_in_cut : (floor t : ℤ) (hs : List HeadSeries) (i : ℕ) (d : HeadSeries) → IsSoundHead floor hs → i < length hs → place_from (slice_index_or hs i d).labels 0 (head_cut t (take i hs)) ≡ None
 absent_in_cut floor t hs i d sound inside = absent_left t (slice_index_or hs i d).labels 0 0 (take i hs) (absent_before floor 0 hs i d sound inside)
+
+-- the series that is found has the label set
+pub like_series : (l : Labels) (head : List HeadSeries) (h : HeadSeries) → series_at l head ≡ Some h → l ≡ h.labels
+like_series l [] h e = absurd (true_not_false (sym (ap is_some e)))
+like_series l (x ∷ xs) h e =
+    elim (same_labels l x.labels) as (λ b. same_labels l x.labels ≡ b → cond b (Some x) (series_at l xs) ≡ Some h → l ≡ h.labels) [
+      | true ↦ λ s f. same_path l x.labels s ∙ ap (λ (o : Option HeadSeries). (unwrap_or o x).labels) f
+      | false ↦ λ s f. like_series l xs h f
+    ] refl e

@@ -1,8 +1,10 @@
 -- Series in slots.
-use Rattle.std.specs.Prelude.{◌≡◌, ◌<◌, ◌≤◌, ◌+◌, ◌*◌, ◌-◌, ℕ, zero, suc, Bool, true, false, not, ◌||◌, T, List, [], ◌∷◌, ◌++◌, Option, None, Some, Result, Ok, Err, map, length, slice_index, slice_index_or, slice_set, OnOk, IfOk, refl}
+use Rattle.std.specs.Prelude.{◌≡◌, ◌<◌, ◌≤◌, ◌+◌, ◌*◌, ◌-◌, ℕ, zero, suc, Bool, true, false, not, ◌||◌, T, List, [], ◌∷◌, ◌++◌, Option, None, Some, Result, Ok, Err, is_some, map, length, slice_index, slice_index_or, slice_set, OnOk, IfOk, refl}
 use Rattle.std.specs.List.{list_all}
-use Rattle.std.proofs.Common.{sym, ◌∙◌, ap, subst, arith, append_assoc, append-nil}
+use Rattle.std.proofs.Common.{sym, ◌∙◌, ap, subst, arith, append_assoc, append-nil, inl, inr}
 use Rattle.std.proofs.lemmas.Cmp.{ranked}
+use Rattle.std.proofs.lemmas.Bool.{cases_eq}
+use Rattle.std.proofs.lemmas.Bool.Decides.{leb_tells}
 use Rattle.std.specs.Ordering.{nat_cmp, is_eq}
 use Rattle.std.specs.BTreeMap.{BTreeMap, get, is_at}
 use Rattle.std.specs.Map.{lookup}
@@ -12,7 +14,7 @@ use Rattle.std.proofs.Math.Seq.{map-set_same}
 use Rattle.std.proofs.lemmas.List.{length-map, length-append, map-append, map-set, set-get_or, get_or_append_left, get_or-append_right, set-append_left, set-append_right, get_or-map as get_or-map_below}
 use Rattle.std.proofs.lemmas.List.Sums.{sum_by-append, sum_by-set}
 use Rattle.labels.specs.Labels.{Labels}
-use Rattle.labels.proofs.Times.{both_T, first_T, second_T}
+use Rattle.labels.proofs.Times.{both_T, first_T, second_T, true_not_false}
 use Rattle.head.specs.Heads.{HeadSeries}
 use Rattle.head.specs.Orders.{sets_of}
 use Rattle.head.specs.Slots.{Slot, Shared, Own, series_in, series_in_each, is_own, own_count, owned, AllOwn, slot_at, slots_from, slots_of}
@@ -235,3 +237,22 @@ new_slots last own begun none empty =
     ap (λ (hs : List HeadSeries). slots_of last own hs) empty
     ∙ append-nil (slots_from 0 last own)
     ∙ all_shared 0 last own none
+
+pub nothing_left : {X : Type 0} (xs : List X) → length xs ≡ 0 → xs ≡ []
+nothing_left [] e = refl
+nothing_left (x ∷ xs) e = absurd (omega (arith, e))
+
+none_or_some : (x : HeadSeries) (o : Option HeadSeries) → o ≡ Some x → o ≡ None → ⊥
+none_or_some x o e f = true_not_false (ap is_some (sym e ∙ f))
+
+-- a series of a version's own stands at a place of the last version
+pub place_inside : (n : ℕ) (own : ℕ → Option HeadSeries) (k : ℕ) (x : HeadSeries) → ((q : ℕ) → n ≤ q → own q ≡ None) → own k ≡ Some x → k < n
+place_inside n own k x none held =
+    elim (leb_tells n k) [
+      | inl t ↦ absurd (none_or_some x (own k) held (none k t.1))
+      | inr f ↦ f.1
+    ]
+
+-- where none stood, none is left
+pub none_left : (own left : ℕ → Option HeadSeries) (k : ℕ) → ((q : ℕ) → (q ≡ k → ⊥) → left q ≡ own q) → left k ≡ None → (q : ℕ) → own q ≡ None → left q ≡ None
+none_left own left k others gone q none = elim (cases_eq q k) [ inl e ↦ ap left e ∙ gone | inr ne ↦ others q ne ∙ none ]

@@ -1,6 +1,6 @@
 //! The series with a sample in a range.
 
-ghost use Rattle.std.specs.Prelude.{◌≡◌, ℕ, ◌<◌, ◌≤◌, ◌+◌, true, false, T, All, List, length, map, max, take, slice_index_or};
+ghost use Rattle.std.specs.Prelude.{◌≡◌, ℕ, ◌<◌, ◌≤◌, ◌+◌, true, false, T, All, List, length, map, max, slice_index_or};
 ghost use Rattle.std.specs.Arc.{arc_value};
 ghost use Rattle.std.specs.Ordering.{int_cmp};
 ghost use Rattle.std.specs.FinMap.Entries.{is_sorted};
@@ -19,7 +19,8 @@ use std::sync::Arc;
 fn passed_in(leaf: &[Arc<Series>], from: i64, to: i64) -> usize
     requires { All (λ h. T (is_sorted int_cmp h.samples)) (map (λ s. arc_value s) leaf.now) }
     ensures inside { result ≤ length leaf.now }
-    ensures passed { All (λ h. has_sample from to h.samples ≡ false) (take result (map (λ s. arc_value s) leaf.now)) }
+    ensures passed { (k : ℕ) (d : HeadSeries) → k < result
+        → has_sample from to (slice_index_or (map (λ s. arc_value s) leaf.now) k d).samples ≡ false }
     ensures stopped { (d : HeadSeries) → result < length leaf.now
         → has_sample from to (slice_index_or (map (λ s. arc_value s) leaf.now) result d).samples ≡ true }
 {

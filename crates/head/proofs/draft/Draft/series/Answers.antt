@@ -1,6 +1,7 @@
 use Rattle.std.proofs.Common.{◌≡◌, ◌<◌, ◌≤◌, ◌+◌, ℕ, List, Some, None, length, sym, ◌∙◌, ap, arith}
-use Rattle.std.specs.Prelude.{slice_index_or}
+use Rattle.std.specs.Prelude.{◌-◌, slice_index_or}
 use Rattle.std.specs.Option.{option_copied}
+use Rattle.std.specs.Arc.{arc_value}
 use Rattle.std.specs.Ordering.{nat_cmp}
 use Rattle.std.specs.BTreeMap.{get}
 use Rattle.head.specs.Heads.{HeadSeries}
@@ -47,7 +48,7 @@ returns-in-None c = λ d.
     let k = c.args.place in
     let inside : k < length last = omega (arith, c.len-shared.ensures, c.if-place-shared.false) in
     let held : own k ≡ None = sym c.get.ensures.value ∙ ap (λ o. option_copied o) c.in-None.is in
-    let e : HeadSeries = c.deref.result.now in
+    let e : HeadSeries = arc_value c.at.result.now in
     c.deref.ensures ∙ c.at.ensures
     ∙ sym (series_last last own begun k d e inside ∙ ap (λ o. series_in (slot_at (slice_index_or last k e) o)) held)
     ∙ ap (λ (slots : List Slot). slice_index_or (series_in_each slots) k d) c.self.view_is
