@@ -256,3 +256,7 @@ place_inside n own k x none held =
 -- where none stood, none is left
 pub none_left : (own left : ℕ → Option HeadSeries) (k : ℕ) → ((q : ℕ) → (q ≡ k → ⊥) → left q ≡ own q) → left k ≡ None → (q : ℕ) → own q ≡ None → left q ≡ None
 none_left own left k others gone q none = elim (cases_eq q k) [ inl e ↦ ap left e ∙ gone | inr ne ↦ others q ne ∙ none ]
+
+pub no_number : (n : ℕ) → (0 < n → false ≡ true) → n ≡ 0
+no_number zero h = refl
+no_number (suc n) h = absurd (true_not_false (sym (h (omega arith))))

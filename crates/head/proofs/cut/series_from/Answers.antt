@@ -82,4 +82,4 @@ pub returns-clause-stay : goal.returns-clause-stay
 returns-clause-stay c =
     let time_is : to_z w64 (of_z w64 c.args.time) ≡ c.args.time = search rules in
     let all : take c.loop-place.place c.args.head.now ≡ c.args.head.now = take_all c.loop-place.place c.args.head.now (omega (arith, c.loop-place-test.false, c.len-place-end.ensures)) in
-    ?
+    c.in_ok-into_list.ensures.series ∙ c.loop-place.invariant.stay ∙ (λ i. head_cut (time_is i) (all i))

@@ -6,7 +6,7 @@ use Rattle.std.specs.BTreeMap.{BTreeMap, get}
 use Rattle.std.proofs.lemmas.List.{length-set}
 use Rattle.head.specs.Heads.{HeadSeries}
 use Rattle.head.specs.Slots.{series_in_each, slots_from}
-use Rattle.head.proofs.SlotLaws.{apart, written, none_in, all_shared, series_shared, none_left, place_inside}
+use Rattle.head.proofs.SlotLaws.{apart, written, none_in, all_shared, series_shared, none_left, place_inside, nothing_left, no_number}
 use Rattle.head.proofs.draft.with_own.Goals as goal
 
 pub set-requires : goal.set-requires
@@ -37,5 +37,5 @@ pub returns : goal.returns
 returns c =
     let own : BTreeMap ℕ HeadSeries = c.loop-place.own in
     sym (series_shared c.loop-place.made)
-    ∙ ap series_in_each (sym (all_shared 0 c.loop-place.made (get nat_cmp own) (none_in own ?)))
+    ∙ ap series_in_each (sym (all_shared 0 c.loop-place.made (get nat_cmp own) (none_in own (nothing_left own.entries (no_number (length own.entries) (λ l. c.in_default.ensures.variant.1 l))))))
     ∙ c.loop-place.invariant.same
