@@ -76,11 +76,7 @@ const IN_ORDER: &[Row] = &[
 ];
 
 fn length_of(pieces: Pieces) -> usize {
-    let mut length: usize = 0;
-    for piece in pieces {
-        length = length.saturating_add(piece.len());
-    }
-    length
+    pieces.iter().fold(0, |length: usize, piece| length.saturating_add(piece.len()))
 }
 
 #[test]

@@ -52,14 +52,11 @@ pub fn told_by<
 fn is_given<
     Q: Wait + Threads + Net<Listener = TcpListener, Stream = TcpStream> + Clock + Eprint + Sync,
 >(rt: &Q, alloc: Global, row: &Row) -> bool {
-    match told_by(rt, alloc, &DIRECTORIES, row.0) {
-        Ok(told) => {
-            told.ending.status == row.1
-                && told.out.as_slice() == row.2.as_bytes()
-                && told.err.as_slice() == row.3.as_bytes()
-        }
-        Err(_) => false,
-    }
+    told_by(rt, alloc, &DIRECTORIES, row.0).is_ok_and(|told| {
+        told.ending.status == row.1
+            && told.out.as_slice() == row.2.as_bytes()
+            && told.err.as_slice() == row.3.as_bytes()
+    })
 }
 
 /// The first row that is not what the program gives.
@@ -90,14 +87,11 @@ fn has_piece(bytes: &[u8], piece: &str) -> bool {
 fn has_pieces<
     Q: Wait + Threads + Net<Listener = TcpListener, Stream = TcpStream> + Clock + Eprint + Sync,
 >(rt: &Q, alloc: Global, row: &Pieced) -> bool {
-    match told_by(rt, alloc, &DIRECTORIES, row.0) {
-        Ok(told) => {
-            told.ending.status == row.1
-                && has_piece(told.out.as_slice(), row.2)
-                && has_piece(told.err.as_slice(), row.3)
-        }
-        Err(_) => false,
-    }
+    told_by(rt, alloc, &DIRECTORIES, row.0).is_ok_and(|told| {
+        told.ending.status == row.1
+            && has_piece(told.out.as_slice(), row.2)
+            && has_piece(told.err.as_slice(), row.3)
+    })
 }
 
 /// The first row of which a piece does not stand in what the program gives.

@@ -12,3 +12,4 @@ pub mod GroupWrites
 pub mod Walks
 pub mod Counts
 pub mod Ascent
+pub mod Crossing
