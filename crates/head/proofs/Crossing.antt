@@ -8,8 +8,7 @@ use Rattle.head.specs.contracts.series.Series as series
 use Rattle.head.specs.contracts.listed.Listed as listed
 use Rattle.head.specs.contracts.index.Lists as lists
 use Rattle.head.specs.contracts.index.Index as index
-use Rattle.pages.specs.contracts.list.PagedList as paged
-use Rattle.pages.specs.contracts.sorted.SortedPages as sorted
+use Rattle.pages.proofs.Crossing.{PagedList-send, PagedList-sync, SortedPages-send, SortedPages-sync}
 use Rattle.head.specs.contracts.order.Placed as placed
 use Rattle.head.specs.contracts.order.Order as order
 use Rattle.head.specs.contracts.head.HeadView as head
@@ -44,18 +43,6 @@ Index-send = search (sendable, heap.Arc-send, Lists-send, Lists-sync) depth 60 f
 
 pub Index-sync : IsSync index.the_field.row
 Index-sync = search (sendable, heap.Arc-sync, Lists-send, Lists-sync) depth 60 fits 20000
-
-pub PagedList-send : (T N I : RattleType) (g : _) (h : _) → IsSend T → IsSync T → IsSend (paged.the_field T N I g h).row
-PagedList-send T N I g h s y = search (sendable, heap.Vec-send, heap.Vec-sync, heap.Arc-send, heap.Arc-sync, s, y) depth 60 fits 20000
-
-pub PagedList-sync : (T N I : RattleType) (g : _) (h : _) → IsSend T → IsSync T → IsSync (paged.the_field T N I g h).row
-PagedList-sync T N I g h s y = search (sendable, heap.Vec-send, heap.Vec-sync, heap.Arc-send, heap.Arc-sync, s, y) depth 60 fits 20000
-
-pub SortedPages-send : (T I : RattleType) (g : _) (h : _) → IsSend T → IsSync T → IsSend (sorted.the_field T I g h).row
-SortedPages-send T I g h s y = search (sendable, heap.Vec-send, heap.Vec-sync, heap.Arc-send, heap.Arc-sync, s, y) depth 60 fits 20000
-
-pub SortedPages-sync : (T I : RattleType) (g : _) (h : _) → IsSend T → IsSync T → IsSync (sorted.the_field T I g h).row
-SortedPages-sync T I g h s y = search (sendable, heap.Vec-send, heap.Vec-sync, heap.Arc-send, heap.Arc-sync, s, y) depth 60 fits 20000
 
 pub Placed-send : IsSend placed.the_field.row
 Placed-send = search (sendable, LabelSet-send) depth 60 fits 20000
