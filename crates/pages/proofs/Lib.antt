@@ -1,3 +1,4 @@
+pub mod Crossing
 pub mod Clones
 pub mod Parts
 pub mod Pieces
