@@ -13,4 +13,3 @@ pub mod GroupWrites
 pub mod Walks
 pub mod Counts
 pub mod Ascent
-pub mod Crossing
