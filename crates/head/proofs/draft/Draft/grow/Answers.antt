@@ -52,9 +52,10 @@ returns-then-place-shared-clause-counted c =
 pub invariant_of-self-2 : goal.invariant_of-self-2
 invariant_of-self-2 c =
     let k = c.args.place in
-    let inside : k < length c.self.inside.last = omega (arith, c.len-shared.ensures, c.if-place-shared.false) in
-    (λ q low. c.in_ok-insert.ensures.updates.2 q (apart k q (λ e. omega (arith, e, low, inside))) ∙ c.taken.ensures.others q (λ e. omega (arith, e, low, inside)) ∙ c.self.invariant.0 q low,
-    c.self.invariant.1)
+    let inside : k < length c.self.inside.last = omega (arith, c.len-shared.ensures, c.if-place-shared.false) in (
+      λ q low. c.in_ok-insert.ensures.updates.2 q (apart k q (λ e. omega (arith, e, low, inside))) ∙ c.taken.ensures.others q (λ e. omega (arith, e, low, inside)) ∙ c.self.invariant.0 q low,
+      c.self.invariant.1,
+    )
 
 pub returns-clause-grown : goal.returns-clause-grown
 returns-clause-grown c = λ d.
