@@ -163,6 +163,18 @@ fn is_served_again<J: Naming, R: Wait + Drop>(
 const WRITE_SIX: &[u8] =
     b"POST /write HTTP/1.1\r\nContent-Length: 417\r\n\r\n[{\"labels\":{\"__name__\":\"up\",\"job\":\"a\"},\"samples\":[[10,1],[20,1]]},{\"labels\":{\"__name__\":\"up\",\"job\":\"b\"},\"samples\":[[10,2],[20,2]]},{\"labels\":{\"__name__\":\"up\",\"job\":\"b\",\"zone\":\"x\"},\"samples\":[[10,3],[20,3]]},{\"labels\":{\"__name__\":\"down\",\"job\":\"a\"},\"samples\":[[10,4],[20,4]]},{\"labels\":{\"__name__\":\"down\",\"job\":\"b\"},\"samples\":[[10,5],[20,5]]},{\"labels\":{\"__name__\":\"up\",\"job\":\"a\",\"zone\":\"x\"},\"samples\":[[10,6],[20,6]]}]";
 
+/// The first three of the six series.
+const WRITE_FIRST: &[u8] =
+    b"POST /write HTTP/1.1\r\nContent-Length: 207\r\n\r\n[{\"labels\":{\"__name__\":\"up\",\"job\":\"a\"},\"samples\":[[10,1],[20,1]]},{\"labels\":{\"__name__\":\"up\",\"job\":\"b\"},\"samples\":[[10,2],[20,2]]},{\"labels\":{\"__name__\":\"up\",\"job\":\"b\",\"zone\":\"x\"},\"samples\":[[10,3],[20,3]]}]";
+
+/// The last three.
+const WRITE_SECOND: &[u8] =
+    b"POST /write HTTP/1.1\r\nContent-Length: 211\r\n\r\n[{\"labels\":{\"__name__\":\"down\",\"job\":\"a\"},\"samples\":[[10,4],[20,4]]},{\"labels\":{\"__name__\":\"down\",\"job\":\"b\"},\"samples\":[[10,5],[20,5]]},{\"labels\":{\"__name__\":\"up\",\"job\":\"a\",\"zone\":\"x\"},\"samples\":[[10,6],[20,6]]}]";
+
+/// The newest sample of the first series again.
+const WRITE_REPEAT: &[u8] =
+    b"POST /write HTTP/1.1\r\nContent-Length: 59\r\n\r\n[{\"labels\":{\"__name__\":\"up\",\"job\":\"a\"},\"samples\":[[20,1]]}]";
+
 /// A new sample, and another value at the newest time of the second series.
 const WRITE_TWO: &[u8] =
     b"POST /write HTTP/1.1\r\nContent-Length: 117\r\n\r\n[{\"labels\":{\"__name__\":\"up\",\"job\":\"a\"},\"samples\":[[30,7]]},{\"labels\":{\"__name__\":\"up\",\"job\":\"b\"},\"samples\":[[20,9]]}]";
@@ -236,8 +248,24 @@ const ONE_SELECTED: &[u8] =
 const EMPTY_SELECTED: &[u8] =
     b"HTTP/1.1 200 OK\r\nContent-Type: application/json\r\nContent-Length: 78\r\nConnection: close\r\n\r\n{\"parts\":[{\"intervals\":[],\"part\":\"head\",\"rows\":[],\"separators\":[]}],\"rows\":[]}";
 
+/// The reply to the query where a deletion has left the first series one sample, which came later,
+/// and the last one none.
+const SILENT_SELECTED: &[u8] =
+    b"HTTP/1.1 200 OK\r\nContent-Type: application/json\r\nContent-Length: 350\r\nConnection: close\r\n\r\n{\"parts\":[{\"intervals\":[{\"from\":1,\"until\":2,\"verdict\":\"match\"},{\"from\":2,\"until\":4,\"verdict\":1},{\"from\":4,\"until\":6,\"verdict\":0},{\"from\":6,\"until\":4294967296,\"verdict\":\"none\"}],\"part\":\"head\",\"rows\":[{\"labels\":{\"__name__\":\"up\",\"job\":\"a\"},\"samples\":[[30,5]]}],\"separators\":[1,2,4,6]}],\"rows\":[{\"labels\":{\"__name__\":\"up\",\"job\":\"a\"},\"samples\":[[30,5]]}]}";
+
+/// The reply to the query where a deletion has left no series that is asked for a sample.
+const ALL_SILENT_SELECTED: &[u8] =
+    b"HTTP/1.1 200 OK\r\nContent-Type: application/json\r\nContent-Length: 235\r\nConnection: close\r\n\r\n{\"parts\":[{\"intervals\":[{\"from\":1,\"until\":2,\"verdict\":\"none\"},{\"from\":2,\"until\":4,\"verdict\":1},{\"from\":4,\"until\":6,\"verdict\":0},{\"from\":6,\"until\":4294967296,\"verdict\":\"none\"}],\"part\":\"head\",\"rows\":[],\"separators\":[1,2,4,6]}],\"rows\":[]}";
+
+/// The reply to the query where the last three series came first.
+const TURNED_SELECTED: &[u8] =
+    b"HTTP/1.1 200 OK\r\nContent-Type: application/json\r\nContent-Length: 517\r\nConnection: close\r\n\r\n{\"parts\":[{\"intervals\":[{\"from\":1,\"until\":3,\"verdict\":0},{\"from\":3,\"until\":4,\"verdict\":\"match\"},{\"from\":4,\"until\":5,\"verdict\":\"match\"},{\"from\":5,\"until\":4294967296,\"verdict\":1}],\"part\":\"head\",\"rows\":[{\"labels\":{\"__name__\":\"up\",\"job\":\"a\"},\"samples\":[[10,1],[20,1]]},{\"labels\":{\"__name__\":\"up\",\"job\":\"a\",\"zone\":\"x\"},\"samples\":[[10,6],[20,6]]}],\"separators\":[1,3,4,5]}],\"rows\":[{\"labels\":{\"__name__\":\"up\",\"job\":\"a\"},\"samples\":[[10,1],[20,1]]},{\"labels\":{\"__name__\":\"up\",\"job\":\"a\",\"zone\":\"x\"},\"samples\":[[10,6],[20,6]]}]}";
+
 /// Requests to one store, and the reply to each.
-const SESSION: &[(&[u8], Status, &[u8])] = &[
+type Session = &'static [(&'static [u8], Status, &'static [u8])];
+
+/// Each kind of change, and the query between them.
+const SESSION: Session = &[
     (WRITE_SIX, Status::Done, DONE),
     (SELECT, Status::Done, SELECTED),
     (WRITE_TWO, Status::Conflict, DUPLICATE),
@@ -254,15 +282,46 @@ const SESSION: &[(&[u8], Status, &[u8])] = &[
     (SELECT, Status::Done, NONE_SELECTED),
 ];
 
+/// A deleted sample that is written again stays deleted, and a later one stands beside a run of
+/// series without a sample.
+const SILENT_SESSION: Session = &[
+    (WRITE_SIX, Status::Done, DONE),
+    (DELETE, Status::Done, DONE),
+    (WRITE_REPEAT, Status::Done, DONE),
+    (SELECT, Status::Done, ALL_SILENT_SELECTED),
+    (WRITE_ONE, Status::Done, DONE),
+    (SELECT, Status::Done, SILENT_SELECTED),
+];
+
+/// The two batches one after another, as the demo commits them.
+const ORDERED_SESSION: Session = &[
+    (WRITE_FIRST, Status::Done, DONE),
+    (WRITE_SECOND, Status::Done, DONE),
+    (SELECT, Status::Done, SELECTED),
+];
+
+/// The second batch before the first: the same rows, and another certificate.
+const TURNED_SESSION: Session = &[
+    (WRITE_SECOND, Status::Done, DONE),
+    (WRITE_FIRST, Status::Done, DONE),
+    (SELECT, Status::Done, TURNED_SELECTED),
+];
+
 /// Whether each request of the session gets its reply.
-fn is_session<J: Naming, R: Wait>(rt: &R, alloc: Global, store: Store, edge: Edge) -> bool
+fn is_session<J: Naming, R: Wait>(
+    rt: &R,
+    alloc: Global,
+    store: Store,
+    session: Session,
+    edge: Edge,
+) -> bool
     requires book { store.seen.book ≡ J.book }
     requires opening { opening_of [] ≡ J.opening }
 {
     let Some(mut store) = open_empty::<J, &R>(rt, alloc, store) else {
         return false;
     };
-    for (input, status, text) in SESSION {
+    for (input, status, text) in session {
         let want = (Served::Replied(*status), *text);
         if !is_served(rt, alloc, &mut store, input, edge, want) {
             return false;
@@ -302,9 +361,22 @@ fn a_connection_refused_memory_is_served_when_made_again(rt: HostRuntime) {
 fn a_session_is_replied_to_in_any_pieces(rt: HostRuntime) {
     for at_most in [usize::MAX, 7, 1] {
         let edge = pieces_of(at_most);
-        let served = is_session::<Brand, _>(&rt, rt.alloc(), Store::new(), edge);
+        let served = is_session::<Brand, _>(&rt, rt.alloc(), Store::new(), SESSION, edge);
         assert!(rt; served, "{at_most} bytes at a time");
     }
+}
+
+#[test]
+fn a_deleted_sample_stays_deleted(rt: HostRuntime) {
+    let (alloc, edge) = (rt.alloc(), pieces_of(7));
+    assert!(rt; is_session::<Brand, _>(&rt, alloc, Store::new(), SILENT_SESSION, edge));
+}
+
+#[test]
+fn the_order_of_two_batches_is_that_of_their_references(rt: HostRuntime) {
+    let (alloc, edge) = (rt.alloc(), pieces_of(7));
+    assert!(rt; is_session::<Brand, _>(&rt, alloc, Store::new(), ORDERED_SESSION, edge));
+    assert!(rt; is_session::<Brand, _>(&rt, alloc, Store::new(), TURNED_SESSION, edge));
 }
 
 /// Whether a writer that fails behind each prefix of the reply has taken that prefix.
