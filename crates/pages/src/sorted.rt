@@ -7,7 +7,7 @@ ghost use Rattle.pages.specs.Sorted.{place_of, IsSpot, HasEntry, entries_of, IsS
 
 use crate::edit::{insert_at, replace_at};
 use crate::page::Top;
-use crate::search::{entry_in_groups, find_in_groups};
+use crate::search::{entry_in_groups, find_in_groups, is_in_groups};
 use crate::walk::step;
 use crate::{Entry, Probe, Spot};
 use std::alloc::{AllocError, Global};
@@ -66,6 +66,20 @@ impl<E: Entry> SortedPages<E> {
             ≡ Some (E.item result.now) }
     {
         entry_in_groups(self.top.as_slice(), spot)
+    }
+
+    /// The entry at a spot, `None` where none stands there.
+    pub fn get(&self, spot: Spot) -> Option<&E>
+        ensures none { IfNone result (¬ HasEntry self.now spot) }
+        ensures entry { IfSome result (λ _. HasEntry self.now spot) }
+        ensures some { IfSome result (λ x. slice_get (entries_of self.now) (place_of self.now spot)
+            ≡ Some (E.item x.now)) }
+    {
+        if is_in_groups(self.top.as_slice(), spot) {
+            Some(self.at(spot))
+        } else {
+            None
+        }
     }
 
     /// The spot of the first place.

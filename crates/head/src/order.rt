@@ -1,0 +1,157 @@
+//! The order of a head: the places of its series, by their label sets.
+
+ghost use Rattle.std.specs.Prelude.{◌≡◌, [], IfOk, OnOk, OnErr};
+ghost use Rattle.std.specs.FinMap.Entries.{find, put};
+ghost use Rattle.labels.specs.Labels.{labels_cmp};
+
+use labels::LabelSet;
+use pages::{Probe, SortedPages, Spot};
+use std::alloc::{AllocError, Global};
+use std::cmp::Ordering;
+use std::marker::Model;
+use std::sync::Arc;
+
+/// A label set, and the place of its series.
+#[derive(Drop)]
+pub struct Placed {
+    labels: LabelSet,
+    place: u32,
+}
+
+impl Model for Placed {
+    ghost use Rattle.std.specs.Prelude.{ℕ, List};
+
+    ghost Value = { List (List ℕ × List ℕ) × ℕ };
+
+    ghost view = { λ p. (p.labels, p.place) };
+}
+
+impl Placed {
+    ghost use Rattle.std.specs.Arc.{arc_value};
+
+    fn new(alloc: Global, labels: &LabelSet, place: u32) -> Result<Arc<Placed>, AllocError>
+        ensures { IfOk result (λ placed. arc_value placed ≡ (labels.now, place)) }
+    {
+        let labels = labels.try_clone()?;
+        Ok(Arc::new(alloc, Placed { labels, place })?)
+    }
+
+    fn labels(&self) -> &LabelSet
+        ensures { result.now ≡ self.now.0 }
+    {
+        &self.labels
+    }
+
+    fn place(&self) -> u32
+        ensures { result ≡ self.now.1 }
+    {
+        self.place
+    }
+}
+
+/// The label set that a search seeks.
+#[derive(Drop)]
+struct Sought<'a> {
+    labels: &'a LabelSet,
+}
+
+impl<'a> Probe<Arc<Placed>> for Sought<'a> {
+    ghost use Rattle.labels.specs.Labels.{labels_cmp};
+
+    ghost order = { λ probe y. labels_cmp y.0 probe.labels.now };
+
+    fn compare(&self, entry: &Arc<Placed>) -> Ordering {
+        entry.labels().cmp(self.labels)
+    }
+}
+
+/// Label sets, each with the place of its series. Versions share what they have in common.
+///
+/// Clauses see the label sets in ascending order, each with its place.
+#[derive(Drop)]
+pub struct Order {
+    sets: SortedPages<Arc<Placed>>,
+}
+
+impl Model for Order {
+    ghost use Rattle.std.specs.Prelude.{ℕ, List, T};
+    ghost use Rattle.std.specs.FinMap.Entries.{is_sorted};
+    ghost use Rattle.labels.specs.Labels.{labels_cmp};
+    ghost use Rattle.pages.specs.Sorted.{entries_of};
+
+    ghost Value = { List (List (List ℕ × List ℕ) × ℕ) };
+
+    ghost view = { λ order. entries_of order.sets };
+
+    ghost invariant = { λ order. T (is_sorted labels_cmp (entries_of order.sets)) };
+}
+
+impl Order {
+    ghost use Rattle.std.specs.Prelude.{T, Some, IfSome, IfNone, None};
+    ghost use Rattle.std.specs.FinMap.Entries.{is_sorted};
+
+    /// The order of no label set.
+    pub fn new(alloc: Global) -> Result<Order, AllocError>
+        ensures { IfOk result (λ order. order ≡ []) }
+    {
+        let sets = SortedPages::new(alloc)?;
+        Ok(Order { sets })
+    }
+
+    /// The same order, which shares all pages: one pointer is copied.
+    pub fn try_clone(&self) -> Result<Order, AllocError>
+        ensures { IfOk result (λ order. order ≡ self.now) }
+    {
+        let sets = self.sets.try_clone()?;
+        Ok(Order { sets })
+    }
+
+    /// The place of a label set, if its entry stands at a spot.
+    fn place_at(&self, labels: &LabelSet, spot: Spot) -> Option<u32>
+        ensures { IfSome result (λ place. find labels_cmp labels.now self.now ≡ Some place) }
+    {
+        let placed = self.sets.get(spot)?;
+        match placed.labels().cmp(labels) {
+            Ordering::Equal => Some(placed.place()),
+            _ => None,
+        }
+    }
+
+    /// The place of a label set. It looks first where the last search ended, and at the spot after it: a batch often
+    /// has the samples of one series, and series in their order, one after another.
+    pub fn place_of(&self, labels: &LabelSet, near: &mut Spot) -> Option<u32>
+        ensures { result ≡ find labels_cmp labels.now self.now }
+    {
+        if let Some(place) = self.place_at(labels, *near) {
+            return Some(place);
+        }
+        let next = Spot {
+            group: near.group,
+            page: near.page,
+            at: near.at.saturating_add(1),
+        };
+        if let Some(place) = self.place_at(labels, next) {
+            *near = next;
+            return Some(place);
+        }
+        match self.sets.find(&Sought { labels }) {
+            Ok(spot) => {
+                *near = spot;
+                Some(self.sets.at(spot).place())
+            }
+            Err(_) => None,
+        }
+    }
+
+    /// Gives a label set a place. After an `Err` all is as it was.
+    pub fn insert(&mut self, alloc: Global, labels: &LabelSet, place: u32) -> Result<(), AllocError>
+        ensures ok { OnOk result (self.new ≡ put labels_cmp labels.now place self.old) }
+        ensures err { OnErr result (self.new ≡ self.old) }
+    {
+        let placed = Placed::new(alloc, labels, place)?;
+        match self.sets.find(&Sought { labels }) {
+            Ok(spot) => self.sets.set(spot, placed),
+            Err(spot) => self.sets.insert(alloc, spot, placed),
+        }
+    }
+}
