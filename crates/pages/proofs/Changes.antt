@@ -1,5 +1,5 @@
 -- A change of one item in its page.
-use Rattle.std.proofs.Common.{◌≡◌, ◌⊎◌, ℕ, zero, suc, ◌+◌, ◌-◌, ◌/◌, ◌%◌, ◌<◌, List, [], ◌∷◌, ◌++◌, map, length, get_or, set, drop, Vec, Global, refl, sym, ap, ◌∙◌, arith, length-drop, length-append}
+use Rattle.std.proofs.Common.{◌≡◌, ◌⊎◌, ℕ, zero, suc, ◌+◌, ◌-◌, ◌/◌, ◌%◌, ◌<◌, List, [], ◌∷◌, ◌++◌, map, length, get_or, set, drop, Vec, Global, refl, sym, ap, ◌∙◌, arith, length-drop, length-append, length-set}
 use Rattle.std.specs.List.{AllZip}
 use Rattle.std.specs.Vec.{with_item}
 use Rattle.std.proofs.lemmas.List.{get_or-drop, get_or_append_left, get_or-map, map-set, length-map}
@@ -7,6 +7,11 @@ use Rattle.pages.specs.Pages.{joined, IsPaged, IsChanged}
 use Rattle.pages.proofs.Parts.{IsPlace}
 use Rattle.pages.proofs.Clones.{clone_items}
 use Rattle.pages.proofs.Pieces.{held_by, part_read, part_at, whole_set}
+
+set_itself : {X : Type 0} (xs : List X) (i : ℕ) (d : X) → set xs i (get_or xs i d) ≡ xs
+set_itself [] i d = refl
+set_itself (x ∷ xs) zero d = refl
+set_itself (x ∷ xs) (suc i) d = ap (λ t. x ∷ t) (set_itself xs i d)
 
 -- an entry of a page, or of a clone of it, is changed
 module _ {E X : Type 0} (item : E → X) (is_clone : E → E → Type 0) (same : (x y : E) → is_clone x y → item y ≡ item x) (old own new : Vec E Global) (at : ℕ) (x y : E) (P : Type 0) (clone : (own ≡ old) ⊎ (AllZip is_clone old.items own.items × P)) (is : new ≡ with_item own at y) where
@@ -19,6 +24,19 @@ module _ {E X : Type 0} (item : E → X) (is_clone : E → E → Type 0) (same :
     where
       items : map item own.items ≡ map item old.items
       items = clone_items item is_clone same old own P clone
+
+  -- an entry of a page, or of a clone of it, is as it was
+  pub page_same : at < length (map item old.items) → x ≡ get_or own.items at x → item y ≡ item x → map item new.items ≡ map item old.items
+  page_same h read e = page_changed (λ z. z) h read e (item x) ∙ set_itself (map item old.items) at (item x)
+
+-- a change keeps how many items there are
+pub changed_count : {X : Type 0} (after : X → X) (old : List X) (at : ℕ) (new : List X) → at < length old → IsChanged after old at new → length new ≡ length old
+changed_count after [] at new h is = absurd (omega (arith, h))
+changed_count after (x ∷ xs) at new h is = ap length (is x) ∙ length-set (x ∷ xs) at (after (get_or (x ∷ xs) at x))
+
+-- the same change of a list that is read from equal things
+pub changed_in : {L X : Type 0} (after : X → X) (whole : L → List X) (place : L → ℕ) {own old : L} {new made : List X} → own ≡ old → new ≡ made → IsChanged after (whole own) (place own) made → IsChanged after (whole old) (place old) new
+changed_in after whole place e f is d = f ∙ is d ∙ ap (λ l. set (whole l) (place l) (after (get_or (whole l) (place l) d))) e
 
 -- the same change, of an equal list and to an equal one
 pub changed_after : {X : Type 0} (after : X → X) (at : ℕ) {old own new made : List X} → own ≡ old → new ≡ made → IsChanged after own at made → IsChanged after old at new

@@ -3,13 +3,13 @@ use Rattle.std.proofs.Common.{◌≡◌, ℕ, zero, suc, ◌+◌, ◌<◌, ◌�
 use Rattle.std.specs.List.{insert}
 use Rattle.std.proofs.lemmas.List.{map-set, take-map, drop-map, length-map, get_or_default}
 use Rattle.std.proofs.lemmas.List.Elements.{All-set, All-append, All-cons, All-take, All-drop}
-use Rattle.pages.specs.Pages.{joined}
+use Rattle.pages.specs.Pages.{joined, IsChanged}
 use Rattle.pages.specs.declared.probe.Spot.{Spot}
 use Rattle.pages.specs.Sorted.{start_of, place_in, place_of, IsKept, AreKept, IsGroup, AreGroups, IsSpotIn, IsSpot, HasEntryIn, entries_of}
 use Rattle.pages.proofs.Pieces.{part_at}
-use Rattle.pages.proofs.Spots.{start_fits}
+use Rattle.pages.proofs.Spots.{item_at, start_fits}
 use Rattle.pages.proofs.Inserts.{map_insert, whole_halves, page_insert, pages_insert, page_set_spot}
-use Rattle.pages.proofs.Groups.{entry_place}
+use Rattle.pages.proofs.Groups.{entry_place, group_at}
 
 some_in : (n : ℕ) → nat_eq n 0 ≡ false → 0 < n
 some_in zero e = (cc)
@@ -100,3 +100,13 @@ module _ {P X : Type 0} (shown : P → List (List X)) (gs : List P) where
     pub replaced : (new : P) (x : X) → HasEntryIn (get_or (map shown gs) spot.group []) spot → joined (shown new) ≡ set (joined (shown group)) (place_in (shown group) spot) x → entries_of (map shown (set gs spot.group new)) ≡ set (entries_of (map shown gs)) (place_of (map shown gs) spot) x
     replaced new x h e =
         ap entries_of (map-set shown gs spot.group new) ∙ one_set (map shown gs) spot (shown group) among at_group (shown new) x (subst (λ l. HasEntryIn l spot) at_group h) e
+
+    pub spot_changed : (new : P) (after : X → X) → HasEntryIn (get_or (map shown gs) spot.group []) spot → IsChanged after (joined (shown group)) (place_in (shown group) spot) (joined (shown new)) → IsChanged after (entries_of (map shown gs)) (place_of (map shown gs) spot) (entries_of (map shown (set gs spot.group new)))
+    spot_changed new after h changed d =
+        let pages : List (List _) = get_or (map shown gs) spot.group [] in
+        let inside : place_in pages spot < length (get_or (map joined (map shown gs)) spot.group []) = subst (λ l. place_in pages spot < length l) (sym (group_at (map shown gs) spot.group)) (entry_place pages spot h) in
+        replaced new (after (get_or (joined (shown group)) (place_in (shown group) spot) d)) h (changed d)
+        ∙ ap (λ x. set (entries_of (map shown gs)) (place_of (map shown gs) spot) (after x))
+        (sym (item_at (map joined (map shown gs)) spot.group (place_in pages spot) d (omega (arith, among, length-map (map shown gs) joined)) inside
+        ∙ ap (λ l. get_or l (place_in pages spot) d) (group_at (map shown gs) spot.group)
+        ∙ ap (λ l. get_or (joined l) (place_in l spot) d) at_group))

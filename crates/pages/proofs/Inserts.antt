@@ -5,10 +5,11 @@ use Rattle.std.proofs.lemmas.List.{map-append, map-set, take-map, drop-map, leng
 use Rattle.std.specs.Arc.{arc_value}
 use Rattle.std.proofs.lemmas.List.Edits.{insert-append_left, insert-append_right, length-insert}
 use Rattle.std.proofs.lemmas.List.Elements.{All-set, All-append, All-cons, All-take, All-drop}
-use Rattle.pages.specs.Pages.{Page, leaf_list, joined}
+use Rattle.pages.specs.Pages.{Page, leaf_list, joined, IsChanged}
 use Rattle.pages.specs.Sorted.{start_of, IsKept, AreKept, IsGroup, IsSpotIn}
 use Rattle.pages.specs.declared.probe.Spot.{Spot}
 use Rattle.pages.proofs.Pieces.{part_at}
+use Rattle.pages.proofs.Spots.{item_at}
 
 -- an item joins a page
 pub insert_at : {X : Type 0} (parts : List (List X)) (k at : ℕ) (x : X) → k < length parts → at ≤ length (get_or parts k []) → joined (set parts k (insert (get_or parts k []) at x)) ≡ insert (joined parts) (start_of parts k + at) x
@@ -133,6 +134,14 @@ page_set_spot shown pages k page new at x within is l e =
     let part : get_or (map shown pages) k [] ≡ shown page = part_at shown pages k page within is in
     ap joined (map-set shown pages k new ∙ ap (λ s. set (map shown pages) k s) (e ∙ ap (λ s. set s at x) (sym part)))
     ∙ set_spot (map shown pages) k at x (subst (λ s. at < length s) (sym part) l)
+
+-- a page with one item changed
+pub page_change_spot : {P X : Type 0} (shown : P → List X) (pages : List P) (k : ℕ) (page new : P) (at : ℕ) (after : X → X) → k < length pages → page ≡ get_or pages k page → at < length (shown page) → IsChanged after (shown page) at (shown new) → IsChanged after (joined (map shown pages)) (start_of (map shown pages) k + at) (joined (map shown (set pages k new)))
+page_change_spot shown pages k page new at after within is l changed d =
+    let part : get_or (map shown pages) k [] ≡ shown page = part_at shown pages k page within is in
+    page_set_spot shown pages k page new at (after (get_or (shown page) at d)) within is l (changed d)
+    ∙ ap (λ x. set (joined (map shown pages)) (start_of (map shown pages) k + at) (after x))
+    (sym (item_at (map shown pages) k at d (omega (arith, length-map pages shown)) (subst (λ s. at < length s) (sym part) l) ∙ ap (λ s. get_or s at d) part))
 
 pub kept_same : {X : Type 0} (page new : List X) → IsKept page → length new ≡ length page → IsKept new
 kept_same page new h e = (omega (arith, h.0), omega (arith, h.1))

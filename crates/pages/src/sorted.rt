@@ -2,11 +2,12 @@
 
 ghost use Rattle.std.specs.Prelude.{◌≡◌, ◌+◌, ◌<◌, ◌≤◌, [], length, map, drop, slice_index_or, slice_get, slice_set, Some, MatchResult, IfSome, IfNone, IfOk, IfErr, OnOk, OnErr};
 ghost use Rattle.std.specs.List.{insert};
-ghost use Rattle.pages.specs.Pages.{IsPrefix};
+ghost use Rattle.pages.specs.Pages.{IsPrefix, IsChanged};
 ghost use Rattle.pages.specs.Sorted.{place_of, IsSpot, HasEntry, entries_of, IsSplit, IsHit, IsGap};
 
 use crate::edit::{insert_at, replace_at};
 use crate::page::Top;
+use crate::rewrite::{WholeChange, change_at};
 use crate::search::{entry_in_groups, find_in_groups, is_in_groups};
 use crate::walk::step;
 use crate::{Entry, Probe, Spot};
@@ -126,6 +127,16 @@ impl<E: Entry> SortedPages<E> {
         ensures err { OnErr result (self.new ≡ self.old) }
     {
         replace_at(&mut self.top, spot, x)
+    }
+
+    /// Changes the entry at a spot in its place, or leaves all as it is.
+    pub fn change<C: WholeChange<E>>(&mut self, spot: Spot, change: &C) -> Result<(), AllocError>
+        requires { HasEntry self.old spot }
+        ensures ok { OnOk result (IsChanged (C.after change.now) (entries_of self.old)
+            (place_of self.old spot) (entries_of self.new)) }
+        ensures err { OnErr result (self.new ≡ self.old) }
+    {
+        change_at(&mut self.top, spot, change)
     }
 
     /// The same list, which shares all pages: one pointer is copied.
