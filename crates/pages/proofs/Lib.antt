@@ -10,4 +10,5 @@ pub mod Groups
 pub mod Inserts
 pub mod GroupWrites
 pub mod Walks
+pub mod Counts
 pub mod Ascent

@@ -34,7 +34,7 @@ at_or_before zero (suc j) l = inr (omega arith)
 at_or_before (suc i) zero l = absurd (omega (arith, l))
 at_or_before (suc i) (suc j) l = elim (at_or_before i j (omega (arith, l))) [ inl e ↦ inl (ap suc e) | inr b ↦ inr (omega (arith, b)) ]
 
-got_left : {X : Type 0} (xs ys : List X) (p : ℕ) → p < length xs → slice_get (xs ++ ys) p ≡ slice_get xs p
+pub got_left : {X : Type 0} (xs ys : List X) (p : ℕ) → p < length xs → slice_get (xs ++ ys) p ≡ slice_get xs p
 got_left [] ys p l = absurd (omega arith)
 got_left (x ∷ xs) ys zero l = refl
 got_left (x ∷ xs) ys (suc p) l = got_left xs ys p (omega arith)

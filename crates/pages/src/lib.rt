@@ -25,6 +25,7 @@ mod edit;
 mod entry;
 mod list;
 mod page;
+mod place;
 mod probe;
 mod rewrite;
 mod search;

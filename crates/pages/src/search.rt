@@ -133,7 +133,7 @@ pub(crate) fn find_in_groups<E: Entry, P: Probe<E>>(
     find_in_pages(groups[group].as_slice(), group, probe)
 }
 
-fn entry_of<E: Entry>(page: &[E], at: usize) -> &E
+pub(crate) fn entry_of<E: Entry>(page: &[E], at: usize) -> &E
     requires { at < length (map E.item page.now) }
     ensures { slice_get (map E.item page.now) at ≡ Some (E.item result.now) }
 {

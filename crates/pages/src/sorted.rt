@@ -7,6 +7,7 @@ ghost use Rattle.pages.specs.Sorted.{place_of, IsSpot, HasEntry, entries_of, IsS
 
 use crate::edit::{insert_at, replace_at};
 use crate::page::Top;
+use crate::place::{entry_after, place_at};
 use crate::rewrite::{WholeChange, change_at};
 use crate::search::{entry_in_groups, find_in_groups, is_in_groups};
 use crate::walk::step;
@@ -23,18 +24,21 @@ use std::sync::Arc;
 #[derive(Drop)]
 pub struct SortedPages<E: Entry> {
     top: Top<E>,
+    len: usize,
 }
 
 impl<E: Entry> Model for SortedPages<E> {
-    ghost use Rattle.std.specs.Prelude.{List};
+    ghost use Rattle.std.specs.Prelude.{◌≡◌, ◌<◌, ◌^◌, List, length};
     ghost use Rattle.pages.specs.Pages.{top_groups};
-    ghost use Rattle.pages.specs.Sorted.{AreGroups};
+    ghost use Rattle.pages.specs.Sorted.{AreGroups, entries_of};
 
     ghost Value = { List (List (List E.Item)) };
 
     ghost view = { λ pages. top_groups E.item pages.top };
 
-    ghost invariant = { λ pages. AreGroups (top_groups E.item pages.top) };
+    ghost invariant = { λ pages. AreGroups (top_groups E.item pages.top)
+        × (pages.len ≡ length (entries_of (top_groups E.item pages.top)))
+        × (pages.len < 2 ^ 64) };
 }
 
 impl<E: Entry> SortedPages<E> {
@@ -43,7 +47,32 @@ impl<E: Entry> SortedPages<E> {
         ensures { IfOk result (λ pages. pages ≡ []) }
     {
         let top = Arc::new(alloc, Vec::new(alloc))?;
-        Ok(SortedPages { top })
+        Ok(SortedPages { top, len: 0 })
+    }
+
+    /// How many entries it has.
+    pub fn len(&self) -> usize
+        ensures { result ≡ length (entries_of self.now) }
+    {
+        self.len
+    }
+
+    /// The place of a spot: it goes over the groups, and over the pages of one of them.
+    pub fn place(&self, spot: Spot) -> usize
+        requires { IsSpot self.now spot }
+        ensures { result ≡ place_of self.now spot }
+    {
+        place_at(self.top.as_slice(), spot)
+    }
+
+    /// The entry so many places behind a spot: it goes over the pages between.
+    pub fn entry_after(&self, spot: Spot, n: usize) -> &E
+        requires spot { IsSpot self.now spot }
+        requires held { place_of self.now spot + n < length (entries_of self.now) }
+        ensures { slice_get (entries_of self.now) (place_of self.now spot + n)
+            ≡ Some (E.item result.now) }
+    {
+        entry_after(self.top.as_slice(), spot, n)
     }
 
     /// Where the sought entry stands, or else would stand, in a list that the probe splits: three searches by halving.
@@ -109,14 +138,21 @@ impl<E: Entry> SortedPages<E> {
         step(self.top.as_slice(), spot)
     }
 
-    /// Puts an entry at a spot, before what stands there. Other spots hold no longer.
+    /// Puts an entry at a spot, before what stands there. Other spots hold no longer. No list has more than
+    /// `usize::MAX` entries: there it is an error.
     pub fn insert(&mut self, alloc: Global, spot: Spot, x: E) -> Result<(), AllocError>
         requires { IsSpot self.old spot }
         ensures ok { OnOk result (entries_of self.new
             ≡ insert (entries_of self.old) (place_of self.old spot) (E.item x)) }
         ensures err { OnErr result (self.new ≡ self.old) }
     {
-        insert_at(alloc, &mut self.top, spot, x)
+        let len = self.len;
+        if len == usize::MAX {
+            return Err(AllocError);
+        }
+        insert_at(alloc, &mut self.top, spot, x)?;
+        self.len = len + 1;
+        Ok(())
     }
 
     /// Replaces the entry at a spot.
@@ -145,6 +181,7 @@ impl<E: Entry> SortedPages<E> {
     {
         Ok(SortedPages {
             top: Arc::try_clone(&self.top)?,
+            len: self.len,
         })
     }
 }
