@@ -9,7 +9,7 @@ use Rattle.labels.specs.Labels.{Labels, same_labels}
 use Rattle.head.specs.Refusals.{Refusal, out_of_bounds, out_of_order, duplicate, limit}
 use Rattle.head.specs.Limits.{Limits}
 use Rattle.head.specs.Heads.{HeadSeries, series_at}
-use Rattle.head.specs.Taking.{grown, extended, place_from, series_added, new_added, head_added, head_added_after}
+use Rattle.head.specs.Taking.{grown, extended, place_from, series_added, new_added, head_added, head_added_after, with_series}
 use Rattle.labels.proofs.Times.{true_not_false}
 
 -- the first series with these labels stands here
@@ -65,10 +65,6 @@ same_place i k e = omega arith
 
 pub stands_at : (l : Labels) (head : List HeadSeries) (i : ℕ) → place_from l 0 head ≡ Some i → Stands l head i
 stands_at l head i e = let r = stands l 0 head i e in subst (Stands l head) (same_place i r.0 r.1) r.2
-
-abbrev pub with_series : List HeadSeries → ℕ → Result HeadSeries Refusal → Result (List HeadSeries) Refusal
-with_series head k (Ok h) = Ok (slice_set head k h)
-with_series head k (Err e) = Err e
 
 pub head_added-series_added : (most : Limits) (head : List HeadSeries) (at : ℕ) (l : Labels) (s : ℤ × ℤ) (k : ℕ) (d : HeadSeries) → Stands l head k →
     head_added_after most head at l s (series_at l head) ≡ with_series head k (series_added most at s (slice_index_or head k d))

@@ -29,6 +29,7 @@ mod index;
 mod list;
 mod listed;
 mod live;
+mod order;
 mod selection;
 mod series;
 mod snapshot;

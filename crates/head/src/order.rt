@@ -13,7 +13,7 @@ use std::sync::Arc;
 
 /// A label set, and the place of its series.
 #[derive(Drop)]
-pub struct Placed {
+struct Placed {
     labels: LabelSet,
     place: u32,
 }
@@ -69,7 +69,7 @@ impl<'a> Probe<Arc<Placed>> for Sought<'a> {
 ///
 /// Clauses see the label sets in ascending order, each with its place.
 #[derive(Drop)]
-pub struct Order {
+pub(crate) struct Order {
     sets: SortedPages<Arc<Placed>>,
 }
 
@@ -91,7 +91,7 @@ impl Order {
     ghost use Rattle.std.specs.FinMap.Entries.{is_sorted};
 
     /// The order of no label set.
-    pub fn new(alloc: Global) -> Result<Order, AllocError>
+    pub(crate) fn new(alloc: Global) -> Result<Order, AllocError>
         ensures { IfOk result (λ order. order ≡ []) }
     {
         let sets = SortedPages::new(alloc)?;
@@ -99,7 +99,7 @@ impl Order {
     }
 
     /// The same order, which shares all pages: one pointer is copied.
-    pub fn try_clone(&self) -> Result<Order, AllocError>
+    pub(crate) fn try_clone(&self) -> Result<Order, AllocError>
         ensures { IfOk result (λ order. order ≡ self.now) }
     {
         let sets = self.sets.try_clone()?;
@@ -119,7 +119,7 @@ impl Order {
 
     /// The place of a label set. It looks first where the last search ended, and at the spot after it: a batch often
     /// has the samples of one series, and series in their order, one after another.
-    pub fn place_of(&self, labels: &LabelSet, near: &mut Spot) -> Option<u32>
+    pub(crate) fn place_of(&self, labels: &LabelSet, near: &mut Spot) -> Option<u32>
         ensures { result ≡ find labels_cmp labels.now self.now }
     {
         if let Some(place) = self.place_at(labels, *near) {
@@ -144,7 +144,7 @@ impl Order {
     }
 
     /// Gives a label set a place. After an `Err` all is as it was.
-    pub fn insert(&mut self, alloc: Global, labels: &LabelSet, place: u32) -> Result<(), AllocError>
+    pub(crate) fn insert(&mut self, alloc: Global, labels: &LabelSet, place: u32) -> Result<(), AllocError>
         ensures ok { OnOk result (self.new ≡ put labels_cmp labels.now place self.old) }
         ensures err { OnErr result (self.new ≡ self.old) }
     {
