@@ -2,7 +2,9 @@
 //!
 //! [`PagedList`] is a list by place, seen by contracts as the plain list: `get` and `leaf_from` read it, `set` and
 //! `push` change it. [`SortedPages`] is a list in an order, whose caller knows the order: `find` takes a [`Probe`], and
-//! `at`, `insert` and `set` take the [`Spot`] that it found. A page holds values of an [`Entry`]: a number, or a pointer.
+//! `at`, `place`, `entry_after`, `insert`, `set` and `change` take the [`Spot`] that it found. What is done to an entry
+//! in its place is a [`Change`], or a [`WholeChange`], which leaves the entry as it was where it fails. A page holds
+//! values of an [`Entry`]: a number, or a pointer.
 //! A clone of either is one pointer, and neither sees what is written to the other. A version that is let go gives up
 //! the pages that it alone held.
 //!
