@@ -1,0 +1,123 @@
+//! The references of one pair, which versions share.
+
+ghost use Rattle.std.specs.Prelude.{◌≡◌, ◌<◌, [], ◌∷◌, ◌++◌, length, take, drop, slice_index, IfOk, OnOk, OnErr};
+
+use labels::SeriesRef;
+use pages::PagedList;
+use std::alloc::{AllocError, Global};
+use std::marker::Model;
+
+/// As many are held in one piece, which each version copies. More are held in pages.
+const MOST_IN_ONE: usize = 32;
+
+type Pages = PagedList<u32, 256>;
+
+#[derive(Drop)]
+enum Held {
+    Few(Vec<u32>),
+    Many(Pages),
+}
+
+/// The references of the series that carry a pair, in the order in which they were added.
+///
+/// Clauses see the plain list. A clone copies at most 32 references, or one pointer where there are more; then a push
+/// copies a page of each level that another version holds.
+#[derive(Drop)]
+pub struct References {
+    held: Held,
+}
+
+impl Model for References {
+    ghost use Rattle.std.specs.Prelude.{ℕ, List};
+    ghost use Rattle.head.specs.declared.references.Held.TheVariants.{Few, Many};
+
+    ghost Value = { List ℕ };
+
+    ghost view = { λ r. elim r.held [ Few few ↦ few.items | Many pages ↦ pages ] };
+}
+
+/// The references in pages, with one more at the end.
+fn paged(alloc: Global, references: &[u32], more: u32) -> Result<Pages, AllocError>
+    ensures { IfOk result (λ pages. pages ≡ references.now ++ more ∷ []) }
+{
+    let mut pages = PagedList::new(alloc)?;
+    for reference in references {
+        pages.push(alloc, *reference)?;
+    }
+    pages.push(alloc, more)?;
+    Ok(pages)
+}
+
+impl References {
+    /// One reference alone.
+    pub fn new(alloc: Global, reference: SeriesRef) -> Result<References, AllocError>
+        ensures { IfOk result (λ references. references ≡ reference ∷ []) }
+    {
+        let mut few = Vec::new(alloc);
+        few.push(reference.number())?;
+        Ok(References {
+            held: Held::Few(few),
+        })
+    }
+
+    /// How many references there are.
+    pub fn len(&self) -> usize
+        ensures { result ≡ length self.now }
+    {
+        match &self.held {
+            Held::Few(few) => few.len(),
+            Held::Many(pages) => pages.len(),
+        }
+    }
+
+    /// The references from a place to the end of the piece that holds it.
+    pub fn piece_from(&self, place: usize) -> &[u32]
+        requires { place < length self.now }
+        ensures some { 0 < length result.now }
+        ensures piece { result.now ≡ take (length result.now) (drop place self.now) }
+    {
+        match &self.held {
+            Held::Few(few) => &few.as_slice()[place..],
+            Held::Many(pages) => pages.leaf_from(place),
+        }
+    }
+
+    /// The reference at a place.
+    pub fn at(&self, place: usize) -> SeriesRef
+        requires { place < length self.now }
+        ensures { result ≡ slice_index self.now place }
+    {
+        SeriesRef::new(self.piece_from(place)[0])
+    }
+
+    /// Adds a reference at the end.
+    pub fn push(&mut self, alloc: Global, reference: SeriesRef) -> Result<(), AllocError>
+        ensures ok { OnOk result (self.new ≡ self.old ++ reference ∷ []) }
+        ensures err { OnErr result (self.new ≡ self.old) }
+    {
+        match &mut self.held {
+            Held::Few(few) if few.len() < MOST_IN_ONE => few.push(reference.number())?,
+            Held::Few(few) => {
+                let pages = paged(alloc, few.as_slice(), reference.number())?;
+                self.held = Held::Many(pages);
+            }
+            Held::Many(pages) => pages.push(alloc, reference.number())?,
+        }
+        Ok(())
+    }
+
+    /// The same references, which share all pages.
+    pub fn try_clone(&self, alloc: Global) -> Result<References, AllocError>
+        ensures { IfOk result (λ references. references ≡ self.now) }
+    {
+        let held = match &self.held {
+            Held::Few(few) => {
+                let mut copy = Vec::with_capacity(alloc, few.len())?;
+                copy.extend_from_slice(few.as_slice())?;
+                Held::Few(copy)
+            }
+            Held::Many(pages) => Held::Many(pages.try_clone()?),
+        };
+        Ok(References { held })
+    }
+}
