@@ -31,21 +31,32 @@ impl<'a> ReferenceList<'a> {
         ReferenceList {
             references,
             place: 0,
-            piece: piece_at(references, 0),
+            piece: references.piece_from(0),
         }
     }
 
-    /// The reference at a place that is not passed yet.
+    /// The references from a place that is not passed to the end of the piece that holds it.
+    fn piece_from(&self, place: usize) -> &'a [u32]
+        requires ahead { self.now.place ≤ place }
+        requires within { place ≤ length self.now.references.now }
+        ensures some { place < length self.now.references.now → 0 < length result.now }
+        ensures front { result.now
+            ≡ take (length result.now) (drop place self.now.references.now) }
+    {
+        let ahead = place - self.place;
+        if ahead < self.piece.len() {
+            return &self.piece[ahead..];
+        }
+        self.references.piece_from(place)
+    }
+
+    /// The reference at a place that is not passed.
     fn at(&self, place: usize) -> SeriesRef
         requires ahead { self.now.place ≤ place }
         requires within { place < length self.now.references.now }
         ensures { result ≡ slice_index self.now.references.now place }
     {
-        let ahead = place - self.place;
-        if ahead < self.piece.len() {
-            return SeriesRef::new(self.piece[ahead]);
-        }
-        self.references.at(place)
+        SeriesRef::new(self.piece_from(place)[0])
     }
 
     /// A place at which no reference is below the target, or the end. It is found in doubled steps, so it is at most
@@ -93,27 +104,9 @@ impl<'a> ReferenceList<'a> {
         ensures place { self.new.place ≡ place }
         ensures references { self.new.references ≡ self.old.references }
     {
-        let ahead = place - self.place;
-        let piece = if ahead < self.piece.len() {
-            &self.piece[ahead..]
-        } else {
-            piece_at(self.references, place)
-        };
+        let piece = self.piece_from(place);
         self.place = place;
         self.piece = piece;
-    }
-}
-
-/// The piece from a place, which is empty at the end.
-fn piece_at(references: &References, place: usize) -> &[u32]
-    requires { place ≤ length references.now }
-    ensures some { place < length references.now → 0 < length result.now }
-    ensures front { result.now ≡ take (length result.now) (drop place references.now) }
-{
-    if place < references.len() {
-        references.piece_from(place)
-    } else {
-        &[]
     }
 }
 

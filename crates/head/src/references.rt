@@ -1,6 +1,6 @@
 //! The references of one pair, which versions share.
 
-ghost use Rattle.std.specs.Prelude.{◌≡◌, ◌<◌, [], ◌∷◌, ◌++◌, length, take, drop, slice_index, IfOk, OnOk, OnErr};
+ghost use Rattle.std.specs.Prelude.{◌≡◌, ◌<◌, ◌≤◌, [], ◌∷◌, ◌++◌, length, take, drop, IfOk, OnOk, OnErr};
 
 use labels::SeriesRef;
 use pages::PagedList;
@@ -34,6 +34,14 @@ impl Model for References {
     ghost Value = { List ℕ };
 
     ghost view = { λ r. elim r.held [ Few few ↦ few.items | Many pages ↦ pages ] };
+}
+
+fn copied(alloc: Global, references: &[u32]) -> Result<Vec<u32>, AllocError>
+    ensures { IfOk result (λ copy. copy.items ≡ references.now) }
+{
+    let mut copy = Vec::with_capacity(alloc, references.len())?;
+    copy.extend_from_slice(references)?;
+    Ok(copy)
 }
 
 /// The references in pages, with one more at the end.
@@ -72,22 +80,20 @@ impl References {
 
     /// The references from a place to the end of the piece that holds it.
     pub fn piece_from(&self, place: usize) -> &[u32]
-        requires { place < length self.now }
-        ensures some { 0 < length result.now }
-        ensures piece { result.now ≡ take (length result.now) (drop place self.now) }
+        requires { place ≤ length self.now }
+        ensures some { place < length self.now → 0 < length result.now }
+        ensures front { result.now ≡ take (length result.now) (drop place self.now) }
     {
         match &self.held {
             Held::Few(few) => &few.as_slice()[place..],
-            Held::Many(pages) => pages.leaf_from(place),
+            Held::Many(pages) => {
+                if place < pages.len() {
+                    pages.leaf_from(place)
+                } else {
+                    &[]
+                }
+            }
         }
-    }
-
-    /// The reference at a place.
-    pub fn at(&self, place: usize) -> SeriesRef
-        requires { place < length self.now }
-        ensures { result ≡ slice_index self.now place }
-    {
-        SeriesRef::new(self.piece_from(place)[0])
     }
 
     /// Adds a reference at the end.
@@ -110,14 +116,13 @@ impl References {
     pub fn try_clone(&self, alloc: Global) -> Result<References, AllocError>
         ensures { IfOk result (λ references. references ≡ self.now) }
     {
-        let held = match &self.held {
-            Held::Few(few) => {
-                let mut copy = Vec::with_capacity(alloc, few.len())?;
-                copy.extend_from_slice(few.as_slice())?;
-                Held::Few(copy)
-            }
-            Held::Many(pages) => Held::Many(pages.try_clone()?),
-        };
-        Ok(References { held })
+        match &self.held {
+            Held::Few(few) => Ok(References {
+                held: Held::Few(copied(alloc, few.as_slice())?),
+            }),
+            Held::Many(pages) => Ok(References {
+                held: Held::Many(pages.try_clone()?),
+            }),
+        }
     }
 }
