@@ -104,13 +104,6 @@ module _ {K X : Type 0} {R : K → K → Ordering} (total : IsTotalOrder R) wher
       ∙ ap (λ o. by_order o ((q, v) ∷ e ∷ es) ((e.0, v) ∷ es) (e ∷ put R q v es)) (sym (turned total e.0 q Less (gap.below zero e (omega arith))))
 
   -- the answers of a search, where `ys` is the map as its readers see it
-  pub found_got : (q : K) (xs ys : List (K × X)) (i : ℕ) (e : K × X) (v : X) → T (is_sorted R xs) → xs ≡ ys → slice_get xs i ≡ Some e → R e.0 q ≡ Equal → v ≡ e.1 → find R q ys ≡ Some v
-  found_got q xs ys i e v h y at same is =
-      ap (find R q) (sym y)
-      ∙ find_hit q xs i e h (record { inside = slice_get_within xs i e at; same = λ d. ap (λ (z : K × X). R z.0 q) (get_or_from_slice_get xs i e d at) ∙ same })
-      ∙ ap (λ (z : K × X). Some z.1) (get_or_from_slice_get xs i e e at)
-      ∙ ap Some (sym is)
-
   pub found_hit : (q : K) (xs ys : List (K × X)) (i : ℕ) (e : K × X) (v : X) → T (is_sorted R xs) → xs ≡ ys → (IsSplit (to_key q) xs → IsHit (to_key q) xs i) → slice_get xs i ≡ Some e → v ≡ e.1 → Some v ≡ find R q ys
   found_hit q xs ys i e v h y hit at is =
       ap Some is

@@ -1,6 +1,6 @@
 //! The order of a head: the places of its series, by their label sets.
 
-ghost use Rattle.std.specs.Prelude.{◌≡◌, [], IfOk, OnOk, OnErr};
+ghost use Rattle.std.specs.Prelude.{◌≡◌, ◌-◌, [], IfOk, OnOk, OnErr};
 ghost use Rattle.std.specs.FinMap.Entries.{find, put};
 ghost use Rattle.labels.specs.Labels.{labels_cmp};
 
@@ -65,6 +65,17 @@ impl<'a> Probe<Arc<Placed>> for Sought<'a> {
     }
 }
 
+/// The spot of the entry before a place, where that is in the same page.
+fn before(spot: Spot) -> Spot
+    ensures { result ≡ record spot { at = spot.at - 1 } }
+{
+    Spot {
+        group: spot.group,
+        page: spot.page,
+        at: spot.at.saturating_sub(1),
+    }
+}
+
 /// Label sets, each with the place of its series. Versions share what they have in common.
 ///
 /// Clauses see the label sets in ascending order, each with its place.
@@ -87,9 +98,6 @@ impl Model for Order {
 }
 
 impl Order {
-    ghost use Rattle.std.specs.Prelude.{T, Some, IfSome, IfNone, None};
-    ghost use Rattle.std.specs.FinMap.Entries.{is_sorted};
-
     /// The order of no label set.
     pub(crate) fn new(alloc: Global) -> Result<Order, AllocError>
         ensures { IfOk result (λ order. order ≡ []) }
@@ -106,52 +114,42 @@ impl Order {
         Ok(Order { sets })
     }
 
-    /// The place of a label set, if its entry stands at a spot.
-    fn place_at(&self, labels: &LabelSet, spot: Spot) -> Option<u32>
-        ensures { IfSome result (λ place. find labels_cmp labels.now self.now ≡ Some place) }
-    {
-        let placed = self.sets.get(spot)?;
-        match placed.labels().cmp(labels) {
-            Ordering::Equal => Some(placed.place()),
-            _ => None,
-        }
-    }
-
-    /// The place of a label set. It looks first where the last search ended, and at the spot after it: a batch often
-    /// has the samples of one series, and series in their order, one after another.
+    /// The place of a label set. It looks first near a spot, and leaves there where the search ended: a batch often has
+    /// the samples of one series, and series in their order, one after another.
     pub(crate) fn place_of(&self, labels: &LabelSet, near: &mut Spot) -> Option<u32>
         ensures { result ≡ find labels_cmp labels.now self.now }
     {
-        if let Some(place) = self.place_at(labels, *near) {
-            return Some(place);
-        }
-        let next = Spot {
-            group: near.group,
-            page: near.page,
-            at: near.at.saturating_add(1),
-        };
-        if let Some(place) = self.place_at(labels, next) {
-            *near = next;
-            return Some(place);
-        }
-        match self.sets.find(&Sought { labels }) {
+        match self.sets.find_near(&Sought { labels }, *near) {
             Ok(spot) => {
                 *near = spot;
                 Some(self.sets.at(spot).place())
             }
-            Err(_) => None,
+            Err(spot) => {
+                *near = before(spot);
+                None
+            }
         }
     }
 
-    /// Gives a label set a place. After an `Err` all is as it was.
-    pub(crate) fn insert(&mut self, alloc: Global, labels: &LabelSet, place: u32) -> Result<(), AllocError>
+    /// Gives a label set a place. It looks first near a spot, where [`Order::place_of`] did not find it. After an `Err` all
+    /// is as it was.
+    pub(crate) fn insert(
+        &mut self,
+        alloc: Global,
+        labels: &LabelSet,
+        place: u32,
+        near: &mut Spot,
+    ) -> Result<(), AllocError>
         ensures ok { OnOk result (self.new ≡ put labels_cmp labels.now place self.old) }
         ensures err { OnErr result (self.new ≡ self.old) }
     {
         let placed = Placed::new(alloc, labels, place)?;
-        match self.sets.find(&Sought { labels }) {
+        match self.sets.find_near(&Sought { labels }, *near) {
             Ok(spot) => self.sets.set(spot, placed),
-            Err(spot) => self.sets.insert(alloc, spot, placed),
+            Err(spot) => {
+                *near = spot;
+                self.sets.insert(alloc, spot, placed)
+            }
         }
     }
 }

@@ -11,3 +11,4 @@ pub mod Inserts
 pub mod GroupWrites
 pub mod Walks
 pub mod Ascent
+pub mod Neighbours

@@ -24,6 +24,7 @@ mod change;
 mod edit;
 mod entry;
 mod list;
+mod near;
 mod page;
 mod probe;
 mod search;

@@ -1,6 +1,6 @@
 //! Searches among pages, and among groups of pages.
 
-ghost use Rattle.std.specs.Prelude.{◌≡◌, ℕ, ◌<◌, ◌≤◌, [], true, false, nat_lt, length, map, slice_index_or, slice_get, Some, MatchResult, IfOk, IfErr};
+ghost use Rattle.std.specs.Prelude.{◌≡◌, ℕ, ◌<◌, ◌≤◌, [], true, false, length, map, slice_index_or, slice_get, Some, MatchResult, IfOk, IfErr};
 ghost use Rattle.std.specs.Ordering.{ordering_index};
 ghost use Rattle.std.specs.List.Sorted.{IsNonDecreasingBy, IsSearchInRange};
 ghost use Rattle.pages.specs.Pages.{leaf_list, leaf_lists, branch_parts, groups_of, joined};
@@ -157,19 +157,4 @@ pub(crate) fn entry_in_groups<E: Entry>(groups: &[Branch<E>], spot: Spot) -> &E
         ≡ Some (E.item result.now) }
 {
     entry_in_pages(groups[spot.group].as_slice(), spot)
-}
-
-fn is_in_pages<E: Entry>(pages: &[Leaf<E>], spot: Spot) -> bool
-    ensures { result
-        ≡ nat_lt spot.at (length (slice_index_or (leaf_lists E.item pages.now) spot.page [])) }
-{
-    spot.page < pages.len() && spot.at < pages[spot.page].len()
-}
-
-/// Whether an entry stands at a spot.
-pub(crate) fn is_in_groups<E: Entry>(groups: &[Branch<E>], spot: Spot) -> bool
-    ensures { result ≡ nat_lt spot.at
-        (length (slice_index_or (slice_index_or (groups_of E.item groups.now) spot.group []) spot.page [])) }
-{
-    spot.group < groups.len() && is_in_pages(groups[spot.group].as_slice(), spot)
 }

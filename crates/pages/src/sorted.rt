@@ -6,8 +6,9 @@ ghost use Rattle.pages.specs.Pages.{IsPrefix};
 ghost use Rattle.pages.specs.Sorted.{place_of, IsSpot, HasEntry, entries_of, IsSplit, IsHit, IsGap};
 
 use crate::edit::{insert_at, replace_at};
+use crate::near::find_near_in_groups;
 use crate::page::Top;
-use crate::search::{entry_in_groups, find_in_groups, is_in_groups};
+use crate::search::{entry_in_groups, find_in_groups};
 use crate::walk::step;
 use crate::{Entry, Probe, Spot};
 use std::alloc::{AllocError, Global};
@@ -59,6 +60,21 @@ impl<E: Entry> SortedPages<E> {
         find_in_groups(self.top.as_slice(), probe)
     }
 
+    /// The same as [`SortedPages::find`], for one who looks up entries in their order: it first looks at a spot, of
+    /// whatever version, and at the entry after it.
+    pub fn find_near<P: Probe<E>>(&self, probe: &P, near: Spot) -> Result<Spot, Spot>
+        ensures found { IsSplit (P.order probe.now) (entries_of self.now)
+            → IfOk result (λ spot.
+            IsHit (P.order probe.now) (entries_of self.now) (place_of self.now spot)) }
+        ensures absent { IsSplit (P.order probe.now) (entries_of self.now)
+            → IfErr result (λ spot.
+            IsGap (P.order probe.now) (entries_of self.now) (place_of self.now spot)) }
+        ensures spot { MatchResult result (IsSpot self.now) (IsSpot self.now) }
+        ensures entry { IfOk result (HasEntry self.now) }
+    {
+        find_near_in_groups(self.top.as_slice(), probe, near)
+    }
+
     /// The entry at a spot.
     pub fn at(&self, spot: Spot) -> &E
         requires { HasEntry self.now spot }
@@ -66,20 +82,6 @@ impl<E: Entry> SortedPages<E> {
             ≡ Some (E.item result.now) }
     {
         entry_in_groups(self.top.as_slice(), spot)
-    }
-
-    /// The entry at a spot, `None` where none stands there.
-    pub fn get(&self, spot: Spot) -> Option<&E>
-        ensures none { IfNone result (¬ HasEntry self.now spot) }
-        ensures entry { IfSome result (λ _. HasEntry self.now spot) }
-        ensures some { IfSome result (λ x. slice_get (entries_of self.now) (place_of self.now spot)
-            ≡ Some (E.item x.now)) }
-    {
-        if is_in_groups(self.top.as_slice(), spot) {
-            Some(self.at(spot))
-        } else {
-            None
-        }
     }
 
     /// The spot of the first place.

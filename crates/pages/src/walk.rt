@@ -33,7 +33,8 @@ fn entry_spot_in_pages<E: Entry>(pages: &[Leaf<E>], spot: Spot) -> Option<Spot>
     None
 }
 
-fn entry_spot<E: Entry>(groups: &[Branch<E>], spot: Spot) -> Option<Spot>
+/// The same place, as the spot of the entry that stands there.
+pub(crate) fn entry_spot<E: Entry>(groups: &[Branch<E>], spot: Spot) -> Option<Spot>
     requires groups { AreGroups (groups_of E.item groups.now) }
     requires spot { IsSpot (groups_of E.item groups.now) spot }
     ensures none { IfNone result

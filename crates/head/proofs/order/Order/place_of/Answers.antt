@@ -13,5 +13,5 @@ returns-in-Ok c =
 
 pub returns-in-Err : goal.returns-in-Err
 returns-in-Err c =
-    found_none labels_total c.args.labels.now (entries_of c.self.inside.sets) c.args.self.now (place_of c.self.inside.sets c.in-Err.field-0) 0
+    found_none labels_total c.args.labels.now (entries_of c.self.inside.sets) c.args.self.now (place_of c.self.inside.sets c.in-Err.spot) 0
     c.self.invariant c.self.view_is c.in-Err.ensures.absent
