@@ -6,12 +6,10 @@ use Rattle.std.proofs.lemmas.List.Sums.{sum_by-append}
 use Rattle.labels.specs.Labels.{Labels, same_labels}
 use Rattle.labels.proofs.OrderLaws.{same_self, same_turn}
 use Rattle.labels.proofs.Times.{true_not_false, both_T, first_T, second_T, T_of, not_T}
-use Rattle.head.specs.declared.draft.Slot.{Slot}
-use Rattle.head.specs.declared.draft.Slot.TheVariants.{Shared, Own}
 use Rattle.head.specs.Worlds.{Batch}
 use Rattle.head.specs.Batches.{has_set, set_count}
 use Rattle.head.specs.Heads.{HeadSeries, series_at, IsSoundHead}
-use Rattle.head.specs.Slots.{series_in, series_in_each, own_count, owned, AllOwn}
+use Rattle.head.specs.Slots.{Slot, Shared, Own, series_in, series_in_each, own_count, owned, AllOwn}
 use Rattle.head.proofs.HeadLaws.{same_path}
 
 -- the label sets of the version's own series

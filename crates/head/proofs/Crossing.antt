@@ -1,4 +1,5 @@
 -- Threads may share a snapshot: each type that it has may be shared, and moved where an `Arc` holds it.
+use denote.RattleType.{RattleType}
 use denote.Param.Send.{IsSend, IsSync, sendable}
 use Rattle.std.proofs.Crossing as heap
 use Rattle.block.proofs.Crossing.{LabelSet-send, LabelSet-sync, Block-send, Block-sync}
@@ -7,6 +8,10 @@ use Rattle.head.specs.contracts.series.Series as series
 use Rattle.head.specs.contracts.listed.Listed as listed
 use Rattle.head.specs.contracts.index.Lists as lists
 use Rattle.head.specs.contracts.index.Index as index
+use Rattle.pages.specs.contracts.list.PagedList as paged
+use Rattle.pages.specs.contracts.sorted.SortedPages as sorted
+use Rattle.head.specs.contracts.order.Placed as placed
+use Rattle.head.specs.contracts.order.Order as order
 use Rattle.head.specs.contracts.head.HeadView as head
 use Rattle.head.specs.contracts.snapshot.Snapshot as snapshot
 
@@ -40,11 +45,35 @@ Index-send = search (sendable, heap.Arc-send, Lists-send, Lists-sync) depth 60 f
 pub Index-sync : IsSync index.the_field.row
 Index-sync = search (sendable, heap.Arc-sync, Lists-send, Lists-sync) depth 60 fits 20000
 
+pub PagedList-send : (T N I : RattleType) (g : _) (h : _) → IsSend T → IsSync T → IsSend (paged.the_field T N I g h).row
+PagedList-send T N I g h s y = search (sendable, heap.Vec-send, heap.Vec-sync, heap.Arc-send, heap.Arc-sync, s, y) depth 60 fits 20000
+
+pub PagedList-sync : (T N I : RattleType) (g : _) (h : _) → IsSend T → IsSync T → IsSync (paged.the_field T N I g h).row
+PagedList-sync T N I g h s y = search (sendable, heap.Vec-send, heap.Vec-sync, heap.Arc-send, heap.Arc-sync, s, y) depth 60 fits 20000
+
+pub SortedPages-send : (T I : RattleType) (g : _) (h : _) → IsSend T → IsSync T → IsSend (sorted.the_field T I g h).row
+SortedPages-send T I g h s y = search (sendable, heap.Vec-send, heap.Vec-sync, heap.Arc-send, heap.Arc-sync, s, y) depth 60 fits 20000
+
+pub SortedPages-sync : (T I : RattleType) (g : _) (h : _) → IsSend T → IsSync T → IsSync (sorted.the_field T I g h).row
+SortedPages-sync T I g h s y = search (sendable, heap.Vec-send, heap.Vec-sync, heap.Arc-send, heap.Arc-sync, s, y) depth 60 fits 20000
+
+pub Placed-send : IsSend placed.the_field.row
+Placed-send = search (sendable, LabelSet-send) depth 60 fits 20000
+
+pub Placed-sync : IsSync placed.the_field.row
+Placed-sync = search (sendable, LabelSet-sync) depth 60 fits 20000
+
+pub Order-send : IsSend order.the_field.row
+Order-send = search (sendable, SortedPages-send, heap.Arc-send, heap.Arc-sync, Placed-send, Placed-sync) depth 60 fits 20000
+
+pub Order-sync : IsSync order.the_field.row
+Order-sync = search (sendable, SortedPages-sync, heap.Arc-send, heap.Arc-sync, Placed-send, Placed-sync) depth 60 fits 20000
+
 pub HeadView-send : IsSend head.the_field.row
-HeadView-send = search (sendable, heap.Vec-send, heap.Arc-send, Series-send, Series-sync, Index-send) depth 60 fits 20000
+HeadView-send = search (sendable, PagedList-send, heap.Arc-send, heap.Arc-sync, Series-send, Series-sync, Order-send, Index-send) depth 60 fits 20000
 
 pub HeadView-sync : IsSync head.the_field.row
-HeadView-sync = search (sendable, heap.Vec-sync, heap.Arc-sync, Series-send, Series-sync, Index-sync) depth 60 fits 20000
+HeadView-sync = search (sendable, PagedList-sync, heap.Arc-send, heap.Arc-sync, Series-send, Series-sync, Order-sync, Index-sync) depth 60 fits 20000
 
 pub Snapshot-send : IsSend snapshot.the_field.row
 Snapshot-send = search (sendable, heap.Vec-send, heap.Vec-sync, heap.Arc-send, Block-send, Block-sync, HeadView-send) depth 60 fits 20000

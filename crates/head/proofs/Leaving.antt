@@ -182,11 +182,7 @@ rows_within-more from to (x ∷ xs) h =
     ap (with_row x.labels (within from to x.samples)) (rows_within-more from to xs h)
     ∙ elim (within from to x.samples) as (λ ss. with_row x.labels ss (rows_within from to xs ++ with_row h.labels (within from to h.samples) []) ≡ with_row x.labels ss (rows_within from to xs) ++ with_row h.labels (within from to h.samples) []) [ [] ↦ refl | s ∷ ss ↦ refl ]
 
--- the series at a place, and those before it
-pub taken_more : {X : Type 0} (f : X → HeadSeries) (xs : List X) (i : ℕ) (x : X) → i < length xs → x ≡ get_or xs i x → map f (take (i + 1) xs) ≡ map f (take i xs) ++ f x ∷ []
-taken_more f xs i x l is = ap (map f) (take_more xs i x l ∙ ap (λ y. take i xs ++ y ∷ []) (sym is)) ∙ map-append f (take i xs) (x ∷ [])
-
-pub sound_place : {X : Type 0} (f : X → HeadSeries) (floor : ℤ) (xs : List X) (i : ℕ) (x : X) → i < length xs → x ≡ get_or xs i x → IsSoundHead floor (map f xs) → IsSoundSeries floor (f x)
-sound_place f floor [] i x l is sound = absurd (omega (arith, l))
-sound_place f floor (y ∷ ys) zero x l is sound = subst (λ z. IsSoundSeries floor (f z)) (sym is) sound.0
-sound_place f floor (y ∷ ys) (suc i) x l is sound = sound_place f floor ys i x (omega (arith, l)) is sound.2
+pub sound_place : (floor : ℤ) (hs : List HeadSeries) (i : ℕ) (d : HeadSeries) → i < length hs → IsSoundHead floor hs → IsSoundSeries floor (get_or hs i d)
+sound_place floor [] i d l sound = absurd (omega (arith, l))
+sound_place floor (h ∷ hs) zero d l sound = sound.0
+sound_place floor (h ∷ hs) (suc i) d l sound = sound_place floor hs i d (omega (arith, l)) sound.2

@@ -8,9 +8,8 @@ pub mod Chunks
 pub mod BlockNaming
 pub mod Opening
 pub mod PartLaws
-pub mod OrderPlaces
+pub mod Ordered
 pub mod Keyed
-pub mod PlacedSets
 pub mod SlotLaws
 pub mod Counting
 pub mod Placing
@@ -28,5 +27,4 @@ pub mod Cutting
 pub mod Fitting
 pub mod CutSteps
 pub mod Leaving
-pub mod Renumbering
 pub mod WorkedRows

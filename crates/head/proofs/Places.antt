@@ -1,15 +1,16 @@
 -- The place of a series in a head.
-use Rattle.std.specs.Prelude.{◌≡◌, ℕ, suc, ℤ, ◌+◌, ◌<◌, true, false, cond, List, [], ◌∷◌, ◌++◌, None, Some, Result, Ok, Err, refl, length, slice_set, slice_index_or, nat_le, int_lt, is_some, if◌then◌else◌, MatchResult, unwrap_or}
+use Rattle.std.specs.Prelude.{◌≡◌, ℕ, suc, ℤ, ◌+◌, ◌<◌, ◌≤◌, true, false, cond, List, [], ◌∷◌, ◌++◌, None, Some, Result, Ok, Err, refl, length, slice_set, slice_index_or, nat_le, int_lt, is_some, if◌then◌else◌, MatchResult, unwrap_or}
 use Rattle.std.specs.Ordering.{int_eq}
 use Rattle.std.proofs.Common.{sym, ◌∙◌, ap, subst, arith}
+use Rattle.std.proofs.lemmas.Bool.Decides.{nat_tests}
 use Rattle.head.specs.declared.error.CommitError.{CommitError}
 use Rattle.head.specs.declared.error.CommitError.TheVariants.{OutOfBounds, OutOfOrder, Duplicate, Limit, CutTooLow, TooManyParts, Seat, Memory}
 use Rattle.head.specs.Answers.{IsAnswer}
 use Rattle.labels.specs.Labels.{Labels, same_labels}
 use Rattle.head.specs.Refusals.{Refusal, out_of_bounds, out_of_order, duplicate, limit}
-use Rattle.head.specs.Limits.{Limits}
+use Rattle.head.specs.Limits.{Limits, most}
 use Rattle.head.specs.Heads.{HeadSeries, series_at}
-use Rattle.head.specs.Taking.{grown, extended, place_from, series_added, new_added, head_added, head_added_after}
+use Rattle.head.specs.Taking.{grown, extended, place_from, series_added, new_added, head_added, head_added_after, with_series}
 use Rattle.labels.proofs.Times.{true_not_false}
 
 -- the first series with these labels stands here
@@ -66,10 +67,6 @@ same_place i k e = omega arith
 pub stands_at : (l : Labels) (head : List HeadSeries) (i : ℕ) → place_from l 0 head ≡ Some i → Stands l head i
 stands_at l head i e = let r = stands l 0 head i e in subst (Stands l head) (same_place i r.0 r.1) r.2
 
-abbrev pub with_series : List HeadSeries → ℕ → Result HeadSeries Refusal → Result (List HeadSeries) Refusal
-with_series head k (Ok h) = Ok (slice_set head k h)
-with_series head k (Err e) = Err e
-
 pub head_added-series_added : (most : Limits) (head : List HeadSeries) (at : ℕ) (l : Labels) (s : ℤ × ℤ) (k : ℕ) (d : HeadSeries) → Stands l head k →
     head_added_after most head at l s (series_at l head) ≡ with_series head k (series_added most at s (slice_index_or head k d))
 head_added-series_added most head at l s k d st =
@@ -124,3 +121,20 @@ pub head_added-inside : (most : Limits) (floor : ℤ) (head : List HeadSeries) (
     head_added most floor head at (l, s) ≡ head_added_after most head at l s (series_at l head)
 unfolding head_added
 head_added-inside most floor head at l s e = ap (λ b. if b then Err (out_of_bounds at) else head_added_after most head at l s (series_at l head)) e
+
+-- a label set that the head has not, where there is no room for one more series, and where there is
+pub new_full : (l : Labels) (s : ℤ × ℤ) (head : List HeadSeries) → most.series ≤ length head → new_added most l s head ≡ Err limit
+new_full l s head full = ap (λ b. if b then Err limit else Ok (head ++ record { labels = l; samples = s ∷ []; newest = s } ∷ [])) (at_most most.series (length head) full)
+  where
+    at_most : (a b : ℕ) → a ≤ b → nat_le a b ≡ true
+    at_most a b h = grind (arith, nat_tests)
+
+pub new_taken : (l : Labels) (s : ℤ × ℤ) (head : List HeadSeries) → length head < most.series → new_added most l s head ≡ Ok (head ++ record { labels = l; samples = s ∷ []; newest = s } ∷ [])
+new_taken l s head room = ap (λ b. if b then Err limit else Ok (head ++ record { labels = l; samples = s ∷ []; newest = s } ∷ [])) (above most.series (length head) room)
+  where
+    above : (a b : ℕ) → b < a → nat_le a b ≡ false
+    above a b h = grind (arith, nat_tests)
+
+-- what a series answers is what the head answers
+pub answered : (head : List HeadSeries) (k : ℕ) (h g : HeadSeries) (r : Refusal) (step : HeadSeries → Result HeadSeries Refusal) → h ≡ g → step h ≡ Err r → with_series head k (step g) ≡ Err r
+answered head k h g r step same is = ap (λ x. with_series head k (step x)) (sym same) ∙ ap (with_series head k) is

@@ -1,13 +1,12 @@
 -- What callers see of a head.
-use Rattle.std.specs.Prelude.{ℕ, List, map}
-use Rattle.std.specs.Arc.{arc_value}
+use Rattle.std.specs.Prelude.{ℕ, List}
 use Rattle.labels.specs.Parts.{Part}
 use Rattle.head.specs.declared.head.HeadView.{HeadView}
 use Rattle.head.specs.Heads.{HeadSeries, head_part}
 
 -- the series in order of creation
 abbrev pub series_of : HeadView → List HeadSeries
-series_of head = map (λ series. arc_value series) head.series.items
+series_of head = head.series
 
 -- the head as a part
 abbrev pub part_of : HeadView → Part

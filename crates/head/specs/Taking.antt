@@ -1,5 +1,5 @@
 -- How a head takes the samples of a batch, one series at a time.
-use Rattle.std.specs.Prelude.{ℕ, ℤ, ◌+◌, List, [], ◌∷◌, ◌++◌, Option, None, Some, Result, Ok, Err, nat_le, int_lt, length, if◌then◌else◌}
+use Rattle.std.specs.Prelude.{ℕ, ℤ, ◌+◌, List, [], ◌∷◌, ◌++◌, Option, None, Some, Result, Ok, Err, nat_le, int_lt, length, slice_set, if◌then◌else◌}
 use Rattle.std.specs.Ordering.{int_eq}
 use Rattle.labels.specs.Labels.{Labels, same_labels}
 use Rattle.head.specs.Refusals.{Refusal, out_of_bounds, out_of_order, duplicate, limit}
@@ -21,6 +21,11 @@ series_added most at s h =
     else if int_eq s.0 h.newest.0 then (if int_eq s.1 h.newest.1 then Ok h else Err (duplicate at))
     else if nat_le most.samples (length h.samples) then Err limit
     else Ok (grown s h)
+
+-- the head with another series at a place, where there is one
+abbrev pub with_series : List HeadSeries → ℕ → Result HeadSeries Refusal → Result (List HeadSeries) Refusal
+with_series head k (Ok h) = Ok (slice_set head k h)
+with_series head k (Err e) = Err e
 
 -- one sample of a batch at a head, by the series that has its labels
 abbrev pub head_added_after : Limits → List HeadSeries → ℕ → Labels → ℤ × ℤ → Option HeadSeries → Result (List HeadSeries) Refusal

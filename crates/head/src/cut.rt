@@ -1,6 +1,6 @@
 //! The step of a cut.
 
-ghost use Rattle.std.specs.Prelude.{◌≡◌, ◌++◌, true, [], ◌∷◌, Ok, map, int_lt};
+ghost use Rattle.std.specs.Prelude.{◌≡◌, ◌≤◌, ◌++◌, true, [], ◌∷◌, Ok, length, map, int_lt};
 ghost use Rattle.std.specs.Prelude.{IfOk, IfErr, OnOk};
 ghost use Rattle.std.specs.Arc.{arc_value};
 ghost use Rattle.labels.specs.Contents.{is_time, Content};
@@ -16,17 +16,21 @@ ghost use Rattle.head.specs.Heads.{world_of, IsSoundHead};
 ghost use Rattle.head.specs.Kept.{IsBlockOf, KeepsBlocks};
 ghost use Rattle.head.specs.Removing.{head_cut};
 ghost use Rattle.head.specs.Shown.{series_of, copied_of};
-ghost use Rattle.head.specs.Slots.{series_in_each};
+ghost use Rattle.head.specs.Orders.{IsOrderOf};
+ghost use Rattle.head.specs.declared.TheConstants.{MAX_SERIES};
 ghost use Rattle.head.specs.Worlds.{cut, cut_at, cut_off};
 
-use crate::draft::{Slot, order_of};
+use crate::MAX_SERIES;
+use crate::draft::{Draft, begin};
 use crate::error::CommitError;
 use crate::head::HeadView;
-use crate::series::Series;
+use crate::order::Order;
+use crate::series::SeriesList;
 use crate::snapshot::Snapshot;
 use block::{Block, Range};
 use block_writer::{BlockBytes, PartRows, WriteError, write};
 use labels::{Row, sort_rows};
+use pages::PagedList;
 use std::alloc::{AllocError, Global};
 use std::sync::Arc;
 
@@ -45,17 +49,12 @@ fn push_row(rows: &mut Vec<Row>, row: Row) -> Result<(), AllocError>
 }
 
 /// The rows of the series that have a sample in the closed range, each with its samples there.
-fn rows_within(
-    alloc: Global,
-    head: &[Arc<Series>],
-    from: i64,
-    to: i64,
-) -> Result<Vec<Row>, AllocError>
-    ensures { IfOk result (λ rows.
-        rows.items ≡ rows_within from to (map (λ s. arc_value s) head.now)) }
+fn rows_within(alloc: Global, head: &SeriesList, from: i64, to: i64) -> Result<Vec<Row>, AllocError>
+    ensures { IfOk result (λ rows. rows.items ≡ rows_within from to head.now) }
 {
     let mut rows = Vec::new(alloc);
-    for series in head {
+    for place in 0..head.len() {
+        let series = head.at(place);
         let labels = series.labels().try_clone()?;
         let samples = series.samples_within(alloc, from, to)?;
         push_row(&mut rows, Row::new(labels, samples))?;
@@ -141,27 +140,30 @@ fn blocks_after(alloc: Global, at: &Snapshot, time: i64) -> Result<Arc<Vec<Block
     Ok(with_block(alloc, at.blocks.as_slice(), block)?)
 }
 
-/// The series whose newest sample is at the time or later, each with its samples from the time on.
+/// The series whose newest sample is at the time or later, each with its samples from the time on, and their order.
 fn series_from(
     alloc: Global,
-    head: &[Arc<Series>],
+    head: &SeriesList,
     floor: i64,
     time: i64,
-) -> Result<Vec<Slot>, AllocError>
-    requires sound { IsSoundHead floor (map (λ s. arc_value s) head.now) }
+) -> Result<(SeriesList, Order), AllocError>
+    requires few { length head.now ≤ MAX_SERIES }
+    requires sound { IsSoundHead floor head.now }
     requires up { int_lt floor time ≡ true }
-    ensures { IfOk result (λ slots.
-        series_in_each slots.items ≡ head_cut time (map (λ s. arc_value s) head.now)) }
+    ensures stay { IfOk result (λ made. made.0 ≡ head_cut time head.now) }
+    ensures ordered { IfOk result (λ made. IsOrderOf made.1 made.0) }
 {
-    let mut slots = Vec::new(alloc);
-    for series in head {
+    let mut draft = Draft::new(alloc, PagedList::new(alloc)?);
+    let mut order = Order::new(alloc)?;
+    for place in 0..head.len() {
+        let series = head.at(place);
         if series.newest().t() < time {
             continue;
         }
         let left = series.without(alloc, floor, time - 1)?;
-        slots.push(Slot::Own(left))?;
+        begin(alloc, &mut draft, &mut order, left)?;
     }
-    Ok(slots)
+    Ok((draft.into_list(alloc)?, order))
 }
 
 /// The head after a cut: the series that stay are numbered again from 1, in their old order.
@@ -170,10 +172,9 @@ fn head_from(alloc: Global, at: &Snapshot, time: i64) -> Result<HeadView, AllocE
     ensures series { IfOk result (λ head. series_of head ≡ head_cut time at.now.head) }
     ensures copied { IfOk result (λ head. copied_of head ≡ 0) }
 {
-    let slots = series_from(alloc, at.head.series(), at.floor, time)?;
-    let order = order_of(alloc, slots.as_slice())?;
-    let index = HeadView::empty(alloc)?.index_of(alloc, slots.as_slice())?;
-    HeadView::of_slots(alloc, slots, order, index, 0)
+    let (series, order) = series_from(alloc, at.head.series(), at.floor, time)?;
+    let index = HeadView::empty(alloc)?.index_of(alloc, &series)?;
+    Ok(HeadView::of(series, order, index, 0))
 }
 
 /// The snapshot after a cut, whose floor is the time. The samples before it leave the head for a block of

@@ -1,18 +1,39 @@
 //! The step of a deletion.
 
-ghost use Rattle.std.specs.Prelude.{◌≡◌, IfOk, map};
+ghost use Rattle.std.specs.Prelude.{◌≡◌, ◌≤◌, ℕ, IfOk, OnOk, length, map};
+ghost use Rattle.std.specs.List.{Contains};
 ghost use Rattle.head.specs.Blocks.{part_in};
-ghost use Rattle.head.specs.Removing.{block_kept, blocks_kept, head_kept, snapshot_less, survives};
+ghost use Rattle.head.specs.Removing.{block_kept, blocks_kept, head_kept, head_less, snapshot_less, survives};
 ghost use Rattle.head.specs.Shown.{series_of, copied_of};
 
-use crate::draft::{drop_each, slots_of};
 use crate::head::HeadView;
 use crate::selection::struck;
+use crate::series::SeriesList;
 use crate::snapshot::Snapshot;
 use block::Block;
+use labels::SeriesRef;
 use matchers::Matcher;
 use std::alloc::{AllocError, Global};
 use std::sync::Arc;
+
+/// Drops the samples in the closed range of the series with these references, which count from 1. The others stay shared.
+fn drop_each(
+    alloc: Global,
+    series: &mut SeriesList,
+    references: &[SeriesRef],
+    from: i64,
+    to: i64,
+) -> Result<(), AllocError>
+    requires { (r : ℕ) → Contains references.now r → (1 ≤ r) × (r ≤ length series.old) }
+    ensures { OnOk result (series.new ≡ head_less references.now from to 1 series.old) }
+{
+    for reference in references {
+        let place = reference.number() as usize - 1;
+        let left = series.at(place).without(alloc, from, to)?;
+        series.set(place, Arc::new(alloc, left)?)?;
+    }
+    Ok(())
+}
 
 /// The head without the samples that the deletion strikes.
 fn head_without(
@@ -26,11 +47,11 @@ fn head_without(
     ensures copied { IfOk result (λ head. copied_of head ≡ 0) }
 {
     let references = struck(alloc, &at.head(), matchers, from, to)?;
-    let mut slots = slots_of(alloc, at.head.series())?;
-    drop_each(alloc, &mut slots, references.as_slice(), from, to)?;
-    let order = at.head.copied_order(alloc)?;
-    let index = at.head.index_of(alloc, slots.as_slice())?;
-    HeadView::of_slots(alloc, slots, order, index, 0)
+    let mut series = at.head.series().try_clone()?;
+    drop_each(alloc, &mut series, references.as_slice(), from, to)?;
+    let order = at.head.order().try_clone()?;
+    let index = at.head.index_of(alloc, &series)?;
+    Ok(HeadView::of(series, order, index, 0))
 }
 
 /// The block with a tombstone for each of its series that the deletion strikes.

@@ -1,196 +1,189 @@
-//! A head in the making: the series of the last version, of which a batch makes those its own that it changes.
+//! A head in the making: the series of the last version, of which a batch makes those its own that it changes, and those
+//! that it begins.
 
-ghost use Rattle.std.specs.Prelude.{◌≡◌, ◌<◌, ◌≤◌, ◌+◌, ◌*◌, ℕ, Bool, not, T, Ok, IfOk, IfErr, OnOk, length, [], ◌∷◌, map};
-ghost use Rattle.std.specs.Arc.{arc_value};
-ghost use Rattle.std.specs.Bool.{OnTrue};
-ghost use Rattle.std.specs.List.{list_all, Contains};
+ghost use Rattle.std.specs.Prelude.{◌≡◌, ◌≢◌, ◌<◌, ◌≤◌, ◌+◌, ◌*◌, ℕ, Bool, T, Ok, IfOk, IfErr, OnOk, OnErr, None, length, [], ◌∷◌, ◌++◌, map, slice_set, slice_index_or};
+ghost use Rattle.std.specs.List.{list_all};
 ghost use Rattle.labels.specs.Labels.{Labels};
-ghost use Rattle.labels.specs.Parts.{AreDistinct};
 ghost use Rattle.head.specs.declared.TheConstants.{MAX_SERIES};
-ghost use Rattle.head.specs.Heads.{head_part};
-ghost use Rattle.head.specs.Removing.{head_less};
-ghost use Rattle.head.specs.Taking.{head_added, head_added_each, series_added, new_added, grown};
-ghost use Rattle.head.specs.Orders.{sets_of, IsOrder, IsFound, IsRoom};
+ghost use Rattle.head.specs.Heads.{HeadSeries};
+ghost use Rattle.head.specs.Taking.{head_added, head_added_each, series_added, new_added, grown, place_from, with_series};
+ghost use Rattle.head.specs.Orders.{sets_of, IsOrderOf};
 ghost use Rattle.head.specs.Answers.{IsOutcome};
 ghost use Rattle.head.specs.Limits.{most};
+ghost use Rattle.head.specs.Slots.{Shared, Own, series_in, series_in_each, own_count, owned, AllOwn, slot_at, slots_from};
+ghost use Rattle.std.specs.Ordering.{nat_cmp};
+ghost use Rattle.std.specs.BTreeMap.{get};
 
 use crate::MAX_SERIES;
 use crate::error::CommitError;
-use crate::series::Series;
-use labels::{LabelSet, Sample, SeriesRef};
+use crate::order::Order;
+use crate::series::{Series, SeriesList};
+use labels::{LabelSet, Sample};
+use pages::Spot;
 use std::alloc::{AllocError, Global};
-use std::cmp::Ordering;
+use std::collections::BTreeMap;
+use std::marker::Model;
 use std::sync::Arc;
 
-/// A series that stands as it was in the last version, or one that this version has made.
+/// The series of a version in the making. Those of the last version are shared; what is changed of them is a copy of this
+/// version's own, by its place, and what is begun stands after them. So a batch costs what it changes.
 #[derive(Drop)]
-pub(crate) enum Slot {
-    Shared(Arc<Series>),
-    Own(Series),
+pub(crate) struct Draft {
+    last: SeriesList,
+    own: BTreeMap<usize, Series>,
+    begun: Vec<Series>,
 }
 
-impl Slot {
-    ghost use Rattle.head.specs.Slots.{series_in, own_count};
-    ghost use Rattle.head.specs.Removing.{series_less};
+impl Model for Draft {
+    ghost use Rattle.std.specs.Prelude.{◌≡◌, ◌≤◌, ◌+◌, ℕ, List, length, None};
+    ghost use Rattle.std.specs.Ordering.{nat_cmp};
+    ghost use Rattle.std.specs.BTreeMap.{get};
+    ghost use Rattle.head.specs.declared.TheConstants.{MAX_SERIES};
+    ghost use Rattle.head.specs.Slots.{Slot, slots_of};
 
-    pub(crate) fn series(&self) -> &Series
-        ensures { result.now ≡ series_in self.now }
+    ghost Value = { List Slot };
+
+    ghost view = { λ d. slots_of d.last (get nat_cmp d.own) d.begun.items };
+
+    ghost invariant = { λ d. ((place : ℕ) → length d.last ≤ place → get nat_cmp d.own place ≡ None)
+        × (length d.last + length d.begun.items ≤ MAX_SERIES) };
+}
+
+impl Draft {
+    /// The series of the last version, all shared.
+    pub(crate) fn new(alloc: Global, last: SeriesList) -> Draft
+        requires { length last ≤ MAX_SERIES }
+        ensures { result ≡ map (λ series. Shared series) last }
     {
-        match self {
-            Slot::Shared(series) => series,
-            Slot::Own(series) => series,
+        Draft {
+            last,
+            own: BTreeMap::new(alloc),
+            begun: Vec::new(alloc),
         }
     }
 
-    /// Adds a sample, to a copy where the series is shared. Gives how many samples were copied.
-    fn push(&mut self, alloc: Global, sample: Sample) -> Result<u64, AllocError>
-        ensures grown { IfOk result (λ _. series_in self.new ≡ grown sample (series_in self.old)) }
-        ensures few { IfOk result (λ copied. copied < 120) }
-        ensures counted { IfOk result (λ copied. copied + 119 * own_count self.old ≤ 119 * own_count self.new) }
+    fn len(&self) -> usize
+        ensures count { result ≡ length self.now }
+        ensures few { length self.now ≤ MAX_SERIES }
     {
-        let (mut series, copied) = match self {
-            Slot::Own(series) => {
-                series.push(alloc, sample)?;
-                return Ok(0);
-            }
-            Slot::Shared(series) => series.copied(alloc)?,
-        };
+        self.last.len() + self.begun.len()
+    }
+
+    /// The series at a place.
+    fn series(&self, place: usize) -> &Series
+        requires { place < length self.now }
+        ensures { (d : HeadSeries) → result.now ≡ slice_index_or (series_in_each self.now) place d }
+    {
+        let shared = self.last.len();
+        if place >= shared {
+            return &self.begun[place - shared];
+        }
+        match self.own.get(&place) {
+            Some(series) => series,
+            None => self.last.at(place),
+        }
+    }
+
+    /// Adds a sample to the series at a place, to a copy where it is shared. Gives how many samples were copied.
+    fn grow(&mut self, alloc: Global, place: usize, sample: Sample) -> Result<u64, AllocError>
+        requires { place < length self.old }
+        ensures grown { IfOk result (λ _. (d : HeadSeries) → self.new ≡ slice_set self.old place
+            (Own (grown sample (slice_index_or (series_in_each self.old) place d)))) }
+        ensures few { IfOk result (λ copied. copied < 120) }
+        ensures counted { IfOk result (λ copied. copied + 119 * owned self.old ≤ 119 * owned self.new) }
+    {
+        let shared = self.last.len();
+        if place >= shared {
+            self.begun[place - shared].push(alloc, sample)?;
+            return Ok(0);
+        }
+        let (mut series, copied) = taken(alloc, &self.last, &mut self.own, place)?;
         series.push(alloc, sample)?;
-        *self = Slot::Own(series);
+        self.own.insert(place, series)?;
         Ok(copied)
     }
 
-    /// Drops the samples in the closed range.
-    fn drop_within(&mut self, alloc: Global, from: i64, to: i64) -> Result<(), AllocError>
-        ensures { OnOk result (series_in self.new ≡ series_less from to (series_in self.old)) }
+    /// Adds a series after all others.
+    fn push(&mut self, series: Series) -> Result<(), AllocError>
+        requires { length self.old < MAX_SERIES }
+        ensures ok { OnOk result (self.new ≡ self.old ++ Own series ∷ []) }
+        ensures err { OnErr result (self.new ≡ self.old) }
     {
-        let left = self.series().without(alloc, from, to)?;
-        *self = Slot::Own(left);
+        self.begun.push(series)?;
         Ok(())
     }
 
-    pub(crate) fn into_shared(self, alloc: Global) -> Result<Arc<Series>, AllocError>
-        ensures { IfOk result (λ series. arc_value series ≡ series_in self) }
+    /// The list of the series. It shares all pages with the last version's but those in which a series is this one's own.
+    pub(crate) fn into_list(self, alloc: Global) -> Result<SeriesList, AllocError>
+        ensures series { IfOk result (λ list. list ≡ series_in_each self) }
+        ensures few { length self ≤ MAX_SERIES }
     {
-        match self {
-            Slot::Shared(series) => Ok(series),
-            Slot::Own(series) => Ok(Arc::new(alloc, series)?),
+        let Draft { last, own, begun } = self;
+        let mut list = with_own(alloc, last, own)?;
+        for series in begun {
+            list.push(alloc, Arc::new(alloc, series)?)?;
         }
+        Ok(list)
     }
 }
 
-ghost use Rattle.head.specs.Slots.{series_in, series_in_each, is_own, own_count, owned, AllOwn};
-
-/// The series of the last version.
-pub(crate) fn slots_of(alloc: Global, head: &[Arc<Series>]) -> Result<Vec<Slot>, AllocError>
-    ensures same { IfOk result (λ slots. series_in_each slots.items ≡ map (λ series. arc_value series) head.now) }
-    ensures shared { IfOk result (λ slots. T (list_all (λ slot. not (is_own slot)) slots.items)) }
-{
-    let mut slots = Vec::new(alloc);
-    for series in head {
-        slots.push(Slot::Shared(Arc::try_clone(series)?))?;
-    }
-    Ok(slots)
-}
-
-/// Drops the samples in the closed range of the series with these references, which count from 1.
-pub(crate) fn drop_each(
+/// The series at a place, to be changed: this version's own, which is taken out, or a copy of the shared one. With it how
+/// many samples were copied.
+fn taken(
     alloc: Global,
-    slots: &mut Vec<Slot>,
-    references: &[SeriesRef],
-    from: i64,
-    to: i64,
-) -> Result<(), AllocError>
-    requires { (r : ℕ) → Contains references.now r → (1 ≤ r) × (r ≤ length slots.old.items) }
-    ensures { OnOk result (series_in_each slots.new.items
-        ≡ head_less references.now from to 1 (series_in_each slots.old.items)) }
+    last: &SeriesList,
+    own: &mut BTreeMap<usize, Series>,
+    place: usize,
+) -> Result<(Series, u64), AllocError>
+    requires { place < length last.now }
+    ensures series { IfOk result (λ taken. (d : HeadSeries)
+        → taken.0 ≡ series_in (slot_at (slice_index_or last.now place d) (get nat_cmp own.old place))) }
+    ensures few { IfOk result (λ taken. taken.1 < 120) }
+    ensures counted { IfOk result (λ taken. (d : HeadSeries)
+        → taken.1 + 119 * own_count (slot_at (slice_index_or last.now place d) (get nat_cmp own.old place)) ≤ 119) }
+    ensures others { (q : ℕ) → q ≢ place → get nat_cmp own.new q ≡ get nat_cmp own.old q }
 {
-    for reference in references {
-        let place = reference.number() as usize - 1;
-        slots[place].drop_within(alloc, from, to)?;
+    match own.remove(&place) {
+        Some(series) => Ok((series, 0)),
+        None => last.at(place).copied(alloc),
     }
-    Ok(())
 }
 
-/// The position of a label set in the order, or else the one at which it would stand.
-fn search(slots: &[Slot], order: &[u32], labels: &LabelSet) -> Result<usize, usize>
-    requires { IsOrder order.now (sets_of (series_in_each slots.now)) }
-    ensures found { IfOk result (IsFound order.now (sets_of (series_in_each slots.now)) labels.now) }
-    ensures room { IfErr result (IsRoom order.now (sets_of (series_in_each slots.now)) labels.now) }
+/// The list with these series in their places.
+fn with_own(
+    alloc: Global,
+    list: SeriesList,
+    own: BTreeMap<usize, Series>,
+) -> Result<SeriesList, AllocError>
+    requires { (place : ℕ) → length list ≤ place → get nat_cmp own place ≡ None }
+    ensures { IfOk result (λ made. made ≡ series_in_each (slots_from 0 list (get nat_cmp own))) }
 {
-    let mut low = 0;
-    let mut high = order.len();
-    while low < high {
-        let middle = low + (high - low) / 2;
-        let place = order[middle] as usize;
-        match slots[place].series().labels().cmp(labels) {
-            Ordering::Less => low = middle + 1,
-            Ordering::Equal => return Ok(middle),
-            Ordering::Greater => high = middle,
-        }
+    let mut made = list;
+    let mut own = own;
+    while let Some((place, series)) = own.pop_first() {
+        made.set(place, Arc::new(alloc, series)?)?;
     }
-    Err(low)
+    Ok(made)
 }
 
-/// Whether a label set stands at a position of the order.
-fn is_at(slots: &[Slot], order: &[u32], labels: &LabelSet, position: usize) -> bool
-    requires { IsOrder order.now (sets_of (series_in_each slots.now)) }
-    ensures { OnTrue result (IsFound order.now (sets_of (series_in_each slots.now)) labels.now position) }
-{
-    if position >= order.len() {
-        return false;
-    }
-    let place = order[position] as usize;
-    matches!(slots[place].series().labels().cmp(labels), Ordering::Equal)
-}
-
-/// The same as [`search`], which it asks only where the label set stands neither at a position nor
-/// at the next one. A batch often has the samples of one series, and series in their order, one
-/// after another.
-fn search_near(
-    slots: &[Slot],
-    order: &[u32],
-    labels: &LabelSet,
-    near: usize,
-) -> Result<usize, usize>
-    requires { IsOrder order.now (sets_of (series_in_each slots.now)) }
-    ensures found { IfOk result (IsFound order.now (sets_of (series_in_each slots.now)) labels.now) }
-    ensures room { IfErr result (IsRoom order.now (sets_of (series_in_each slots.now)) labels.now) }
-{
-    if is_at(slots, order, labels, near) {
-        return Ok(near);
-    }
-    let next = near.saturating_add(1);
-    if is_at(slots, order, labels, next) {
-        return Ok(next);
-    }
-    search(slots, order, labels)
-}
-
-/// The places of the series in the order of their label sets, no two of which are the same.
-pub(crate) fn order_of(alloc: Global, slots: &[Slot]) -> Result<Vec<u32>, AllocError>
-    requires few { length slots.now ≤ MAX_SERIES }
-    requires apart { AreDistinct (head_part (series_in_each slots.now)) }
-    ensures { IfOk result (λ order. IsOrder order.items (sets_of (series_in_each slots.now))) }
-{
-    let mut order = Vec::new(alloc);
-    for place in 0..slots.len() {
-        let labels = slots[place].series().labels();
-        match search(&slots[..place], order.as_slice(), labels) {
-            Ok(_) => unreachable!(),
-            Err(position) => order.insert(position, place as u32)?,
-        }
-    }
-    Ok(order)
-}
-
-fn add_known(alloc: Global, slot: &mut Slot, at: usize, sample: Sample) -> Result<u64, CommitError>
-    ensures step { IsOutcome result (series_added most at sample (series_in slot.old)) (series_in slot.new) }
+fn add_known(
+    alloc: Global,
+    draft: &mut Draft,
+    place: usize,
+    at: usize,
+    sample: Sample,
+) -> Result<u64, CommitError>
+    requires { place < length draft.old }
+    ensures step { (d : HeadSeries) → IsOutcome result (with_series (series_in_each draft.old) place
+        (series_added most at sample (slice_index_or (series_in_each draft.old) place d))) (series_in_each draft.new) }
     ensures few { IfOk result (λ copied. copied < 120) }
-    ensures labels { OnOk result ((series_in slot.new).labels ≡ (series_in slot.old).labels) }
-    ensures counted { IfOk result (λ copied. copied + 119 * own_count slot.old ≤ 119 * own_count slot.new) }
+    ensures labels { OnOk result (sets_of (series_in_each draft.new) ≡ sets_of (series_in_each draft.old)) }
+    ensures counted { IfOk result (λ copied. copied + 119 * owned draft.old ≤ 119 * owned draft.new) }
+    ensures owners { OnOk result ((p : Labels → Bool) (d : HeadSeries)
+        → T (p (slice_index_or (series_in_each draft.old) place d).labels) → AllOwn p draft.old → AllOwn p draft.new) }
 {
-    let newest = slot.series().newest();
+    let series = draft.series(place);
+    let newest = series.newest();
     if sample.t() < newest.t() {
         return Err(CommitError::OutOfOrder { at });
     }
@@ -200,80 +193,88 @@ fn add_known(alloc: Global, slot: &mut Slot, at: usize, sample: Sample) -> Resul
         }
         return Err(CommitError::Duplicate { at });
     }
-    if slot.series().is_full() {
+    if series.is_full() {
         return Err(CommitError::Limit);
     }
-    match slot.push(alloc, sample) {
+    match draft.grow(alloc, place, sample) {
         Ok(copied) => Ok(copied),
         Err(AllocError) => Err(CommitError::Memory),
     }
 }
 
-/// Adds a series of one sample, whose place is to stand at this position of the order.
+/// Adds a series of a label set that no other has.
+pub(crate) fn begin(
+    alloc: Global,
+    draft: &mut Draft,
+    order: &mut Order,
+    series: Series,
+) -> Result<(), AllocError>
+    requires ordered { IsOrderOf order.old (series_in_each draft.old) }
+    requires absent { place_from series.labels 0 (series_in_each draft.old) ≡ None }
+    requires few { length draft.old < MAX_SERIES }
+    ensures begun { OnOk result (draft.new ≡ draft.old ++ Own series ∷ []) }
+    ensures ordered { OnOk result (IsOrderOf order.new (series_in_each draft.new)) }
+{
+    order.insert(alloc, series.labels(), draft.len() as u32)?;
+    draft.push(series)
+}
+
+/// Adds a series of one sample.
 fn add_new(
     alloc: Global,
-    slots: &mut Vec<Slot>,
-    order: &mut Vec<u32>,
-    position: usize,
+    draft: &mut Draft,
+    order: &mut Order,
     labels: &LabelSet,
     sample: Sample,
 ) -> Result<(), CommitError>
-    requires ordered { IsOrder order.old.items (sets_of (series_in_each slots.old.items)) }
-    requires room { IsRoom order.old.items (sets_of (series_in_each slots.old.items)) labels.now position }
+    requires ordered { IsOrderOf order.old (series_in_each draft.old) }
+    requires absent { place_from labels.now 0 (series_in_each draft.old) ≡ None }
     ensures step { IsOutcome result
-        (new_added most labels.now sample (series_in_each slots.old.items)) (series_in_each slots.new.items) }
-    ensures ordered { OnOk result (IsOrder order.new.items (sets_of (series_in_each slots.new.items))) }
-    ensures counted { OnOk result (owned slots.old.items ≤ owned slots.new.items) }
+        (new_added most labels.now sample (series_in_each draft.old)) (series_in_each draft.new) }
+    ensures ordered { OnOk result (IsOrderOf order.new (series_in_each draft.new)) }
+    ensures counted { OnOk result (owned draft.old ≤ owned draft.new) }
     ensures owners { OnOk result ((p : Labels → Bool)
-        → T (p labels.now) → AllOwn p slots.old.items → AllOwn p slots.new.items) }
+        → T (p labels.now) → AllOwn p draft.old → AllOwn p draft.new) }
 {
-    let place = slots.len();
-    if place >= MAX_SERIES {
+    if draft.len() >= MAX_SERIES {
         return Err(CommitError::Limit);
     }
     let Ok(series) = Series::new(alloc, labels, sample) else {
         return Err(CommitError::Memory);
     };
-    let Ok(()) = order.insert(position, place as u32) else {
-        return Err(CommitError::Memory);
-    };
-    let Ok(()) = slots.push(Slot::Own(series)) else {
-        return Err(CommitError::Memory);
-    };
-    Ok(())
+    match begin(alloc, draft, order, series) {
+        Ok(()) => Ok(()),
+        Err(AllocError) => Err(CommitError::Memory),
+    }
 }
 
 /// Adds the sample that has the number `at` in its batch. Gives how many samples were copied. It
-/// looks for the label set near the position where the last one was found.
+/// looks for the label set near the spot where the last one was found.
 fn add(
     alloc: Global,
-    slots: &mut Vec<Slot>,
-    order: &mut Vec<u32>,
-    near: &mut usize,
+    draft: &mut Draft,
+    order: &mut Order,
+    near: &mut Spot,
     floor: i64,
     at: usize,
     labels: &LabelSet,
     sample: Sample,
 ) -> Result<u64, CommitError>
-    requires { IsOrder order.old.items (sets_of (series_in_each slots.old.items)) }
+    requires { IsOrderOf order.old (series_in_each draft.old) }
     ensures step { IsOutcome result
-        (head_added most floor (series_in_each slots.old.items) at (labels.now, sample)) (series_in_each slots.new.items) }
+        (head_added most floor (series_in_each draft.old) at (labels.now, sample)) (series_in_each draft.new) }
     ensures few { IfOk result (λ copied. copied < 120) }
-    ensures ordered { OnOk result (IsOrder order.new.items (sets_of (series_in_each slots.new.items))) }
-    ensures counted { IfOk result (λ copied. copied + 119 * owned slots.old.items ≤ 119 * owned slots.new.items) }
+    ensures ordered { OnOk result (IsOrderOf order.new (series_in_each draft.new)) }
+    ensures counted { IfOk result (λ copied. copied + 119 * owned draft.old ≤ 119 * owned draft.new) }
     ensures owners { OnOk result ((p : Labels → Bool)
-        → T (p labels.now) → AllOwn p slots.old.items → AllOwn p slots.new.items) }
+        → T (p labels.now) → AllOwn p draft.old → AllOwn p draft.new) }
 {
     if sample.t() < floor {
         return Err(CommitError::OutOfBounds { at });
     }
-    match search_near(slots.as_slice(), order.as_slice(), labels, *near) {
-        Ok(position) => {
-            *near = position;
-            let place = order[position] as usize;
-            add_known(alloc, &mut slots[place], at, sample)
-        }
-        Err(position) => match add_new(alloc, slots, order, position, labels, sample) {
+    match order.place_of(labels, near) {
+        Some(place) => add_known(alloc, draft, place as usize, at, sample),
+        None => match add_new(alloc, draft, order, labels, sample) {
             Ok(()) => Ok(0),
             Err(refusal) => Err(refusal),
         },
@@ -283,26 +284,30 @@ fn add(
 /// Adds the samples of a batch, up to the first refused one. Gives how many samples were copied.
 pub(crate) fn add_each(
     alloc: Global,
-    slots: &mut Vec<Slot>,
-    order: &mut Vec<u32>,
+    draft: &mut Draft,
+    order: &mut Order,
     floor: i64,
     batch: &[(LabelSet, Sample)],
 ) -> Result<u64, CommitError>
-    requires ordered { IsOrder order.old.items (sets_of (series_in_each slots.old.items)) }
+    requires ordered { IsOrderOf order.old (series_in_each draft.old) }
     requires few { length batch.now ≤ 4096 }
     ensures step { IsOutcome result
-        (head_added_each most floor (Ok (series_in_each slots.old.items)) 0 batch.now) (series_in_each slots.new.items) }
-    ensures ordered { OnOk result (IsOrder order.new.items (sets_of (series_in_each slots.new.items))) }
-    ensures counted { IfOk result (λ copied. copied + 119 * owned slots.old.items ≤ 119 * owned slots.new.items) }
+        (head_added_each most floor (Ok (series_in_each draft.old)) 0 batch.now) (series_in_each draft.new) }
+    ensures ordered { OnOk result (IsOrderOf order.new (series_in_each draft.new)) }
+    ensures counted { IfOk result (λ copied. copied + 119 * owned draft.old ≤ 119 * owned draft.new) }
     ensures owners { OnOk result ((p : Labels → Bool)
-        → T (list_all (λ x. p x.0) batch.now) → AllOwn p slots.old.items → AllOwn p slots.new.items) }
+        → T (list_all (λ x. p x.0) batch.now) → AllOwn p draft.old → AllOwn p draft.new) }
 {
     let mut copied = 0;
-    let mut near = 0;
+    let mut near = Spot {
+        group: 0,
+        page: 0,
+        at: 0,
+    };
     let mut i = 0;
     while i < batch.len() {
         let item = &batch[i];
-        match add(alloc, slots, order, &mut near, floor, i, &item.0, item.1) {
+        match add(alloc, draft, order, &mut near, floor, i, &item.0, item.1) {
             Ok(more) => copied += more,
             Err(refusal) => return Err(refusal),
         }

@@ -1,39 +1,37 @@
 //! The head of a snapshot.
 
-ghost use Rattle.std.specs.Prelude.{◌≡◌, ◌<◌, ◌≤◌, length, Some, None, IfOk, IfSome, IfNone, map, MatchOption};
-ghost use Rattle.std.specs.Arc.{arc_value};
+ghost use Rattle.std.specs.Prelude.{◌≡◌, ◌<◌, ◌≤◌, length, Some, None, IfOk, IfSome, IfNone, MatchOption};
 ghost use Rattle.labels.specs.Parts.{IsPart, row_at, labels_in, samples_within};
 ghost use Rattle.head.specs.declared.TheConstants.{MAX_SERIES};
 ghost use Rattle.head.specs.Heads.{head_part};
 ghost use Rattle.head.specs.Index.{IsIndexOf};
-ghost use Rattle.head.specs.Orders.{sets_of, Extends, IsOrder, IsOrder-prop};
+ghost use Rattle.head.specs.Orders.{sets_of, Extends, IsOrderOf};
 ghost use Rattle.labels.proofs.PartProps.{IsPart-prop};
 
 use crate::MAX_SERIES;
-use crate::draft::Slot;
 use crate::index::Index;
-use crate::series::Series;
+use crate::order::Order;
+use crate::series::{Series, SeriesList};
 use labels::{LabelSet, Row, Sample, SeriesRef};
+use pages::PagedList;
 use std::alloc::{AllocError, Global};
-use std::sync::Arc;
 
 /// The newest samples of a store, as a part: its series have the references 1 to n in order of creation.
 #[derive(Drop)]
 pub struct HeadView {
-    pub(crate) series: Vec<Arc<Series>>,
-    order: Vec<u32>,
+    pub(crate) series: SeriesList,
+    order: Order,
     pub(crate) index: Index,
     copied: u64,
-    ghost few: { length series.items ≤ MAX_SERIES },
-    ghost is_part: { IsPart (head_part (map (λ s. arc_value s) series.items)) } by { IsPart-prop (head_part (map (λ s. arc_value s) series.items)) },
-    ghost ordered: { IsOrder order.items (sets_of (map (λ s. arc_value s) series.items)) } by { IsOrder-prop order.items (sets_of (map (λ s. arc_value s) series.items)) },
-    ghost indexed: { IsIndexOf index (head_part (map (λ s. arc_value s) series.items)) },
+    ghost few: { length series ≤ MAX_SERIES },
+    ghost is_part: { IsPart (head_part series) } by { IsPart-prop (head_part series) },
+    ghost ordered: { IsOrderOf order series },
+    ghost indexed: { IsIndexOf index (head_part series) },
 }
 
 impl HeadView {
     ghost use Rattle.std.specs.Prelude.{[]};
     ghost use Rattle.head.specs.Shown.{series_of, part_of, copied_of};
-    ghost use Rattle.head.specs.Slots.{series_in_each};
     ghost use Rattle.head.specs.Heads.{HeadSeries};
     ghost use Rattle.head.specs.HeadLists.{row_of};
     ghost use Rattle.std.specs.Prelude.{◌+◌, slice_index_or};
@@ -44,67 +42,54 @@ impl HeadView {
     {
         let index = Index::new(alloc)?;
         Ok(HeadView {
-            series: Vec::new(alloc),
-            order: Vec::new(alloc),
+            series: PagedList::new(alloc)?,
+            order: Order::new(alloc)?,
             index,
             copied: 0,
         })
     }
 
     /// The version that these series make.
-    pub(crate) fn of_slots(
-        alloc: Global,
-        slots: Vec<Slot>,
-        order: Vec<u32>,
-        index: Index,
-        copied: u64,
-    ) -> Result<HeadView, AllocError>
-        requires few { length slots.items ≤ MAX_SERIES }
-        requires ordered { IsOrder order.items (sets_of (series_in_each slots.items)) }
-        requires indexed { IsIndexOf index (head_part (series_in_each slots.items)) }
-        requires is_part { IsPart (head_part (series_in_each slots.items)) }
-        ensures series { IfOk result (λ head. series_of head ≡ series_in_each slots.items) }
-        ensures copied { IfOk result (λ head. copied_of head ≡ copied) }
+    pub(crate) fn of(series: SeriesList, order: Order, index: Index, copied: u64) -> HeadView
+        requires few { length series ≤ MAX_SERIES }
+        requires ordered { IsOrderOf order series }
+        requires indexed { IsIndexOf index (head_part series) }
+        requires is_part { IsPart (head_part series) }
+        ensures series { series_of result ≡ series }
+        ensures copied { copied_of result ≡ copied }
     {
-        let mut series = Vec::new(alloc);
-        for slot in slots {
-            series.push(slot.into_shared(alloc)?)?;
-        }
-        Ok(HeadView {
+        HeadView {
             series,
             order,
             index,
             copied,
-        })
+        }
     }
 
     /// The index of these series, of which the first are the head's.
-    pub(crate) fn index_of(&self, alloc: Global, slots: &[Slot]) -> Result<Index, AllocError>
-        requires few { length slots.now ≤ MAX_SERIES }
-        requires extended { Extends (sets_of (series_of self.now)) (sets_of (series_in_each slots.now)) }
-        ensures { IfOk result (λ index. IsIndexOf index (head_part (series_in_each slots.now))) }
+    pub(crate) fn index_of(&self, alloc: Global, series: &SeriesList) -> Result<Index, AllocError>
+        requires few { length series.now ≤ MAX_SERIES }
+        requires extended { Extends (sets_of (series_of self.now)) (sets_of series.now) }
+        ensures { IfOk result (λ index. IsIndexOf index (head_part series.now)) }
     {
         let mut index = self.index.try_clone()?;
-        for place in self.series.len()..slots.len() {
+        for place in self.series.len()..series.len() {
             let reference = SeriesRef::new(place as u32 + 1);
-            index.add(alloc, slots[place].series().labels(), reference)?;
+            index.add(alloc, series.at(place).labels(), reference)?;
         }
         Ok(index)
     }
 
-    pub(crate) fn series(&self) -> &[Arc<Series>]
-        ensures { map (λ s. arc_value s) result.now ≡ series_of self.now }
+    pub(crate) fn series(&self) -> &SeriesList
+        ensures { result.now ≡ series_of self.now }
     {
-        self.series.as_slice()
+        &self.series
     }
 
-    /// A copy of the places of the series in the order of their label sets.
-    pub(crate) fn copied_order(&self, alloc: Global) -> Result<Vec<u32>, AllocError>
-        ensures { IfOk result (λ order. IsOrder order.items (sets_of (series_of self.now))) }
+    pub(crate) fn order(&self) -> &Order
+        ensures { IsOrderOf result.now (series_of self.now) }
     {
-        let mut order = Vec::new(alloc);
-        order.extend_from_slice(self.order.as_slice())?;
-        Ok(order)
+        &self.order
     }
 
     /// How many old samples the event that made this version copied.
@@ -122,7 +107,7 @@ impl HeadView {
         if number == 0 || number > self.series.len() {
             return None;
         }
-        let series = &self.series[number - 1];
+        let series = self.series.at(number - 1);
         Some(series)
     }
 
@@ -157,7 +142,7 @@ impl HeadView {
         requires { place < length (series_of self.now) }
         ensures { IfOk result (λ row. (d : HeadSeries) → row ≡ row_of (place + 1) (slice_index_or (series_of self.now) place d)) }
     {
-        let series = &self.series[place];
+        let series = self.series.at(place);
         let row = Row::new(series.labels().try_clone()?, series.samples(alloc)?);
         Ok((SeriesRef::new(place as u32 + 1), row))
     }

@@ -1,27 +1,50 @@
 //! The series with a sample in a range.
 
-ghost use Rattle.std.specs.Prelude.{◌≡◌, ℕ, ◌<◌, ◌+◌, List, length, map, max};
+ghost use Rattle.std.specs.Prelude.{◌≡◌, ℕ, ◌<◌, ◌≤◌, ◌+◌, true, false, T, All, List, length, map, max, slice_index_or};
 ghost use Rattle.std.specs.Arc.{arc_value};
+ghost use Rattle.std.specs.Ordering.{int_cmp};
+ghost use Rattle.std.specs.FinMap.Entries.{is_sorted};
 ghost use Rattle.labels.specs.Ascending.{first_of, rest_of, not_below};
-ghost use Rattle.labels.specs.Parts.{references, live_references, IsPart};
-ghost use Rattle.head.specs.Heads.{head_part};
+ghost use Rattle.labels.specs.Parts.{references, live_references, has_sample, IsPart};
+ghost use Rattle.head.specs.Heads.{HeadSeries, head_part};
 ghost use Rattle.head.specs.HeadLists.{rows_from};
 ghost use Rattle.labels.proofs.PartProps.{IsPart-prop};
 
-use crate::series::Series;
+use crate::series::{Series, SeriesList};
 use labels::SeriesRef;
 use postings::Postings;
 use std::sync::Arc;
 
+/// How many series at the front of a leaf have no sample in the closed range.
+fn passed_in(leaf: &[Arc<Series>], from: i64, to: i64) -> usize
+    requires { All (λ h. T (is_sorted int_cmp h.samples)) (map (λ s. arc_value s) leaf.now) }
+    ensures inside { result ≤ length leaf.now }
+    ensures passed { (k : ℕ) (d : HeadSeries) → k < result
+        → has_sample from to (slice_index_or (map (λ s. arc_value s) leaf.now) k d).samples ≡ false }
+    ensures stopped { (d : HeadSeries) → result < length leaf.now
+        → has_sample from to (slice_index_or (map (λ s. arc_value s) leaf.now) result d).samples ≡ true }
+{
+    let mut passed = 0;
+    while passed < leaf.len() && !leaf[passed].has_sample_in(from, to) {
+        passed += 1;
+    }
+    passed
+}
+
 /// The place of the first series, from a place on, that has a sample in the closed range, or the end.
-fn next_live(series: &[Arc<Series>], start: usize, from: i64, to: i64) -> usize
-    requires { IsPart (head_part (map (λ s. arc_value s) series.now)) }
-    ensures moved { live_references from to (rows_from result (map (λ s. arc_value s) series.now)) ≡ live_references from to (rows_from start (map (λ s. arc_value s) series.now)) }
-    ensures settled { first_of (live_references from to (rows_from result (map (λ s. arc_value s) series.now))) ≡ first_of (references (rows_from result (map (λ s. arc_value s) series.now))) }
+fn next_live(series: &SeriesList, start: usize, from: i64, to: i64) -> usize
+    requires { IsPart (head_part series.now) }
+    ensures moved { live_references from to (rows_from result series.now) ≡ live_references from to (rows_from start series.now) }
+    ensures settled { first_of (live_references from to (rows_from result series.now)) ≡ first_of (references (rows_from result series.now)) }
 {
     let mut place = start;
-    while place < series.len() && !series[place].has_sample_in(from, to) {
-        place += 1;
+    while place < series.len() {
+        let leaf = series.leaf_from(place);
+        let passed = passed_in(leaf, from, to);
+        place += passed;
+        if passed < leaf.len() {
+            return place;
+        }
     }
     place
 }
@@ -30,21 +53,21 @@ fn next_live(series: &[Arc<Series>], start: usize, from: i64, to: i64) -> usize
 /// the series only as it goes on.
 #[derive(Drop)]
 pub struct LiveList<'a> {
-    series: &'a [Arc<Series>],
+    series: &'a SeriesList,
     place: usize,
     from: i64,
     to: i64,
     ghost few: { length series.now < 4294967296 },
-    ghost is_part: { IsPart (head_part (map (λ s. arc_value s) series.now)) } by { IsPart-prop (head_part (map (λ s. arc_value s) series.now)) },
-    ghost settled: { first_of (live_references from to (rows_from place (map (λ s. arc_value s) series.now))) ≡ first_of (references (rows_from place (map (λ s. arc_value s) series.now))) },
+    ghost is_part: { IsPart (head_part series.now) } by { IsPart-prop (head_part series.now) },
+    ghost settled: { first_of (live_references from to (rows_from place series.now)) ≡ first_of (references (rows_from place series.now)) },
 }
 
 impl<'a> LiveList<'a> {
     /// The list over these series, whose references begin at 1.
-    pub(crate) fn new(series: &'a [Arc<Series>], from: i64, to: i64) -> LiveList<'a>
+    pub(crate) fn new(series: &'a SeriesList, from: i64, to: i64) -> LiveList<'a>
         requires few { length series.now < 4294967296 }
-        requires is_part { IsPart (head_part (map (λ s. arc_value s) series.now)) }
-        ensures { ⟦<LiveList<'a> as Postings>⟧.remaining result ≡ live_references from to (head_part (map (λ s. arc_value s) series.now)) }
+        requires is_part { IsPart (head_part series.now) }
+        ensures { ⟦<LiveList<'a> as Postings>⟧.remaining result ≡ live_references from to (head_part series.now) }
     {
         LiveList {
             series,
@@ -56,14 +79,12 @@ impl<'a> LiveList<'a> {
 }
 
 impl<'a> Postings for LiveList<'a> {
-    ghost use Rattle.std.specs.Prelude.{map};
-    ghost use Rattle.std.specs.Arc.{arc_value};
     ghost use Rattle.labels.specs.Parts.{live_references, has_sample};
     ghost use Rattle.labels.proofs.Lists.{not_below-twice};
     ghost use Rattle.labels.proofs.PartRows.{kept_rises};
     ghost use Rattle.head.specs.HeadLists.{rows_from, rows_rise};
 
-    ghost remaining = { λ live. live_references live.from live.to (rows_from live.place (map (λ s. arc_value s) live.series.now)) };
+    ghost remaining = { λ live. live_references live.from live.to (rows_from live.place live.series.now) };
 
     fn current(&self) -> Option<SeriesRef> {
         if self.place < self.series.len() {
@@ -85,7 +106,7 @@ impl<'a> Postings for LiveList<'a> {
         }
     }
 
-    ghost ascending = { λ live. kept_rises (λ row. has_sample live.from live.to row.1.1) (rows_from live.place (map (λ s. arc_value s) live.series.now)) (rows_rise live.place (map (λ s. arc_value s) live.series.now)) };
+    ghost ascending = { λ live. kept_rises (λ row. has_sample live.from live.to row.1.1) (rows_from live.place live.series.now) (rows_rise live.place live.series.now) };
 
-    ghost two_seeks = { λ live a b. not_below-twice a b (live_references live.from live.to (rows_from live.place (map (λ s. arc_value s) live.series.now))) };
+    ghost two_seeks = { λ live a b. not_below-twice a b (live_references live.from live.to (rows_from live.place live.series.now)) };
 }

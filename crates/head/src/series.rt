@@ -13,6 +13,7 @@ ghost use Rattle.head.specs.Removing.{outside, series_less};
 
 use crate::MAX_SAMPLES;
 use labels::{LabelSet, Sample};
+use pages::PagedList;
 use std::alloc::{AllocError, Global};
 use std::marker::Model;
 use std::mem;
@@ -67,6 +68,9 @@ fn has_sample_in(samples: &[Sample], from: i64, to: i64) -> bool
     let place = samples.partition_point(|sample| sample.t() < from);
     place < samples.len() && samples[place].t() <= to
 }
+
+/// The series of a head in order of creation, in pages that versions share.
+pub(crate) type SeriesList = PagedList<Arc<Series>, 16>;
 
 /// The samples of one label set: sealed chunks of 120 samples, shared, and an open one of fewer.
 #[derive(Drop)]

@@ -11,7 +11,7 @@ ghost use Rattle.head.specs.Limits.{most};
 
 use crate::cut::cut_at;
 use crate::deletion::deleted_from;
-use crate::draft::{add_each, slots_of};
+use crate::draft::{Draft, add_each};
 use crate::error::CommitError;
 use crate::event::{Event, Kind};
 use crate::head::HeadView;
@@ -133,28 +133,29 @@ fn committed_to(
     ensures kept { IfOk result (λ s. s.blocks ≡ at.now.blocks) }
     ensures copied { IfOk result (λ s. s.copied ≤ 119 * set_count batch.now) }
 {
-    let Ok(mut slots) = slots_of(alloc, at.head.series()) else {
+    let Ok(last) = at.head.series().try_clone() else {
         return Err(CommitError::Memory);
     };
     let Ok(blocks) = Arc::try_clone(&at.blocks) else {
         return Err(CommitError::Memory);
     };
-    let Ok(mut order) = at.head.copied_order(alloc) else {
+    let Ok(mut order) = at.head.order().try_clone() else {
         return Err(CommitError::Memory);
     };
-    let copied = match add_each(alloc, &mut slots, &mut order, at.floor, batch) {
+    let mut draft = Draft::new(alloc, last);
+    let copied = match add_each(alloc, &mut draft, &mut order, at.floor, batch) {
         Ok(copied) => copied,
         Err(refusal) => return Err(refusal),
     };
-    let Ok(index) = at.head.index_of(alloc, slots.as_slice()) else {
+    let Ok(series) = draft.into_list(alloc) else {
         return Err(CommitError::Memory);
     };
-    let Ok(head) = HeadView::of_slots(alloc, slots, order, index, copied) else {
+    let Ok(index) = at.head.index_of(alloc, &series) else {
         return Err(CommitError::Memory);
     };
     Ok(Snapshot {
         blocks,
-        head,
+        head: HeadView::of(series, order, index, copied),
         floor: at.floor,
     })
 }

@@ -1,7 +1,6 @@
 //! A head as a source of lists.
 
 ghost use Rattle.std.specs.Prelude.{◌≡◌, ℕ, ◌<◌, ◌≤◌, List, [], length, map, slice_get, Some, IfNone, IfSome, IfOk};
-ghost use Rattle.std.specs.Arc.{arc_value};
 ghost use Rattle.labels.specs.Parts.{references, references_where, live_references, carries};
 
 use crate::head::HeadView;
@@ -12,8 +11,6 @@ use postings::{SliceList, Source};
 use std::alloc::{AllocError, Global};
 
 impl<'a> Source for &'a HeadView {
-    ghost use Rattle.std.specs.Prelude.{map};
-    ghost use Rattle.std.specs.Arc.{arc_value};
     ghost use Rattle.head.specs.Heads.{head_part};
     ghost use Rattle.head.specs.Index.{values_under};
     ghost use Rattle.head.specs.Lending.{are_values_under};
@@ -22,13 +19,13 @@ impl<'a> Source for &'a HeadView {
 
     type Live = LiveList<'a>;
 
-    ghost part = { λ view. head_part (map (λ s. arc_value s) view.now.series.items) };
+    ghost part = { λ view. head_part view.now.series };
 
     ghost values = { λ view name. values_under name view.now.index };
 
     fn all(&self) -> HeadList<'a> {
         let view: &'a HeadView = *self;
-        HeadList::All(Span::new(1, view.series.as_slice().len() as u32))
+        HeadList::All(Span::new(1, view.series.len() as u32))
     }
 
     fn list(&self, name: &str, value: &str) -> Option<HeadList<'a>> {
@@ -41,7 +38,7 @@ impl<'a> Source for &'a HeadView {
 
     fn live(&self, _alloc: Global, from: i64, to: i64) -> Result<LiveList<'a>, AllocError> {
         let view: &'a HeadView = *self;
-        Ok(LiveList::new(view.series.as_slice(), from, to))
+        Ok(LiveList::new(&view.series, from, to))
     }
 
     fn value_count(&self, name: &str) -> usize {
@@ -54,5 +51,5 @@ impl<'a> Source for &'a HeadView {
 
     ghost is_part = { λ view. view.now.is_part };
 
-    ghost are_values = { λ view name. are_values_under view.now.index (head_part (map (λ s. arc_value s) view.now.series.items)) name view.now.indexed };
+    ghost are_values = { λ view name. are_values_under view.now.index (head_part view.now.series) name view.now.indexed };
 }

@@ -1,27 +1,34 @@
-use Rattle.std.specs.Prelude.{◌≡◌, ◌≤◌, ℕ, T, List, [], ◌∷◌, ◌++◌, length, insert}
-use Rattle.std.proofs.Common.{sym, ◌∙◌, ap, subst, rules}
+use Rattle.std.specs.Prelude.{◌≡◌, ◌≤◌, ◌++◌, T, List, [], ◌∷◌, Ok, None, length, nat_le, if◌then◌else◌}
+use Rattle.std.proofs.Common.{sym, ◌∙◌, ap, subst, arith, rules}
+use Rattle.std.proofs.lemmas.List.{map-append}
 use Rattle.labels.specs.Labels.{Labels}
-use Rattle.head.specs.declared.draft.Slot.{Slot}
 use Rattle.head.specs.Heads.{HeadSeries}
-use Rattle.head.specs.Slots.{series_in_each, owned, AllOwn}
-use Rattle.head.specs.Orders.{sets_of, IsOrder}
-use Rattle.head.proofs.SlotLaws.{length-sets, sets_more, owned-more, AllOwn-more}
-use Rattle.head.proofs.OrderPlaces.{IsOrder-insert}
+use Rattle.head.specs.Slots.{Slot, Own, series_in, series_in_each, owned, AllOwn}
+use Rattle.head.specs.Taking.{place_from}
+use Rattle.head.proofs.SlotLaws.{length-each, owned-more, AllOwn-more}
+use Rattle.head.proofs.Places.{new_full, new_taken}
 use Rattle.head.proofs.draft.add_new.Goals as goal
 
-pub returns-clause-ordered : goal.returns-clause-ordered
-returns-clause-ordered c =
-    let sets = sets_of (series_in_each c.args.slots.now.items) in
-    let place : c.len-place.result ≡ length c.args.slots.now.items = search rules in
-    let sets_are = ap (λ (xs : List Slot). sets_of (series_in_each xs)) c.in-Ok-push.ensures.items ∙ sets_more c.args.slots.now.items _ ∙ ap (λ (h : HeadSeries). sets ++ h.labels ∷ []) c.in-Ok.ensures in
-    let order_is = c.in-Ok-insert.ensures.items ∙ ap (insert c.args.order.now.items c.args.position) (place ∙ sym (length-sets c.args.slots.now.items)) in
-    subst (λ (ls : List Labels). IsOrder c.insert.new.self.items ls) (sym sets_are)
-    (subst (λ (o : List ℕ). IsOrder o (sets ++ c.args.labels.now ∷ [])) (sym order_is)
-    (IsOrder-insert c.args.order.now.items sets c.args.labels.now c.args.position c.requires.ordered c.requires.room))
+pub returns-then-len-ge-MAX_SERIES-clause-step : goal.returns-then-len-ge-MAX_SERIES-clause-step
+returns-then-len-ge-MAX_SERIES-clause-step c =
+    new_full c.args.labels.now c.args.sample (series_in_each c.args.draft.now) (omega (arith, c.if-len-ge-MAX_SERIES.true, c.len.ensures.count, length-each c.args.draft.now))
 
-pub returns-clause-counted : goal.returns-clause-counted
-returns-clause-counted c = subst (λ (xs : List Slot). owned c.args.slots.now.items ≤ owned xs) (sym c.in-Ok-push.ensures.items) (owned-more c.args.slots.now.items _)
+pub begin-requires : goal.begin-requires
+begin-requires c = record {
+  ordered = c.requires.ordered;
+  absent = ap (λ (h : HeadSeries). place_from h.labels 0 (series_in_each c.args.draft.now)) c.in-Ok.ensures ∙ c.requires.absent;
+  few = omega (arith, c.if-len-ge-MAX_SERIES.false, c.len.ensures.count);
+}
 
-pub returns-clause-owners : goal.returns-clause-owners
-returns-clause-owners c = λ p h all. subst (λ (xs : List Slot). AllOwn p xs) (sym c.in-Ok-push.ensures.items)
-    (AllOwn-more p c.args.slots.now.items _ (subst (λ (s : HeadSeries). T (p s.labels)) (sym c.in-Ok.ensures) h) all)
+pub returns-in-Ok-begin-clause-step : goal.returns-in-Ok-begin-clause-step
+returns-in-Ok-begin-clause-step c =
+    new_taken c.args.labels.now c.args.sample (series_in_each c.args.draft.now) (omega (arith, c.if-len-ge-MAX_SERIES.false, c.len.ensures.count, length-each c.args.draft.now))
+    ∙ ap Ok (sym (ap (λ (ss : List Slot). series_in_each ss) c.in-Ok-begin.ensures.begun ∙ map-append series_in c.args.draft.now (Own c.in-Ok.series ∷ [])
+    ∙ ap (λ (h : HeadSeries). series_in_each c.args.draft.now ++ h ∷ []) c.in-Ok.ensures))
+
+pub returns-in-Ok-begin-clause-counted : goal.returns-in-Ok-begin-clause-counted
+returns-in-Ok-begin-clause-counted c = subst (λ (slots : List Slot). owned c.args.draft.now ≤ owned slots) (sym c.in-Ok-begin.ensures.begun) (owned-more c.args.draft.now (Own c.in-Ok.series))
+
+pub returns-in-Ok-begin-clause-owners : goal.returns-in-Ok-begin-clause-owners
+returns-in-Ok-begin-clause-owners c = λ p h all. subst (λ (slots : List Slot). AllOwn p slots) (sym c.in-Ok-begin.ensures.begun)
+    (AllOwn-more p c.args.draft.now (Own c.in-Ok.series) (subst (λ (s : HeadSeries). T (p s.labels)) (sym c.in-Ok.ensures) h) all)

@@ -1,9 +1,8 @@
 use Rattle.std.proofs.Common.{take}
 use Rattle.head.specs.Heads.{head_part}
 use Rattle.head.specs.Index.{IsIndexOf}
-use Rattle.head.specs.Slots.{series_in_each}
 use Rattle.head.proofs.head.HeadView.index_of.Given as goal
 
 -- the series so far are listed
 abbrev pub invariant-loop-place : goal.invariant-loop-place
-invariant-loop-place l = IsIndexOf l.index (head_part (take l.place (series_in_each l.slots)))
+invariant-loop-place l = IsIndexOf l.index (head_part (take l.place l.series))

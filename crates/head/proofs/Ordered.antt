@@ -1,0 +1,113 @@
+-- The places of series by their label sets, as a head grows and is cut.
+use Rattle.std.specs.Prelude.{◌≡◌, ◌<◌, ◌≤◌, ◌+◌, ℕ, zero, suc, ℤ, Bool, true, false, cond, List, [], ◌∷◌, ◌++◌, Option, None, Some, length, take, is_some, int_lt, not, refl, filter, slice_index_or, unwrap_or}
+use Rattle.std.specs.FinMap.Entries.{find, put, find-put}
+use Rattle.std.proofs.Common.{sym, ◌∙◌, ap, subst, arith}
+use Rattle.labels.specs.Labels.{Labels, labels_cmp, same_labels}
+use Rattle.labels.specs.Laws.{labels_total}
+use Rattle.labels.proofs.OrderLaws.{same_turn}
+use Rattle.labels.proofs.Times.{true_not_false}
+use Rattle.head.specs.Heads.{HeadSeries, series_at, IsSoundHead}
+use Rattle.head.specs.Orders.{sets_of, IsOrderOf}
+use Rattle.head.specs.Removing.{series_kept, from_on, head_kept, head_cut}
+use Rattle.head.specs.Taking.{place_from}
+use Rattle.head.proofs.HeadLaws.{same_path}
+
+-- the place, or else another one
+abbrev or_place : Option ℕ → Option ℕ → Option ℕ
+or_place (Some i) o = Some i
+or_place None o = o
+
+place_more : (l : Labels) (n : ℕ) (head : List HeadSeries) (h : HeadSeries) →
+    place_from l n (head ++ h ∷ []) ≡ or_place (place_from l n head) (cond (same_labels l h.labels) (Some (n + length head)) None)
+place_more l n [] h = let e : n ≡ n + zero = omega arith in ap (λ m. cond (same_labels l h.labels) (Some m) None) e
+place_more l n (x ∷ xs) h =
+    let e : (n + 1) + length xs ≡ n + suc (length xs) = omega arith in
+    elim (same_labels l x.labels) as (λ b. cond b (Some n) (place_from l (n + 1) (xs ++ h ∷ [])) ≡ or_place (cond b (Some n) (place_from l (n + 1) xs)) (cond (same_labels l h.labels) (Some (n + suc (length xs))) None)) [
+      | true ↦ refl
+      | false ↦ place_more l (n + 1) xs h ∙ ap (λ m. or_place (place_from l (n + 1) xs) (cond (same_labels l h.labels) (Some m) None)) e
+    ]
+
+or_none : (o : Option ℕ) → o ≡ or_place o None
+or_none (Some i) = refl
+or_none None = refl
+
+from_zero : (n : ℕ) → n ≡ 0 + n
+from_zero n = omega arith
+
+-- one series more
+pub ordered_more : (order : List (Labels × ℕ)) (head : List HeadSeries) (h : HeadSeries) (k : ℕ) → k ≡ length head → place_from h.labels 0 head ≡ None → IsOrderOf order head
+    → IsOrderOf (put labels_cmp h.labels k order) (head ++ h ∷ [])
+ordered_more order head h k is none ordered = record {
+  placed = λ l.
+      find-put labels_cmp labels_total l h.labels k order
+      ∙ elim (same_labels l h.labels) as (λ b. same_labels l h.labels ≡ b → cond b (Some k) (find labels_cmp l order) ≡ or_place (place_from l 0 head) (cond b (Some (0 + length head)) None)) [
+        | true ↦ λ e. ap (λ m. Some m) (is ∙ from_zero (length head)) ∙ ap (λ o. or_place o (Some (0 + length head))) (sym (ap (λ (m : Labels). place_from m 0 head) (same_path l h.labels e) ∙ none))
+        | false ↦ λ e. ordered.placed l ∙ or_none (place_from l 0 head)
+      ] refl
+      ∙ sym (place_more l 0 head h);
+}
+
+pub ordered_none : IsOrderOf [] []
+ordered_none = record { placed = λ l. refl }
+
+same_place : (l : Labels) (n : ℕ) (a b : List HeadSeries) → sets_of a ≡ sets_of b → place_from l n a ≡ place_from l n b
+same_place l n [] [] e = refl
+same_place l n [] (y ∷ ys) e = absurd cc
+same_place l n (x ∷ xs) [] e = absurd cc
+same_place l n (x ∷ xs) (y ∷ ys) e =
+    let first : x.labels ≡ y.labels = cc in
+    let rest : sets_of xs ≡ sets_of ys = cc in
+    λ i. cond (same_labels l (first i)) (Some n) (same_place l (n + 1) xs ys rest i)
+
+-- series of the same label sets
+pub ordered_alike : (order : List (Labels × ℕ)) (a b : List HeadSeries) → sets_of a ≡ sets_of b → IsOrderOf order a → IsOrderOf order b
+ordered_alike order a b e ordered = record { placed = λ l. ordered.placed l ∙ same_place l 0 a b e }
+
+place_absent : (b : Bool) (n : ℕ) (o : Option ℕ) → b ≡ false → o ≡ None → cond b (Some n) o ≡ None
+place_absent b n o e none = ap (λ c. cond c (Some n) o) e ∙ none
+
+first_absent : (b : Bool) (h : HeadSeries) (o : Option HeadSeries) → cond b (Some h) o ≡ None → (b ≡ false) × (o ≡ None)
+first_absent true h o e = absurd (true_not_false (ap is_some e))
+first_absent false h o e = (refl, e)
+
+-- a label set that none of the series has
+unlike : (l : Labels) (hs : List HeadSeries) (i : ℕ) (d : HeadSeries) → series_at l hs ≡ None → i < length hs → same_labels l (slice_index_or hs i d).labels ≡ false
+unlike l [] i d e inside = absurd (omega (arith, inside))
+unlike l (h ∷ hs) zero d e inside = (first_absent (same_labels l h.labels) h (series_at l hs) e).0
+unlike l (h ∷ hs) (suc i) d e inside = unlike l hs i d (first_absent (same_labels l h.labels) h (series_at l hs) e).1 (omega (arith, inside))
+
+-- no series before one of a sound head has its label set
+absent_before : (floor : ℤ) (n : ℕ) (hs : List HeadSeries) (i : ℕ) (d : HeadSeries) → IsSoundHead floor hs → i < length hs → place_from (slice_index_or hs i d).labels n (take i hs) ≡ None
+absent_before floor n [] i d sound inside = absurd (omega (arith, inside))
+absent_before floor n (h ∷ hs) zero d sound inside = refl
+absent_before floor n (h ∷ hs) (suc i) d sound inside =
+    place_absent (same_labels (slice_index_or hs i d).labels h.labels) n (place_from (slice_index_or hs i d).labels (n + 1) (take i hs))
+    (same_turn (slice_index_or hs i d).labels h.labels ∙ unlike h.labels hs i d sound.1 (omega (arith, inside)))
+    (absent_before floor (n + 1) hs i d sound.2 (omega (arith, inside)))
+
+place_first : (b : Bool) (n : ℕ) (o : Option ℕ) → cond b (Some n) o ≡ None → (b ≡ false) × (o ≡ None)
+place_first true n o e = absurd (true_not_false (ap is_some e))
+place_first false n o e = (refl, e)
+
+-- a cut adds no label set
+absent_left : (t : ℤ) (l : Labels) (n m : ℕ) (hs : List HeadSeries) → place_from l n hs ≡ None → place_from l m (head_cut t hs) ≡ None
+absent_left t l n m [] none = refl
+absent_left t l n m (h ∷ hs) none =
+    let both = place_first (same_labels l h.labels) n (place_from l (n + 1) hs) none in
+    elim (not (int_lt h.newest.0 t)) as (λ b. place_from l m (cond b (series_kept (from_on t) h ∷ head_cut t hs) (head_cut t hs)) ≡ None) [
+      | true ↦ place_absent (same_labels l h.labels) m (place_from l (m + 1) (head_cut t hs)) both.0 (absent_left t l (n + 1) (m + 1) hs both.1)
+      | false ↦ absent_left t l (n + 1) m hs both.1
+    ]
+
+-- a series that stays is not found among those before it that stay
+pub absent_in_cut : (floor t : ℤ) (hs : List HeadSeries) (i : ℕ) (d : HeadSeries) → IsSoundHead floor hs → i < length hs → place_from (slice_index_or hs i d).labels 0 (head_cut t (take i hs)) ≡ None
+absent_in_cut floor t hs i d sound inside = absent_left t (slice_index_or hs i d).labels 0 0 (take i hs) (absent_before floor 0 hs i d sound inside)
+
+-- the series that is found has the label set
+pub like_series : (l : Labels) (head : List HeadSeries) (h : HeadSeries) → series_at l head ≡ Some h → l ≡ h.labels
+like_series l [] h e = absurd (true_not_false (sym (ap is_some e)))
+like_series l (x ∷ xs) h e =
+    elim (same_labels l x.labels) as (λ b. same_labels l x.labels ≡ b → cond b (Some x) (series_at l xs) ≡ Some h → l ≡ h.labels) [
+      | true ↦ λ s f. same_path l x.labels s ∙ ap (λ (o : Option HeadSeries). (unwrap_or o x).labels) f
+      | false ↦ λ s f. like_series l xs h f
+    ] refl e
