@@ -30,7 +30,7 @@ use crate::snapshot::Snapshot;
 use block::{Block, Range};
 use block_writer::{BlockBytes, PartRows, WriteError, write};
 use labels::{Row, sort_rows};
-use pages::PagedList;
+use pages::{PagedList, Spot};
 use std::alloc::{AllocError, Global};
 use std::sync::Arc;
 
@@ -155,13 +155,14 @@ fn series_from(
 {
     let mut draft = Draft::new(alloc, PagedList::new(alloc)?);
     let mut order = Order::new(alloc)?;
+    let mut near = Spot::default();
     for place in 0..head.len() {
         let series = head.at(place);
         if series.newest().t() < time {
             continue;
         }
         let left = series.without(alloc, floor, time - 1)?;
-        begin(alloc, &mut draft, &mut order, left)?;
+        begin(alloc, &mut draft, &mut order, &mut near, left)?;
     }
     Ok((draft.into_list(alloc)?, order))
 }

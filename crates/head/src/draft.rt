@@ -207,6 +207,7 @@ pub(crate) fn begin(
     alloc: Global,
     draft: &mut Draft,
     order: &mut Order,
+    near: &mut Spot,
     series: Series,
 ) -> Result<(), AllocError>
     requires ordered { IsOrderOf order.old (series_in_each draft.old) }
@@ -215,7 +216,7 @@ pub(crate) fn begin(
     ensures begun { OnOk result (draft.new ≡ draft.old ++ Own series ∷ []) }
     ensures ordered { OnOk result (IsOrderOf order.new (series_in_each draft.new)) }
 {
-    order.insert(alloc, series.labels(), draft.len() as u32)?;
+    order.insert(alloc, series.labels(), draft.len() as u32, near)?;
     draft.push(series)
 }
 
@@ -224,6 +225,7 @@ fn add_new(
     alloc: Global,
     draft: &mut Draft,
     order: &mut Order,
+    near: &mut Spot,
     labels: &LabelSet,
     sample: Sample,
 ) -> Result<(), CommitError>
@@ -242,7 +244,7 @@ fn add_new(
     let Ok(series) = Series::new(alloc, labels, sample) else {
         return Err(CommitError::Memory);
     };
-    match begin(alloc, draft, order, series) {
+    match begin(alloc, draft, order, near, series) {
         Ok(()) => Ok(()),
         Err(AllocError) => Err(CommitError::Memory),
     }
@@ -274,7 +276,7 @@ fn add(
     }
     match order.place_of(labels, near) {
         Some(place) => add_known(alloc, draft, place as usize, at, sample),
-        None => match add_new(alloc, draft, order, labels, sample) {
+        None => match add_new(alloc, draft, order, near, labels, sample) {
             Ok(()) => Ok(0),
             Err(refusal) => Err(refusal),
         },
@@ -299,11 +301,7 @@ pub(crate) fn add_each(
         → T (list_all (λ x. p x.0) batch.now) → AllOwn p draft.old → AllOwn p draft.new) }
 {
     let mut copied = 0;
-    let mut near = Spot {
-        group: 0,
-        page: 0,
-        at: 0,
-    };
+    let mut near = Spot::default();
     let mut i = 0;
     while i < batch.len() {
         let item = &batch[i];

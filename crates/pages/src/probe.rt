@@ -17,7 +17,7 @@ pub trait Probe<E: Entry> {
 }
 
 /// A place in sorted pages: before an entry, or after the last of a page. It holds until the next insertion.
-#[derive(Clone, Copy, Debug)]
+#[derive(Clone, Copy, Debug, Default)]
 pub struct Spot {
     pub group: usize,
     pub page: usize,
