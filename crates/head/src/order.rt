@@ -144,7 +144,12 @@ impl Order {
     }
 
     /// Gives a label set a place. After an `Err` all is as it was.
-    pub(crate) fn insert(&mut self, alloc: Global, labels: &LabelSet, place: u32) -> Result<(), AllocError>
+    pub(crate) fn insert(
+        &mut self,
+        alloc: Global,
+        labels: &LabelSet,
+        place: u32,
+    ) -> Result<(), AllocError>
         ensures ok { OnOk result (self.new ≡ put labels_cmp labels.now place self.old) }
         ensures err { OnErr result (self.new ≡ self.old) }
     {
