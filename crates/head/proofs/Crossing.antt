@@ -6,7 +6,6 @@ use Rattle.block.proofs.Crossing.{LabelSet-send, LabelSet-sync, Block-send, Bloc
 use Rattle.head.specs.contracts.series.Chunk as chunk
 use Rattle.head.specs.contracts.series.Series as series
 use Rattle.head.specs.contracts.listed.Listed as listed
-use Rattle.head.specs.contracts.index.Lists as lists
 use Rattle.head.specs.contracts.index.Index as index
 use Rattle.pages.proofs.Crossing.{PagedList-send, PagedList-sync, SortedPages-send, SortedPages-sync}
 use Rattle.head.specs.contracts.order.Placed as placed
@@ -32,17 +31,11 @@ Listed-send = search (sendable, heap.Vec-send, LabelSet-send) depth 60 fits 2000
 pub Listed-sync : IsSync listed.the_field.row
 Listed-sync = search (sendable, heap.Vec-sync, LabelSet-sync) depth 60 fits 20000
 
-pub Lists-send : IsSend lists.the_field.row
-Lists-send = search (sendable, heap.Vec-send, heap.Arc-send, Listed-send, Listed-sync) depth 60 fits 20000
-
-pub Lists-sync : IsSync lists.the_field.row
-Lists-sync = search (sendable, heap.Vec-sync, heap.Arc-sync, Listed-send, Listed-sync) depth 60 fits 20000
-
 pub Index-send : IsSend index.the_field.row
-Index-send = search (sendable, heap.Arc-send, Lists-send, Lists-sync) depth 60 fits 20000
+Index-send = search (sendable, SortedPages-send, heap.Arc-send, heap.Arc-sync, Listed-send, Listed-sync) depth 60 fits 20000
 
 pub Index-sync : IsSync index.the_field.row
-Index-sync = search (sendable, heap.Arc-sync, Lists-send, Lists-sync) depth 60 fits 20000
+Index-sync = search (sendable, SortedPages-sync, heap.Arc-send, heap.Arc-sync, Listed-send, Listed-sync) depth 60 fits 20000
 
 pub Placed-send : IsSend placed.the_field.row
 Placed-send = search (sendable, LabelSet-send) depth 60 fits 20000

@@ -1,5 +1,6 @@
 -- Where a pair, or a name, stands among ascending pairs.
 use Rattle.std.specs.Prelude.{◌≡◌, ◌<◌, ◌≤◌, ◌-◌, ℕ, Bool, true, false, List, length, map, take, drop, slice_index_or}
+use Rattle.std.specs.declared.cmp.Ordering.{Ordering}
 use Rattle.std.specs.declared.cmp.Ordering.TheVariants.{Less, Greater}
 use Rattle.labels.specs.Labels.{pair_cmp}
 use Rattle.head.specs.Index.{Pair, PairLists, values_under}
@@ -26,3 +27,8 @@ pub record IsRunOf (name : List ℕ) (lists : PairLists) (start end : ℕ) : Typ
   pub ordered : start ≤ end
   pub in_range : end ≤ length lists
   pub values : values_under name lists ≡ map (λ e. e.0.1) (take (end - start) (drop start lists))
+
+-- on which side of a boundary of names a pair stands, which no pair is
+abbrev pub side_of : Bool → Ordering
+side_of true = Less
+side_of false = Greater

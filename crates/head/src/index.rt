@@ -1,34 +1,93 @@
 //! The postings index of a head.
 
-ghost use Rattle.std.specs.Prelude.{◌≡◌, ◌<◌, ◌≤◌, ℕ, ℤ, List, [], ◌∷◌, ◌++◌, length, map, get_or, slice_get, IfOk, IfErr, OnOk, OnErr, IfSome, IfNone, Some, None, T, not};
+ghost use Rattle.std.specs.Prelude.{◌≡◌, ◌+◌, ◌<◌, ◌≤◌, ℕ, ℤ, List, [], ◌∷◌, ◌++◌, length, get_or, slice_get, IfOk, OnOk, OnErr, IfSome, IfNone, Some, None};
 ghost use Rattle.std.specs.Arc.{arc_value};
+ghost use Rattle.std.specs.Prelude.{T};
 ghost use Rattle.std.specs.Ordering.{is_lt, is_le, nat_cmp};
 ghost use Rattle.std.specs.Cmp.Lexicographic.{slice_cmp};
 ghost use Rattle.std.specs.FinMap.Entries.{is_sorted, find};
 ghost use Rattle.labels.specs.Labels.{pair_cmp};
 ghost use Rattle.labels.specs.LabelSets.{IsLabelSet};
 ghost use Rattle.labels.specs.Parts.{Part};
-ghost use Rattle.head.specs.Index.{listed, listed_more, added, values_under, IsIndexOf};
-ghost use Rattle.head.specs.Places.{IsAt, IsGapFor, IsNameBoundary, IsRunOf};
+ghost use Rattle.head.specs.Index.{listed_more, added, values_under, IsIndexOf};
+ghost use Rattle.head.specs.Places.{IsNameBoundary, IsRunOf};
+ghost use Rattle.pages.specs.Sorted.{entries_of, place_of, IsSpot};
 
 use crate::listed::{Listed, order_of};
 use labels::{LabelSet, SeriesRef};
+use pages::{Probe, SortedPages, Spot, WholeChange};
 use std::alloc::{AllocError, Global};
+use std::cmp::Ordering;
 use std::marker::Model;
 use std::sync::Arc;
 
-/// Where the list of a pair stands, or else would stand.
-fn find_pair(lists: &[Arc<Listed>], name: &str, value: &str) -> Result<usize, usize>
-    requires { T (is_sorted pair_cmp (map (λ l. arc_value l) lists.now)) }
-    ensures found { IfOk result (IsAt (name.now, value.now) (map (λ l. arc_value l) lists.now)) }
-    ensures absent { IfErr result (IsGapFor (name.now, value.now) (map (λ l. arc_value l) lists.now)) }
-{
-    lists.binary_search_by(|listed| order_of(listed.pair(), (name, value)))
+type Lists = SortedPages<Arc<Listed>>;
+
+/// The pair that a search seeks.
+#[derive(Drop)]
+struct Sought<'a> {
+    name: &'a str,
+    value: &'a str,
+}
+
+impl<'a> Probe<Arc<Listed>> for Sought<'a> {
+    ghost use Rattle.labels.specs.Labels.{pair_cmp};
+
+    ghost order = { λ probe y. pair_cmp y.0 (probe.name.now, probe.value.now) };
+
+    fn compare(&self, entry: &Arc<Listed>) -> Ordering {
+        order_of(entry.pair(), (self.name, self.value))
+    }
+}
+
+/// The first pair of a name, or of a greater one.
+#[derive(Drop)]
+struct FirstOf<'a> {
+    name: &'a str,
+}
+
+impl<'a> Probe<Arc<Listed>> for FirstOf<'a> {
+    ghost use Rattle.std.specs.Ordering.{is_lt, nat_cmp};
+    ghost use Rattle.std.specs.Cmp.Lexicographic.{slice_cmp};
+    ghost use Rattle.head.specs.Places.{side_of};
+
+    ghost order = { λ probe y. side_of (is_lt (slice_cmp nat_cmp y.0.0 probe.name.now)) };
+
+    fn compare(&self, entry: &Arc<Listed>) -> Ordering {
+        if entry.name_order(self.name).is_lt() {
+            Ordering::Less
+        } else {
+            Ordering::Greater
+        }
+    }
+}
+
+/// The first pair of a name that is greater than this one.
+#[derive(Drop)]
+struct FirstAfter<'a> {
+    name: &'a str,
+}
+
+impl<'a> Probe<Arc<Listed>> for FirstAfter<'a> {
+    ghost use Rattle.std.specs.Ordering.{is_le, nat_cmp};
+    ghost use Rattle.std.specs.Cmp.Lexicographic.{slice_cmp};
+    ghost use Rattle.head.specs.Places.{side_of};
+
+    ghost order = { λ probe y. side_of (is_le (slice_cmp nat_cmp y.0.0 probe.name.now)) };
+
+    fn compare(&self, entry: &Arc<Listed>) -> Ordering {
+        if entry.name_order(self.name).is_le() {
+            Ordering::Less
+        } else {
+            Ordering::Greater
+        }
+    }
 }
 
 /// The list with one reference more; it is copied where another version holds it.
 fn push_to(alloc: Global, listed: &mut Arc<Listed>, reference: SeriesRef) -> Result<(), AllocError>
-    ensures ok { OnOk result (arc_value listed.new ≡ ((arc_value listed.old).0, (arc_value listed.old).1 ++ reference ∷ [])) }
+    ensures ok { OnOk result (arc_value listed.new
+        ≡ ((arc_value listed.old).0, (arc_value listed.old).1 ++ reference ∷ [])) }
     ensures err { OnErr result (arc_value listed.new ≡ arc_value listed.old) }
 {
     if let Some(own) = Arc::get_mut(listed) {
@@ -38,67 +97,106 @@ fn push_to(alloc: Global, listed: &mut Arc<Listed>, reference: SeriesRef) -> Res
     Ok(())
 }
 
-/// Pointers to the same lists.
-fn shared(alloc: Global, lists: &[Arc<Listed>]) -> Result<Vec<Arc<Listed>>, AllocError>
-    ensures { IfOk result (λ copy. map (λ l. arc_value l) copy.items ≡ map (λ l. arc_value l) lists.now) }
-{
-    let mut copy = Vec::with_capacity(alloc, lists.len())?;
-    for listed in lists {
-        copy.push(Arc::try_clone(listed)?)?;
-    }
-    Ok(copy)
-}
-
-/// How many of the lists are of smaller names.
-fn count_before(lists: &[Arc<Listed>], name: &str) -> usize
-    requires { T (is_sorted pair_cmp (map (λ l. arc_value l) lists.now)) }
-    ensures { IsNameBoundary (λ n. is_lt (slice_cmp nat_cmp n name.now)) (map (λ l. arc_value l) lists.now) result }
-{
-    lists.partition_point(|listed| listed.name_order(name).is_lt())
-}
-
-/// How many of the lists are of smaller names or of this one.
-fn count_up_to(lists: &[Arc<Listed>], name: &str) -> usize
-    requires { T (is_sorted pair_cmp (map (λ l. arc_value l) lists.now)) }
-    ensures { IsNameBoundary (λ n. is_le (slice_cmp nat_cmp n name.now)) (map (λ l. arc_value l) lists.now) result }
-{
-    lists.partition_point(|listed| listed.name_order(name).is_le())
-}
-
-/// The lists of all pairs, in the order of the pairs.
+/// One reference more at the end of a list.
 #[derive(Drop)]
-struct Lists {
-    lists: Vec<Arc<Listed>>,
+struct Push {
+    alloc: Global,
+    reference: SeriesRef,
 }
 
-impl Model for Lists {
-    ghost use Rattle.std.specs.Prelude.{ℕ, List, T, map};
-    ghost use Rattle.std.specs.Arc.{arc_value};
+impl WholeChange<Arc<Listed>> for Push {
+    ghost use Rattle.std.specs.Prelude.{[], ◌∷◌, ◌++◌};
+
+    ghost after = { λ push listed. (listed.0, listed.1 ++ push.reference ∷ []) };
+
+    fn change(&self, entry: &mut Arc<Listed>) -> Result<(), AllocError> {
+        push_to(self.alloc, entry, self.reference)
+    }
+}
+
+/// Where the lists of a name begin.
+fn first_of(lists: &Lists, name: &str) -> Spot
+    requires { T (is_sorted pair_cmp (entries_of lists.now)) }
+    ensures spot { IsSpot lists.now result }
+    ensures place { IsNameBoundary (λ n. is_lt (slice_cmp nat_cmp n name.now))
+        (entries_of lists.now) (place_of lists.now result) }
+{
+    match lists.find(&FirstOf { name }) {
+        Ok(spot) => spot,
+        Err(spot) => spot,
+    }
+}
+
+/// Where the lists of a name end.
+fn first_after(lists: &Lists, name: &str) -> Spot
+    requires { T (is_sorted pair_cmp (entries_of lists.now)) }
+    ensures spot { IsSpot lists.now result }
+    ensures place { IsNameBoundary (λ n. is_le (slice_cmp nat_cmp n name.now))
+        (entries_of lists.now) (place_of lists.now result) }
+{
+    match lists.find(&FirstAfter { name }) {
+        Ok(spot) => spot,
+        Err(spot) => spot,
+    }
+}
+
+/// Where the lists of a name begin, and where they end.
+fn run_of(lists: &Lists, name: &str) -> (Spot, Spot)
+    requires { T (is_sorted pair_cmp (entries_of lists.now)) }
+    ensures first { IsSpot lists.now result.0 }
+    ensures after { IsSpot lists.now result.1 }
+    ensures run { IsRunOf name.now (entries_of lists.now)
+        (place_of lists.now result.0) (place_of lists.now result.1) }
+{
+    (first_of(lists, name), first_after(lists, name))
+}
+
+/// The value of the pair of the list so many places behind a spot.
+fn value_after(lists: &Lists, spot: Spot, i: usize) -> &str
+    requires spot { IsSpot lists.now spot }
+    requires held { place_of lists.now spot + i < length (entries_of lists.now) }
+    ensures { result.now
+        ≡ (get_or (entries_of lists.now) (place_of lists.now spot + i) (([], []), [])).0.1 }
+{
+    lists.entry_after(spot, i).pair().1
+}
+
+/// The references of the series that carry each pair, in the order of the pairs. Versions share what they have in
+/// common: one pointer is copied, and a series that is added copies a page and a list for each of its pairs.
+#[derive(Drop)]
+pub struct Index {
+    lists: Lists,
+}
+
+impl Model for Index {
+    ghost use Rattle.std.specs.Prelude.{ℕ, List, T};
     ghost use Rattle.std.specs.FinMap.Entries.{is_sorted};
     ghost use Rattle.labels.specs.Labels.{pair_cmp};
+    ghost use Rattle.pages.specs.Sorted.{entries_of};
 
     ghost Value = { List ((List ℕ × List ℕ) × List ℕ) };
 
-    ghost view = { λ l. map (λ x. arc_value x) l.lists.items };
+    ghost view = { λ index. entries_of index.lists };
 
-    ghost invariant = { λ l. T (is_sorted pair_cmp (map (λ x. arc_value x) l.lists.items)) };
+    ghost invariant = { λ index. T (is_sorted pair_cmp (entries_of index.lists)) };
 }
 
-impl Lists {
-    fn new(alloc: Global) -> Lists
-        ensures { result ≡ [] }
+impl Index {
+    /// The index of no series.
+    pub fn new(alloc: Global) -> Result<Index, AllocError>
+        ensures empty { IfOk result (λ index. index ≡ []) }
+        ensures indexed { IfOk result (λ index. IsIndexOf index []) }
     {
-        Lists {
-            lists: Vec::new(alloc),
-        }
+        let lists = SortedPages::new(alloc)?;
+        Ok(Index { lists })
     }
 
-    /// Pointers to the same lists.
-    fn copied(&self, alloc: Global) -> Result<Lists, AllocError>
-        ensures { IfOk result (λ lists. lists ≡ self.now) }
+    /// An equal one, which shares all lists: one pointer is copied.
+    pub fn try_clone(&self) -> Result<Index, AllocError>
+        ensures { IfOk result (λ index. index ≡ self.now) }
     {
-        let lists = shared(alloc, self.lists.as_slice())?;
-        Ok(Lists { lists })
+        let lists = self.lists.try_clone()?;
+        Ok(Index { lists })
     }
 
     /// Adds a reference at the end of the list of one pair of a label set.
@@ -110,21 +208,21 @@ impl Lists {
         reference: SeriesRef,
     ) -> Result<(), AllocError>
         requires { place < length labels.now }
-        ensures { OnOk result (self.new ≡ listed_more (get_or labels.now place ([], [])) reference self.old) }
+        ensures { OnOk result (self.new
+            ≡ listed_more (get_or labels.now place ([], [])) reference self.old) }
     {
         let (name, value) = labels.pair(place);
-        match find_pair(self.lists.as_slice(), name, value) {
-            Ok(i) => push_to(alloc, &mut self.lists[i], reference),
-            Err(i) => {
-                let listed = Listed::new(alloc, labels, place, reference)?;
-                self.lists.insert(i, Arc::new(alloc, listed)?)?;
-                Ok(())
+        match self.lists.find(&Sought { name, value }) {
+            Ok(spot) => self.lists.change(spot, &Push { alloc, reference }),
+            Err(spot) => {
+                let listed = Arc::new(alloc, Listed::new(alloc, labels, place, reference)?)?;
+                self.lists.insert(alloc, spot, listed)
             }
         }
     }
 
     /// Adds a reference at the end of the list of each pair of a label set.
-    fn add(
+    fn add_pairs(
         &mut self,
         alloc: Global,
         labels: &LabelSet,
@@ -139,68 +237,8 @@ impl Lists {
         Ok(())
     }
 
-    fn list(&self, name: &str, value: &str) -> Option<&[SeriesRef]>
-        ensures none { IfNone result (find pair_cmp (name.now, value.now) self.now ≡ None) }
-        ensures some { IfSome result (λ list. find pair_cmp (name.now, value.now) self.now ≡ Some list.now) }
-    {
-        match find_pair(self.lists.as_slice(), name, value) {
-            Ok(i) => Some(self.lists[i].references()),
-            Err(_) => None,
-        }
-    }
-
-    /// Where the lists of a name begin and end.
-    fn run_of(&self, name: &str) -> (usize, usize)
-        ensures { IsRunOf name.now self.now result.0 result.1 }
-    {
-        let lists = self.lists.as_slice();
-        (count_before(lists, name), count_up_to(lists, name))
-    }
-
-    /// The value of the pair of a list.
-    fn value(&self, i: usize) -> &str
-        requires { i < length self.now }
-        ensures { result.now ≡ (get_or self.now i (([], []), [])).0.1 }
-    {
-        self.lists[i].pair().1
-    }
-}
-
-/// The references of the series that carry each pair, which versions share.
-#[derive(Drop)]
-pub struct Index {
-    lists: Arc<Lists>,
-}
-
-impl Model for Index {
-    ghost use Rattle.std.specs.Prelude.{ℕ, List};
-    ghost use Rattle.std.specs.Arc.{arc_value};
-
-    ghost Value = { List ((List ℕ × List ℕ) × List ℕ) };
-
-    ghost view = { λ index. arc_value index.lists };
-}
-
-impl Index {
-    /// The index of no series.
-    pub fn new(alloc: Global) -> Result<Index, AllocError>
-        ensures empty { IfOk result (λ index. index ≡ []) }
-        ensures indexed { IfOk result (λ index. IsIndexOf index []) }
-    {
-        let lists = Arc::new(alloc, Lists::new(alloc))?;
-        Ok(Index { lists })
-    }
-
-    /// An equal one, which shares all lists: one pointer is copied.
-    pub fn try_clone(&self) -> Result<Index, AllocError>
-        ensures { IfOk result (λ index. index ≡ self.now) }
-    {
-        let lists = Arc::try_clone(&self.lists)?;
-        Ok(Index { lists })
-    }
-
     /// Adds a series with a further reference, which has to be above all others. What another version holds is copied
-    /// first: the pointers to the lists, and the lists of its pairs. After an `Err` the index may list it at some
+    /// first: a page of each level, and the list, for each of its pairs. After an `Err` the index may list it at some
     /// pairs.
     pub fn add(
         &mut self,
@@ -208,31 +246,30 @@ impl Index {
         labels: &LabelSet,
         reference: SeriesRef,
     ) -> Result<(), AllocError>
-        ensures { OnOk result ((part : Part) (samples : List (ℤ × ℤ)) → IsIndexOf self.old part → IsIndexOf self.new (part ++ (reference, (labels.now, samples)) ∷ [])) }
+        ensures { OnOk result ((part : Part) (samples : List (ℤ × ℤ)) → IsIndexOf self.old part
+            → IsIndexOf self.new (part ++ (reference, (labels.now, samples)) ∷ [])) }
     {
-        if let Some(own) = Arc::get_mut(&mut self.lists) {
-            return own.add(alloc, labels, reference);
-        }
-        let mut lists = self.lists.copied(alloc)?;
-        lists.add(alloc, labels, reference)?;
-        self.lists = Arc::new(alloc, lists)?;
-        Ok(())
+        self.add_pairs(alloc, labels, reference)
     }
 
     /// The references at a pair, `None` where the pair is not listed.
     pub fn list(&self, name: &str, value: &str) -> Option<&[SeriesRef]>
         ensures none { IfNone result (find pair_cmp (name.now, value.now) self.now ≡ None) }
-        ensures some { IfSome result (λ list. find pair_cmp (name.now, value.now) self.now ≡ Some list.now) }
+        ensures some { IfSome result (λ list. find pair_cmp (name.now, value.now) self.now
+            ≡ Some list.now) }
     {
-        self.lists.list(name, value)
+        match self.lists.find(&Sought { name, value }) {
+            Ok(spot) => Some(self.lists.at(spot).references()),
+            Err(_) => None,
+        }
     }
 
     /// How many values are listed under a name.
     pub fn value_count(&self, name: &str) -> usize
         ensures { result ≡ length (values_under name.now self.now) }
     {
-        let (start, end) = self.lists.run_of(name);
-        end - start
+        let (start, end) = run_of(&self.lists, name);
+        self.lists.place(end) - self.lists.place(start)
     }
 
     /// The value at a place, from 0, among those that are listed under a name.
@@ -240,7 +277,7 @@ impl Index {
         requires { i < length (values_under name.now self.now) }
         ensures { slice_get (values_under name.now self.now) i ≡ Some result.now }
     {
-        let (start, _) = self.lists.run_of(name);
-        self.lists.value(start + i)
+        let (start, _) = run_of(&self.lists, name);
+        value_after(&self.lists, start, i)
     }
 }
