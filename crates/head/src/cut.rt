@@ -117,8 +117,8 @@ fn with_block(alloc: Global, blocks: &[Block], last: Block) -> Result<Arc<Vec<Bl
     Ok(Arc::new(alloc, all)?)
 }
 
-/// The blocks after a cut: as they were where no sample leaves the head, else one more, from the floor
-/// up to the time.
+/// The blocks after a cut: as they were where no sample leaves the head, else one more, from the
+/// floor up to the time.
 fn blocks_after(alloc: Global, at: &Snapshot, time: i64) -> Result<Arc<Vec<Block>>, CommitError>
     requires timed { is_time time ≡ true }
     requires up { int_lt at.now.floor time ≡ true }
@@ -140,7 +140,8 @@ fn blocks_after(alloc: Global, at: &Snapshot, time: i64) -> Result<Arc<Vec<Block
     Ok(with_block(alloc, at.blocks.as_slice(), block)?)
 }
 
-/// The series whose newest sample is at the time or later, each with its samples from the time on, and their order.
+/// The series whose newest sample is at the time or later, each with its samples from the time on,
+/// and their order.
 fn series_from(
     alloc: Global,
     head: &SeriesList,
@@ -177,8 +178,8 @@ fn head_from(alloc: Global, at: &Snapshot, time: i64) -> Result<HeadView, AllocE
     Ok(HeadView::of(series, order, index, 0))
 }
 
-/// The snapshot after a cut, whose floor is the time. The samples before it leave the head for a block of
-/// their own.
+/// The snapshot after a cut, whose floor is the time. The samples before it leave the head for a
+/// block of their own.
 pub(crate) fn cut_at(alloc: Global, at: &Snapshot, time: i64) -> Result<Snapshot, CommitError>
     requires { is_time time ≡ true }
     ensures ok { IfOk result (λ s. cut_at fits (world_of at.now) time ≡ Ok (world_of s)) }

@@ -3,7 +3,8 @@
 ghost use Rattle.std.specs.Prelude.{◌≡◌, ◌≤◌, ℕ, IfOk, OnOk, length, map};
 ghost use Rattle.std.specs.List.{Contains};
 ghost use Rattle.head.specs.Blocks.{part_in};
-ghost use Rattle.head.specs.Removing.{block_kept, blocks_kept, head_kept, head_less, snapshot_less, survives};
+ghost use Rattle.head.specs.Removing.{block_kept, blocks_kept, head_kept, head_less, snapshot_less};
+ghost use Rattle.head.specs.Removing.{survives};
 ghost use Rattle.head.specs.Shown.{series_of, copied_of};
 
 use crate::head::HeadView;
@@ -16,7 +17,8 @@ use matchers::Matcher;
 use std::alloc::{AllocError, Global};
 use std::sync::Arc;
 
-/// Drops the samples in the closed range of the series with these references, which count from 1. The others stay shared.
+/// Drops the samples in the closed range of the series with these references, which count from 1.
+/// The others stay shared.
 fn drop_each(
     alloc: Global,
     series: &mut SeriesList,
@@ -43,7 +45,8 @@ fn head_without(
     from: i64,
     to: i64,
 ) -> Result<HeadView, AllocError>
-    ensures series { IfOk result (λ head. series_of head ≡ head_kept (survives matchers.now from to) at.now.head) }
+    ensures series { IfOk result (λ head. series_of head
+        ≡ head_kept (survives matchers.now from to) at.now.head) }
     ensures copied { IfOk result (λ head. copied_of head ≡ 0) }
 {
     let references = struck(alloc, &at.head(), matchers, from, to)?;
@@ -62,7 +65,8 @@ fn block_without(
     from: i64,
     to: i64,
 ) -> Result<Block, AllocError>
-    ensures { IfOk result (λ b. part_in b ≡ block_kept (survives matchers.now from to) (part_in block.now)) }
+    ensures { IfOk result (λ b. part_in b
+        ≡ block_kept (survives matchers.now from to) (part_in block.now)) }
 {
     let references = struck(alloc, &block.view(), matchers, from, to)?;
     block.without(alloc, references.as_slice(), from, to)
@@ -75,7 +79,8 @@ fn blocks_without(
     from: i64,
     to: i64,
 ) -> Result<Vec<Block>, AllocError>
-    ensures { IfOk result (λ left. map part_in left.items ≡ blocks_kept (survives matchers.now from to) (map part_in blocks.now)) }
+    ensures { IfOk result (λ left. map part_in left.items
+        ≡ blocks_kept (survives matchers.now from to) (map part_in blocks.now)) }
 {
     let mut left = Vec::new(alloc);
     for block in blocks {
@@ -84,8 +89,8 @@ fn blocks_without(
     Ok(left)
 }
 
-/// The snapshot without the samples that now stand in the closed range, of the series that satisfy all matchers. The
-/// files of the blocks are shared, and so are the head's other series.
+/// The snapshot without the samples that now stand in the closed range, of the series that satisfy
+/// all matchers. The files of the blocks are shared, and so are the head's other series.
 pub(crate) fn deleted_from(
     alloc: Global,
     at: &Snapshot,

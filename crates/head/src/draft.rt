@@ -1,16 +1,20 @@
-//! A head in the making: the series of the last version, of which a batch makes those its own that it changes, and those
-//! that it begins.
+//! A head in the making: the series of the last version, of which a batch makes those its own that
+//! it changes, and those that it begins.
 
-ghost use Rattle.std.specs.Prelude.{◌≡◌, ◌≢◌, ◌<◌, ◌≤◌, ◌+◌, ◌*◌, ℕ, Bool, T, Ok, IfOk, IfErr, OnOk, OnErr, None, length, [], ◌∷◌, ◌++◌, map, slice_set, slice_index_or};
+ghost use Rattle.std.specs.Prelude.{◌≡◌, ◌≢◌, ◌<◌, ◌≤◌, ◌+◌, ◌*◌, ℕ, Bool, T, Ok, IfOk, IfErr};
+ghost use Rattle.std.specs.Prelude.{OnOk, OnErr, None, length, [], ◌∷◌, ◌++◌, map, slice_set};
+ghost use Rattle.std.specs.Prelude.{slice_index_or};
 ghost use Rattle.std.specs.List.{list_all};
 ghost use Rattle.labels.specs.Labels.{Labels};
 ghost use Rattle.head.specs.declared.TheConstants.{MAX_SERIES};
 ghost use Rattle.head.specs.Heads.{HeadSeries};
-ghost use Rattle.head.specs.Taking.{head_added, head_added_each, series_added, new_added, grown, place_from, with_series};
+ghost use Rattle.head.specs.Taking.{head_added, head_added_each, series_added, new_added, grown};
+ghost use Rattle.head.specs.Taking.{place_from, with_series};
 ghost use Rattle.head.specs.Orders.{sets_of, IsOrderOf};
 ghost use Rattle.head.specs.Answers.{IsOutcome};
 ghost use Rattle.head.specs.Limits.{most};
-ghost use Rattle.head.specs.Slots.{Shared, Own, series_in, series_in_each, own_count, owned, AllOwn, slot_at, slots_from};
+ghost use Rattle.head.specs.Slots.{Shared, Own, series_in, series_in_each, own_count, owned};
+ghost use Rattle.head.specs.Slots.{AllOwn, slot_at, slots_from};
 ghost use Rattle.std.specs.Ordering.{nat_cmp};
 ghost use Rattle.std.specs.BTreeMap.{get};
 
@@ -25,8 +29,9 @@ use std::collections::BTreeMap;
 use std::marker::Model;
 use std::sync::Arc;
 
-/// The series of a version in the making. Those of the last version are shared; what is changed of them is a copy of this
-/// version's own, by its place, and what is begun stands after them. So a batch costs what it changes.
+/// The series of a version in the making. Those of the last version are shared; what is changed of
+/// them is a copy of this version's own, by its place, and what is begun stands after them. So a
+/// batch costs what it changes.
 #[derive(Drop)]
 pub(crate) struct Draft {
     last: SeriesList,
@@ -84,13 +89,15 @@ impl Draft {
         }
     }
 
-    /// Adds a sample to the series at a place, to a copy where it is shared. Gives how many samples were copied.
+    /// Adds a sample to the series at a place, to a copy where it is shared. Gives how many samples
+    /// were copied.
     fn grow(&mut self, alloc: Global, place: usize, sample: Sample) -> Result<u64, AllocError>
         requires { place < length self.old }
         ensures grown { IfOk result (λ _. (d : HeadSeries) → self.new ≡ slice_set self.old place
             (Own (grown sample (slice_index_or (series_in_each self.old) place d)))) }
         ensures few { IfOk result (λ copied. copied < 120) }
-        ensures counted { IfOk result (λ copied. copied + 119 * owned self.old ≤ 119 * owned self.new) }
+        ensures counted { IfOk result
+            (λ copied. copied + 119 * owned self.old ≤ 119 * owned self.new) }
     {
         let shared = self.last.len();
         if place >= shared {
@@ -113,7 +120,8 @@ impl Draft {
         Ok(())
     }
 
-    /// The list of the series. It shares all pages with the last version's but those in which a series is this one's own.
+    /// The list of the series. It shares all pages with the last version's but those in which a
+    /// series is this one's own.
     pub(crate) fn into_list(self, alloc: Global) -> Result<SeriesList, AllocError>
         ensures series { IfOk result (λ list. list ≡ series_in_each self) }
         ensures few { length self ≤ MAX_SERIES }
@@ -127,8 +135,8 @@ impl Draft {
     }
 }
 
-/// The series at a place, to be changed: this version's own, which is taken out, or a copy of the shared one. With it how
-/// many samples were copied.
+/// The series at a place, to be changed: this version's own, which is taken out, or a copy of the
+/// shared one. With it how many samples were copied.
 fn taken(
     alloc: Global,
     last: &SeriesList,
@@ -137,10 +145,12 @@ fn taken(
 ) -> Result<(Series, u64), AllocError>
     requires { place < length last.now }
     ensures series { IfOk result (λ taken. (d : HeadSeries)
-        → taken.0 ≡ series_in (slot_at (slice_index_or last.now place d) (get nat_cmp own.old place))) }
+        → taken.0 ≡ series_in
+        (slot_at (slice_index_or last.now place d) (get nat_cmp own.old place))) }
     ensures few { IfOk result (λ taken. taken.1 < 120) }
     ensures counted { IfOk result (λ taken. (d : HeadSeries)
-        → taken.1 + 119 * own_count (slot_at (slice_index_or last.now place d) (get nat_cmp own.old place)) ≤ 119) }
+        → taken.1 + 119 * own_count
+        (slot_at (slice_index_or last.now place d) (get nat_cmp own.old place)) ≤ 119) }
     ensures others { (q : ℕ) → q ≢ place → get nat_cmp own.new q ≡ get nat_cmp own.old q }
 {
     match own.remove(&place) {
@@ -175,12 +185,16 @@ fn add_known(
 ) -> Result<u64, CommitError>
     requires { place < length draft.old }
     ensures step { (d : HeadSeries) → IsOutcome result (with_series (series_in_each draft.old) place
-        (series_added most at sample (slice_index_or (series_in_each draft.old) place d))) (series_in_each draft.new) }
+        (series_added most at sample (slice_index_or (series_in_each draft.old) place d)))
+        (series_in_each draft.new) }
     ensures few { IfOk result (λ copied. copied < 120) }
-    ensures labels { OnOk result (sets_of (series_in_each draft.new) ≡ sets_of (series_in_each draft.old)) }
-    ensures counted { IfOk result (λ copied. copied + 119 * owned draft.old ≤ 119 * owned draft.new) }
+    ensures labels { OnOk result (sets_of (series_in_each draft.new)
+        ≡ sets_of (series_in_each draft.old)) }
+    ensures counted { IfOk result
+        (λ copied. copied + 119 * owned draft.old ≤ 119 * owned draft.new) }
     ensures owners { OnOk result ((p : Labels → Bool) (d : HeadSeries)
-        → T (p (slice_index_or (series_in_each draft.old) place d).labels) → AllOwn p draft.old → AllOwn p draft.new) }
+        → T (p (slice_index_or (series_in_each draft.old) place d).labels)
+        → AllOwn p draft.old → AllOwn p draft.new) }
 {
     let series = draft.series(place);
     let newest = series.newest();
@@ -262,10 +276,12 @@ fn add(
 ) -> Result<u64, CommitError>
     requires { IsOrderOf order.old (series_in_each draft.old) }
     ensures step { IsOutcome result
-        (head_added most floor (series_in_each draft.old) at (labels.now, sample)) (series_in_each draft.new) }
+        (head_added most floor (series_in_each draft.old) at (labels.now, sample))
+        (series_in_each draft.new) }
     ensures few { IfOk result (λ copied. copied < 120) }
     ensures ordered { OnOk result (IsOrderOf order.new (series_in_each draft.new)) }
-    ensures counted { IfOk result (λ copied. copied + 119 * owned draft.old ≤ 119 * owned draft.new) }
+    ensures counted { IfOk result
+        (λ copied. copied + 119 * owned draft.old ≤ 119 * owned draft.new) }
     ensures owners { OnOk result ((p : Labels → Bool)
         → T (p labels.now) → AllOwn p draft.old → AllOwn p draft.new) }
 {
@@ -292,9 +308,11 @@ pub(crate) fn add_each(
     requires ordered { IsOrderOf order.old (series_in_each draft.old) }
     requires few { length batch.now ≤ 4096 }
     ensures step { IsOutcome result
-        (head_added_each most floor (Ok (series_in_each draft.old)) 0 batch.now) (series_in_each draft.new) }
+        (head_added_each most floor (Ok (series_in_each draft.old)) 0 batch.now)
+        (series_in_each draft.new) }
     ensures ordered { OnOk result (IsOrderOf order.new (series_in_each draft.new)) }
-    ensures counted { IfOk result (λ copied. copied + 119 * owned draft.old ≤ 119 * owned draft.new) }
+    ensures counted { IfOk result
+        (λ copied. copied + 119 * owned draft.old ≤ 119 * owned draft.new) }
     ensures owners { OnOk result ((p : Labels → Bool)
         → T (list_all (λ x. p x.0) batch.now) → AllOwn p draft.old → AllOwn p draft.new) }
 {

@@ -21,8 +21,8 @@ pub(crate) enum Kind {
     Cut(i64),
 }
 
-/// What changes a store: a batch of at most 4,096 samples, each at a time; a deletion of samples in a closed range; or
-/// a cut, which moves the floor.
+/// What changes a store: a batch of at most 4,096 samples, each at a time; a deletion of samples in
+/// a closed range; or a cut, which moves the floor.
 #[derive(Drop)]
 pub struct Event {
     kind: Kind,
@@ -47,7 +47,8 @@ fn are_timed(samples: &[(LabelSet, Sample)]) -> bool
     samples.iter().all(|sample| is_time(sample.1.t()))
 }
 
-/// Whether a closed range of times begins at a time, ends at one, and does not end before it begins.
+/// Whether a closed range of times begins at a time, ends at one, and does not end before it
+/// begins.
 fn is_range(from: i64, to: i64) -> bool
     ensures { result ≡ is_range from to }
 {
@@ -75,14 +76,16 @@ impl Event {
         }
     }
 
-    /// Whether there are at most 16 matchers, and `from` is not above `to`, both times: what a deletion is made of.
+    /// Whether there are at most 16 matchers, and `from` is not above `to`, both times: what a
+    /// deletion is made of.
     pub fn is_deletion(matchers: &[Matcher], from: i64, to: i64) -> bool
         ensures { result ≡ is_deletion matchers.now from to }
     {
         matchers.len() <= MAX_MATCHERS && is_range(from, to)
     }
 
-    /// A deletion of the samples from one time to another, both included, of the series that satisfy all matchers.
+    /// A deletion of the samples from one time to another, both included, of the series that
+    /// satisfy all matchers.
     pub fn deletion(matchers: Vec<Matcher>, from: i64, to: i64) -> Event
         requires { IsTrue (is_deletion matchers.items from to) }
         ensures { result ≡ deletion matchers.items from to }
@@ -104,7 +107,8 @@ impl Event {
 
     /// The samples of a batch, as they were handed over; `None` for another event.
     pub fn into_batch(self) -> Option<Vec<(LabelSet, Sample)>>
-        ensures given_back { MatchOption result (batch_of self ≡ None) (λ samples. batch_of self ≡ Some samples.items) }
+        ensures given_back { MatchOption result (batch_of self
+            ≡ None) (λ samples. batch_of self ≡ Some samples.items) }
         ensures kept { IsEvent self }
     {
         match self.kind {
@@ -115,7 +119,8 @@ impl Event {
 
     /// The matchers of a deletion, as they were handed over; `None` for another event.
     pub fn into_matchers(self) -> Option<Vec<Matcher>>
-        ensures given_back { MatchOption result (matchers_of self ≡ None) (λ ms. matchers_of self ≡ Some ms.items) }
+        ensures given_back { MatchOption result (matchers_of self
+            ≡ None) (λ ms. matchers_of self ≡ Some ms.items) }
         ensures kept { IsEvent self }
     {
         match self.kind {

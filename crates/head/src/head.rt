@@ -1,6 +1,7 @@
 //! The head of a snapshot.
 
-ghost use Rattle.std.specs.Prelude.{◌≡◌, ◌<◌, ◌≤◌, length, Some, None, IfOk, IfSome, IfNone, MatchOption};
+ghost use Rattle.std.specs.Prelude.{◌≡◌, ◌<◌, ◌≤◌, length, Some, None, IfOk, IfSome, IfNone};
+ghost use Rattle.std.specs.Prelude.{MatchOption};
 ghost use Rattle.labels.specs.Parts.{IsPart, row_at, labels_in, samples_within};
 ghost use Rattle.head.specs.declared.TheConstants.{MAX_SERIES};
 ghost use Rattle.head.specs.Heads.{head_part};
@@ -16,7 +17,8 @@ use labels::{LabelSet, Row, Sample, SeriesRef};
 use pages::PagedList;
 use std::alloc::{AllocError, Global};
 
-/// The newest samples of a store, as a part: its series have the references 1 to n in order of creation.
+/// The newest samples of a store, as a part: its series have the references 1 to n in order of
+/// creation.
 #[derive(Drop)]
 pub struct HeadView {
     pub(crate) series: SeriesList,
@@ -101,7 +103,8 @@ impl HeadView {
 
     fn series_at(&self, reference: SeriesRef) -> Option<&Series>
         ensures none { IfNone result (row_at reference (part_of self.now) ≡ None) }
-        ensures some { IfSome result (λ series. row_at reference (part_of self.now) ≡ Some (series.now.labels, series.now.samples)) }
+        ensures some { IfSome result (λ series. row_at reference (part_of self.now)
+            ≡ Some (series.now.labels, series.now.samples)) }
     {
         let number = reference.number() as usize;
         if number == 0 || number > self.series.len() {
@@ -114,7 +117,8 @@ impl HeadView {
     /// The label set of the series with this reference.
     pub fn labels_of(&self, reference: SeriesRef) -> Option<&LabelSet>
         ensures none { IfNone result (row_at reference (part_of self.now) ≡ None) }
-        ensures some { IfSome result (λ labels. labels_in (row_at reference (part_of self.now)) ≡ Some labels.now) }
+        ensures some { IfSome result (λ labels. labels_in (row_at reference (part_of self.now))
+            ≡ Some labels.now) }
     {
         match self.series_at(reference) {
             Some(series) => Some(series.labels()),
@@ -130,7 +134,8 @@ impl HeadView {
         from: i64,
         to: i64,
     ) -> Result<Vec<Sample>, AllocError>
-        ensures { IfOk result (λ samples. samples.items ≡ samples_within from to (row_at reference (part_of self.now))) }
+        ensures { IfOk result (λ samples. samples.items
+            ≡ samples_within from to (row_at reference (part_of self.now))) }
     {
         match self.series_at(reference) {
             Some(series) => series.samples_within(alloc, from, to),
@@ -140,15 +145,17 @@ impl HeadView {
 
     fn row_at(&self, alloc: Global, place: usize) -> Result<(SeriesRef, Row), AllocError>
         requires { place < length (series_of self.now) }
-        ensures { IfOk result (λ row. (d : HeadSeries) → row ≡ row_of (place + 1) (slice_index_or (series_of self.now) place d)) }
+        ensures { IfOk result (λ row. (d : HeadSeries)
+            → row ≡ row_of (place + 1) (slice_index_or (series_of self.now) place d)) }
     {
         let series = self.series.at(place);
         let row = Row::new(series.labels().try_clone()?, series.samples(alloc)?);
         Ok((SeriesRef::new(place as u32 + 1), row))
     }
 
-    /// Each series of the head, ascending by reference, with its label set and its samples; also a series without a
-    /// sample. It takes memory in proportion to the series and the samples; the texts of the label sets are shared.
+    /// Each series of the head, ascending by reference, with its label set and its samples; also a
+    /// series without a sample. It takes memory in proportion to the series and the samples; the
+    /// texts of the label sets are shared.
     pub fn list_all(&self, alloc: Global) -> Result<Vec<(SeriesRef, Row)>, AllocError>
         ensures { IfOk result (λ rows. rows.items ≡ part_of self.now) }
     {

@@ -1,6 +1,7 @@
 //! The postings index of a head.
 
-ghost use Rattle.std.specs.Prelude.{◌≡◌, ◌+◌, ◌<◌, ◌≤◌, ℕ, ℤ, List, [], ◌∷◌, ◌++◌, length, get_or, slice_get, IfOk, OnOk, OnErr, IfSome, IfNone, Some, None};
+ghost use Rattle.std.specs.Prelude.{◌≡◌, ◌+◌, ◌<◌, ◌≤◌, ℕ, ℤ, List, [], ◌∷◌, ◌++◌, length, get_or};
+ghost use Rattle.std.specs.Prelude.{slice_get, IfOk, OnOk, OnErr, IfSome, IfNone, Some, None};
 ghost use Rattle.std.specs.Arc.{arc_value};
 ghost use Rattle.std.specs.Prelude.{T};
 ghost use Rattle.std.specs.Ordering.{is_lt, is_le, nat_cmp};
@@ -161,8 +162,9 @@ fn value_after(lists: &Lists, spot: Spot, i: usize) -> &str
     lists.entry_after(spot, i).pair().1
 }
 
-/// The references of the series that carry each pair, in the order of the pairs. Versions share what they have in
-/// common: one pointer is copied, and a series that is added copies a page and a list for each of its pairs.
+/// The references of the series that carry each pair, in the order of the pairs. Versions share
+/// what they have in common: one pointer is copied, and a series that is added copies a page and a
+/// list for each of its pairs.
 #[derive(Drop)]
 pub struct Index {
     lists: Lists,
@@ -237,9 +239,9 @@ impl Index {
         Ok(())
     }
 
-    /// Adds a series with a further reference, which has to be above all others. What another version holds is copied
-    /// first: a page of each level, and the list, for each of its pairs. After an `Err` the index may list it at some
-    /// pairs.
+    /// Adds a series with a further reference, which has to be above all others. What another
+    /// version holds is copied first: a page of each level, and the list, for each of its pairs.
+    /// After an `Err` the index may list it at some pairs.
     pub fn add(
         &mut self,
         alloc: Global,

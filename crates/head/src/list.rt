@@ -20,7 +20,10 @@ impl<'a> Postings for HeadList<'a> {
     ghost use Rattle.head.specs.declared.list.HeadList.TheVariants.{All, Listed};
     ghost use Rattle.head.specs.Spans.{span_rises};
 
-    ghost remaining = { elim [ All span ↦ range_with_len span.next span.left | Listed list ↦ list.rest.now ] };
+    ghost remaining = { elim [
+      | All span ↦ range_with_len span.next span.left
+      | Listed list ↦ list.rest.now
+    ] };
 
     fn current(&self) -> Option<SeriesRef> {
         match self {
@@ -43,7 +46,13 @@ impl<'a> Postings for HeadList<'a> {
         }
     }
 
-    ghost ascending = { elim [ All span ↦ span_rises span.next span.left | Listed list ↦ list.increasing ] };
+    ghost ascending = { elim [
+      | All span ↦ span_rises span.next span.left
+      | Listed list ↦ list.increasing
+    ] };
 
-    ghost two_seeks = { elim [ All span ↦ λ a b. not_below-twice a b (range_with_len span.next span.left) | Listed list ↦ λ a b. not_below-twice a b list.rest.now ] };
+    ghost two_seeks = { elim [
+      | All span ↦ λ a b. not_below-twice a b (range_with_len span.next span.left)
+      | Listed list ↦ λ a b. not_below-twice a b list.rest.now
+    ] };
 }

@@ -1,6 +1,7 @@
 //! The series with a sample in a range.
 
-ghost use Rattle.std.specs.Prelude.{◌≡◌, ℕ, ◌<◌, ◌≤◌, ◌+◌, true, false, T, All, List, length, map, max, slice_index_or};
+ghost use Rattle.std.specs.Prelude.{◌≡◌, ℕ, ◌<◌, ◌≤◌, ◌+◌, true, false, T, All, List, length, map};
+ghost use Rattle.std.specs.Prelude.{max, slice_index_or};
 ghost use Rattle.std.specs.Arc.{arc_value};
 ghost use Rattle.std.specs.Ordering.{int_cmp};
 ghost use Rattle.std.specs.FinMap.Entries.{is_sorted};
@@ -20,9 +21,11 @@ fn passed_in(leaf: &[Arc<Series>], from: i64, to: i64) -> usize
     requires { All (λ h. T (is_sorted int_cmp h.samples)) (map (λ s. arc_value s) leaf.now) }
     ensures inside { result ≤ length leaf.now }
     ensures passed { (k : ℕ) (d : HeadSeries) → k < result
-        → has_sample from to (slice_index_or (map (λ s. arc_value s) leaf.now) k d).samples ≡ false }
+        → has_sample from to (slice_index_or (map (λ s. arc_value s) leaf.now) k d).samples
+        ≡ false }
     ensures stopped { (d : HeadSeries) → result < length leaf.now
-        → has_sample from to (slice_index_or (map (λ s. arc_value s) leaf.now) result d).samples ≡ true }
+        → has_sample from to (slice_index_or (map (λ s. arc_value s) leaf.now) result d).samples
+        ≡ true }
 {
     let mut passed = 0;
     while passed < leaf.len() && !leaf[passed].has_sample_in(from, to) {
@@ -31,11 +34,14 @@ fn passed_in(leaf: &[Arc<Series>], from: i64, to: i64) -> usize
     passed
 }
 
-/// The place of the first series, from a place on, that has a sample in the closed range, or the end.
+/// The place of the first series, from a place on, that has a sample in the closed range, or the
+/// end.
 fn next_live(series: &SeriesList, start: usize, from: i64, to: i64) -> usize
     requires { IsPart (head_part series.now) }
-    ensures moved { live_references from to (rows_from result series.now) ≡ live_references from to (rows_from start series.now) }
-    ensures settled { first_of (live_references from to (rows_from result series.now)) ≡ first_of (references (rows_from result series.now)) }
+    ensures moved { live_references from to (rows_from result series.now)
+        ≡ live_references from to (rows_from start series.now) }
+    ensures settled { first_of (live_references from to (rows_from result series.now))
+        ≡ first_of (references (rows_from result series.now)) }
 {
     let mut place = start;
     while place < series.len() {
@@ -49,8 +55,8 @@ fn next_live(series: &SeriesList, start: usize, from: i64, to: i64) -> usize
     place
 }
 
-/// The list of the series that have a sample in a closed range. It stands at such a series, or at the end, and looks at
-/// the series only as it goes on.
+/// The list of the series that have a sample in a closed range. It stands at such a series, or at
+/// the end, and looks at the series only as it goes on.
 #[derive(Drop)]
 pub struct LiveList<'a> {
     series: &'a SeriesList,
@@ -59,7 +65,8 @@ pub struct LiveList<'a> {
     to: i64,
     ghost few: { length series.now < 4294967296 },
     ghost is_part: { IsPart (head_part series.now) } by { IsPart-prop (head_part series.now) },
-    ghost settled: { first_of (live_references from to (rows_from place series.now)) ≡ first_of (references (rows_from place series.now)) },
+    ghost settled: { first_of (live_references from to (rows_from place series.now))
+        ≡ first_of (references (rows_from place series.now)) },
 }
 
 impl<'a> LiveList<'a> {
@@ -67,7 +74,8 @@ impl<'a> LiveList<'a> {
     pub(crate) fn new(series: &'a SeriesList, from: i64, to: i64) -> LiveList<'a>
         requires few { length series.now < 4294967296 }
         requires is_part { IsPart (head_part series.now) }
-        ensures { ⟦<LiveList<'a> as Postings>⟧.remaining result ≡ live_references from to (head_part series.now) }
+        ensures { ⟦<LiveList<'a> as Postings>⟧.remaining result
+            ≡ live_references from to (head_part series.now) }
     {
         LiveList {
             series,
@@ -84,7 +92,8 @@ impl<'a> Postings for LiveList<'a> {
     ghost use Rattle.labels.proofs.PartRows.{kept_rises};
     ghost use Rattle.head.specs.HeadLists.{rows_from, rows_rise};
 
-    ghost remaining = { λ live. live_references live.from live.to (rows_from live.place live.series.now) };
+    ghost remaining = { λ live. live_references live.from live.to
+        (rows_from live.place live.series.now) };
 
     fn current(&self) -> Option<SeriesRef> {
         if self.place < self.series.len() {
@@ -106,7 +115,9 @@ impl<'a> Postings for LiveList<'a> {
         }
     }
 
-    ghost ascending = { λ live. kept_rises (λ row. has_sample live.from live.to row.1.1) (rows_from live.place live.series.now) (rows_rise live.place live.series.now) };
+    ghost ascending = { λ live. kept_rises (λ row. has_sample live.from live.to row.1.1)
+        (rows_from live.place live.series.now) (rows_rise live.place live.series.now) };
 
-    ghost two_seeks = { λ live a b. not_below-twice a b (live_references live.from live.to (rows_from live.place live.series.now)) };
+    ghost two_seeks = { λ live a b. not_below-twice a b
+        (live_references live.from live.to (rows_from live.place live.series.now)) };
 }

@@ -117,8 +117,9 @@ impl Order {
         }
     }
 
-    /// The place of a label set. It looks first where the last search ended, and at the spot after it: a batch often
-    /// has the samples of one series, and series in their order, one after another.
+    /// The place of a label set. It looks first where the last search ended, and at the spot after
+    /// it: a batch often has the samples of one series, and series in their order, one after
+    /// another.
     pub(crate) fn place_of(&self, labels: &LabelSet, near: &mut Spot) -> Option<u32>
         ensures { result ≡ find labels_cmp labels.now self.now }
     {

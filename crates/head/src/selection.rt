@@ -45,7 +45,8 @@ fn common<P: Postings + Drop>(
     list: P,
 ) -> Result<Vec<SeriesRef>, AllocError>
     requires { IsStrictlyIncreasing references.now }
-    ensures { IfOk result (λ found. found.items ≡ filter (is_among (P.remaining list)) references.now) }
+    ensures { IfOk result (λ found. found.items
+        ≡ filter (is_among (P.remaining list)) references.now) }
 {
     let mut list = list;
     let mut found = Vec::new(alloc);
@@ -63,7 +64,8 @@ fn satisfying<S: Source>(
     source: &S,
     matchers: &[Matcher],
 ) -> Result<Vec<SeriesRef>, AllocError>
-    ensures { IfOk result (λ found. found.items ≡ references_where (satisfies_all matchers.now) (S.part source.now)) }
+    ensures { IfOk result (λ found. found.items
+        ≡ references_where (satisfies_all matchers.now) (S.part source.now)) }
 {
     let Some((first, others)) = matchers.split_first() else {
         return collected(alloc, source.all());
@@ -75,7 +77,8 @@ fn satisfying<S: Source>(
     Ok(found)
 }
 
-/// The references of the series that satisfy all matchers and have an undeleted sample in the closed range, ascending.
+/// The references of the series that satisfy all matchers and have an undeleted sample in the
+/// closed range, ascending.
 ///
 /// It goes over the list of the first matcher, and seeks in the others.
 pub(crate) fn struck<S: Source>(
@@ -85,7 +88,8 @@ pub(crate) fn struck<S: Source>(
     from: i64,
     to: i64,
 ) -> Result<Vec<SeriesRef>, AllocError>
-    ensures { IfOk result (λ found. found.items ≡ references_of (is_struck matchers.now from to) (S.part source.now)) }
+    ensures { IfOk result (λ found. found.items
+        ≡ references_of (is_struck matchers.now from to) (S.part source.now)) }
 {
     let found = satisfying(alloc, source, matchers)?;
     common(alloc, found.as_slice(), source.live(alloc, from, to)?)

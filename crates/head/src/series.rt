@@ -1,6 +1,7 @@
 //! The samples of one label set, in chunks that versions share.
 
-ghost use Rattle.std.specs.Prelude.{◌≡◌, ◌<◌, ◌++◌, IfOk, OnOk, [], ◌∷◌, length, map, filter, nat_le, ℤ};
+ghost use Rattle.std.specs.Prelude.{◌≡◌, ◌<◌, ◌++◌, IfOk, OnOk, [], ◌∷◌, length, map, filter};
+ghost use Rattle.std.specs.Prelude.{nat_le, ℤ};
 ghost use Rattle.std.specs.Arc.{arc_value};
 ghost use Rattle.std.specs.Prelude.{T};
 ghost use Rattle.std.specs.Ordering.{int_cmp};
@@ -89,13 +90,18 @@ impl Model for Series {
 
     ghost Value = { HeadSeries };
 
-    ghost view = { λ s. record { labels = s.labels; samples = joined_chunks (map (λ c. arc_value c) s.sealed.items) s.tail.items; newest = s.newest } };
+    ghost view = { λ s. record {
+      labels = s.labels;
+      samples = joined_chunks (map (λ c. arc_value c) s.sealed.items) s.tail.items;
+      newest = s.newest;
+    } };
 
     ghost invariant = { λ s. AreChunks (map (λ c. arc_value c) s.sealed.items) s.tail.items };
 }
 
 fn shared(alloc: Global, chunks: &[Arc<Chunk>]) -> Result<Vec<Arc<Chunk>>, AllocError>
-    ensures { IfOk result (λ v. map (λ c. arc_value c) v.items ≡ map (λ c. arc_value c) chunks.now) }
+    ensures { IfOk result (λ v. map (λ c. arc_value c) v.items
+        ≡ map (λ c. arc_value c) chunks.now) }
 {
     let mut copy = Vec::new(alloc);
     for chunk in chunks {
@@ -133,7 +139,8 @@ impl Series {
         labels: &LabelSet,
         sample: Sample,
     ) -> Result<Series, AllocError>
-        ensures { IfOk result (λ s. s ≡ record { labels = labels.now; samples = sample ∷ []; newest = sample }) }
+        ensures { IfOk result (λ s. s
+            ≡ record { labels = labels.now; samples = sample ∷ []; newest = sample }) }
     {
         let mut tail = Vec::new(alloc);
         tail.push(sample)?;
@@ -173,7 +180,8 @@ impl Series {
 
     /// Adds a sample at the end of the chunks, and seals the open one where that is its last.
     fn append(&mut self, alloc: Global, sample: Sample) -> Result<(), AllocError>
-        ensures { OnOk result (self.new ≡ record self.old { samples = self.old.samples ++ sample ∷ [] }) }
+        ensures { OnOk result (self.new
+            ≡ record self.old { samples = self.old.samples ++ sample ∷ [] }) }
     {
         self.tail.push(sample)?;
         if self.tail.len() == CHUNK {
@@ -191,7 +199,8 @@ impl Series {
         from: i64,
         to: i64,
     ) -> Result<(), AllocError>
-        ensures { OnOk result (self.new ≡ record self.old { samples = self.old.samples ++ outside from to samples.now }) }
+        ensures { OnOk result (self.new
+            ≡ record self.old { samples = self.old.samples ++ outside from to samples.now }) }
     {
         for sample in samples {
             if !is_within(*sample, from, to) {
@@ -201,7 +210,8 @@ impl Series {
         Ok(())
     }
 
-    /// The series less its samples in the closed range; its newest sample is known as before. It copies what is left.
+    /// The series less its samples in the closed range; its newest sample is known as before. It
+    /// copies what is left.
     pub(crate) fn without(&self, alloc: Global, from: i64, to: i64) -> Result<Series, AllocError>
         ensures { IfOk result (λ s. s ≡ series_less from to self.now) }
     {
@@ -239,7 +249,8 @@ impl Series {
         self.newest
     }
 
-    /// Whether a sample lies in the closed range. It halves over the sealed chunks, and then over one chunk.
+    /// Whether a sample lies in the closed range. It halves over the sealed chunks, and then over
+    /// one chunk.
     pub(crate) fn has_sample_in(&self, from: i64, to: i64) -> bool
         requires { T (is_sorted int_cmp self.now.samples) }
         ensures { result ≡ has_sample from to self.now.samples }

@@ -1,6 +1,7 @@
 //! Snapshots, and the step of an event.
 
-ghost use Rattle.std.specs.Prelude.{◌≡◌, ◌≤◌, ◌*◌, IsTrue, true, Ok, Some, IfOk, IfErr, IfSome, IfNone, length, slice_get};
+ghost use Rattle.std.specs.Prelude.{◌≡◌, ◌≤◌, ◌*◌, IsTrue, true, Ok, Some, IfOk, IfErr, IfSome};
+ghost use Rattle.std.specs.Prelude.{IfNone, length, slice_get};
 ghost use Rattle.labels.specs.Contents.{is_time};
 ghost use Rattle.head.specs.Heads.{world_of, IsSound};
 ghost use Rattle.head.specs.Batches.{is_batch, set_count, CopiesFew};
@@ -60,9 +61,10 @@ fn floor_of(blocks: &[Block]) -> i64
 }
 
 impl Snapshot {
-    /// The snapshot of these blocks and an empty head. The floor is the greatest end of a block's range, or the
-    /// smallest time where there is no block. There are at most 63 blocks (the caller's condition), in any order; their
-    /// ranges may overlap, and where two have a sample of one label set at one time the later block's stands.
+    /// The snapshot of these blocks and an empty head. The floor is the greatest end of a block's
+    /// range, or the smallest time where there is no block. There are at most 63 blocks (the
+    /// caller's condition), in any order; their ranges may overlap, and where two have a sample of
+    /// one label set at one time the later block's stands.
     pub fn opening(alloc: Global, blocks: Vec<Block>) -> Result<Snapshot, AllocError>
         requires { length blocks.items ≤ 63 }
         ensures { IfOk result (λ s. s ≡ opening_of (map part_in blocks.items)) }
@@ -104,8 +106,8 @@ impl Snapshot {
         self.blocks.get(n)
     }
 
-    /// The floor, in milliseconds: a time. The range of each block ends at or below it, also of a block without a
-    /// sample; no block has a sample from it on, and the head has none before it.
+    /// The floor, in milliseconds: a time. The range of each block ends at or below it, also of a
+    /// block without a sample; no block has a sample from it on, and the head has none before it.
     pub fn floor(&self) -> i64
         ensures floor { result ≡ self.now.floor }
         ensures sound { IsSound self.now }
@@ -160,9 +162,9 @@ fn committed_to(
     })
 }
 
-/// The snapshot after an event. It shares with the one before what the event leaves alone: a batch copies at most 119
-/// samples for each of its label sets and keeps the blocks; a cut keeps the blocks too, and adds at most one. A refusal
-/// leaves no trace.
+/// The snapshot after an event. It shares with the one before what the event leaves alone: a batch
+/// copies at most 119 samples for each of its label sets and keeps the blocks; a cut keeps the
+/// blocks too, and adds at most one. A refusal leaves no trace.
 pub fn apply(alloc: Global, at: &Snapshot, event: &Event) -> Result<Snapshot, CommitError>
     ensures ok { IfOk result (λ s. stepped most (world_of at.now) event.now ≡ Ok (world_of s)) }
     ensures refused { IfErr result (λ e. IsAnswer e (stepped most (world_of at.now) event.now)) }

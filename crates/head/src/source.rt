@@ -1,6 +1,7 @@
 //! A head as a source of lists.
 
-ghost use Rattle.std.specs.Prelude.{◌≡◌, ℕ, ◌<◌, ◌≤◌, List, [], length, map, slice_get, Some, IfNone, IfSome, IfOk};
+ghost use Rattle.std.specs.Prelude.{◌≡◌, ℕ, ◌<◌, ◌≤◌, List, [], length, map, slice_get, Some};
+ghost use Rattle.std.specs.Prelude.{IfNone, IfSome, IfOk};
 ghost use Rattle.labels.specs.Parts.{references, references_where, live_references, carries};
 
 use crate::head::HeadView;
@@ -51,5 +52,6 @@ impl<'a> Source for &'a HeadView {
 
     ghost is_part = { λ view. view.now.is_part };
 
-    ghost are_values = { λ view name. are_values_under view.now.index (head_part view.now.series) name view.now.indexed };
+    ghost are_values = { λ view name. are_values_under view.now.index
+        (head_part view.now.series) name view.now.indexed };
 }
