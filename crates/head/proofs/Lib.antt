@@ -16,6 +16,7 @@ pub mod Placing
 pub mod NameRuns
 pub mod Sampling
 pub mod Living
+pub mod Pieces
 pub mod ChunkSearch
 pub mod Indexing
 pub mod EventTests
