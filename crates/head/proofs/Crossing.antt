@@ -5,6 +5,8 @@ use Rattle.std.proofs.Crossing as heap
 use Rattle.block.proofs.Crossing.{LabelSet-send, LabelSet-sync, Block-send, Block-sync}
 use Rattle.head.specs.contracts.series.Chunk as chunk
 use Rattle.head.specs.contracts.series.Series as series
+use Rattle.head.specs.contracts.references.Held as held
+use Rattle.head.specs.contracts.references.References as references
 use Rattle.head.specs.contracts.listed.Listed as listed
 use Rattle.head.specs.contracts.index.Index as index
 use Rattle.pages.proofs.Crossing.{PagedList-send, PagedList-sync, SortedPages-send, SortedPages-sync}
@@ -25,11 +27,23 @@ Series-send = search (sendable, heap.Vec-send, heap.Arc-send, LabelSet-send, Chu
 pub Series-sync : IsSync series.the_field.row
 Series-sync = search (sendable, heap.crosses, LabelSet-sync, Chunk-send, Chunk-sync) depth 60 fits 20000
 
+pub Held-send : IsSend held.the_field.row
+Held-send = search (sendable, heap.Vec-send, PagedList-send) depth 60 fits 20000
+
+pub Held-sync : IsSync held.the_field.row
+Held-sync = search (sendable, heap.Vec-sync, PagedList-sync) depth 60 fits 20000
+
+pub References-send : IsSend references.the_field.row
+References-send = search (sendable, Held-send) depth 60 fits 20000
+
+pub References-sync : IsSync references.the_field.row
+References-sync = search (sendable, Held-sync) depth 60 fits 20000
+
 pub Listed-send : IsSend listed.the_field.row
-Listed-send = search (sendable, heap.Vec-send, LabelSet-send) depth 60 fits 20000
+Listed-send = search (sendable, LabelSet-send, References-send) depth 60 fits 20000
 
 pub Listed-sync : IsSync listed.the_field.row
-Listed-sync = search (sendable, heap.Vec-sync, LabelSet-sync) depth 60 fits 20000
+Listed-sync = search (sendable, LabelSet-sync, References-sync) depth 60 fits 20000
 
 pub Index-send : IsSend index.the_field.row
 Index-send = search (sendable, SortedPages-send, heap.Arc-send, heap.Arc-sync, Listed-send, Listed-sync) depth 60 fits 20000

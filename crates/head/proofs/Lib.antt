@@ -17,6 +17,7 @@ pub mod NameRuns
 pub mod Listing
 pub mod Sampling
 pub mod Living
+pub mod Pieces
 pub mod ChunkSearch
 pub mod Indexing
 pub mod EventTests

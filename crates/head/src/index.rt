@@ -15,6 +15,7 @@ ghost use Rattle.head.specs.Places.{IsNameBoundary, IsRunOf};
 ghost use Rattle.pages.specs.Sorted.{entries_of, place_of, IsSpot};
 
 use crate::listed::{Listed, order_of};
+use crate::references::References;
 use labels::{LabelSet, SeriesRef};
 use pages::{Probe, SortedPages, Spot, WholeChange};
 use std::alloc::{AllocError, Global};
@@ -92,7 +93,7 @@ fn push_to(alloc: Global, listed: &mut Arc<Listed>, reference: SeriesRef) -> Res
     ensures err { OnErr result (arc_value listed.new ≡ arc_value listed.old) }
 {
     if let Some(own) = Arc::get_mut(listed) {
-        return own.push(reference);
+        return own.push(alloc, reference);
     }
     *listed = Arc::new(alloc, listed.with(alloc, reference)?)?;
     Ok(())
@@ -255,7 +256,7 @@ impl Index {
     }
 
     /// The references at a pair, `None` where the pair is not listed.
-    pub fn list(&self, name: &str, value: &str) -> Option<&[SeriesRef]>
+    pub fn list(&self, name: &str, value: &str) -> Option<&References>
         ensures none { IfNone result (find pair_cmp (name.now, value.now) self.now ≡ None) }
         ensures some { IfSome result (λ list. find pair_cmp (name.now, value.now) self.now
             ≡ Some list.now) }

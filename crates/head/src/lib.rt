@@ -34,6 +34,8 @@ mod list;
 mod listed;
 mod live;
 mod order;
+mod reference_list;
+mod references;
 mod selection;
 mod series;
 mod snapshot;

@@ -6,6 +6,7 @@ ghost use Rattle.std.specs.Ordering.{nat_cmp};
 ghost use Rattle.std.specs.Cmp.Lexicographic.{slice_cmp};
 ghost use Rattle.labels.specs.Labels.{pair_cmp};
 
+use crate::references::References;
 use labels::{LabelSet, SeriesRef};
 use std::alloc::{AllocError, Global};
 use std::cmp::Ordering;
@@ -16,7 +17,7 @@ use std::marker::Model;
 pub struct Listed {
     labels: LabelSet,
     place: usize,
-    references: Vec<SeriesRef>,
+    references: References,
 }
 
 impl Model for Listed {
@@ -24,7 +25,7 @@ impl Model for Listed {
 
     ghost Value = { (List ℕ × List ℕ) × List ℕ };
 
-    ghost view = { λ l. (get_or l.labels l.place ([], []), l.references.items) };
+    ghost view = { λ l. (get_or l.labels l.place ([], []), l.references) };
 
     ghost invariant = { λ l. l.place < length l.labels };
 }
@@ -50,12 +51,10 @@ impl Listed {
         requires { place < length labels.now }
         ensures { IfOk result (λ l. l ≡ (get_or labels.now place ([], []), reference ∷ [])) }
     {
-        let mut references = Vec::new(alloc);
-        references.push(reference)?;
         Ok(Listed {
             labels: labels.try_clone()?,
             place,
-            references,
+            references: References::new(alloc, reference)?,
         })
     }
 
@@ -73,19 +72,18 @@ impl Listed {
         self.pair().0.as_bytes().cmp(name.as_bytes())
     }
 
-    pub fn references(&self) -> &[SeriesRef]
+    pub fn references(&self) -> &References
         ensures { result.now ≡ self.now.1 }
     {
-        self.references.as_slice()
+        &self.references
     }
 
-    /// A copy with one reference more.
+    /// A copy with one reference more. The two share the pages of their references.
     pub fn with(&self, alloc: Global, reference: SeriesRef) -> Result<Listed, AllocError>
         ensures { IfOk result (λ l. l ≡ (self.now.0, self.now.1 ++ reference ∷ [])) }
     {
-        let mut references = Vec::new(alloc);
-        references.extend_from_slice(self.references.as_slice())?;
-        references.push(reference)?;
+        let mut references = self.references.try_clone(alloc)?;
+        references.push(alloc, reference)?;
         Ok(Listed {
             labels: self.labels.try_clone()?,
             place: self.place,
@@ -94,11 +92,11 @@ impl Listed {
     }
 
     /// Adds a reference at the end.
-    pub fn push(&mut self, reference: SeriesRef) -> Result<(), AllocError>
+    pub fn push(&mut self, alloc: Global, reference: SeriesRef) -> Result<(), AllocError>
         ensures ok { OnOk result (self.new ≡ (self.old.0, self.old.1 ++ reference ∷ [])) }
         ensures err { OnErr result (self.new ≡ self.old) }
     {
-        self.references.push(reference)?;
+        self.references.push(alloc, reference)?;
         Ok(())
     }
 }

@@ -7,8 +7,9 @@ ghost use Rattle.labels.specs.Parts.{references, references_where, live_referenc
 use crate::head::HeadView;
 use crate::list::HeadList;
 use crate::live::LiveList;
+use crate::reference_list::ReferenceList;
 use crate::span::Span;
-use postings::{SliceList, Source};
+use postings::Source;
 use std::alloc::{AllocError, Global};
 
 impl<'a> Source for &'a HeadView {
@@ -33,7 +34,7 @@ impl<'a> Source for &'a HeadView {
         let view: &'a HeadView = *self;
         match view.index.list(name, value) {
             None => None,
-            Some(list) => Some(HeadList::Listed(SliceList::new(list))),
+            Some(list) => Some(HeadList::Listed(ReferenceList::new(list))),
         }
     }
 
