@@ -38,7 +38,8 @@ fn first_of<R: Read + Drop>(
     most: usize,
 ) -> io::Result<Vec<u8>>
     ensures few { IfOk result (λ bytes. length bytes.items ≤ most) }
-    ensures first { IfOk result (λ bytes. IfSome (R.remaining reader) (λ all. bytes.items ≡ take most all)) }
+    ensures first { IfOk result (λ bytes. IfSome (R.remaining reader) (λ all. bytes.items
+        ≡ take most all)) }
 {
     let mut bytes = Vec::with_capacity(alloc, room)?;
     reader.take(most as u64).read_to_end(&mut bytes)?;
@@ -117,8 +118,10 @@ fn read_one<F: ReadFiles>(
     directory: &str,
     name: FileName,
 ) -> Result<Vec<u8>, Fault>
-    ensures ok { IfOk result (λ bytes. IsRead (F.may_read files.now) directory.now name bytes.items) }
-    ensures err { IfErr result (λ fault. IsFileFault (F.may_read files.now) directory.now name fault) }
+    ensures ok { IfOk result
+        (λ bytes. IsRead (F.may_read files.now) directory.now name bytes.items) }
+    ensures err { IfErr result
+        (λ fault. IsFileFault (F.may_read files.now) directory.now name fault) }
 {
     let path = path_of(alloc, directory, name)?;
     match files.read_file(alloc, path.as_str(), MAX_FILE + 1) {
@@ -136,7 +139,8 @@ pub fn read_block<F: ReadFiles>(
     directory: &str,
 ) -> Result<BlockFiles, Fault>
     ensures ok { IfOk result (λ block. AreRead (F.may_read files.now) directory.now block) }
-    ensures err { IfErr result (λ fault. IsReadingFault (F.may_read files.now) directory.now fault) }
+    ensures err { IfErr result
+        (λ fault. IsReadingFault (F.may_read files.now) directory.now fault) }
 {
     let index = read_one(alloc, files, directory, FileName::Index)?;
     let chunks = read_one(alloc, files, directory, FileName::Chunks)?;

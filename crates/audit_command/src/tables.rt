@@ -29,7 +29,8 @@ fn table_of(alloc: Global, files: BlockFiles) -> Result<BlockTable, AllocError>
 /// Reads the files in a directory, and then walks them.
 fn table_at<F: ReadFiles>(alloc: Global, files: &F, directory: &str) -> Result<BlockTable, Fault>
     ensures ok { IfOk result (λ table. IsTableAt (F.may_read files.now) directory.now table) }
-    ensures err { IfErr result (λ fault. IsReadingFault (F.may_read files.now) directory.now fault) }
+    ensures err { IfErr result
+        (λ fault. IsReadingFault (F.may_read files.now) directory.now fault) }
 {
     let block = read_block(alloc, files, directory)?;
     Ok(table_of(alloc, block)?)

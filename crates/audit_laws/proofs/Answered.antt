@@ -40,11 +40,11 @@ each_known a (i ∷ is) fits =
 pub answer_sound : (query : QueryView) (part : Part) (answer : PartAnswer)
     → IsAnswer query part answer → IsSound part query answer
 answer_sound query part answer is = record {
-  known = each_known (asked part query) answer.cover.certificate.items is.leftmost.valid.fits;
-  valid = is.leftmost.valid;
-  separated = is.separated;
+  known = each_known (asked part query) answer.cover.certificate.items is.cover.valid.fits;
+  valid = is.cover.valid;
+  separated = is.cover.separated;
   as_many =
-      ap length is.begins ∙ length-map answer.cover.certificate.items (λ (i : Interval). i.from);
+      ap length is.cover.begins ∙ length-map answer.cover.certificate.items (λ (i : Interval). i.from);
   rows = is.rows;
 }
 

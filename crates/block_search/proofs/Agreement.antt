@@ -17,12 +17,12 @@ use Rattle.block_search.specs.Answers.{IsAnswerOf, Agree}
 module _ (query : QueryView) where
   agree : (p : AskedPart) (a b : PartAnswer) → IsAnswerOf query p a → IsAnswerOf query p b → Agree a b
   agree p a b x y =
-      let same = leftmost_unique (asked p.part query) a.cover.certificate.items b.cover.certificate.items (asked_part p.part query x.is_part) x.answers.leftmost y.answers.leftmost in
+      let same = leftmost_unique (asked p.part query) a.cover.certificate.items b.cover.certificate.items (asked_part p.part query x.is_part) x.answers.cover.leftmost y.answers.cover.leftmost in
       record {
         name = x.name ∙ sym y.name;
         rows = same_rows a.rows.items b.rows.items (selected (satisfies_all query.matchers) query.from query.to (content_of (p.part ∷ []))) x.answers.rows y.answers.rows;
         certificate = same;
-        separators = x.answers.begins ∙ ap begins_of same ∙ sym y.answers.begins;
+        separators = x.answers.cover.begins ∙ ap begins_of same ∙ sym y.answers.cover.begins;
       }
 
   pub all_agree : (parts : List AskedPart) (xs ys : List PartAnswer) → AllZip (IsAnswerOf query) parts xs → AllZip (IsAnswerOf query) parts ys → AllZip Agree xs ys

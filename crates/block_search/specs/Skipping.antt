@@ -1,5 +1,6 @@
 -- Which parts of a snapshot a query is put to.
-use Rattle.std.specs.Prelude.{◌≡◌, ℕ, ℤ, ◌+◌, Bool, false, not, ◌||◌, List, [], ◌∷◌, ◌++◌, map, filter, int_le, int_lt}
+use Rattle.std.specs.Prelude.{◌≡◌, ℕ, ℤ, ◌+◌, Bool, false, not, ◌||◌, List, [], ◌∷◌, ◌++◌, map}
+use Rattle.std.specs.Prelude.{filter, int_le, int_lt}
 use Rattle.std.specs.List.{AllByRecursion}
 use Rattle.labels.specs.Contents.{selected}
 use Rattle.labels.specs.Rows.{Row}
@@ -10,8 +11,8 @@ use Rattle.postings.specs.declared.part_name.PartName.{PartName}
 use Rattle.postings.specs.declared.part_name.PartName.TheVariants.{Block as BlockName, Head}
 use Rattle.head.specs.Heads.{BlockPart, SnapshotParts, head_part, parts_of}
 
--- whether a query skips a block of this range: the end is not above the first time of the query's, or the first time is
--- above its last
+-- whether a query skips a block of this range: the end is not above the first time of the query's,
+-- or the first time is above its last
 abbrev pub is_skipped : QueryView → ℤ × ℤ → Bool
 is_skipped query range = int_le range.1 query.from || int_lt query.to range.0
 
@@ -25,7 +26,8 @@ pub record AskedPart : Type 0 where
 abbrev pub asked_blocks : QueryView → ℕ → List BlockPart → List AskedPart
 asked_blocks query n [] = []
 asked_blocks query n (b ∷ bs) =
-    record { name = BlockName n; part = b.part; skipped = is_skipped query (b.min, b.max) } ∷ asked_blocks query (n + 1) bs
+    record { name = BlockName n; part = b.part; skipped = is_skipped query (b.min, b.max) }
+    ∷ asked_blocks query (n + 1) bs
 
 -- the head, which no query skips
 abbrev pub asked_head : SnapshotParts → AskedPart
@@ -41,10 +43,12 @@ searched_parts query s = filter (λ p. not p.skipped) (asked_parts query s)
 
 -- no series of the part has a sample in the closed range
 abbrev pub HasNoSample : ℤ → ℤ → Part → Type 0
-HasNoSample from to part = AllByRecursion (λ (row : ℕ × Row). has_sample from to row.1.1 ≡ false) part
+HasNoSample from to part =
+    AllByRecursion (λ (row : ℕ × Row). has_sample from to row.1.1 ≡ false) part
 
 -- what a query selects of the parts that it searches is what it selects of all parts
 abbrev pub LosesNothing : QueryView → SnapshotParts → Type 0
 LosesNothing query s =
-    selected (satisfies_all query.matchers) query.from query.to (content_of (map (λ p. p.part) (searched_parts query s)))
+    selected (satisfies_all query.matchers) query.from query.to
+    (content_of (map (λ p. p.part) (searched_parts query s)))
     ≡ selected (satisfies_all query.matchers) query.from query.to (content_of (parts_of s))

@@ -22,8 +22,8 @@ const THREADS: usize = 4;
 /// A certificate of fewer intervals is gone through by one thread.
 const LONG: usize = 512;
 
-/// The rows of the series of a block that match, by at most so many threads, the calling one among them. Where a thread
-/// can't be started, the calling one does its share.
+/// The rows of the series of a block that match, by at most so many threads, the calling one among
+/// them. Where a thread can't be started, the calling one does its share.
 #[cycle(halves)]
 fn rows_among<R: Threads + Sync>(
     rt: &R,
@@ -33,7 +33,8 @@ fn rows_among<R: Threads + Sync>(
     query: &Query,
     threads: usize,
 ) -> Result<Vec<Row>, AllocError>
-    ensures { IfOk result (λ rows. rows.items ≡ filter_map (row_of query.now.from query.now.to block.now.part) certificate.now) }
+    ensures { IfOk result (λ rows. rows.items
+        ≡ filter_map (row_of query.now.from query.now.to block.now.part) certificate.now) }
 {
     let count = certificate.len();
     if threads < 2 || count < LONG {
@@ -44,11 +45,15 @@ fn rows_among<R: Threads + Sync>(
     let (front, back) = certificate.split_at(count / 2);
     let early = || -> Result<Vec<Row>, AllocError>
         requires { IsSync R.row }
-        ensures { IfOk result (λ rows. rows.items ≡ filter_map (row_of query.entry.now.from query.entry.now.to block.entry.now.part) front.entry.now) }
+        ensures { IfOk result (λ rows. rows.items
+            ≡ filter_map (row_of query.entry.now.from query.entry.now.to block.entry.now.part)
+            front.entry.now) }
     { rows_among(rt, alloc, block, front, query, helpers) };
     let late = || -> Result<Vec<Row>, AllocError>
         requires { IsSync R.row }
-        ensures { IfOk result (λ rows. rows.items ≡ filter_map (row_of query.entry.now.from query.entry.now.to block.entry.now.part) back.entry.now) }
+        ensures { IfOk result (λ rows. rows.items
+            ≡ filter_map (row_of query.entry.now.from query.entry.now.to block.entry.now.part)
+            back.entry.now) }
     { rows_among(rt, alloc, block, back, query, rest) };
     let (first, second) = join(rt, early, late);
     let mut rows = first?;

@@ -2,8 +2,8 @@
 
 /// Learns of each part before it is searched, in the thread that searches it.
 pub trait Gate: Sync {
-    /// Called with the place of the part that this thread searches next: the number of a block, or for the head that of
-    /// all blocks.
+    /// Called with the place of the part that this thread searches next: the number of a block, or
+    /// for the head that of all blocks.
     fn reached(&self, part: usize);
 }
 

@@ -8,8 +8,9 @@ ghost use Rattle.block_search.specs.Answers.{AreAnswers, Agree};
 
 use cover::PartAnswer;
 
-/// A law: what a snapshot's parts answer to a query is told by the contract of a search in all but the moves: any two
-/// lists of answers agree in names, rows, certificates and separators.
+/// A law: what a snapshot's parts answer to a query is told by the contract of a search in all but
+/// the moves: any two lists of answers agree in names, rows, certificates and separators.
 pub fn searches_agree()
-    ensures { (query : QueryView) (s : SnapshotParts) (xs ys : List PartAnswer) → AreAnswers query s xs → AreAnswers query s ys → AllZip Agree xs ys }
+    ensures { (query : QueryView) (s : SnapshotParts) (xs ys : List PartAnswer)
+        → AreAnswers query s xs → AreAnswers query s ys → AllZip Agree xs ys }
 {}

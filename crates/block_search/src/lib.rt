@@ -1,12 +1,14 @@
 //! The answers of a snapshot's parts to a query.
 //!
-//! A part's rows are exactly those of its content that satisfy all matchers, with their samples in the range, in label
-//! order; there are as many as its certificate has matches, and the certificate is the leftmost one, so that no valid
-//! one has fewer intervals, shown by its separators. There is one answer for each part that the query does not skip, in
-//! the order of the parts: the blocks and then the head. A block is skipped where its range has no time of the query's;
-//! it has no sample there, so nothing is lost. `search` gives each part a worker, and the rows of a block's many matches
-//! several, and `search_one_by_one` goes through all in the calling thread: the two agree in all but the moves. It stands
-//! on `labels`, `matchers`, `postings`, `cover`, `block` and `head`.
+//! A part's rows are exactly those of its content that satisfy all matchers, with their samples in
+//! the range, in label order; there are as many as its certificate has matches, and the certificate
+//! is the leftmost one, so that no valid one has fewer intervals, shown by its separators. There is
+//! one answer for each part that the query does not skip, in the order of the parts: the blocks and
+//! then the head. A block is skipped where its range has no time of the query's; it has no sample
+//! there, so nothing is lost. `search` gives each part a worker, and the rows of a block's many
+//! matches several, and `search_one_by_one` goes through all in the calling thread: the two agree
+//! in all but the moves. It stands on `labels`, `matchers`, `postings`, `cover`, `block` and
+//! `head`.
 #![tactic(auto)]
 
 mod block_rows;

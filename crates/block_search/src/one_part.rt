@@ -1,14 +1,11 @@
-//! The search over one part: the series that its certificate calls matches, with their samples in range.
+//! The search over one part: the series that its certificate calls matches, with their samples in
+//! range.
 
-ghost use Rattle.std.specs.Prelude.{◌≡◌, ℕ, ◌+◌, ◌*◌, ◌≤◌, List, IfOk, IfSome, IfNone, Some, None, length, option_map, [], ◌∷◌};
+ghost use Rattle.std.specs.Prelude.{◌≡◌, IfOk, option_map};
 ghost use Rattle.std.specs.List.{filter_map};
-ghost use Rattle.labels.specs.Contents.{selected};
-ghost use Rattle.labels.specs.Rows.{AreRows};
-ghost use Rattle.labels.specs.Parts.{IsPart, content_of, row_at, labels_in, samples_within};
-ghost use Rattle.matchers.specs.Satisfies.{satisfies_all};
-ghost use Rattle.cover.specs.Asking.{asked};
-ghost use Rattle.cover.specs.Certificates.{IsValidCertificate, IsLeftmost, IsLeast, AreSeparators, begins_of, matches_of};
+ghost use Rattle.labels.specs.Parts.{IsPart, row_at, labels_in, samples_within};
 ghost use Rattle.block_search.specs.Answering.{row_within, row_of};
+ghost use Rattle.block_search.specs.Answers.{IsAnswer};
 
 use block::BlockView;
 use cover::{Interval, PartAnswer, Verdict, cover};
@@ -22,9 +19,11 @@ use std::alloc::{AllocError, Global};
 pub trait SearchedPart: Source {
     /// The label set of a series, `None` for an unknown reference.
     fn labels_of(&self, alloc: Global, reference: SeriesRef) -> Result<Option<LabelSet>, AllocError>
-        ensures { IfOk result (λ labels. labels ≡ labels_in (row_at reference (Self.part self.now))) };
+        ensures { IfOk result (λ labels. labels
+            ≡ labels_in (row_at reference (Self.part self.now))) };
 
-    /// The undeleted samples of a series in a closed range of times, in milliseconds; none for an unknown reference.
+    /// The undeleted samples of a series in a closed range of times, in milliseconds; none for an
+    /// unknown reference.
     fn samples_of(
         &self,
         alloc: Global,
@@ -32,7 +31,8 @@ pub trait SearchedPart: Source {
         from: i64,
         to: i64,
     ) -> Result<Vec<Sample>, AllocError>
-        ensures { IfOk result (λ samples. samples.items ≡ samples_within from to (row_at reference (Self.part self.now))) };
+        ensures { IfOk result (λ samples. samples.items
+            ≡ samples_within from to (row_at reference (Self.part self.now))) };
 }
 
 /// The row of a series, with its samples in the range of the query.
@@ -42,7 +42,9 @@ fn row_under<S: SearchedPart>(
     reference: SeriesRef,
     query: &Query,
 ) -> Result<Option<Row>, AllocError>
-    ensures { IfOk result (λ row. row ≡ option_map (row_within query.now.from query.now.to) (row_at reference (S.part source.now))) }
+    ensures { IfOk result (λ row. row
+        ≡ option_map (row_within query.now.from query.now.to)
+        (row_at reference (S.part source.now))) }
 {
     let Some(labels) = source.labels_of(alloc, reference)? else {
         return Ok(None);
@@ -58,7 +60,8 @@ fn matched_row<S: SearchedPart>(
     interval: &Interval,
     query: &Query,
 ) -> Result<Option<Row>, AllocError>
-    ensures { IfOk result (λ row. row ≡ row_of query.now.from query.now.to (S.part source.now) interval.now) }
+    ensures { IfOk result (λ row. row
+        ≡ row_of query.now.from query.now.to (S.part source.now) interval.now) }
 {
     match interval.verdict {
         Verdict::Match => row_under(alloc, source, interval.from, query),
@@ -74,7 +77,8 @@ pub(crate) fn matched_rows<S: SearchedPart>(
     certificate: &[Interval],
     query: &Query,
 ) -> Result<Vec<Row>, AllocError>
-    ensures { IfOk result (λ rows. rows.items ≡ filter_map (row_of query.now.from query.now.to (S.part source.now)) certificate.now) }
+    ensures { IfOk result (λ rows. rows.items
+        ≡ filter_map (row_of query.now.from query.now.to (S.part source.now)) certificate.now) }
 {
     let mut rows = Vec::new(alloc);
     for interval in certificate {
@@ -88,7 +92,8 @@ pub(crate) fn matched_rows<S: SearchedPart>(
 
 /// The answer of one part to a query: its selected rows, under a leftmost certificate.
 ///
-/// It looks at no series but those that match, and costs what `cover` does and a sort of their rows.
+/// It looks at no series but those that match, and costs what `cover` does and a sort of their
+/// rows.
 pub fn search_part<S: SearchedPart>(
     alloc: Global,
     part: PartName,
@@ -97,13 +102,7 @@ pub fn search_part<S: SearchedPart>(
 ) -> Result<PartAnswer, AllocError>
     ensures part { IfOk result (λ a. a.part ≡ part) }
     ensures is_part { IsPart (S.part source.now) }
-    ensures rows { IfOk result (λ a. AreRows a.rows.items (selected (satisfies_all query.now.matchers) query.now.from query.now.to (content_of (S.part source.now ∷ [])))) }
-    ensures as_many { IfOk result (λ a. length a.rows.items ≡ length (matches_of a.cover.certificate.items)) }
-    ensures leftmost { IfOk result (λ a. IsLeftmost (asked (S.part source.now) query.now) a.cover.certificate.items) }
-    ensures least { IfOk result (λ a. IsLeast (asked (S.part source.now) query.now) a.cover.certificate.items) }
-    ensures begins { IfOk result (λ a. a.cover.separators.items ≡ begins_of a.cover.certificate.items) }
-    ensures separated { IfOk result (λ a. AreSeparators (asked (S.part source.now) query.now) a.cover.separators.items) }
-    ensures moves { IfOk result (λ a. (other : List Interval) → IsValidCertificate (asked (S.part source.now) query.now) other → a.cover.moves ≤ (length query.now.matchers + 2) * length other) }
+    ensures answers { IfOk result (IsAnswer query.now (S.part source.now)) }
 {
     let cover = cover(alloc, source, query)?;
     let mut rows = matched_rows(alloc, source, cover.certificate.as_slice(), query)?;

@@ -49,8 +49,8 @@ fn search_place_by<R: Threads + Sync>(
     }
 }
 
-/// The answers of all parts that the query does not skip, one part after another: the blocks in their order, and then
-/// the head, which is always searched.
+/// The answers of all parts that the query does not skip, one part after another: the blocks in
+/// their order, and then the head, which is always searched.
 pub fn search_one_by_one(
     alloc: Global,
     snapshot: &Snapshot,
@@ -91,7 +91,10 @@ fn found_by_workers<R: Threads + Sync, G: Gate>(
     places: &[usize],
     gate: &G,
 ) -> Result<Vec<Result<PartAnswer, AllocError>>, AllocError>
-    ensures { IfOk result (λ found. AllZip (λ place answer. IfOk answer (IsAnswerOf query.now (part_at query.now snapshot.now place))) places.now found.items) }
+    ensures { IfOk result (λ found. AllZip
+        (λ place answer. IfOk answer
+        (IsAnswerOf query.now (part_at query.now snapshot.now place)))
+        places.now found.items) }
 {
     thread::map_indices(
         rt,
@@ -99,7 +102,8 @@ fn found_by_workers<R: Threads + Sync, G: Gate>(
         places.len(),
         &|n: usize| -> Result<PartAnswer, AllocError>
             requires { n < length places.now }
-            ensures { IfOk result (IsAnswerOf query.entry.now (part_at query.entry.now snapshot.entry.now (slice_index places.entry.now n))) }
+            ensures { IfOk result (IsAnswerOf query.entry.now
+                (part_at query.entry.now snapshot.entry.now (slice_index places.entry.now n))) }
         { search_reached(rt, alloc, snapshot, query, places[n], gate) },
     )
 }
@@ -118,12 +122,14 @@ fn all_of(
     Ok(answers)
 }
 
-/// The answers of all parts that the query does not skip, as [`search_one_by_one`] gives them but for the moves, by one
-/// worker for each part that is searched.
+/// The answers of all parts that the query does not skip, as [`search_one_by_one`] gives them but
+/// for the moves, by one worker for each part that is searched.
 ///
-/// The calling thread is one of the workers, so that a store without blocks starts none; where no thread can be started,
-/// it searches that worker's part too. A worker whose block has many matches shares out their rows over more threads. The gate learns of each part before it is searched, in the thread that does so.
-/// It takes as long as the search of its longest part, where there are as many processors as parts.
+/// The calling thread is one of the workers, so that a store without blocks starts none; where no
+/// thread can be started, it searches that worker's part too. A worker whose block has many matches
+/// shares out their rows over more threads. The gate learns of each part before it is searched, in
+/// the thread that does so. It takes as long as the search of its longest part, where there are as
+/// many processors as parts.
 pub fn search<R: Threads + Sync, G: Gate>(
     rt: &R,
     alloc: Global,

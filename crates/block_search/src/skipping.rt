@@ -9,15 +9,16 @@ use head::Snapshot;
 use matchers::Query;
 use std::alloc::{AllocError, Global};
 
-/// Whether a query skips a block of this range: its end is not above the first time of the query's, or its first time
-/// is above the last of the query's.
+/// Whether a query skips a block of this range: its end is not above the first time of the query's,
+/// or its first time is above the last of the query's.
 pub fn is_skipped(range: Range, query: &Query) -> bool
     ensures { result ≡ is_skipped query.now range }
 {
     range.max() <= query.from() || query.to() < range.min()
 }
 
-/// The places of the parts that are searched, ascending: the number of a block, and for the head that of all blocks.
+/// The places of the parts that are searched, ascending: the number of a block, and for the head
+/// that of all blocks.
 pub(crate) fn searched_places(
     alloc: Global,
     snapshot: &Snapshot,

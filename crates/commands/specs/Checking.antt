@@ -1,12 +1,14 @@
 -- What `check` says of directories, and in which lines.
-use Rattle.std.specs.Prelude.{◌≡◌, ℕ, List, [], ◌∷◌, ◌++◌, Bool, true, false, map, Option, codes, decimal, string_bytes, if◌then◌else◌}
+use Rattle.std.specs.Prelude.{◌≡◌, ℕ, List, [], ◌∷◌, ◌++◌, Bool, true, false, map, Option, codes}
+use Rattle.std.specs.Prelude.{decimal, string_bytes, if◌then◌else◌}
 use Rattle.std.specs.List.{AllByRecursion, flat_map, list_any}
 use Rattle.std.specs.Io.KnownBytes.{Appends}
 use Rattle.commands.specs.Judging.{IsJudged}
 use Rattle.commands.specs.Reading.{Reads, Files, AreFilesAt, IsUnread}
 use Rattle.commands.specs.Sending.{AppendsPrefix}
 use Rattle.commands.specs.declared.fault.Fault.{Fault}
-use Rattle.commands.specs.declared.fault.Fault.TheVariants.{Words, Refused, CannotRead, CannotWrite, CannotListen, Memory}
+use Rattle.commands.specs.declared.fault.Fault.TheVariants.{Words, Refused, CannotRead, CannotWrite}
+use Rattle.commands.specs.declared.fault.Fault.TheVariants.{CannotListen, Memory}
 use Rattle.commands.specs.declared.judgement.Judgement.{Judgement}
 use Rattle.commands.specs.declared.judgement.Judgement.TheVariants as judgement
 use Rattle.commands.specs.declared.report.Outcome.{Outcome}

@@ -1,5 +1,6 @@
 -- What each fault ends the program with: its status, and the line that tells it.
-use Rattle.std.specs.Prelude.{ℕ, List, [], ◌∷◌, ◌++◌, Option, None, Some, codes, decimal, string_bytes}
+use Rattle.std.specs.Prelude.{ℕ, List, [], ◌∷◌, ◌++◌, Option, None, Some, codes, decimal}
+use Rattle.std.specs.Prelude.{string_bytes}
 use Rattle.labels.specs.Errors.{code_of}
 use Rattle.labels.specs.declared.error.LabelError.{LabelError}
 use Rattle.labels.specs.declared.error.LabelError.TheVariants as label
@@ -20,9 +21,11 @@ use Rattle.snapshots.specs.declared.error.OpenError.TheVariants as store
 use Rattle.query_http.specs.declared.error.AskError.{AskError}
 use Rattle.query_http.specs.declared.error.AskError.TheVariants as ask
 use Rattle.commands.specs.declared.fault.Fault.{Fault}
-use Rattle.commands.specs.declared.fault.Fault.TheVariants.{Words, Refused, CannotRead, CannotWrite, CannotListen, Memory}
+use Rattle.commands.specs.declared.fault.Fault.TheVariants.{Words, Refused, CannotRead, CannotWrite}
+use Rattle.commands.specs.declared.fault.Fault.TheVariants.{CannotListen, Memory}
 use Rattle.commands.specs.declared.fault.Refusal.{Refusal}
-use Rattle.commands.specs.declared.fault.Refusal.TheVariants.{Labels, Matcher, Selector, Query, Commit, Block, Open, Snapshot}
+use Rattle.commands.specs.declared.fault.Refusal.TheVariants.{Labels, Matcher, Selector, Query}
+use Rattle.commands.specs.declared.fault.Refusal.TheVariants.{Commit, Block, Open, Snapshot}
 
 -- the code of a refusal
 abbrev pub refusal_code : Refusal → List ℕ

@@ -1,11 +1,13 @@
 -- The command line: what `clap` reads from the words, and what that asks for.
-use Rattle.std.specs.Prelude.{◌≡◌, ◌⊎◌, ℕ, ℤ, pos, negsuc, true, FitsSigned, List, [], map, Option, None, Some, codes, unwrap_or, string_bytes}
+use Rattle.std.specs.Prelude.{◌≡◌, ◌⊎◌, ℕ, ℤ, pos, negsuc, true, FitsSigned, List, [], map, Option}
+use Rattle.std.specs.Prelude.{None, Some, codes, unwrap_or, string_bytes}
 use Rattle.std.specs.Int.{w64}
 use Rattle.std.specs.declared.string.String.{String}
 use Rattle.std.specs.Str.Parse.{IsNumeral, without_leading_sign, signed_digits_value}
 use Rattle.labels.specs.declared.sample.TheConstants.{MIN_TIME, MAX_TIME}
 use Rattle.clap.specs.Lexer.{usize_max}
-use Rattle.clap.specs.Words.{App, Row, Rule, Text, new_app, new_rule, with_rule, with_subcommand, first_of, one_of, all_of, subcommand_of}
+use Rattle.clap.specs.Words.{App, Row, Rule, Text, new_app, new_rule, with_rule, with_subcommand}
+use Rattle.clap.specs.Words.{first_of, one_of, all_of, subcommand_of}
 use Rattle.clap.specs.declared.builder.value_parser.ValueParser.TheVariants.{Signed}
 use Rattle.commands.specs.OptionRules.{directories_rule}
 use Rattle.commands.specs.ServingLines.{serve_app, IsServe}

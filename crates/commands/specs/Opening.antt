@@ -8,8 +8,10 @@ use Rattle.commands.specs.Checking.{IsJudgedAt}
 use Rattle.commands.specs.Judging.{IsSpelledAs}
 use Rattle.commands.specs.Reading.{Reads, Files, AreFilesAt, IsUnread}
 use Rattle.commands.specs.declared.fault.Fault.{Fault}
-use Rattle.commands.specs.declared.fault.Fault.TheVariants.{Words, Refused, CannotRead, CannotWrite, CannotListen, Memory}
-use Rattle.commands.specs.declared.fault.Refusal.TheVariants.{Labels, Matcher, Selector, Query, Commit, Block, Open, Snapshot}
+use Rattle.commands.specs.declared.fault.Fault.TheVariants.{Words, Refused, CannotRead, CannotWrite}
+use Rattle.commands.specs.declared.fault.Fault.TheVariants.{CannotListen, Memory}
+use Rattle.commands.specs.declared.fault.Refusal.TheVariants.{Labels, Matcher, Selector, Query}
+use Rattle.commands.specs.declared.fault.Refusal.TheVariants.{Commit, Block, Open, Snapshot}
 use Rattle.commands.specs.declared.judgement.Judgement.TheVariants as judgement
 
 -- the block that a directory holds: the bytes of its files spell its range and its part

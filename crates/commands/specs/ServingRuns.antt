@@ -9,8 +9,10 @@ use Rattle.commands.specs.Reading.{Reads}
 use Rattle.commands.specs.Selecting.{IsOfMemory, KeepsAt}
 use Rattle.commands.specs.declared.command.Serving.{Serving}
 use Rattle.commands.specs.declared.fault.Fault.{Fault}
-use Rattle.commands.specs.declared.fault.Fault.TheVariants.{Words, Refused, CannotRead, CannotWrite, CannotListen, Memory}
-use Rattle.commands.specs.declared.fault.Refusal.TheVariants.{Labels, Matcher, Selector, Query, Commit, Block, Open, Snapshot}
+use Rattle.commands.specs.declared.fault.Fault.TheVariants.{Words, Refused, CannotRead, CannotWrite}
+use Rattle.commands.specs.declared.fault.Fault.TheVariants.{CannotListen, Memory}
+use Rattle.commands.specs.declared.fault.Refusal.TheVariants.{Labels, Matcher, Selector, Query}
+use Rattle.commands.specs.declared.fault.Refusal.TheVariants.{Commit, Block, Open, Snapshot}
 
 -- the line of a port
 abbrev pub listening_line : ℕ → List ℕ

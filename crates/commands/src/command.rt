@@ -1,13 +1,17 @@
 //! The command line.
 
 ghost use Rattle.std.specs.Prelude.{◌≡◌, ◌⊎◌, true, false, [], codes, map, unwrap_or, IfOk, IfErr};
-ghost use Rattle.commands.specs.ServingLines.{count_rule, port_rule, serve_app, IsCountIn, IsServingIn};
+ghost use Rattle.commands.specs.ServingLines.{count_rule, port_rule, serve_app, IsCountIn};
+ghost use Rattle.commands.specs.ServingLines.{IsServingIn};
 ghost use Rattle.commands.specs.Running.{IsTaken};
 ghost use Rattle.clap.specs.Values.{kind_of};
 ghost use Rattle.clap.specs.Matches.{found_of};
-ghost use Rattle.clap.specs.Words.{app_of, new_app, rule_of, rows_of, one_of, first_of, all_of, subcommand_of, subcommand_rows_of, takes};
+ghost use Rattle.clap.specs.Words.{app_of, new_app, rule_of, rows_of, one_of, first_of, all_of};
+ghost use Rattle.clap.specs.Words.{subcommand_of, subcommand_rows_of, takes};
 ghost use Rattle.commands.specs.OptionRules.{directories_rule};
-ghost use Rattle.commands.specs.Lines.{time_rule, selector_rule, blocks_rule, select_app, check_app, querier_app, IsTimeIn, IsSelectionIn, IsFoundLine, IsLineOf, texts_of};
+ghost use Rattle.commands.specs.Lines.{time_rule, selector_rule, blocks_rule, select_app};
+ghost use Rattle.commands.specs.Lines.{check_app, querier_app, IsTimeIn, IsSelectionIn};
+ghost use Rattle.commands.specs.Lines.{IsFoundLine, IsLineOf, texts_of};
 
 use clap::builder::ValueParser;
 use clap::error::ErrorKind;

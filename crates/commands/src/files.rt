@@ -1,10 +1,12 @@
 //! The files of a block, read from the host's file system or from memory.
 
-ghost use Rattle.std.specs.Prelude.{◌≡◌, ◌≤◌, ◌+◌, ℕ, List, Option, length, take, string_bytes, IfOk, IfErr, IfSome};
+ghost use Rattle.std.specs.Prelude.{◌≡◌, ◌≤◌, ◌+◌, ℕ, List, Option, length, take, string_bytes};
+ghost use Rattle.std.specs.Prelude.{IfOk, IfErr, IfSome};
 ghost use Rattle.std.specs.Thread.{IsSync};
 ghost use Rattle.commands.specs.Indexing.{IsOpened};
 ghost use Rattle.commands.specs.declared.files.FileName.TheVariants as file_name;
-ghost use Rattle.commands.specs.Reading.{limit_of, path_of, text_of, AreFirst, AreRead, IsRead, IsReadFailure, IsFileFault, IsReadingFault};
+ghost use Rattle.commands.specs.Reading.{limit_of, path_of, text_of, AreFirst, AreRead, IsRead};
+ghost use Rattle.commands.specs.Reading.{IsReadFailure, IsFileFault, IsReadingFault};
 
 use crate::fault::Fault;
 use index_reader::{Index, IndexError};

@@ -4,7 +4,8 @@ ghost use Rattle.std.specs.Prelude.{◌≤◌, length, map, IfOk, IfErr};
 ghost use Rattle.std.specs.Thread.{IsSync};
 ghost use Rattle.head.specs.Blocks.{part_in};
 ghost use Rattle.commands.specs.Reading.{paths_of};
-ghost use Rattle.commands.specs.Opening.{IsBlockAt, AreBlocksAt, IsBlockFault, IsFirstFault, IsOpeningOf, IsOpeningFault};
+ghost use Rattle.commands.specs.Opening.{IsBlockAt, AreBlocksAt, IsBlockFault, IsFirstFault};
+ghost use Rattle.commands.specs.Opening.{IsOpeningOf, IsOpeningFault};
 
 use crate::fault::{Fault, Refusal};
 use crate::files::{ReadFiles, read_block};

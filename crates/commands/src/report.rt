@@ -2,7 +2,8 @@
 
 ghost use Rattle.std.specs.Prelude.{◌≡◌, if◌then◌else◌, string_bytes, IfOk, IfErr};
 ghost use Rattle.std.specs.Io.KnownBytes.{Appends};
-ghost use Rattle.commands.specs.Checking.{judgement_line, IsJudgedAt, IsChecked, IsCheckFault, IsCutAt};
+ghost use Rattle.commands.specs.Checking.{judgement_line, IsJudgedAt, IsChecked, IsCheckFault};
+ghost use Rattle.commands.specs.Checking.{IsCutAt};
 ghost use Rattle.commands.specs.Reading.{IsReadingFault, IsDirectoryFault, paths_of};
 ghost use Rattle.commands.specs.Selecting.{KeepsAt};
 

@@ -6,7 +6,8 @@ ghost use Rattle.commands.specs.Printed.{line_text};
 ghost use Rattle.commands.specs.Demo.{demo_events, demo_query};
 ghost use Rattle.clap.specs.Words.{takes};
 ghost use Rattle.commands.specs.Lines.{querier_app, texts_of, IsLineOf};
-ghost use Rattle.commands.specs.Running.{IsTaken, IsLineEnd, IsEnd, IsNoLine, IsWordsFault, IsEarlyLine, IsTold, HasEnded, KeepsAtEnd, status_at};
+ghost use Rattle.commands.specs.Running.{IsTaken, IsLineEnd, IsEnd, IsNoLine, IsWordsFault};
+ghost use Rattle.commands.specs.Running.{IsEarlyLine, IsTold, HasEnded, KeepsAtEnd, status_at};
 ghost use Rattle.commands.specs.DemoAnswer.{IsDemoFault, WritesAnswerAfter};
 ghost use Rattle.commands.specs.Selecting.{IsWritingFault, KeepsAt, WritesAnswer};
 

@@ -2,7 +2,8 @@
 
 ghost use Rattle.std.specs.Prelude.{IfOk, IfErr, OnOk};
 ghost use Rattle.commands.specs.Reading.{paths_of};
-ghost use Rattle.commands.specs.Selecting.{IsQueryOf, IsSelectionFault, IsSelectFault, KeepsAt, WritesSelection};
+ghost use Rattle.commands.specs.Selecting.{IsQueryOf, IsSelectionFault, IsSelectFault, KeepsAt};
+ghost use Rattle.commands.specs.Selecting.{WritesSelection};
 
 use crate::command::Selection;
 use crate::fault::Fault;

@@ -4,7 +4,8 @@ ghost use Rattle.std.specs.Prelude.{◌≡◌, ◌≤◌, length, map, string_by
 ghost use Rattle.head.specs.Blocks.{part_in, opening_of};
 ghost use Rattle.commands.specs.Reading.{paths_of};
 ghost use Rattle.commands.specs.Selecting.{KeepsAt};
-ghost use Rattle.commands.specs.ServingRuns.{listening_line, TellsPort, IsServed, IsStoreFault, IsServeFault, IsServingFault};
+ghost use Rattle.commands.specs.ServingRuns.{listening_line, TellsPort, IsServed, IsStoreFault};
+ghost use Rattle.commands.specs.ServingRuns.{IsServeFault, IsServingFault};
 ghost use Rattle.commands.specs.declared.fault.Fault.TheVariants.{CannotListen};
 
 use crate::command::Serving;

@@ -9,7 +9,8 @@ use Rattle.cover.specs.declared.certificate.Interval.{Interval}
 use Rattle.cover.specs.declared.part_cover.PartAnswer.{PartAnswer}
 use Rattle.postings.specs.declared.part_name.PartName.{PartName}
 use Rattle.query_http.specs.declared.audited.AnsweredPart.{AnsweredPart}
-use Rattle.query_http.specs.Reply.{sample_data, row_data, interval_data, searched_data, skipped_data, part_data}
+use Rattle.query_http.specs.Reply.{sample_data, row_data, interval_data, searched_data}
+use Rattle.query_http.specs.Reply.{skipped_data, part_data}
 
 -- each item with a comma before it
 abbrev pub later_text : {A : Type 0} → (A → Data) → List A → List ℕ

@@ -3,8 +3,10 @@
 
 ghost use Rattle.std.specs.Prelude.{◌≡◌, ◌++◌, OnOk, IfOk, string_bytes};
 ghost use Rattle.serde_json.specs.Written.{compact_text};
-ghost use Rattle.query_http.specs.Reply.{verdict_data, interval_data, list_data, natural, name_text, part_data};
-ghost use Rattle.query_http.specs.Later.{later_interval, later_searched, later_skipped, later_part, later_text};
+ghost use Rattle.query_http.specs.Reply.{verdict_data, interval_data, list_data, natural};
+ghost use Rattle.query_http.specs.Reply.{name_text, part_data};
+ghost use Rattle.query_http.specs.Later.{later_interval, later_searched, later_skipped, later_part};
+ghost use Rattle.query_http.specs.Later.{later_text};
 
 use crate::audited::AnsweredPart;
 use crate::brackets::close_list;

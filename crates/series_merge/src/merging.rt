@@ -1,12 +1,14 @@
 //! The rows of several answers as one list of rows.
 
-ghost use Rattle.std.specs.Prelude.{◌≡◌, ◌++◌, ◌+◌, ◌<◌, IfOk, OnOk, IfSome, IfNone, T, true, List, [], ◌∷◌, reverse, length};
+ghost use Rattle.std.specs.Prelude.{◌≡◌, ◌++◌, ◌+◌, ◌<◌, IfOk, OnOk, IfSome, IfNone, T, true, List};
+ghost use Rattle.std.specs.Prelude.{[], ◌∷◌, reverse, length};
 ghost use Rattle.std.specs.List.{All, Contains};
 ghost use Rattle.std.specs.Bool.{OnTrue};
 ghost use Rattle.std.specs.Ordering.{int_cmp};
 ghost use Rattle.std.specs.FinMap.Entries.{is_sorted};
 ghost use Rattle.labels.specs.Rows.{AreRows, IsFull};
-ghost use Rattle.series_merge.specs.Merging.{IsRowList, row_lists, newest_first, merged_content, laid_times, join, joined};
+ghost use Rattle.series_merge.specs.Merging.{IsRowList, row_lists, newest_first, merged_content};
+ghost use Rattle.series_merge.specs.Merging.{laid_times, join, joined};
 
 use cover::PartAnswer;
 use labels::{Row, Sample, sort_rows};

@@ -21,9 +21,5 @@ returns-clause-answers g c =
     (record {
       rows = sorted_rows query part c.view.result.is_part certificate said.matches rows sorted found sort.moved sort.sorted sort.stable;
       as_many = sorted_length query part c.view.result.is_part certificate said.matches rows sorted found sort.moved;
-      leftmost = said.leftmost;
-      least = said.least;
-      begins = said.begins;
-      separated = said.separated;
-      moves = said.moves;
+      cover = said;
     })

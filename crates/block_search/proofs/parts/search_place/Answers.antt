@@ -9,7 +9,7 @@ use Rattle.head.specs.Shown.{series_of}
 use Rattle.block_search.specs.Skipping.{AskedPart, is_skipped}
 use Rattle.block_search.specs.Places.{block_or_head}
 use Rattle.block_search.specs.Answers.{IsAnswerOf}
-use Rattle.block_search.proofs.Answering.{answer_of}
+use Rattle.block_search.proofs.Answering.{named_answer}
 use Rattle.block_search.proofs.parts.search_place.Goals as goal
 
 pub returns-in-Some : goal.returns-in-Some
@@ -22,7 +22,7 @@ returns-in-Some c =
     let asked : Part → AskedPart = λ part. record { name = BlockName place; part = part; skipped = is_skipped query block.range } in
     subst (λ (p : AskedPart). IfOk c.search_part.result (IsAnswerOf query p))
     (ap asked c.view.ensures ∙ ap (block_or_head query snapshot place) (sym c.in-Some.ensures.some))
-    (answer_of query (asked c.view.result.block.now.part) c.search_part.result said.is_part said.part said.rows said.as_many said.leftmost said.least said.begins said.separated said.moves)
+    (named_answer query (asked c.view.result.block.now.part) c.search_part.result said.is_part said.part said.answers)
 
 pub returns-in-None : goal.returns-in-None
 returns-in-None c =
@@ -33,4 +33,4 @@ returns-in-None c =
     let asked : List HeadSeries → AskedPart = λ head. record { name = Head; part = head_part head; skipped = false } in
     subst (λ (p : AskedPart). IfOk c.search_part-in-None.result (IsAnswerOf query p))
     (ap asked c.head.ensures.series ∙ ap (block_or_head query snapshot place) (sym (slice_get_past snapshot.blocks place c.in-None.ensures.none)))
-    (answer_of query (asked (series_of c.head.result.now)) c.search_part-in-None.result said.is_part said.part said.rows said.as_many said.leftmost said.least said.begins said.separated said.moves)
+    (named_answer query (asked (series_of c.head.result.now)) c.search_part-in-None.result said.is_part said.part said.answers)
