@@ -155,34 +155,63 @@ fn a_call_refused_memory_changes_nothing_and_answers_when_made_again(rt: HostRun
     assert!(rt; matches!(answers_again(rt.alloc()), Some(true)));
 }
 
+/// Why a call failed.
+#[derive(Clone, Copy)]
+enum Cause {
+    Labels(LabelError),
+    Matcher(MatcherError),
+    Selector(SelectorError),
+    Query(QueryError),
+    Commit(CommitError),
+    Block(BlockError),
+}
+
+fn fault_of(cause: Cause) -> Fault {
+    match cause {
+        Cause::Labels(error) => error.into(),
+        Cause::Matcher(error) => error.into(),
+        Cause::Selector(error) => error.into(),
+        Cause::Query(error) => error.into(),
+        Cause::Commit(error) => error.into(),
+        Cause::Block(error) => error.into(),
+    }
+}
+
+/// Each cause, and the line of its fault.
+const LINES: &[(Cause, &str)] = &[
+    (Cause::Labels(LabelError::Repeated), "refused L2\n"),
+    (Cause::Matcher(MatcherError::BadName), "refused M1\n"),
+    (Cause::Query(QueryError::TooManyMatchers), "refused Q2\n"),
+    (
+        Cause::Commit(CommitError::Duplicate { at: 3 }),
+        "refused E3 at 3\n",
+    ),
+    (Cause::Commit(CommitError::Limit), "refused E4\n"),
+    (Cause::Labels(LabelError::Memory), "no memory\n"),
+    (Cause::Matcher(MatcherError::Memory), "no memory\n"),
+    (Cause::Selector(SelectorError::Memory), "no memory\n"),
+    (Cause::Commit(CommitError::Memory), "no memory\n"),
+    (Cause::Block(BlockError::Memory), "no memory\n"),
+];
+
 /// Whether a fault is told as this line.
-fn is_told(alloc: Global, fault: Fault, line: &str) -> bool {
+fn is_told(alloc: Global, fault: &Fault, line: &str) -> bool {
     let mut told = Vec::new(alloc);
     fault.tell(&mut told).is_ok() && told.as_slice() == line.as_bytes()
 }
 
 #[test]
-fn the_line_of_each_refusal(rt: HostRuntime) {
-    let alloc = rt.alloc();
-    assert!(rt; is_told(alloc, LabelError::Repeated.into(), "refused L2\n"));
-    assert!(rt; is_told(alloc, MatcherError::BadName.into(), "refused M1\n"));
-    assert!(rt; is_told(alloc, QueryError::TooManyMatchers.into(), "refused Q2\n"));
-    let duplicate = CommitError::Duplicate { at: 3 };
-    assert!(rt; is_told(alloc, duplicate.into(), "refused E3 at 3\n"));
-    assert!(rt; is_told(alloc, CommitError::Limit.into(), "refused E4\n"));
+fn the_line_of_each_fault_has_its_cause(rt: HostRuntime) {
+    for (cause, line) in LINES {
+        assert!(rt; is_told(rt.alloc(), &fault_of(*cause), line), "{line}");
+    }
 }
 
 #[test]
-fn the_line_of_each_other_fault(rt: HostRuntime) {
-    let alloc = rt.alloc();
-    assert!(rt; is_told(alloc, LabelError::Memory.into(), "no memory\n"));
-    assert!(rt; is_told(alloc, MatcherError::Memory.into(), "no memory\n"));
-    assert!(rt; is_told(alloc, SelectorError::Memory.into(), "no memory\n"));
-    assert!(rt; is_told(alloc, CommitError::Memory.into(), "no memory\n"));
-    assert!(rt; is_told(alloc, BlockError::Memory.into(), "no memory\n"));
-    let path = String::from_str(alloc, "a/index").ok();
-    let path = path.expect(&rt, "there is memory");
-    assert!(rt; is_told(alloc, Fault::CannotRead(path), "cannot read a/index\n"));
+fn the_line_of_a_file_that_cannot_be_read_has_its_path(rt: HostRuntime) {
+    let path = String::from_str(rt.alloc(), "a/index").ok();
+    let fault = Fault::CannotRead(path.expect(&rt, "there is memory"));
+    assert!(rt; is_told(rt.alloc(), &fault, "cannot read a/index\n"));
 }
 
 #[test]
@@ -191,8 +220,9 @@ fn a_writer_that_refuses_is_told(rt: HostRuntime) {
     let mut out = room.as_mut_slice();
     let mut err = Vec::new(rt.alloc());
     let ending = ending_of(&rt, rt.alloc(), &DIRECTORIES, &["demo"], &mut out, &mut err);
-    assert!(rt; matches!(ending, Ok(ending) if ending.status == 3));
-    assert!(rt; err.as_slice() == b"cannot write\n".as_slice());
+    let ending = ending.expect(&rt, "there is memory");
+    assert!(rt; ending.status == 3);
+    assert!(rt; err.as_slice() == b"cannot write\n");
 }
 
 #[test]
@@ -202,7 +232,8 @@ fn a_fault_that_cannot_be_told_keeps_its_status(rt: HostRuntime) {
     let mut err = room.as_mut_slice();
     let words = &["select", "{}"];
     let ending = ending_of(&rt, rt.alloc(), &DIRECTORIES, words, &mut out, &mut err);
-    assert!(rt; matches!(ending, Ok(ending) if ending.status == 1 && ending.told.is_err()));
+    let ending = ending.expect(&rt, "there is memory");
+    assert!(rt; ending.status == 1 && ending.told.is_err());
     assert!(rt; out.is_empty());
 }
 
@@ -210,8 +241,8 @@ fn a_fault_that_cannot_be_told_keeps_its_status(rt: HostRuntime) {
 fn is_whole_or_refused(told: &Told, whole: usize) -> bool {
     match told.status {
         0 => told.out.len() == whole,
-        3 => told.err.as_slice() == b"cannot write\n".as_slice(),
-        4 => told.out.is_empty() && told.err.as_slice() == b"no memory\n".as_slice(),
+        3 => told.err.as_slice() == b"cannot write\n",
+        4 => told.out.is_empty() && told.err.as_slice() == b"no memory\n",
         _ => false,
     }
 }
