@@ -267,8 +267,8 @@ fn a_program_refused_memory_says_so(rt: HostRuntime) {
     assert!(rt; is_run_or_refused(&rt, rt.alloc(), &["demo"], 518));
 }
 
-/// `tests/allocations` runs this test with each of its allocations refused in turn: those of two workers, of the merge
-/// and of the text.
+/// `tests/allocations` runs this test with each of its allocations refused in turn: those of two
+/// workers, of the merge and of the text.
 #[test]
 fn a_selection_refused_memory_says_so(rt: HostRuntime) {
     assert!(rt; is_run_or_refused(&rt, rt.alloc(), &["select", "up", "a", "b"], A_THEN_B.len()));

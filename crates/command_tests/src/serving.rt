@@ -5,7 +5,8 @@ use crate::rows::{Extent, Row, assert_given, is_given};
 use std::io;
 use std::net::TcpListener;
 
-/// The words that are at fault, a directory that cannot be read, and what is told where all is well.
+/// The words that are at fault, a directory that cannot be read, and what is told where all is
+/// well.
 const SERVED: &[Row<'_>] = &[
     (&["serve"], 2, "", "--port <P>"),
     (&["serve", "--port=65536"], 2, "", "65536"),
