@@ -222,7 +222,7 @@ fn a_writer_that_refuses_is_told(rt: HostRuntime) {
     let ending = ending_of(&rt, rt.alloc(), &DIRECTORIES, &["demo"], &mut out, &mut err);
     let ending = ending.expect(&rt, "there is memory");
     assert!(rt; ending.status == 3);
-    assert!(rt; err.as_slice() == b"cannot write\n");
+    assert!(rt; err.as_slice() == b"cannot write\n".as_slice());
 }
 
 #[test]
@@ -241,8 +241,8 @@ fn a_fault_that_cannot_be_told_keeps_its_status(rt: HostRuntime) {
 fn is_whole_or_refused(told: &Told, whole: usize) -> bool {
     match told.status {
         0 => told.out.len() == whole,
-        3 => told.err.as_slice() == b"cannot write\n",
-        4 => told.out.is_empty() && told.err.as_slice() == b"no memory\n",
+        3 => told.err.as_slice() == b"cannot write\n".as_slice(),
+        4 => told.out.is_empty() && told.err.as_slice() == b"no memory\n".as_slice(),
         _ => false,
     }
 }
