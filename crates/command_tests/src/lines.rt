@@ -1,19 +1,13 @@
 //! Lines of words, and what the program gives for them over no directory.
 
-use crate::directories::DIRECTORIES;
-use crate::rows::{Pieced, Row, first_other, first_without, told_by};
-use std::alloc::{AllocError, Global};
-use std::net::{Net, TcpListener, TcpStream};
-use std::sync::Wait;
-use std::thread::Threads;
-use std::time::Clock;
+use crate::rows::{Extent, Row, assert_given};
 
 /// The answer over an empty store.
 const NOTHING: &str =
     "{\"parts\":[{\"intervals\":[],\"part\":\"head\",\"rows\":[],\"separators\":[]}],\"rows\":[]}\n";
 
 /// What the selector and the range are refused with.
-const REFUSED: &[Row] = &[
+const REFUSED: &[Row<'_>] = &[
     (&["select", "{}"], 1, "", "refused M6\n"),
     (&["select", "{ }"], 1, "", "refused M6\n"),
     (&["select", ""], 1, "", "refused M4 at 0\n"),
@@ -70,7 +64,7 @@ const REFUSED: &[Row] = &[
 ];
 
 /// The selections that are answered.
-const ANSWERED: &[Row] = &[
+const ANSWERED: &[Row<'_>] = &[
     (&["select", "up{job=\"a\"}"], 0, NOTHING, ""),
     (&["select", "up"], 0, NOTHING, ""),
     (
@@ -105,7 +99,7 @@ const ANSWERED: &[Row] = &[
 ];
 
 /// The words that are at fault, which comes before any refusal.
-const AT_FAULT: &[Pieced] = &[
+const AT_FAULT: &[Row<'_>] = &[
     (&[], 2, "", "Usage: querier"),
     (&["nothing"], 2, "", "nothing"),
     (&["demo", "twice"], 2, "", "Usage: querier demo"),
@@ -133,7 +127,7 @@ const AT_FAULT: &[Pieced] = &[
 ];
 
 /// The words that ask for help or the version.
-const HELP: &[Pieced] = &[
+const HELP: &[Row<'_>] = &[
     (&["--version"], 0, "querier 0.1.0\n", ""),
     (&["--help"], 0, "Usage: querier <COMMAND>", ""),
     (&["--help"], 0, "Exit status", ""),
@@ -150,42 +144,48 @@ const HELP: &[Pieced] = &[
     (&["help", "check"], 0, "3 a file cannot be", ""),
 ];
 
+/// A selector with a pattern of 256 bytes, 64 in a line.
+const LONGEST: &str = "{job=~\"\
+    aaaaaaaaaaaaaaaaaaaaaaaaaaaaaaaaaaaaaaaaaaaaaaaaaaaaaaaaaaaaaaaa\
+    aaaaaaaaaaaaaaaaaaaaaaaaaaaaaaaaaaaaaaaaaaaaaaaaaaaaaaaaaaaaaaaa\
+    aaaaaaaaaaaaaaaaaaaaaaaaaaaaaaaaaaaaaaaaaaaaaaaaaaaaaaaaaaaaaaaa\
+    aaaaaaaaaaaaaaaaaaaaaaaaaaaaaaaaaaaaaaaaaaaaaaaaaaaaaaaaaaaaaaaa\
+    \"}";
+
+/// The same with a byte more.
+const TOO_LONG: &str = "{job=~\"\
+    aaaaaaaaaaaaaaaaaaaaaaaaaaaaaaaaaaaaaaaaaaaaaaaaaaaaaaaaaaaaaaaa\
+    aaaaaaaaaaaaaaaaaaaaaaaaaaaaaaaaaaaaaaaaaaaaaaaaaaaaaaaaaaaaaaaa\
+    aaaaaaaaaaaaaaaaaaaaaaaaaaaaaaaaaaaaaaaaaaaaaaaaaaaaaaaaaaaaaaaa\
+    aaaaaaaaaaaaaaaaaaaaaaaaaaaaaaaaaaaaaaaaaaaaaaaaaaaaaaaaaaaaaaaa\
+    a\"}";
+
+const PATTERNS: &[Row<'_>] = &[
+    (&["select", LONGEST], 0, NOTHING, ""),
+    (&["select", TOO_LONG], 1, "", "refused M3\n"),
+];
+
 #[test]
 fn a_refusal_is_told_with_its_code_and_place(rt: HostRuntime) {
-    assert_eq!(rt; first_other(&rt, rt.alloc(), REFUSED), None);
+    assert_given(&rt, rt.alloc(), REFUSED, Extent::Whole);
 }
 
 #[test]
 fn a_selection_of_an_empty_store_has_no_rows(rt: HostRuntime) {
-    assert_eq!(rt; first_other(&rt, rt.alloc(), ANSWERED), None);
+    assert_given(&rt, rt.alloc(), ANSWERED, Extent::Whole);
 }
 
 #[test]
 fn a_fault_of_the_words_comes_before_any_refusal(rt: HostRuntime) {
-    assert_eq!(rt; first_without(&rt, rt.alloc(), AT_FAULT), None);
+    assert_given(&rt, rt.alloc(), AT_FAULT, Extent::Piece);
 }
 
 #[test]
 fn help_is_printed_where_it_is_asked_for(rt: HostRuntime) {
-    assert_eq!(rt; first_without(&rt, rt.alloc(), HELP), None);
-}
-
-/// A selector with a pattern of this many bytes.
-fn with_pattern_of(alloc: Global, bytes: usize) -> Result<String, AllocError> {
-    format!(in alloc; "{{job=~\"{:a>1$}\"}}", "", bytes)
-}
-
-/// The exit status for a selector with a pattern of this many bytes.
-fn status_of_pattern<
-    Q: Wait + Threads + Net<Listener = TcpListener, Stream = TcpStream> + Clock + Eprint + Sync,
->(rt: &Q, alloc: Global, bytes: usize) -> Option<u8> {
-    let selector = with_pattern_of(alloc, bytes).ok()?;
-    let told = told_by(rt, alloc, &DIRECTORIES, &["select", selector.as_str()]).ok()?;
-    Some(told.ending.status)
+    assert_given(&rt, rt.alloc(), HELP, Extent::Piece);
 }
 
 #[test]
 fn a_pattern_has_at_most_256_bytes(rt: HostRuntime) {
-    assert_eq!(rt; status_of_pattern(&rt, rt.alloc(), 256), Some(0));
-    assert_eq!(rt; status_of_pattern(&rt, rt.alloc(), 257), Some(1));
+    assert_given(&rt, rt.alloc(), PATTERNS, Extent::Whole);
 }

@@ -1,6 +1,6 @@
 //! Selections over directories.
 
-use crate::rows::{Pieced, Row, first_other, first_without};
+use crate::rows::{Extent, Row, assert_given};
 
 const WORKED: &str =
     "{\"parts\":[{\"intervals\":[{\"from\":4,\"until\":6,\"verdict\":0},{\"from\":6,\"until\":7,\"verdict\":\"match\"},{\"from\":7,\"until\":8,\"verdict\":\"match\"},{\"from\":8,\"until\":4294967296,\"verdict\":1}],\"part\":\"block 0\",\"rows\":[{\"labels\":{\"__name__\":\"up\",\"job\":\"a\"},\"samples\":[[10,1]]},{\"labels\":{\"__name__\":\"up\",\"job\":\"a\",\"zone\":\"x\"},\"samples\":[[10,6]]}],\"separators\":[4,6,7,8]},{\"intervals\":[],\"part\":\"head\",\"rows\":[],\"separators\":[]}],\"rows\":[{\"labels\":{\"__name__\":\"up\",\"job\":\"a\"},\"samples\":[[10,1]]},{\"labels\":{\"__name__\":\"up\",\"job\":\"a\",\"zone\":\"x\"},\"samples\":[[10,6]]}]}\n";
@@ -24,7 +24,7 @@ const SIXTY_THREE: &[&str] = &[
 ];
 
 /// Of each sample the last of the directories that has it is told.
-const OF_MANY: &[Pieced] = &[(
+const OF_MANY: &[Row<'_>] = &[(
     SIXTY_THREE,
     0,
     ",\"part\":\"block 62\",\"rows\":[{\"labels\":{\"__name__\":\"up\",\"job\":\"a\"},\"samples\":[[10,1],[15,2]]}],\"separators\":[3]},{\"intervals\":[],\"part\":\"head\",\"rows\":[],\"separators\":[]}],\"rows\":[{\"labels\":{\"__name__\":\"up\",\"job\":\"a\"},\"samples\":[[10,1],[15,2]]}]}\n",
@@ -47,7 +47,7 @@ const MANY_AND_LYING: &[&str] = &[
     "a", "a", "a", "a", "a", "a", "a", "a", "a", "a", "lying",
 ];
 
-const ANSWERED: &[Row] = &[
+const ANSWERED: &[Row<'_>] = &[
     (
         &["select", "--from=0", "--to=100", "up{job=\"a\"}", "good"],
         0,
@@ -65,7 +65,7 @@ const ANSWERED: &[Row] = &[
 ];
 
 /// The first fault is told: of the selector, the range, each directory in turn, their number.
-const AT_FAULT: &[Row] = &[
+const AT_FAULT: &[Row<'_>] = &[
     (&["select", "up", "good", "lying"], 1, "", "refused I14\n"),
     (&["select", "up", "short", "lying"], 1, "", "refused B1\n"),
     (
@@ -112,15 +112,15 @@ const AT_FAULT: &[Row] = &[
 
 #[test]
 fn a_selection_is_answered_over_the_blocks_in_their_order(rt: HostRuntime) {
-    assert_eq!(rt; first_other(&rt, rt.alloc(), ANSWERED), None);
+    assert_given(&rt, rt.alloc(), ANSWERED, Extent::Whole);
 }
 
 #[test]
 fn the_first_fault_of_a_selection_is_told_and_nothing_is_printed(rt: HostRuntime) {
-    assert_eq!(rt; first_other(&rt, rt.alloc(), AT_FAULT), None);
+    assert_given(&rt, rt.alloc(), AT_FAULT, Extent::Whole);
 }
 
 #[test]
 fn a_selection_is_answered_over_as_many_blocks_as_a_store_has(rt: HostRuntime) {
-    assert_eq!(rt; first_without(&rt, rt.alloc(), OF_MANY), None);
+    assert_given(&rt, rt.alloc(), OF_MANY, Extent::Piece);
 }

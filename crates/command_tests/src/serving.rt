@@ -1,16 +1,13 @@
 //! Lines of `serve`.
 
 use crate::directories::DIRECTORIES;
-use crate::rows::{Pieced, first_without, told_by};
-use std::alloc::Global;
+use crate::rows::{Extent, Row, assert_given, is_given};
 use std::io;
-use std::net::{Net, TcpListener, TcpStream};
-use std::sync::Wait;
-use std::thread::Threads;
-use std::time::Clock;
+use std::net::TcpListener;
 
-/// The words that are at fault, a directory that cannot be read, and what is told where all is well.
-const SERVED: &[Pieced] = &[
+/// The words that are at fault, a directory that cannot be read, and what is told where all is
+/// well.
+const SERVED: &[Row<'_>] = &[
     (&["serve"], 2, "", "--port <P>"),
     (&["serve", "--port=65536"], 2, "", "65536"),
     (&["serve", "--port=-1"], 2, "", "-1"),
@@ -42,24 +39,17 @@ const SERVED: &[Pieced] = &[
 
 #[test]
 fn a_server_tells_its_port_or_why_it_does_not_serve(rt: HostRuntime) {
-    assert_eq!(rt; first_without(&rt, rt.alloc(), SERVED), None);
-}
-
-/// Whether a server is told that this port is taken.
-fn is_refused<
-    Q: Wait + Threads + Net<Listener = TcpListener, Stream = TcpStream> + Clock + Eprint + Sync,
->(rt: &Q, alloc: Global, port: u16) -> Option<bool> {
-    let word = format!(in alloc; "--port={port}").ok()?;
-    let line = format!(in alloc; "cannot listen on 127.0.0.1:{port}\n").ok()?;
-    let told = told_by(rt, alloc, &DIRECTORIES, &["serve", word.as_str()]).ok()?;
-    let is_told = told.err.as_slice() == line.as_bytes();
-    Some(told.ending.status == 3 && told.out.is_empty() && is_told)
+    assert_given(&rt, rt.alloc(), SERVED, Extent::Piece);
 }
 
 #[test]
 fn a_port_in_use_is_told(rt: HostRuntime) -> io::Result<()> {
     let listener = TcpListener::bind(&rt, "127.0.0.1:0")?;
     let port = listener.local_addr()?.port();
-    assert_eq!(rt; is_refused(&rt, rt.alloc(), port), Some(true));
+    let word = format!(in rt.alloc(); "--port={port}")?;
+    let line = format!(in rt.alloc(); "cannot listen on 127.0.0.1:{port}\n")?;
+    let words = ["serve", word.as_str()];
+    let row = (words.as_slice(), 3, "", line.as_str());
+    assert!(rt; is_given(&rt, rt.alloc(), &DIRECTORIES, &row, Extent::Whole));
     Ok(())
 }
