@@ -9,18 +9,18 @@ pub loop-done-preserved : goal.loop-done-preserved
 loop-done-preserved g c =
     let before = worker c.args.pass.now c.args.seat.now in
     let between = worker c.loop-done.pass c.loop-done.seat in
-    let after = worker c.serve_one-served.new.pass c.serve_one-served.new.seat in
+    let after = worker c.serve_one_with-served.new.pass c.serve_one_with-served.new.seat in
     let s : Session = record {
       input = g.A.Reader.Inlet.input c.in-Some.reader;
       ending = record {
-        written = g.A.Writer.Outlet.output c.serve_one-served.new.writer;
-        served = c.serve_one-served.result;
+        written = g.A.Writer.Outlet.output c.serve_one_with-served.new.writer;
+        served = c.serve_one_with-served.result;
       };
     } in
     let one : IsServed g.J.Naming.opening between after s = record {
       output = g.A.Writer.Outlet.output c.in-Some.writer;
       fresh = c.in-Some.ensures.fresh;
-      serves = c.serve_one-served.ensures.serves;
+      serves = c.serve_one_with-served.ensures.serves;
     } in
     let arrives : Arrives (g.A.Connections.coming c.loop-done.connections)
     (g.A.Connections.coming c.close.new.self) s.input =
