@@ -60,8 +60,8 @@ fn look_at(buf: &[u8]) -> Look
     }
 }
 
-/// Reads until a head has come into an empty buffer: `H1` or `H2` where none comes. What follows the
-/// head may have come with it.
+/// Reads into an empty buffer until a head has come: `H1` or `H2` where none comes. What follows
+/// the head may have come with it.
 pub fn read_head<R: Inlet>(reader: &mut R, buf: &mut Vec<u8>) -> Result<(), ReadError>
     requires { buf.old.items ≡ [] }
     ensures ok { OnOk result (BeginsWithHead buf.new.items) }
