@@ -1,9 +1,17 @@
 use Rattle.std.proofs.Common.{List, [], ◌∷◌, Option, ℕ, sym, subst}
 use Rattle.query_http.specs.Serving.{worker}
 use Rattle.server.specs.Sessions.{Session, Ending, IsServed, Arrives, AreAdded}
-use Rattle.server.proofs.Farther.{farther_more, served_farther}
-use Rattle.server.proofs.Sequences.{works_more}
+use Rattle.server.proofs.Farther.{none_farther, farther_more, served_farther}
+use Rattle.server.proofs.Sequences.{works_none, works_more}
 use Rattle.server.proofs.worker.work.Goals as goal
+
+pub loop-done-init : goal.loop-done-init
+loop-done-init g c =
+    let before = worker c.args.pass.now c.args.seat.now in (
+      works_none g.J.Naming.opening before (g.A.Connections.coming c.args.connections.now)
+          (g.A.Connections.past c.args.connections.now),
+      none_farther before,
+    )
 
 pub loop-done-preserved : goal.loop-done-preserved
 loop-done-preserved g c =
