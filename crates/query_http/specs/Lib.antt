@@ -7,3 +7,4 @@ pub mod Refusals
 pub mod Writing
 pub mod Serving
 pub mod Made
+pub mod Bounds

@@ -16,6 +16,7 @@ ghost use Rattle.query_http.specs.Serving.{IsQueryReply, IsEventReply, IsRequest
 ghost use Rattle.query_http.specs.Serving.{refused_at as place_refused};
 
 use crate::audited::AuditedAnswer;
+use crate::buffers::Buffers;
 use crate::error::AskError;
 use crate::headline::ask;
 use crate::made::Reply;
@@ -46,13 +47,18 @@ fn change_reply(alloc: Global) -> Result<Reply, AllocError>
 }
 
 /// The reply that carries an answer.
-fn answer_reply(alloc: Global, answer: &AuditedAnswer) -> Result<Reply, AllocError>
+fn answer_reply(
+    alloc: Global,
+    buffers: &mut Buffers,
+    answer: &AuditedAnswer,
+) -> Result<Reply, AllocError>
     ensures number { IfOk result (λ r. r.status ≡ Done) }
     ensures spelled { IfOk result (λ r. (text_of r)
         ≡ reply_text Done (body_text answer.now.parts.items answer.now.rows.items)) }
 {
     let parts = answer.parts.as_slice();
-    let mut bytes = body_behind(alloc, HEAD_ROOM, parts, answer.rows.as_slice())?;
+    let rows = answer.rows.as_slice();
+    let mut bytes = body_behind(alloc, buffers, HEAD_ROOM, parts, rows)?;
     let start = place_success_head(bytes.as_mut_slice(), HEAD_ROOM);
     Ok(Reply {
         status: Status::Done,
@@ -62,14 +68,19 @@ fn answer_reply(alloc: Global, answer: &AuditedAnswer) -> Result<Reply, AllocErr
 }
 
 /// Answers a query from the pass's next snapshot, or with `H10`.
-fn select<J: Naming>(alloc: Global, pass: &mut Pass<J>, query: &Query) -> Result<Reply, AllocError>
+fn select<J: Naming>(
+    alloc: Global,
+    buffers: &mut Buffers,
+    pass: &mut Pass<J>,
+    query: &Query,
+) -> Result<Reply, AllocError>
     ensures reply { IfOk result (λ r.
         IsQueryReply J.opening query.now pass.old pass.new r.status (text_of r)) }
     ensures told { pass.new.told ≡ pass.old.told }
     ensures seen { IsPrefix pass.old.seen pass.new.seen }
 {
     match ask(alloc, pass, query) {
-        Ok(answer) => answer_reply(alloc, &answer),
+        Ok(answer) => answer_reply(alloc, buffers, &answer),
         Err(AskError::Snapshot(_)) => refusal_reply(alloc, &Refusal::Unavailable),
         Err(AskError::Memory) => Err(AllocError),
     }
@@ -196,6 +207,7 @@ fn cut_at<J: Naming, C: Wait + Drop>(
 pub(crate) fn act<J: Naming, C: Wait + Drop>(
     rt: &impl Wait,
     alloc: Global,
+    buffers: &mut Buffers,
     request: Request,
     pass: &mut Pass<J>,
     seat: &mut Seat<J>,
@@ -207,7 +219,7 @@ pub(crate) fn act<J: Naming, C: Wait + Drop>(
     ensures idle { OnErr result (IsIdle (worker pass.old seat.old) (worker pass.new seat.new)) }
 {
     match request {
-        Request::Select(query) => select(alloc, pass, &query),
+        Request::Select(query) => select(alloc, buffers, pass, &query),
         Request::Write(samples) => write(rt, alloc, samples, pass, seat, committer),
         Request::Delete { matchers, from, to } => {
             delete(rt, alloc, (matchers, from, to), pass, seat, committer)

@@ -3,14 +3,16 @@
 ghost use Rattle.std.specs.Prelude.{◌≡◌, [], IfOk, IfErr, IfSome, OnErr, IsErrOf};
 ghost use Rattle.requests.specs.Edge.{IsCounted};
 ghost use Rattle.requests.specs.Fitting.{IsFit};
+ghost use Rattle.query_http.specs.Bounds.{IsBounded};
 ghost use Rattle.query_http.specs.Made.{text_of};
 ghost use Rattle.query_http.specs.Serving.{worker, IsIdle, IsRefusal, IsSilent, Serves};
 ghost use Rattle.query_http.specs.Serving.{IsRequestReply, IsReply};
 
 use crate::actions::{act, refusal_reply};
+use crate::buffers::Buffers;
 use crate::made::Reply;
 use crate::outlet::{Outlet, write_whole};
-use requests::{Inlet, ReadError, Refusal, Request, Status, read_request};
+use requests::{Inlet, ReadError, Refusal, Request, Status, read_request_into};
 use snapshots::{Committer, Naming, Pass, Seat};
 use std::alloc::Global;
 use std::sync::Wait;
@@ -45,6 +47,7 @@ fn turn_away(alloc: Global, refusal: &Refusal) -> Result<Reply, Served>
 fn do_asked<J: Naming, C: Wait + Drop>(
     rt: &impl Wait,
     alloc: Global,
+    buffers: &mut Buffers,
     request: Request,
     pass: &mut Pass<J>,
     seat: &mut Seat<J>,
@@ -56,7 +59,7 @@ fn do_asked<J: Naming, C: Wait + Drop>(
     ensures memory { IfErr result (λ s. s ≡ Served.NoMemory) }
     ensures idle { OnErr result (IsIdle (worker pass.old seat.old) (worker pass.new seat.new)) }
 {
-    match act(rt, alloc, request, pass, seat, committer) {
+    match act(rt, alloc, buffers, request, pass, seat, committer) {
         Ok(reply) => Ok(reply),
         Err(_) => Err(Served::NoMemory),
     }
@@ -66,6 +69,7 @@ fn do_asked<J: Naming, C: Wait + Drop>(
 fn reply_to<J: Naming, C: Wait + Drop, R: Inlet>(
     rt: &impl Wait,
     alloc: Global,
+    buffers: &mut Buffers,
     reader: &mut R,
     pass: &mut Pass<J>,
     seat: &mut Seat<J>,
@@ -84,8 +88,8 @@ fn reply_to<J: Naming, C: Wait + Drop, R: Inlet>(
     ensures reads { IsErrOf result Served.ReadFault
         → IsCounted (R.failed_reads reader.old) (R.failed_reads reader.new) }
 {
-    match read_request(alloc, reader) {
-        Ok(request) => do_asked(rt, alloc, request, pass, seat, committer),
+    match read_request_into(alloc, reader, &mut buffers.request) {
+        Ok(request) => do_asked(rt, alloc, buffers, request, pass, seat, committer),
         Err(ReadError::Refused(refusal)) => turn_away(alloc, &refusal),
         Err(ReadError::Closed) => Err(Served::Closed),
         Err(ReadError::Fault) => Err(Served::ReadFault),
@@ -98,8 +102,44 @@ fn reply_to<J: Naming, C: Wait + Drop, R: Inlet>(
 /// The whole reply is made before its first byte is written, and the reply to a change before the
 /// change is published. The pass learns the receipt of a change before the reply is written. The
 /// reader is read no further than 8,192 bytes past the request's head. It waits as
-/// [`Committer::commit`] does.
+/// [`Committer::commit`] does. What the buffers held before plays no part, and of each at most
+/// [`MOST_KEPT`](crate::MOST_KEPT) bytes are kept.
 #[tactic(auto, using(crate::proofs::Replying::silent_served))]
+pub fn serve_one_with<J: Naming, C: Wait + Drop, R: Inlet, W: Outlet>(
+    rt: &impl Wait,
+    alloc: Global,
+    buffers: &mut Buffers,
+    reader: &mut R,
+    writer: &mut W,
+    pass: &mut Pass<J>,
+    seat: &mut Seat<J>,
+    committer: &Committer<J, C>,
+) -> Served
+    ensures serves { Serves J.opening (R.input reader.old)
+        (worker pass.old seat.old) (worker pass.new seat.new)
+        (W.output writer.old) (W.output writer.new) result }
+    ensures silent { IsSilent result → writer.new ≡ writer.old }
+    ensures reads { result ≡ Served.ReadFault
+        → IsCounted (R.failed_reads reader.old) (R.failed_reads reader.new) }
+    ensures writes { result ≡ Served.WriteFault
+        → IsCounted (W.failed_writes writer.old) (W.failed_writes writer.new) }
+    ensures bounded { IsBounded buffers.new }
+{
+    let made = reply_to(rt, alloc, buffers, reader, pass, seat, committer);
+    buffers.trim_all();
+    let reply = match made {
+        Ok(reply) => reply,
+        Err(served) => return served,
+    };
+    let served = match write_whole(writer, reply.text()) {
+        Ok(()) => Served::Replied(reply.status),
+        Err(_) => Served::WriteFault,
+    };
+    buffers.give_reply(reply.bytes);
+    served
+}
+
+/// Serves one connection as [`serve_one_with`] does, with buffers of its own.
 pub fn serve_one<J: Naming, C: Wait + Drop, R: Inlet, W: Outlet>(
     rt: &impl Wait,
     alloc: Global,
@@ -118,12 +158,15 @@ pub fn serve_one<J: Naming, C: Wait + Drop, R: Inlet, W: Outlet>(
     ensures writes { result ≡ Served.WriteFault
         → IsCounted (W.failed_writes writer.old) (W.failed_writes writer.new) }
 {
-    let reply = match reply_to(rt, alloc, reader, pass, seat, committer) {
-        Ok(reply) => reply,
-        Err(served) => return served,
-    };
-    match write_whole(writer, reply.text()) {
-        Ok(()) => Served::Replied(reply.status),
-        Err(_) => Served::WriteFault,
-    }
+    let mut buffers = Buffers::new(alloc);
+    serve_one_with(
+        rt,
+        alloc,
+        &mut buffers,
+        reader,
+        writer,
+        pass,
+        seat,
+        committer,
+    )
 }

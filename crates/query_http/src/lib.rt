@@ -11,7 +11,8 @@
 //! came, or to the query, answered as `ask` does, or to the one event that they spell, and nothing
 //! else; an accepted event is under the seat's number, and the pass has learnt its receipt, also
 //! where the writer fails (`specs/Serving.antt`). A connection is any `requests::Inlet` and any
-//! [`Outlet`].
+//! [`Outlet`]. `serve_one_with` does the same with [`Buffers`] that a worker keeps from connection
+//! to connection.
 //!
 //! It stands on `snapshots` for passes, seats and committers, on `requests` for what the bytes of
 //! a connection mean, on `block_search` and `series_merge`, on `serde_json` for what compact JSON
@@ -21,6 +22,7 @@
 mod actions;
 mod audited;
 mod brackets;
+mod buffers;
 mod engine;
 mod error;
 mod headline;
@@ -36,7 +38,8 @@ mod samples;
 mod strings;
 
 pub use audited::{AnsweredPart, AuditedAnswer, answer, answer_by_workers};
-pub use engine::{Served, serve_one};
+pub use buffers::{Buffers, MOST_KEPT};
+pub use engine::{Served, serve_one, serve_one_with};
 pub use error::AskError;
 pub use headline::ask;
 pub use outlet::{Outlet, write_whole};

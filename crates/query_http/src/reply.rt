@@ -7,21 +7,25 @@ ghost use Rattle.std.specs.Prelude.{◌≡◌, ◌≤◌, ◌++◌, OnOk, IfOk, 
 ghost use Rattle.query_http.specs.Reply.{body_text};
 
 use crate::audited::AnsweredPart;
+use crate::buffers::Buffers;
 use crate::parts::append_parts;
-use crate::row_text::{RowText, room_of_rows};
+use crate::row_text::{RowText, room_of_rows, write_rows};
 use cover::PartAnswer;
 use labels::Row;
 use std::alloc::{AllocError, Global};
 
+/// Appends the text of an answer; that of its rows is written into a buffer first.
 fn append_body(
     alloc: Global,
     out: &mut Vec<u8>,
+    row_buf: &mut Vec<u8>,
     parts: &[AnsweredPart],
     rows: &[Row],
 ) -> Result<(), AllocError>
     ensures { OnOk result (out.new.items ≡ out.old.items ++ body_text parts.now rows.now) }
 {
-    let text = RowText::new(alloc, rows)?;
+    write_rows(row_buf, rows)?;
+    let text = RowText::new(rows, row_buf.as_slice());
     out.extend_from_slice(b"{\"parts\":")?;
     append_parts(alloc, out, parts, &text)?;
     out.extend_from_slice(b",\"rows\":")?;
@@ -48,9 +52,11 @@ fn room_of(parts: &[AnsweredPart], rows: &[Row]) -> usize {
     room
 }
 
-/// The text of the answer to a query behind so many bytes of room.
+/// The text of the answer to a query behind so many bytes of room, in the buffer of the reply,
+/// which is taken out.
 pub(crate) fn body_behind(
     alloc: Global,
+    buffers: &mut Buffers,
     room: usize,
     parts: &[AnsweredPart],
     rows: &[Row],
@@ -59,9 +65,11 @@ pub(crate) fn body_behind(
     ensures text { IfOk result (λ bytes. drop room bytes.items ≡ body_text parts.now rows.now) }
 {
     let all = room_of(parts, rows).saturating_add(room);
-    let mut out = Vec::with_capacity(alloc, all)?;
+    let mut out = buffers.take_reply(alloc);
+    out.clear();
+    out.reserve(all)?;
     out.resize(room, 0)?;
-    append_body(alloc, &mut out, parts, rows)?;
+    append_body(alloc, &mut out, &mut buffers.rows, parts, rows)?;
     Ok(out)
 }
 
@@ -72,5 +80,6 @@ pub(crate) fn body_behind(
 pub fn body(alloc: Global, parts: &[AnsweredPart], rows: &[Row]) -> Result<Vec<u8>, AllocError>
     ensures { IfOk result (λ text. text.items ≡ body_text parts.now rows.now) }
 {
-    body_behind(alloc, 0, parts, rows)
+    let mut buffers = Buffers::new(alloc);
+    body_behind(alloc, &mut buffers, 0, parts, rows)
 }

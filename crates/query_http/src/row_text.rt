@@ -1,13 +1,13 @@
 //! Rows with their text: those of all parts are told of once more in a part that alone has rows.
 
-ghost use Rattle.std.specs.Prelude.{◌≡◌, ◌++◌, OnOk, IfOk};
+ghost use Rattle.std.specs.Prelude.{◌≡◌, ◌++◌, OnOk};
 ghost use Rattle.std.specs.Bool.{OnTrue};
 ghost use Rattle.serde_json.specs.Written.{compact_text};
 ghost use Rattle.query_http.specs.Reply.{row_data, list_data};
 
 use crate::rows::append_rows;
 use labels::{LabelSet, Row, Sample};
-use std::alloc::{AllocError, Global};
+use std::alloc::AllocError;
 
 /// About as many bytes as rows take: the labels of most rows 256, and most samples 24.
 pub fn room_of_rows(rows: &[Row]) -> usize {
@@ -65,21 +65,30 @@ fn are_same(a: &[Row], b: &[Row]) -> bool
     true
 }
 
+/// Writes the rows as a list into a buffer, whose content is dropped.
+pub fn write_rows(buf: &mut Vec<u8>, rows: &[Row]) -> Result<(), AllocError>
+    ensures { OnOk result (buf.new.items ≡ compact_text (list_data row_data rows.now)) }
+{
+    buf.clear();
+    buf.reserve(room_of_rows(rows))?;
+    append_rows(buf, rows)
+}
+
 /// Rows with their text, which is written once.
 #[derive(Drop)]
 pub struct RowText<'a> {
     rows: &'a [Row],
-    text: Vec<u8>,
-    ghost spelled: { text.items ≡ compact_text (list_data row_data rows.now) },
+    text: &'a [u8],
+    ghost spelled: { text.now ≡ compact_text (list_data row_data rows.now) },
 }
 
 impl<'a> RowText<'a> {
-    pub fn new(alloc: Global, rows: &'a [Row]) -> Result<RowText<'a>, AllocError>
-        ensures { IfOk result (λ text. text.rows.now ≡ rows.now) }
+    /// Rows with the text that [`write_rows`] wrote of them.
+    pub fn new(rows: &'a [Row], text: &'a [u8]) -> RowText<'a>
+        requires { text.now ≡ compact_text (list_data row_data rows.now) }
+        ensures { result.rows.now ≡ rows.now }
     {
-        let mut text = Vec::with_capacity(alloc, room_of_rows(rows))?;
-        append_rows(&mut text, rows)?;
-        Ok(RowText { rows, text })
+        RowText { rows, text }
     }
 
     /// Appends the rows as a list.
@@ -87,7 +96,7 @@ impl<'a> RowText<'a> {
         ensures { OnOk result (out.new.items
             ≡ out.old.items ++ compact_text (list_data row_data self.now.rows.now)) }
     {
-        out.extend_from_slice(self.text.as_slice())
+        out.extend_from_slice(self.text)
     }
 
     /// Appends the rows of a part as a list; where they are the same, their text is copied.

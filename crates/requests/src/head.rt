@@ -1,6 +1,6 @@
 //! The head of a request, in whatever pieces it comes.
 
-ghost use Rattle.std.specs.Prelude.{◌≡◌, ◌<◌, ◌≤◌, ◌⊎◌, ◌++◌, ◌+◌, ℕ, List, length, vec_len, IfOk, IfErr, IfSome, OnOk, IsErrOf};
+ghost use Rattle.std.specs.Prelude.{◌≡◌, ◌<◌, ◌≤◌, ◌⊎◌, ◌++◌, ◌+◌, ℕ, List, [], length, vec_len, IfOk, IfErr, IfSome, OnOk, IsErrOf};
 ghost use Rattle.std.specs.Io.KnownBytes.{Consumes, IsAtEnd};
 ghost use Rattle.requests.specs.Edge.{IsCounted};
 ghost use Rattle.requests.specs.Ending.{EndsReading};
@@ -11,7 +11,6 @@ use crate::edge::Inlet;
 use crate::{ReadError, Refusal};
 use httparse::Status;
 use httparse::spans::{EMPTY_HEADER_SPAN, parse_request};
-use std::alloc::Global;
 
 const MAX_HEAD: usize = 8192;
 
@@ -61,23 +60,23 @@ fn look_at(buf: &[u8]) -> Look
     }
 }
 
-/// Reads until a head has come: `H1` or `H2` where none comes. What follows the head may have come
-/// with it.
-pub fn read_head<R: Inlet>(alloc: Global, reader: &mut R) -> Result<Vec<u8>, ReadError>
-    ensures ok { IfOk result (λ buf. BeginsWithHead buf.items) }
-    ensures short { IfOk result (λ buf. vec_len buf ≤ 8192) }
-    ensures taken { IfOk result
-        (λ buf. Consumes (R.input reader.old) (R.input reader.new) buf.items) }
+/// Reads into an empty buffer until a head has come: `H1` or `H2` where none comes. What follows
+/// the head may have come with it.
+pub fn read_head<R: Inlet>(reader: &mut R, buf: &mut Vec<u8>) -> Result<(), ReadError>
+    requires { buf.old.items ≡ [] }
+    ensures ok { OnOk result (BeginsWithHead buf.new.items) }
+    ensures short { OnOk result (vec_len buf.new ≤ 8192) }
+    ensures taken { OnOk result
+        (Consumes (R.input reader.old) (R.input reader.new) buf.new.items) }
     ensures counted { OnOk result (R.failed_reads reader.new ≡ R.failed_reads reader.old) }
     ensures err { IfErr result (λ e. IfSome (R.input reader.old) (EndsHead e)) }
     ensures refusal { IfErr result EndsReading }
     ensures failed { IsErrOf result ReadError.Fault
         → IsCounted (R.failed_reads reader.old) (R.failed_reads reader.new) }
 {
-    let mut buf = Vec::new(alloc);
     while buf.len() < MAX_HEAD {
         let most = MAX_HEAD - buf.len();
-        if read_some(reader, &mut buf, most)? == 0 {
+        if read_some(reader, buf, most)? == 0 {
             return Err(if buf.is_empty() {
                 ReadError::Closed
             } else {
@@ -85,7 +84,7 @@ pub fn read_head<R: Inlet>(alloc: Global, reader: &mut R) -> Result<Vec<u8>, Rea
             });
         }
         match look_at(buf.as_slice()) {
-            Look::Whole => return Ok(buf),
+            Look::Whole => return Ok(()),
             Look::Never => return Err(ReadError::Refused(Refusal::BadHead)),
             Look::More => {}
         }

@@ -61,16 +61,19 @@ fn head_of(buf: &[u8]) -> Head<'_>
 }
 
 // Reads what follows a head that has come, if its path takes a body, and says what is asked.
-fn read_after<R: Inlet>(alloc: Global, reader: &mut R, buf: Vec<u8>) -> Result<Request, ReadError>
-    requires begins { BeginsWithHead buf.items }
-    requires short { vec_len buf ≤ 8192 }
-    ensures means { AsksAfter buf.items (R.input reader.old) result }
+fn read_after<R: Inlet>(
+    alloc: Global,
+    reader: &mut R,
+    buf: &mut Vec<u8>,
+) -> Result<Request, ReadError>
+    requires begins { BeginsWithHead buf.old.items }
+    requires short { vec_len buf.old ≤ 8192 }
+    ensures means { AsksAfter buf.old.items (R.input reader.old) result }
     ensures fits { IfOk result IsFit }
     ensures refusal { IfErr result EndsReading }
     ensures failed { IsErrOf result ReadError.Fault
         → IsCounted (R.failed_reads reader.old) (R.failed_reads reader.new) }
 {
-    let mut buf = buf;
     let head = head_of(buf.as_slice());
     let path = match path_asked(head.method, head.target) {
         Ok(path) => path,
@@ -85,7 +88,7 @@ fn read_after<R: Inlet>(alloc: Global, reader: &mut R, buf: Vec<u8>) -> Result<R
         Err(refusal) => return Err(ReadError::Refused(refusal)),
     };
     let end = start + length;
-    read_body(reader, &mut buf, end)?;
+    read_body(reader, buf, end)?;
     body_request(alloc, path, &buf[start..end])
 }
 
@@ -95,8 +98,27 @@ ghost use Rattle.requests.specs.Reading.{AsksAfter};
 ///
 /// The answer is the request that the bytes mean, or the first refusal that they meet, `H1` to
 /// `H8`, however they were cut into pieces; `Closed` where the input ends before its first byte.
-/// `Fault` comes only where a read failed. It takes memory for the bytes of the request and the
-/// values in it, and time linear in their number.
+/// `Fault` comes only where a read failed. The bytes of the request are read into the buffer, whose
+/// content is dropped first and plays no part in the answer; they are at most 8,192 of the head and
+/// 1,048,576 of the body. Beside that it takes memory for the values of the request, and time
+/// linear in the number of its bytes.
+pub fn read_request_into<R: Inlet>(
+    alloc: Global,
+    reader: &mut R,
+    buf: &mut Vec<u8>,
+) -> Result<Request, ReadError>
+    ensures means { IfSome (R.input reader.old) (Answers result) }
+    ensures fits { IfOk result IsFit }
+    ensures refusal { IfErr result EndsReading }
+    ensures failed { IsErrOf result ReadError.Fault
+        → IsCounted (R.failed_reads reader.old) (R.failed_reads reader.new) }
+{
+    buf.clear();
+    read_head(reader, buf)?;
+    read_after(alloc, reader, buf)
+}
+
+/// Reads one request as [`read_request_into`] does, into a buffer of its own.
 pub fn read_request<R: Inlet>(alloc: Global, reader: &mut R) -> Result<Request, ReadError>
     ensures means { IfSome (R.input reader.old) (Answers result) }
     ensures fits { IfOk result IsFit }
@@ -104,6 +126,6 @@ pub fn read_request<R: Inlet>(alloc: Global, reader: &mut R) -> Result<Request, 
     ensures failed { IsErrOf result ReadError.Fault
         → IsCounted (R.failed_reads reader.old) (R.failed_reads reader.new) }
 {
-    let buf = read_head(alloc, reader)?;
-    read_after(alloc, reader, buf)
+    let mut buf = Vec::new(alloc);
+    read_request_into(alloc, reader, &mut buf)
 }

@@ -2,12 +2,12 @@
 //!
 //! [`Workers::open`] opens a store over blocks with workers, and [`serve`] serves it on a listening
 //! socket: each worker is a thread with a pass and a seat of its own, which takes one connection
-//! after another. [`work`] is the loop
-//! of one worker, over any [`Connections`]: its contract says that each connection is served by
-//! `query_http::serve_one`, with the pass and the seat as the connection before left them
-//! (`specs/Sessions.antt`), that there are as many as asked unless no more come, and what was
-//! written to each. [`Sockets`] are connections of the system, with limits of time: a client that
-//! is silent or gone costs its own connection and no other.
+//! after another. [`work`] is the loop of one worker, over any [`Connections`]: its contract says
+//! that each connection is served by `query_http::serve_one_with`, with the pass and the seat as
+//! the connection before left them (`specs/Sessions.antt`), that there are as many as asked unless
+//! no more come, and what was written to each. A worker's buffers are kept from connection to
+//! connection, and play no part in the contract. [`Sockets`] are connections of the system, with
+//! limits of time: a client that is silent or gone costs its own connection and no other.
 //!
 //! It stands on `query_http` for what a connection gets, on `requests` for readers and on
 //! `snapshots` for stores.

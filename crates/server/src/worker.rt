@@ -6,7 +6,7 @@ ghost use Rattle.server.specs.Sessions.{IsOver};
 ghost use Rattle.server.specs.Working.{Works, IsFarther};
 
 use crate::connections::Connections;
-use query_http::serve_one;
+use query_http::{Buffers, serve_one_with};
 use snapshots::{Committer, Naming, Pass, Seat};
 use std::alloc::Global;
 use std::sync::Wait;
@@ -14,7 +14,8 @@ use std::sync::Wait;
 /// Serves connections one after another, at most so many, and says how many: fewer only where no
 /// more will come.
 ///
-/// Each is served by [`serve_one`], with the pass and the seat as the connection before left them.
+/// Each is served by [`serve_one_with`], with the pass and the seat as the connection before left
+/// them, and in the same buffers.
 pub fn work<J: Naming, C: Wait + Drop, A: Connections>(
     rt: &impl Wait,
     alloc: Global,
@@ -31,11 +32,21 @@ pub fn work<J: Naming, C: Wait + Drop, A: Connections>(
     ensures few { result ≤ most }
     ensures over { result < most → IsOver (A.coming connections.new) }
 {
+    let mut buffers = Buffers::new(alloc);
     for done in 0..most {
         let Some((mut reader, mut writer)) = connections.accept() else {
             return done;
         };
-        let served = serve_one(rt, alloc, &mut reader, &mut writer, pass, seat, committer);
+        let served = serve_one_with(
+            rt,
+            alloc,
+            &mut buffers,
+            &mut reader,
+            &mut writer,
+            pass,
+            seat,
+            committer,
+        );
         connections.close(reader, writer, served);
     }
     most

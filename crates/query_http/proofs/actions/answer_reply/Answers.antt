@@ -21,4 +21,4 @@ returns-clause-spelled c =
     (ap (λ xs. drop 128 xs) c.as_mut_slice.ensures.value
     ∙ c.in_ok-bytes.ensures.text
     ∙ ap₂ (λ parts rows. body_text parts rows) c.as_slice-parts.ensures.value
-    c.as_slice.ensures.value)
+    c.as_slice-rows.ensures.value)

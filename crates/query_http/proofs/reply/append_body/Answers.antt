@@ -18,6 +18,6 @@ returns c =
     c.in_ok-extend_from_slice-2.ensures.items
     (c.in_ok-append.ensures
     ∙ ap (λ xs. c.extend_from_slice-2.new.self.items ++ compact_text (list_data row_data xs))
-    c.in_ok-text.ensures)
+    c.new-text.ensures)
     c.in_ok-push.ensures.items
     ∙ ap (λ s. c.args.out.now.items ++ s) (sym (whole_text parts rows))

@@ -13,7 +13,7 @@ returns-clause-means g c =
     let post : takes_query c.in-Ok.path ≡ false = search rules in
     let whole : c.head_of-head.result.end + c.in-Ok-length.length ≤ length c.read_body.new.buf.items =
     rw c.read_body.new.buf.ok.0 at c.in_ok-read_body.ensures.whole in
-    asked_body c.args.buf.items c.read_body.new.buf.items more.0 _ (g.R.Inlet.input c.args.reader.now) (g.R.Inlet.input c.read_body.new.reader)
+    asked_body c.args.buf.now.items c.read_body.new.buf.items more.0 _ (g.R.Inlet.input c.args.reader.now) (g.R.Inlet.input c.read_body.new.reader)
     c.head_of-head.result head.0 c.in-Ok.path c.in-Ok-length.length c.body_request.result
     (rw c.as_slice.ensures.value at head.1) c.in-Ok.ensures.value post c.in-Ok-length.is more.1 more.2 whole
     (ap (λ l. slice_range l c.head_of-head.result.end (c.head_of-head.result.end + c.in-Ok-length.length)) c.deref.ensures.value)

@@ -1,26 +1,34 @@
 use Rattle.std.proofs.Common.{List, [], ◌∷◌, Option, ℕ, sym, subst}
 use Rattle.query_http.specs.Serving.{worker}
 use Rattle.server.specs.Sessions.{Session, Ending, IsServed, Arrives, AreAdded}
-use Rattle.server.proofs.Farther.{farther_more, served_farther}
-use Rattle.server.proofs.Sequences.{works_more}
+use Rattle.server.proofs.Farther.{none_farther, farther_more, served_farther}
+use Rattle.server.proofs.Sequences.{works_none, works_more}
 use Rattle.server.proofs.worker.work.Goals as goal
+
+pub loop-done-init : goal.loop-done-init
+loop-done-init g c =
+    let before = worker c.args.pass.now c.args.seat.now in (
+      works_none g.J.Naming.opening before (g.A.Connections.coming c.args.connections.now)
+          (g.A.Connections.past c.args.connections.now),
+      none_farther before,
+    )
 
 pub loop-done-preserved : goal.loop-done-preserved
 loop-done-preserved g c =
     let before = worker c.args.pass.now c.args.seat.now in
     let between = worker c.loop-done.pass c.loop-done.seat in
-    let after = worker c.serve_one-served.new.pass c.serve_one-served.new.seat in
+    let after = worker c.serve_one_with-served.new.pass c.serve_one_with-served.new.seat in
     let s : Session = record {
       input = g.A.Reader.Inlet.input c.in-Some.reader;
       ending = record {
-        written = g.A.Writer.Outlet.output c.serve_one-served.new.writer;
-        served = c.serve_one-served.result;
+        written = g.A.Writer.Outlet.output c.serve_one_with-served.new.writer;
+        served = c.serve_one_with-served.result;
       };
     } in
     let one : IsServed g.J.Naming.opening between after s = record {
       output = g.A.Writer.Outlet.output c.in-Some.writer;
       fresh = c.in-Some.ensures.fresh;
-      serves = c.serve_one-served.ensures.serves;
+      serves = c.serve_one_with-served.ensures.serves;
     } in
     let arrives : Arrives (g.A.Connections.coming c.loop-done.connections)
     (g.A.Connections.coming c.close.new.self) s.input =
