@@ -1,7 +1,6 @@
 //! The worked block of docs/FORMATS.md, spelled by hand: six series of one sample at time 10, at the references 4 to 9.
 
-use super::{NO_DELETIONS, Pieces, SEGMENT, joined, opened, query, text_of};
-use block::{Block, Range};
+use super::{Asked, NO_DELETIONS, Pieces, Row, SEGMENT, Spelled, is_answered, joined};
 use std::alloc::Global;
 
 /// Magic, version, symbols, and zeros up to byte 64.
@@ -73,62 +72,50 @@ const CHUNKS: Pieces = &[
 /// Series 6 has no sample left from -2 to 20.
 const ONE_DELETION: &[u8] = b"\x01\x30\xBA\x30\x01\x06\x03\x28\x2F\x56\x2B\xE5";
 
-fn worked_index(alloc: Global) -> Option<Vec<u8>> {
-    joined(alloc, &[SYMBOLS, SERIES, LISTS, TABLES])
-}
+pub(super) const WORKED: Spelled = Spelled {
+    index: &[SYMBOLS, SERIES, LISTS, TABLES],
+    chunks: &[&[SEGMENT], CHUNKS],
+    tombstones: NO_DELETIONS,
+};
 
-fn worked_chunks(alloc: Global) -> Option<Vec<u8>> {
-    joined(alloc, &[&[SEGMENT], CHUNKS])
-}
+const WITH_DELETION: Spelled = Spelled {
+    index: &[SYMBOLS, SERIES, LISTS, TABLES],
+    chunks: &[&[SEGMENT], CHUNKS],
+    tombstones: ONE_DELETION,
+};
 
-/// The block of the times from 0 up to 20, with these deletions.
-fn block_with(alloc: Global, tombstones: &[u8]) -> Option<Block> {
-    let index = worked_index(alloc)?;
-    let chunks = worked_chunks(alloc)?;
-    Block::open(alloc, Range::new(0, 20)?, &index, chunks, tombstones).ok()
-}
-
-/// The block of the times from 0 up to 20.
-pub(super) fn worked_block(alloc: Global) -> Option<Block> {
-    block_with(alloc, NO_DELETIONS)
-}
-
-/// Deletions, and the text of the answer to `up{job="a"}` from 0 to 100 over the block with them.
-const TEXTS: &[(&[u8], &str)] = &[
-    (
-        NO_DELETIONS,
-        r#"{"parts":[{"intervals":[{"from":4,"until":6,"verdict":0},{"from":6,"until":7,"verdict":"match"},{"from":7,"until":8,"verdict":"match"},{"from":8,"until":4294967296,"verdict":1}],"part":"block 0","rows":[{"labels":{"__name__":"up","job":"a"},"samples":[[10,1]]},{"labels":{"__name__":"up","job":"a","zone":"x"},"samples":[[10,6]]}],"separators":[4,6,7,8]},{"intervals":[],"part":"head","rows":[],"separators":[]}],"rows":[{"labels":{"__name__":"up","job":"a"},"samples":[[10,1]]},{"labels":{"__name__":"up","job":"a","zone":"x"},"samples":[[10,6]]}]}"#,
-    ),
-    (
-        ONE_DELETION,
-        r#"{"parts":[{"intervals":[{"from":4,"until":6,"verdict":0},{"from":6,"until":7,"verdict":"none"},{"from":7,"until":8,"verdict":"match"},{"from":8,"until":4294967296,"verdict":1}],"part":"block 0","rows":[{"labels":{"__name__":"up","job":"a","zone":"x"},"samples":[[10,6]]}],"separators":[4,6,7,8]},{"intervals":[],"part":"head","rows":[],"separators":[]}],"rows":[{"labels":{"__name__":"up","job":"a","zone":"x"},"samples":[[10,6]]}]}"#,
-    ),
-];
-
-/// The text of the answer to `up{job="a"}` from 0 to 100, over the block with these deletions.
-fn text_over(alloc: Global, tombstones: &[u8]) -> Option<Vec<u8>> {
-    let blocks = Vec::from_array(alloc, [block_with(alloc, tombstones)?]).ok()?;
-    let snapshot = opened(alloc, blocks)?;
-    text_of(alloc, &snapshot, &query(alloc, r#"up{job="a"}"#, 0, 100)?)
+fn has_len(alloc: Global, pieces: &[Pieces], len: usize) -> bool {
+    match joined(alloc, pieces) {
+        Some(bytes) => bytes.len() == len,
+        None => false,
+    }
 }
 
 #[test]
 fn the_files_have_the_worked_lengths(rt: HostRuntime) {
-    assert_eq!(rt;
-        worked_index(rt.alloc()).map(|index| index.len()),
-        Some(442)
-    );
-    assert_eq!(rt;
-        worked_chunks(rt.alloc()).map(|chunks| chunks.len()),
-        Some(152)
-    );
+    assert!(rt; has_len(rt.alloc(), WORKED.index, 442));
+    assert!(rt; has_len(rt.alloc(), WORKED.chunks, 152));
 }
+
+const UP_A: Asked = (r#"up{job="a"}"#, 0, 100);
+
+/// The block with no deletion and with one, and the text of the answer over each.
+const ROWS: &[Row] = &[
+    (
+        &[&WORKED],
+        UP_A,
+        r#"{"parts":[{"intervals":[{"from":4,"until":6,"verdict":0},{"from":6,"until":7,"verdict":"match"},{"from":7,"until":8,"verdict":"match"},{"from":8,"until":4294967296,"verdict":1}],"part":"block 0","rows":[{"labels":{"__name__":"up","job":"a"},"samples":[[10,1]]},{"labels":{"__name__":"up","job":"a","zone":"x"},"samples":[[10,6]]}],"separators":[4,6,7,8]},{"intervals":[],"part":"head","rows":[],"separators":[]}],"rows":[{"labels":{"__name__":"up","job":"a"},"samples":[[10,1]]},{"labels":{"__name__":"up","job":"a","zone":"x"},"samples":[[10,6]]}]}"#,
+    ),
+    (
+        &[&WITH_DELETION],
+        UP_A,
+        r#"{"parts":[{"intervals":[{"from":4,"until":6,"verdict":0},{"from":6,"until":7,"verdict":"none"},{"from":7,"until":8,"verdict":"match"},{"from":8,"until":4294967296,"verdict":1}],"part":"block 0","rows":[{"labels":{"__name__":"up","job":"a","zone":"x"},"samples":[[10,6]]}],"separators":[4,6,7,8]},{"intervals":[],"part":"head","rows":[],"separators":[]}],"rows":[{"labels":{"__name__":"up","job":"a","zone":"x"},"samples":[[10,6]]}]}"#,
+    ),
+];
 
 #[test]
 fn an_answer_over_the_worked_block_has_its_certificate(rt: HostRuntime) {
-    let other = TEXTS.iter().find(|row| {
-        let text = text_over(rt.alloc(), row.0);
-        !text.is_some_and(|text| text.as_slice() == row.1.as_bytes())
-    });
-    assert_eq!(rt; other, None);
+    for row in ROWS {
+        assert!(rt; is_answered(rt.alloc(), row));
+    }
 }
