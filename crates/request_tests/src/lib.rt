@@ -1,8 +1,8 @@
-//! Tests of `requests` from outside: what requests are read as, in whatever pieces they come, and the texts of
-//! refusals.
+//! Tests of `requests` from outside: what requests are read as, in whatever pieces they come, and
+//! the texts of refusals.
 //!
-//! They stand in a crate of their own, over few libraries, so that the gate proves `requests` once and not a second
-//! time with its tests.
+//! They stand in a crate of their own, over few libraries, so that the gate proves `requests` once
+//! and not a second time with its tests.
 #![tactic(auto)]
 
 #[cfg(test)]

@@ -16,7 +16,8 @@ fn long(alloc: Global, text: &Long) -> Result<String, AllocError> {
     Ok(all)
 }
 
-/// Heads, and what is answered: with its end a head has 31 bytes beside the value of its field, without it 27.
+/// Heads, and what is answered: with its end a head has 31 bytes beside the value of its field,
+/// without it 27.
 const HEADS: &[(Long, &str)] = &[
     (
         ("GET /none HTTP/1.1\r\nField: ", "a", 8160, "\r\n\r\n"),
@@ -71,7 +72,8 @@ fn is_body(alloc: Global, path: &str, body: Result<String, AllocError>, want: &s
     }
 }
 
-/// Paths and bodies, and what is asked: of 1,048,576 bytes and of one more, and of samples up to 4,096 and one more.
+/// Paths and bodies, and what is asked: of 1,048,576 bytes and of one more, and of samples up to
+/// 4,096 and one more.
 const BODIES: &[(&str, Long, &str)] = &[
     ("/cut", ("{\"at\":20}", " ", 1_048_567, ""), "cut"),
     ("/cut", ("{\"at\":20}", " ", 1_048_568, ""), "H8"),

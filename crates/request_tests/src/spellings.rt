@@ -7,8 +7,8 @@ use requests::{Request, read_request};
 use std::alloc::Global;
 
 /// Bodies that write one batch: first spelled as usual, then with spaces, with escapes, with the
-/// labels and the members of a row in another order, with what counts for nothing (an empty label, a
-/// member that is given again), and with rows of both kinds.
+/// labels and the members of a row in another order, with what counts for nothing (an empty label,
+/// a member that is given again), and with rows of both kinds.
 const SPELLINGS: &[&str] = &[
     r#"[{"labels":{"a":"b","c":"/"},"samples":[[1,2],[3,-4]]}]"#,
     "[{\"labels\":{\"a\":\"b\",\"c\":\"/\"},\"samples\":[[1,2]]},{\"labels\":{\"a\":\"b\",\"c\":\"/\"},\"samples\":[[3,-4]]}]",

@@ -1,5 +1,6 @@
-//! Answers over blocks and heads: the texts over two blocks that share a time, spelled by hand, and over a head
-//! behind them. The blocks have one series `{__name__="up",job="a"}` at reference 3, that is, at byte 48 of the index.
+//! Answers over blocks and heads: the texts over two blocks that share a time, spelled by hand, and
+//! over a head behind them. The blocks have one series `{__name__="up",job="a"}` at reference 3,
+//! that is, at byte 48 of the index.
 
 mod searches;
 mod worked_block;
@@ -32,8 +33,8 @@ const SYMBOLS: Pieces = &[
 /// A list of the one series, with its checksum.
 const LIST: &[u8] = b"\x00\x00\x00\x08\x00\x00\x00\x01\x00\x00\x00\x03\xA7\x69\x2E\xD2";
 
-/// The index from byte 62: the lists of all series and of both pairs, at 62, 78 and 94, their table at 110, and the
-/// table of contents.
+/// The index from byte 62: the lists of all series and of both pairs, at 62, 78 and 94, their table
+/// at 110, and the table of contents.
 const LISTS: Pieces = &[
     LIST,
     LIST,

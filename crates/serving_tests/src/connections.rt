@@ -214,7 +214,8 @@ const TURNED_SELECTED: &[u8] =
 const SELECT_ALL: &[u8] =
     b"GET /select?selector=%7Bx%3D%22%22%7D&from=-4611686018427387904&to=4611686018427387903 HTTP/1.1\r\n\r\n";
 
-/// Rows in their order, as compact JSON: texts with each kind of escape, and the least and the greatest numbers.
+/// Rows in their order, as compact JSON: texts with each kind of escape, and the least and the
+/// greatest numbers.
 const WRITE_ODD: &[u8] =
     b"POST /write HTTP/1.1\r\nContent-Length: 294\r\n\r\n[{\"labels\":{\"A\":\"\xC3\xA9\\u0000\\u001f\"},\"samples\":[[0,-1]]},{\"labels\":{\"_\":\"\\\"\\\\\\b\\f\\n\\r\\t/\"},\"samples\":[[-1,0],[1,1]]},{\"labels\":{\"__name__\":\"a\"},\"samples\":[[-4611686018427387904,-9223372036854775808],[4611686018427387903,9223372036854775807]]},{\"labels\":{\"__name__\":\"a\",\"b\":\" \"},\"samples\":[[7,7]]}]";
 
@@ -230,7 +231,8 @@ enum Way {
     RepliedBefore,
     /// The one connection is closed.
     Closed,
-    /// Of connections that take a byte more each, each gets so many of the text, and its writer fails.
+    /// Of connections that take a byte more each, each gets so many of the text, and its writer
+    /// fails.
     CutShort,
     /// Of so many connections that give a piece more each, each gets nothing, and its reader fails.
     Unread(usize),
@@ -288,7 +290,8 @@ const CUT_SHORT: Session = &[
     (SELECT, Way::CutShort, ONE_SELECTED),
 ];
 
-/// Nothing changes where a read fails, in any of the pieces that the request comes in, or nothing comes.
+/// Nothing changes where a read fails, in any of the pieces that the request comes in, or nothing
+/// comes.
 const UNREAD: Session = &[
     (WRITE_ONE, Way::Unread(15), b""),
     (b"", Way::Closed, b""),
@@ -360,7 +363,8 @@ fn is_unread<J: Naming, R: Wait + Drop>(
     true
 }
 
-/// How many bytes a connection gives and takes at a time, and whether one that is refused memory is made again.
+/// How many bytes a connection gives and takes at a time, and whether one that is refused memory is
+/// made again.
 #[derive(Clone, Copy)]
 struct Pace {
     at_most: usize,

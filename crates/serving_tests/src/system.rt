@@ -70,8 +70,8 @@ fn serve_beside<
     )
 }
 
-/// The replies to these requests by two workers of an empty store, of two connections each, while so
-/// many clients stay silent.
+/// The replies to these requests by two workers of an empty store, of two connections each, while
+/// so many clients stay silent.
 fn replies_of_two<
     J: Naming + Send + Sync,
     R: Threads + Wait + Clock + Eprint + Net<Stream = TcpStream> + Sync,
@@ -102,7 +102,8 @@ const CUT: &[u8] = b"POST /cut HTTP/1.1\r\nContent-Length: 9\r\n\r\n{\"at\":31}"
 
 const SELECT: &[u8] = b"GET /select?selector=up&from=31&to=100 HTTP/1.1\r\n\r\n";
 
-/// The replies of a store to which a sample is written and then cut away, and to a path that is none.
+/// The replies of a store to which a sample is written and then cut away, and to a path that is
+/// none.
 const REPLIES: &[u8] =
     b"HTTP/1.1 200 OK\r\nContent-Type: application/json\r\nContent-Length: 11\r\nConnection: close\r\n\r\n{\"ok\":true}HTTP/1.1 404 Not Found\r\nContent-Type: application/json\r\nContent-Length: 16\r\nConnection: close\r\n\r\n{\"refused\":\"H3\"}HTTP/1.1 200 OK\r\nContent-Type: application/json\r\nContent-Length: 11\r\nConnection: close\r\n\r\n{\"ok\":true}HTTP/1.1 200 OK\r\nContent-Type: application/json\r\nContent-Length: 112\r\nConnection: close\r\n\r\n{\"parts\":[{\"part\":\"block 0\",\"skipped\":true},{\"intervals\":[],\"part\":\"head\",\"rows\":[],\"separators\":[]}],\"rows\":[]}";
 

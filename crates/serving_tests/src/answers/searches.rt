@@ -1,7 +1,8 @@
-//! Which blocks a query skips, answers over blocks and a head, and parts that are searched side by side.
+//! Which blocks a query skips, answers over blocks and a head, and parts that are searched side by
+//! side.
 
 use super::worked_block::WORKED;
-use super::{A, A_THEN_B, Asked, B, Spelled, UP, Wanted, after, is_text, query, store_of, text_of};
+use super::{A, A_THEN_B, Asked, B, UP, Wanted, after, is_text, query, store_of, text_of};
 use block_search::{Gate, search};
 use head::Snapshot;
 use query_http::{AnsweredPart, answer, answer_by_workers, body};
@@ -44,8 +45,8 @@ fn a_block_is_skipped_where_its_range_has_no_time_of_the_query(rt: HostRuntime) 
     }
 }
 
-/// A sample at time 20 of each of the six series whose samples at time 10 are those of the worked block, in the order
-/// of their first commit.
+/// A sample at time 20 of each of the six series whose samples at time 10 are those of the worked
+/// block, in the order of their first commit.
 const AT_20: &[Wanted] = &[
     (("up", "a", ""), 20, 1),
     (("up", "b", ""), 20, 2),
@@ -61,8 +62,8 @@ fn block_and_head(alloc: Global) -> Option<Snapshot> {
     after(alloc, &store, AT_20).ok()
 }
 
-/// Queries, and the text of the answer to each over the worked block and the head; from 20 on the block is skipped,
-/// and says so.
+/// Queries, and the text of the answer to each over the worked block and the head; from 20 on the
+/// block is skipped, and says so.
 const TEXTS: &[(Asked, &str)] = &[
     (
         (r#"up{job="a"}"#, 0, 100),
@@ -101,15 +102,18 @@ fn a_block_and_a_head_are_answered_together(rt: HostRuntime) {
     }
 }
 
-/// 63 blocks, of which every other one has only the sample (10, 9).
-const MANY: &[&Spelled] = &[
-    &A, &B, &A, &B, &A, &B, &A, &B, &A, &B, &A, &B, &A, &B, &A, &B, &A, &B, &A, &B, &A, &B, &A, &B,
-    &A, &B, &A, &B, &A, &B, &A, &B, &A, &B, &A, &B, &A, &B, &A, &B, &A, &B, &A, &B, &A, &B, &A, &B,
-    &A, &B, &A, &B, &A, &B, &A, &B, &A, &B, &A, &B, &A, &B, &A,
-];
-
 const OF_MANY: &str =
     r#""rows":[{"labels":{"__name__":"up","job":"a"},"samples":[[10,1],[15,2]]}]}"#;
+
+/// A store of 63 blocks, of which every other one has only the sample (10, 9).
+fn many_blocks(alloc: Global) -> Option<Snapshot> {
+    let mut spelled = Vec::new(alloc);
+    for n in 0..63 {
+        let one = if n % 2 == 0 { &A } else { &B };
+        spelled.push(one).ok()?;
+    }
+    store_of(alloc, &spelled)
+}
 
 /// Whether the text of the answer over the many blocks ends with their rows.
 fn is_of_many(alloc: Global, store: &Snapshot) -> bool {
@@ -122,7 +126,7 @@ fn is_of_many(alloc: Global, store: &Snapshot) -> bool {
 #[test]
 fn of_many_blocks_the_last_stands(rt: HostRuntime) {
     let alloc = rt.alloc();
-    let store = store_of(alloc, MANY).expect(&rt, "all blocks open");
+    let store = many_blocks(alloc).expect(&rt, "all blocks open");
     assert!(rt; is_of_many(alloc, &store));
 }
 

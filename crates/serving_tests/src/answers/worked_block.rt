@@ -1,4 +1,5 @@
-//! The worked block of docs/FORMATS.md, spelled by hand: six series of one sample at time 10, at the references 4 to 9.
+//! The worked block of docs/FORMATS.md, spelled by hand: six series of one sample at time 10, at
+//! the references 4 to 9.
 
 use super::{Asked, NO_DELETIONS, Pieces, Row, SEGMENT, Spelled, is_answered, joined};
 use std::alloc::Global;
@@ -11,7 +12,8 @@ const SYMBOLS: Pieces = &[
     b"\x00\x00\x00\x00\x00\x00\x00\x00\x00\x00\x00\x00\x00\x00\x00",
 ];
 
-/// The series, from byte 64: zeros where the one before left a gap, the body behind its length, the checksum.
+/// The series, from byte 64: zeros where the one before left a gap, the body behind its length, the
+/// checksum.
 const SERIES: Pieces = &[
     b"\x09\x02\x00\x03\x04\x01\x01\x14\x00\x08\xDD\x75\xB4\xA6",
     b"\x00\x00\x09\x02\x00\x03\x04\x02\x01\x14\x00\x20\x3F\x22\xD2\x43",
@@ -21,7 +23,8 @@ const SERIES: Pieces = &[
     b"\x00\x00\x0C\x03\x00\x05\x04\x02\x07\x06\x01\x14\x00\x80\x01\x0B\x1D\x4E\xF7",
 ];
 
-/// The lists of all series, `down`, `up`, `a`, `b` and `x`, each of a length and a count, references, and a checksum.
+/// The lists of all series, `down`, `up`, `a`, `b` and `x`, each of a length and a count,
+/// references, and a checksum.
 const LISTS: Pieces = &[
     b"\x00\x00\x00\x1C\x00\x00\x00\x06",
     b"\x00\x00\x00\x04\x00\x00\x00\x05\x00\x00\x00\x06\x00\x00\x00\x07\x00\x00\x00\x08\x00\x00\x00\x09",
