@@ -18,6 +18,7 @@ const ROOM: usize = 2000;
 
 /// How a connection gives and takes bytes: at most so many at a time, in so many reads, and with
 /// room for so many.
+#[derive(Clone, Copy)]
 struct Edge {
     at_most: usize,
     reads: usize,
@@ -39,7 +40,7 @@ fn serve<J: Naming, R: Wait + Drop>(
     alloc: Global,
     store: &mut EmptyStore<J, R>,
     input: &[u8],
-    edge: &Edge,
+    edge: Edge,
 ) -> Option<(Served, Vec<u8>)> {
     let bytes = Vec::with_capacity(alloc, ROOM).ok()?;
     let mut reader = Script {
@@ -81,7 +82,7 @@ fn is_served<J: Naming, R: Wait + Drop>(
     alloc: Global,
     store: &mut EmptyStore<J, R>,
     input: &[u8],
-    edge: &Edge,
+    edge: Edge,
     want: Want<'_>,
 ) -> bool {
     match serve(rt, alloc, store, input, edge) {
@@ -96,7 +97,7 @@ fn is_served_again<J: Naming, R: Wait + Drop>(
     alloc: Global,
     store: &mut EmptyStore<J, R>,
     input: &[u8],
-    edge: &Edge,
+    edge: Edge,
     want: Want<'_>,
 ) -> bool {
     match serve(rt, alloc, store, input, edge) {
@@ -310,7 +311,7 @@ fn is_replied_before<J: Naming, R: Wait + Drop>(
     alloc: Global,
     store: &mut EmptyStore<J, R>,
     input: &[u8],
-    edge: &Edge,
+    edge: Edge,
     end: &[u8],
 ) -> bool {
     match serve(rt, alloc, store, input, edge) {
@@ -334,7 +335,7 @@ fn is_cut_short<J: Naming, R: Wait + Drop>(
             ..pieces_of(at_most)
         };
         let want = (Served::WriteFault, &text[..room]);
-        if !is_served(rt, alloc, store, input, &edge, want) {
+        if !is_served(rt, alloc, store, input, edge, want) {
             return false;
         }
     }
@@ -356,56 +357,38 @@ fn is_unread<J: Naming, R: Wait + Drop>(
             ..pieces_of(at_most)
         };
         let want: Want<'_> = (Served::ReadFault, b"");
-        if !is_served(rt, alloc, store, input, &edge, want) {
+        if !is_served(rt, alloc, store, input, edge, want) {
             return false;
         }
     }
     true
 }
 
-/// How many bytes a connection gives and takes at a time, and whether one that is refused memory is
-/// made again.
-#[derive(Clone, Copy)]
-struct Pace {
-    at_most: usize,
-    again: bool,
-}
-
-/// Whether the connections of a step go so.
+/// Whether the connections of a step go so, in pieces of so many bytes; what is refused memory is
+/// made again where this says so.
 fn goes<J: Naming, R: Wait + Drop>(
     rt: &impl Wait,
     alloc: Global,
     store: &mut EmptyStore<J, R>,
     step: &(&[u8], Way, &[u8]),
-    pace: Pace,
+    at_most: usize,
+    again: bool,
 ) -> bool {
     let (input, way, text) = step;
-    let edge = pieces_of(pace.at_most);
+    let edge = pieces_of(at_most);
     match way {
-        Way::Replied(status) if pace.again => {
-            is_served_again(
-                rt,
-                alloc,
-                store,
-                input,
-                &edge,
-                (Served::Replied(*status), *text),
-            )
-        }
         Way::Replied(status) => {
-            is_served(
-                rt,
-                alloc,
-                store,
-                input,
-                &edge,
-                (Served::Replied(*status), *text),
-            )
+            let want = (Served::Replied(*status), *text);
+            if again {
+                is_served_again(rt, alloc, store, input, edge, want)
+            } else {
+                is_served(rt, alloc, store, input, edge, want)
+            }
         }
-        Way::RepliedBefore => is_replied_before(rt, alloc, store, input, &edge, text),
-        Way::Closed => is_served(rt, alloc, store, input, &edge, (Served::Closed, *text)),
-        Way::CutShort => is_cut_short(rt, alloc, store, input, pace.at_most, text),
-        Way::Unread(count) => is_unread(rt, alloc, store, input, pace.at_most, *count),
+        Way::RepliedBefore => is_replied_before(rt, alloc, store, input, edge, text),
+        Way::Closed => is_served(rt, alloc, store, input, edge, (Served::Closed, *text)),
+        Way::CutShort => is_cut_short(rt, alloc, store, input, at_most, text),
+        Way::Unread(count) => is_unread(rt, alloc, store, input, at_most, *count),
     }
 }
 
@@ -415,14 +398,15 @@ fn is_session<J: Naming, R: Wait>(
     alloc: Global,
     store: Store,
     session: Session,
-    pace: Pace,
+    at_most: usize,
+    again: bool,
 ) -> Option<bool>
     requires book { store.seen.book ≡ J.book }
     requires opening { opening_of [] ≡ J.opening }
 {
     let mut store = open_empty::<J, &R>(rt, alloc, store)?;
     for step in session {
-        if !goes(rt, alloc, &mut store, step, pace) {
+        if !goes(rt, alloc, &mut store, step, at_most, again) {
             return Some(false);
         }
     }
@@ -431,11 +415,7 @@ fn is_session<J: Naming, R: Wait>(
 
 /// The same, in pieces of so many bytes, where a store was opened.
 fn is_held<R: Wait>(rt: &R, alloc: Global, session: Session, at_most: usize) -> bool {
-    let pace = Pace {
-        at_most,
-        again: false,
-    };
-    match is_session::<Brand, R>(rt, alloc, Store::new(), session, pace) {
+    match is_session::<Brand, R>(rt, alloc, Store::new(), session, at_most, false) {
         Some(held) => held,
         None => false,
     }
@@ -443,11 +423,7 @@ fn is_held<R: Wait>(rt: &R, alloc: Global, session: Session, at_most: usize) -> 
 
 /// The same, where what is refused memory is made again, the store too.
 fn is_held_again<R: Wait>(rt: &R, alloc: Global, session: Session) -> bool {
-    let pace = Pace {
-        at_most: 7,
-        again: true,
-    };
-    match is_session::<Brand, R>(rt, alloc, Store::new(), session, pace) {
+    match is_session::<Brand, R>(rt, alloc, Store::new(), session, 7, true) {
         Some(held) => held,
         None => is_held(rt, alloc, session, 7),
     }

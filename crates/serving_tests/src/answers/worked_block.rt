@@ -75,15 +75,19 @@ const CHUNKS: Pieces = &[
 /// Series 6 has no sample left from -2 to 20.
 const ONE_DELETION: &[u8] = b"\x01\x30\xBA\x30\x01\x06\x03\x28\x2F\x56\x2B\xE5";
 
+const INDEX_FILE: &[Pieces] = &[SYMBOLS, SERIES, LISTS, TABLES];
+
+const CHUNKS_FILE: &[Pieces] = &[&[SEGMENT], CHUNKS];
+
 pub(super) const WORKED: Spelled = Spelled {
-    index: &[SYMBOLS, SERIES, LISTS, TABLES],
-    chunks: &[&[SEGMENT], CHUNKS],
+    index: INDEX_FILE,
+    chunks: CHUNKS_FILE,
     tombstones: NO_DELETIONS,
 };
 
 const WITH_DELETION: Spelled = Spelled {
-    index: &[SYMBOLS, SERIES, LISTS, TABLES],
-    chunks: &[&[SEGMENT], CHUNKS],
+    index: INDEX_FILE,
+    chunks: CHUNKS_FILE,
     tombstones: ONE_DELETION,
 };
 
@@ -96,8 +100,8 @@ fn has_len(alloc: Global, pieces: &[Pieces], len: usize) -> bool {
 
 #[test]
 fn the_files_have_the_worked_lengths(rt: HostRuntime) {
-    assert!(rt; has_len(rt.alloc(), WORKED.index, 442));
-    assert!(rt; has_len(rt.alloc(), WORKED.chunks, 152));
+    assert!(rt; has_len(rt.alloc(), INDEX_FILE, 442));
+    assert!(rt; has_len(rt.alloc(), CHUNKS_FILE, 152));
 }
 
 const UP_A: Asked = (r#"up{job="a"}"#, 0, 100);
