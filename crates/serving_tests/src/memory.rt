@@ -4,7 +4,7 @@ ghost use Rattle.std.specs.Prelude.{◌≡◌, []};
 ghost use Rattle.head.specs.Blocks.{opening_of};
 
 use crate::script::{Script, Sink};
-use crate::store::open_empty;
+use crate::store::{EmptyStore, open_empty};
 use query_http::Served;
 use server::{Connections, work};
 use snapshots::{Naming, Store};
@@ -87,16 +87,12 @@ fn work_alone<J: Naming, R: Wait>(
     requires book { store.seen.book ≡ J.book }
     requires opening { opening_of [] ≡ J.opening }
 {
-    let mut store = open_empty::<J, &R>(rt, alloc, store)?;
-    Some(work(
-        rt,
-        alloc,
-        texts,
-        &mut store.pass,
-        &mut store.seat,
-        &store.committer,
-        most,
-    ))
+    let EmptyStore {
+        committer,
+        mut pass,
+        mut seat,
+    } = open_empty::<J, &R>(rt, alloc, store)?;
+    Some(work(rt, alloc, texts, &mut pass, &mut seat, &committer, most))
 }
 
 /// All that was written, one connection after another.
