@@ -1,5 +1,6 @@
-//! Two blocks that share a time, spelled by hand: one series `{__name__="up",job="a"}` at reference 3, that is, at byte
-//! 48 of the index.
+//! Answers over blocks and heads: the texts over two blocks that share a time, spelled by hand, and
+//! over a head behind them. The blocks have one series `{__name__="up",job="a"}` at reference 3,
+//! that is, at byte 48 of the index.
 
 mod searches;
 mod worked_block;
@@ -14,6 +15,13 @@ use std::alloc::Global;
 /// Bytes in pieces.
 type Pieces = &'static [&'static [u8]];
 
+/// The files of a block of the times from 0 up to 20.
+struct Spelled {
+    index: &'static [Pieces],
+    chunks: &'static [Pieces],
+    tombstones: &'static [u8],
+}
+
 /// The index up to byte 48: its magic and version, the symbols, and zeros.
 const SYMBOLS: Pieces = &[
     b"\xBA\xAA\xD7\x00\x02",
@@ -25,8 +33,8 @@ const SYMBOLS: Pieces = &[
 /// A list of the one series, with its checksum.
 const LIST: &[u8] = b"\x00\x00\x00\x08\x00\x00\x00\x01\x00\x00\x00\x03\xA7\x69\x2E\xD2";
 
-/// The index from byte 62: the lists of all series and of both pairs, at 62, 78 and 94, their table at 110, and the
-/// table of contents.
+/// The index from byte 62: the lists of all series and of both pairs, at 62, 78 and 94, their table
+/// at 110, and the table of contents.
 const LISTS: Pieces = &[
     LIST,
     LIST,
@@ -45,38 +53,48 @@ const SEGMENT: &[u8] = b"\x85\xBD\x40\xDD\x01\x00\x00\x00";
 
 const NO_DELETIONS: &[u8] = b"\x01\x30\xBA\x30\x01\x00\x00\x00\x00";
 
-/// The entry of a series, and its chunk.
-struct Spelled {
-    entry: Pieces,
-    chunk: Pieces,
-}
-
 /// The samples (10, 1) and (15, 2).
 const A: Spelled = Spelled {
-    entry: &[
-        b"\x09\x02\x00\x03\x02\x01\x01\x14\x05\x08",
-        b"\xE9\x24\xDA\xB9",
+    index: &[
+        SYMBOLS,
+        &[
+            b"\x09\x02\x00\x03\x02\x01\x01\x14\x05\x08",
+            b"\xE9\x24\xDA\xB9",
+        ],
+        LISTS,
     ],
-    chunk: &[
-        b"\x22\xE0\x00\x02",
-        b"\x00\x00\x00\x00\x00\x00\x00\x0A\x00\x00\x00\x00\x00\x00\x00\x01",
-        b"\x00\x00\x00\x00\x00\x00\x00\x0F\x00\x00\x00\x00\x00\x00\x00\x02",
-        b"\xA5\xCF\x5A\xEE",
+    chunks: &[
+        &[SEGMENT],
+        &[
+            b"\x22\xE0\x00\x02",
+            b"\x00\x00\x00\x00\x00\x00\x00\x0A\x00\x00\x00\x00\x00\x00\x00\x01",
+            b"\x00\x00\x00\x00\x00\x00\x00\x0F\x00\x00\x00\x00\x00\x00\x00\x02",
+            b"\xA5\xCF\x5A\xEE",
+        ],
     ],
+    tombstones: NO_DELETIONS,
 };
 
 /// The sample (10, 9).
 const B: Spelled = Spelled {
-    entry: &[
-        b"\x09\x02\x00\x03\x02\x01\x01\x14\x00\x08",
-        b"\xB4\x0C\x23\x12",
+    index: &[
+        SYMBOLS,
+        &[
+            b"\x09\x02\x00\x03\x02\x01\x01\x14\x00\x08",
+            b"\xB4\x0C\x23\x12",
+        ],
+        LISTS,
     ],
-    chunk: &[
-        b"\x12\xE0\x00\x01",
-        b"\x00\x00\x00\x00\x00\x00\x00\x0A\x00\x00\x00\x00\x00\x00\x00\x09",
-        b"",
-        b"\xE2\x19\x2F\x3C",
+    chunks: &[
+        &[SEGMENT],
+        &[
+            b"\x12\xE0\x00\x01",
+            b"\x00\x00\x00\x00\x00\x00\x00\x0A\x00\x00\x00\x00\x00\x00\x00\x09",
+            b"",
+            b"\xE2\x19\x2F\x3C",
+        ],
     ],
+    tombstones: NO_DELETIONS,
 };
 
 /// All these pieces, one after another.
@@ -90,124 +108,148 @@ fn joined(alloc: Global, lists: &[Pieces]) -> Option<Vec<u8>> {
     Some(bytes)
 }
 
-/// The block of the times from 0 up to 20.
 fn block_of(alloc: Global, spelled: &Spelled) -> Option<Block> {
-    let index = joined(alloc, &[SYMBOLS, spelled.entry, LISTS])?;
-    let chunks = joined(alloc, &[&[SEGMENT], spelled.chunk])?;
-    Block::open(alloc, Range::new(0, 20)?, &index, chunks, NO_DELETIONS).ok()
+    let range = Range::new(0, 20)?;
+    let index = joined(alloc, spelled.index)?;
+    let chunks = joined(alloc, spelled.chunks)?;
+    Block::open(alloc, range, &index, chunks, spelled.tombstones).ok()
+}
+
+fn blocks_of(alloc: Global, spelled: &[&Spelled]) -> Option<Vec<Block>> {
+    let mut blocks = Vec::new(alloc);
+    for one in spelled {
+        blocks.push(block_of(alloc, one)?).ok()?;
+    }
+    Some(blocks)
 }
 
 /// The store of these blocks and an empty head.
-fn opened(alloc: Global, blocks: Vec<Block>) -> Option<Snapshot> {
+fn store_of(alloc: Global, spelled: &[&Spelled]) -> Option<Snapshot> {
+    let blocks = blocks_of(alloc, spelled)?;
     if blocks.len() > 63 {
         return None;
     }
     Snapshot::opening(alloc, blocks).ok()
 }
 
-fn store_of(alloc: Global, first: &Spelled, second: &Spelled) -> Option<Snapshot> {
-    let (first, second) = block_of(alloc, first).zip(block_of(alloc, second))?;
-    opened(alloc, Vec::from_array(alloc, [first, second]).ok()?)
-}
+/// What is asked: a selector, and the first and the last time.
+type Asked = (&'static str, i64, i64);
 
-fn query(alloc: Global, selector: &str, from: i64, to: i64) -> Option<Query> {
-    Query::new(Selector::parse(alloc, selector).ok()?, from, to).ok()
+fn query(alloc: Global, asked: Asked) -> Option<Query> {
+    let selector = Selector::parse(alloc, asked.0).ok()?;
+    Query::new(selector, asked.1, asked.2).ok()
 }
 
 /// The text of the answer to a query.
-fn text_of(alloc: Global, snapshot: &Snapshot, query: &Query) -> Option<Vec<u8>> {
-    let answer = answer(alloc, snapshot, query).ok()?;
+fn text_of(alloc: Global, snapshot: &Snapshot, asked: Asked) -> Option<Vec<u8>> {
+    let query = query(alloc, asked)?;
+    let answer = answer(alloc, snapshot, &query).ok()?;
     body(alloc, &answer.parts, &answer.rows).ok()
 }
 
-const FIRST_BLOCK: &str =
-    r#"{"parts":[{"intervals":[{"from":3,"until":4294967296,"verdict":"match"}],"part":"block 0","rows":[{"labels":{"__name__":"up","job":"a"},"samples":"#;
-
-const SECOND_BLOCK: &str =
-    r#"}],"separators":[3]},{"intervals":[{"from":3,"until":4294967296,"verdict":"match"}],"part":"block 1","rows":[{"labels":{"__name__":"up","job":"a"},"samples":"#;
-
-const EMPTY_HEAD: &str =
-    r#"}],"separators":[3]},{"intervals":[],"part":"head","rows":[],"separators":[]}],"rows":[{"labels":{"__name__":"up","job":"a"},"samples":"#;
-
-const HEAD_AT_20: &str =
-    r#"}],"separators":[3]},{"intervals":[{"from":1,"until":4294967296,"verdict":"match"}],"part":"head","rows":[{"labels":{"__name__":"up","job":"a"},"samples":[[20,5]]}],"separators":[1]}],"rows":[{"labels":{"__name__":"up","job":"a"},"samples":"#;
-
-/// What the answer to `up` has of the first block, of the second, of the head, and of all parts.
-type Told = [&'static str; 4];
-
-/// Whether the text of the answer to `up` from 0 to 100 tells this.
-fn is_told(alloc: Global, snapshot: &Snapshot, told: &Told) -> Option<bool> {
-    let text = text_of(alloc, snapshot, &query(alloc, "up", 0, 100)?)?;
-    let [first, second, head, merged] = told;
-    let want = format!(in alloc;
-        "{FIRST_BLOCK}{first}{SECOND_BLOCK}{second}{head}{merged}{}",
-        "}]}"
-    );
-    Some(text.as_slice() == want.ok()?.as_bytes())
+/// Whether this text was made.
+fn is_text(made: Option<Vec<u8>>, want: &str) -> bool {
+    match made {
+        Some(text) => text.as_slice() == want.as_bytes(),
+        None => false,
+    }
 }
 
-const A_THEN_B: Told = ["[[10,1],[15,2]]", "[[10,9]]", EMPTY_HEAD, "[[10,9],[15,2]]"];
+/// Blocks, a query, and the text of its answer over them and an empty head.
+type Row = (&'static [&'static Spelled], Asked, &'static str);
 
-const B_THEN_A: Told = ["[[10,9]]", "[[10,1],[15,2]]", EMPTY_HEAD, "[[10,1],[15,2]]"];
+fn is_answered(alloc: Global, row: &Row) -> bool {
+    match store_of(alloc, row.0) {
+        Some(store) => is_text(text_of(alloc, &store, row.1), row.2),
+        None => false,
+    }
+}
+
+const UP: Asked = ("up", 0, 100);
+
+/// The later of two blocks stands at the time that they share.
+const A_THEN_B: Row = (
+    &[&A, &B],
+    UP,
+    r#"{"parts":[{"intervals":[{"from":3,"until":4294967296,"verdict":"match"}],"part":"block 0","rows":[{"labels":{"__name__":"up","job":"a"},"samples":[[10,1],[15,2]]}],"separators":[3]},{"intervals":[{"from":3,"until":4294967296,"verdict":"match"}],"part":"block 1","rows":[{"labels":{"__name__":"up","job":"a"},"samples":[[10,9]]}],"separators":[3]},{"intervals":[],"part":"head","rows":[],"separators":[]}],"rows":[{"labels":{"__name__":"up","job":"a"},"samples":[[10,9],[15,2]]}]}"#,
+);
+
+const B_THEN_A: Row = (
+    &[&B, &A],
+    UP,
+    r#"{"parts":[{"intervals":[{"from":3,"until":4294967296,"verdict":"match"}],"part":"block 0","rows":[{"labels":{"__name__":"up","job":"a"},"samples":[[10,9]]}],"separators":[3]},{"intervals":[{"from":3,"until":4294967296,"verdict":"match"}],"part":"block 1","rows":[{"labels":{"__name__":"up","job":"a"},"samples":[[10,1],[15,2]]}],"separators":[3]},{"intervals":[],"part":"head","rows":[],"separators":[]}],"rows":[{"labels":{"__name__":"up","job":"a"},"samples":[[10,1],[15,2]]}]}"#,
+);
 
 #[test]
 fn of_two_blocks_at_one_time_the_later_stands(rt: HostRuntime) {
-    let alloc = rt.alloc();
-    let store = store_of(alloc, &A, &B).expect(&rt, "both blocks open");
-    assert_eq!(rt; is_told(alloc, &store, &A_THEN_B), Some(true));
-    let store = store_of(alloc, &B, &A).expect(&rt, "both blocks open");
-    assert_eq!(rt; is_told(alloc, &store, &B_THEN_A), Some(true));
+    assert!(rt; is_answered(rt.alloc(), &A_THEN_B));
+    assert!(rt; is_answered(rt.alloc(), &B_THEN_A));
 }
+
+/// The name, the job and the zone of a series; there is no zone where it is empty.
+type Set = (&'static str, &'static str, &'static str);
 
 fn pair_of(alloc: Global, name: &str, value: &str) -> Option<(String, String)> {
     let name = String::from_str(alloc, name).ok()?;
     Some((name, String::from_str(alloc, value).ok()?))
 }
 
-/// A label set of a name and a job, and of a zone where it has one.
-fn labels_of(alloc: Global, name: &str, job: &str, zone: &str) -> Option<LabelSet> {
+fn labels_of(alloc: Global, set: &Set) -> Option<LabelSet> {
     let mut pairs = Vec::new(alloc);
-    pairs.push(pair_of(alloc, "__name__", name)?).ok()?;
-    pairs.push(pair_of(alloc, "job", job)?).ok()?;
-    pairs.push(pair_of(alloc, "zone", zone)?).ok()?;
+    for (name, value) in [("__name__", set.0), ("job", set.1), ("zone", set.2)] {
+        pairs.push(pair_of(alloc, name, value)?).ok()?;
+    }
     LabelSet::new(alloc, pairs).ok()
 }
 
-fn batch_of(samples: Vec<(LabelSet, Sample)>) -> Option<Event> {
-    if Event::is_batch(&samples) {
-        Some(Event::batch(samples))
-    } else {
-        None
+/// A sample: its series, its time and its value.
+type Wanted = (Set, i64, i64);
+
+fn samples_of(alloc: Global, wanted: &[Wanted]) -> Option<Vec<(LabelSet, Sample)>> {
+    let mut samples = Vec::new(alloc);
+    for (set, t, v) in wanted {
+        let sample = (labels_of(alloc, set)?, Sample::new(*t, *v));
+        samples.push(sample).ok()?;
     }
+    Some(samples)
 }
 
-/// A sample of `up{job="a"}` with the value 5.
-fn five_at(alloc: Global, t: i64) -> Option<Event> {
-    let sample = (labels_of(alloc, "up", "a", "")?, Sample::new(t, 5));
-    batch_of(Vec::from_array(alloc, [sample]).ok()?)
-}
-
-fn after_five(alloc: Global, at: &Snapshot, t: i64) -> Result<Snapshot, CommitError> {
-    match five_at(alloc, t) {
-        Some(event) => apply(alloc, at, &event),
+/// The snapshot after a batch of these samples.
+fn after(alloc: Global, at: &Snapshot, wanted: &[Wanted]) -> Result<Snapshot, CommitError> {
+    match samples_of(alloc, wanted) {
+        Some(samples) if Event::is_batch(&samples) => apply(alloc, at, &Event::batch(samples)),
+        Some(_) => Err(CommitError::Limit),
         None => Err(CommitError::Memory),
     }
 }
 
-const AFTER_FIVE: Told = [
-    "[[10,1],[15,2]]",
-    "[[10,9]]",
-    HEAD_AT_20,
-    "[[10,9],[15,2],[20,5]]",
-];
+/// Whether a sample more is refused so.
+fn refuses(alloc: Global, at: &Snapshot, sample: Wanted, refusal: CommitError) -> bool {
+    match after(alloc, at, &[sample]) {
+        Ok(_) => false,
+        Err(other) => other == refusal,
+    }
+}
+
+const UP_A: Set = ("up", "a", "");
+
+/// What both blocks and the sample (20, 5) answer together.
+const WITH_HEAD: &str =
+    r#"{"parts":[{"intervals":[{"from":3,"until":4294967296,"verdict":"match"}],"part":"block 0","rows":[{"labels":{"__name__":"up","job":"a"},"samples":[[10,1],[15,2]]}],"separators":[3]},{"intervals":[{"from":3,"until":4294967296,"verdict":"match"}],"part":"block 1","rows":[{"labels":{"__name__":"up","job":"a"},"samples":[[10,9]]}],"separators":[3]},{"intervals":[{"from":1,"until":4294967296,"verdict":"match"}],"part":"head","rows":[{"labels":{"__name__":"up","job":"a"},"samples":[[20,5]]}],"separators":[1]}],"rows":[{"labels":{"__name__":"up","job":"a"},"samples":[[10,9],[15,2],[20,5]]}]}"#;
 
 #[test]
 fn the_head_begins_at_the_end_of_the_blocks(rt: HostRuntime) {
     let alloc = rt.alloc();
-    let opened = store_of(alloc, &A, &B).expect(&rt, "both blocks open");
-    let refusal = after_five(alloc, &opened, 19).err();
-    assert_eq!(rt; refusal, Some(CommitError::OutOfBounds { at: 0 }));
-    let after = after_five(alloc, &opened, 20).ok();
+    let store = store_of(alloc, A_THEN_B.0).expect(&rt, "both blocks open");
+    assert!(rt;
+        refuses(
+            alloc,
+            &store,
+            (UP_A, 19, 5),
+            CommitError::OutOfBounds { at: 0 }
+        )
+    );
+    let after = after(alloc, &store, &[(UP_A, 20, 5)]).ok();
     let after = after.expect(&rt, "it is not below the floor");
-    assert_eq!(rt; is_told(alloc, &after, &AFTER_FIVE), Some(true));
+    assert!(rt; is_text(text_of(alloc, &after, UP), WITH_HEAD));
 }

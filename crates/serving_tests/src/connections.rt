@@ -4,43 +4,14 @@
 ghost use Rattle.std.specs.Prelude.{◌≡◌, []};
 ghost use Rattle.head.specs.Blocks.{opening_of};
 
-use crate::script::Script;
-use query_http::{Outlet, Served, serve_one};
-use requests::{Fault, Status};
-use snapshots::{Committer, Naming, Pass, Seat, Store};
+use crate::script::{Script, Sink};
+use crate::store::{EmptyStore, open_empty};
+use query_http::{Served, serve_one};
+use requests::Status;
+use snapshots::{Naming, Store};
 use std::alloc::Global;
 use std::marker::Brand;
 use std::sync::Wait;
-
-/// What was written, at most so many bytes at a time, with room for so many more.
-#[derive(Drop)]
-struct Sink {
-    bytes: Vec<u8>,
-    room: usize,
-    at_most: usize,
-    failed: u64,
-}
-
-impl Outlet for Sink {
-    ghost use Rattle.std.specs.Prelude.{Some};
-
-    ghost output = { λ s. Some s.bytes.items };
-
-    ghost failed_writes = { λ s. s.failed };
-
-    fn write(&mut self, buf: &[u8]) -> Result<usize, Fault> {
-        let n = buf.len().min(self.room).min(self.at_most);
-        if n > 0 && self.bytes.extend_from_slice(&buf[..n]).is_ok() {
-            self.room -= n;
-            return Ok(n);
-        }
-        if buf.is_empty() {
-            return Ok(0);
-        }
-        self.failed = self.failed.saturating_add(1);
-        Err(Fault)
-    }
-}
 
 /// More bytes than a reply of these tests has.
 const ROOM: usize = 2000;
@@ -61,32 +32,6 @@ fn pieces_of(at_most: usize) -> Edge {
         reads: usize::MAX,
         room: usize::MAX,
     }
-}
-
-/// A committer of an empty store, with the pass and the seat of one worker.
-#[derive(Drop)]
-struct EmptyStore<J: Naming, R: Wait + Drop> {
-    committer: Committer<J, R>,
-    pass: Pass<J>,
-    seat: Seat<J>,
-}
-
-fn open_empty<J: Naming, R: Wait + Drop>(
-    rt: R,
-    alloc: Global,
-    store: Store,
-) -> Option<EmptyStore<J, R>>
-    requires book { store.seen.book ≡ J.book }
-    requires opening { opening_of [] ≡ J.opening }
-{
-    let opened = store.open::<J, R>(rt, alloc, Vec::new(alloc), 1, 1);
-    let (committer, mut passes, mut seats) = opened.ok()?;
-    let (pass, seat) = passes.pop().zip(seats.pop())?;
-    Some(EmptyStore {
-        committer,
-        pass,
-        seat,
-    })
 }
 
 /// How a connection is served, and what is written; nothing where there is no memory to write to.
@@ -128,6 +73,9 @@ fn serve<J: Naming, R: Wait + Drop>(
     Some((served, bytes))
 }
 
+/// How a connection is to be served, and what is to be written.
+type Want<'a> = (Served, &'a [u8]);
+
 /// Whether a connection is served so, and exactly this is written.
 fn is_served<J: Naming, R: Wait + Drop>(
     rt: &impl Wait,
@@ -135,7 +83,7 @@ fn is_served<J: Naming, R: Wait + Drop>(
     store: &mut EmptyStore<J, R>,
     input: &[u8],
     edge: Edge,
-    want: (Served, &[u8]),
+    want: Want<'_>,
 ) -> bool {
     match serve(rt, alloc, store, input, edge) {
         Some((served, bytes)) => served == want.0 && bytes.as_slice() == want.1,
@@ -149,19 +97,33 @@ fn is_served_again<J: Naming, R: Wait + Drop>(
     alloc: Global,
     store: &mut EmptyStore<J, R>,
     input: &[u8],
-    want: (Served, &[u8]),
+    edge: Edge,
+    want: Want<'_>,
 ) -> bool {
-    match serve(rt, alloc, store, input, pieces_of(7)) {
-        Some((Served::NoMemory, bytes)) => bytes.is_empty()
-            && is_served(rt, alloc, store, input, pieces_of(7), want),
+    match serve(rt, alloc, store, input, edge) {
+        Some((Served::NoMemory, bytes)) => {
+            bytes.is_empty() && is_served(rt, alloc, store, input, edge, want)
+        }
         Some((served, bytes)) => served == want.0 && bytes.as_slice() == want.1,
-        None => is_served(rt, alloc, store, input, pieces_of(7), want),
+        None => is_served(rt, alloc, store, input, edge, want),
     }
 }
 
 /// The six series of the worked rows, each with two samples.
 const WRITE_SIX: &[u8] =
     b"POST /write HTTP/1.1\r\nContent-Length: 417\r\n\r\n[{\"labels\":{\"__name__\":\"up\",\"job\":\"a\"},\"samples\":[[10,1],[20,1]]},{\"labels\":{\"__name__\":\"up\",\"job\":\"b\"},\"samples\":[[10,2],[20,2]]},{\"labels\":{\"__name__\":\"up\",\"job\":\"b\",\"zone\":\"x\"},\"samples\":[[10,3],[20,3]]},{\"labels\":{\"__name__\":\"down\",\"job\":\"a\"},\"samples\":[[10,4],[20,4]]},{\"labels\":{\"__name__\":\"down\",\"job\":\"b\"},\"samples\":[[10,5],[20,5]]},{\"labels\":{\"__name__\":\"up\",\"job\":\"a\",\"zone\":\"x\"},\"samples\":[[10,6],[20,6]]}]";
+
+/// The first three of the six series.
+const WRITE_FIRST: &[u8] =
+    b"POST /write HTTP/1.1\r\nContent-Length: 207\r\n\r\n[{\"labels\":{\"__name__\":\"up\",\"job\":\"a\"},\"samples\":[[10,1],[20,1]]},{\"labels\":{\"__name__\":\"up\",\"job\":\"b\"},\"samples\":[[10,2],[20,2]]},{\"labels\":{\"__name__\":\"up\",\"job\":\"b\",\"zone\":\"x\"},\"samples\":[[10,3],[20,3]]}]";
+
+/// The last three.
+const WRITE_SECOND: &[u8] =
+    b"POST /write HTTP/1.1\r\nContent-Length: 211\r\n\r\n[{\"labels\":{\"__name__\":\"down\",\"job\":\"a\"},\"samples\":[[10,4],[20,4]]},{\"labels\":{\"__name__\":\"down\",\"job\":\"b\"},\"samples\":[[10,5],[20,5]]},{\"labels\":{\"__name__\":\"up\",\"job\":\"a\",\"zone\":\"x\"},\"samples\":[[10,6],[20,6]]}]";
+
+/// The newest sample of the first series again.
+const WRITE_REPEAT: &[u8] =
+    b"POST /write HTTP/1.1\r\nContent-Length: 59\r\n\r\n[{\"labels\":{\"__name__\":\"up\",\"job\":\"a\"},\"samples\":[[20,1]]}]";
 
 /// A new sample, and another value at the newest time of the second series.
 const WRITE_TWO: &[u8] =
@@ -236,74 +198,125 @@ const ONE_SELECTED: &[u8] =
 const EMPTY_SELECTED: &[u8] =
     b"HTTP/1.1 200 OK\r\nContent-Type: application/json\r\nContent-Length: 78\r\nConnection: close\r\n\r\n{\"parts\":[{\"intervals\":[],\"part\":\"head\",\"rows\":[],\"separators\":[]}],\"rows\":[]}";
 
-/// Requests to one store, and the reply to each.
-const SESSION: &[(&[u8], Status, &[u8])] = &[
-    (WRITE_SIX, Status::Done, DONE),
-    (SELECT, Status::Done, SELECTED),
-    (WRITE_TWO, Status::Conflict, DUPLICATE),
-    (NONE, Status::NotFound, NO_PATH),
-    (SELECT, Status::Done, SELECTED),
-    (CUT, Status::Done, DONE),
-    (SELECT, Status::Done, CUT_SELECTED),
-    (CUT, Status::Conflict, NO_CUT),
-    (WRITE_EARLY, Status::Conflict, BELOW),
-    (WRITE_ONE, Status::Done, DONE),
-    (WRITE_ONE, Status::Done, DONE),
-    (SELECT_LATER, Status::Done, LATER_SELECTED),
-    (DELETE, Status::Done, DONE),
-    (SELECT, Status::Done, NONE_SELECTED),
+/// The reply to the query where a deletion has left the first series one sample, which came later,
+/// and the last one none.
+const SILENT_SELECTED: &[u8] =
+    b"HTTP/1.1 200 OK\r\nContent-Type: application/json\r\nContent-Length: 350\r\nConnection: close\r\n\r\n{\"parts\":[{\"intervals\":[{\"from\":1,\"until\":2,\"verdict\":\"match\"},{\"from\":2,\"until\":4,\"verdict\":1},{\"from\":4,\"until\":6,\"verdict\":0},{\"from\":6,\"until\":4294967296,\"verdict\":\"none\"}],\"part\":\"head\",\"rows\":[{\"labels\":{\"__name__\":\"up\",\"job\":\"a\"},\"samples\":[[30,5]]}],\"separators\":[1,2,4,6]}],\"rows\":[{\"labels\":{\"__name__\":\"up\",\"job\":\"a\"},\"samples\":[[30,5]]}]}";
+
+/// The reply to the query where a deletion has left no series that is asked for a sample.
+const ALL_SILENT_SELECTED: &[u8] =
+    b"HTTP/1.1 200 OK\r\nContent-Type: application/json\r\nContent-Length: 235\r\nConnection: close\r\n\r\n{\"parts\":[{\"intervals\":[{\"from\":1,\"until\":2,\"verdict\":\"none\"},{\"from\":2,\"until\":4,\"verdict\":1},{\"from\":4,\"until\":6,\"verdict\":0},{\"from\":6,\"until\":4294967296,\"verdict\":\"none\"}],\"part\":\"head\",\"rows\":[],\"separators\":[1,2,4,6]}],\"rows\":[]}";
+
+/// The reply to the query where the last three series came first.
+const TURNED_SELECTED: &[u8] =
+    b"HTTP/1.1 200 OK\r\nContent-Type: application/json\r\nContent-Length: 517\r\nConnection: close\r\n\r\n{\"parts\":[{\"intervals\":[{\"from\":1,\"until\":3,\"verdict\":0},{\"from\":3,\"until\":4,\"verdict\":\"match\"},{\"from\":4,\"until\":5,\"verdict\":\"match\"},{\"from\":5,\"until\":4294967296,\"verdict\":1}],\"part\":\"head\",\"rows\":[{\"labels\":{\"__name__\":\"up\",\"job\":\"a\"},\"samples\":[[10,1],[20,1]]},{\"labels\":{\"__name__\":\"up\",\"job\":\"a\",\"zone\":\"x\"},\"samples\":[[10,6],[20,6]]}],\"separators\":[1,3,4,5]}],\"rows\":[{\"labels\":{\"__name__\":\"up\",\"job\":\"a\"},\"samples\":[[10,1],[20,1]]},{\"labels\":{\"__name__\":\"up\",\"job\":\"a\",\"zone\":\"x\"},\"samples\":[[10,6],[20,6]]}]}";
+
+/// Each series, over all times.
+const SELECT_ALL: &[u8] =
+    b"GET /select?selector=%7Bx%3D%22%22%7D&from=-4611686018427387904&to=4611686018427387903 HTTP/1.1\r\n\r\n";
+
+/// Rows in their order, as compact JSON: texts with each kind of escape, and the least and the
+/// greatest numbers.
+const WRITE_ODD: &[u8] =
+    b"POST /write HTTP/1.1\r\nContent-Length: 294\r\n\r\n[{\"labels\":{\"A\":\"\xC3\xA9\\u0000\\u001f\"},\"samples\":[[0,-1]]},{\"labels\":{\"_\":\"\\\"\\\\\\b\\f\\n\\r\\t/\"},\"samples\":[[-1,0],[1,1]]},{\"labels\":{\"__name__\":\"a\"},\"samples\":[[-4611686018427387904,-9223372036854775808],[4611686018427387903,9223372036854775807]]},{\"labels\":{\"__name__\":\"a\",\"b\":\" \"},\"samples\":[[7,7]]}]";
+
+/// The end of a reply with these rows.
+const ODD_ROWS: &[u8] =
+    b"[{\"labels\":{\"A\":\"\xC3\xA9\\u0000\\u001f\"},\"samples\":[[0,-1]]},{\"labels\":{\"_\":\"\\\"\\\\\\b\\f\\n\\r\\t/\"},\"samples\":[[-1,0],[1,1]]},{\"labels\":{\"__name__\":\"a\"},\"samples\":[[-4611686018427387904,-9223372036854775808],[4611686018427387903,9223372036854775807]]},{\"labels\":{\"__name__\":\"a\",\"b\":\" \"},\"samples\":[[7,7]]}]}";
+
+/// How the connections of a step go, which bring one text and are to get another.
+enum Way {
+    /// The one connection is replied to with this status, and gets the text.
+    Replied(Status),
+    /// The one connection is replied to with success, and gets what ends with the text.
+    RepliedBefore,
+    /// The one connection is closed.
+    Closed,
+    /// Of connections that take a byte more each, each gets so many of the text, and its writer
+    /// fails.
+    CutShort,
+    /// Of so many connections that give a piece more each, each gets nothing, and its reader fails.
+    Unread(usize),
+}
+
+/// Requests to one store, how each goes, and its reply.
+type Session = &'static [(&'static [u8], Way, &'static [u8])];
+
+/// Each kind of change, and the query between them.
+const SESSION: Session = &[
+    (WRITE_SIX, Way::Replied(Status::Done), DONE),
+    (SELECT, Way::Replied(Status::Done), SELECTED),
+    (WRITE_TWO, Way::Replied(Status::Conflict), DUPLICATE),
+    (NONE, Way::Replied(Status::NotFound), NO_PATH),
+    (SELECT, Way::Replied(Status::Done), SELECTED),
+    (CUT, Way::Replied(Status::Done), DONE),
+    (SELECT, Way::Replied(Status::Done), CUT_SELECTED),
+    (CUT, Way::Replied(Status::Conflict), NO_CUT),
+    (WRITE_EARLY, Way::Replied(Status::Conflict), BELOW),
+    (WRITE_ONE, Way::Replied(Status::Done), DONE),
+    (WRITE_ONE, Way::Replied(Status::Done), DONE),
+    (SELECT_LATER, Way::Replied(Status::Done), LATER_SELECTED),
+    (DELETE, Way::Replied(Status::Done), DONE),
+    (SELECT, Way::Replied(Status::Done), NONE_SELECTED),
 ];
 
-/// Whether each request of the session gets its reply.
-fn is_session<J: Naming, R: Wait>(rt: &R, alloc: Global, store: Store, edge: Edge) -> bool
-    requires book { store.seen.book ≡ J.book }
-    requires opening { opening_of [] ≡ J.opening }
-{
-    let Some(mut store) = open_empty::<J, &R>(rt, alloc, store) else {
-        return false;
-    };
-    for (input, status, text) in SESSION {
-        let want = (Served::Replied(*status), *text);
-        if !is_served(rt, alloc, &mut store, input, edge, want) {
-            return false;
-        }
-    }
-    true
-}
+/// A deleted sample that is written again stays deleted, and a later one stands beside a run of
+/// series without a sample.
+const SILENT_SESSION: Session = &[
+    (WRITE_SIX, Way::Replied(Status::Done), DONE),
+    (DELETE, Way::Replied(Status::Done), DONE),
+    (WRITE_REPEAT, Way::Replied(Status::Done), DONE),
+    (SELECT, Way::Replied(Status::Done), ALL_SILENT_SELECTED),
+    (WRITE_ONE, Way::Replied(Status::Done), DONE),
+    (SELECT, Way::Replied(Status::Done), SILENT_SELECTED),
+];
 
-/// Whether each request of the session gets its reply, at once or where it is made again; nothing
-/// where no store was opened.
-fn is_session_again<J: Naming, R: Wait>(rt: &R, alloc: Global, store: Store) -> Option<bool>
-    requires book { store.seen.book ≡ J.book }
-    requires opening { opening_of [] ≡ J.opening }
-{
-    let mut store = open_empty::<J, &R>(rt, alloc, store)?;
-    for (input, status, text) in SESSION {
-        let want = (Served::Replied(*status), *text);
-        if !is_served_again(rt, alloc, &mut store, input, want) {
-            return Some(false);
-        }
-    }
-    Some(true)
-}
+/// The two batches one after another, as the demo commits them.
+const ORDERED_SESSION: Session = &[
+    (WRITE_FIRST, Way::Replied(Status::Done), DONE),
+    (WRITE_SECOND, Way::Replied(Status::Done), DONE),
+    (SELECT, Way::Replied(Status::Done), SELECTED),
+];
 
-/// `make allocations` runs this once for each allocation, which is refused.
-#[test]
-fn a_connection_refused_memory_is_served_when_made_again(rt: HostRuntime) {
-    let alloc = rt.alloc();
-    let served = match is_session_again::<Brand, _>(&rt, alloc, Store::new()) {
-        Some(served) => served,
-        None => is_session_again::<Brand, _>(&rt, alloc, Store::new()) == Some(true),
-    };
-    assert!(rt; served);
-}
+/// The second batch before the first: the same rows, and another certificate.
+const TURNED_SESSION: Session = &[
+    (WRITE_SECOND, Way::Replied(Status::Done), DONE),
+    (WRITE_FIRST, Way::Replied(Status::Done), DONE),
+    (SELECT, Way::Replied(Status::Done), TURNED_SELECTED),
+];
 
-#[test]
-fn a_session_is_replied_to_in_any_pieces(rt: HostRuntime) {
-    for at_most in [usize::MAX, 7, 1] {
-        let edge = pieces_of(at_most);
-        let served = is_session::<Brand, _>(&rt, rt.alloc(), Store::new(), edge);
-        assert!(rt; served, "{at_most} bytes at a time");
+/// An event stands whose reply was cut short; a query's reply is cut short so too.
+const CUT_SHORT: Session = &[
+    (WRITE_ONE, Way::CutShort, DONE),
+    (SELECT, Way::CutShort, ONE_SELECTED),
+];
+
+/// Nothing changes where a read fails, in any of the pieces that the request comes in, or nothing
+/// comes.
+const UNREAD: Session = &[
+    (WRITE_ONE, Way::Unread(15), b""),
+    (b"", Way::Closed, b""),
+    (SELECT, Way::Replied(Status::Done), EMPTY_SELECTED),
+];
+
+/// The rows that are written to an empty store are the rows of a reply, byte for byte.
+const READ_BACK: Session = &[
+    (WRITE_ODD, Way::Replied(Status::Done), DONE),
+    (SELECT_ALL, Way::RepliedBefore, ODD_ROWS),
+];
+
+/// Whether a reply ends with this.
+fn is_replied_before<J: Naming, R: Wait + Drop>(
+    rt: &impl Wait,
+    alloc: Global,
+    store: &mut EmptyStore<J, R>,
+    input: &[u8],
+    edge: Edge,
+    end: &[u8],
+) -> bool {
+    match serve(rt, alloc, store, input, edge) {
+        Some((served, bytes)) => { served == Served::Replied(Status::Done) && bytes.ends_with(end) }
+        None => false,
     }
 }
 
@@ -313,12 +326,13 @@ fn is_cut_short<J: Naming, R: Wait + Drop>(
     alloc: Global,
     store: &mut EmptyStore<J, R>,
     input: &[u8],
+    at_most: usize,
     text: &[u8],
 ) -> bool {
     for room in 0..text.len() {
         let edge = Edge {
             room,
-            ..pieces_of(7)
+            ..pieces_of(at_most)
         };
         let want = (Served::WriteFault, &text[..room]);
         if !is_served(rt, alloc, store, input, edge, want) {
@@ -328,114 +342,131 @@ fn is_cut_short<J: Naming, R: Wait + Drop>(
     true
 }
 
-/// Whether an event whose reply is cut short stands, and a query's reply is cut short so too.
-fn stands<J: Naming, R: Wait>(rt: &R, alloc: Global, store: Store) -> bool
+/// Whether nothing is written where each of so many reads fails.
+fn is_unread<J: Naming, R: Wait + Drop>(
+    rt: &impl Wait,
+    alloc: Global,
+    store: &mut EmptyStore<J, R>,
+    input: &[u8],
+    at_most: usize,
+    count: usize,
+) -> bool {
+    for reads in 0..count {
+        let edge = Edge {
+            reads,
+            ..pieces_of(at_most)
+        };
+        let want: Want<'_> = (Served::ReadFault, b"");
+        if !is_served(rt, alloc, store, input, edge, want) {
+            return false;
+        }
+    }
+    true
+}
+
+/// Whether the connections of a step go so, in pieces of so many bytes; what is refused memory is
+/// made again where this says so.
+fn goes<J: Naming, R: Wait + Drop>(
+    rt: &impl Wait,
+    alloc: Global,
+    store: &mut EmptyStore<J, R>,
+    step: &(&[u8], Way, &[u8]),
+    at_most: usize,
+    again: bool,
+) -> bool {
+    let (input, way, text) = step;
+    let edge = pieces_of(at_most);
+    match way {
+        Way::Replied(status) => {
+            let want = (Served::Replied(*status), *text);
+            if again {
+                is_served_again(rt, alloc, store, input, edge, want)
+            } else {
+                is_served(rt, alloc, store, input, edge, want)
+            }
+        }
+        Way::RepliedBefore => is_replied_before(rt, alloc, store, input, edge, text),
+        Way::Closed => is_served(rt, alloc, store, input, edge, (Served::Closed, *text)),
+        Way::CutShort => is_cut_short(rt, alloc, store, input, at_most, text),
+        Way::Unread(count) => is_unread(rt, alloc, store, input, at_most, *count),
+    }
+}
+
+/// Whether each step of a session goes as it says; nothing where no store was opened.
+fn is_session<J: Naming, R: Wait>(
+    rt: &R,
+    alloc: Global,
+    store: Store,
+    session: Session,
+    at_most: usize,
+    again: bool,
+) -> Option<bool>
     requires book { store.seen.book ≡ J.book }
     requires opening { opening_of [] ≡ J.opening }
 {
-    let Some(mut store) = open_empty::<J, &R>(rt, alloc, store) else {
-        return false;
-    };
-    is_cut_short(rt, alloc, &mut store, WRITE_ONE, DONE)
-        && is_cut_short(rt, alloc, &mut store, SELECT, ONE_SELECTED)
+    let mut store = open_empty::<J, &R>(rt, alloc, store)?;
+    for step in session {
+        if !goes(rt, alloc, &mut store, step, at_most, again) {
+            return Some(false);
+        }
+    }
+    Some(true)
+}
+
+/// The same, in pieces of so many bytes, where a store was opened.
+fn is_held<R: Wait>(rt: &R, alloc: Global, session: Session, at_most: usize) -> bool {
+    match is_session::<Brand, R>(rt, alloc, Store::new(), session, at_most, false) {
+        Some(held) => held,
+        None => false,
+    }
+}
+
+/// The same, where what is refused memory is made again, the store too.
+fn is_held_again<R: Wait>(rt: &R, alloc: Global, session: Session) -> bool {
+    match is_session::<Brand, R>(rt, alloc, Store::new(), session, 7, true) {
+        Some(held) => held,
+        None => is_held(rt, alloc, session, 7),
+    }
+}
+
+/// `make allocations` runs this once for each allocation, which is refused.
+#[test]
+fn a_connection_refused_memory_is_served_when_made_again(rt: HostRuntime) {
+    assert!(rt; is_held_again(&rt, rt.alloc(), SESSION));
+}
+
+#[test]
+fn a_session_is_replied_to_in_any_pieces(rt: HostRuntime) {
+    for at_most in [usize::MAX, 7, 1] {
+        assert!(rt;
+            is_held(&rt, rt.alloc(), SESSION, at_most),
+            "{at_most} bytes at a time"
+        );
+    }
+}
+
+#[test]
+fn a_deleted_sample_stays_deleted(rt: HostRuntime) {
+    assert!(rt; is_held(&rt, rt.alloc(), SILENT_SESSION, 7));
+}
+
+#[test]
+fn the_order_of_two_batches_is_that_of_their_references(rt: HostRuntime) {
+    assert!(rt; is_held(&rt, rt.alloc(), ORDERED_SESSION, 7));
+    assert!(rt; is_held(&rt, rt.alloc(), TURNED_SESSION, 7));
 }
 
 #[test]
 fn an_event_stands_where_its_reply_was_cut_short(rt: HostRuntime) {
-    assert!(rt; stands::<Brand, _>(&rt, rt.alloc(), Store::new()));
-}
-
-/// How many pieces of seven bytes `WRITE_ONE` comes in.
-const READS: usize = 15;
-
-/// Whether nothing is written and nothing changes where a read fails, or nothing comes.
-fn is_unread<J: Naming, R: Wait>(rt: &R, alloc: Global, store: Store) -> bool
-    requires book { store.seen.book ≡ J.book }
-    requires opening { opening_of [] ≡ J.opening }
-{
-    let Some(mut store) = open_empty::<J, &R>(rt, alloc, store) else {
-        return false;
-    };
-    for reads in 0..READS {
-        let edge = Edge {
-            reads,
-            ..pieces_of(7)
-        };
-        if !is_served(
-            rt,
-            alloc,
-            &mut store,
-            WRITE_ONE,
-            edge,
-            (Served::ReadFault, b""),
-        ) {
-            return false;
-        }
-    }
-    is_served(
-        rt,
-        alloc,
-        &mut store,
-        b"",
-        pieces_of(7),
-        (Served::Closed, b""),
-    ) && is_served(
-        rt,
-        alloc,
-        &mut store,
-        SELECT,
-        pieces_of(7),
-        (Served::Replied(Status::Done), EMPTY_SELECTED),
-    )
+    assert!(rt; is_held(&rt, rt.alloc(), CUT_SHORT, 7));
 }
 
 #[test]
 fn nothing_changes_where_a_read_fails(rt: HostRuntime) {
-    assert!(rt; is_unread::<Brand, _>(&rt, rt.alloc(), Store::new()));
-}
-
-/// Rows in their order, as compact JSON: texts with each kind of escape, and the least and the
-/// greatest numbers.
-const ODD_ROWS: &str =
-    r#"[{"labels":{"A":"é\u0000\u001f"},"samples":[[0,-1]]},{"labels":{"_":"\"\\\b\f\n\r\t/"},"samples":[[-1,0],[1,1]]},{"labels":{"__name__":"a"},"samples":[[-4611686018427387904,-9223372036854775808],[4611686018427387903,9223372036854775807]]},{"labels":{"__name__":"a","b":" "},"samples":[[7,7]]}]"#;
-
-/// Each series, over all times.
-const SELECT_ALL: &[u8] =
-    b"GET /select?selector=%7Bx%3D%22%22%7D&from=-4611686018427387904&to=4611686018427387903 HTTP/1.1\r\n\r\n";
-
-/// Whether the rows that are written to an empty store are the rows of a reply, byte for byte.
-fn is_read_back<J: Naming, R: Wait>(rt: &R, alloc: Global, store: Store) -> bool
-    requires book { store.seen.book ≡ J.book }
-    requires opening { opening_of [] ≡ J.opening }
-{
-    let Some(mut store) = open_empty::<J, &R>(rt, alloc, store) else {
-        return false;
-    };
-    let len = ODD_ROWS.len();
-    let head = format!(in alloc; "POST /write HTTP/1.1\r\nContent-Length: {len}\r\n\r\n{ODD_ROWS}");
-    let Ok(input) = head else {
-        return false;
-    };
-    let want = (Served::Replied(Status::Done), DONE);
-    if !is_served(rt, alloc, &mut store, input.as_bytes(), pieces_of(7), want) {
-        return false;
-    }
-    match serve(rt, alloc, &mut store, SELECT_ALL, pieces_of(7)) {
-        Some((served, bytes)) => served == Served::Replied(Status::Done)
-            && has_rows(bytes.as_slice(), ODD_ROWS.as_bytes()),
-        None => false,
-    }
-}
-
-/// Whether a reply ends with these rows.
-fn has_rows(reply: &[u8], rows: &[u8]) -> bool {
-    match reply.strip_suffix(b"}") {
-        Some(front) => front.ends_with(rows),
-        None => false,
-    }
+    assert!(rt; is_held(&rt, rt.alloc(), UNREAD, 7));
 }
 
 #[test]
 fn rows_are_read_back(rt: HostRuntime) {
-    assert!(rt; is_read_back::<Brand, _>(&rt, rt.alloc(), Store::new()));
+    assert!(rt; is_held(&rt, rt.alloc(), READ_BACK, 7));
 }

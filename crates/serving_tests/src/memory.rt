@@ -3,58 +3,14 @@
 ghost use Rattle.std.specs.Prelude.{◌≡◌, []};
 ghost use Rattle.head.specs.Blocks.{opening_of};
 
-use query_http::{Outlet, Served};
-use requests::{Fault, Inlet};
+use crate::script::{Script, Sink};
+use crate::store::{EmptyStore, open_empty};
+use query_http::Served;
 use server::{Connections, work};
 use snapshots::{Naming, Store};
 use std::alloc::Global;
 use std::marker::Brand;
 use std::sync::Wait;
-
-/// Bytes that come seven at a time.
-#[derive(Drop)]
-pub struct Script<'a> {
-    rest: &'a [u8],
-}
-
-impl Inlet for Script<'_> {
-    ghost use Rattle.std.specs.Prelude.{Some};
-
-    ghost input = { λ s. Some s.rest.now };
-
-    ghost failed_reads = { λ s. 0 };
-
-    fn read(&mut self, buf: &mut [u8]) -> Result<usize, Fault> {
-        let n = self.rest.len().min(buf.len()).min(7);
-        let (front, others) = self.rest.split_at(n);
-        buf[..n].copy_from_slice(front);
-        self.rest = others;
-        Ok(n)
-    }
-}
-
-/// What was written to one connection.
-#[derive(Drop)]
-pub struct Sheet {
-    bytes: Vec<u8>,
-    failed: u64,
-}
-
-impl Outlet for Sheet {
-    ghost use Rattle.std.specs.Prelude.{Some};
-
-    ghost output = { λ s. Some s.bytes.items };
-
-    ghost failed_writes = { λ s. s.failed };
-
-    fn write(&mut self, buf: &[u8]) -> Result<usize, Fault> {
-        if self.bytes.extend_from_slice(buf).is_ok() {
-            return Ok(buf.len());
-        }
-        self.failed = self.failed.saturating_add(1);
-        Err(Fault)
-    }
-}
 
 /// A connection that has ended.
 #[derive(Drop)]
@@ -78,25 +34,38 @@ impl<'a> Connections for Texts<'a> {
 
     type Reader = Script<'a>;
 
-    type Writer = Sheet;
+    type Writer = Sink;
 
     ghost coming = { λ _. None };
 
     ghost past = { λ t. if t.kept_all then Some (map
         (λ e. record { written = Some e.written.items; served = e.served }) t.past.items) else None };
 
-    fn accept(&mut self) -> Option<(Script<'a>, Sheet)> {
-        let next = self.all.get(self.next)?;
+    fn accept(&mut self) -> Option<(Script<'a>, Sink)> {
+        let text = self.all.get(self.next)?;
         self.next = self.next.saturating_add(1);
-        let sheet = Sheet {
-            bytes: Vec::new(self.alloc),
+        let reader = Script {
+            rest: text,
+            at_most: 7,
+            reads: usize::MAX,
             failed: 0,
         };
-        Some((Script { rest: next }, sheet))
+        let writer = Sink {
+            bytes: Vec::new(self.alloc),
+            room: usize::MAX,
+            at_most: usize::MAX,
+            failed: 0,
+        };
+        Some((reader, writer))
     }
 
-    fn close(&mut self, _reader: Script<'a>, writer: Sheet, served: Served) {
-        let Sheet { bytes, failed: _ } = writer;
+    fn close(&mut self, _reader: Script<'a>, writer: Sink, served: Served) {
+        let Sink {
+            bytes,
+            room: _,
+            at_most: _,
+            failed: _,
+        } = writer;
         let ended = Ended {
             written: bytes,
             served,
@@ -118,9 +87,11 @@ fn work_alone<J: Naming, R: Wait>(
     requires book { store.seen.book ≡ J.book }
     requires opening { opening_of [] ≡ J.opening }
 {
-    let opened = store.open::<J, &R>(rt, alloc, Vec::new(alloc), 1, 1);
-    let (committer, mut passes, mut seats) = opened.ok()?;
-    let (mut pass, mut seat) = passes.pop().zip(seats.pop())?;
+    let EmptyStore {
+        committer,
+        mut pass,
+        mut seat,
+    } = open_empty::<J, &R>(rt, alloc, store)?;
     Some(work(rt, alloc, texts, &mut pass, &mut seat, &committer, most))
 }
 
@@ -135,16 +106,12 @@ fn written(alloc: Global, past: &[Ended]) -> Option<Vec<u8>> {
 
 /// How many of these connections one worker of an empty store serves, with room for so many, and
 /// all that it writes.
-pub fn served<J: Naming, R: Wait>(
+pub fn served<R: Wait>(
     rt: &R,
     alloc: Global,
-    store: Store,
     connections: &[&[u8]],
     most: u64,
-) -> Option<(u64, Vec<u8>)>
-    requires book { store.seen.book ≡ J.book }
-    requires opening { opening_of [] ≡ J.opening }
-{
+) -> Option<(u64, Vec<u8>)> {
     let mut texts = Texts {
         alloc,
         all: connections,
@@ -152,7 +119,7 @@ pub fn served<J: Naming, R: Wait>(
         past: Vec::new(alloc),
         kept_all: true,
     };
-    let count = work_alone::<J, R>(rt, alloc, store, &mut texts, most)?;
+    let count = work_alone::<Brand, R>(rt, alloc, Store::new(), &mut texts, most)?;
     let all = written(alloc, &texts.past)?;
     Some((count, all))
 }
@@ -171,7 +138,7 @@ const REPLIES: &[u8] =
 
 /// Whether a worker with room for so many of the four serves so many, and writes this.
 fn serves<R: Wait>(rt: &R, alloc: Global, most: u64, count: u64, want: &[u8]) -> bool {
-    match served::<Brand, R>(rt, alloc, Store::new(), FOUR, most) {
+    match served(rt, alloc, FOUR, most) {
         Some((found, text)) => found == count && text.as_slice() == want,
         None => false,
     }

@@ -1,5 +1,6 @@
-//! A reader over memory.
+//! Readers and writers over memory.
 
+use query_http::Outlet;
 use requests::{Fault, Inlet};
 
 /// Bytes that come at most so many at a time, in so many reads; each further read fails.
@@ -29,5 +30,35 @@ impl Inlet for Script<'_> {
         self.rest = others;
         self.reads -= 1;
         Ok(n)
+    }
+}
+
+/// What was written, at most so many bytes at a time, with room for so many more.
+#[derive(Drop)]
+pub struct Sink {
+    pub bytes: Vec<u8>,
+    pub room: usize,
+    pub at_most: usize,
+    pub failed: u64,
+}
+
+impl Outlet for Sink {
+    ghost use Rattle.std.specs.Prelude.{Some};
+
+    ghost output = { λ s. Some s.bytes.items };
+
+    ghost failed_writes = { λ s. s.failed };
+
+    fn write(&mut self, buf: &[u8]) -> Result<usize, Fault> {
+        let n = buf.len().min(self.room).min(self.at_most);
+        if n > 0 && self.bytes.extend_from_slice(&buf[..n]).is_ok() {
+            self.room -= n;
+            return Ok(n);
+        }
+        if buf.is_empty() {
+            return Ok(0);
+        }
+        self.failed = self.failed.saturating_add(1);
+        Err(Fault)
     }
 }

@@ -70,8 +70,8 @@ fn serve_beside<
     )
 }
 
-/// The replies to these requests by two workers of an empty store, of two connections each, while so
-/// many clients stay silent.
+/// The replies to these requests by two workers of an empty store, of two connections each, while
+/// so many clients stay silent.
 fn replies_of_two<
     J: Naming + Send + Sync,
     R: Threads + Wait + Clock + Eprint + Net<Stream = TcpStream> + Sync,
@@ -90,7 +90,7 @@ fn replies_of_two<
     let workers = Workers::<J, &R>::open(rt, alloc, store, Vec::new(alloc), 2).ok()?;
     let asked = (silent, requests);
     let (served, replies) = serve_beside(rt, alloc, workers, listener, port, asked);
-    replies.filter(|_| served)
+    if served { replies } else { None }
 }
 
 const WRITE: &[u8] =
@@ -102,7 +102,8 @@ const CUT: &[u8] = b"POST /cut HTTP/1.1\r\nContent-Length: 9\r\n\r\n{\"at\":31}"
 
 const SELECT: &[u8] = b"GET /select?selector=up&from=31&to=100 HTTP/1.1\r\n\r\n";
 
-/// The replies of a store to which a sample is written and then cut away, and to a path that is none.
+/// The replies of a store to which a sample is written and then cut away, and to a path that is
+/// none.
 const REPLIES: &[u8] =
     b"HTTP/1.1 200 OK\r\nContent-Type: application/json\r\nContent-Length: 11\r\nConnection: close\r\n\r\n{\"ok\":true}HTTP/1.1 404 Not Found\r\nContent-Type: application/json\r\nContent-Length: 16\r\nConnection: close\r\n\r\n{\"refused\":\"H3\"}HTTP/1.1 200 OK\r\nContent-Type: application/json\r\nContent-Length: 11\r\nConnection: close\r\n\r\n{\"ok\":true}HTTP/1.1 200 OK\r\nContent-Type: application/json\r\nContent-Length: 112\r\nConnection: close\r\n\r\n{\"parts\":[{\"part\":\"block 0\",\"skipped\":true},{\"intervals\":[],\"part\":\"head\",\"rows\":[],\"separators\":[]}],\"rows\":[]}";
 
@@ -116,25 +117,27 @@ fn is_replied<R: Threads + Wait + Clock + Eprint + Net<Stream = TcpStream> + Syn
     listener: &TcpListener,
     silent: usize,
     requests: &[&[u8]],
-    replies: &[u8],
+    want: &[u8],
 ) -> bool {
-    let found = replies_of_two::<Brand, R>(rt, alloc, Store::new(), listener, silent, requests);
-    found.is_some_and(|text| text.as_slice() == replies)
+    match replies_of_two::<Brand, R>(rt, alloc, Store::new(), listener, silent, requests) {
+        Some(replies) => replies.as_slice() == want,
+        None => false,
+    }
 }
 
 #[test]
 fn two_workers_serve_one_store(rt: HostRuntime) {
-    let alloc = rt.alloc();
+    let listener = TcpListener::bind(&rt, "127.0.0.1:0").ok();
+    let listener = listener.expect(&rt, "a port is free");
     let requests = [WRITE, NOWHERE, CUT, SELECT];
-    let listener = TcpListener::bind(&rt, "127.0.0.1:0");
-    assert!(rt; listener.is_ok_and(|it| is_replied(&rt, alloc, &it, 0, &requests, REPLIES)));
+    assert!(rt; is_replied(&rt, rt.alloc(), &listener, 0, &requests, REPLIES));
 }
 
 /// Two workers, two clients that say nothing, and one that asks twice.
 #[test]
 fn silent_clients_hold_no_worker_for_ever(rt: HostRuntime) {
-    let alloc = rt.alloc();
+    let listener = TcpListener::bind(&rt, "127.0.0.1:0").ok();
+    let listener = listener.expect(&rt, "a port is free");
     let requests = [NOWHERE, NOWHERE];
-    let listener = TcpListener::bind(&rt, "127.0.0.1:0");
-    assert!(rt; listener.is_ok_and(|it| is_replied(&rt, alloc, &it, 2, &requests, NOWHERE_TWICE)));
+    assert!(rt; is_replied(&rt, rt.alloc(), &listener, 2, &requests, NOWHERE_TWICE));
 }

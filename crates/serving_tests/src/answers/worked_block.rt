@@ -1,7 +1,7 @@
-//! The worked block of docs/FORMATS.md, spelled by hand: six series of one sample at time 10, at the references 4 to 9.
+//! The worked block of docs/FORMATS.md, spelled by hand: six series of one sample at time 10, at
+//! the references 4 to 9.
 
-use super::{NO_DELETIONS, Pieces, SEGMENT, joined, opened, query, text_of};
-use block::{Block, Range};
+use super::{Asked, NO_DELETIONS, Pieces, Row, SEGMENT, Spelled, is_answered, joined};
 use std::alloc::Global;
 
 /// Magic, version, symbols, and zeros up to byte 64.
@@ -12,7 +12,8 @@ const SYMBOLS: Pieces = &[
     b"\x00\x00\x00\x00\x00\x00\x00\x00\x00\x00\x00\x00\x00\x00\x00",
 ];
 
-/// The series, from byte 64: zeros where the one before left a gap, the body behind its length, the checksum.
+/// The series, from byte 64: zeros where the one before left a gap, the body behind its length, the
+/// checksum.
 const SERIES: Pieces = &[
     b"\x09\x02\x00\x03\x04\x01\x01\x14\x00\x08\xDD\x75\xB4\xA6",
     b"\x00\x00\x09\x02\x00\x03\x04\x02\x01\x14\x00\x20\x3F\x22\xD2\x43",
@@ -22,7 +23,8 @@ const SERIES: Pieces = &[
     b"\x00\x00\x0C\x03\x00\x05\x04\x02\x07\x06\x01\x14\x00\x80\x01\x0B\x1D\x4E\xF7",
 ];
 
-/// The lists of all series, `down`, `up`, `a`, `b` and `x`, each of a length and a count, references, and a checksum.
+/// The lists of all series, `down`, `up`, `a`, `b` and `x`, each of a length and a count,
+/// references, and a checksum.
 const LISTS: Pieces = &[
     b"\x00\x00\x00\x1C\x00\x00\x00\x06",
     b"\x00\x00\x00\x04\x00\x00\x00\x05\x00\x00\x00\x06\x00\x00\x00\x07\x00\x00\x00\x08\x00\x00\x00\x09",
@@ -73,62 +75,54 @@ const CHUNKS: Pieces = &[
 /// Series 6 has no sample left from -2 to 20.
 const ONE_DELETION: &[u8] = b"\x01\x30\xBA\x30\x01\x06\x03\x28\x2F\x56\x2B\xE5";
 
-fn worked_index(alloc: Global) -> Option<Vec<u8>> {
-    joined(alloc, &[SYMBOLS, SERIES, LISTS, TABLES])
-}
+const INDEX_FILE: &[Pieces] = &[SYMBOLS, SERIES, LISTS, TABLES];
 
-fn worked_chunks(alloc: Global) -> Option<Vec<u8>> {
-    joined(alloc, &[&[SEGMENT], CHUNKS])
-}
+const CHUNKS_FILE: &[Pieces] = &[&[SEGMENT], CHUNKS];
 
-/// The block of the times from 0 up to 20, with these deletions.
-fn block_with(alloc: Global, tombstones: &[u8]) -> Option<Block> {
-    let index = worked_index(alloc)?;
-    let chunks = worked_chunks(alloc)?;
-    Block::open(alloc, Range::new(0, 20)?, &index, chunks, tombstones).ok()
-}
+pub(super) const WORKED: Spelled = Spelled {
+    index: INDEX_FILE,
+    chunks: CHUNKS_FILE,
+    tombstones: NO_DELETIONS,
+};
 
-/// The block of the times from 0 up to 20.
-pub(super) fn worked_block(alloc: Global) -> Option<Block> {
-    block_with(alloc, NO_DELETIONS)
-}
+const WITH_DELETION: Spelled = Spelled {
+    index: INDEX_FILE,
+    chunks: CHUNKS_FILE,
+    tombstones: ONE_DELETION,
+};
 
-/// Deletions, and the text of the answer to `up{job="a"}` from 0 to 100 over the block with them.
-const TEXTS: &[(&[u8], &str)] = &[
-    (
-        NO_DELETIONS,
-        r#"{"parts":[{"intervals":[{"from":4,"until":6,"verdict":0},{"from":6,"until":7,"verdict":"match"},{"from":7,"until":8,"verdict":"match"},{"from":8,"until":4294967296,"verdict":1}],"part":"block 0","rows":[{"labels":{"__name__":"up","job":"a"},"samples":[[10,1]]},{"labels":{"__name__":"up","job":"a","zone":"x"},"samples":[[10,6]]}],"separators":[4,6,7,8]},{"intervals":[],"part":"head","rows":[],"separators":[]}],"rows":[{"labels":{"__name__":"up","job":"a"},"samples":[[10,1]]},{"labels":{"__name__":"up","job":"a","zone":"x"},"samples":[[10,6]]}]}"#,
-    ),
-    (
-        ONE_DELETION,
-        r#"{"parts":[{"intervals":[{"from":4,"until":6,"verdict":0},{"from":6,"until":7,"verdict":"none"},{"from":7,"until":8,"verdict":"match"},{"from":8,"until":4294967296,"verdict":1}],"part":"block 0","rows":[{"labels":{"__name__":"up","job":"a","zone":"x"},"samples":[[10,6]]}],"separators":[4,6,7,8]},{"intervals":[],"part":"head","rows":[],"separators":[]}],"rows":[{"labels":{"__name__":"up","job":"a","zone":"x"},"samples":[[10,6]]}]}"#,
-    ),
-];
-
-/// The text of the answer to `up{job="a"}` from 0 to 100, over the block with these deletions.
-fn text_over(alloc: Global, tombstones: &[u8]) -> Option<Vec<u8>> {
-    let blocks = Vec::from_array(alloc, [block_with(alloc, tombstones)?]).ok()?;
-    let snapshot = opened(alloc, blocks)?;
-    text_of(alloc, &snapshot, &query(alloc, r#"up{job="a"}"#, 0, 100)?)
+fn has_len(alloc: Global, pieces: &[Pieces], len: usize) -> bool {
+    match joined(alloc, pieces) {
+        Some(bytes) => bytes.len() == len,
+        None => false,
+    }
 }
 
 #[test]
 fn the_files_have_the_worked_lengths(rt: HostRuntime) {
-    assert_eq!(rt;
-        worked_index(rt.alloc()).map(|index| index.len()),
-        Some(442)
-    );
-    assert_eq!(rt;
-        worked_chunks(rt.alloc()).map(|chunks| chunks.len()),
-        Some(152)
-    );
+    assert!(rt; has_len(rt.alloc(), INDEX_FILE, 442));
+    assert!(rt; has_len(rt.alloc(), CHUNKS_FILE, 152));
 }
+
+const UP_A: Asked = (r#"up{job="a"}"#, 0, 100);
+
+/// The block with no deletion and with one, and the text of the answer over each.
+const ROWS: &[Row] = &[
+    (
+        &[&WORKED],
+        UP_A,
+        r#"{"parts":[{"intervals":[{"from":4,"until":6,"verdict":0},{"from":6,"until":7,"verdict":"match"},{"from":7,"until":8,"verdict":"match"},{"from":8,"until":4294967296,"verdict":1}],"part":"block 0","rows":[{"labels":{"__name__":"up","job":"a"},"samples":[[10,1]]},{"labels":{"__name__":"up","job":"a","zone":"x"},"samples":[[10,6]]}],"separators":[4,6,7,8]},{"intervals":[],"part":"head","rows":[],"separators":[]}],"rows":[{"labels":{"__name__":"up","job":"a"},"samples":[[10,1]]},{"labels":{"__name__":"up","job":"a","zone":"x"},"samples":[[10,6]]}]}"#,
+    ),
+    (
+        &[&WITH_DELETION],
+        UP_A,
+        r#"{"parts":[{"intervals":[{"from":4,"until":6,"verdict":0},{"from":6,"until":7,"verdict":"none"},{"from":7,"until":8,"verdict":"match"},{"from":8,"until":4294967296,"verdict":1}],"part":"block 0","rows":[{"labels":{"__name__":"up","job":"a","zone":"x"},"samples":[[10,6]]}],"separators":[4,6,7,8]},{"intervals":[],"part":"head","rows":[],"separators":[]}],"rows":[{"labels":{"__name__":"up","job":"a","zone":"x"},"samples":[[10,6]]}]}"#,
+    ),
+];
 
 #[test]
 fn an_answer_over_the_worked_block_has_its_certificate(rt: HostRuntime) {
-    let other = TEXTS.iter().find(|row| {
-        let text = text_over(rt.alloc(), row.0);
-        !text.is_some_and(|text| text.as_slice() == row.1.as_bytes())
-    });
-    assert_eq!(rt; other, None);
+    for row in ROWS {
+        assert!(rt; is_answered(rt.alloc(), row));
+    }
 }

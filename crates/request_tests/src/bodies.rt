@@ -1,10 +1,9 @@
 //! Bodies of `/write`, `/delete` and `/cut`.
 
-use super::is_answered;
-use std::alloc::Global;
+use crate::asked::{PIECES, Rows, is_answered, is_asked, post_of};
 
 /// Bodies of `/write`, and whether each is a batch, or the number of its refusal.
-const WRITES: &[(&str, &str)] = &[
+const WRITES: Rows = &[
     ("[]", "write"),
     (r#"[{"labels":{},"samples":[]}]"#, "write"),
     (
@@ -85,7 +84,7 @@ const WRITES: &[(&str, &str)] = &[
 ];
 
 /// Bodies of `/delete`.
-const DELETES: &[(&str, &str)] = &[
+const DELETES: Rows = &[
     (r#"{"from":0,"selector":"{job=\"a\"}","to":1000}"#, "delete"),
     (r#"{"to":0,"selector":"up","from":0}"#, "delete"),
     (r#"{"from":"x","from":0,"selector":"up","to":1}"#, "delete"),
@@ -105,7 +104,7 @@ const DELETES: &[(&str, &str)] = &[
 ];
 
 /// Bodies of `/cut`.
-const CUTS: &[(&str, &str)] = &[
+const CUTS: Rows = &[
     (r#"{"at":20}"#, "cut"),
     (r#" { "at" : -20 } "#, "cut"),
     (r#"{"at":"x","at":20}"#, "cut"),
@@ -124,32 +123,22 @@ const CUTS: &[(&str, &str)] = &[
     ("20", "H7"),
 ];
 
-/// Whether what a body asks of a path is this, or is refused with this number.
-fn has_answer(alloc: Global, path: &str, body: &str, want: &str) -> bool {
-    let len = body.len();
-    let input = format!(in alloc; "POST {path} HTTP/1.1\r\nContent-Length: {len}\r\n\r\n{body}");
-    input.is_ok_and(|input| is_answered(alloc, input.as_bytes(), want))
-}
+/// The bodies of each path.
+const PATHS: &[(&str, Rows)] = &[("/write", WRITES), ("/delete", DELETES), ("/cut", CUTS)];
 
 #[test]
 fn a_body_asks_what_its_json_says(rt: HostRuntime) {
     let alloc = rt.alloc();
-    let other = WRITES
-        .iter()
-        .find(|row| !has_answer(alloc, "/write", row.0, row.1));
-    assert_eq!(rt; other, None);
-    let other = DELETES
-        .iter()
-        .find(|row| !has_answer(alloc, "/delete", row.0, row.1));
-    assert_eq!(rt; other, None);
-    let other = CUTS
-        .iter()
-        .find(|row| !has_answer(alloc, "/cut", row.0, row.1));
-    assert_eq!(rt; other, None);
+    for (path, rows) in PATHS {
+        for (body, want) in *rows {
+            let made = post_of(alloc, path, body);
+            assert!(rt; is_asked(alloc, made, PIECES, want), "{path} {body}");
+        }
+    }
 }
 
 #[test]
 fn a_body_of_no_text_is_refused(rt: HostRuntime) {
     let input = b"POST /write HTTP/1.1\r\nContent-Length: 4\r\n\r\n[\"\xFF\"]".as_slice();
-    assert!(rt; is_answered(rt.alloc(), input, "H7"));
+    assert!(rt; is_answered(rt.alloc(), input, PIECES, "H7"));
 }

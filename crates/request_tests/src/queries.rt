@@ -1,10 +1,9 @@
 //! Query strings of `/select`.
 
-use super::is_answered;
-use std::alloc::Global;
+use crate::asked::{Rows, tell_between};
 
 /// Query strings, and whether they ask something, or the number of the refusal.
-const QUERIES: &[(&str, &str)] = &[
+const QUERIES: Rows = &[
     ("selector=up&from=0&to=100", "select"),
     ("to=100&from=0&selector=up", "select"),
     ("selector=up&from=0&to=0", "select"),
@@ -49,15 +48,13 @@ const QUERIES: &[(&str, &str)] = &[
     ("selector&from=0&to=1", "H6"),
 ];
 
-/// Whether a query string asks a query, or is refused with this number.
-fn has_answer(alloc: Global, query: &str, want: &str) -> bool {
-    let input = format!(in alloc; "GET /select?{query} HTTP/1.1\r\n\r\n");
-    input.is_ok_and(|input| is_answered(alloc, input.as_bytes(), want))
-}
-
 #[test]
 fn three_names_with_a_value_each_are_asked(rt: HostRuntime) {
-    let alloc = rt.alloc();
-    let other = QUERIES.iter().find(|row| !has_answer(alloc, row.0, row.1));
-    assert_eq!(rt; other, None);
+    tell_between(
+        &rt,
+        rt.alloc(),
+        "GET /select?",
+        QUERIES,
+        " HTTP/1.1\r\n\r\n",
+    );
 }

@@ -1,10 +1,10 @@
 //! Heads: paths, methods, lengths, and reads that fail.
 
-use super::{answer_within, is_answered};
+use crate::asked::{Rows, answer_within, tell_between};
 use std::alloc::Global;
 
 /// Requests, and what each is or the number of its refusal, after the protocol's text.
-const HEADS: &[(&str, &str)] = &[
+const HEADS: Rows = &[
     ("", "closed"),
     ("G", "H1"),
     ("GET /select", "H1"),
@@ -123,15 +123,11 @@ const HEADS: &[(&str, &str)] = &[
 
 #[test]
 fn a_request_is_read_in_any_pieces(rt: HostRuntime) {
-    let alloc = rt.alloc();
-    let other = HEADS
-        .iter()
-        .find(|row| !is_answered(alloc, row.0.as_bytes(), row.1));
-    assert_eq!(rt; other, None);
+    tell_between(&rt, rt.alloc(), "", HEADS, "");
 }
 
 /// The fields of a head that tell the length of `{"at":20}`, and what is asked.
-const LENGTHS: &[(&str, &str)] = &[
+const LENGTHS: Rows = &[
     ("Content-Length: 9\r\n", "cut"),
     ("CONTENT-LENGTH:9\r\n", "cut"),
     ("content-length: \t 9 \t\r\n", "cut"),
@@ -160,27 +156,27 @@ const LENGTHS: &[(&str, &str)] = &[
     ),
 ];
 
-/// Whether a cut with these fields is asked, or is refused with this number.
-fn has_length(alloc: Global, fields: &str, want: &str) -> bool {
-    let input = format!(in alloc; "POST /cut HTTP/1.1\r\n{fields}\r\n{}", "{\"at\":20}");
-    input.is_ok_and(|input| is_answered(alloc, input.as_bytes(), want))
-}
-
 #[test]
 fn one_length_of_digits_is_told(rt: HostRuntime) {
-    let alloc = rt.alloc();
-    let other = LENGTHS.iter().find(|row| !has_length(alloc, row.0, row.1));
-    assert_eq!(rt; other, None);
+    let end = "\r\n{\"at\":20}";
+    tell_between(&rt, rt.alloc(), "POST /cut HTTP/1.1\r\n", LENGTHS, end);
 }
 
 /// A request of 50 bytes, which are eight pieces of seven.
 const CUT: &[u8] = b"POST /cut HTTP/1.1\r\nContent-Length: 9\r\n\r\n{\"at\":20}";
 
+/// Whether the cut is read by so many reads, and a fault is told where one of them fails.
+fn takes_reads(alloc: Global, at_most: usize, count: usize) -> bool {
+    for reads in 0..count {
+        if answer_within(alloc, CUT, at_most, reads) != "fault" {
+            return false;
+        }
+    }
+    answer_within(alloc, CUT, at_most, count) == "cut"
+}
+
 #[test]
 fn a_read_that_fails_is_told(rt: HostRuntime) {
-    let alloc = rt.alloc();
-    assert!(rt; (0..50).all(|reads| answer_within(alloc, CUT, 1, reads) == "fault"));
-    assert!(rt; (0..8).all(|reads| answer_within(alloc, CUT, 7, reads) == "fault"));
-    assert_eq!(rt; answer_within(alloc, CUT, 1, 50), "cut");
-    assert_eq!(rt; answer_within(alloc, CUT, 7, 8), "cut");
+    assert!(rt; takes_reads(rt.alloc(), 1, 50));
+    assert!(rt; takes_reads(rt.alloc(), 7, 8));
 }

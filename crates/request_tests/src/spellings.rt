@@ -1,13 +1,14 @@
 //! One batch of `/write` in many spellings.
 
+use crate::asked::post_of;
 use crate::script::Script;
 use labels::{LabelSet, Sample};
 use requests::{Request, read_request};
 use std::alloc::Global;
 
 /// Bodies that write one batch: first spelled as usual, then with spaces, with escapes, with the
-/// labels and the members of a row in another order, with what counts for nothing (an empty label, a
-/// member that is given again), and with rows of both kinds.
+/// labels and the members of a row in another order, with what counts for nothing (an empty label,
+/// a member that is given again), and with rows of both kinds.
 const SPELLINGS: &[&str] = &[
     r#"[{"labels":{"a":"b","c":"/"},"samples":[[1,2],[3,-4]]}]"#,
     "[{\"labels\":{\"a\":\"b\",\"c\":\"/\"},\"samples\":[[1,2]]},{\"labels\":{\"a\":\"b\",\"c\":\"/\"},\"samples\":[[3,-4]]}]",
@@ -39,10 +40,7 @@ const REFUSED: &[&str] = &[
 
 /// The batch that a body asks, if it asks one.
 fn batch_asked(alloc: Global, body: &str) -> Option<Vec<(LabelSet, Sample)>> {
-    let len = body.len();
-    let input = format!(in alloc;
-        "POST /write HTTP/1.1\r\nContent-Length: {len}\r\n\r\n{body}"
-    ).ok()?;
+    let input = post_of(alloc, "/write", body).ok()?;
     let mut reader = Script {
         rest: input.as_bytes(),
         at_most: usize::MAX,
@@ -59,12 +57,9 @@ fn has_labels(labels: &LabelSet) -> bool {
     labels.len() == 2 && labels.value("a") == "b" && labels.value("c") == "/"
 }
 
-/// Whether a body writes 2 at the time 1 and -4 at the time 3, both of `{a="b",c="/"}`.
-fn writes_both(alloc: Global, body: &str) -> bool {
-    let Some(batch) = batch_asked(alloc, body) else {
-        return false;
-    };
-    match batch.as_slice() {
+/// Whether these are 2 at the time 1 and -4 at the time 3, both of `{a="b",c="/"}`.
+fn are_both(batch: &[(LabelSet, Sample)]) -> bool {
+    match batch {
         [first, second] => {
             has_labels(&first.0)
                 && has_labels(&second.0)
@@ -78,10 +73,11 @@ fn writes_both(alloc: Global, body: &str) -> bool {
 #[test]
 fn a_batch_is_the_same_in_whatever_order_it_is_written(rt: HostRuntime) {
     let alloc = rt.alloc();
-    let other = SPELLINGS.iter().find(|body| !writes_both(alloc, body));
-    assert_eq!(rt; other, None);
-    let taken = REFUSED
-        .iter()
-        .find(|body| batch_asked(alloc, body).is_some());
-    assert_eq!(rt; taken, None);
+    for body in SPELLINGS {
+        let batch = batch_asked(alloc, body).expect(&rt, body);
+        assert!(rt; are_both(&batch), "{body}");
+    }
+    for body in REFUSED {
+        assert!(rt; batch_asked(alloc, body).is_none(), "{body}");
+    }
 }
