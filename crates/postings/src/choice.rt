@@ -74,8 +74,13 @@ fn lists_of_values<S: Source>(
         (S.part source.now)) }
 {
     let mut lists = Vec::new(alloc);
+    let mut value = "";
     for i in 0..source.value_count(name) {
-        let value = source.value_at(name, i);
+        value = if i == 0 {
+            source.value_at(name, i)
+        } else {
+            source.value_after(name, i - 1, value)
+        };
         if tester.accepts(value) != with_absent {
             if let Some(list) = source.list(name, value) {
                 lists.push(list)?;

@@ -110,6 +110,16 @@ pub trait Source {
         requires { i < length (values self.now name.now) }
         ensures { slice_get (values self.now name.now) i ≡ Some result.now };
 
+    /// The value after the one at a place, which the caller has at hand: a source that finds values
+    /// by halving need not count from the first one. Takes no memory.
+    fn value_after(&self, name: &str, i: usize, value: &str) -> &str
+        requires within { i + 1 < length (values self.now name.now) }
+        requires at { slice_get (values self.now name.now) i ≡ Some value.now }
+        ensures { slice_get (values self.now name.now) (i + 1) ≡ Some result.now }
+    {
+        self.value_at(name, i + 1)
+    }
+
     ghost is_part: { (source : Self) → IsPart (part source) };
 
     ghost are_values: { (source : Self) (name : List ℕ)
