@@ -241,8 +241,8 @@ impl Index {
     }
 
     /// Adds a series with a further reference, which has to be above all others. What another
-    /// version holds is copied first: a page of each level, and the list, for each of its pairs.
-    /// After an `Err` the index may list it at some pairs.
+    /// version holds is copied first: for each of its pairs a page of each level, of the lists and
+    /// of the references of a long one. After an `Err` the index may list it at some pairs.
     pub fn add(
         &mut self,
         alloc: Global,

@@ -1,13 +1,15 @@
 //! The references of one pair, which versions share.
 
-ghost use Rattle.std.specs.Prelude.{◌≡◌, ◌<◌, ◌≤◌, [], ◌∷◌, ◌++◌, length, take, drop, IfOk, OnOk, OnErr};
+ghost use Rattle.std.specs.Prelude.{◌≡◌, ◌<◌, ◌≤◌, [], ◌∷◌, ◌++◌, length, take, drop, IfOk, OnOk};
+ghost use Rattle.std.specs.Prelude.{OnErr};
 
 use labels::SeriesRef;
 use pages::PagedList;
 use std::alloc::{AllocError, Global};
 use std::marker::Model;
 
-/// How many references a full piece has: a leaf of the pages, or all of them before there are pages.
+/// How many references a full piece has: a leaf of the pages, or all of them before there are
+/// pages.
 const PIECE: usize = 256;
 
 type Pages = PagedList<u32, PIECE>;

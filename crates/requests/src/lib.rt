@@ -3,17 +3,17 @@
 //!
 //! [`read_request`] reads one [`Request`] from an [`Inlet`], or answers the first refusal that its
 //! bytes meet; [`read_request_into`] does so with a buffer that the caller keeps. The contract
-//! speaks of the whole input and never of the pieces that it came in: `specs/Reading.antt` says what
-//! the bytes mean, head by head and body by body. A request that it answers is fit for a store: a
-//! batch has at most 4,096 samples, each at a time, a deletion has a range and at most 16 matchers,
-//! a cut is at a time.
+//! speaks of the whole input and never of the pieces that it came in: `specs/Reading.antt` says
+//! what the bytes mean, head by head and body by body. A request that it answers is fit for a
+//! store: a batch has at most 4,096 samples, each at a time, a deletion has a range and at most 16
+//! matchers, a cut is at a time.
 //!
 //! A [`Refusal`] is one of `H1` to `H10`; its `reply` is the whole text that answers it.
-//! [`place_success_head`] puts before a body what makes it a reply, and [`done_reply`] is the one of
-//! a change that was made. The writing side and what is done with a request belong to the caller.
-//! It stands on `labels` and `matchers`, on `httparse` for heads, `form_urlencoded` for query
-//! strings, `serde_json` for bodies and `itoa` for digits; statuses are those of RFC 9110 and RFC
-//! 6585.
+//! [`place_success_head`] puts before a body what makes it a reply, and [`done_reply`] is the one
+//! of a change that was made. The writing side and what is done with a request belong to the
+//! caller. It stands on `labels` and `matchers`, on `httparse` for heads, `form_urlencoded` for
+//! query strings, `serde_json` for bodies and `itoa` for digits; statuses are those of RFC 9110 and
+//! RFC 6585.
 //!
 //! ```text
 //! match read_request(alloc, &mut inlet) {
