@@ -10,7 +10,7 @@ help: ## lists the targets
 	@grep -hE '^[a-z-]+:.*## ' $(MAKEFILE_LIST) | sed -E 's/^([a-z-]+):.*## /\1\t/' | expand -t 16
 	@echo "check-CRATE     proves one crate; CRATE is one of: $(CRATES)"
 
-try: ## runs `querier demo` with no proof, in about a minute
+try: ## runs `querier demo` with no proof, in about two minutes
 	@cd crates/querier && $(RT) try -- demo
 
 demo: ## proves every crate, as many side by side as there are processors, and runs `querier demo`
