@@ -117,15 +117,11 @@ impl Order {
         }
     }
 
-    /// The place of a label set. It looks first where the last search ended, and at the spot after
-    /// it: a batch often has the samples of one series, and series in their order, one after
-    /// another.
+    /// The place of a label set. It looks first at the spot after the one where the last search
+    /// ended: a batch often has series in their order.
     pub(crate) fn place_of(&self, labels: &LabelSet, near: &mut Spot) -> Option<u32>
         ensures { result ≡ find labels_cmp labels.now self.now }
     {
-        if let Some(place) = self.place_at(labels, *near) {
-            return Some(place);
-        }
         let next = Spot {
             group: near.group,
             page: near.page,
