@@ -31,11 +31,12 @@ use std::sync::Arc;
 
 /// The series of a version in the making. Those of the last version are shared; what is changed of
 /// them is a copy of this version's own, by its place, and what is begun stands after them. So a
-/// batch costs what it changes.
+/// batch costs what it changes. All copies stand below the place `above`.
 #[derive(Drop)]
 pub(crate) struct Draft {
     last: SeriesList,
     own: BTreeMap<usize, Series>,
+    above: usize,
     begun: Vec<Series>,
 }
 
@@ -50,8 +51,8 @@ impl Model for Draft {
 
     ghost view = { λ d. slots_of d.last (get nat_cmp d.own) d.begun.items };
 
-    ghost invariant = { λ d. ((place : ℕ) → length d.last ≤ place → get nat_cmp d.own place ≡ None)
-        × (length d.last + length d.begun.items ≤ MAX_SERIES) };
+    ghost invariant = { λ d. ((place : ℕ) → d.above ≤ place → get nat_cmp d.own place ≡ None)
+        × (d.above ≤ length d.last) × (length d.last + length d.begun.items ≤ MAX_SERIES) };
 }
 
 impl Draft {
@@ -63,6 +64,7 @@ impl Draft {
         Draft {
             last,
             own: BTreeMap::new(alloc),
+            above: 0,
             begun: Vec::new(alloc),
         }
     }
@@ -82,6 +84,9 @@ impl Draft {
         let shared = self.last.len();
         if place >= shared {
             return &self.begun[place - shared];
+        }
+        if place >= self.above {
+            return self.last.at(place);
         }
         match self.own.get(&place) {
             Some(series) => series,
@@ -114,12 +119,17 @@ impl Draft {
             self.begun[place - shared].push(alloc, sample)?;
             return Ok(0);
         }
+        if place >= self.above {
+            let (series, copied) = grown_copy(alloc, &self.last, place, sample)?;
+            self.own.insert(place, series)?;
+            self.above = place + 1;
+            return Ok(copied);
+        }
         if let Some(series) = self.own.get_mut(&place) {
             series.push(alloc, sample)?;
             return Ok(0);
         }
-        let (mut series, copied) = self.last.at(place).copied(alloc)?;
-        series.push(alloc, sample)?;
+        let (series, copied) = grown_copy(alloc, &self.last, place, sample)?;
         self.own.insert(place, series)?;
         Ok(copied)
     }
@@ -140,13 +150,32 @@ impl Draft {
         ensures series { IfOk result (λ list. list ≡ series_in_each self) }
         ensures few { length self ≤ MAX_SERIES }
     {
-        let Draft { last, own, begun } = self;
+        let Draft {
+            last, own, begun, ..
+        } = self;
         let mut list = with_own(alloc, last, own)?;
         for series in begun {
             list.push(alloc, Arc::new(alloc, series)?)?;
         }
         Ok(list)
     }
+}
+
+/// A copy of the series at a place, with one sample more, and how many samples were copied.
+fn grown_copy(
+    alloc: Global,
+    list: &SeriesList,
+    place: usize,
+    sample: Sample,
+) -> Result<(Series, u64), AllocError>
+    requires { place < length list.now }
+    ensures grown { IfOk result (λ made. (d : HeadSeries)
+        → made.0 ≡ grown sample (slice_index_or list.now place d)) }
+    ensures few { IfOk result (λ made. made.1 < 120) }
+{
+    let (mut series, copied) = list.at(place).copied(alloc)?;
+    series.push(alloc, sample)?;
+    Ok((series, copied))
 }
 
 /// The list with these series in their places.
@@ -160,7 +189,7 @@ fn with_own(
 {
     let mut made = list;
     let mut own = own;
-    while let Some((place, series)) = own.pop_first() {
+    while let Some((place, series)) = own.pop_last() {
         made.set(place, Arc::new(alloc, series)?)?;
     }
     Ok(made)
