@@ -32,7 +32,7 @@ pub Series-send : IsSend series.the_field.row
 Series-send = search (sendable, heap.Vec-send, LabelSet-send, Sealed-send) depth 60 fits 20000
 
 pub Series-sync : IsSync series.the_field.row
-Series-sync = search (sendable, heap.Vec-sync, LabelSet-sync, Sealed-sync) depth 60 fits 20000
+Series-sync = search (sendable, heap.crosses, LabelSet-sync, Sealed-send, Sealed-sync) depth 60 fits 20000
 
 pub Held-send : IsSend held.the_field.row
 Held-send = search (sendable, heap.Vec-send, PagedList-send) depth 60 fits 20000
