@@ -4,6 +4,7 @@ use denote.Param.Send.{IsSend, IsSync, sendable}
 use Rattle.std.proofs.Crossing as heap
 use Rattle.block.proofs.Crossing.{LabelSet-send, LabelSet-sync, Block-send, Block-sync}
 use Rattle.head.specs.contracts.series.Chunk as chunk
+use Rattle.head.specs.contracts.series.Sealed as sealed
 use Rattle.head.specs.contracts.series.Series as series
 use Rattle.head.specs.contracts.references.Held as held
 use Rattle.head.specs.contracts.references.References as references
@@ -21,11 +22,17 @@ Chunk-send = search (sendable, heap.Vec-send) depth 60 fits 20000
 pub Chunk-sync : IsSync chunk.the_field.row
 Chunk-sync = search (sendable, heap.Vec-sync) depth 60 fits 20000
 
+pub Sealed-send : IsSend sealed.the_field.row
+Sealed-send = search (sendable, heap.Vec-send, heap.Vec-sync, heap.Arc-send, heap.Arc-sync, Chunk-send, Chunk-sync) depth 60 fits 20000
+
+pub Sealed-sync : IsSync sealed.the_field.row
+Sealed-sync = search (sendable, heap.Vec-send, heap.Vec-sync, heap.Arc-send, heap.Arc-sync, Chunk-send, Chunk-sync) depth 60 fits 20000
+
 pub Series-send : IsSend series.the_field.row
-Series-send = search (sendable, heap.Vec-send, heap.Arc-send, LabelSet-send, Chunk-send, Chunk-sync) depth 60 fits 20000
+Series-send = search (sendable, heap.Vec-send, LabelSet-send, Sealed-send) depth 60 fits 20000
 
 pub Series-sync : IsSync series.the_field.row
-Series-sync = search (sendable, heap.crosses, LabelSet-sync, Chunk-send, Chunk-sync) depth 60 fits 20000
+Series-sync = search (sendable, heap.crosses, LabelSet-sync, Sealed-send, Sealed-sync) depth 60 fits 20000
 
 pub Held-send : IsSend held.the_field.row
 Held-send = search (sendable, heap.Vec-send, PagedList-send) depth 60 fits 20000
@@ -58,10 +65,10 @@ pub Placed-sync : IsSync placed.the_field.row
 Placed-sync = search (sendable, LabelSet-sync) depth 60 fits 20000
 
 pub Order-send : IsSend order.the_field.row
-Order-send = search (sendable, SortedPages-send, heap.Arc-send, heap.Arc-sync, Placed-send, Placed-sync) depth 60 fits 20000
+Order-send = search (sendable, SortedPages-send, Placed-send, Placed-sync) depth 60 fits 20000
 
 pub Order-sync : IsSync order.the_field.row
-Order-sync = search (sendable, SortedPages-sync, heap.Arc-send, heap.Arc-sync, Placed-send, Placed-sync) depth 60 fits 20000
+Order-sync = search (sendable, SortedPages-sync, Placed-send, Placed-sync) depth 60 fits 20000
 
 pub HeadView-send : IsSend head.the_field.row
 HeadView-send = search (sendable, PagedList-send, heap.Arc-send, heap.Arc-sync, Series-send, Series-sync, Order-send, Index-send) depth 60 fits 20000

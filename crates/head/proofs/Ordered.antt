@@ -1,13 +1,16 @@
 -- The places of series by their label sets, as a head grows and is cut.
 use Rattle.std.specs.Prelude.{◌≡◌, ◌<◌, ◌≤◌, ◌+◌, ℕ, zero, suc, ℤ, Bool, true, false, cond, List, [], ◌∷◌, ◌++◌, Option, None, Some, length, take, is_some, int_lt, not, refl, filter, slice_index_or, unwrap_or}
 use Rattle.std.specs.FinMap.Entries.{find, put, find-put}
-use Rattle.std.proofs.Common.{sym, ◌∙◌, ap, subst, arith}
+use Rattle.std.proofs.Common.{◌-◌, ◌⊎◌, inl, inr, sym, ◌∙◌, ap, subst, arith}
+use Rattle.std.proofs.lemmas.List.{get_or_append_left, get_or-append_right, length-append}
+use Rattle.std.specs.Cmp.{tied_itself}
+use Rattle.std.specs.Ordering.{is_eq}
 use Rattle.labels.specs.Labels.{Labels, labels_cmp, same_labels}
 use Rattle.labels.specs.Laws.{labels_total}
 use Rattle.labels.proofs.OrderLaws.{same_turn}
 use Rattle.labels.proofs.Times.{true_not_false}
 use Rattle.head.specs.Heads.{HeadSeries, series_at, IsSoundHead}
-use Rattle.head.specs.Orders.{sets_of, IsOrderOf}
+use Rattle.head.specs.Orders.{sets_of, IsOrderOf, HasSet}
 use Rattle.head.specs.Removing.{series_kept, from_on, head_kept, head_cut}
 use Rattle.head.specs.Taking.{place_from}
 use Rattle.head.proofs.HeadLaws.{same_path}
@@ -34,6 +37,45 @@ or_none None = refl
 from_zero : (n : ℕ) → n ≡ 0 + n
 from_zero n = omega arith
 
+same_self : (l : Labels) → same_labels l l ≡ true
+same_self l = ap is_eq (tied_itself labels_total l)
+
+below_or_last : (i n : ℕ) → i < suc n → (i < n) ⊎ (i ≡ n)
+below_or_last zero zero l = inr refl
+below_or_last zero (suc n) l = inl (omega arith)
+below_or_last (suc i) zero l = absurd (omega (arith, l))
+below_or_last (suc i) (suc n) l = elim (below_or_last i n (omega (arith, l))) [ inl b ↦ inl (omega (arith, b)) | inr e ↦ inr (ap suc e) ]
+
+-- a series among the first ones, and the one more
+place_old : (head : List HeadSeries) (h d : HeadSeries) (i : ℕ) → i < length head → place_from (slice_index_or head i d).labels 0 head ≡ Some i
+    → place_from (slice_index_or (head ++ h ∷ []) i d).labels 0 (head ++ h ∷ []) ≡ Some i
+place_old head h d i inside is =
+    let l : Labels = (slice_index_or head i d).labels in
+    ap (λ (x : HeadSeries). place_from x.labels 0 (head ++ h ∷ [])) (get_or_append_left head (h ∷ []) d i inside)
+    ∙ place_more l 0 head h
+    ∙ ap (λ o. or_place o (cond (same_labels l h.labels) (Some (0 + length head)) None)) is
+
+last_is : (head : List HeadSeries) (h d : HeadSeries) → slice_index_or (head ++ h ∷ []) (length head) d ≡ h
+last_is [] h d = refl
+last_is (x ∷ xs) h d = last_is xs h d
+
+place_last : (head : List HeadSeries) (h d : HeadSeries) → place_from h.labels 0 head ≡ None
+    → place_from (slice_index_or (head ++ h ∷ []) (length head) d).labels 0 (head ++ h ∷ []) ≡ Some (length head)
+place_last head h d none =
+    ap (λ (x : HeadSeries). place_from x.labels 0 (head ++ h ∷ [])) (last_is head h d)
+    ∙ place_more h.labels 0 head h
+    ∙ ap (λ o. or_place o (cond (same_labels h.labels h.labels) (Some (0 + length head)) None)) none
+    ∙ ap (λ b. cond b (Some (0 + length head)) None) (same_self h.labels)
+    ∙ ap Some (sym (from_zero (length head)))
+
+apart_more : (head : List HeadSeries) (h : HeadSeries) → place_from h.labels 0 head ≡ None
+    → ((k : ℕ) (d : HeadSeries) → k < length head → place_from (slice_index_or head k d).labels 0 head ≡ Some k)
+    → (k : ℕ) (d : HeadSeries) → k < length (head ++ h ∷ []) → place_from (slice_index_or (head ++ h ∷ []) k d).labels 0 (head ++ h ∷ []) ≡ Some k
+apart_more head h none apart k d inside = elim (below_or_last k (length head) (omega (arith, inside, length-append head (h ∷ [])))) [
+  | inl b ↦ place_old head h d k b (apart k d b)
+  | inr e ↦ subst (λ (n : ℕ). place_from (slice_index_or (head ++ h ∷ []) n d).labels 0 (head ++ h ∷ []) ≡ Some n) (sym e) (place_last head h d none)
+]
+
 -- one series more
 pub ordered_more : (order : List (Labels × ℕ)) (head : List HeadSeries) (h : HeadSeries) (k : ℕ) → k ≡ length head → place_from h.labels 0 head ≡ None → IsOrderOf order head
     → IsOrderOf (put labels_cmp h.labels k order) (head ++ h ∷ [])
@@ -45,10 +87,11 @@ ordered_more order head h k is none ordered = record {
         | false ↦ λ e. ordered.placed l ∙ or_none (place_from l 0 head)
       ] refl
       ∙ sym (place_more l 0 head h);
+  apart = apart_more head h none ordered.apart;
 }
 
 pub ordered_none : IsOrderOf [] []
-ordered_none = record { placed = λ l. refl }
+ordered_none = record { placed = λ l. refl; apart = λ k d l. absurd (omega (arith, l)) }
 
 same_place : (l : Labels) (n : ℕ) (a b : List HeadSeries) → sets_of a ≡ sets_of b → place_from l n a ≡ place_from l n b
 same_place l n [] [] e = refl
@@ -59,9 +102,30 @@ same_place l n (x ∷ xs) (y ∷ ys) e =
     let rest : sets_of xs ≡ sets_of ys = cc in
     λ i. cond (same_labels l (first i)) (Some n) (same_place l (n + 1) xs ys rest i)
 
+same_at : (a b : List HeadSeries) (k : ℕ) (d : HeadSeries) → sets_of a ≡ sets_of b → k < length b → (k < length a) × ((slice_index_or a k d).labels ≡ (slice_index_or b k d).labels)
+same_at [] [] k d e inside = absurd (omega (arith, inside))
+same_at [] (y ∷ ys) k d e inside = absurd cc
+same_at (x ∷ xs) [] k d e inside = absurd cc
+same_at (x ∷ xs) (y ∷ ys) zero d e inside = (omega arith, cc)
+same_at (x ∷ xs) (y ∷ ys) (suc k) d e inside =
+    let rest : sets_of xs ≡ sets_of ys = cc in
+    let next = same_at xs ys k d rest (omega (arith, inside)) in
+    (omega (arith, next.0), next.1)
+
 -- series of the same label sets
 pub ordered_alike : (order : List (Labels × ℕ)) (a b : List HeadSeries) → sets_of a ≡ sets_of b → IsOrderOf order a → IsOrderOf order b
-ordered_alike order a b e ordered = record { placed = λ l. ordered.placed l ∙ same_place l 0 a b e }
+ordered_alike order a b e ordered = record {
+  placed = λ l. ordered.placed l ∙ same_place l 0 a b e;
+  apart = λ k d inside.
+      let same = same_at a b k d e inside in
+      ap (λ (l : Labels). place_from l 0 b) (sym same.1)
+      ∙ sym (same_place (slice_index_or a k d).labels 0 a b e)
+      ∙ ordered.apart k d same.0;
+}
+
+-- where a series with the label set stands, the label set is placed
+pub placed_at : (order : List (Labels × ℕ)) (head : List HeadSeries) (l : Labels) (k : ℕ) (d : HeadSeries) → IsOrderOf order head → HasSet head k l → Some k ≡ place_from l 0 head
+placed_at order head l k d ordered has = sym (ordered.apart k d has.inside) ∙ ap (λ (m : Labels). place_from m 0 head) (has.same d)
 
 place_absent : (b : Bool) (n : ℕ) (o : Option ℕ) → b ≡ false → o ≡ None → cond b (Some n) o ≡ None
 place_absent b n o e none = ap (λ c. cond c (Some n) o) e ∙ none

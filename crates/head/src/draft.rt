@@ -3,14 +3,14 @@
 
 ghost use Rattle.std.specs.Prelude.{◌≡◌, ◌≢◌, ◌<◌, ◌≤◌, ◌+◌, ◌*◌, ℕ, Bool, T, Ok, IfOk, IfErr};
 ghost use Rattle.std.specs.Prelude.{OnOk, OnErr, None, length, [], ◌∷◌, ◌++◌, map, slice_set};
-ghost use Rattle.std.specs.Prelude.{slice_index_or};
+ghost use Rattle.std.specs.Prelude.{slice_index_or, IsTrue};
 ghost use Rattle.std.specs.List.{list_all};
 ghost use Rattle.labels.specs.Labels.{Labels};
 ghost use Rattle.head.specs.declared.TheConstants.{MAX_SERIES};
 ghost use Rattle.head.specs.Heads.{HeadSeries};
 ghost use Rattle.head.specs.Taking.{head_added, head_added_each, series_added, new_added, grown};
 ghost use Rattle.head.specs.Taking.{place_from, with_series};
-ghost use Rattle.head.specs.Orders.{sets_of, IsOrderOf};
+ghost use Rattle.head.specs.Orders.{sets_of, IsOrderOf, HasSet};
 ghost use Rattle.head.specs.Answers.{IsOutcome};
 ghost use Rattle.head.specs.Limits.{most};
 ghost use Rattle.head.specs.Slots.{Shared, Own, series_in, series_in_each, own_count, owned};
@@ -31,11 +31,12 @@ use std::sync::Arc;
 
 /// The series of a version in the making. Those of the last version are shared; what is changed of
 /// them is a copy of this version's own, by its place, and what is begun stands after them. So a
-/// batch costs what it changes.
+/// batch costs what it changes. All copies stand below the place `above`.
 #[derive(Drop)]
 pub(crate) struct Draft {
     last: SeriesList,
     own: BTreeMap<usize, Series>,
+    above: usize,
     begun: Vec<Series>,
 }
 
@@ -50,8 +51,8 @@ impl Model for Draft {
 
     ghost view = { λ d. slots_of d.last (get nat_cmp d.own) d.begun.items };
 
-    ghost invariant = { λ d. ((place : ℕ) → length d.last ≤ place → get nat_cmp d.own place ≡ None)
-        × (length d.last + length d.begun.items ≤ MAX_SERIES) };
+    ghost invariant = { λ d. ((place : ℕ) → d.above ≤ place → get nat_cmp d.own place ≡ None)
+        × (d.above ≤ length d.last) × (length d.last + length d.begun.items ≤ MAX_SERIES) };
 }
 
 impl Draft {
@@ -63,6 +64,7 @@ impl Draft {
         Draft {
             last,
             own: BTreeMap::new(alloc),
+            above: 0,
             begun: Vec::new(alloc),
         }
     }
@@ -83,10 +85,23 @@ impl Draft {
         if place >= shared {
             return &self.begun[place - shared];
         }
+        if place >= self.above {
+            return self.last.at(place);
+        }
         match self.own.get(&place) {
             Some(series) => series,
             None => self.last.at(place),
         }
+    }
+
+    /// Whether the series at a place has this label set.
+    fn has_at(&self, place: usize, labels: &LabelSet) -> bool
+        ensures { IsTrue result → HasSet (series_in_each self.now) place labels.now }
+    {
+        if place >= self.len() {
+            return false;
+        }
+        self.series(place).labels() == labels
     }
 
     /// Adds a sample to the series at a place, to a copy where it is shared. Gives how many samples
@@ -104,8 +119,17 @@ impl Draft {
             self.begun[place - shared].push(alloc, sample)?;
             return Ok(0);
         }
-        let (mut series, copied) = taken(alloc, &self.last, &mut self.own, place)?;
-        series.push(alloc, sample)?;
+        if place >= self.above {
+            let (series, copied) = grown_copy(alloc, &self.last, place, sample)?;
+            self.own.insert(place, series)?;
+            self.above = place + 1;
+            return Ok(copied);
+        }
+        if let Some(series) = self.own.get_mut(&place) {
+            series.push(alloc, sample)?;
+            return Ok(0);
+        }
+        let (series, copied) = grown_copy(alloc, &self.last, place, sample)?;
         self.own.insert(place, series)?;
         Ok(copied)
     }
@@ -126,7 +150,9 @@ impl Draft {
         ensures series { IfOk result (λ list. list ≡ series_in_each self) }
         ensures few { length self ≤ MAX_SERIES }
     {
-        let Draft { last, own, begun } = self;
+        let Draft {
+            last, own, begun, ..
+        } = self;
         let mut list = with_own(alloc, last, own)?;
         for series in begun {
             list.push(alloc, Arc::new(alloc, series)?)?;
@@ -135,28 +161,21 @@ impl Draft {
     }
 }
 
-/// The series at a place, to be changed: this version's own, which is taken out, or a copy of the
-/// shared one. With it how many samples were copied.
-fn taken(
+/// A copy of the series at a place, with one sample more, and how many samples were copied.
+fn grown_copy(
     alloc: Global,
-    last: &SeriesList,
-    own: &mut BTreeMap<usize, Series>,
+    list: &SeriesList,
     place: usize,
+    sample: Sample,
 ) -> Result<(Series, u64), AllocError>
-    requires { place < length last.now }
-    ensures series { IfOk result (λ taken. (d : HeadSeries)
-        → taken.0 ≡ series_in
-        (slot_at (slice_index_or last.now place d) (get nat_cmp own.old place))) }
-    ensures few { IfOk result (λ taken. taken.1 < 120) }
-    ensures counted { IfOk result (λ taken. (d : HeadSeries)
-        → taken.1 + 119 * own_count
-        (slot_at (slice_index_or last.now place d) (get nat_cmp own.old place)) ≤ 119) }
-    ensures others { (q : ℕ) → q ≢ place → get nat_cmp own.new q ≡ get nat_cmp own.old q }
+    requires { place < length list.now }
+    ensures grown { IfOk result (λ made. (d : HeadSeries)
+        → made.0 ≡ grown sample (slice_index_or list.now place d)) }
+    ensures few { IfOk result (λ made. made.1 < 120) }
 {
-    match own.remove(&place) {
-        Some(series) => Ok((series, 0)),
-        None => last.at(place).copied(alloc),
-    }
+    let (mut series, copied) = list.at(place).copied(alloc)?;
+    series.push(alloc, sample)?;
+    Ok((series, copied))
 }
 
 /// The list with these series in their places.
@@ -170,7 +189,7 @@ fn with_own(
 {
     let mut made = list;
     let mut own = own;
-    while let Some((place, series)) = own.pop_first() {
+    while let Some((place, series)) = own.pop_last() {
         made.set(place, Arc::new(alloc, series)?)?;
     }
     Ok(made)
@@ -262,13 +281,40 @@ fn add_new(
     }
 }
 
+/// Where the last series was found: its place, and its spot in the order.
+#[derive(Clone, Copy, Drop)]
+struct Near {
+    place: usize,
+    spot: Spot,
+}
+
+/// The place of the series with a label set. It looks first at the series that was begun after the
+/// last one found, and at that one: batches mostly have series as they were begun, and samples of
+/// one series in a row.
+fn place_of(draft: &Draft, order: &Order, labels: &LabelSet, near: &mut Near) -> Option<usize>
+    requires { IsOrderOf order.now (series_in_each draft.now) }
+    ensures { result ≡ place_from labels.now 0 (series_in_each draft.now) }
+{
+    let next = near.place.saturating_add(1);
+    if draft.has_at(next, labels) {
+        near.place = next;
+        return Some(next);
+    }
+    if draft.has_at(near.place, labels) {
+        return Some(near.place);
+    }
+    let place = order.place_of(labels, &mut near.spot)? as usize;
+    near.place = place;
+    Some(place)
+}
+
 /// Adds the sample that has the number `at` in its batch. Gives how many samples were copied. It
-/// looks for the label set near the spot where the last one was found.
+/// looks for the label set near where the last one was found.
 fn add(
     alloc: Global,
     draft: &mut Draft,
     order: &mut Order,
-    near: &mut Spot,
+    near: &mut Near,
     floor: i64,
     at: usize,
     labels: &LabelSet,
@@ -288,12 +334,15 @@ fn add(
     if sample.t() < floor {
         return Err(CommitError::OutOfBounds { at });
     }
-    match order.place_of(labels, near) {
-        Some(place) => add_known(alloc, draft, place as usize, at, sample),
-        None => match add_new(alloc, draft, order, labels, sample) {
-            Ok(()) => Ok(0),
-            Err(refusal) => Err(refusal),
-        },
+    match place_of(draft, order, labels, near) {
+        Some(place) => add_known(alloc, draft, place, at, sample),
+        None => {
+            near.place = draft.len();
+            match add_new(alloc, draft, order, labels, sample) {
+                Ok(()) => Ok(0),
+                Err(refusal) => Err(refusal),
+            }
+        }
     }
 }
 
@@ -317,10 +366,13 @@ pub(crate) fn add_each(
         → T (list_all (λ x. p x.0) batch.now) → AllOwn p draft.old → AllOwn p draft.new) }
 {
     let mut copied = 0;
-    let mut near = Spot {
-        group: 0,
-        page: 0,
-        at: 0,
+    let mut near = Near {
+        place: 0,
+        spot: Spot {
+            group: 0,
+            page: 0,
+            at: 0,
+        },
     };
     let mut i = 0;
     while i < batch.len() {

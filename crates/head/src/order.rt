@@ -5,11 +5,10 @@ ghost use Rattle.std.specs.FinMap.Entries.{find, put};
 ghost use Rattle.labels.specs.Labels.{labels_cmp};
 
 use labels::LabelSet;
-use pages::{Probe, SortedPages, Spot};
+use pages::{Entry, Probe, SortedPages, Spot};
 use std::alloc::{AllocError, Global};
 use std::cmp::Ordering;
 use std::marker::Model;
-use std::sync::Arc;
 
 /// A label set, and the place of its series.
 #[derive(Drop)]
@@ -26,14 +25,28 @@ impl Model for Placed {
     ghost view = { λ p. (p.labels, p.place) };
 }
 
-impl Placed {
-    ghost use Rattle.std.specs.Arc.{arc_value};
+impl Clone for Placed {
+    ghost is_clone = { λ x y. y ≡ x };
 
-    fn new(alloc: Global, labels: &LabelSet, place: u32) -> Result<Arc<Placed>, AllocError>
-        ensures { IfOk result (λ placed. arc_value placed ≡ (labels.now, place)) }
+    fn clone(&self) -> Result<Placed, AllocError> {
+        Placed::new(&self.labels, self.place)
+    }
+}
+
+impl Entry for Placed {
+    type Item = Placed;
+
+    ghost item = { λ x. x };
+
+    ghost same = { λ x y e. e };
+}
+
+impl Placed {
+    fn new(labels: &LabelSet, place: u32) -> Result<Placed, AllocError>
+        ensures { IfOk result (λ placed. placed ≡ (labels.now, place)) }
     {
         let labels = labels.try_clone()?;
-        Ok(Arc::new(alloc, Placed { labels, place })?)
+        Ok(Placed { labels, place })
     }
 
     fn labels(&self) -> &LabelSet
@@ -55,12 +68,12 @@ struct Sought<'a> {
     labels: &'a LabelSet,
 }
 
-impl<'a> Probe<Arc<Placed>> for Sought<'a> {
+impl<'a> Probe<Placed> for Sought<'a> {
     ghost use Rattle.labels.specs.Labels.{labels_cmp};
 
     ghost order = { λ probe y. labels_cmp y.0 probe.labels.now };
 
-    fn compare(&self, entry: &Arc<Placed>) -> Ordering {
+    fn compare(&self, entry: &Placed) -> Ordering {
         entry.labels().cmp(self.labels)
     }
 }
@@ -70,7 +83,7 @@ impl<'a> Probe<Arc<Placed>> for Sought<'a> {
 /// Clauses see the label sets in ascending order, each with its place.
 #[derive(Drop)]
 pub(crate) struct Order {
-    sets: SortedPages<Arc<Placed>>,
+    sets: SortedPages<Placed>,
 }
 
 impl Model for Order {
@@ -117,15 +130,11 @@ impl Order {
         }
     }
 
-    /// The place of a label set. It looks first where the last search ended, and at the spot after
-    /// it: a batch often has the samples of one series, and series in their order, one after
-    /// another.
+    /// The place of a label set. It looks first at the spot after the one where the last search
+    /// ended: a batch often has series in their order.
     pub(crate) fn place_of(&self, labels: &LabelSet, near: &mut Spot) -> Option<u32>
         ensures { result ≡ find labels_cmp labels.now self.now }
     {
-        if let Some(place) = self.place_at(labels, *near) {
-            return Some(place);
-        }
         let next = Spot {
             group: near.group,
             page: near.page,
@@ -154,7 +163,7 @@ impl Order {
         ensures ok { OnOk result (self.new ≡ put labels_cmp labels.now place self.old) }
         ensures err { OnErr result (self.new ≡ self.old) }
     {
-        let placed = Placed::new(alloc, labels, place)?;
+        let placed = Placed::new(labels, place)?;
         match self.sets.find(&Sought { labels }) {
             Ok(spot) => self.sets.set(spot, placed),
             Err(spot) => self.sets.insert(alloc, spot, placed),

@@ -1,7 +1,7 @@
 //! The samples of one label set, in chunks that versions share.
 
 ghost use Rattle.std.specs.Prelude.{◌≡◌, ◌<◌, ◌++◌, IfOk, OnOk, [], ◌∷◌, length, map, filter};
-ghost use Rattle.std.specs.Prelude.{nat_le, ℤ};
+ghost use Rattle.std.specs.Prelude.{nat_le, OnErr};
 ghost use Rattle.std.specs.Arc.{arc_value};
 ghost use Rattle.std.specs.Prelude.{T};
 ghost use Rattle.std.specs.Ordering.{int_cmp};
@@ -73,32 +73,6 @@ fn has_sample_in(samples: &[Sample], from: i64, to: i64) -> bool
 /// The series of a head in order of creation, in pages that versions share.
 pub(crate) type SeriesList = PagedList<Arc<Series>, 16>;
 
-/// The samples of one label set: sealed chunks of 120 samples, shared, and an open one of fewer.
-#[derive(Drop)]
-pub(crate) struct Series {
-    labels: LabelSet,
-    sealed: Vec<Arc<Chunk>>,
-    tail: Vec<Sample>,
-    newest: Sample,
-}
-
-impl Model for Series {
-    ghost use Rattle.std.specs.Prelude.{map};
-    ghost use Rattle.std.specs.Arc.{arc_value};
-    ghost use Rattle.head.specs.Heads.{HeadSeries};
-    ghost use Rattle.head.specs.Chunks.{joined_chunks, AreChunks};
-
-    ghost Value = { HeadSeries };
-
-    ghost view = { λ s. record {
-      labels = s.labels;
-      samples = joined_chunks (map (λ c. arc_value c) s.sealed.items) s.tail.items;
-      newest = s.newest;
-    } };
-
-    ghost invariant = { λ s. AreChunks (map (λ c. arc_value c) s.sealed.items) s.tail.items };
-}
-
 fn shared(alloc: Global, chunks: &[Arc<Chunk>]) -> Result<Vec<Arc<Chunk>>, AllocError>
     ensures { IfOk result (λ v. map (λ c. arc_value c) v.items
         ≡ map (λ c. arc_value c) chunks.now) }
@@ -108,6 +82,115 @@ fn shared(alloc: Global, chunks: &[Arc<Chunk>]) -> Result<Vec<Arc<Chunk>>, Alloc
         copy.push(Arc::try_clone(chunk)?)?;
     }
     Ok(copy)
+}
+
+/// Adds a chunk at the end; the list is copied where another version holds it.
+fn push_to(
+    alloc: Global,
+    chunks: &mut Arc<Vec<Arc<Chunk>>>,
+    chunk: Arc<Chunk>,
+) -> Result<(), AllocError>
+    ensures ok { OnOk result (map (λ c. arc_value c) (arc_value chunks.new).items
+        ≡ map (λ c. arc_value c) (arc_value chunks.old).items ++ arc_value chunk ∷ []) }
+    ensures err { OnErr result (map (λ c. arc_value c) (arc_value chunks.new).items
+        ≡ map (λ c. arc_value c) (arc_value chunks.old).items) }
+{
+    if let Some(own) = Arc::get_mut(chunks) {
+        own.push(chunk)?;
+        return Ok(());
+    }
+    let mut copy = shared(alloc, chunks.as_slice())?;
+    copy.push(chunk)?;
+    *chunks = Arc::new(alloc, copy)?;
+    Ok(())
+}
+
+/// Sealed chunks. Versions share the list of them, until one more is sealed.
+#[derive(Drop)]
+struct Sealed {
+    chunks: Option<Arc<Vec<Arc<Chunk>>>>,
+}
+
+impl Model for Sealed {
+    ghost use Rattle.std.specs.Prelude.{List, ℤ, [], None, Some, map};
+    ghost use Rattle.std.specs.Arc.{arc_value};
+
+    ghost Value = { List (List (ℤ × ℤ)) };
+
+    ghost view = { λ s. elim s.chunks [
+        | None ↦ []
+        | Some chunks ↦ map (λ c. arc_value c) (arc_value chunks).items
+    ] };
+}
+
+impl Sealed {
+    fn new() -> Sealed
+        ensures { result ≡ [] }
+    {
+        Sealed { chunks: None }
+    }
+
+    fn chunks(&self) -> &[Arc<Chunk>]
+        ensures { map (λ c. arc_value c) result.now ≡ self.now }
+    {
+        match &self.chunks {
+            Some(chunks) => chunks.as_slice(),
+            None => &[],
+        }
+    }
+
+    /// The same chunks: one pointer is copied.
+    fn try_clone(&self) -> Result<Sealed, AllocError>
+        ensures { IfOk result (λ sealed. sealed ≡ self.now) }
+    {
+        match &self.chunks {
+            Some(chunks) => Ok(Sealed {
+                chunks: Some(Arc::try_clone(chunks)?),
+            }),
+            None => Ok(Sealed::new()),
+        }
+    }
+
+    /// Seals a chunk of these samples.
+    fn push(&mut self, alloc: Global, samples: Vec<Sample>) -> Result<(), AllocError>
+        ensures ok { OnOk result (self.new ≡ self.old ++ samples.items ∷ []) }
+        ensures err { OnErr result (self.new ≡ self.old) }
+    {
+        let chunk = Arc::new(alloc, Chunk::new(samples))?;
+        match &mut self.chunks {
+            Some(chunks) => push_to(alloc, chunks, chunk),
+            None => {
+                let mut first = Vec::with_capacity(alloc, 1)?;
+                first.push(chunk)?;
+                self.chunks = Some(Arc::new(alloc, first)?);
+                Ok(())
+            }
+        }
+    }
+}
+
+/// The samples of one label set: sealed chunks of 120 samples, shared, and an open one of fewer.
+#[derive(Drop)]
+pub(crate) struct Series {
+    labels: LabelSet,
+    sealed: Sealed,
+    tail: Vec<Sample>,
+    newest: Sample,
+}
+
+impl Model for Series {
+    ghost use Rattle.head.specs.Heads.{HeadSeries};
+    ghost use Rattle.head.specs.Chunks.{joined_chunks, AreChunks};
+
+    ghost Value = { HeadSeries };
+
+    ghost view = { λ s. record {
+      labels = s.labels;
+      samples = joined_chunks s.sealed s.tail.items;
+      newest = s.newest;
+    } };
+
+    ghost invariant = { λ s. AreChunks s.sealed s.tail.items };
 }
 
 fn is_within(sample: Sample, from: i64, to: i64) -> bool
@@ -142,27 +225,28 @@ impl Series {
         ensures { IfOk result (λ s. s
             ≡ record { labels = labels.now; samples = sample ∷ []; newest = sample }) }
     {
-        let mut tail = Vec::new(alloc);
+        let mut tail = Vec::with_capacity(alloc, 1)?;
         tail.push(sample)?;
         Ok(Series {
             labels: labels.try_clone()?,
-            sealed: Vec::new(alloc),
+            sealed: Sealed::new(),
             tail,
             newest: sample,
         })
     }
 
-    /// An equal series, which shares all but the open chunk, and how many samples that one has.
+    /// An equal series, which shares all but the open chunk, and how many samples that one has. It
+    /// has room for one sample more.
     pub(crate) fn copied(&self, alloc: Global) -> Result<(Series, u64), AllocError>
         ensures same { IfOk result (λ p. p.0 ≡ self.now) }
         ensures few { IfOk result (λ p. p.1 < 120) }
     {
-        let mut tail = Vec::new(alloc);
+        let mut tail = Vec::with_capacity(alloc, self.tail.len() + 1)?;
         tail.extend_from_slice(self.tail.as_slice())?;
         let copied = tail.len() as u64;
         let copy = Series {
             labels: self.labels.try_clone()?,
-            sealed: shared(alloc, self.sealed.as_slice())?,
+            sealed: self.sealed.try_clone()?,
             tail,
             newest: self.newest,
         };
@@ -186,7 +270,7 @@ impl Series {
         self.tail.push(sample)?;
         if self.tail.len() == CHUNK {
             let full = mem::replace(&mut self.tail, Vec::new(alloc));
-            self.sealed.push(Arc::new(alloc, Chunk::new(full))?)?;
+            self.sealed.push(alloc, full)?;
         }
         Ok(())
     }
@@ -217,11 +301,11 @@ impl Series {
     {
         let mut left = Series {
             labels: self.labels.try_clone()?,
-            sealed: Vec::new(alloc),
+            sealed: Sealed::new(),
             tail: Vec::new(alloc),
             newest: self.newest,
         };
-        for chunk in &self.sealed {
+        for chunk in self.sealed.chunks() {
             left.append_outside(alloc, chunk.samples(), from, to)?;
         }
         left.append_outside(alloc, self.tail.as_slice(), from, to)?;
@@ -238,7 +322,7 @@ impl Series {
     pub(crate) fn is_full(&self) -> bool
         ensures { result ≡ nat_le MAX_SAMPLES (length self.now.samples) }
     {
-        let sealed = self.sealed.len();
+        let sealed = self.sealed.chunks().len();
         let last = MAX_SAMPLES / CHUNK;
         sealed > last || sealed == last && self.tail.len() >= MAX_SAMPLES % CHUNK
     }
@@ -255,7 +339,7 @@ impl Series {
         requires { T (is_sorted int_cmp self.now.samples) }
         ensures { result ≡ has_sample from to self.now.samples }
     {
-        let chunks = self.sealed.as_slice();
+        let chunks = self.sealed.chunks();
         let place = chunks.partition_point(|chunk| chunk.ends_before(from));
         if place < chunks.len() {
             return has_sample_in(chunks[place].samples(), from, to);
@@ -268,7 +352,7 @@ impl Series {
         ensures { IfOk result (λ found. found.items ≡ self.now.samples) }
     {
         let mut found = Vec::new(alloc);
-        for chunk in &self.sealed {
+        for chunk in self.sealed.chunks() {
             found.extend_from_slice(chunk.samples())?;
         }
         found.extend_from_slice(self.tail.as_slice())?;
@@ -285,7 +369,7 @@ impl Series {
         ensures { IfOk result (λ found. found.items ≡ within from to self.now.samples) }
     {
         let mut found = Vec::new(alloc);
-        for chunk in &self.sealed {
+        for chunk in self.sealed.chunks() {
             push_within(&mut found, chunk.samples(), from, to)?;
         }
         push_within(&mut found, self.tail.as_slice(), from, to)?;

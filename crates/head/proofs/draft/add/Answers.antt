@@ -21,7 +21,7 @@ returns-then-t-floor-clause-step c = search rules
 pub add_known-requires : goal.add_known-requires
 add_known-requires c =
     let head : List HeadSeries = series_in_each c.args.draft.now in
-    let is : place_from c.args.labels.now 0 head ≡ Some c.in-Some.place = sym (c.requires.placed c.args.labels.now) ∙ sym c.place_of.ensures ∙ c.in-Some.is in
+    let is : place_from c.args.labels.now 0 head ≡ Some c.in-Some.place = sym c.place_of.ensures ∙ c.in-Some.is in
     let st = stands_at c.args.labels.now head c.in-Some.place is in
     omega (arith, st.below, length-each c.args.draft.now)
 
@@ -29,7 +29,7 @@ pub returns-in-Some-clause-step : goal.returns-in-Some-clause-step
 returns-in-Some-clause-step c =
     let head : List HeadSeries = series_in_each c.args.draft.now in
     let inside : int_lt c.args.sample.0 c.args.floor ≡ false = search rules in
-    let is : place_from c.args.labels.now 0 head ≡ Some c.in-Some.place = sym (c.requires.placed c.args.labels.now) ∙ sym c.place_of.ensures ∙ c.in-Some.is in
+    let is : place_from c.args.labels.now 0 head ≡ Some c.in-Some.place = sym c.place_of.ensures ∙ c.in-Some.is in
     let st = stands_at c.args.labels.now head c.in-Some.place is in
     same_outcome c.add_known.result (series_in_each c.add_known.new.draft) _ _
     (head_added-inside most c.args.floor head c.args.at c.args.labels.now c.args.sample inside
@@ -45,7 +45,7 @@ returns-in-Some-clause-ordered c =
 pub returns-in-Some-clause-owners : goal.returns-in-Some-clause-owners
 returns-in-Some-clause-owners c =
     let head : List HeadSeries = series_in_each c.args.draft.now in
-    let is : place_from c.args.labels.now 0 head ≡ Some c.in-Some.place = sym (c.requires.placed c.args.labels.now) ∙ sym c.place_of.ensures ∙ c.in-Some.is in
+    let is : place_from c.args.labels.now 0 head ≡ Some c.in-Some.place = sym c.place_of.ensures ∙ c.in-Some.is in
     let st = stands_at c.args.labels.now head c.in-Some.place is in
     let like : c.args.labels.now ≡ (slice_index_or head c.in-Some.place some).labels = like_series c.args.labels.now head (slice_index_or head c.in-Some.place some) (st.found some) in
     on_ok c.add_known.result (λ own p h all. own p some (subst (λ (l : Labels). T (p l)) like h) all) c.add_known.ensures.owners
@@ -54,7 +54,7 @@ pub returns-in-Ok-clause-step : goal.returns-in-Ok-clause-step
 returns-in-Ok-clause-step c =
     let head : List HeadSeries = series_in_each c.args.draft.now in
     let inside : int_lt c.args.sample.0 c.args.floor ≡ false = search rules in
-    let is : place_from c.args.labels.now 0 head ≡ None = sym (c.requires.placed c.args.labels.now) ∙ sym c.place_of.ensures ∙ c.in-None.is in
+    let is : place_from c.args.labels.now 0 head ≡ None = sym c.place_of.ensures ∙ c.in-None.is in
     head_added-inside most c.args.floor head c.args.at c.args.labels.now c.args.sample inside
     ∙ head_added-new_added most head c.args.at c.args.labels.now c.args.sample is
     ∙ c.in-Ok.ensures.step
@@ -63,7 +63,7 @@ pub returns-in-Err-clause-step : goal.returns-in-Err-clause-step
 returns-in-Err-clause-step c =
     let head : List HeadSeries = series_in_each c.args.draft.now in
     let inside : int_lt c.args.sample.0 c.args.floor ≡ false = search rules in
-    let is : place_from c.args.labels.now 0 head ≡ None = sym (c.requires.placed c.args.labels.now) ∙ sym c.place_of.ensures ∙ c.in-None.is in
+    let is : place_from c.args.labels.now 0 head ≡ None = sym c.place_of.ensures ∙ c.in-None.is in
     subst (IsAnswer c.in-Err.refusal)
     (sym (head_added-inside most c.args.floor head c.args.at c.args.labels.now c.args.sample inside
     ∙ head_added-new_added most head c.args.at c.args.labels.now c.args.sample is))

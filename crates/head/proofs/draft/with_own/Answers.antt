@@ -18,7 +18,7 @@ set-requires c =
 pub loop-place-preserved : goal.loop-place-preserved
 loop-place-preserved c =
     let own = get nat_cmp c.loop-place.own in
-    let left = get nat_cmp c.pop_first.new.self in
+    let left = get nat_cmp c.pop_last.new.self in
     let k = c.in-Some.place in
     let made : List HeadSeries = c.loop-place.made in
     let h : HeadSeries = c.in-Some.series in

@@ -10,22 +10,22 @@ use Rattle.head.proofs.draft.Draft.into_list.Goals as goal
 pub returns-in_err-list-clause-few : goal.returns-in_err-list-clause-few
 returns-in_err-list-clause-few c =
     let size = ap length c.self.view_is in
-    omega (arith, size, c.self.invariant.1, length-slots c.self.inside.last (get nat_cmp c.self.inside.own) c.self.inside.begun.items)
+    omega (arith, size, c.self.invariant.2, length-slots c.self.inside.last (get nat_cmp c.self.inside.own) c.self.inside.begun.items)
 
 pub returns-in_err-new-clause-few : goal.returns-in_err-new-clause-few
 returns-in_err-new-clause-few c =
     let size = ap length c.self.view_is in
-    omega (arith, size, c.self.invariant.1, length-slots c.self.inside.last (get nat_cmp c.self.inside.own) c.self.inside.begun.items)
+    omega (arith, size, c.self.invariant.2, length-slots c.self.inside.last (get nat_cmp c.self.inside.own) c.self.inside.begun.items)
 
 pub returns-in_err-push-clause-few : goal.returns-in_err-push-clause-few
 returns-in_err-push-clause-few c =
     let size = ap length c.self.view_is in
-    omega (arith, size, c.self.invariant.1, length-slots c.self.inside.last (get nat_cmp c.self.inside.own) c.self.inside.begun.items)
+    omega (arith, size, c.self.invariant.2, length-slots c.self.inside.last (get nat_cmp c.self.inside.own) c.self.inside.begun.items)
 
 pub returns-clause-few : goal.returns-clause-few
 returns-clause-few c =
     let size = ap length c.self.view_is in
-    omega (arith, size, c.self.invariant.1, length-slots c.self.inside.last (get nat_cmp c.self.inside.own) c.self.inside.begun.items)
+    omega (arith, size, c.self.invariant.2, length-slots c.self.inside.last (get nat_cmp c.self.inside.own) c.self.inside.begun.items)
 
 pub returns-clause-series : goal.returns-clause-series
 returns-clause-series c =

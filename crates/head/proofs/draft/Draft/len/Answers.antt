@@ -14,4 +14,4 @@ returns-clause-count c =
 pub returns-clause-few : goal.returns-clause-few
 returns-clause-few c =
     let size = ap length c.self.view_is in
-    omega (arith, size, c.self.invariant.1, length-slots c.self.inside.last (get nat_cmp c.self.inside.own) c.self.inside.begun.items)
+    omega (arith, size, c.self.invariant.2, length-slots c.self.inside.last (get nat_cmp c.self.inside.own) c.self.inside.begun.items)

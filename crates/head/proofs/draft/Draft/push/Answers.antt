@@ -10,6 +10,7 @@ invariant_of-self-2 c =
     let size = ap length c.self.view_is in
     let more = ap length c.in_ok-push.ensures.items in (
       c.self.invariant.0,
+      c.self.invariant.1,
       omega (
         arith,
         c.requires,

@@ -40,6 +40,19 @@ returns-in-Some c = λ d.
     sym (series_last last own begun k d d inside ∙ ap (λ o. series_in (slot_at (slice_index_or last k d) o)) held)
     ∙ ap (λ (slots : List Slot). slice_index_or (series_in_each slots) k d) c.self.view_is
 
+pub returns-then-place-self : goal.returns-then-place-self
+returns-then-place-self c = λ d.
+    let last = c.self.inside.last in
+    let begun = c.self.inside.begun.items in
+    let own = get nat_cmp c.self.inside.own in
+    let k = c.args.place in
+    let inside : k < length last = omega (arith, c.len-shared.ensures, c.if-place-shared.false) in
+    let held : own k ≡ None = c.self.invariant.0 k (omega (arith, c.if-place-self.true)) in
+    let e : HeadSeries = arc_value c.at.result.now in
+    c.deref.ensures ∙ c.at.ensures
+    ∙ sym (series_last last own begun k d e inside ∙ ap (λ o. series_in (slot_at (slice_index_or last k e) o)) held)
+    ∙ ap (λ (slots : List Slot). slice_index_or (series_in_each slots) k d) c.self.view_is
+
 pub returns-in-None : goal.returns-in-None
 returns-in-None c = λ d.
     let last = c.self.inside.last in
@@ -48,7 +61,7 @@ returns-in-None c = λ d.
     let k = c.args.place in
     let inside : k < length last = omega (arith, c.len-shared.ensures, c.if-place-shared.false) in
     let held : own k ≡ None = sym c.get.ensures.value ∙ ap (λ o. option_copied o) c.in-None.is in
-    let e : HeadSeries = arc_value c.at.result.now in
-    c.deref.ensures ∙ c.at.ensures
+    let e : HeadSeries = arc_value c.at-in-None.result.now in
+    c.deref-in-None.ensures ∙ c.at-in-None.ensures
     ∙ sym (series_last last own begun k d e inside ∙ ap (λ o. series_in (slot_at (slice_index_or last k e) o)) held)
     ∙ ap (λ (slots : List Slot). slice_index_or (series_in_each slots) k d) c.self.view_is

@@ -1,5 +1,4 @@
 use Rattle.std.proofs.Common.{◌≡◌, ℕ, List, OnOk, refl}
-use Rattle.std.specs.Arc.{arc_value}
 use Rattle.std.specs.FinMap.Entries.{put}
 use Rattle.labels.specs.Labels.{Labels, labels_cmp}
 use Rattle.labels.specs.Laws.{labels_total}
@@ -10,12 +9,12 @@ use Rattle.head.proofs.order.Order.insert.Goals as goal
 
 set_as : (c : goal.After-set) (ys : List (Labels × ℕ)) → entries_of c.self.inside.sets ≡ ys → OnOk c.set.result (entries_of c.set.new.self ≡ put labels_cmp c.args.labels.now c.args.place ys)
 set_as c ys is =
-    set_put labels_total labels_exact c.args.labels.now c.args.place (entries_of c.self.inside.sets) ys (entries_of c.set.new.self) (place_of c.self.inside.sets c.in-Ok.spot) (arc_value c.in_ok-placed.placed) c.set.result
+    set_put labels_total labels_exact c.args.labels.now c.args.place (entries_of c.self.inside.sets) ys (entries_of c.set.new.self) (place_of c.self.inside.sets c.in-Ok.spot) c.in_ok-placed.placed c.set.result
     c.self.invariant is c.in-Ok.ensures.found c.in_ok-placed.ensures c.set.ensures.ok
 
 inserted_as : (c : goal.After-insert) (ys : List (Labels × ℕ)) → entries_of c.self.inside.sets ≡ ys → OnOk c.insert.result (entries_of c.insert.new.self ≡ put labels_cmp c.args.labels.now c.args.place ys)
 inserted_as c ys is =
-    insert_put labels_total c.args.labels.now c.args.place (entries_of c.self.inside.sets) ys (entries_of c.insert.new.self) (place_of c.self.inside.sets c.in-Err.spot) (arc_value c.in_ok-placed.placed) c.insert.result
+    insert_put labels_total c.args.labels.now c.args.place (entries_of c.self.inside.sets) ys (entries_of c.insert.new.self) (place_of c.self.inside.sets c.in-Err.spot) c.in_ok-placed.placed c.insert.result
     c.self.invariant is c.in-Err.ensures.absent c.in_ok-placed.ensures c.insert.ensures.ok
 
 pub invariant_of-self : goal.invariant_of-self

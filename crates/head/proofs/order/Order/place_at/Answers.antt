@@ -1,5 +1,4 @@
 use Rattle.std.proofs.Common.{◌∙◌, ℕ, sym, ap}
-use Rattle.std.specs.Arc.{arc_value}
 use Rattle.labels.specs.Labels.{Labels, labels_cmp}
 use Rattle.labels.specs.Laws.{labels_total}
 use Rattle.pages.specs.Sorted.{entries_of, place_of}
@@ -8,7 +7,7 @@ use Rattle.head.proofs.order.Order.place_at.Goals as goal
 
 pub returns-in-Equal : goal.returns-in-Equal
 returns-in-Equal c =
-    found_got labels_total c.args.labels.now (entries_of c.self.inside.sets) c.args.self.now (place_of c.self.inside.sets c.args.spot) (arc_value c.in_ok-placed.placed.now) c.place.result
+    found_got labels_total c.args.labels.now (entries_of c.self.inside.sets) c.args.self.now (place_of c.self.inside.sets c.args.spot) c.in_ok-placed.placed.now c.place.result
     c.self.invariant c.self.view_is c.in_ok-placed.ensures.some
-    (ap (λ (l : Labels). labels_cmp l c.args.labels.now) (sym (c.labels.ensures ∙ ap (λ (e : Labels × ℕ). e.0) c.deref.ensures)) ∙ sym c.cmp.ensures ∙ c.in-Equal.is)
-    (c.place.ensures ∙ ap (λ (e : Labels × ℕ). e.1) c.deref-in-Equal.ensures)
+    (ap (λ (l : Labels). labels_cmp l c.args.labels.now) (sym (c.labels.ensures)) ∙ sym c.cmp.ensures ∙ c.in-Equal.is)
+    c.place.ensures

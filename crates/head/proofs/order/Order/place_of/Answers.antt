@@ -1,5 +1,4 @@
 use Rattle.std.proofs.Common.{◌∙◌, ℕ, ap}
-use Rattle.std.specs.Arc.{arc_value}
 use Rattle.labels.specs.Labels.{Labels}
 use Rattle.labels.specs.Laws.{labels_total}
 use Rattle.pages.specs.Sorted.{entries_of, place_of}
@@ -8,8 +7,8 @@ use Rattle.head.proofs.order.Order.place_of.Goals as goal
 
 pub returns-in-Ok : goal.returns-in-Ok
 returns-in-Ok c =
-    found_hit labels_total c.args.labels.now (entries_of c.self.inside.sets) c.args.self.now (place_of c.self.inside.sets c.in-Ok.spot) (arc_value c.at.result.now) c.place.result
-    c.self.invariant c.self.view_is c.in-Ok.ensures.found c.at.ensures (c.place.ensures ∙ ap (λ (e : Labels × ℕ). e.1) c.deref.ensures)
+    found_hit labels_total c.args.labels.now (entries_of c.self.inside.sets) c.args.self.now (place_of c.self.inside.sets c.in-Ok.spot) c.at.result.now c.place.result
+    c.self.invariant c.self.view_is c.in-Ok.ensures.found c.at.ensures c.place.ensures
 
 pub returns-in-Err : goal.returns-in-Err
 returns-in-Err c =

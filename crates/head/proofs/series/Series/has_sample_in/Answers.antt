@@ -15,45 +15,45 @@ use Rattle.head.proofs.series.Series.has_sample_in.Goals as goal
 pub has_sample_in-requires : goal.has_sample_in-requires
 has_sample_in-requires c =
     let sorted = subst (λ (h : HeadSeries). T (is_sorted int_cmp h.samples)) (sym c.self.view_is) c.requires in
-    let xs = c.as_slice-chunks.result.now in
+    let xs = c.chunks-chunks.result.now in
     let last = c.self.inside.tail.items in
     sorted_here (λ x. arc_value x) xs last c.partition_point-place.result c.index-chunks-place.result c.samples.result.now
-    (subst (λ ys. T (is_sorted int_cmp (joined (map (λ x. arc_value x) ys) last))) (sym c.as_slice-chunks.ensures.value) sorted)
+    (subst (λ ys. T (is_sorted int_cmp (joined ys last))) (sym c.chunks-chunks.ensures) sorted)
     c.if-place-chunks.true c.index-chunks-place.is (c.samples.ensures ∙ c.deref.ensures)
 
 pub has_sample_in-requires-2 : goal.has_sample_in-requires-2
 has_sample_in-requires-2 c =
     let sorted = subst (λ (h : HeadSeries). T (is_sorted int_cmp h.samples)) (sym c.self.view_is) c.requires in
     subst (λ (ys : Samples). T (is_sorted int_cmp ys)) (sym c.as_slice.ensures.value)
-    (sorted_last (map (λ x. arc_value x) c.self.inside.sealed.items) c.self.inside.tail.items sorted)
+    (sorted_last c.self.inside.sealed c.self.inside.tail.items sorted)
 
 pub returns-then-place-chunks : goal.returns-then-place-chunks
 returns-then-place-chunks c =
     let sorted = subst (λ (h : HeadSeries). T (is_sorted int_cmp h.samples)) (sym c.self.view_is) c.requires in
-    let xs = c.as_slice-chunks.result.now in
+    let xs = c.chunks-chunks.result.now in
     let last = c.self.inside.tail.items in
-    let here = subst (λ ys. T (is_sorted int_cmp (joined (map (λ x. arc_value x) ys) last))) (sym c.as_slice-chunks.ensures.value) sorted in
-    let full = subst (λ ys. T (list_all (λ (samples : Samples). nat_eq (length samples) 120) (map (λ x. arc_value x) ys))) (sym c.as_slice-chunks.ensures.value) c.self.invariant.full in
+    let here = subst (λ ys. T (is_sorted int_cmp (joined ys last))) (sym c.chunks-chunks.ensures) sorted in
+    let full = subst (λ ys. T (list_all (λ (samples : Samples). nat_eq (length samples) 120) ys)) (sym c.chunks-chunks.ensures) c.self.invariant.full in
     let point = IsPartitionPoint-from_clause (λ x. ends_before c.args.from (arc_value x)) xs c.partition_point-place.result c.partition_point-place.ensures.partitioned (parted_each (λ x. arc_value x) xs last c.args.from here full) (λ a r f' k. search rules) in
     let x : to_z w64 (of_z w64 c.args.from) ≡ c.args.from = search rules in
     let y : to_z w64 (of_z w64 c.args.to) ≡ c.args.to = search rules in
     sampled_times c.args.from (to_z w64 (of_z w64 c.args.from)) c.args.to (to_z w64 (of_z w64 c.args.to)) c.samples.result.now c.has_sample_in.result x y c.has_sample_in.ensures
     ∙ decides_here (λ x. arc_value x) xs last c.args.from c.args.to c.partition_point-place.result c.index-chunks-place.result c.samples.result.now here c.if-place-chunks.true c.index-chunks-place.is (c.samples.ensures ∙ c.deref.ensures) point
-    ∙ ap (λ ys. has_sample c.args.from c.args.to (joined (map (λ x. arc_value x) ys) last)) c.as_slice-chunks.ensures.value
+    ∙ ap (λ ys. has_sample c.args.from c.args.to (joined ys last)) c.chunks-chunks.ensures
     ∙ ap (λ (h : HeadSeries). has_sample c.args.from c.args.to h.samples) c.self.view_is
 
 pub returns : goal.returns
 returns c =
     let sorted = subst (λ (h : HeadSeries). T (is_sorted int_cmp h.samples)) (sym c.self.view_is) c.requires in
-    let xs = c.as_slice-chunks.result.now in
+    let xs = c.chunks-chunks.result.now in
     let last = c.self.inside.tail.items in
-    let here = subst (λ ys. T (is_sorted int_cmp (joined (map (λ x. arc_value x) ys) last))) (sym c.as_slice-chunks.ensures.value) sorted in
-    let full = subst (λ ys. T (list_all (λ (samples : Samples). nat_eq (length samples) 120) (map (λ x. arc_value x) ys))) (sym c.as_slice-chunks.ensures.value) c.self.invariant.full in
+    let here = subst (λ ys. T (is_sorted int_cmp (joined ys last))) (sym c.chunks-chunks.ensures) sorted in
+    let full = subst (λ ys. T (list_all (λ (samples : Samples). nat_eq (length samples) 120) ys)) (sym c.chunks-chunks.ensures) c.self.invariant.full in
     let point = IsPartitionPoint-from_clause (λ x. ends_before c.args.from (arc_value x)) xs c.partition_point-place.result c.partition_point-place.ensures.partitioned (parted_each (λ x. arc_value x) xs last c.args.from here full) (λ a r f' k. search rules) in
     let x : to_z w64 (of_z w64 c.args.from) ≡ c.args.from = search rules in
     let y : to_z w64 (of_z w64 c.args.to) ≡ c.args.to = search rules in
     sampled_times c.args.from (to_z w64 (of_z w64 c.args.from)) c.args.to (to_z w64 (of_z w64 c.args.to)) c.as_slice.result.now c.has_sample_in-2.result x y c.has_sample_in-2.ensures
     ∙ ap (has_sample c.args.from c.args.to) c.as_slice.ensures.value
     ∙ decides_last (λ x. arc_value x) xs last c.args.from c.args.to c.partition_point-place.result here (omega (arith, c.if-place-chunks.false)) point
-    ∙ ap (λ ys. has_sample c.args.from c.args.to (joined (map (λ x. arc_value x) ys) last)) c.as_slice-chunks.ensures.value
+    ∙ ap (λ ys. has_sample c.args.from c.args.to (joined ys last)) c.chunks-chunks.ensures
     ∙ ap (λ (h : HeadSeries). has_sample c.args.from c.args.to h.samples) c.self.view_is

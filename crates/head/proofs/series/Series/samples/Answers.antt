@@ -9,10 +9,11 @@ use Rattle.head.proofs.series.Series.samples.Goals as goal
 
 pub returns : goal.returns
 returns c =
-    let all : take c.loop-chunk.chunk-index c.deref-chunk-items.result.now ≡ c.self.inside.sealed.items =
-    take_all c.loop-chunk.chunk-index c.deref-chunk-items.result.now (omega arith) ∙ c.deref-chunk-items.ensures.value in
-    let before = c.loop-chunk.invariant ∙ (λ i. joined_chunks (map (λ a. arc_value a) (all i)) [])
-    ∙ append-nil (flat_map (λ (samples : List (ℤ × ℤ)). samples) (map (λ a. arc_value a) c.self.inside.sealed.items)) in
+    let xs = c.chunks-chunk-items.result.now in
+    let all : map (λ a. arc_value a) (take c.loop-chunk.chunk-index xs) ≡ c.self.inside.sealed =
+    (λ i. map (λ a. arc_value a) (take_all c.loop-chunk.chunk-index xs (omega arith) i)) ∙ c.chunks-chunk-items.ensures in
+    let before = c.loop-chunk.invariant ∙ (λ i. joined_chunks (all i) [])
+    ∙ append-nil (flat_map (λ (samples : List (ℤ × ℤ)). samples) c.self.inside.sealed) in
     c.in_ok-extend_from_slice-2.ensures.items
     ∙ (λ i. before i ++ c.as_slice.ensures.value i)
     ∙ ap (λ (h : HeadSeries). h.samples) c.self.view_is

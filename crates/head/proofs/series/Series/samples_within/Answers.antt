@@ -12,13 +12,14 @@ pub returns : goal.returns
 returns c =
     let from_is : to_z w64 (of_z w64 c.args.from) ≡ c.args.from = search rules in
     let to_is : to_z w64 (of_z w64 c.args.to) ≡ c.args.to = search rules in
-    let all : take c.loop-chunk.chunk-index c.deref-chunk-items.result.now ≡ c.self.inside.sealed.items =
-    take_all c.loop-chunk.chunk-index c.deref-chunk-items.result.now (omega arith) ∙ c.deref-chunk-items.ensures.value in
-    let before : c.loop-chunk.found.items ≡ within c.args.from c.args.to (joined_chunks (map (λ a. arc_value a) c.self.inside.sealed.items) []) =
-    c.loop-chunk.invariant ∙ (λ i. within (from_is i) (to_is i) (joined_chunks (map (λ a. arc_value a) (all i)) [])) in
+    let xs = c.chunks-chunk-items.result.now in
+    let all : map (λ a. arc_value a) (take c.loop-chunk.chunk-index xs) ≡ c.self.inside.sealed =
+    (λ i. map (λ a. arc_value a) (take_all c.loop-chunk.chunk-index xs (omega arith) i)) ∙ c.chunks-chunk-items.ensures in
+    let before : c.loop-chunk.found.items ≡ within c.args.from c.args.to (joined_chunks c.self.inside.sealed []) =
+    c.loop-chunk.invariant ∙ (λ i. within (from_is i) (to_is i) (joined_chunks (all i) [])) in
     let after : c.push_within-2.new.found.items ≡ c.loop-chunk.found.items ++ within c.args.from c.args.to c.self.inside.tail.items =
     c.in_ok-push_within-2.ensures ∙ (λ i. c.loop-chunk.found.items ++ within (from_is i) (to_is i) (c.as_slice.ensures.value i)) in
     after
     ∙ ap (λ xs. xs ++ within c.args.from c.args.to c.self.inside.tail.items) before
-    ∙ within-joined_chunks c.args.from c.args.to (map (λ a. arc_value a) c.self.inside.sealed.items) c.self.inside.tail.items
+    ∙ within-joined_chunks c.args.from c.args.to c.self.inside.sealed c.self.inside.tail.items
     ∙ ap (λ (h : HeadSeries). within c.args.from c.args.to h.samples) c.self.view_is
