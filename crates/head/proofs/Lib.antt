@@ -14,6 +14,7 @@ pub mod SlotLaws
 pub mod Counting
 pub mod Placing
 pub mod NameRuns
+pub mod Following
 pub mod Listing
 pub mod Sampling
 pub mod Living

@@ -1,5 +1,5 @@
 -- What lists of references have in common.
-use Rattle.std.proofs.Common.{◌≡◌, ℕ, zero, suc, ◌+◌, ◌<◌, ◌≤◌, ℤ, Bool, true, false, cond, inl, inr, List, [], ◌∷◌, ◌++◌, length, map, take, None, Some, Option, unwrap_or, append-nil, refl, sym, ◌∙◌, ap, subst, arith}
+use Rattle.std.proofs.Common.{◌≡◌, ℕ, zero, suc, ◌+◌, ◌-◌, ◌<◌, ◌≤◌, ℤ, Bool, true, false, cond, inl, inr, List, [], ◌∷◌, ◌++◌, length, map, take, drop, None, Some, Option, unwrap_or, append-nil, refl, sym, ◌∙◌, ap, subst, arith}
 use Rattle.std.specs.Prelude.{◌&&◌, ◌||◌, ◌==◌, nat_le, nat_eq, filter, slice_index_or}
 use Rattle.std.specs.List.{Contains}
 use Rattle.std.specs.List.Sorted.{IsStrictlyIncreasing}
@@ -9,10 +9,10 @@ use Rattle.std.proofs.lemmas.List.Elements.{filter_agree, filter-append}
 use Rattle.std.proofs.lemmas.Map.Keys.{below_from_sorted, sorted_from_strictly_increasing}
 use Rattle.std.proofs.lemmas.List.Folds.{list_all-append}
 use Rattle.std.proofs.lemmas.Map.Views.{any-filter_same}
-use Rattle.labels.specs.Ascending.{first_of, not_below}
+use Rattle.labels.specs.Ascending.{first_of, rest_of, not_below}
 use Rattle.labels.specs.Rows.{Row}
 use Rattle.labels.specs.Parts.{Part, references, references_of, references_where, live_references, has_sample}
-use Rattle.labels.proofs.Lists.{here, there, Contains-cases, none_in_nil, first_in, filter-from, not_below-here}
+use Rattle.labels.proofs.Lists.{here, there, rising-head, Contains-cases, none_in_nil, first_in, filter-from, not_below-here}
 use Rattle.labels.proofs.Times.{true_not_false}
 use Rattle.matchers.specs.Views.{MatcherView}
 use Rattle.matchers.specs.Satisfies.{satisfies, satisfies_all}
@@ -28,6 +28,9 @@ equal_self n = grind (arith, nat_tests)
 
 le_true : (r q : ℕ) → r ≤ q → nat_le r q ≡ true
 le_true r q h = grind (arith, nat_tests)
+
+of_le : (r q : ℕ) → nat_le r q ≡ true → r ≤ q
+of_le r q e = grind (arith, nat_tests)
 
 -- a seek leaves what is not below its target
 pub among-not_below : (xs : List ℕ) (r q : ℕ) → r ≤ q → is_among (not_below r xs) q ≡ is_among xs q
@@ -151,20 +154,151 @@ pub struck_rows : (ms : List MatcherView) (from to : ℤ) (part : Part) → IsSt
     → filter (is_among (live_references from to part)) (references_where (satisfies_all ms) part) ≡ references_of (is_struck ms from to) part
 struck_rows ms from to part rises = common_rows (λ row. has_sample from to row.1.1) (λ row. satisfies_all ms row.1.0) part rises
 
--- the first, and one more of those after it
-pub fronts_more : {X : Type 0} (first m : X) (others : List X) (i : ℕ) → i < length others → m ≡ slice_index_or others i m → take (i + 1) (first ∷ others) ++ m ∷ [] ≡ take (i + 1 + 1) (first ∷ others)
-fronts_more first m others i l is =
-    let a : i + 1 ≡ suc i = omega arith in
-    let b : suc (i + 1) ≡ i + 1 + 1 = omega arith in
-    ap (λ n. take n (first ∷ others) ++ m ∷ []) a
-    ∙ ap (λ ys. first ∷ ys) (sym (take_more others i m l ∙ ap (λ y. take i others ++ y ∷ []) (sym is)))
-    ∙ ap (λ n. take n (first ∷ others)) b
+-- what stands behind the first two
+behind_two : {X : Type 0} (a b : X) (others : List X)
+    → take (length (a ∷ b ∷ others) - 2) (drop 2 (a ∷ b ∷ others)) ≡ others
+behind_two a b others =
+    let n : length (a ∷ b ∷ others) - 2 ≡ length others = omega arith in
+    ap (λ k. take k others) n ∙ take_all (length others) others (omega arith)
 
-pub fronts_all : {X : Type 0} (first : X) (others : List X) (i : ℕ) → length others ≤ i → take (i + 1) (first ∷ others) ≡ first ∷ others
-fronts_all first others i l =
-    let a : i + 1 ≡ suc i = omega arith in
-    ap (λ n. take n (first ∷ others)) a ∙ ap (λ ys. first ∷ ys) (take_all i others l)
+-- the first two
+pub two_fronts : {X : Type 0} (xs : List X) (a b : X) → 2 ≤ length xs
+    → a ≡ slice_index_or xs 0 a → b ≡ slice_index_or xs 1 b → a ∷ b ∷ [] ≡ take 2 xs
+two_fronts [] a b long first second = absurd (omega (arith, long))
+two_fronts (x ∷ []) a b long first second = absurd (omega (arith, long))
+two_fronts (x ∷ y ∷ others) a b long first second = λ i. first i ∷ second i ∷ []
 
-pub empty_of : {X : Type 0} (xs : List X) → length xs ≡ 0 → xs ≡ []
+-- the first two, and one more of those behind them
+pub fronts_more : {X : Type 0} (xs : List X) (m : X) (i : ℕ) → 2 ≤ length xs
+    → i < length (take (length xs - 2) (drop 2 xs))
+    → m ≡ slice_index_or (take (length xs - 2) (drop 2 xs)) i m
+    → take (i + 2) xs ++ m ∷ [] ≡ take (i + 1 + 2) xs
+fronts_more [] m i long l is = absurd (omega (arith, long))
+fronts_more (x ∷ []) m i long l is = absurd (omega (arith, long))
+fronts_more {X} (x ∷ y ∷ others) m i long l is =
+    let whole = behind_two x y others in
+    let inside : i < length others = subst (λ (zs : List X). i < length zs) whole l in
+    let at : m ≡ slice_index_or others i m =
+    subst (λ (zs : List X). m ≡ slice_index_or zs i m) whole is in
+    let a : i + 2 ≡ suc (suc i) = omega arith in
+    let b : suc (suc (i + 1)) ≡ i + 1 + 2 = omega arith in
+    ap (λ n. take n (x ∷ y ∷ others) ++ m ∷ []) a
+    ∙ ap (λ zs. x ∷ y ∷ zs)
+    (sym (take_more others i m inside ∙ ap (λ z. take i others ++ z ∷ []) (sym at)))
+    ∙ ap (λ n. take n (x ∷ y ∷ others)) b
+
+pub empty_of : {X : Type 0} (xs : List X) → length xs < 1 → xs ≡ []
 empty_of [] e = refl
 empty_of (x ∷ xs) e = absurd (omega (arith, e))
+
+none_first : (xs : List ℕ) → first_of xs ≡ None → xs ≡ []
+none_first [] e = refl
+none_first (x ∷ xs) e = absurd (not_some x (sym e))
+
+-- none of an ascending list is below its first
+from_first : (xs : List ℕ) (n x : ℕ) → IsStrictlyIncreasing xs → first_of xs ≡ Some n
+    → Contains xs x → n ≤ x
+from_first [] n x rises e c = absurd (none_in_nil x c)
+from_first (y ∷ ys) n x rises e c =
+    let same : y ≡ n = same_Some y n e in
+    elim (Contains-cases y ys x c) [
+      | inl here ↦ omega (arith, same, here)
+      | inr later ↦
+          let above : y < x = rising-head y ys rises x later in
+          omega (arith, same, above)
+    ]
+
+-- what stands from a reference on, a list has from there on
+both_later : (xs ys : List ℕ) (r : ℕ) → ((x : ℕ) → Contains xs x → r ≤ x)
+    → filter (is_among ys) xs ≡ filter (is_among (not_below r ys)) xs
+both_later [] ys r above = refl
+both_later (x ∷ xs) ys r above =
+    let rest = both_later xs ys r (λ y c. above y (there x y xs c)) in
+    let same = sym (among-not_below ys r x (above x (here x xs))) in
+    λ i. cond (same i) (x ∷ rest i) (rest i)
+
+-- what a list has is not below its first
+both_from : (xs ys : List ℕ) (n : ℕ) → ((y : ℕ) → Contains ys y → n ≤ y)
+    → filter (is_among ys) xs ≡ filter (is_among ys) (not_below n xs)
+both_from [] ys n above = refl
+both_from (x ∷ xs) ys n above =
+    let rest : filter (is_among ys) xs ≡ filter (is_among ys) (not_below n xs) =
+    both_from xs ys n above in
+    elim (nat_le n x) as (λ b. nat_le n x ≡ b → filter (is_among ys) (x ∷ xs)
+    ≡ filter (is_among ys) (cond b (x ∷ not_below n xs) (not_below n xs))) [
+      | true ↦ λ e. ap (λ (zs : List ℕ). cond (is_among ys x) (x ∷ zs) zs) rest
+      | false ↦ λ e.
+          ap (λ b. cond b (x ∷ filter (is_among ys) xs) (filter (is_among ys) xs))
+          (missed_by ys x (λ c. true_not_false (sym (le_true n x (above x c)) ∙ e)))
+          ∙ rest
+    ] refl
+
+none_among_none : (xs : List ℕ) → filter (is_among []) xs ≡ []
+none_among_none [] = refl
+none_among_none (x ∷ xs) = none_among_none xs
+
+first_kept : (p : ℕ → Bool) (xs : List ℕ) (r : ℕ) → first_of xs ≡ Some r → p r ≡ true
+    → filter p xs ≡ r ∷ filter p (rest_of xs)
+first_kept p [] r e pass = absurd (not_some r e)
+first_kept p (x ∷ xs) r e pass =
+    let same : x ≡ r = same_Some x r e in
+    ap (λ b. cond b (x ∷ filter p xs) (filter p xs)) (ap p same ∙ pass)
+    ∙ ap (λ y. y ∷ filter p xs) same
+
+-- two ascending lists, of which the second was sought to the first of the other
+module _ (xs ys zs : List ℕ) (r : ℕ) (rises : IsStrictlyIncreasing xs)
+    (first : first_of xs ≡ Some r) (moved : zs ≡ not_below r ys) where
+  met_later : filter (is_among ys) xs ≡ filter (is_among zs) xs
+  met_later =
+      both_later xs ys r (λ x c. from_first xs r x rises first c)
+      ∙ ap (λ (ws : List ℕ). filter (is_among ws) xs) (sym moved)
+
+  -- it has ended
+  pub met_end : first_of zs ≡ None → filter (is_among ys) xs ≡ []
+  met_end none =
+      met_later ∙ ap (λ (ws : List ℕ). filter (is_among ws) xs) (none_first zs none)
+      ∙ none_among_none xs
+
+  -- it stands at a reference
+  pub met_past : (next : ℕ) → IsStrictlyIncreasing zs → first_of zs ≡ Some next
+      → filter (is_among ys) xs ≡ filter (is_among zs) (not_below next xs)
+  met_past next up at = met_later ∙ both_from xs zs next (λ y c. from_first zs next y up at c)
+
+  -- it stands at the same one
+  pub met_here : first_of zs ≡ Some r
+      → filter (is_among ys) xs ≡ r ∷ filter (is_among zs) (rest_of xs)
+  met_here at =
+      met_later ∙ first_kept (is_among zs) xs r first (among_in zs r (first_in zs r at))
+
+  -- not below
+  pub met_above : (next : ℕ) → first_of zs ≡ Some next → r ≤ next
+  met_above next at =
+      of_le r next (filter-from (λ (x : ℕ). nat_le r x) ys next
+      (subst (λ (ws : List ℕ). Contains ws next) moved (first_in zs next at))).1
+
+few_kept : (p : ℕ → Bool) (xs : List ℕ) → length (filter p xs) ≤ length xs
+few_kept p [] = omega arith
+few_kept p (x ∷ xs) =
+    let rest = few_kept p xs in
+    elim (p x) as (λ b. length (cond b (x ∷ filter p xs) (filter p xs)) ≤ suc (length xs)) [
+      | true ↦ omega (arith, rest)
+      | false ↦ omega (arith, rest)
+    ]
+
+-- a seek past the first leaves fewer
+pub past_less : (xs : List ℕ) (r next : ℕ) → first_of xs ≡ Some r → r < next
+    → length (not_below next xs) < length xs
+past_less [] r next e less = absurd (not_some r e)
+past_less (x ∷ xs) r next e less =
+    let same : x ≡ r = same_Some x r e in
+    let few = few_kept (λ (y : ℕ). nat_le next y) xs in
+    elim (nat_le next x) as (λ b. nat_le next x ≡ b
+    → length (cond b (x ∷ not_below next xs) (not_below next xs)) < suc (length xs)) [
+      | true ↦ λ at.
+          let below : next ≤ x = of_le next x at in
+          absurd (omega (arith, below, same, less))
+      | false ↦ λ at. omega (arith, few)
+    ] refl
+
+pub beyond : (r n : ℕ) → r ≤ n → (r ≡ n → ⊥) → r < n
+beyond r n le other = grind arith

@@ -9,6 +9,7 @@ use Rattle.block_writer.specs.Writing.{chunks_text}
 use Rattle.block_writer.specs.Written.{IsWrittenIndex}
 use Rattle.head.specs.Worlds.{Event, batch, deletion, cut}
 use Rattle.head.specs.Heads.{BlockPart, SnapshotParts, world_of}
+use Rattle.head.specs.Removing.{blocks_kept, survives}
 
 -- a block's range, and the references and label sets of its part
 abbrev pub frame_of : BlockPart → (ℤ × ℤ) × List (ℕ × Labels)
@@ -27,11 +28,12 @@ pub record IsBlockOf (from to : ℤ) (samples : Content) (block : BlockPart) : T
   pub chunks_written : chunks ≡ chunks_text (rows_in block.part)
   pub spelled : IsBlock (from, to) index chunks tombstones block.part
 
--- a commit keeps the blocks; a deletion keeps the range, the references and the label sets of each; a cut keeps them and
--- adds at most one, of the samples that leave the head
+-- A commit keeps the blocks. A deletion takes from each block exactly the samples that it strikes, also those that a
+-- later block hides, and leaves the rest of each as it was. A cut keeps the blocks and adds at most one, of the samples
+-- that leave the head.
 abbrev pub KeepsBlocks : Event → SnapshotParts → List BlockPart → Type 0
 KeepsBlocks (batch xs) old new = new ≡ old.blocks
-KeepsBlocks (deletion ms from to) old new = map frame_of new ≡ map frame_of old.blocks
+KeepsBlocks (deletion ms from to) old new = new ≡ blocks_kept (survives ms from to) old.blocks
 KeepsBlocks (cut t) old new =
     (new ≡ old.blocks)
     ⊎ ((block : BlockPart) × (new ≡ old.blocks ++ block ∷ [])

@@ -1,6 +1,7 @@
 //! The postings index of a head.
 
-ghost use Rattle.std.specs.Prelude.{◌≡◌, ◌+◌, ◌<◌, ◌≤◌, ℕ, ℤ, List, [], ◌∷◌, ◌++◌, length, get_or};
+ghost use Rattle.std.specs.Prelude.{◌≡◌, ◌+◌, ◌-◌, ◌<◌, ◌≤◌, ℕ, ℤ, List, [], ◌∷◌, ◌++◌, length};
+ghost use Rattle.std.specs.Prelude.{get_or};
 ghost use Rattle.std.specs.Prelude.{slice_get, IfOk, OnOk, OnErr, IfSome, IfNone, Some, None};
 ghost use Rattle.std.specs.Arc.{arc_value};
 ghost use Rattle.std.specs.Prelude.{T};
@@ -282,5 +283,19 @@ impl Index {
     {
         let (start, _) = run_of(&self.lists, name);
         value_after(&self.lists, start, i)
+    }
+
+    /// The value at a place that is not the first, found by one search for the one before it.
+    pub fn value_after(&self, name: &str, i: usize, before: &str) -> &str
+        requires later { 0 < i }
+        requires within { i < length (values_under name.now self.now) }
+        requires before { slice_get (values_under name.now self.now) (i - 1) ≡ Some before.now }
+        ensures { slice_get (values_under name.now self.now) i ≡ Some result.now }
+    {
+        let value = before;
+        match self.lists.find(&Sought { name, value }) {
+            Ok(spot) => value_after(&self.lists, spot, 1),
+            Err(spot) => value_after(&self.lists, spot, 0),
+        }
     }
 }

@@ -38,6 +38,34 @@ fn reaches<P: Postings>(list: &mut P, reference: SeriesRef) -> bool
     next.number() == reference.number()
 }
 
+/// The references that stand in both of two lists. Each is sought to where the other stands, so
+/// that the moves follow the shorter list.
+fn met<A: Postings + Drop, B: Postings + Drop>(
+    alloc: Global,
+    first: A,
+    second: B,
+) -> Result<Vec<SeriesRef>, AllocError>
+    ensures { IfOk result (λ found. found.items
+        ≡ filter (is_among (B.remaining second)) (A.remaining first)) }
+{
+    let mut first = first;
+    let mut second = second;
+    let mut found = Vec::new(alloc);
+    while let Some(reference) = first.current() {
+        second.seek(reference);
+        let Some(next) = second.current() else {
+            return Ok(found);
+        };
+        if next.number() == reference.number() {
+            found.push(reference)?;
+            first.advance();
+        } else {
+            first.seek(next);
+        }
+    }
+    Ok(found)
+}
+
 /// Those of the references that stand in a list, by one seek for each.
 fn common<P: Postings + Drop>(
     alloc: Global,
@@ -67,20 +95,25 @@ fn satisfying<S: Source>(
     ensures { IfOk result (λ found. found.items
         ≡ references_where (satisfies_all matchers.now) (S.part source.now)) }
 {
-    let Some((first, others)) = matchers.split_first() else {
-        return collected(alloc, source.all());
-    };
-    let mut found = collected(alloc, choose(alloc, source, first)?)?;
-    for matcher in others {
-        found = common(alloc, found.as_slice(), choose(alloc, source, matcher)?)?;
+    match matchers {
+        [] => collected(alloc, source.all()),
+        [only] => collected(alloc, choose(alloc, source, only)?),
+        [first, second, others @ ..] => {
+            let first = choose(alloc, source, first)?;
+            let mut found = met(alloc, first, choose(alloc, source, second)?)?;
+            for matcher in others {
+                found = common(alloc, found.as_slice(), choose(alloc, source, matcher)?)?;
+            }
+            Ok(found)
+        }
     }
-    Ok(found)
 }
 
 /// The references of the series that satisfy all matchers and have an undeleted sample in the
 /// closed range, ascending.
 ///
-/// It goes over the list of the first matcher, and seeks in the others.
+/// The lists of the first two matchers are sought to each other's places, and what both have is
+/// sought in the others.
 pub(crate) fn struck<S: Source>(
     alloc: Global,
     source: &S,

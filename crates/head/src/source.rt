@@ -1,6 +1,6 @@
 //! A head as a source of lists.
 
-ghost use Rattle.std.specs.Prelude.{◌≡◌, ℕ, ◌<◌, ◌≤◌, List, [], length, map, slice_get, Some};
+ghost use Rattle.std.specs.Prelude.{◌≡◌, ℕ, ◌-◌, ◌<◌, ◌≤◌, List, [], length, map, slice_get, Some};
 ghost use Rattle.std.specs.Prelude.{IfNone, IfSome, IfOk};
 ghost use Rattle.labels.specs.Parts.{references, references_where, live_references, carries};
 
@@ -49,6 +49,10 @@ impl<'a> Source for &'a HeadView {
 
     fn value_at(&self, name: &str, i: usize) -> &str {
         self.index.value_at(name, i)
+    }
+
+    fn value_after(&self, name: &str, i: usize, before: &str) -> &str {
+        self.index.value_after(name, i, before)
     }
 
     ghost is_part = { λ view. view.now.is_part };

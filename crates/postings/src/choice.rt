@@ -1,6 +1,7 @@
 //! What a matcher chooses from a part.
 
-ghost use Rattle.std.specs.Prelude.{◌≡◌, ◌≢◌, ℕ, List, [], map, IfOk, IsTrue};
+ghost use Rattle.std.specs.Prelude.{◌≡◌, ◌≢◌, ◌+◌, ◌<◌, ℕ, List, [], length, map, slice_get};
+ghost use Rattle.std.specs.Prelude.{Some, IfOk, IsTrue};
 ghost use Rattle.std.specs.Str.{bytes_eq};
 ghost use Rattle.labels.specs.Labels.{value_of};
 ghost use Rattle.labels.specs.Parts.{references_where, carries};
@@ -59,6 +60,19 @@ fn lists_of_choices<S: Source>(
     Ok(lists)
 }
 
+/// The value at a place, where the one before it, if there is one, is at hand.
+fn next_value<'a, S: Source>(source: &'a S, name: &str, i: usize, before: &str) -> &'a str
+    requires within { i < length (S.values source.now name.now) }
+    requires before { (k : ℕ) → k + 1 ≡ i
+        → slice_get (S.values source.now name.now) k ≡ Some before.now }
+    ensures { slice_get (S.values source.now name.now) i ≡ Some result.now }
+{
+    if i == 0 {
+        return source.value_at(name, 0);
+    }
+    source.value_after(name, i, before)
+}
+
 /// The lists of the values of the name that the matcher treats otherwise than an absent label,
 /// found by trying each.
 fn lists_of_values<S: Source>(
@@ -74,8 +88,9 @@ fn lists_of_values<S: Source>(
         (S.part source.now)) }
 {
     let mut lists = Vec::new(alloc);
+    let mut value = "";
     for i in 0..source.value_count(name) {
-        let value = source.value_at(name, i);
+        value = next_value(source, name, i, value);
         if tester.accepts(value) != with_absent {
             if let Some(list) = source.list(name, value) {
                 lists.push(list)?;

@@ -30,7 +30,7 @@ mod slice_list;
 mod union;
 mod without;
 
-ghost use Rattle.std.specs.Prelude.{◌≡◌, ℕ, ◌<◌, List, [], length, max, slice_get, IfNone, IfSome, IfOk, Some};
+ghost use Rattle.std.specs.Prelude.{◌≡◌, ℕ, ◌-◌, ◌<◌, List, [], length, max, slice_get, IfNone, IfSome, IfOk, Some};
 ghost use Rattle.std.specs.List.Sorted.{IsStrictlyIncreasing};
 ghost use Rattle.labels.specs.Ascending.{first_of, rest_of, not_below};
 ghost use Rattle.labels.specs.Parts.{Part, references, references_where, live_references, carries, IsPart};
@@ -109,6 +109,17 @@ pub trait Source {
     fn value_at(&self, name: &str, i: usize) -> &str
         requires { i < length (values self.now name.now) }
         ensures { slice_get (values self.now name.now) i ≡ Some result.now };
+
+    /// The value at a place that is not the first, where the one before it is at hand. A source that
+    /// finds values by halving need not count from the first one. Takes no memory.
+    fn value_after(&self, name: &str, i: usize, before: &str) -> &str
+        requires later { 0 < i }
+        requires within { i < length (values self.now name.now) }
+        requires before { slice_get (values self.now name.now) (i - 1) ≡ Some before.now }
+        ensures { slice_get (values self.now name.now) i ≡ Some result.now }
+    {
+        self.value_at(name, i)
+    }
 
     ghost is_part: { (source : Self) → IsPart (part source) };
 

@@ -3,6 +3,8 @@ use Rattle.std.proofs.Common.{◌≡◌, ℤ, List, [], ◌∷◌, ◌++◌, map
 use Rattle.std.proofs.lemmas.List.{map_push}
 use mathlib.Core.List.{IsPrefix}
 use Rattle.head.specs.Kept.{KeepsBlocks, frame_of}
+use Rattle.head.specs.Removing.{survives}
+use Rattle.head.proofs.Deleting.{frames_kept}
 use Rattle.head.specs.Limits.{most}
 use Rattle.head.specs.Refusals.{Refusal}
 use Rattle.head.specs.Worlds.{World, Event, batch, deletion, cut, stepped, replayed_from, replayed}
@@ -30,7 +32,9 @@ keeps_frames (batch xs) s t kept =
     subst (λ (bs : List BlockPart). IsPrefix (map frame_of s.blocks) (map frame_of bs))
     (sym kept) (prefix_self _)
 keeps_frames (deletion ms from to) s t kept =
-    subst (IsPrefix (map frame_of s.blocks)) (sym kept) (prefix_self _)
+    let frames : map frame_of t.blocks ≡ map frame_of s.blocks =
+    ap (map frame_of) kept ∙ frames_kept (survives ms from to) s.blocks in
+    subst (IsPrefix (map frame_of s.blocks)) (sym frames) (prefix_self _)
 keeps_frames (cut at) s t kept = elim kept [
   | inl same ↦
       subst (λ (bs : List BlockPart). IsPrefix (map frame_of s.blocks) (map frame_of bs))

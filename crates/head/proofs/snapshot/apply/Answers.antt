@@ -1,11 +1,11 @@
-use Rattle.std.proofs.Common.{◌≡◌, Ok, map, sym, ◌∙◌, ap, subst, rules, to_z, of_z, w64}
+use Rattle.std.proofs.Common.{◌≡◌, Ok, sym, ◌∙◌, ap, subst, rules, to_z, of_z, w64}
 use Rattle.head.specs.Heads.{SnapshotParts, world_of}
-use Rattle.head.specs.Kept.{KeepsBlocks, frame_of}
+use Rattle.head.specs.Kept.{KeepsBlocks}
 use Rattle.head.specs.Kinds.{change_of}
 use Rattle.head.specs.Limits.{most}
 use Rattle.head.specs.Removing.{snapshot_less, survives}
 use Rattle.head.specs.Worlds.{Event, deletion, stepped}
-use Rattle.head.proofs.Deleting.{deleted-world_of, frames_kept}
+use Rattle.head.proofs.Deleting.{deleted-world_of}
 use Rattle.head.proofs.snapshot.apply.Goals as goal
 
 pub returns-in-Ok-clause-ok : goal.returns-in-Ok-clause-ok
@@ -28,4 +28,4 @@ returns-in-Ok-clause-kept c =
     let made : c.in-Ok.snapshot ≡ snapshot_less (survives ms c.in-Deletion.from c.in-Deletion.to) c.args.at.now =
     c.in-Ok.ensures ∙ (λ i. snapshot_less (survives (c.as_slice-in-Deletion.ensures.value i) (from_is i) (to_is i)) c.args.at.now) in
     subst (λ (event : Event). KeepsBlocks event c.args.at.now c.in-Ok.snapshot.blocks) (sym event_is)
-    (ap (λ (s : SnapshotParts). map frame_of s.blocks) made ∙ frames_kept (survives ms c.in-Deletion.from c.in-Deletion.to) c.args.at.now.blocks)
+    (ap (λ (s : SnapshotParts). s.blocks) made)

@@ -1,4 +1,4 @@
-use Rattle.std.proofs.Common.{◌≡◌, ℕ, [], ◌∷◌, ◌++◌, length, map, ap, ◌∙◌, subst, arith}
+use Rattle.std.proofs.Common.{◌≡◌, ℕ, [], ◌∷◌, ◌++◌, Some, length, map, slice_get, ap, ◌∙◌, subst, arith}
 use Rattle.labels.specs.Sets.{union_all}
 use Rattle.matchers.specs.Satisfies.{accepts_text}
 use Rattle.labels.proofs.SetLemmas.{union-rises}
@@ -15,20 +15,24 @@ loop-i-preserved g c =
     let test = differs m in
     let values = g.S.Source.values c.args.source.now name in
     let f = g.S.List.Postings.remaining in
-    let value = c.value_at-value.result.now in
+    let value = c.next_value-value.result.now in
     let tried = differs_tried m value c.accepts.result c.args.with_absent (c.accepts.ensures.accepted ∙ ap (λ t. accepts_text t value) c.loop-i.invariant.same) c.requires in
     record {
       same = c.accepts.ensures.same ∙ c.loop-i.invariant.same;
+      text = c.next_value-value.utf8;
+      before = λ k next.
+          let here : c.loop-i.i ≡ k = omega (arith, next) in
+          subst (λ (n : ℕ). slice_get values n ≡ Some value) here c.next_value-value.ensures;
       gathered = elim c.if-accepts-with_absent.branch [
         | then-accepts-with_absent+in-Some+in_ok-push w ↦
             let pushed : map f c.if-accepts-with_absent.lists.items ≡ map f c.loop-i.lists.items ++ f w.in-Some.list ∷ [] =
             ap (λ v. map f v.items) w.lists-is ∙ ap (map f) w.in_ok-push.ensures.items ∙ map_push f c.loop-i.lists.items w.in-Some.list in
-            rw pushed (gathered_push part name test values c.loop-i.i (map f c.loop-i.lists.items) value (f w.in-Some.list) c.loop-i.invariant.gathered c.value_at-value.ensures
+            rw pushed (gathered_push part name test values c.loop-i.i (map f c.loop-i.lists.items) value (f w.in-Some.list) c.loop-i.invariant.gathered c.next_value-value.ensures
             (tried ∙ w.if-accepts-with_absent.true) w.in-Some.ensures.listed)
         | then-accepts-with_absent+in_default w ↦
-            rw w.lists-is (gathered_none part name test values c.loop-i.i (union_all (map f c.loop-i.lists.items)) value c.loop-i.invariant.gathered c.value_at-value.ensures w.in_default.ensures.none)
+            rw w.lists-is (gathered_none part name test values c.loop-i.i (union_all (map f c.loop-i.lists.items)) value c.loop-i.invariant.gathered c.next_value-value.ensures w.in_default.ensures.none)
         | else-accepts-with_absent w ↦
-            rw w.lists-is (gathered_skip part name test values c.loop-i.i (union_all (map f c.loop-i.lists.items)) value c.loop-i.invariant.gathered c.value_at-value.ensures (tried ∙ w.if-accepts-with_absent.false))
+            rw w.lists-is (gathered_skip part name test values c.loop-i.i (union_all (map f c.loop-i.lists.items)) value c.loop-i.invariant.gathered c.next_value-value.ensures (tried ∙ w.if-accepts-with_absent.false))
       ];
     }
 
