@@ -43,11 +43,7 @@ fn commit_and_cut<J: Naming, R: Wait + Drop>(
     Some(())
 }
 
-fn seen_after_cut<J: Naming, R: Wait>(
-    rt: &R,
-    alloc: Global,
-    store: Store,
-) -> Option<Arc<Snapshot>>
+fn seen_after_cut<J: Naming, R: Wait>(rt: &R, alloc: Global, store: Store) -> Option<Arc<Snapshot>>
     requires book { store.seen.book ≡ J.book }
     requires opening { opening_of [] ≡ J.opening }
 {
