@@ -2,7 +2,9 @@
 //! over a head behind them. The blocks have one series `{__name__="up",job="a"}` at reference 3,
 //! that is, at byte 48 of the index.
 
+mod overlapping;
 mod searches;
+mod two_threads;
 mod worked_block;
 
 use block::{Block, Range};

@@ -1,5 +1,6 @@
 //! Batches, and what the heads after them show.
 
+mod copies;
 mod cuts;
 mod deletions;
 mod refusals;

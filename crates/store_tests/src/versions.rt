@@ -3,6 +3,7 @@
 ghost use Rattle.std.specs.Prelude.{◌≡◌, []};
 ghost use Rattle.head.specs.Blocks.{opening_of};
 
+mod passes;
 mod threads;
 
 use crate::rows::{AFTER_BOTH, AFTER_FIRST, FIRST, SECOND, Wanted, is_text, set_of, shown};
