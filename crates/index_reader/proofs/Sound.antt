@@ -16,7 +16,7 @@ use Rattle.index_reader.specs.Layout as layout
 use Rattle.index_reader.specs.Grammar.{entry, symbol, IsWalk, IsLayout}
 use Rattle.index_reader.specs.Seen.{entries_seen, layout_seen, bytes_of, table_seen, table_entry_seen}
 use Rattle.index_reader.specs.Steps.{each}
-use Rattle.index_reader.specs.FlatBodies.{body_in, bodies_in, label_sets_in, AllIn, AreInside}
+use Rattle.index_reader.specs.FlatBodies.{body_in, bodies_in, label_sets_in}
 use Rattle.index_reader.specs.PostingsChecks.{section_at, references_at, lists_at}
 use Rattle.index_reader.specs.Checks.{labels_of_each}
 use Rattle.index_reader.specs.CheckedFile.{IsSound}
@@ -79,11 +79,6 @@ sets_are labels chunks (r ∷ rows) =
 pub count_is : (labels : List Label) (chunks : List Chunk) (rows : List Row)
     → length (bodies_in labels chunks rows) ≡ length rows
 count_is labels chunks rows = length-map rows (body_in labels chunks)
-
-pub labels_inside : (labels : List Label) (chunks : List Chunk) (rows : List Row)
-    → AllIn labels chunks rows → AreInside labels rows
-labels_inside labels chunks rows h =
-    λ k d lt. let o = h k d lt in (o.labels_ordered, o.labels_inside)
 
 -- ---- one after another
 

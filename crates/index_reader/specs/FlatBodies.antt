@@ -45,8 +45,3 @@ label_sets_in labels rows = map (λ r. slice_range labels r.labels_start r.label
 -- whether labels are below others; a beginning is smaller
 abbrev pub labels_before : List Label → List Label → Bool
 labels_before a b = is_lt (slice_cmp key_cmp a b)
-
--- the places of the labels lie in their list
-abbrev pub AreInside : List Label → List Row → Type 0
-AreInside labels rows =
-    All (λ r. (r.labels_start ≤ r.labels_end) × (r.labels_end ≤ length labels)) rows

@@ -2,9 +2,8 @@
 
 ghost use Rattle.std.specs.List.{list_all};
 ghost use Rattle.std.specs.Prelude.{◌≡◌, ◌<◌, ◌^◌, length, slice_get, Some, IfOk};
-ghost use Rattle.index_reader.specs.CheckedFile.{bodies_seen};
 ghost use Rattle.index_reader.specs.Checks.{is_small};
-ghost use Rattle.index_reader.specs.FlatBodies.{AllIn, body_of_entry, label_sets_in, labels_before, AreInside};
+ghost use Rattle.index_reader.specs.FlatBodies.{AllIn, bodies_in, body_of_entry, label_sets_in, labels_before};
 ghost use Rattle.index_reader.specs.Layout.{rises};
 ghost use Rattle.index_reader.specs.Outcome.{Gives};
 ghost use Rattle.index_reader.specs.Seen.{bytes_of, entries_seen};
@@ -26,11 +25,14 @@ pub struct Row {
     pub chunks_end: usize,
 }
 
+/// The labels and the chunks of all bodies, one body behind the other, and where those of each
+/// stand.
 #[derive(Drop)]
 pub struct Bodies {
     pub labels: Vec<(u32, u32)>,
     pub chunks: Vec<Chunk>,
     pub rows: Vec<Row>,
+    ghost inside: { AllIn labels.items chunks.items rows.items },
 }
 
 /// The labels and the chunks of all bodies.
@@ -52,9 +54,8 @@ pub fn bodies_of(
     entries: &[SeriesEntry<'_>],
 ) -> Result<Bodies, IndexError>
     requires { length symbols.now < 2 ^ 32 }
-    ensures exact { Gives bodies_seen result
+    ensures exact { Gives (λ b. bodies_in b.labels.items b.chunks.items b.rows.items) result
         (each (body_of_entry (bytes_of symbols.now)) (entries_seen entries.now)) }
-    ensures inside { IfOk result (λ b. AllIn b.labels.items b.chunks.items b.rows.items) }
     ensures counted { IfOk result (λ b. length b.rows.items ≡ length entries.now) }
 {
     let mut labels = Vec::new(alloc);
@@ -87,13 +88,14 @@ pub fn row_at(rows: &[Row], i: usize) -> Row
     rows[i]
 }
 
-pub fn label_set_at<'a>(labels: &'a [(u32, u32)], rows: &[Row], i: usize) -> &'a [(u32, u32)]
-    requires inside { AreInside labels.now rows.now }
-    requires i_in { i < length rows.now }
-    ensures { slice_get (label_sets_in labels.now rows.now) i ≡ Some result.now }
+/// The labels of the body at a place.
+pub fn label_set_at(bodies: &Bodies, i: usize) -> &[(u32, u32)]
+    requires { i < length bodies.now.rows.items }
+    ensures { slice_get (label_sets_in bodies.now.labels.items bodies.now.rows.items) i
+        ≡ Some result.now }
 {
-    let row = rows[i];
-    &labels[row.labels_start..row.labels_end]
+    let row = bodies.rows[i];
+    &bodies.labels[row.labels_start..row.labels_end]
 }
 
 fn is_before(a: &[(u32, u32)], b: &[(u32, u32)]) -> bool
@@ -103,16 +105,13 @@ fn is_before(a: &[(u32, u32)], b: &[(u32, u32)]) -> bool
 }
 
 /// Whether each label set is below the next.
-pub fn is_rising(labels: &[(u32, u32)], rows: &[Row]) -> bool
-    requires { AreInside labels.now rows.now }
-    ensures { result ≡ rises labels_before (label_sets_in labels.now rows.now) }
+pub fn is_rising(bodies: &Bodies) -> bool
+    ensures { result
+        ≡ rises labels_before (label_sets_in bodies.now.labels.items bodies.now.rows.items) }
 {
     let mut at = 1;
-    while at < rows.len() {
-        if !is_before(
-            label_set_at(labels, rows, at - 1),
-            label_set_at(labels, rows, at),
-        ) {
+    while at < bodies.rows.len() {
+        if !is_before(label_set_at(bodies, at - 1), label_set_at(bodies, at)) {
             return false;
         }
         at += 1;
@@ -127,12 +126,12 @@ fn is_small(labels: &[(u32, u32)]) -> bool
 }
 
 /// Whether no series has more than 64 labels.
-pub fn are_small(labels: &[(u32, u32)], rows: &[Row]) -> bool
-    requires { AreInside labels.now rows.now }
-    ensures { result ≡ list_all is_small (label_sets_in labels.now rows.now) }
+pub fn are_small(bodies: &Bodies) -> bool
+    ensures { result
+        ≡ list_all is_small (label_sets_in bodies.now.labels.items bodies.now.rows.items) }
 {
-    for at in 0..rows.len() {
-        if !is_small(label_set_at(labels, rows, at)) {
+    for at in 0..bodies.rows.len() {
+        if !is_small(label_set_at(bodies, at)) {
             return false;
         }
     }

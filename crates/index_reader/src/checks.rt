@@ -3,7 +3,6 @@
 ghost use Rattle.std.specs.Prelude.{◌≡◌, length, IfOk};
 ghost use Rattle.index_reader.specs.CheckedFile.{bodies_seen, read_seen, IsHeldIn, IsSound};
 ghost use Rattle.index_reader.specs.Checks.{bodies_of, postings_of, read_of, indexed, IsRead};
-ghost use Rattle.index_reader.specs.FlatBodies.{AllIn};
 ghost use Rattle.index_reader.specs.Layout.{IsPlaced};
 ghost use Rattle.index_reader.specs.Outcome.{Gives};
 ghost use Rattle.index_reader.specs.Seen.{bytes_of, layout_seen, table_seen};
@@ -36,7 +35,6 @@ pub struct Checked<'a> {
 fn check_bodies(alloc: Global, file: &[u8], layout: &Layout<'_>) -> Result<Bodies, IndexError>
     requires { IsSound file.now layout.now }
     ensures exact { Gives bodies_seen result (bodies_of file.now (layout_seen layout.now)) }
-    ensures inside { IfOk result (λ b. AllIn b.labels.items b.chunks.items b.rows.items) }
     ensures counted { IfOk result (λ b. length b.rows.items ≡ length layout.now.entries.items) }
 {
     let end = series_end(layout.contents) as usize;
@@ -44,7 +42,7 @@ fn check_bodies(alloc: Global, file: &[u8], layout: &Layout<'_>) -> Result<Bodie
     if !gaps_are_zero(file, layout.symbols_end, end, &layout.entries) {
         return Err(IndexError::Series);
     }
-    if !is_rising(&bodies.labels, &bodies.rows) {
+    if !is_rising(&bodies) {
         return Err(IndexError::SeriesOrder);
     }
     Ok(bodies)
@@ -86,7 +84,7 @@ pub fn check_all(alloc: Global, file: &[u8]) -> Result<Checked<'_>, IndexError>
     if bodies.rows.len() > MAX_SERIES {
         return Err(IndexError::Limit);
     }
-    if !are_small(&bodies.labels, &bodies.rows) {
+    if !are_small(&bodies) {
         return Err(IndexError::Limit);
     }
     Ok(Checked {

@@ -4,7 +4,6 @@ ghost use Rattle.std.specs.Prelude.{◌≡◌, ◌<◌, ◌^◌, length, slice_r
 ghost use Rattle.labels.specs.LabelSets.{IsLabelSet};
 ghost use Rattle.labels.specs.Pairs.{texts_of};
 ghost use Rattle.index_reader.specs.CheckedFile.{bodies_seen, symbol_texts};
-ghost use Rattle.index_reader.specs.FlatBodies.{AllIn};
 ghost use Rattle.index_reader.specs.Indexes.{text_of, named, series_of};
 ghost use Rattle.index_reader.specs.KeptIndex.{all_in, AreInTable, AllInTable, AreWithin, AreLabelSets, of_row};
 ghost use Rattle.index_reader.specs.Seen.{entries_seen};
@@ -90,7 +89,6 @@ pub fn series_of(
     bodies: &Bodies,
     entries: &[SeriesEntry<'_>],
 ) -> Result<Vec<Series>, AllocError>
-    requires within { AllIn bodies.now.labels.items bodies.now.chunks.items bodies.now.rows.items }
     requires inside { AllInTable (symbol_texts symbols.now)
         bodies.now.labels.items bodies.now.rows.items }
     requires labelled { AreLabelSets (symbol_texts symbols.now)

@@ -22,8 +22,8 @@ returns-in_err-take_series c =
     let p = err_from_is_err_and c.from_residual.result c.from_residual.ensures.1 in
     rw (p.1, p.2) (turn_fails (take_series c.args.keys.now.pairs.items)
     c.in_err-take_series.field-0.0 (references_in_each c.loop-at.lists.items)
-    (carriers (entry_references (entries_seen c.args.entries.now)) (label_sets_in c.args.labels.now
-    c.args.rows.now)) c.loop-at.at _ _ (tied_at _ _ _ _ _ c.reference_at-reference.ensures
+    (carriers (entry_references (entries_seen c.args.entries.now)) (label_sets_in c.args.bodies.now.labels.items
+    c.args.bodies.now.rows.items)) c.loop-at.at _ _ (tied_at _ _ _ _ _ c.reference_at-reference.ensures
     c.label_set_at-carried.ensures) c.in_err-take_series.ensures.exact c.loop-at.invariant.so_far)
 
 pub loop-at-preserved : goal.loop-at-preserved
@@ -32,7 +32,7 @@ loop-at-preserved c = record {
   so_far =
       turn_on (take_series c.args.keys.now.pairs.items) (references_in_each c.loop-at.lists.items) _
       (carriers (entry_references (entries_seen c.args.entries.now))
-      (label_sets_in c.args.labels.now c.args.rows.now)) c.loop-at.at _ _
+      (label_sets_in c.args.bodies.now.labels.items c.args.bodies.now.rows.items)) c.loop-at.at _ _
       (tied_at _ _ _ _ _ c.reference_at-reference.ensures c.label_set_at-carried.ensures)
       c.in_ok-take_series.ensures.exact c.loop-at.invariant.so_far;
 }
@@ -41,10 +41,10 @@ pub returns : goal.returns
 returns c =
     turn_done (take_series c.args.keys.now.pairs.items) (references_in_each c.loop-at.lists.items)
     (carriers (entry_references (entries_seen c.args.entries.now))
-    (label_sets_in c.args.labels.now c.args.rows.now)) c.loop-at.at _ (omega (
+    (label_sets_in c.args.bodies.now.labels.items c.args.bodies.now.rows.items)) c.loop-at.at _ (omega (
       arith,
       length-tied (entry_references (entries_seen c.args.entries.now))
-          (label_sets_in c.args.labels.now c.args.rows.now),
-      length-map c.args.rows.now (λ (r : Row).
-          slice_range c.args.labels.now r.labels_start r.labels_end),
+          (label_sets_in c.args.bodies.now.labels.items c.args.bodies.now.rows.items),
+      length-map c.args.bodies.now.rows.items (λ (r : Row).
+          slice_range c.args.bodies.now.labels.items r.labels_start r.labels_end),
     )) c.loop-at.invariant.so_far

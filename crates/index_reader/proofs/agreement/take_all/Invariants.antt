@@ -9,7 +9,7 @@ abbrev pub invariant-loop-at : goal.invariant-loop-at
 invariant-loop-at l = record {
   counted : length l.lists.items ≡ length l.fn.lists.items;
   so_far : in_turn (take_series l.keys.pairs.items) (references_in_each l.lists.items) (drop l.at
-      (carriers (entry_references (entries_seen l.entries)) (label_sets_in l.labels l.rows)))
+      (carriers (entry_references (entries_seen l.entries)) (label_sets_in l.bodies.labels.items l.bodies.rows.items)))
       ≡ in_turn (take_series l.keys.pairs.items) (references_in_each l.fn.lists.items)
-      (carriers (entry_references (entries_seen l.entries)) (label_sets_in l.labels l.rows));
+      (carriers (entry_references (entries_seen l.entries)) (label_sets_in l.bodies.labels.items l.bodies.rows.items));
 }

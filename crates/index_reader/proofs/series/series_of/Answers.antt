@@ -22,7 +22,7 @@ loop-at-preserved c =
     let b = c.args.bodies.now in
     let symbols = strings_of c.args.symbols.now.texts.items in
     let g = rw c.deref.ensures.value at c.row_at-row.ensures in
-    let o = all_here (IsIn b.labels.items b.chunks.items) b.rows.items l.at _ c.requires.within g in
+    let o = all_here (IsIn b.labels.items b.chunks.items) b.rows.items l.at _ b.inside g in
     let t =
     all_here
     (λ (r : Row). AreInTable symbols (slice_range b.labels.items r.labels_start r.labels_end))
