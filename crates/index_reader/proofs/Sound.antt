@@ -8,7 +8,7 @@ use Rattle.byteorder.specs.Endian.{big_bytes}
 use Rattle.index_reader.specs.declared.error.IndexError.{IndexError}
 use Rattle.index_reader.specs.declared.series_entries.SeriesEntry.{SeriesEntry}
 use Rattle.index_reader.specs.declared.layout.Layout.{Layout}
-use Rattle.index_reader.specs.declared.bodies.Row.{Row}
+use Rattle.index_reader.specs.declared.series.Series.{Series}
 use Rattle.index_reader.specs.declared.chunk.Chunk.{Chunk}
 use Rattle.index_reader.specs.declared.offset_table.TableEntry.{TableEntry}
 use Rattle.index_reader.specs.Layout.{rounded, series_end, Label}
@@ -69,14 +69,14 @@ sound_found file (Err e) p = tt
 
 -- ---- flat lists
 
-pub sets_are : (labels : List Label) (chunks : List Chunk) (rows : List Row)
+pub sets_are : (labels : List Label) (chunks : List Chunk) (rows : List Series)
     → labels_of_each (bodies_in labels chunks rows) ≡ label_sets_in labels rows
 sets_are labels chunks [] = refl
 sets_are labels chunks (r ∷ rows) =
     ap (λ (xs : List (List Label)). slice_range labels r.labels_start r.labels_end ∷ xs)
     (sets_are labels chunks rows)
 
-pub count_is : (labels : List Label) (chunks : List Chunk) (rows : List Row)
+pub count_is : (labels : List Label) (chunks : List Chunk) (rows : List Series)
     → length (bodies_in labels chunks rows) ≡ length rows
 count_is labels chunks rows = length-map rows (body_in labels chunks)
 
