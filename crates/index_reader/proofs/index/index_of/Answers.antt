@@ -1,5 +1,6 @@
 use Rattle.std.proofs.Common.{subst}
 use Rattle.std.proofs.lemmas.Result.{err_from_is_err_and}
+use Rattle.index_reader.specs.Indexes.{IsConsistent}
 use Rattle.index_reader.specs.Spelled.{IsIndex}
 use Rattle.index_reader.proofs.Held.{err_fails, exact_is, lists_whole, whole_is, is_kept}
 use Rattle.index_reader.proofs.index.index_of.Goals as goal
@@ -30,6 +31,14 @@ returns-clause-found c =
     c.flat_parts-labels.result.2.items k.ensures.held c.flat_parts-labels.ensures.labels
     c.flat_parts-labels.ensures.chunks c.flat_parts-labels.ensures.series)
     k.ensures.spelled
+
+pub returns-clause-consistent : goal.returns-clause-consistent
+returns-clause-consistent c =
+    let k = c.in_ok-_layout in
+    subst IsConsistent (whole_is c.args.file.now k.field-0 c.flat_parts-labels.result.0.items
+    c.flat_parts-labels.result.1.items c.flat_parts-labels.result.2.items k.ensures.held
+    c.flat_parts-labels.ensures.labels c.flat_parts-labels.ensures.chunks
+    c.flat_parts-labels.ensures.series) k.ensures.read.consistent
 
 pub invariant_of-result : goal.invariant_of-result
 invariant_of-result c =
