@@ -1,10 +1,9 @@
 -- What is kept of a file that was read.
-use Rattle.std.proofs.Common.{◌≡◌, ℕ, zero, suc, ◌+◌, ◌/◌, ◌<◌, ◌≤◌, List, [], ◌∷◌, ◌++◌, length, get_or, drop, Some, Result, Ok, Err, refl, sym, ap, subst, ◌∙◌, inl, inr, append_assoc, arith}
+use Rattle.std.proofs.Common.{◌≡◌, ℕ, zero, suc, ◌+◌, ◌/◌, ◌<◌, ◌≤◌, List, [], ◌∷◌, ◌++◌, length, get_or, drop, Some, Result, Ok, Err, refl, sym, ap, subst, ◌∙◌, append_assoc, arith}
 use Rattle.std.specs.Prelude.{slice_get, slice_range, map, IfOk}
 use Rattle.std.specs.List.{All}
 use Rattle.std.specs.Borrow.{Bor}
-use Rattle.std.proofs.lemmas.Bool.{cases_lt}
-use Rattle.std.proofs.lemmas.List.{drop_all, append-nil, map_push, length-map, length_push, get_or_append_left, get_or_at, get_or-map}
+use Rattle.std.proofs.lemmas.List.{drop_all, append-nil, length-map, get_or-map}
 use Rattle.wire.specs.Spelling.{IsBytes}
 use Rattle.labels.specs.Labels.{Labels}
 use Rattle.labels.specs.LabelSets.{IsLabelSet}
@@ -29,7 +28,7 @@ use Rattle.index_reader.proofs.Walks.{done}
 use Rattle.index_reader.proofs.Eaches.{drop_at_place}
 use Rattle.index_reader.proofs.Placing.{mapped_at}
 use Rattle.index_reader.proofs.Found.{is_index}
-use Rattle.index_reader.proofs.Facts.{read_is, series_length}
+use Rattle.index_reader.proofs.Facts.{read_is}
 use Rattle.index_reader.proofs.Texts.{got, stands_at}
 
 pub is_read : (file : List ℕ) (r : Result Checked IndexError) → Gives read_seen r (read_of file)
@@ -152,7 +151,8 @@ all_entry symbols keys series lists l e g z =
 pub err_fails : (file : List ℕ) (e : IndexError) → Fails e (read_of file)
     → Fails e (indexed_of file)
 unfolding indexed_of
-err_fails file e f = fails_on is_memory e (read_of file) (λ r. Ok (indexed r)) (indexed_of file) refl f
+err_fails file e f =
+    fails_on is_memory e (read_of file) (λ r. Ok (indexed r)) (indexed_of file) refl f
 
 pub exact_is : (file : List ℕ) (c : Checked) (x : indexes.Indexed) → read_of file ≡ Ok (read_seen c)
     → indexed (read_seen c) ≡ x → indexed_of file ≡ Ok x

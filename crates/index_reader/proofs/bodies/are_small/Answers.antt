@@ -9,22 +9,25 @@ use Rattle.index_reader.proofs.bodies.are_small.Goals as goal
 
 pub returns-then-not-is_small : goal.returns-then-not-is_small
 returns-then-not-is_small c =
+    let b = c.args.bodies.now in
     let n =
-    all_step is_small (label_sets_in c.args.bodies.now.labels.items c.args.bodies.now.series.items) c.loop-at.at _
+    all_step is_small (label_sets_in b.labels.items b.series.items) c.loop-at.at _
     c.is_small.result _ c.label_set_at.ensures c.is_small.ensures c.loop-at.invariant in
     sym (rw c.if-not-is_small.true at n)
 
 pub loop-at-preserved : goal.loop-at-preserved
 loop-at-preserved c =
+    let b = c.args.bodies.now in
     let n =
-    all_step is_small (label_sets_in c.args.bodies.now.labels.items c.args.bodies.now.series.items) c.loop-at.at _
+    all_step is_small (label_sets_in b.labels.items b.series.items) c.loop-at.at _
     c.is_small.result _ c.label_set_at.ensures c.is_small.ensures c.loop-at.invariant in
     sym (rw c.if-not-is_small.false at n)
 
 pub returns : goal.returns
 returns c =
-    all_end is_small (label_sets_in c.args.bodies.now.labels.items c.args.bodies.now.series.items) c.loop-at.at _ (omega (
+    let b = c.args.bodies.now in
+    all_end is_small (label_sets_in b.labels.items b.series.items) c.loop-at.at _ (omega (
       arith,
-      length-map c.args.bodies.now.series.items (λ (r : Series).
-          slice_range c.args.bodies.now.labels.items r.labels_start r.labels_end),
+      length-map b.series.items (λ (r : Series).
+          slice_range b.labels.items r.labels_start r.labels_end),
     )) c.loop-at.invariant
