@@ -1,5 +1,5 @@
 -- The bytes between the entries.
-use Rattle.std.proofs.Common.{◌≡◌, ℕ, zero, suc, Some, ◌+◌, ◌-◌, ◌<◌, ◌≤◌, Bool, true, false, ◌&&◌, eqb, List, [], ◌∷◌, length, get_or, take, drop, refl, sym, ap, ◌∙◌, inl, inr, arith}
+use Rattle.std.proofs.Common.{◌≡◌, ℕ, zero, suc, Some, ◌+◌, ◌-◌, ◌<◌, ◌≤◌, Bool, true, false, ◌&&◌, eqb, List, [], ◌∷◌, length, get_or, drop, refl, sym, ap, ◌∙◌, inl, inr, arith}
 use Rattle.std.specs.Prelude.{◌==◌, slice_get, slice_index, slice_range}
 use Rattle.std.specs.List.{list_all, Contains}
 use Rattle.std.proofs.lemmas.Bool.{cases_lt, eqb-true}
@@ -9,7 +9,7 @@ use Rattle.index_reader.specs.Layout.{SeriesEntry, rounded}
 use Rattle.index_reader.specs.Grammar.{entry, IsWalk}
 use Rattle.index_reader.proofs.Eaches.{drop_at_place}
 use Rattle.index_reader.specs.EntryChecks.{zero_between, gaps_zero}
-use Rattle.index_reader.specs.Spelled.{LiesIn, AreZero}
+use Rattle.index_reader.specs.Spelled.{AreZero}
 
 pub nothing_between : (file : List ℕ) (from to : ℕ) → to ≤ from → zero_between file from to ≡ true
 nothing_between file from to le = let e : to - from ≡ 0 = omega arith in rw e refl

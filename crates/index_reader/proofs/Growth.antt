@@ -9,7 +9,7 @@ use Rattle.index_reader.specs.Outcome.{Fails}
 use Rattle.index_reader.specs.declared.chunk.Chunk.{Chunk}
 use Rattle.index_reader.specs.Layout.{Label, Body}
 use Rattle.index_reader.specs.BodyChecks.{behind_both}
-use Rattle.index_reader.specs.declared.bodies.Row.{Row}
+use Rattle.index_reader.specs.declared.series.Series.{Series}
 use Rattle.index_reader.specs.FlatBodies.{body_in, bodies_in, IsIn, AllIn}
 
 pub range_grown : {X : Type 0} (xs more : List X) (a b : ℕ) → a ≤ b → b ≤ length xs
@@ -24,14 +24,14 @@ range_end xs ys =
     ap (take (length (xs ++ ys) - length xs)) (drop_at xs ys (length xs) refl)
     ∙ take_all _ ys (omega (arith, length-append xs ys))
 
-body_grown : (ls ls' : List Label) (cs cs' : List Chunk) (r : Row) → IsIn ls cs r
+body_grown : (ls ls' : List Label) (cs cs' : List Chunk) (r : Series) → IsIn ls cs r
     → body_in (ls ++ ls') (cs ++ cs') r ≡ body_in ls cs r
 body_grown ls ls' cs cs' r h =
     let e = range_grown ls ls' r.labels_start r.labels_end h.labels_ordered h.labels_inside in
     let f = range_grown cs cs' r.chunks_start r.chunks_end h.chunks_ordered h.chunks_inside in
     rw (e, f) refl
 
-bodies_grown : (ls ls' : List Label) (cs cs' : List Chunk) (rs : List Row) → AllIn ls cs rs
+bodies_grown : (ls ls' : List Label) (cs cs' : List Chunk) (rs : List Series) → AllIn ls cs rs
     → bodies_in (ls ++ ls') (cs ++ cs') rs ≡ bodies_in ls cs rs
 bodies_grown ls ls' cs cs' [] h = refl
 bodies_grown ls ls' cs cs' (r ∷ rs) h =
@@ -60,7 +60,7 @@ both_fails Memory ls cs read f = tt
 both_fails e ls cs (Ok b) f = absurd cc
 both_fails e ls cs (Err g) f = cc
 
-pub bodies_added : (ls : List Label) (cs : List Chunk) (rs : List Row) (b : Body) (r : Row)
+pub bodies_added : (ls : List Label) (cs : List Chunk) (rs : List Series) (b : Body) (r : Series)
     → AllIn ls cs rs → r.labels_start ≡ length ls → r.labels_end ≡ length (ls ++ b.labels)
     → r.chunks_start ≡ length cs → r.chunks_end ≡ length (cs ++ b.chunks)
     → bodies_in (ls ++ b.labels) (cs ++ b.chunks) (rs ++ r ∷ []) ≡ bodies_in ls cs rs ++ b ∷ []
@@ -72,7 +72,7 @@ bodies_added ls cs rs b r h s e s' e' =
     ∙ ap (λ (xs : List Body). xs ++ body_in (ls ++ b.labels) (cs ++ b.chunks) r ∷ []) same
     ∙ ap (λ (x : Body). bodies_in ls cs rs ++ x ∷ []) one
 
-pub all_added : (ls : List Label) (cs : List Chunk) (rs : List Row) (b : Body) (r : Row)
+pub all_added : (ls : List Label) (cs : List Chunk) (rs : List Series) (b : Body) (r : Series)
     → AllIn ls cs rs → r.labels_start ≡ length ls → r.labels_end ≡ length (ls ++ b.labels)
     → r.chunks_start ≡ length cs → r.chunks_end ≡ length (cs ++ b.chunks)
     → AllIn (ls ++ b.labels) (cs ++ b.chunks) (rs ++ r ∷ [])

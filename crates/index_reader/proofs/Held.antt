@@ -1,27 +1,25 @@
 -- What is kept of a file that was read.
-use Rattle.std.proofs.Common.{◌≡◌, ℕ, zero, suc, ◌+◌, ◌/◌, ◌<◌, ◌≤◌, List, [], ◌∷◌, ◌++◌, length, get_or, drop, Some, Result, Ok, Err, refl, sym, ap, subst, ◌∙◌, inl, inr, append_assoc, arith}
+use Rattle.std.proofs.Common.{◌≡◌, ℕ, zero, suc, ◌+◌, ◌/◌, ◌<◌, ◌≤◌, List, [], ◌∷◌, ◌++◌, length, get_or, drop, Some, Result, Ok, Err, refl, sym, ap, subst, ◌∙◌, append_assoc, arith}
 use Rattle.std.specs.Prelude.{slice_get, slice_range, map, IfOk}
 use Rattle.std.specs.List.{All}
 use Rattle.std.specs.Borrow.{Bor}
-use Rattle.std.proofs.lemmas.Bool.{cases_lt}
-use Rattle.std.proofs.lemmas.List.{drop_all, append-nil, map_push, length-map, length_push, get_or_append_left, get_or_at, get_or-map}
+use Rattle.std.proofs.lemmas.List.{drop_all, append-nil, length-map, get_or-map}
 use Rattle.wire.specs.Spelling.{IsBytes}
 use Rattle.labels.specs.Labels.{Labels}
 use Rattle.labels.specs.LabelSets.{IsLabelSet}
 use Rattle.index_reader.specs.declared.error.IndexError.{IndexError}
 use Rattle.index_reader.specs.declared.chunk.Chunk.{Chunk}
 use Rattle.index_reader.specs.declared.series.Series.{Series}
-use Rattle.index_reader.specs.declared.bodies.Row.{Row}
 use Rattle.index_reader.specs.declared.checks.Checked.{Checked}
 use Rattle.index_reader.specs.Outcome.{is_memory, Gives, Fails}
 use Rattle.index_reader.specs.Layout.{SeriesEntry, Label, Body}
-use Rattle.index_reader.specs.FlatBodies.{body_in, bodies_in, IsIn}
+use Rattle.index_reader.specs.FlatBodies.{body_in, bodies_in, references_in_order}
 use Rattle.index_reader.specs.References.{references_in, IsList}
 use Rattle.index_reader.specs.Seen.{bytes_of, entries_seen, strings_of}
 use Rattle.index_reader.specs.AgreementChecks as agreement
 use Rattle.index_reader.specs.Indexes.{text_of, named, series_at, series_of, references, references_with}
 use Rattle.index_reader.specs.Indexes as indexes
-use Rattle.index_reader.specs.KeptIndex.{series_in, all_in, indexed_in, of_row, IsWithin, AreWithin, AreInTable, AreLabelSets, IsListing, IsKept}
+use Rattle.index_reader.specs.KeptIndex.{series_in, all_in, indexed_in, AreWithin, AreInTable, IsListing, IsKept}
 use Rattle.index_reader.specs.Checks.{read_of, indexed, indexed_of, IsRead}
 use Rattle.index_reader.specs.Spelled.{IsIndex}
 use Rattle.index_reader.specs.CheckedFile.{read_seen, IsHeldIn}
@@ -30,7 +28,7 @@ use Rattle.index_reader.proofs.Walks.{done}
 use Rattle.index_reader.proofs.Eaches.{drop_at_place}
 use Rattle.index_reader.proofs.Placing.{mapped_at}
 use Rattle.index_reader.proofs.Found.{is_index}
-use Rattle.index_reader.proofs.Facts.{read_is, series_length}
+use Rattle.index_reader.proofs.Facts.{read_is}
 use Rattle.index_reader.proofs.Texts.{got, stands_at}
 
 pub is_read : (file : List ℕ) (r : Result Checked IndexError) → Gives read_seen r (read_of file)
@@ -60,29 +58,8 @@ ended_so front whole i le h =
 
 -- ---- the series of an entry and its body
 
-pub series_here : (symbols : List (List ℕ)) (ps : List SeriesEntry) (bs : List Body) (i : ℕ)
-    (p : SeriesEntry) (b : Body) → slice_get ps i ≡ Some p → slice_get bs i ≡ Some b
-    → slice_get (series_of symbols ps bs) i ≡ Some (series_at symbols p b)
-unfolding series_of
-series_here symbols [] bs i p b g h = absurd cc
-series_here symbols (x ∷ ps) [] i p b g h = absurd cc
-series_here symbols (x ∷ ps) (y ∷ bs) zero p b g h =
-    let e : x ≡ p = cc in
-    let f : y ≡ b = cc in
-    rw (e, f) refl
-series_here symbols (x ∷ ps) (y ∷ bs) (suc i) p b g h = series_here symbols ps bs i p b g h
-
 abbrev made : ℕ → Labels → List Chunk → indexes.Series
 made r ls cs = record { reference = r; labels = ls; chunks = cs }
-
-some_number : (a b : ℕ) → Some a ≡ Some b → a ≡ b
-some_number a b e = cc
-
-reference_is : (ps : List SeriesEntry) (i r : ℕ) (p : SeriesEntry)
-    → slice_get (agreement.entry_references ps) i ≡ Some r
-    → slice_get ps i ≡ Some p → r ≡ p.offset / 16
-reference_is ps i r p g h =
-    some_number r (p.offset / 16) (sym g ∙ mapped_at (λ (q : SeriesEntry). q.offset / 16) ps i p h)
 
 -- ---- what stands at a place
 
@@ -105,74 +82,32 @@ stands_so xs i x lt e = stands_at xs i x lt ∙ ap (λ y. Some y) (sym e)
 
 -- ---- series as they are kept
 
-series_is : (symbols : List (List ℕ)) (labels : List Label) (chunks : List Chunk) (r : Row)
-    (reference : ℕ) (p : SeriesEntry) → reference ≡ p.offset / 16
-    → series_in symbols labels chunks (of_row r reference)
-    ≡ series_at symbols p (body_in labels chunks r)
-series_is symbols labels chunks r reference p e =
-    ap (λ (n : ℕ). made n (named symbols (slice_range labels r.labels_start r.labels_end))
-    (slice_range chunks r.chunks_start r.chunks_end)) e
+series_is : (symbols : List (List ℕ)) (labels : List Label) (chunks : List Chunk) (s : Series)
+    (p : SeriesEntry) → s.reference ≡ p.offset / 16
+    → series_in symbols labels chunks s ≡ series_at symbols p (body_in labels chunks s)
+series_is symbols labels chunks s p e =
+    ap (λ (n : ℕ). made n (named symbols (slice_range labels s.labels_start s.labels_end))
+    (slice_range chunks s.chunks_start s.chunks_end)) e
 
-pub series_on : (symbols : List (List ℕ)) (labels : List Label) (chunks : List Chunk)
-    (rows : List Row) (ps : List SeriesEntry) (front : List Series) (i : ℕ) (r : Row)
-    (reference : ℕ) → slice_get rows i ≡ Some r
-    → slice_get (agreement.entry_references ps) i ≡ Some reference → i < length ps
-    → all_in symbols labels chunks front
-    ++ drop i (series_of symbols ps (bodies_in labels chunks rows))
-    ≡ series_of symbols ps (bodies_in labels chunks rows)
-    → all_in symbols labels chunks (front ++ of_row r reference ∷ [])
-    ++ drop (i + 1) (series_of symbols ps (bodies_in labels chunks rows))
-    ≡ series_of symbols ps (bodies_in labels chunks rows)
-series_on symbols labels chunks rows ps front i r reference g f lt so_far =
-    let none : SeriesEntry = record { offset = 0; body = []; end = 0 } in
-    let p = get_or ps i none in
-    let here = stands_at ps i none lt in
-    let whole = series_of symbols ps (bodies_in labels chunks rows) in
-    let s = of_row r reference in
-    let one =
-    series_here symbols ps (bodies_in labels chunks rows) i p (body_in labels chunks r) here
-    (mapped_at (body_in labels chunks) rows i r g) in
-    let is = series_is symbols labels chunks r reference p (reference_is ps i reference p f here) in
-    ap (λ (front' : List indexes.Series). front' ++ drop (i + 1) whole)
-    (map_push (series_in symbols labels chunks) front s)
-    ∙ moved_on (all_in symbols labels chunks front) whole i (series_at symbols p
-    (body_in labels chunks r)) (series_in symbols labels chunks s) one is so_far
+first_number : (a b : ℕ) (xs ys : List ℕ) → a ∷ xs ≡ b ∷ ys → (a ≡ b) × (xs ≡ ys)
+first_number a b xs ys e = (cc, ap (λ (zs : List ℕ). drop 1 zs) e)
 
-row_within : (symbols : List (List ℕ)) (labels : List Label) (chunks : List Chunk) (r : Row)
-    (reference : ℕ) → IsIn labels chunks r
-    → AreInTable symbols (slice_range labels r.labels_start r.labels_end)
-    → IsLabelSet (named symbols (slice_range labels r.labels_start r.labels_end))
-    → IsWithin symbols labels chunks (of_row r reference)
-row_within symbols labels chunks r reference o t l = record {
-  labels_ordered = o.labels_ordered;
-  labels_inside = o.labels_inside;
-  chunks_ordered = o.chunks_ordered;
-  chunks_inside = o.chunks_inside;
-  in_table = t;
-  labelled = l;
-}
-
-pub within_on : (symbols : List (List ℕ)) (labels : List Label) (chunks : List Chunk)
-    (front : List Series) (r : Row) (reference : ℕ) → IsIn labels chunks r
-    → AreInTable symbols (slice_range labels r.labels_start r.labels_end)
-    → IsLabelSet (named symbols (slice_range labels r.labels_start r.labels_end))
-    → AreWithin symbols labels chunks front
-    → AreWithin symbols labels chunks (front ++ of_row r reference ∷ [])
-within_on symbols labels chunks front r reference o t l w = λ k d lt.
-    elim (cases_lt k (length front)) [
-      | inl below ↦ rw (get_or_append_left front (of_row r reference ∷ []) d k below) (w k d below)
-      | inr from ↦
-          let n : length front ≡ k = omega (arith, lt, length_push front (of_row r reference)) in
-          rw (get_or_at front (of_row r reference) [] d k n)
-          (row_within symbols labels chunks r reference o t l)
-    ]
-
-pub series_counted : (symbols : List (List ℕ)) (labels : List Label) (chunks : List Chunk)
-    (rows : List Row) (ps : List SeriesEntry) → length rows ≡ length ps
-    → length (series_of symbols ps (bodies_in labels chunks rows)) ≡ length rows
-series_counted symbols labels chunks rows ps e =
-    let n = length-map rows (body_in labels chunks) in
-    series_length symbols ps (bodies_in labels chunks rows) (omega (arith, n, e)) ∙ n
+-- series with the references of entries are those of the entries and their bodies
+all_is : (symbols : List (List ℕ)) (labels : List Label) (chunks : List Chunk) (ss : List Series)
+    (ps : List SeriesEntry) → references_in_order ss ≡ agreement.entry_references ps
+    → all_in symbols labels chunks ss ≡ series_of symbols ps (bodies_in labels chunks ss)
+unfolding series_of
+all_is symbols labels chunks [] [] e = refl
+all_is symbols labels chunks [] (p ∷ ps) e = absurd cc
+all_is symbols labels chunks (s ∷ ss) [] e = absurd cc
+all_is symbols labels chunks (s ∷ ss) (p ∷ ps) e =
+    let n =
+    first_number s.reference (p.offset / 16) (references_in_order ss)
+    (agreement.entry_references ps) e in
+    ap (λ (x : indexes.Series). x ∷ all_in symbols labels chunks ss)
+    (series_is symbols labels chunks s p n.0)
+    ∙ ap (λ (xs : List indexes.Series). series_at symbols p (body_in labels chunks s) ∷ xs)
+    (all_is symbols labels chunks ss ps n.1)
 
 -- ---- what an index shows of what it keeps
 
@@ -216,20 +151,21 @@ all_entry symbols keys series lists l e g z =
 pub err_fails : (file : List ℕ) (e : IndexError) → Fails e (read_of file)
     → Fails e (indexed_of file)
 unfolding indexed_of
-err_fails file e f = fails_on is_memory e (read_of file) (λ r. Ok (indexed r)) (indexed_of file) refl f
+err_fails file e f =
+    fails_on is_memory e (read_of file) (λ r. Ok (indexed r)) (indexed_of file) refl f
 
 pub exact_is : (file : List ℕ) (c : Checked) (x : indexes.Indexed) → read_of file ≡ Ok (read_seen c)
     → indexed (read_seen c) ≡ x → indexed_of file ≡ Ok x
 unfolding indexed_of
 exact_is file c x h e = rw h (ap (λ (y : indexes.Indexed). done y) e)
 
-pub rows_inside : (file : List ℕ) (c : Checked) → IsHeldIn file c → IsRead (read_seen c)
-    → All (λ (r : Row). AreInTable (strings_of c.symbols.texts.items)
-    (slice_range c.bodies.labels.items r.labels_start r.labels_end)) c.bodies.rows.items
+rows_inside : (file : List ℕ) (c : Checked) → IsHeldIn file c → IsRead (read_seen c)
+    → All (λ (r : Series). AreInTable (strings_of c.symbols.texts.items)
+    (slice_range c.bodies.labels.items r.labels_start r.labels_end)) c.bodies.series.items
 rows_inside file c h i = λ k d lt.
     let ls = c.bodies.labels.items in
     let cs = c.bodies.chunks.items in
-    let rs = c.bodies.rows.items in
+    let rs = c.bodies.series.items in
     let e : get_or (bodies_in ls cs rs) k (body_in ls cs d) ≡ body_in ls cs (get_or rs k d) =
     get_or-map (body_in ls cs) rs k d (body_in ls cs d) lt in
     let o = i.inside k (body_in ls cs d) (omega (arith, lt, length-map rs (body_in ls cs))) in
@@ -238,12 +174,13 @@ rows_inside file c h i = λ k d lt.
     (slice_range ls r.labels_start r.labels_end)) (sym h.symbols)
     (subst (λ (b : Body). AreInTable (bytes_of c.layout.symbols.items) b.labels) e o)
 
-pub rows_labelled : (file : List ℕ) (c : Checked) → IsHeldIn file c → IsRead (read_seen c)
-    → AreLabelSets (strings_of c.symbols.texts.items) c.bodies.labels.items c.bodies.rows.items
+rows_labelled : (file : List ℕ) (c : Checked) → IsHeldIn file c → IsRead (read_seen c)
+    → All (λ (r : Series). IsLabelSet (named (strings_of c.symbols.texts.items)
+    (slice_range c.bodies.labels.items r.labels_start r.labels_end))) c.bodies.series.items
 rows_labelled file c h i = λ k d lt.
     let ls = c.bodies.labels.items in
     let cs = c.bodies.chunks.items in
-    let rs = c.bodies.rows.items in
+    let rs = c.bodies.series.items in
     let e : get_or (bodies_in ls cs rs) k (body_in ls cs d) ≡ body_in ls cs (get_or rs k d) =
     get_or-map (body_in ls cs) rs k d (body_in ls cs d) lt in
     let o = i.labelled k (body_in ls cs d) (omega (arith, lt, length-map rs (body_in ls cs))) in
@@ -251,6 +188,18 @@ rows_labelled file c h i = λ k d lt.
     subst (λ (symbols : List (List ℕ)).
     IsLabelSet (named symbols (slice_range ls r.labels_start r.labels_end))) (sym h.symbols)
     (subst (λ (b : Body). IsLabelSet (named (bytes_of c.layout.symbols.items) b.labels)) e o)
+
+rows_within : (file : List ℕ) (c : Checked) → IsHeldIn file c → IsRead (read_seen c)
+    → AreWithin (strings_of c.symbols.texts.items) c.bodies.labels.items c.bodies.chunks.items
+    c.bodies.series.items
+rows_within file c h i = λ k d lt. let o = c.bodies.inside k d lt in record {
+  labels_ordered = o.labels_ordered;
+  labels_inside = o.labels_inside;
+  chunks_ordered = o.chunks_ordered;
+  chunks_inside = o.chunks_inside;
+  in_table = rows_inside file c h i k d lt;
+  labelled = rows_labelled file c h i k d lt;
+}
 
 pub lists_whole : (c : Checked) → IsRead (read_seen c)
     → All (λ (l : Bor (List ℕ)). IsList l.now) c.lists.items
@@ -263,21 +212,29 @@ lists_whole c i = λ k d lt.
 abbrev of_both : List indexes.Series → List (List ℕ × List ℕ) → indexes.Indexed
 of_both ss ps = record { series = ss; pairs = ps }
 
+held_series : (file : List ℕ) (c : Checked) → IsHeldIn file c
+    → all_in (strings_of c.symbols.texts.items) c.bodies.labels.items c.bodies.chunks.items
+    c.bodies.series.items
+    ≡ series_of (strings_of c.symbols.texts.items) (entries_seen c.layout.entries.items)
+    (bodies_in c.bodies.labels.items c.bodies.chunks.items c.bodies.series.items)
+held_series file c h =
+    all_is (strings_of c.symbols.texts.items) c.bodies.labels.items c.bodies.chunks.items
+    c.bodies.series.items (entries_seen c.layout.entries.items) h.referred
+
 pub whole_is : (file : List ℕ) (c : Checked) (labels : List Label) (chunks : List Chunk)
     (ss : List Series) → IsHeldIn file c → labels ≡ c.bodies.labels.items
     → chunks ≡ c.bodies.chunks.items
-    → all_in (strings_of c.symbols.texts.items) c.bodies.labels.items c.bodies.chunks.items ss
-    ≡ series_of (strings_of c.symbols.texts.items) (entries_seen c.layout.entries.items)
-    (bodies_in c.bodies.labels.items c.bodies.chunks.items c.bodies.rows.items)
+    → ss ≡ c.bodies.series.items
     → indexed (read_seen c)
     ≡ indexed_in (strings_of c.symbols.texts.items) c.keys.pairs.items labels chunks ss
-whole_is file c labels chunks ss h f e exact =
-    let bs = bodies_in c.bodies.labels.items c.bodies.chunks.items c.bodies.rows.items in
+whole_is file c labels chunks ss h f e g =
+    let bs = bodies_in c.bodies.labels.items c.bodies.chunks.items c.bodies.series.items in
     let ps = entries_seen c.layout.entries.items in
     let symbols = strings_of c.symbols.texts.items in
     let a : series_of (bytes_of c.layout.symbols.items) ps bs ≡ all_in symbols labels chunks ss =
     ap (λ (y : List (List ℕ)). series_of y ps bs) (sym h.symbols)
-    ∙ sym exact
+    ∙ sym (held_series file c h)
+    ∙ ap (all_in symbols c.bodies.labels.items c.bodies.chunks.items) (sym g)
     ∙ ap (λ (ls : List Label). all_in symbols ls c.bodies.chunks.items ss) (sym f)
     ∙ ap (λ (cs : List Chunk). all_in symbols labels cs ss) (sym e) in
     let b : named (bytes_of c.layout.symbols.items) c.keys.pairs.items
@@ -290,14 +247,11 @@ whole_is file c labels chunks ss h f e exact =
 pub is_kept : (file : List ℕ) (c : Checked) (labels : List Label) (chunks : List Chunk)
     (ss : List Series) (lists : List (List ℕ)) → IsHeldIn file c → IsRead (read_seen c)
     → labels ≡ c.bodies.labels.items → chunks ≡ c.bodies.chunks.items
-    → AreWithin (strings_of c.symbols.texts.items) c.bodies.labels.items c.bodies.chunks.items ss
-    → all_in (strings_of c.symbols.texts.items) c.bodies.labels.items c.bodies.chunks.items ss
-    ≡ series_of (strings_of c.symbols.texts.items) (entries_seen c.layout.entries.items)
-    (bodies_in c.bodies.labels.items c.bodies.chunks.items c.bodies.rows.items)
+    → ss ≡ c.bodies.series.items
     → lists ≡ map references_in (bytes_of c.lists.items)
     → IsKept (strings_of c.symbols.texts.items) c.keys.pairs.items labels chunks ss lists
-is_kept file c labels chunks ss lists h i f e within exact copied =
-    let bs = bodies_in c.bodies.labels.items c.bodies.chunks.items c.bodies.rows.items in
+is_kept file c labels chunks ss lists h i f e g copied =
+    let bs = bodies_in c.bodies.labels.items c.bodies.chunks.items c.bodies.series.items in
     let ps = entries_seen c.layout.entries.items in
     let symbols = strings_of c.symbols.texts.items in
     let keys = c.keys.pairs.items in
@@ -306,13 +260,16 @@ is_kept file c labels chunks ss lists h i f e within exact copied =
     subst (λ (y : List (List ℕ)). IsListing y keys (series_of y ps bs) raws)
     (sym h.symbols) i.listing in
     let same : series_of symbols ps bs ≡ all_in symbols labels chunks ss =
-    sym exact
+    sym (held_series file c h)
+    ∙ ap (all_in symbols c.bodies.labels.items c.bodies.chunks.items) (sym g)
     ∙ ap (λ (ls : List Label). all_in symbols ls c.bodies.chunks.items ss) (sym f)
     ∙ ap (λ (cs : List Chunk). all_in symbols labels cs ss) (sym e) in
     record {
       within =
-          subst (λ (ls : List Label). AreWithin symbols ls chunks ss) (sym f) (subst
-          (λ (cs : List Chunk). AreWithin symbols c.bodies.labels.items cs ss) (sym e) within);
+          subst (λ (ls : List Label). AreWithin symbols ls chunks ss) (sym f)
+          (subst (λ (cs : List Chunk). AreWithin symbols c.bodies.labels.items cs ss) (sym e)
+          (subst (AreWithin symbols c.bodies.labels.items c.bodies.chunks.items) (sym g)
+          (rows_within file c h i)));
       listing =
           subst (IsListing symbols keys (all_in symbols labels chunks ss)) (sym copied)
           (subst (λ (series : List indexes.Series). IsListing symbols keys series raws) same read);

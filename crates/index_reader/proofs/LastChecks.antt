@@ -1,7 +1,7 @@
 -- Which of the last two checks fails.
-use Rattle.std.proofs.Common.{◌≡◌, ℕ, zero, suc, ◌+◌, ◌<◌, ◌≤◌, ◌⊎◌, Bool, true, false, ◌&&◌, cond, List, [], ◌∷◌, length, get_or, Option, Some, None, Result, Ok, Err, refl, sym, ap, subst, ◌∙◌, inl, inr, arith}
+use Rattle.std.proofs.Common.{◌≡◌, ℕ, zero, suc, ◌+◌, ◌<◌, ◌≤◌, ◌⊎◌, Bool, true, false, ◌&&◌, List, [], ◌∷◌, length, get_or, Result, Ok, Err, refl, sym, ap, subst, ◌∙◌, inl, inr, arith}
 use Rattle.std.specs.Prelude.{map, nat_lt}
-use Rattle.std.specs.List.{AllByRecursion, list_all, Contains}
+use Rattle.std.specs.List.{AllByRecursion, list_all}
 use Rattle.std.specs.declared.cmp.Ordering.TheVariants.{Less}
 use Rattle.std.proofs.lemmas.Bool.{le-ltb, le-leb, leb-true, ltb-false}
 use Rattle.std.proofs.lemmas.List.{length-map}
@@ -9,19 +9,17 @@ use Rattle.wire.specs.Spelling.{IsBytes}
 use Rattle.labels.specs.Labels.{pair_cmp}
 use Rattle.index_reader.specs.declared.error.IndexError.{IndexError}
 use Rattle.index_reader.specs.declared.error.IndexError.TheVariants.{PostingsDisagree, Limit}
-use Rattle.index_reader.specs.Steps.{each}
 use Rattle.wire.specs.Outcome.{◌>>=◌}
-use Rattle.index_reader.specs.Layout.{SeriesEntry, Layout, ascending, Label, Body, TableEntry, is_before, rises, postings_end}
+use Rattle.index_reader.specs.Layout.{SeriesEntry, Layout, Label, Body, TableEntry, is_before, rises, postings_end}
 use Rattle.index_reader.specs.Checks.{layout_of, labels_of_each, bodies_of, postings_of, is_small, read_of, indexed_of}
 use Rattle.index_reader.specs.Grammar.{IsLayout}
 use Rattle.index_reader.specs.References.{references_in}
 use Rattle.index_reader.specs.FlatBodies.{body_of_entry}
-use Rattle.index_reader.specs.CarriedPairs.{Carried, are_used_up}
-use Rattle.index_reader.specs.Lookups.{symbol_of, place_of, key_before}
+use Rattle.index_reader.specs.CarriedPairs.{are_used_up}
 use Rattle.index_reader.specs.AgreementChecks.{Carrier, or_disagree, key_at, keys_at, list_of_label, lists_of_series, each_all, carriers, are_used, agreement_of}
 use Rattle.index_reader.specs.AgreementChecks as agreement
-use Rattle.index_reader.specs.Indexes.{Series, Indexed, references, references_with, text_of, named, series_of}
-use Rattle.index_reader.specs.Spelled.{pairs_of, lists_for}
+use Rattle.index_reader.specs.Indexes.{Series, Indexed, text_of, named, series_of}
+use Rattle.index_reader.specs.Spelled.{pairs_of}
 use Rattle.index_reader.specs.Stated.{Stated, stated_in, stated_of, Agrees, AreFew, AreLastChecks}
 use Rattle.wire.proofs.Steps.{bind_ok}
 use Rattle.index_reader.proofs.Walks.{done, ok_is}

@@ -8,7 +8,7 @@ use Rattle.byteorder.specs.Endian.{big_bytes}
 use Rattle.index_reader.specs.declared.error.IndexError.{IndexError}
 use Rattle.index_reader.specs.declared.series_entries.SeriesEntry.{SeriesEntry}
 use Rattle.index_reader.specs.declared.layout.Layout.{Layout}
-use Rattle.index_reader.specs.declared.bodies.Row.{Row}
+use Rattle.index_reader.specs.declared.series.Series.{Series}
 use Rattle.index_reader.specs.declared.chunk.Chunk.{Chunk}
 use Rattle.index_reader.specs.declared.offset_table.TableEntry.{TableEntry}
 use Rattle.index_reader.specs.Layout.{rounded, series_end, Label}
@@ -16,7 +16,7 @@ use Rattle.index_reader.specs.Layout as layout
 use Rattle.index_reader.specs.Grammar.{entry, symbol, IsWalk, IsLayout}
 use Rattle.index_reader.specs.Seen.{entries_seen, layout_seen, bytes_of, table_seen, table_entry_seen}
 use Rattle.index_reader.specs.Steps.{each}
-use Rattle.index_reader.specs.FlatBodies.{body_in, bodies_in, label_sets_in, AllIn, AreInside}
+use Rattle.index_reader.specs.FlatBodies.{body_in, bodies_in, label_sets_in}
 use Rattle.index_reader.specs.PostingsChecks.{section_at, references_at, lists_at}
 use Rattle.index_reader.specs.Checks.{labels_of_each}
 use Rattle.index_reader.specs.CheckedFile.{IsSound}
@@ -69,21 +69,16 @@ sound_found file (Err e) p = tt
 
 -- ---- flat lists
 
-pub sets_are : (labels : List Label) (chunks : List Chunk) (rows : List Row)
+pub sets_are : (labels : List Label) (chunks : List Chunk) (rows : List Series)
     → labels_of_each (bodies_in labels chunks rows) ≡ label_sets_in labels rows
 sets_are labels chunks [] = refl
 sets_are labels chunks (r ∷ rows) =
     ap (λ (xs : List (List Label)). slice_range labels r.labels_start r.labels_end ∷ xs)
     (sets_are labels chunks rows)
 
-pub count_is : (labels : List Label) (chunks : List Chunk) (rows : List Row)
+pub count_is : (labels : List Label) (chunks : List Chunk) (rows : List Series)
     → length (bodies_in labels chunks rows) ≡ length rows
 count_is labels chunks rows = length-map rows (body_in labels chunks)
-
-pub labels_inside : (labels : List Label) (chunks : List Chunk) (rows : List Row)
-    → AllIn labels chunks rows → AreInside labels rows
-labels_inside labels chunks rows h =
-    λ k d lt. let o = h k d lt in (o.labels_ordered, o.labels_inside)
 
 -- ---- one after another
 

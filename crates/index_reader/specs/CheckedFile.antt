@@ -3,15 +3,13 @@ use Rattle.std.specs.List.{All}
 use Rattle.std.specs.Prelude.{◌≡◌, ℕ, ◌≤◌, ◌<◌, ◌^◌, true, List, length}
 use Rattle.index_reader.specs.declared.checks.Checked.{Checked}
 use Rattle.index_reader.specs.declared.bodies.Bodies.{Bodies}
-use Rattle.index_reader.specs.declared.bodies.Row.{Row}
 use Rattle.index_reader.specs.declared.keys.Keys.{Keys}
 use Rattle.index_reader.specs.declared.layout.Layout.{Layout}
-use Rattle.index_reader.specs.declared.series_entries.SeriesEntry.{SeriesEntry}
 use Rattle.index_reader.specs.declared.symbols.Symbols.{Symbols}
-use Rattle.index_reader.specs.Layout.{IsPlaced, ascending, Label, Body}
+use Rattle.index_reader.specs.Layout.{IsPlaced, ascending, Body}
 use Rattle.index_reader.specs.AgreementChecks.{Carrier, carriers, entry_references}
 use Rattle.index_reader.specs.Checks.{Read}
-use Rattle.index_reader.specs.FlatBodies.{bodies_in, label_sets_in, AllIn}
+use Rattle.index_reader.specs.FlatBodies.{bodies_in, label_sets_in, references_in_order}
 use Rattle.index_reader.specs.Grammar.{IsLayout}
 use Rattle.index_reader.specs.Indexes.{named}
 use Rattle.index_reader.specs.Seen.{bytes_of, entries_seen, layout_seen, strings_of}
@@ -26,12 +24,12 @@ pair_texts symbols keys = named (symbol_texts symbols) keys.pairs.items
 
 -- the bodies that stand in flat vectors
 abbrev pub bodies_seen : Bodies → List Body
-bodies_seen b = bodies_in b.labels.items b.chunks.items b.rows.items
+bodies_seen b = bodies_in b.labels.items b.chunks.items b.series.items
 
--- the reference of each entry with its labels
-abbrev pub carriers_seen : List SeriesEntry → List Label → List Row → List Carrier
-carriers_seen entries labels rows =
-    carriers (entry_references (entries_seen entries)) (label_sets_in labels rows)
+-- the reference of each series with its labels
+abbrev pub carriers_seen : Bodies → List Carrier
+carriers_seen b =
+    carriers (references_in_order b.series.items) (label_sets_in b.labels.items b.series.items)
 
 -- what the later checks may build on
 pub record IsSound (file : List ℕ) (o : Layout) : Type 0 where
@@ -54,6 +52,6 @@ read_seen c = record {
 pub record IsHeldIn (file : List ℕ) (c : Checked) : Type 0 where
   pub parts : IsLayout file (layout_seen c.layout)
   pub sound : IsSound file c.layout
-  pub inside : AllIn c.bodies.labels.items c.bodies.chunks.items c.bodies.rows.items
-  pub counted : length c.bodies.rows.items ≡ length c.layout.entries.items
+  pub referred : references_in_order c.bodies.series.items
+      ≡ entry_references (entries_seen c.layout.entries.items)
   pub symbols : symbol_texts c.symbols ≡ bytes_of c.layout.symbols.items

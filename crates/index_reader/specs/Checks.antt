@@ -1,6 +1,6 @@
 -- All checks in their order: the first that fails, or what they read.
-use Rattle.std.specs.List.{All, list_all}
-use Rattle.std.specs.Prelude.{◌≡◌, ℕ, ◌+◌, ◌<◌, ◌≤◌, true, List, length, get_or, Result, Ok, Err, Bool, map, ◌^◌, nat_lt, nat_le, if◌then◌else◌, slice_range}
+use Rattle.std.specs.List.{list_all}
+use Rattle.std.specs.Prelude.{ℕ, ◌+◌, ◌<◌, List, length, get_or, Result, Ok, Err, Bool, map, nat_lt, nat_le, if◌then◌else◌, slice_range}
 use Rattle.labels.specs.LabelSets.{IsLabelSet}
 use Rattle.index_reader.specs.declared.error.IndexError.{IndexError}
 use Rattle.index_reader.specs.declared.error.IndexError.TheVariants.{Limit, Series, SeriesOrder, SymbolsCrc}

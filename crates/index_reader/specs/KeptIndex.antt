@@ -2,7 +2,6 @@
 use Rattle.std.specs.List.{All}
 use Rattle.std.specs.Prelude.{◌≡◌, ℕ, ◌+◌, ◌<◌, ◌≤◌, true, List, [], length, get_or, map, ◌^◌, slice_range}
 use Rattle.labels.specs.LabelSets.{IsLabelSet}
-use Rattle.index_reader.specs.declared.bodies.Row.{Row}
 use Rattle.index_reader.specs.declared.chunk.Chunk.{Chunk}
 use Rattle.index_reader.specs.declared.series.Series.{Series}
 use Rattle.index_reader.specs.Indexes.{Indexed, references, references_with, text_of, named}
@@ -76,23 +75,3 @@ pub record IsKept (symbols : List (List ℕ)) (keys labels : List Label) (chunks
     (ss : List Series) (lists : List (List ℕ)) : Type 0 where
   pub within : AreWithin symbols labels chunks ss
   pub listing : IsListing symbols keys (all_in symbols labels chunks ss) lists
-
--- the labels of each body are of these symbols
-abbrev pub AllInTable : List (List ℕ) → List Label → List Row → Type 0
-AllInTable symbols labels rows =
-    All (λ r. AreInTable symbols (slice_range labels r.labels_start r.labels_end)) rows
-
--- the labels of each body make a label set
-abbrev pub AreLabelSets : List (List ℕ) → List Label → List Row → Type 0
-AreLabelSets symbols labels rows =
-    All (λ r. IsLabelSet (named symbols (slice_range labels r.labels_start r.labels_end))) rows
-
--- the series of a body
-abbrev pub of_row : Row → ℕ → Series
-of_row r reference = record {
-  reference = reference;
-  labels_start = r.labels_start;
-  labels_end = r.labels_end;
-  chunks_start = r.chunks_start;
-  chunks_end = r.chunks_end;
-}

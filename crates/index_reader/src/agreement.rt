@@ -5,19 +5,17 @@ ghost use Rattle.std.specs.Prelude.{◌≡◌, ◌+◌, ◌<◌, ◌^◌, length
 ghost use Rattle.index_reader.specs.AgreementChecks.{are_used, agreement_of};
 ghost use Rattle.index_reader.specs.CheckedFile.{carriers_seen, symbol_texts};
 ghost use Rattle.index_reader.specs.CarriedPairs.{all_empty};
-ghost use Rattle.index_reader.specs.FlatBodies.{AreInside};
 ghost use Rattle.index_reader.specs.Outcome.{Gives};
 ghost use Rattle.index_reader.specs.References.{references_in};
 ghost use Rattle.index_reader.specs.Seen.{bytes_of, table_seen, references_in_each};
 ghost use Rattle.index_reader.specs.SeriesWalk.{in_turn, take_reference, take_label, take_series, keys_used_up};
 
-use crate::bodies::{Bodies, Row, label_set_at};
+use crate::bodies::{Bodies, label_set_at, reference_of};
 use crate::error::IndexError;
 use crate::keys::{Keys, guesses_of, key_in, place_near};
 use crate::offset_table::TableEntry;
 use crate::pairs::keys_of;
 use crate::postings::slice_at;
-use crate::series_entries::{SeriesEntry, reference_at};
 use crate::symbols::Symbols;
 use byteorder::{BigEndian, ByteOrder};
 use std::alloc::{AllocError, Global};
@@ -126,22 +124,17 @@ fn take_series<'a>(
 fn take_all<'a>(
     keys: &Keys,
     guesses: &[usize],
-    labels: &[(u32, u32)],
-    rows: &[Row],
-    entries: &[SeriesEntry<'_>],
+    bodies: &Bodies,
     lists: &mut Vec<&'a [u8]>,
 ) -> Result<(), IndexError>
     requires listed { length lists.old.items ≡ length keys.now.pairs.items + 1 }
-    requires inside { AreInside labels.now rows.now }
-    requires small { All (λ e. e.offset < 2 ^ 32) entries.now }
-    requires counted { length rows.now ≡ length entries.now }
     ensures { Gives (λ _. references_in_each lists.new.items) result
         (in_turn (take_series keys.now.pairs.items) (references_in_each lists.old.items)
-        (carriers_seen entries.now labels.now rows.now)) }
+        (carriers_seen bodies.now)) }
 {
-    for at in 0..rows.len() {
-        let reference = reference_at(entries, at);
-        let carried = label_set_at(labels, rows, at);
+    for at in 0..bodies.series.len() {
+        let reference = reference_of(bodies, at);
+        let carried = label_set_at(bodies, at);
         take_series(keys, guesses, reference, lists, carried)?;
     }
     Ok(())
@@ -197,28 +190,17 @@ fn use_up_lists(
     table: &[TableEntry<'_>],
     lists: &[&[u8]],
     bodies: &Bodies,
-    entries: &[SeriesEntry<'_>],
 ) -> Result<Keys, IndexError>
-    requires inside { AreInside bodies.now.labels.items bodies.now.rows.items }
-    requires small { All (λ e. e.offset < 2 ^ 32) entries.now }
-    requires counted { length bodies.now.rows.items ≡ length entries.now }
-    requires listed { length lists.now ≡ length table.now }
+    requires { length lists.now ≡ length table.now }
     ensures exact { Gives (λ v. v.pairs.items) result
         (keys_used_up (symbol_texts symbols.now) (table_seen table.now) (bytes_of lists.now)
-        (carriers_seen entries.now bodies.now.labels.items bodies.now.rows.items)) }
+        (carriers_seen bodies.now)) }
     ensures keyed { IfOk result (λ v. length v.pairs.items + 1 ≡ length table.now) }
 {
     let keys = keys_of(alloc, symbols, table)?;
     let guesses = guesses_of(alloc, symbols.texts.len(), &keys)?;
     let mut rests = copy_slices(alloc, lists)?;
-    take_all(
-        &keys,
-        &guesses,
-        &bodies.labels,
-        &bodies.rows,
-        entries,
-        &mut rests,
-    )?;
+    take_all(&keys, &guesses, bodies, &mut rests)?;
     let whole = are_used(lists) & all_empty(&rests);
     if !whole {
         return Err(IndexError::PostingsDisagree);
@@ -234,16 +216,12 @@ pub fn check_agreement(
     table: &[TableEntry<'_>],
     lists: &[&[u8]],
     bodies: &Bodies,
-    entries: &[SeriesEntry<'_>],
 ) -> Result<Keys, IndexError>
-    requires inside { AreInside bodies.now.labels.items bodies.now.rows.items }
-    requires small { All (λ e. e.offset < 2 ^ 32) entries.now }
-    requires counted { length bodies.now.rows.items ≡ length entries.now }
-    requires listed { length lists.now ≡ length table.now }
+    requires { length lists.now ≡ length table.now }
     ensures exact { Gives (λ v. v.pairs.items) result
         (agreement_of (symbol_texts symbols.now) (table_seen table.now) (bytes_of lists.now)
-        (carriers_seen entries.now bodies.now.labels.items bodies.now.rows.items)) }
+        (carriers_seen bodies.now)) }
     ensures keyed { IfOk result (λ v. length v.pairs.items + 1 ≡ length table.now) }
 {
-    use_up_lists(alloc, symbols, table, lists, bodies, entries)
+    use_up_lists(alloc, symbols, table, lists, bodies)
 }

@@ -1,10 +1,10 @@
-//! The bodies of all series entries, in flat vectors.
+//! The series of all entries, whose labels and chunks stand in flat vectors.
 
 ghost use Rattle.std.specs.List.{list_all};
-ghost use Rattle.std.specs.Prelude.{◌≡◌, ◌<◌, ◌^◌, length, slice_get, Some, IfOk};
-ghost use Rattle.index_reader.specs.CheckedFile.{bodies_seen};
+ghost use Rattle.std.specs.Prelude.{◌≡◌, ◌<◌, ◌^◌, length, slice_get, Some, All, IfOk};
+ghost use Rattle.index_reader.specs.AgreementChecks.{entry_references};
 ghost use Rattle.index_reader.specs.Checks.{is_small};
-ghost use Rattle.index_reader.specs.FlatBodies.{AllIn, body_of_entry, label_sets_in, labels_before, AreInside};
+ghost use Rattle.index_reader.specs.FlatBodies.{AllIn, bodies_in, body_of_entry, label_sets_in, labels_before, references_in_order};
 ghost use Rattle.index_reader.specs.Layout.{rises};
 ghost use Rattle.index_reader.specs.Outcome.{Gives};
 ghost use Rattle.index_reader.specs.Seen.{bytes_of, entries_seen};
@@ -13,36 +13,33 @@ ghost use Rattle.index_reader.specs.Steps.{each};
 use crate::body::body_into;
 use crate::chunk::Chunk;
 use crate::error::IndexError;
-use crate::series_entries::{SeriesEntry, entry_at};
+use crate::series::Series;
+use crate::series_entries::{SeriesEntry, entry_at, reference_at};
+use labels::SeriesRef;
 use std::alloc::Global;
 use std::cmp::Ordering;
 
-/// Where the parts of a body stand.
-#[derive(Clone, Copy, Debug)]
-pub struct Row {
-    pub labels_start: usize,
-    pub labels_end: usize,
-    pub chunks_start: usize,
-    pub chunks_end: usize,
-}
-
+/// The labels and the chunks of all bodies, one body behind the other, and the series of each.
 #[derive(Drop)]
 pub struct Bodies {
     pub labels: Vec<(u32, u32)>,
     pub chunks: Vec<Chunk>,
-    pub rows: Vec<Row>,
+    pub series: Vec<Series>,
+    ghost inside: { AllIn labels.items chunks.items series.items },
 }
 
-/// The labels and the chunks of all bodies.
-pub fn flat_parts(bodies: Bodies) -> (Vec<(u32, u32)>, Vec<Chunk>)
-    ensures { (result.0.items ≡ bodies.labels.items) × (result.1.items ≡ bodies.chunks.items) }
+/// The labels and the chunks of all bodies, and their series.
+pub fn flat_parts(bodies: Bodies) -> (Vec<(u32, u32)>, Vec<Chunk>, Vec<Series>)
+    ensures labels { result.0.items ≡ bodies.labels.items }
+    ensures chunks { result.1.items ≡ bodies.chunks.items }
+    ensures series { result.2.items ≡ bodies.series.items }
 {
     let Bodies {
         labels,
         chunks,
-        rows: _rows,
+        series,
     } = bodies;
-    (labels, chunks)
+    (labels, chunks, series)
 }
 
 /// The bodies of all entries.
@@ -51,21 +48,24 @@ pub fn bodies_of(
     symbols: &[&str],
     entries: &[SeriesEntry<'_>],
 ) -> Result<Bodies, IndexError>
-    requires { length symbols.now < 2 ^ 32 }
-    ensures exact { Gives bodies_seen result
+    requires few { length symbols.now < 2 ^ 32 }
+    requires small { All (λ e. e.offset < 2 ^ 32) entries.now }
+    ensures exact { Gives (λ b. bodies_in b.labels.items b.chunks.items b.series.items) result
         (each (body_of_entry (bytes_of symbols.now)) (entries_seen entries.now)) }
-    ensures inside { IfOk result (λ b. AllIn b.labels.items b.chunks.items b.rows.items) }
-    ensures counted { IfOk result (λ b. length b.rows.items ≡ length entries.now) }
+    ensures referred { IfOk result (λ b. references_in_order b.series.items
+        ≡ entry_references (entries_seen entries.now)) }
 {
     let mut labels = Vec::new(alloc);
     let mut chunks = Vec::new(alloc);
-    let mut rows = Vec::with_capacity(alloc, entries.len())?;
+    let mut series = Vec::with_capacity(alloc, entries.len())?;
     for at in 0..entries.len() {
         let entry = entry_at(entries, at);
+        let reference = reference_at(entries, at);
         let labels_start = labels.len();
         let chunks_start = chunks.len();
         body_into(symbols, entry.body, &mut labels, &mut chunks)?;
-        rows.push(Row {
+        series.push(Series {
+            reference: SeriesRef::new(reference),
             labels_start,
             labels_end: labels.len(),
             chunks_start,
@@ -75,25 +75,26 @@ pub fn bodies_of(
     Ok(Bodies {
         labels,
         chunks,
-        rows,
+        series,
     })
 }
 
-/// Where the parts of the body at a place stand.
-pub fn row_at(rows: &[Row], i: usize) -> Row
-    requires { i < length rows.now }
-    ensures { slice_get rows.now i ≡ Some result }
+/// The reference of the series at a place.
+pub fn reference_of(bodies: &Bodies, i: usize) -> u32
+    requires { i < length bodies.now.series.items }
+    ensures { slice_get (references_in_order bodies.now.series.items) i ≡ Some result }
 {
-    rows[i]
+    bodies.series[i].reference.number()
 }
 
-pub fn label_set_at<'a>(labels: &'a [(u32, u32)], rows: &[Row], i: usize) -> &'a [(u32, u32)]
-    requires inside { AreInside labels.now rows.now }
-    requires i_in { i < length rows.now }
-    ensures { slice_get (label_sets_in labels.now rows.now) i ≡ Some result.now }
+/// The labels of the series at a place.
+pub fn label_set_at(bodies: &Bodies, i: usize) -> &[(u32, u32)]
+    requires { i < length bodies.now.series.items }
+    ensures { slice_get (label_sets_in bodies.now.labels.items bodies.now.series.items) i
+        ≡ Some result.now }
 {
-    let row = rows[i];
-    &labels[row.labels_start..row.labels_end]
+    let series = bodies.series[i];
+    &bodies.labels[series.labels_start..series.labels_end]
 }
 
 fn is_before(a: &[(u32, u32)], b: &[(u32, u32)]) -> bool
@@ -103,16 +104,13 @@ fn is_before(a: &[(u32, u32)], b: &[(u32, u32)]) -> bool
 }
 
 /// Whether each label set is below the next.
-pub fn is_rising(labels: &[(u32, u32)], rows: &[Row]) -> bool
-    requires { AreInside labels.now rows.now }
-    ensures { result ≡ rises labels_before (label_sets_in labels.now rows.now) }
+pub fn is_rising(bodies: &Bodies) -> bool
+    ensures { result
+        ≡ rises labels_before (label_sets_in bodies.now.labels.items bodies.now.series.items) }
 {
     let mut at = 1;
-    while at < rows.len() {
-        if !is_before(
-            label_set_at(labels, rows, at - 1),
-            label_set_at(labels, rows, at),
-        ) {
+    while at < bodies.series.len() {
+        if !is_before(label_set_at(bodies, at - 1), label_set_at(bodies, at)) {
             return false;
         }
         at += 1;
@@ -127,12 +125,12 @@ fn is_small(labels: &[(u32, u32)]) -> bool
 }
 
 /// Whether no series has more than 64 labels.
-pub fn are_small(labels: &[(u32, u32)], rows: &[Row]) -> bool
-    requires { AreInside labels.now rows.now }
-    ensures { result ≡ list_all is_small (label_sets_in labels.now rows.now) }
+pub fn are_small(bodies: &Bodies) -> bool
+    ensures { result
+        ≡ list_all is_small (label_sets_in bodies.now.labels.items bodies.now.series.items) }
 {
-    for at in 0..rows.len() {
-        if !is_small(label_set_at(labels, rows, at)) {
+    for at in 0..bodies.series.len() {
+        if !is_small(label_set_at(bodies, at)) {
             return false;
         }
     }

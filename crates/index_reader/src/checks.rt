@@ -1,12 +1,13 @@
 //! All checks of an index, in their order.
 
 ghost use Rattle.std.specs.Prelude.{◌≡◌, length, IfOk};
+ghost use Rattle.index_reader.specs.AgreementChecks.{entry_references};
 ghost use Rattle.index_reader.specs.CheckedFile.{bodies_seen, read_seen, IsHeldIn, IsSound};
 ghost use Rattle.index_reader.specs.Checks.{bodies_of, postings_of, read_of, indexed, IsRead};
-ghost use Rattle.index_reader.specs.FlatBodies.{AllIn};
+ghost use Rattle.index_reader.specs.FlatBodies.{references_in_order};
 ghost use Rattle.index_reader.specs.Layout.{IsPlaced};
 ghost use Rattle.index_reader.specs.Outcome.{Gives};
-ghost use Rattle.index_reader.specs.Seen.{bytes_of, layout_seen, table_seen};
+ghost use Rattle.index_reader.specs.Seen.{bytes_of, entries_seen, layout_seen, table_seen};
 ghost use Rattle.index_reader.specs.Spelled.{IsIndex};
 
 use crate::agreement::check_agreement;
@@ -36,15 +37,15 @@ pub struct Checked<'a> {
 fn check_bodies(alloc: Global, file: &[u8], layout: &Layout<'_>) -> Result<Bodies, IndexError>
     requires { IsSound file.now layout.now }
     ensures exact { Gives bodies_seen result (bodies_of file.now (layout_seen layout.now)) }
-    ensures inside { IfOk result (λ b. AllIn b.labels.items b.chunks.items b.rows.items) }
-    ensures counted { IfOk result (λ b. length b.rows.items ≡ length layout.now.entries.items) }
+    ensures referred { IfOk result (λ b. references_in_order b.series.items
+        ≡ entry_references (entries_seen layout.now.entries.items)) }
 {
     let end = series_end(layout.contents) as usize;
     let bodies = bodies_of(alloc, &layout.symbols, &layout.entries)?;
     if !gaps_are_zero(file, layout.symbols_end, end, &layout.entries) {
         return Err(IndexError::Series);
     }
-    if !is_rising(&bodies.labels, &bodies.rows) {
+    if !is_rising(&bodies) {
         return Err(IndexError::SeriesOrder);
     }
     Ok(bodies)
@@ -82,11 +83,11 @@ pub fn check_all(alloc: Global, file: &[u8]) -> Result<Checked<'_>, IndexError>
     let bodies = check_bodies(alloc, file, &layout)?;
     let (table, lists) = postings_of(alloc, file, layout.contents)?;
     let symbols = copy_symbols(alloc, &layout.symbols)?;
-    let keys = check_agreement(alloc, &symbols, &table, &lists, &bodies, &layout.entries)?;
-    if bodies.rows.len() > MAX_SERIES {
+    let keys = check_agreement(alloc, &symbols, &table, &lists, &bodies)?;
+    if bodies.series.len() > MAX_SERIES {
         return Err(IndexError::Limit);
     }
-    if !are_small(&bodies.labels, &bodies.rows) {
+    if !are_small(&bodies) {
         return Err(IndexError::Limit);
     }
     Ok(Checked {

@@ -15,7 +15,7 @@ use crate::keys::Keys;
 use crate::lists::{Lists, copy_lists};
 use crate::pairs::{place_of_pair, value_at, value_count};
 use crate::postings::PostingsList;
-use crate::series::{Series, label_set_of, series_of};
+use crate::series::{Series, label_set_of};
 use crate::symbols::Symbols;
 use labels::{LabelSet, SeriesRef};
 use std::alloc::{AllocError, Global};
@@ -55,15 +55,14 @@ fn index_of(alloc: Global, file: &[u8]) -> Result<Index, IndexError>
     ensures consistent { IfOk result IsConsistent }
 {
     let Checked {
-        layout,
+        layout: _layout,
         bodies,
         symbols,
         keys,
         lists,
     } = check(alloc, file)?;
-    let series = series_of(alloc, &symbols, &bodies, &layout.entries)?;
     let lists = copy_lists(alloc, &lists)?;
-    let (labels, chunks) = flat_parts(bodies);
+    let (labels, chunks, series) = flat_parts(bodies);
     Ok(Index {
         symbols,
         keys,

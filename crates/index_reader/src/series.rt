@@ -1,17 +1,13 @@
-//! The series of an index, as they are kept.
+//! The series of an index, as they are kept, and their label sets.
 
-ghost use Rattle.std.specs.Prelude.{◌≡◌, ◌<◌, ◌^◌, length, slice_range, All, IfOk};
+ghost use Rattle.std.specs.Prelude.{◌≡◌, ◌<◌, length, IfOk};
 ghost use Rattle.labels.specs.LabelSets.{IsLabelSet};
 ghost use Rattle.labels.specs.Pairs.{texts_of};
-ghost use Rattle.index_reader.specs.CheckedFile.{bodies_seen, symbol_texts};
-ghost use Rattle.index_reader.specs.FlatBodies.{AllIn};
-ghost use Rattle.index_reader.specs.Indexes.{text_of, named, series_of};
-ghost use Rattle.index_reader.specs.KeptIndex.{all_in, AreInTable, AllInTable, AreWithin, AreLabelSets, of_row};
-ghost use Rattle.index_reader.specs.Seen.{entries_seen};
+ghost use Rattle.index_reader.specs.CheckedFile.{symbol_texts};
+ghost use Rattle.index_reader.specs.Indexes.{text_of, named};
+ghost use Rattle.index_reader.specs.KeptIndex.{AreInTable};
 
-use crate::bodies::{Bodies, Row, row_at};
 use crate::keys::key_in;
-use crate::series_entries::{SeriesEntry, reference_at};
 use crate::symbols::{Symbols, text_in};
 use labels::{LabelSet, SeriesRef};
 use std::alloc::{AllocError, Global};
@@ -68,48 +64,4 @@ pub fn label_set_of(
 {
     let pairs = pairs_of(alloc, symbols, labels)?;
     LabelSet::of_sorted_texts(alloc, &pairs)
-}
-
-// The series of a body.
-fn of_row(row: Row, reference: u32) -> Series
-    ensures { result ≡ of_row row reference }
-{
-    Series {
-        reference: SeriesRef::new(reference),
-        labels_start: row.labels_start,
-        labels_end: row.labels_end,
-        chunks_start: row.chunks_start,
-        chunks_end: row.chunks_end,
-    }
-}
-
-/// The series of all bodies. No label set is made.
-pub fn series_of(
-    alloc: Global,
-    symbols: &Symbols,
-    bodies: &Bodies,
-    entries: &[SeriesEntry<'_>],
-) -> Result<Vec<Series>, AllocError>
-    requires within { AllIn bodies.now.labels.items bodies.now.chunks.items bodies.now.rows.items }
-    requires inside { AllInTable (symbol_texts symbols.now)
-        bodies.now.labels.items bodies.now.rows.items }
-    requires labelled { AreLabelSets (symbol_texts symbols.now)
-        bodies.now.labels.items bodies.now.rows.items }
-    requires small { All (λ e. e.offset < 2 ^ 32) entries.now }
-    requires counted { length bodies.now.rows.items ≡ length entries.now }
-    ensures exact { IfOk result (λ v.
-        all_in (symbol_texts symbols.now) bodies.now.labels.items bodies.now.chunks.items v.items
-        ≡ series_of (symbol_texts symbols.now) (entries_seen entries.now)
-        (bodies_seen bodies.now)) }
-    ensures within { IfOk result (λ v. AreWithin (symbol_texts symbols.now)
-        bodies.now.labels.items bodies.now.chunks.items v.items) }
-{
-    let mut series = Vec::with_capacity(alloc, bodies.rows.len())?;
-    for at in 0..bodies.rows.len() {
-        let row = row_at(&bodies.rows, at);
-        let reference = reference_at(entries, at);
-        let one = of_row(row, reference);
-        series.push(one)?;
-    }
-    Ok(series)
 }

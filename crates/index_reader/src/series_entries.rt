@@ -58,6 +58,7 @@ pub fn entries_of(
     Ok(entries)
 }
 
+/// The entry at a place.
 pub fn entry_at<'a>(entries: &[SeriesEntry<'a>], i: usize) -> SeriesEntry<'a>
     requires { i < length entries.now }
     ensures seen { slice_get (entries_seen entries.now) i ≡ Some (entry_seen result) }

@@ -1,11 +1,11 @@
-use Rattle.std.proofs.Common.{refl, ◌∙◌, length, arith}
+use Rattle.std.proofs.Common.{refl, ◌∙◌, arith}
 use Rattle.std.proofs.lemmas.Result.{err_from_is_err_and}
-use Rattle.index_reader.specs.Seen.{references_in_each, entries_seen}
 use Rattle.std.specs.Prelude.{slice_range}
 use Rattle.std.proofs.lemmas.List.{length-map}
-use Rattle.index_reader.specs.declared.bodies.Row.{Row}
-use Rattle.index_reader.specs.FlatBodies.{label_sets_in}
-use Rattle.index_reader.specs.AgreementChecks.{entry_references, carriers}
+use Rattle.index_reader.specs.declared.series.Series.{Series}
+use Rattle.index_reader.specs.Seen.{references_in_each}
+use Rattle.index_reader.specs.CheckedFile.{carriers_seen}
+use Rattle.index_reader.specs.FlatBodies.{label_sets_in, references_in_order}
 use Rattle.index_reader.specs.SeriesWalk.{take_series}
 use Rattle.index_reader.proofs.Placing.{tied_at, length-tied}
 use Rattle.index_reader.proofs.Taken.{turn_on, turn_fails, turn_done}
@@ -22,29 +22,28 @@ returns-in_err-take_series c =
     let p = err_from_is_err_and c.from_residual.result c.from_residual.ensures.1 in
     rw (p.1, p.2) (turn_fails (take_series c.args.keys.now.pairs.items)
     c.in_err-take_series.field-0.0 (references_in_each c.loop-at.lists.items)
-    (carriers (entry_references (entries_seen c.args.entries.now)) (label_sets_in c.args.labels.now
-    c.args.rows.now)) c.loop-at.at _ _ (tied_at _ _ _ _ _ c.reference_at-reference.ensures
-    c.label_set_at-carried.ensures) c.in_err-take_series.ensures.exact c.loop-at.invariant.so_far)
+    (carriers_seen c.args.bodies.now) c.loop-at.at _ _ (tied_at _ _ _ _ _
+    c.reference_of-reference.ensures c.label_set_at-carried.ensures)
+    c.in_err-take_series.ensures.exact c.loop-at.invariant.so_far)
 
 pub loop-at-preserved : goal.loop-at-preserved
 loop-at-preserved c = record {
   counted = c.in_ok-take_series.ensures.counted ∙ c.loop-at.invariant.counted;
   so_far =
       turn_on (take_series c.args.keys.now.pairs.items) (references_in_each c.loop-at.lists.items) _
-      (carriers (entry_references (entries_seen c.args.entries.now))
-      (label_sets_in c.args.labels.now c.args.rows.now)) c.loop-at.at _ _
-      (tied_at _ _ _ _ _ c.reference_at-reference.ensures c.label_set_at-carried.ensures)
+      (carriers_seen c.args.bodies.now) c.loop-at.at _ _
+      (tied_at _ _ _ _ _ c.reference_of-reference.ensures c.label_set_at-carried.ensures)
       c.in_ok-take_series.ensures.exact c.loop-at.invariant.so_far;
 }
 
 pub returns : goal.returns
 returns c =
+    let b = c.args.bodies.now in
     turn_done (take_series c.args.keys.now.pairs.items) (references_in_each c.loop-at.lists.items)
-    (carriers (entry_references (entries_seen c.args.entries.now))
-    (label_sets_in c.args.labels.now c.args.rows.now)) c.loop-at.at _ (omega (
+    (carriers_seen b) c.loop-at.at _ (omega (
       arith,
-      length-tied (entry_references (entries_seen c.args.entries.now))
-          (label_sets_in c.args.labels.now c.args.rows.now),
-      length-map c.args.rows.now (λ (r : Row).
-          slice_range c.args.labels.now r.labels_start r.labels_end),
+      length-tied (references_in_order b.series.items)
+          (label_sets_in b.labels.items b.series.items),
+      length-map b.series.items (λ (s : Series).
+          slice_range b.labels.items s.labels_start s.labels_end),
     )) c.loop-at.invariant.so_far

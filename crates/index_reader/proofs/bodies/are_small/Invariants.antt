@@ -6,5 +6,5 @@ use Rattle.index_reader.proofs.bodies.are_small.Given as goal
 
 abbrev pub invariant-loop-at : goal.invariant-loop-at
 invariant-loop-at l =
-    list_all is_small (drop l.at (label_sets_in l.labels l.rows))
-    ≡ list_all is_small (label_sets_in l.labels l.rows)
+    list_all is_small (drop l.at (label_sets_in l.bodies.labels.items l.bodies.series.items))
+    ≡ list_all is_small (label_sets_in l.bodies.labels.items l.bodies.series.items)

@@ -1,7 +1,7 @@
-use Rattle.std.proofs.Common.{◌≡◌, ℕ, ◌+◌, List, [], ◌∷◌, ◌++◌, length, drop, Some, Result, Ok, sym, ap, subst, ◌∙◌, arith}
+use Rattle.std.proofs.Common.{◌≡◌, ℕ, ◌+◌, ◌/◌, List, [], ◌∷◌, ◌++◌, length, drop, Some, Result, Ok, sym, ap, subst, ◌∙◌, arith}
 use Rattle.std.specs.Prelude.{slice_get}
 use Rattle.std.proofs.lemmas.Result.{err_from_is_err_and}
-use Rattle.std.proofs.lemmas.List.{length-map, length_push}
+use Rattle.std.proofs.lemmas.List.{length-map, map_push}
 use Rattle.index_reader.specs.declared.error.IndexError.{IndexError}
 use Rattle.index_reader.specs.Layout.{SeriesEntry, Label, Body}
 use Rattle.index_reader.specs.Seen.{bytes_of, entry_seen, entries_seen}
@@ -9,21 +9,30 @@ use Rattle.index_reader.specs.declared.chunk.Chunk.{Chunk}
 use Rattle.index_reader.specs.BodyChecks.{body_at, behind_both}
 use Rattle.index_reader.specs.Steps.{each, behind_items}
 use Rattle.index_reader.proofs.Eaches.{each_on, each_fails, each_done}
-use Rattle.index_reader.specs.declared.bodies.Row.{Row}
-use Rattle.index_reader.specs.FlatBodies.{bodies_in, AllIn, body_of_entry}
+use Rattle.index_reader.specs.declared.series.Series.{Series}
+use Rattle.index_reader.specs.FlatBodies.{bodies_in, AllIn, body_of_entry, references_in_order}
+use Rattle.index_reader.specs.AgreementChecks.{entry_references}
+use Rattle.index_reader.proofs.Held.{moved_on, ended_so}
 use Rattle.index_reader.proofs.Growth.{both_ok, both_fails, bodies_added, all_added}
 use Rattle.index_reader.proofs.bodies.bodies_of.Goals as goal
 
 record IsOn (symbols : List (List ℕ)) (ps : List SeriesEntry) (at : ℕ) (ls : List Label)
-    (cs : List Chunk) (rs : List Row) (total : Result (List Body) IndexError) : Type 0 where
+    (cs : List Chunk) (rs : List Series) (total : Result (List Body) IndexError) : Type 0 where
   inside : AllIn ls cs rs
   so_far : behind_items (bodies_in ls cs rs) (each (body_of_entry symbols) (drop at ps)) ≡ total
 
-one_longer : (rs rs' : List Row) (r : Row) → rs' ≡ rs ++ r ∷ [] → length rs' ≡ length rs + 1
-one_longer rs rs' r pushed = rw pushed (length_push rs r)
+referred_on : (refs : List ℕ) (at reference : ℕ) (ss ss' : List Series) (s : Series)
+    → slice_get refs at ≡ Some reference → s.reference ≡ reference → ss' ≡ ss ++ s ∷ []
+    → references_in_order ss ++ drop at refs ≡ refs
+    → references_in_order ss' ++ drop (at + 1) refs ≡ refs
+referred_on refs at reference ss ss' s g e pushed so_far =
+    ap (λ (xs : List Series). references_in_order xs ++ drop (at + 1) refs) pushed
+    ∙ ap (λ (front : List ℕ). front ++ drop (at + 1) refs)
+    (map_push (λ (x : Series). x.reference) ss s)
+    ∙ moved_on (references_in_order ss) refs at reference s.reference g e so_far
 
 with_body : (symbols : List (List ℕ)) (ps : List SeriesEntry) (at : ℕ) (p : SeriesEntry)
-    (ls ls' : List Label) (cs cs' : List Chunk) (rs rs' : List Row) (r : Row) (b : Body)
+    (ls ls' : List Label) (cs cs' : List Chunk) (rs rs' : List Series) (r : Series) (b : Body)
     (total : Result (List Body) IndexError)
     → AllIn ls cs rs
     → behind_items (bodies_in ls cs rs) (each (body_of_entry symbols) (drop at ps)) ≡ total
@@ -54,7 +63,7 @@ with_body symbols ps at p ls ls' cs cs' rs rs' r b total inside so_far g read gr
     }
 
 one_more : (symbols : List (List ℕ)) (ps : List SeriesEntry) (at : ℕ) (p : SeriesEntry)
-    (ls ls' : List Label) (cs cs' : List Chunk) (rs rs' : List Row) (r : Row)
+    (ls ls' : List Label) (cs cs' : List Chunk) (rs rs' : List Series) (r : Series)
     (total : Result (List Body) IndexError)
     → AllIn ls cs rs
     → behind_items (bodies_in ls cs rs) (each (body_of_entry symbols) (drop at ps)) ≡ total
@@ -73,7 +82,7 @@ returns-in_err-body_into-clause-exact c =
     c.from_residual-in_err-body_into.ensures.1 in
     rw (p.1, p.2) (each_fails (body_of_entry (bytes_of c.args.symbols.now))
     c.in_err-body_into.field-0.0 (entries_seen c.args.entries.now) c.loop-at.at _
-    (bodies_in c.loop-at.labels.items c.loop-at.chunks.items c.loop-at.rows.items) _
+    (bodies_in c.loop-at.labels.items c.loop-at.chunks.items c.loop-at.series.items) _
     c.entry_at-entry.ensures.seen (both_fails c.in_err-body_into.field-0.0 _ _ _
     c.in_err-body_into.ensures) c.loop-at.invariant.so_far)
 
@@ -87,13 +96,24 @@ loop-at-preserved c =
     record {
       inside = m.inside;
       so_far = m.so_far;
-      counted =
-          one_longer c.loop-at.rows.items _ _ c.in_ok-push.ensures.items
-          ∙ ap (λ (n : ℕ). n + 1) c.loop-at.invariant.counted;
+      referred =
+          referred_on (entry_references (entries_seen c.args.entries.now)) c.loop-at.at _
+          c.loop-at.series.items _ _ c.reference_at-reference.ensures (omega arith)
+          c.in_ok-push.ensures.items c.loop-at.invariant.referred;
     }
 
 pub returns-clause-exact : goal.returns-clause-exact
 returns-clause-exact c =
     each_done (body_of_entry (bytes_of c.args.symbols.now)) (entries_seen c.args.entries.now)
-    c.loop-at.at (bodies_in c.loop-at.labels.items c.loop-at.chunks.items c.loop-at.rows.items) _
+    c.loop-at.at (bodies_in c.loop-at.labels.items c.loop-at.chunks.items c.loop-at.series.items) _
     (omega (arith, length-map c.args.entries.now entry_seen)) c.loop-at.invariant.so_far
+
+pub returns-clause-referred : goal.returns-clause-referred
+returns-clause-referred c =
+    let entries = entries_seen c.args.entries.now in
+    ended_so (references_in_order c.loop-at.series.items) (entry_references entries) c.loop-at.at
+    (omega (
+      arith,
+      length-map entries (λ (p : SeriesEntry). p.offset / 16),
+      length-map c.args.entries.now entry_seen,
+    )) c.loop-at.invariant.referred

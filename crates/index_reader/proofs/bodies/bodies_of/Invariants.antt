@@ -1,14 +1,17 @@
-use Rattle.std.proofs.Common.{◌≡◌, drop, length}
+use Rattle.std.proofs.Common.{◌≡◌, ◌++◌, drop}
 use Rattle.index_reader.specs.Seen.{bytes_of, entries_seen}
 use Rattle.index_reader.specs.Steps.{each, behind_items}
-use Rattle.index_reader.specs.FlatBodies.{bodies_in, AllIn, body_of_entry}
+use Rattle.index_reader.specs.FlatBodies.{bodies_in, AllIn, body_of_entry, references_in_order}
+use Rattle.index_reader.specs.AgreementChecks.{entry_references}
 use Rattle.index_reader.proofs.bodies.bodies_of.Given as goal
 
 abbrev pub invariant-loop-at : goal.invariant-loop-at
 invariant-loop-at l = record {
-  inside : AllIn l.labels.items l.chunks.items l.rows.items;
-  counted : length l.rows.items ≡ l.at;
-  so_far : behind_items (bodies_in l.labels.items l.chunks.items l.rows.items)
+  inside : AllIn l.labels.items l.chunks.items l.series.items;
+  referred : references_in_order l.series.items
+      ++ drop l.at (entry_references (entries_seen l.entries))
+      ≡ entry_references (entries_seen l.entries);
+  so_far : behind_items (bodies_in l.labels.items l.chunks.items l.series.items)
       (each (body_of_entry (bytes_of l.symbols)) (drop l.at (entries_seen l.entries)))
       ≡ each (body_of_entry (bytes_of l.symbols)) (entries_seen l.entries);
 }

@@ -2,22 +2,24 @@ use Rattle.std.proofs.Common.{◌≡◌, ◌+◌, ◌-◌, sym, arith}
 use Rattle.std.specs.Prelude.{slice_range}
 use Rattle.std.proofs.lemmas.List.{length-map}
 use Rattle.index_reader.proofs.Rising.{next, at_end}
-use Rattle.index_reader.specs.declared.bodies.Row.{Row}
+use Rattle.index_reader.specs.declared.series.Series.{Series}
 use Rattle.index_reader.specs.FlatBodies.{labels_before, label_sets_in}
 use Rattle.index_reader.proofs.bodies.is_rising.Goals as goal
 
 pub returns-then-not-is_before : goal.returns-then-not-is_before
 returns-then-not-is_before c =
+    let b = c.args.bodies.now in
     let n =
-    next labels_before (label_sets_in c.args.labels.now c.args.rows.now) c.loop-at.at _ _
+    next labels_before (label_sets_in b.labels.items b.series.items) c.loop-at.at _ _
     c.is_before.result _ c.loop-at.invariant.0 c.label_set_at.ensures
     c.label_set_at-in-loop-at.ensures c.is_before.ensures c.loop-at.invariant.1 in
     sym (rw c.if-not-is_before.true at n)
 
 pub loop-at-preserved : goal.loop-at-preserved
 loop-at-preserved c =
+    let b = c.args.bodies.now in
     let n =
-    next labels_before (label_sets_in c.args.labels.now c.args.rows.now) c.loop-at.at _ _
+    next labels_before (label_sets_in b.labels.items b.series.items) c.loop-at.at _ _
     c.is_before.result _ c.loop-at.invariant.0 c.label_set_at.ensures
     c.label_set_at-in-loop-at.ensures c.is_before.ensures c.loop-at.invariant.1 in
     let e : c.loop-at.at + 1 - 1 ≡ c.loop-at.at = omega arith in
@@ -25,8 +27,9 @@ loop-at-preserved c =
 
 pub returns : goal.returns
 returns c =
-    at_end labels_before (label_sets_in c.args.labels.now c.args.rows.now) c.loop-at.at _ (omega (
+    let b = c.args.bodies.now in
+    at_end labels_before (label_sets_in b.labels.items b.series.items) c.loop-at.at _ (omega (
       arith,
-      length-map c.args.rows.now (λ (r : Row).
-          slice_range c.args.labels.now r.labels_start r.labels_end),
+      length-map b.series.items (λ (r : Series).
+          slice_range b.labels.items r.labels_start r.labels_end),
     )) c.loop-at.invariant.1

@@ -1,51 +1,50 @@
 use Rattle.std.proofs.Common.{subst}
 use Rattle.std.proofs.lemmas.Result.{err_from_is_err_and}
+use Rattle.index_reader.specs.Indexes.{IsConsistent}
 use Rattle.index_reader.specs.Spelled.{IsIndex}
-use Rattle.index_reader.proofs.Held.{err_fails, exact_is, rows_inside, rows_labelled, lists_whole, whole_is, is_kept}
+use Rattle.index_reader.proofs.Held.{err_fails, exact_is, lists_whole, whole_is, is_kept}
 use Rattle.index_reader.proofs.index.index_of.Goals as goal
 
-pub returns-in_err-layout-clause-exact : goal.returns-in_err-layout-clause-exact
-returns-in_err-layout-clause-exact c =
+pub returns-in_err-_layout-clause-exact : goal.returns-in_err-_layout-clause-exact
+returns-in_err-_layout-clause-exact c =
     let p = err_from_is_err_and c.from_residual.result c.from_residual.ensures.1 in
     rw (p.1, p.2)
-    (err_fails c.args.file.now c.in_err-layout.field-0.0 c.in_err-layout.ensures.exact)
-
-pub series_of-requires-clause-inside : goal.series_of-requires-clause-inside
-series_of-requires-clause-inside c =
-    rows_inside c.args.file.now c.in_ok-layout.field-0 c.in_ok-layout.ensures.held
-    c.in_ok-layout.ensures.read
-
-pub series_of-requires-clause-labelled : goal.series_of-requires-clause-labelled
-series_of-requires-clause-labelled c =
-    rows_labelled c.args.file.now c.in_ok-layout.field-0 c.in_ok-layout.ensures.held
-    c.in_ok-layout.ensures.read
+    (err_fails c.args.file.now c.in_err-_layout.field-0.0 c.in_err-_layout.ensures.exact)
 
 pub copy_lists-requires : goal.copy_lists-requires
 copy_lists-requires c =
-    rw c.deref-2.ensures.value (lists_whole c.in_ok-layout.field-0 c.in_ok-layout.ensures.read)
+    rw c.deref.ensures.value (lists_whole c.in_ok-_layout.field-0 c.in_ok-_layout.ensures.read)
 
 pub returns-clause-exact : goal.returns-clause-exact
 returns-clause-exact c =
-    let k = c.in_ok-layout in
+    let k = c.in_ok-_layout in
     exact_is c.args.file.now k.field-0 _ k.ensures.exact (whole_is c.args.file.now k.field-0
     c.flat_parts-labels.result.0.items c.flat_parts-labels.result.1.items
-    c.in_ok-series.series.items k.ensures.held c.flat_parts-labels.ensures.0
-    c.flat_parts-labels.ensures.1 (rw c.deref.ensures.value at c.in_ok-series.ensures.exact))
+    c.flat_parts-labels.result.2.items k.ensures.held c.flat_parts-labels.ensures.labels
+    c.flat_parts-labels.ensures.chunks c.flat_parts-labels.ensures.series)
 
 pub returns-clause-found : goal.returns-clause-found
 returns-clause-found c =
-    let k = c.in_ok-layout in
+    let k = c.in_ok-_layout in
     subst (IsIndex c.args.file.now) (whole_is c.args.file.now k.field-0
     c.flat_parts-labels.result.0.items c.flat_parts-labels.result.1.items
-    c.in_ok-series.series.items k.ensures.held c.flat_parts-labels.ensures.0
-    c.flat_parts-labels.ensures.1 (rw c.deref.ensures.value at c.in_ok-series.ensures.exact))
+    c.flat_parts-labels.result.2.items k.ensures.held c.flat_parts-labels.ensures.labels
+    c.flat_parts-labels.ensures.chunks c.flat_parts-labels.ensures.series)
     k.ensures.spelled
+
+pub returns-clause-consistent : goal.returns-clause-consistent
+returns-clause-consistent c =
+    let k = c.in_ok-_layout in
+    subst IsConsistent (whole_is c.args.file.now k.field-0 c.flat_parts-labels.result.0.items
+    c.flat_parts-labels.result.1.items c.flat_parts-labels.result.2.items k.ensures.held
+    c.flat_parts-labels.ensures.labels c.flat_parts-labels.ensures.chunks
+    c.flat_parts-labels.ensures.series) k.ensures.read.consistent
 
 pub invariant_of-result : goal.invariant_of-result
 invariant_of-result c =
-    let k = c.in_ok-layout in
+    let k = c.in_ok-_layout in
     is_kept c.args.file.now k.field-0 c.flat_parts-labels.result.0.items
-    c.flat_parts-labels.result.1.items c.in_ok-series.series.items c.in_ok-lists.lists
-    k.ensures.held k.ensures.read c.flat_parts-labels.ensures.0 c.flat_parts-labels.ensures.1
-    c.in_ok-series.ensures.within (rw c.deref.ensures.value at c.in_ok-series.ensures.exact)
-    (rw c.deref-2.ensures.value at c.in_ok-lists.ensures)
+    c.flat_parts-labels.result.1.items c.flat_parts-labels.result.2.items c.in_ok-lists.lists
+    k.ensures.held k.ensures.read c.flat_parts-labels.ensures.labels
+    c.flat_parts-labels.ensures.chunks c.flat_parts-labels.ensures.series
+    (rw c.deref.ensures.value at c.in_ok-lists.ensures)
