@@ -1,12 +1,17 @@
--- Binary search finds the first that compares as equal.
-use Rattle.std.proofs.Common.{◌≡◌, ℕ, zero, suc, ◌+◌, ◌<◌, ◌≤◌, Bool, true, false, ◌&&◌, List, [], ◌∷◌, Some, None, refl, sym, ap, ◌∙◌, inl, inr, arith}
+-- Binary search finds the one that compares as equal.
+use Rattle.std.proofs.Common.{◌≡◌, ℕ, zero, suc, ◌<◌, ◌≤◌, Bool, true, false, ◌&&◌, List, [], ◌∷◌, length, get_or, map, Result, Ok, Err, Some, None, refl, sym, ap, ◌∙◌, inl, inr, arith}
 use Rattle.std.specs.Prelude.{slice_get}
-use Rattle.std.specs.Ordering.{is_lt, is_eq, ordering_reverse}
+use Rattle.std.specs.List.{AllWithin}
+use Rattle.std.specs.List.Sorted.{IsSearchInRange, IsBinarySearchResult, IsNonDecreasingBy}
+use Rattle.std.specs.Result.{result_ok}
+use Rattle.std.specs.Ordering.{is_lt, is_eq, ordering_index}
 use Rattle.std.specs.declared.cmp.Ordering.{Ordering}
 use Rattle.std.specs.declared.cmp.Ordering.TheVariants.{Less, Equal, Greater}
 use Rattle.std.specs.Cmp.{IsTotalOrder}
 use Rattle.std.proofs.lemmas.Bool.{cases_lt}
 use Rattle.std.proofs.lemmas.Cmp.{alike_right, nat_cmp_total, on_total, then_total}
+use Rattle.std.proofs.lemmas.List.{length-map}
+use Rattle.std.proofs.lemmas.Option.{slice_get_past}
 use Rattle.labels.specs.Labels.{text_cmp}
 use Rattle.index_reader.specs.Layout.{rises, Label, ascending, is_less}
 use Rattle.index_reader.specs.Lookups.{index_of, key_cmp}
@@ -70,35 +75,6 @@ ascending_is [] = refl
 ascending_is (x ∷ []) = refl
 ascending_is (x ∷ y ∷ xs) = ap (λ (b : Bool). is_less x y && b) (ascending_is (y ∷ xs))
 
-same_place : {X : Type 0} (xs : List X) (k m : ℕ) (a x : X) → k ≡ m → slice_get xs k ≡ Some a
-    → slice_get xs m ≡ Some x → a ≡ x
-same_place xs k m a x e g g' = let h : slice_get xs k ≡ slice_get xs m = ap (slice_get xs) e in cc
-
-pub below_middle : {X : Type 0} (cmp : X → X → Ordering) → IsTotalOrder cmp
-    → (xs : List X) (t x : X) (m : ℕ) → Strict cmp xs → slice_get xs m ≡ Some x → cmp x t ≡ Less
-    → (k : ℕ) (a : X) → k < m + 1 → slice_get xs k ≡ Some a → cmp a t ≡ Less
-below_middle cmp total xs t x m strict g e k a lt g' =
-    elim (cases_lt k m) [
-      | inl below ↦ total.trans a x t (strict k m a x below g' g) e
-      | inr from ↦
-          let same : a ≡ x = same_place xs k m a x (omega arith) g' g in
-          rw same e
-    ]
-
-pub above_middle : {X : Type 0} (cmp : X → X → Ordering) → IsTotalOrder cmp
-    → (xs : List X) (t x : X) (m : ℕ) → Strict cmp xs → slice_get xs m ≡ Some x → cmp x t ≡ Greater
-    → (k : ℕ) (a : X) → m ≤ k → slice_get xs k ≡ Some a → cmp a t ≡ Greater
-above_middle cmp total xs t x m strict g e k a le g' =
-    elim (cases_lt m k) [
-      | inl above ↦
-          let one : cmp t x ≡ Less = total.antisymm t x ∙ ap ordering_reverse e in
-          let two : cmp t a ≡ Less = total.trans t x a one (strict m k x a above g g') in
-          total.antisymm a t ∙ ap ordering_reverse two
-      | inr to ↦
-          let same : a ≡ x = same_place xs k m a x (omega arith) g' g in
-          rw same e
-    ]
-
 before_equal : {X : Type 0} (cmp : X → X → Ordering) → IsTotalOrder cmp
     → (xs : List X) (t x : X) (m : ℕ) → Strict cmp xs → slice_get xs m ≡ Some x → cmp x t ≡ Equal
     → (k : ℕ) (a : X) → k < m → slice_get xs k ≡ Some a → cmp a t ≡ Less
@@ -130,13 +106,84 @@ search_found cmp total xs t x m strict g e =
     index_found (λ a. is_eq (cmp a t)) xs m x g (ap is_eq e) (λ k a lt g'.
     ap is_eq (before_equal cmp total xs t x m strict g e k a lt g'))
 
-pub search_none : {X : Type 0} (cmp : X → X → Ordering) (xs : List X) (t : X) (low high : ℕ)
-    → high ≤ low → ((k : ℕ) (a : X) → k < low → slice_get xs k ≡ Some a → cmp a t ≡ Less)
-    → ((k : ℕ) (a : X) → high ≤ k → slice_get xs k ≡ Some a → cmp a t ≡ Greater)
+search_none : {X : Type 0} (cmp : X → X → Ordering) (xs : List X) (t : X) (i : ℕ)
+    → ((k : ℕ) (a : X) → k < i → slice_get xs k ≡ Some a → cmp a t ≡ Less)
+    → ((k : ℕ) (a : X) → i ≤ k → slice_get xs k ≡ Some a → cmp a t ≡ Greater)
     → index_of (λ a. is_eq (cmp a t)) xs ≡ None
-search_none cmp xs t low high le below above =
+search_none cmp xs t i below above =
     index_none (λ a. is_eq (cmp a t)) xs (λ k a g.
-    elim (cases_lt k low) [
+    elim (cases_lt k i) [
       | inl lt ↦ ap is_eq (below k a lt g)
-      | inr from ↦ ap is_eq (above k a (omega arith) g)
+      | inr from ↦ ap is_eq (above k a from g)
     ])
+
+at_most_two : (o : Ordering) → ordering_index o ≤ 2
+at_most_two Less = omega arith
+at_most_two Equal = omega arith
+at_most_two Greater = omega arith
+
+module _ {E X : Type 0} (f : E → X) (cmp : X → X → Ordering) (total : IsTotalOrder cmp) (t : X) where
+  stands : (xs : List E) (i : ℕ) (d : E) → i < length xs
+      → slice_get (map f xs) i ≡ Some (f (get_or xs i d))
+  stands [] i d lt = absurd (omega arith)
+  stands (x ∷ xs) zero d lt = refl
+  stands (x ∷ xs) (suc i) d lt = stands xs i d (omega arith)
+
+  climbs : (a b : X) (o : Ordering) → cmp a b ≡ Less → cmp b t ≡ o
+      → ordering_index (cmp a t) ≤ ordering_index o
+  climbs a b Less less e = rw (total.trans a b t less e) (omega arith)
+  climbs a b Equal less e = rw (sym (alike_right total b t a e) ∙ less) (omega arith)
+  climbs a b Greater less e = at_most_two (cmp a t)
+
+  rise : (xs : List E) → Strict cmp (map f xs)
+      → IsNonDecreasingBy (λ y. ordering_index (cmp (f y) t)) xs
+  rise xs strict i j d le lt =
+      elim (cases_lt i j) [
+        | inl below ↦
+            let a : E = get_or xs i d in
+            let b : E = get_or xs j d in
+            let less : cmp (f a) (f b) ≡ Less =
+            strict i j (f a) (f b) below (stands xs i d (omega arith)) (stands xs j d lt) in
+            climbs (f a) (f b) (cmp (f b) t) less refl
+        | inr from ↦
+            let same : i ≡ j = omega arith in
+            let e = ap (λ k. ordering_index (cmp (f (get_or xs k d)) t)) same in
+            omega (arith, e)
+      ]
+
+  below_place : (x : E) (xs : List E) (i : ℕ) → i ≤ length xs
+      → AllWithin (λ y. cmp (f y) t ≡ Less) xs 0 i
+      → (k : ℕ) (a : X) → k < i → slice_get (map f xs) k ≡ Some a → cmp a t ≡ Less
+  below_place x xs i within less k a lt g =
+      let s : slice_get (map f xs) k ≡ Some (f (get_or xs k x)) = stands xs k x (omega arith) in
+      let e : a ≡ f (get_or xs k x) = cc in
+      rw e (less k x (omega arith) lt)
+
+  above_place : (x : E) (xs : List E) (i : ℕ)
+      → AllWithin (λ y. cmp (f y) t ≡ Greater) xs i (length xs)
+      → (k : ℕ) (a : X) → i ≤ k → slice_get (map f xs) k ≡ Some a → cmp a t ≡ Greater
+  above_place x xs i more k a from g =
+      elim (cases_lt k (length xs)) [
+        | inl lt ↦
+            let s : slice_get (map f xs) k ≡ Some (f (get_or xs k x)) = stands xs k x lt in
+            let e : a ≡ f (get_or xs k x) = cc in
+            rw e (more k x from lt)
+        | inr past ↦
+            let n = length-map xs f in
+            let none = slice_get_past (map f xs) k (omega (arith, n)) in
+            absurd cc
+      ]
+
+  -- what std's search answers is the place of the first that compares as equal
+  pub search_is : (xs : List E) (r : Result ℕ ℕ) → Strict cmp (map f xs)
+      → IsSearchInRange r (length xs) → IsBinarySearchResult (λ y. cmp (f y) t) xs r
+      → result_ok r ≡ index_of (λ a. is_eq (cmp a t)) (map f xs)
+  search_is [] (Ok i) strict range is = absurd (omega (arith, range))
+  search_is [] (Err i) strict range is = sym (index_none (λ a. is_eq (cmp a t)) [] (λ k a g. absurd cc))
+  search_is (x ∷ xs) (Ok i) strict range is =
+      sym (search_found cmp total (map f (x ∷ xs)) t (f (get_or (x ∷ xs) i x)) i strict
+      (stands (x ∷ xs) i x range) (is x))
+  search_is (x ∷ xs) (Err i) strict range is =
+      let parts = is (rise (x ∷ xs) strict) in
+      sym (search_none cmp (map f (x ∷ xs)) t i
+      (below_place x (x ∷ xs) i range parts.0) (above_place x (x ∷ xs) i parts.1))

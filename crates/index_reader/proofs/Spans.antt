@@ -1,12 +1,14 @@
 -- Where the pair of a name and a value, and the pairs of a name, stand.
-use Rattle.std.proofs.Common.{◌≡◌, ℕ, zero, suc, ◌+◌, ◌-◌, ◌<◌, ◌≤◌, Bool, true, false, cond, List, [], ◌∷◌, length, get_or, take, drop, Option, Some, None, refl, sym, ap, ◌∙◌, inl, inr, arith}
+use Rattle.std.proofs.Common.{◌≡◌, ℕ, zero, suc, ◌+◌, ◌-◌, ◌<◌, ◌≤◌, Bool, true, false, cond, ltb, List, [], ◌∷◌, length, get_or, take, drop, Option, Some, None, refl, sym, ap, ◌∙◌, inl, inr, arith}
 use Rattle.std.specs.Prelude.{slice_get, slice_range, map, IfSome, IfNone}
+use Rattle.std.specs.List.Sorted.{IsPartitionedBy}
 use Rattle.std.specs.Str.{bytes_eq}
 use Rattle.std.specs.Ordering.{nat_cmp, ordering_then, is_eq}
 use Rattle.std.specs.declared.cmp.Ordering.TheVariants.{Less, Greater}
 use Rattle.std.specs.Cmp.Lexicographic.{texts_ties}
 use Rattle.std.proofs.lemmas.Bool.{cases_lt, cases_eq}
 use Rattle.std.proofs.lemmas.List.{length-map, length-take, length-drop, get_or-take, get_or-drop}
+use Rattle.std.proofs.lemmas.List.Sorted.{IsPartitionedBy-ltb, IsNonDecreasingBy-from_default}
 use Rattle.labels.specs.Labels.{text_cmp}
 use Rattle.labels.proofs.Texts.{bytes_exact, bytes_self}
 use Rattle.index_reader.specs.Layout.{ascending, Label, rises}
@@ -155,19 +157,11 @@ names_rise keys i j rising le lt =
           omega (arith, s)
     ]
 
-pub below_so : (keys : List Label) (m name : ℕ) (key : Label) → rises key_before keys ≡ true
-    → slice_get keys m ≡ Some key → m < length keys → key.0 < name → (k : ℕ) → k < m + 1
-    → (get_or keys k (0, 0)).0 < name
-below_so keys m name key rising g inside lt k l =
-    let e = ap (λ (x : Label). x.0) (got keys m key (0, 0) g) in
-    omega (arith, e, lt, names_rise keys k m rising (omega arith) inside)
-
-pub above_so : (keys : List Label) (m name : ℕ) (key : Label) → rises key_before keys ≡ true
-    → slice_get keys m ≡ Some key → name ≤ key.0 → (k : ℕ) → m ≤ k → k < length keys
-    → name ≤ (get_or keys k (0, 0)).0
-above_so keys m name key rising g le k l inside =
-    let e = ap (λ (x : Label). x.0) (got keys m key (0, 0) g) in
-    omega (arith, e, le, names_rise keys m k rising l inside)
+pub parted_by_name : (keys : List Label) (name : ℕ) → rises key_before keys ≡ true
+    → IsPartitionedBy (λ (k : Label). ltb k.0 name) keys
+parted_by_name keys name rising =
+    IsPartitionedBy-ltb (λ (k : Label). k.0) keys name
+    (IsNonDecreasingBy-from_default (λ (k : Label). k.0) keys (0, 0) (λ i j le lt. names_rise keys i j rising le lt))
 
 -- ---- the values of a name
 

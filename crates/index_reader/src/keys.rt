@@ -41,17 +41,7 @@ pub fn place_of(keys: &Keys, key: (u32, u32)) -> Option<usize>
     ensures exact { result ≡ place_of keys.now.pairs.items key }
     ensures within { IfSome result (λ i. i < length keys.now.pairs.items) }
 {
-    let mut low = 0;
-    let mut high = keys.pairs.len();
-    while low < high {
-        let middle = low + (high - low) / 2;
-        match key_cmp(pair_at(keys, middle), key) {
-            Ordering::Less => low = middle + 1,
-            Ordering::Equal => return Some(middle),
-            Ordering::Greater => high = middle,
-        }
-    }
-    None
+    keys.pairs.binary_search(&key).ok()
 }
 
 /// For each symbol the place of a pair whose value it is, where there is one: the first place to
@@ -112,16 +102,5 @@ pub fn count_below(keys: &Keys, name: u64) -> usize
     ensures above { (k : ℕ) → result ≤ k → k < length keys.now.pairs.items
         → name ≤ (get_or keys.now.pairs.items k (0, 0)).0 }
 {
-    let mut low = 0;
-    let mut high = keys.pairs.len();
-    while low < high {
-        let middle = low + (high - low) / 2;
-        let symbol = u64::from(pair_at(keys, middle).0);
-        if symbol < name {
-            low = middle + 1;
-        } else {
-            high = middle;
-        }
-    }
-    low
+    keys.pairs.partition_point(|pair| u64::from(pair.0) < name)
 }

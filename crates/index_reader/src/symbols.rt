@@ -146,17 +146,10 @@ pub fn find_symbol(symbols: &Symbols, text: &[u8]) -> Option<usize>
     ensures exact { result ≡ symbol_of (strings_of symbols.now.texts.items) text.now }
     ensures within { IfSome result (λ i. i < length symbols.now.texts.items) }
 {
-    let mut low = 0;
-    let mut high = symbols.texts.len();
-    while low < high {
-        let middle = low + (high - low) / 2;
-        match bytes_at(symbols, middle).cmp(text) {
-            Ordering::Less => low = middle + 1,
-            Ordering::Equal => return Some(middle),
-            Ordering::Greater => high = middle,
-        }
-    }
-    None
+    symbols
+        .texts
+        .binary_search_by(|symbol| symbol.as_bytes().cmp(text))
+        .ok()
 }
 
 /// The same as [`find_symbol`], where the symbol at a place is looked at first.
