@@ -35,12 +35,8 @@ fn label_of<'a>(
         (label_at (bytes_of symbols.now) (low, bytes.now)) }
 {
     let mut cut = Cut::new(bytes);
-    let Ok(name) = cut.uvarint() else {
-        return Err(IndexError::Series);
-    };
-    let Ok(value) = cut.uvarint() else {
-        return Err(IndexError::Series);
-    };
+    let name = cut.uvarint().or(Err(IndexError::Series))?;
+    let value = cut.uvarint().or(Err(IndexError::Series))?;
     if !is_label(symbols, low, name, value) {
         return Err(IndexError::Series);
     }
@@ -81,9 +77,7 @@ pub fn labels_into<'a>(
         (with_front labels.old.items (labels_at (bytes_of symbols.now) bytes.now)) }
 {
     let mut cut = Cut::new(bytes);
-    let Ok(count) = cut.uvarint() else {
-        return Err(IndexError::Series);
-    };
+    let count = cut.uvarint().or(Err(IndexError::Series))?;
     more_labels(symbols, count, cut.rest(), labels)
 }
 
@@ -130,9 +124,7 @@ pub fn chunks_into<'a>(
         (with_front chunks.old.items (chunks_at bytes.now)) }
 {
     let mut cut = Cut::new(bytes);
-    let Ok(count) = cut.uvarint() else {
-        return Err(IndexError::Series);
-    };
+    let count = cut.uvarint().or(Err(IndexError::Series))?;
     if count == 0 {
         return Err(IndexError::Series);
     }

@@ -138,12 +138,8 @@ pub fn checked_of(len: u64, bytes: &[u8], fault: IndexError) -> Result<(&[u8], &
     ensures { Gives (λ x. (x.0.now, x.1.now)) result (checked_at fault (len, bytes.now)) }
 {
     let mut cut = Cut::new(bytes);
-    let Ok(content) = cut.bytes(len as usize) else {
-        return Err(fault);
-    };
-    let Ok(sum) = cut.be32() else {
-        return Err(fault);
-    };
+    let content = cut.bytes(len as usize).or(Err(fault))?;
+    let sum = cut.be32().or(Err(fault))?;
     if sum != crc32c(content) {
         return Err(fault);
     }
@@ -156,9 +152,7 @@ pub fn frame_of(bytes: &[u8], fault: IndexError) -> Result<(&[u8], &[u8]), Index
     ensures { Gives (λ x. (x.0.now, x.1.now)) result (frame_at fault bytes.now) }
 {
     let mut cut = Cut::new(bytes);
-    let Ok(len) = cut.be32() else {
-        return Err(fault);
-    };
+    let len = cut.be32().or(Err(fault))?;
     checked_of(u64::from(len), cut.rest(), fault)
 }
 

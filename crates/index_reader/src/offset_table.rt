@@ -23,62 +23,44 @@ pub struct TableEntry<'a> {
 }
 
 #[tactic(auto, unfolding(crate::specs::TableChecks::text_at))]
-fn read_text(bytes: &[u8]) -> Result<(&[u8], &[u8]), IndexError>
-    ensures { Gives (λ x. (x.0.now, x.1.now)) result (text_at bytes.now) }
+fn read_text<'a>(cut: &mut Cut<'a>) -> Result<&'a [u8], IndexError>
+    ensures { Gives (λ x. (x.now, cut.new)) result (text_at cut.old) }
 {
-    let mut cut = Cut::new(bytes);
-    let Ok(len) = cut.uvarint() else {
-        return Err(IndexError::Offsets);
-    };
-    let Ok(text) = cut.bytes(len as usize) else {
-        return Err(IndexError::Offsets);
-    };
-    Ok((text, cut.rest()))
+    let len = cut.uvarint().or(Err(IndexError::Offsets))?;
+    cut.bytes(len as usize).or(Err(IndexError::Offsets))
 }
 
 #[tactic(auto, unfolding(crate::specs::TableChecks::table_entry_at))]
-fn read_entry(bytes: &[u8]) -> Result<(TableEntry<'_>, &[u8]), IndexError>
-    ensures { Gives (λ x. (table_entry_seen x.0, x.1.now)) result (table_entry_at bytes.now) }
+fn read_entry<'a>(cut: &mut Cut<'a>) -> Result<TableEntry<'a>, IndexError>
+    ensures { Gives (λ x. (table_entry_seen x, cut.new)) result (table_entry_at cut.old) }
 {
-    let mut cut = Cut::new(bytes);
-    let Ok(tag) = cut.u8() else {
-        return Err(IndexError::Offsets);
-    };
+    let tag = cut.u8().or(Err(IndexError::Offsets))?;
     if tag != 2 {
         return Err(IndexError::Offsets);
     }
-    let (name, rest) = read_text(cut.rest())?;
-    let (value, rest) = read_text(rest)?;
-    let mut cut = Cut::new(rest);
-    let Ok(offset) = cut.uvarint() else {
-        return Err(IndexError::Offsets);
-    };
-    Ok((
-        TableEntry {
-            name,
-            value,
-            offset,
-        },
-        cut.rest(),
-    ))
+    let name = read_text(cut)?;
+    let value = read_text(cut)?;
+    let offset = cut.uvarint().or(Err(IndexError::Offsets))?;
+    Ok(TableEntry {
+        name,
+        value,
+        offset,
+    })
 }
 
-fn read_entries(
+fn read_entries<'a>(
     alloc: Global,
     count: u32,
-    bytes: &[u8],
-) -> Result<(Vec<TableEntry<'_>>, &[u8]), IndexError>
-    ensures { Gives (λ x. (table_seen x.0.items, x.1.now)) result
-        (steps table_entry_at count bytes.now) }
+    cut: &mut Cut<'a>,
+) -> Result<Vec<TableEntry<'a>>, IndexError>
+    ensures { Gives (λ v. (table_seen v.items, cut.new)) result
+        (steps table_entry_at count cut.old) }
 {
     let mut table = Vec::new(alloc);
-    let mut rest = bytes;
     for _ in 0..count {
-        let (listed, after) = read_entry(rest)?;
-        table.push(listed)?;
-        rest = after;
+        table.push(read_entry(cut)?)?;
     }
-    Ok((table, rest))
+    Ok(table)
 }
 
 fn is_before(a: &TableEntry<'_>, b: &TableEntry<'_>) -> bool
@@ -139,11 +121,9 @@ pub fn table_of(
     ensures within { IfOk result (λ v. All (λ l. l.offset ≤ to) v.items) }
 {
     let mut cut = Cut::new(content);
-    let Ok(count) = cut.be32() else {
-        return Err(IndexError::Offsets);
-    };
-    let (table, rest) = read_entries(alloc, count, cut.rest())?;
-    let whole = rest.is_empty() & is_rising(&table) & are_within(&table, from, to);
+    let count = cut.be32().or(Err(IndexError::Offsets))?;
+    let table = read_entries(alloc, count, &mut cut)?;
+    let whole = cut.is_empty() & is_rising(&table) & are_within(&table, from, to);
     if !whole {
         return Err(IndexError::Offsets);
     }

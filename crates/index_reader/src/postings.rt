@@ -123,9 +123,7 @@ fn references_of(content: &[u8]) -> Result<&[u8], IndexError>
     ensures { Gives (λ x. x.now) result (references_at content.now) }
 {
     let mut cut = Cut::new(content);
-    let Ok(count) = cut.be32() else {
-        return Err(IndexError::Postings);
-    };
+    let count = cut.be32().or(Err(IndexError::Postings))?;
     let rest = cut.rest();
     let whole = (rest.len() as u64 == 4 * u64::from(count)) & are_rising(rest);
     if !whole {

@@ -25,9 +25,7 @@ fn entry_of(bytes: &[u8]) -> Result<(&[u8], &[u8]), IndexError>
     ensures { Gives (λ x. (x.0.now, x.1.now)) result (entry_at bytes.now) }
 {
     let mut cut = Cut::new(bytes);
-    let Ok(len) = cut.uvarint() else {
-        return Err(IndexError::SeriesCrc);
-    };
+    let len = cut.uvarint().or(Err(IndexError::SeriesCrc))?;
     checked_of(len, cut.rest(), IndexError::SeriesCrc)
 }
 

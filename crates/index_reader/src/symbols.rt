@@ -29,33 +29,26 @@ fn text_of(bytes: &[u8]) -> Option<&str>
 }
 
 #[tactic(auto, unfolding(crate::specs::SymbolChecks::symbol_at))]
-fn read_symbol(bytes: &[u8]) -> Result<(&str, &[u8]), IndexError>
-    ensures { Gives (λ x. (x.0.now, x.1.now)) result (symbol_at bytes.now) }
+fn read_symbol<'a>(cut: &mut Cut<'a>) -> Result<&'a str, IndexError>
+    ensures { Gives (λ x. (x.now, cut.new)) result (symbol_at cut.old) }
 {
-    let mut cut = Cut::new(bytes);
-    let Ok(len) = cut.uvarint() else {
-        return Err(IndexError::Symbols);
-    };
-    let Ok(text) = cut.bytes(len as usize) else {
-        return Err(IndexError::Symbols);
-    };
-    let Some(text) = text_of(text) else {
-        return Err(IndexError::Symbols);
-    };
-    Ok((text, cut.rest()))
+    let len = cut.uvarint().or(Err(IndexError::Symbols))?;
+    let text = cut.bytes(len as usize).or(Err(IndexError::Symbols))?;
+    text_of(text).ok_or(IndexError::Symbols)
 }
 
-fn symbols_from(alloc: Global, count: u32, bytes: &[u8]) -> Result<(Vec<&str>, &[u8]), IndexError>
-    ensures { Gives (λ x. (bytes_of x.0.items, x.1.now)) result (symbols_from count bytes.now) }
+fn symbols_from<'a>(
+    alloc: Global,
+    count: u32,
+    cut: &mut Cut<'a>,
+) -> Result<Vec<&'a str>, IndexError>
+    ensures { Gives (λ v. (bytes_of v.items, cut.new)) result (symbols_from count cut.old) }
 {
     let mut symbols = Vec::new(alloc);
-    let mut rest = bytes;
     for _ in 0..count {
-        let (symbol, after) = read_symbol(rest)?;
-        symbols.push(symbol)?;
-        rest = after;
+        symbols.push(read_symbol(cut)?)?;
     }
-    Ok((symbols, rest))
+    Ok(symbols)
 }
 
 fn is_less(a: &[u8], b: &[u8]) -> bool
@@ -85,11 +78,9 @@ pub fn symbols_of(alloc: Global, content: &[u8]) -> Result<Vec<&str>, IndexError
     ensures { Gives (λ v. bytes_of v.items) result (symbols_of content.now) }
 {
     let mut cut = Cut::new(content);
-    let Ok(count) = cut.be32() else {
-        return Err(IndexError::Symbols);
-    };
-    let (symbols, rest) = symbols_from(alloc, count, cut.rest())?;
-    let whole = rest.is_empty() & is_ascending(&symbols);
+    let count = cut.be32().or(Err(IndexError::Symbols))?;
+    let symbols = symbols_from(alloc, count, &mut cut)?;
+    let whole = cut.is_empty() & is_ascending(&symbols);
     if !whole {
         return Err(IndexError::Symbols);
     }

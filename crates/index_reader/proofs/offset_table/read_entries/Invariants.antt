@@ -6,5 +6,5 @@ use Rattle.index_reader.proofs.offset_table.read_entries.Given as goal
 
 abbrev pub invariant-loop : goal.invariant-loop
 invariant-loop l =
-    with_front (table_seen l.table.items) (steps table_entry_at (l.count - l.counter) l.rest)
-    ≡ steps table_entry_at l.count l.bytes
+    with_front (table_seen l.table.items) (steps table_entry_at (l.count - l.counter) l.cut)
+    ≡ steps table_entry_at l.count l.fn.cut

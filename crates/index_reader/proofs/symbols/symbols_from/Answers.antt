@@ -6,23 +6,23 @@ use Rattle.index_reader.specs.SymbolChecks.{symbols_from}
 use Rattle.index_reader.proofs.WalkLoops.{goes_on, ends, is_done}
 use Rattle.index_reader.proofs.symbols.symbols_from.Goals as goal
 
-pub returns-in_err-symbol : goal.returns-in_err-symbol
-returns-in_err-symbol c =
+pub returns-in_err-read_symbol : goal.returns-in_err-read_symbol
+returns-in_err-read_symbol c =
     let p = err_from_is_err_and c.from_residual.result c.from_residual.ensures.1 in
-    rw (p.1, p.2) (ends c.in_err-symbol.field-0.0 (bytes_of c.loop.symbols.items) c.args.count
-    c.loop.counter c.loop.rest.now (symbols_from c.args.count c.args.bytes.now) c.loop-test.true
-    c.in_err-symbol.ensures c.loop.invariant)
+    rw (p.1, p.2) (ends c.in_err-read_symbol.field-0.0 (bytes_of c.loop.symbols.items) c.args.count
+    c.loop.counter c.loop.cut (symbols_from c.args.count c.args.cut.now) c.loop-test.true
+    c.in_err-read_symbol.ensures c.loop.invariant)
 
 pub loop-preserved : goal.loop-preserved
 loop-preserved c =
-    let s = c.in_ok-symbol.symbol in
+    let s = c.in_ok-read_symbol.field-0 in
     let e : bytes_of c.push.new.self.items ≡ bytes_of c.loop.symbols.items ++ s.now ∷ [] =
     rw c.in_ok-push.ensures.items (map_push _ c.loop.symbols.items s) in
-    rw e (goes_on (bytes_of c.loop.symbols.items) c.args.count c.loop.counter c.loop.rest.now s.now
-    c.in_ok-symbol.after.now (symbols_from c.args.count c.args.bytes.now) c.loop-test.true
-    c.in_ok-symbol.ensures c.loop.invariant)
+    rw e (goes_on (bytes_of c.loop.symbols.items) c.args.count c.loop.counter c.loop.cut s.now
+    c.read_symbol.new.cut (symbols_from c.args.count c.args.cut.now) c.loop-test.true
+    c.in_ok-read_symbol.ensures c.loop.invariant)
 
 pub returns : goal.returns
 returns c =
-    is_done (bytes_of c.loop.symbols.items) c.args.count c.loop.counter c.loop.rest.now
-    (symbols_from c.args.count c.args.bytes.now) c.loop-test.false c.loop.invariant
+    is_done (bytes_of c.loop.symbols.items) c.args.count c.loop.counter c.loop.cut
+    (symbols_from c.args.count c.args.cut.now) c.loop-test.false c.loop.invariant

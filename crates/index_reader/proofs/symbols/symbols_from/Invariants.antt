@@ -6,5 +6,5 @@ use Rattle.index_reader.proofs.symbols.symbols_from.Given as goal
 
 abbrev pub invariant-loop : goal.invariant-loop
 invariant-loop l =
-    with_front (bytes_of l.symbols.items) (symbols_from (l.count - l.counter) l.rest)
-    ≡ symbols_from l.count l.bytes
+    with_front (bytes_of l.symbols.items) (symbols_from (l.count - l.counter) l.cut)
+    ≡ symbols_from l.count l.fn.cut
