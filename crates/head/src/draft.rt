@@ -151,7 +151,10 @@ impl Draft {
         ensures few { length self ≤ MAX_SERIES }
     {
         let Draft {
-            last, own, begun, ..
+            last,
+            own,
+            begun,
+            ..
         } = self;
         let mut list = with_own(alloc, last, own)?;
         for series in begun {

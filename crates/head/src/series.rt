@@ -118,8 +118,8 @@ impl Model for Sealed {
     ghost Value = { List (List (ℤ × ℤ)) };
 
     ghost view = { λ s. elim s.chunks [
-        | None ↦ []
-        | Some chunks ↦ map (λ c. arc_value c) (arc_value chunks).items
+      | None ↦ []
+      | Some chunks ↦ map (λ c. arc_value c) (arc_value chunks).items
     ] };
 }
 
