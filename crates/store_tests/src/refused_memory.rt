@@ -35,23 +35,49 @@ const EMPTY: &str = "head\n";
 const STEPS: &[(Step, &str)] = &[
     (
         Step::Commit(&[(1, 10, 1), (1, 20, 2), (2, 10, 3), (2, 20, 4)]),
-        "head\n __name__=up job=a 10:1 20:2\n __name__=up job=b 10:3 20:4\n",
+        "head\n\
+         - __name__=up job=a 10:1 20:2\n\
+         - __name__=up job=b 10:3 20:4\n",
     ),
     (
         Step::Cut(15),
-        "block\n __name__=up job=a 10:1\n __name__=up job=b 10:3\nhead\n __name__=up job=a 20:2\n __name__=up job=b 20:4\n",
+        "block\n\
+         - __name__=up job=a 10:1\n\
+         - __name__=up job=b 10:3\n\
+         head\n\
+         - __name__=up job=a 20:2\n\
+         - __name__=up job=b 20:4\n",
     ),
     (
         Step::Commit(&[(1, 30, 5), (4, 30, 6)]),
-        "block\n __name__=up job=a 10:1\n __name__=up job=b 10:3\nhead\n __name__=up job=a 20:2 30:5\n __name__=up job=b 20:4\n __name__=down job=a 30:6\n",
+        "block\n\
+         - __name__=up job=a 10:1\n\
+         - __name__=up job=b 10:3\n\
+         head\n\
+         - __name__=up job=a 20:2 30:5\n\
+         - __name__=up job=b 20:4\n\
+         - __name__=down job=a 30:6\n",
     ),
     (
         Step::Delete(10, 25),
-        "block\n __name__=up job=a\n __name__=up job=b 10:3\nhead\n __name__=up job=a 30:5\n __name__=up job=b 20:4\n __name__=down job=a 30:6\n",
+        "block\n\
+         - __name__=up job=a\n\
+         - __name__=up job=b 10:3\n\
+         head\n\
+         - __name__=up job=a 30:5\n\
+         - __name__=up job=b 20:4\n\
+         - __name__=down job=a 30:6\n",
     ),
     (
         Step::Cut(25),
-        "block\n __name__=up job=a\n __name__=up job=b 10:3\nblock\n __name__=up job=b 20:4\nhead\n __name__=up job=a 30:5\n __name__=down job=a 30:6\n",
+        "block\n\
+         - __name__=up job=a\n\
+         - __name__=up job=b 10:3\n\
+         block\n\
+         - __name__=up job=b 20:4\n\
+         head\n\
+         - __name__=up job=a 30:5\n\
+         - __name__=down job=a 30:6\n",
     ),
 ];
 
@@ -127,7 +153,10 @@ fn delete<J: Naming, R: Wait + Drop>(
     if !Event::is_deletion(&matchers, from, to) {
         return Err((Asked::Delete(matchers, from, to), CommitError::Limit));
     }
-    match store.committer.delete(rt, &mut store.seat, matchers, from, to) {
+    match store
+        .committer
+        .delete(rt, &mut store.seat, matchers, from, to)
+    {
         Ok(receipt) => Ok(receipt.events()),
         Err((matchers, refusal)) => Err((Asked::Delete(matchers, from, to), refusal)),
     }
@@ -160,6 +189,7 @@ fn ask<J: Naming, R: Wait + Drop>(
 }
 
 fn put_row(text: &mut String, row: &Row) -> Result<(), AllocError> {
+    text.push('-')?;
     put_labels(text, row.labels())?;
     put_samples(text, row.samples())?;
     text.push('\n')
