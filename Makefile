@@ -23,7 +23,7 @@ test: ## the merge gate: every proof from nothing, must-fail edits, tests, progr
 gate-times: ## runs the gate and tells its minutes by crate, for proofs, proofs of tests and edits
 	@tests/gate-times $(RT) ci
 
-allocations: ## refuses each allocation of an index's opening, the demo, audits and a connection in turn (needs a C compiler)
+allocations: ## refuses each allocation of an index's opening, a store's changes, the demo, audits and a connection in turn (needs a C compiler)
 	@RT="$(RT)" tests/allocations
 
 audits: ## pipes what querier tells, right and changed, through auditor (needs rustc)

@@ -10,6 +10,8 @@ mod heads;
 #[cfg(test)]
 mod histories;
 #[cfg(test)]
+mod refused_memory;
+#[cfg(test)]
 mod rows;
 #[cfg(test)]
 mod versions;
