@@ -27,3 +27,22 @@ code_of Limit = codes "I15"
 code_of (Chunks e) = chunk.code_of e
 code_of (Tombstones e) = tombstone.code_of e
 code_of UnknownSeries = codes "T5"
+
+-- a refusal in a line, for people
+abbrev pub text_of : WalkError → List ℕ
+text_of Memory = codes "no memory"
+text_of TooShort = codes "I1: the index has fewer than 57 bytes"
+text_of Magic = codes "I2: the index does not begin with BA AA D7 00"
+text_of Version = codes "I3: the version of the index is not 2"
+text_of ContentsCrc = codes "I4: the checksum of the table of contents is wrong"
+text_of ContentsOrder = codes "I5: the parts of the index are not in their order"
+text_of SymbolsCrc = codes "I6: the symbol table is cut short, or its checksum is wrong"
+text_of Symbols = codes "I7: the symbols are not well formed, or do not ascend"
+text_of SeriesCrc = codes "I8: a series entry is cut short, or its checksum is wrong"
+text_of Series = codes "I9: a series entry is not well formed, or a byte between entries is not 0"
+text_of SeriesOrder = codes "I10: the label sets of the series do not ascend"
+text_of Limit =
+    codes "I15: the index is longer than 1 GiB, or has too many series, labels or samples"
+text_of (Chunks e) = chunk.text_of e
+text_of (Tombstones e) = tombstone.text_of e
+text_of UnknownSeries = codes "T5: a deletion is of an unknown series"

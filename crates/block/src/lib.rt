@@ -12,6 +12,13 @@
 //! the length of what remained has binary digits. [`LiveList`] lists the series with an undeleted
 //! sample in a range, and reads a chunk only where the times of the chunks leave it open.
 //!
+//! ```
+//! let range = Range::read_meta(alloc, br#"{"minTime":0,"maxTime":30,"version":1}"#)?;
+//! assert_eq!(rt; (range.covers(29), range.covers(30)), (true, false));
+//! let refused = Block::open(alloc, range, b"no index", Vec::new(alloc), b"").err();
+//! assert_eq!(rt; refused, Some(BlockError::Index(IndexError::TooShort)));
+//! ```
+//!
 //! It stands on `labels`, `postings`, `wire`, `index_reader`, `chunk_reader`, `tombstones`,
 //! `byteorder` and `serde_json`. The files are those of Prometheus's TSDB format documents; that
 //! other members of `meta.json` are ignored is this project's own.

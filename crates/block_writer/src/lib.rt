@@ -9,6 +9,21 @@
 //! exactly these rows, in each range that has their times (`SpellRowsAnywhere`), so `Block::open`
 //! refuses it for want of memory alone.
 //!
+//! ```
+//! let pairs = [("__name__", "up"), ("job", "a")];
+//! let labels = LabelSet::of_sorted_texts(alloc, &pairs).ok()?;
+//! let samples = Vec::from_array(alloc, [Sample::new(10, 1), Sample::new(20, 1)]).ok()?;
+//! let rows = PartRows::new(Vec::from_array(alloc, [Row::new(labels, samples)]).ok()?)?;
+//! let BlockBytes {
+//!     index,
+//!     chunks,
+//!     tombstones,
+//! } = write(alloc, &rows).ok()?;
+//! let range = Range::new(0, 30)?;
+//! let block = Block::open(alloc, range, &index, chunks, &tombstones).ok()?;
+//! assert_eq!(rt; (block.series_count(), block.sample_count()), (1, 2));
+//! ```
+//!
 //! It stands on `labels`, `wire` and `byteorder`, and on `index_reader`, `chunk_reader`,
 //! `tombstones` and `block` for the words that say how their files are spelled. The files are those
 //! of Prometheus's TSDB format documents; where entries stand, that a reference is the sixteenth

@@ -12,6 +12,8 @@ mod chunks;
 #[cfg(test)]
 mod deletions;
 #[cfg(test)]
+mod first_pages;
+#[cfg(test)]
 mod indexes;
 #[cfg(test)]
 mod numbers;

@@ -1,5 +1,6 @@
 pub mod Statuses
 pub mod Refusals
+pub mod ReadErrors
 pub mod Replies
 pub mod Targets
 pub mod Times

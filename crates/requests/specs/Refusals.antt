@@ -1,8 +1,8 @@
 -- The numbers of refusals, their statuses and the causes behind them.
-use Rattle.std.specs.Prelude.{ℕ, List, Option, None, Some, codes}
+use Rattle.std.specs.Prelude.{ℕ, List, Option, None, Some, codes, ◌++◌}
 use Rattle.matchers.specs.declared.error.SelectorError.{SelectorError}
 use Rattle.matchers.specs.declared.error.SelectorError.TheVariants.{Syntax, Empty, TooMany, PatternTooLong, PatternRefused, Memory}
-use Rattle.matchers.specs.Errors.{selector_code}
+use Rattle.matchers.specs.Errors.{selector_code, selector_text}
 use Rattle.requests.specs.declared.status.Status.{Status}
 use Rattle.requests.specs.declared.status.Status.TheVariants as status
 use Rattle.requests.specs.declared.refusal.Cause.{Cause}
@@ -60,3 +60,16 @@ cause_of BadBody = None
 cause_of BodyTooLong = None
 cause_of (Refused cause) = Some (told_cause cause)
 cause_of Unavailable = None
+
+-- a refusal in a line, for people
+abbrev pub text_of : Refusal → List ℕ
+text_of BadHead = codes "H1: the bytes are no head of a request"
+text_of HeadTooLong = codes "H2: the head has more than 8192 bytes"
+text_of NoSuchPath = codes "H3: there is no such path"
+text_of Method = codes "H4: the path takes another method"
+text_of BadQuery = codes "H5: the query string is not of the path's form"
+text_of (BadSelector error) = codes "H6: the selector is refused: " ++ selector_text error
+text_of BadBody = codes "H7: the body is not of the path's form, or is cut short"
+text_of BodyTooLong = codes "H8: the body has more than 1048576 bytes"
+text_of (Refused cause) = codes "H9: the store refuses the event: " ++ cause.code.now
+text_of Unavailable = codes "H10: the store lends no snapshot"

@@ -5,6 +5,8 @@ ghost use Rattle.requests.specs.Refusals.{code_of, status_of, cause_of, told_cau
 
 use crate::Status;
 use matchers::SelectorError;
+use std::error::Error;
+use std::fmt;
 
 /// The refusal that stands behind one of a request.
 #[derive(Clone, Copy, Debug, PartialEq, Eq, Drop)]
@@ -90,6 +92,35 @@ impl Refusal {
         }
     }
 }
+
+impl fmt::Display for Refusal {
+    ghost use Rattle.std.specs.Prelude.{Some};
+    ghost use Rattle.requests.specs.Refusals.{text_of};
+
+    ghost output = { λ refusal. Some (text_of refusal) };
+
+    fn fmt<W: fmt::Write>(&self, f: &mut fmt::Formatter<W>) -> fmt::Result {
+        match self {
+            Refusal::BadHead => write!(f, "H1: the bytes are no head of a request"),
+            Refusal::HeadTooLong => write!(f, "H2: the head has more than 8192 bytes"),
+            Refusal::NoSuchPath => write!(f, "H3: there is no such path"),
+            Refusal::Method => write!(f, "H4: the path takes another method"),
+            Refusal::BadQuery => write!(f, "H5: the query string is not of the path's form"),
+            Refusal::BadSelector(error) => write!(f, "H6: the selector is refused: {error}"),
+            Refusal::BadBody => {
+                write!(f, "H7: the body is not of the path's form, or is cut short")
+            }
+            Refusal::BodyTooLong => write!(f, "H8: the body has more than 1048576 bytes"),
+            Refusal::Refused(cause) => {
+                let code = cause.code;
+                write!(f, "H9: the store refuses the event: {code}")
+            }
+            Refusal::Unavailable => write!(f, "H10: the store lends no snapshot"),
+        }
+    }
+}
+
+impl Error for Refusal {}
 
 // Where a selector ends to be one, if that is why it is refused.
 fn place_in(error: SelectorError) -> Option<usize>

@@ -7,6 +7,8 @@ use crate::Refusal;
 use labels::{LabelSet, Sample};
 use matchers::{Matcher, Query};
 use std::alloc::{AllocError, AllocFailed};
+use std::error::Error;
+use std::fmt;
 
 /// What a client asks.
 #[derive(Drop)]
@@ -41,6 +43,24 @@ pub enum ReadError {
     /// The request is refused, and a reply is owed.
     Refused(Refusal),
 }
+
+impl fmt::Display for ReadError {
+    ghost use Rattle.std.specs.Prelude.{Some};
+    ghost use Rattle.requests.specs.ReadErrors.{text_of};
+
+    ghost output = { λ error. Some (text_of error) };
+
+    fn fmt<W: fmt::Write>(&self, f: &mut fmt::Formatter<W>) -> fmt::Result {
+        match self {
+            ReadError::Closed => write!(f, "the input ends before its first byte"),
+            ReadError::Fault => write!(f, "the input cannot be read"),
+            ReadError::Memory => write!(f, "no memory"),
+            ReadError::Refused(refusal) => write!(f, "{refusal}"),
+        }
+    }
+}
+
+impl Error for ReadError {}
 
 impl From<AllocError> for ReadError {
     ghost from_gives = { λ _ e. e ≡ read_error.Memory };

@@ -6,6 +6,8 @@ ghost use Rattle.auditor.specs.IndexFile.Outcome.{of_chunk, of_tombstone};
 
 use chunk_reader::ChunkError;
 use std::alloc::{AllocError, AllocFailed};
+use std::error::Error;
+use std::fmt;
 use tombstones::TombstoneError;
 
 /// The first check that failed, or want of memory.
@@ -70,6 +72,40 @@ impl WalkError {
         }
     }
 }
+
+impl fmt::Display for WalkError {
+    ghost use Rattle.std.specs.Prelude.{Some};
+    ghost use Rattle.auditor.specs.WalkCodes.{text_of};
+
+    ghost output = { λ error. Some (text_of error) };
+
+    fn fmt<W: fmt::Write>(&self, f: &mut fmt::Formatter<W>) -> fmt::Result {
+        let text = match self {
+            WalkError::Memory => "no memory",
+            WalkError::TooShort => "I1: the index has fewer than 57 bytes",
+            WalkError::Magic => "I2: the index does not begin with BA AA D7 00",
+            WalkError::Version => "I3: the version of the index is not 2",
+            WalkError::ContentsCrc => "I4: the checksum of the table of contents is wrong",
+            WalkError::ContentsOrder => "I5: the parts of the index are not in their order",
+            WalkError::SymbolsCrc => "I6: the symbol table is cut short, or its checksum is wrong",
+            WalkError::Symbols => "I7: the symbols are not well formed, or do not ascend",
+            WalkError::SeriesCrc => "I8: a series entry is cut short, or its checksum is wrong",
+            WalkError::Series => {
+                "I9: a series entry is not well formed, or a byte between entries is not 0"
+            }
+            WalkError::SeriesOrder => "I10: the label sets of the series do not ascend",
+            WalkError::Limit => {
+                "I15: the index is longer than 1 GiB, or has too many series, labels or samples"
+            }
+            WalkError::Chunks(error) => return write!(f, "{error}"),
+            WalkError::Tombstones(error) => return write!(f, "{error}"),
+            WalkError::UnknownSeries => "T5: a deletion is of an unknown series",
+        };
+        write!(f, "{text}")
+    }
+}
+
+impl Error for WalkError {}
 
 impl From<AllocError> for WalkError {
     ghost from_gives = { λ _ e. e ≡ Memory };

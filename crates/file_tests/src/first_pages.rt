@@ -1,0 +1,40 @@
+//! The examples of the first pages of `block` and `block_writer`.
+
+use block::{Block, BlockError, Range};
+use block_writer::{BlockBytes, PartRows, write};
+use index_reader::IndexError;
+use labels::{LabelSet, Row, Sample};
+use std::alloc::Global;
+use std::process::Abort;
+
+#[test]
+fn the_example_of_the_first_page_of_block(rt: HostRuntime) -> Result<(), BlockError> {
+    let alloc = rt.alloc();
+    let range = Range::read_meta(alloc, br#"{"minTime":0,"maxTime":30,"version":1}"#)?;
+    assert_eq!(rt; (range.covers(29), range.covers(30)), (true, false));
+    let refused = Block::open(alloc, range, b"no index", Vec::new(alloc), b"").err();
+    assert_eq!(rt; refused, Some(BlockError::Index(IndexError::TooShort)));
+    Ok(())
+}
+
+/// What the example of `block_writer` does.
+fn write_one_row(rt: &impl Abort, alloc: Global) -> Option<()> {
+    let pairs = [("__name__", "up"), ("job", "a")];
+    let labels = LabelSet::of_sorted_texts(alloc, &pairs).ok()?;
+    let samples = Vec::from_array(alloc, [Sample::new(10, 1), Sample::new(20, 1)]).ok()?;
+    let rows = PartRows::new(Vec::from_array(alloc, [Row::new(labels, samples)]).ok()?)?;
+    let BlockBytes {
+        index,
+        chunks,
+        tombstones,
+    } = write(alloc, &rows).ok()?;
+    let range = Range::new(0, 30)?;
+    let block = Block::open(alloc, range, &index, chunks, &tombstones).ok()?;
+    assert_eq!(rt; (block.series_count(), block.sample_count()), (1, 2));
+    Some(())
+}
+
+#[test]
+fn the_example_of_the_first_page_of_block_writer(rt: HostRuntime) {
+    write_one_row(&rt, rt.alloc()).expect(&rt, "a row is written");
+}
