@@ -135,26 +135,13 @@ fn committed_to(
     ensures kept { IfOk result (λ s. s.blocks ≡ at.now.blocks) }
     ensures copied { IfOk result (λ s. s.copied ≤ 119 * set_count batch.now) }
 {
-    let Ok(last) = at.head.series().try_clone() else {
-        return Err(CommitError::Memory);
-    };
-    let Ok(blocks) = Arc::try_clone(&at.blocks) else {
-        return Err(CommitError::Memory);
-    };
-    let Ok(mut order) = at.head.order().try_clone() else {
-        return Err(CommitError::Memory);
-    };
+    let last = at.head.series().try_clone()?;
+    let blocks = Arc::try_clone(&at.blocks)?;
+    let mut order = at.head.order().try_clone()?;
     let mut draft = Draft::new(alloc, last);
-    let copied = match add_each(alloc, &mut draft, &mut order, at.floor, batch) {
-        Ok(copied) => copied,
-        Err(refusal) => return Err(refusal),
-    };
-    let Ok(series) = draft.into_list(alloc) else {
-        return Err(CommitError::Memory);
-    };
-    let Ok(index) = at.head.index_of(alloc, &series) else {
-        return Err(CommitError::Memory);
-    };
+    let copied = add_each(alloc, &mut draft, &mut order, at.floor, batch)?;
+    let series = draft.into_list(alloc)?;
+    let index = at.head.index_of(alloc, &series)?;
     Ok(Snapshot {
         blocks,
         head: HeadView::of(series, order, index, copied),

@@ -1,3 +1,4 @@
+use Rattle.std.proofs.lemmas.Result.{err_from_is_err_and}
 use Rattle.std.specs.Prelude.{◌≡◌, ◌≤◌, ℕ, Ok, List, map, length}
 use Rattle.std.proofs.Common.{subst, sym, ◌∙◌, ap, rules, to_z, of_z, w64}
 use Rattle.std.specs.Arc.{arc_value}
@@ -25,32 +26,34 @@ pub add_each-requires-clause-ordered : goal.add_each-requires-clause-ordered
 add_each-requires-clause-ordered c =
     let s : SnapshotParts = parts_in c.at.inside in
     let floor_is : to_z w64 (of_z w64 c.at.inside.floor) ≡ c.at.inside.floor = search rules in
-    let last_is : c.in-Ok.last ≡ s.head = c.in-Ok.ensures ∙ c.series.ensures in
-    let head_is : series_in_each c.new-draft.result ≡ s.head = ap (λ (ss : List Slot). series_in_each ss) c.new-draft.ensures ∙ series_shared c.in-Ok.last ∙ last_is in
-    let order_is : c.in-Ok-try_clone-2.order ≡ c.order.result.now = c.in-Ok-try_clone-2.ensures in
+    let last_is : c.in_ok-last.last ≡ s.head = c.in_ok-last.ensures ∙ c.series.ensures in
+    let head_is : series_in_each c.new-draft.result ≡ s.head = ap (λ (ss : List Slot). series_in_each ss) c.new-draft.ensures ∙ series_shared c.in_ok-last.last ∙ last_is in
+    let order_is : c.in_ok-order.order ≡ c.order.result.now = c.in_ok-order.ensures in
     subst (λ (order : List (Labels × ℕ)). IsOrderOf order (series_in_each c.new-draft.result)) (sym order_is)
     (subst (λ (hs : List HeadSeries). IsOrderOf c.order.result.now hs) (sym head_is) c.order.ensures)
 
-pub returns-in-Err-clause-refused : goal.returns-in-Err-clause-refused
-returns-in-Err-clause-refused c =
+pub returns-in_err-copied-clause-refused : goal.returns-in_err-copied-clause-refused
+returns-in_err-copied-clause-refused c =
     let s : SnapshotParts = parts_in c.at.inside in
     let floor_is : to_z w64 (of_z w64 c.at.inside.floor) ≡ c.at.inside.floor = search rules in
-    let last_is : c.in-Ok.last ≡ s.head = c.in-Ok.ensures ∙ c.series.ensures in
-    let head_is : series_in_each c.new-draft.result ≡ s.head = ap (λ (ss : List Slot). series_in_each ss) c.new-draft.ensures ∙ series_shared c.in-Ok.last ∙ last_is in
-    subst (λ (v : SnapshotParts). IsAnswer c.in-Err.refusal (committed most (world_of v) c.args.batch.now)) c.at.view_is
-    (refused s c.args.batch.now c.in-Err.refusal c.at.invariant
-    (subst (IsAnswer c.in-Err.refusal) (λ i. head_added_each most (floor_is i) (Ok (head_is i)) 0 c.args.batch.now) c.in-Err.ensures.step))
+    let last_is : c.in_ok-last.last ≡ s.head = c.in_ok-last.ensures ∙ c.series.ensures in
+    let head_is : series_in_each c.new-draft.result ≡ s.head = ap (λ (ss : List Slot). series_in_each ss) c.new-draft.ensures ∙ series_shared c.in_ok-last.last ∙ last_is in
+    let p = err_from_is_err_and c.from_residual-in_err-copied.result c.from_residual-in_err-copied.ensures.1 in
+    rw (p.1, p.2)
+    (subst (λ (v : SnapshotParts). IsAnswer c.in_err-copied.field-0.0 (committed most (world_of v) c.args.batch.now)) c.at.view_is
+    (refused s c.args.batch.now c.in_err-copied.field-0.0 c.at.invariant
+    (subst (IsAnswer c.in_err-copied.field-0.0) (λ i. head_added_each most (floor_is i) (Ok (head_is i)) 0 c.args.batch.now) c.in_err-copied.ensures.step)))
 
 pub index_of-requires : goal.index_of-requires
 index_of-requires c =
     let s : SnapshotParts = parts_in c.at.inside in
     let floor_is : to_z w64 (of_z w64 c.at.inside.floor) ≡ c.at.inside.floor = search rules in
-    let last_is : c.in-Ok.last ≡ s.head = c.in-Ok.ensures ∙ c.series.ensures in
-    let head_is : series_in_each c.new-draft.result ≡ s.head = ap (λ (ss : List Slot). series_in_each ss) c.new-draft.ensures ∙ series_shared c.in-Ok.last ∙ last_is in
+    let last_is : c.in_ok-last.last ≡ s.head = c.in_ok-last.ensures ∙ c.series.ensures in
+    let head_is : series_in_each c.new-draft.result ≡ s.head = ap (λ (ss : List Slot). series_in_each ss) c.new-draft.ensures ∙ series_shared c.in_ok-last.last ∙ last_is in
     let is : head_added_each most s.floor (Ok s.head) 0 c.args.batch.now ≡ Ok (series_in_each c.add_each.new.draft) =
-    (λ i. head_added_each most (sym floor_is i) (Ok (sym head_is i)) 0 c.args.batch.now) ∙ c.in-Ok-add_each.ensures.step in
+    (λ i. head_added_each most (sym floor_is i) (Ok (sym head_is i)) 0 c.args.batch.now) ∙ c.in_ok-copied.ensures.step in
     let after : length (series_in_each c.add_each.new.draft) ≤ most.series = few_after_batch most s.floor s.head 0 c.args.batch.now (series_in_each c.add_each.new.draft) c.at.inside.head.few is in
-    let made : c.in-Ok-into_list.series ≡ series_in_each c.add_each.new.draft = c.in-Ok-into_list.ensures.series in
+    let made : c.in_ok-series.series ≡ series_in_each c.add_each.new.draft = c.in_ok-series.ensures.series in
     record {
       few = subst (λ (hs : List HeadSeries). length hs ≤ most.series) (sym made) after;
       extended = subst (λ (hs : List HeadSeries). Extends (sets_of s.head) (sets_of hs)) (sym made) (batch_extends most s.floor s.head c.args.batch.now (series_in_each c.add_each.new.draft) is);
@@ -60,16 +63,16 @@ pub of-requires : goal.of-requires
 of-requires c =
     let s : SnapshotParts = parts_in c.at.inside in
     let floor_is : to_z w64 (of_z w64 c.at.inside.floor) ≡ c.at.inside.floor = search rules in
-    let last_is : c.in-Ok.last ≡ s.head = c.in-Ok.ensures ∙ c.series.ensures in
-    let head_is : series_in_each c.new-draft.result ≡ s.head = ap (λ (ss : List Slot). series_in_each ss) c.new-draft.ensures ∙ series_shared c.in-Ok.last ∙ last_is in
+    let last_is : c.in_ok-last.last ≡ s.head = c.in_ok-last.ensures ∙ c.series.ensures in
+    let head_is : series_in_each c.new-draft.result ≡ s.head = ap (λ (ss : List Slot). series_in_each ss) c.new-draft.ensures ∙ series_shared c.in_ok-last.last ∙ last_is in
     let is : head_added_each most s.floor (Ok s.head) 0 c.args.batch.now ≡ Ok (series_in_each c.add_each.new.draft) =
-    (λ i. head_added_each most (sym floor_is i) (Ok (sym head_is i)) 0 c.args.batch.now) ∙ c.in-Ok-add_each.ensures.step in
+    (λ i. head_added_each most (sym floor_is i) (Ok (sym head_is i)) 0 c.args.batch.now) ∙ c.in_ok-copied.ensures.step in
     let after : length (series_in_each c.add_each.new.draft) ≤ most.series = few_after_batch most s.floor s.head 0 c.args.batch.now (series_in_each c.add_each.new.draft) c.at.inside.head.few is in
-    let made : c.in-Ok-into_list.series ≡ series_in_each c.add_each.new.draft = c.in-Ok-into_list.ensures.series in
+    let made : c.in_ok-series.series ≡ series_in_each c.add_each.new.draft = c.in_ok-series.ensures.series in
     record {
       few = subst (λ (hs : List HeadSeries). length hs ≤ most.series) (sym made) after;
-      ordered = subst (λ (hs : List HeadSeries). IsOrderOf c.add_each.new.order hs) (sym made) c.in-Ok-add_each.ensures.ordered;
-      indexed = c.in-Ok-index_of.ensures;
+      ordered = subst (λ (hs : List HeadSeries). IsOrderOf c.add_each.new.order hs) (sym made) c.in_ok-copied.ensures.ordered;
+      indexed = c.in_ok-index.ensures;
       is_part = subst (λ (hs : List HeadSeries). IsPart (head_part hs)) (sym made)
           (IsPart-head_part s.floor (series_in_each c.add_each.new.draft) (accepted s c.args.batch.now (series_in_each c.add_each.new.draft) c.at.invariant is).1.head after);
     }
@@ -78,41 +81,41 @@ pub invariant_of-result : goal.invariant_of-result
 invariant_of-result c =
     let s : SnapshotParts = parts_in c.at.inside in
     let floor_is : to_z w64 (of_z w64 c.at.inside.floor) ≡ c.at.inside.floor = search rules in
-    let last_is : c.in-Ok.last ≡ s.head = c.in-Ok.ensures ∙ c.series.ensures in
-    let head_is : series_in_each c.new-draft.result ≡ s.head = ap (λ (ss : List Slot). series_in_each ss) c.new-draft.ensures ∙ series_shared c.in-Ok.last ∙ last_is in
+    let last_is : c.in_ok-last.last ≡ s.head = c.in_ok-last.ensures ∙ c.series.ensures in
+    let head_is : series_in_each c.new-draft.result ≡ s.head = ap (λ (ss : List Slot). series_in_each ss) c.new-draft.ensures ∙ series_shared c.in_ok-last.last ∙ last_is in
     let is : head_added_each most s.floor (Ok s.head) 0 c.args.batch.now ≡ Ok (series_in_each c.add_each.new.draft) =
-    (λ i. head_added_each most (sym floor_is i) (Ok (sym head_is i)) 0 c.args.batch.now) ∙ c.in-Ok-add_each.ensures.step in
-    let made = c.of.ensures.series ∙ c.in-Ok-into_list.ensures.series in
+    (λ i. head_added_each most (sym floor_is i) (Ok (sym head_is i)) 0 c.args.batch.now) ∙ c.in_ok-copied.ensures.step in
+    let made = c.of.ensures.series ∙ c.in_ok-series.ensures.series in
     let sound = (accepted s c.args.batch.now (series_in_each c.add_each.new.draft) c.at.invariant is).1 in
-    subst IsSound (λ i. record { blocks = map part_in (sym c.in-Ok-try_clone.ensures i).items; head = sym made i; floor = sym floor_is i; copied = c.of.result.copied })
+    subst IsSound (λ i. record { blocks = map part_in (sym c.in_ok-blocks.ensures i).items; head = sym made i; floor = sym floor_is i; copied = c.of.result.copied })
     (record { few = sound.few; time = sound.time; ends = sound.ends; head = sound.head; blocks = sound.blocks })
 
 pub returns-clause-ok : goal.returns-clause-ok
 returns-clause-ok c =
     let s : SnapshotParts = parts_in c.at.inside in
     let floor_is : to_z w64 (of_z w64 c.at.inside.floor) ≡ c.at.inside.floor = search rules in
-    let last_is : c.in-Ok.last ≡ s.head = c.in-Ok.ensures ∙ c.series.ensures in
-    let head_is : series_in_each c.new-draft.result ≡ s.head = ap (λ (ss : List Slot). series_in_each ss) c.new-draft.ensures ∙ series_shared c.in-Ok.last ∙ last_is in
+    let last_is : c.in_ok-last.last ≡ s.head = c.in_ok-last.ensures ∙ c.series.ensures in
+    let head_is : series_in_each c.new-draft.result ≡ s.head = ap (λ (ss : List Slot). series_in_each ss) c.new-draft.ensures ∙ series_shared c.in_ok-last.last ∙ last_is in
     let is : head_added_each most s.floor (Ok s.head) 0 c.args.batch.now ≡ Ok (series_in_each c.add_each.new.draft) =
-    (λ i. head_added_each most (sym floor_is i) (Ok (sym head_is i)) 0 c.args.batch.now) ∙ c.in-Ok-add_each.ensures.step in
-    let made = c.of.ensures.series ∙ c.in-Ok-into_list.ensures.series in
+    (λ i. head_added_each most (sym floor_is i) (Ok (sym head_is i)) 0 c.args.batch.now) ∙ c.in_ok-copied.ensures.step in
+    let made = c.of.ensures.series ∙ c.in_ok-series.ensures.series in
     ap (λ (v : SnapshotParts). committed most (world_of v) c.args.batch.now) (sym c.at.view_is)
     ∙ (accepted s c.args.batch.now (series_in_each c.add_each.new.draft) c.at.invariant is).0
     ∙ ap Ok (same_world (record s { head = series_in_each c.add_each.new.draft }) c.of.result.copied)
-    ∙ (λ i. Ok (world_of (record { blocks = map part_in (sym c.in-Ok-try_clone.ensures i).items; head = sym made i; floor = sym floor_is i; copied = c.of.result.copied })))
+    ∙ (λ i. Ok (world_of (record { blocks = map part_in (sym c.in_ok-blocks.ensures i).items; head = sym made i; floor = sym floor_is i; copied = c.of.result.copied })))
 
 pub returns-clause-copied : goal.returns-clause-copied
 returns-clause-copied c =
     let s : SnapshotParts = parts_in c.at.inside in
     let floor_is : to_z w64 (of_z w64 c.at.inside.floor) ≡ c.at.inside.floor = search rules in
-    let last_is : c.in-Ok.last ≡ s.head = c.in-Ok.ensures ∙ c.series.ensures in
-    let head_is : series_in_each c.new-draft.result ≡ s.head = ap (λ (ss : List Slot). series_in_each ss) c.new-draft.ensures ∙ series_shared c.in-Ok.last ∙ last_is in
+    let last_is : c.in_ok-last.last ≡ s.head = c.in_ok-last.ensures ∙ c.series.ensures in
+    let head_is : series_in_each c.new-draft.result ≡ s.head = ap (λ (ss : List Slot). series_in_each ss) c.new-draft.ensures ∙ series_shared c.in_ok-last.last ∙ last_is in
     let is : head_added_each most s.floor (Ok s.head) 0 c.args.batch.now ≡ Ok (series_in_each c.add_each.new.draft) =
-    (λ i. head_added_each most (sym floor_is i) (Ok (sym head_is i)) 0 c.args.batch.now) ∙ c.in-Ok-add_each.ensures.step in
+    (λ i. head_added_each most (sym floor_is i) (Ok (sym head_is i)) 0 c.args.batch.now) ∙ c.in_ok-copied.ensures.step in
     let sound = (accepted s c.args.batch.now (series_in_each c.add_each.new.draft) c.at.invariant is).1.head in
     let fresh = c.new-draft.ensures in
-    let before = subst (λ (ss : List Slot). AllOwn (has_set c.args.batch.now) ss) (sym fresh) (AllOwn-shared (has_set c.args.batch.now) c.in-Ok.last) in
-    let own = c.in-Ok-add_each.ensures.owners (has_set c.args.batch.now) (has_each c.args.batch.now) before in
+    let before = subst (λ (ss : List Slot). AllOwn (has_set c.args.batch.now) ss) (sym fresh) (AllOwn-shared (has_set c.args.batch.now) c.in_ok-last.last) in
+    let own = c.in_ok-copied.ensures.owners (has_set c.args.batch.now) (has_each c.args.batch.now) before in
     let few = owned_within s.floor c.add_each.new.draft c.args.batch.now sound own in
-    let none = ap (λ (ss : List Slot). owned ss) fresh ∙ owned-shared c.in-Ok.last in
-    copied_within c.in-Ok-add_each.copied (owned c.new-draft.result) (owned c.add_each.new.draft) (set_count c.args.batch.now) _ c.in-Ok-add_each.ensures.counted none few c.of.ensures.copied
+    let none = ap (λ (ss : List Slot). owned ss) fresh ∙ owned-shared c.in_ok-last.last in
+    copied_within c.in_ok-copied.copied (owned c.new-draft.result) (owned c.add_each.new.draft) (set_count c.args.batch.now) _ c.in_ok-copied.ensures.counted none few c.of.ensures.copied
