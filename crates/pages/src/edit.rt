@@ -70,7 +70,8 @@ fn with_entry<E: Entry>(page: &Vec<E>, at: usize, x: E) -> Result<Vec<E>, AllocE
     Ok(long)
 }
 
-/// A full page with one more entry, in two halves.
+/// A full page with one more entry, in two halves. Neither has room for more: where entries come in
+/// their order, the first half is never written again.
 fn halves_with<E: Entry>(page: &Vec<E>, at: usize, x: E) -> Result<(Vec<E>, Vec<E>), AllocError>
     requires inside { at ≤ length page.now.items }
     requires full { length page.now.items ≡ FULL }
@@ -81,6 +82,7 @@ fn halves_with<E: Entry>(page: &Vec<E>, at: usize, x: E) -> Result<(Vec<E>, Vec<
 {
     let mut left = with_entry(page, at, x)?;
     let right = left.split_off(FULL / 2)?;
+    left.shrink_to_fit();
     Ok((left, right))
 }
 
