@@ -21,7 +21,7 @@ use Rattle.tombstones.specs.Covering.{covered}
 use Rattle.block.specs.declared.blocks.Files.{Files}
 use Rattle.block.specs.declared.blocks.Block.TheInside.{Inside}
 use Rattle.block.specs.Blocks.{Shown, shown_of, row_of, part_of}
-use Rattle.block.specs.Named.{AreNamed}
+use Rattle.block.specs.CarriedPairs.{AreNamed}
 use Rattle.block.specs.Samples.{samples_in}
 use Rattle.block.specs.Sound.{AreInTurn, IsStored, IsSound}
 use Rattle.block.specs.Wanted.{AreHeld}

@@ -1,4 +1,4 @@
--- The pairs that a part's series carry, and the values of a name among them.
+-- Laws of the pairs that a part's series carry: the values of a name among them.
 use Rattle.std.proofs.Common.{◌≡◌, ℕ, zero, suc, ◌+◌, ◌<◌, Bool, true, false, cond, ◌&&◌, ◌||◌, inl, inr, List, [], ◌∷◌, length, map, get_or, refl, sym, ◌∙◌, ap, subst, arith}
 use Rattle.std.specs.Prelude.{filter}
 use Rattle.std.specs.List.{Contains, AllByRecursion, list_any}
@@ -13,24 +13,7 @@ use Rattle.labels.proofs.PartRows.{some_row, row_kept, carried_itself}
 use Rattle.labels.proofs.Times.{true_not_false}
 use Rattle.postings.specs.Values.{AreAscending, AreValuesOf}
 use Rattle.index_reader.specs.Indexes.{values_of}
-
--- a name and a value
-abbrev pub Pair : Type 0
-Pair = List ℕ × List ℕ
-
--- pairs strictly in their order
-abbrev pub AreInOrder : List Pair → Type 0
-AreInOrder pairs =
-    (k : ℕ) → k + 1 < length pairs
-    → pair_cmp (get_or pairs k ([], [])) (get_or pairs (k + 1) ([], [])) ≡ Less
-
--- the pairs, in their order, are exactly those that series of the part carry
-pub record AreNamed (part : Part) (pairs : List Pair) : Type 0 where
-  pub in_order : AreInOrder pairs
-  pub carried : (name value : List ℕ) → Contains pairs (name, value)
-      → references_where (carries name value) part ≡ [] → ⊥
-  pub absent : (name value : List ℕ) → (Contains pairs (name, value) → ⊥)
-      → references_where (carries name value) part ≡ []
+use Rattle.block.specs.CarriedPairs.{Pair, AreInOrder, AreNamed}
 
 -- the order of the values
 
