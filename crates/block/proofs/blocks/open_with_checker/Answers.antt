@@ -12,7 +12,7 @@ use Rattle.index_reader.specs.Indexes.{IsConsistent}
 use Rattle.index_reader.specs.Checks.{indexed_of}
 use Rattle.index_reader.specs.Outcome as index_outcome
 use Rattle.index_reader.specs.Spelled.{IsIndex}
-use Rattle.block.proofs.blocks.opened.Goals as goal
+use Rattle.block.proofs.blocks.open_with_checker.Goals as goal
 
 pub returns-in_err-index-clause-exact : goal.returns-in_err-index-clause-exact
 returns-in_err-index-clause-exact g c =
