@@ -6,7 +6,7 @@ ghost use Rattle.labels.specs.Ascending.{first_of};
 ghost use Rattle.labels.specs.Parts.{references, live_references};
 
 use crate::blocks::Block;
-use crate::wanted::Times;
+use crate::samples::Times;
 use labels::SeriesRef;
 use postings::Postings;
 

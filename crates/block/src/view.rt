@@ -8,7 +8,7 @@ ghost use Rattle.block.specs.CarriedPairs.{AreNamed};
 use crate::blocks::Block;
 use crate::live_list::LiveList;
 use crate::raw_list::RawList;
-use crate::wanted::Times;
+use crate::samples::Times;
 use labels::{LabelSet, Sample, SeriesRef};
 use postings::Source;
 use std::alloc::{AllocError, Global};

@@ -1,6 +1,6 @@
 use Rattle.std.proofs.Common.{◌≡◌, ◌++◌, ℤ, drop, filter}
 use Rattle.block.specs.Wanted.{is_wanted}
-use Rattle.block.proofs.wanted.push_wanted.Given as goal
+use Rattle.block.proofs.samples.push_wanted.Given as goal
 
 abbrev pub invariant-loop-i : goal.invariant-loop-i
 invariant-loop-i l =

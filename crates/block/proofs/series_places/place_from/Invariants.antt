@@ -1,6 +1,6 @@
 use Rattle.std.proofs.Common.{ℕ, ◌-◌, ◌<◌, ◌≤◌, length, get_or}
 use Rattle.index_reader.specs.Indexes.{references}
-use Rattle.block.proofs.halving.place_from.Given as goal
+use Rattle.block.proofs.series_places.place_from.Given as goal
 
 abbrev pub invariant-loop-low : goal.invariant-loop-low
 invariant-loop-low l = record {

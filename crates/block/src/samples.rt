@@ -53,7 +53,7 @@ impl<'a> Wanted<'a> {
 }
 
 /// The chunks whose times meet the range. They stand side by side, and are found by halving.
-fn meeting(series: &[Chunk], times: Times) -> &[Chunk]
+fn meeting_chunks(series: &[Chunk], times: Times) -> &[Chunk]
     requires { AreInTurn series.now }
     ensures { result.now ≡ filter (meets times.from times.to) series.now }
 {
@@ -103,7 +103,7 @@ pub(crate) fn push_each(
         ++ filter (λ (s : ℤ × ℤ). is_wanted wanted.now.tombstones.now wanted.now.reference
         wanted.now.times.from wanted.now.times.to s.0) (samples_in chunks.now series.now)) }
 {
-    let met = meeting(series, wanted.times);
+    let met = meeting_chunks(series, wanted.times);
     for chunk in met {
         push_wanted(found, &chunk_samples(chunks, *chunk), wanted)?;
     }
@@ -160,7 +160,7 @@ pub(crate) fn is_any_wanted(chunks: &Chunks, series: &[Chunk], wanted: &Wanted<'
         ≡ list_any (λ (s : ℤ × ℤ). is_wanted wanted.now.tombstones.now wanted.now.reference
         wanted.now.times.from wanted.now.times.to s.0) (samples_in chunks.now series.now) }
 {
-    let met = meeting(series, wanted.times);
+    let met = meeting_chunks(series, wanted.times);
     if has_wanted_end(met, wanted) {
         return true;
     }

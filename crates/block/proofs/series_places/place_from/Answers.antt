@@ -3,7 +3,7 @@ use Rattle.std.proofs.lemmas.List.{length-map}
 use Rattle.std.proofs.lemmas.Option.{get_or_from_slice_get}
 use Rattle.index_reader.specs.Indexes.{Series, references}
 use Rattle.block.proofs.Places.{below_middle}
-use Rattle.block.proofs.halving.place_from.Goals as goal
+use Rattle.block.proofs.series_places.place_from.Goals as goal
 
 pub loop-low-preserved-then-number : goal.loop-low-preserved-then-number
 loop-low-preserved-then-number c =

@@ -1,7 +1,7 @@
 use Rattle.std.proofs.Common.{◌≡◌, ℤ, drop}
 use Rattle.std.specs.List.{list_any}
 use Rattle.block.specs.Wanted.{is_wanted}
-use Rattle.block.proofs.wanted.has_wanted.Given as goal
+use Rattle.block.proofs.samples.has_wanted.Given as goal
 
 abbrev pub invariant-loop-i : goal.invariant-loop-i
 invariant-loop-i l =

@@ -3,7 +3,7 @@ use Rattle.std.specs.List.{list_any}
 use Rattle.block.specs.Sound.{IsHeld}
 use Rattle.block.proofs.Passing.{held_at}
 use Rattle.block.proofs.Wanting.{is_asked, chunk_passed, chunk_found, chunks_ended}
-use Rattle.block.proofs.wanted.has_wanted_within.Goals as goal
+use Rattle.block.proofs.samples.has_wanted_within.Goals as goal
 
 pub chunk_samples-requires : goal.chunk_samples-requires
 chunk_samples-requires c =

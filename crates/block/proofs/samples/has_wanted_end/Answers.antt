@@ -1,7 +1,7 @@
 use Rattle.std.proofs.Common.{sym, ◌∙◌, arith}
 use Rattle.block.proofs.Passing.{any_ended}
 use Rattle.block.proofs.Wanting.{has_end, end_passed}
-use Rattle.block.proofs.wanted.has_wanted_end.Goals as goal
+use Rattle.block.proofs.samples.has_wanted_end.Goals as goal
 
 pub loop-chunk-preserved : goal.loop-chunk-preserved
 loop-chunk-preserved c =

@@ -3,7 +3,7 @@ use Rattle.std.specs.Prelude.{int_lt}
 use Rattle.std.proofs.lemmas.List.{take_rest}
 use Rattle.std.proofs.lemmas.List.Sorted.{IsPartitionPoint-from_clause}
 use Rattle.block.proofs.Meeting.{begins_parted, ends_parted, in_turn_take, met_is}
-use Rattle.block.proofs.wanted.meeting.Goals as goal
+use Rattle.block.proofs.samples.meeting_chunks.Goals as goal
 
 pub returns : goal.returns
 returns c =

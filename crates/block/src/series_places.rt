@@ -1,4 +1,4 @@
-//! Places of references among those of an index, found by halving.
+//! Places of series among those of an index, found by their references.
 
 ghost use Rattle.std.specs.Prelude.{◌≡◌, ℕ, ◌<◌, ◌≤◌, length, get_or, slice_get, Some, IfNone, IfSome};
 ghost use Rattle.std.specs.List.{Contains};

@@ -1,7 +1,7 @@
 use Rattle.std.proofs.Common.{sym, ◌∙◌, arith}
 use Rattle.block.proofs.Passing.{any_ended}
 use Rattle.block.proofs.Wanting.{is_asked, sample_passed, sample_found}
-use Rattle.block.proofs.wanted.has_wanted.Goals as goal
+use Rattle.block.proofs.samples.has_wanted.Goals as goal
 
 pub loop-i-preserved : goal.loop-i-preserved
 loop-i-preserved c =

@@ -1,7 +1,7 @@
 use Rattle.std.proofs.Common.{◌≡◌, ◌||◌, drop}
 use Rattle.std.specs.List.{list_any}
 use Rattle.block.specs.Wanted.{is_wanted}
-use Rattle.block.proofs.wanted.has_wanted_end.Given as goal
+use Rattle.block.proofs.samples.has_wanted_end.Given as goal
 
 abbrev pub invariant-loop-chunk : goal.invariant-loop-chunk
 invariant-loop-chunk l =

@@ -1,7 +1,7 @@
 use Rattle.std.proofs.Common.{◌≡◌, ◌++◌, ℤ, drop, filter}
 use Rattle.block.specs.Samples.{samples_in}
 use Rattle.block.specs.Wanted.{is_wanted}
-use Rattle.block.proofs.wanted.push_each.Given as goal
+use Rattle.block.proofs.samples.push_each.Given as goal
 
 abbrev pub invariant-loop-chunk : goal.invariant-loop-chunk
 invariant-loop-chunk l =

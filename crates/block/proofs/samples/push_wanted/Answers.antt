@@ -1,8 +1,8 @@
 use Rattle.std.proofs.Common.{ap, ◌∙◌, arith}
 use Rattle.block.proofs.Passing.{kept_ended}
 use Rattle.block.proofs.Wanting.{is_asked, sample_kept, sample_left}
-use Rattle.block.proofs.wanted.push_wanted.Goals as goal
-use Rattle.block.proofs.wanted.push_wanted.Goals.{then-has+in_ok-push, else-has}
+use Rattle.block.proofs.samples.push_wanted.Goals as goal
+use Rattle.block.proofs.samples.push_wanted.Goals.{then-has+in_ok-push, else-has}
 
 pub loop-i-preserved : goal.loop-i-preserved
 loop-i-preserved c =
