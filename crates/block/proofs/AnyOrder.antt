@@ -10,7 +10,7 @@ use Rattle.index_reader.specs.Indexes.{Series, Indexed}
 use Rattle.tombstones.specs.declared.deletion.Deletion.{Deletion}
 use Rattle.tombstones.specs.Covering.{covers, covered}
 use Rattle.block.specs.Samples.{samples_in, undeleted}
-use Rattle.block.specs.Blocks.{row_of, part_of, shown_of}
+use Rattle.block.specs.Blocks.{series_row, part_of, shown_of}
 use Rattle.block.specs.Opening.{is_known}
 
 pub covered_any_order : (xs ys : List Deletion) → IsPermutation xs ys → (reference : ℕ) (t : ℤ)
@@ -33,7 +33,7 @@ pub undeleted_any_order : (xs ys : List Deletion) → IsPermutation xs ys
 undeleted_any_order xs ys p reference samples = undeleted_same xs ys p reference samples
 
 pub row_any_order : (file : List ℕ) (xs ys : List Deletion) → IsPermutation xs ys → (s : Series)
-    → row_of file xs s ≡ row_of file ys s
+    → series_row file xs s ≡ series_row file ys s
 row_any_order file xs ys p s = ap (λ (samples : List (ℤ × ℤ)). (
   s.reference,
   (s.labels, samples),
@@ -44,7 +44,7 @@ pub part_any_order : (file : List ℕ) (xs ys : List Deletion) → IsPermutation
 part_any_order file xs ys p [] = refl
 part_any_order file xs ys p (s ∷ ss) =
     ap (λ (row : ℕ × Row). row ∷ part_of file xs ss) (row_any_order file xs ys p s)
-    ∙ ap (λ (rows : Part). row_of file ys s ∷ rows) (part_any_order file xs ys p ss)
+    ∙ ap (λ (rows : Part). series_row file ys s ∷ rows) (part_any_order file xs ys p ss)
 
 pub shown_any_order : (range : ℤ × ℤ) (file : List ℕ) (x : Indexed) (xs ys : List Deletion)
     → IsPermutation xs ys → shown_of range file x xs ≡ shown_of range file x ys

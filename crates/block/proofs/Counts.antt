@@ -13,7 +13,7 @@ use Rattle.index_reader.specs.Indexes.{Series, references, chunk_lists}
 use Rattle.tombstones.specs.declared.deletion.Deletion.{Deletion}
 use Rattle.tombstones.specs.Covering.{covered, has_deletion, holds}
 use Rattle.block.specs.Samples.{chunk_samples, samples_in, undeleted}
-use Rattle.block.specs.Blocks.{row_of, part_of, sample_count}
+use Rattle.block.specs.Blocks.{series_row, part_of, sample_count}
 use Rattle.block.specs.Sound.{IsStored}
 use Rattle.block.proofs.Steps.{take_next}
 
@@ -121,11 +121,11 @@ series_next ds file ss i r cs g h =
     ∙ ap (option_map (λ (x : Series). x.chunks)) at)
     ∙ h) in
     let e : part_of file ds (take (i + 1) ss)
-    ≡ part_of file ds (take i ss) ++ row_of file ds s ∷ [] =
-    map_more (row_of file ds) ss i none lt in
+    ≡ part_of file ds (take i ss) ++ series_row file ds s ∷ [] =
+    map_more (series_row file ds) ss i none lt in
     let n : sample_count (part_of file ds (take (i + 1) ss))
-    ≡ sample_count (part_of file ds (take i ss)) + sample_count (row_of file ds s ∷ []) =
-    ap sample_count e ∙ count_append (part_of file ds (take i ss)) (row_of file ds s ∷ []) in
+    ≡ sample_count (part_of file ds (take i ss)) + sample_count (series_row file ds s ∷ []) =
+    ap sample_count e ∙ count_append (part_of file ds (take i ss)) (series_row file ds s ∷ []) in
     let m : length (undeleted ds s.reference (samples_in file s.chunks))
     ≡ length (undeleted ds r (samples_in file cs)) =
     ap (λ (x : ℕ). length (undeleted ds x (samples_in file s.chunks))) one

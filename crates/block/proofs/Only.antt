@@ -18,7 +18,7 @@ use Rattle.tombstones.specs.declared.deletion.Deletion.{Deletion}
 use Rattle.tombstones.specs.Reading.{deletions_of}
 use Rattle.tombstones.proofs.Whole.{tombstones_again}
 use Rattle.block.specs.Samples.{or_none, chunk_read, chunk_samples, samples_in, undeleted}
-use Rattle.block.specs.Blocks.{Shown, row_of, part_of, shown_of}
+use Rattle.block.specs.Blocks.{Shown, series_row, part_of, shown_of}
 use Rattle.block.specs.Sound.{lies_in, IsHeld}
 use Rattle.block.specs.Opening.{each, chunk_check, series_check, is_few, is_known, is_inside, stored_of, deleted_of, block_of}
 use Rattle.block.specs.Grammar.{AreSpelled, AreRows, IsBlock}
@@ -115,7 +115,7 @@ pub record AreRead (range : ℤ × ℤ) (file : List ℕ) (deletions : List Dele
 row_same : (file : List ℕ) (deletions : List Deletion) (s : Series) (row : ℕ × Row)
     (samples : List (ℤ × ℤ)) → row.0 ≡ s.reference → row.1.0 ≡ s.labels
     → row.1.1 ≡ undeleted deletions s.reference samples → samples ≡ samples_in file s.chunks
-    → row ≡ row_of file deletions s
+    → row ≡ series_row file deletions s
 row_same file deletions s row samples reference labels kept same =
     ap (λ (r : ℕ). (r, (row.1.0, row.1.1))) reference
     ∙ ap (λ (l : List (List ℕ × List ℕ)). (s.reference, (l, row.1.1))) labels
@@ -132,7 +132,7 @@ rows_read range file deletions (s ∷ ss) (row ∷ rows) a =
     let r = a.0 in
     let samples = spelled_in file s.chunks r.samples r.spelled in
     let others = rows_read range file deletions ss rows a.1 in
-    let same : row ≡ row_of file deletions s =
+    let same : row ≡ series_row file deletions s =
     row_same file deletions s row r.samples r.reference r.labels r.kept samples.0 in
     record {
       stored = record {
@@ -142,7 +142,7 @@ rows_read range file deletions (s ∷ ss) (row ∷ rows) a =
       inside = (r.inside, others.inside);
       same =
           ap (λ (first : ℕ × Row). first ∷ rows) same
-          ∙ ap (λ (rest : Part). row_of file deletions s ∷ rest) others.same;
+          ∙ ap (λ (rest : Part). series_row file deletions s ∷ rest) others.same;
     }
 
 -- the whole

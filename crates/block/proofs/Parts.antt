@@ -22,7 +22,7 @@ use Rattle.tombstones.specs.declared.deletion.Deletion.{Deletion}
 use Rattle.tombstones.specs.Covering.{covered}
 use Rattle.block.specs.Ranges.{covers}
 use Rattle.block.specs.Samples.{chunk_samples, samples_in, undeleted}
-use Rattle.block.specs.Blocks.{row_of, part_of, AreInside}
+use Rattle.block.specs.Blocks.{series_row, part_of, AreInside}
 use Rattle.block.specs.Sound.{lies_in, IsHeld, IsStored, IsSound}
 use Rattle.block.proofs.Turns.{weaker, all_append, all_filter, is_below, is_upto, below, upto, span_of, sorted_in}
 
@@ -72,7 +72,7 @@ apart_from : (l : Labels) (file : List ℕ) (deletions : List Deletion) (ss : Li
     → same_labels l other.1.0 ≡ false
 apart_from l file deletions [] other less held = absurd (none_in_nil other held)
 apart_from l file deletions (s ∷ ss) other less held =
-    elim (Contains-cases (row_of file deletions s) (part_of file deletions ss) other held) [
+    elim (Contains-cases (series_row file deletions s) (part_of file deletions ss) other held) [
       | inl e ↦ subst (λ (row : ℕ × Row). same_labels l row.1.0 ≡ false) e (ap is_eq less.0)
       | inr rest ↦ apart_from l file deletions ss other less.1 rest
     ]

@@ -13,7 +13,7 @@ use Rattle.index_reader.specs.Indexes.{Series}
 use Rattle.tombstones.specs.declared.deletion.Deletion.{Deletion}
 use Rattle.tombstones.specs.Covering.{are_covered, covered}
 use Rattle.block.specs.Samples.{samples_in, undeleted}
-use Rattle.block.specs.Blocks.{row_of, part_of}
+use Rattle.block.specs.Blocks.{series_row, part_of}
 use Rattle.block.specs.Fewer.{is_among, row_without, part_without}
 use Rattle.block.proofs.Turns.{below, upto, is_upto}
 
@@ -69,7 +69,7 @@ part_fewer file rs from to ds held [] h = refl
 part_fewer file rs from to ds held (s ∷ ss) h =
     ap (λ (xs : List (ℤ × ℤ)). (s.reference, (s.labels, xs)) ∷ part_of file held ss)
     (fewer rs from to ds held h s.reference (samples_in file s.chunks))
-    ∙ ap (λ (rows : Part). row_without rs from to (row_of file ds s) ∷ rows)
+    ∙ ap (λ (rows : Part). row_without rs from to (series_row file ds s) ∷ rows)
     (part_fewer file rs from to ds held ss h)
 
 -- the same, of times as they were handed over

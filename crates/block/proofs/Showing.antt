@@ -20,8 +20,8 @@ use Rattle.tombstones.specs.declared.deletion.Deletion.{Deletion}
 use Rattle.tombstones.specs.Covering.{covered}
 use Rattle.block.specs.declared.blocks.Files.{Files}
 use Rattle.block.specs.declared.blocks.Block.TheInside.{Inside}
-use Rattle.block.specs.Blocks.{Shown, shown_of, row_of, part_of}
-use Rattle.block.specs.Named.{AreNamed}
+use Rattle.block.specs.Blocks.{Shown, shown_of, series_row, part_of}
+use Rattle.block.specs.CarriedPairs.{AreNamed}
 use Rattle.block.specs.Samples.{samples_in}
 use Rattle.block.specs.Sound.{AreInTurn, IsStored, IsSound}
 use Rattle.block.specs.Wanted.{AreHeld}
@@ -70,13 +70,13 @@ one_number a b h = grind (arith, nat_tests)
 module _ (file : List ℕ) (deletions : List Deletion) where
   row_here : (ss : List Series) (i : ℕ) (s : Series) → IsStrictlyIncreasing (indexes.references ss)
       → slice_get ss i ≡ Some s
-      → row_at s.reference (part_of file deletions ss) ≡ Some (row_of file deletions s).1
+      → row_at s.reference (part_of file deletions ss) ≡ Some (series_row file deletions s).1
   row_here [] i s rising h = absurd cc
   row_here (x ∷ xs) zero s rising h =
       let same : x ≡ s = cc in
       subst (λ (t : Series). row_at t.reference (part_of file deletions (x ∷ xs))
-      ≡ Some (row_of file deletions t).1) same
-      (ap (λ b. cond b (Some (row_of file deletions x).1)
+      ≡ Some (series_row file deletions t).1) same
+      (ap (λ b. cond b (Some (series_row file deletions x).1)
       (row_at x.reference (part_of file deletions xs))) (same_number x.reference))
   row_here (x ∷ xs) (suc i) s rising h =
       let size : length (indexes.references xs) ≡ length xs =
@@ -85,7 +85,7 @@ module _ (file : List ℕ) (deletions : List Deletion) where
       let at : Contains (indexes.references xs) s.reference = reference_in xs i s h in
       let lt : x.reference < s.reference =
       rising-head x.reference (indexes.references xs) rising s.reference at in
-      ap (λ b. cond b (Some (row_of file deletions x).1)
+      ap (λ b. cond b (Some (series_row file deletions x).1)
       (row_at s.reference (part_of file deletions xs))) (other_number x.reference s.reference lt)
       ∙ row_here xs i s (rising-tail x.reference (indexes.references xs) rising) h
     where
@@ -107,7 +107,8 @@ module _ (file : List ℕ) (deletions : List Deletion) where
       (row_nowhere ss r (λ c. none (there s.reference r (indexes.references ss) c)))
     where
       go : (b : Bool) → nat_eq s.reference r ≡ b → row_at r (part_of file deletions ss) ≡ None
-          → cond b (Some (row_of file deletions s).1) (row_at r (part_of file deletions ss)) ≡ None
+          → cond b (Some (series_row file deletions s).1) (row_at r (part_of file deletions ss))
+          ≡ None
       go true e ih =
           absurd (none (subst (λ (x : ℕ). Contains (indexes.references (s ∷ ss)) x)
           (one_number s.reference r e) (here s.reference (indexes.references ss))))
@@ -133,7 +134,7 @@ module _ (file : List ℕ) (deletions : List Deletion) where
   within_here from to ss i r cs row h g f =
       let p = came_from (λ (s : Series). s.reference) ss i r h in
       let q = came_from (λ (s : Series). s.chunks) ss i cs g in
-      let w = came_from (row_of file deletions) ss i row f in
+      let w = came_from (series_row file deletions) ss i row f in
       let same : p.0 ≡ q.0 = cc (p.1.0, q.1.0) in
       let other : p.0 ≡ w.0 = cc (p.1.0, w.1.0) in
       ap (λ (xs : List Chunk). filter (is_asked deletions r from to) (samples_in file xs))
@@ -144,7 +145,7 @@ module _ (file : List ℕ) (deletions : List Deletion) where
       (sym p.1.1)
       ∙ sym (filter-filter (λ (s : ℤ × ℤ). in_range from to s.0)
       (λ (s : ℤ × ℤ). not (covered deletions p.0.reference s.0)) (samples_in file p.0.chunks))
-      ∙ ap (λ (s : Series). within from to (row_of file deletions s).1.1) other
+      ∙ ap (λ (s : Series). within from to (series_row file deletions s).1.1) other
       ∙ ap (λ (x : ℕ × Row). within from to x.1.1) w.1.1
 
   pub row_stands : (ss : List Series) (i r : ℕ) → IsStrictlyIncreasing (indexes.references ss)
@@ -153,10 +154,10 @@ module _ (file : List ℕ) (deletions : List Deletion) where
       × (row_at r (part_of file deletions ss) ≡ Some row.1))
   row_stands ss i r rising h =
       let p = came_from (λ (s : Series). s.reference) ss i r h in (
-        row_of file deletions p.0,
+        series_row file deletions p.0,
         (
-          slice_get-map (row_of file deletions) ss i
-              ∙ ap (option_map (row_of file deletions)) p.1.0,
+          slice_get-map (series_row file deletions) ss i
+              ∙ ap (option_map (series_row file deletions)) p.1.0,
           ap (λ (x : ℕ). row_at x (part_of file deletions ss)) (sym p.1.1)
               ∙ row_here ss i p.0 rising p.1.0,
         ),
@@ -167,7 +168,7 @@ module _ (file : List ℕ) (deletions : List Deletion) where
       → slice_get (part_of file deletions ss) i ≡ Some row → l ≡ row.1.0
   set_here ss i l row g f =
       let q = came_from (λ (s : Series). s.labels) ss i l g in
-      let w = came_from (row_of file deletions) ss i row f in
+      let w = came_from (series_row file deletions) ss i row f in
       let same : q.0 ≡ w.0 = cc (q.1.0, w.1.0) in
       sym q.1.1 ∙ ap (λ (s : Series). s.labels) same ∙ ap (λ (x : ℕ × Row). x.1.0) w.1.1
 
@@ -178,7 +179,7 @@ module _ (file : List ℕ) (deletions : List Deletion) where
   live_here from to ss i r cs row h g f =
       let p = came_from (λ (s : Series). s.reference) ss i r h in
       let q = came_from (λ (s : Series). s.chunks) ss i cs g in
-      let w = came_from (row_of file deletions) ss i row f in
+      let w = came_from (series_row file deletions) ss i row f in
       let same : p.0 ≡ q.0 = cc (p.1.0, q.1.0) in
       let other : p.0 ≡ w.0 = cc (p.1.0, w.1.0) in
       ap (λ (xs : List Chunk). list_any (is_asked deletions r from to) (samples_in file xs))
@@ -189,7 +190,7 @@ module _ (file : List ℕ) (deletions : List Deletion) where
       (sym p.1.1)
       ∙ sym (any_filtered (λ (s : ℤ × ℤ). in_range from to s.0)
       (λ (s : ℤ × ℤ). not (covered deletions p.0.reference s.0)) (samples_in file p.0.chunks))
-      ∙ ap (λ (s : Series). has_sample from to (row_of file deletions s).1.1) other
+      ∙ ap (λ (s : Series). has_sample from to (series_row file deletions s).1.1) other
       ∙ ap (λ (x : ℕ × Row). has_sample from to x.1.1) w.1.1
 
   with_same : (name value : List ℕ) (ss : List Series) → references_with name value ss
@@ -202,7 +203,7 @@ module _ (file : List ℕ) (deletions : List Deletion) where
           → map (λ (t : Series). t.reference)
           (cond b (s ∷ filter (λ (t : Series). carries name value t.labels) ss)
           (filter (λ (t : Series). carries name value t.labels) ss))
-          ≡ map (λ (row : ℕ × Row). row.0) (cond b (row_of file deletions s
+          ≡ map (λ (row : ℕ × Row). row.0) (cond b (series_row file deletions s
           ∷ filter (λ (row : ℕ × Row). carries name value row.1.0) (part_of file deletions ss))
           (filter (λ (row : ℕ × Row). carries name value row.1.0) (part_of file deletions ss)))
       go true ih = ap (λ (rs : List ℕ). s.reference ∷ rs) ih
@@ -252,7 +253,7 @@ module _ (f : Files) (inside : Inside) (value : Shown) (e : f ≡ arc_value insi
 
   pub size_is : length f.index.series ≡ length value.part
   size_is =
-      sym (length-map f.index.series (row_of f.chunks inside.tombstones))
+      sym (length-map f.index.series (series_row f.chunks inside.tombstones))
       ∙ ap (λ (p : Part). length p) part_is
 
   pub lists_are : (name text : List ℕ)

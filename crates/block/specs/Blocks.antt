@@ -15,13 +15,13 @@ pub record Shown : Type 0 where
   pub pairs : List (List ℕ × List ℕ)
 
 -- a series: its reference, its label set, and the samples of its chunks less the deleted ones
-abbrev pub row_of : List ℕ → List Deletion → Series → ℕ × Row
-row_of chunks deletions s =
+abbrev pub series_row : List ℕ → List Deletion → Series → ℕ × Row
+series_row chunks deletions s =
     (s.reference, (s.labels, undeleted deletions s.reference (samples_in chunks s.chunks)))
 
 -- all series
 abbrev pub part_of : List ℕ → List Deletion → List Series → Part
-part_of chunks deletions series = map (row_of chunks deletions) series
+part_of chunks deletions series = map (series_row chunks deletions) series
 
 -- a range, the chunks' file, what the index holds and the deletions, as what a block shows
 abbrev pub shown_of : ℤ × ℤ → List ℕ → Indexed → List Deletion → Shown

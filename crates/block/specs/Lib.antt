@@ -13,6 +13,7 @@ pub mod Remaining
 pub mod Wanted
 pub mod Views
 pub mod LiveLists
-pub mod PartPlaces
-pub mod Named
+pub mod LawsOfLists
+pub mod CarriedPairs
+pub mod LawsOfPairs
 pub mod Shared

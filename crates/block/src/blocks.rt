@@ -59,7 +59,7 @@ impl Model for Block {
 }
 
 // The checks, and what they leave.
-fn opened<C: Checker>(
+fn open_with_checker<C: Checker>(
     checker: &C,
     alloc: Global,
     range: Range,
@@ -120,7 +120,7 @@ impl Block {
         ensures range { IfOk result (λ b. b.range ≡ range) }
     {
         let read = Index::open(alloc, index);
-        opened(&OneThread, alloc, range, index, read, chunks, tombstones)
+        open_with_checker(&OneThread, alloc, range, index, read, chunks, tombstones)
     }
 
     /// The same as [`Block::open`], with the checks of the chunks shared out over at most `threads`
@@ -146,7 +146,7 @@ impl Block {
     {
         let read = Index::open(alloc, index);
         let workers = Workers { rt, threads };
-        opened(&workers, alloc, range, index, read, chunks, tombstones)
+        open_with_checker(&workers, alloc, range, index, read, chunks, tombstones)
     }
 
     /// The same as [`Block::open_by`], where the index was opened before: `read` is what
@@ -174,7 +174,7 @@ impl Block {
         ensures range { IfOk result (λ b. b.range ≡ range) }
     {
         let by = Workers { rt, threads };
-        opened(&by, alloc, range, index, read, chunks, tombstones)
+        open_with_checker(&by, alloc, range, index, read, chunks, tombstones)
     }
 
     /// The times that the block covers.

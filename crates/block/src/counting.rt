@@ -8,7 +8,7 @@ ghost use Rattle.block.specs.Blocks.{part_of, sample_count};
 ghost use Rattle.block.specs.Sound.{IsHeld};
 ghost use Rattle.block.specs.Wanted.{AreHeld};
 
-use crate::wanted::chunk_samples;
+use crate::samples::chunk_samples;
 use chunk_reader::{Chunks, Samples};
 use index_reader::{Chunk, Index};
 use labels::SeriesRef;

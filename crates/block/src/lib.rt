@@ -28,16 +28,16 @@ mod blocks;
 mod checking;
 mod counting;
 mod error;
-mod halving;
 mod listing;
 mod live_list;
 mod meta;
 mod opening;
 mod range;
 mod raw_list;
+mod samples;
 mod series;
+mod series_places;
 mod view;
-mod wanted;
 
 pub use blocks::Block;
 pub use error::BlockError;

@@ -3,7 +3,7 @@
 ghost use Rattle.std.specs.Prelude.{◌≡◌, ◌<◌, length, slice_get, Some, IfOk};
 
 use crate::blocks::Block;
-use crate::wanted::Times;
+use crate::samples::Times;
 use labels::{Row, SeriesRef};
 use std::alloc::{AllocError, Global};
 

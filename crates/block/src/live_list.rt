@@ -6,7 +6,7 @@ ghost use Rattle.labels.specs.Ascending.{first_of};
 ghost use Rattle.labels.specs.Parts.{references, live_references};
 
 use crate::blocks::Block;
-use crate::wanted::Times;
+use crate::samples::Times;
 use labels::SeriesRef;
 use postings::Postings;
 
@@ -60,7 +60,8 @@ impl<'a> LiveList<'a> {
 
 impl<'a> Postings for LiveList<'a> {
     ghost use Rattle.labels.proofs.Lists.{not_below-twice};
-    ghost use Rattle.block.specs.LiveLists.{live_in, live_rises};
+    ghost use Rattle.block.specs.LawsOfLists.{live_rises};
+    ghost use Rattle.block.specs.LiveLists.{live_in};
 
     ghost remaining = { λ live. live_in live };
 

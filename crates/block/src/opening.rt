@@ -10,8 +10,8 @@ ghost use Rattle.block.specs.Opening.{have_few, is_known, stored_of, deleted_of}
 
 use crate::checking::Checker;
 use crate::error::BlockError;
-use crate::halving::place_of;
 use crate::range::Range;
+use crate::series_places::place_of;
 use chunk_reader::Chunks;
 use index_reader::{Chunk, Index, IndexError};
 use labels::SeriesRef;

@@ -6,8 +6,8 @@ ghost use Rattle.labels.specs.Parts.{carries, has_sample, labels_in, references,
 ghost use Rattle.index_reader.specs.Indexes.{values_of};
 
 use crate::blocks::Block;
-use crate::halving::{place_from, place_of};
-use crate::wanted::{Times, Wanted, is_any_wanted, push_each};
+use crate::samples::{Times, Wanted, is_any_wanted, push_each};
+use crate::series_places::{place_from, place_of};
 use index_reader::PostingsList;
 use labels::{LabelSet, Sample, SeriesRef};
 use std::alloc::{AllocError, Global};

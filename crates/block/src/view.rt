@@ -3,12 +3,12 @@
 ghost use Rattle.std.specs.Prelude.{◌≡◌, ℕ, ◌<◌, List, [], length, slice_get, Some, IfNone, IfSome, IfOk};
 ghost use Rattle.labels.specs.Parts.{IsPart, labels_in, row_at, samples_within};
 ghost use Rattle.labels.proofs.PartProps.{IsPart-prop};
-ghost use Rattle.block.specs.Named.{AreNamed};
+ghost use Rattle.block.specs.CarriedPairs.{AreNamed};
 
 use crate::blocks::Block;
 use crate::live_list::LiveList;
 use crate::raw_list::RawList;
-use crate::wanted::Times;
+use crate::samples::Times;
 use labels::{LabelSet, Sample, SeriesRef};
 use postings::Source;
 use std::alloc::{AllocError, Global};
@@ -66,7 +66,7 @@ impl<'a> BlockView<'a> {
 
 impl<'a> Source for BlockView<'a> {
     ghost use Rattle.index_reader.specs.Indexes.{values_of};
-    ghost use Rattle.block.specs.Named.{are_values_of};
+    ghost use Rattle.block.specs.LawsOfPairs.{are_values_of};
 
     type List = RawList<'a>;
 

@@ -41,14 +41,14 @@ pub(crate) fn index_file(alloc: Global, rows: &PartRows) -> Result<Vec<u8>, Writ
     let rows = rows.rows();
     let symbols = symbols_of(alloc, rows)?;
     let pairs = pairs_of(alloc, rows)?;
-    let file = spelled(alloc, &symbols, &pairs, rows)?;
+    let file = spell_index(alloc, &symbols, &pairs, rows)?;
     if file.len() > MAX_LEN {
         return Err(WriteError::Limit);
     }
     Ok(file)
 }
 
-fn spelled(
+fn spell_index(
     alloc: Global,
     symbols: &[&str],
     pairs: &[(&str, &str)],

@@ -2,7 +2,7 @@ use Rattle.std.proofs.Common.{subst}
 use Rattle.std.specs.Arc.{arc_value}
 use Rattle.labels.specs.Parts.{IsPart}
 use Rattle.block.specs.Blocks.{Shown}
-use Rattle.block.specs.Named.{AreNamed}
+use Rattle.block.specs.CarriedPairs.{AreNamed}
 use Rattle.block.proofs.Parts.{is_part}
 use Rattle.block.proofs.Showing.{named_in}
 use Rattle.block.proofs.blocks.Block.view.Goals as goal

@@ -1,0 +1,168 @@
+//! The samples of one series in a closed range of times, less those that are deleted.
+
+ghost use Rattle.std.specs.Prelude.{◌≡◌, ◌++◌, ◌||◌, ℤ, filter, OnOk};
+ghost use Rattle.std.specs.List.{list_any};
+ghost use Rattle.block.specs.Samples.{chunk_samples, samples_in};
+ghost use Rattle.block.specs.Sound.{AreInTurn, IsHeld};
+ghost use Rattle.block.specs.Wanted.{AreHeld, is_wanted, meets};
+
+use chunk_reader::{Chunks, Samples};
+use index_reader::Chunk;
+use labels::{Sample, SeriesRef};
+use std::alloc::AllocError;
+use tombstones::Tombstones;
+
+/// A closed range of times, in milliseconds.
+#[derive(Clone, Copy)]
+pub(crate) struct Times {
+    pub(crate) from: i64,
+    pub(crate) to: i64,
+}
+
+/// What is asked of a series: its samples in a range of times that are not deleted.
+#[derive(Drop)]
+pub(crate) struct Wanted<'a> {
+    pub(crate) tombstones: &'a Tombstones,
+    pub(crate) reference: SeriesRef,
+    pub(crate) times: Times,
+}
+
+impl<'a> Wanted<'a> {
+    fn is_time(&self, t: i64) -> bool
+        ensures { result ≡ is_wanted self.now.tombstones.now self.now.reference self.now.times.from
+            self.now.times.to t }
+    {
+        self.times.from <= t && t <= self.times.to && !self.tombstones.deleted(self.reference, t)
+    }
+
+    fn has(&self, sample: Sample) -> bool
+        ensures { result ≡ is_wanted self.now.tombstones.now self.now.reference self.now.times.from
+            self.now.times.to sample.0 }
+    {
+        self.is_time(sample.t())
+    }
+
+    /// Whether the first or the last time of the chunk is wanted.
+    fn has_end(&self, chunk: Chunk) -> bool
+        ensures { result ≡ (is_wanted self.now.tombstones.now self.now.reference self.now.times.from
+            self.now.times.to chunk.mint || is_wanted self.now.tombstones.now self.now.reference
+            self.now.times.from self.now.times.to chunk.maxt) }
+    {
+        self.is_time(chunk.mint) || self.is_time(chunk.maxt)
+    }
+}
+
+/// The chunks whose times meet the range. They stand side by side, and are found by halving.
+fn meeting_chunks(series: &[Chunk], times: Times) -> &[Chunk]
+    requires { AreInTurn series.now }
+    ensures { result.now ≡ filter (meets times.from times.to) series.now }
+{
+    let end = series.partition_point(|chunk| chunk.mint <= times.to);
+    let begun = &series[..end];
+    let start = begun.partition_point(|chunk| chunk.maxt < times.from);
+    &begun[start..]
+}
+
+/// The samples of a chunk, in place. No check of it is made again.
+pub(crate) fn chunk_samples(chunks: &Chunks, chunk: Chunk) -> Samples<'_>
+    requires { IsHeld chunks.now chunk }
+    ensures { result ≡ chunk_samples chunks.now chunk }
+{
+    chunks.stored(chunk.reference, chunk.mint, chunk.maxt)
+}
+
+fn push_wanted(
+    found: &mut Vec<Sample>,
+    samples: &Samples<'_>,
+    wanted: &Wanted<'_>,
+) -> Result<(), AllocError>
+    ensures { OnOk result (found.new.items
+        ≡ found.old.items ++ filter (λ (s : ℤ × ℤ). is_wanted wanted.now.tombstones.now
+        wanted.now.reference wanted.now.times.from wanted.now.times.to s.0) samples.now) }
+{
+    for i in 0..samples.len() {
+        let sample = samples.get(i);
+        if wanted.has(sample) {
+            found.push(sample)?;
+        }
+    }
+    Ok(())
+}
+
+/// Adds the samples that are wanted. It finds the chunks whose times meet the range by halving, and
+/// reads no other.
+pub(crate) fn push_each(
+    found: &mut Vec<Sample>,
+    chunks: &Chunks,
+    series: &[Chunk],
+    wanted: &Wanted<'_>,
+) -> Result<(), AllocError>
+    requires held { AreHeld chunks.now series.now }
+    requires in_turn { AreInTurn series.now }
+    ensures { OnOk result (found.new.items ≡ found.old.items
+        ++ filter (λ (s : ℤ × ℤ). is_wanted wanted.now.tombstones.now wanted.now.reference
+        wanted.now.times.from wanted.now.times.to s.0) (samples_in chunks.now series.now)) }
+{
+    let met = meeting_chunks(series, wanted.times);
+    for chunk in met {
+        push_wanted(found, &chunk_samples(chunks, *chunk), wanted)?;
+    }
+    Ok(())
+}
+
+fn has_wanted(samples: &Samples<'_>, wanted: &Wanted<'_>) -> bool
+    ensures { result ≡ list_any (λ (s : ℤ × ℤ). is_wanted wanted.now.tombstones.now
+        wanted.now.reference wanted.now.times.from wanted.now.times.to s.0) samples.now }
+{
+    for i in 0..samples.len() {
+        if wanted.has(samples.get(i)) {
+            return true;
+        }
+    }
+    false
+}
+
+/// Whether a chunk begins or ends with a sample that is wanted. It reads no chunk.
+fn has_wanted_end(series: &[Chunk], wanted: &Wanted<'_>) -> bool
+    ensures { result ≡ list_any (λ c. is_wanted wanted.now.tombstones.now wanted.now.reference
+        wanted.now.times.from wanted.now.times.to c.mint || is_wanted wanted.now.tombstones.now
+        wanted.now.reference wanted.now.times.from wanted.now.times.to c.maxt) series.now }
+{
+    for chunk in series {
+        if wanted.has_end(*chunk) {
+            return true;
+        }
+    }
+    false
+}
+
+/// Whether one of the samples is wanted. It reads the chunks up to the first that has one.
+fn has_wanted_within(chunks: &Chunks, series: &[Chunk], wanted: &Wanted<'_>) -> bool
+    requires { AreHeld chunks.now series.now }
+    ensures { result
+        ≡ list_any (λ (s : ℤ × ℤ). is_wanted wanted.now.tombstones.now wanted.now.reference
+        wanted.now.times.from wanted.now.times.to s.0) (samples_in chunks.now series.now) }
+{
+    for chunk in series {
+        if has_wanted(&chunk_samples(chunks, *chunk), wanted) {
+            return true;
+        }
+    }
+    false
+}
+
+/// Whether one of the samples is wanted. It finds the chunks whose times meet the range by halving;
+/// where the first or the last time of one of them says so it reads no chunk.
+pub(crate) fn is_any_wanted(chunks: &Chunks, series: &[Chunk], wanted: &Wanted<'_>) -> bool
+    requires held { AreHeld chunks.now series.now }
+    requires in_turn { AreInTurn series.now }
+    ensures { result
+        ≡ list_any (λ (s : ℤ × ℤ). is_wanted wanted.now.tombstones.now wanted.now.reference
+        wanted.now.times.from wanted.now.times.to s.0) (samples_in chunks.now series.now) }
+{
+    let met = meeting_chunks(series, wanted.times);
+    if has_wanted_end(met, wanted) {
+        return true;
+    }
+    has_wanted_within(chunks, met, wanted)
+}
