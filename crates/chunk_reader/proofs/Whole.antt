@@ -19,7 +19,7 @@ use Rattle.chunk_reader.specs.declared.error.ChunkError.{ChunkError}
 use Rattle.chunk_reader.specs.declared.error.ChunkError.TheVariants.{Magic, Version, Reference, Crc, XorEncoding, OtherEncoding, Shape, TimesDisagree}
 use Rattle.chunk_reader.specs.Grammar.{checked, chunk_text, body_text, sample_text, signed_text, plain, segment_of, time_at, IsChunk, IsSegment}
 use Rattle.wire.specs.Outcome.{Answers, or_refused}
-use Rattle.chunk_reader.specs.Reading.{opened, content_at, decoded, batch_in, is_outside, spans, samples_of}
+use Rattle.chunk_reader.specs.Reading.{opened, content_at, decode, batch_in, is_outside, spans, samples_of}
 use Rattle.chunk_reader.proofs.Batches.{IsBody, batch_takes, batch_again, length-body_text, eqb_same}
 use Rattle.chunk_reader.proofs.Rising.{and_true}
 use Rattle.chunk_reader.proofs.Spans.{int_eq-true, int_eq_same}
@@ -137,16 +137,16 @@ content_again encoding body rest fits lt =
 -- what the encoding says
 
 pub decoded_takes : (encoding : ℕ) (body : List ℕ) (samples : List (ℤ × ℤ)) → IsBytes body
-    → decoded encoding body ≡ Ok samples → (encoding ≡ plain) × IsBody body samples
-unfolding decoded
+    → decode encoding body ≡ Ok samples → (encoding ≡ plain) × IsBody body samples
+unfolding decode
 decoded_takes encoding body samples fits h =
     let a = not_failed (eqb encoding 1) XorEncoding _ samples h in
     let b = passed (eqb encoding plain) OtherEncoding _ samples a.1 in
     (eqb-true _ _ b.0, batch_takes body samples fits b.1)
 
 pub decoded_again : (samples : List (ℤ × ℤ)) (body : List ℕ) → batch_in body ≡ Ok samples
-    → decoded plain body ≡ Ok samples
-unfolding decoded
+    → decode plain body ≡ Ok samples
+unfolding decode
 decoded_again samples body h = h
 
 -- a chunk by its place
@@ -172,7 +172,7 @@ chunk_takes file reference mint maxt samples fits h =
     let bytes = drop reference file in
     let bytes_fits = IsBytes-drop reference file fits in
     let k = bind_ok (content_at bytes) _ samples a.1 in
-    let d = bind_ok (decoded k.0.0 k.0.1) _ samples k.2 in
+    let d = bind_ok (decode k.0.0 k.0.1) _ samples k.2 in
     let s = passed (spans mint maxt d.0) TimesDisagree _ samples d.2 in
     let front = content_takes bytes k.0 bytes_fits k.1 in
     let content_fits =
@@ -258,7 +258,7 @@ chunk_again file reference mint maxt samples x =
     (inside file reference (chunk_text plain body) rest x.stands.1 long) in
     let content : content_at (drop reference file) ≡ Ok (plain, body) =
     ap content_at x.stands.1 ∙ content_again plain body rest content_fits small in
-    let found : decoded plain body ≡ Ok samples =
+    let found : decode plain body ≡ Ok samples =
     decoded_again samples body (batch_again samples x.batch) in
     let first : int_eq (time_at samples 0) mint ≡ true = int_eq_same _ _ x.first in
     let last : int_eq (time_at samples (length samples - 1)) maxt ≡ true = int_eq_same _ _ x.last in

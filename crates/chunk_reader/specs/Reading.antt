@@ -54,8 +54,8 @@ batch_in body =
     (MIN_TIME -ℤ pos 1) (samples_in (drop 2 body)) then Ok (samples_in (drop 2 body))
     else Err Shape
 
-unfoldable pub decoded : ℕ → List ℕ → Result (List (ℤ × ℤ)) ChunkError
-decoded encoding body =
+unfoldable pub decode : ℕ → List ℕ → Result (List (ℤ × ℤ)) ChunkError
+decode encoding body =
     if encoding == 1 then Err XorEncoding
     else if encoding == plain then batch_in body
     else Err OtherEncoding
@@ -75,5 +75,5 @@ samples_of file reference mint maxt =
     if is_outside file reference then Err Reference
     else (do
       content ← content_at (drop reference file)
-      samples ← decoded content.0 content.1
+      samples ← decode content.0 content.1
       if spans mint maxt samples then Ok samples else Err TimesDisagree)

@@ -5,7 +5,7 @@ ghost use Rattle.std.specs.List.{flat_map};
 ghost use Rattle.chunk_reader.specs.Grammar.{IsChunk, IsSegment, sample_text};
 ghost use Rattle.chunk_reader.specs.Outcome.{Gives};
 ghost use Rattle.wire.specs.Outcome.{Answers};
-ghost use Rattle.chunk_reader.specs.Reading.{batch_in, content_at, decoded, is_outside, opened, samples_of, spans};
+ghost use Rattle.chunk_reader.specs.Reading.{batch_in, content_at, decode, is_outside, opened, samples_of, spans};
 
 use crate::error::ChunkError;
 use crate::samples::{Samples, are_rising};
@@ -126,15 +126,11 @@ fn read_head(file: &[u8]) -> Result<(), ChunkError>
         return Err(ChunkError::Shape);
     }
     let mut cut = Cut::new(file);
-    let Ok(magic) = cut.be32() else {
-        return Err(ChunkError::Magic);
-    };
+    let magic = cut.be32().or(Err(ChunkError::Magic))?;
     if magic != MAGIC {
         return Err(ChunkError::Magic);
     }
-    let Ok(version) = cut.be32() else {
-        return Err(ChunkError::Version);
-    };
+    let version = cut.be32().or(Err(ChunkError::Version))?;
     if version != VERSION {
         return Err(ChunkError::Version);
     }
@@ -165,7 +161,7 @@ fn samples_of(file: &[u8], reference: u64, mint: i64, maxt: i64) -> Result<Sampl
     }
     let (_, bytes) = file.split_at(reference as usize);
     let (encoding, body) = content_of(bytes)?;
-    let samples = decoded(encoding, body)?;
+    let samples = decode(encoding, body)?;
     if !has_span(&samples, mint, maxt) {
         return Err(ChunkError::TimesDisagree);
     }
@@ -177,18 +173,12 @@ fn content_of(bytes: &[u8]) -> Result<(u8, &[u8]), ChunkError>
     ensures { Answers (λ x. (x.0, x.1.now)) result (content_at bytes.now) }
 {
     let mut cut = Cut::new(bytes);
-    let Ok(len) = cut.uvarint() else {
-        return Err(ChunkError::Crc);
-    };
+    let len = cut.uvarint().or(Err(ChunkError::Crc))?;
     if cut.len() as u64 <= len {
         return Err(ChunkError::Crc);
     }
-    let Ok(content) = cut.bytes(len as usize + 1) else {
-        return Err(ChunkError::Crc);
-    };
-    let Ok(sum) = cut.be32() else {
-        return Err(ChunkError::Crc);
-    };
+    let content = cut.bytes(len as usize + 1).or(Err(ChunkError::Crc))?;
+    let sum = cut.be32().or(Err(ChunkError::Crc))?;
     if sum != crc32c(content) {
         return Err(ChunkError::Crc);
     }
@@ -196,9 +186,9 @@ fn content_of(bytes: &[u8]) -> Result<(u8, &[u8]), ChunkError>
     Ok((encoding[0], body))
 }
 
-#[tactic(auto, unfolding(crate::specs::Reading::decoded))]
-fn decoded(encoding: u8, body: &[u8]) -> Result<Samples<'_>, ChunkError>
-    ensures exact { Answers (λ s. s) result (decoded encoding body.now) }
+#[tactic(auto, unfolding(crate::specs::Reading::decode))]
+fn decode(encoding: u8, body: &[u8]) -> Result<Samples<'_>, ChunkError>
+    ensures exact { Answers (λ s. s) result (decode encoding body.now) }
     ensures some { IfOk result (λ s. 0 < length s) }
 {
     if encoding == XOR {

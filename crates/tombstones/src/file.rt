@@ -33,15 +33,11 @@ fn entries_of(file: &[u8]) -> Result<&[u8], TombstoneError>
     ensures { Gives (λ x. x.now) result (entries_of file.now) }
 {
     let mut cut = Cut::new(file);
-    let Ok(magic) = cut.be32() else {
-        return Err(TombstoneError::Magic);
-    };
+    let magic = cut.be32().or(Err(TombstoneError::Magic))?;
     if magic != MAGIC {
         return Err(TombstoneError::Magic);
     }
-    let Ok(version) = cut.u8() else {
-        return Err(TombstoneError::Version);
-    };
+    let version = cut.u8().or(Err(TombstoneError::Version))?;
     if version != VERSION {
         return Err(TombstoneError::Version);
     }
@@ -56,12 +52,10 @@ fn checked_of(behind: &[u8]) -> Result<&[u8], TombstoneError>
     ensures { Gives (λ x. x.now) result (checked_at behind.now) }
 {
     let mut cut = Cut::new(behind);
-    let Ok(entries) = cut.bytes(behind.len().saturating_sub(4)) else {
-        return Err(TombstoneError::Shape);
-    };
-    let Ok(sum) = cut.be32() else {
-        return Err(TombstoneError::Shape);
-    };
+    let entries = cut
+        .bytes(behind.len().saturating_sub(4))
+        .or(Err(TombstoneError::Shape))?;
+    let sum = cut.be32().or(Err(TombstoneError::Shape))?;
     if sum != crc32c(entries) {
         return Err(TombstoneError::Crc);
     }
@@ -86,15 +80,9 @@ fn entry_of(bytes: &[u8]) -> Result<(Deletion, &[u8]), TombstoneError>
     ensures { Gives (λ x. (x.0, x.1.now)) result (entry_at bytes.now) }
 {
     let mut cut = Cut::new(bytes);
-    let Ok(reference) = cut.uvarint() else {
-        return Err(TombstoneError::Shape);
-    };
-    let Ok(from) = cut.varint() else {
-        return Err(TombstoneError::Shape);
-    };
-    let Ok(to) = cut.varint() else {
-        return Err(TombstoneError::Shape);
-    };
+    let reference = cut.uvarint().or(Err(TombstoneError::Shape))?;
+    let from = cut.varint().or(Err(TombstoneError::Shape))?;
+    let to = cut.varint().or(Err(TombstoneError::Shape))?;
     if reference > MAX_REFERENCE {
         return Err(TombstoneError::Shape);
     }
