@@ -6,9 +6,29 @@
 //! that spell an index (`IsIndex`): a file is opened exactly where it spells one, and gives what it
 //! spells. Postings are not trusted: the pairs that are listed must be exactly those that series
 //! carry, and each list the references of the series that carry its pair. Numbers of a file are
-//! compared before anything is reserved for them. It stands on `labels`, `wire` and `byteorder`.
-//! The format is that of Prometheus's TSDB format documents; that a reference is the sixteenth part
-//! of an offset, and that nothing else may stand between entries than zeros, is this project's own.
+//! compared before anything is reserved for them.
+//!
+//! ```
+//! // The symbols, one series, its lists, the table of offsets, and the table of contents.
+//! let file = b"\xBA\xAA\xD7\0\x02\0\0\0\x10\0\0\0\x02\x08__name__\x02up\x10\x7D\x8B\x61\0\0\0\
+//!     \x07\x01\0\x01\x01\x14\0\x08\x52\xCC\x02\xEE\
+//!     \0\0\0\x08\0\0\0\x01\0\0\0\x02\x55\x02\xAD\xD1\
+//!     \0\0\0\x08\0\0\0\x01\0\0\0\x02\x55\x02\xAD\xD1\
+//!     \0\0\0\x16\0\0\0\x02\x02\0\0\x2C\x02\x08__name__\x02up\x3C\x5D\x2C\xBB\xFD\
+//!     \0\0\0\0\0\0\0\x05\0\0\0\0\0\0\0\x20\0\0\0\0\0\0\0\0\0\0\0\0\0\0\0\0\
+//!     \0\0\0\0\0\0\0\x2C\0\0\0\0\0\0\0\x4C\x9B\xFB\x29\x66";
+//! let index = Index::open(alloc, file)?;
+//! assert_eq!(rt; index.len(), 1);
+//! assert_eq!(rt; index.reference_at(0), SeriesRef::new(2));
+//! assert_eq!(rt; index.labels_at(alloc, 0)?.value("__name__"), "up");
+//! assert!(rt; index.postings("job", "a").is_none());
+//! let refused = Index::open(alloc, b"no index").err();
+//! assert_eq!(rt; refused, Some(IndexError::TooShort));
+//! ```
+//!
+//! It stands on `labels`, `wire` and `byteorder`. The format is that of Prometheus's TSDB format
+//! documents; that a reference is the sixteenth part of an offset, and that nothing else may stand
+//! between entries than zeros, is this project's own.
 //!
 //! Rooms: `layout` reads where the parts stand, `symbols` the texts, `series_entries` with `body`,
 //! `chunk` and `bodies` the series, `offset_table` with `keys` and `pairs` the pairs, `postings`

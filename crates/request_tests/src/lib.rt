@@ -10,6 +10,8 @@ mod asked;
 #[cfg(test)]
 mod bodies;
 #[cfg(test)]
+mod first_page;
+#[cfg(test)]
 mod heads;
 #[cfg(test)]
 mod limits;

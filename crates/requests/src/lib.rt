@@ -11,16 +11,41 @@
 //! A [`Refusal`] is one of `H1` to `H10`; its `reply` is the whole text that answers it.
 //! [`place_success_head`] puts before a body what makes it a reply, and [`done_reply`] is the one
 //! of a change that was made. The writing side and what is done with a request belong to the
-//! caller. It stands on `labels` and `matchers`, on `httparse` for heads, `form_urlencoded` for
-//! query strings, `serde_json` for bodies and `itoa` for digits; statuses are those of RFC 9110 and
-//! RFC 6585.
+//! caller.
 //!
-//! ```text
-//! match read_request(alloc, &mut inlet) {
-//!     Ok(Request::Cut(t)) => ..,                  // POST /cut with {"at":20}
-//!     Err(ReadError::Refused(refusal)) => send(outlet, refusal.reply(alloc)?.as_slice()),
-//!     ..
+//! ```
+//! #[derive(Drop)]
+//! struct Bytes<'a> {
+//!     rest: &'a [u8],
 //! }
+//!
+//! impl Inlet for Bytes<'_> {
+//!     ghost use Rattle.std.specs.Prelude.{Some};
+//!
+//!     ghost input = { λ bytes. Some bytes.rest.now };
+//!
+//!     ghost failed_reads = { λ _. 0 };
+//!
+//!     fn read(&mut self, buf: &mut [u8]) -> Result<usize, Fault> {
+//!         let count = self.rest.len().min(buf.len());
+//!         let (front, others) = self.rest.split_at(count);
+//!         buf[..count].copy_from_slice(front);
+//!         self.rest = others;
+//!         Ok(count)
+//!     }
+//! }
+//!
+//! let mut inlet = Bytes {
+//!     rest: b"POST /cut HTTP/1.1\r\nContent-Length: 9\r\n\r\n{\"at\":20}",
+//! };
+//! let request = read_request(rt.alloc(), &mut inlet)?;
+//! assert!(rt; matches!(request, Request::Cut(20)));
+//!
+//! let mut inlet = Bytes {
+//!     rest: b"GET /none HTTP/1.1\r\n\r\n",
+//! };
+//! let refused = read_request(rt.alloc(), &mut inlet).err();
+//! assert_eq!(rt; refused, Some(ReadError::Refused(Refusal::NoSuchPath)));
 //! ```
 //!
 //! The reply to `GET /none HTTP/1.1` and an empty line:
@@ -33,6 +58,10 @@
 //!
 //! {"refused":"H3"}
 //! ```
+//!
+//! It stands on `labels` and `matchers`, on `httparse` for heads, `form_urlencoded` for query
+//! strings, `serde_json` for bodies and `itoa` for digits; statuses are those of RFC 9110 and RFC
+//! 6585.
 #![tactic(auto)]
 
 mod changes;
