@@ -15,8 +15,8 @@ use Rattle.history.specs.Held.{buffers_of}
 use Rattle.history.specs.Steps.{Step}
 use Rattle.history.specs.Machine.{Machine, machine_step, Outcome, done, not_appended, refused, found}
 
--- the code's refusal is the step's; it is never that memory ran out
-pub record IsErrorOf (error : CommitError) (refusal : Refusal) : Type 0 where
+-- the error tells the step's refusal; it is never that memory ran out
+pub record TellsRefusal (error : CommitError) (refusal : Refusal) : Type 0 where
   pub step : IsStepRefusal {W = World} error (Err refusal)
   pub not_memory : error ≢ Memory
 
@@ -25,14 +25,14 @@ abbrev pub IsReply : Outcome → Reply → Type 0
 IsReply outcome Done = outcome ≡ done
 IsReply outcome (NotAppended error) = outcome ≡ not_appended error
 IsReply outcome (Refused error) =
-    (refusal : Refusal) × (outcome ≡ refused refusal) × IsErrorOf error refusal
+    (refusal : Refusal) × (outcome ≡ refused refusal) × TellsRefusal error refusal
 IsReply outcome (Rows rows) =
     (content : Content) × (outcome ≡ found content) × AreRows rows.items content
 
 -- the step's outcome is what was made, or its refusal
 abbrev pub IsSettled : Result World Refusal → Result SnapshotParts CommitError → Type 0
 IsSettled step (Ok s) = step ≡ Ok (world_of s)
-IsSettled step (Err error) = (refusal : Refusal) × (step ≡ Err refusal) × IsErrorOf error refusal
+IsSettled step (Err error) = (refusal : Refusal) × (step ≡ Err refusal) × TellsRefusal error refusal
 
 -- the reply is the step's, and new is the machine after it
 pub record IsStep (old : Machine) (step : Step) (reply : Reply) (new : Machine) : Type 0 where
