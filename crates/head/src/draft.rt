@@ -275,13 +275,9 @@ fn add_new(
     if draft.len() >= MAX_SERIES {
         return Err(CommitError::Limit);
     }
-    let Ok(series) = Series::new(alloc, labels, sample) else {
-        return Err(CommitError::Memory);
-    };
-    match begin(alloc, draft, order, series) {
-        Ok(()) => Ok(()),
-        Err(AllocError) => Err(CommitError::Memory),
-    }
+    let series = Series::new(alloc, labels, sample)?;
+    begin(alloc, draft, order, series)?;
+    Ok(())
 }
 
 /// Where the last series was found: its place, and its spot in the order.
