@@ -9,7 +9,7 @@ use Rattle.labels.proofs.RowLaws.{rows_of, rows_of-points_of}
 use Rattle.head.specs.Fits.{files_fit, fits}
 use Rattle.head.specs.Refusals.{Refusal, limit, cut_too_low, too_many_parts}
 use Rattle.head.specs.Worlds.{World, raised, cut_off, cut_at, cut}
-use Rattle.head.specs.Heads.{BlockPart, SnapshotParts, world_of, EndBy, IsSound}
+use Rattle.head.specs.Heads.{BlockPart, SnapshotParts, world_of, EndBy, IsSoundSnapshot}
 use Rattle.head.specs.Kept.{KeepsBlocks}
 use Rattle.head.specs.Cuts.{leaving, AreCutBlocks, written_if_fit}
 use Rattle.head.specs.Removing.{snapshot_cut}
@@ -83,7 +83,7 @@ count_is : (s : SnapshotParts) → (world_of s).blocks ≡ length s.blocks
 unfolding world_of
 count_is s = refl
 
-few_after : (t : ℤ) (s : SnapshotParts) (blocks : List BlockPart) → IsSound s → AreCutBlocks t s blocks → length blocks ≤ 63
+few_after : (t : ℤ) (s : SnapshotParts) (blocks : List BlockPart) → IsSoundSnapshot s → AreCutBlocks t s blocks → length blocks ≤ 63
 few_after t s blocks sound cases = elim cases [
   | inl e ↦ subst (λ (bs : List BlockPart). length bs ≤ 63) (sym e.1) sound.few
   | inr h ↦ subst (λ (bs : List BlockPart). length bs ≤ 63) (sym h.added) (let n = length-snoc s.blocks h.block in let room = h.room in omega arith)
@@ -97,7 +97,7 @@ off_is t s blocks cases = elim cases [
 ]
 
 -- what a cut gives is the world after
-pub cut_accepted : (t : ℤ) (s : SnapshotParts) (blocks : List BlockPart) → IsSound s → int_lt s.floor t ≡ true → AreCutBlocks t s blocks → cut_at fits (world_of s) t ≡ Ok (world_of (snapshot_cut t blocks s))
+pub cut_accepted : (t : ℤ) (s : SnapshotParts) (blocks : List BlockPart) → IsSoundSnapshot s → int_lt s.floor t ≡ true → AreCutBlocks t s blocks → cut_at fits (world_of s) t ≡ Ok (world_of (snapshot_cut t blocks s))
 cut_accepted t s blocks sound up cases =
     cut_in t s up ∙ off_is t s blocks cases ∙ ap Ok (sym (cut-world_of t blocks s sound (holds_of t s blocks cases)))
 
@@ -115,7 +115,7 @@ ends_more : (t : ℤ) (blocks : List BlockPart) (block : BlockPart) → block.ma
 ends_more t [] block is ends = (ap (λ m. int_le m t) is ∙ self t, tt)
 ends_more t (b ∷ bs) block is ends = (ends.0, ends_more t bs block is ends.1)
 
-ends_after : (t : ℤ) (s : SnapshotParts) (blocks : List BlockPart) → IsSound s → int_lt s.floor t ≡ true → AreCutBlocks t s blocks → EndBy t blocks
+ends_after : (t : ℤ) (s : SnapshotParts) (blocks : List BlockPart) → IsSoundSnapshot s → int_lt s.floor t ≡ true → AreCutBlocks t s blocks → EndBy t blocks
 ends_after t s blocks sound up cases =
     let old : EndBy t s.blocks = ends_later s.floor t s.blocks up sound.ends in
     elim cases [
@@ -123,7 +123,7 @@ ends_after t s blocks sound up cases =
       | inr h ↦ subst (EndBy t) (sym h.added) (ends_more t s.blocks h.block h.is.max old)
     ]
 
-pub cut_is_sound : (t : ℤ) (s : SnapshotParts) (blocks : List BlockPart) → IsSound s → is_time t ≡ true → int_lt s.floor t ≡ true → AreCutBlocks t s blocks → IsSound (snapshot_cut t blocks s)
+pub cut_is_sound : (t : ℤ) (s : SnapshotParts) (blocks : List BlockPart) → IsSoundSnapshot s → is_time t ≡ true → int_lt s.floor t ≡ true → AreCutBlocks t s blocks → IsSoundSnapshot (snapshot_cut t blocks s)
 cut_is_sound t s blocks sound time up cases = record {
   time = time;
   ends = ends_after t s blocks sound up cases;

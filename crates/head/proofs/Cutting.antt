@@ -12,7 +12,7 @@ use Rattle.labels.proofs.ContentLaws.{or_else, find-laid_over, same_content, ove
 use Rattle.labels.proofs.Times.{both_T, first_T, second_T, T_of, not_T, true_not_false, less_of, lt_of, below_of}
 use Rattle.labels.proofs.Restricting.{kept, find-kept, kept-++, kept-points_in}
 use Rattle.head.specs.Worlds.{raised, Newest}
-use Rattle.head.specs.Heads.{HeadSeries, BlockPart, SnapshotParts, newest_in, series_at, world_of, IsSoundSeries, IsSoundHead, AreBelow, IsSound}
+use Rattle.head.specs.Heads.{HeadSeries, BlockPart, SnapshotParts, newest_in, series_at, world_of, IsSoundSeries, IsSoundHead, AreBelow, IsSoundSnapshot}
 use Rattle.head.specs.Cuts.{leaving}
 use Rattle.head.specs.Removing.{series_kept, from_on, head_cut, snapshot_cut}
 use Rattle.head.proofs.HeadLaws.{head_points, find-head_points}
@@ -114,7 +114,7 @@ split false true x y none = twice x y
 split true false x y none = refl
 split false false x y none = refl
 
-pub content-cut : (t : ℤ) (blocks : List BlockPart) (s : SnapshotParts) → IsSound s → HoldCut t blocks s → (world_of (snapshot_cut t blocks s)).content ≡ (world_of s).content
+pub content-cut : (t : ℤ) (blocks : List BlockPart) (s : SnapshotParts) → IsSoundSnapshot s → HoldCut t blocks s → (world_of (snapshot_cut t blocks s)).content ≡ (world_of s).content
 content-cut t blocks s sound cut = same_content _ _ (is_sorted-world_of (snapshot_cut t blocks s)) (is_sorted-world_of s) (λ q.
     let whole : find point_cmp q (world_of s).content ≡ or_else (find point_cmp q (head_points s.head)) (find point_cmp q (blocks_of s)) = ap (find point_cmp q) (content-world_of s) ∙ find-laid_over q (head_points s.head) (blocks_of s) in
     ap (find point_cmp q) (content-world_of (snapshot_cut t blocks s))
@@ -128,7 +128,7 @@ content-cut t blocks s sound cut = same_content _ _ (is_sorted-world_of (snapsho
     ∙ sym whole)
 
 -- the world after a cut
-pub cut-world_of : (t : ℤ) (blocks : List BlockPart) (s : SnapshotParts) → IsSound s → HoldCut t blocks s → world_of (snapshot_cut t blocks s) ≡ record (raised (world_of s) t) { blocks = length blocks }
+pub cut-world_of : (t : ℤ) (blocks : List BlockPart) (s : SnapshotParts) → IsSoundSnapshot s → HoldCut t blocks s → world_of (snapshot_cut t blocks s) ≡ record (raised (world_of s) t) { blocks = length blocks }
 unfolding world_of
 cut-world_of t blocks s sound cut = λ i. record { content = content-cut t blocks s sound cut i; newest = newest-head_cut t s.head i; floor = t; blocks = length blocks }
 
@@ -143,7 +143,7 @@ not_below_floor floor t u up high =
       | false ↦ λ e. refl
     ] refl
 
-pub none_above_cut : (t : ℤ) (blocks : List BlockPart) (s : SnapshotParts) → IsSound s → HoldCut t blocks s → int_lt s.floor t ≡ true → AreBelow t blocks
+pub none_above_cut : (t : ℤ) (blocks : List BlockPart) (s : SnapshotParts) → IsSoundSnapshot s → HoldCut t blocks s → int_lt s.floor t ≡ true → AreBelow t blocks
 none_above_cut t blocks s sound cut up = record {
   none = λ l u high.
       cut.holds (l, u)

@@ -11,7 +11,7 @@ use Rattle.labels.proofs.Times.{both_T, first_T, second_T, true_not_false}
 use Rattle.matchers.specs.Views.{MatcherView}
 use Rattle.matchers.specs.Satisfies.{satisfies_all}
 use Rattle.head.specs.Worlds.{deleted}
-use Rattle.head.specs.Heads.{HeadSeries, BlockPart, SnapshotParts, newest_in, numbered, head_part, parts_of, world_of, series_at, IsSoundSeries, IsSoundHead, EndBy, IsSound}
+use Rattle.head.specs.Heads.{HeadSeries, BlockPart, SnapshotParts, newest_in, numbered, head_part, parts_of, world_of, series_at, IsSoundSeries, IsSoundHead, EndBy, IsSoundSnapshot}
 use Rattle.head.specs.Kept.{frame_of}
 use Rattle.head.specs.Orders.{sets_of}
 use Rattle.head.specs.Removing.{series_kept, head_kept, blocks_kept, survives, snapshot_less}
@@ -94,7 +94,7 @@ ends_kept : (floor : ℤ) (p : Point → Bool) (blocks : List BlockPart) → End
 ends_kept floor p [] ends = tt
 ends_kept floor p (b ∷ bs) ends = (ends.0, ends_kept floor p bs ends.1)
 
-pub less_is_sound : (p : Point → Bool) (s : SnapshotParts) → IsSound s → IsSound (snapshot_less p s)
+pub less_is_sound : (p : Point → Bool) (s : SnapshotParts) → IsSoundSnapshot s → IsSoundSnapshot (snapshot_less p s)
 less_is_sound p s sound = record {
   few = subst (λ n. n ≤ 63) (sym (length-blocks_kept p s.blocks)) sound.few;
   time = sound.time;

@@ -20,7 +20,7 @@ use Rattle.labels.proofs.Times.{both_T, first_T, second_T, T_of, not_T}
 use Rattle.block.specs.Ranges.{covers}
 use Rattle.block_writer.specs.PartRows.{is_series, are_part_rows}
 use Rattle.block_writer.specs.SpellRows.{IsWithin, AreWithin}
-use Rattle.head.specs.Heads.{HeadSeries, SnapshotParts, world_of, IsSoundSeries, IsSoundHead, IsSound}
+use Rattle.head.specs.Heads.{HeadSeries, SnapshotParts, world_of, IsSoundSeries, IsSoundHead, IsSoundSnapshot}
 use Rattle.head.specs.HeadRows.{with_row, rows_within}
 use Rattle.head.specs.Cuts.{leaving, AreLeaving}
 use Rattle.head.specs.Removing.{outside, from_on, series_kept, series_less, head_cut}
@@ -41,7 +41,7 @@ cond_none true o e = e
 cond_none false o e = refl
 
 -- no block has a sample that leaves
-none_of_blocks : (t : ℤ) (s : SnapshotParts) → IsSound s → kept (λ q. not (int_lt q.1 s.floor) && int_lt q.1 t) (blocks_of s) ≡ []
+none_of_blocks : (t : ℤ) (s : SnapshotParts) → IsSoundSnapshot s → kept (λ q. not (int_lt q.1 s.floor) && int_lt q.1 t) (blocks_of s) ≡ []
 none_of_blocks t s sound =
     let p : Point → Bool = λ q. not (int_lt q.1 s.floor) && int_lt q.1 t in
     same_content (kept p (blocks_of s)) [] (is_sorted-where_key point_cmp p (blocks_of s) (is_sorted-below_of s)) tt (λ q.
@@ -52,7 +52,7 @@ none_of_blocks t s sound =
     ] refl)
 
 -- what leaves is what the head's rows from the floor up to the time list
-leaving_is : (t : ℤ) (s : SnapshotParts) → IsSound s → leaving t s ≡ laid_over (points_of (rows_within s.floor (t -ℤ pos 1) s.head)) []
+leaving_is : (t : ℤ) (s : SnapshotParts) → IsSoundSnapshot s → leaving t s ≡ laid_over (points_of (rows_within s.floor (t -ℤ pos 1) s.head)) []
 leaving_is t s sound =
     let p : Point → Bool = λ q. not (int_lt q.1 s.floor) && int_lt q.1 t in
     ap (kept p) (content-world_of s)
@@ -111,7 +111,7 @@ each_within from t floor (h ∷ hs) sound =
     ] (omega (arith, left, sound.0.few)) (inside_within from t h.samples)
 
 -- sorted, the rows from the floor up to the time are those of what leaves
-pub leaving_rows : (t : ℤ) (s : SnapshotParts) (found rows : List Row) → IsSound s → length s.head ≤ 1048576 → found ≡ rows_within s.floor (t -ℤ pos 1) s.head
+pub leaving_rows : (t : ℤ) (s : SnapshotParts) (found rows : List Row) → IsSoundSnapshot s → length s.head ≤ 1048576 → found ≡ rows_within s.floor (t -ℤ pos 1) s.head
     → IsPermutation found rows → IsSortedBy row_before rows → IsStableBy row_before found rows → AreLeaving t s rows
 leaving_rows t s found rows sound few is moved up stable =
     let floor = s.floor in

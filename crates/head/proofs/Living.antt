@@ -9,7 +9,8 @@ use Rattle.labels.specs.Ascending.{first_of}
 use Rattle.labels.specs.Parts.{has_sample, live_references, references, Part, IsPart}
 use Rattle.pages.specs.Pages.{IsPrefix}
 use Rattle.head.specs.Heads.{HeadSeries, head_part}
-use Rattle.head.specs.HeadLists.{rows_from, passed, settled_here, times_at}
+use Rattle.head.specs.HeadRows.{rows_from}
+use Rattle.head.specs.HeadRowLaws.{passed, settled_here, times_at}
 use Rattle.head.proofs.SlotLaws.{same_inside}
 
 -- what a place of a leaf holds

@@ -17,7 +17,7 @@ use Rattle.labels.proofs.ContentLaws.{or_else, find-laid_over, find-++, find-poi
 use Rattle.labels.proofs.Times.{true_not_false, missing, both_T, T_of}
 use Rattle.block.specs.Blocks.{Shown, AreInside}
 use Rattle.block.specs.Ranges.{covers}
-use Rattle.head.specs.Heads.{EndBy, IsSound}
+use Rattle.head.specs.Heads.{EndBy, IsSoundSnapshot}
 use Rattle.head.specs.Blocks.{part_in, EachInside, opening_floor}
 
 second_true : (a b : Bool) → (a && b) ≡ true → b ≡ true
@@ -103,7 +103,7 @@ ends_by floor from (b ∷ bs) above =
       ends_by floor next bs above,
     )
 
-pub opening_is_sound : (blocks : List Shown) (copied : ℕ) → length blocks ≤ 63 → EachInside blocks → is_time (opening_floor (map part_in blocks)) ≡ true → IsSound (record { blocks = map part_in blocks; head = []; floor = opening_floor (map part_in blocks); copied = copied })
+pub opening_is_sound : (blocks : List Shown) (copied : ℕ) → length blocks ≤ 63 → EachInside blocks → is_time (opening_floor (map part_in blocks)) ≡ true → IsSoundSnapshot (record { blocks = map part_in blocks; head = []; floor = opening_floor (map part_in blocks); copied = copied })
 opening_is_sound blocks copied few inside time = record {
   few = subst (λ n. n ≤ 63) (sym (length-map blocks part_in)) few;
   time = time;

@@ -5,7 +5,7 @@ use Rattle.std.proofs.Common.{sym, ◌∙◌, ap, subst, arith}
 use Rattle.std.proofs.lemmas.Bool.Decides.{nat_tests}
 use Rattle.head.specs.declared.error.CommitError.{CommitError}
 use Rattle.head.specs.declared.error.CommitError.TheVariants.{OutOfBounds, OutOfOrder, Duplicate, Limit, CutTooLow, TooManyParts, Seat, Memory}
-use Rattle.head.specs.Answers.{IsAnswer}
+use Rattle.head.specs.Outcomes.{IsStepRefusal}
 use Rattle.labels.specs.Labels.{Labels, same_labels}
 use Rattle.head.specs.Refusals.{Refusal, out_of_bounds, out_of_order, duplicate, limit}
 use Rattle.head.specs.Limits.{Limits, most}
@@ -95,7 +95,7 @@ head_added-new_added most head at l s e =
     ap (head_added_after most head at l s) is.0
     ∙ ap (λ (ts : List HeadSeries). if nat_le most.series (length head) then Err limit else Ok ts) is.1
 
-answer_with : (e : CommitError) (head : List HeadSeries) (k : ℕ) (r : Result HeadSeries Refusal) → IsAnswer e r → IsAnswer e (with_series head k r)
+answer_with : (e : CommitError) (head : List HeadSeries) (k : ℕ) (r : Result HeadSeries Refusal) → IsStepRefusal e r → IsStepRefusal e (with_series head k r)
 answer_with (OutOfBounds n) head k r is = ap (with_series head k) is
 answer_with (OutOfOrder n) head k r is = ap (with_series head k) is
 answer_with (Duplicate n) head k r is = ap (with_series head k) is
@@ -107,14 +107,14 @@ answer_with Memory head k r is = tt
 
 -- the outcome at the series is that at the head
 pub carried : {V : Type 0} (res : Result V CommitError) (head : List HeadSeries) (k : ℕ) (new : HeadSeries) (r : Result HeadSeries Refusal) (q : Result (List HeadSeries) Refusal) → q ≡ with_series head k r →
-    MatchResult res (λ _. r ≡ Ok new) (λ e. IsAnswer e r) → MatchResult res (λ _. q ≡ Ok (slice_set head k new)) (λ e. IsAnswer e q)
+    MatchResult res (λ _. r ≡ Ok new) (λ e. IsStepRefusal e r) → MatchResult res (λ _. q ≡ Ok (slice_set head k new)) (λ e. IsStepRefusal e q)
 carried (Ok u) head k new r q e is = e ∙ ap (with_series head k) is
-carried (Err f) head k new r q e is = subst (IsAnswer f) (sym e) (answer_with f head k r is)
+carried (Err f) head k new r q e is = subst (IsStepRefusal f) (sym e) (answer_with f head k r is)
 
 -- the outcome of an equal step
 pub same_outcome : {V : Type 0} (res : Result V CommitError) (new : List HeadSeries) (r q : Result (List HeadSeries) Refusal) → q ≡ r →
-    MatchResult res (λ _. r ≡ Ok new) (λ e. IsAnswer e r) → MatchResult res (λ _. q ≡ Ok new) (λ e. IsAnswer e q)
-same_outcome res new r q e is = subst (λ k. MatchResult res (λ _. k ≡ Ok new) (λ f. IsAnswer f k)) (sym e) is
+    MatchResult res (λ _. r ≡ Ok new) (λ e. IsStepRefusal e r) → MatchResult res (λ _. q ≡ Ok new) (λ e. IsStepRefusal e q)
+same_outcome res new r q e is = subst (λ k. MatchResult res (λ _. k ≡ Ok new) (λ f. IsStepRefusal f k)) (sym e) is
 
 -- a time that is not below the floor
 pub head_added-inside : (most : Limits) (floor : ℤ) (head : List HeadSeries) (at : ℕ) (l : Labels) (s : ℤ × ℤ) → int_lt s.0 floor ≡ false →

@@ -14,7 +14,7 @@ use Rattle.head.specs.Limits.{Limits}
 use Rattle.head.specs.Worlds.{World, joined, joined_in, added_after, added, added_each, committed}
 use Rattle.labels.specs.Rows.{points_in}
 use Rattle.labels.specs.Parts.{laid_over, over}
-use Rattle.head.specs.Heads.{HeadSeries, newest_in, head_part, SnapshotParts, world_of, series_at, IsSoundSeries, IsSoundHead, IsSound}
+use Rattle.head.specs.Heads.{HeadSeries, newest_in, head_part, SnapshotParts, world_of, series_at, IsSoundSeries, IsSoundHead, IsSoundSnapshot}
 use Rattle.head.specs.Taking.{grown, extended, head_added, head_added_after, head_added_each}
 use Rattle.labels.proofs.OrderLaws.{point_total, point_exact, same_turn}
 use Rattle.labels.proofs.ContentLaws.{or_else, or_else_cond, or_else_none, find-laid_over, is_sorted-laid_over, is_sorted-over, same_content, over-last, find-points_in, length-points_in, is_sorted-points_in}
@@ -39,7 +39,7 @@ pub is_sorted-world_of : (s : SnapshotParts) → T (is_sorted point_cmp (world_o
 is_sorted-world_of s = subst (λ c. T (is_sorted point_cmp c)) (sym (content-world_of s)) (is_sorted-laid_over (head_points s.head) (below_of s) (is_sorted-below_of s))
 
 -- a sample is the head's, or else the blocks'
-pub find-world_of : (s : SnapshotParts) (l : Labels) (t : ℤ) → IsSound s → find point_cmp (l, t) (world_of s).content ≡ or_else (find int_cmp t (samples_at l s.head)) (find point_cmp (l, t) (below_of s))
+pub find-world_of : (s : SnapshotParts) (l : Labels) (t : ℤ) → IsSoundSnapshot s → find point_cmp (l, t) (world_of s).content ≡ or_else (find int_cmp t (samples_at l s.head)) (find point_cmp (l, t) (below_of s))
 find-world_of s l t sound =
     ap (find point_cmp (l, t)) (content-world_of s)
     ∙ find-laid_over (l, t) (head_points s.head) (below_of s)
@@ -66,7 +66,7 @@ none_below floor t None low sound = refl
 none_below floor t (Some h) low sound = missing (λ u. int_lt u floor) t h.samples low sound.above
 
 -- in a content, the samples of one label set from the floor on are those of its series
-counted : (s : SnapshotParts) (l l' : Labels) (t : ℤ) → IsSound s → (a b : Bool) → same_labels l l' ≡ a → int_lt t s.floor ≡ b →
+counted : (s : SnapshotParts) (l l' : Labels) (t : ℤ) → IsSoundSnapshot s → (a b : Bool) → same_labels l l' ≡ a → int_lt t s.floor ≡ b →
     cond (a && not b) (find point_cmp (l', t) (world_of s).content) None ≡ cond a (find int_cmp t (samples_at l s.head)) None
 counted s l l' t sound false b is low = refl
 counted s l l' t sound true true is low = sym (none_below s.floor t (series_at l s.head) low (sound_at s.floor l s.head sound.head))
@@ -76,7 +76,7 @@ counted s l l' t sound true false is low =
     ∙ or_else_none (find int_cmp t (samples_at l' s.head))
     ∙ ap (λ k. find int_cmp t (samples_at k s.head)) (sym (same_path l l' is))
 
-pub held_from-world_of : (s : SnapshotParts) (l : Labels) → IsSound s → held_from s.floor l (world_of s).content ≡ length (samples_at l s.head)
+pub held_from-world_of : (s : SnapshotParts) (l : Labels) → IsSoundSnapshot s → held_from s.floor l (world_of s).content ≡ length (samples_at l s.head)
 held_from-world_of s l sound =
     let p : Point → Bool = λ q. same_labels l q.0 && not (int_lt q.1 s.floor) in
     let alike : (q x : Point) → point_cmp q x ≡ Equal → p x ≡ p q = λ q x e. ap p (sym (point_exact q x e)) in
@@ -102,7 +102,7 @@ both_equal Less q = refl
 both_equal Equal q = refl
 both_equal Greater q = refl
 
-pub put-world_of : (s : SnapshotParts) (l : Labels) (x : ℤ × ℤ) → IsSound s → IsSound (record s { head = extended l x s.head }) → find int_cmp x.0 (samples_at l s.head) ≡ None →
+pub put-world_of : (s : SnapshotParts) (l : Labels) (x : ℤ × ℤ) → IsSoundSnapshot s → IsSoundSnapshot (record s { head = extended l x s.head }) → find int_cmp x.0 (samples_at l s.head) ≡ None →
     put point_cmp (l, x.0) x.1 (world_of s).content ≡ (world_of (record s { head = extended l x s.head })).content
 put-world_of s l x sound more none = same_content _ _
     (is_sorted-put point_cmp point_total (l, x.0) x.1 (world_of s).content (is_sorted-world_of s))
@@ -149,22 +149,22 @@ world_with s (Ok head) = Ok (world_of (record s { head = head }))
 world_with s (Err e) = Err e
 
 abbrev pub IsSoundWith : SnapshotParts → Result (List HeadSeries) Refusal → Type 0
-IsSoundWith s (Ok head) = IsSound (record s { head = head })
+IsSoundWith s (Ok head) = IsSoundSnapshot (record s { head = head })
 IsSoundWith s (Err e) = Unit {0}
 
 abbrev pub Follows : SnapshotParts → Result World Refusal → Result (List HeadSeries) Refusal → Type 0
 Follows s r q = (r ≡ world_with s q) × IsSoundWith s q
 
-joined-world_of : (s : SnapshotParts) (l : Labels) (x : ℤ × ℤ) → IsSound s → IsSound (record s { head = extended l x s.head }) → find int_cmp x.0 (samples_at l s.head) ≡ None → joined (world_of s) l x ≡ world_of (record s { head = extended l x s.head })
+joined-world_of : (s : SnapshotParts) (l : Labels) (x : ℤ × ℤ) → IsSoundSnapshot s → IsSoundSnapshot (record s { head = extended l x s.head }) → find int_cmp x.0 (samples_at l s.head) ≡ None → joined (world_of s) l x ≡ world_of (record s { head = extended l x s.head })
 unfolding world_of
 joined-world_of s l x sound more none = λ i. record { content = put-world_of s l x sound more none i; newest = with_newest-newest_in l x s.head i; floor = s.floor; blocks = length s.blocks }
 
-joins : (s : SnapshotParts) (l : Labels) (x : ℤ × ℤ) (a b : Bool) → a ≡ b → IsSound s → int_lt x.0 s.floor ≡ false → (b ≡ false → IfSeries (IsNext x) (series_at l s.head)) →
+joins : (s : SnapshotParts) (l : Labels) (x : ℤ × ℤ) (a b : Bool) → a ≡ b → IsSoundSnapshot s → int_lt x.0 s.floor ≡ false → (b ≡ false → IfSeries (IsNext x) (series_at l s.head)) →
     Follows s (if a then Err limit else Ok (joined (world_of s) l x)) (if b then Err limit else Ok (extended l x s.head))
 joins s l x a true e sound above less = (ap (λ c. if c then Err limit else Ok (joined (world_of s) l x)) e, tt)
 joins s l x a false e sound above less =
     let next = less refl in
-    let more : IsSound (record s { head = extended l x s.head }) = record { few = sound.few; time = sound.time; ends = sound.ends; head = IsSoundHead-extended s.floor l x s.head above sound.head next; blocks = sound.blocks } in (
+    let more : IsSoundSnapshot (record s { head = extended l x s.head }) = record { few = sound.few; time = sound.time; ends = sound.ends; head = IsSoundHead-extended s.floor l x s.head above sound.head next; blocks = sound.blocks } in (
       ap (λ c. if c then Err limit else Ok (joined (world_of s) l x)) e
           ∙ ap Ok (joined-world_of s l x sound more (none_later s.floor x (series_at l s.head) (sound_at s.floor l s.head sound.head) next)),
       more,
@@ -174,7 +174,7 @@ or_false : (a b : Bool) → b ≡ false → (a || b) ≡ a
 or_false true b e = refl
 or_false false b e = e
 
-follows_after : (most : Limits) (s : SnapshotParts) (at : ℕ) (l : Labels) (x : ℤ × ℤ) → IsSound s → nat_le most.samples 0 ≡ false → most.samples ≤ 1048576 → int_lt x.0 s.floor ≡ false →
+follows_after : (most : Limits) (s : SnapshotParts) (at : ℕ) (l : Labels) (x : ℤ × ℤ) → IsSoundSnapshot s → nat_le most.samples 0 ≡ false → most.samples ≤ 1048576 → int_lt x.0 s.floor ≡ false →
     (o : Option HeadSeries) → series_at l s.head ≡ o → Follows s (added_after most (world_of s) at l x (known_of o)) (head_added_after most s.head at l x o)
 unfolding world_of
 follows_after most s at l x sound room size above None is = joins s l x _ _
@@ -201,7 +201,7 @@ follows_after most s at l x sound room size above (Some h) is =
     ] refl
 
 -- the step at a head is the step of its world
-pub follows : (most : Limits) (s : SnapshotParts) (at : ℕ) (x : Labels × (ℤ × ℤ)) → IsSound s → nat_le most.samples 0 ≡ false → most.samples ≤ 1048576 → Follows s (added most (world_of s) at x) (head_added most s.floor s.head at x)
+pub follows : (most : Limits) (s : SnapshotParts) (at : ℕ) (x : Labels × (ℤ × ℤ)) → IsSoundSnapshot s → nat_le most.samples 0 ≡ false → most.samples ≤ 1048576 → Follows s (added most (world_of s) at x) (head_added most s.floor s.head at x)
 unfolding world_of head_added
 follows most s at x sound room size =
     elim (int_lt x.1.0 s.floor) as (λ b. int_lt x.1.0 s.floor ≡ b → Follows s
@@ -222,5 +222,5 @@ follows_each most s at (x ∷ xs) r (Ok head) room size f =
     let rest = follows_each most s (at + 1) xs (added most (world_of (record s { head = head })) at x) (head_added most s.floor head at x) room size (follows most (record s { head = head }) at x f.1 room size) in
     (ap (λ k. added_each most k at (x ∷ xs)) f.0 ∙ rest.0, rest.1)
 
-pub follows_batch : (most : Limits) (s : SnapshotParts) (xs : List (Labels × (ℤ × ℤ))) → nat_le most.samples 0 ≡ false → most.samples ≤ 1048576 → IsSound s → Follows s (committed most (world_of s) xs) (head_added_each most s.floor (Ok s.head) 0 xs)
+pub follows_batch : (most : Limits) (s : SnapshotParts) (xs : List (Labels × (ℤ × ℤ))) → nat_le most.samples 0 ≡ false → most.samples ≤ 1048576 → IsSoundSnapshot s → Follows s (committed most (world_of s) xs) (head_added_each most s.floor (Ok s.head) 0 xs)
 follows_batch most s xs room size sound = follows_each most s 0 xs (Ok (world_of s)) (Ok s.head) room size (refl, sound)

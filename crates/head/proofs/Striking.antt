@@ -14,7 +14,7 @@ use Rattle.matchers.specs.Views.{MatcherView}
 use Rattle.matchers.specs.Satisfies.{satisfies_all}
 use Rattle.block.specs.Fewer.{is_among, part_without}
 use Rattle.head.specs.Heads.{HeadSeries, numbered}
-use Rattle.head.specs.HeadLists.{numbered_rises}
+use Rattle.head.specs.HeadRowLaws.{numbered_rises}
 use Rattle.head.specs.Removing.{series_kept, head_kept, survives, is_struck, outside, series_less, head_less}
 
 equal_self : (n : ℕ) → (n == n) ≡ true

@@ -16,7 +16,8 @@ part_in block = record { min = block.range.0; max = block.range.1; part = block.
 abbrev pub EachInside : List Shown → Type 0
 EachInside blocks = All (λ block. AreInside block.range block.part) blocks
 
--- where the floor of these blocks alone is: at the greatest end of their ranges, and at the smallest time for none
+-- where the floor of these blocks alone is: at the greatest end of their ranges, and at the
+-- smallest time for none
 abbrev pub opening_floor : List BlockPart → ℤ
 opening_floor blocks = fold (λ floor block. int_max floor block.max) MIN_TIME blocks
 

@@ -29,8 +29,11 @@ commit_code Memory = codes "memory"
 -- a refusal in a line, for people
 abbrev pub commit_text : CommitError → List ℕ
 commit_text (OutOfBounds at) = codes "E1: sample " ++ decimal at ++ codes " is below the floor"
-commit_text (OutOfOrder at) = codes "E2: sample " ++ decimal at ++ codes " is older than the newest of its series"
-commit_text (Duplicate at) = codes "E3: sample " ++ decimal at ++ codes " has the newest time of its series and another value"
+commit_text (OutOfOrder at) =
+    codes "E2: sample " ++ decimal at ++ codes " is older than the newest of its series"
+commit_text (Duplicate at) =
+    codes "E3: sample " ++ decimal at
+    ++ codes " has the newest time of its series and another value"
 commit_text Limit = codes "E4: too many series, or too many samples of one"
 commit_text CutTooLow = codes "E5: the time of the cut is not above the floor"
 commit_text TooManyParts = codes "E6: there would be more than 63 blocks"

@@ -29,7 +29,8 @@ each_once cmp (x ∷ xs) = with_one cmp x (each_once cmp xs)
 
 -- the index of a block with these rows
 abbrev pub index_of : List Row → List ℕ
-index_of rows = index_text (each_once text_cmp (texts_in rows)) (each_once pair_cmp (pairs_in rows)) rows
+index_of rows =
+    index_text (each_once text_cmp (texts_in rows)) (each_once pair_cmp (pairs_in rows)) rows
 
 -- whether both files that the rows decide are at most as long as a file may be
 unfoldable pub files_fit : List Row → Bool

@@ -1,9 +1,17 @@
--- The rows of a head in a range of times.
-use Rattle.std.specs.Prelude.{ℤ, List, [], ◌∷◌}
+-- The rows of a head, from a place on and in a range of times.
+use Rattle.std.specs.Prelude.{ℕ, ℤ, ◌+◌, List, [], ◌∷◌, drop}
 use Rattle.labels.specs.Labels.{Labels}
 use Rattle.labels.specs.Rows.{Row}
-use Rattle.labels.specs.Parts.{within}
-use Rattle.head.specs.Heads.{HeadSeries}
+use Rattle.labels.specs.Parts.{Part, within}
+use Rattle.head.specs.Heads.{HeadSeries, numbered}
+
+-- the series with this number, as a row
+abbrev pub numbered_row : ℕ → HeadSeries → ℕ × Row
+numbered_row n h = (n, (h.labels, h.samples))
+
+-- the rows of a head from a place on, from 0
+abbrev pub rows_from : ℕ → List HeadSeries → Part
+rows_from place head = numbered (place + 1) (drop place head)
 
 -- rows with one before them, if it has a sample
 abbrev pub with_row : Labels → List (ℤ × ℤ) → List Row → List Row

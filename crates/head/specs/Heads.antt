@@ -43,14 +43,20 @@ parts_of s = map (λ b. b.part) s.blocks ++ head_part s.head ∷ []
 
 -- the world of a snapshot
 unfoldable pub world_of : SnapshotParts → World
-world_of s = record { content = content_of (parts_of s); newest = newest_in s.head; floor = s.floor; blocks = length s.blocks }
+world_of s = record {
+  content = content_of (parts_of s);
+  newest = newest_in s.head;
+  floor = s.floor;
+  blocks = length s.blocks;
+}
 
 -- the first series with these labels
 abbrev pub series_at : Labels → List HeadSeries → Option HeadSeries
 series_at l [] = None
 series_at l (h ∷ hs) = if same_labels l h.labels then Some h else series_at l hs
 
--- a head's samples of a series ascend, are at or above the floor, and not above the newest; there are at most 1,048,576
+-- a head's samples of a series ascend, are at or above the floor, and not above the newest; there
+-- are at most 1,048,576
 pub record IsSoundSeries (floor : ℤ) (h : HeadSeries) : Type 0 where
   pub few : length h.samples ≤ 1048576
   pub ascending : T (is_sorted int_cmp h.samples)
@@ -59,19 +65,21 @@ pub record IsSoundSeries (floor : ℤ) (h : HeadSeries) : Type 0 where
 
 abbrev pub IsSoundHead : ℤ → List HeadSeries → Type 0
 IsSoundHead floor [] = Unit {0}
-IsSoundHead floor (h ∷ hs) = IsSoundSeries floor h × (series_at h.labels hs ≡ None) × IsSoundHead floor hs
+IsSoundHead floor (h ∷ hs) =
+    IsSoundSeries floor h × (series_at h.labels hs ≡ None) × IsSoundHead floor hs
 
 -- no block has a sample at or above the floor
 pub record AreBelow (floor : ℤ) (blocks : List BlockPart) : Type 0 where
-  pub none : (l : Labels) (t : ℤ) → int_lt t floor ≡ false → find point_cmp (l, t) (over [] (map (λ b. b.part) blocks)) ≡ None
+  pub none : (l : Labels) (t : ℤ) → int_lt t floor ≡ false
+      → find point_cmp (l, t) (over [] (map (λ b. b.part) blocks)) ≡ None
 
 -- the range of each block ends at or below the floor, also where the block has no sample
 abbrev pub EndBy : ℤ → List BlockPart → Type 0
 EndBy floor blocks = AllByRecursion (λ (b : BlockPart). int_le b.max floor ≡ true) blocks
 
--- what every snapshot keeps: there are at most 63 blocks, the floor is a time, each block's range ends at or below it and
--- no block has a sample from it on, and the head is sound
-pub record IsSound (s : SnapshotParts) : Type 0 where
+-- what every snapshot keeps: there are at most 63 blocks, the floor is a time, each block's range
+-- ends at or below it and no block has a sample from it on, and the head is sound
+pub record IsSoundSnapshot (s : SnapshotParts) : Type 0 where
   pub few : length s.blocks ≤ 63
   pub time : is_time s.floor ≡ true
   pub ends : EndBy s.floor s.blocks

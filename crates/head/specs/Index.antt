@@ -1,4 +1,5 @@
--- The postings index of a part: from each pair of a name and a value to the references of the series that carry it.
+-- The postings index of a part: from each pair of a name and a value to the references of the
+-- series that carry it.
 use Rattle.std.specs.Prelude.{◌≡◌, ◌≢◌, ℕ, T, List, [], ◌∷◌, ◌++◌, Some, map, filter, unwrap_or, not}
 use Rattle.std.specs.List.{list_all}
 use Rattle.std.specs.Ordering.{nat_cmp}
@@ -25,9 +26,9 @@ abbrev pub listed_more : Pair → ℕ → PairLists → PairLists
 listed_more pair r lists = put pair_cmp pair (listed pair lists ++ r ∷ []) lists
 
 -- the lists with the reference at the end of the list of each pair of a label set
-abbrev pub added : Labels → ℕ → PairLists → PairLists
-added [] r lists = lists
-added (pair ∷ pairs) r lists = added pairs r (listed_more pair r lists)
+abbrev pub listed_each : Labels → ℕ → PairLists → PairLists
+listed_each [] r lists = lists
+listed_each (pair ∷ pairs) r lists = listed_each pairs r (listed_more pair r lists)
 
 -- names ascend strictly, and no value is empty
 pub record IsProper (ps : Labels) : Type 0 where
@@ -38,9 +39,10 @@ pub record IsProper (ps : Labels) : Type 0 where
 abbrev pub values_under : List ℕ → PairLists → List (List ℕ)
 values_under name lists = map (λ e. e.0.1) (filter (λ e. bytes_eq e.0.0 name) lists)
 
--- the pairs ascend, each has a reference, and each lists the series of the part that carry it, a pair that is not listed
--- being carried by none
+-- the pairs ascend, each has a reference, and each lists the series of the part that carry it, a
+-- pair that is not listed being carried by none
 pub record IsIndexOf (lists : PairLists) (part : Part) : Type 0 where
   pub ascending : T (is_sorted pair_cmp lists)
   pub filled : (name value : List ℕ) → find pair_cmp (name, value) lists ≢ Some []
-  pub listed : (name value : List ℕ) → listed (name, value) lists ≡ references_where (carries name value) part
+  pub listed : (name value : List ℕ)
+      → listed (name, value) lists ≡ references_where (carries name value) part

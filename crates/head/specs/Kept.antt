@@ -15,8 +15,8 @@ use Rattle.head.specs.Removing.{blocks_kept, survives}
 abbrev pub frame_of : BlockPart → (ℤ × ℤ) × List (ℕ × Labels)
 frame_of b = ((b.min, b.max), map (λ row. (row.0, row.1.0)) b.part)
 
--- the block has the range from one time up to another and exactly the rows of the samples; its part is what the files
--- spell that are written for these rows
+-- the block has the range from one time up to another and exactly the rows of the samples; its part
+-- is what the files spell that are written for these rows
 pub record IsBlockOf (from to : ℤ) (samples : Content) (block : BlockPart) : Type 0 where
   pub min : block.min ≡ from
   pub max : block.max ≡ to
@@ -28,9 +28,9 @@ pub record IsBlockOf (from to : ℤ) (samples : Content) (block : BlockPart) : T
   pub chunks_written : chunks ≡ chunks_text (rows_in block.part)
   pub spelled : IsBlock (from, to) index chunks tombstones block.part
 
--- A commit keeps the blocks. A deletion takes from each block exactly the samples that it strikes, also those that a
--- later block hides, and leaves the rest of each as it was. A cut keeps the blocks and adds at most one, of the samples
--- that leave the head.
+-- A commit keeps the blocks. A deletion takes from each block exactly the samples that it strikes,
+-- also those that a later block hides, and leaves the rest of each as it was. A cut keeps the
+-- blocks and adds at most one, of the samples that leave the head.
 abbrev pub KeepsBlocks : Event → SnapshotParts → List BlockPart → Type 0
 KeepsBlocks (batch xs) old new = new ≡ old.blocks
 KeepsBlocks (deletion ms from to) old new = new ≡ blocks_kept (survives ms from to) old.blocks

@@ -13,8 +13,8 @@ sets_of head = map (λ h. h.labels) head
 abbrev pub Extends : List Labels → List Labels → Type 0
 Extends sets longer = (more : List Labels) × (sets ++ more ≡ longer)
 
--- each label set stands with the place of the series that has it, and no other label set stands there; no two series have
--- one label set
+-- each label set stands with the place of the series that has it, and no other label set stands
+-- there; no two series have one label set
 pub record IsOrderOf (order : List (Labels × ℕ)) (head : List HeadSeries) : Type 0 where
   pub placed : (l : Labels) → find labels_cmp l order ≡ place_from l 0 head
   pub apart : (k : ℕ) (d : HeadSeries) → k < length head

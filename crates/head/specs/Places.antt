@@ -13,14 +13,18 @@ pub record IsAt (pair : Pair) (lists : PairLists) (i : ℕ) : Type 0 where
 -- the pair would stand at this place: those before it are smaller, and the others are greater
 pub record IsGapFor (pair : Pair) (lists : PairLists) (i : ℕ) : Type 0 where
   pub in_range : i ≤ length lists
-  pub smaller_before : (k : ℕ) (d : Pair × List ℕ) → k < i → pair_cmp (slice_index_or lists k d).0 pair ≡ Less
-  pub greater_after : (k : ℕ) (d : Pair × List ℕ) → i ≤ k → k < length lists → pair_cmp (slice_index_or lists k d).0 pair ≡ Greater
+  pub smaller_before : (k : ℕ) (d : Pair × List ℕ) → k < i
+      → pair_cmp (slice_index_or lists k d).0 pair ≡ Less
+  pub greater_after : (k : ℕ) (d : Pair × List ℕ) → i ≤ k → k < length lists
+      → pair_cmp (slice_index_or lists k d).0 pair ≡ Greater
 
 -- the names before this place pass the test, and the others fail it
 pub record IsNameBoundary (test : List ℕ → Bool) (lists : PairLists) (i : ℕ) : Type 0 where
   pub in_range : i ≤ length lists
-  pub passes_before : (k : ℕ) (d : Pair × List ℕ) → k < i → test (slice_index_or lists k d).0.0 ≡ true
-  pub fails_after : (k : ℕ) (d : Pair × List ℕ) → i ≤ k → k < length lists → test (slice_index_or lists k d).0.0 ≡ false
+  pub passes_before : (k : ℕ) (d : Pair × List ℕ) → k < i
+      → test (slice_index_or lists k d).0.0 ≡ true
+  pub fails_after : (k : ℕ) (d : Pair × List ℕ) → i ≤ k → k < length lists
+      → test (slice_index_or lists k d).0.0 ≡ false
 
 -- the lists of a name stand from the first place up to, not including, the second
 pub record IsRunOf (name : List ℕ) (lists : PairLists) (start end : ℕ) : Type 0 where

@@ -39,11 +39,13 @@ outside from to samples = filter (λ (s : ℤ × ℤ). not (in_range from to s.0
 abbrev pub series_less : ℤ → ℤ → HeadSeries → HeadSeries
 series_less from to h = record h { samples = outside from to h.samples }
 
--- series, of which the first has this reference, less the samples in the closed range of those whose references are listed
+-- series, of which the first has this reference, less the samples in the closed range of those
+-- whose references are listed
 abbrev pub head_less : List ℕ → ℤ → ℤ → ℕ → List HeadSeries → List HeadSeries
 head_less references from to n [] = []
 head_less references from to n (h ∷ hs) =
-    (if is_among references n then series_less from to h else h) ∷ head_less references from to (n + 1) hs
+    (if is_among references n then series_less from to h else h)
+    ∷ head_less references from to (n + 1) hs
 
 -- whether a time is this one or a later one
 abbrev pub from_on : ℤ → Point → Bool
@@ -55,8 +57,14 @@ head_cut t head = filter (λ h. not (int_lt h.newest.0 t)) (head_kept (from_on t
 
 -- the snapshot after a deletion
 abbrev pub snapshot_less : (Point → Bool) → SnapshotParts → SnapshotParts
-snapshot_less p s = record { blocks = blocks_kept p s.blocks; head = head_kept p s.head; floor = s.floor; copied = 0 }
+snapshot_less p s = record {
+  blocks = blocks_kept p s.blocks;
+  head = head_kept p s.head;
+  floor = s.floor;
+  copied = 0;
+}
 
 -- the snapshot after a cut that left these blocks
 abbrev pub snapshot_cut : ℤ → List BlockPart → SnapshotParts → SnapshotParts
-snapshot_cut t blocks s = record { blocks = blocks; head = head_cut t s.head; floor = t; copied = 0 }
+snapshot_cut t blocks s =
+    record { blocks = blocks; head = head_cut t s.head; floor = t; copied = 0 }

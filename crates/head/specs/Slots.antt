@@ -39,11 +39,13 @@ abbrev pub slot_at : HeadSeries → Option HeadSeries → Slot
 slot_at last None = Shared last
 slot_at last (Some own) = Own own
 
--- the series of the last version, of which the first stands at this place, with this version's own in their places
+-- the series of the last version, of which the first stands at this place, with this version's own
+-- in their places
 abbrev pub slots_from : ℕ → List HeadSeries → (ℕ → Option HeadSeries) → List Slot
 slots_from n [] own = []
 slots_from n (h ∷ hs) own = slot_at h (own n) ∷ slots_from (n + 1) hs own
 
--- the series of the last version with this version's own in their places, and then those that it begins
+-- the series of the last version with this version's own in their places, and then those that it
+-- begins
 abbrev pub slots_of : List HeadSeries → (ℕ → Option HeadSeries) → List HeadSeries → List Slot
 slots_of last own begun = slots_from 0 last own ++ map (λ h. Own h) begun

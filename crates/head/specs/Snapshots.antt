@@ -7,4 +7,9 @@ use Rattle.head.specs.Shown.{series_of, copied_of}
 use Rattle.head.specs.Blocks.{part_in}
 
 abbrev pub parts_in : Inside → SnapshotParts
-parts_in s = record { blocks = map part_in (arc_value s.blocks).items; head = series_of s.head; floor = s.floor; copied = copied_of s.head }
+parts_in s = record {
+  blocks = map part_in (arc_value s.blocks).items;
+  head = series_of s.head;
+  floor = s.floor;
+  copied = copied_of s.head;
+}

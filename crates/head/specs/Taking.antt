@@ -23,30 +23,37 @@ series_added most at s h =
     else Ok (grown s h)
 
 -- the head with another series at a place, where there is one
-abbrev pub with_series : List HeadSeries → ℕ → Result HeadSeries Refusal → Result (List HeadSeries) Refusal
+abbrev pub with_series : List HeadSeries → ℕ → Result HeadSeries Refusal
+    → Result (List HeadSeries) Refusal
 with_series head k (Ok h) = Ok (slice_set head k h)
 with_series head k (Err e) = Err e
 
 -- one sample of a batch at a head, by the series that has its labels
-abbrev pub head_added_after : Limits → List HeadSeries → ℕ → Labels → ℤ × ℤ → Option HeadSeries → Result (List HeadSeries) Refusal
-head_added_after most head at l s None = if nat_le most.series (length head) then Err limit else Ok (extended l s head)
+abbrev pub head_added_after : Limits → List HeadSeries → ℕ → Labels → ℤ × ℤ → Option HeadSeries
+    → Result (List HeadSeries) Refusal
+head_added_after most head at l s None =
+    if nat_le most.series (length head) then Err limit else Ok (extended l s head)
 head_added_after most head at l s (Some h) =
     if int_lt s.0 h.newest.0 then Err (out_of_order at)
-    else if int_eq s.0 h.newest.0 then (if int_eq s.1 h.newest.1 then Ok head else Err (duplicate at))
+    else if int_eq s.0 h.newest.0 then
+    (if int_eq s.1 h.newest.1 then Ok head else Err (duplicate at))
     else if nat_le most.samples (length h.samples) then Err limit
     else Ok (extended l s head)
 
 -- one sample of a batch at a head
-unfoldable pub head_added : Limits → ℤ → List HeadSeries → ℕ → Labels × (ℤ × ℤ) → Result (List HeadSeries) Refusal
+unfoldable pub head_added : Limits → ℤ → List HeadSeries → ℕ → Labels × (ℤ × ℤ)
+    → Result (List HeadSeries) Refusal
 head_added most floor head at x =
     if int_lt x.1.0 floor then Err (out_of_bounds at)
     else head_added_after most head at x.0 x.1 (series_at x.0 head)
 
 -- the samples of a batch in order, of which the first stands at this place
-abbrev pub head_added_each : Limits → ℤ → Result (List HeadSeries) Refusal → ℕ → List (Labels × (ℤ × ℤ)) → Result (List HeadSeries) Refusal
+abbrev pub head_added_each : Limits → ℤ → Result (List HeadSeries) Refusal → ℕ
+    → List (Labels × (ℤ × ℤ)) → Result (List HeadSeries) Refusal
 head_added_each most floor r at [] = r
 head_added_each most floor (Err e) at (x ∷ xs) = Err e
-head_added_each most floor (Ok head) at (x ∷ xs) = head_added_each most floor (head_added most floor head at x) (at + 1) xs
+head_added_each most floor (Ok head) at (x ∷ xs) =
+    head_added_each most floor (head_added most floor head at x) (at + 1) xs
 
 -- the place of the first series with these labels, where the first of these has this place
 abbrev pub place_from : Labels → ℕ → List HeadSeries → Option ℕ

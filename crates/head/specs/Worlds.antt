@@ -27,12 +27,17 @@ with_newest l s (e ∷ es) = if same_labels l e.0 then (e.0, s) ∷ es else e �
 
 -- the sample joins the content
 abbrev pub joined : World → Labels → ℤ × ℤ → World
-joined w l s = record w { content = put point_cmp (l, s.0) s.1 w.content; newest = with_newest l s w.newest }
+joined w l s =
+    record w {
+      content = put point_cmp (l, s.0) s.1 w.content;
+      newest = with_newest l s w.newest;
+    }
 
 -- there is no room for one more sample of a label set, of which `known` is the newest
 abbrev pub is_full : Limits → World → Labels → Option (ℤ × ℤ) → Bool
 is_full most w l known =
-    (is_none known && nat_le most.series (length w.newest)) || nat_le most.samples (held_from w.floor l w.content)
+    (is_none known && nat_le most.series (length w.newest))
+    || nat_le most.samples (held_from w.floor l w.content)
 
 -- the sample joins where there is room
 abbrev pub joined_in : Limits → World → Labels → ℤ × ℤ → Option (ℤ × ℤ) → Result World Refusal
@@ -53,7 +58,8 @@ added most w at x =
     else added_after most w at x.0 x.1 (find labels_cmp x.0 w.newest)
 
 -- the samples in order, of which the first stands at this place; the first refused one refuses all
-abbrev pub added_each : Limits → Result World Refusal → ℕ → List (Labels × (ℤ × ℤ)) → Result World Refusal
+abbrev pub added_each : Limits → Result World Refusal → ℕ → List (Labels × (ℤ × ℤ))
+    → Result World Refusal
 added_each most r at [] = r
 added_each most (Err e) at (x ∷ xs) = Err e
 added_each most (Ok w) at (x ∷ xs) = added_each most (added most w at x) (at + 1) xs
@@ -80,13 +86,15 @@ cut_off fits w t (g ∷ gs) =
 
 -- the step of a cut, where `fits` says that the files of these samples are within their limits
 abbrev pub cut_at : (Content → Bool) → World → ℤ → Result World Refusal
-cut_at fits w t = if int_lt w.floor t then cut_off fits w t (between w.floor t w.content) else Err cut_too_low
+cut_at fits w t =
+    if int_lt w.floor t then cut_off fits w t (between w.floor t w.content) else Err cut_too_low
 
 -- the samples of a batch in their order, each with its label set
 abbrev pub Batch : Type 0
 Batch = List (Labels × (ℤ × ℤ))
 
--- an event, as it was handed over: a batch, a deletion of the series that satisfy all matchers in a closed range, or a cut
+-- an event, as it was handed over: a batch, a deletion of the series that satisfy all matchers in a
+-- closed range, or a cut
 pub data Event : Type 0 where
   batch : Batch → Event
   deletion : List MatcherView → ℤ → ℤ → Event

@@ -7,7 +7,7 @@ ghost use Rattle.labels.specs.Contents.{is_time, Content};
 ghost use Rattle.labels.specs.Rows.{AreRows};
 ghost use Rattle.block.specs.Ranges.{IsRange};
 ghost use Rattle.block_writer.specs.SpellRows.{AreWithin};
-ghost use Rattle.head.specs.Answers.{IsAnswer};
+ghost use Rattle.head.specs.Outcomes.{IsStepRefusal};
 ghost use Rattle.head.specs.Blocks.{part_in};
 ghost use Rattle.head.specs.Cuts.{leaving, AreLeaving, AreCutBlocks, written_if_fit};
 ghost use Rattle.head.specs.Fits.{files_fit, fits};
@@ -79,7 +79,7 @@ fn block_of(alloc: Global, range: Range, rows: &PartRows) -> Result<Block, Commi
     ensures block { IfOk result (λ b. (c : Content)
         → AreRows rows.now c → IsBlockOf range.0 range.1 c (part_in b)) }
     ensures fit { IfOk result (λ b. files_fit rows.now ≡ true) }
-    ensures refused { IfErr result (λ e. IsAnswer e (written_if_fit rows.now)) }
+    ensures refused { IfErr result (λ e. IsStepRefusal e (written_if_fit rows.now)) }
 {
     let files = match write(alloc, rows) {
         Ok(files) => files,
@@ -98,7 +98,7 @@ fn block_of(alloc: Global, range: Range, rows: &PartRows) -> Result<Block, Commi
 }
 
 /// An equal block, which shares the files.
-fn shared(alloc: Global, block: &Block) -> Result<Block, AllocError>
+fn share_block(alloc: Global, block: &Block) -> Result<Block, AllocError>
     ensures { IfOk result (λ b. part_in b ≡ part_in block.now) }
 {
     block.without(alloc, &[], 0, 0)
@@ -111,7 +111,7 @@ fn with_block(alloc: Global, blocks: &[Block], last: Block) -> Result<Arc<Vec<Bl
 {
     let mut all = Vec::new(alloc);
     for block in blocks {
-        all.push(shared(alloc, block)?)?;
+        all.push(share_block(alloc, block)?)?;
     }
     all.push(last)?;
     Ok(Arc::new(alloc, all)?)
@@ -125,7 +125,7 @@ fn blocks_after(alloc: Global, at: &Snapshot, time: i64) -> Result<Arc<Vec<Block
     ensures blocks { IfOk result (λ blocks.
         AreCutBlocks time at.now (map part_in (arc_value blocks).items)) }
     ensures refused { IfErr result (λ e.
-        IsAnswer e (cut_off fits (world_of at.now) time (leaving time at.now))) }
+        IsStepRefusal e (cut_off fits (world_of at.now) time (leaving time at.now))) }
 {
     let rows = leaving(alloc, at, time)?;
     if rows.is_empty() {
@@ -183,7 +183,7 @@ fn head_from(alloc: Global, at: &Snapshot, time: i64) -> Result<HeadView, AllocE
 pub(crate) fn cut_at(alloc: Global, at: &Snapshot, time: i64) -> Result<Snapshot, CommitError>
     requires { is_time time ≡ true }
     ensures ok { IfOk result (λ s. cut_at fits (world_of at.now) time ≡ Ok (world_of s)) }
-    ensures refused { IfErr result (λ e. IsAnswer e (cut_at fits (world_of at.now) time)) }
+    ensures refused { IfErr result (λ e. IsStepRefusal e (cut_at fits (world_of at.now) time)) }
     ensures kept { IfOk result (λ s. KeepsBlocks (cut time) at.now s.blocks) }
 {
     if time <= at.floor {

@@ -8,7 +8,7 @@ ghost use Rattle.head.specs.Removing.{survives};
 ghost use Rattle.head.specs.Shown.{series_of, copied_of};
 
 use crate::head::HeadView;
-use crate::selection::struck;
+use crate::selection::struck_references;
 use crate::series::SeriesList;
 use crate::snapshot::Snapshot;
 use block::Block;
@@ -49,7 +49,7 @@ fn head_without(
         ≡ head_kept (survives matchers.now from to) at.now.head) }
     ensures copied { IfOk result (λ head. copied_of head ≡ 0) }
 {
-    let references = struck(alloc, &at.head(), matchers, from, to)?;
+    let references = struck_references(alloc, &at.head(), matchers, from, to)?;
     let mut series = at.head.series().try_clone()?;
     drop_each(alloc, &mut series, references.as_slice(), from, to)?;
     let order = at.head.order().try_clone()?;
@@ -68,7 +68,7 @@ fn block_without(
     ensures { IfOk result (λ b. part_in b
         ≡ block_kept (survives matchers.now from to) (part_in block.now)) }
 {
-    let references = struck(alloc, &block.view(), matchers, from, to)?;
+    let references = struck_references(alloc, &block.view(), matchers, from, to)?;
     block.without(alloc, references.as_slice(), from, to)
 }
 

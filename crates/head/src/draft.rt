@@ -11,7 +11,7 @@ ghost use Rattle.head.specs.Heads.{HeadSeries};
 ghost use Rattle.head.specs.Taking.{head_added, head_added_each, series_added, new_added, grown};
 ghost use Rattle.head.specs.Taking.{place_from, with_series};
 ghost use Rattle.head.specs.Orders.{sets_of, IsOrderOf, HasSet};
-ghost use Rattle.head.specs.Answers.{IsOutcome};
+ghost use Rattle.head.specs.Outcomes.{IsOutcome};
 ghost use Rattle.head.specs.Limits.{most};
 ghost use Rattle.head.specs.Slots.{Shared, Own, series_in, series_in_each, own_count, owned};
 ghost use Rattle.head.specs.Slots.{AllOwn, slot_at, slots_from};
@@ -176,7 +176,7 @@ fn grown_copy(
         → made.0 ≡ grown sample (slice_index_or list.now place d)) }
     ensures few { IfOk result (λ made. made.1 < 120) }
 {
-    let (mut series, copied) = list.at(place).copied(alloc)?;
+    let (mut series, copied) = list.at(place).copy_to_grow(alloc)?;
     series.push(alloc, sample)?;
     Ok((series, copied))
 }
@@ -275,13 +275,9 @@ fn add_new(
     if draft.len() >= MAX_SERIES {
         return Err(CommitError::Limit);
     }
-    let Ok(series) = Series::new(alloc, labels, sample) else {
-        return Err(CommitError::Memory);
-    };
-    match begin(alloc, draft, order, series) {
-        Ok(()) => Ok(()),
-        Err(AllocError) => Err(CommitError::Memory),
-    }
+    let series = Series::new(alloc, labels, sample)?;
+    begin(alloc, draft, order, series)?;
+    Ok(())
 }
 
 /// Where the last series was found: its place, and its spot in the order.

@@ -35,7 +35,7 @@ impl HeadView {
     ghost use Rattle.std.specs.Prelude.{[]};
     ghost use Rattle.head.specs.Shown.{series_of, part_of, copied_of};
     ghost use Rattle.head.specs.Heads.{HeadSeries};
-    ghost use Rattle.head.specs.HeadLists.{row_of};
+    ghost use Rattle.head.specs.HeadRows.{numbered_row};
     ghost use Rattle.std.specs.Prelude.{◌+◌, slice_index_or};
 
     pub(crate) fn empty(alloc: Global) -> Result<HeadView, AllocError>
@@ -146,7 +146,7 @@ impl HeadView {
     fn row_at(&self, alloc: Global, place: usize) -> Result<(SeriesRef, Row), AllocError>
         requires { place < length (series_of self.now) }
         ensures { IfOk result (λ row. (d : HeadSeries)
-            → row ≡ row_of (place + 1) (slice_index_or (series_of self.now) place d)) }
+            → row ≡ numbered_row (place + 1) (slice_index_or (series_of self.now) place d)) }
     {
         let series = self.series.at(place);
         let row = Row::new(series.labels().try_clone()?, series.samples(alloc)?);

@@ -11,7 +11,7 @@ ghost use Rattle.std.specs.FinMap.Entries.{is_sorted, find};
 ghost use Rattle.labels.specs.Labels.{pair_cmp};
 ghost use Rattle.labels.specs.LabelSets.{IsLabelSet};
 ghost use Rattle.labels.specs.Parts.{Part};
-ghost use Rattle.head.specs.Index.{listed_more, added, values_under, IsIndexOf};
+ghost use Rattle.head.specs.Index.{listed_more, listed_each, values_under, IsIndexOf};
 ghost use Rattle.head.specs.Places.{IsNameBoundary, IsRunOf};
 ghost use Rattle.pages.specs.Sorted.{entries_of, place_of, IsSpot};
 
@@ -232,7 +232,7 @@ impl Index {
         labels: &LabelSet,
         reference: SeriesRef,
     ) -> Result<(), AllocError>
-        ensures added { OnOk result (self.new ≡ added labels.now reference self.old) }
+        ensures added { OnOk result (self.new ≡ listed_each labels.now reference self.old) }
         ensures label_set { IsLabelSet labels.now }
     {
         for place in 0..labels.len() {

@@ -1,13 +1,13 @@
 //! The head of a store: the newest samples of each label set, in versions that share what they have
 //! in common.
 //!
-//! A snapshot is an unchanging list of blocks and one head, and stands for a world: a content, the
-//! newest sample of each label set in order of creation, a floor and a number of blocks. `apply`
-//! takes a snapshot one event further: it is Ok exactly where the step of that event accepts it on
-//! the snapshot's world, and the world of what it gives is the world after; else it answers the
-//! step's refusal. A head is a part: its references are 1 to n in order of creation. A store is
-//! opened with at most 63 blocks, and its floor is then at the greatest end of their ranges, so
-//! that no block has a sample at or above it.
+//! A [`Snapshot`] is an unchanging list of blocks and one head, and stands for a world: a content,
+//! the newest sample of each label set in order of creation, a floor and a number of blocks.
+//! [`apply`] takes a snapshot one [`Event`] further: it is Ok exactly where the step of that event
+//! accepts it on the snapshot's world, and the world of what it gives is the world after; else it
+//! answers the step's refusal ([`CommitError`]). A head ([`HeadView`]) is a part: its references
+//! are 1 to n in order of creation. A store is opened with at most 63 blocks, and its floor is then
+//! at the greatest end of their ranges, so that no block has a sample at or above it.
 //!
 //! A cut makes the head's samples before its time a block of their own, the last one, whose range
 //! is from the floor up to that time; then the time is the floor, and the content is what it was.
@@ -16,6 +16,20 @@
 //! that stay are numbered again from 1, in their old order. `E5` where the time is not above the
 //! floor; where a sample leaves the head, `E6` where there are 63 blocks, and then `E4` where the
 //! index or the chunks of the new block would take more than 1 GiB.
+//!
+//! ```
+//! let opening = Snapshot::opening(alloc, Vec::new(alloc)).ok()?;
+//! let labels = LabelSet::of_sorted_texts(alloc, &[("__name__", "up")]).ok()?;
+//! let samples = Vec::from_array(alloc, [(labels, Sample::new(10, 1))]).ok()?;
+//! if !Event::is_batch(&samples) {
+//!     return None;
+//! }
+//! let next = apply(alloc, &opening, &Event::batch(samples)).ok()?;
+//! let head = next.head();
+//! let found = head.samples_of(alloc, SeriesRef::new(1), 0, 30).ok()?;
+//! assert_eq!(rt; found.len(), 1);
+//! assert!(rt; opening.head().labels_of(SeriesRef::new(1)).is_none());
+//! ```
 //!
 //! It stands on `labels` for label sets, contents and parts, on `postings` for the lists that a
 //! part lends, on `block` for blocks, and on `block_writer` for the files of a cut's block. Events

@@ -20,7 +20,7 @@ impl<'a> Postings for HeadList<'a> {
     ghost use Rattle.std.specs.List.{range_with_len};
     ghost use Rattle.labels.proofs.Lists.{not_below-twice, rising-drop};
     ghost use Rattle.head.specs.declared.list.HeadList.TheVariants.{All, Listed};
-    ghost use Rattle.head.specs.Spans.{span_rises};
+    ghost use Rattle.head.specs.SpanLaws.{span_rises};
 
     ghost remaining = { elim [
       | All span ↦ range_with_len span.next span.left

@@ -8,7 +8,7 @@ ghost use Rattle.std.specs.FinMap.Entries.{is_sorted};
 ghost use Rattle.labels.specs.Ascending.{first_of, rest_of, not_below};
 ghost use Rattle.labels.specs.Parts.{references, live_references, has_sample, IsPart};
 ghost use Rattle.head.specs.Heads.{HeadSeries, head_part};
-ghost use Rattle.head.specs.HeadLists.{rows_from};
+ghost use Rattle.head.specs.HeadRows.{rows_from};
 ghost use Rattle.labels.proofs.PartProps.{IsPart-prop};
 
 use crate::series::{Series, SeriesList};
@@ -90,7 +90,8 @@ impl<'a> Postings for LiveList<'a> {
     ghost use Rattle.labels.specs.Parts.{live_references, has_sample};
     ghost use Rattle.labels.proofs.Lists.{not_below-twice};
     ghost use Rattle.labels.proofs.PartRows.{kept_rises};
-    ghost use Rattle.head.specs.HeadLists.{rows_from, rows_rise};
+    ghost use Rattle.head.specs.HeadRows.{rows_from};
+    ghost use Rattle.head.specs.HeadRowLaws.{rows_rise};
 
     ghost remaining = { λ live. live_references live.from live.to
         (rows_from live.place live.series.now) };

@@ -39,7 +39,7 @@ impl Model for References {
     ghost view = { λ r. elim r.held [ Few few ↦ few.items | Many pages ↦ pages ] };
 }
 
-fn copied(alloc: Global, references: &[u32]) -> Result<Vec<u32>, AllocError>
+fn copy_references(alloc: Global, references: &[u32]) -> Result<Vec<u32>, AllocError>
     ensures { IfOk result (λ copy. copy.items ≡ references.now) }
 {
     let mut copy = Vec::new(alloc);
@@ -48,7 +48,7 @@ fn copied(alloc: Global, references: &[u32]) -> Result<Vec<u32>, AllocError>
 }
 
 /// The references in pages, with one more at the end.
-fn paged(alloc: Global, references: &[u32], more: u32) -> Result<Pages, AllocError>
+fn pages_with(alloc: Global, references: &[u32], more: u32) -> Result<Pages, AllocError>
     ensures { IfOk result (λ pages. pages ≡ references.now ++ more ∷ []) }
 {
     let mut pages = PagedList::new(alloc)?;
@@ -107,7 +107,7 @@ impl References {
         match &mut self.held {
             Held::Few(few) if few.len() < PIECE => few.push(reference.number())?,
             Held::Few(few) => {
-                let pages = paged(alloc, few.as_slice(), reference.number())?;
+                let pages = pages_with(alloc, few.as_slice(), reference.number())?;
                 self.held = Held::Many(pages);
             }
             Held::Many(pages) => pages.push(alloc, reference.number())?,
@@ -121,7 +121,7 @@ impl References {
     {
         match &self.held {
             Held::Few(few) => Ok(References {
-                held: Held::Few(copied(alloc, few.as_slice())?),
+                held: Held::Few(copy_references(alloc, few.as_slice())?),
             }),
             Held::Many(pages) => Ok(References {
                 held: Held::Many(pages.try_clone()?),

@@ -14,7 +14,10 @@ use postings::{Postings, Source, choose};
 use std::alloc::{AllocError, Global};
 
 /// The references of a list.
-fn collected<P: Postings + Drop>(alloc: Global, list: P) -> Result<Vec<SeriesRef>, AllocError>
+fn collect_references<P: Postings + Drop>(
+    alloc: Global,
+    list: P,
+) -> Result<Vec<SeriesRef>, AllocError>
     ensures { IfOk result (λ found. found.items ≡ P.remaining list) }
 {
     let mut list = list;
@@ -40,7 +43,7 @@ fn reaches<P: Postings>(list: &mut P, reference: SeriesRef) -> bool
 
 /// The references that stand in both of two lists. Each is sought to where the other stands, so
 /// that the moves follow the shorter list.
-fn met<A: Postings + Drop, B: Postings + Drop>(
+fn references_in_both<A: Postings + Drop, B: Postings + Drop>(
     alloc: Global,
     first: A,
     second: B,
@@ -96,11 +99,11 @@ fn satisfying<S: Source>(
         ≡ references_where (satisfies_all matchers.now) (S.part source.now)) }
 {
     match matchers {
-        [] => collected(alloc, source.all()),
-        [only] => collected(alloc, choose(alloc, source, only)?),
+        [] => collect_references(alloc, source.all()),
+        [only] => collect_references(alloc, choose(alloc, source, only)?),
         [first, second, others @ ..] => {
             let first = choose(alloc, source, first)?;
-            let mut found = met(alloc, first, choose(alloc, source, second)?)?;
+            let mut found = references_in_both(alloc, first, choose(alloc, source, second)?)?;
             for matcher in others {
                 found = common(alloc, found.as_slice(), choose(alloc, source, matcher)?)?;
             }
@@ -114,7 +117,7 @@ fn satisfying<S: Source>(
 ///
 /// The lists of the first two matchers are sought to each other's places, and what both have is
 /// sought in the others.
-pub(crate) fn struck<S: Source>(
+pub(crate) fn struck_references<S: Source>(
     alloc: Global,
     source: &S,
     matchers: &[Matcher],

@@ -73,7 +73,7 @@ fn has_sample_in(samples: &[Sample], from: i64, to: i64) -> bool
 /// The series of a head in order of creation, in pages that versions share.
 pub(crate) type SeriesList = PagedList<Arc<Series>, 16>;
 
-fn shared(alloc: Global, chunks: &[Arc<Chunk>]) -> Result<Vec<Arc<Chunk>>, AllocError>
+fn share_chunks(alloc: Global, chunks: &[Arc<Chunk>]) -> Result<Vec<Arc<Chunk>>, AllocError>
     ensures { IfOk result (λ v. map (λ c. arc_value c) v.items
         ≡ map (λ c. arc_value c) chunks.now) }
 {
@@ -99,7 +99,7 @@ fn push_to(
         own.push(chunk)?;
         return Ok(());
     }
-    let mut copy = shared(alloc, chunks.as_slice())?;
+    let mut copy = share_chunks(alloc, chunks.as_slice())?;
     copy.push(chunk)?;
     *chunks = Arc::new(alloc, copy)?;
     Ok(())
@@ -237,7 +237,7 @@ impl Series {
 
     /// An equal series, which shares all but the open chunk, and how many samples that one has. It
     /// has room for one sample more.
-    pub(crate) fn copied(&self, alloc: Global) -> Result<(Series, u64), AllocError>
+    pub(crate) fn copy_to_grow(&self, alloc: Global) -> Result<(Series, u64), AllocError>
         ensures same { IfOk result (λ p. p.0 ≡ self.now) }
         ensures few { IfOk result (λ p. p.1 < 120) }
     {

@@ -3,11 +3,11 @@
 ghost use Rattle.std.specs.Prelude.{◌≡◌, ◌≤◌, ◌*◌, IsTrue, true, Ok, Some, IfOk, IfErr, IfSome};
 ghost use Rattle.std.specs.Prelude.{IfNone, length, slice_get};
 ghost use Rattle.labels.specs.Contents.{is_time};
-ghost use Rattle.head.specs.Heads.{world_of, IsSound};
+ghost use Rattle.head.specs.Heads.{world_of, IsSoundSnapshot};
 ghost use Rattle.head.specs.Batches.{is_batch, set_count, CopiesFew};
 ghost use Rattle.head.specs.Kept.{KeepsBlocks};
 ghost use Rattle.head.specs.Worlds.{stepped, committed};
-ghost use Rattle.head.specs.Answers.{IsAnswer};
+ghost use Rattle.head.specs.Outcomes.{IsStepRefusal};
 ghost use Rattle.head.specs.Limits.{most};
 
 use crate::cut::cut_at;
@@ -32,7 +32,7 @@ pub struct Snapshot {
 }
 
 impl Model for Snapshot {
-    ghost use Rattle.head.specs.Heads.{SnapshotParts, IsSound};
+    ghost use Rattle.head.specs.Heads.{SnapshotParts, IsSoundSnapshot};
 
     ghost Value = { SnapshotParts };
 
@@ -40,7 +40,7 @@ impl Model for Snapshot {
 
     ghost view = { parts_in };
 
-    ghost invariant = { λ s. IsSound (parts_in s) };
+    ghost invariant = { λ s. IsSoundSnapshot (parts_in s) };
 }
 
 ghost use Rattle.head.specs.Blocks.{part_in, opening_of, opening_floor, EachInside, part_names};
@@ -110,7 +110,7 @@ impl Snapshot {
     /// block without a sample; no block has a sample from it on, and the head has none before it.
     pub fn floor(&self) -> i64
         ensures floor { result ≡ self.now.floor }
-        ensures sound { IsSound self.now }
+        ensures sound { IsSoundSnapshot self.now }
     {
         self.floor
     }
@@ -131,7 +131,8 @@ fn committed_to(
 ) -> Result<Snapshot, CommitError>
     requires { IsTrue (is_batch batch.now) }
     ensures ok { IfOk result (λ s. committed most (world_of at.now) batch.now ≡ Ok (world_of s)) }
-    ensures refused { IfErr result (λ e. IsAnswer e (committed most (world_of at.now) batch.now)) }
+    ensures refused { IfErr result (λ e.
+        IsStepRefusal e (committed most (world_of at.now) batch.now)) }
     ensures kept { IfOk result (λ s. s.blocks ≡ at.now.blocks) }
     ensures copied { IfOk result (λ s. s.copied ≤ 119 * set_count batch.now) }
 {
@@ -154,7 +155,8 @@ fn committed_to(
 /// blocks too, and adds at most one. A refusal leaves no trace.
 pub fn apply(alloc: Global, at: &Snapshot, event: &Event) -> Result<Snapshot, CommitError>
     ensures ok { IfOk result (λ s. stepped most (world_of at.now) event.now ≡ Ok (world_of s)) }
-    ensures refused { IfErr result (λ e. IsAnswer e (stepped most (world_of at.now) event.now)) }
+    ensures refused { IfErr result (λ e.
+        IsStepRefusal e (stepped most (world_of at.now) event.now)) }
     ensures kept { IfOk result (λ s. KeepsBlocks event.now at.now s.blocks) }
     ensures copied { IfOk result (λ s. CopiesFew event.now s.copied) }
 {

@@ -15,7 +15,7 @@ use std::alloc::{AllocError, Global};
 impl<'a> Source for &'a HeadView {
     ghost use Rattle.head.specs.Heads.{head_part};
     ghost use Rattle.head.specs.Index.{values_under};
-    ghost use Rattle.head.specs.Lending.{are_values_under};
+    ghost use Rattle.head.specs.LendingLaws.{are_values_under};
 
     type List = HeadList<'a>;
 

@@ -30,7 +30,7 @@ impl Postings for Span {
     ghost use Rattle.std.specs.Prelude.{ℕ, List};
     ghost use Rattle.std.specs.List.{range_with_len};
     ghost use Rattle.labels.proofs.Lists.{not_below-twice};
-    ghost use Rattle.head.specs.Spans.{span_rises};
+    ghost use Rattle.head.specs.SpanLaws.{span_rises};
 
     ghost remaining = { λ span. range_with_len span.next span.left };
 

@@ -5,7 +5,7 @@ use Rattle.labels.specs.Rows.{AreRows}
 use Rattle.head.specs.declared.error.CommitError.{CommitError}
 use Rattle.head.specs.declared.error.CommitError.TheVariants.{Memory}
 use Rattle.head.specs.Heads.{SnapshotParts, world_of}
-use Rattle.head.specs.Answers.{IsAnswer}
+use Rattle.head.specs.Outcomes.{IsStepRefusal}
 use Rattle.head.specs.Refusals.{Refusal}
 use Rattle.head.specs.Worlds.{World}
 use Rattle.history.specs.declared.reply.Reply.{Reply}
@@ -15,9 +15,9 @@ use Rattle.history.specs.Held.{buffers_of}
 use Rattle.history.specs.Steps.{Step}
 use Rattle.history.specs.Machine.{Machine, machine_step, Outcome, done, not_appended, refused, found}
 
--- the code's refusal is the step's; it is never that memory ran out
-pub record IsRefusal (error : CommitError) (refusal : Refusal) : Type 0 where
-  pub step : IsAnswer {W = World} error (Err refusal)
+-- the error tells the step's refusal; it is never that memory ran out
+pub record TellsRefusal (error : CommitError) (refusal : Refusal) : Type 0 where
+  pub step : IsStepRefusal {W = World} error (Err refusal)
   pub not_memory : error ≢ Memory
 
 -- the reply tells what the step came to: the step's own refusal, or the rows of what was found
@@ -25,14 +25,14 @@ abbrev pub IsReply : Outcome → Reply → Type 0
 IsReply outcome Done = outcome ≡ done
 IsReply outcome (NotAppended error) = outcome ≡ not_appended error
 IsReply outcome (Refused error) =
-    (refusal : Refusal) × (outcome ≡ refused refusal) × IsRefusal error refusal
+    (refusal : Refusal) × (outcome ≡ refused refusal) × TellsRefusal error refusal
 IsReply outcome (Rows rows) =
     (content : Content) × (outcome ≡ found content) × AreRows rows.items content
 
 -- the step's outcome is what was made, or its refusal
 abbrev pub IsSettled : Result World Refusal → Result SnapshotParts CommitError → Type 0
 IsSettled step (Ok s) = step ≡ Ok (world_of s)
-IsSettled step (Err error) = (refusal : Refusal) × (step ≡ Err refusal) × IsRefusal error refusal
+IsSettled step (Err error) = (refusal : Refusal) × (step ≡ Err refusal) × TellsRefusal error refusal
 
 -- the reply is the step's, and new is the machine after it
 pub record IsStep (old : Machine) (step : Step) (reply : Reply) (new : Machine) : Type 0 where

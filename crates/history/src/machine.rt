@@ -18,7 +18,7 @@ use labels::{LabelSet, Sample, is_time};
 use std::alloc::{AllocError, Global};
 
 /// The snapshot after an event, or why it is refused; a lack of memory is told apart.
-fn settled(
+fn take_event(
     alloc: Global,
     at: &Snapshot,
     event: &Event,
@@ -66,7 +66,7 @@ fn commit(
         r.0 (machine_at (world_after at.now r.1) held.new)) }
 {
     let event = Event::batch(held.take(alloc, actor));
-    match settled(alloc, at, &event)? {
+    match take_event(alloc, at, &event)? {
         Ok(next) => Ok((Reply::Done, Some(next))),
         Err(refusal) => {
             if let Some(samples) = event.into_batch() {
@@ -86,7 +86,7 @@ fn change(
         IsStep (machine_at (world_of at.now) held) (change actor event.now)
         r.0 (machine_at (world_after at.now r.1) held)) }
 {
-    match settled(alloc, at, event)? {
+    match take_event(alloc, at, event)? {
         Ok(made) => Ok((Reply::Done, Some(made))),
         Err(refusal) => Ok((Reply::Refused(refusal), None)),
     }

@@ -99,7 +99,7 @@ fn list_head(
 
 /// What is asked of the parts of a snapshot; where several have a sample of one label set at one
 /// time, the last part's.
-fn found(alloc: Global, snapshot: &Snapshot, query: &Query) -> Result<Content, AllocError>
+fn find_content(alloc: Global, snapshot: &Snapshot, query: &Query) -> Result<Content, AllocError>
     ensures { IfOk result (λ content. content.entries
         ≡ asked query.now (content_of (parts_of snapshot.now))) }
 {
@@ -154,7 +154,7 @@ fn push_entry(
 }
 
 /// The rows of a content.
-fn grouped(alloc: Global, content: Content) -> Result<Vec<Row>, AllocError>
+fn group_rows(alloc: Global, content: Content) -> Result<Vec<Row>, AllocError>
     requires { T (is_sorted point_cmp content.entries) }
     ensures { IfOk result (λ rows. AreRows rows.items content.entries) }
 {
@@ -178,5 +178,5 @@ pub(crate) fn rows_of(
     ensures { IfOk result (λ rows.
         AreRows rows.items (asked query.now (content_of (parts_of snapshot.now)))) }
 {
-    grouped(alloc, found(alloc, snapshot, query)?)
+    group_rows(alloc, find_content(alloc, snapshot, query)?)
 }

@@ -15,7 +15,7 @@ use Rattle.matchers.specs.Views.{MatcherView}
 use Rattle.snapshots.specs.declared.entry.Entry.{Entry}
 use Rattle.logbook.specs.Pages.{Book}
 use Rattle.snapshots.specs.Grows.{Shows}
-use Rattle.snapshots.specs.Replays.{events_in, IsAfter, Steps, Leads, KeepsFrames, IsRefusal, IsRefusedAfter, IsOfSeatOrMemory}
+use Rattle.snapshots.specs.Replays.{events_in, IsAfter, Steps, Leads, KeepsFrames, IsEventRefusal, IsRefusedAfter, IsOfSeatOrMemory}
 use Rattle.snapshots.specs.Views.{Edition}
 use Rattle.snapshots.proofs.Prefixes.{prefix_self, prefix_trans}
 
@@ -83,7 +83,7 @@ after_shown book opening x es e s t shows at step =
     (subst (λ (z : SnapshotParts). Steps z e.event t) at step)
 
 module _ (s : SnapshotParts) (ms : List MatcherView) (from to : ℤ) where
-  by_seat_or_memory : (e : CommitError) → IsRefusal e s (deletion ms from to) → IsOfSeatOrMemory e
+  by_seat_or_memory : (e : CommitError) → IsEventRefusal e s (deletion ms from to) → IsOfSeatOrMemory e
   by_seat_or_memory Seat is = inl refl
   by_seat_or_memory Memory is = inr refl
   by_seat_or_memory (OutOfBounds at) is = absurd (cc (is (λ same. absurd (cc same))))

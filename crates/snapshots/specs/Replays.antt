@@ -5,7 +5,7 @@ use Rattle.head.specs.Kept.{KeepsBlocks, frame_of}
 use Rattle.head.specs.Limits.{most}
 use Rattle.head.specs.Worlds.{Event, stepped, replayed}
 use Rattle.head.specs.Heads.{SnapshotParts, world_of}
-use Rattle.head.specs.Answers.{IsAnswer}
+use Rattle.head.specs.Outcomes.{IsStepRefusal}
 use Rattle.head.specs.declared.error.CommitError.{CommitError}
 use Rattle.head.specs.declared.error.CommitError.TheVariants.{Seat, Memory}
 use Rattle.snapshots.specs.declared.entry.Entry.{Entry}
@@ -42,8 +42,8 @@ pub record IsAfter (opening : SnapshotParts) (entries : List Entry)
   pub reached : Leads opening (events_in entries) s
 
 -- the refusal is the seat's, or memory's, or exactly the one of the event's step on the snapshot
-abbrev pub IsRefusal : CommitError → SnapshotParts → Event → Type 0
-IsRefusal e s event = ¬ (e ≡ Seat) → IsAnswer e (stepped most (world_of s) event)
+abbrev pub IsEventRefusal : CommitError → SnapshotParts → Event → Type 0
+IsEventRefusal e s event = ¬ (e ≡ Seat) → IsStepRefusal e (stepped most (world_of s) event)
 
 -- the list ends with this event, under this number of a seat
 abbrev pub EndsWith : Event → ℕ → List Entry → Type 0
@@ -57,7 +57,8 @@ AreAccepted opening entries = (s : SnapshotParts) × IsAfter opening entries s
 -- the refusal is that of some snapshot of the store's
 abbrev pub IsRefusedAfter : SnapshotParts → CommitError → Event → Type 0
 IsRefusedAfter opening e event =
-    (before : List Entry) × (s : SnapshotParts) × IsAfter opening before s × IsRefusal e s event
+    (before : List Entry) × (s : SnapshotParts)
+    × IsAfter opening before s × IsEventRefusal e s event
 
 -- the refusal is the seat's, or memory's
 abbrev pub IsOfSeatOrMemory : CommitError → Type 0

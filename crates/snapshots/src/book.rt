@@ -2,14 +2,14 @@
 
 ghost use Rattle.std.specs.Prelude.{◌≡◌, ◌+◌, ◌++◌, ◌∷◌, ◌↔◌, [], length, slice_set};
 ghost use Rattle.std.specs.Prelude.{IfOk, IfErr, OnOk, OnErr, MatchBool};
-ghost use Rattle.head.specs.Answers.{IsAnswer};
+ghost use Rattle.head.specs.Outcomes.{IsStepRefusal};
 ghost use Rattle.head.specs.Heads.{world_of};
 ghost use Rattle.head.specs.Limits.{most};
 ghost use Rattle.head.specs.Worlds.{stepped};
 ghost use Rattle.std.specs.Arc.{arc_value};
 ghost use Rattle.snapshots.specs.Marks.{accepted};
 ghost use Rattle.snapshots.specs.Grows.{Shows};
-ghost use Rattle.snapshots.specs.Replays.{IsAfter, Steps, IsRefusal};
+ghost use Rattle.snapshots.specs.Replays.{IsAfter, Steps, IsEventRefusal};
 ghost use Rattle.snapshots.specs.Seats.{FitsSeat, AreCounts, IsCounted};
 
 use crate::entry::Entry;
@@ -39,9 +39,10 @@ fn fits<J: Naming>(counts: &Vec<u64>, seat: &Seat<J>) -> bool
 }
 
 /// The snapshot after an event, to be shared.
-fn applied(alloc: Global, at: &Snapshot, event: &Event) -> Result<Arc<Snapshot>, CommitError>
+fn snapshot_after(alloc: Global, at: &Snapshot, event: &Event) -> Result<Arc<Snapshot>, CommitError>
     ensures ok { IfOk result (λ s. Steps at.now event.now (arc_value s)) }
-    ensures refused { IfErr result (λ e. IsAnswer e (stepped most (world_of at.now) event.now)) }
+    ensures refused { IfErr result (λ e.
+        IsStepRefusal e (stepped most (world_of at.now) event.now)) }
 {
     let snapshot = apply(alloc, at, event)?;
     match Arc::new(alloc, snapshot) {
@@ -125,7 +126,7 @@ impl<J: Naming, R: Wait + Drop> Book<J, R> {
         ensures seat { IfErr result (λ e.
             (e.1 ≡ CommitError.Seat) ↔ (¬ FitsSeat seat.old self.old.counts)) }
         ensures steps { OnOk result (Steps self.old.parts event self.new.parts) }
-        ensures refused { IfErr result (λ e. IsRefusal e.1 self.old.parts event) }
+        ensures refused { IfErr result (λ e. IsEventRefusal e.1 self.old.parts event) }
         ensures returned { IfErr result (λ e. e.0 ≡ event) }
         ensures kept { OnErr result ((self.new ≡ self.old) × (seat.new ≡ seat.old)) }
         ensures list { IfOk result (λ r.
@@ -144,7 +145,7 @@ impl<J: Naming, R: Wait + Drop> Book<J, R> {
         if self.log.len() > ROOM {
             return Err((event, CommitError::Memory));
         }
-        let snapshot = match applied(self.alloc, self.press.published().snapshot(), &event) {
+        let snapshot = match snapshot_after(self.alloc, self.press.published().snapshot(), &event) {
             Ok(snapshot) => snapshot,
             Err(error) => return Err((event, error)),
         };

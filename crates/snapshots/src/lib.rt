@@ -14,6 +14,21 @@
 //! what happens under the lock, with the contract of one event. Each type carries the name of its
 //! store ([`Naming`]), so a pass, a receipt and a seat of another store have other types.
 //!
+//! ```
+//! let opened = store.open::<J, &R>(rt, alloc, Vec::new(alloc), 1, 1);
+//! let (committer, mut passes, mut seats) = opened.ok()?;
+//! let (mut pass, mut seat) = passes.pop().zip(seats.pop())?;
+//! let labels = LabelSet::of_sorted_texts(alloc, &[("__name__", "up")]).ok()?;
+//! let mut appender = Appender::new(alloc);
+//! appender.append(labels, Sample::new(10, 1)).ok()?;
+//! let receipt = committer.commit(rt, &mut seat, appender).ok()?;
+//! pass.learn(&receipt);
+//! let snapshot = pass.snapshot().ok()?;
+//! let head = snapshot.head();
+//! let found = head.samples_of(alloc, SeriesRef::new(1), 0, 30).ok()?;
+//! assert_eq!(rt; (pass.events(), found.len()), (1, 1));
+//! ```
+//!
 //! It stands on `head` for snapshots and events, on `block` and `labels`, and on `left_right` and
 //! `logbook` for versions that readers enter without waiting and for the one history of a store.
 #![tactic(auto)]

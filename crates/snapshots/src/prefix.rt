@@ -62,7 +62,7 @@ impl<J: Naming> LogPrefix<J> {
     }
 
     /// What was seen.
-    pub fn seen(&self) -> Seen<Mark, u64, Law>
+    pub fn share_seen(&self) -> Seen<Mark, u64, Law>
         ensures { (result.log ≡ self.now) × (result.book ≡ J.book) }
     {
         self.seen.again()

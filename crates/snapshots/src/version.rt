@@ -50,7 +50,7 @@ impl Version {
             snapshot,
             marks: log.len(),
             events,
-            seen: log.seen(),
+            seen: log.share_seen(),
         }
     }
 

@@ -6,6 +6,8 @@
 #![tactic(auto)]
 
 #[cfg(test)]
+mod first_pages;
+#[cfg(test)]
 mod heads;
 #[cfg(test)]
 mod histories;

@@ -9,7 +9,7 @@ use Rattle.labels.specs.Rows.{Row, AreRows}
 use Rattle.block.specs.Ranges.{range_of, is_range}
 use Rattle.block_writer.specs.PartRows.{are_part_rows, part_rows}
 use Rattle.block_writer.specs.SpellRows.{AreWithin}
-use Rattle.head.specs.Answers.{IsAnswer}
+use Rattle.head.specs.Outcomes.{IsStepRefusal}
 use Rattle.head.specs.Blocks.{part_in}
 use Rattle.head.specs.Cuts.{leaving, AreLeaving, AreCutBlocks, HaveCutBlock, written_if_fit}
 use Rattle.head.specs.Fits.{fits, files_fit}
@@ -99,8 +99,8 @@ returns-in_err-block-clause-refused c =
     let made = record (raised w c.args.time) { blocks = w.blocks + 1 } in
     let step = off_written w c.args.time (leaving c.args.time c.args.at.now) rows some (few_blocks c.args.at.now few) held.exact in
     let refusal = c.in_err-block.field-0.0 in
-    let told : IsAnswer refusal (written_if_fit rows) = subst (λ (rs : List Row). IsAnswer refusal (written_if_fit rs)) (sym rows_were) c.in_err-block.ensures.refused in
-    let h : IsAnswer refusal (cut_off fits w c.args.time (leaving c.args.time c.args.at.now)) = subst (IsAnswer refusal) (sym step) (answer_same refusal (past made) (λ _. refl) (written_if_fit rows) told) in
+    let told : IsStepRefusal refusal (written_if_fit rows) = subst (λ (rs : List Row). IsStepRefusal refusal (written_if_fit rs)) (sym rows_were) c.in_err-block.ensures.refused in
+    let h : IsStepRefusal refusal (cut_off fits w c.args.time (leaving c.args.time c.args.at.now)) = subst (IsStepRefusal refusal) (sym step) (answer_same refusal (past made) (λ _. refl) (written_if_fit rows) told) in
     search (rules, h)
 
 pub returns-clause-blocks : goal.returns-clause-blocks

@@ -2,11 +2,11 @@ use Rattle.std.proofs.Common.{◌≡◌, true, false, ℤ, List, map, sym, ◌�
 use Rattle.std.specs.Prelude.{Ok, Err, int_lt, int_le, IfErr}
 use Rattle.std.specs.Arc.{arc_value}
 use Rattle.std.proofs.lemmas.Int.{ints}
-use Rattle.head.specs.Answers.{IsAnswer}
+use Rattle.head.specs.Outcomes.{IsStepRefusal}
 use Rattle.head.specs.Blocks.{part_in}
 use Rattle.head.specs.Cuts.{AreCutBlocks}
 use Rattle.head.specs.Fits.{fits}
-use Rattle.head.specs.Heads.{BlockPart, SnapshotParts, IsSound, world_of}
+use Rattle.head.specs.Heads.{BlockPart, SnapshotParts, IsSoundSnapshot, world_of}
 use Rattle.head.specs.Refusals.{cut_too_low}
 use Rattle.head.specs.Removing.{head_cut, snapshot_cut}
 use Rattle.head.specs.Shown.{series_of}
@@ -37,7 +37,7 @@ returns-in_err-blocks-clause-refused c =
     let up : int_lt c.args.at.now.floor c.args.time ≡ true = subst (λ (v : SnapshotParts). int_lt v.floor c.args.time ≡ true) c.at.view_is
     (up_of s.floor c.args.time ((λ i. int_le (sym time_is i) (sym floor_is i)) ∙ c.if-time-at.false)) in
     let h = c.in_err-blocks.ensures.refused in
-    subst (λ r. IfErr c.from_residual.result (λ e. IsAnswer e r)) (sym (cut_in c.args.time c.args.at.now up)) (search (rules, h))
+    subst (λ r. IfErr c.from_residual.result (λ e. IsStepRefusal e r)) (sym (cut_in c.args.time c.args.at.now up)) (search (rules, h))
 
 pub invariant_of-result : goal.invariant_of-result
 invariant_of-result c =
@@ -49,7 +49,7 @@ invariant_of-result c =
     let cases : AreCutBlocks c.args.time s blocks = subst (λ (v : SnapshotParts). AreCutBlocks c.args.time v blocks) (sym c.at.view_is)
     (subst (λ t. AreCutBlocks t c.args.at.now blocks) time_is c.in_ok-blocks.ensures.blocks) in
     let head_is = c.in_ok-head.ensures.series ∙ (λ i. head_cut (time_is i) (sym c.at.view_is i).head) in
-    subst IsSound (λ i. record { blocks = blocks; head = sym head_is i; floor = sym time_is i; copied = sym c.in_ok-head.ensures.copied i })
+    subst IsSoundSnapshot (λ i. record { blocks = blocks; head = sym head_is i; floor = sym time_is i; copied = sym c.in_ok-head.ensures.copied i })
     (cut_is_sound c.args.time s blocks c.at.invariant c.requires up cases)
 
 pub returns-clause-ok : goal.returns-clause-ok

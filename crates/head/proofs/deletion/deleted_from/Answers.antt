@@ -1,7 +1,7 @@
 use Rattle.std.proofs.Common.{◌≡◌, map, sym, ◌∙◌, ap, subst, rules, to_z, of_z, w64}
 use Rattle.std.specs.Arc.{arc_value}
 use Rattle.head.specs.Blocks.{part_in}
-use Rattle.head.specs.Heads.{SnapshotParts, IsSound}
+use Rattle.head.specs.Heads.{SnapshotParts, IsSoundSnapshot}
 use Rattle.head.specs.Removing.{blocks_kept, head_kept, survives}
 use Rattle.head.specs.Snapshots.{parts_in}
 use Rattle.head.proofs.Deleting.{less_is_sound}
@@ -20,6 +20,6 @@ invariant_of-result c =
     ∙ (λ i. blocks_kept (survives ms (from_is i) (to_is i)) (map part_in ((c.as_slice.ensures.value ∙ ap (λ v. v.items) c.deref.ensures) i))) in
     let head_is = c.in_ok-head.ensures.series
     ∙ (λ i. head_kept (survives ms (from_is i) (to_is i)) (sym c.at.view_is i).head) in
-    subst IsSound
+    subst IsSoundSnapshot
     (λ i. record { blocks = sym blocks_are i; head = sym head_is i; floor = sym floor_is i; copied = sym c.in_ok-head.ensures.copied i })
     (less_is_sound (survives ms c.args.from c.args.to) s c.at.invariant)

@@ -5,8 +5,8 @@ use Rattle.labels.specs.Labels.{Labels}
 use Rattle.labels.specs.Parts.{references_of, IsPart}
 use Rattle.labels.proofs.PartRows.{kept_in}
 use Rattle.head.specs.Heads.{HeadSeries, SnapshotParts, head_part}
-use Rattle.head.specs.HeadLists.{references-numbered}
-use Rattle.head.specs.Spans.{in_span}
+use Rattle.head.specs.HeadRowLaws.{references-numbered}
+use Rattle.head.specs.SpanLaws.{in_span}
 use Rattle.head.specs.Orders.{sets_of, Extends, IsOrderOf}
 use Rattle.head.specs.Removing.{series_kept, head_kept, survives, is_struck, head_less}
 use Rattle.head.specs.Snapshots.{parts_in}

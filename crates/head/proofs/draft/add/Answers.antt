@@ -1,7 +1,7 @@
 use Rattle.std.specs.Prelude.{◌≡◌, ◌<◌, ℕ, pos, T, List, [], false, None, Some, int_lt, length, slice_index_or}
 use Rattle.std.proofs.Common.{rules, sym, ◌∙◌, ap, subst, arith}
 use Rattle.labels.specs.Labels.{Labels}
-use Rattle.head.specs.Answers.{IsAnswer}
+use Rattle.head.specs.Outcomes.{IsStepRefusal}
 use Rattle.head.specs.Limits.{most}
 use Rattle.head.specs.Slots.{Slot, series_in_each}
 use Rattle.head.specs.Heads.{HeadSeries}
@@ -64,7 +64,7 @@ returns-in-Err-clause-step c =
     let head : List HeadSeries = series_in_each c.args.draft.now in
     let inside : int_lt c.args.sample.0 c.args.floor ≡ false = search rules in
     let is : place_from c.args.labels.now 0 head ≡ None = sym c.place_of.ensures ∙ c.in-None.is in
-    subst (IsAnswer c.in-Err.refusal)
+    subst (IsStepRefusal c.in-Err.refusal)
     (sym (head_added-inside most c.args.floor head c.args.at c.args.labels.now c.args.sample inside
     ∙ head_added-new_added most head c.args.at c.args.labels.now c.args.sample is))
     c.in-Err.ensures.step

@@ -16,19 +16,19 @@ returns-then-len-ge-MAX_SERIES-clause-step c =
 pub begin-requires : goal.begin-requires
 begin-requires c = record {
   ordered = c.requires.ordered;
-  absent = ap (λ (h : HeadSeries). place_from h.labels 0 (series_in_each c.args.draft.now)) c.in-Ok.ensures ∙ c.requires.absent;
+  absent = ap (λ (h : HeadSeries). place_from h.labels 0 (series_in_each c.args.draft.now)) c.in_ok-series.ensures ∙ c.requires.absent;
   few = omega (arith, c.if-len-ge-MAX_SERIES.false, c.len.ensures.count);
 }
 
-pub returns-in-Ok-begin-clause-step : goal.returns-in-Ok-begin-clause-step
-returns-in-Ok-begin-clause-step c =
+pub returns-clause-step : goal.returns-clause-step
+returns-clause-step c =
     new_taken c.args.labels.now c.args.sample (series_in_each c.args.draft.now) (omega (arith, c.if-len-ge-MAX_SERIES.false, c.len.ensures.count, length-each c.args.draft.now))
-    ∙ ap Ok (sym (ap (λ (ss : List Slot). series_in_each ss) c.in-Ok-begin.ensures.begun ∙ map-append series_in c.args.draft.now (Own c.in-Ok.series ∷ [])
-    ∙ ap (λ (h : HeadSeries). series_in_each c.args.draft.now ++ h ∷ []) c.in-Ok.ensures))
+    ∙ ap Ok (sym (ap (λ (ss : List Slot). series_in_each ss) c.in_ok-begin.ensures.begun ∙ map-append series_in c.args.draft.now (Own c.in_ok-series.series ∷ [])
+    ∙ ap (λ (h : HeadSeries). series_in_each c.args.draft.now ++ h ∷ []) c.in_ok-series.ensures))
 
-pub returns-in-Ok-begin-clause-counted : goal.returns-in-Ok-begin-clause-counted
-returns-in-Ok-begin-clause-counted c = subst (λ (slots : List Slot). owned c.args.draft.now ≤ owned slots) (sym c.in-Ok-begin.ensures.begun) (owned-more c.args.draft.now (Own c.in-Ok.series))
+pub returns-clause-counted : goal.returns-clause-counted
+returns-clause-counted c = subst (λ (slots : List Slot). owned c.args.draft.now ≤ owned slots) (sym c.in_ok-begin.ensures.begun) (owned-more c.args.draft.now (Own c.in_ok-series.series))
 
-pub returns-in-Ok-begin-clause-owners : goal.returns-in-Ok-begin-clause-owners
-returns-in-Ok-begin-clause-owners c = λ p h all. subst (λ (slots : List Slot). AllOwn p slots) (sym c.in-Ok-begin.ensures.begun)
-    (AllOwn-more p c.args.draft.now (Own c.in-Ok.series) (subst (λ (s : HeadSeries). T (p s.labels)) (sym c.in-Ok.ensures) h) all)
+pub returns-clause-owners : goal.returns-clause-owners
+returns-clause-owners c = λ p h all. subst (λ (slots : List Slot). AllOwn p slots) (sym c.in_ok-begin.ensures.begun)
+    (AllOwn-more p c.args.draft.now (Own c.in_ok-series.series) (subst (λ (s : HeadSeries). T (p s.labels)) (sym c.in_ok-series.ensures) h) all)

@@ -4,7 +4,7 @@ use Rattle.std.specs.Arc.{arc_value}
 use Rattle.std.proofs.lemmas.List.{length-map}
 use Rattle.labels.specs.Parts.{has_sample}
 use Rattle.head.specs.Heads.{HeadSeries}
-use Rattle.head.specs.HeadLists.{rows_from}
+use Rattle.head.specs.HeadRows.{rows_from}
 use Rattle.head.proofs.Living.{leaf_inside, leaf_times, leaf_passed, leaf_settled, in_times}
 use Rattle.head.proofs.live.next_live.Goals as goal
 

@@ -1,6 +1,6 @@
 use Rattle.std.proofs.Common.{◌≡◌, ◌-◌, length}
 use Rattle.labels.specs.Parts.{live_references}
-use Rattle.head.specs.HeadLists.{rows_from}
+use Rattle.head.specs.HeadRows.{rows_from}
 use Rattle.head.proofs.live.next_live.Given as goal
 
 abbrev pub invariant-loop-place : goal.invariant-loop-place

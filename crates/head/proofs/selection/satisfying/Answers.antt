@@ -13,11 +13,11 @@ use Rattle.head.proofs.selection.satisfying.Goals as goal
 pub returns-in-empty : goal.returns-in-empty
 returns-in-empty g c =
     let part = g.S.Source.part c.args.source.now in
-    if_ok c.collected.result
+    if_ok c.collect_references.result
     (λ found is. is ∙ c.all.ensures ∙ satisfies_none part
     ∙ ap (λ (ms : List MatcherView). references_where (satisfies_all ms) part)
     (sym (empty_of c.args.matchers.now c.in-empty.len_below)))
-    c.collected.ensures
+    c.collect_references.ensures
 
 pub loop-matcher-init : goal.loop-matcher-init
 loop-matcher-init g c =

@@ -6,12 +6,12 @@ use Rattle.labels.specs.Labels.{Labels}
 use Rattle.labels.specs.Parts.{IsPart}
 use Rattle.head.specs.Orders.{sets_of, Extends, IsOrderOf}
 use Rattle.head.proofs.Indexing.{batch_extends}
-use Rattle.head.specs.Answers.{IsAnswer}
+use Rattle.head.specs.Outcomes.{IsStepRefusal}
 use Rattle.head.specs.Limits.{most}
 use Rattle.head.specs.Slots.{Slot, series_in_each, owned, AllOwn}
 use Rattle.head.specs.Snapshots.{parts_in}
 use Rattle.head.specs.Blocks.{part_in}
-use Rattle.head.specs.Heads.{HeadSeries, SnapshotParts, IsSound, head_part, world_of}
+use Rattle.head.specs.Heads.{HeadSeries, SnapshotParts, IsSoundSnapshot, head_part, world_of}
 use Rattle.head.specs.Taking.{head_added_each}
 use Rattle.head.specs.Worlds.{committed}
 use Rattle.head.specs.Batches.{has_set, set_count}
@@ -40,9 +40,9 @@ returns-in_err-copied-clause-refused c =
     let head_is : series_in_each c.new-draft.result ≡ s.head = ap (λ (ss : List Slot). series_in_each ss) c.new-draft.ensures ∙ series_shared c.in_ok-last.last ∙ last_is in
     let p = err_from_is_err_and c.from_residual-in_err-copied.result c.from_residual-in_err-copied.ensures.1 in
     rw (p.1, p.2)
-    (subst (λ (v : SnapshotParts). IsAnswer c.in_err-copied.field-0.0 (committed most (world_of v) c.args.batch.now)) c.at.view_is
+    (subst (λ (v : SnapshotParts). IsStepRefusal c.in_err-copied.field-0.0 (committed most (world_of v) c.args.batch.now)) c.at.view_is
     (refused s c.args.batch.now c.in_err-copied.field-0.0 c.at.invariant
-    (subst (IsAnswer c.in_err-copied.field-0.0) (λ i. head_added_each most (floor_is i) (Ok (head_is i)) 0 c.args.batch.now) c.in_err-copied.ensures.step)))
+    (subst (IsStepRefusal c.in_err-copied.field-0.0) (λ i. head_added_each most (floor_is i) (Ok (head_is i)) 0 c.args.batch.now) c.in_err-copied.ensures.step)))
 
 pub index_of-requires : goal.index_of-requires
 index_of-requires c =
@@ -87,7 +87,7 @@ invariant_of-result c =
     (λ i. head_added_each most (sym floor_is i) (Ok (sym head_is i)) 0 c.args.batch.now) ∙ c.in_ok-copied.ensures.step in
     let made = c.of.ensures.series ∙ c.in_ok-series.ensures.series in
     let sound = (accepted s c.args.batch.now (series_in_each c.add_each.new.draft) c.at.invariant is).1 in
-    subst IsSound (λ i. record { blocks = map part_in (sym c.in_ok-blocks.ensures i).items; head = sym made i; floor = sym floor_is i; copied = c.of.result.copied })
+    subst IsSoundSnapshot (λ i. record { blocks = map part_in (sym c.in_ok-blocks.ensures i).items; head = sym made i; floor = sym floor_is i; copied = c.of.result.copied })
     (record { few = sound.few; time = sound.time; ends = sound.ends; head = sound.head; blocks = sound.blocks })
 
 pub returns-clause-ok : goal.returns-clause-ok

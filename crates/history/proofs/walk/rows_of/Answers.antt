@@ -6,7 +6,7 @@ use Rattle.head.specs.Heads.{parts_of}
 use Rattle.history.proofs.Laying.{is_sorted-asked}
 use Rattle.history.proofs.walk.rows_of.Goals as goal
 
-pub grouped-requires : goal.grouped-requires
-grouped-requires c =
-    subst (λ (content : Content). T (is_sorted point_cmp content)) (sym c.in_ok-found.ensures)
+pub group_rows-requires : goal.group_rows-requires
+group_rows-requires c =
+    subst (λ (content : Content). T (is_sorted point_cmp content)) (sym c.in_ok-find_content.ensures)
     (is_sorted-asked c.args.query.now (parts_of c.args.snapshot.now))

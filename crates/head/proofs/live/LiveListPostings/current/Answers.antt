@@ -1,5 +1,5 @@
 use Rattle.std.proofs.Common.{◌≡◌, ℕ, ◌+◌, Some, sym, ap, ◌∙◌, arith}
-use Rattle.head.specs.HeadLists.{first_at}
+use Rattle.head.specs.HeadRowLaws.{first_at}
 use Rattle.head.proofs.live.LiveListPostings.current.Goals as goal
 
 pub returns-then-self-len : goal.returns-then-self-len

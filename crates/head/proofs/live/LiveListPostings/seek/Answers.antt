@@ -1,8 +1,8 @@
 use Rattle.std.proofs.Common.{◌≡◌, ◌+◌, ◌-◌, ◌∙◌, arith, rules, to_z, of_z, w64}
 use Rattle.labels.specs.Parts.{has_sample}
 use Rattle.head.proofs.Living.{in_times}
-use Rattle.head.specs.HeadLists.{rows_from}
-use Rattle.head.specs.HeadLists.{rows_sought}
+use Rattle.head.specs.HeadRows.{rows_from}
+use Rattle.head.specs.HeadRowLaws.{rows_sought}
 use Rattle.head.proofs.live.LiveListPostings.seek.Goals as goal
 
 pub returns-then-start-self : goal.returns-then-start-self

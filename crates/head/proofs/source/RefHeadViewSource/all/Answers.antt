@@ -1,6 +1,6 @@
 use Rattle.std.proofs.Common.{sym, ap, ◌∙◌}
 use Rattle.std.specs.List.{range_with_len}
-use Rattle.head.specs.HeadLists.{references-numbered}
+use Rattle.head.specs.HeadRowLaws.{references-numbered}
 use Rattle.head.proofs.source.RefHeadViewSource.all.Goals as goal
 
 pub returns : goal.returns

@@ -1,5 +1,5 @@
 use Rattle.head.specs.Heads.{head_part}
-use Rattle.head.specs.Lending.{lent_rises}
+use Rattle.head.specs.LendingLaws.{lent_rises}
 use Rattle.head.proofs.source.RefHeadViewSource.list.Goals as goal
 
 pub new-requires : goal.new-requires

@@ -1,5 +1,5 @@
 use Rattle.std.proofs.Common.{sym, arith}
-use Rattle.head.specs.Spans.{span_sought, span_past}
+use Rattle.head.specs.SpanLaws.{span_sought, span_past}
 use Rattle.head.proofs.span.SpanPostings.seek.Goals as goal
 
 pub returns-then-passed-self : goal.returns-then-passed-self

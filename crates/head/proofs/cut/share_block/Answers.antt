@@ -4,7 +4,7 @@ use Rattle.labels.specs.Contents.{in_range}
 use Rattle.labels.specs.Parts.{Part}
 use Rattle.block.specs.Fewer.{part_without}
 use Rattle.head.proofs.SlotLaws.{both_ok}
-use Rattle.head.proofs.cut.shared.Goals as goal
+use Rattle.head.proofs.cut.share_block.Goals as goal
 
 all_left : (from to : ℤ) (ss : List (ℤ × ℤ)) → filter (λ (s : ℤ × ℤ). not (false && in_range from to s.0)) ss ≡ ss
 all_left from to [] = refl

@@ -1,6 +1,6 @@
 use Rattle.std.proofs.Common.{length}
 use Rattle.history.proofs.Pushes.{AreRowsBefore}
-use Rattle.history.proofs.walk.grouped.Given as goal
+use Rattle.history.proofs.walk.group_rows.Given as goal
 
 abbrev pub invariant-loop-entry : goal.invariant-loop-entry
 invariant-loop-entry l = AreRowsBefore l.rows.items l.content.entries l.fn.content.entries

@@ -1,7 +1,7 @@
 use Rattle.std.proofs.Common.{◌≡◌, map, take}
 use Rattle.labels.specs.Parts.{content_of}
 use Rattle.history.specs.Asking.{asked}
-use Rattle.history.proofs.walk.found.Given as goal
+use Rattle.history.proofs.walk.find_content.Given as goal
 
 abbrev pub invariant-loop-block : goal.invariant-loop-block
 invariant-loop-block l =

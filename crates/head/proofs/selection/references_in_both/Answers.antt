@@ -3,7 +3,7 @@ use Rattle.std.specs.List.{filter}
 use Rattle.labels.specs.Ascending.{rest_of}
 use Rattle.block.specs.Fewer.{is_among}
 use Rattle.head.proofs.Selecting.{met_end, met_here, met_above, met_past, past_less, beyond}
-use Rattle.head.proofs.selection.met.Goals as goal
+use Rattle.head.proofs.selection.references_in_both.Goals as goal
 
 pub returns-in_default-current : goal.returns-in_default-current
 returns-in_default-current g c =

@@ -1,5 +1,5 @@
 use Rattle.std.proofs.Common.{◌≡◌, ◌++◌, length}
-use Rattle.head.proofs.selection.collected.Given as goal
+use Rattle.head.proofs.selection.collect_references.Given as goal
 
 abbrev pub invariant-loop-reference : goal.invariant-loop-reference
 invariant-loop-reference g l = l.found.items ++ g.P.Postings.remaining l.list ≡ g.P.Postings.remaining l.initial.list

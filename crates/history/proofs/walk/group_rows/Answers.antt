@@ -1,7 +1,7 @@
 use Rattle.std.proofs.Common.{List, sym, subst}
 use Rattle.labels.specs.Rows.{Row}
 use Rattle.history.proofs.Pushes.{AreRowsBefore, pushed_step}
-use Rattle.history.proofs.walk.grouped.Goals as goal
+use Rattle.history.proofs.walk.group_rows.Goals as goal
 
 pub loop-entry-preserved : goal.loop-entry-preserved
 loop-entry-preserved c =

@@ -1,7 +1,7 @@
 use Rattle.std.proofs.Common.{◌≡◌, ◌++◌, length}
 use Rattle.std.specs.List.{filter}
 use Rattle.block.specs.Fewer.{is_among}
-use Rattle.head.proofs.selection.met.Given as goal
+use Rattle.head.proofs.selection.references_in_both.Given as goal
 
 -- what both have is what was found, and what both have from their places on
 abbrev pub invariant-loop-reference : goal.invariant-loop-reference

@@ -7,7 +7,7 @@ use Rattle.head.specs.Heads.{BlockPart, HeadSeries, head_part}
 use Rattle.history.specs.Asking.{asked, part_within}
 use Rattle.history.proofs.Laying.{asked-part, asked_within}
 use Rattle.history.proofs.Listing.{parts_in_blocks}
-use Rattle.history.proofs.walk.found.Goals as goal
+use Rattle.history.proofs.walk.find_content.Goals as goal
 
 pub loop-block-preserved : goal.loop-block-preserved
 loop-block-preserved c =

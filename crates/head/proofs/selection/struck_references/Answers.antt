@@ -7,7 +7,7 @@ use Rattle.matchers.specs.Satisfies.{satisfies_all}
 use Rattle.block.specs.Fewer.{is_among}
 use Rattle.head.proofs.Selecting.{struck_rows}
 use Rattle.head.proofs.SlotLaws.{if_ok}
-use Rattle.head.proofs.selection.struck.Goals as goal
+use Rattle.head.proofs.selection.struck_references.Goals as goal
 
 pub common-requires : goal.common-requires
 common-requires g c =

@@ -5,16 +5,16 @@ use Rattle.head.specs.declared.error.CommitError.TheVariants.{OutOfBounds, OutOf
 use Rattle.head.specs.Refusals.{Refusal, out_of_bounds, out_of_order, duplicate, limit, cut_too_low, too_many_parts}
 
 -- the refusal is the step's, or memory's
-abbrev pub IsAnswer : {W : Type 0} → CommitError → Result W Refusal → Type 0
-IsAnswer (OutOfBounds at) r = r ≡ Err (out_of_bounds at)
-IsAnswer (OutOfOrder at) r = r ≡ Err (out_of_order at)
-IsAnswer (Duplicate at) r = r ≡ Err (duplicate at)
-IsAnswer Limit r = r ≡ Err limit
-IsAnswer CutTooLow r = r ≡ Err cut_too_low
-IsAnswer TooManyParts r = r ≡ Err too_many_parts
-IsAnswer Seat r = ⊥
-IsAnswer Memory r = Unit {0}
+abbrev pub IsStepRefusal : {W : Type 0} → CommitError → Result W Refusal → Type 0
+IsStepRefusal (OutOfBounds at) r = r ≡ Err (out_of_bounds at)
+IsStepRefusal (OutOfOrder at) r = r ≡ Err (out_of_order at)
+IsStepRefusal (Duplicate at) r = r ≡ Err (duplicate at)
+IsStepRefusal Limit r = r ≡ Err limit
+IsStepRefusal CutTooLow r = r ≡ Err cut_too_low
+IsStepRefusal TooManyParts r = r ≡ Err too_many_parts
+IsStepRefusal Seat r = ⊥
+IsStepRefusal Memory r = Unit {0}
 
 -- what was made is the step's outcome, or the refusal is the step's
 abbrev pub IsOutcome : {V W : Type 0} → Result V CommitError → Result W Refusal → W → Type 0
-IsOutcome result step made = MatchResult result (λ _. step ≡ Ok made) (λ e. IsAnswer e step)
+IsOutcome result step made = MatchResult result (λ _. step ≡ Ok made) (λ e. IsStepRefusal e step)
