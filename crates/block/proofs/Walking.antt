@@ -11,7 +11,7 @@ use Rattle.labels.specs.Rows.{Row}
 use Rattle.labels.specs.Parts.{Part, references, references_of, live_references, has_sample}
 use Rattle.labels.proofs.Lists.{first_in, here, Contains-cases, rising-head, rising-tail, filter-all}
 use Rattle.labels.proofs.PartRows.{kept_in}
-use Rattle.block.specs.LawsOfLists.{rises_from}
+use Rattle.block.specs.ListLaws.{rises_from}
 use Rattle.block.proofs.Places.{first_at}
 
 pub refs_drop : (part : Part) (i : ℕ) → references (drop i part) ≡ drop i (references part)

@@ -13,7 +13,7 @@ pub mod Remaining
 pub mod Wanted
 pub mod Views
 pub mod LiveLists
-pub mod LawsOfLists
+pub mod ListLaws
 pub mod CarriedPairs
-pub mod LawsOfPairs
+pub mod PairLaws
 pub mod Shared

@@ -60,7 +60,7 @@ impl<'a> LiveList<'a> {
 
 impl<'a> Postings for LiveList<'a> {
     ghost use Rattle.labels.proofs.Lists.{not_below-twice};
-    ghost use Rattle.block.specs.LawsOfLists.{live_rises};
+    ghost use Rattle.block.specs.ListLaws.{live_rises};
     ghost use Rattle.block.specs.LiveLists.{live_in};
 
     ghost remaining = { λ live. live_in live };

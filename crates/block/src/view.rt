@@ -66,7 +66,7 @@ impl<'a> BlockView<'a> {
 
 impl<'a> Source for BlockView<'a> {
     ghost use Rattle.index_reader.specs.Indexes.{values_of};
-    ghost use Rattle.block.specs.LawsOfPairs.{are_values_of};
+    ghost use Rattle.block.specs.PairLaws.{are_values_of};
 
     type List = RawList<'a>;
 
