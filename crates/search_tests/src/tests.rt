@@ -1,6 +1,7 @@
 //! A store of six series, and what is asked of it.
 
 mod counting;
+mod first_pages;
 
 use block_search::search_part;
 use counting::Counting;
