@@ -10,6 +10,7 @@ use server::{Connections, work};
 use snapshots::{Naming, Store};
 use std::alloc::Global;
 use std::marker::Brand;
+use std::process::Abort;
 use std::sync::Wait;
 
 /// A connection that has ended.
@@ -149,4 +150,44 @@ fn serves<R: Wait>(rt: &R, alloc: Global, most: u64, count: u64, want: &[u8]) ->
 fn a_worker_serves_one_connection_after_another(rt: HostRuntime) {
     assert!(rt; serves(&rt, rt.alloc(), 9, 4, REPLIES));
     assert!(rt; serves(&rt, rt.alloc(), 1, 1, &REPLIES[..101]));
+}
+
+/// What the example of `server` does, with the worker of an empty store.
+fn work_on_two<J: Naming, R: Wait + Abort>(
+    rt: &R,
+    alloc: Global,
+    store: Store,
+    connections: &mut Texts<'_>,
+) -> Option<()>
+    requires book { store.seen.book ≡ J.book }
+    requires opening { opening_of [] ≡ J.opening }
+{
+    let EmptyStore {
+        committer,
+        mut pass,
+        mut seat,
+    } = open_empty::<J, &R>(rt, alloc, store)?;
+    let count = work(rt, alloc, connections, &mut pass, &mut seat, &committer, 9);
+    assert_eq!(rt; count, 2);
+    Some(())
+}
+
+/// A path that is none, and a connection that says nothing.
+const TWO: &[&[u8]] = &[b"GET /none HTTP/1.1\r\n\r\n", b""];
+
+/// The same with a store that is just opened.
+fn work_on_none<R: Wait + Abort>(rt: &R, alloc: Global) -> Option<()> {
+    let mut texts = Texts {
+        alloc,
+        all: TWO,
+        next: 0,
+        past: Vec::new(alloc),
+        kept_all: true,
+    };
+    work_on_two::<Brand, R>(rt, alloc, Store::new(), &mut texts)
+}
+
+#[test]
+fn the_example_of_the_first_page_of_server(rt: HostRuntime) {
+    work_on_none(&rt, rt.alloc()).expect(&rt, "the store opens");
 }
