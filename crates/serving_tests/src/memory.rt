@@ -97,7 +97,7 @@ fn work_alone<J: Naming, R: Wait>(
 }
 
 /// All that was written, one connection after another.
-fn written(alloc: Global, past: &[Ended]) -> Option<Vec<u8>> {
+fn join_written(alloc: Global, past: &[Ended]) -> Option<Vec<u8>> {
     let mut all = Vec::new(alloc);
     for ended in past {
         all.extend_from_slice(&ended.written).ok()?;
@@ -107,7 +107,7 @@ fn written(alloc: Global, past: &[Ended]) -> Option<Vec<u8>> {
 
 /// How many of these connections one worker of an empty store serves, with room for so many, and
 /// all that it writes.
-pub fn served<R: Wait>(
+pub fn serve_texts<R: Wait>(
     rt: &R,
     alloc: Global,
     connections: &[&[u8]],
@@ -121,7 +121,7 @@ pub fn served<R: Wait>(
         kept_all: true,
     };
     let count = work_alone::<Brand, R>(rt, alloc, Store::new(), &mut texts, most)?;
-    let all = written(alloc, &texts.past)?;
+    let all = join_written(alloc, &texts.past)?;
     Some((count, all))
 }
 
@@ -139,7 +139,7 @@ const REPLIES: &[u8] =
 
 /// Whether a worker with room for so many of the four serves so many, and writes this.
 fn serves<R: Wait>(rt: &R, alloc: Global, most: u64, count: u64, want: &[u8]) -> bool {
-    match served(rt, alloc, FOUR, most) {
+    match serve_texts(rt, alloc, FOUR, most) {
         Some((found, text)) => found == count && text.as_slice() == want,
         None => false,
     }
