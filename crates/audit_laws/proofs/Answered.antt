@@ -18,7 +18,7 @@ use Rattle.cover.specs.Asking.{asked}
 use Rattle.cover.specs.Certificates.{Asked, FitsUnder, run_of}
 use Rattle.block.specs.Blocks.{Shown, AreInside}
 use Rattle.block_search.specs.Skipping.{AskedPart, is_skipped, HasNoSample}
-use Rattle.block_search.specs.Answers.{IsAnswer, IsAnswerOf}
+use Rattle.block_search.specs.Answers.{IsPartAnswer, IsAnswerOf}
 use Rattle.block_search.proofs.Skips.{none_outside, none_kept}
 use Rattle.auditor.specs.Auditing.{names_known, all_known, IsSound, selected_content}
 
@@ -38,7 +38,7 @@ each_known a (i ∷ is) fits =
     ∙ each_known a is (λ j h. fits j (there i j is h))
 
 pub answer_sound : (query : QueryView) (part : Part) (answer : PartAnswer)
-    → IsAnswer query part answer → IsSound part query answer
+    → IsPartAnswer query part answer → IsSound part query answer
 answer_sound query part answer is = record {
   known = each_known (asked part query) answer.cover.certificate.items is.cover.valid.fits;
   valid = is.cover.valid;

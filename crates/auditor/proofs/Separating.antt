@@ -12,7 +12,7 @@ use Rattle.matchers.specs.Views.{MatcherView, QueryView}
 use Rattle.cover.specs.declared.certificate.Verdict.{Verdict}
 use Rattle.cover.specs.declared.certificate.Verdict.TheVariants.{Match, NoSample, Rejected}
 use Rattle.cover.specs.Asking.{asked, satisfies_at}
-use Rattle.cover.specs.Certificates.{Asked, IsAsked, between, IsRun, FitsUnder, IsFittingRun, AreSeparators}
+use Rattle.cover.specs.Certificates.{Asked, IsAsked, references_between, IsRun, FitsUnder, IsFittingRun, AreSeparators}
 use Rattle.cover.proofs.Runs.{in_between, of_between}
 use Rattle.auditor.specs.Auditing.{ShareARun, ShareAt, IsFirstShared}
 use Rattle.auditor.specs.Looking.{rows_below, rows_from, begin_with, after_first, are_picked, are_silent, rejects_each, are_rejected, share_verdict, first_shared}
@@ -152,7 +152,7 @@ module _ (part : Part) (q : QueryView) (rises : IsStrictlyIncreasing (references
       (λ (row : Entry). nat_le r row.0 && nat_le row.0 s) part (λ row c. grind (arith, nat_tests))
 
   span_references : (r s : ℕ)
-      → references (rows_below (s + 1) (rows_from r part)) ≡ between (asked part q) r s
+      → references (rows_below (s + 1) (rows_from r part)) ≡ references_between (asked part q) r s
   span_references r s =
       ap references (span_rows r s) ∙ references-filter (λ x. nat_le r x && nat_le x s) part
 
@@ -164,9 +164,9 @@ module _ (part : Part) (q : QueryView) (rises : IsStrictlyIncreasing (references
   -- the run from one reference to another, under a verdict
   run_between : (r s : ℕ) (v : Verdict) → Contains (references part) r
       → Contains (references part) s → r < s
-      → FitsUnder (asked part q) v (between (asked part q) r s) → ShareARun (asked part q) r s
+      → FitsUnder (asked part q) v (references_between (asked part q) r s) → ShareARun (asked part q) r s
   run_between r s v cr cs lt fit = record {
-    run = between (asked part q) r s;
+    run = references_between (asked part q) r s;
     fitting = record {
       is_run = record {
         low = r;
@@ -205,7 +205,7 @@ module _ (part : Part) (q : QueryView) (rises : IsStrictlyIncreasing (references
 
   -- what lies between two references of a run lies in it
   within_run : (run : List ℕ) (r s x : ℕ) → IsRun (asked part q) run → Contains run r
-      → Contains run s → Contains (between (asked part q) r s) x → Contains run x
+      → Contains run s → Contains (references_between (asked part q) r s) x → Contains run x
   within_run run r s x is cr cs c =
       let br : Contains (references part) r × (is.low ≤ r) × (r ≤ is.high) =
       of_between (asked part q) is.low is.high r

@@ -12,7 +12,7 @@ use Rattle.labels.specs.Parts.{Part, references, references_of, row_at, labels_i
 use Rattle.labels.proofs.Lists.{here, there, Contains-cases, none_in_nil, rising-head, rising-tail}
 use Rattle.cover.specs.declared.certificate.Interval.{Interval}
 use Rattle.cover.specs.Certificates.{is_match, matches_of}
-use Rattle.block_search.specs.Answering.{row_within, row_of}
+use Rattle.block_search.specs.Answering.{row_within, row_of_interval}
 use Rattle.block_search.proofs.Found.{answers, rows_found}
 
 -- the rows of these references
@@ -49,20 +49,20 @@ module _ (sat : Labels → Bool) (from to : ℤ) (part : Part) where
         | false ↦ rest
       ]
 
-  matches_at : (certificate : List Interval) → filter_map (row_of from to part) certificate ≡ rows_at from to part (matches_of certificate)
+  matches_at : (certificate : List Interval) → filter_map (row_of_interval from to part) certificate ≡ rows_at from to part (matches_of certificate)
   matches_at [] = refl
   matches_at (i ∷ is) =
       let rest = matches_at is in
       let row = option_map (row_within from to) (row_at i.from part) in
       let others = filter (λ (j : Interval). is_match j.verdict) is in
-      elim (is_match i.verdict) as (λ b. cons_option (cond b row None) (filter_map (row_of from to part) is) ≡ rows_at from to part (map (λ (j : Interval). j.from) (cond b (i ∷ others) others))) [
+      elim (is_match i.verdict) as (λ b. cons_option (cond b row None) (filter_map (row_of_interval from to part) is) ≡ rows_at from to part (map (λ (j : Interval). j.from) (cond b (i ∷ others) others))) [
         | true ↦ ap (cons_option row) rest
         | false ↦ rest
       ]
 
   -- the rows of a certificate that matches exactly those that answer
   pub rows_matched : (certificate : List Interval) → IsStrictlyIncreasing (references part) → matches_of certificate ≡ references_of (answers sat from to) part
-      → filter_map (row_of from to part) certificate ≡ rows_found sat from to part
+      → filter_map (row_of_interval from to part) certificate ≡ rows_found sat from to part
   rows_matched certificate rising exact = matches_at certificate ∙ ap (rows_at from to part) exact ∙ each_found part (λ row h. at_reference part row rising h)
 
   -- as many as match

@@ -11,7 +11,7 @@ abbrev pub row_within : ℤ → ℤ → Row → Row
 row_within from to row = (row.0, filter (λ (s : ℤ × ℤ). in_range from to s.0) row.1)
 
 -- the row that an interval stands for: under Match that of its one reference, and else none
-abbrev pub row_of : ℤ → ℤ → Part → Interval → Option Row
-row_of from to part interval =
+abbrev pub row_of_interval : ℤ → ℤ → Part → Interval → Option Row
+row_of_interval from to part interval =
     if is_match interval.verdict
     then option_map (row_within from to) (row_at interval.from part) else None

@@ -14,7 +14,7 @@ use Rattle.block_search.specs.Skipping.{AskedPart, searched_parts}
 
 -- The rows are those of the part's content restricted to the matchers and the range, as many as the
 -- certificate has matches; certificate, separators and moves are those of a cover of the part.
-pub record IsAnswer (query : QueryView) (part : Part) (answer : PartAnswer) : Type 0 where
+pub record IsPartAnswer (query : QueryView) (part : Part) (answer : PartAnswer) : Type 0 where
   pub rows : AreRows answer.rows.items
       (selected (satisfies_all query.matchers) query.from query.to (content_of (part ∷ [])))
   pub as_many : length answer.rows.items ≡ length (matches_of answer.cover.certificate.items)
@@ -24,7 +24,7 @@ pub record IsAnswer (query : QueryView) (part : Part) (answer : PartAnswer) : Ty
 pub record IsAnswerOf (query : QueryView) (asked : AskedPart) (answer : PartAnswer) : Type 0 where
   pub name : answer.part ≡ asked.name
   pub is_part : IsPart asked.part
-  pub answers : IsAnswer query asked.part answer
+  pub answers : IsPartAnswer query asked.part answer
 
 -- an answer of each part that is searched, in the order of the parts
 abbrev pub AreAnswers : QueryView → SnapshotParts → List PartAnswer → Type 0

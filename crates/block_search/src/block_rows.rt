@@ -4,8 +4,8 @@ ghost use Rattle.std.specs.Prelude.{◌≡◌, IfOk};
 ghost use Rattle.std.specs.List.{filter_map};
 ghost use Rattle.std.specs.Thread.{IsSync};
 ghost use Rattle.labels.specs.Parts.{IsPart};
-ghost use Rattle.block_search.specs.Answering.{row_of};
-ghost use Rattle.block_search.specs.Answers.{IsAnswer};
+ghost use Rattle.block_search.specs.Answering.{row_of_interval};
+ghost use Rattle.block_search.specs.Answers.{IsPartAnswer};
 
 use crate::one_part::matched_rows;
 use block::Block;
@@ -34,7 +34,7 @@ fn rows_among<R: Threads + Sync>(
     threads: usize,
 ) -> Result<Vec<Row>, AllocError>
     ensures { IfOk result (λ rows. rows.items
-        ≡ filter_map (row_of query.now.from query.now.to block.now.part) certificate.now) }
+        ≡ filter_map (row_of_interval query.now.from query.now.to block.now.part) certificate.now) }
 {
     let count = certificate.len();
     if threads < 2 || count < LONG {
@@ -46,13 +46,15 @@ fn rows_among<R: Threads + Sync>(
     let early = || -> Result<Vec<Row>, AllocError>
         requires { IsSync R.row }
         ensures { IfOk result (λ rows. rows.items
-            ≡ filter_map (row_of query.entry.now.from query.entry.now.to block.entry.now.part)
+            ≡ filter_map
+            (row_of_interval query.entry.now.from query.entry.now.to block.entry.now.part)
             front.entry.now) }
     { rows_among(rt, alloc, block, front, query, helpers) };
     let late = || -> Result<Vec<Row>, AllocError>
         requires { IsSync R.row }
         ensures { IfOk result (λ rows. rows.items
-            ≡ filter_map (row_of query.entry.now.from query.entry.now.to block.entry.now.part)
+            ≡ filter_map
+            (row_of_interval query.entry.now.from query.entry.now.to block.entry.now.part)
             back.entry.now) }
     { rows_among(rt, alloc, block, back, query, rest) };
     let (first, second) = join(rt, early, late);
@@ -72,7 +74,7 @@ pub(crate) fn search_block<R: Threads + Sync>(
 ) -> Result<PartAnswer, AllocError>
     ensures part { IfOk result (λ a. a.part ≡ part) }
     ensures is_part { IsPart block.now.part }
-    ensures answers { IfOk result (IsAnswer query.now block.now.part) }
+    ensures answers { IfOk result (IsPartAnswer query.now block.now.part) }
 {
     let cover = cover(alloc, &block.view(), query)?;
     let certificate = cover.certificate.as_slice();

@@ -4,7 +4,7 @@
 pub trait Gate: Sync {
     /// Called with the place of the part that this thread searches next: the number of a block, or
     /// for the head that of all blocks.
-    fn reached(&self, part: usize);
+    fn learn(&self, part: usize);
 }
 
 /// A gate that holds nobody up.
@@ -12,5 +12,5 @@ pub trait Gate: Sync {
 pub struct OpenGate;
 
 impl Gate for OpenGate {
-    fn reached(&self, _part: usize) {}
+    fn learn(&self, _part: usize) {}
 }

@@ -5,10 +5,25 @@
 //! is the leftmost one, so that no valid one has fewer intervals, shown by its separators. There is
 //! one answer for each part that the query does not skip, in the order of the parts: the blocks and
 //! then the head. A block is skipped where its range has no time of the query's; it has no sample
-//! there, so nothing is lost. `search` gives each part a worker, and the rows of a block's many
-//! matches several, and `search_one_by_one` goes through all in the calling thread: the two agree
-//! in all but the moves. It stands on `labels`, `matchers`, `postings`, `cover`, `block` and
-//! `head`.
+//! there, so nothing is lost. A part is a [`SearchedPart`]; [`search`] gives each part a worker,
+//! and the rows of a block's many matches several, with a [`Gate`] that learns of each part, and
+//! [`search_one_by_one`] goes through all in the calling thread: the two agree in all but the
+//! moves.
+//!
+//! ```
+//! let labels = LabelSet::of_sorted_texts(alloc, &[("__name__", "up")]).ok()?;
+//! let batch = Vec::from_array(alloc, [(labels, Sample::new(10, 1))]).ok()?;
+//! assert!(rt; Event::is_batch(&batch));
+//! let empty = Snapshot::opening(alloc, Vec::new(alloc)).ok()?;
+//! let snapshot = apply(alloc, &empty, &Event::batch(batch)).ok()?;
+//!
+//! let query = Query::new(Selector::parse(alloc, "up").ok()?, 0, 20).ok()?;
+//! let answers = search_one_by_one(alloc, &snapshot, &query).ok()?;
+//! let answer = answers.first()?;
+//! assert_eq!(rt; (answer.part, answer.rows.len()), (PartName::Head, 1));
+//! ```
+//!
+//! It stands on `labels`, `matchers`, `postings`, `cover`, `block` and `head`.
 #![tactic(auto)]
 
 mod block_rows;

@@ -4,8 +4,8 @@
 ghost use Rattle.std.specs.Prelude.{◌≡◌, IfOk, option_map};
 ghost use Rattle.std.specs.List.{filter_map};
 ghost use Rattle.labels.specs.Parts.{IsPart, row_at, labels_in, samples_within};
-ghost use Rattle.block_search.specs.Answering.{row_within, row_of};
-ghost use Rattle.block_search.specs.Answers.{IsAnswer};
+ghost use Rattle.block_search.specs.Answering.{row_within, row_of_interval};
+ghost use Rattle.block_search.specs.Answers.{IsPartAnswer};
 
 use block::BlockView;
 use cover::{Interval, PartAnswer, Verdict, cover};
@@ -61,7 +61,7 @@ fn matched_row<S: SearchedPart>(
     query: &Query,
 ) -> Result<Option<Row>, AllocError>
     ensures { IfOk result (λ row. row
-        ≡ row_of query.now.from query.now.to (S.part source.now) interval.now) }
+        ≡ row_of_interval query.now.from query.now.to (S.part source.now) interval.now) }
 {
     match interval.verdict {
         Verdict::Match => row_under(alloc, source, interval.from, query),
@@ -78,7 +78,8 @@ pub(crate) fn matched_rows<S: SearchedPart>(
     query: &Query,
 ) -> Result<Vec<Row>, AllocError>
     ensures { IfOk result (λ rows. rows.items
-        ≡ filter_map (row_of query.now.from query.now.to (S.part source.now)) certificate.now) }
+        ≡ filter_map (row_of_interval query.now.from query.now.to (S.part source.now))
+        certificate.now) }
 {
     let mut rows = Vec::new(alloc);
     for interval in certificate {
@@ -102,7 +103,7 @@ pub fn search_part<S: SearchedPart>(
 ) -> Result<PartAnswer, AllocError>
     ensures part { IfOk result (λ a. a.part ≡ part) }
     ensures is_part { IsPart (S.part source.now) }
-    ensures answers { IfOk result (IsAnswer query.now (S.part source.now)) }
+    ensures answers { IfOk result (IsPartAnswer query.now (S.part source.now)) }
 {
     let cover = cover(alloc, source, query)?;
     let mut rows = matched_rows(alloc, source, cover.certificate.as_slice(), query)?;

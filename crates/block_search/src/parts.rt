@@ -68,7 +68,7 @@ pub fn search_one_by_one(
 }
 
 /// The answer of the part at this place, of which the gate learns before the search.
-fn search_reached<R: Threads + Sync, G: Gate>(
+fn search_through_gate<R: Threads + Sync, G: Gate>(
     rt: &R,
     alloc: Global,
     snapshot: &Snapshot,
@@ -78,12 +78,12 @@ fn search_reached<R: Threads + Sync, G: Gate>(
 ) -> Result<PartAnswer, AllocError>
     ensures { IfOk result (IsAnswerOf query.now (part_at query.now snapshot.now place)) }
 {
-    gate.reached(place);
+    gate.learn(place);
     search_place_by(rt, alloc, snapshot, query, place)
 }
 
 /// What the worker of each of these places found, in their order.
-fn found_by_workers<R: Threads + Sync, G: Gate>(
+fn search_by_workers<R: Threads + Sync, G: Gate>(
     rt: &R,
     alloc: Global,
     snapshot: &Snapshot,
@@ -104,7 +104,7 @@ fn found_by_workers<R: Threads + Sync, G: Gate>(
             requires { n < length places.now }
             ensures { IfOk result (IsAnswerOf query.entry.now
                 (part_at query.entry.now snapshot.entry.now (slice_index places.entry.now n))) }
-        { search_reached(rt, alloc, snapshot, query, places[n], gate) },
+        { search_through_gate(rt, alloc, snapshot, query, places[n], gate) },
     )
 }
 
@@ -141,6 +141,6 @@ pub fn search<R: Threads + Sync, G: Gate>(
     ensures whole { OnOk result (LosesNothing query.now snapshot.now) }
 {
     let places = searched_places(alloc, snapshot, query)?;
-    let found = found_by_workers(rt, alloc, snapshot, query, places.as_slice(), gate)?;
+    let found = search_by_workers(rt, alloc, snapshot, query, places.as_slice(), gate)?;
     all_of(alloc, found)
 }

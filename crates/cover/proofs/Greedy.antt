@@ -11,7 +11,7 @@ use Rattle.labels.proofs.Lists.{Contains-cases, none_in_nil, rising-tail, filter
 use Rattle.cover.specs.declared.certificate.Interval.{Interval}
 use Rattle.cover.specs.declared.certificate.Verdict.{Verdict}
 use Rattle.cover.specs.declared.certificate.Verdict.TheVariants.{Match, NoSample, Rejected}
-use Rattle.cover.specs.Certificates.{Asked, IsAsked, between, IsRun, FitsUnder, run_of, IsChained, NamesSmallest, IsLeftmost}
+use Rattle.cover.specs.Certificates.{Asked, IsAsked, references_between, IsRun, FitsUnder, run_of, IsChained, NamesSmallest, IsLeftmost}
 use Rattle.cover.specs.Walking.{accepted, alive}
 use Rattle.cover.proofs.Runs.{in_run, of_run, in_between, of_map, interval_run}
 use Rattle.cover.proofs.Longest.{GoesFarthest, farthest_longest}
@@ -181,8 +181,8 @@ not_rejected a e until k v within lt fit =
 -- past where each test has passed, a run from e fits under Match alone
 beyond : (a : Asked) (e until high : ℕ) → IsAsked a → e < until
     → ((k : ℕ) → k < a.matchers → reach a e k ≤ until) → reach_live a e ≤ until
-    → Contains a.references high → until ≤ high → (FitsUnder a Match (between a e high) → ⊥)
-    → (v : Verdict) → FitsUnder a v (between a e high) → ⊥
+    → Contains a.references high → until ≤ high → (FitsUnder a Match (references_between a e high) → ⊥)
+    → (v : Verdict) → FitsUnder a v (references_between a e high) → ⊥
 beyond a e until high part forward least live_least ch past no_match Match fit = no_match fit
 beyond a e until high part forward least live_least ch past no_match NoSample fit =
     let top : high < 4294967296 = part.in_range high ch in
@@ -204,9 +204,9 @@ beyond a e until high part forward least live_least ch past no_match (Rejected k
 
 -- the one reference of a run from e that fits under Match is e
 match_is : (a : Asked) (e high : ℕ) → Contains a.references e → e ≤ high
-    → (fit : FitsUnder a Match (between a e high)) → fit.0 ≡ e
+    → (fit : FitsUnder a Match (references_between a e high)) → fit.0 ≡ e
 match_is a e high c l fit =
-    let in_it : Contains (between a e high) e = in_between a e high e c (omega arith) l in
+    let in_it : Contains (references_between a e high) e = in_between a e high e c (omega arith) l in
     let in_one : Contains (fit.0 ∷ []) e = rw fit.1 at in_it in
     elim (Contains-cases fit.0 [] e in_one) [ inl d ↦ d | inr d ↦ absurd (none_in_nil e d) ]
 
@@ -239,7 +239,7 @@ good_rejected a e until j part c forward within jm is least live_least first = r
       ];
 }
   where
-    no_match : (high : ℕ) → until ≤ high → FitsUnder a Match (between a e high) → ⊥
+    no_match : (high : ℕ) → until ≤ high → FitsUnder a Match (references_between a e high) → ⊥
     no_match high past fit =
         let same : fit.0 ≡ e = match_is a e high c (omega arith) fit in
         let takes : a.accepts j e ≡ true = rw (← same) (fit.2.0 j jm) in
@@ -271,7 +271,7 @@ good_silent a e until part c forward within is least = record {
   smallest = λ k fit. not_rejected a e until k NoSample within (least k fit.0) fit;
 }
   where
-    no_match : (high : ℕ) → until ≤ high → FitsUnder a Match (between a e high) → ⊥
+    no_match : (high : ℕ) → until ≤ high → FitsUnder a Match (references_between a e high) → ⊥
     no_match high past fit =
         let same : fit.0 ≡ e = match_is a e high c (omega arith) fit in
         let lives : a.live e ≡ true = rw (← same) fit.2.1 in
@@ -340,10 +340,10 @@ good_match a e until part c forward next every live_every =
     match_ends : (a : Asked) (e until high : ℕ) → Contains a.references e
         → Contains a.references high → e ≤ high → e < until
         → ((k : ℕ) → k < a.matchers → a.accepts k e ≡ true) → a.live e ≡ true → (v : Verdict)
-        → FitsUnder a v (between a e high) → high < until
+        → FitsUnder a v (references_between a e high) → high < until
     match_ends a e until high c ch above forward takes lives Match fit =
-        let in_e : Contains (between a e high) e = in_between a e high e c (omega arith) above in
-        let in_h : Contains (between a e high) high =
+        let in_e : Contains (references_between a e high) e = in_between a e high e c (omega arith) above in
+        let in_h : Contains (references_between a e high) high =
         in_between a e high high ch above (omega arith) in
         let one_e : Contains (fit.0 ∷ []) e = rw fit.1 at in_e in
         let one_h : Contains (fit.0 ∷ []) high = rw fit.1 at in_h in

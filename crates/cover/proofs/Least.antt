@@ -6,7 +6,7 @@ use Rattle.labels.proofs.Lists.{here, there, Contains-cases, none_in_nil, rising
 use Rattle.cover.specs.declared.certificate.Interval.{Interval}
 use Rattle.cover.specs.declared.certificate.Verdict.{Verdict}
 use Rattle.cover.specs.declared.certificate.Verdict.TheVariants.{Match, NoSample, Rejected}
-use Rattle.cover.specs.Certificates.{Asked, IsAsked, between, FitsUnder, IsFittingRun, run_of, next_from, IsChained, IsValidCertificate, IsLeast, AreSeparators, IsLeftmost, begins_of}
+use Rattle.cover.specs.Certificates.{Asked, IsAsked, references_between, FitsUnder, IsFittingRun, run_of, next_from, IsChained, IsValidCertificate, IsLeast, AreSeparators, IsLeftmost, begins_of}
 use Rattle.cover.proofs.Runs.{in_run, of_run, in_between, of_between, begins_not_below, in_some, valid_forward, map-has, of_begins, begins_rise, ends_before}
 use Rattle.cover.proofs.Longest.{leftmost_far}
 
@@ -86,11 +86,11 @@ one_of_one x r s run e hr hs =
     ]
 
 -- the part of a fitting run from one of its references on, where a second one follows
-fits_on : (a : Asked) (v : Verdict) (low high r s : ℕ) → FitsUnder a v (between a low high)
-    → Contains (between a low high) r → Contains (between a low high) s → r < s
-    → FitsUnder a v (between a r high)
+fits_on : (a : Asked) (v : Verdict) (low high r s : ℕ) → FitsUnder a v (references_between a low high)
+    → Contains (references_between a low high) r → Contains (references_between a low high) s → r < s
+    → FitsUnder a v (references_between a r high)
 fits_on a Match low high r s f hr hs lt =
-    absurd (let same : r ≡ s = one_of_one f.0 r s (between a low high) f.1 hr hs in omega arith)
+    absurd (let same : r ≡ s = one_of_one f.0 r s (references_between a low high) f.1 hr hs in omega arith)
 fits_on a NoSample low high r s f hr hs lt = λ q h.
     let k : Contains a.references q × (r ≤ q) × (q ≤ high) = of_between a r high q h in
     let l : Contains a.references r × (low ≤ r) × (r ≤ high) = of_between a low high r hr in
@@ -116,17 +116,17 @@ leftmost_separates a c part left = record {
       let past : i.0.until ≤ k.0.from =
       ends_before c left.valid.chained (valid_forward a c left.valid) i.0 k.0 i.1.0 k.1.0
       (omega (arith, i.1.1, k.1.1)) in
-      let hr' : Contains (between a fit.is_run.low fit.is_run.high) r = rw (← fit.is_run.is) hr in
-      let hs' : Contains (between a fit.is_run.low fit.is_run.high) s = rw (← fit.is_run.is) hs in
-      let fits' : FitsUnder a fit.verdict (between a fit.is_run.low fit.is_run.high) =
+      let hr' : Contains (references_between a fit.is_run.low fit.is_run.high) r = rw (← fit.is_run.is) hr in
+      let hs' : Contains (references_between a fit.is_run.low fit.is_run.high) s = rw (← fit.is_run.is) hs in
+      let fits' : FitsUnder a fit.verdict (references_between a fit.is_run.low fit.is_run.high) =
       rw (← fit.is_run.is) fit.fits in
       let bs : Contains a.references s × (fit.is_run.low ≤ s) × (s ≤ fit.is_run.high) =
       of_between a _ _ s hs' in
       let br : Contains a.references r × (fit.is_run.low ≤ r) × (r ≤ fit.is_run.high) =
       of_between a _ _ r hr' in
-      let on : FitsUnder a fit.verdict (between a r fit.is_run.high) =
+      let on : FitsUnder a fit.verdict (references_between a r fit.is_run.high) =
       fits_on a fit.verdict fit.is_run.low fit.is_run.high r s fits' hr' hs' lt in
-      let whole : IsFittingRun a (between a r fit.is_run.high) = record {
+      let whole : IsFittingRun a (references_between a r fit.is_run.high) = record {
         is_run = record {
           low = r;
           high = fit.is_run.high;

@@ -7,14 +7,14 @@ use Rattle.std.proofs.lemmas.Bool.Decides.{nat_tests}
 use Rattle.labels.specs.Ascending.{first_of}
 use Rattle.labels.proofs.Lists.{here, there, Contains-cases, none_in_nil, rising-filter, first-least, below_or_not}
 use Rattle.cover.specs.declared.certificate.Interval.{Interval}
-use Rattle.cover.specs.Certificates.{Asked, IsAsked, between, IsRun, IsFittingRun, run_of, IsLongest, IsLeftmost}
+use Rattle.cover.specs.Certificates.{Asked, IsAsked, references_between, IsRun, IsFittingRun, run_of, IsLongest, IsLeftmost}
 use Rattle.cover.proofs.Runs.{of_run, in_between, of_between}
 
 -- no fitting run with the interval's first reference has a reference at or past its end
 abbrev pub GoesFarthest : Asked → Interval → Type 0
 GoesFarthest a i =
     (high : ℕ) → Contains a.references high
-    → IsFittingRun a (between a i.from high) → high < i.until
+    → IsFittingRun a (references_between a i.from high) → high < i.until
 
 step_le : (b c : Bool) (xs ys : List ℕ) (x : ℕ) → (b ≡ true → c ≡ true) → length xs ≤ length ys
     → length (cond b (x ∷ xs) xs) ≤ length (cond c (x ∷ ys) ys)
@@ -68,19 +68,19 @@ first_low (x ∷ xs) r s h e c =
 pub farthest_longest : (a : Asked) (i : Interval) → IsAsked a → GoesFarthest a i → IsLongest a i
 farthest_longest a i part far run fit begins =
     let r : IsRun a run = fit.is_run in
-    let begins' : first_of (between a r.low r.high) ≡ Some i.from =
+    let begins' : first_of (references_between a r.low r.high) ≡ Some i.from =
     subst (λ (xs : List ℕ). first_of xs ≡ Some i.from) r.is begins in
-    let rising : IsStrictlyIncreasing (between a r.low r.high) =
+    let rising : IsStrictlyIncreasing (references_between a r.low r.high) =
     rising-filter _ a.references part.ascending in
     let down : i.from ≤ r.low =
-    first_low (between a r.low r.high) i.from r.low rising begins'
+    first_low (references_between a r.low r.high) i.from r.low rising begins'
     (in_between a r.low r.high r.low r.has_low (omega arith) r.ordered) in
     let up : Contains a.references i.from × (r.low ≤ i.from) × (i.from ≤ r.high) =
-    of_between a r.low r.high i.from (first_in (between a r.low r.high) i.from begins') in
+    of_between a r.low r.high i.from (first_in (references_between a r.low r.high) i.from begins') in
     let same : r.low ≡ i.from = omega (arith, up.1) in
-    let run_is : run ≡ between a i.from r.high = r.is ∙ ap (λ (l : ℕ). between a l r.high) same in
+    let run_is : run ≡ references_between a i.from r.high = r.is ∙ ap (λ (l : ℕ). references_between a l r.high) same in
     let below : r.high < i.until = far r.high r.has_high (subst (IsFittingRun a) run_is fit) in
-    let shorter : length (between a i.from r.high) ≤ length (run_of a i) =
+    let shorter : length (references_between a i.from r.high) ≤ length (run_of a i) =
     filter_le (λ x. nat_le i.from x && nat_le x r.high) (λ x. nat_le i.from x && nat_lt x i.until)
     a.references (λ x _ t. wider i.from r.high i.until x below t) in
     omega (arith, ap length run_is)
@@ -90,9 +90,9 @@ farthest_longest a i part far run fit begins =
     wider low high until x l t = grind (arith, nat_tests)
 
 first_between : (a : Asked) (low high : ℕ) → IsAsked a → Contains a.references low → low ≤ high
-    → first_of (between a low high) ≡ Some low
+    → first_of (references_between a low high) ≡ Some low
 first_between a low high part c l =
-    go (between a low high) (rising-filter _ a.references part.ascending)
+    go (references_between a low high) (rising-filter _ a.references part.ascending)
     (in_between a low high low c (omega arith) l) (λ s m. (of_between a low high s m).1)
   where
     go : (xs : List ℕ) → IsStrictlyIncreasing xs → Contains xs low
@@ -110,9 +110,9 @@ longest_farthest a i part c forward long = λ high ch fit.
     elim (below_or_not high i.until) [
       | inl done ↦ done
       | inr past ↦ absurd (
-          let le : length (between a i.from high) ≤ length (run_of a i) =
-          long (between a i.from high) fit (first_between a i.from high part c (omega arith)) in
-          let lt : length (run_of a i) < length (between a i.from high) =
+          let le : length (references_between a i.from high) ≤ length (run_of a i) =
+          long (references_between a i.from high) fit (first_between a i.from high part c (omega arith)) in
+          let lt : length (run_of a i) < length (references_between a i.from high) =
           filter_lt (λ x. nat_le i.from x && nat_lt x i.until) (λ x. nat_le i.from x
           && nat_le x high) a.references high (λ x _ t. narrower i.from high i.until x past t) ch
           (out i.from high i.until past) (inside i.from high (omega arith)) in

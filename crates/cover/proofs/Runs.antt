@@ -7,7 +7,7 @@ use Rattle.std.proofs.lemmas.Bool.Decides.{nat_tests}
 use Rattle.std.proofs.lemmas.List.Elements.{Contains-append_cases}
 use Rattle.labels.proofs.Lists.{here, there, Contains-cases, none_in_nil, rising-cons, filter-has, filter-from, filter-same, last_below}
 use Rattle.cover.specs.declared.certificate.Interval.{Interval}
-use Rattle.cover.specs.Certificates.{Asked, IsAsked, between, IsRun, run_of, next_from, IsChained, IsValidCertificate, begins_of}
+use Rattle.cover.specs.Certificates.{Asked, IsAsked, references_between, IsRun, run_of, next_from, IsChained, IsValidCertificate, begins_of}
 
 pub in_run : (a : Asked) (i : Interval) (r : ℕ) → Contains a.references r → i.from ≤ r → r < i.until
     → Contains (run_of a i) r
@@ -21,10 +21,10 @@ of_run a i r c =
     (k.0, grind (arith, nat_tests), grind (arith, nat_tests))
 
 pub in_between : (a : Asked) (low high r : ℕ) → Contains a.references r → low ≤ r → r ≤ high
-    → Contains (between a low high) r
+    → Contains (references_between a low high) r
 in_between a low high r c l h = filter-has _ a.references r c (grind (arith, nat_tests))
 
-pub of_between : (a : Asked) (low high r : ℕ) → Contains (between a low high) r
+pub of_between : (a : Asked) (low high r : ℕ) → Contains (references_between a low high) r
     → Contains a.references r × (low ≤ r) × (r ≤ high)
 of_between a low high r c =
     let k : Contains a.references r × ((nat_le low r && nat_le r high) ≡ true) =

@@ -6,7 +6,7 @@ use Rattle.labels.proofs.Lists.{here, there, first-least, first-in, below_or_not
 use Rattle.cover.specs.declared.certificate.Interval.{Interval}
 use Rattle.cover.specs.declared.certificate.Verdict.{Verdict}
 use Rattle.cover.specs.declared.certificate.Verdict.TheVariants.{Match, NoSample, Rejected}
-use Rattle.cover.specs.Certificates.{Asked, IsAsked, between, IsRun, FitsUnder, IsFittingRun, run_of, next_from, IsChained, IsValidCertificate, NamesSmallest, IsLeftmost}
+use Rattle.cover.specs.Certificates.{Asked, IsAsked, references_between, IsRun, FitsUnder, IsFittingRun, run_of, next_from, IsChained, IsValidCertificate, NamesSmallest, IsLeftmost}
 use Rattle.cover.proofs.Runs.{in_run, of_run, in_between, of_between, AllForward, begins_not_below, ends_in_range, in_some, valid_forward, interval_run}
 use Rattle.cover.proofs.Longest.{GoesFarthest, leftmost_far}
 
@@ -44,7 +44,7 @@ not_sooner a i k part si sk same top (inr c) =
       | inr done ↦ done
       | inl sooner ↦ absurd (
           let r : IsRun a (run_of a k) = interval_run a k part sk.of_part sk.forward in
-          let begins : Contains (between a r.low r.high) k.from =
+          let begins : Contains (references_between a r.low r.high) k.from =
           subst (λ (xs : List ℕ). Contains xs k.from) r.is
           (in_run a k k.from sk.of_part (omega arith) sk.forward) in
           let b : Contains a.references k.from × (r.low ≤ k.from) × (k.from ≤ r.high) =
@@ -52,14 +52,14 @@ not_sooner a i k part si sk same top (inr c) =
           let lows : Contains a.references r.low × (k.from ≤ r.low) × (r.low < k.until) =
           of_run a k r.low (subst (λ (xs : List ℕ). Contains xs r.low) (sym r.is)
           (in_between a r.low r.high r.low r.has_low (omega arith) r.ordered)) in
-          let ends : Contains (between a r.low r.high) i.until =
+          let ends : Contains (references_between a r.low r.high) i.until =
           subst (λ (xs : List ℕ). Contains xs i.until) r.is
           (in_run a k i.until c (omega (arith, same, si.forward)) sooner) in
           let e : Contains a.references i.until × (r.low ≤ i.until) × (i.until ≤ r.high) =
           of_between a r.low r.high i.until ends in
           let low_is : r.low ≡ i.from = omega (arith, b.1, lows.1, same) in
-          let run_is : run_of a k ≡ between a i.from r.high =
-          r.is ∙ ap (λ (l : ℕ). between a l r.high) low_is in
+          let run_is : run_of a k ≡ references_between a i.from r.high =
+          r.is ∙ ap (λ (l : ℕ). references_between a l r.high) low_is in
           let fit : IsFittingRun a (run_of a k) =
           record { is_run = r; verdict = k.verdict; fits = sk.fits } in
           let far : r.high < i.until =

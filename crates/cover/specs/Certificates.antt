@@ -22,8 +22,8 @@ pub record IsAsked (a : Asked) : Type 0 where
   pub in_range : (r : ℕ) → Contains a.references r → r < 4294967296
 
 -- All references of the part between two numbers, both included.
-abbrev pub between : Asked → ℕ → ℕ → List ℕ
-between a low high = filter (λ r. nat_le low r && nat_le r high) a.references
+abbrev pub references_between : Asked → ℕ → ℕ → List ℕ
+references_between a low high = filter (λ r. nat_le low r && nat_le r high) a.references
 
 -- A run: all references of the part between two of its references, both included.
 pub record IsRun (a : Asked) (run : List ℕ) : Type 0 where
@@ -32,7 +32,7 @@ pub record IsRun (a : Asked) (run : List ℕ) : Type 0 where
   pub has_low : Contains a.references low
   pub has_high : Contains a.references high
   pub ordered : low ≤ high
-  pub is : run ≡ between a low high
+  pub is : run ≡ references_between a low high
 
 -- A partition: runs which, one after another, are the references of the part.
 pub record IsPartition (a : Asked) (runs : List (List ℕ)) : Type 0 where

@@ -10,7 +10,7 @@ use Rattle.head.specs.Heads.{SnapshotParts, parts_of, world_of}
 use Rattle.block_search.specs.Skipping.{LosesNothing, asked_parts}
 use Rattle.snapshots.specs.Replays.{IsAfter}
 use Rattle.snapshots.specs.Views.{Known}
-use Rattle.query_http.specs.Audited.{IsAnswered}
+use Rattle.query_http.specs.Audited.{IsAnsweredPart}
 use Rattle.query_http.specs.Headline.{asked_of, IsHeadline}
 use Rattle.query_http.specs.declared.audited.AuditedAnswer.{AuditedAnswer}
 
@@ -25,7 +25,7 @@ module _ (opening : SnapshotParts) (query : QueryView) (before after : Known)
       → IsPrefix before.told after.seen → IsAfter opening after.seen s
       → AreRows answer.rows.items (asked_of (content_of (parts_of s)) query)
       → LosesNothing query s
-      → AllZip (IsAnswered query) (asked_parts query s) answer.parts.items
+      → AllZip (IsAnsweredPart query) (asked_parts query s) answer.parts.items
       → IsHeadline opening query before after answer
   headline s seen told after_events rows whole parts = record {
     seen = seen;

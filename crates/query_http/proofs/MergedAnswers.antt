@@ -14,7 +14,7 @@ use Rattle.matchers.specs.Views.{QueryView}
 use Rattle.matchers.specs.Satisfies.{satisfies_all}
 use Rattle.cover.specs.declared.part_cover.PartAnswer.{PartAnswer}
 use Rattle.block_search.specs.Skipping.{AskedPart}
-use Rattle.block_search.specs.Answers.{IsAnswer, IsAnswerOf}
+use Rattle.block_search.specs.Answers.{IsPartAnswer, IsAnswerOf}
 use Rattle.series_merge.specs.Merging.{IsRowList, laid_each, row_lists, merged_content}
 
 -- what is laid over nothing lies over a content as it does by itself
@@ -29,7 +29,7 @@ laid_again es c h =
     ∙ sym (find-laid_over q es c))
 
 module _ (query : QueryView) where
-  laid_answer : (part : Part) (answer : PartAnswer) → IsAnswer query part answer → (c : Content)
+  laid_answer : (part : Part) (answer : PartAnswer) → IsPartAnswer query part answer → (c : Content)
       → T (is_sorted point_cmp c)
       → laid_over (points_of answer.rows.items) c ≡ laid_over (points_of (rows_in (part_kept
       (λ p. satisfies_all query.matchers p.0 && in_range query.from query.to p.1) part))) c
@@ -40,7 +40,7 @@ module _ (query : QueryView) where
       ∙ laid_again (points_of (rows_in (part_kept (λ p. satisfies_all query.matchers p.0
       && in_range query.from query.to p.1) part))) c h
 
-  merged : (parts : List Part) (answers : List PartAnswer) → AllZip (IsAnswer query) parts answers
+  merged : (parts : List Part) (answers : List PartAnswer) → AllZip (IsPartAnswer query) parts answers
       → (c : Content) → T (is_sorted point_cmp c)
       → laid_each c (row_lists answers) ≡ over c (map (part_kept (λ p.
       satisfies_all query.matchers p.0 && in_range query.from query.to p.1)) parts)
@@ -55,7 +55,7 @@ module _ (query : QueryView) where
       ∙ merged parts rest are.1 (laid_over kept c) (is_sorted-laid_over kept c h)
 
   pub merged_is_selected : (parts : List Part) (answers : List PartAnswer)
-      → AllZip (IsAnswer query) parts answers
+      → AllZip (IsPartAnswer query) parts answers
       → merged_content answers
       ≡ selected (satisfies_all query.matchers) query.from query.to (content_of parts)
   merged_is_selected parts answers are =
@@ -63,7 +63,7 @@ module _ (query : QueryView) where
       ∙ sym (kept-over (λ p. satisfies_all query.matchers p.0
       && in_range query.from query.to p.1) parts [] tt)
 
-  row_list : (part : Part) (answer : PartAnswer) → IsAnswer query part answer
+  row_list : (part : Part) (answer : PartAnswer) → IsPartAnswer query part answer
       → IsRowList answer.rows.items
   row_list part answer is = record {
     of_content = record { points = refl; ascending = is.rows.ascending; full = is.rows.full };
@@ -74,7 +74,7 @@ module _ (query : QueryView) where
   }
 
   pub each_row_list : (parts : List Part) (answers : List PartAnswer)
-      → AllZip (IsAnswer query) parts answers
+      → AllZip (IsPartAnswer query) parts answers
       → (answer : PartAnswer) → Contains answers answer → IsRowList answer.rows.items
   each_row_list [] [] are answer h = absurd (none_in_nil answer h)
   each_row_list [] (a ∷ rest) are answer h = absurd are
@@ -87,7 +87,7 @@ module _ (query : QueryView) where
   -- answers under their names are answers of the parts
   pub each_answers : (asked : List AskedPart) (answers : List PartAnswer)
       → AllZip (IsAnswerOf query) asked answers
-      → AllZip (IsAnswer query) (map (λ p. p.part) asked) answers
+      → AllZip (IsPartAnswer query) (map (λ p. p.part) asked) answers
   each_answers [] [] are = tt
   each_answers [] (a ∷ rest) are = absurd are
   each_answers (p ∷ ps) [] are = absurd are

@@ -21,12 +21,12 @@ use Rattle.query_http.specs.declared.audited.AuditedAnswer.{AuditedAnswer}
 use Rattle.query_http.specs.Headline.{IsHeadline}
 use Rattle.query_http.specs.Made.{text_of}
 use Rattle.query_http.specs.Reply.{body_text}
-use Rattle.query_http.specs.Serving.{Worker, IsIdle, IsRefusal, IsQueryReply, IsEventReply, IsSilent, Serves, refused_at, conflict_body}
+use Rattle.query_http.specs.Serving.{Worker, IsIdle, IsReplyOfRefusal, IsQueryReply, IsEventReply, IsSilent, Serves, refused_at, conflict_body}
 use Rattle.query_http.specs.declared.engine.Served.{Served}
 use Rattle.query_http.specs.declared.engine.Served.TheVariants as served
 
 pub conflict_spelled : (cause : Cause) (error : CommitError) (status : Status) (text : List ℕ)
-    → IsRefusal (Refused cause) status text
+    → IsReplyOfRefusal (Refused cause) status text
     → cause.code.now ≡ commit_code error → cause.at ≡ refused_at error
     → text ≡ reply_text Conflict (conflict_body error)
 conflict_spelled cause error status text p code at =

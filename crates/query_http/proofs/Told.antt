@@ -12,7 +12,7 @@ use Rattle.head.specs.Blocks.{part_in}
 use Rattle.block_search.specs.Skipping.{AskedPart, is_skipped, asked_blocks}
 use Rattle.block_search.specs.Answers.{IsAnswerOf}
 use Rattle.query_http.specs.declared.audited.AnsweredPart.{AnsweredPart}
-use Rattle.query_http.specs.Audited.{IsAnswered}
+use Rattle.query_http.specs.Audited.{IsAnsweredPart}
 use Rattle.query_http.specs.Telling.{told_of_one, left_after}
 
 -- what is told of these parts, given the answers of those that are searched
@@ -25,22 +25,22 @@ module _ (query : QueryView) where
   told_searched : (p : AskedPart) (ps : List AskedPart) (answers : List PartAnswer)
       → p.skipped ≡ false
       → ((others : List PartAnswer) → AllZip (IsAnswerOf query) (filter (λ q. not q.skipped) ps)
-      others → AllZip (IsAnswered query) ps (told_of ps others))
+      others → AllZip (IsAnsweredPart query) ps (told_of ps others))
       → AllZip (IsAnswerOf query) (p ∷ filter (λ q. not q.skipped) ps) answers
-      → AllZip (IsAnswered query) (p ∷ ps)
+      → AllZip (IsAnsweredPart query) (p ∷ ps)
       (told_of_one false p.name answers ++ told_of ps (left_after false answers))
   told_searched p ps [] e rest are = absurd are
   told_searched p ps (a ∷ later) e rest are = ((e, are.0), rest later are.1)
 
   pub told_is : (ps : List AskedPart) (answers : List PartAnswer)
       → AllZip (IsAnswerOf query) (filter (λ p. not p.skipped) ps) answers
-      → AllZip (IsAnswered query) ps (told_of ps answers)
+      → AllZip (IsAnsweredPart query) ps (told_of ps answers)
   told_is [] answers are = tt
   told_is (p ∷ ps) answers are =
       let others = filter (λ q. not q.skipped) ps in
       elim p.skipped as (λ b. p.skipped ≡ b
       → AllZip (IsAnswerOf query) (cond (not b) (p ∷ others) others) answers
-      → AllZip (IsAnswered query) (p ∷ ps)
+      → AllZip (IsAnsweredPart query) (p ∷ ps)
       (told_of_one b p.name answers ++ told_of ps (left_after b answers))) [
         | true ↦ λ e are. ((e, refl), told_is ps answers are)
         | false ↦ λ e are. told_searched p ps answers e (told_is ps) are

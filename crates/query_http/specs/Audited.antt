@@ -14,14 +14,15 @@ use Rattle.query_http.specs.declared.audited.AnsweredPart.TheVariants.{Searched,
 use Rattle.query_http.specs.declared.audited.AuditedAnswer.{AuditedAnswer}
 
 -- What is told of a part: its answer, under its name, or that it is skipped, exactly where it is.
-abbrev pub IsAnswered : QueryView → AskedPart → AnsweredPart → Type 0
-IsAnswered query asked (Searched answer) = (asked.skipped ≡ false) × IsAnswerOf query asked answer
-IsAnswered query asked (Skipped name) = (asked.skipped ≡ true) × (name ≡ asked.name)
+abbrev pub IsAnsweredPart : QueryView → AskedPart → AnsweredPart → Type 0
+IsAnsweredPart query asked (Searched answer) =
+    (asked.skipped ≡ false) × IsAnswerOf query asked answer
+IsAnsweredPart query asked (Skipped name) = (asked.skipped ≡ true) × (name ≡ asked.name)
 
 -- Each part of the snapshot is told of in their order, and the rows are those of the content of all
 -- parts restricted to the matchers and the range.
 pub record IsAudited (query : QueryView) (snapshot : SnapshotParts)
     (answer : AuditedAnswer) : Type 0 where
-  pub each : AllZip (IsAnswered query) (asked_parts query snapshot) answer.parts.items
+  pub each : AllZip (IsAnsweredPart query) (asked_parts query snapshot) answer.parts.items
   pub rows : AreRows answer.rows.items
       (selected (satisfies_all query.matchers) query.from query.to (content_of (parts_of snapshot)))

@@ -9,7 +9,7 @@ use Rattle.head.specs.Heads.{SnapshotParts, world_of}
 use Rattle.block_search.specs.Skipping.{LosesNothing, asked_parts}
 use Rattle.snapshots.specs.Replays.{IsAfter}
 use Rattle.snapshots.specs.Views.{Known}
-use Rattle.query_http.specs.Audited.{IsAnswered}
+use Rattle.query_http.specs.Audited.{IsAnsweredPart}
 use Rattle.query_http.specs.declared.audited.AuditedAnswer.{AuditedAnswer}
 
 -- the samples that a query asks for: of label sets that satisfy all matchers, in the closed range
@@ -33,4 +33,4 @@ pub record IsHeadline (opening : SnapshotParts) (query : QueryView) (before afte
   pub replay : IsAfter opening after.seen snapshot
   pub rows : AreRows answer.rows.items (asked_of (world_of snapshot).content query)
   pub whole : LosesNothing query snapshot
-  pub parts : AllZip (IsAnswered query) (asked_parts query snapshot) answer.parts.items
+  pub parts : AllZip (IsAnsweredPart query) (asked_parts query snapshot) answer.parts.items

@@ -47,7 +47,7 @@ pub record IsIdle (before after : Worker) : Type 0 where
   pub seen : IsPrefix before.known.seen after.known.seen
 
 -- the reply is that of a refusal
-pub record IsRefusal (refusal : Refusal) (status : Status) (text : List ℕ) : Type 0 where
+pub record IsReplyOfRefusal (refusal : Refusal) (status : Status) (text : List ℕ) : Type 0 where
   pub number : status ≡ status_of refusal
   pub spelled : text ≡ refusal_text refusal
 
@@ -62,7 +62,7 @@ pub record IsAnswerReply (opening : SnapshotParts) (query : QueryView) (before a
 -- the reply to a query: its answer, or that the store lends no snapshot
 abbrev pub IsQueryReply : SnapshotParts → QueryView → Known → Known → Status → List ℕ → Type 0
 IsQueryReply opening query before after status text =
-    IsAnswerReply opening query before after status text ⊎ IsRefusal Unavailable status text
+    IsAnswerReply opening query before after status text ⊎ IsReplyOfRefusal Unavailable status text
 
 -- the sample at which an event is refused, if it is a sample
 abbrev pub refused_at : CommitError → Option ℕ
@@ -128,7 +128,7 @@ pub record TurnsAway (input : Option (List ℕ)) (before after : Worker) (status
   pub refusal : Refusal
   pub of_bytes : IsOfBytes refusal
   pub means : IfSome input (λ bytes. Means bytes (Err refusal))
-  pub refused : IsRefusal refusal status text
+  pub refused : IsReplyOfRefusal refusal status text
   pub same : after ≡ before
 
 -- the bytes that came ask a request, which is fit for a store, and this is the reply to it

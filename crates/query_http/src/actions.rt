@@ -11,7 +11,7 @@ ghost use Rattle.requests.specs.Replies.{reply_text, done_text};
 ghost use Rattle.requests.specs.declared.status.Status.TheVariants.{Done, Conflict};
 ghost use Rattle.query_http.specs.Made.{text_of};
 ghost use Rattle.query_http.specs.Reply.{body_text};
-ghost use Rattle.query_http.specs.Serving.{worker, IsIdle, IsRefusal, conflict_body};
+ghost use Rattle.query_http.specs.Serving.{worker, IsIdle, IsReplyOfRefusal, conflict_body};
 ghost use Rattle.query_http.specs.Serving.{IsQueryReply, IsEventReply, IsRequestReply};
 ghost use Rattle.query_http.specs.Serving.{refused_at as place_refused};
 
@@ -31,7 +31,7 @@ use std::sync::Wait;
 
 /// The reply of a refusal.
 pub(crate) fn refusal_reply(alloc: Global, refusal: &Refusal) -> Result<Reply, AllocError>
-    ensures { IfOk result (λ r. IsRefusal refusal.now r.status (text_of r)) }
+    ensures { IfOk result (λ r. IsReplyOfRefusal refusal.now r.status (text_of r)) }
 {
     let text = refusal.reply(alloc)?;
     Ok(Reply::new(refusal.status(), text))

@@ -9,7 +9,7 @@ ghost use Rattle.matchers.specs.Satisfies.{satisfies_all};
 ghost use Rattle.head.specs.Heads.{parts_of};
 ghost use Rattle.block_search.specs.Skipping.{LosesNothing, asked_parts};
 ghost use Rattle.block_search.specs.Answers.{AreAnswers};
-ghost use Rattle.query_http.specs.Audited.{IsAnswered};
+ghost use Rattle.query_http.specs.Audited.{IsAnsweredPart};
 ghost use Rattle.query_http.specs.Telling.{told_of_one, left_after};
 
 use block_search::{OpenGate, is_skipped, search, search_one_by_one};
@@ -68,7 +68,7 @@ fn answered_parts(
 ) -> Result<Vec<AnsweredPart>, AllocError>
     requires { AreAnswers query.now snapshot.now answers.items }
     ensures { IfOk result (λ parts.
-        AllZip (IsAnswered query.now) (asked_parts query.now snapshot.now) parts.items) }
+        AllZip (IsAnsweredPart query.now) (asked_parts query.now snapshot.now) parts.items) }
 {
     let mut left = answers;
     left.reverse();
@@ -83,7 +83,7 @@ fn answered_parts(
 }
 
 /// The audited answer of a snapshot, given the answers of the parts that are searched.
-fn audited(
+fn audited_answer(
     alloc: Global,
     snapshot: &Snapshot,
     query: &Query,
@@ -92,7 +92,7 @@ fn audited(
     requires each { AreAnswers query.now snapshot.now answers.items }
     requires whole { LosesNothing query.now snapshot.now }
     ensures each { IfOk result (λ a.
-        AllZip (IsAnswered query.now) (asked_parts query.now snapshot.now) a.parts.items) }
+        AllZip (IsAnsweredPart query.now) (asked_parts query.now snapshot.now) a.parts.items) }
     ensures rows { IfOk result (λ a.
         AreRows a.rows.items (selected (satisfies_all query.now.matchers) query.now.from
         query.now.to (content_of (parts_of snapshot.now)))) }
@@ -109,14 +109,14 @@ pub fn answer(
     query: &Query,
 ) -> Result<AuditedAnswer, AllocError>
     ensures each { IfOk result (λ a.
-        AllZip (IsAnswered query.now) (asked_parts query.now snapshot.now) a.parts.items) }
+        AllZip (IsAnsweredPart query.now) (asked_parts query.now snapshot.now) a.parts.items) }
     ensures rows { IfOk result (λ a.
         AreRows a.rows.items (selected (satisfies_all query.now.matchers) query.now.from
         query.now.to (content_of (parts_of snapshot.now)))) }
     ensures whole { OnOk result (LosesNothing query.now snapshot.now) }
 {
     let answers = search_one_by_one(alloc, snapshot, query)?;
-    audited(alloc, snapshot, query, answers)
+    audited_answer(alloc, snapshot, query, answers)
 }
 
 /// The audited answer to a query, each part searched by a worker of its own: that of [`answer`] but
@@ -128,12 +128,12 @@ pub fn answer_by_workers<R: Threads + Sync>(
     query: &Query,
 ) -> Result<AuditedAnswer, AllocError>
     ensures each { IfOk result (λ a.
-        AllZip (IsAnswered query.now) (asked_parts query.now snapshot.now) a.parts.items) }
+        AllZip (IsAnsweredPart query.now) (asked_parts query.now snapshot.now) a.parts.items) }
     ensures rows { IfOk result (λ a.
         AreRows a.rows.items (selected (satisfies_all query.now.matchers) query.now.from
         query.now.to (content_of (parts_of snapshot.now)))) }
     ensures whole { OnOk result (LosesNothing query.now snapshot.now) }
 {
     let answers = search(rt, alloc, snapshot, query, &OpenGate)?;
-    audited(alloc, snapshot, query, answers)
+    audited_answer(alloc, snapshot, query, answers)
 }

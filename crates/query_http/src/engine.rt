@@ -5,7 +5,7 @@ ghost use Rattle.requests.specs.Edge.{IsCounted};
 ghost use Rattle.requests.specs.Fitting.{IsFit};
 ghost use Rattle.query_http.specs.Bounds.{IsBounded};
 ghost use Rattle.query_http.specs.Made.{text_of};
-ghost use Rattle.query_http.specs.Serving.{worker, IsIdle, IsRefusal, IsSilent, Serves};
+ghost use Rattle.query_http.specs.Serving.{worker, IsIdle, IsReplyOfRefusal, IsSilent, Serves};
 ghost use Rattle.query_http.specs.Serving.{IsRequestReply, IsReply};
 
 use crate::actions::{act, refusal_reply};
@@ -34,7 +34,7 @@ pub enum Served {
 
 /// The reply of a refusal, or that there is no memory for it.
 fn turn_away(alloc: Global, refusal: &Refusal) -> Result<Reply, Served>
-    ensures refusal { IfOk result (λ r. IsRefusal refusal.now r.status (text_of r)) }
+    ensures refusal { IfOk result (λ r. IsReplyOfRefusal refusal.now r.status (text_of r)) }
     ensures memory { IfErr result (λ s. s ≡ Served.NoMemory) }
 {
     match refusal_reply(alloc, refusal) {

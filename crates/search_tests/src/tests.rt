@@ -1,6 +1,7 @@
 //! A store of six series, and what is asked of it.
 
 mod counting;
+mod first_pages;
 
 use block_search::search_part;
 use counting::Counting;
@@ -57,7 +58,7 @@ fn empty(alloc: Global) -> Option<Snapshot> {
 }
 
 /// A sample of the series `up` whose job is a number.
-fn numbered(alloc: Global, n: u32) -> Option<(LabelSet, Sample)> {
+fn sample_of_job(alloc: Global, n: u32) -> Option<(LabelSet, Sample)> {
     let job = format!(in alloc; "{n}").ok()?;
     let labels = labels(alloc, "up", job.as_str(), "")?;
     Some((labels, Sample::new(10, 1)))
@@ -67,7 +68,7 @@ fn numbered(alloc: Global, n: u32) -> Option<(LabelSet, Sample)> {
 fn many_series(alloc: Global, count: u32) -> Option<Event> {
     let mut samples = Vec::new(alloc);
     for n in 0..count {
-        samples.push(numbered(alloc, n)?).ok()?;
+        samples.push(sample_of_job(alloc, n)?).ok()?;
     }
     batch(samples)
 }
@@ -110,7 +111,7 @@ fn query(alloc: Global, selector: &str) -> Option<Query> {
 
 /// Of a search over the six series in a head: how many lists of pairs were lent, how many values
 /// told, whether all lists moved no more often than is told, and how many rows there are.
-fn walked(alloc: Global, selector: &str) -> Option<(u64, u64, bool, usize)> {
+fn count_walk(alloc: Global, selector: &str) -> Option<(u64, u64, bool, usize)> {
     let snapshot = apply(alloc, &empty(alloc)?, &at(alloc, 10)?).ok()?;
     let counting = Counting::new(snapshot.head());
     let query = query(alloc, selector)?;
@@ -132,7 +133,7 @@ fn a_search_walks_no_other_list(rt: HostRuntime) {
         (r#"{__name__=~"u.*"}"#, (1, 2, true, 4)),
         (r#"{job=~"a|b|z"}"#, (2, 0, true, 6)),
     ] {
-        assert_eq!(rt; walked(rt.alloc(), selector), Some(want), "{selector}");
+        assert_eq!(rt; count_walk(rt.alloc(), selector), Some(want), "{selector}");
     }
 }
 

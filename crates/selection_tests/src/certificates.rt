@@ -9,6 +9,7 @@ use cover::{Interval, PartCover, Verdict, certificate_laws, cover, cover_with_mo
 use labels::SeriesRef;
 use matchers::{Matcher, Op, Query, Selector};
 use std::alloc::Global;
+use std::process::Abort;
 
 const END: u64 = 4_294_967_296;
 
@@ -154,7 +155,7 @@ const SELECTED: &[(&str, Intervals)] = &[
     ),
 ];
 
-fn selected(alloc: Global, text: &str) -> Option<Query> {
+fn query_of(alloc: Global, text: &str) -> Option<Query> {
     Query::new(Selector::parse(alloc, text).ok()?, 0, 100).ok()
 }
 
@@ -162,7 +163,7 @@ fn selected(alloc: Global, text: &str) -> Option<Query> {
 fn certificates_of_selectors(rt: HostRuntime) {
     let alloc = rt.alloc();
     for (text, rows) in SELECTED {
-        assert!(rt; is_covered(alloc, selected(alloc, text), rows), "{text}");
+        assert!(rt; is_covered(alloc, query_of(alloc, text), rows), "{text}");
     }
 }
 
@@ -193,4 +194,24 @@ fn no_list_moves_uncounted(rt: HostRuntime) {
         let found = tells_all_moves(alloc, equal(alloc, pairs, *from, *to));
         assert_eq!(rt; found, Some(true), "{pairs:?} from {from} to {to}");
     }
+}
+
+/// What the example of `cover` does, of the six series.
+fn cover_six(rt: &impl Abort, alloc: Global, part: &&SixSeries) -> Option<()> {
+    let query = Query::new(Selector::parse(alloc, r#"up{job="a"}"#).ok()?, 0, 100).ok()?;
+    let found = cover(alloc, part, &query).ok()?;
+    let run = Interval {
+        from: SeriesRef::new(2),
+        until: 4,
+        verdict: Verdict::Rejected(1),
+    };
+    assert_eq!(rt; found.certificate.get(1), Some(&run));
+    assert_eq!(rt; found.separators.len(), 4);
+    Some(())
+}
+
+#[test]
+fn the_example_of_the_first_page_of_cover(rt: HostRuntime) {
+    let six = SixSeries::new();
+    cover_six(&rt, rt.alloc(), &&six).expect(&rt, "the six series are covered");
 }

@@ -219,7 +219,7 @@ fn push_rows(alloc: Global, all: &mut Vec<Row>, rows: &[Row]) -> Result<(), Allo
 }
 
 /// The rows of all answers, those of the last answer first.
-fn gathered(alloc: Global, answers: &[PartAnswer]) -> Result<Vec<Row>, AllocError>
+fn gather_rows(alloc: Global, answers: &[PartAnswer]) -> Result<Vec<Row>, AllocError>
     ensures { IfOk result (λ rows. rows.items ≡ newest_first (row_lists answers.now)) }
 {
     let mut all = Vec::new(alloc);
@@ -240,7 +240,7 @@ pub fn merge(alloc: Global, answers: &[PartAnswer]) -> Result<Vec<Row>, AllocErr
     requires { (answer : PartAnswer) → Contains answers.now answer → IsRowList answer.rows.items }
     ensures { IfOk result (λ rows. AreRows rows.items (merged_content answers.now)) }
 {
-    let mut rows = gathered(alloc, answers)?;
+    let mut rows = gather_rows(alloc, answers)?;
     sort_rows(&mut rows)?;
     join_rows(alloc, rows)
 }

@@ -9,6 +9,13 @@
 //! connection, and play no part in the contract. [`Sockets`] are connections of the system, with
 //! limits of time: a client that is silent or gone costs its own connection and no other.
 //!
+//! The loop of a worker over two `connections` in memory:
+//!
+//! ```
+//! let count = work(rt, alloc, connections, &mut pass, &mut seat, &committer, 9);
+//! assert_eq!(rt; count, 2);
+//! ```
+//!
 //! It stands on `query_http` for what a connection gets, on `requests` for readers and on
 //! `snapshots` for stores.
 #![tactic(auto)]

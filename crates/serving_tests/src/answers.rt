@@ -100,7 +100,7 @@ const B: Spelled = Spelled {
 };
 
 /// All these pieces, one after another.
-fn joined(alloc: Global, lists: &[Pieces]) -> Option<Vec<u8>> {
+fn join_pieces(alloc: Global, lists: &[Pieces]) -> Option<Vec<u8>> {
     let mut bytes = Vec::new(alloc);
     for pieces in lists {
         for piece in *pieces {
@@ -112,8 +112,8 @@ fn joined(alloc: Global, lists: &[Pieces]) -> Option<Vec<u8>> {
 
 fn block_of(alloc: Global, spelled: &Spelled) -> Option<Block> {
     let range = Range::new(0, 20)?;
-    let index = joined(alloc, spelled.index)?;
-    let chunks = joined(alloc, spelled.chunks)?;
+    let index = join_pieces(alloc, spelled.index)?;
+    let chunks = join_pieces(alloc, spelled.chunks)?;
     Block::open(alloc, range, &index, chunks, spelled.tombstones).ok()
 }
 

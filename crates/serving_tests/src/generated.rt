@@ -1,6 +1,6 @@
 //! Rows that are made by a rule, written to an empty store and asked again.
 
-use crate::memory::served;
+use crate::memory::serve_texts;
 use std::alloc::{AllocError, Global};
 use std::sync::Wait;
 
@@ -101,7 +101,7 @@ fn are_read_back(rt: &impl Wait, alloc: Global, rows: &str) -> bool {
     let Ok(input) = write_of(alloc, rows) else {
         return false;
     };
-    match served(rt, alloc, &[input.as_bytes(), SELECT], 2) {
+    match serve_texts(rt, alloc, &[input.as_bytes(), SELECT], 2) {
         Some((_, replies)) => has_rows(&replies, rows),
         None => false,
     }

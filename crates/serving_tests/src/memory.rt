@@ -10,6 +10,7 @@ use server::{Connections, work};
 use snapshots::{Naming, Store};
 use std::alloc::Global;
 use std::marker::Brand;
+use std::process::Abort;
 use std::sync::Wait;
 
 /// A connection that has ended.
@@ -96,7 +97,7 @@ fn work_alone<J: Naming, R: Wait>(
 }
 
 /// All that was written, one connection after another.
-fn written(alloc: Global, past: &[Ended]) -> Option<Vec<u8>> {
+fn join_written(alloc: Global, past: &[Ended]) -> Option<Vec<u8>> {
     let mut all = Vec::new(alloc);
     for ended in past {
         all.extend_from_slice(&ended.written).ok()?;
@@ -106,7 +107,7 @@ fn written(alloc: Global, past: &[Ended]) -> Option<Vec<u8>> {
 
 /// How many of these connections one worker of an empty store serves, with room for so many, and
 /// all that it writes.
-pub fn served<R: Wait>(
+pub fn serve_texts<R: Wait>(
     rt: &R,
     alloc: Global,
     connections: &[&[u8]],
@@ -120,7 +121,7 @@ pub fn served<R: Wait>(
         kept_all: true,
     };
     let count = work_alone::<Brand, R>(rt, alloc, Store::new(), &mut texts, most)?;
-    let all = written(alloc, &texts.past)?;
+    let all = join_written(alloc, &texts.past)?;
     Some((count, all))
 }
 
@@ -138,7 +139,7 @@ const REPLIES: &[u8] =
 
 /// Whether a worker with room for so many of the four serves so many, and writes this.
 fn serves<R: Wait>(rt: &R, alloc: Global, most: u64, count: u64, want: &[u8]) -> bool {
-    match served(rt, alloc, FOUR, most) {
+    match serve_texts(rt, alloc, FOUR, most) {
         Some((found, text)) => found == count && text.as_slice() == want,
         None => false,
     }
@@ -149,4 +150,44 @@ fn serves<R: Wait>(rt: &R, alloc: Global, most: u64, count: u64, want: &[u8]) ->
 fn a_worker_serves_one_connection_after_another(rt: HostRuntime) {
     assert!(rt; serves(&rt, rt.alloc(), 9, 4, REPLIES));
     assert!(rt; serves(&rt, rt.alloc(), 1, 1, &REPLIES[..101]));
+}
+
+/// What the example of `server` does, with the worker of an empty store.
+fn work_on_two<J: Naming, R: Wait + Abort>(
+    rt: &R,
+    alloc: Global,
+    store: Store,
+    connections: &mut Texts<'_>,
+) -> Option<()>
+    requires book { store.seen.book ≡ J.book }
+    requires opening { opening_of [] ≡ J.opening }
+{
+    let EmptyStore {
+        committer,
+        mut pass,
+        mut seat,
+    } = open_empty::<J, &R>(rt, alloc, store)?;
+    let count = work(rt, alloc, connections, &mut pass, &mut seat, &committer, 9);
+    assert_eq!(rt; count, 2);
+    Some(())
+}
+
+/// A path that is none, and a connection that says nothing.
+const TWO: &[&[u8]] = &[b"GET /none HTTP/1.1\r\n\r\n", b""];
+
+/// The same with a store that is just opened.
+fn work_on_none<R: Wait + Abort>(rt: &R, alloc: Global) -> Option<()> {
+    let mut texts = Texts {
+        alloc,
+        all: TWO,
+        next: 0,
+        past: Vec::new(alloc),
+        kept_all: true,
+    };
+    work_on_two::<Brand, R>(rt, alloc, Store::new(), &mut texts)
+}
+
+#[test]
+fn the_example_of_the_first_page_of_server(rt: HostRuntime) {
+    work_on_none(&rt, rt.alloc()).expect(&rt, "the store opens");
 }

@@ -76,7 +76,7 @@ impl SixSeries {
         if value == "x" { &self.in_x } else { &[] }
     }
 
-    fn listed(&self, name: &str, value: &str) -> &[SeriesRef]
+    fn list_of(&self, name: &str, value: &str) -> &[SeriesRef]
         ensures { result.now ≡ listed_in name.now value.now }
     {
         if name == "__name__" {
@@ -119,7 +119,7 @@ impl<'a> Source for &'a SixSeries {
 
     fn list(&self, name: &str, value: &str) -> Option<SliceList<'a>> {
         let series: &'a SixSeries = *self;
-        match series.listed(name, value) {
+        match series.list_of(name, value) {
             [] => None,
             list => Some(SliceList::new(list)),
         }

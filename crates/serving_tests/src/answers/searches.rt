@@ -140,7 +140,7 @@ struct Meeting {
 const TURNS: u32 = 1_000_000;
 
 impl Gate for Meeting {
-    fn reached(&self, part: usize) {
+    fn learn(&self, part: usize) {
         if part > 0 {
             self.second.store(1, Ordering::SeqCst);
             return;
@@ -156,7 +156,7 @@ impl Gate for Meeting {
 }
 
 /// How many parts are answered through this gate.
-fn searched<R: Threads + Sync>(rt: &R, alloc: Global, gate: &Meeting) -> Option<usize> {
+fn count_answers<R: Threads + Sync>(rt: &R, alloc: Global, gate: &Meeting) -> Option<usize> {
     let store = store_of(alloc, A_THEN_B.0)?;
     let query = query(alloc, UP)?;
     match search(rt, alloc, &store, &query, gate) {
@@ -171,6 +171,6 @@ fn the_second_part_is_searched_beside_the_first(rt: HostRuntime) {
         second: AtomicU64::new(0),
         met: AtomicU64::new(0),
     };
-    assert!(rt; searched(&rt, rt.alloc(), &gate) == Some(3));
+    assert!(rt; count_answers(&rt, rt.alloc(), &gate) == Some(3));
     assert!(rt; gate.met.load(Ordering::SeqCst) == 1);
 }

@@ -1,7 +1,7 @@
 //! The worked block of docs/FORMATS.md, spelled by hand: six series of one sample at time 10, at
 //! the references 4 to 9.
 
-use super::{Asked, NO_DELETIONS, Pieces, Row, SEGMENT, Spelled, is_answered, joined};
+use super::{Asked, NO_DELETIONS, Pieces, Row, SEGMENT, Spelled, is_answered, join_pieces};
 use std::alloc::Global;
 
 /// Magic, version, symbols, and zeros up to byte 64.
@@ -92,7 +92,7 @@ const WITH_DELETION: Spelled = Spelled {
 };
 
 fn has_len(alloc: Global, pieces: &[Pieces], len: usize) -> bool {
-    match joined(alloc, pieces) {
+    match join_pieces(alloc, pieces) {
         Some(bytes) => bytes.len() == len,
         None => false,
     }

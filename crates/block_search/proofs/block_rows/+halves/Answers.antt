@@ -7,7 +7,7 @@ use Rattle.std.proofs.Common.{rules, ◌≡◌, ◌/◌, ◌∙◌, Vec, Global,
 use Rattle.std.specs.List.{filter_map}
 use Rattle.std.proofs.lemmas.Result.{IfOk-at_ok}
 use Rattle.labels.specs.Rows.{Row}
-use Rattle.block_search.specs.Answering.{row_of}
+use Rattle.block_search.specs.Answering.{row_of_interval}
 use Rattle.block_search.proofs.Steps.{filter_map_halves}
 use Rattle.block_search.proofs.block_rows.+halves.Given.{Over}
 use Rattle.block_search.proofs.block_rows.+halves.Lts-rows_among as lts
@@ -23,7 +23,7 @@ join-first-requires-send-F g t c κs within = closure-send g κs (search rules)
 pub returns : goal.returns
 returns g t c =
     let query = c.args.query.now in
-    let h = row_of query.from query.to c.args.block.now.part in
+    let h = row_of_interval query.from query.to c.args.block.now.part in
     let half = length c.args.certificate.now / 2 in
     let front = IfOk-at_ok (λ (rows : Vec Row Global). rows.items ≡ filter_map h c.split_at.result.0.now) c.in_ok-rows.was c.join-first.ensures.first in
     let back = IfOk-at_ok (λ (rows : Vec Row Global). rows.items ≡ filter_map h c.split_at.result.1.now) c.in_ok-more.was c.join-first.ensures.second in

@@ -1,8 +1,8 @@
 use Rattle.std.proofs.Common.{◌≡◌, sym, subst, ◌∙◌}
 use Rattle.std.specs.List.{filter_map}
 use Rattle.labels.specs.Parts.{Part}
-use Rattle.block_search.specs.Answering.{row_of}
-use Rattle.block_search.specs.Answers.{IsAnswer}
+use Rattle.block_search.specs.Answering.{row_of_interval}
+use Rattle.block_search.specs.Answers.{IsPartAnswer}
 use Rattle.block_search.proofs.Sorted.{sorted_rows, sorted_length}
 use Rattle.block_search.proofs.block_rows.search_block.Goals as goal
 
@@ -15,9 +15,9 @@ returns-clause-answers g c =
     let certificate = c.in_ok-cover.cover.certificate.items in
     let rows = c.in_ok-rows.rows.items in
     let sorted = c.sort_rows.new.rows.items in
-    let found : rows ≡ filter_map (row_of query.from query.to part) certificate =
-    c.in_ok-rows.ensures ∙ (λ i. filter_map (row_of query.from query.to (sym c.view.ensures i)) (c.as_slice-certificate.ensures.value i)) in
-    subst (λ (p : Part). IsAnswer query p (record { part = c.args.part; rows = c.sort_rows.new.rows; cover = c.in_ok-cover.cover })) c.view.ensures
+    let found : rows ≡ filter_map (row_of_interval query.from query.to part) certificate =
+    c.in_ok-rows.ensures ∙ (λ i. filter_map (row_of_interval query.from query.to (sym c.view.ensures i)) (c.as_slice-certificate.ensures.value i)) in
+    subst (λ (p : Part). IsPartAnswer query p (record { part = c.args.part; rows = c.sort_rows.new.rows; cover = c.in_ok-cover.cover })) c.view.ensures
     (record {
       rows = sorted_rows query part c.view.result.is_part certificate said.matches rows sorted found sort.moved sort.sorted sort.stable;
       as_many = sorted_length query part c.view.result.is_part certificate said.matches rows sorted found sort.moved;

@@ -1,5 +1,5 @@
 use Rattle.std.proofs.Common.{ap, sym, ◌∙◌, append-nil, Some, None}
-use Rattle.block_search.specs.Answering.{row_of}
+use Rattle.block_search.specs.Answering.{row_of_interval}
 use Rattle.block_search.proofs.Steps.{filter_map_step}
 use Rattle.block_search.proofs.one_part.matched_rows.Goals as goal
 use Rattle.block_search.proofs.one_part.matched_rows.Goals.{in-Some+in_ok-push-in-Some, in-None}
@@ -7,7 +7,7 @@ use Rattle.block_search.proofs.one_part.matched_rows.Goals.{in-Some+in_ok-push-i
 pub loop-interval-preserved : goal.loop-interval-preserved
 loop-interval-preserved g c =
     let item = c.interval-item.result in
-    let row = row_of c.args.query.now.from c.args.query.now.to (g.S.Source.part c.args.source.now) in
+    let row = row_of_interval c.args.query.now.from c.args.query.now.to (g.S.Source.part c.args.source.now) in
     let certificate = c.args.certificate.now in
     let old = c.loop-interval.rows.items in
     let new = c.match-branch-2.rows.items in

@@ -1,6 +1,6 @@
 use Rattle.std.proofs.Common.{ap, ◌∙◌}
 use Rattle.std.specs.List.{filter_map}
-use Rattle.block_search.specs.Answering.{row_of}
+use Rattle.block_search.specs.Answering.{row_of_interval}
 use Rattle.block_search.proofs.Sorted.{sorted_rows, sorted_length}
 use Rattle.block_search.proofs.one_part.search_part.Goals as goal
 
@@ -14,7 +14,7 @@ returns-clause-answers g c =
     let certificate = c.in_ok-cover.cover.certificate.items in
     let rows = c.in_ok-rows.rows.items in
     let sorted = c.sort_rows.new.rows.items in
-    let found = c.in_ok-rows.ensures ∙ ap (filter_map (row_of query.from query.to part)) c.as_slice.ensures.value in
+    let found = c.in_ok-rows.ensures ∙ ap (filter_map (row_of_interval query.from query.to part)) c.as_slice.ensures.value in
     record {
       rows = sorted_rows query part is_part certificate said.matches rows sorted found sort.moved sort.sorted sort.stable;
       as_many = sorted_length query part is_part certificate said.matches rows sorted found sort.moved;

@@ -9,7 +9,7 @@ use Rattle.head.specs.Blocks.{part_in}
 use Rattle.head.specs.Heads.{BlockPart}
 use Rattle.block_search.specs.Skipping.{is_skipped, asked_blocks, asked_head, asked_parts}
 use Rattle.query_http.specs.declared.audited.AnsweredPart.{AnsweredPart}
-use Rattle.query_http.specs.Audited.{IsAnswered}
+use Rattle.query_http.specs.Audited.{IsAnsweredPart}
 use Rattle.query_http.specs.Telling.{told_of_one, left_after}
 use Rattle.query_http.proofs.Told.{told_of, told_is, next_told}
 use Rattle.query_http.proofs.audited.answered_parts.Goals as goal
@@ -51,6 +51,6 @@ returns c =
     (drop_all n blocks c.loop-n-test.false)
     ∙ ap (λ (told : List AnsweredPart). old ++ told) (append-nil (told_of_one false Head left))
     ∙ sym c.in_ok-push_part-2.ensures.told in
-    subst (λ (parts : List AnsweredPart). AllZip (IsAnswered query)
+    subst (λ (parts : List AnsweredPart). AllZip (IsAnsweredPart query)
     (asked_parts query snapshot) parts) all_told
     (told_is query (asked_parts query snapshot) answers c.requires)

@@ -7,9 +7,9 @@ use Rattle.head.proofs.Crossing.{Snapshot-sync}
 use Rattle.block_search.specs.Places.{part_at}
 use Rattle.block_search.specs.Answers.{IsAnswerOf}
 use Rattle.block_search.proofs.Gathered.{all_found}
-use Rattle.block_search.proofs.parts.found_by_workers.Given.{Over}
-use Rattle.block_search.proofs.parts.found_by_workers.Goals as goal
-use Rattle.block_search.proofs.parts.found_by_workers.Lts as lts
+use Rattle.block_search.proofs.parts.search_by_workers.Given.{Over}
+use Rattle.block_search.proofs.parts.search_by_workers.Goals as goal
+use Rattle.block_search.proofs.parts.search_by_workers.Lts as lts
 
 -- Threads may share what the closure captures. It stands by itself, since the search for it also walks all that a goal knows.
 closure-sync : (g : Over) (κs : _) → IsSync (param 1 g.row.G) → IsSync (param 0 g.row.R) → IsSync (param 3 (lts.arg-0-3 g.row.R g.row.G g.R.laws g.G.laws g.R.Threads-dict g.G.Gate-dict κs))

@@ -1,6 +1,6 @@
 use Rattle.std.proofs.Common.{◌≡◌, ◌≤◌, drop, length}
 use Rattle.series_merge.specs.Merging.{newest_first, row_lists}
-use Rattle.series_merge.proofs.merging.gathered.Given as goal
+use Rattle.series_merge.proofs.merging.gather_rows.Given as goal
 
 abbrev pub invariant-loop-left : goal.invariant-loop-left
 invariant-loop-left l = record {

@@ -1,6 +1,6 @@
 use Rattle.std.specs.Prelude.{[]}
 use Rattle.head.specs.Blocks.{opening_of}
-use Rattle.serving_tests.proofs.memory.served.Given as goal
+use Rattle.serving_tests.proofs.memory.serve_texts.Given as goal
 
 -- the store that was just opened
 abbrev pub ghosts-work_alone : goal.ghosts-work_alone

@@ -5,7 +5,7 @@ use Rattle.block_search.specs.Skipping.{searched_parts}
 use Rattle.cover.specs.declared.part_cover.PartAnswer.{PartAnswer}
 use Rattle.series_merge.specs.Merging.{merged_content}
 use Rattle.query_http.proofs.MergedAnswers.{merged_is_selected, each_row_list, each_answers}
-use Rattle.query_http.proofs.audited.audited.Goals as goal
+use Rattle.query_http.proofs.audited.audited_answer.Goals as goal
 
 pub merge-requires : goal.merge-requires
 merge-requires c = λ a h.

@@ -1,0 +1,71 @@
+//! The examples of the first pages of `block_search`, `series_merge` and `query_http`.
+
+use super::{ONE, blocks, query};
+use block_search::search_one_by_one;
+use head::{Event, Snapshot, apply};
+use labels::{LabelSet, Sample};
+use matchers::{Query, Selector};
+use postings::PartName;
+use query_http::{AuditedAnswer, answer, body};
+use series_merge::merge;
+use std::alloc::{AllocError, Global};
+use std::process::Abort;
+
+/// What the example of `block_search` does: the snapshot that it makes.
+fn search_one_sample(rt: &impl Abort, alloc: Global) -> Option<Snapshot> {
+    let labels = LabelSet::of_sorted_texts(alloc, &[("__name__", "up")]).ok()?;
+    let batch = Vec::from_array(alloc, [(labels, Sample::new(10, 1))]).ok()?;
+    assert!(rt; Event::is_batch(&batch));
+    let empty = Snapshot::opening(alloc, Vec::new(alloc)).ok()?;
+    let snapshot = apply(alloc, &empty, &Event::batch(batch)).ok()?;
+
+    let query = Query::new(Selector::parse(alloc, "up").ok()?, 0, 20).ok()?;
+    let answers = search_one_by_one(alloc, &snapshot, &query).ok()?;
+    let answer = answers.first()?;
+    assert_eq!(rt; (answer.part, answer.rows.len()), (PartName::Head, 1));
+    Some(snapshot)
+}
+
+#[test]
+fn the_example_of_the_first_page_of_block_search(rt: HostRuntime) {
+    let _snapshot = search_one_sample(&rt, rt.alloc()).expect(&rt, "a head is searched");
+}
+
+/// What the example of `series_merge` does.
+fn merge_answers(
+    rt: &impl Abort,
+    alloc: Global,
+    snapshot: &Snapshot,
+    query: &Query,
+) -> Result<(), AllocError> {
+    let answers = search_one_by_one(alloc, snapshot, query)?;
+    let rows = merge(alloc, answers.as_slice())?;
+    assert_eq!(rt; (answers.len(), rows.len()), (3, 1));
+    Ok(())
+}
+
+#[test]
+fn the_example_of_the_first_page_of_series_merge(rt: HostRuntime) -> Result<(), AllocError> {
+    let alloc = rt.alloc();
+    let snapshot = blocks(alloc, 2).expect(&rt, "two blocks are made");
+    let query = query(alloc, ONE).expect(&rt, "the selector is read");
+    merge_answers(&rt, alloc, &snapshot, &query)
+}
+
+/// What the example of `query_http` does.
+fn answer_one_sample(rt: &impl Abort, alloc: Global, snapshot: &Snapshot) -> Option<()> {
+    let query = Query::new(Selector::parse(alloc, "up").ok()?, 0, 20).ok()?;
+    let AuditedAnswer { parts, rows } = answer(alloc, snapshot, &query).ok()?;
+    assert_eq!(rt; (parts.len(), rows.len()), (1, 1));
+    let text = body(alloc, &parts, &rows).ok()?;
+    let end = br#""rows":[{"labels":{"__name__":"up"},"samples":[[10,1]]}]}"#;
+    assert!(rt; text.ends_with(end));
+    Some(())
+}
+
+#[test]
+fn the_example_of_the_first_page_of_query_http(rt: HostRuntime) {
+    let alloc = rt.alloc();
+    let snapshot = search_one_sample(&rt, alloc).expect(&rt, "a head is searched");
+    answer_one_sample(&rt, alloc, &snapshot).expect(&rt, "a head is answered");
+}
