@@ -6,7 +6,7 @@ use Rattle.auditor.specs.declared.judgement.BlockTable.TheVariants.{Walked, Refu
 use Rattle.auditor.specs.declared.walk.error.WalkError.{WalkError}
 use Rattle.auditor.specs.declared.walk.error.WalkError.TheVariants.{Memory}
 use Rattle.auditor.specs.WalkCodes.{code_of}
-use Rattle.auditor.specs.BlockFiles.Checks.{Files, IsRefusal}
+use Rattle.auditor.specs.BlockFiles.Checks.{Files, IsWalkError}
 use Rattle.auditor.specs.BlockFiles.Spelled.{IsWalked}
 use Rattle.audit_command.specs.Reading.{Reads, IsRead, IsReadingFault}
 use Rattle.audit_command.specs.declared.fault.Fault.{Fault}
@@ -18,7 +18,7 @@ use Rattle.audit_command.specs.declared.files.FileName.TheVariants.{Index, Chunk
 pub record IsRefusedAs (files : Files) (code : List ℕ) : Type 0 where
   pub error : WalkError
   pub no_memory : error ≡ Memory → ⊥
-  pub refused : IsRefusal files error
+  pub refused : IsWalkError files error
   pub is : code ≡ code_of error
 
 -- the bytes of files that were read

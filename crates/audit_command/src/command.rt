@@ -29,9 +29,9 @@ const FROM: &str =
 const TO: &str = "The last time, in milliseconds [default: 2^62 - 1]";
 
 const LINES: &str =
-    "Example: querier select 'up{job=\"a\"}' data/0001 | auditor --selector 'up{job=\"a\"}' data/0001
+    r#"Example: querier select 'up{job="a"}' data/0001 | auditor --selector 'up{job="a"}' data/0001
 
-The reply is read from standard input. The directories are its blocks, \"block 0\", \"block 1\" and
+The reply is read from standard input. The directories are its blocks, "block 0", "block 1" and
 so on, in the order given; of each the files index, chunks/000001 and tombstones are read, and the
 lists of the index are not looked at. For each part of the reply one line is printed, then one for
 each directory that no part names, and last that of the rows of all:
@@ -47,7 +47,7 @@ docs/AUDITING.md of the project explains each flaw.
 
 Exit status: 0 nothing is wrong; 1 a line names a flaw or a refusal, or the selector or the range is
 refused; 2 a fault of the words; 3 a file or standard input cannot be read, or it holds no reply, or
-the lines cannot be written; 4 no memory";
+the lines cannot be written; 4 no memory"#;
 
 /// The option `--selector S`, which must stand there.
 fn selector<'a>(alloc: Global) -> Arg<'a>

@@ -6,6 +6,7 @@ ghost use Rattle.audit_command.specs.Faults.{refusal_code, refusal_place, status
 
 use matchers::{QueryError, SelectorError};
 use std::alloc::{AllocError, AllocFailed};
+use std::error::Error;
 use std::fmt;
 use std::io::{self, Write};
 
@@ -55,6 +56,8 @@ impl fmt::Display for Refusal {
     }
 }
 
+impl Error for Refusal {}
+
 /// Why the program ends before it has printed its lines.
 #[derive(Debug, Drop)]
 pub enum Fault {
@@ -96,16 +99,31 @@ impl Fault {
             (IfSome (line_of self.now) (Appends (W.contents to.old) (W.contents to.new))) }
     {
         match self {
-            Fault::Refused(refusal) => writeln!(to, "refused {refusal}"),
             Fault::Words(error) => write!(to, "{error}"),
-            Fault::CannotReadInput => to.write_all(b"cannot read standard input\n"),
-            Fault::BadReply => to.write_all(b"bad reply\n"),
-            Fault::CannotRead(path) => writeln!(to, "cannot read {path}"),
-            Fault::CannotWrite => to.write_all(b"cannot write\n"),
-            Fault::Memory => to.write_all(b"no memory\n"),
+            fault => writeln!(to, "{fault}"),
         }
     }
 }
+
+impl fmt::Display for Fault {
+    ghost use Rattle.audit_command.specs.Faults.{fault_text};
+
+    ghost output = { λ fault. fault_text fault };
+
+    fn fmt<W: fmt::Write>(&self, f: &mut fmt::Formatter<W>) -> fmt::Result {
+        match self {
+            Fault::Refused(refusal) => write!(f, "refused {refusal}"),
+            Fault::Words(error) => write!(f, "{error}"),
+            Fault::CannotReadInput => write!(f, "cannot read standard input"),
+            Fault::BadReply => write!(f, "bad reply"),
+            Fault::CannotRead(path) => write!(f, "cannot read {path}"),
+            Fault::CannotWrite => write!(f, "cannot write"),
+            Fault::Memory => write!(f, "no memory"),
+        }
+    }
+}
+
+impl Error for Fault {}
 
 impl From<AllocError> for Fault {
     ghost use Rattle.std.specs.Prelude.{◌≡◌};

@@ -7,6 +7,8 @@ ghost use Rattle.audit_command.specs.Reading.{IsReadFailure, IsFileFault, IsRead
 
 use crate::fault::Fault;
 use std::alloc::{AllocError, Global};
+use std::error::Error;
+use std::fmt;
 use std::fs::{File, OpenFile};
 use std::io::{self, ErrorKind, Read};
 
@@ -18,6 +20,22 @@ pub enum ReadError {
     /// No memory is left.
     Memory,
 }
+
+impl fmt::Display for ReadError {
+    ghost use Rattle.std.specs.Prelude.{Some};
+    ghost use Rattle.audit_command.specs.Faults.{read_error_text};
+
+    ghost output = { λ error. Some (read_error_text error) };
+
+    fn fmt<W: fmt::Write>(&self, f: &mut fmt::Formatter<W>) -> fmt::Result {
+        match self {
+            ReadError::Unreadable => write!(f, "cannot read the file"),
+            ReadError::Memory => write!(f, "no memory"),
+        }
+    }
+}
+
+impl Error for ReadError {}
 
 /// What gives the bytes of files: the file system of the host, or files in memory.
 pub trait ReadFiles {

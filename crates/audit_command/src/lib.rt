@@ -8,6 +8,16 @@
 //! known of their blocks; `report` makes the lines, and `fault` says why there are none. The audit
 //! itself is the library `auditor`, whose definitions say what each line means.
 //!
+//! ```
+//! let words = [String::from_str(alloc, "--selector=up")?];
+//! let mut reply = br#"{"parts":[],"rows":[]}"#.as_slice();
+//! let mut out: Vec<u8> = Vec::new(alloc);
+//! let mut err: Vec<u8> = Vec::new(alloc);
+//! let ending = run(alloc, &rt, &words, &mut reply, &mut out, &mut err);
+//! assert_eq!(rt; (ending.status, err.len()), (0, 0));
+//! assert_eq!(rt; out.as_slice(), b"rows: valid\n".as_slice());
+//! ```
+//!
 //! It stands on `auditor`, on `labels` and `matchers` for times and queries, and on `clap` for
 //! words.
 #![tactic(auto)]

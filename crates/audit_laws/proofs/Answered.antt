@@ -20,7 +20,7 @@ use Rattle.block.specs.Blocks.{Shown, AreInside}
 use Rattle.block_search.specs.Skipping.{AskedPart, is_skipped, HasNoSample}
 use Rattle.block_search.specs.Answers.{IsPartAnswer, IsAnswerOf}
 use Rattle.block_search.proofs.Skips.{none_outside, none_kept}
-use Rattle.auditor.specs.Auditing.{names_known, all_known, IsSound, selected_content}
+use Rattle.auditor.specs.Auditing.{names_known, all_known, IsSoundAnswer, selected_content}
 
 -- a verdict under which a run fits names a matcher that is there, if it names one
 known : (a : Asked) (verdict : Verdict) (run : List ℕ) → FitsUnder a verdict run
@@ -38,7 +38,7 @@ each_known a (i ∷ is) fits =
     ∙ each_known a is (λ j h. fits j (there i j is h))
 
 pub answer_sound : (query : QueryView) (part : Part) (answer : PartAnswer)
-    → IsPartAnswer query part answer → IsSound part query answer
+    → IsPartAnswer query part answer → IsSoundAnswer part query answer
 answer_sound query part answer is = record {
   known = each_known (asked part query) answer.cover.certificate.items is.cover.valid.fits;
   valid = is.cover.valid;
@@ -49,7 +49,7 @@ answer_sound query part answer is = record {
 }
 
 pub sound_of_asked : (query : QueryView) (p : AskedPart) (answer : PartAnswer)
-    → IsAnswerOf query p answer → IsSound p.part query answer
+    → IsAnswerOf query p answer → IsSoundAnswer p.part query answer
 sound_of_asked query p answer is = answer_sound query p.part answer is.answers
 
 pub nothing_selected : (query : QueryView) (part : Part) → HasNoSample query.from query.to part

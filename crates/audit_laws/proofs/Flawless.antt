@@ -6,18 +6,18 @@ use Rattle.matchers.specs.Views.{QueryView}
 use Rattle.cover.specs.declared.part_cover.PartAnswer.{PartAnswer}
 use Rattle.auditor.specs.declared.flaw.AuditError.{AuditError}
 use Rattle.auditor.specs.declared.flaw.AuditError.TheVariants as errors
-use Rattle.auditor.specs.Auditing.{IsSound, IsRefusal, IsHiding, selected_content}
+use Rattle.auditor.specs.Auditing.{IsSoundAnswer, IsAuditError, IsHiding, selected_content}
 use Rattle.auditor.specs.Listing.{IsUnmerged, last_listed}
 use Rattle.auditor.proofs.Excluding.{sound_not}
 
 module _ (part : Part) (query : QueryView) (answer : PartAnswer) where
-  refused : IsSound part query answer → (e : AuditError)
-      → IsRefusal part query answer e → e ≡ errors.Memory
+  refused : IsSoundAnswer part query answer → (e : AuditError)
+      → IsAuditError part query answer e → e ≡ errors.Memory
   refused sound (errors.Flaw flaw) h = absurd (sound_not part query answer flaw sound h)
   refused sound errors.Memory h = refl
 
-  pub sound_passes : {A : Type 0} (result : Result A AuditError) → IsSound part query answer
-      → IfErr result (IsRefusal part query answer) → IfErr result (λ e. e ≡ errors.Memory)
+  pub sound_passes : {A : Type 0} (result : Result A AuditError) → IsSoundAnswer part query answer
+      → IfErr result (IsAuditError part query answer) → IfErr result (λ e. e ≡ errors.Memory)
   sound_passes (Ok x) sound h = tt
   sound_passes (Err e) sound h = refused sound e h
 

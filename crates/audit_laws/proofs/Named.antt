@@ -14,7 +14,7 @@ use Rattle.block_search.specs.Skipping.{AskedPart, searched_parts}
 use Rattle.block_search.specs.Places.{block_or_head, part_at, searched_places}
 use Rattle.block_search.specs.Answers.{IsAnswerOf, AreAnswers}
 use Rattle.block_search.proofs.PlaceLaws.{parts_at_places}
-use Rattle.auditor.specs.Auditing.{IsSound}
+use Rattle.auditor.specs.Auditing.{IsSoundAnswer}
 use Rattle.audit_laws.specs.Told.{IsToldOf}
 use Rattle.audit_laws.proofs.Answered.{sound_of_asked}
 
@@ -31,29 +31,29 @@ some_same x y e = cc
 
 module _ (query : QueryView) (s : SnapshotParts) (answer : PartAnswer) where
   pub head_sound : IsToldOf query s answer → answer.part ≡ Head
-      → IsSound (head_part s.head) query answer
+      → IsSoundAnswer (head_part s.head) query answer
   head_sound told name =
       let go : (o : Option BlockPart) → IsAnswerOf query (block_or_head query s told.0 o) answer
-      → IsSound (head_part s.head) query answer = λ o. elim o
+      → IsSoundAnswer (head_part s.head) query answer = λ o. elim o
       as (λ p. IsAnswerOf query (block_or_head query s told.0 p) answer
-      → IsSound (head_part s.head) query answer) [
+      → IsSoundAnswer (head_part s.head) query answer) [
         | None ↦ λ is. sound_of_asked query (block_or_head query s told.0 None) answer is
         | Some b ↦ λ is. absurd (true_not_false (ap is_head (sym name ∙ is.name)))
       ] in
       go (slice_get s.blocks told.0) told.1
 
   pub block_sound : (n : ℕ) (b : BlockPart) → IsToldOf query s answer → answer.part ≡ BlockName n
-      → slice_get s.blocks n ≡ Some b → IsSound b.part query answer
+      → slice_get s.blocks n ≡ Some b → IsSoundAnswer b.part query answer
   block_sound n b told name at =
       let go : (o : Option BlockPart) → slice_get s.blocks told.0 ≡ o
       → IsAnswerOf query (block_or_head query s told.0 o) answer
-      → IsSound b.part query answer = λ o. elim o as (λ p. slice_get s.blocks told.0 ≡ p
-      → IsAnswerOf query (block_or_head query s told.0 p) answer → IsSound b.part query answer) [
+      → IsSoundAnswer b.part query answer = λ o. elim o as (λ p. slice_get s.blocks told.0 ≡ p
+      → IsAnswerOf query (block_or_head query s told.0 p) answer → IsSoundAnswer b.part query answer) [
         | None ↦ λ e is. absurd (true_not_false (ap is_head (sym is.name ∙ name)))
         | Some c ↦ λ e is.
             let place : told.0 ≡ n = ap number_in (sym is.name ∙ name) in
             let same : c ≡ b = some_same c b (sym e ∙ (ap (slice_get s.blocks) place ∙ at)) in
-            subst (λ (p : BlockPart). IsSound p.part query answer) same
+            subst (λ (p : BlockPart). IsSoundAnswer p.part query answer) same
             (sound_of_asked query (block_or_head query s told.0 (Some c)) answer is)
       ] in
       go (slice_get s.blocks told.0) refl told.1

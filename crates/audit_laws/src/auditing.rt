@@ -7,7 +7,7 @@ ghost use Rattle.head.specs.Shown.{part_of};
 ghost use Rattle.series_merge.specs.Merging.{merged_content};
 ghost use Rattle.block_search.specs.Skipping.{is_skipped};
 ghost use Rattle.block_search.specs.Answers.{AreAnswers};
-ghost use Rattle.auditor.specs.Auditing.{IsSound};
+ghost use Rattle.auditor.specs.Auditing.{IsSoundAnswer};
 ghost use Rattle.auditor.specs.declared.flaw.AuditError.TheVariants.{Memory};
 ghost use Rattle.audit_laws.specs.Told.{IsToldOf};
 
@@ -39,7 +39,7 @@ fn audit_sound(
     query: &Query,
     answer: &PartAnswer,
 ) -> Result<(), AuditError>
-    requires { IsSound table.now query.now answer.now }
+    requires { IsSoundAnswer table.now query.now answer.now }
     ensures { IfErr result (λ e. e ≡ Memory) }
 {
     audit(alloc, table, query, answer)
@@ -52,7 +52,7 @@ fn audit_head(
     query: &Query,
     answer: &PartAnswer,
 ) -> Result<(), AuditError>
-    requires { IsSound (part_of head.now) query.now answer.now }
+    requires { IsSoundAnswer (part_of head.now) query.now answer.now }
     ensures { IfErr result (λ e. e ≡ Memory) }
 {
     let table = table_of_head(alloc, head)?;
@@ -66,7 +66,7 @@ fn audit_block(
     query: &Query,
     answer: &PartAnswer,
 ) -> Result<(), AuditError>
-    requires { IsSound block.now.part query.now answer.now }
+    requires { IsSoundAnswer block.now.part query.now answer.now }
     ensures { IfErr result (λ e. e ≡ Memory) }
 {
     let table = table_of_block(alloc, block)?;
@@ -167,7 +167,7 @@ fn audited_rows(
 ///
 /// No flaw is ever told: it fails for want of memory alone. It costs a search and an audit, and
 /// lists all samples of all parts.
-pub fn audited(
+pub fn search_and_audit(
     alloc: Global,
     snapshot: &Snapshot,
     query: &Query,
@@ -181,8 +181,8 @@ pub fn audited(
     Ok(SoundAnswers { answers, rows })
 }
 
-/// The same as [`audited`], each part searched by a worker of its own.
-pub fn audited_by_workers<R: Threads + Sync>(
+/// The same as [`search_and_audit`], each part searched by a worker of its own.
+pub fn search_and_audit_by_workers<R: Threads + Sync>(
     rt: &R,
     alloc: Global,
     snapshot: &Snapshot,

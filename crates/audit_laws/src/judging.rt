@@ -8,7 +8,7 @@ ghost use Rattle.block.specs.Blocks.{Shown, AreInside};
 ghost use Rattle.series_merge.specs.Merging.{merged_content};
 ghost use Rattle.block_search.specs.Skipping.{AskedPart, is_skipped};
 ghost use Rattle.block_search.specs.Answers.{IsAnswerOf, AreAnswers};
-ghost use Rattle.auditor.specs.Auditing.{IsSound, selected_content};
+ghost use Rattle.auditor.specs.Auditing.{IsSoundAnswer, selected_content};
 ghost use Rattle.auditor.specs.Listing.{last_listed};
 
 use cover::PartAnswer;
@@ -18,7 +18,7 @@ use cover::PartAnswer;
 /// they list last.
 pub fn answers_are_sound()
     ensures sound { (query : QueryView) (asked : AskedPart) (answer : PartAnswer)
-        → IsAnswerOf query asked answer → IsSound asked.part query answer }
+        → IsAnswerOf query asked answer → IsSoundAnswer asked.part query answer }
     ensures silent { (query : QueryView) (block : Shown) → AreInside block.range block.part
         → is_skipped query block.range ≡ true → selected_content block.part query ≡ [] }
     ensures merged { (query : QueryView) (s : SnapshotParts) (answers : List PartAnswer)

@@ -26,7 +26,7 @@ pub struct Opened {
     pub walked: Result<Table, WalkError>,
 }
 
-fn copied(alloc: Global, bytes: &[u8]) -> Result<Vec<u8>, AllocError>
+fn copy_of(alloc: Global, bytes: &[u8]) -> Result<Vec<u8>, AllocError>
     ensures { IfOk result (λ copy. copy.items ≡ bytes.now) }
 {
     let mut copy = Vec::new(alloc);
@@ -47,7 +47,7 @@ pub fn open_and_walk(
         (block_of range index.now chunks.items tombstones.now) }
     ensures walked { IfOk result (λ o. Gives (λ t. t) o.walked (Ok o.block.part)) }
 {
-    let copy = copied(alloc, chunks.as_slice())?;
+    let copy = copy_of(alloc, chunks.as_slice())?;
     let block = Block::open(alloc, range, index, chunks, tombstones)?;
     let walked = Table::walk(alloc, index, copy, tombstones);
     Ok(Opened { block, walked })

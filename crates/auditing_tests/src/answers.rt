@@ -44,7 +44,7 @@ pub fn query(alloc: Global, from: i64) -> Option<Query> {
     Query::new(matchers, from, 100).ok()
 }
 
-fn copied(alloc: Global, row: &Row) -> Option<Row> {
+fn copy_of(alloc: Global, row: &Row) -> Option<Row> {
     let samples = row.samples().iter().copied().collect(alloc).ok()?;
     Some(Row::new(row.labels().try_clone().ok()?, samples))
 }
@@ -52,7 +52,7 @@ fn copied(alloc: Global, row: &Row) -> Option<Row> {
 fn row_at(alloc: Global, table: &Table, reference: u32) -> Option<Row> {
     let mut series = table.series().iter();
     let entry = series.find(|entry| entry.0.number() == reference)?;
-    copied(alloc, &entry.1)
+    copy_of(alloc, &entry.1)
 }
 
 /// The rows of these references.

@@ -1,6 +1,6 @@
 //! The files of the worked block damaged: any byte, any end, and lists that lie.
 
-use crate::worked_block::{CHUNKS, INDEX, TOMBSTONES, told};
+use crate::worked_block::{CHUNKS, INDEX, TOMBSTONES, walk_outcome};
 use std::alloc::Global;
 use std::mem;
 
@@ -68,9 +68,9 @@ fn region_of(regions: Regions, place: usize) -> &'static str {
 /// What is told of the worked block with these bytes for a file of it.
 fn told_with(alloc: Global, file: usize, bytes: &[u8]) -> &'static str {
     match file {
-        0 => told(alloc, bytes, CHUNKS, TOMBSTONES),
-        1 => told(alloc, INDEX, bytes, TOMBSTONES),
-        _ => told(alloc, INDEX, CHUNKS, bytes),
+        0 => walk_outcome(alloc, bytes, CHUNKS, TOMBSTONES),
+        1 => walk_outcome(alloc, INDEX, bytes, TOMBSTONES),
+        _ => walk_outcome(alloc, INDEX, CHUNKS, bytes),
     }
 }
 
@@ -110,7 +110,7 @@ fn told_until(alloc: Global, file: usize) -> Option<usize> {
 
 #[test]
 fn every_changed_byte_is_told(rt: HostRuntime) {
-    assert_eq!(rt; told(rt.alloc(), INDEX, CHUNKS, TOMBSTONES), "part");
+    assert_eq!(rt; walk_outcome(rt.alloc(), INDEX, CHUNKS, TOMBSTONES), "part");
     assert_eq!(rt; told_until(rt.alloc(), 0), Some(442));
     assert_eq!(rt; told_until(rt.alloc(), 1), Some(152));
     assert_eq!(rt; told_until(rt.alloc(), 2), Some(9));
@@ -153,7 +153,7 @@ fn put_all(file: &mut [u8], at: usize, bytes: &[u8]) {
 }
 
 /// A file with these changes.
-pub fn changed(alloc: Global, file: &[u8], changes: &[Change]) -> Option<Vec<u8>> {
+pub fn changed_copy(alloc: Global, file: &[u8], changes: &[Change]) -> Option<Vec<u8>> {
     let mut bytes = Vec::new(alloc);
     bytes.extend_from_slice(file).ok()?;
     for (at, change) in changes {
@@ -163,8 +163,8 @@ pub fn changed(alloc: Global, file: &[u8], changes: &[Change]) -> Option<Vec<u8>
 }
 
 fn told_with_lie(alloc: Global, lie: &[Change]) -> Option<&'static str> {
-    let index = changed(alloc, INDEX, lie)?;
-    Some(told(alloc, &index, CHUNKS, TOMBSTONES))
+    let index = changed_copy(alloc, INDEX, lie)?;
+    Some(walk_outcome(alloc, &index, CHUNKS, TOMBSTONES))
 }
 
 #[test]

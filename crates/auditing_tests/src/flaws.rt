@@ -4,7 +4,7 @@ use crate::answers::{
     BY_JOB, BY_NAME, END, FOUND, Intervals, MATCH, PLACES, SILENT, SOUND, SOUND_INTERVALS, Said,
     answer, query,
 };
-use crate::worked_block::{ALL_BUT_ONE, CHUNKS, INDEX, TOMBSTONES, walked};
+use crate::worked_block::{ALL_BUT_ONE, CHUNKS, INDEX, TOMBSTONES, table_of_files};
 use auditor::{AuditError, Flaw, audit, audit_skip};
 use cover::Verdict;
 use std::alloc::Global;
@@ -287,7 +287,7 @@ fn told_of(
     from: i64,
     said: &Said,
 ) -> Option<Result<(), AuditError>> {
-    let table = walked(alloc, INDEX, CHUNKS, tombstones).ok()?;
+    let table = table_of_files(alloc, INDEX, CHUNKS, tombstones).ok()?;
     let query = query(alloc, from)?;
     let answer = answer(alloc, &table, said)?;
     Some(audit(alloc, &table, &query, &answer))
@@ -345,7 +345,7 @@ fn one_sample_in_the_range_is_no_silence(rt: HostRuntime) {
 
 /// What is told of the part where it is skipped.
 fn told_of_skip(alloc: Global, from: i64) -> Option<Result<(), AuditError>> {
-    let table = walked(alloc, INDEX, CHUNKS, TOMBSTONES).ok()?;
+    let table = table_of_files(alloc, INDEX, CHUNKS, TOMBSTONES).ok()?;
     let query = query(alloc, from)?;
     Some(audit_skip(alloc, &table, &query))
 }

@@ -1,6 +1,6 @@
 //! Files in memory: the worked block, and blocks like it.
 
-use crate::damage::{Change, OTHER_LIST, OTHER_OFFSET, changed};
+use crate::damage::{Change, OTHER_LIST, OTHER_OFFSET, changed_copy};
 use crate::worked_block::{CHUNKS, INDEX, TOMBSTONES};
 use audit_command::{ReadError, ReadFiles};
 use std::alloc::Global;
@@ -39,7 +39,7 @@ impl ReadFiles for Blocks {
         let Some((file, changes)) = file_at(path) else {
             return Err(ReadError::Unreadable);
         };
-        let Some(mut bytes) = changed(alloc, file, changes) else {
+        let Some(mut bytes) = changed_copy(alloc, file, changes) else {
             return Err(ReadError::Memory);
         };
         bytes.truncate(most);

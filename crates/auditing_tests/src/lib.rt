@@ -10,6 +10,8 @@ mod answers;
 #[cfg(test)]
 mod damage;
 #[cfg(test)]
+mod first_pages;
+#[cfg(test)]
 mod flaws;
 #[cfg(test)]
 mod host;

@@ -4,7 +4,7 @@
 ghost use Rattle.std.specs.Prelude.{◌≡◌, []};
 ghost use Rattle.head.specs.Blocks.{opening_of};
 
-use audit_laws::{audited, audited_by_workers};
+use audit_laws::{search_and_audit, search_and_audit_by_workers};
 use head::{Event, Snapshot};
 use history::{Reply, Step, run};
 use labels::{LabelSet, Row, Sample, is_time};
@@ -137,7 +137,7 @@ fn query_of(alloc: Global, asked: Asked) -> Option<Query> {
 }
 
 /// The matchers of a deletion.
-fn deleted(alloc: Global) -> Option<Vec<Matcher>> {
+fn deleted_matchers(alloc: Global) -> Option<Vec<Matcher>> {
     Selector::parse(alloc, "{zone=~\"b|c\"}").ok()
 }
 
@@ -149,7 +149,7 @@ fn delete<J: Naming, C: Wait + Drop>(
     seat: &mut Seat<J>,
     at: i64,
 ) -> Option<Receipt<J>> {
-    let matchers = deleted(alloc)?;
+    let matchers = deleted_matchers(alloc)?;
     let to = at.saturating_add(WIDTH);
     if !Event::is_deletion(&matchers, at, to) {
         return None;
@@ -212,7 +212,7 @@ fn ask_often<J: Naming, R: Threads + Wait + Sync>(
         let is_over = board.at_work.load(Ordering::SeqCst) == 0;
         board.tell(rt, pass);
         let snapshot = pass.snapshot().ok()?;
-        audited_by_workers(rt, alloc, &snapshot, query).ok()?;
+        search_and_audit_by_workers(rt, alloc, &snapshot, query).ok()?;
         if is_over {
             break;
         }
@@ -303,7 +303,7 @@ fn same_rows(a: &[Row], b: &[Row]) -> bool {
 /// All rows of a snapshot, after an audit.
 fn rows_of(alloc: Global, snapshot: &Snapshot) -> Option<Vec<Row>> {
     let query = query_of(alloc, EVERYTHING)?;
-    let found = audited(alloc, snapshot, &query).ok()?;
+    let found = search_and_audit(alloc, snapshot, &query).ok()?;
     Some(found.rows)
 }
 
@@ -318,7 +318,7 @@ fn push_steps(alloc: Global, steps: &mut Vec<Step>, done: Done) -> Option<()> {
         };
     }
     if seat == DELETER {
-        let matchers = deleted(alloc)?;
+        let matchers = deleted_matchers(alloc)?;
         let to = at.saturating_add(WIDTH);
         if !Event::is_deletion(&matchers, at, to) {
             return None;
@@ -393,7 +393,7 @@ fn is_kept<J: Naming>(
 }
 
 /// How many events of a store are accepted, where all that is to hold does.
-fn accepted<J: Naming + Send + Sync, C: Wait + Drop + Send + Sync, R: Threads + Wait + Sync>(
+fn count_accepted<J: Naming + Send + Sync, C: Wait + Drop + Send + Sync, R: Threads + Wait + Sync>(
     rt: &R,
     alloc: Global,
     committer: &Committer<J, C>,
@@ -427,7 +427,7 @@ fn accepted_by<J: Naming + Send + Sync, R: Threads + Wait + Sync>(
 {
     let opened = store.open::<J, &R>(rt, alloc, Vec::new(alloc), 5, 10);
     let (committer, passes, seats) = opened.ok()?;
-    accepted(rt, alloc, &committer, passes, seats)
+    count_accepted(rt, alloc, &committer, passes, seats)
 }
 
 /// Of 401 batches each of ten cuts can refuse one of each seat, where it comes between the batch's

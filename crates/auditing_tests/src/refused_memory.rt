@@ -2,7 +2,7 @@
 //! their allocations refused in turn.
 
 use crate::answers::{FOUND, SOUND, answer, query, rows_at};
-use crate::worked_block::{CHUNKS, INDEX, TOMBSTONES, told, walked};
+use crate::worked_block::{CHUNKS, INDEX, TOMBSTONES, table_of_files, walk_outcome};
 use auditor::{AuditError, Flaw, Table, audit, audit_merge, audit_skip};
 use cover::PartAnswer;
 use labels::Row;
@@ -53,7 +53,7 @@ fn are_merged(alloc: Global, answers: &[PartAnswer], rows: &[Row]) -> bool {
 /// Whether all is told as it should be; `None` where the part, the answer or a query are refused
 /// memory.
 fn is_told(alloc: Global) -> Option<bool> {
-    let table = walked(alloc, INDEX, CHUNKS, TOMBSTONES).ok()?;
+    let table = table_of_files(alloc, INDEX, CHUNKS, TOMBSTONES).ok()?;
     let answers = [answer(alloc, &table, &SOUND)?];
     let rows = rows_at(alloc, &table, FOUND)?;
     let judged = are_judged(alloc, &table, &answers[0])?;
@@ -71,8 +71,8 @@ fn audits_refused_memory_answer_when_made_again(rt: HostRuntime) {
 
 #[test]
 fn a_walk_refused_memory_answers_when_made_again(rt: HostRuntime) {
-    let told = match told(rt.alloc(), INDEX, CHUNKS, TOMBSTONES) {
-        "Memory" => told(rt.alloc(), INDEX, CHUNKS, TOMBSTONES),
+    let told = match walk_outcome(rt.alloc(), INDEX, CHUNKS, TOMBSTONES) {
+        "Memory" => walk_outcome(rt.alloc(), INDEX, CHUNKS, TOMBSTONES),
         told => told,
     };
     assert_eq!(rt; told, "part");

@@ -1,7 +1,7 @@
 //! Replies as texts: texts that are none, and the lines of several.
 
 use crate::answers::query;
-use crate::worked_block::{CHUNKS, INDEX, TOMBSTONES, walked};
+use crate::worked_block::{CHUNKS, INDEX, TOMBSTONES, table_of_files};
 use auditor::{BlockTable, Reply, ReplyError, judge, lines_text};
 use std::alloc::Global;
 
@@ -115,7 +115,7 @@ fn table_of(alloc: Global, refusal: Option<&'static str>) -> Option<BlockTable> 
     match refusal {
         Some(code) => Some(BlockTable::Refused(code)),
         None => {
-            let table = walked(alloc, INDEX, CHUNKS, TOMBSTONES).ok()?;
+            let table = table_of_files(alloc, INDEX, CHUNKS, TOMBSTONES).ok()?;
             Some(BlockTable::Walked(table))
         }
     }

@@ -58,7 +58,7 @@ const SERIES: [(u32, &str, &str, &str, i64); 6] = [
 ];
 
 /// The part that these files spell, or the refusal.
-pub fn walked(
+pub fn table_of_files(
     alloc: Global,
     index: &[u8],
     chunks: &[u8],
@@ -94,8 +94,8 @@ fn is_worked(table: &Table) -> bool {
 }
 
 /// The refusal of these files, or `part` where they spell the part of the worked block.
-pub fn told(alloc: Global, index: &[u8], chunks: &[u8], tombstones: &[u8]) -> &'static str {
-    match walked(alloc, index, chunks, tombstones) {
+pub fn walk_outcome(alloc: Global, index: &[u8], chunks: &[u8], tombstones: &[u8]) -> &'static str {
+    match table_of_files(alloc, index, chunks, tombstones) {
         Ok(table) if is_worked(&table) => "part",
         Ok(_) => "another part",
         Err(error) => error.code(),

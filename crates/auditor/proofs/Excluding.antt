@@ -14,7 +14,7 @@ use Rattle.cover.specs.Asking.{asked}
 use Rattle.cover.specs.Certificates.{Asked, IsFittingRun}
 use Rattle.auditor.specs.declared.flaw.Flaw.{Flaw}
 use Rattle.auditor.specs.declared.flaw.Flaw.TheVariants.{NotAPartition, NotMatching, NotRejected, SeparatorCount, SeparatorsFit, WrongRows, UnknownMatcher, NotSilent, Hidden, WrongMerge}
-use Rattle.auditor.specs.Auditing.{AllFit, IsFirstMisfit, AreCounted, ShareAt, IsSound, IsFlaw}
+use Rattle.auditor.specs.Auditing.{AllFit, IsFirstMisfit, AreCounted, ShareAt, IsSoundAnswer, IsFlaw}
 
 misfits_not : (a : Asked) (c : List Interval) (v : Verdict) → IsFirstMisfit a c v → AllFit a c → ⊥
 misfits_not a [] v h fit = h
@@ -41,7 +41,7 @@ shared_not a (r ∷ s ∷ ss) (suc at) h up apart =
     apart x y (there r x (s ∷ ss) cx) (there r y (s ∷ ss) cy))
 
 pub sound_not : (part : Part) (q : QueryView) (answer : PartAnswer) (flaw : Flaw)
-    → IsSound part q answer → IsFlaw part q answer flaw → ⊥
+    → IsSoundAnswer part q answer → IsFlaw part q answer flaw → ⊥
 sound_not part q answer UnknownMatcher sound h = true_not_false (sym sound.known ∙ h)
 sound_not part q answer NotAPartition sound h = h.1 (record {
   partition = sound.valid.partition;

@@ -16,7 +16,7 @@ use Rattle.cover.specs.Asking.{asked}
 use Rattle.cover.specs.Certificates.{IsAsked, IsLeast, IsValidCertificate, AreSeparators}
 use Rattle.cover.proofs.Choices.{asked_part}
 use Rattle.cover.proofs.Least.{separators_bound}
-use Rattle.auditor.specs.Auditing.{all_known, IsCut, AllFit, IsFirstMisfit, AreCounted, IsFirstShared, IsPartitioned, selected_content, IsSound, IsFlaw, IsJudgement, misfit_flaw}
+use Rattle.auditor.specs.Auditing.{all_known, IsCut, AllFit, IsFirstMisfit, AreCounted, IsFirstShared, IsPartitioned, selected_content, IsSoundAnswer, IsFlaw, IsJudgement, misfit_flaw}
 use Rattle.auditor.specs.Looking.{cuts, first_misfit, are_picked, shared_at}
 use Rattle.auditor.proofs.Booleans.{and_left, and_right, and_both}
 use Rattle.auditor.proofs.Cutting.{Chain, cuts_chain, chain_cuts, chain_cut, cut_chain}
@@ -25,7 +25,7 @@ use Rattle.auditor.proofs.Separating.{AreIn, picked_are, are_picked-of, some_sha
 
 -- a sound answer has a least certificate
 pub sound_least : (part : Part) (q : QueryView) (answer : PartAnswer) → IsPart part
-    → IsSound part q answer → IsLeast (asked part q) answer.cover.certificate.items
+    → IsSoundAnswer part q answer → IsLeast (asked part q) answer.cover.certificate.items
 sound_least part q answer is sound other valid =
     let bound : length answer.cover.separators.items ≤ length other =
     separators_bound (asked part q) answer.cover.separators.items other (asked_part part q is)
@@ -121,7 +121,7 @@ module _ (part : Part) (q : QueryView) (is : IsPart part) where
       → ((length answer.cover.separators.items == length answer.cover.certificate.items)
       && are_picked answer.cover.separators.items part) ≡ true
       → shared_at q answer.cover.separators.items part ≡ None
-      → AreRows rows (selected_content part q) → rows ≡ answer.rows.items → IsSound part q answer
+      → AreRows rows (selected_content part q) → rows ≡ answer.rows.items → IsSoundAnswer part q answer
   sound_of answer rows known h none count apart are same =
       let cut : IsCut (asked part q) answer.cover.certificate.items =
       cut_of answer.cover.certificate.items h in

@@ -84,7 +84,7 @@ selected_content part query = selected (satisfies_all query.matchers) query.from
 -- A sound answer: no verdict names a missing matcher, the intervals are a valid certificate, the
 -- separators are separators and as many as the intervals, and the rows are those that the query
 -- selects of the part.
-pub record IsSound (part : Part) (query : QueryView) (answer : PartAnswer) : Type 0 where
+pub record IsSoundAnswer (part : Part) (query : QueryView) (answer : PartAnswer) : Type 0 where
   pub known : all_known (length query.matchers) answer.cover.certificate.items ≡ true
   pub valid : IsValidCertificate (asked part query) answer.cover.certificate.items
   pub separated : AreSeparators (asked part query) answer.cover.separators.items
@@ -135,7 +135,7 @@ IsFlaw part query answer WrongMerge = ⊥
 
 -- What is said of an answer: nothing where it is sound, or else its first flaw.
 abbrev pub IsJudgement : Part → QueryView → PartAnswer → Option Flaw → Type 0
-IsJudgement part query answer None = IsSound part query answer
+IsJudgement part query answer None = IsSoundAnswer part query answer
 IsJudgement part query answer (Some flaw) = IsFlaw part query answer flaw
 
 -- The flaw of an interval whose run does not fit under its verdict.
@@ -145,9 +145,9 @@ misfit_flaw NoSample = NotSilent
 misfit_flaw (Rejected matcher) = NotRejected matcher
 
 -- Why an audit does not say yes: the first flaw of the answer, or no memory.
-abbrev pub IsRefusal : Part → QueryView → PartAnswer → AuditError → Type 0
-IsRefusal part query answer (errors.Flaw flaw) = IsFlaw part query answer flaw
-IsRefusal part query answer errors.Memory = Unit {0}
+abbrev pub IsAuditError : Part → QueryView → PartAnswer → AuditError → Type 0
+IsAuditError part query answer (errors.Flaw flaw) = IsFlaw part query answer flaw
+IsAuditError part query answer errors.Memory = Unit {0}
 
 -- Why a skip is not allowed: the query selects something of the part, or no memory.
 abbrev pub IsHiding : Part → QueryView → AuditError → Type 0

@@ -24,7 +24,7 @@ use Rattle.auditor.specs.declared.judgement.Subject.{Subject}
 use Rattle.auditor.specs.declared.judgement.Subject.TheVariants.{Part, Rows}
 use Rattle.auditor.specs.declared.judgement.Line.{Line}
 use Rattle.auditor.specs.Errors.{code_of}
-use Rattle.auditor.specs.Auditing.{IsSound, IsFlaw, selected_content}
+use Rattle.auditor.specs.Auditing.{IsSoundAnswer, IsFlaw, selected_content}
 use Rattle.auditor.specs.Listing.{last_listed}
 
 -- where a flaw is, if that is told
@@ -82,7 +82,7 @@ name_of (parts.Skipped number) = Block number
 
 -- what is said of an answer that is held against its part
 abbrev pub IsOfTable : Series → QueryView → PartAnswer → Judgement → Type 0
-IsOfTable part query answer Valid = IsSound part query answer
+IsOfTable part query answer Valid = IsSoundAnswer part query answer
 IsOfTable part query answer Skipped = ⊥
 IsOfTable part query answer (Flawed flaw) = IsFlaw part query answer flaw
 IsOfTable part query answer (Refused code) = ⊥

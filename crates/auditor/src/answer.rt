@@ -5,7 +5,7 @@ ghost use Rattle.labels.specs.Parts.{Part, IsPart};
 ghost use Rattle.matchers.specs.Views.{QueryView};
 ghost use Rattle.cover.specs.Certificates.{IsLeast};
 ghost use Rattle.cover.specs.Asking.{asked};
-ghost use Rattle.auditor.specs.Auditing.{IsSound, IsFlaw, IsJudgement, IsRefusal, misfit_flaw};
+ghost use Rattle.auditor.specs.Auditing.{IsSoundAnswer, IsFlaw, IsJudgement, IsAuditError, misfit_flaw};
 ghost use Rattle.auditor.specs.Auditing.{all_known};
 ghost use Rattle.auditor.specs.Looking.{cuts};
 
@@ -100,8 +100,8 @@ pub fn audit(
     query: &Query,
     answer: &PartAnswer,
 ) -> Result<(), AuditError>
-    ensures sound { OnOk result (IsSound table.now query.now answer.now) }
-    ensures flawed { IfErr result (λ e. IsRefusal table.now query.now answer.now e) }
+    ensures sound { OnOk result (IsSoundAnswer table.now query.now answer.now) }
+    ensures flawed { IfErr result (λ e. IsAuditError table.now query.now answer.now e) }
 {
     match first_flaw(alloc, table, query, answer)? {
         Some(flaw) => Err(AuditError::Flaw(flaw)),
@@ -112,7 +112,8 @@ pub fn audit(
 /// The laws of audits: a sound answer has a least certificate, and no flaw.
 pub fn audit_laws()
     ensures least { (part : Part) (query : QueryView) (answer : PartAnswer) → IsPart part
-        → IsSound part query answer → IsLeast (asked part query) answer.cover.certificate.items }
+        → IsSoundAnswer part query answer
+        → IsLeast (asked part query) answer.cover.certificate.items }
     ensures flawless { (part : Part) (query : QueryView) (answer : PartAnswer) (flaw : Flaw)
-        → IsSound part query answer → IsFlaw part query answer flaw → ⊥ }
+        → IsSoundAnswer part query answer → IsFlaw part query answer flaw → ⊥ }
 {}

@@ -17,6 +17,15 @@
 //! known of the blocks: one for each part, in order, one for each block of which the reply says
 //! nothing, and last that of the rows.
 //!
+//! ```
+//! let query = Query::new(Selector::parse(alloc, "up").ok()?, 0, 100).ok()?;
+//! let text = r#"{"parts":[],"rows":[{"labels":{"job":"a"},"samples":[[10,1]]}]}"#;
+//! let reply = Reply::read(alloc, text.as_bytes()).ok()?;
+//! let lines = judge(alloc, &[BlockTable::Refused("I9")], &query, reply).ok()?;
+//! let told = lines_text(alloc, &lines).ok()?;
+//! assert_eq!(rt; told.as_str(), "block 0: refused I9\nrows: F10\n");
+//! ```
+//!
 //! The crate stands on `labels`, `matchers`, `wire`, `chunk_reader`, `tombstones` and the types and
 //! definitions of `cover`, and on `serde_json` for replies. It shares no reader of an index, no
 //! search, no merge and no walk of certificates with the store whose answers it judges.

@@ -29,7 +29,7 @@ pub struct Directories {
 }
 
 /// The bytes of pieces, one after another.
-pub fn joined(alloc: Global, pieces: Pieces) -> Result<Vec<u8>, AllocError> {
+pub fn join_pieces(alloc: Global, pieces: Pieces) -> Result<Vec<u8>, AllocError> {
     let mut bytes = Vec::new(alloc);
     for piece in pieces {
         bytes.extend_from_slice(piece)?;
@@ -47,7 +47,7 @@ impl ReadFiles for Directories {
             if let Some(name) = path.strip_prefix(*directory) {
                 let pieces: Pieces = files.get(place_of(name)).copied().unwrap_or(&[]);
                 if !pieces.is_empty() {
-                    let Ok(mut found) = joined(alloc, pieces) else {
+                    let Ok(mut found) = join_pieces(alloc, pieces) else {
                         return Err(ReadError::Memory);
                     };
                     found.truncate(most);

@@ -1,6 +1,6 @@
 //! Files of the host.
 
-use crate::directories::{CHUNKS, INDEX, META, NOTHING_DELETED, Pieces, joined};
+use crate::directories::{CHUNKS, INDEX, META, NOTHING_DELETED, Pieces, join_pieces};
 use crate::rows::{Extent, is_given};
 use commands::ReadFiles;
 use std::{env, fs};
@@ -29,7 +29,7 @@ const FILES: &[(&str, Pieces)] = &[
 fn write_files(rt: &HostRuntime) -> Option<()> {
     fs::create_dir(rt, "chunks").ok()?;
     for (name, pieces) in FILES {
-        let bytes = joined(rt.alloc(), pieces).ok()?;
+        let bytes = join_pieces(rt.alloc(), pieces).ok()?;
         fs::write(rt, *name, bytes.as_slice()).ok()?;
     }
     Some(())

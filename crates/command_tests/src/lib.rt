@@ -12,6 +12,8 @@ mod checks;
 #[cfg(test)]
 mod directories;
 #[cfg(test)]
+mod first_pages;
+#[cfg(test)]
 mod host_files;
 #[cfg(test)]
 mod lines;

@@ -1,6 +1,7 @@
 -- What each fault ends the program with: its status, and the line that tells it.
-use Rattle.std.specs.Prelude.{ℕ, List, [], ◌∷◌, ◌++◌, Option, None, Some, codes, decimal}
+use Rattle.std.specs.Prelude.{ℕ, List, [], ◌++◌, Option, None, Some, codes, decimal}
 use Rattle.std.specs.Prelude.{string_bytes}
+use Rattle.std.specs.Fmt.{with_newline}
 use Rattle.labels.specs.Errors.{code_of}
 use Rattle.labels.specs.declared.error.LabelError.{LabelError}
 use Rattle.labels.specs.declared.error.LabelError.TheVariants as label
@@ -26,6 +27,8 @@ use Rattle.commands.specs.declared.fault.Fault.TheVariants.{CannotListen, Memory
 use Rattle.commands.specs.declared.fault.Refusal.{Refusal}
 use Rattle.commands.specs.declared.fault.Refusal.TheVariants.{Labels, Matcher, Selector, Query}
 use Rattle.commands.specs.declared.fault.Refusal.TheVariants.{Commit, Block, Open, Snapshot}
+use Rattle.commands.specs.declared.files.ReadError.{ReadError}
+use Rattle.commands.specs.declared.files.ReadError.TheVariants as failure
 
 -- the code of a refusal
 abbrev pub refusal_code : Refusal → List ℕ
@@ -87,14 +90,23 @@ status_of CannotWrite = 3
 status_of (CannotListen port) = 3
 status_of Memory = 4
 
--- the line that tells the fault; that of the words is `clap`'s own
+-- what is told of the fault, for people; the text of the words is `clap`'s own
+abbrev pub fault_text : Fault → Option (List ℕ)
+fault_text (Words error) = None
+fault_text (Refused refusal) = Some (codes "refused " ++ refusal_text refusal)
+fault_text (CannotRead path) = Some (codes "cannot read " ++ string_bytes path)
+fault_text CannotWrite = Some (codes "cannot write")
+fault_text (CannotListen port) = Some (codes "cannot listen on 127.0.0.1:" ++ decimal port)
+fault_text Memory = Some (codes "no memory")
+
+-- the line that tells the fault: its text, and a line feed
 abbrev pub line_of : Fault → Option (List ℕ)
-line_of (Words error) = None
-line_of (Refused refusal) = Some (codes "refused " ++ refusal_text refusal ++ 10 ∷ [])
-line_of (CannotRead path) = Some (codes "cannot read " ++ string_bytes path ++ 10 ∷ [])
-line_of CannotWrite = Some (codes "cannot write" ++ 10 ∷ [])
-line_of (CannotListen port) = Some (codes "cannot listen on 127.0.0.1:" ++ decimal port ++ 10 ∷ [])
-line_of Memory = Some (codes "no memory" ++ 10 ∷ [])
+line_of fault = with_newline (fault_text fault)
+
+-- why a file is not read, for people
+abbrev pub read_error_text : ReadError → List ℕ
+read_error_text failure.Unreadable = codes "cannot read the file"
+read_error_text failure.Memory = codes "no memory"
 
 -- the fault that a refused label set makes
 abbrev pub label_fault : LabelError → Fault

@@ -60,12 +60,12 @@ const FROM: &str =
 const TO: &str = "The last time, in milliseconds [default: 2^62 - 1]";
 
 const STATUSES: &str =
-    "Exit status: 0 done; 1 refused, with the code on standard error, or by `check` in a line of its own;
-2 a fault of the words; 3 cannot read or write; 4 no memory";
+    "Exit status: 0 done; 1 refused, with the code on standard error, or by `check` in a line of its
+own; 2 a fault of the words; 3 cannot read or write; 4 no memory";
 
 const CHECKS: &str =
-    "A block is a directory with the files meta.json, index, chunks/000001 and tombstones. All four are read
-before any is judged: the meta, the index, the chunks of each series, the tombstones.
+    "A block is a directory with the files meta.json, index, chunks/000001 and tombstones. All four
+are read before any is judged: the meta, the index, the chunks of each series, the tombstones.
 
 For each directory, in the order given, one line is printed:
   DIR: ok 6 series 6 samples   a block, with so many series and samples that are not deleted
@@ -86,12 +86,13 @@ cannot be written; 4 no memory";
 const EXAMPLE: &str =
     "Example: querier select --from=-10 --to=100 'up{job=\"a\",zone=~\"x|\"}' data/0001 data/0002
 
-A selector is a metric name, matchers in braces, or both. Matchers are name=\"text\", name!=\"text\",
-name=~\"pattern\" and name!~\"pattern\"; an absent label counts as the empty text.
+A selector is a metric name, matchers in braces, or both. Matchers are name=\"text\",
+name!=\"text\", name=~\"pattern\" and name!~\"pattern\"; an absent label counts as the empty text.
 
-The blocks in the directories are searched in the order given, as \"block 0\", \"block 1\" and so on, and
-after them an empty head. Their ranges may overlap: of two samples of one series at one time, that of the
-later block stands. Each directory is verified completely, as by `querier check`, before anything is printed.
+The blocks in the directories are searched in the order given, as \"block 0\", \"block 1\" and so
+on, and after them an empty head. Their ranges may overlap: of two samples of one series at one
+time, that of the later block stands. Each directory is verified completely, as by `querier check`,
+before anything is printed.
 
 Refusals, the first that holds:
   M4 at N  no selector; N is the length in bytes of its longest prefix that begins one
@@ -104,8 +105,8 @@ Refusals, the first that holds:
            the first directory at fault holds no block; `querier check --help` tells the codes
   O3       more than 63 directories
 
-Exit status: 0 done; 1 refused, with the code on standard error; 2 a fault of the words; 3 a file cannot
-be read (it is named on standard error), or the answer cannot be written; 4 no memory";
+Exit status: 0 done; 1 refused, with the code on standard error; 2 a fault of the words; 3 a file
+cannot be read (it is named on standard error), or the answer cannot be written; 4 no memory";
 
 const PORT: &str = "The port of 127.0.0.1, 0 to 65535; 0 takes one that is free";
 
@@ -115,22 +116,25 @@ const REQUESTS: &str = "After how many connections a worker ends [default: never
 
 const IDLE: &str = "For how many seconds a client may be silent; 0 for ever [default: 30]";
 
-const SERVES: &str = "Example: querier serve --port 8080 data/0001 data/0002
+const SERVES: &str = r#"Example: querier serve --port 8080 data/0001 data/0002
 
-The directories are opened and verified as by `querier select`, and over them stands an empty head, in memory
-alone: what is written to it ends with the program. Then `listening P` is printed, P being the real port.
+The directories are opened and verified as by `querier select`, and over them stands an empty head,
+in memory alone: what is written to it ends with the program. Then `listening P` is printed, P being
+the real port.
 
   GET /select?selector=up%7Bjob%3D%22a%22%7D&from=0&to=100
                  the audited answer, as `querier select` prints it
-  POST /write    rows, as [{\"labels\":{\"__name__\":\"up\",\"job\":\"a\"},\"samples\":[[10,1],[20,1]]}]
-  POST /delete   as {\"from\":0,\"selector\":\"{job=\\\"a\\\"}\",\"to\":1000}
-  POST /cut      as {\"at\":20}: what is before that time becomes a block
+  POST /write    rows, as [{"labels":{"__name__":"up","job":"a"},"samples":[[10,1],[20,1]]}]
+  POST /delete   as {"from":0,"selector":"{job=\"a\"}","to":1000}
+  POST /cut      as {"at":20}: what is before that time becomes a block
 
-A connection is served one request, and closed. A worker takes one connection after another; a client that gives
-no byte, or takes none, for the idle seconds is dropped. docs/HTTP.md of the project tells each reply and refusal.
+A connection is served one request, and closed. A worker takes one connection after another; a
+client that gives no byte, or takes none, for the idle seconds is dropped. docs/HTTP.md of the
+project tells each reply and refusal.
 
-Exit status: 0 each worker has ended; 1 the directories are refused, as by `select`; 2 a fault of the words; 3 a
-file cannot be read, the port cannot be listened on, or its line cannot be written; 4 no memory";
+Exit status: 0 each worker has ended; 1 the directories are refused, as by `select`; 2 a fault of
+the words; 3 a file cannot be read, the port cannot be listened on, or its line cannot be written;
+4 no memory"#;
 
 /// An option `--NAME N` with a signed number of 64 bits.
 fn time<'a>(alloc: Global, name: &'a str, help: &'a str) -> Arg<'a>

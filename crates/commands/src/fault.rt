@@ -11,6 +11,7 @@ use matchers::{MatcherError, QueryError, SelectorError};
 use query_http::AskError;
 use snapshots::{OpenError, SnapshotError};
 use std::alloc::{AllocError, AllocFailed};
+use std::error::Error;
 use std::fmt;
 use std::io::{self, Write};
 
@@ -82,6 +83,8 @@ impl fmt::Display for Refusal {
     }
 }
 
+impl Error for Refusal {}
+
 /// Why the program ends before it is done.
 #[derive(Debug, Drop)]
 pub enum Fault {
@@ -120,15 +123,30 @@ impl Fault {
             (IfSome (line_of self.now) (Appends (W.contents to.old) (W.contents to.new))) }
     {
         match self {
-            Fault::Refused(refusal) => writeln!(to, "refused {refusal}"),
             Fault::Words(error) => write!(to, "{error}"),
-            Fault::CannotRead(path) => writeln!(to, "cannot read {path}"),
-            Fault::CannotWrite => to.write_all(b"cannot write\n"),
-            Fault::CannotListen(port) => writeln!(to, "cannot listen on 127.0.0.1:{port}"),
-            Fault::Memory => to.write_all(b"no memory\n"),
+            fault => writeln!(to, "{fault}"),
         }
     }
 }
+
+impl fmt::Display for Fault {
+    ghost use Rattle.commands.specs.Faults.{fault_text};
+
+    ghost output = { λ fault. fault_text fault };
+
+    fn fmt<W: fmt::Write>(&self, f: &mut fmt::Formatter<W>) -> fmt::Result {
+        match self {
+            Fault::Refused(refusal) => write!(f, "refused {refusal}"),
+            Fault::Words(error) => write!(f, "{error}"),
+            Fault::CannotRead(path) => write!(f, "cannot read {path}"),
+            Fault::CannotWrite => write!(f, "cannot write"),
+            Fault::CannotListen(port) => write!(f, "cannot listen on 127.0.0.1:{port}"),
+            Fault::Memory => write!(f, "no memory"),
+        }
+    }
+}
+
+impl Error for Fault {}
 
 impl From<AllocError> for Fault {
     ghost use Rattle.std.specs.Prelude.{◌≡◌};

@@ -11,6 +11,8 @@ ghost use Rattle.commands.specs.Reading.{IsReadFailure, IsFileFault, IsReadingFa
 use crate::fault::Fault;
 use index_reader::{Index, IndexError};
 use std::alloc::{AllocError, Global};
+use std::error::Error;
+use std::fmt;
 use std::fs::{File, OpenFile};
 use std::io::{self, ErrorKind, Read};
 use std::thread::{Threads, join};
@@ -23,6 +25,22 @@ pub enum ReadError {
     /// No memory is left.
     Memory,
 }
+
+impl fmt::Display for ReadError {
+    ghost use Rattle.std.specs.Prelude.{Some};
+    ghost use Rattle.commands.specs.Faults.{read_error_text};
+
+    ghost output = { λ error. Some (read_error_text error) };
+
+    fn fmt<W: fmt::Write>(&self, f: &mut fmt::Formatter<W>) -> fmt::Result {
+        match self {
+            ReadError::Unreadable => write!(f, "cannot read the file"),
+            ReadError::Memory => write!(f, "no memory"),
+        }
+    }
+}
+
+impl Error for ReadError {}
 
 /// What gives the bytes of files to any thread: the file system of the host, or files in memory.
 pub trait ReadFiles: Sync {

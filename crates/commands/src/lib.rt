@@ -9,10 +9,23 @@
 //! `select`). `check` verifies blocks completely and writes a line for each: `files` says what is
 //! read of a directory, `judgement` what that is judged to be, and `report` which lines are
 //! written. What is refused, and with which status a line ends, is said by `fault` and `run`.
-//! `serve` serves the blocks in directories, under an empty head, to HTTP clients. It stands on
-//! `server` for workers, on `query_http` for answers and their text, on `snapshots` for the store
-//! of the demo, on `block` for what a block is, on `clap` for words, and on `labels`, `matchers`
-//! and `head`. Certificates are the partition certificates of Barbay and Kenyon, SODA 2002.
+//! `serve` serves the blocks in directories, under an empty head, to HTTP clients.
+//!
+//! ```
+//! let words = [
+//!     String::from_str(alloc, "select")?,
+//!     String::from_str(alloc, "{}")?,
+//! ];
+//! let mut out: Vec<u8> = Vec::new(alloc);
+//! let mut err: Vec<u8> = Vec::new(alloc);
+//! let ending = run(&rt, alloc, &rt, &words, &mut io::empty(), &mut out, &mut err);
+//! assert_eq!(rt; (ending.status, out.len()), (1, 0));
+//! assert_eq!(rt; err.as_slice(), b"refused M6\n".as_slice());
+//! ```
+//!
+//! It stands on `server` for workers, on `query_http` for answers and their text, on `snapshots` for
+//! the store of the demo, on `block` for what a block is, on `clap` for words, and on `labels`,
+//! `matchers` and `head`. Certificates are the partition certificates of Barbay and Kenyon, SODA 2002.
 #![tactic(auto)]
 
 mod command;

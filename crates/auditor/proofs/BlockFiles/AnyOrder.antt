@@ -9,7 +9,7 @@ use Rattle.labels.specs.Rows.{Row}
 use Rattle.auditor.specs.IndexFile.Series.{Series}
 use Rattle.tombstones.specs.declared.deletion.Deletion.{Deletion}
 use Rattle.tombstones.specs.Covering.{covers, covered}
-use Rattle.auditor.specs.BlockFiles.Samples.{samples_in, undeleted, row_of, part_of}
+use Rattle.auditor.specs.BlockFiles.Samples.{samples_in, undeleted, undeleted_row, part_of}
 use Rattle.auditor.specs.BlockFiles.Reading.{is_known}
 
 pub covered_any_order : (xs ys : List Deletion) → IsPermutation xs ys → (reference : ℕ) (t : ℤ)
@@ -32,7 +32,7 @@ pub undeleted_any_order : (xs ys : List Deletion) → IsPermutation xs ys
 undeleted_any_order xs ys p reference samples = undeleted_same xs ys p reference samples
 
 pub row_any_order : (file : List ℕ) (xs ys : List Deletion) → IsPermutation xs ys → (s : Series)
-    → row_of file xs s ≡ row_of file ys s
+    → undeleted_row file xs s ≡ undeleted_row file ys s
 row_any_order file xs ys p s = ap (λ (samples : List (ℤ × ℤ)). (
   s.reference,
   (s.labels, samples),
@@ -43,7 +43,7 @@ pub part_any_order : (file : List ℕ) (xs ys : List Deletion) → IsPermutation
 part_any_order file xs ys p [] = refl
 part_any_order file xs ys p (s ∷ ss) =
     ap (λ (row : ℕ × Row). row ∷ part_of file xs ss) (row_any_order file xs ys p s)
-    ∙ ap (λ (rows : Part). row_of file ys s ∷ rows) (part_any_order file xs ys p ss)
+    ∙ ap (λ (rows : Part). undeleted_row file ys s ∷ rows) (part_any_order file xs ys p ss)
 
 none_fails : {X : Type 0} (p : X → Bool) (xs : List X)
     → list_all p xs ≡ not (list_any (λ x. not (p x)) xs)

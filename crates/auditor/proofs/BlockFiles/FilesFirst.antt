@@ -24,7 +24,7 @@ use Rattle.auditor.specs.IndexFile.Spelled.{IsIndex}
 use Rattle.auditor.specs.BlockFiles.Samples.{or_none, chunk_read, chunk_samples, samples_in}
 use Rattle.auditor.specs.BlockFiles.Sound.{IsHeld}
 use Rattle.auditor.specs.BlockFiles.Reading.{or_chunks, or_tombstones, each, chunk_check, series_check, is_few, is_known, stored_of, deleted_of, walked_of}
-use Rattle.auditor.specs.BlockFiles.Checks.{Files, Check, FirstFailing, HasSamples, HasFewSamples, checks, IsRefusal}
+use Rattle.auditor.specs.BlockFiles.Checks.{Files, Check, FirstFailing, HasSamples, HasFewSamples, checks, IsWalkError}
 use Rattle.auditor.proofs.IndexFile.Again.{index_again}
 use Rattle.auditor.proofs.BlockFiles.Checks.{all_pass, pass_all, each_pass, pass_each, weaken}
 use Rattle.auditor.proofs.BlockFiles.Found.{are_spelled, opened_same}
@@ -262,13 +262,13 @@ walk_first f e index_fits chunks_fit tombstones_fit h =
     ]
 
 refusal_of : (f : Files) (e : WalkError) (read : Result Part WalkError) → Fails e read
-    → (read ≡ Err e → FirstFailing checks f e) → IsRefusal f e
+    → (read ≡ Err e → FirstFailing checks f e) → IsWalkError f e
 refusal_of f Memory read h first = tt
 refusal_of f e read h first = first h
 
 pub first_failing : (f : Files) (r : Result Part WalkError) → IsBytes f.index → IsBytes f.chunks
     → IsBytes f.tombstones → Gives (λ (t : Part). t) r (walked_of f.index f.chunks f.tombstones)
-    → IfErr r (IsRefusal f)
+    → IfErr r (IsWalkError f)
 first_failing f (Ok part) a b c h = tt
 first_failing f (Err e) a b c h =
     refusal_of f e (walked_of f.index f.chunks f.tombstones) h (λ x. walk_first f e a b c x)

@@ -17,7 +17,7 @@ use Rattle.auditor.specs.declared.walk.chunk.Chunk.{Chunk}
 use Rattle.auditor.specs.declared.walk.error.WalkError.{WalkError}
 use Rattle.auditor.specs.IndexFile.Series.{Series, references}
 use Rattle.auditor.specs.IndexFile.Whole.{indexed_of}
-use Rattle.auditor.specs.BlockFiles.Samples.{or_none, chunk_read, chunk_samples, samples_in, undeleted, row_of, part_of}
+use Rattle.auditor.specs.BlockFiles.Samples.{or_none, chunk_read, chunk_samples, samples_in, undeleted, undeleted_row, part_of}
 use Rattle.auditor.specs.BlockFiles.Sound.{IsHeld}
 use Rattle.auditor.specs.BlockFiles.Reading.{each, chunk_check, series_check, is_few, is_known, stored_of, deleted_of, walked_of}
 use Rattle.auditor.specs.BlockFiles.Spelled.{AreSpelled, AreRows, IsWalked}
@@ -103,7 +103,7 @@ pub record AreRead (file : List ℕ) (deletions : List Deletion) (ss : List Seri
 row_same : (file : List ℕ) (deletions : List Deletion) (s : Series) (row : ℕ × Row)
     (samples : List (ℤ × ℤ)) → row.0 ≡ s.reference → row.1.0 ≡ s.labels
     → row.1.1 ≡ undeleted deletions s.reference samples → samples ≡ samples_in file s.chunks
-    → row ≡ row_of file deletions s
+    → row ≡ undeleted_row file deletions s
 row_same file deletions s row samples reference labels kept same =
     ap (λ (r : ℕ). (r, (row.1.0, row.1.1))) reference
     ∙ ap (λ (l : List (List ℕ × List ℕ)). (s.reference, (l, row.1.1))) labels
@@ -119,7 +119,7 @@ rows_read file deletions (s ∷ ss) (row ∷ rows) a =
     let r = a.0 in
     let samples = spelled_in file s.chunks r.samples r.spelled in
     let others = rows_read file deletions ss rows a.1 in
-    let same : row ≡ row_of file deletions s =
+    let same : row ≡ undeleted_row file deletions s =
     row_same file deletions s row r.samples r.reference r.labels r.kept samples.0 in
     record {
       stored = record {
@@ -128,7 +128,7 @@ rows_read file deletions (s ∷ ss) (row ∷ rows) a =
       };
       same =
           ap (λ (first : ℕ × Row). first ∷ rows) same
-          ∙ ap (λ (rest : Part). row_of file deletions s ∷ rest) others.same;
+          ∙ ap (λ (rest : Part). undeleted_row file deletions s ∷ rest) others.same;
     }
 
 -- the whole

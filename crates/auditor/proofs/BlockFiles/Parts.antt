@@ -23,7 +23,7 @@ use Rattle.auditor.specs.IndexFile.Bodies.{Body}
 use Rattle.auditor.specs.IndexFile.Series.{Series, label_sets, chunk_lists, series_of}
 use Rattle.auditor.specs.IndexFile.Series as indexes
 use Rattle.auditor.specs.IndexFile.Spelled.{AreLater, AreChunks, AreBodies, IsIndex}
-use Rattle.auditor.specs.BlockFiles.Samples.{samples_in, undeleted, row_of, part_of}
+use Rattle.auditor.specs.BlockFiles.Samples.{samples_in, undeleted, undeleted_row, part_of}
 use Rattle.auditor.specs.BlockFiles.Sound.{IsHeld, AreBehind, AreInTurn}
 use Rattle.auditor.proofs.IndexFile.Facts.{refs_are, series_length, walk_rises, walk_small, whole_rounds}
 use Rattle.auditor.proofs.IndexFile.Again.{bodies_count}
@@ -76,7 +76,7 @@ apart_from : (l : Labels) (file : List ℕ) (deletions : List Deletion) (ss : Li
     → same_labels l other.1.0 ≡ false
 apart_from l file deletions [] other less held = absurd (none_in_nil other held)
 apart_from l file deletions (s ∷ ss) other less held =
-    elim (Contains-cases (row_of file deletions s) (part_of file deletions ss) other held) [
+    elim (Contains-cases (undeleted_row file deletions s) (part_of file deletions ss) other held) [
       | inl e ↦ subst (λ (row : ℕ × Row). same_labels l row.1.0 ≡ false) e (ap is_eq less.0)
       | inr rest ↦ apart_from l file deletions ss other less.1 rest
     ]

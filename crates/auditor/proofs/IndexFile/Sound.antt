@@ -16,7 +16,7 @@ use Rattle.auditor.specs.IndexFile.Seen.{places, seen}
 use Rattle.auditor.specs.IndexFile.Bodies.{Label}
 use Rattle.auditor.specs.IndexFile.Flat.{body_in, bodies_in, label_sets_in, AllIn, AreInside}
 use Rattle.auditor.specs.IndexFile.Whole.{label_sets}
-use Rattle.auditor.specs.IndexFile.Sound.{IsSound}
+use Rattle.auditor.specs.IndexFile.Sound.{IsSoundLayout}
 use Rattle.auditor.proofs.IndexFile.Walks.{flat_long}
 use Rattle.auditor.proofs.IndexFile.Whole.{omega_length, end_inside}
 use Rattle.auditor.proofs.IndexFile.Eaches.{drop_at_place}
@@ -37,7 +37,7 @@ few_symbols file x p =
     ∙ length-append (big_bytes 4 (length x.symbols)) (flat_map symbol x.symbols) in
     omega (arith, size, long, flat_long x.symbols)
 
-sound : (file : List ℕ) (o : Layout) → IsParts file (seen o) → IsSound file o
+sound : (file : List ℕ) (o : Layout) → IsParts file (seen o) → IsSoundLayout file o
 sound file o p = record {
   placed = p.placed;
   few = omega (
@@ -58,7 +58,7 @@ sound file o p = record {
 }
 
 pub sound_found : (file : List ℕ) (r : Result Layout WalkError)
-    → IfOk r (λ o. IsParts file (seen o)) → IfOk r (λ o. IsSound file o)
+    → IfOk r (λ o. IsParts file (seen o)) → IfOk r (λ o. IsSoundLayout file o)
 sound_found file (Ok o) p = sound file o p
 sound_found file (Err e) p = tt
 

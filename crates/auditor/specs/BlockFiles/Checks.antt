@@ -145,6 +145,6 @@ FirstFailing [] f e = ⊥
 FirstFailing (c ∷ cs) f e = ((Holds c f → ⊥) × Answers c f e) ⊎ (Holds c f × FirstFailing cs f e)
 
 -- why files are refused: the first check that fails, or no memory
-abbrev pub IsRefusal : Files → WalkError → Type 0
-IsRefusal f Memory = Unit {0}
-IsRefusal f e = FirstFailing checks f e
+abbrev pub IsWalkError : Files → WalkError → Type 0
+IsWalkError f Memory = Unit {0}
+IsWalkError f e = FirstFailing checks f e

@@ -33,10 +33,10 @@ undeleted deletions reference samples =
     filter (λ (s : ℤ × ℤ). not (covered deletions reference s.0)) samples
 
 -- a series: its reference, its label set, and the samples of its chunks less the deleted ones
-abbrev pub row_of : List ℕ → List Deletion → Series → ℕ × Row
-row_of chunks deletions s =
+abbrev pub undeleted_row : List ℕ → List Deletion → Series → ℕ × Row
+undeleted_row chunks deletions s =
     (s.reference, (s.labels, undeleted deletions s.reference (samples_in chunks s.chunks)))
 
 -- all series
 abbrev pub part_of : List ℕ → List Deletion → List Series → Part
-part_of chunks deletions series = map (row_of chunks deletions) series
+part_of chunks deletions series = map (undeleted_row chunks deletions) series

@@ -4,7 +4,7 @@ use Rattle.std.specs.List.{All}
 use Rattle.labels.specs.LabelSets.{IsLabelSet}
 use Rattle.auditor.specs.declared.walk.checked.Checked.{Checked}
 use Rattle.auditor.specs.IndexFile.Seen.{texts, seen}
-use Rattle.auditor.specs.IndexFile.Sound.{IsSound}
+use Rattle.auditor.specs.IndexFile.Sound.{IsSoundLayout}
 use Rattle.auditor.specs.IndexFile.Grammar.{IsParts}
 use Rattle.auditor.specs.IndexFile.Bodies.{Label}
 use Rattle.auditor.specs.IndexFile.Flat.{bodies_in, AllIn}
@@ -25,7 +25,7 @@ series_seen c = series_in (read_seen c)
 -- what was checked fits together
 pub record IsHeldIn (file : List ℕ) (c : Checked) : Type 0 where
   pub parts : IsParts file (seen c.layout)
-  pub sound : IsSound file c.layout
+  pub sound : IsSoundLayout file c.layout
   pub inside : AllIn c.bodies.labels.items c.bodies.chunks.items c.bodies.rows.items
   pub counted : length c.bodies.rows.items ≡ length c.layout.entries.items
 

@@ -6,7 +6,7 @@ use Rattle.auditor.specs.IndexFile.Reading.{IsPlaced, ascending}
 use Rattle.auditor.specs.IndexFile.Seen.{texts}
 
 -- the parts stand in their order, symbols are few and ascend, and entries stand in the file
-pub record IsSound (file : List ℕ) (o : Layout) : Type 0 where
+pub record IsSoundLayout (file : List ℕ) (o : Layout) : Type 0 where
   pub placed : IsPlaced o.contents (length file)
   pub few : length o.symbols.items < 2 ^ 32
   pub order : ascending (texts o.symbols.items) ≡ true

@@ -37,12 +37,8 @@ fn label_of<'a>(
         (label_at (texts symbols.now) (low, bytes.now)) }
 {
     let mut cut = Cut::new(bytes);
-    let Ok(name) = cut.uvarint() else {
-        return Err(WalkError::Series);
-    };
-    let Ok(value) = cut.uvarint() else {
-        return Err(WalkError::Series);
-    };
+    let name = cut.uvarint().or(Err(WalkError::Series))?;
+    let value = cut.uvarint().or(Err(WalkError::Series))?;
     if !is_label(symbols, low, name, value) {
         return Err(WalkError::Series);
     }
@@ -82,9 +78,7 @@ pub(crate) fn labels_into<'a>(
         (with_front labels.old.items (labels_at (texts symbols.now) bytes.now)) }
 {
     let mut cut = Cut::new(bytes);
-    let Ok(count) = cut.uvarint() else {
-        return Err(WalkError::Series);
-    };
+    let count = cut.uvarint().or(Err(WalkError::Series))?;
     more_labels(symbols, count, cut.rest(), labels)
 }
 
@@ -131,9 +125,7 @@ pub(crate) fn chunks_into<'a>(
         (with_front chunks.old.items (chunks_at bytes.now)) }
 {
     let mut cut = Cut::new(bytes);
-    let Ok(count) = cut.uvarint() else {
-        return Err(WalkError::Series);
-    };
+    let count = cut.uvarint().or(Err(WalkError::Series))?;
     if count == 0 {
         return Err(WalkError::Series);
     }

@@ -3,7 +3,7 @@
 ghost use Rattle.std.specs.Prelude.{◌≡◌, length, IfOk};
 ghost use Rattle.auditor.specs.IndexFile.Outcome.{Gives};
 ghost use Rattle.auditor.specs.IndexFile.Seen.{seen};
-ghost use Rattle.auditor.specs.IndexFile.Sound.{IsSound};
+ghost use Rattle.auditor.specs.IndexFile.Sound.{IsSoundLayout};
 ghost use Rattle.auditor.specs.IndexFile.Flat.{bodies_in, AllIn};
 ghost use Rattle.auditor.specs.IndexFile.Whole.{bodies_of, read_of};
 ghost use Rattle.auditor.specs.IndexFile.Kept.{read_seen, IsHeldIn};
@@ -25,7 +25,7 @@ pub struct Checked<'a> {
 
 #[tactic(auto, using(crate::proofs::IndexFile::Sound::sets_are), unfolding(crate::specs::IndexFile::Whole::bodies_of))]
 fn checked_bodies(alloc: Global, file: &[u8], layout: &Layout<'_>) -> Result<Bodies, WalkError>
-    requires { IsSound file.now layout.now }
+    requires { IsSoundLayout file.now layout.now }
     ensures exact { Gives (λ b. bodies_in b.labels.items b.chunks.items b.rows.items) result
         (bodies_of file.now (seen layout.now)) }
     ensures inside { IfOk result (λ b. AllIn b.labels.items b.chunks.items b.rows.items) }

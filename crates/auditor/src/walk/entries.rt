@@ -23,9 +23,7 @@ fn entry_of(bytes: &[u8]) -> Result<(&[u8], &[u8]), WalkError>
     ensures { Gives (λ x. (x.0.now, x.1.now)) result (entry_at bytes.now) }
 {
     let mut cut = Cut::new(bytes);
-    let Ok(len) = cut.uvarint() else {
-        return Err(WalkError::SeriesCrc);
-    };
+    let len = cut.uvarint().or(Err(WalkError::SeriesCrc))?;
     checked_of(len, cut.rest(), WalkError::SeriesCrc)
 }
 

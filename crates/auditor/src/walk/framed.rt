@@ -17,12 +17,8 @@ pub(crate) fn checked_of(
     ensures { Gives (λ x. (x.0.now, x.1.now)) result (checked_at fault (len, bytes.now)) }
 {
     let mut cut = Cut::new(bytes);
-    let Ok(content) = cut.bytes(len as usize) else {
-        return Err(fault);
-    };
-    let Ok(sum) = cut.be32() else {
-        return Err(fault);
-    };
+    let content = cut.bytes(len as usize).or(Err(fault))?;
+    let sum = cut.be32().or(Err(fault))?;
     if sum != crc32c(content) {
         return Err(fault);
     }
@@ -35,8 +31,6 @@ pub(crate) fn frame_of(bytes: &[u8], fault: WalkError) -> Result<(&[u8], &[u8]),
     ensures { Gives (λ x. (x.0.now, x.1.now)) result (frame_at fault bytes.now) }
 {
     let mut cut = Cut::new(bytes);
-    let Ok(len) = cut.be32() else {
-        return Err(fault);
-    };
+    let len = cut.be32().or(Err(fault))?;
     checked_of(u64::from(len), cut.rest(), fault)
 }

@@ -5,7 +5,7 @@ ghost use Rattle.auditor.specs.IndexFile.Outcome.{Gives};
 ghost use Rattle.auditor.specs.IndexFile.Reading.{Parts, parts_of};
 ghost use Rattle.auditor.specs.IndexFile.Grammar.{IsParts};
 ghost use Rattle.auditor.specs.IndexFile.Seen.{seen};
-ghost use Rattle.auditor.specs.IndexFile.Sound.{IsSound};
+ghost use Rattle.auditor.specs.IndexFile.Sound.{IsSoundLayout};
 
 use crate::walk::contents::{Contents, contents_of, series_end};
 use crate::walk::entries::{Entry, entries_of};
@@ -51,7 +51,7 @@ pub(crate) fn layout_of(alloc: Global, file: &[u8]) -> Result<Layout<'_>, WalkEr
     // What is laid out so is given, unless memory runs out.
     ensures only { (x : Parts) → IsParts file.now x → Gives seen result (Ok x) }
     // What later checks build on.
-    ensures sound { IfOk result (λ o. IsSound file.now o) }
+    ensures sound { IfOk result (λ o. IsSoundLayout file.now o) }
 {
     parts_of(alloc, file)
 }

@@ -24,12 +24,8 @@ fn symbol_of(bytes: &[u8]) -> Result<(&str, &[u8]), WalkError>
     ensures { Gives (λ x. (x.0.now, x.1.now)) result (symbol_at bytes.now) }
 {
     let mut cut = Cut::new(bytes);
-    let Ok(len) = cut.uvarint() else {
-        return Err(WalkError::Symbols);
-    };
-    let Ok(text) = cut.bytes(len as usize) else {
-        return Err(WalkError::Symbols);
-    };
+    let len = cut.uvarint().or(Err(WalkError::Symbols))?;
+    let text = cut.bytes(len as usize).or(Err(WalkError::Symbols))?;
     let Some(text) = text_of(text) else {
         return Err(WalkError::Symbols);
     };
@@ -79,9 +75,7 @@ pub(crate) fn symbols_of(alloc: Global, content: &[u8]) -> Result<Vec<&str>, Wal
     ensures { Gives (λ v. texts v.items) result (symbols_of content.now) }
 {
     let mut cut = Cut::new(content);
-    let Ok(count) = cut.be32() else {
-        return Err(WalkError::Symbols);
-    };
+    let count = cut.be32().or(Err(WalkError::Symbols))?;
     let (symbols, rest) = symbols_from(alloc, count, cut.rest())?;
     let whole = rest.is_empty() & is_ascending(&symbols);
     if !whole {

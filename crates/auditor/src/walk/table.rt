@@ -4,7 +4,7 @@ ghost use Rattle.std.specs.Prelude.{◌≡◌, Ok, IfErr, IfOk};
 ghost use Rattle.wire.specs.Spelling.{IsBytes};
 ghost use Rattle.labels.specs.Parts.{Part};
 ghost use Rattle.auditor.specs.IndexFile.Outcome.{Gives};
-ghost use Rattle.auditor.specs.BlockFiles.Checks.{IsRefusal};
+ghost use Rattle.auditor.specs.BlockFiles.Checks.{IsWalkError};
 ghost use Rattle.auditor.specs.BlockFiles.Reading.{walked_of};
 ghost use Rattle.auditor.specs.BlockFiles.Spelled.{IsWalked};
 
@@ -23,7 +23,7 @@ fn are_bytes(file: &[u8])
 {}
 
 // The checks, and what they leave.
-fn walked(
+fn walk_table(
     alloc: Global,
     index: &[u8],
     chunks: Vec<u8>,
@@ -62,7 +62,7 @@ impl Table {
         ensures exact { Gives (λ t. t) result (walked_of index.now chunks.items tombstones.now) }
         // What is refused fails the check that is answered, and passes all before it.
         ensures refused { IfErr result
-            (IsRefusal (record {
+            (IsWalkError (record {
               index = index.now;
               chunks = chunks.items;
               tombstones = tombstones.now;
@@ -74,6 +74,6 @@ impl Table {
             → Gives (λ t. t) result (Ok part) }
     {
         are_bytes(chunks.as_slice());
-        walked(alloc, index, chunks, tombstones)
+        walk_table(alloc, index, chunks, tombstones)
     }
 }

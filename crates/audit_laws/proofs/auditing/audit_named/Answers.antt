@@ -1,5 +1,5 @@
 use Rattle.std.proofs.Common.{List, sym, subst}
-use Rattle.auditor.specs.Auditing.{IsSound}
+use Rattle.auditor.specs.Auditing.{IsSoundAnswer}
 use Rattle.head.specs.Blocks.{part_in}
 use Rattle.head.specs.Heads.{HeadSeries, head_part}
 use Rattle.audit_laws.proofs.Named.{head_sound, block_sound, no_such_block}
@@ -7,7 +7,7 @@ use Rattle.audit_laws.proofs.auditing.audit_named.Goals as goal
 
 pub audit_head-requires : goal.audit_head-requires
 audit_head-requires c =
-    subst (λ (hs : List HeadSeries). IsSound (head_part hs) c.args.query.now c.args.answer.now)
+    subst (λ (hs : List HeadSeries). IsSoundAnswer (head_part hs) c.args.query.now c.args.answer.now)
     (sym c.head.ensures.series)
     (head_sound c.args.query.now c.args.snapshot.now c.args.answer.now c.requires c.in-Head.is)
 

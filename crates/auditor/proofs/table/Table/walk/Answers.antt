@@ -11,8 +11,8 @@ pub returns-clause-only : goal.returns-clause-only
 returns-clause-only c part w =
     let index = c.args.index.now in
     let tombstones = c.args.tombstones.now in
-    is_only part (walked_of index c.args.chunks.items tombstones) c.walked.result
-    c.walked.ensures.exact (walk_again index c.args.chunks.items tombstones part (λ i. omega (
+    is_only part (walked_of index c.args.chunks.items tombstones) c.walk_table.result
+    c.walk_table.ensures.exact (walk_again index c.args.chunks.items tombstones part (λ i. omega (
       arith,
       c.type_inv.index i,
     )) (λ i. omega (arith, c.type_inv.tombstones i)) w)
@@ -24,6 +24,6 @@ returns-clause-refused c =
       chunks = c.args.chunks.items;
       tombstones = c.args.tombstones.now;
     } in
-    first_failing f c.walked.result (λ i. omega (arith, c.type_inv.index i))
+    first_failing f c.walk_table.result (λ i. omega (arith, c.type_inv.index i))
     (subst IsBytes c.as_slice.ensures.value c.are_bytes.ensures)
-    (λ i. omega (arith, c.type_inv.tombstones i)) c.walked.ensures.exact
+    (λ i. omega (arith, c.type_inv.tombstones i)) c.walk_table.ensures.exact

@@ -1,6 +1,6 @@
 use Rattle.std.proofs.Common.{refl, arith}
 use Rattle.std.proofs.lemmas.List.{length-map}
-use Rattle.auditor.specs.BlockFiles.Samples.{row_of, part_of}
+use Rattle.auditor.specs.BlockFiles.Samples.{undeleted_row, part_of}
 use Rattle.auditor.proofs.IndexFile.Places.{moved_on, ended_so}
 use Rattle.auditor.proofs.walk.samples.rows_of.Goals as goal
 
@@ -18,5 +18,5 @@ returns c =
     let part = part_of c.args.chunks.now c.args.tombstones.now c.args.entries.now in
     ended_so c.loop-at.rows.items part c.loop-at.at (omega (
       arith,
-      length-map c.args.entries.now (row_of c.args.chunks.now c.args.tombstones.now),
+      length-map c.args.entries.now (undeleted_row c.args.chunks.now c.args.tombstones.now),
     )) c.loop-at.invariant

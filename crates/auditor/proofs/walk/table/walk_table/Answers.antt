@@ -5,7 +5,7 @@ use Rattle.auditor.specs.BlockFiles.Spelled.{IsWalked}
 use Rattle.auditor.proofs.BlockFiles.Found.{walk_spelled}
 use Rattle.auditor.proofs.BlockFiles.Parts.{references_rise, is_part}
 use Rattle.auditor.proofs.BlockFiles.Refusals.{walk_fails_index, walk_fails_chunks, walk_fails_stored, walk_fails_deleted, walk_gives}
-use Rattle.auditor.proofs.walk.table.walked.Goals as goal
+use Rattle.auditor.proofs.walk.table.walk_table.Goals as goal
 
 pub returns-in_err-entries-clause-exact : goal.returns-in_err-entries-clause-exact
 returns-in_err-entries-clause-exact c =
