@@ -1,136 +1,235 @@
 //! Ranges and texts of `meta.json`; below, blocks and their files.
 
-mod files;
 mod lent_lists;
 mod opened_blocks;
 
-use block::{BlockError, Range};
+use crate::draft::{Draft, align};
+use crate::files::{CHUNKS, INDEX, SEGMENT, deletions_of, put_chunk};
+use block::{Block, BlockError, Range};
 use labels::{MAX_TIME, MIN_TIME};
-use std::alloc::Global;
-use std::test::Fail;
+use std::alloc::{AllocError, Global};
 
-const WORKED: &str = r#"{"minTime":0,"maxTime":20,"version":1}"#;
-
-#[test]
-fn a_range_goes_up_to_its_end(rt: HostRuntime) -> Result<(), Fail> {
-    let rows = [
-        (0, 20, true),
-        (-20, -19, true),
-        (MIN_TIME, MAX_TIME, true),
-        (0, 0, false),
-        (20, 0, false),
-        (MIN_TIME - 1, 0, false),
-        (0, MAX_TIME + 1, false),
-    ];
-    for (min, max, accepted) in rows {
-        let found = Range::new(min, max);
-        assert_eq!(rt; found.is_some(), accepted, "{min} to {max}");
-        if let Some(range) = found {
-            assert_eq!(rt; (range.min(), range.max()), (min, max));
-        }
-    }
-    let range = Range::new(0, 20).ok_or("no range")?;
-    for (t, want) in [(-1, false), (0, true), (19, true), (20, false)] {
-        assert_eq!(rt; range.covers(t), want, "at {t}");
-    }
-    Ok(())
-}
-
-/// The ends of the range that the text says, or the refusal's code.
-fn said(alloc: Global, text: &[u8]) -> Result<(i64, i64), &'static str> {
-    match Range::read_meta(alloc, text) {
-        Ok(range) => Ok((range.min(), range.max())),
+/// The block of these files in a range, with these deletions, or the code of its refusal.
+fn opened(
+    alloc: Global,
+    range: (i64, i64),
+    index: &[u8],
+    chunks: Vec<u8>,
+    entries: &[u8],
+) -> Result<Block, &'static str> {
+    let Some(range) = Range::new(range.0, range.1) else {
+        return Err("no range");
+    };
+    let Some(deletions) = deletions_of(alloc, entries) else {
+        return Err("no memory");
+    };
+    match Block::open(alloc, range, index, chunks, &deletions) {
+        Ok(block) => Ok(block),
         Err(error) => Err(error.code()),
     }
 }
 
+/// The worked block in a range, with these deletions.
+fn worked(alloc: Global, range: (i64, i64), entries: &[u8]) -> Result<Block, &'static str> {
+    match CHUNKS.to_vec(alloc) {
+        Ok(chunks) => opened(alloc, range, INDEX, chunks, entries),
+        Err(_) => Err("no memory"),
+    }
+}
+
+/// The content of a chunk of so many samples from a time on, a millisecond apart. Each value is 7.
+fn sevens(alloc: Global, from: u64, count: u64) -> Result<Vec<u8>, AllocError> {
+    let mut content = Vec::from_array(alloc, [0xE0])?;
+    let spelled = u16::try_from(count).unwrap_or(0).to_be_bytes();
+    content.extend_from_slice(&spelled)?;
+    for i in 0..count {
+        content.extend_from_slice(&from.saturating_add(i).to_be_bytes())?;
+        content.extend_from_slice(&[0, 0, 0, 0, 0, 0, 0, 7])?;
+    }
+    Ok(content)
+}
+
+/// A chunks file of one series with samples at the times 0, 1, .., in chunks of these lengths; and
+/// behind what `body` has the numbers that spell these chunks in the series' body.
+fn put_counted(alloc: Global, body: &mut Vec<u64>, lengths: &[u64]) -> Result<Vec<u8>, AllocError> {
+    let mut chunks = SEGMENT.to_vec(alloc)?;
+    let mut time = 0u64;
+    let mut before = 0u64;
+    for length in lengths {
+        let place = chunks.len() as u64;
+        let last = length.saturating_sub(1);
+        if time == 0 {
+            body.extend_from_slice(&[0, last, place])?;
+        } else {
+            let distance = place.saturating_sub(before);
+            body.extend_from_slice(&[1, last, distance.saturating_mul(2)])?;
+        }
+        before = place;
+        put_chunk(&mut chunks, &sevens(alloc, time, *length)?)?;
+        time = time.saturating_add(*length);
+    }
+    Ok(chunks)
+}
+
+/// The index of one series without labels, whose reference is 2 and whose body is spelled by these
+/// numbers.
+fn one_series(alloc: Global, body: &[u64]) -> Result<Vec<u8>, AllocError> {
+    let mut draft = Draft::new(alloc, &[])?;
+    align(&mut draft.file)?;
+    draft.contents[1] = draft.file.len() as u64;
+    let reference = draft.series(alloc, body)?;
+    draft.list(alloc, &[("", "")], &[reference])?;
+    draft.whole(alloc)
+}
+
+/// The block from 0 up to a time of a series with samples in chunks of these lengths, with these
+/// deletions.
+fn counted(
+    alloc: Global,
+    lengths: &[u64],
+    entries: &[u8],
+    until: i64,
+) -> Result<Block, &'static str> {
+    let Ok(mut body) = Vec::from_array(alloc, [0, lengths.len() as u64]) else {
+        return Err("no memory");
+    };
+    let Ok(chunks) = put_counted(alloc, &mut body, lengths) else {
+        return Err("no memory");
+    };
+    match one_series(alloc, &body) {
+        Ok(index) => opened(alloc, (0, until), &index, chunks, entries),
+        Err(_) => Err("no memory"),
+    }
+}
+
+const WORKED: &str = r#"{"minTime":0,"maxTime":20,"version":1}"#;
+
+/// The ends of a range, and whether they are accepted.
+const RANGES: &[(i64, i64, bool)] = &[
+    (0, 20, true),
+    (-20, -19, true),
+    (MIN_TIME, MAX_TIME, true),
+    (0, 0, false),
+    (20, 0, false),
+    (MIN_TIME - 1, 0, false),
+    (0, MAX_TIME + 1, false),
+];
+
+#[test]
+fn a_range_goes_up_to_its_end(rt: HostRuntime) {
+    for (min, max, accepted) in RANGES {
+        let found = match Range::new(*min, *max) {
+            Some(range) => range.min() == *min && range.max() == *max,
+            None => false,
+        };
+        assert!(rt; found == *accepted, "{min} to {max}");
+    }
+    let range = Range::new(0, 20).expect(&rt, "it is a range");
+    for (t, want) in [(-1, false), (0, true), (19, true), (20, false)] {
+        assert!(rt; range.covers(t) == want, "at {t}");
+    }
+}
+
+/// The code that a text is refused with, or `ok` where it says this range.
+fn said(alloc: Global, text: &[u8], min: i64, max: i64) -> &'static str {
+    match Range::read_meta(alloc, text) {
+        Ok(range) if range.min() == min && range.max() == max => "ok",
+        Ok(_) => "another range",
+        Err(error) => error.code(),
+    }
+}
+
+/// Texts, each with the ends of its range.
+const SAID: &[(&str, i64, i64)] = &[
+    (WORKED, 0, 20),
+    (
+        r#" { "version" : 1 , "maxTime" : 20 , "minTime" : -20 } "#,
+        -20,
+        20,
+    ),
+    (
+        r#"{"ulid":"01","minTime":0,"maxTime":20,"stats":{"version":7},"version":1}"#,
+        0,
+        20,
+    ),
+    (
+        r#"{"minTime":"x","minTime":0,"maxTime":20,"version":2,"version":1}"#,
+        0,
+        20,
+    ),
+    (
+        r#"{"minTime":-4611686018427387904,"maxTime":4611686018427387903,"version":1}"#,
+        MIN_TIME,
+        MAX_TIME,
+    ),
+];
+
 #[test]
 fn a_meta_says_a_range(rt: HostRuntime) {
-    let rows = [
-        (WORKED, 0, 20),
-        (
-            r#" { "version" : 1 , "maxTime" : 20 , "minTime" : -20 } "#,
-            -20,
-            20,
-        ),
-        (
-            r#"{"ulid":"01","minTime":0,"maxTime":20,"stats":{"version":7},"version":1}"#,
-            0,
-            20,
-        ),
-        (
-            r#"{"minTime":"x","minTime":0,"maxTime":20,"version":2,"version":1}"#,
-            0,
-            20,
-        ),
-        (
-            r#"{"minTime":-4611686018427387904,"maxTime":4611686018427387903,"version":1}"#,
-            MIN_TIME,
-            MAX_TIME,
-        ),
-    ];
-    for (text, min, max) in rows {
-        assert_eq!(rt;
-            said(rt.alloc(), text.as_bytes()),
-            Ok((min, max)),
+    let alloc = rt.alloc();
+    for (text, min, max) in SAID {
+        assert!(rt;
+            said(alloc, text.as_bytes(), *min, *max) == "ok",
             "of {text}"
         );
     }
 }
 
+const REFUSED: &[&str] = &[
+    r#"{"minTime":0,"maxTime":20,"version":2}"#,
+    r#"{"minTime":0,"maxTime":20,"version":1.0}"#,
+    r#"{"minTime":0,"maxTime":20,"version":"1"}"#,
+    r#"{"minTime":20,"maxTime":20,"version":1}"#,
+    r#"{"minTime":20,"maxTime":0,"version":1}"#,
+    r#"{"minTime":-0,"maxTime":20,"version":1}"#,
+    r#"{"minTime":1.0,"maxTime":20,"version":1}"#,
+    r#"{"minTime":0,"maxTime":1e2,"version":1}"#,
+    r#"{"minTime":null,"maxTime":20,"version":1}"#,
+    r#"{"minTime":-4611686018427387905,"maxTime":20,"version":1}"#,
+    r#"{"minTime":0,"maxTime":4611686018427387904,"version":1}"#,
+    r#"{"minTime":0,"maxTime":9223372036854775808,"version":1}"#,
+    r#"{"minTime":0,"maxTime":18446744073709551617,"version":1}"#,
+    r#"{"minTime":0,"minTime":"x","maxTime":20,"version":1}"#,
+    r#"{"minTime":0,"maxTime":20,"version":1,"version":2}"#,
+    r#"{"maxTime":20,"version":1}"#,
+    r#"{"minTime":0,"version":1}"#,
+    r#"{"minTime":0,"maxTime":20}"#,
+    r#"{"mintime":0,"maxTime":20,"version":1}"#,
+    r#"{"minTime":0,"maxTime":20,"version":1,"stats":1e999}"#,
+    r#"{"minTime":0,"maxTime":20,"version":1,"ulid":"\ud800"}"#,
+    r#"{"minTime":0,"maxTime":20,"version":1}}"#,
+    r#"{"minTime":0,"maxTime":20,"version":1"#,
+    r#"[{"minTime":0,"maxTime":20,"version":1}]"#,
+    "[0,20,1]",
+    "20",
+    "",
+];
+
 #[test]
 fn another_text_is_refused(rt: HostRuntime) {
-    let rows = [
-        r#"{"minTime":0,"maxTime":20,"version":2}"#,
-        r#"{"minTime":0,"maxTime":20,"version":1.0}"#,
-        r#"{"minTime":0,"maxTime":20,"version":"1"}"#,
-        r#"{"minTime":20,"maxTime":20,"version":1}"#,
-        r#"{"minTime":20,"maxTime":0,"version":1}"#,
-        r#"{"minTime":-0,"maxTime":20,"version":1}"#,
-        r#"{"minTime":1.0,"maxTime":20,"version":1}"#,
-        r#"{"minTime":0,"maxTime":1e2,"version":1}"#,
-        r#"{"minTime":null,"maxTime":20,"version":1}"#,
-        r#"{"minTime":-4611686018427387905,"maxTime":20,"version":1}"#,
-        r#"{"minTime":0,"maxTime":4611686018427387904,"version":1}"#,
-        r#"{"minTime":0,"maxTime":9223372036854775808,"version":1}"#,
-        r#"{"minTime":0,"maxTime":18446744073709551617,"version":1}"#,
-        r#"{"minTime":0,"minTime":"x","maxTime":20,"version":1}"#,
-        r#"{"minTime":0,"maxTime":20,"version":1,"version":2}"#,
-        r#"{"maxTime":20,"version":1}"#,
-        r#"{"minTime":0,"version":1}"#,
-        r#"{"minTime":0,"maxTime":20}"#,
-        r#"{"mintime":0,"maxTime":20,"version":1}"#,
-        r#"{"minTime":0,"maxTime":20,"version":1,"stats":1e999}"#,
-        r#"{"minTime":0,"maxTime":20,"version":1,"ulid":"\ud800"}"#,
-        r#"{"minTime":0,"maxTime":20,"version":1}}"#,
-        r#"{"minTime":0,"maxTime":20,"version":1"#,
-        r#"[{"minTime":0,"maxTime":20,"version":1}]"#,
-        "[0,20,1]",
-        "20",
-        "",
-    ];
-    for text in rows {
-        assert_eq!(rt; said(rt.alloc(), text.as_bytes()), Err("B2"), "of {text}");
+    let alloc = rt.alloc();
+    for text in REFUSED {
+        assert!(rt; said(alloc, text.as_bytes(), 0, 20) == "B2", "of {text}");
     }
-    assert_eq!(rt;
-        said(
-            rt.alloc(),
-            b"{\"minTime\":0,\"maxTime\":20,\"version\":1,\"\xFF\":0}"
-        ),
-        Err("B2")
-    );
-    assert_eq!(rt; BlockError::Memory.code(), "Memory");
+    let no_text = b"{\"minTime\":0,\"maxTime\":20,\"version\":1,\"\xFF\":0}";
+    assert!(rt; said(alloc, no_text, 0, 20) == "B2");
+    assert!(rt; BlockError::Memory.code() == "Memory");
+}
+
+/// The worked text, with spaces up to this length.
+fn padded(alloc: Global, length: usize) -> Option<Vec<u8>> {
+    let mut text = WORKED.as_bytes().to_vec(alloc).ok()?;
+    for _ in text.len()..length {
+        text.push(b' ').ok()?;
+    }
+    Some(text)
 }
 
 #[test]
-fn a_meta_has_a_mebibyte_at_most(rt: HostRuntime) -> Result<(), Fail> {
-    let mut text = Vec::new(rt.alloc());
-    text.extend_from_slice(WORKED.as_bytes())?;
-    for _ in text.len()..1_048_576 {
-        text.push(b' ')?;
-    }
-    assert_eq!(rt; said(rt.alloc(), &text), Ok((0, 20)));
-    text.push(b' ')?;
-    assert_eq!(rt; said(rt.alloc(), &text), Err("B2"));
-    Ok(())
+fn a_meta_has_a_mebibyte_at_most(rt: HostRuntime) {
+    let alloc = rt.alloc();
+    let mut text = padded(alloc, 1_048_576).expect(&rt, "there is memory");
+    assert!(rt; said(alloc, &text, 0, 20) == "ok");
+    text.push(b' ').ok().expect(&rt, "there is memory");
+    assert!(rt; said(alloc, &text, 0, 20) == "B2");
 }

@@ -1,323 +1,286 @@
-//! The worked chunks file of the format, what is refused of it, and each refusal of a file that is
-//! spoiled in one place.
+//! The worked chunks file of the format, what is refused of it, and each refusal of a file of one
+//! chunk.
 
-use chunk_reader::{ChunkError, Chunks, Samples};
+use crate::files::{CHUNKS, SEGMENT, are_samples, put_chunk};
+use chunk_reader::{Chunks, Samples};
 use labels::{MAX_TIME, MIN_TIME, Sample};
 use std::alloc::Global;
-use std::mem;
-use std::test::Fail;
-use wire::{crc32c, put_be32, put_be64, put_bytes, put_u8, put_uvarint};
-
-const HEAD: [u8; 8] = [0x85, 0xBD, 0x40, 0xDD, 0x01, 0x00, 0x00, 0x00];
+use wire::{put_be64, put_bytes, put_uvarint};
 
 /// The chunks of the worked file: where each begins, and the value of its one sample, at time 10.
-const WORKED: [(u64, i64); 6] = [(8, 4), (32, 5), (56, 1), (80, 6), (104, 2), (128, 3)];
+const WORKED: &[(u64, i64)] = &[(8, 4), (32, 5), (56, 1), (80, 6), (104, 2), (128, 3)];
 
-fn put_chunk(out: &mut Vec<u8>, content: &[u8]) -> Result<(), Fail> {
-    put_uvarint(out, (content.len() as u64).saturating_sub(1))?;
-    put_bytes(out, content)?;
-    put_be32(out, crc32c(content))?;
-    Ok(())
-}
-
-/// The content of a chunk: the encoding's byte, the count, and the samples.
-fn content_of(
-    alloc: Global,
-    encoding: u8,
-    count: u8,
-    samples: &[(i64, i64)],
-) -> Result<Vec<u8>, Fail> {
-    let mut content = Vec::new(alloc);
-    put_bytes(&mut content, &[encoding, 0, count])?;
-    for (time, value) in samples {
-        put_be64(&mut content, time.cast_unsigned())?;
-        put_be64(&mut content, value.cast_unsigned())?;
+/// The code that a chunk is refused with, or `ok`.
+fn code_of_find(chunks: &Chunks, reference: u64, mint: i64, maxt: i64) -> &'static str {
+    match chunks.find(reference, mint, maxt) {
+        Ok(_) => "ok",
+        Err(error) => error.code(),
     }
-    Ok(content)
 }
 
-/// A file of one chunk.
-fn file_of(
-    alloc: Global,
-    encoding: u8,
-    count: u8,
-    samples: &[(i64, i64)],
-) -> Result<Vec<u8>, Fail> {
-    let content = content_of(alloc, encoding, count, samples)?;
-    let mut file = Vec::new(alloc);
-    put_bytes(&mut file, &HEAD)?;
-    put_chunk(&mut file, &content)?;
-    Ok(file)
-}
-
-fn worked(alloc: Global) -> Result<Vec<u8>, Fail> {
-    let mut file = Vec::new(alloc);
-    put_bytes(&mut file, &HEAD)?;
-    for (_, value) in WORKED {
-        let content = content_of(alloc, 0xE0, 1, &[(10, value)])?;
-        put_chunk(&mut file, &content)?;
-    }
-    Ok(file)
-}
-
-/// The first refusal over the worked references, or `ok`.
-fn told(alloc: Global, file: &[u8]) -> Result<&'static str, Fail> {
-    let mut copy = Vec::new(alloc);
-    put_bytes(&mut copy, file)?;
+/// The code of the first refusal over the references of the worked file, or `ok`.
+pub fn code_of(alloc: Global, file: &[u8]) -> &'static str {
+    let Ok(copy) = file.to_vec(alloc) else {
+        return "no memory";
+    };
     let chunks = match Chunks::open(copy) {
         Ok(chunks) => chunks,
-        Err(error) => return Ok(error.code()),
+        Err(error) => return error.code(),
     };
     for (reference, _) in WORKED {
-        if let Err(error) = chunks.find(reference, 10, 10) {
-            return Ok(error.code());
+        let code = code_of_find(&chunks, *reference, 10, 10);
+        if code != "ok" {
+            return code;
         }
     }
-    Ok("ok")
+    "ok"
 }
 
-/// What is told of the file with this byte at the place, which is then as it was.
-fn told_with(alloc: Global, file: &mut [u8], place: usize, byte: u8) -> Result<&'static str, Fail> {
-    let good = match file.get_mut(place) {
-        Some(slot) => mem::replace(slot, byte),
-        None => return Ok("no such place"),
-    };
-    let code = told(alloc, file)?;
-    if let Some(slot) = file.get_mut(place) {
-        *slot = good;
+/// A file of one chunk of this content, whose checksum is right.
+fn file_with(alloc: Global, content: &[u8]) -> Option<Vec<u8>> {
+    let mut file = SEGMENT.to_vec(alloc).ok()?;
+    put_chunk(&mut file, content).ok()?;
+    Some(file)
+}
+
+/// A chunk: the encoding's byte, the count, and the samples.
+type One = (u8, u8, &'static [(i64, i64)]);
+
+/// A file of one chunk.
+fn file_of(alloc: Global, chunk: &One) -> Option<Vec<u8>> {
+    let mut content = Vec::from_array(alloc, [chunk.0, 0, chunk.1]).ok()?;
+    for (t, v) in chunk.2 {
+        put_be64(&mut content, t.cast_unsigned()).ok()?;
+        put_be64(&mut content, v.cast_unsigned()).ok()?;
     }
-    Ok(code)
+    file_with(alloc, &content)
+}
+
+fn opened(alloc: Global, chunk: &One) -> Option<Chunks> {
+    let file = file_of(alloc, chunk)?;
+    Chunks::open(file).ok()
+}
+
+/// Whether a chunk gives just these samples.
+fn gives(
+    alloc: Global,
+    chunks: &Chunks,
+    reference: u64,
+    range: (i64, i64),
+    want: &[(i64, i64)],
+) -> bool {
+    match chunks.samples(alloc, reference, range.0, range.1) {
+        Ok(samples) => are_samples(&samples, want),
+        Err(_) => false,
+    }
+}
+
+/// Whether a chunk gives just these samples once it is known.
+fn gives_again(
+    alloc: Global,
+    chunks: &Chunks,
+    reference: u64,
+    range: (i64, i64),
+    want: &[(i64, i64)],
+) -> bool {
+    match chunks.find(reference, range.0, range.1) {
+        Ok(found) => {
+            let stored = chunks.stored(reference, range.0, range.1);
+            match stored.to_vec(alloc) {
+                Ok(samples) => found.len() == want.len() && are_samples(&samples, want),
+                Err(_) => false,
+            }
+        }
+        Err(_) => false,
+    }
 }
 
 #[test]
-fn a_chunk_gives_its_samples(rt: HostRuntime) -> Result<(), Fail> {
+fn a_chunk_gives_its_samples(rt: HostRuntime) {
+    let alloc = rt.alloc();
     let worked = [
         0x12, 0xE0, 0x00, 0x01, 0, 0, 0, 0, 0, 0, 0, 0x0A, 0, 0, 0, 0, 0, 0, 0, 0x04,
     ];
-    let file = file_of(rt.alloc(), 0xE0, 1, &[(10, 4)])?;
-    assert_eq!(rt; file.len(), 32);
-    assert_eq!(rt; &file[8..28], worked.as_slice());
-    let chunks = Chunks::open(file)?;
-    let found = chunks.samples(rt.alloc(), 8, 10, 10)?;
-    assert_eq!(rt; found.as_slice(), [Sample::new(10, 4)].as_slice());
-    Ok(())
+    let file = file_of(alloc, &(0xE0, 1, &[(10, 4)])).expect(&rt, "the file is made");
+    assert!(rt; file.len() == 32);
+    assert!(rt; file.get(8..28).unwrap_or(&[]) == worked.as_slice());
+    let chunks = Chunks::open(file).ok().expect(&rt, "it opens");
+    assert!(rt; gives(alloc, &chunks, 8, (10, 10), &[(10, 4)]));
 }
 
 #[test]
-fn samples_are_read_in_place(rt: HostRuntime) -> Result<(), Fail> {
-    let chunks = Chunks::open(file_of(rt.alloc(), 0xE0, 2, &[(-5, 7), (6, -8)])?)?;
-    let samples = chunks.find(8, -5, 6)?;
-    assert_eq!(rt; samples.len(), 2);
+fn samples_are_read_in_place(rt: HostRuntime) {
+    let two = &[(-5, 7), (6, -8)];
+    let chunks = opened(rt.alloc(), &(0xE0, 2, two)).expect(&rt, "it opens");
+    let samples = chunks.find(8, -5, 6).ok().expect(&rt, "it is found");
+    assert!(rt; samples.len() == 2);
     assert!(rt; !samples.is_empty());
-    assert_eq!(rt; samples.get(1), Sample::new(6, -8));
+    assert!(rt; samples.get(1) == Sample::new(6, -8));
     assert!(rt; Samples::new(&[]).is_empty());
-    Ok(())
 }
 
+/// A time after the last.
+const LATE: i64 = MAX_TIME + 1;
+
+/// A time before the first.
+const EARLY: i64 = MIN_TIME - 1;
+
+/// The chunk of one sample, 4 at 10.
+const FOUR: One = (0xE0, 1, &[(10, 4)]);
+
+/// Chunks, each with the reference and the times that are asked for, and the code of the first check
+/// that fails. A time stands once, a chunk has samples, and the shape is asked before the times.
+const ASKED: &[(One, u64, i64, i64, &str)] = &[
+    (FOUR, 7, 10, 10, "C3"),
+    (FOUR, 32, 10, 10, "C3"),
+    (FOUR, 0x1_0000_0008, 10, 10, "C3"),
+    (FOUR, 9, 10, 10, "C4"),
+    ((0x01, 1, &[(10, 4)]), 8, 10, 10, "C5"),
+    ((0xE1, 1, &[(10, 4)]), 8, 10, 10, "C6"),
+    ((0xE0, 2, &[(10, 4)]), 8, 10, 10, "C7"),
+    ((0xE0, 1, &[(LATE, 4)]), 8, LATE, LATE, "C7"),
+    (FOUR, 8, 11, 11, "C8"),
+    ((0xE0, 2, &[(10, 4), (10, 5)]), 8, 10, 10, "C7"),
+    ((0xE0, 0, &[]), 8, 10, 10, "C7"),
+    (
+        (0xE0, 2, &[(MIN_TIME, 1), (MAX_TIME, 2)]),
+        8,
+        MIN_TIME,
+        MAX_TIME,
+        "ok",
+    ),
+    ((0xE0, 1, &[(EARLY, 1)]), 8, EARLY, EARLY, "C7"),
+    ((0xE0, 2, &[(10, 1), (LATE, 2)]), 8, 10, LATE, "C7"),
+    ((0xE0, 2, &[(10, 1), (9, 2)]), 8, 10, 9, "C7"),
+    ((0xE0, 1, &[(10, 1), (11, 2)]), 8, 0, 0, "C7"),
+    ((0xE0, 2, &[(10, 1), (11, 2)]), 8, 9, 11, "C8"),
+    ((0xE0, 2, &[(10, 1), (11, 2)]), 8, 10, 12, "C8"),
+    ((0xE0, 2, &[(10, 1), (11, 2)]), 8, 11, 10, "C8"),
+];
+
 #[test]
-fn the_first_failing_check_is_answered(rt: HostRuntime) -> Result<(), Fail> {
-    let late = 0x4000_0000_0000_0000;
-    let rows: [(&str, u8, u8, &[(i64, i64)], u64, i64); 9] = [
-        ("C3", 0xE0, 1, &[(10, 4)], 7, 10),
-        ("C3", 0xE0, 1, &[(10, 4)], 32, 10),
-        ("C3", 0xE0, 1, &[(10, 4)], 0x1_0000_0008, 10),
-        ("C4", 0xE0, 1, &[(10, 4)], 9, 10),
-        ("C5", 0x01, 1, &[(10, 4)], 8, 10),
-        ("C6", 0xE1, 1, &[(10, 4)], 8, 10),
-        ("C7", 0xE0, 2, &[(10, 4)], 8, 10),
-        ("C7", 0xE0, 1, &[(late, 4)], 8, late),
-        ("C8", 0xE0, 1, &[(10, 4)], 8, 11),
-    ];
-    for (code, encoding, count, samples, reference, mint) in rows {
-        let chunks = Chunks::open(file_of(rt.alloc(), encoding, count, samples)?)?;
-        let error = chunks.find(reference, mint, mint).err();
-        assert_eq!(rt; error.map(ChunkError::code), Some(code));
+fn the_first_failing_check_is_answered_and_the_shape_before_the_times(rt: HostRuntime) {
+    let alloc = rt.alloc();
+    for (chunk, reference, mint, maxt, want) in ASKED {
+        let chunks = opened(alloc, chunk).expect(&rt, "it opens");
+        let code = code_of_find(&chunks, *reference, *mint, *maxt);
+        assert!(rt;
+            code == *want,
+            "{want} at {reference} from {mint} to {maxt}"
+        );
     }
-    let twice = Chunks::open(file_of(rt.alloc(), 0xE0, 2, &[(10, 4), (10, 5)])?)?;
-    assert_eq!(rt;
-        twice.find(8, 10, 10).err(),
-        Some(ChunkError::Shape),
-        "a time stands once"
-    );
-    let none = Chunks::open(file_of(rt.alloc(), 0xE0, 0, &[])?)?;
-    assert_eq!(rt;
-        none.find(8, 10, 10).err(),
-        Some(ChunkError::Shape),
-        "a chunk has samples"
-    );
-    Ok(())
 }
 
+/// Beginnings of a file, which is too short or is no segment.
+const HEADS: &[(&[u8], &str)] = &[
+    (&[0x85, 0xBD, 0x40], "C1"),
+    (&[0xBD, 0x40, 0xDD, 0x01, 0x00, 0x00, 0x00], "C1"),
+    (&[0x85, 0xBD, 0x40, 0xDD, 0x01, 0x00, 0x00], "C2"),
+    (&[0x85, 0xBD, 0x40, 0xDD, 0x01, 0x00, 0x00, 0x01], "C2"),
+];
+
+/// What no one refers to is not read.
 #[test]
-fn a_file_begins_as_a_segment(rt: HostRuntime) -> Result<(), Fail> {
-    for (head, code) in [
-        (&HEAD[..3], "C1"),
-        (&HEAD[1..], "C1"),
-        (&HEAD[..7], "C2"),
-        (&[0x85, 0xBD, 0x40, 0xDD, 0x01, 0x00, 0x00, 0x01], "C2"),
-    ] {
-        let mut file = Vec::new(rt.alloc());
-        put_bytes(&mut file, head)?;
-        assert_eq!(rt; Chunks::open(file).err().map(ChunkError::code), Some(code));
+fn a_file_begins_as_a_segment(rt: HostRuntime) {
+    let alloc = rt.alloc();
+    for (head, want) in HEADS {
+        assert!(rt; code_of(alloc, head) == *want, "{head:?}");
     }
-    let mut file = Vec::new(rt.alloc());
-    put_bytes(&mut file, &HEAD)?;
-    put_u8(&mut file, 0)?;
-    assert!(rt;
-        Chunks::open(file).is_ok(),
-        "what no one refers to is not read"
-    );
-    Ok(())
+    let mut file = SEGMENT.to_vec(alloc).ok().expect(&rt, "there is memory");
+    file.push(0).ok().expect(&rt, "there is memory");
+    assert!(rt; Chunks::open(file).is_ok());
 }
 
+/// Each chunk is read, and read again when it is known.
 #[test]
-fn the_worked_file_gives_its_samples(rt: HostRuntime) -> Result<(), Fail> {
-    let file = worked(rt.alloc())?;
-    assert_eq!(rt; file.len(), 152);
-    let chunks = Chunks::open(file)?;
+fn the_worked_file_gives_its_samples(rt: HostRuntime) {
+    let alloc = rt.alloc();
+    assert!(rt; CHUNKS.len() == 152);
+    let file = CHUNKS.to_vec(alloc).ok().expect(&rt, "there is memory");
+    let chunks = Chunks::open(file).ok().expect(&rt, "it opens");
     for (reference, value) in WORKED {
-        let found = chunks.samples(rt.alloc(), reference, 10, 10)?;
-        assert_eq!(rt; found.as_slice(), [Sample::new(10, value)].as_slice());
+        let want = [(10, *value)];
+        assert!(rt;
+            gives(alloc, &chunks, *reference, (10, 10), &want),
+            "{value}"
+        );
+        assert!(rt;
+            gives_again(alloc, &chunks, *reference, (10, 10), &want),
+            "{value}"
+        );
     }
-    Ok(())
+}
+
+const EIGHT: &[(i64, i64)] = &[
+    (1, 0),
+    (2, 1),
+    (3, 2),
+    (4, 3),
+    (5, 4),
+    (6, 5),
+    (7, 6),
+    (8, 7),
+];
+
+#[test]
+fn a_known_chunk_may_have_a_longer_length(rt: HostRuntime) {
+    let alloc = rt.alloc();
+    let file = file_of(alloc, &(0xE0, 8, EIGHT)).expect(&rt, "the file is made");
+    assert!(rt; file.len() == 145);
+    let begin = [0x82, 0x01, 0xE0, 0x00, 0x08];
+    assert!(rt; file.get(8..13).unwrap_or(&[]) == begin.as_slice());
+    let chunks = Chunks::open(file).ok().expect(&rt, "it opens");
+    assert!(rt; gives_again(alloc, &chunks, 8, (1, 8), EIGHT));
 }
 
 #[test]
-fn a_known_chunk_is_read_again(rt: HostRuntime) -> Result<(), Fail> {
-    let chunks = Chunks::open(worked(rt.alloc())?)?;
-    for (reference, value) in WORKED {
-        let found = chunks.find(reference, 10, 10)?;
-        assert_eq!(rt; found.len(), 1);
-        let stored = chunks.stored(reference, 10, 10);
-        assert_eq!(rt; stored.len(), 1);
-        assert_eq!(rt; stored.get(0), Sample::new(10, value));
+fn references_outside_the_file_are_refused(rt: HostRuntime) {
+    let file = CHUNKS.to_vec(rt.alloc()).ok();
+    let file = file.expect(&rt, "there is memory");
+    let chunks = Chunks::open(file).ok().expect(&rt, "it opens");
+    for reference in [0, 7, 152, 1 << 32, (1 << 32) + 8, u64::MAX] {
+        let code = code_of_find(&chunks, reference, 10, 10);
+        assert!(rt; code == "C3", "of {reference}");
     }
-    Ok(())
+}
+
+/// A file of one chunk that says this length, and whose checksum is 0.
+fn of_length(alloc: Global, length: u64) -> Option<Vec<u8>> {
+    let mut file = SEGMENT.to_vec(alloc).ok()?;
+    put_uvarint(&mut file, length).ok()?;
+    put_bytes(&mut file, &[0xE0, 0, 1, 0, 0, 0, 0, 0, 0, 0, 10]).ok()?;
+    put_bytes(&mut file, &[0, 0, 0, 0, 0, 0, 0, 4, 0, 0, 0, 0]).ok()?;
+    Some(file)
 }
 
 #[test]
-fn a_known_chunk_may_have_a_longer_length(rt: HostRuntime) -> Result<(), Fail> {
-    let samples = [
-        (1, 0),
-        (2, 1),
-        (3, 2),
-        (4, 3),
-        (5, 4),
-        (6, 5),
-        (7, 6),
-        (8, 7),
-    ];
-    let file = file_of(rt.alloc(), 0xE0, 8, &samples)?;
-    assert_eq!(rt; file.len(), 145);
-    assert_eq!(rt; &file[8..13], [0x82, 0x01, 0xE0, 0x00, 0x08].as_slice());
-    let chunks = Chunks::open(file)?;
-    assert_eq!(rt; chunks.find(8, 1, 8)?.len(), 8);
-    let stored = chunks.stored(8, 1, 8);
-    assert_eq!(rt; stored.len(), 8);
-    assert_eq!(rt; stored.get(0), Sample::new(1, 0));
-    assert_eq!(rt; stored.get(7), Sample::new(8, 7));
-    Ok(())
-}
-
-#[test]
-fn every_damaged_byte_is_refused(rt: HostRuntime) -> Result<(), Fail> {
-    let mut file = worked(rt.alloc())?;
-    for place in 0..152 {
-        let want = match place {
-            0..=3 => "C1",
-            4..=7 => "C2",
-            _ => "C4",
-        };
-        for byte in 0..=255 {
-            if file.get(place) != Some(&byte) {
-                let code = told_with(rt.alloc(), &mut file, place, byte)?;
-                assert_eq!(rt; code, want, "{byte} at {place}");
-            }
-        }
-    }
-    assert_eq!(rt; told(rt.alloc(), &file)?, "ok");
-    Ok(())
-}
-
-#[test]
-fn every_shorter_file_is_refused(rt: HostRuntime) -> Result<(), Fail> {
-    let file = worked(rt.alloc())?;
-    for kept in 0..152 {
-        let want = match kept {
-            0..=3 => "C1",
-            4..=7 => "C2",
-            8 | 32 | 56 | 80 | 104 | 128 => "C3",
-            _ => "C4",
-        };
-        let front = file.get(..kept).unwrap_or(&[]);
-        assert_eq!(rt; told(rt.alloc(), front)?, want, "{kept} bytes");
-    }
-    Ok(())
-}
-
-#[test]
-fn references_outside_the_file_are_refused(rt: HostRuntime) -> Result<(), Fail> {
-    let chunks = Chunks::open(worked(rt.alloc())?)?;
-    let outside = [0, 7, 152, 1 << 32, (1 << 32) + 8, u64::MAX];
-    for reference in outside {
-        let error = chunks.find(reference, 10, 10).err();
-        assert_eq!(rt; error, Some(ChunkError::Reference), "of {reference}");
-    }
-    Ok(())
-}
-
-#[test]
-fn a_length_past_the_file_is_refused(rt: HostRuntime) -> Result<(), Fail> {
+fn a_length_past_the_file_is_refused(rt: HostRuntime) {
+    let alloc = rt.alloc();
     for length in [19, 1 << 32, u64::MAX - 5, u64::MAX - 1, u64::MAX] {
-        let mut file = Vec::new(rt.alloc());
-        put_bytes(&mut file, &HEAD)?;
-        put_uvarint(&mut file, length)?;
-        put_bytes(&mut file, &content_of(rt.alloc(), 0xE0, 1, &[(10, 4)])?)?;
-        put_be32(&mut file, 0)?;
-        assert_eq!(rt; told(rt.alloc(), &file)?, "C4", "of {length}");
+        let file = of_length(alloc, length).expect(&rt, "the file is made");
+        assert!(rt; code_of(alloc, &file) == "C4", "of {length}");
     }
-    Ok(())
 }
 
-#[test]
-fn the_shape_is_asked_before_the_times(rt: HostRuntime) -> Result<(), Fail> {
-    let rows: [(&str, u8, &[(i64, i64)], i64, i64); 8] = [
-        ("ok", 2, &[(MIN_TIME, 1), (MAX_TIME, 2)], MIN_TIME, MAX_TIME),
-        ("C7", 1, &[(MIN_TIME - 1, 1)], MIN_TIME - 1, MIN_TIME - 1),
-        ("C7", 2, &[(10, 1), (MAX_TIME + 1, 2)], 10, MAX_TIME + 1),
-        ("C7", 2, &[(10, 1), (9, 2)], 10, 9),
-        ("C7", 1, &[(10, 1), (11, 2)], 0, 0),
-        ("C8", 2, &[(10, 1), (11, 2)], 9, 11),
-        ("C8", 2, &[(10, 1), (11, 2)], 10, 12),
-        ("C8", 2, &[(10, 1), (11, 2)], 11, 10),
-    ];
-    for (want, count, samples, mint, maxt) in rows {
-        let chunks = Chunks::open(file_of(rt.alloc(), 0xE0, count, samples)?)?;
-        let code = chunks
-            .find(8, mint, maxt)
-            .err()
-            .map_or("ok", ChunkError::code);
-        assert_eq!(rt; code, want, "of {samples:?} from {mint} to {maxt}");
-    }
-    Ok(())
-}
+/// Contents without room for a count.
+const SHORT: &[(&[u8], &str)] = &[
+    (&[0xE0], "C7"),
+    (&[0xE0, 0], "C7"),
+    (&[0xE0, 0, 0], "C7"),
+    (&[0x01], "C5"),
+    (&[0x00], "C6"),
+];
 
+/// The checksum is asked first.
 #[test]
-fn data_without_room_for_a_count_is_refused(rt: HostRuntime) -> Result<(), Fail> {
-    let rows: [(&[u8], &str); 5] = [
-        (&[0xE0], "C7"),
-        (&[0xE0, 0], "C7"),
-        (&[0xE0, 0, 0], "C7"),
-        (&[0x01], "C5"),
-        (&[0x00], "C6"),
-    ];
-    for (content, want) in rows {
-        let mut file = Vec::new(rt.alloc());
-        put_bytes(&mut file, &HEAD)?;
-        put_chunk(&mut file, content)?;
-        assert_eq!(rt; told(rt.alloc(), &file)?, want, "of {content:?}");
-        let spoiled = told_with(rt.alloc(), &mut file, 9, 0x02)?;
-        assert_eq!(rt; spoiled, "C4", "the checksum is asked first");
+fn data_without_room_for_a_count_is_refused(rt: HostRuntime) {
+    let alloc = rt.alloc();
+    for (content, want) in SHORT {
+        let mut file = file_with(alloc, content).expect(&rt, "the file is made");
+        assert!(rt; code_of(alloc, &file) == *want, "of {content:?}");
+        if let Some(slot) = file.get_mut(9) {
+            *slot = 0x02;
+        }
+        assert!(rt; code_of(alloc, &file) == "C4", "of {content:?}");
     }
-    Ok(())
 }

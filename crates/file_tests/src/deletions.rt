@@ -1,25 +1,17 @@
 //! Files that spell deletions, each refusal of a file that is spoiled in one place, and what
 //! deletions cover.
 
-ghost use Rattle.std.specs.Prelude.{◌≡◌, ◌<◌, length};
-
+use crate::files::{NO_DELETIONS, deletions_of};
 use labels::SeriesRef;
 use std::alloc::{AllocError, Global};
-use std::test::Fail;
-use tombstones::{Deletion, TombstoneError, Tombstones};
-use wire::{crc32c, put_be32, put_bytes};
+use tombstones::{Deletion, Tombstones};
 
-/// A file of these entries, whose checksum is right.
-fn file_of(alloc: Global, entries: &[u8]) -> Result<Vec<u8>, Fail> {
-    let mut file = Vec::new(alloc);
-    put_bytes(&mut file, &[0x01, 0x30, 0xBA, 0x30, 0x01])?;
-    put_bytes(&mut file, entries)?;
-    put_be32(&mut file, crc32c(entries))?;
-    Ok(file)
-}
-
-fn six() -> SeriesRef {
-    SeriesRef::new(6)
+/// The code that the file is refused with, or `ok`.
+pub fn code_of(alloc: Global, file: &[u8]) -> &'static str {
+    match Tombstones::open(alloc, file) {
+        Ok(_) => "ok",
+        Err(error) => error.code(),
+    }
 }
 
 #[test]
@@ -32,64 +24,158 @@ fn the_example_of_the_first_page(rt: HostRuntime) -> Result<(), AllocError> {
     Ok(())
 }
 
-#[test]
-fn an_empty_file_deletes_nothing(rt: HostRuntime) -> Result<(), Fail> {
-    let file = [0x01, 0x30, 0xBA, 0x30, 0x01, 0, 0, 0, 0];
-    let tombstones = Tombstones::open(rt.alloc(), &file)?;
-    assert!(rt; tombstones.deletions().is_empty());
-    assert!(rt; !tombstones.deleted(six(), 0));
-    Ok(())
-}
+/// A deletion: the number of the series, and the first and the last time.
+type Added = (u32, i64, i64);
 
-#[test]
-fn an_interval_is_closed_at_both_ends(rt: HostRuntime) -> Result<(), Fail> {
-    let tombstones = Tombstones::open(rt.alloc(), &file_of(rt.alloc(), &[0x06, 0x03, 0x28])?)?;
-    for (t, want) in [(-3, false), (-2, true), (0, true), (20, true), (21, false)] {
-        assert_eq!(rt; tombstones.deleted(six(), t), want, "at {t}");
+/// A series, a time, and whether the sample there is deleted.
+type Asked = (u32, i64, bool);
+
+fn add_all(tombstones: &mut Tombstones, added: &[Added]) -> Result<(), AllocError> {
+    for (reference, from, to) in added {
+        tombstones.add(SeriesRef::new(*reference), *from, *to)?;
     }
-    assert!(rt; !tombstones.deleted(SeriesRef::new(5), 0));
-    assert!(rt; !tombstones.deleted(SeriesRef::new(7), 0));
     Ok(())
 }
 
+/// The deletions of a file of these entries, and these.
+fn with_added(alloc: Global, entries: &[u8], added: &[Added]) -> Option<Tombstones> {
+    let file = deletions_of(alloc, entries)?;
+    let mut tombstones = Tombstones::open(alloc, &file).ok()?;
+    add_all(&mut tombstones, added).ok()?;
+    Some(tombstones)
+}
+
+const LONG: Added = (6, 0, 100);
+
+const SHORT: Added = (6, 10, 20);
+
+const OTHER: Added = (7, 5, 6);
+
+/// What the three of them delete: the long deletion reaches past a later short one.
+const OF_THREE: &[Asked] = &[
+    (6, -1, false),
+    (6, 0, true),
+    (6, 9, true),
+    (6, 10, true),
+    (6, 20, true),
+    (6, 21, true),
+    (6, 99, true),
+    (6, 100, true),
+    (6, 101, false),
+    (7, 4, false),
+    (7, 5, true),
+    (7, 6, true),
+    (7, 7, false),
+    (7, 100, false),
+    (5, 15, false),
+    (8, 15, false),
+];
+
+/// Two deletions of the series 6 and one of the series 4, in any order.
+const OVERLAP: &[u8] = &[0x06, 0x14, 0x28, 0x04, 0x00, 0x02, 0x06, 0x00, 0x16];
+
+/// The three deletions, in the order opposite to that of the references.
+const THREE: &[u8] = &[0x07, 0x0A, 0x0C, 0x06, 0x14, 0x28, 0x06, 0x00, 0xC8, 0x01];
+
+/// The entries of a file, what is added, and what is then deleted.
+const FOUND: &[(&[u8], &[Added], &[Asked])] = &[
+    (&[], &[], &[(6, 0, false)]),
+    (
+        &[0x06, 0x03, 0x28],
+        &[],
+        &[
+            (6, -3, false),
+            (6, -2, true),
+            (6, 0, true),
+            (6, 20, true),
+            (6, 21, false),
+            (5, 0, false),
+            (7, 0, false),
+        ],
+    ),
+    (
+        OVERLAP,
+        &[],
+        &[
+            (6, 0, true),
+            (6, 11, true),
+            (6, 20, true),
+            (6, 21, false),
+            (4, 1, true),
+            (4, 2, false),
+        ],
+    ),
+    (OVERLAP, &[(4, 2, 3)], &[(4, 2, true)]),
+    (
+        &[],
+        &[(6, 1, 2), (3, 5, 5)],
+        &[(6, 2, true), (3, 5, true), (3, 2, false)],
+    ),
+    (&[], &[LONG, SHORT, OTHER], OF_THREE),
+    (&[], &[LONG, OTHER, SHORT], OF_THREE),
+    (&[], &[SHORT, LONG, OTHER], OF_THREE),
+    (&[], &[SHORT, OTHER, LONG], OF_THREE),
+    (&[], &[OTHER, LONG, SHORT], OF_THREE),
+    (&[], &[OTHER, SHORT, LONG], OF_THREE),
+    (THREE, &[], OF_THREE),
+];
+
+/// Whether these samples are deleted as they are to be.
+fn deletes(tombstones: &Tombstones, asked: &[Asked]) -> bool {
+    let mut all = true;
+    for (reference, t, want) in asked {
+        all = all && tombstones.deleted(SeriesRef::new(*reference), *t) == *want;
+    }
+    all
+}
+
 #[test]
-fn entries_come_in_any_order_and_overlap(rt: HostRuntime) -> Result<(), Fail> {
-    let entries = [0x06, 0x14, 0x28, 0x04, 0x00, 0x02, 0x06, 0x00, 0x16];
-    let mut tombstones = Tombstones::open(rt.alloc(), &file_of(rt.alloc(), &entries)?)?;
-    for (reference, t, want) in [
-        (6, 0, true),
-        (6, 11, true),
-        (6, 20, true),
-        (6, 21, false),
-        (4, 1, true),
-        (4, 2, false),
-    ] {
-        assert_eq!(rt;
-            tombstones.deleted(SeriesRef::new(reference), t),
-            want,
-            "{reference} at {t}"
+fn deletions_are_closed_and_overlap_in_any_order(rt: HostRuntime) {
+    let alloc = rt.alloc();
+    for (entries, added, asked) in FOUND {
+        let tombstones = with_added(alloc, entries, added).expect(&rt, "it opens");
+        assert!(rt;
+            deletes(&tombstones, asked),
+            "{entries:?} and {} more",
+            added.len()
         );
     }
-    tombstones.add(SeriesRef::new(4), 2, 3)?;
-    assert!(rt; tombstones.deleted(SeriesRef::new(4), 2));
-    assert_eq!(rt; tombstones.deletions().len(), 4);
-    Ok(())
+}
+
+/// The deletions of files, those of a series beside each other in the order of time.
+const LISTED: &[(&[u8], &[Added])] = &[(&[], &[]), (THREE, &[LONG, SHORT, OTHER])];
+
+fn are_deletions(found: &[Deletion], want: &[Added]) -> bool {
+    for (deletion, (reference, from, to)) in found.iter().zip(want) {
+        if deletion.reference != *reference || deletion.from != *from || deletion.to != *to {
+            return false;
+        }
+    }
+    found.len() == want.len()
 }
 
 #[test]
-fn added_deletions_are_found(rt: HostRuntime) -> Result<(), Fail> {
-    let mut tombstones = Tombstones::new(rt.alloc());
-    tombstones.add(six(), 1, 2)?;
-    tombstones.add(SeriesRef::new(3), 5, 5)?;
-    assert!(rt; tombstones.deleted(six(), 2));
-    assert!(rt; tombstones.deleted(SeriesRef::new(3), 5));
-    assert!(rt; !tombstones.deleted(SeriesRef::new(3), 2));
-    for (reference, want) in [(2, false), (3, true), (4, false), (6, true), (7, false)] {
-        assert_eq!(rt;
-            tombstones.has_deletion_of(SeriesRef::new(reference)),
-            want,
-            "{reference}"
-        );
+fn deletions_stand_in_order(rt: HostRuntime) {
+    let alloc = rt.alloc();
+    for (entries, want) in LISTED {
+        let tombstones = with_added(alloc, entries, &[]).expect(&rt, "it opens");
+        assert!(rt; are_deletions(tombstones.deletions(), want), "{entries:?}");
+    }
+    let four = with_added(alloc, OVERLAP, &[(4, 2, 3)]).expect(&rt, "it opens");
+    assert!(rt; four.deletions().len() == 4);
+    assert!(rt; code_of(alloc, NO_DELETIONS) == "ok");
+}
+
+/// Which series have a deletion, where the series 6 and 3 have one.
+const HAVE: &[(u32, bool)] = &[(2, false), (3, true), (4, false), (6, true), (7, false)];
+
+#[test]
+fn added_deletions_are_found(rt: HostRuntime) {
+    let tombstones = with_added(rt.alloc(), &[], &[(6, 1, 2), (3, 5, 5)]);
+    let tombstones = tombstones.expect(&rt, "it opens");
+    for (reference, want) in HAVE {
+        let found = tombstones.has_deletion_of(SeriesRef::new(*reference));
+        assert!(rt; found == *want, "{reference}");
     }
     let deletion = Deletion {
         reference: 6,
@@ -97,210 +183,86 @@ fn added_deletions_are_found(rt: HostRuntime) -> Result<(), Fail> {
         to: 2,
     };
     assert!(rt; deletion.holds(1));
-    Ok(())
+}
+
+/// What is deleted from 1 to 2 of the series 6, and then from 5 to 7 of it and of the series 3.
+const JOINED: &[Asked] = &[
+    (6, 0, false),
+    (6, 1, true),
+    (6, 3, false),
+    (6, 5, true),
+    (6, 7, true),
+    (6, 8, false),
+    (3, 1, false),
+    (3, 4, false),
+    (3, 5, true),
+    (4, 5, false),
+];
+
+/// The same deletions, after one of each of these series is joined.
+fn joined(
+    alloc: Global,
+    old: &Tombstones,
+    numbers: &[u32],
+    from: i64,
+    to: i64,
+) -> Option<Tombstones> {
+    let mut references = Vec::new(alloc);
+    for number in numbers {
+        references.push(SeriesRef::new(*number)).ok()?;
+    }
+    old.with(alloc, &references, from, to).ok()
 }
 
 #[test]
-fn an_interval_of_several_series_is_joined(rt: HostRuntime) -> Result<(), Fail> {
-    let mut old = Tombstones::new(rt.alloc());
-    old.add(six(), 1, 2)?;
-    let more = old.with(rt.alloc(), &[six(), SeriesRef::new(3)], 5, 7)?;
-    for (reference, t, want) in [
-        (6, 0, false),
-        (6, 1, true),
-        (6, 3, false),
-        (6, 5, true),
-        (6, 7, true),
-        (6, 8, false),
-        (3, 1, false),
-        (3, 4, false),
-        (3, 5, true),
-        (4, 5, false),
-    ] {
-        assert_eq!(rt;
-            more.deleted(SeriesRef::new(reference), t),
-            want,
-            "{reference} at {t}"
-        );
-    }
-    assert!(rt; !old.deleted(six(), 5));
-    let same = more.with(rt.alloc(), &[], 0, 9)?;
-    assert_eq!(rt; same.deletions().len(), 3);
-    Ok(())
-}
-
-const LONG: (u32, i64, i64) = (6, 0, 100);
-
-const SHORT: (u32, i64, i64) = (6, 10, 20);
-
-const OTHER: (u32, i64, i64) = (7, 5, 6);
-
-/// Whether series 6 is deleted from 0 to 100, series 7 from 5 to 6, and no other time.
-fn are_found(tombstones: &Tombstones) -> bool {
-    let mut all = true;
-    for (reference, t, want) in [
-        (6, -1, false),
-        (6, 0, true),
-        (6, 9, true),
-        (6, 10, true),
-        (6, 20, true),
-        (6, 21, true),
-        (6, 99, true),
-        (6, 100, true),
-        (6, 101, false),
-        (7, 4, false),
-        (7, 5, true),
-        (7, 6, true),
-        (7, 7, false),
-        (7, 100, false),
-        (5, 15, false),
-        (8, 15, false),
-    ] {
-        all = all && tombstones.deleted(SeriesRef::new(reference), t) == want;
-    }
-    all
-}
-
-#[test]
-fn a_long_deletion_reaches_past_a_later_short_one(rt: HostRuntime) -> Result<(), Fail> {
-    for order in [
-        [LONG, SHORT, OTHER],
-        [LONG, OTHER, SHORT],
-        [SHORT, LONG, OTHER],
-        [SHORT, OTHER, LONG],
-        [OTHER, LONG, SHORT],
-        [OTHER, SHORT, LONG],
-    ] {
-        let mut tombstones = Tombstones::new(rt.alloc());
-        for (reference, from, to) in order {
-            tombstones.add(SeriesRef::new(reference), from, to)?;
-        }
-        assert!(rt; are_found(&tombstones), "added as {order:?}");
-    }
-    let entries = [0x07, 0x0A, 0x0C, 0x06, 0x14, 0x28, 0x06, 0x00, 0xC8, 0x01];
-    let tombstones = Tombstones::open(rt.alloc(), &file_of(rt.alloc(), &entries)?)?;
-    assert!(rt; are_found(&tombstones), "of a file");
-    let wanted = [LONG, SHORT, OTHER];
-    for (place, deletion) in tombstones.deletions().iter().enumerate() {
-        let found = (deletion.reference, deletion.from, deletion.to);
-        assert_eq!(rt; wanted.get(place), Some(&found), "at {place}");
-    }
-    let mut short = Tombstones::new(rt.alloc());
-    short.add(SeriesRef::new(7), 5, 6)?;
-    short.add(six(), 10, 20)?;
-    assert!(rt;
-        are_found(&short.with(rt.alloc(), &[six()], 0, 100)?),
-        "joined"
-    );
-    Ok(())
-}
-
-#[test]
-fn the_first_failing_check_is_answered(rt: HostRuntime) -> Result<(), Fail> {
-    let rows: [(&[u8], TombstoneError); 7] = [
-        (&[0x01, 0x30, 0xBA], TombstoneError::Magic),
-        (
-            &[0x01, 0x30, 0xBA, 0x31, 0x01, 0, 0, 0, 0],
-            TombstoneError::Magic,
-        ),
-        (&[0x01, 0x30, 0xBA, 0x30], TombstoneError::Version),
-        (
-            &[0x01, 0x30, 0xBA, 0x30, 0x02, 0, 0, 0, 0],
-            TombstoneError::Version,
-        ),
-        (
-            &[0x01, 0x30, 0xBA, 0x30, 0x01, 0, 0, 0],
-            TombstoneError::Shape,
-        ),
-        (
-            &[0x01, 0x30, 0xBA, 0x30, 0x01, 0, 0, 0, 1],
-            TombstoneError::Crc,
-        ),
-        (
-            &[0x01, 0x30, 0xBA, 0x30, 0x01, 6, 0, 0, 0, 0],
-            TombstoneError::Crc,
-        ),
-    ];
-    for (file, want) in rows {
-        assert_eq!(rt;
-            Tombstones::open(rt.alloc(), file).err(),
-            Some(want),
-            "of {file:?}"
-        );
-    }
-    let spoiled: [&[u8]; 4] = [
-        &[0x06, 0x03],
-        &[0x06, 0x02, 0x01],
-        &[0x80, 0x80, 0x80, 0x80, 0x10, 0x00, 0x00],
-        &[0x86, 0x00, 0x00, 0x00],
-    ];
-    for entries in spoiled {
-        let error = Tombstones::open(rt.alloc(), &file_of(rt.alloc(), entries)?).err();
-        assert_eq!(rt;
-            error.map(TombstoneError::code),
-            Some("T4"),
-            "of {entries:?}"
-        );
-    }
-    Ok(())
-}
-
-/// The code that the file is refused with, or `ok`.
-fn told(alloc: Global, file: &[u8]) -> &'static str {
-    match Tombstones::open(alloc, file) {
-        Ok(_) => "ok",
-        Err(error) => error.code(),
-    }
-}
-
-/// Whether each of the 255 other values of the byte at the place leads to this code.
-fn damage_gives(alloc: Global, file: &mut [u8], place: usize, want: &str) -> bool
-    requires { place < length file.old }
-    ensures { length file.new ≡ length file.old }
-{
-    let good = file[place];
-    let mut all = true;
-    for byte in 0..=255 {
-        file[place] = byte;
-        all = all && (byte == good || told(alloc, file) == want);
-    }
-    file[place] = good;
-    all
-}
-
-#[test]
-fn every_damaged_byte_is_refused(rt: HostRuntime) {
+fn an_interval_of_several_series_is_joined(rt: HostRuntime) {
     let alloc = rt.alloc();
-    let mut empty = [0x01, 0x30, 0xBA, 0x30, 0x01, 0, 0, 0, 0];
-    let codes = ["T1", "T1", "T1", "T1", "T2", "T3", "T3", "T3", "T3"];
-    for place in 0..9 {
-        let all = damage_gives(alloc, &mut empty, place, codes[place]);
-        assert!(rt; all, "at {place}");
+    let old = with_added(alloc, &[], &[(6, 1, 2)]).expect(&rt, "it opens");
+    let more = joined(alloc, &old, &[6, 3], 5, 7).expect(&rt, "there is memory");
+    assert!(rt; deletes(&more, JOINED));
+    assert!(rt; !old.deleted(SeriesRef::new(6), 5));
+    let same = joined(alloc, &more, &[], 0, 9).expect(&rt, "there is memory");
+    assert!(rt; same.deletions().len() == 3);
+    let short = with_added(alloc, &[], &[OTHER, SHORT]).expect(&rt, "it opens");
+    let long = joined(alloc, &short, &[6], 0, 100).expect(&rt, "there is memory");
+    assert!(rt; deletes(&long, OF_THREE));
+}
+
+/// Files, each with the code of its first fault.
+const REFUSED: &[(&[u8], &str)] = &[
+    (&[0x01, 0x30, 0xBA], "T1"),
+    (&[0x01, 0x30, 0xBA, 0x31, 0x01, 0, 0, 0, 0], "T1"),
+    (&[0x01, 0x30, 0xBA, 0x30], "T2"),
+    (&[0x01, 0x30, 0xBA, 0x30, 0x02, 0, 0, 0, 0], "T2"),
+    (&[0x01, 0x30, 0xBA, 0x30, 0x01, 0, 0, 0], "T4"),
+    (&[0x01, 0x30, 0xBA, 0x30, 0x01, 0, 0, 0, 1], "T3"),
+    (&[0x01, 0x30, 0xBA, 0x30, 0x01, 6, 0, 0, 0, 0], "T3"),
+];
+
+/// What is no list of entries, under a checksum that is right.
+const NO_ENTRIES: &[&[u8]] = &[
+    &[0x06, 0x03],
+    &[0x06, 0x02, 0x01],
+    &[0x80, 0x80, 0x80, 0x80, 0x10, 0x00, 0x00],
+    &[0x86, 0x00, 0x00, 0x00],
+];
+
+/// The code of a file of these entries.
+fn code_of_entries(alloc: Global, entries: &[u8]) -> &'static str {
+    match deletions_of(alloc, entries) {
+        Some(file) => code_of(alloc, &file),
+        None => "no memory",
     }
-    assert_eq!(rt; told(alloc, &empty), "ok");
-    let mut one = [
-        0x01, 0x30, 0xBA, 0x30, 0x01, 0x06, 0x03, 0x28, 0x2F, 0x56, 0x2B, 0xE5,
-    ];
-    let codes = [
-        "T1", "T1", "T1", "T1", "T2", "T3", "T3", "T3", "T3", "T3", "T3", "T3",
-    ];
-    for place in 0..12 {
-        let all = damage_gives(alloc, &mut one, place, codes[place]);
-        assert!(rt; all, "at {place}");
-    }
-    assert_eq!(rt; told(alloc, &one), "ok");
 }
 
 #[test]
-fn every_shorter_file_is_refused(rt: HostRuntime) {
-    let one = [
-        0x01, 0x30, 0xBA, 0x30, 0x01, 0x06, 0x03, 0x28, 0x2F, 0x56, 0x2B, 0xE5,
-    ];
-    let codes = [
-        "T1", "T1", "T1", "T1", "T2", "T4", "T4", "T4", "T4", "T3", "T3", "T3", "ok",
-    ];
-    for kept in 0..13 {
-        assert_eq!(rt; told(rt.alloc(), &one[..kept]), codes[kept], "{kept} bytes");
+fn the_first_failing_check_is_answered(rt: HostRuntime) {
+    let alloc = rt.alloc();
+    for (file, want) in REFUSED {
+        assert!(rt; code_of(alloc, file) == *want, "of {file:?}");
+    }
+    for entries in NO_ENTRIES {
+        assert!(rt; code_of_entries(alloc, entries) == "T4", "of {entries:?}");
     }
 }
 
@@ -309,24 +271,20 @@ fn every_shorter_file_is_refused(rt: HostRuntime) {
 /// other; an interval begins at 20 at the latest (so at an even 40, or at an odd number for one
 /// below 0), and ends at -2 at the earliest.
 #[test]
-fn an_entry_is_read_whatever_its_bytes(rt: HostRuntime) -> Result<(), Fail> {
-    for byte in 0..=255 {
-        let rows: [([u8; 3], bool); 3] = [
-            ([byte, 0x03, 0x28], byte < 128),
-            (
-                [0x06, byte, 0x28],
-                byte < 128 && (byte % 2 == 1 || byte <= 40),
-            ),
-            (
-                [0x06, 0x03, byte],
-                byte < 128 && (byte % 2 == 0 || byte <= 3),
-            ),
+fn an_entry_is_read_whatever_its_bytes(rt: HostRuntime) {
+    let alloc = rt.alloc();
+    for byte in 0..=255u8 {
+        let begins = byte % 2 == 1 || byte <= 40;
+        let ends = byte % 2 == 0 || byte <= 3;
+        let whole = byte < 128;
+        let rows = [
+            ([byte, 0x03, 0x28], whole),
+            ([0x06, byte, 0x28], whole && begins),
+            ([0x06, 0x03, byte], whole && ends),
         ];
         for (entry, accepted) in rows {
             let want = if accepted { "ok" } else { "T4" };
-            let file = file_of(rt.alloc(), &entry)?;
-            assert_eq!(rt; told(rt.alloc(), &file), want, "of {entry:?}");
+            assert!(rt; code_of_entries(alloc, &entry) == want, "of {entry:?}");
         }
     }
-    Ok(())
 }

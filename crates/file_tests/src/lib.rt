@@ -10,7 +10,13 @@ mod blocks;
 #[cfg(test)]
 mod chunks;
 #[cfg(test)]
+mod damage;
+#[cfg(test)]
 mod deletions;
+#[cfg(test)]
+mod draft;
+#[cfg(test)]
+mod files;
 #[cfg(test)]
 mod first_pages;
 #[cfg(test)]

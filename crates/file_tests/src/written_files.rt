@@ -1,293 +1,238 @@
 //! Rows that a part may have, and the worked files of the format.
 
+use crate::files::{CHUNKS, EMPTY_INDEX, INDEX, NO_DELETIONS, SEGMENT};
 use block::{Block, Range};
 use block_writer::{BlockBytes, PartRows, WriteError, write};
-use labels::{LabelSet, Row, Sample};
+use labels::{LabelSet, Row, Sample, SeriesRef};
 use std::alloc::Global;
-use std::test::Fail;
 
-/// A row of the label set `job` = `job`, with samples of the value 1 at these times.
-fn row_of(alloc: Global, job: &str, times: &[i64]) -> Result<Row, Fail> {
-    let mut pairs = Vec::new(alloc);
-    pairs.push((
-        String::from_str(alloc, "job")?,
-        String::from_str(alloc, job)?,
-    ))?;
+/// The pairs of a label set, and the samples: those from a time up to before another have a value.
+type Listed = (
+    &'static [(&'static str, &'static str)],
+    &'static [(i64, i64, i64)],
+);
+
+fn row_of(alloc: Global, listed: &Listed) -> Option<Row> {
     let mut samples = Vec::new(alloc);
-    for t in times {
-        samples.push(Sample::new(*t, 1))?;
-    }
-    Ok(Row::new(LabelSet::new(alloc, pairs)?, samples))
-}
-
-#[test]
-fn a_part_has_rows_in_order(rt: HostRuntime) -> Result<(), Fail> {
-    let rows: [(&[(&str, &[i64])], bool); 8] = [
-        (&[], true),
-        (&[("a", &[10])], true),
-        (&[("a", &[10, 20]), ("b", &[10])], true),
-        (&[("a", &[])], false),
-        (&[("a", &[10]), ("b", &[])], false),
-        (&[("a", &[10]), ("a", &[20])], false),
-        (&[("b", &[10]), ("a", &[10])], false),
-        (&[("a", &[10, 10])], false),
-    ];
-    for (listed, accepted) in rows {
-        let mut held = Vec::new(rt.alloc());
-        for (job, times) in listed {
-            held.push(row_of(rt.alloc(), job, times)?)?;
-        }
-        let count = held.len();
-        let found = PartRows::new(held);
-        assert_eq!(rt; found.is_some(), accepted, "of {count} rows");
-        if let Some(part) = found {
-            assert_eq!(rt; part.rows().len(), count);
+    for (from, until, value) in listed.1 {
+        for t in *from..*until {
+            samples.push(Sample::new(t, *value)).ok()?;
         }
     }
-    Ok(())
+    let labels = LabelSet::of_sorted_texts(alloc, listed.0).ok()?;
+    Some(Row::new(labels, samples))
+}
+
+fn rows_of(alloc: Global, listed: &[Listed]) -> Option<Vec<Row>> {
+    let mut rows = Vec::new(alloc);
+    for one in listed {
+        rows.push(row_of(alloc, one)?).ok()?;
+    }
+    Some(rows)
+}
+
+fn part_of(alloc: Global, listed: &[Listed]) -> Option<PartRows> {
+    PartRows::new(rows_of(alloc, listed)?)
+}
+
+/// The files of a part of these rows.
+fn written(alloc: Global, listed: &[Listed]) -> Option<BlockBytes> {
+    let part = part_of(alloc, listed)?;
+    write(alloc, &part).ok()
+}
+
+/// Rows, and whether they are those of a part.
+const PARTS: &[(&[Listed], bool)] = &[
+    (&[], true),
+    (&[(&[("job", "a")], &[(10, 11, 1)])], true),
+    (
+        &[
+            (&[("job", "a")], &[(10, 11, 1), (20, 21, 1)]),
+            (&[("job", "b")], &[(10, 11, 1)]),
+        ],
+        true,
+    ),
+    (&[(&[("job", "a")], &[])], false),
+    (
+        &[(&[("job", "a")], &[(10, 11, 1)]), (&[("job", "b")], &[])],
+        false,
+    ),
+    (
+        &[
+            (&[("job", "a")], &[(10, 11, 1)]),
+            (&[("job", "a")], &[(20, 21, 1)]),
+        ],
+        false,
+    ),
+    (
+        &[
+            (&[("job", "b")], &[(10, 11, 1)]),
+            (&[("job", "a")], &[(10, 11, 1)]),
+        ],
+        false,
+    ),
+    (&[(&[("job", "a")], &[(10, 11, 1), (10, 11, 1)])], false),
+];
+
+/// Whether these rows are a part, which then has all of them.
+fn is_part(rows: Vec<Row>) -> bool {
+    let count = rows.len();
+    match PartRows::new(rows) {
+        Some(part) => part.rows().len() == count,
+        None => false,
+    }
 }
 
 #[test]
-fn two_samples_stand_in_one_chunk(rt: HostRuntime) -> Result<(), Fail> {
-    let mut samples = Vec::new(rt.alloc());
-    samples.push(Sample::new(-5, 7))?;
-    samples.push(Sample::new(6, -8))?;
-    let mut rows = Vec::new(rt.alloc());
-    rows.push(Row::new(labels_of(rt.alloc(), &[("job", "a")])?, samples))?;
-    let part = PartRows::new(rows).ok_or("no part")?;
-    let files = write(rt.alloc(), &part)?;
-    let two = [
-        0x22, 0xE0, 0x00, 0x02, 0xFF, 0xFF, 0xFF, 0xFF, 0xFF, 0xFF, 0xFF, 0xFB, 0, 0, 0, 0, 0, 0,
-        0, 0x07, 0, 0, 0, 0, 0, 0, 0, 0x06, 0xFF, 0xFF, 0xFF, 0xFF, 0xFF, 0xFF, 0xFF, 0xF8, 0x30,
-        0x22, 0x4E, 0xC7,
-    ];
-    assert_eq!(rt; files.chunks.len(), 48);
-    assert_eq!(rt; files.chunks.get(8..48).unwrap_or(&[]), two.as_slice());
-    Ok(())
+fn a_part_has_rows_in_order(rt: HostRuntime) {
+    for (listed, want) in PARTS {
+        let rows = rows_of(rt.alloc(), listed).expect(&rt, "there is memory");
+        assert!(rt; is_part(rows) == *want, "of {} rows", listed.len());
+    }
 }
 
-/// The times from 0, so many.
-fn times_up_to(alloc: Global, count: i64) -> Result<Vec<i64>, Fail> {
-    let mut times = Vec::new(alloc);
-    for t in 0..count {
-        times.push(t)?;
+/// Bytes of a file, and where they stand.
+type Bytes = &'static [(usize, &'static [u8])];
+
+/// Rows, and some bytes of the index and of the chunks file, whose length stands between them.
+const WRITTEN: &[(&[Listed], Bytes, usize, Bytes)] = &[
+    // No rows make an index of the empty pair.
+    (&[], &[(0, EMPTY_INDEX)], 8, &[(0, SEGMENT)]),
+    // Two samples stand in one chunk.
+    (
+        &[(&[("job", "a")], &[(-5, -4, 7), (6, 7, -8)])],
+        &[],
+        48,
+        &[(
+            8,
+            &[
+                0x22, 0xE0, 0x00, 0x02, 0xFF, 0xFF, 0xFF, 0xFF, 0xFF, 0xFF, 0xFF, 0xFB, 0, 0, 0, 0,
+                0, 0, 0, 0x07, 0, 0, 0, 0, 0, 0, 0, 0x06, 0xFF, 0xFF, 0xFF, 0xFF, 0xFF, 0xFF, 0xFF,
+                0xF8, 0x30, 0x22, 0x4E, 0xC7,
+            ],
+        )],
+    ),
+    // Chunks stand side by side.
+    (
+        &[
+            (&[("job", "a")], &[(0, 121, 1)]),
+            (&[("job", "b")], &[(0, 120, 1)]),
+            (&[("job", "c")], &[(10, 11, 1)]),
+        ],
+        &[],
+        3914,
+        &[
+            (8, &[0x82, 0x0F, 0xE0, 0x00, 0x78]),
+            (1937, &[0x12, 0xE0, 0x00, 0x01, 0x00]),
+            (1961, &[0x82, 0x0F, 0xE0, 0x00, 0x78]),
+            (3890, &[0x12, 0xE0, 0x00, 0x01, 0x00]),
+        ],
+    ),
+    // A later chunk is told by its distance. One label, of one symbol; two chunks: from 0 to 119 at
+    // 8, and 1 later, no longer than itself, 1929 further.
+    (
+        &[(&[("job", "job")], &[(0, 121, 1)])],
+        &[(
+            32,
+            &[
+                0x0B, 0x01, 0x00, 0x00, 0x02, 0x00, 0x77, 0x08, 0x01, 0x00, 0x92, 0x1E,
+            ],
+        )],
+        1961,
+        &[],
+    ),
+];
+
+/// Whether a file has these bytes.
+fn has_bytes(file: &[u8], want: Bytes) -> bool {
+    for (at, bytes) in want {
+        let rest = file.get(*at..).unwrap_or(&[]);
+        if !rest.starts_with(bytes) {
+            return false;
+        }
     }
-    Ok(times)
+    true
 }
 
 #[test]
-fn chunks_stand_side_by_side(rt: HostRuntime) -> Result<(), Fail> {
-    let none = PartRows::new(Vec::new(rt.alloc())).ok_or("no part")?;
-    let head = [0x85, 0xBD, 0x40, 0xDD, 0x01, 0x00, 0x00, 0x00];
-    let files = write(rt.alloc(), &none)?;
-    assert_eq!(rt; files.chunks.as_slice(), head.as_slice());
-    let mut rows = Vec::new(rt.alloc());
-    rows.push(row_of(rt.alloc(), "a", &times_up_to(rt.alloc(), 121)?)?)?;
-    rows.push(row_of(rt.alloc(), "b", &times_up_to(rt.alloc(), 120)?)?)?;
-    rows.push(row_of(rt.alloc(), "c", &[10])?)?;
-    let part = PartRows::new(rows).ok_or("no part")?;
-    let file = write(rt.alloc(), &part)?.chunks;
-    let starts: [(usize, [u8; 5]); 4] = [
-        (8, [0x82, 0x0F, 0xE0, 0x00, 0x78]),
-        (1937, [0x12, 0xE0, 0x00, 0x01, 0x00]),
-        (1961, [0x82, 0x0F, 0xE0, 0x00, 0x78]),
-        (3890, [0x12, 0xE0, 0x00, 0x01, 0x00]),
-    ];
-    assert_eq!(rt; file.len(), 3914);
-    for (place, bytes) in starts {
-        let found = file.get(place..place + 5).unwrap_or(&[]);
-        assert_eq!(rt; found, bytes.as_slice(), "at {place}");
+fn chunks_stand_side_by_side_and_no_rows_make_an_index_of_the_empty_pair(rt: HostRuntime) {
+    let alloc = rt.alloc();
+    for (listed, index, len, chunks) in WRITTEN {
+        let files = written(alloc, listed).expect(&rt, "it is written");
+        assert!(rt; has_bytes(&files.index, index), "of {} rows", listed.len());
+        assert!(rt; files.chunks.len() == *len, "of {} rows", listed.len());
+        assert!(rt;
+            has_bytes(&files.chunks, chunks),
+            "of {} rows",
+            listed.len()
+        );
     }
-    Ok(())
-}
-
-/// A label set of names and values.
-fn labels_of(alloc: Global, pairs: &[(&str, &str)]) -> Result<LabelSet, Fail> {
-    let mut owned = Vec::new(alloc);
-    for (name, value) in pairs {
-        owned.push((
-            String::from_str(alloc, name)?,
-            String::from_str(alloc, value)?,
-        ))?;
-    }
-    Ok(LabelSet::new(alloc, owned)?)
+    let files = written(alloc, &[]).expect(&rt, "it is written");
+    assert!(rt; files.index.len() == 112);
 }
 
 /// Six series of one sample at 10.
-fn worked_rows(alloc: Global) -> Result<PartRows, Fail> {
-    let listed: [(&[(&str, &str)], i64); 6] = [
-        (&[("__name__", "down"), ("job", "a")], 4),
-        (&[("__name__", "down"), ("job", "b")], 5),
-        (&[("__name__", "up"), ("job", "a")], 1),
-        (&[("__name__", "up"), ("job", "a"), ("zone", "x")], 6),
-        (&[("__name__", "up"), ("job", "b")], 2),
-        (&[("__name__", "up"), ("job", "b"), ("zone", "x")], 3),
-    ];
-    let mut rows = Vec::new(alloc);
-    for (pairs, value) in listed {
-        let mut samples = Vec::new(alloc);
-        samples.push(Sample::new(10, value))?;
-        rows.push(Row::new(labels_of(alloc, pairs)?, samples))?;
-    }
-    Ok(PartRows::new(rows).ok_or("no part")?)
-}
-
-#[rattlefmt::skip]
-const WORKED_INDEX: [u8; 442] = [
-    // Magic and version.
-    0xBA, 0xAA, 0xD7, 0x00, 0x02,
-    // The symbol table: 36 bytes of content.
-    0x00, 0x00, 0x00, 0x24, 0x00, 0x00, 0x00, 0x08, 0x08, 0x5F, 0x5F, 0x6E, 0x61, 0x6D, 0x65, 0x5F,
-    0x5F, 0x01, 0x61, 0x01, 0x62, 0x04, 0x64, 0x6F, 0x77, 0x6E, 0x03, 0x6A, 0x6F, 0x62, 0x02, 0x75,
-    0x70, 0x01, 0x78, 0x04, 0x7A, 0x6F, 0x6E, 0x65, 0xFD, 0xE3, 0xFA, 0xDD,
-    // Up to 64.
-    0x00, 0x00, 0x00, 0x00, 0x00, 0x00, 0x00, 0x00, 0x00, 0x00, 0x00, 0x00, 0x00, 0x00, 0x00,
-    // Entry 4.
-    0x09, 0x02, 0x00, 0x03, 0x04, 0x01, 0x01, 0x14, 0x00, 0x08, 0xDD, 0x75, 0xB4, 0xA6, 0x00, 0x00,
-    // Entry 5.
-    0x09, 0x02, 0x00, 0x03, 0x04, 0x02, 0x01, 0x14, 0x00, 0x20, 0x3F, 0x22, 0xD2, 0x43, 0x00, 0x00,
-    // Entry 6.
-    0x09, 0x02, 0x00, 0x05, 0x04, 0x01, 0x01, 0x14, 0x00, 0x38, 0x98, 0x70, 0x61, 0x56, 0x00, 0x00,
-    // Entry 7.
-    0x0B, 0x03, 0x00, 0x05, 0x04, 0x01, 0x07, 0x06, 0x01, 0x14, 0x00, 0x50, 0x01, 0x72, 0x56, 0x2A,
-    // Entry 8.
-    0x09, 0x02, 0x00, 0x05, 0x04, 0x02, 0x01, 0x14, 0x00, 0x68, 0x81, 0x66, 0x0B, 0x71, 0x00, 0x00,
-    // Entry 9.
-    0x0C, 0x03, 0x00, 0x05, 0x04, 0x02, 0x07, 0x06, 0x01, 0x14, 0x00, 0x80, 0x01, 0x0B, 0x1D, 0x4E,
-    0xF7,
-    // Postings 4, 5, 6, 7, 8, 9.
-    0x00, 0x00, 0x00, 0x1C, 0x00, 0x00, 0x00, 0x06, 0x00, 0x00, 0x00, 0x04, 0x00, 0x00, 0x00, 0x05,
-    0x00, 0x00, 0x00, 0x06, 0x00, 0x00, 0x00, 0x07, 0x00, 0x00, 0x00, 0x08, 0x00, 0x00, 0x00, 0x09,
-    0xDA, 0x98, 0xDD, 0x58,
-    // Postings 4, 5.
-    0x00, 0x00, 0x00, 0x0C, 0x00, 0x00, 0x00, 0x02, 0x00, 0x00, 0x00, 0x04, 0x00, 0x00, 0x00, 0x05,
-    0x13, 0x45, 0xC5, 0x90,
-    // Postings 6, 7, 8, 9.
-    0x00, 0x00, 0x00, 0x14, 0x00, 0x00, 0x00, 0x04, 0x00, 0x00, 0x00, 0x06, 0x00, 0x00, 0x00, 0x07,
-    0x00, 0x00, 0x00, 0x08, 0x00, 0x00, 0x00, 0x09, 0x1E, 0xE3, 0xDE, 0xAA,
-    // Postings 4, 6, 7.
-    0x00, 0x00, 0x00, 0x10, 0x00, 0x00, 0x00, 0x03, 0x00, 0x00, 0x00, 0x04, 0x00, 0x00, 0x00, 0x06,
-    0x00, 0x00, 0x00, 0x07, 0x89, 0x64, 0x15, 0x75,
-    // Postings 5, 8, 9.
-    0x00, 0x00, 0x00, 0x10, 0x00, 0x00, 0x00, 0x03, 0x00, 0x00, 0x00, 0x05, 0x00, 0x00, 0x00, 0x08,
-    0x00, 0x00, 0x00, 0x09, 0x84, 0x22, 0x16, 0x63,
-    // Postings 7, 9.
-    0x00, 0x00, 0x00, 0x0C, 0x00, 0x00, 0x00, 0x02, 0x00, 0x00, 0x00, 0x07, 0x00, 0x00, 0x00, 0x09,
-    0x16, 0x35, 0xBA, 0xB4,
-    // The table of offsets: 69 bytes of content.
-    0x00, 0x00, 0x00, 0x45, 0x00, 0x00, 0x00, 0x06, 0x02, 0x00, 0x00, 0xA1, 0x01, 0x02, 0x08, 0x5F,
-    0x5F, 0x6E, 0x61, 0x6D, 0x65, 0x5F, 0x5F, 0x04, 0x64, 0x6F, 0x77, 0x6E, 0xC5, 0x01, 0x02, 0x08,
-    0x5F, 0x5F, 0x6E, 0x61, 0x6D, 0x65, 0x5F, 0x5F, 0x02, 0x75, 0x70, 0xD9, 0x01, 0x02, 0x03, 0x6A,
-    0x6F, 0x62, 0x01, 0x61, 0xF5, 0x01, 0x02, 0x03, 0x6A, 0x6F, 0x62, 0x01, 0x62, 0x8D, 0x02, 0x02,
-    0x04, 0x7A, 0x6F, 0x6E, 0x65, 0x01, 0x78, 0xA5, 0x02, 0x77, 0xD7, 0xC2, 0xB6,
-    // The table of contents.
-    0x00, 0x00, 0x00, 0x00, 0x00, 0x00, 0x00, 0x05, 0x00, 0x00, 0x00, 0x00, 0x00, 0x00, 0x00, 0x40,
-    0x00, 0x00, 0x00, 0x00, 0x00, 0x00, 0x00, 0x00, 0x00, 0x00, 0x00, 0x00, 0x00, 0x00, 0x00, 0x00,
-    0x00, 0x00, 0x00, 0x00, 0x00, 0x00, 0x00, 0xA1, 0x00, 0x00, 0x00, 0x00, 0x00, 0x00, 0x01, 0x39,
-    0x52, 0x4C, 0xC9, 0x8A,
-];
-
-#[rattlefmt::skip]
-const WORKED_CHUNKS: [u8; 152] = [
-    // Magic and version.
-    0x85, 0xBD, 0x40, 0xDD, 0x01, 0x00, 0x00, 0x00,
-    // The value 4 at 10.
-    0x12, 0xE0, 0x00, 0x01, 0x00, 0x00, 0x00, 0x00, 0x00, 0x00, 0x00, 0x0A, 0x00, 0x00, 0x00, 0x00,
-    0x00, 0x00, 0x00, 0x04, 0x5D, 0x31, 0x63, 0xEF,
-    // The value 5 at 10.
-    0x12, 0xE0, 0x00, 0x01, 0x00, 0x00, 0x00, 0x00, 0x00, 0x00, 0x00, 0x0A, 0x00, 0x00, 0x00, 0x00,
-    0x00, 0x00, 0x00, 0x05, 0xAF, 0x5A, 0xE0, 0xEC,
-    // The value 1 at 10.
-    0x12, 0xE0, 0x00, 0x01, 0x00, 0x00, 0x00, 0x00, 0x00, 0x00, 0x00, 0x0A, 0x00, 0x00, 0x00, 0x00,
-    0x00, 0x00, 0x00, 0x01, 0x68, 0xC0, 0x77, 0xF3,
-    // The value 6 at 10.
-    0x12, 0xE0, 0x00, 0x01, 0x00, 0x00, 0x00, 0x00, 0x00, 0x00, 0x00, 0x0A, 0x00, 0x00, 0x00, 0x00,
-    0x00, 0x00, 0x00, 0x06, 0xBC, 0x0A, 0x13, 0x18,
-    // The value 2 at 10.
-    0x12, 0xE0, 0x00, 0x01, 0x00, 0x00, 0x00, 0x00, 0x00, 0x00, 0x00, 0x0A, 0x00, 0x00, 0x00, 0x00,
-    0x00, 0x00, 0x00, 0x02, 0x7B, 0x90, 0x84, 0x07,
-    // The value 3 at 10.
-    0x12, 0xE0, 0x00, 0x01, 0x00, 0x00, 0x00, 0x00, 0x00, 0x00, 0x00, 0x0A, 0x00, 0x00, 0x00, 0x00,
-    0x00, 0x00, 0x00, 0x03, 0x89, 0xFB, 0x07, 0x04,
+const WORKED: &[Listed] = &[
+    (&[("__name__", "down"), ("job", "a")], &[(10, 11, 4)]),
+    (&[("__name__", "down"), ("job", "b")], &[(10, 11, 5)]),
+    (&[("__name__", "up"), ("job", "a")], &[(10, 11, 1)]),
+    (
+        &[("__name__", "up"), ("job", "a"), ("zone", "x")],
+        &[(10, 11, 6)],
+    ),
+    (&[("__name__", "up"), ("job", "b")], &[(10, 11, 2)]),
+    (
+        &[("__name__", "up"), ("job", "b"), ("zone", "x")],
+        &[(10, 11, 3)],
+    ),
 ];
 
 #[test]
-fn the_worked_block_is_written(rt: HostRuntime) -> Result<(), Fail> {
-    let files = write(rt.alloc(), &worked_rows(rt.alloc())?)?;
-    assert_eq!(rt; files.index.len(), 442);
-    assert_eq!(rt; files.index.as_slice(), WORKED_INDEX.as_slice());
-    assert_eq!(rt; files.chunks.as_slice(), WORKED_CHUNKS.as_slice());
-    let tombstones = [0x01, 0x30, 0xBA, 0x30, 0x01, 0, 0, 0, 0];
-    assert_eq!(rt; files.tombstones.as_slice(), tombstones.as_slice());
-    Ok(())
+fn the_worked_block_is_written(rt: HostRuntime) {
+    let files = written(rt.alloc(), WORKED).expect(&rt, "it is written");
+    assert!(rt; files.index.as_slice() == INDEX);
+    assert!(rt; files.chunks.as_slice() == CHUNKS);
+    assert!(rt; files.tombstones.as_slice() == NO_DELETIONS);
 }
 
-#[rattlefmt::skip]
-const EMPTY_INDEX: [u8; 112] = [
-    // No symbols, and zeros up to 32; an empty list at 32, its offset at 44; the table of contents.
-    0xBA, 0xAA, 0xD7, 0x00, 0x02, 0x00, 0x00, 0x00, 0x04, 0x00, 0x00, 0x00, 0x00, 0x48, 0x67, 0x4B,
-    0xC7, 0x00, 0x00, 0x00, 0x00, 0x00, 0x00, 0x00, 0x00, 0x00, 0x00, 0x00, 0x00, 0x00, 0x00, 0x00,
-    0x00, 0x00, 0x00, 0x04, 0x00, 0x00, 0x00, 0x00, 0x48, 0x67, 0x4B, 0xC7, 0x00, 0x00, 0x00, 0x08,
-    0x00, 0x00, 0x00, 0x01, 0x02, 0x00, 0x00, 0x20, 0x2B, 0xE3, 0x70, 0x79, 0x00, 0x00, 0x00, 0x00,
-    0x00, 0x00, 0x00, 0x05, 0x00, 0x00, 0x00, 0x00, 0x00, 0x00, 0x00, 0x20, 0x00, 0x00, 0x00, 0x00,
-    0x00, 0x00, 0x00, 0x00, 0x00, 0x00, 0x00, 0x00, 0x00, 0x00, 0x00, 0x00, 0x00, 0x00, 0x00, 0x00,
-    0x00, 0x00, 0x00, 0x20, 0x00, 0x00, 0x00, 0x00, 0x00, 0x00, 0x00, 0x2C, 0x9C, 0x81, 0x8A, 0xA0,
-];
-
-#[test]
-fn no_rows_make_an_index_of_the_empty_pair(rt: HostRuntime) -> Result<(), Fail> {
-    let none = PartRows::new(Vec::new(rt.alloc())).ok_or("no part")?;
-    let files = write(rt.alloc(), &none)?;
-    assert_eq!(rt; files.index.as_slice(), EMPTY_INDEX.as_slice());
-    assert_eq!(rt; files.chunks.len(), 8);
-    Ok(())
-}
-
-#[test]
-fn a_later_chunk_is_told_by_its_distance(rt: HostRuntime) -> Result<(), Fail> {
-    let mut rows = Vec::new(rt.alloc());
-    rows.push(row_of(rt.alloc(), "job", &times_up_to(rt.alloc(), 121)?)?)?;
-    let part = PartRows::new(rows).ok_or("no part")?;
-    let files = write(rt.alloc(), &part)?;
-    // One label, of one symbol; two chunks: from 0 to 119 at 8, and 1 later, no longer than itself,
-    // 1929 further.
-    let body = [
-        0x0B, 0x01, 0x00, 0x00, 0x02, 0x00, 0x77, 0x08, 0x01, 0x00, 0x92, 0x1E,
-    ];
-    assert_eq!(rt; files.index.get(32..44).unwrap_or(&[]), body.as_slice());
-    Ok(())
-}
-
-/// Rows of two series: of 121 samples, in two chunks, and of one sample.
-fn rows_of_three_chunks(alloc: Global) -> Result<PartRows, Fail> {
-    let mut rows = Vec::new(alloc);
-    rows.push(row_of(alloc, "a", &times_up_to(alloc, 121)?)?)?;
-    rows.push(row_of(alloc, "b", &[10])?)?;
-    Ok(PartRows::new(rows).ok_or("no part")?)
-}
-
-#[test]
-fn what_is_written_is_opened(rt: HostRuntime) -> Result<(), Fail> {
-    let part = rows_of_three_chunks(rt.alloc())?;
+/// The block from 0 up to 121 of the files of these rows.
+fn written_block(alloc: Global, part: &PartRows) -> Option<Block> {
     let BlockBytes {
         index,
         chunks,
         tombstones,
-    } = write(rt.alloc(), &part)?;
-    let range = Range::new(0, 121).ok_or("no range")?;
-    let block = Block::open(rt.alloc(), range, &index, chunks, &tombstones)?;
-    let found = block.list_all(rt.alloc())?;
-    assert_eq!(rt; found.len(), 2);
-    for (i, want) in part.rows().iter().enumerate() {
-        let (_, row) = found.get(i).ok_or("no row")?;
-        assert!(rt; row.labels() == want.labels(), "row {i}");
-        assert_eq!(rt; row.samples(), want.samples(), "row {i}");
+    } = write(alloc, part).ok()?;
+    let range = Range::new(0, 121)?;
+    Block::open(alloc, range, &index, chunks, &tombstones).ok()
+}
+
+fn are_rows(found: &[(SeriesRef, Row)], want: &[Row]) -> bool {
+    for ((_, row), other) in found.iter().zip(want) {
+        if row.labels() != other.labels() || row.samples() != other.samples() {
+            return false;
+        }
     }
-    Ok(())
+    found.len() == want.len()
+}
+
+/// Two series: of 121 samples, in two chunks, and of one sample.
+const OF_THREE_CHUNKS: &[Listed] = &[
+    (&[("job", "a")], &[(0, 121, 1)]),
+    (&[("job", "b")], &[(10, 11, 1)]),
+];
+
+#[test]
+fn what_is_written_is_opened(rt: HostRuntime) {
+    let alloc = rt.alloc();
+    let part = part_of(alloc, OF_THREE_CHUNKS).expect(&rt, "it is a part");
+    let block = written_block(alloc, &part).expect(&rt, "it opens");
+    let found = block.list_all(alloc).ok().expect(&rt, "there is memory");
+    assert!(rt; are_rows(&found, part.rows()));
+    assert!(rt; found.len() == 2);
 }
 
 #[test]
 fn a_refusal_has_a_number(rt: HostRuntime) {
-    assert_eq!(rt; WriteError::Limit.code(), "N1");
-    assert_eq!(rt; WriteError::Memory.code(), "memory");
+    assert!(rt; WriteError::Limit.code() == "N1");
+    assert!(rt; WriteError::Memory.code() == "memory");
 }

@@ -1,2 +1,2 @@
-pub mod ThreeSeries
-pub mod SixSeries
+pub mod FixtureThreeSeries
+pub mod FixtureSixSeries

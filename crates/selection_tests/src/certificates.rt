@@ -7,28 +7,22 @@ use self::counting::Counting;
 use self::six_series::SixSeries;
 use cover::{Interval, PartCover, Verdict, certificate_laws, cover, cover_with_moves};
 use labels::SeriesRef;
-use matchers::{Matcher, Op, Query, Selector};
+use matchers::{Query, Selector};
 use std::alloc::Global;
 use std::process::Abort;
 
 const END: u64 = 4_294_967_296;
 
-/// Names and texts of matchers, all with `=`.
-type Pairs = &'static [(&'static str, &'static str)];
-
 /// The intervals of a certificate.
 type Intervals = &'static [(u32, u64, Verdict)];
 
-fn matcher(alloc: Global, name: &str, text: &str) -> Option<Matcher> {
-    let name = String::from_str(alloc, name).ok()?;
-    Matcher::new(alloc, name, Op::Equal, String::from_str(alloc, text).ok()?).ok()
-}
-
-fn equal(alloc: Global, pairs: Pairs, from: i64, to: i64) -> Option<Query> {
-    let mut matchers = Vec::new(alloc);
-    for (name, text) in pairs {
-        matchers.push(matcher(alloc, name, text)?).ok()?;
-    }
+/// A query by a selector; by no matcher where its text is empty.
+fn query(alloc: Global, text: &str, from: i64, to: i64) -> Option<Query> {
+    let matchers = if text.is_empty() {
+        Vec::new(alloc)
+    } else {
+        Selector::parse(alloc, text).ok()?
+    };
     Query::new(matchers, from, to).ok()
 }
 
@@ -52,14 +46,13 @@ fn is(cover: &PartCover, rows: Intervals) -> bool {
 }
 
 /// Whether the answer to a query over the six series has these intervals.
-fn is_covered(alloc: Global, query: Option<Query>, rows: Intervals) -> bool {
+fn is_covered(alloc: Global, query: &Query, rows: Intervals) -> bool {
     let six = SixSeries::new();
-    query
-        .and_then(|query| cover(alloc, &&six, &query).ok())
-        .is_some_and(|cover| is(&cover, rows))
+    match cover(alloc, &&six, query) {
+        Ok(cover) => is(&cover, rows),
+        Err(_) => false,
+    }
 }
-
-const UP: (&str, &str) = ("__name__", "up");
 
 /// Each of the six series matches.
 const ALL: Intervals = &[
@@ -81,9 +74,9 @@ const OUTSIDE_OF_X: Intervals = &[
     (6, END, Verdict::Rejected(0)),
 ];
 
-const CERTIFICATES: &[(Pairs, i64, i64, Intervals)] = &[
+const CERTIFICATES: &[(&str, i64, i64, Intervals)] = &[
     (
-        &[UP, ("job", "a")],
+        "up{job=\"a\"}",
         0,
         100,
         &[
@@ -93,16 +86,11 @@ const CERTIFICATES: &[(Pairs, i64, i64, Intervals)] = &[
             (6, END, Verdict::Match),
         ],
     ),
-    (&[("zone", "")], 0, 100, OUTSIDE_OF_X),
-    (&[("job", "z")], 0, 100, &[(1, END, Verdict::Rejected(0))]),
+    ("{zone=\"\"}", 0, 100, OUTSIDE_OF_X),
+    ("{job=\"z\"}", 0, 100, &[(1, END, Verdict::Rejected(0))]),
+    ("down{job=\"z\"}", 0, 100, &[(1, END, Verdict::Rejected(1))]),
     (
-        &[("__name__", "down"), ("job", "z")],
-        0,
-        100,
-        &[(1, END, Verdict::Rejected(1))],
-    ),
-    (
-        &[("job", "a"), ("job", "b")],
+        "{job=\"a\",job=\"b\"}",
         0,
         100,
         &[
@@ -113,28 +101,17 @@ const CERTIFICATES: &[(Pairs, i64, i64, Intervals)] = &[
             (6, END, Verdict::Rejected(1)),
         ],
     ),
-    (&[UP, ("job", "a")], 30, 40, &[(1, END, Verdict::NoSample)]),
-    (&[("job", "z")], 30, 40, &[(1, END, Verdict::Rejected(0))]),
-    (&[], 20, 20, ALL),
-    (&[], 21, 40, &[(1, END, Verdict::NoSample)]),
-];
-
-#[test]
-fn certificates_of_six_series(rt: HostRuntime) {
-    let alloc = rt.alloc();
-    for (pairs, from, to, rows) in CERTIFICATES {
-        let found = is_covered(alloc, equal(alloc, pairs, *from, *to), rows);
-        assert!(rt; found, "{pairs:?} from {from} to {to}");
-    }
-    certificate_laws();
-}
-
-const SELECTED: &[(&str, Intervals)] = &[
-    ("{zone=~\"x|\"}", ALL),
-    ("{zone!=\"x\"}", OUTSIDE_OF_X),
-    ("{zone!~\"x\"}", OUTSIDE_OF_X),
+    ("up{job=\"a\"}", 30, 40, &[(1, END, Verdict::NoSample)]),
+    ("{job=\"z\"}", 30, 40, &[(1, END, Verdict::Rejected(0))]),
+    ("", 20, 20, ALL),
+    ("", 21, 40, &[(1, END, Verdict::NoSample)]),
+    ("{zone=~\"x|\"}", 0, 100, ALL),
+    ("{zone!=\"x\"}", 0, 100, OUTSIDE_OF_X),
+    ("{zone!~\"x\"}", 0, 100, OUTSIDE_OF_X),
     (
         "{job=~\"a|c\",zone=\"\"}",
+        0,
+        100,
         &[
             (1, 2, Verdict::Match),
             (2, 4, Verdict::Rejected(0)),
@@ -145,6 +122,8 @@ const SELECTED: &[(&str, Intervals)] = &[
     ),
     (
         "{__name__=~\"u.*\"}",
+        0,
+        100,
         &[
             (1, 2, Verdict::Match),
             (2, 3, Verdict::Match),
@@ -155,44 +134,50 @@ const SELECTED: &[(&str, Intervals)] = &[
     ),
 ];
 
-fn query_of(alloc: Global, text: &str) -> Option<Query> {
-    Query::new(Selector::parse(alloc, text).ok()?, 0, 100).ok()
-}
-
 #[test]
-fn certificates_of_selectors(rt: HostRuntime) {
+fn certificates_of_six_series(rt: HostRuntime) {
     let alloc = rt.alloc();
-    for (text, rows) in SELECTED {
-        assert!(rt; is_covered(alloc, query_of(alloc, text), rows), "{text}");
+    for (text, from, to, rows) in CERTIFICATES {
+        let query = query(alloc, text, *from, *to).expect(&rt, "it is a query");
+        assert!(rt;
+            is_covered(alloc, &query, rows),
+            "{text} from {from} to {to}"
+        );
     }
+    certificate_laws();
 }
 
-const COUNTED: &[(Pairs, i64, i64)] = &[
-    (&[UP, ("job", "a")], 0, 100),
-    (&[("__name__", "down"), ("job", "b"), ("zone", "x")], 0, 100),
-    (&[UP, ("job", "a")], 30, 40),
-    (&[], 10, 10),
+const COUNTED: &[(&str, i64, i64)] = &[
+    ("up{job=\"a\"}", 0, 100),
+    ("down{job=\"b\",zone=\"x\"}", 0, 100),
+    ("up{job=\"a\"}", 30, 40),
+    ("", 10, 10),
 ];
 
 /// Whether the moves that are told are those that were made; a seek to where a list stands already
 /// is told, and moves no list.
-fn tells_all_moves(alloc: Global, query: Option<Query>) -> Option<bool> {
+fn tells_all_moves(alloc: Global, query: &Query) -> bool {
     let six = SixSeries::new();
     let counting = Counting::new(&six);
-    let (part, moves) = cover_with_moves(alloc, &&counting, &query?).ok()?;
-    Some(
-        counting.of_lists() <= moves.of_lists
-            && moves.of_live == counting.of_live()
-            && part.moves == moves.of_lists.saturating_add(moves.of_live),
-    )
+    match cover_with_moves(alloc, &&counting, query) {
+        Ok((part, moves)) => {
+            counting.of_lists.get() <= moves.of_lists
+                && moves.of_live == counting.of_live.get()
+                && part.moves == moves.of_lists.saturating_add(moves.of_live)
+        }
+        Err(_) => false,
+    }
 }
 
 #[test]
 fn no_list_moves_uncounted(rt: HostRuntime) {
     let alloc = rt.alloc();
-    for (pairs, from, to) in COUNTED {
-        let found = tells_all_moves(alloc, equal(alloc, pairs, *from, *to));
-        assert_eq!(rt; found, Some(true), "{pairs:?} from {from} to {to}");
+    for (text, from, to) in COUNTED {
+        let query = query(alloc, text, *from, *to).expect(&rt, "it is a query");
+        assert!(rt;
+            tells_all_moves(alloc, &query),
+            "{text} from {from} to {to}"
+        );
     }
 }
 

@@ -24,20 +24,30 @@ fn set_of(alloc: Global, pairs: Pairs) -> Option<LabelSet> {
     LabelSet::new(alloc, pairs_of(alloc, pairs).ok()?).ok()
 }
 
+/// Whether this text was made.
+pub fn is_text(made: Result<String, AllocError>, want: &str) -> bool {
+    match made {
+        Ok(text) => text.as_str() == want,
+        Err(_) => false,
+    }
+}
+
+const NAMES: &[(&str, bool)] = &[
+    ("a", true),
+    ("_", true),
+    ("__name__", true),
+    ("Zone9", true),
+    ("", false),
+    ("9a", false),
+    ("a-b", false),
+    ("a:b", false),
+    ("é", false),
+];
+
 #[test]
 fn names_have_letters_digits_and_underscores(rt: HostRuntime) {
-    for (text, want) in [
-        ("a", true),
-        ("_", true),
-        ("__name__", true),
-        ("Zone9", true),
-        ("", false),
-        ("9a", false),
-        ("a-b", false),
-        ("a:b", false),
-        ("é", false),
-    ] {
-        assert_eq!(rt; is_name(text), want, "{text}");
+    for (text, want) in NAMES {
+        assert!(rt; is_name(text) == *want, "{text}");
     }
 }
 
@@ -61,16 +71,12 @@ const RULES: &[(Pairs, &str)] = &[
     (&[("a", ""), ("b", "1"), ("a", "1")], "L2"),
 ];
 
-fn numbered(alloc: Global, number: u32) -> Result<(String, String), AllocError> {
-    let name = format!(in alloc; "n{number}")?;
-    Ok((name, String::from_str(alloc, "v")?))
-}
-
 /// Labels `n0`, `n1` and so on, and one without a value.
 fn many(alloc: Global, count: u32) -> Result<Vec<(String, String)>, AllocError> {
     let mut pairs = pairs_of(alloc, &[("empty", "")])?;
     for number in 0..count {
-        pairs.push(numbered(alloc, number)?)?;
+        let name = format!(in alloc; "n{number}")?;
+        pairs.push((name, String::from_str(alloc, "v")?))?;
     }
     Ok(pairs)
 }
@@ -79,11 +85,12 @@ fn many(alloc: Global, count: u32) -> Result<Vec<(String, String)>, AllocError> 
 fn the_first_broken_rule_is_told(rt: HostRuntime) {
     let alloc = rt.alloc();
     for (pairs, want) in RULES {
-        assert_eq!(rt; code_of(alloc, pairs_of(alloc, pairs)), *want, "{pairs:?}");
+        let code = code_of(alloc, pairs_of(alloc, pairs));
+        assert!(rt; code == *want, "{want} of {} pairs", pairs.len());
     }
-    assert_eq!(rt; code_of(alloc, many(alloc, 64)), "ok");
-    assert_eq!(rt; code_of(alloc, many(alloc, 65)), "L3");
-    assert_eq!(rt; LabelError::Memory.code(), "memory");
+    assert!(rt; code_of(alloc, many(alloc, 64)) == "ok");
+    assert!(rt; code_of(alloc, many(alloc, 65)) == "L3");
+    assert!(rt; LabelError::Memory.code() == "memory");
 }
 
 /// The value of each name of `{__name__="up",az="é",job="a"}`, and of names that it has not.
@@ -111,11 +118,12 @@ fn pairs_stand_by_name_and_empty_values_are_dropped(rt: HostRuntime) {
     let pairs = &[("job", "a"), ("zone", ""), ("__name__", "up"), ("az", "é")];
     let labels = set_of(alloc, pairs).expect(&rt, "it is a label set");
     assert!(rt; labels.len() == 3 && !labels.is_empty());
-    let other = VALUES.iter().find(|row| labels.value(row.0) != row.1);
-    assert_eq!(rt; other, None);
-    let text = shown(alloc, &labels);
-    assert!(rt; text.is_ok_and(|text| text.as_str() == " __name__=up az=é job=a"));
-    assert!(rt; set_of(alloc, &[("zone", "")]).is_some_and(|none| none.is_empty()));
+    for (name, value) in VALUES {
+        assert!(rt; labels.value(name) == *value, "{name}");
+    }
+    assert!(rt; is_text(shown(alloc, &labels), " __name__=up az=é job=a"));
+    let none = set_of(alloc, &[("zone", "")]).expect(&rt, "it is a label set");
+    assert!(rt; none.is_empty());
 }
 
 const ASCENDING: [Pairs; 7] = [
@@ -139,7 +147,8 @@ fn are_in_order(alloc: Global, i: usize, j: usize) -> Option<bool> {
 fn label_sets_are_in_order(rt: HostRuntime) {
     for i in 0..ASCENDING.len() {
         for j in 0..ASCENDING.len() {
-            assert_eq!(rt; are_in_order(rt.alloc(), i, j), Some(true), "{i} and {j}");
+            let found = are_in_order(rt.alloc(), i, j);
+            assert!(rt; found == Some(true), "{i} and {j}");
         }
     }
 }
@@ -153,39 +162,38 @@ fn copied(alloc: Global) -> Option<LabelSet> {
 
 #[test]
 fn a_copy_is_equal(rt: HostRuntime) {
-    let copy = copied(rt.alloc());
-    assert!(rt; copy.is_some_and(|copy| copy.value("zone") == "x"));
-}
-
-fn row_of_job_a(alloc: Global) -> Option<Row> {
-    let samples = Vec::from_array(alloc, [Sample::new(10, -1)]).ok()?;
-    Some(Row::new(set_of(alloc, &[("job", "a")])?, samples))
+    let copy = copied(rt.alloc()).expect(&rt, "it is equal");
+    assert!(rt; copy.value("zone") == "x");
 }
 
 #[test]
 fn a_row_gives_back_its_parts(rt: HostRuntime) {
-    let row = row_of_job_a(rt.alloc()).expect(&rt, "it is a row");
-    assert_eq!(rt; row.labels().value("job"), "a");
-    assert_eq!(rt; row.samples().len(), 1);
+    let labels = set_of(rt.alloc(), &[("job", "a")]);
+    let labels = labels.expect(&rt, "it is a label set");
+    let samples = Vec::from_array(rt.alloc(), [Sample::new(10, -1)]).ok();
+    let row = Row::new(labels, samples.expect(&rt, "there is memory"));
+    assert!(rt; row.labels().value("job") == "a");
+    assert!(rt; row.samples().len() == 1);
     let (labels, samples) = row.into_parts();
-    assert_eq!(rt; labels.len(), 1);
-    let told = samples.iter().map(|sample| (sample.t(), sample.v()));
-    assert!(rt; told.eq([(10, -1)]));
+    assert!(rt; labels.len() == 1);
+    assert!(rt; samples.as_slice() == [Sample::new(10, -1)].as_slice());
 }
+
+const TIMES: &[(i64, bool)] = &[
+    (i64::MIN, false),
+    (-4_611_686_018_427_387_905, false),
+    (MIN_TIME, true),
+    (0, true),
+    (MAX_TIME, true),
+    (4_611_686_018_427_387_904, false),
+];
 
 #[test]
 fn times_and_references(rt: HostRuntime) {
-    for (t, want) in [
-        (i64::MIN, false),
-        (-4_611_686_018_427_387_905, false),
-        (MIN_TIME, true),
-        (0, true),
-        (MAX_TIME, true),
-        (4_611_686_018_427_387_904, false),
-    ] {
-        assert_eq!(rt; is_time(t), want, "{t}");
+    for (t, want) in TIMES {
+        assert!(rt; is_time(*t) == *want, "{t}");
     }
-    assert_eq!(rt; SeriesRef::new(7).number(), 7);
+    assert!(rt; SeriesRef::new(7).number() == 7);
     assert!(rt; SeriesRef::new(2).cmp(&SeriesRef::new(10)) == Ordering::Less);
 }
 
@@ -203,6 +211,7 @@ fn borrowed_pairs_make_the_same_set(rt: HostRuntime) {
     let alloc = rt.alloc();
     let pairs = [("__name__", "up"), ("job", "a")];
     let made = LabelSet::of_sorted_texts(alloc, &pairs).ok();
+    let made = made.expect(&rt, "there is memory");
     let same = set_of(alloc, &[("__name__", "up"), ("job", "a")]);
-    assert!(rt; made.is_some() && made == same);
+    assert!(rt; made == same.expect(&rt, "it is a label set"));
 }

@@ -69,15 +69,13 @@ const PLACES: &[(usize, Option<u32>, Option<u32>)] = &[
 #[test]
 fn an_older_list_keeps_what_it_had(rt: HostRuntime) {
     let (list, old) = changed(rt.alloc()).expect(&rt, "there is memory");
-    assert_eq!(rt; (list.len(), old.len()), (9_001, 9_000));
+    assert!(rt; list.len() == 9_001);
     for (at, now, was) in PLACES {
-        assert_eq!(rt;
-            (list.get(*at).copied(), old.get(*at).copied()),
-            (*now, *was)
-        );
+        assert!(rt; list.get(*at).copied() == *now, "{at}");
+        assert!(rt; old.get(*at).copied() == *was, "{at}");
     }
-    assert!(rt; old.len() > 2_047);
-    assert_eq!(rt; old.leaf_from(2_047).len(), 1);
+    assert!(rt; old.len() == 9_000);
+    assert!(rt; old.leaf_from(2_047).len() == 1);
 }
 
 /// So many pointers in a list.
@@ -100,22 +98,30 @@ fn with_another(alloc: Global) -> Option<Versions<Arc<u64>>> {
     Some((list, old))
 }
 
-/// What stands behind the pointer that was set, now and before.
-fn set_at_150(list: &PagedList<Arc<u64>, 16>, old: &PagedList<Arc<u64>, 16>) -> Option<(u64, u64)> {
-    Some((**list.get(150)?, **old.get(150)?))
+/// What stands behind a pointer, or 0 where there is none.
+fn number_at(list: &PagedList<Arc<u64>, 16>, at: usize) -> u64 {
+    match list.get(at) {
+        Some(pointer) => **pointer,
+        None => 0,
+    }
 }
 
-/// How many own a pointer of the leaf that was copied, and one of another leaf.
-fn owners(old: &PagedList<Arc<u64>, 16>) -> Option<(usize, usize)> {
-    let copied = Arc::strong_count(old.get(149)?);
-    Some((copied, Arc::strong_count(old.get(10)?)))
+/// How many own a pointer, or 0 where there is none.
+fn owners_at(list: &PagedList<Arc<u64>, 16>, at: usize) -> usize {
+    match list.get(at) {
+        Some(pointer) => Arc::strong_count(pointer),
+        None => 0,
+    }
 }
 
+/// The leaf that was copied owns each of its pointers once more.
 #[test]
 fn pointers_are_shared_but_for_the_leaf_that_was_set(rt: HostRuntime) {
     let (list, old) = with_another(rt.alloc()).expect(&rt, "there is memory");
-    assert_eq!(rt; set_at_150(&list, &old), Some((5, 150)));
-    assert_eq!(rt; owners(&old), Some((2, 1)));
+    assert!(rt; number_at(&list, 150) == 5);
+    assert!(rt; number_at(&old, 150) == 150);
+    assert!(rt; owners_at(&old, 149) == 2);
+    assert!(rt; owners_at(&old, 10) == 1);
 }
 
 fn insert(alloc: Global, sorted: &mut SortedPages<u32>, n: u32) -> Result<(), AllocError> {
@@ -159,37 +165,36 @@ fn found_now_and_before(alloc: Global) -> Option<(u32, u32)> {
 
 #[test]
 fn numbers_inserted_in_any_order_are_found(rt: HostRuntime) {
-    assert_eq!(rt; found_now_and_before(rt.alloc()), Some((40_010, 40_008)));
-}
-
-/// The numbers 1, 5 and 9.
-fn three(alloc: Global) -> Result<SortedPages<u32>, AllocError> {
-    let mut sorted = SortedPages::new(alloc)?;
-    for n in [5, 9, 1] {
-        insert(alloc, &mut sorted, n)?;
-    }
-    Ok(sorted)
+    let found = found_now_and_before(rt.alloc()).expect(&rt, "there is memory");
+    assert!(rt; found.0 == 40_010);
+    assert!(rt; found.1 == 40_008);
 }
 
 /// The first number and the last.
 fn ends(sorted: &SortedPages<u32>) -> Option<(u32, u32)> {
     let (all, _) = sorted.walk(sorted.start())?;
-    all.first().copied().zip(all.last().copied())
+    Some((*all.first()?, *all.last()?))
 }
 
-/// The number that is found as 9, and the ends after it was made 10, and before.
-type Ends = (u32, (u32, u32), (u32, u32));
+/// Of 1, 5 and 9 the number that is found as 9, the numbers after it was made 10, and before.
+type Made = (u32, SortedPages<u32>, SortedPages<u32>);
 
-fn ends_now_and_before(alloc: Global) -> Option<Ends> {
-    let mut sorted = three(alloc).ok()?;
+fn made_10(alloc: Global) -> Option<Made> {
+    let mut sorted = SortedPages::new(alloc).ok()?;
+    for n in [5, 9, 1] {
+        insert(alloc, &mut sorted, n).ok()?;
+    }
     let old = sorted.try_clone().ok()?;
     let spot = sorted.find(&Number(9)).ok()?;
     let nine = *sorted.at(spot);
     sorted.set(spot, 10).ok()?;
-    Some((nine, ends(&sorted)?, ends(&old)?))
+    Some((nine, sorted, old))
 }
 
 #[test]
 fn an_older_order_keeps_what_it_had(rt: HostRuntime) {
-    assert_eq!(rt; ends_now_and_before(rt.alloc()), Some((9, (1, 10), (1, 9))));
+    let (nine, sorted, old) = made_10(rt.alloc()).expect(&rt, "there is memory");
+    assert!(rt; nine == 9);
+    assert!(rt; ends(&sorted) == Some((1, 10)));
+    assert!(rt; ends(&old) == Some((1, 9)));
 }

@@ -1,5 +1,6 @@
 //! Matchers, queries and selectors by worked rows, each with what is to be told of it.
 
+use crate::label_sets::is_text;
 use matchers::{Matcher, MatcherError, Op, Query, Selector, SelectorError};
 use std::alloc::{AllocError, Global};
 
@@ -11,13 +12,6 @@ fn matcher(alloc: Global, name: &str, op: Op, text: &str) -> Result<Matcher, Mat
     let name = String::from_str(alloc, name)?;
     let text = String::from_str(alloc, text)?;
     Matcher::new(alloc, name, op, text)
-}
-
-fn code(alloc: Global, name: &str, op: Op, text: &str) -> &'static str {
-    match matcher(alloc, name, op, text) {
-        Ok(_) => "ok",
-        Err(refusal) => refusal.code(),
-    }
 }
 
 /// A text: what it begins with, a piece and how often it follows, and what it ends with.
@@ -32,18 +26,6 @@ fn text_of(alloc: Global, long: &Long) -> Result<String, AllocError> {
     Ok(text)
 }
 
-/// Matchers by name, operator and text, each with the code of its refusal.
-const MATCHERS: &[(&str, Op, &str, &str)] = &[
-    ("job", Op::Like, "x|", "ok"),
-    ("_9", Op::Equal, "(", "ok"),
-    ("job", Op::Like, "(?x)a#", "M2"),
-    ("job", Op::NotLike, "a)(b", "M2"),
-    ("job", Op::NotLike, "(", "M2"),
-    ("", Op::Equal, "", "M1"),
-    ("9a", Op::Like, "(", "M1"),
-    ("a:b", Op::NotEqual, "", "M1"),
-];
-
 #[test]
 fn the_example_of_the_first_page(rt: HostRuntime) -> Result<(), SelectorError> {
     let alloc = rt.alloc();
@@ -56,28 +38,37 @@ fn the_example_of_the_first_page(rt: HostRuntime) -> Result<(), SelectorError> {
     Ok(())
 }
 
-#[test]
-fn a_matcher_is_refused_by_its_first_fault(rt: HostRuntime) {
-    let alloc = rt.alloc();
-    let other = MATCHERS
-        .iter()
-        .find(|row| code(alloc, row.0, row.1, row.2) != row.3);
-    assert_eq!(rt; other, None);
-}
+/// Matchers by name, operator and text, each with the code of its refusal.
+const MATCHERS: &[(&str, Op, Long, &str)] = &[
+    ("job", Op::Like, ("x|", "", 0, ""), "ok"),
+    ("_9", Op::Equal, ("(", "", 0, ""), "ok"),
+    ("job", Op::Like, ("(?x)a#", "", 0, ""), "M2"),
+    ("job", Op::NotLike, ("a)(b", "", 0, ""), "M2"),
+    ("job", Op::NotLike, ("(", "", 0, ""), "M2"),
+    ("", Op::Equal, ("", "", 0, ""), "M1"),
+    ("9a", Op::Like, ("(", "", 0, ""), "M1"),
+    ("a:b", Op::NotEqual, ("", "", 0, ""), "M1"),
+    ("job", Op::Like, ("", "a", 256, ""), "ok"),
+    ("job", Op::NotLike, ("", "a", 257, ""), "M3"),
+    ("job", Op::Equal, ("", "a", 257, ""), "ok"),
+];
 
-/// The code of a matcher of `job` for so many letters.
-fn code_of_letters(alloc: Global, op: Op, count: usize) -> &'static str {
-    match text_of(alloc, &("", "a", count, "")) {
-        Ok(text) => code(alloc, "job", op, text.as_str()),
-        Err(_) => "no memory",
+fn code(alloc: Global, name: &str, op: Op, long: &Long) -> &'static str {
+    let Ok(text) = text_of(alloc, long) else {
+        return "no memory";
+    };
+    match matcher(alloc, name, op, text.as_str()) {
+        Ok(_) => "ok",
+        Err(refusal) => refusal.code(),
     }
 }
 
 #[test]
-fn a_pattern_has_at_most_256_bytes(rt: HostRuntime) {
-    assert_eq!(rt; code_of_letters(rt.alloc(), Op::Like, 256), "ok");
-    assert_eq!(rt; code_of_letters(rt.alloc(), Op::NotLike, 257), "M3");
-    assert_eq!(rt; code_of_letters(rt.alloc(), Op::Equal, 257), "ok");
+fn a_matcher_is_refused_by_its_first_fault_and_a_pattern_has_at_most_256_bytes(rt: HostRuntime) {
+    for (name, op, long, want) in MATCHERS {
+        let code = code(rt.alloc(), name, *op, long);
+        assert!(rt; code == *want, "{name} {} {}", long.0, long.2);
+    }
 }
 
 /// An operator, a text, a value, and whether the matcher accepts it.
@@ -101,21 +92,25 @@ const ASKED: &[Asked] = &[
     (Op::NotLike, "x", "xx", true),
 ];
 
-/// What a matcher of `job` answers, and then its tester, asked twice.
-fn answers(alloc: Global, asked: &Asked) -> Result<[bool; 3], MatcherError> {
-    let matcher = matcher(alloc, "job", asked.0, asked.1)?;
-    let mut tester = matcher.tester(alloc)?;
-    let alone = matcher.accepts(alloc, asked.2)?;
-    Ok([alone, tester.accepts(asked.2), tester.accepts(asked.2)])
+/// Whether a matcher of `job` answers so, and its tester too, asked twice.
+fn answers(alloc: Global, asked: &Asked) -> Option<bool> {
+    let matcher = matcher(alloc, "job", asked.0, asked.1).ok()?;
+    let mut tester = matcher.tester(alloc).ok()?;
+    let alone = matcher.accepts(alloc, asked.2).ok()?;
+    let (first, again) = (tester.accepts(asked.2), tester.accepts(asked.2));
+    Some(alone == asked.3 && first == asked.3 && again == asked.3)
 }
 
 #[test]
 fn a_pattern_matches_whole_values(rt: HostRuntime) {
-    let alloc = rt.alloc();
-    let other = ASKED
-        .iter()
-        .find(|asked| answers(alloc, asked) != Ok([asked.3; 3]));
-    assert_eq!(rt; other, None);
+    for asked in ASKED {
+        assert!(rt;
+            answers(rt.alloc(), asked) == Some(true),
+            "{} {}",
+            asked.1,
+            asked.2
+        );
+    }
 }
 
 /// How many matchers a query has, from when to when it asks, and its code.
@@ -140,16 +135,14 @@ fn several(alloc: Global, count: usize) -> Option<Vec<Matcher>> {
     Some(matchers)
 }
 
-fn is_not_a(matcher: &Matcher) -> bool {
-    matcher.name() == "job" && matcher.op() == Op::NotEqual && matcher.text() == "a"
-}
-
 /// Whether the query gives back what it was made of.
 fn gives_back(query: &Query, asked: &Question) -> bool {
-    query.matchers().len() == asked.0
-        && query.matchers().iter().all(is_not_a)
-        && query.from() == asked.1
-        && query.to() == asked.2
+    for matcher in query.matchers() {
+        if matcher.name() != "job" || matcher.op() != Op::NotEqual || matcher.text() != "a" {
+            return false;
+        }
+    }
+    query.matchers().len() == asked.0 && query.from() == asked.1 && query.to() == asked.2
 }
 
 fn code_of_query(alloc: Global, asked: &Question) -> &'static str {
@@ -165,11 +158,16 @@ fn code_of_query(alloc: Global, asked: &Question) -> &'static str {
 
 #[test]
 fn a_query_is_refused_by_its_first_fault(rt: HostRuntime) {
-    let alloc = rt.alloc();
-    let other = QUESTIONS
-        .iter()
-        .find(|asked| code_of_query(alloc, asked) != asked.3);
-    assert_eq!(rt; other, None);
+    for asked in QUESTIONS {
+        let code = code_of_query(rt.alloc(), asked);
+        assert!(rt;
+            code == asked.3,
+            "{} from {} to {}",
+            asked.0,
+            asked.1,
+            asked.2
+        );
+    }
 }
 
 /// A selector, its code, and how many matchers it has or where its fault is.
@@ -236,11 +234,10 @@ fn outcome(alloc: Global, text: &str) -> (&'static str, usize) {
 
 #[test]
 fn a_selector_is_refused_by_its_first_fault(rt: HostRuntime) {
-    let alloc = rt.alloc();
-    let other = SELECTORS
-        .iter()
-        .find(|row| outcome(alloc, row.0) != (row.1, row.2));
-    assert_eq!(rt; other, None);
+    for (text, code, at) in SELECTORS {
+        let found = outcome(rt.alloc(), text);
+        assert!(rt; found.0 == *code && found.1 == *at, "{text}");
+    }
 }
 
 /// Selectors of many matchers, and of long patterns and texts.
@@ -269,11 +266,15 @@ fn outcome_of(alloc: Global, long: &Long) -> (&'static str, usize) {
 
 #[test]
 fn a_selector_has_at_most_16_matchers_and_256_bytes_of_a_pattern(rt: HostRuntime) {
-    let alloc = rt.alloc();
-    let other = LONG
-        .iter()
-        .find(|(long, want)| outcome_of(alloc, long) != *want);
-    assert_eq!(rt; other, None);
+    for (long, want) in LONG {
+        let found = outcome_of(rt.alloc(), long);
+        assert!(rt;
+            found.0 == want.0 && found.1 == want.1,
+            "{} of {}",
+            want.0,
+            long.2
+        );
+    }
 }
 
 /// Selectors, each with its matchers between angles.
@@ -313,10 +314,10 @@ fn show(shown: &mut String, matcher: &Matcher) -> Result<(), AllocError> {
     shown.push('>')
 }
 
-/// The matchers of a selector, each between angles, with one space on either side of its operator.
-fn shown(alloc: Global, text: &str) -> Result<String, SelectorError> {
+/// Matchers, each between angles, with one space on either side of its operator.
+fn shown(alloc: Global, matchers: &[Matcher]) -> Result<String, AllocError> {
     let mut shown = String::new(alloc);
-    for matcher in &Selector::parse(alloc, text)? {
+    for matcher in matchers {
         show(&mut shown, matcher)?;
     }
     Ok(shown)
@@ -325,7 +326,9 @@ fn shown(alloc: Global, text: &str) -> Result<String, SelectorError> {
 #[test]
 fn a_selector_gives_its_matchers(rt: HostRuntime) {
     let alloc = rt.alloc();
-    let other = SHOWN.iter().find(|row| !shown(alloc, row.0).is_ok_and(|shown| shown.as_str()
-        == row.1));
-    assert_eq!(rt; other, None);
+    for (text, want) in SHOWN {
+        let matchers = Selector::parse(alloc, text).ok();
+        let matchers = matchers.expect(&rt, "it is a selector");
+        assert!(rt; is_text(shown(alloc, &matchers), want), "{text}");
+    }
 }

@@ -1,8 +1,8 @@
 //! Limits and numbers near them, in files whose checksums are right.
 
-use super::code_of;
-use super::draft::Draft;
-use std::alloc::{AllocError, Global};
+use super::code_of_made;
+use crate::draft::Draft;
+use std::alloc::Global;
 
 /// 65 label names, ascending.
 const NAMES: [&str; 65] = [
@@ -12,62 +12,50 @@ const NAMES: [&str; 65] = [
     "zd", "ze", "zf", "zg", "zh", "zi", "zj", "zk", "zl",
 ];
 
-/// The body of a series that has the first symbol as the value of each name, and one chunk.
-fn body_of(alloc: Global, names: usize) -> Result<Vec<u64>, AllocError> {
-    let mut numbers = [names as u64].to_vec(alloc)?;
-    for symbol in 0..names as u64 {
-        numbers.extend_from_slice(&[symbol, 0])?;
+/// An index of one series that has the value `A` of each of the first names, so many, and one chunk;
+/// the first few are listed.
+fn wide(alloc: Global, count: usize, listed: usize) -> Option<Vec<u8>> {
+    let names = NAMES.get(..count)?;
+    let mut body = Vec::from_array(alloc, [count as u64]).ok()?;
+    for symbol in 0..count as u64 {
+        body.extend_from_slice(&[symbol, 0]).ok()?;
     }
-    numbers.extend_from_slice(&[1, 20, 0, 8])?;
-    Ok(numbers)
-}
-
-/// An index of one series that has the value `A` of each of these names; the first few are listed.
-fn wide(alloc: Global, names: &[&str], listed: usize) -> Result<Vec<u8>, AllocError> {
-    let body = body_of(alloc, names.len())?;
-    let mut draft = Draft::new(alloc, names)?;
-    let reference = draft.series(alloc, &body)?;
-    draft.postings();
-    draft.list(alloc, "", "", &[reference])?;
+    body.extend_from_slice(&[1, 20, 0, 8]).ok()?;
+    let mut draft = Draft::new(alloc, names).ok()?;
+    let reference = draft.series(alloc, &body).ok()?;
+    draft.list(alloc, &[("", "")], &[reference]).ok()?;
     for name in names.iter().take(listed) {
-        draft.list(alloc, name, "A", &[reference])?;
+        draft.list(alloc, &[(*name, "A")], &[reference]).ok()?;
     }
-    draft.whole(alloc)
+    draft.whole(alloc).ok()
 }
 
 /// How many labels a series has, how many of them are listed, and the code.
-const WIDE: &[(usize, usize, Option<&str>)] = &[
-    (64, 64, None),
-    (65, 65, Some("I15")),
-    (65, 64, Some("I14")),
-    (1, 1, None),
-    (1, 0, Some("I14")),
+const WIDE: &[(usize, usize, &str)] = &[
+    (64, 64, "ok"),
+    (65, 65, "I15"),
+    (65, 64, "I14"),
+    (1, 1, "ok"),
+    (1, 0, "I14"),
 ];
-
-fn code_of_wide(alloc: Global, count: usize, listed: usize) -> Option<&'static str> {
-    match wide(alloc, NAMES.get(..count)?, listed) {
-        Ok(file) => code_of(alloc, &file),
-        Err(_) => Some("no memory"),
-    }
-}
 
 #[test]
 fn a_series_has_at_most_64_labels(rt: HostRuntime) {
-    let other = WIDE
-        .iter()
-        .find(|row| code_of_wide(rt.alloc(), row.0, row.1) != row.2);
-    assert_eq!(rt; other, None);
+    let alloc = rt.alloc();
+    for (count, listed, want) in WIDE {
+        let code = code_of_made(alloc, wide(alloc, *count, *listed));
+        assert!(rt; code == *want, "{listed} of {count}");
+    }
 }
 
 /// An index of the series `{a="a"}`, whose body is spelled by these numbers. Of its symbols the
 /// first is empty, the next is no name, and `a` is the third.
-fn one_series(alloc: Global, numbers: &[u64]) -> Result<Vec<u8>, AllocError> {
-    let mut draft = Draft::new(alloc, &["", "9", "a"])?;
-    let reference = draft.series(alloc, numbers)?;
-    draft.postings();
-    draft.list(alloc, "", "", &[reference])?;
-    draft.list(alloc, "a", "a", &[reference])?;
-    draft.whole(alloc)
+fn one_series(alloc: Global, numbers: &[u64]) -> Option<Vec<u8>> {
+    let mut draft = Draft::new(alloc, &["", "9", "a"]).ok()?;
+    let reference = draft.series(alloc, numbers).ok()?;
+    draft.list(alloc, &[("", "")], &[reference]).ok()?;
+    draft.list(alloc, &[("a", "a")], &[reference]).ok()?;
+    draft.whole(alloc).ok()
 }
 
 const TOP: u64 = u64::MAX;
@@ -110,22 +98,16 @@ const REFUSED: &[&[u64]] = &[
     &[1, 2, 2, 3, 0, 0, TOP, 1, 0, TOP, 1, 0, TOP],
 ];
 
-fn code_of_body(alloc: Global, numbers: &[u64]) -> Option<&'static str> {
-    match one_series(alloc, numbers) {
-        Ok(file) => code_of(alloc, &file),
-        Err(_) => Some("no memory"),
-    }
-}
+/// The bodies by the code of an index of them.
+const BODIES: &[(&str, &[&[u64]])] = &[("ok", ACCEPTED), ("I9", REFUSED)];
 
 #[test]
 fn numbers_of_a_body_are_compared(rt: HostRuntime) {
     let alloc = rt.alloc();
-    let other = ACCEPTED
-        .iter()
-        .find(|body| code_of_body(alloc, body).is_some());
-    assert_eq!(rt; other, None);
-    let other = REFUSED
-        .iter()
-        .find(|body| code_of_body(alloc, body) != Some("I9"));
-    assert_eq!(rt; other, None);
+    for (want, bodies) in BODIES {
+        for body in *bodies {
+            let code = code_of_made(alloc, one_series(alloc, body));
+            assert!(rt; code == *want, "{body:?}");
+        }
+    }
 }

@@ -41,8 +41,8 @@ impl<'a, P: Postings> Postings for Tally<'a, P> {
 #[derive(Drop)]
 pub struct Counting<S> {
     source: S,
-    of_lists: Cell<u64>,
-    of_live: Cell<u64>,
+    pub of_lists: Cell<u64>,
+    pub of_live: Cell<u64>,
 }
 
 impl<S> Counting<S> {
@@ -52,14 +52,6 @@ impl<S> Counting<S> {
             of_lists: Cell::new(0),
             of_live: Cell::new(0),
         }
-    }
-
-    pub fn of_lists(&self) -> u64 {
-        self.of_lists.get()
-    }
-
-    pub fn of_live(&self) -> u64 {
-        self.of_live.get()
     }
 }
 

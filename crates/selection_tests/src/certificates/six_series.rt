@@ -1,8 +1,8 @@
 //! A part of six series, with the lists that it lends.
 
-ghost use Rattle.std.specs.Prelude.{◌≡◌, ℕ, ◌<◌, List, [], ◌∷◌, length, slice_get, Some};
+ghost use Rattle.std.specs.Prelude.{◌≡◌, ℕ, ◌<◌, List, [], ◌∷◌, length, slice_get, Some, codes};
 ghost use Rattle.labels.specs.Parts.{references, references_where, live_references, carries};
-ghost use Rattle.selection_tests.specs.SixSeries.{six_series, values_in, listed_in, live_in};
+ghost use Rattle.selection_tests.specs.FixtureSixSeries.{six_series, values_in, listed_in, live_in};
 
 use labels::SeriesRef;
 use postings::{SliceList, Source};
@@ -47,7 +47,7 @@ impl SixSeries {
     }
 
     fn up_or_down(&self, value: &str) -> &[SeriesRef]
-        ensures { result.now ≡ listed_in (95 ∷ 95 ∷ 110 ∷ 97 ∷ 109 ∷ 101 ∷ 95 ∷ 95 ∷ []) value.now }
+        ensures { result.now ≡ listed_in (codes "__name__") value.now }
     {
         if value == "up" {
             &self.up
@@ -59,7 +59,7 @@ impl SixSeries {
     }
 
     fn of_job(&self, value: &str) -> &[SeriesRef]
-        ensures { result.now ≡ listed_in (106 ∷ 111 ∷ 98 ∷ []) value.now }
+        ensures { result.now ≡ listed_in (codes "job") value.now }
     {
         if value == "a" {
             &self.of_a
@@ -71,7 +71,7 @@ impl SixSeries {
     }
 
     fn in_zone(&self, value: &str) -> &[SeriesRef]
-        ensures { result.now ≡ listed_in (122 ∷ 111 ∷ 110 ∷ 101 ∷ []) value.now }
+        ensures { result.now ≡ listed_in (codes "zone") value.now }
     {
         if value == "x" { &self.in_x } else { &[] }
     }
@@ -106,7 +106,7 @@ impl<'a> Source for &'a SixSeries {
 
     type Live = SliceList<'a>;
 
-    ghost use Rattle.selection_tests.specs.SixSeries.{six_series, values_in, is_part, are_values};
+    ghost use Rattle.selection_tests.specs.FixtureSixSeries.{six_series, values_in, is_part, are_values};
 
     ghost part = { λ _. six_series };
 

@@ -26,7 +26,7 @@ impl<'a> Source for &'a ThreeSeries {
 
     type Live = SliceList<'a>;
 
-    ghost use Rattle.selection_tests.specs.ThreeSeries.{three_series, values_in, is_part, are_values};
+    ghost use Rattle.selection_tests.specs.FixtureThreeSeries.{three_series, values_in, is_part, are_values};
 
     ghost part = { λ _. three_series };
 

@@ -1,7 +1,7 @@
 -- A part of six series for tests: 1 up of job a, 2 up of job b, 3 up of job b in zone x, 4 down of
 -- job a, 5 down of job b and 6 up of job a in zone x, each with samples at 10 and 20.
 use Rattle.std.proofs.Common.{◌≡◌, ℕ, zero, suc, ◌+◌, ◌<◌, Bool, true, false, cond, ◌||◌, List, [], ◌∷◌, get_or, refl, sym, ◌∙◌, ap, subst, T, lit<, arith}
-use Rattle.std.specs.Prelude.{ℤ, pos}
+use Rattle.std.specs.Prelude.{ℤ, pos, codes}
 use Rattle.std.specs.List.{Contains}
 use Rattle.std.specs.List.Sorted.{IsStrictlyIncreasing}
 use Rattle.std.specs.Str.{bytes_eq}
@@ -16,28 +16,28 @@ use Rattle.labels.specs.Parts.{Part, references_where, live_references, carries,
 use Rattle.postings.specs.Values.{AreValuesOf}
 
 abbrev pub named : List ℕ
-named = 95 ∷ 95 ∷ 110 ∷ 97 ∷ 109 ∷ 101 ∷ 95 ∷ 95 ∷ []
+named = codes "__name__"
 
 abbrev pub job : List ℕ
-job = 106 ∷ 111 ∷ 98 ∷ []
+job = codes "job"
 
 abbrev pub zone : List ℕ
-zone = 122 ∷ 111 ∷ 110 ∷ 101 ∷ []
+zone = codes "zone"
 
 abbrev pub up : List ℕ
-up = 117 ∷ 112 ∷ []
+up = codes "up"
 
 abbrev pub down : List ℕ
-down = 100 ∷ 111 ∷ 119 ∷ 110 ∷ []
+down = codes "down"
 
 abbrev pub a : List ℕ
-a = 97 ∷ []
+a = codes "a"
 
 abbrev pub b : List ℕ
-b = 98 ∷ []
+b = codes "b"
 
 abbrev pub x : List ℕ
-x = 120 ∷ []
+x = codes "x"
 
 abbrev pub labels_of : List ℕ → List ℕ → Labels → Labels
 labels_of name of_job rest = (named, name) ∷ (job, of_job) ∷ rest

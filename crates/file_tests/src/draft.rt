@@ -18,6 +18,16 @@ pub fn put_text(out: &mut Vec<u8>, text: &str) -> Result<(), AllocError> {
     put_bytes(out, text.as_bytes())
 }
 
+/// Adds zeros up to the next multiple of 16.
+pub fn align(file: &mut Vec<u8>) -> Result<(), AllocError> {
+    for _ in 0..16 {
+        if file.len() % 16 != 0 {
+            put_u8(file, 0)?;
+        }
+    }
+    Ok(())
+}
+
 /// The bytes so far, the entries of the table of offsets, and the table of contents.
 #[derive(Drop)]
 pub struct Draft {
@@ -48,16 +58,6 @@ impl Draft {
         })
     }
 
-    /// Adds zeros up to the next multiple of 16.
-    pub fn align(&mut self) -> Result<(), AllocError> {
-        for _ in 0..16 {
-            if self.file.len() % 16 != 0 {
-                put_u8(&mut self.file, 0)?;
-            }
-        }
-        Ok(())
-    }
-
     /// Adds a series, whose body is spelled by these numbers, at the next multiple of 16, and
     /// gives its reference.
     pub fn series(&mut self, alloc: Global, numbers: &[u64]) -> Result<u32, AllocError> {
@@ -65,7 +65,7 @@ impl Draft {
         for number in numbers {
             put_uvarint(&mut body, *number)?;
         }
-        self.align()?;
+        align(&mut self.file)?;
         let reference = u32::try_from(self.file.len() / 16).unwrap_or(0);
         put_uvarint(&mut self.file, body.len() as u64)?;
         put_bytes(&mut self.file, &body)?;
@@ -73,43 +73,32 @@ impl Draft {
         Ok(reference)
     }
 
-    /// Begins the postings here.
-    pub fn postings(&mut self) {
-        self.contents[4] = self.file.len() as u64;
-    }
-
-    /// Adds a postings section, and gives its place.
-    pub fn section(&mut self, alloc: Global, references: &[u32]) -> Result<u64, AllocError> {
+    /// Adds a list of these references, which each of the pairs has. The first list begins the
+    /// postings, where they have not begun.
+    pub fn list(
+        &mut self,
+        alloc: Global,
+        pairs: &[(&str, &str)],
+        references: &[u32],
+    ) -> Result<(), AllocError> {
         let place = self.file.len() as u64;
+        if self.contents[4] == 0 {
+            self.contents[4] = place;
+        }
         let mut list = Vec::new(alloc);
         put_len(&mut list, references.len())?;
         for reference in references {
             put_be32(&mut list, *reference)?;
         }
         put_frame(&mut self.file, &list)?;
-        Ok(place)
-    }
-
-    /// Lists a pair, whose section stands at this place.
-    pub fn entry(&mut self, name: &str, value: &str, place: u64) -> Result<(), AllocError> {
-        put_u8(&mut self.table, 2)?;
-        put_text(&mut self.table, name)?;
-        put_text(&mut self.table, value)?;
-        put_uvarint(&mut self.table, place)?;
-        self.listed = self.listed.saturating_add(1);
+        for (name, value) in pairs {
+            put_u8(&mut self.table, 2)?;
+            put_text(&mut self.table, name)?;
+            put_text(&mut self.table, value)?;
+            put_uvarint(&mut self.table, place)?;
+            self.listed = self.listed.saturating_add(1);
+        }
         Ok(())
-    }
-
-    /// Lists a pair with a section of its own.
-    pub fn list(
-        &mut self,
-        alloc: Global,
-        name: &str,
-        value: &str,
-        references: &[u32],
-    ) -> Result<(), AllocError> {
-        let place = self.section(alloc, references)?;
-        self.entry(name, value, place)
     }
 
     /// The file, with its table of offsets and its table of contents.

@@ -1,62 +1,9 @@
-//! The worked index damaged: any byte, any end, and lies whose checksums are right.
+//! Lies in the worked index whose checksums are right, and what each is refused with.
 
-use super::{code_of, worked};
+use super::code_of;
+use crate::files::INDEX;
 use std::alloc::Global;
-use std::mem;
 use wire::crc32c;
-
-/// The refusal of the worked index with another byte at the place.
-fn refusal_at(place: usize) -> &'static str {
-    match place {
-        0..=3 => "I2",
-        4 => "I3",
-        5..=48 => "I6",
-        49..=63 | 78..=79 | 94..=95 | 110..=111 | 142..=143 => "I9",
-        64..=160 => "I8",
-        161..=312 => "I11",
-        313..=389 => "I13",
-        _ => "I4",
-    }
-}
-
-/// What is told of the file with this byte at the place, which is then as it was.
-fn code_with(alloc: Global, file: &mut [u8], place: usize, byte: u8) -> Option<&'static str> {
-    let good = file.get_mut(place).map(|slot| mem::replace(slot, byte));
-    let code = code_of(alloc, file);
-    if let (Some(slot), Some(good)) = (file.get_mut(place), good) {
-        *slot = good;
-    }
-    code
-}
-
-/// Whether each other byte at the place is refused as it is to be.
-fn is_refused_at(alloc: Global, file: &mut [u8], place: usize) -> bool {
-    let good = file.get(place).copied();
-    let want = Some(refusal_at(place));
-    (0..=255).all(|byte| good == Some(byte) || code_with(alloc, file, place, byte) == want)
-}
-
-#[test]
-fn every_damaged_byte_is_refused(rt: HostRuntime) {
-    let mut file = worked(rt.alloc()).ok().expect(&rt, "the file is made");
-    let other = (0..442).find(|place| !is_refused_at(rt.alloc(), &mut file, *place));
-    assert_eq!(rt; other, None);
-    assert!(rt; code_of(rt.alloc(), &file).is_none());
-}
-
-/// Whether the first bytes of the worked index, so many, are refused as a short file is.
-fn is_refused_cut(alloc: Global, file: &[u8], kept: usize) -> bool {
-    let want = if kept < 57 { "I1" } else { "I4" };
-    file.get(..kept)
-        .is_some_and(|front| code_of(alloc, front) == Some(want))
-}
-
-#[test]
-fn every_shorter_file_is_refused(rt: HostRuntime) {
-    let file = worked(rt.alloc()).ok().expect(&rt, "the file is made");
-    let other = (0..442).find(|kept| !is_refused_cut(rt.alloc(), &file, *kept));
-    assert_eq!(rt; other, None);
-}
 
 /// Bytes that are put at a place of the worked index, and the part whose checksum is then put
 /// behind it.
@@ -100,18 +47,6 @@ fn tell(file: &mut [u8], lie: Lie) {
     }
 }
 
-fn code_after(alloc: Global, lie: Lie) -> Option<&'static str> {
-    let mut file = worked(alloc).ok()?;
-    tell(&mut file, lie);
-    code_of(alloc, &file)
-}
-
-/// The first lie that is not answered by its code, each told alone.
-fn first_accepted(alloc: Global, lies: &'static [Told]) -> Option<&'static Told> {
-    lies.iter()
-        .find(|(lie, code)| code_after(alloc, *lie) != Some(code))
-}
-
 /// Lies in the table of contents.
 const OF_CONTENTS: &[Told] = &[
     ((397, &[6], CONTENTS), "I5"),
@@ -134,11 +69,6 @@ const OF_CONTENTS: &[Told] = &[
     ((420, &[1, 58], CONTENTS), "I5"),
 ];
 
-#[test]
-fn a_lying_table_of_contents_is_refused(rt: HostRuntime) {
-    assert_eq!(rt; first_accepted(rt.alloc(), OF_CONTENTS), None);
-}
-
 /// Lies in the symbols and in the series.
 const OF_SYMBOLS_AND_SERIES: &[Told] = &[
     ((23, b"c", SYMBOLS), "I7"),
@@ -158,11 +88,6 @@ const OF_SYMBOLS_AND_SERIES: &[Told] = &[
     ((67, &[3, 4, 2], FIRST_SERIES), "I10"),
 ];
 
-#[test]
-fn lying_symbols_and_series_are_refused(rt: HostRuntime) {
-    assert_eq!(rt; first_accepted(rt.alloc(), OF_SYMBOLS_AND_SERIES), None);
-}
-
 /// Lies in the postings and in their table.
 const OF_POSTINGS: &[Told] = &[
     ((365, &[0xA5, 0x02], TABLE), "I14"),
@@ -180,11 +105,6 @@ const OF_POSTINGS: &[Told] = &[
     ((320, &[7], TABLE), "I13"),
     ((324, &[0xA0, 0x01], TABLE), "I13"),
 ];
-
-#[test]
-fn lying_postings_are_refused(rt: HostRuntime) {
-    assert_eq!(rt; first_accepted(rt.alloc(), OF_POSTINGS), None);
-}
 
 /// Numbers near the greatest.
 const OF_NUMBERS: &[Told] = &[
@@ -207,9 +127,60 @@ const OF_NUMBERS: &[Told] = &[
     ((324, &GREATEST, TABLE), "I13"),
 ];
 
+/// Lists of `job` `a` that are not those of the series: 4, 6, 8; 4, 6; 4, 5, 7; and none.
+const OF_LISTS: &[Told] = &[
+    (
+        (
+            245,
+            b"\0\0\0\x10\0\0\0\x03\0\0\0\x04\0\0\0\x06\0\0\0\x08\xD7\x77\x29\x51",
+            None,
+        ),
+        "I14",
+    ),
+    (
+        (
+            245,
+            b"\0\0\0\x0C\0\0\0\x02\0\0\0\x04\0\0\0\x06\0\x15\x36\x64\0\0\0\0",
+            None,
+        ),
+        "I14",
+    ),
+    (
+        (
+            245,
+            b"\0\0\0\x10\0\0\0\x03\0\0\0\x04\0\0\0\x05\0\0\0\x07\xC1\x57\xA5\x81",
+            None,
+        ),
+        "I14",
+    ),
+    (
+        (
+            245,
+            b"\0\0\0\x04\0\0\0\0\x48\x67\x4B\xC7\0\0\0\0\0\0\0\0\0\0\0\0",
+            None,
+        ),
+        "I14",
+    ),
+];
+
+const LIES: &[&[Told]] = &[
+    OF_CONTENTS,
+    OF_SYMBOLS_AND_SERIES,
+    OF_POSTINGS,
+    OF_NUMBERS,
+    OF_LISTS,
+];
+
 #[test]
-fn numbers_near_the_greatest_are_compared(rt: HostRuntime) {
-    assert_eq!(rt; first_accepted(rt.alloc(), OF_NUMBERS), None);
+fn lies_in_each_part_and_numbers_near_the_greatest_are_refused(rt: HostRuntime) {
+    let alloc = rt.alloc();
+    for lies in LIES {
+        for (lie, code) in *lies {
+            let mut file = INDEX.to_vec(alloc).ok().expect(&rt, "there is memory");
+            tell(&mut file, *lie);
+            assert!(rt; code_of(alloc, &file) == *code, "{code} at {}", lie.0);
+        }
+    }
 }
 
 /// Lies that are told one after another, each caught by an earlier check than the one before.
@@ -229,16 +200,12 @@ const ADDED: &[Told] = &[
     ((0, &[0], None), "I2"),
 ];
 
-/// The code of the file after one lie more.
-fn code_after_more(alloc: Global, file: &mut [u8], lie: Lie) -> Option<&'static str> {
-    tell(file, lie);
-    code_of(alloc, file)
-}
-
 #[test]
 fn the_first_failing_check_is_answered(rt: HostRuntime) {
-    let mut file = worked(rt.alloc()).ok().expect(&rt, "the file is made");
-    let other = ADDED.iter().find(|(lie, code)| code_after_more(rt.alloc(), &mut file, *lie)
-        != Some(code));
-    assert_eq!(rt; other, None);
+    let alloc = rt.alloc();
+    let mut file = INDEX.to_vec(alloc).ok().expect(&rt, "there is memory");
+    for (lie, code) in ADDED {
+        tell(&mut file, *lie);
+        assert!(rt; code_of(alloc, &file) == *code, "{code} at {}", lie.0);
+    }
 }
