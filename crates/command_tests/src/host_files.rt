@@ -17,19 +17,22 @@ fn new_folder(rt: &HostRuntime) -> Option<String> {
     None
 }
 
-/// The files of a block, by where they stand in its directory.
-const FILES: &[(&str, Pieces)] = &[
-    ("meta.json", META),
-    ("index", INDEX),
-    ("chunks/000001", CHUNKS),
-    ("tombstones", NOTHING_DELETED),
+/// The worked files of a block, by where they stand in its directory, and their lengths.
+const FILES: &[(&str, Pieces, usize)] = &[
+    ("meta.json", META, 38),
+    ("index", INDEX, 442),
+    ("chunks/000001", CHUNKS, 152),
+    ("tombstones", NOTHING_DELETED, 9),
 ];
 
-/// Writes the files of a block into the current directory.
+/// Writes the files of a block into the current directory, if they have their lengths.
 fn write_files(rt: &HostRuntime) -> Option<()> {
     fs::create_dir(rt, "chunks").ok()?;
-    for (name, pieces) in FILES {
+    for (name, pieces, length) in FILES {
         let bytes = joined(rt.alloc(), pieces).ok()?;
+        if bytes.len() != *length {
+            return None;
+        }
         fs::write(rt, *name, bytes.as_slice()).ok()?;
     }
     Some(())
@@ -46,7 +49,7 @@ fn has_length(rt: &HostRuntime, most: usize, length: usize) -> bool {
     }
 }
 
-/// A block is written and checked, and checked again without its tombstones.
+/// The worked block is written and checked, and checked again without its tombstones.
 #[test]
 fn files_of_the_host_are_read(rt: HostRuntime) {
     let folder = new_folder(&rt).expect(&rt, "a folder can be made");
@@ -57,7 +60,7 @@ fn files_of_the_host_are_read(rt: HostRuntime) {
     let line = format!(in rt.alloc(); "{folder}: ok 6 series 6 samples\n").ok();
     let line = line.expect(&rt, "there is memory");
     let whole = (words.as_slice(), 0, line.as_str(), "");
-    assert!(rt; is_given(&rt, rt.alloc(), &rt, &whole, Extent::Whole));
+    assert!(rt; is_given(&rt, rt.alloc(), &rt, &whole, &Extent::Whole));
     for (most, length) in LENGTHS {
         assert!(rt; has_length(&rt, *most, *length), "{most}");
     }
@@ -65,6 +68,6 @@ fn files_of_the_host_are_read(rt: HostRuntime) {
     let line = format!(in rt.alloc(); "cannot read {folder}/tombstones\n").ok();
     let line = line.expect(&rt, "there is memory");
     let torn = (words.as_slice(), 3, "", line.as_str());
-    assert!(rt; is_given(&rt, rt.alloc(), &rt, &torn, Extent::Whole));
+    assert!(rt; is_given(&rt, rt.alloc(), &rt, &torn, &Extent::Whole));
     assert!(rt; fs::remove_dir_all(&rt, folder).is_ok());
 }

@@ -144,7 +144,7 @@ const HELP: &[Row<'_>] = &[
     (&["help", "check"], 0, "3 a file cannot be", ""),
 ];
 
-/// A selector with a pattern of 256 bytes, 64 in a line.
+/// A selector with a pattern of 256 bytes, as many as one may have; 64 in a line.
 const LONGEST: &str = "{job=~\"\
     aaaaaaaaaaaaaaaaaaaaaaaaaaaaaaaaaaaaaaaaaaaaaaaaaaaaaaaaaaaaaaaa\
     aaaaaaaaaaaaaaaaaaaaaaaaaaaaaaaaaaaaaaaaaaaaaaaaaaaaaaaaaaaaaaaa\
@@ -166,26 +166,14 @@ const PATTERNS: &[Row<'_>] = &[
 ];
 
 #[test]
-fn a_refusal_is_told_with_its_code_and_place(rt: HostRuntime) {
-    assert_given(&rt, rt.alloc(), REFUSED, Extent::Whole);
+fn a_selection_of_an_empty_store_has_no_rows_or_is_refused_with_code_and_place(rt: HostRuntime) {
+    assert_given(&rt, rt.alloc(), REFUSED, &Extent::Whole);
+    assert_given(&rt, rt.alloc(), ANSWERED, &Extent::Whole);
+    assert_given(&rt, rt.alloc(), PATTERNS, &Extent::Whole);
 }
 
 #[test]
-fn a_selection_of_an_empty_store_has_no_rows(rt: HostRuntime) {
-    assert_given(&rt, rt.alloc(), ANSWERED, Extent::Whole);
-}
-
-#[test]
-fn a_fault_of_the_words_comes_before_any_refusal(rt: HostRuntime) {
-    assert_given(&rt, rt.alloc(), AT_FAULT, Extent::Piece);
-}
-
-#[test]
-fn help_is_printed_where_it_is_asked_for(rt: HostRuntime) {
-    assert_given(&rt, rt.alloc(), HELP, Extent::Piece);
-}
-
-#[test]
-fn a_pattern_has_at_most_256_bytes(rt: HostRuntime) {
-    assert_given(&rt, rt.alloc(), PATTERNS, Extent::Whole);
+fn a_fault_of_the_words_comes_first_and_help_is_printed_where_it_is_asked_for(rt: HostRuntime) {
+    assert_given(&rt, rt.alloc(), AT_FAULT, &Extent::Piece);
+    assert_given(&rt, rt.alloc(), HELP, &Extent::Piece);
 }
