@@ -95,15 +95,6 @@ fn work_alone<J: Naming, R: Wait>(
     Some(work(rt, alloc, texts, &mut pass, &mut seat, &committer, most))
 }
 
-/// All that was written, one connection after another.
-fn written(alloc: Global, past: &[Ended]) -> Option<Vec<u8>> {
-    let mut all = Vec::new(alloc);
-    for ended in past {
-        all.extend_from_slice(&ended.written).ok()?;
-    }
-    Some(all)
-}
-
 /// How many of these connections one worker of an empty store serves, with room for so many, and
 /// all that it writes.
 pub fn served<R: Wait>(
@@ -120,7 +111,10 @@ pub fn served<R: Wait>(
         kept_all: true,
     };
     let count = work_alone::<Brand, R>(rt, alloc, Store::new(), &mut texts, most)?;
-    let all = written(alloc, &texts.past)?;
+    let mut all = Vec::new(alloc);
+    for ended in &texts.past {
+        all.extend_from_slice(&ended.written).ok()?;
+    }
     Some((count, all))
 }
 

@@ -2,7 +2,6 @@
 //! the references 4 to 9.
 
 use super::{Asked, NO_DELETIONS, Pieces, Row, SEGMENT, Spelled, is_answered, joined};
-use std::alloc::Global;
 
 /// Magic, version, symbols, and zeros up to byte 64.
 const SYMBOLS: Pieces = &[
@@ -91,19 +90,6 @@ const WITH_DELETION: Spelled = Spelled {
     tombstones: ONE_DELETION,
 };
 
-fn has_len(alloc: Global, pieces: &[Pieces], len: usize) -> bool {
-    match joined(alloc, pieces) {
-        Some(bytes) => bytes.len() == len,
-        None => false,
-    }
-}
-
-#[test]
-fn the_files_have_the_worked_lengths(rt: HostRuntime) {
-    assert!(rt; has_len(rt.alloc(), INDEX_FILE, 442));
-    assert!(rt; has_len(rt.alloc(), CHUNKS_FILE, 152));
-}
-
 const UP_A: Asked = (r#"up{job="a"}"#, 0, 100);
 
 /// The block with no deletion and with one, and the text of the answer over each.
@@ -120,8 +106,13 @@ const ROWS: &[Row] = &[
     ),
 ];
 
+/// The files have the worked lengths.
 #[test]
 fn an_answer_over_the_worked_block_has_its_certificate(rt: HostRuntime) {
+    let index = joined(rt.alloc(), INDEX_FILE).expect(&rt, "there is memory");
+    assert!(rt; index.len() == 442);
+    let chunks = joined(rt.alloc(), CHUNKS_FILE).expect(&rt, "there is memory");
+    assert!(rt; chunks.len() == 152);
     for row in ROWS {
         assert!(rt; is_answered(rt.alloc(), row));
     }
