@@ -1,5 +1,6 @@
 //! What `check` prints of directories.
 
+use crate::directories::{CHUNKS, INDEX, joined};
 use crate::rows::{Extent, Row, assert_given};
 
 /// Of each file the first check that fails, in the order of the files and of the checks.
@@ -73,6 +74,18 @@ const IN_ORDER: &[Row<'_>] = &[
         "cannot read none/meta.json\n",
     ),
 ];
+
+#[test]
+fn the_worked_files_have_their_lengths(rt: HostRuntime) {
+    let index = joined(rt.alloc(), INDEX)
+        .ok()
+        .expect(&rt, "there is memory");
+    assert!(rt; index.len() == 442);
+    let chunks = joined(rt.alloc(), CHUNKS)
+        .ok()
+        .expect(&rt, "there is memory");
+    assert!(rt; chunks.len() == 152);
+}
 
 #[test]
 fn each_block_is_told_in_its_line_and_directories_in_their_order(rt: HostRuntime) {

@@ -144,7 +144,7 @@ const HELP: &[Row<'_>] = &[
     (&["help", "check"], 0, "3 a file cannot be", ""),
 ];
 
-/// A selector with a pattern of 256 bytes, as many as one may have; 64 in a line.
+/// A selector with a pattern of 256 bytes, 64 in a line.
 const LONGEST: &str = "{job=~\"\
     aaaaaaaaaaaaaaaaaaaaaaaaaaaaaaaaaaaaaaaaaaaaaaaaaaaaaaaaaaaaaaaa\
     aaaaaaaaaaaaaaaaaaaaaaaaaaaaaaaaaaaaaaaaaaaaaaaaaaaaaaaaaaaaaaaa\
@@ -169,6 +169,10 @@ const PATTERNS: &[Row<'_>] = &[
 fn a_selection_of_an_empty_store_has_no_rows_or_is_refused_with_code_and_place(rt: HostRuntime) {
     assert_given(&rt, rt.alloc(), REFUSED, &Extent::Whole);
     assert_given(&rt, rt.alloc(), ANSWERED, &Extent::Whole);
+}
+
+#[test]
+fn a_pattern_has_at_most_256_bytes(rt: HostRuntime) {
     assert_given(&rt, rt.alloc(), PATTERNS, &Extent::Whole);
 }
 
