@@ -290,13 +290,15 @@ fn went(way: &Way, number: usize, served: Served, bytes: &[u8], text: &[u8]) -> 
     }
 }
 
-/// Whether the connections of a step go so, in pieces of so many bytes.
+/// Whether the connections of a step go so, in pieces of so many bytes; what is refused memory is
+/// made again where this says so.
 fn goes<J: Naming, R: Wait + Drop>(
     rt: &impl Wait,
     alloc: Global,
     store: &mut EmptyStore<J, R>,
     step: &(&[u8], Way, &[u8]),
     at_most: usize,
+    again: bool,
 ) -> Option<bool> {
     let (input, way, text) = step;
     let (count, few_reads, little_room) = match way {
@@ -308,7 +310,12 @@ fn goes<J: Naming, R: Wait + Drop>(
         let reads = if few_reads { number } else { usize::MAX };
         let room = if little_room { number } else { usize::MAX };
         let edge = (at_most, reads, room);
-        let (served, bytes) = serve_again(rt, alloc, store, input, edge)?;
+        let made = if again {
+            serve_again(rt, alloc, store, input, edge)
+        } else {
+            serve(rt, alloc, store, input, edge)
+        };
+        let (served, bytes) = made?;
         if !went(way, number, served, &bytes, text) {
             return Some(false);
         }
@@ -323,13 +330,17 @@ fn is_session<J: Naming, R: Wait>(
     store: Store,
     session: Session,
     at_most: usize,
+    again: bool,
 ) -> Option<bool>
     requires book { store.seen.book ≡ J.book }
     requires opening { opening_of [] ≡ J.opening }
 {
     let mut store = open_empty::<J, &R>(rt, alloc, store)?;
     for step in session {
-        if !matches!(goes(rt, alloc, &mut store, step, at_most), Some(true)) {
+        if !matches!(
+            goes(rt, alloc, &mut store, step, at_most, again),
+            Some(true)
+        ) {
             return Some(false);
         }
     }
@@ -338,15 +349,15 @@ fn is_session<J: Naming, R: Wait>(
 
 /// The same, in pieces of so many bytes, where a store was opened.
 fn is_held<R: Wait>(rt: &R, alloc: Global, session: Session, at_most: usize) -> bool {
-    match is_session::<Brand, R>(rt, alloc, Store::new(), session, at_most) {
+    match is_session::<Brand, R>(rt, alloc, Store::new(), session, at_most, false) {
         Some(held) => held,
         None => false,
     }
 }
 
-/// The same, where a store that was refused memory is opened again.
+/// The same, where what is refused memory is made again, the store too.
 fn is_held_again<R: Wait>(rt: &R, alloc: Global, session: Session) -> bool {
-    match is_session::<Brand, R>(rt, alloc, Store::new(), session, 7) {
+    match is_session::<Brand, R>(rt, alloc, Store::new(), session, 7, true) {
         Some(held) => held,
         None => is_held(rt, alloc, session, 7),
     }
@@ -358,17 +369,22 @@ fn a_connection_refused_memory_is_served_when_made_again(rt: HostRuntime) {
     assert!(rt; is_held_again(&rt, rt.alloc(), SESSION));
 }
 
-/// In any pieces; a deleted sample stays deleted, the order of two batches is that of their
-/// references, an event stands where its reply was cut short, nothing changes where a read fails,
-/// and rows are read back.
 #[test]
-fn each_session_is_replied_to(rt: HostRuntime) {
+fn a_session_is_replied_to_in_any_pieces(rt: HostRuntime) {
     for at_most in [usize::MAX, 7, 1] {
         assert!(rt;
             is_held(&rt, rt.alloc(), SESSION, at_most),
             "{at_most} bytes at a time"
         );
     }
+}
+
+/// A deleted sample stays deleted, the order of two batches is that of their references, an event
+/// stands where its reply was cut short, nothing changes where a read fails, and rows are read back.
+#[test]
+fn deletions_two_orders_cut_replies_failed_reads_and_rows_read_back_are_replied_to(
+    rt: HostRuntime,
+) {
     assert!(rt; is_held(&rt, rt.alloc(), SILENT_SESSION, 7));
     assert!(rt; is_held(&rt, rt.alloc(), ORDERED_SESSION, 7));
     assert!(rt; is_held(&rt, rt.alloc(), TURNED_SESSION, 7));

@@ -90,6 +90,14 @@ const WITH_DELETION: Spelled = Spelled {
     tombstones: ONE_DELETION,
 };
 
+#[test]
+fn the_files_have_the_worked_lengths(rt: HostRuntime) {
+    let index = joined(rt.alloc(), INDEX_FILE).expect(&rt, "there is memory");
+    assert!(rt; index.len() == 442);
+    let chunks = joined(rt.alloc(), CHUNKS_FILE).expect(&rt, "there is memory");
+    assert!(rt; chunks.len() == 152);
+}
+
 const UP_A: Asked = (r#"up{job="a"}"#, 0, 100);
 
 /// The block with no deletion and with one, and the text of the answer over each.
@@ -106,13 +114,8 @@ const ROWS: &[Row] = &[
     ),
 ];
 
-/// The files have the worked lengths.
 #[test]
 fn an_answer_over_the_worked_block_has_its_certificate(rt: HostRuntime) {
-    let index = joined(rt.alloc(), INDEX_FILE).expect(&rt, "there is memory");
-    assert!(rt; index.len() == 442);
-    let chunks = joined(rt.alloc(), CHUNKS_FILE).expect(&rt, "there is memory");
-    assert!(rt; chunks.len() == 152);
     for row in ROWS {
         assert!(rt; is_answered(rt.alloc(), row));
     }
