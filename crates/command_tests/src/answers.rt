@@ -1,13 +1,13 @@
 //! Worked answers, spelled by hand from the six series of the demo, and the lines of faults.
 
 use crate::directories::DIRECTORIES;
-use crate::rows::{Told, ending_of, told_by};
+use crate::rows::{ending_of, told_by};
 use crate::selections::A_THEN_B;
 use block::BlockError;
 use commands::{Fault, first_batch, query, second_batch};
 use head::{CommitError, Event, Snapshot, apply};
 use labels::LabelError;
-use matchers::{MatcherError, Query, QueryError, SelectorError};
+use matchers::{MatcherError, QueryError, SelectorError};
 use query_http::{answer, body};
 use std::alloc::Global;
 use std::net::{Net, TcpListener, TcpStream};
@@ -31,80 +31,53 @@ const FIRST_ALONE: &str =
     "{\"parts\":[{\"intervals\":[{\"from\":1,\"until\":2,\"verdict\":\"match\"},{\"from\":2,\"until\":4294967296,\"verdict\":1}],\"part\":\"head\",\"rows\":[{\"labels\":{\"__name__\":\"up\",\"job\":\"a\"},\"samples\":[[10,1],[20,1]]}],\"separators\":[1,2]}],\"rows\":[{\"labels\":{\"__name__\":\"up\",\"job\":\"a\"},\"samples\":[[10,1],[20,1]]}]}";
 
 /// The two batches of the demo.
-#[derive(Clone, Copy)]
 enum Batch {
     First,
     Second,
 }
 
-fn event_of(alloc: Global, batch: Batch) -> Option<Event> {
+/// The store after a batch more.
+fn after(alloc: Global, at: &Snapshot, batch: &Batch) -> Option<Snapshot> {
     let appender = match batch {
         Batch::First => first_batch(alloc),
         Batch::Second => second_batch(alloc),
     };
-    Some(appender.ok()?.into_event())
+    apply(alloc, at, &appender.ok()?.into_event()).ok()
 }
 
-fn event_again(alloc: Global, batch: Batch) -> Option<Event> {
-    match event_of(alloc, batch) {
-        None => event_of(alloc, batch),
+fn after_again(alloc: Global, at: &Snapshot, batch: &Batch) -> Option<Snapshot> {
+    match after(alloc, at, batch) {
+        None => after(alloc, at, batch),
         made => made,
-    }
-}
-
-fn empty_store(alloc: Global) -> Option<Snapshot> {
-    Snapshot::opening(alloc, Vec::new(alloc)).ok()
-}
-
-fn empty_again(alloc: Global) -> Option<Snapshot> {
-    match empty_store(alloc) {
-        None => empty_store(alloc),
-        made => made,
-    }
-}
-
-/// The store after a batch more.
-fn after_again(alloc: Global, at: &Snapshot, batch: Batch) -> Option<Snapshot> {
-    let event = event_again(alloc, batch)?;
-    match apply(alloc, at, &event) {
-        Err(CommitError::Memory) => apply(alloc, at, &event).ok(),
-        made => made.ok(),
     }
 }
 
 /// An empty store after these batches.
 fn store_of(alloc: Global, batches: &[Batch]) -> Option<Snapshot> {
-    let mut store = empty_again(alloc)?;
+    let mut store = match Snapshot::opening(alloc, Vec::new(alloc)) {
+        Err(_) => Snapshot::opening(alloc, Vec::new(alloc)).ok()?,
+        Ok(store) => store,
+    };
     for batch in batches {
-        store = after_again(alloc, &store, *batch)?;
+        store = after_again(alloc, &store, batch)?;
     }
     Some(store)
 }
 
-/// The query `up{job="a"}` in a closed range of times.
-fn query_again(alloc: Global, from: i64, to: i64) -> Option<Query> {
-    match query(alloc, from, to) {
-        Err(Fault::Memory) => query(alloc, from, to).ok(),
-        made => made.ok(),
-    }
-}
-
-/// The text of the answer of a store.
-fn text_of(alloc: Global, store: &Snapshot, query: &Query) -> Option<Vec<u8>> {
-    let answer = answer(alloc, store, query).ok()?;
+/// The text of the answer of a store to `up{job="a"}` in a closed range of times.
+fn text_of(alloc: Global, store: &Snapshot, from: i64, to: i64) -> Option<Vec<u8>> {
+    let query = query(alloc, from, to).ok()?;
+    let answer = answer(alloc, store, &query).ok()?;
     body(alloc, answer.parts.as_slice(), answer.rows.as_slice()).ok()
 }
 
-fn text_again(alloc: Global, store: &Snapshot, query: &Query) -> Option<Vec<u8>> {
-    match text_of(alloc, store, query) {
-        None => text_of(alloc, store, query),
+/// Whether a store answers with this text, if not when first asked, then when asked again.
+fn tells(alloc: Global, store: &Snapshot, from: i64, to: i64, text: &str) -> bool {
+    let told = match text_of(alloc, store, from, to) {
+        None => text_of(alloc, store, from, to),
         told => told,
-    }
-}
-
-/// Whether a store answers with this text.
-fn tells(alloc: Global, store: &Snapshot, query: &Query, text: &str) -> bool {
-    match text_again(alloc, store, query) {
+    };
+    match told {
         Some(told) => told.as_slice() == text.as_bytes(),
         None => false,
     }
@@ -118,34 +91,24 @@ const ASKED: &[(&[Batch], i64, i64, &str)] = &[
     (&[], 0, 100, NOTHING),
 ];
 
-fn is_answered(alloc: Global, batches: &[Batch], from: i64, to: i64, text: &str) -> bool {
-    match (store_of(alloc, batches), query_again(alloc, from, to)) {
-        (Some(store), Some(query)) => tells(alloc, &store, &query, text),
-        _ => false,
-    }
-}
-
 #[test]
 fn an_answer_is_told_byte_for_byte(rt: HostRuntime) {
     for (batches, from, to, text) in ASKED {
-        assert!(rt;
-            is_answered(rt.alloc(), batches, *from, *to, text),
-            "{text}"
-        );
+        let store = store_of(rt.alloc(), batches).expect(&rt, "there is memory");
+        assert!(rt; tells(rt.alloc(), &store, *from, *to, text), "{text}");
     }
 }
 
 /// Whether a store before the batches of the demo, after the first and after both answers as each
 /// of them should, once all three are there.
 fn answers_again(alloc: Global) -> Option<bool> {
-    let query = query_again(alloc, 0, 100)?;
-    let empty = empty_again(alloc)?;
-    let one = after_again(alloc, &empty, Batch::First)?;
-    let two = after_again(alloc, &one, Batch::Second)?;
+    let empty = store_of(alloc, &[])?;
+    let one = after_again(alloc, &empty, &Batch::First)?;
+    let two = after_again(alloc, &one, &Batch::Second)?;
     Some(
-        tells(alloc, &empty, &query, NOTHING)
-            && tells(alloc, &one, &query, FIRST_ALONE)
-            && tells(alloc, &two, &query, DEMO),
+        tells(alloc, &empty, 0, 100, NOTHING)
+            && tells(alloc, &one, 0, 100, FIRST_ALONE)
+            && tells(alloc, &two, 0, 100, DEMO),
     )
 }
 
@@ -156,7 +119,6 @@ fn a_call_refused_memory_changes_nothing_and_answers_when_made_again(rt: HostRun
 }
 
 /// Why a call failed.
-#[derive(Clone, Copy)]
 enum Cause {
     Labels(LabelError),
     Matcher(MatcherError),
@@ -166,14 +128,14 @@ enum Cause {
     Block(BlockError),
 }
 
-fn fault_of(cause: Cause) -> Fault {
+fn fault_of(cause: &Cause) -> Fault {
     match cause {
-        Cause::Labels(error) => error.into(),
-        Cause::Matcher(error) => error.into(),
-        Cause::Selector(error) => error.into(),
-        Cause::Query(error) => error.into(),
-        Cause::Commit(error) => error.into(),
-        Cause::Block(error) => error.into(),
+        Cause::Labels(error) => (*error).into(),
+        Cause::Matcher(error) => (*error).into(),
+        Cause::Selector(error) => (*error).into(),
+        Cause::Query(error) => (*error).into(),
+        Cause::Commit(error) => (*error).into(),
+        Cause::Block(error) => (*error).into(),
     }
 }
 
@@ -201,32 +163,23 @@ fn is_told(alloc: Global, fault: &Fault, line: &str) -> bool {
 }
 
 #[test]
-fn the_line_of_each_fault_has_its_cause(rt: HostRuntime) {
+fn the_line_of_each_fault_has_its_cause_or_the_path_that_cannot_be_read(rt: HostRuntime) {
     for (cause, line) in LINES {
-        assert!(rt; is_told(rt.alloc(), &fault_of(*cause), line), "{line}");
+        assert!(rt; is_told(rt.alloc(), &fault_of(cause), line), "{line}");
     }
-}
-
-#[test]
-fn the_line_of_a_file_that_cannot_be_read_has_its_path(rt: HostRuntime) {
     let path = String::from_str(rt.alloc(), "a/index").ok();
     let fault = Fault::CannotRead(path.expect(&rt, "there is memory"));
     assert!(rt; is_told(rt.alloc(), &fault, "cannot read a/index\n"));
 }
 
 #[test]
-fn a_writer_that_refuses_is_told(rt: HostRuntime) {
+fn a_writer_that_refuses_is_told_and_a_fault_that_cannot_be_told_keeps_its_status(rt: HostRuntime) {
     let mut room = [0u8; 100];
     let mut out = room.as_mut_slice();
     let mut err = Vec::new(rt.alloc());
     let ending = ending_of(&rt, rt.alloc(), &DIRECTORIES, &["demo"], &mut out, &mut err);
-    let ending = ending.expect(&rt, "there is memory");
-    assert!(rt; ending.status == 3);
+    assert!(rt; ending.expect(&rt, "there is memory").status == 3);
     assert!(rt; err.as_slice() == b"cannot write\n".as_slice());
-}
-
-#[test]
-fn a_fault_that_cannot_be_told_keeps_its_status(rt: HostRuntime) {
     let mut out = Vec::new(rt.alloc());
     let mut room = [0u8; 5];
     let mut err = room.as_mut_slice();
@@ -237,27 +190,23 @@ fn a_fault_that_cannot_be_told_keeps_its_status(rt: HostRuntime) {
     assert!(rt; out.is_empty());
 }
 
-/// Whether a run wrote so many bytes, or told that a writer refused, or that there is no memory.
-fn is_whole_or_refused(told: &Told, whole: usize) -> bool {
+/// Whether a run with these words wrote so many bytes, or told that a writer refused, or that there
+/// is no memory.
+fn is_run_or_refused<
+    Q: Wait + Threads + Net<Listener = TcpListener, Stream = TcpStream> + Clock + Eprint + Sync,
+>(rt: &Q, alloc: Global, words: &[&str], whole: usize) -> bool {
+    let told = match told_by(rt, alloc, &DIRECTORIES, words) {
+        None => told_by(rt, alloc, &DIRECTORIES, words),
+        told => told,
+    };
+    let Some(told) = told else {
+        return false;
+    };
     match told.status {
         0 => told.out.len() == whole,
         3 => told.err.as_slice() == b"cannot write\n".as_slice(),
         4 => told.out.is_empty() && told.err.as_slice() == b"no memory\n".as_slice(),
         _ => false,
-    }
-}
-
-/// Whether a run with these words is whole or refused.
-fn is_run_or_refused<
-    Q: Wait + Threads + Net<Listener = TcpListener, Stream = TcpStream> + Clock + Eprint + Sync,
->(rt: &Q, alloc: Global, words: &[&str], whole: usize) -> bool {
-    let told = match told_by(rt, alloc, &DIRECTORIES, words) {
-        Err(_) => told_by(rt, alloc, &DIRECTORIES, words),
-        told => told,
-    };
-    match told {
-        Ok(told) => is_whole_or_refused(&told, whole),
-        Err(_) => false,
     }
 }
 

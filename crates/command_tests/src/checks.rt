@@ -1,6 +1,6 @@
 //! What `check` prints of directories.
 
-use crate::directories::{CHUNKS, INDEX, Pieces};
+use crate::directories::{CHUNKS, INDEX, joined};
 use crate::rows::{Extent, Row, assert_given};
 
 /// Of each file the first check that fails, in the order of the files and of the checks.
@@ -75,26 +75,20 @@ const IN_ORDER: &[Row<'_>] = &[
     ),
 ];
 
-fn length_of(pieces: Pieces) -> usize {
-    let mut length: usize = 0;
-    for piece in pieces {
-        length = length.saturating_add(piece.len());
-    }
-    length
-}
-
 #[test]
 fn the_worked_files_have_their_lengths(rt: HostRuntime) {
-    assert!(rt; length_of(INDEX) == 442);
-    assert!(rt; length_of(CHUNKS) == 152);
+    let index = joined(rt.alloc(), INDEX)
+        .ok()
+        .expect(&rt, "there is memory");
+    assert!(rt; index.len() == 442);
+    let chunks = joined(rt.alloc(), CHUNKS)
+        .ok()
+        .expect(&rt, "there is memory");
+    assert!(rt; chunks.len() == 152);
 }
 
 #[test]
-fn each_block_is_told_in_its_line(rt: HostRuntime) {
-    assert_given(&rt, rt.alloc(), JUDGED, Extent::Whole);
-}
-
-#[test]
-fn directories_are_told_in_their_order(rt: HostRuntime) {
-    assert_given(&rt, rt.alloc(), IN_ORDER, Extent::Whole);
+fn each_block_is_told_in_its_line_and_directories_in_their_order(rt: HostRuntime) {
+    assert_given(&rt, rt.alloc(), JUDGED, &Extent::Whole);
+    assert_given(&rt, rt.alloc(), IN_ORDER, &Extent::Whole);
 }

@@ -22,11 +22,8 @@ fn place_of(name: &str) -> usize {
     }
 }
 
-/// Directories in memory.
-#[derive(Drop)]
-pub struct Directories {
-    pub all: &'static [Directory],
-}
+/// The directories in memory that the runs of the tests read.
+pub struct Directories;
 
 /// The bytes of pieces, one after another.
 pub fn join_pieces(alloc: Global, pieces: Pieces) -> Result<Vec<u8>, AllocError> {
@@ -43,7 +40,7 @@ impl ReadFiles for Directories {
     ghost may_read = { λ _ _ _. ⊤ };
 
     fn read_file(&self, alloc: Global, path: &str, most: usize) -> Result<Vec<u8>, ReadError> {
-        for (directory, files) in self.all {
+        for (directory, files) in READ {
             if let Some(name) = path.strip_prefix(*directory) {
                 let pieces: Pieces = files.get(place_of(name)).copied().unwrap_or(&[]);
                 if !pieces.is_empty() {
@@ -203,4 +200,4 @@ const READ: &[Directory] = &[
     ("b", [META, B_INDEX, B_CHUNKS, NOTHING_DELETED]),
 ];
 
-pub const DIRECTORIES: Directories = Directories { all: READ };
+pub const DIRECTORIES: Directories = Directories;

@@ -57,7 +57,7 @@ fn files_of_the_host_are_read(rt: HostRuntime) {
     let line = format!(in rt.alloc(); "{folder}: ok 6 series 6 samples\n").ok();
     let line = line.expect(&rt, "there is memory");
     let whole = (words.as_slice(), 0, line.as_str(), "");
-    assert!(rt; is_given(&rt, rt.alloc(), &rt, &whole, Extent::Whole));
+    assert!(rt; is_given(&rt, rt.alloc(), &rt, &whole, &Extent::Whole));
     for (most, length) in LENGTHS {
         assert!(rt; has_length(&rt, *most, *length), "{most}");
     }
@@ -65,6 +65,6 @@ fn files_of_the_host_are_read(rt: HostRuntime) {
     let line = format!(in rt.alloc(); "cannot read {folder}/tombstones\n").ok();
     let line = line.expect(&rt, "there is memory");
     let torn = (words.as_slice(), 3, "", line.as_str());
-    assert!(rt; is_given(&rt, rt.alloc(), &rt, &torn, Extent::Whole));
+    assert!(rt; is_given(&rt, rt.alloc(), &rt, &torn, &Extent::Whole));
     assert!(rt; fs::remove_dir_all(&rt, folder).is_ok());
 }

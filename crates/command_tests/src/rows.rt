@@ -3,7 +3,7 @@
 use crate::directories::DIRECTORIES;
 use commands::ReadFiles;
 use commands::run::{Ending, run};
-use std::alloc::{AllocError, Global};
+use std::alloc::Global;
 use std::io::{self, Write};
 use std::net::{Net, TcpListener, TcpStream};
 use std::process::Abort;
@@ -16,7 +16,6 @@ use std::time::Clock;
 pub type Row<'a> = (&'a [&'a str], u8, &'a str, &'a str);
 
 /// How much of what goes to a writer a row has.
-#[derive(Clone, Copy)]
 pub enum Extent {
     /// All of it.
     Whole,
@@ -24,28 +23,17 @@ pub enum Extent {
     Piece,
 }
 
-/// Whether bytes are a text in which a piece stands, and none for the empty piece.
-fn has_piece(bytes: &[u8], piece: &str) -> bool {
+/// Whether bytes are what a row has: a text in which a piece stands, and none for the empty piece.
+fn fits(bytes: &[u8], text: &str, extent: &Extent) -> bool {
     match str::from_utf8(bytes) {
-        Ok(text) => text.contains(piece) && text.is_empty() == piece.is_empty(),
+        Ok(told) => {
+            match extent {
+                Extent::Whole => told == text,
+                Extent::Piece => told.contains(text) && told.is_empty() == text.is_empty(),
+            }
+        }
         Err(_) => false,
     }
-}
-
-/// Whether bytes are what a row has.
-fn fits(bytes: &[u8], text: &str, extent: Extent) -> bool {
-    match extent {
-        Extent::Whole => bytes == text.as_bytes(),
-        Extent::Piece => has_piece(bytes, text),
-    }
-}
-
-fn words_of(alloc: Global, words: &[&str]) -> Result<Vec<String>, AllocError> {
-    let mut all = Vec::new(alloc);
-    for word in words {
-        all.push(String::from_str(alloc, word)?)?;
-    }
-    Ok(all)
 }
 
 /// How a run ends, which writes to these writers.
@@ -54,17 +42,13 @@ pub fn ending_of<
     F: ReadFiles,
     W: Write,
     E: Write,
->(
-    rt: &Q,
-    alloc: Global,
-    files: &F,
-    words: &[&str],
-    out: &mut W,
-    err: &mut E,
-) -> Result<Ending, AllocError> {
-    let words = words_of(alloc, words)?;
+>(rt: &Q, alloc: Global, files: &F, words: &[&str], out: &mut W, err: &mut E) -> Option<Ending> {
+    let mut given = Vec::new(alloc);
+    for word in words {
+        given.push(String::from_str(alloc, word).ok()?).ok()?;
+    }
     let input = &mut io::empty();
-    Ok(run(rt, alloc, files, words.as_slice(), input, out, err))
+    Some(run(rt, alloc, files, given.as_slice(), input, out, err))
 }
 
 /// What a run gives: how it ends, and what it writes to both writers.
@@ -78,25 +62,25 @@ pub struct Told {
 pub fn told_by<
     Q: Wait + Threads + Net<Listener = TcpListener, Stream = TcpStream> + Clock + Eprint + Sync,
     F: ReadFiles,
->(rt: &Q, alloc: Global, files: &F, words: &[&str]) -> Result<Told, AllocError> {
+>(rt: &Q, alloc: Global, files: &F, words: &[&str]) -> Option<Told> {
     let mut out = Vec::new(alloc);
     let mut err = Vec::new(alloc);
     let status = ending_of(rt, alloc, files, words, &mut out, &mut err)?.status;
-    Ok(Told { status, out, err })
+    Some(Told { status, out, err })
 }
 
 /// Whether a row is what the program gives over these files.
 pub fn is_given<
     Q: Wait + Threads + Net<Listener = TcpListener, Stream = TcpStream> + Clock + Eprint + Sync,
     F: ReadFiles,
->(rt: &Q, alloc: Global, files: &F, row: &Row<'_>, extent: Extent) -> bool {
+>(rt: &Q, alloc: Global, files: &F, row: &Row<'_>, extent: &Extent) -> bool {
     match told_by(rt, alloc, files, row.0) {
-        Ok(told) => {
+        Some(told) => {
             told.status == row.1
                 && fits(told.out.as_slice(), row.2, extent)
                 && fits(told.err.as_slice(), row.3, extent)
         }
-        Err(_) => false,
+        None => false,
     }
 }
 
@@ -109,7 +93,7 @@ pub fn assert_given<
         + Clock
         + Eprint
         + Sync,
->(rt: &Q, alloc: Global, rows: &[Row<'_>], extent: Extent) {
+>(rt: &Q, alloc: Global, rows: &[Row<'_>], extent: &Extent) {
     for row in rows {
         assert!(rt;
             is_given(rt, alloc, &DIRECTORIES, row, extent),

@@ -23,7 +23,7 @@ const SIXTY_THREE: &[&str] = &[
     "a", "b", "a", "b", "a", "b", "a", "b", "a",
 ];
 
-/// Of each sample the last of the directories that has it is told.
+/// Of each sample the last of the directories that has it is told, of as many as a store has blocks.
 const OF_MANY: &[Row<'_>] = &[(
     SIXTY_THREE,
     0,
@@ -111,16 +111,10 @@ const AT_FAULT: &[Row<'_>] = &[
 ];
 
 #[test]
-fn a_selection_is_answered_over_the_blocks_in_their_order(rt: HostRuntime) {
-    assert_given(&rt, rt.alloc(), ANSWERED, Extent::Whole);
-}
-
-#[test]
-fn the_first_fault_of_a_selection_is_told_and_nothing_is_printed(rt: HostRuntime) {
-    assert_given(&rt, rt.alloc(), AT_FAULT, Extent::Whole);
-}
-
-#[test]
-fn a_selection_is_answered_over_as_many_blocks_as_a_store_has(rt: HostRuntime) {
-    assert_given(&rt, rt.alloc(), OF_MANY, Extent::Piece);
+fn a_selection_is_answered_over_the_blocks_in_their_order_or_its_first_fault_is_told(
+    rt: HostRuntime,
+) {
+    assert_given(&rt, rt.alloc(), ANSWERED, &Extent::Whole);
+    assert_given(&rt, rt.alloc(), AT_FAULT, &Extent::Whole);
+    assert_given(&rt, rt.alloc(), OF_MANY, &Extent::Piece);
 }

@@ -2,7 +2,6 @@
 
 use crate::directories::DIRECTORIES;
 use crate::rows::{Extent, Row, assert_given, is_given};
-use std::io;
 use std::net::TcpListener;
 
 /// The words that are at fault, a directory that cannot be read, and what is told where all is
@@ -37,19 +36,23 @@ const SERVED: &[Row<'_>] = &[
     (&["serve", "--help"], 0, "POST /cut", ""),
 ];
 
+/// It tells a port that is in use too.
 #[test]
 fn a_server_tells_its_port_or_why_it_does_not_serve(rt: HostRuntime) {
-    assert_given(&rt, rt.alloc(), SERVED, Extent::Piece);
-}
-
-#[test]
-fn a_port_in_use_is_told(rt: HostRuntime) -> io::Result<()> {
-    let listener = TcpListener::bind(&rt, "127.0.0.1:0")?;
-    let port = listener.local_addr()?.port();
-    let word = format!(in rt.alloc(); "--port={port}")?;
-    let line = format!(in rt.alloc(); "cannot listen on 127.0.0.1:{port}\n")?;
+    assert_given(&rt, rt.alloc(), SERVED, &Extent::Piece);
+    let listener = TcpListener::bind(&rt, "127.0.0.1:0").ok();
+    let listener = listener.expect(&rt, "a port is free");
+    let port = listener
+        .local_addr()
+        .ok()
+        .expect(&rt, "it has an address")
+        .port();
+    let word = format!(in rt.alloc(); "--port={port}")
+        .ok()
+        .expect(&rt, "there is memory");
+    let line = format!(in rt.alloc(); "cannot listen on 127.0.0.1:{port}\n").ok();
+    let line = line.expect(&rt, "there is memory");
     let words = ["serve", word.as_str()];
     let row = (words.as_slice(), 3, "", line.as_str());
-    assert!(rt; is_given(&rt, rt.alloc(), &DIRECTORIES, &row, Extent::Whole));
-    Ok(())
+    assert!(rt; is_given(&rt, rt.alloc(), &DIRECTORIES, &row, &Extent::Whole));
 }

@@ -9,8 +9,9 @@ use head::{Event, Snapshot, apply};
 use labels::{LabelSet, Sample, is_time};
 use matchers::{Query, Selector};
 use postings::PartName;
-use query_http::{answer, answer_by_workers, body};
-use std::alloc::Global;
+use query_http::{AuditedAnswer, answer, answer_by_workers, body};
+use std::alloc::{AllocError, Global};
+use std::cell::Cell;
 use std::thread::Threads;
 
 const SERIES: [(&str, &str, &str); 6] = [
@@ -22,55 +23,45 @@ const SERIES: [(&str, &str, &str); 6] = [
     ("up", "a", "x"),
 ];
 
-fn label(alloc: Global, name: &str, value: &str) -> Option<(String, String)> {
-    let name = String::from_str(alloc, name).ok()?;
-    let value = String::from_str(alloc, value).ok()?;
-    Some((name, value))
-}
-
 fn labels(alloc: Global, name: &str, job: &str, zone: &str) -> Option<LabelSet> {
-    let name = label(alloc, "__name__", name)?;
-    let job = label(alloc, "job", job)?;
-    let zone = label(alloc, "zone", zone)?;
-    let pairs = vec![in alloc; name, job, zone].ok()?;
+    let mut pairs = Vec::new(alloc);
+    for (name, value) in [("__name__", name), ("job", job), ("zone", zone)] {
+        let name = String::from_str(alloc, name).ok()?;
+        pairs
+            .push((name, String::from_str(alloc, value).ok()?))
+            .ok()?;
+    }
     LabelSet::new(alloc, pairs).ok()
 }
 
-fn batch(samples: Vec<(LabelSet, Sample)>) -> Option<Event> {
+/// The snapshot after a batch of these samples.
+fn after(alloc: Global, at: &Snapshot, samples: Vec<(LabelSet, Sample)>) -> Option<Snapshot> {
     if !Event::is_batch(&samples) {
         return None;
     }
-    Some(Event::batch(samples))
+    apply(alloc, at, &Event::batch(samples)).ok()
 }
 
-/// A sample of each of the six series at this time.
-fn at(alloc: Global, t: i64) -> Option<Event> {
+/// The snapshot after a sample more of each of the six series, at this time.
+fn with_six(alloc: Global, at: &Snapshot, t: i64) -> Option<Snapshot> {
     let mut samples = Vec::new(alloc);
     for (name, job, zone) in SERIES {
         let labels = labels(alloc, name, job, zone)?;
         samples.push((labels, Sample::new(t, t))).ok()?;
     }
-    batch(samples)
+    after(alloc, at, samples)
 }
 
-fn empty(alloc: Global) -> Option<Snapshot> {
-    Snapshot::opening(alloc, Vec::new(alloc)).ok()
-}
-
-/// A sample of the series `up` whose job is a number.
-fn sample_of_job(alloc: Global, n: u32) -> Option<(LabelSet, Sample)> {
-    let job = format!(in alloc; "{n}").ok()?;
-    let labels = labels(alloc, "up", job.as_str(), "")?;
-    Some((labels, Sample::new(10, 1)))
-}
-
-/// As many series of one sample, at time 10.
-fn many_series(alloc: Global, count: u32) -> Option<Event> {
+/// The snapshot after a sample more, at time 10, of each of so many series `up` whose jobs are
+/// numbers.
+fn with_many(alloc: Global, at: &Snapshot, count: u32) -> Option<Snapshot> {
     let mut samples = Vec::new(alloc);
     for n in 0..count {
-        samples.push(sample_of_job(alloc, n)?).ok()?;
+        let job = format!(in alloc; "{n}").ok()?;
+        let labels = labels(alloc, "up", job.as_str(), "")?;
+        samples.push((labels, Sample::new(10, 1))).ok()?;
     }
-    batch(samples)
+    after(alloc, at, samples)
 }
 
 /// The snapshot with what was before a time as a block of its own.
@@ -81,27 +72,22 @@ fn cut(alloc: Global, snapshot: &Snapshot, t: i64) -> Option<Snapshot> {
     apply(alloc, snapshot, &Event::cut(t)).ok()
 }
 
-/// The snapshot with one more block, of the six series at this time.
-fn with_block(alloc: Global, snapshot: &Snapshot, t: i64) -> Option<Snapshot> {
-    let more = apply(alloc, snapshot, &at(alloc, t)?).ok()?;
-    cut(alloc, &more, t.saturating_add(5))
-}
-
 /// As many blocks of the six series, ten milliseconds apart, and an empty head.
 fn blocks(alloc: Global, count: u32) -> Option<Snapshot> {
-    let mut snapshot = empty(alloc)?;
+    let mut snapshot = Snapshot::opening(alloc, Vec::new(alloc)).ok()?;
     for n in 0..count {
         let t = i64::from(n).saturating_mul(10);
-        snapshot = with_block(alloc, &snapshot, t)?;
+        let more = with_six(alloc, &snapshot, t)?;
+        snapshot = cut(alloc, &more, t.saturating_add(5))?;
     }
     Some(snapshot)
 }
 
 /// A block of 4,000 series, and a head of the six.
 fn block_and_head(alloc: Global) -> Option<Snapshot> {
-    let head = apply(alloc, &empty(alloc)?, &many_series(alloc, 4_000)?).ok()?;
+    let head = with_many(alloc, &blocks(alloc, 0)?, 4_000)?;
     let block = cut(alloc, &head, 15)?;
-    apply(alloc, &block, &at(alloc, 20)?).ok()
+    with_six(alloc, &block, 20)
 }
 
 fn query(alloc: Global, selector: &str) -> Option<Query> {
@@ -109,120 +95,95 @@ fn query(alloc: Global, selector: &str) -> Option<Query> {
     Query::new(matchers, 0, 1_000).ok()
 }
 
-/// Of a search over the six series in a head: how many lists of pairs were lent, how many values
-/// told, whether all lists moved no more often than is told, and how many rows there are.
-fn count_walk(alloc: Global, selector: &str) -> Option<(u64, u64, bool, usize)> {
-    let snapshot = apply(alloc, &empty(alloc)?, &at(alloc, 10)?).ok()?;
-    let counting = Counting::new(snapshot.head());
+/// Of a search over a head: how many lists of pairs were lent, how many values told, whether all
+/// lists moved no more often than is told, and how many rows there are.
+type Walk = (u64, u64, bool, usize);
+
+/// Whether a search over the six series in a head walks so.
+fn walks(alloc: Global, selector: &str, want: &Walk) -> Option<bool> {
+    let snapshot = with_six(alloc, &blocks(alloc, 0)?, 10)?;
+    let counting = Counting {
+        source: snapshot.head(),
+        lists: Cell::new(0),
+        values: Cell::new(0),
+        moves: Cell::new(0),
+    };
     let query = query(alloc, selector)?;
     let answer = search_part(alloc, PartName::Head, &&counting, &query).ok()?;
-    Some((
-        counting.lists(),
-        counting.values(),
-        counting.moves() <= answer.cover.moves,
-        answer.rows.len(),
-    ))
+    let within = counting.moves.get() <= answer.cover.moves;
+    Some(
+        counting.lists.get() == want.0
+            && counting.values.get() == want.1
+            && within == want.2
+            && answer.rows.len() == want.3,
+    )
 }
+
+const WALKS: &[(&str, Walk)] = &[
+    (r#"up{job="a"}"#, (2, 0, true, 2)),
+    (r#"up{zone="x"}"#, (2, 0, true, 2)),
+    (r#"{job="z"}"#, (0, 0, true, 0)),
+    (r#"{__name__=~"u.*"}"#, (1, 2, true, 4)),
+    (r#"{job=~"a|b|z"}"#, (2, 0, true, 6)),
+];
 
 #[test]
 fn a_search_walks_no_other_list(rt: HostRuntime) {
-    for (selector, want) in [
-        (r#"up{job="a"}"#, (2, 0, true, 2)),
-        (r#"up{zone="x"}"#, (2, 0, true, 2)),
-        (r#"{job="z"}"#, (0, 0, true, 0)),
-        (r#"{__name__=~"u.*"}"#, (1, 2, true, 4)),
-        (r#"{job=~"a|b|z"}"#, (2, 0, true, 6)),
-    ] {
-        assert_eq!(rt; count_walk(rt.alloc(), selector), Some(want), "{selector}");
+    for (selector, want) in WALKS {
+        assert!(rt;
+            matches!(walks(rt.alloc(), selector, want), Some(true)),
+            "{selector}"
+        );
     }
 }
 
-/// The text of the answer that one thread gives.
-fn text_of_one(alloc: Global, snapshot: &Snapshot, query: &Query) -> Option<Vec<u8>> {
-    let answer = answer(alloc, snapshot, query).ok()?;
+/// The text of an answer.
+fn text_of(alloc: Global, answer: Result<AuditedAnswer, AllocError>) -> Option<Vec<u8>> {
+    let answer = answer.ok()?;
     body(alloc, &answer.parts, &answer.rows).ok()
 }
 
-/// The text of the answer that workers give.
-fn text_of_many<R: Threads + Sync>(
-    rt: &R,
-    alloc: Global,
-    snapshot: &Snapshot,
-    query: &Query,
-) -> Option<Vec<u8>> {
-    let answer = answer_by_workers(rt, alloc, snapshot, query).ok()?;
-    body(alloc, &answer.parts, &answer.rows).ok()
-}
-
-/// How long the text is of what workers answer to `up`, where one thread answers the same.
-fn length_of_both<R: Threads + Sync>(rt: &R, alloc: Global, snapshot: &Snapshot) -> Option<usize> {
-    let query = query(alloc, "up")?;
-    let one = text_of_one(alloc, snapshot, &query)?;
-    let many = text_of_many(rt, alloc, snapshot, &query)?;
-    if one.as_slice() != many.as_slice() {
-        return None;
-    }
-    Some(many.len())
-}
-
-/// Both texts are the same and at least so long: of each row two, of forty bytes at least.
+/// Whether workers answer `up` with the text that one thread gives, and it is longer than so many
+/// rows: each stands in it twice, of forty bytes at least.
 fn is_answered<R: Threads + Sync>(
     rt: &R,
     alloc: Global,
-    found: Option<Snapshot>,
+    snapshot: &Snapshot,
     rows: usize,
-) -> bool {
-    let Some(snapshot) = found else {
-        return false;
-    };
-    let least = rows.saturating_mul(80);
-    length_of_both(rt, alloc, &snapshot).is_some_and(|length| length > least)
+) -> Option<bool> {
+    let query = query(alloc, "up")?;
+    let one = text_of(alloc, answer(alloc, snapshot, &query))?;
+    let many = text_of(alloc, answer_by_workers(rt, alloc, snapshot, &query))?;
+    Some(one.as_slice() == many.as_slice() && many.len() > rows.saturating_mul(80))
 }
 
 #[test]
-fn workers_answer_as_one_thread_does_over_63_blocks(rt: HostRuntime) {
-    let snapshot = blocks(rt.alloc(), 63);
-    assert!(rt; is_answered(&rt, rt.alloc(), snapshot, 63 * 4));
-}
-
-#[test]
-fn workers_answer_as_one_thread_does_over_a_block_and_a_head(rt: HostRuntime) {
-    let snapshot = block_and_head(rt.alloc());
-    assert!(rt; is_answered(&rt, rt.alloc(), snapshot, 4_000 + 4));
-}
-
-const MERGED: &str =
-    r#""rows":[{"labels":{"__name__":"down","job":"a"},"samples":[[0,0],[10,10]]}]}"#;
-
-fn has_merged_row(text: &[u8]) -> bool {
-    text.ends_with(MERGED.as_bytes())
-}
-
-/// Two blocks, made again where memory was refused.
-fn two_blocks(alloc: Global) -> Option<Snapshot> {
-    match blocks(alloc, 2) {
-        None => blocks(alloc, 2),
-        Some(snapshot) => Some(snapshot),
-    }
-}
-
-/// A query of one series, made again where memory was refused.
-fn query_of_one(alloc: Global) -> Option<Query> {
-    match query(alloc, ONE) {
-        None => query(alloc, ONE),
-        Some(query) => Some(query),
-    }
+fn workers_answer_as_one_thread_does_over_63_blocks_and_over_a_block_and_a_head(rt: HostRuntime) {
+    let many = blocks(rt.alloc(), 63).expect(&rt, "63 blocks are made");
+    assert!(rt; matches!(is_answered(&rt, rt.alloc(), &many, 63 * 4), Some(true)));
+    let two = block_and_head(rt.alloc()).expect(&rt, "a block and a head are made");
+    assert!(rt; matches!(is_answered(&rt, rt.alloc(), &two, 4_000 + 4), Some(true)));
 }
 
 const ONE: &str = r#"down{job="a"}"#;
 
-/// The text of the answer over two blocks, asked for again where memory was refused.
+const MERGED: &str =
+    r#""rows":[{"labels":{"__name__":"down","job":"a"},"samples":[[0,0],[10,10]]}]}"#;
+
+/// The text of the answer over two blocks. The blocks, the query and the text are each made again
+/// where memory was refused.
 fn text_again<R: Threads + Sync>(rt: &R, alloc: Global) -> Option<Vec<u8>> {
-    let snapshot = two_blocks(alloc)?;
-    let query = query_of_one(alloc)?;
-    match text_of_many(rt, alloc, &snapshot, &query) {
-        None => text_of_many(rt, alloc, &snapshot, &query),
-        Some(text) => Some(text),
+    let snapshot = match blocks(alloc, 2) {
+        None => blocks(alloc, 2)?,
+        Some(snapshot) => snapshot,
+    };
+    let query = match query(alloc, ONE) {
+        None => query(alloc, ONE)?,
+        Some(query) => query,
+    };
+    match text_of(alloc, answer_by_workers(rt, alloc, &snapshot, &query)) {
+        None => text_of(alloc, answer_by_workers(rt, alloc, &snapshot, &query)),
+        text => text,
     }
 }
 
@@ -230,6 +191,6 @@ fn text_again<R: Threads + Sync>(rt: &R, alloc: Global) -> Option<Vec<u8>> {
 /// blocks, of the search by workers, of the merge and of the text.
 #[test]
 fn an_answer_refused_memory_is_the_same_when_asked_for_again(rt: HostRuntime) {
-    let text = text_again(&rt, rt.alloc());
-    assert!(rt; text.is_some_and(|text| has_merged_row(&text)));
+    let text = text_again(&rt, rt.alloc()).expect(&rt, "the second call is not refused memory");
+    assert!(rt; text.ends_with(MERGED.as_bytes()));
 }

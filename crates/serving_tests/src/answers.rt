@@ -117,17 +117,12 @@ fn block_of(alloc: Global, spelled: &Spelled) -> Option<Block> {
     Block::open(alloc, range, &index, chunks, spelled.tombstones).ok()
 }
 
-fn blocks_of(alloc: Global, spelled: &[&Spelled]) -> Option<Vec<Block>> {
+/// The store of these blocks and an empty head.
+fn store_of(alloc: Global, spelled: &[&Spelled]) -> Option<Snapshot> {
     let mut blocks = Vec::new(alloc);
     for one in spelled {
         blocks.push(block_of(alloc, one)?).ok()?;
     }
-    Some(blocks)
-}
-
-/// The store of these blocks and an empty head.
-fn store_of(alloc: Global, spelled: &[&Spelled]) -> Option<Snapshot> {
-    let blocks = blocks_of(alloc, spelled)?;
     if blocks.len() > 63 {
         return None;
     }
@@ -191,15 +186,13 @@ fn of_two_blocks_at_one_time_the_later_stands(rt: HostRuntime) {
 /// The name, the job and the zone of a series; there is no zone where it is empty.
 type Set = (&'static str, &'static str, &'static str);
 
-fn pair_of(alloc: Global, name: &str, value: &str) -> Option<(String, String)> {
-    let name = String::from_str(alloc, name).ok()?;
-    Some((name, String::from_str(alloc, value).ok()?))
-}
-
 fn labels_of(alloc: Global, set: &Set) -> Option<LabelSet> {
     let mut pairs = Vec::new(alloc);
     for (name, value) in [("__name__", set.0), ("job", set.1), ("zone", set.2)] {
-        pairs.push(pair_of(alloc, name, value)?).ok()?;
+        let name = String::from_str(alloc, name).ok()?;
+        pairs
+            .push((name, String::from_str(alloc, value).ok()?))
+            .ok()?;
     }
     LabelSet::new(alloc, pairs).ok()
 }
@@ -225,14 +218,6 @@ fn after(alloc: Global, at: &Snapshot, wanted: &[Wanted]) -> Result<Snapshot, Co
     }
 }
 
-/// Whether a sample more is refused so.
-fn refuses(alloc: Global, at: &Snapshot, sample: Wanted, refusal: CommitError) -> bool {
-    match after(alloc, at, &[sample]) {
-        Ok(_) => false,
-        Err(other) => other == refusal,
-    }
-}
-
 const UP_A: Set = ("up", "a", "");
 
 /// What both blocks and the sample (20, 5) answer together.
@@ -243,14 +228,8 @@ const WITH_HEAD: &str =
 fn the_head_begins_at_the_end_of_the_blocks(rt: HostRuntime) {
     let alloc = rt.alloc();
     let store = store_of(alloc, A_THEN_B.0).expect(&rt, "both blocks open");
-    assert!(rt;
-        refuses(
-            alloc,
-            &store,
-            (UP_A, 19, 5),
-            CommitError::OutOfBounds { at: 0 }
-        )
-    );
+    let early = after(alloc, &store, &[(UP_A, 19, 5)]);
+    assert!(rt; matches!(early, Err(CommitError::OutOfBounds { at: 0 })));
     let after = after(alloc, &store, &[(UP_A, 20, 5)]).ok();
     let after = after.expect(&rt, "it is not below the floor");
     assert!(rt; is_text(text_of(alloc, &after, UP), WITH_HEAD));

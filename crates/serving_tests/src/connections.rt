@@ -18,21 +18,7 @@ const ROOM: usize = 2000;
 
 /// How a connection gives and takes bytes: at most so many at a time, in so many reads, and with
 /// room for so many.
-#[derive(Clone, Copy)]
-struct Edge {
-    at_most: usize,
-    reads: usize,
-    room: usize,
-}
-
-/// All bytes, so many at a time.
-fn pieces_of(at_most: usize) -> Edge {
-    Edge {
-        at_most,
-        reads: usize::MAX,
-        room: usize::MAX,
-    }
-}
+type Edge = (usize, usize, usize);
 
 /// How a connection is served, and what is written; nothing where there is no memory to write to.
 fn serve<J: Naming, R: Wait + Drop>(
@@ -42,17 +28,18 @@ fn serve<J: Naming, R: Wait + Drop>(
     input: &[u8],
     edge: Edge,
 ) -> Option<(Served, Vec<u8>)> {
+    let (at_most, reads, room) = edge;
     let bytes = Vec::with_capacity(alloc, ROOM).ok()?;
     let mut reader = Script {
         rest: input,
-        at_most: edge.at_most,
-        reads: edge.reads,
+        at_most,
+        reads,
         failed: 0,
     };
     let mut writer = Sink {
         bytes,
-        room: edge.room,
-        at_most: edge.at_most,
+        room,
+        at_most,
         failed: 0,
     };
     let served = serve_one(
@@ -73,39 +60,24 @@ fn serve<J: Naming, R: Wait + Drop>(
     Some((served, bytes))
 }
 
-/// How a connection is to be served, and what is to be written.
-type Want<'a> = (Served, &'a [u8]);
-
-/// Whether a connection is served so, and exactly this is written.
-fn is_served<J: Naming, R: Wait + Drop>(
-    rt: &impl Wait,
-    alloc: Global,
-    store: &mut EmptyStore<J, R>,
-    input: &[u8],
-    edge: Edge,
-    want: Want<'_>,
-) -> bool {
-    match serve(rt, alloc, store, input, edge) {
-        Some((served, bytes)) => served == want.0 && bytes.as_slice() == want.1,
-        None => false,
-    }
-}
-
 /// The same, where a connection that is refused memory, and gets nothing, is made again.
-fn is_served_again<J: Naming, R: Wait + Drop>(
+fn serve_again<J: Naming, R: Wait + Drop>(
     rt: &impl Wait,
     alloc: Global,
     store: &mut EmptyStore<J, R>,
     input: &[u8],
     edge: Edge,
-    want: Want<'_>,
-) -> bool {
+) -> Option<(Served, Vec<u8>)> {
     match serve(rt, alloc, store, input, edge) {
         Some((Served::NoMemory, bytes)) => {
-            bytes.is_empty() && is_served(rt, alloc, store, input, edge, want)
+            if bytes.is_empty() {
+                serve(rt, alloc, store, input, edge)
+            } else {
+                None
+            }
         }
-        Some((served, bytes)) => served == want.0 && bytes.as_slice() == want.1,
-        None => is_served(rt, alloc, store, input, edge, want),
+        None => serve(rt, alloc, store, input, edge),
+        served => served,
     }
 }
 
@@ -305,63 +277,17 @@ const READ_BACK: Session = &[
     (SELECT_ALL, Way::RepliedBefore, ODD_ROWS),
 ];
 
-/// Whether a reply ends with this.
-fn is_replied_before<J: Naming, R: Wait + Drop>(
-    rt: &impl Wait,
-    alloc: Global,
-    store: &mut EmptyStore<J, R>,
-    input: &[u8],
-    edge: Edge,
-    end: &[u8],
-) -> bool {
-    match serve(rt, alloc, store, input, edge) {
-        Some((served, bytes)) => { served == Served::Replied(Status::Done) && bytes.ends_with(end) }
-        None => false,
-    }
-}
-
-/// Whether a writer that fails behind each prefix of the reply has taken that prefix.
-fn is_cut_short<J: Naming, R: Wait + Drop>(
-    rt: &impl Wait,
-    alloc: Global,
-    store: &mut EmptyStore<J, R>,
-    input: &[u8],
-    at_most: usize,
-    text: &[u8],
-) -> bool {
-    for room in 0..text.len() {
-        let edge = Edge {
-            room,
-            ..pieces_of(at_most)
-        };
-        let want = (Served::WriteFault, &text[..room]);
-        if !is_served(rt, alloc, store, input, edge, want) {
-            return false;
+/// Whether a connection of a step is served as the step says, and this is written.
+fn went(way: &Way, number: usize, served: Served, bytes: &[u8], text: &[u8]) -> bool {
+    match way {
+        Way::Replied(status) => served == Served::Replied(*status) && bytes == text,
+        Way::RepliedBefore => served == Served::Replied(Status::Done) && bytes.ends_with(text),
+        Way::Closed => served == Served::Closed && bytes == text,
+        Way::CutShort => {
+            served == Served::WriteFault && bytes.len() == number && text.starts_with(bytes)
         }
+        Way::Unread(_) => served == Served::ReadFault && bytes.is_empty(),
     }
-    true
-}
-
-/// Whether nothing is written where each of so many reads fails.
-fn is_unread<J: Naming, R: Wait + Drop>(
-    rt: &impl Wait,
-    alloc: Global,
-    store: &mut EmptyStore<J, R>,
-    input: &[u8],
-    at_most: usize,
-    count: usize,
-) -> bool {
-    for reads in 0..count {
-        let edge = Edge {
-            reads,
-            ..pieces_of(at_most)
-        };
-        let want: Want<'_> = (Served::ReadFault, b"");
-        if !is_served(rt, alloc, store, input, edge, want) {
-            return false;
-        }
-    }
-    true
 }
 
 /// Whether the connections of a step go so, in pieces of so many bytes; what is refused memory is
@@ -373,23 +299,28 @@ fn goes<J: Naming, R: Wait + Drop>(
     step: &(&[u8], Way, &[u8]),
     at_most: usize,
     again: bool,
-) -> bool {
+) -> Option<bool> {
     let (input, way, text) = step;
-    let edge = pieces_of(at_most);
-    match way {
-        Way::Replied(status) => {
-            let want = (Served::Replied(*status), *text);
-            if again {
-                is_served_again(rt, alloc, store, input, edge, want)
-            } else {
-                is_served(rt, alloc, store, input, edge, want)
-            }
+    let (count, few_reads, little_room) = match way {
+        Way::CutShort => (text.len(), false, true),
+        Way::Unread(count) => (*count, true, false),
+        Way::Replied(_) | Way::RepliedBefore | Way::Closed => (1, false, false),
+    };
+    for number in 0..count {
+        let reads = if few_reads { number } else { usize::MAX };
+        let room = if little_room { number } else { usize::MAX };
+        let edge = (at_most, reads, room);
+        let made = if again {
+            serve_again(rt, alloc, store, input, edge)
+        } else {
+            serve(rt, alloc, store, input, edge)
+        };
+        let (served, bytes) = made?;
+        if !went(way, number, served, &bytes, text) {
+            return Some(false);
         }
-        Way::RepliedBefore => is_replied_before(rt, alloc, store, input, edge, text),
-        Way::Closed => is_served(rt, alloc, store, input, edge, (Served::Closed, *text)),
-        Way::CutShort => is_cut_short(rt, alloc, store, input, at_most, text),
-        Way::Unread(count) => is_unread(rt, alloc, store, input, at_most, *count),
     }
+    Some(true)
 }
 
 /// Whether each step of a session goes as it says; nothing where no store was opened.
@@ -406,7 +337,10 @@ fn is_session<J: Naming, R: Wait>(
 {
     let mut store = open_empty::<J, &R>(rt, alloc, store)?;
     for step in session {
-        if !goes(rt, alloc, &mut store, step, at_most, again) {
+        if !matches!(
+            goes(rt, alloc, &mut store, step, at_most, again),
+            Some(true)
+        ) {
             return Some(false);
         }
     }
@@ -445,28 +379,16 @@ fn a_session_is_replied_to_in_any_pieces(rt: HostRuntime) {
     }
 }
 
+/// A deleted sample stays deleted, the order of two batches is that of their references, an event
+/// stands where its reply was cut short, nothing changes where a read fails, and rows are read back.
 #[test]
-fn a_deleted_sample_stays_deleted(rt: HostRuntime) {
+fn deletions_two_orders_cut_replies_failed_reads_and_rows_read_back_are_replied_to(
+    rt: HostRuntime,
+) {
     assert!(rt; is_held(&rt, rt.alloc(), SILENT_SESSION, 7));
-}
-
-#[test]
-fn the_order_of_two_batches_is_that_of_their_references(rt: HostRuntime) {
     assert!(rt; is_held(&rt, rt.alloc(), ORDERED_SESSION, 7));
     assert!(rt; is_held(&rt, rt.alloc(), TURNED_SESSION, 7));
-}
-
-#[test]
-fn an_event_stands_where_its_reply_was_cut_short(rt: HostRuntime) {
     assert!(rt; is_held(&rt, rt.alloc(), CUT_SHORT, 7));
-}
-
-#[test]
-fn nothing_changes_where_a_read_fails(rt: HostRuntime) {
     assert!(rt; is_held(&rt, rt.alloc(), UNREAD, 7));
-}
-
-#[test]
-fn rows_are_read_back(rt: HostRuntime) {
     assert!(rt; is_held(&rt, rt.alloc(), READ_BACK, 7));
 }

@@ -96,15 +96,6 @@ fn work_alone<J: Naming, R: Wait>(
     Some(work(rt, alloc, texts, &mut pass, &mut seat, &committer, most))
 }
 
-/// All that was written, one connection after another.
-fn join_written(alloc: Global, past: &[Ended]) -> Option<Vec<u8>> {
-    let mut all = Vec::new(alloc);
-    for ended in past {
-        all.extend_from_slice(&ended.written).ok()?;
-    }
-    Some(all)
-}
-
 /// How many of these connections one worker of an empty store serves, with room for so many, and
 /// all that it writes.
 pub fn serve_texts<R: Wait>(
@@ -121,7 +112,10 @@ pub fn serve_texts<R: Wait>(
         kept_all: true,
     };
     let count = work_alone::<Brand, R>(rt, alloc, Store::new(), &mut texts, most)?;
-    let all = join_written(alloc, &texts.past)?;
+    let mut all = Vec::new(alloc);
+    for ended in &texts.past {
+        all.extend_from_slice(&ended.written).ok()?;
+    }
     Some((count, all))
 }
 

@@ -13,18 +13,6 @@ use std::sync::Wait;
 use std::thread::{Threads, join};
 use std::time::{Clock, Duration};
 
-/// Asks once, and adds the reply.
-fn ask<R: Net<Stream = TcpStream>>(
-    rt: &R,
-    port: u16,
-    request: &[u8],
-    replies: &mut Vec<u8>,
-) -> Option<usize> {
-    let mut stream = TcpStream::connect(rt, ("127.0.0.1", port)).ok()?;
-    stream.write_all(request).ok()?;
-    stream.read_to_end(replies).ok()
-}
-
 /// All replies to these requests, asked one after another while so many clients stay silent.
 fn ask_all<R: Net<Stream = TcpStream>>(
     rt: &R,
@@ -40,7 +28,9 @@ fn ask_all<R: Net<Stream = TcpStream>>(
     }
     let mut replies = Vec::new(alloc);
     for request in requests {
-        let _count = ask(rt, port, request, &mut replies)?;
+        let mut stream = TcpStream::connect(rt, ("127.0.0.1", port)).ok()?;
+        stream.write_all(request).ok()?;
+        let _count = stream.read_to_end(&mut replies).ok()?;
     }
     Some(replies)
 }
@@ -125,19 +115,14 @@ fn is_replied<R: Threads + Wait + Clock + Eprint + Net<Stream = TcpStream> + Syn
     }
 }
 
+/// Two workers serve one store; and two clients that say nothing hold no worker for ever, where one
+/// asks twice.
 #[test]
-fn two_workers_serve_one_store(rt: HostRuntime) {
+fn two_workers_serve_one_store_and_silent_clients_hold_none_for_ever(rt: HostRuntime) {
     let listener = TcpListener::bind(&rt, "127.0.0.1:0").ok();
     let listener = listener.expect(&rt, "a port is free");
     let requests = [WRITE, NOWHERE, CUT, SELECT];
     assert!(rt; is_replied(&rt, rt.alloc(), &listener, 0, &requests, REPLIES));
-}
-
-/// Two workers, two clients that say nothing, and one that asks twice.
-#[test]
-fn silent_clients_hold_no_worker_for_ever(rt: HostRuntime) {
-    let listener = TcpListener::bind(&rt, "127.0.0.1:0").ok();
-    let listener = listener.expect(&rt, "a port is free");
     let requests = [NOWHERE, NOWHERE];
     assert!(rt; is_replied(&rt, rt.alloc(), &listener, 2, &requests, NOWHERE_TWICE));
 }

@@ -45,33 +45,10 @@ impl<'a, P: Postings> Postings for Tally<'a, P> {
 /// all lists that it lends.
 #[derive(Drop)]
 pub struct Counting<S> {
-    source: S,
-    lists: Cell<u64>,
-    values: Cell<u64>,
-    moves: Cell<u64>,
-}
-
-impl<S> Counting<S> {
-    pub fn new(source: S) -> Counting<S> {
-        Counting {
-            source,
-            lists: Cell::new(0),
-            values: Cell::new(0),
-            moves: Cell::new(0),
-        }
-    }
-
-    pub fn lists(&self) -> u64 {
-        self.lists.get()
-    }
-
-    pub fn values(&self) -> u64 {
-        self.values.get()
-    }
-
-    pub fn moves(&self) -> u64 {
-        self.moves.get()
-    }
+    pub source: S,
+    pub lists: Cell<u64>,
+    pub values: Cell<u64>,
+    pub moves: Cell<u64>,
 }
 
 impl<'a, S: Source> Source for &'a Counting<S> {

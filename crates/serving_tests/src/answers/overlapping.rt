@@ -1,31 +1,19 @@
 //! Deletions over two blocks that share a time.
 
 use super::{A_THEN_B, B_THEN_A, Row, UP, is_text, store_of, text_of};
-use head::{Event, Snapshot, apply};
-use matchers::{Matcher, Op};
+use head::{Event, apply};
+use matchers::Selector;
 use std::alloc::Global;
 
-/// The one matcher of `{job="a"}`.
-fn job_a(alloc: Global) -> Option<Vec<Matcher>> {
-    let name = String::from_str(alloc, "job").ok()?;
-    let text = String::from_str(alloc, "a").ok()?;
-    let matcher = Matcher::new(alloc, name, Op::Equal, text).ok()?;
-    Vec::from_array(alloc, [matcher]).ok()
-}
-
-/// The store without the sample at time 10 of the series that both blocks have.
-fn less_at_10(alloc: Global, store: &Snapshot) -> Option<Snapshot> {
-    let matchers = job_a(alloc)?;
+/// The text of the answer of the blocks of a row after the sample at time 10 of the series that both
+/// have is deleted.
+fn text_after(alloc: Global, row: &Row) -> Option<Vec<u8>> {
+    let store = store_of(alloc, row.0)?;
+    let matchers = Selector::parse(alloc, r#"{job="a"}"#).ok()?;
     if !Event::is_deletion(&matchers, 10, 10) {
         return None;
     }
-    apply(alloc, store, &Event::deletion(matchers, 10, 10)).ok()
-}
-
-/// The text of the answer of the blocks of a row after that deletion.
-fn text_after(alloc: Global, row: &Row) -> Option<Vec<u8>> {
-    let store = store_of(alloc, row.0)?;
-    let less = less_at_10(alloc, &store)?;
+    let less = apply(alloc, &store, &Event::deletion(matchers, 10, 10)).ok()?;
     text_of(alloc, &less, UP)
 }
 

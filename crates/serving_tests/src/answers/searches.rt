@@ -56,12 +56,6 @@ const AT_20: &[Wanted] = &[
     (("up", "a", "x"), 20, 6),
 ];
 
-/// The worked block, and a head with the samples at time 20.
-fn block_and_head(alloc: Global) -> Option<Snapshot> {
-    let store = store_of(alloc, &[&WORKED])?;
-    after(alloc, &store, AT_20).ok()
-}
-
 /// Queries, and the text of the answer to each over the worked block and the head; from 20 on the
 /// block is skipped, and says so.
 const TEXTS: &[(Asked, &str)] = &[
@@ -90,7 +84,10 @@ fn text_by_workers<R: Threads + Sync>(
 #[test]
 fn a_block_and_a_head_are_answered_together(rt: HostRuntime) {
     let alloc = rt.alloc();
-    let store = block_and_head(alloc).expect(&rt, "the block opens, and the batch is accepted");
+    let store = store_of(alloc, &[&WORKED]).expect(&rt, "the block opens");
+    let store = after(alloc, &store, AT_20)
+        .ok()
+        .expect(&rt, "the batch is accepted");
     for (asked, want) in TEXTS {
         assert!(rt;
             is_text(text_of(alloc, &store, *asked), want),
@@ -115,19 +112,12 @@ fn many_blocks(alloc: Global) -> Option<Snapshot> {
     store_of(alloc, &spelled)
 }
 
-/// Whether the text of the answer over the many blocks ends with their rows.
-fn is_of_many(alloc: Global, store: &Snapshot) -> bool {
-    match text_of(alloc, store, UP) {
-        Some(text) => text.ends_with(OF_MANY.as_bytes()),
-        None => false,
-    }
-}
-
 #[test]
 fn of_many_blocks_the_last_stands(rt: HostRuntime) {
     let alloc = rt.alloc();
     let store = many_blocks(alloc).expect(&rt, "all blocks open");
-    assert!(rt; is_of_many(alloc, &store));
+    let text = text_of(alloc, &store, UP).expect(&rt, "there is memory");
+    assert!(rt; text.ends_with(OF_MANY.as_bytes()));
 }
 
 /// Holds the first part until the second is reached, for at most so many turns.
@@ -155,22 +145,15 @@ impl Gate for Meeting {
     }
 }
 
-/// How many parts are answered through this gate.
-fn count_answers<R: Threads + Sync>(rt: &R, alloc: Global, gate: &Meeting) -> Option<usize> {
-    let store = store_of(alloc, A_THEN_B.0)?;
-    let query = query(alloc, UP)?;
-    match search(rt, alloc, &store, &query, gate) {
-        Ok(answers) => Some(answers.len()),
-        Err(_) => None,
-    }
-}
-
 #[test]
 fn the_second_part_is_searched_beside_the_first(rt: HostRuntime) {
     let gate = Meeting {
         second: AtomicU64::new(0),
         met: AtomicU64::new(0),
     };
-    assert!(rt; count_answers(&rt, rt.alloc(), &gate) == Some(3));
+    let store = store_of(rt.alloc(), A_THEN_B.0).expect(&rt, "both blocks open");
+    let query = query(rt.alloc(), UP).expect(&rt, "there is memory");
+    let answers = search(&rt, rt.alloc(), &store, &query, &gate).ok();
+    assert!(rt; answers.expect(&rt, "there is memory").len() == 3);
     assert!(rt; gate.met.load(Ordering::SeqCst) == 1);
 }

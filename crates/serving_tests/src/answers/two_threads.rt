@@ -3,7 +3,7 @@
 ghost use Rattle.std.specs.Prelude.{◌≡◌, []};
 ghost use Rattle.head.specs.Blocks.{opening_of};
 
-use super::{Asked, UP_A, Wanted, is_text, labels_of, query};
+use super::{Asked, UP_A, Wanted, labels_of, query};
 use labels::Sample;
 use query_http::{ask, body};
 use snapshots::{Appender, Committer, Naming, Pass, Receipt, Seat, Store};
@@ -52,33 +52,6 @@ fn appender_of(alloc: Global, wanted: &[Wanted]) -> Option<Appender> {
     Some(appender)
 }
 
-/// A committer of an empty store, a pass and two seats.
-#[derive(Drop)]
-struct Opened<J: Naming, R: Wait + Drop> {
-    committer: Committer<J, R>,
-    pass: Pass<J>,
-    seats: (Seat<J>, Seat<J>),
-}
-
-fn open_for_two<J: Naming, R: Wait + Drop>(
-    rt: R,
-    alloc: Global,
-    store: Store,
-) -> Option<Opened<J, R>>
-    requires book { store.seen.book ≡ J.book }
-    requires opening { opening_of [] ≡ J.opening }
-{
-    let opened = store.open::<J, R>(rt, alloc, Vec::new(alloc), 1, 2);
-    let (committer, mut passes, mut seats) = opened.ok()?;
-    let pass = passes.pop()?;
-    let seats = seats.pop().zip(seats.pop())?;
-    Some(Opened {
-        committer,
-        pass,
-        seats,
-    })
-}
-
 fn commit_as<J: Naming, C: Wait + Drop>(
     rt: &impl Wait,
     committer: &Committer<J, C>,
@@ -105,28 +78,24 @@ fn commit_both<J: Naming + Send + Sync, C: Wait + Drop + Send + Sync, R: Threads
     first.zip(second)
 }
 
-/// The text of the answer of a pass.
-fn text_seen<J: Naming>(alloc: Global, pass: &mut Pass<J>) -> Option<Vec<u8>> {
-    let query = query(alloc, ASKED)?;
-    let answer = ask(alloc, pass, &query).ok()?;
-    body(alloc, &answer.parts, &answer.rows).ok()
-}
-
 /// Whether the pass, once it learnt both receipts, answers as their order says.
 fn is_answered<J: Naming>(
     alloc: Global,
-    mut pass: Pass<J>,
+    pass: &mut Pass<J>,
     receipts: &(Receipt<J>, Receipt<J>),
-) -> bool {
+) -> Option<bool> {
     let (first, second) = receipts;
     pass.learn(first);
     pass.learn(second);
+    let query = query(alloc, ASKED)?;
+    let answer = ask(alloc, pass, &query).ok()?;
+    let text = body(alloc, &answer.parts, &answer.rows).ok()?;
     let want = if first.events() < second.events() {
         FIRST_THEN_SECOND
     } else {
         SECOND_THEN_FIRST
     };
-    is_text(text_seen(alloc, &mut pass), want)
+    Some(text.as_slice() == want.as_bytes())
 }
 
 fn is_answered_after_both<J: Naming + Send + Sync, R: Threads + Wait + Sync>(
@@ -138,13 +107,12 @@ fn is_answered_after_both<J: Naming + Send + Sync, R: Threads + Wait + Sync>(
     requires opening { opening_of [] ≡ J.opening }
 {
     let batches = appender_of(alloc, FIRST).zip(appender_of(alloc, SECOND))?;
-    let Opened {
-        committer,
-        pass,
-        seats,
-    } = open_for_two::<J, &R>(rt, alloc, store)?;
+    let opened = store.open::<J, &R>(rt, alloc, Vec::new(alloc), 1, 2);
+    let (committer, mut passes, mut seats) = opened.ok()?;
+    let mut pass = passes.pop()?;
+    let seats = seats.pop().zip(seats.pop())?;
     let receipts = commit_both::<J, &R, R>(rt, &committer, seats, batches)?;
-    Some(is_answered(alloc, pass, &receipts))
+    is_answered(alloc, &mut pass, &receipts)
 }
 
 #[test]

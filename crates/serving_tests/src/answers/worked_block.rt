@@ -1,8 +1,7 @@
 //! The worked block of docs/FORMATS.md, spelled by hand: six series of one sample at time 10, at
 //! the references 4 to 9.
 
-use super::{Asked, NO_DELETIONS, Pieces, Row, SEGMENT, Spelled, is_answered, join_pieces};
-use std::alloc::Global;
+use super::{Asked, NO_DELETIONS, Pieces, Row, SEGMENT, Spelled, is_answered, joined};
 
 /// Magic, version, symbols, and zeros up to byte 64.
 const SYMBOLS: Pieces = &[
@@ -91,17 +90,12 @@ const WITH_DELETION: Spelled = Spelled {
     tombstones: ONE_DELETION,
 };
 
-fn has_len(alloc: Global, pieces: &[Pieces], len: usize) -> bool {
-    match join_pieces(alloc, pieces) {
-        Some(bytes) => bytes.len() == len,
-        None => false,
-    }
-}
-
 #[test]
 fn the_files_have_the_worked_lengths(rt: HostRuntime) {
-    assert!(rt; has_len(rt.alloc(), INDEX_FILE, 442));
-    assert!(rt; has_len(rt.alloc(), CHUNKS_FILE, 152));
+    let index = joined(rt.alloc(), INDEX_FILE).expect(&rt, "there is memory");
+    assert!(rt; index.len() == 442);
+    let chunks = joined(rt.alloc(), CHUNKS_FILE).expect(&rt, "there is memory");
+    assert!(rt; chunks.len() == 152);
 }
 
 const UP_A: Asked = (r#"up{job="a"}"#, 0, 100);
