@@ -1,10 +1,10 @@
-//! Who learns that a part is searched.
+//! Who is told that a part is searched.
 
-/// Learns of each part before it is searched, in the thread that searches it.
+/// Is told of each part before it is searched, by the thread that searches it.
 pub trait Gate: Sync {
     /// Called with the place of the part that this thread searches next: the number of a block, or
     /// for the head that of all blocks.
-    fn learn(&self, part: usize);
+    fn enter(&self, part: usize);
 }
 
 /// A gate that holds nobody up.
@@ -12,5 +12,5 @@ pub trait Gate: Sync {
 pub struct OpenGate;
 
 impl Gate for OpenGate {
-    fn learn(&self, _part: usize) {}
+    fn enter(&self, _part: usize) {}
 }

@@ -90,7 +90,7 @@ fn are_read_back(rt: &impl Wait, alloc: Global, rows: &str) -> Option<bool> {
     let input = format!(in alloc;
         "POST /write HTTP/1.1\r\nContent-Length: {len}\r\n\r\n{rows}"
     ).ok()?;
-    let (_, replies) = served(rt, alloc, &[input.as_bytes(), SELECT], 2)?;
+    let (_, replies) = serve_texts(rt, alloc, &[input.as_bytes(), SELECT], 2)?;
     let front = replies.strip_suffix(b"}")?;
     Some(replies.starts_with(DONE) && front.ends_with(rows.as_bytes()))
 }
