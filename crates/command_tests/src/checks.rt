@@ -1,6 +1,6 @@
 //! What `check` prints of directories.
 
-use crate::directories::{CHUNKS, INDEX, joined};
+use crate::directories::{CHUNKS, INDEX, join_pieces};
 use crate::rows::{Extent, Row, assert_given};
 
 /// Of each file the first check that fails, in the order of the files and of the checks.
@@ -77,11 +77,11 @@ const IN_ORDER: &[Row<'_>] = &[
 
 #[test]
 fn the_worked_files_have_their_lengths(rt: HostRuntime) {
-    let index = joined(rt.alloc(), INDEX)
+    let index = join_pieces(rt.alloc(), INDEX)
         .ok()
         .expect(&rt, "there is memory");
     assert!(rt; index.len() == 442);
-    let chunks = joined(rt.alloc(), CHUNKS)
+    let chunks = join_pieces(rt.alloc(), CHUNKS)
         .ok()
         .expect(&rt, "there is memory");
     assert!(rt; chunks.len() == 152);
