@@ -44,15 +44,14 @@ pub fn query(alloc: Global, from: i64) -> Option<Query> {
     Query::new(matchers, from, 100).ok()
 }
 
-fn copy_of(alloc: Global, row: &Row) -> Option<Row> {
-    let samples = row.samples().iter().copied().collect(alloc).ok()?;
-    Some(Row::new(row.labels().try_clone().ok()?, samples))
-}
-
 fn row_at(alloc: Global, table: &Table, reference: u32) -> Option<Row> {
-    let mut series = table.series().iter();
-    let entry = series.find(|entry| entry.0.number() == reference)?;
-    copy_of(alloc, &entry.1)
+    for (number, row) in table.series() {
+        if number.number() == reference {
+            let samples = row.samples().iter().copied().collect(alloc).ok()?;
+            return Some(Row::new(row.labels().try_clone().ok()?, samples));
+        }
+    }
+    None
 }
 
 /// The rows of these references.
@@ -64,7 +63,7 @@ pub fn rows_at(alloc: Global, table: &Table, references: &[u32]) -> Option<Vec<R
     Some(rows)
 }
 
-fn certificate_of(alloc: Global, intervals: Intervals) -> Option<Vec<Interval>> {
+fn cover_of(alloc: Global, intervals: Intervals, references: &[u32]) -> Option<PartCover> {
     let mut certificate = Vec::new(alloc);
     for (from, until, verdict) in intervals {
         let interval = Interval {
@@ -74,28 +73,22 @@ fn certificate_of(alloc: Global, intervals: Intervals) -> Option<Vec<Interval>> 
         };
         certificate.push(interval).ok()?;
     }
-    Some(certificate)
-}
-
-fn separators_of(alloc: Global, references: &[u32]) -> Option<Vec<SeriesRef>> {
     let mut separators = Vec::new(alloc);
     for reference in references {
         separators.push(SeriesRef::new(*reference)).ok()?;
     }
-    Some(separators)
+    Some(PartCover {
+        certificate,
+        separators,
+        moves: 0,
+    })
 }
 
 /// The answer that says this of the part.
 pub fn answer(alloc: Global, table: &Table, said: &Said) -> Option<PartAnswer> {
     let (intervals, separators, references) = *said;
     let rows = rows_at(alloc, table, references)?;
-    let certificate = certificate_of(alloc, intervals)?;
-    let separators = separators_of(alloc, separators)?;
-    let cover = PartCover {
-        certificate,
-        separators,
-        moves: 0,
-    };
+    let cover = cover_of(alloc, intervals, separators)?;
     Some(PartAnswer {
         part: PartName::Block(0),
         rows,

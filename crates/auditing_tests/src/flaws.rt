@@ -280,81 +280,35 @@ const FROM_LYING_LISTS: &[Told] = &[
     ),
 ];
 
-/// What an audit from a time to 100 answers, of the worked block with these deletions.
+/// Of answers to the query from 0: what is wrong in one way alone, in two ways, and what was
+/// computed from lists that lie.
+const FLAWS: [&[Told]; 7] = [
+    ALONE,
+    ABSENT_AND_MORE,
+    NO_PARTITION_AND_MORE,
+    TWO_MISFITS,
+    MISFIT_AND_MORE,
+    SEPARATORS_AND_MORE,
+    FROM_LYING_LISTS,
+];
+
+/// What an audit from a time to 100 answers, of the worked block with these deletions: of what is
+/// said of it, or that it is skipped where nothing is.
 fn told_of(
     alloc: Global,
     tombstones: &[u8],
     from: i64,
-    said: &Said,
+    said: Option<&Said>,
 ) -> Option<Result<(), AuditError>> {
     let table = table_of_files(alloc, INDEX, CHUNKS, tombstones).ok()?;
     let query = query(alloc, from)?;
-    let answer = answer(alloc, &table, said)?;
-    Some(audit(alloc, &table, &query, &answer))
-}
-
-/// The first that is not answered by its flaw.
-fn first_other(alloc: Global, rows: &'static [Told]) -> Option<&'static Told> {
-    rows.iter().find(|told| {
-        told_of(alloc, TOMBSTONES, 0, &told.0) != Some(Err(AuditError::Flaw(told.1)))
-    })
-}
-
-#[test]
-fn each_flaw_is_told(rt: HostRuntime) {
-    assert!(rt; told_of(rt.alloc(), TOMBSTONES, 0, &SOUND) == Some(Ok(())));
-    assert!(rt; first_other(rt.alloc(), ALONE).is_none());
-}
-
-#[test]
-fn the_first_of_two_flaws_is_told(rt: HostRuntime) {
-    assert!(rt; first_other(rt.alloc(), ABSENT_AND_MORE).is_none());
-    assert!(rt; first_other(rt.alloc(), NO_PARTITION_AND_MORE).is_none());
-    assert!(rt; first_other(rt.alloc(), TWO_MISFITS).is_none());
-    assert!(rt; first_other(rt.alloc(), MISFIT_AND_MORE).is_none());
-    assert!(rt; first_other(rt.alloc(), SEPARATORS_AND_MORE).is_none());
-}
-
-#[test]
-fn answers_from_lists_that_lie_are_found_out(rt: HostRuntime) {
-    assert!(rt; first_other(rt.alloc(), FROM_LYING_LISTS).is_none());
-}
-
-/// Answers where 5 alone has a sample, or none has one in the range.
-const ALL_SILENT: Said = (&[(4, END, SILENT)], &[4], NONE);
-
-const MATCHED_SILENT: Said = (
-    &[(4, 6, BY_NAME), (6, 7, MATCH), (7, END, SILENT)],
-    &[4, 6, 7],
-    FOUND,
-);
-
-const REST_SILENT: Said = (&[(4, 6, BY_NAME), (6, END, SILENT)], &[4, 6], NONE);
-
-#[test]
-fn one_sample_in_the_range_is_no_silence(rt: HostRuntime) {
-    let alloc = rt.alloc();
-    let silent = Some(Err(AuditError::Flaw(Flaw::NotSilent)));
-    let unmatched = Some(Err(AuditError::Flaw(Flaw::NotMatching)));
-    assert!(rt; told_of(alloc, ALL_BUT_ONE, 0, &ALL_SILENT) == silent);
-    assert!(rt; told_of(alloc, ALL_BUT_ONE, 0, &MATCHED_SILENT) == unmatched);
-    assert!(rt; told_of(alloc, ALL_BUT_ONE, 0, &REST_SILENT) == Some(Ok(())));
-    assert!(rt; told_of(alloc, TOMBSTONES, 20, &ALL_SILENT) == Some(Ok(())));
-    assert!(rt; told_of(alloc, TOMBSTONES, 20, &SOUND) == unmatched);
-}
-
-/// What is told of the part where it is skipped.
-fn told_of_skip(alloc: Global, from: i64) -> Option<Result<(), AuditError>> {
-    let table = table_of_files(alloc, INDEX, CHUNKS, TOMBSTONES).ok()?;
-    let query = query(alloc, from)?;
-    Some(audit_skip(alloc, &table, &query))
-}
-
-#[test]
-fn a_part_is_skipped_where_it_has_nothing_to_show(rt: HostRuntime) {
-    let hidden = Some(Err(AuditError::Flaw(Flaw::Hidden)));
-    assert!(rt; told_of_skip(rt.alloc(), 0) == hidden);
-    assert!(rt; told_of_skip(rt.alloc(), 20) == Some(Ok(())));
+    match said {
+        Some(said) => {
+            let answer = answer(alloc, &table, said)?;
+            Some(audit(alloc, &table, &query, &answer))
+        }
+        None => Some(audit_skip(alloc, &table, &query)),
+    }
 }
 
 const CODES: [(Flaw, &str); 10] = [
@@ -371,6 +325,41 @@ const CODES: [(Flaw, &str); 10] = [
 ];
 
 #[test]
-fn flaws_have_codes(rt: HostRuntime) {
-    assert!(rt; CODES.iter().all(|(flaw, code)| flaw.code() == *code));
+fn each_flaw_has_its_code_and_the_first_of_two_is_told(rt: HostRuntime) {
+    for (flaw, code) in CODES {
+        assert!(rt; flaw.code() == code, "{code}");
+    }
+    assert!(rt; told_of(rt.alloc(), TOMBSTONES, 0, Some(&SOUND)) == Some(Ok(())));
+    for rows in FLAWS {
+        for (said, flaw) in rows {
+            let want = Some(Err(AuditError::Flaw(*flaw)));
+            assert!(rt; told_of(rt.alloc(), TOMBSTONES, 0, Some(said)) == want);
+        }
+    }
+}
+
+/// Answers where 5 alone has a sample, or none has one in the range.
+const ALL_SILENT: Said = (&[(4, END, SILENT)], &[4], NONE);
+
+const MATCHED_SILENT: Said = (
+    &[(4, 6, BY_NAME), (6, 7, MATCH), (7, END, SILENT)],
+    &[4, 6, 7],
+    FOUND,
+);
+
+const REST_SILENT: Said = (&[(4, 6, BY_NAME), (6, END, SILENT)], &[4, 6], NONE);
+
+#[test]
+fn one_sample_in_the_range_is_no_silence_and_no_skip(rt: HostRuntime) {
+    let alloc = rt.alloc();
+    let silent = Some(Err(AuditError::Flaw(Flaw::NotSilent)));
+    let unmatched = Some(Err(AuditError::Flaw(Flaw::NotMatching)));
+    let hidden = Some(Err(AuditError::Flaw(Flaw::Hidden)));
+    assert!(rt; told_of(alloc, ALL_BUT_ONE, 0, Some(&ALL_SILENT)) == silent);
+    assert!(rt; told_of(alloc, ALL_BUT_ONE, 0, Some(&MATCHED_SILENT)) == unmatched);
+    assert!(rt; told_of(alloc, ALL_BUT_ONE, 0, Some(&REST_SILENT)) == Some(Ok(())));
+    assert!(rt; told_of(alloc, TOMBSTONES, 20, Some(&ALL_SILENT)) == Some(Ok(())));
+    assert!(rt; told_of(alloc, TOMBSTONES, 20, Some(&SOUND)) == unmatched);
+    assert!(rt; told_of(alloc, TOMBSTONES, 0, None) == hidden);
+    assert!(rt; told_of(alloc, TOMBSTONES, 20, None) == Some(Ok(())));
 }

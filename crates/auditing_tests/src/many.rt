@@ -8,7 +8,7 @@ use audit_laws::{search_and_audit, search_and_audit_by_workers};
 use head::{Event, Snapshot};
 use history::{Reply, Step, run};
 use labels::{LabelSet, Row, Sample, is_time};
-use matchers::{Matcher, Query, Selector};
+use matchers::{Query, Selector};
 use snapshots::{Appender, Committer, Naming, Pass, Receipt, Seat, Store};
 use std::alloc::Global;
 use std::marker::Brand;
@@ -96,17 +96,15 @@ impl<J: Naming> Board<J> {
     }
 }
 
-fn pair_of(alloc: Global, name: &str, value: &str) -> Option<(String, String)> {
-    let name = String::from_str(alloc, name).ok()?;
-    Some((name, String::from_str(alloc, value).ok()?))
-}
-
 /// `up` of a job and a zone.
 fn labels_of(alloc: Global, job: &str, zone: &str) -> Option<LabelSet> {
     let mut pairs = Vec::new(alloc);
-    pairs.push(pair_of(alloc, "__name__", "up")?).ok()?;
-    pairs.push(pair_of(alloc, "job", job)?).ok()?;
-    pairs.push(pair_of(alloc, "zone", zone)?).ok()?;
+    for (name, value) in [("__name__", "up"), ("job", job), ("zone", zone)] {
+        let name = String::from_str(alloc, name).ok()?;
+        pairs
+            .push((name, String::from_str(alloc, value).ok()?))
+            .ok()?;
+    }
     LabelSet::new(alloc, pairs).ok()
 }
 
@@ -123,39 +121,13 @@ fn batch_of(alloc: Global, seat: usize, at: i64) -> Option<Vec<(LabelSet, Sample
     Some(batch)
 }
 
-fn appender_of(alloc: Global, seat: usize, at: i64) -> Option<Appender> {
-    let mut appender = Appender::new(alloc);
-    for (labels, sample) in batch_of(alloc, seat, at)? {
-        appender.append(labels, sample).ok()?;
-    }
-    Some(appender)
-}
-
 fn query_of(alloc: Global, asked: Asked) -> Option<Query> {
     let matchers = Selector::parse(alloc, asked.0).ok()?;
     Query::new(matchers, asked.1, asked.2).ok()
 }
 
-/// The matchers of a deletion.
-fn deleted_matchers(alloc: Global) -> Option<Vec<Matcher>> {
-    Selector::parse(alloc, "{zone=~\"b|c\"}").ok()
-}
-
-/// The receipt of a deletion from a time on.
-fn delete<J: Naming, C: Wait + Drop>(
-    rt: &impl Wait,
-    alloc: Global,
-    committer: &Committer<J, C>,
-    seat: &mut Seat<J>,
-    at: i64,
-) -> Option<Receipt<J>> {
-    let matchers = deleted_matchers(alloc)?;
-    let to = at.saturating_add(WIDTH);
-    if !Event::is_deletion(&matchers, at, to) {
-        return None;
-    }
-    committer.delete(rt, seat, matchers, at, to).ok()
-}
+/// What a deletion asks for.
+const DELETED: &str = "{zone=~\"b|c\"}";
 
 /// The receipt of a seat's event; none where it is refused.
 fn change<J: Naming, C: Wait + Drop>(
@@ -167,7 +139,12 @@ fn change<J: Naming, C: Wait + Drop>(
 ) -> Option<Receipt<J>> {
     let number = seat.number();
     if number == DELETER {
-        return delete(rt, alloc, committer, seat, at);
+        let matchers = Selector::parse(alloc, DELETED).ok()?;
+        let to = at.saturating_add(WIDTH);
+        if !Event::is_deletion(&matchers, at, to) {
+            return None;
+        }
+        return committer.delete(rt, seat, matchers, at, to).ok();
     }
     if number == CUTTER {
         return if is_time(at) {
@@ -176,7 +153,10 @@ fn change<J: Naming, C: Wait + Drop>(
             None
         };
     }
-    let appender = appender_of(alloc, number, at)?;
+    let mut appender = Appender::new(alloc);
+    for (labels, sample) in batch_of(alloc, number, at)? {
+        appender.append(labels, sample).ok()?;
+    }
     committer.commit(rt, seat, appender).ok()
 }
 
@@ -263,12 +243,14 @@ fn actors_of<J: Naming>(
     Some(actors)
 }
 
-/// The events of all actors that were accepted, each actor in a thread of its own.
+/// The events of all actors that were accepted, each actor in a thread of its own, and those that
+/// were before, in their order.
 fn act_at_once<J: Naming + Send + Sync, C: Wait + Drop + Send + Sync, R: Threads + Wait + Sync>(
     rt: &R,
     alloc: Global,
     committer: &Committer<J, C>,
     board: &Board<J>,
+    before: Vec<Done>,
     actors: Vec<Actor<J>>,
 ) -> Option<Vec<Done>> {
     let told = map_vec(
@@ -276,10 +258,11 @@ fn act_at_once<J: Naming + Send + Sync, C: Wait + Drop + Send + Sync, R: Threads
         actors,
         &|actor: Actor<J>| -> Option<Vec<Done>> { act(rt, alloc, committer, board, actor) },
     );
-    let mut all = Vec::new(alloc);
+    let mut all = before;
     for done in told.ok()? {
         all.append(&mut done?).ok()?;
     }
+    all.sort().ok()?;
     Some(all)
 }
 
@@ -296,8 +279,15 @@ fn are_numbered(done: &[Done], events: u64) -> bool {
 }
 
 fn same_rows(a: &[Row], b: &[Row]) -> bool {
-    a.len() == b.len()
-        && a.iter().zip(b).all(|(x, y)| x.labels() == y.labels() && x.samples() == y.samples())
+    if a.len() != b.len() {
+        return false;
+    }
+    for (x, y) in a.iter().zip(b) {
+        if !(x.labels() == y.labels() && x.samples() == y.samples()) {
+            return false;
+        }
+    }
+    true
 }
 
 /// All rows of a snapshot, after an audit.
@@ -318,7 +308,7 @@ fn push_steps(alloc: Global, steps: &mut Vec<Step>, done: Done) -> Option<()> {
         };
     }
     if seat == DELETER {
-        let matchers = deleted_matchers(alloc)?;
+        let matchers = Selector::parse(alloc, DELETED).ok()?;
         let to = at.saturating_add(WIDTH);
         if !Event::is_deletion(&matchers, at, to) {
             return None;
@@ -342,38 +332,23 @@ fn steps_of(alloc: Global, done: &[Done]) -> Option<Vec<Step>> {
     Some(steps)
 }
 
-/// Whether the last reply has these rows, and no other is a refusal.
-fn are_replies(replies: &[Reply], rows: &[Row]) -> bool {
-    match replies.split_last() {
-        Some((Reply::Rows(found), others)) => {
-            same_rows(found.as_slice(), rows)
-                && others.iter().all(|reply| matches!(reply, Reply::Done))
-        }
-        _ => false,
-    }
-}
-
-/// Whether accepted events, replayed in this order from an empty store, give these rows.
+/// Whether accepted events, replayed in this order from an empty store, are all done, and give
+/// these rows.
 fn are_replayed(alloc: Global, done: &[Done], rows: &[Row]) -> Option<bool> {
     let steps = steps_of(alloc, done)?;
     let opening = Snapshot::opening(alloc, Vec::new(alloc)).ok()?;
     let replies = run(alloc, &opening, steps.as_slice()).ok()?;
-    Some(are_replies(replies.as_slice(), rows))
-}
-
-/// The events that were accepted, after those that were before, in their order.
-fn all_done<J: Naming + Send + Sync, C: Wait + Drop + Send + Sync, R: Threads + Wait + Sync>(
-    rt: &R,
-    alloc: Global,
-    committer: &Committer<J, C>,
-    board: &Board<J>,
-    mut before: Vec<Done>,
-    actors: Vec<Actor<J>>,
-) -> Option<Vec<Done>> {
-    let mut done = act_at_once(rt, alloc, committer, board, actors)?;
-    before.append(&mut done).ok()?;
-    before.sort().ok()?;
-    Some(before)
+    match replies.as_slice().split_last()? {
+        (Reply::Rows(found), others) => {
+            for reply in others {
+                if !matches!(reply, Reply::Done) {
+                    return Some(false);
+                }
+            }
+            Some(same_rows(found.as_slice(), rows))
+        }
+        _ => None,
+    }
 }
 
 /// Whether a pass shows the replay of these events, as many as there are, and a snapshot that was
@@ -411,7 +386,7 @@ fn count_accepted<J: Naming + Send + Sync, C: Wait + Drop + Send + Sync, R: Thre
     let held = pass.snapshot().ok()?;
     let shown = rows_of(alloc, &held)?;
     let actors = actors_of(alloc, seats, passes)?;
-    let done = all_done(rt, alloc, committer, &board, before, actors)?;
+    let done = act_at_once(rt, alloc, committer, &board, before, actors)?;
     board.tell(rt, &mut pass);
     let kept = is_kept(alloc, &mut pass, &done, &held, shown.as_slice())?;
     if kept { Some(done.len()) } else { None }
@@ -435,5 +410,5 @@ fn accepted_by<J: Naming + Send + Sync, R: Threads + Wait + Sync>(
 #[test]
 fn each_answer_is_audited_while_others_change_the_store(rt: HostRuntime) {
     let accepted = accepted_by::<Brand, _>(&rt, rt.alloc(), Store::new());
-    assert!(rt; accepted.is_some_and(|events| events >= 341));
+    assert!(rt; accepted.expect(&rt, "all that is to hold does") >= 341);
 }

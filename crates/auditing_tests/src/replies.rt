@@ -67,10 +67,9 @@ fn is_bad(alloc: Global, before: &str, middle: &str, after: &str) -> bool {
     }
 }
 
-/// Whether each of the texts, between these two, is a bad reply.
-fn are_bad(alloc: Global, before: &str, texts: &[&str], after: &str) -> bool {
-    texts.iter().all(|text| is_bad(alloc, before, text, after))
-}
+const BEFORE_PART: &str = "{\"parts\":[";
+
+const AFTER_PART: &str = "],\"rows\":[]}";
 
 const BEFORE_LABELS: &str = "{\"parts\":[],\"rows\":[{\"labels\":";
 
@@ -80,51 +79,34 @@ const BEFORE_INTERVAL: &str = "{\"parts\":[{\"intervals\":[";
 
 const AFTER_INTERVAL: &str = "],\"part\":\"head\",\"rows\":[],\"separators\":[]}],\"rows\":[]}";
 
+/// Texts, and what stands before and after each.
+const BAD_REPLIES: [(&str, &[&str], &str); 4] = [
+    ("", BAD, ""),
+    (BEFORE_PART, BAD_PARTS, AFTER_PART),
+    (BEFORE_LABELS, BAD_LABELS, AFTER_LABELS),
+    (BEFORE_INTERVAL, BAD_INTERVALS, AFTER_INTERVAL),
+];
+
 #[test]
 fn other_texts_are_bad_replies(rt: HostRuntime) {
-    let alloc = rt.alloc();
-    assert!(rt; are_bad(alloc, "", BAD, ""));
-    assert!(rt; are_bad(alloc, "{\"parts\":[", BAD_PARTS, "],\"rows\":[]}"));
-    assert!(rt; are_bad(alloc, BEFORE_LABELS, BAD_LABELS, AFTER_LABELS));
-    assert!(rt; are_bad(alloc, BEFORE_INTERVAL, BAD_INTERVALS, AFTER_INTERVAL));
-}
-
-/// The lines of a reply whose text these pieces are, or `bad reply`.
-fn lines_of(
-    alloc: Global,
-    blocks: &[BlockTable],
-    begin: &str,
-    middle: &str,
-    end: &str,
-) -> Option<String> {
-    let text = format!(in alloc; "{begin}{middle}{end}").ok()?;
-    let query = query(alloc, 0)?;
-    let reply = match Reply::read(alloc, text.as_bytes()) {
-        Ok(reply) => reply,
-        Err(ReplyError::BadReply) => return String::from_str(alloc, "bad reply").ok(),
-        Err(ReplyError::Memory) => return None,
-    };
-    let lines = judge(alloc, blocks, &query, reply).ok()?;
-    lines_text(alloc, lines.as_slice()).ok()
+    for (before, texts, after) in BAD_REPLIES {
+        for text in texts {
+            assert!(rt; is_bad(rt.alloc(), before, text, after), "{text}");
+        }
+    }
 }
 
 /// Of each block its refusal, or that it is the worked block.
 type Known = &'static [Option<&'static str>];
 
-fn table_of(alloc: Global, refusal: Option<&'static str>) -> Option<BlockTable> {
-    match refusal {
-        Some(code) => Some(BlockTable::Refused(code)),
-        None => {
-            let table = table_of_files(alloc, INDEX, CHUNKS, TOMBSTONES).ok()?;
-            Some(BlockTable::Walked(table))
-        }
-    }
-}
-
 fn tables_of(alloc: Global, known: Known) -> Option<Vec<BlockTable>> {
     let mut tables = Vec::new(alloc);
     for refusal in known {
-        tables.push(table_of(alloc, *refusal)?).ok()?;
+        let table = match refusal {
+            Some(code) => BlockTable::Refused(*code),
+            None => BlockTable::Walked(table_of_files(alloc, INDEX, CHUNKS, TOMBSTONES).ok()?),
+        };
+        tables.push(table).ok()?;
     }
     Some(tables)
 }
@@ -138,24 +120,20 @@ type Lined = (
     &'static str,
 );
 
-fn is_lined(alloc: Global, lined: &Lined) -> bool {
+/// Whether a reply has these lines, or is a bad reply where this says so.
+fn is_lined(alloc: Global, lined: &Lined) -> Option<bool> {
     let (known, begin, middle, end, lines) = *lined;
-    let Some(tables) = tables_of(alloc, known) else {
-        return false;
+    let tables = tables_of(alloc, known)?;
+    let query = query(alloc, 0)?;
+    let text = format!(in alloc; "{begin}{middle}{end}").ok()?;
+    let reply = match Reply::read(alloc, text.as_bytes()) {
+        Ok(reply) => reply,
+        Err(ReplyError::BadReply) => return Some(lines == "bad reply"),
+        Err(ReplyError::Memory) => return None,
     };
-    match lines_of(alloc, tables.as_slice(), begin, middle, end) {
-        Some(told) => told.as_str() == lines,
-        None => false,
-    }
-}
-
-fn are_lined(alloc: Global, rows: &[Lined]) -> bool {
-    for lined in rows {
-        if !is_lined(alloc, lined) {
-            return false;
-        }
-    }
-    true
+    let told = judge(alloc, tables.as_slice(), &query, reply).ok()?;
+    let told = lines_text(alloc, told.as_slice()).ok()?;
+    Some(told.as_str() == lines)
 }
 
 /// The answer of an empty store to `up{job="a"}`.
@@ -312,21 +290,14 @@ const LINED: &[Lined] = &[
     ),
 ];
 
-#[test]
-fn each_part_has_its_line(rt: HostRuntime) {
-    assert_eq!(rt; EMPTY.len(), 78);
-    assert!(rt; are_lined(rt.alloc(), LINED));
-}
-
 const SPACED: &str = " { \"rows\" : 1 , \"rows\" : [ ] , \"parts\" : [ ] } ";
 
 const WRONG_LAST: &str = "{\"rows\":[],\"rows\":1,\"parts\":[]}";
 
-#[test]
-fn members_stand_in_any_order_and_the_last_counts(rt: HostRuntime) {
-    assert!(rt; is_lined(rt.alloc(), &(&[], SPACED, "", "", "rows: valid\n")));
-    assert!(rt; is_lined(rt.alloc(), &(&[], WRONG_LAST, "", "", "bad reply")));
-}
+const MEMBERS: &[Lined] = &[
+    (&[], SPACED, "", "", "rows: valid\n"),
+    (&[], WRONG_LAST, "", "", "bad reply"),
+];
 
 /// The rows of block 0, then of block 1.
 const FIRST_THEN_SECOND: &str = r#"{"parts":[{"intervals":[],"part":"block 0","rows":[
@@ -388,7 +359,18 @@ const MERGES: &[Lined] = &[
     (&[], FIRST_THEN_SECOND, WITH_EMPTY, "]}", ARE_OTHERS),
 ];
 
+/// Each part has its line; members stand in any order, and the last counts; of the values at one
+/// time the one that is listed last stands.
 #[test]
-fn the_value_listed_last_stands(rt: HostRuntime) {
-    assert!(rt; are_lined(rt.alloc(), MERGES));
+fn each_part_has_its_line_and_the_member_and_the_value_listed_last_stand(rt: HostRuntime) {
+    assert!(rt; EMPTY.len() == 78);
+    for rows in [LINED, MEMBERS, MERGES] {
+        for lined in rows {
+            assert!(rt;
+                matches!(is_lined(rt.alloc(), lined), Some(true)),
+                "{}",
+                lined.4
+            );
+        }
+    }
 }

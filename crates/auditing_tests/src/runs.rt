@@ -246,29 +246,20 @@ struct Told {
     err: Vec<u8>,
 }
 
-fn words_of(alloc: Global, words: Words) -> Option<Vec<String>> {
-    let mut all = Vec::new(alloc);
-    for word in words {
-        all.push(String::from_str(alloc, word).ok()?).ok()?;
-    }
-    Some(all)
-}
-
-fn text_of(alloc: Global, pieces: Text) -> Option<String> {
-    let [begin, middle, end] = pieces;
-    format!(in alloc; "{begin}{middle}{end}").ok()
-}
-
 fn told_by(alloc: Global, words: Words, reply: Text) -> Option<Told> {
-    let words = words_of(alloc, words)?;
-    let reply = text_of(alloc, reply)?;
-    let mut input = reply.as_bytes();
+    let mut given = Vec::new(alloc);
+    for word in words {
+        given.push(String::from_str(alloc, word).ok()?).ok()?;
+    }
+    let [begin, middle, end] = reply;
+    let text = format!(in alloc; "{begin}{middle}{end}").ok()?;
+    let mut input = text.as_bytes();
     let mut out = Vec::new(alloc);
     let mut err = Vec::new(alloc);
     let ending = run(
         alloc,
         &Blocks,
-        words.as_slice(),
+        given.as_slice(),
         &mut input,
         &mut out,
         &mut err,
@@ -278,29 +269,14 @@ fn told_by(alloc: Global, words: Words, reply: Text) -> Option<Told> {
 
 fn ends_so(alloc: Global, row: &Row) -> bool {
     let (words, reply, status, lines, fault) = *row;
-    let Some(told) = told_by(alloc, words, reply) else {
-        return false;
-    };
-    told.ending.status == status
-        && told.out.as_slice() == lines.as_bytes()
-        && told.err.as_slice() == fault.as_bytes()
-}
-
-fn all_end_so(alloc: Global, rows: &[Row]) -> bool {
-    for row in rows {
-        if !ends_so(alloc, row) {
-            return false;
+    match told_by(alloc, words, reply) {
+        Some(told) => {
+            told.ending.status == status
+                && told.out.as_slice() == lines.as_bytes()
+                && told.err.as_slice() == fault.as_bytes()
         }
+        None => false,
     }
-    true
-}
-
-#[test]
-fn each_run_ends_so(rt: HostRuntime) {
-    assert!(rt; all_end_so(rt.alloc(), JUDGED));
-    assert!(rt; all_end_so(rt.alloc(), UNMET));
-    assert!(rt; all_end_so(rt.alloc(), DAMAGES));
-    assert!(rt; all_end_so(rt.alloc(), REFUSED));
 }
 
 /// Words that are not those of the program.
@@ -315,41 +291,40 @@ const OTHER_WORDS: &[Words] = &[
     &["--selector=up", "--to=9223372036854775808"],
 ];
 
-fn is_fault_of_words(told: &Told) -> bool {
-    told.ending.status == 2 && told.out.is_empty() && !told.err.is_empty()
-}
-
-fn are_other_words(alloc: Global, rows: &[Words]) -> bool {
-    for words in rows {
-        if !told_by(alloc, *words, NOTHING).is_some_and(|told| is_fault_of_words(&told)) {
-            return false;
-        }
+fn is_fault_of_words(alloc: Global, words: Words) -> bool {
+    match told_by(alloc, words, NOTHING) {
+        Some(told) => told.ending.status == 2 && told.out.is_empty() && !told.err.is_empty(),
+        None => false,
     }
-    true
 }
 
 #[test]
-fn other_words_are_a_fault(rt: HostRuntime) {
-    assert!(rt; are_other_words(rt.alloc(), OTHER_WORDS));
-}
-
-/// Whether a run is whole, or told that a writer refused, or that there is no memory.
-fn is_whole_or_refused(told: &Told) -> bool {
-    let lines = b"block 0: valid\nhead: skipped\nrows: valid\n".as_slice();
-    match told.ending.status {
-        0 => told.out.as_slice() == lines,
-        3 => told.err.as_slice() == b"cannot write\n".as_slice(),
-        4 => told.out.is_empty() && told.err.as_slice() == b"no memory\n".as_slice(),
-        _ => false,
+fn each_run_ends_so_and_other_words_are_a_fault(rt: HostRuntime) {
+    for rows in [JUDGED, UNMET, DAMAGES, REFUSED] {
+        for row in rows {
+            assert!(rt; ends_so(rt.alloc(), row), "{:?}", row.0);
+        }
+    }
+    for words in OTHER_WORDS {
+        assert!(rt; is_fault_of_words(rt.alloc(), *words), "{words:?}");
     }
 }
 
-/// `tests/allocations` runs this test with each of its allocations refused in turn.
+/// A run is whole, or tells that a writer refused, or that there is no memory. `tests/allocations`
+/// runs this test with each of its allocations refused in turn.
 #[test]
 fn a_program_refused_memory_says_so(rt: HostRuntime) {
     let told = match told_by(rt.alloc(), ASKED, REPLY) {
         None => told_by(rt.alloc(), ASKED, REPLY),
         told => told,
     };
-    assert!(rt; told.is_some_and(|told| is_whole_or_refused(&told)));
+    let told = told.expect(&rt, "the second call is not refused memory");
+    let lines = b"block 0: valid\nhead: skipped\nrows: valid\n".as_slice();
+    let is_whole_or_refused = match told.ending.status {
+        0 => told.out.as_slice() == lines,
+        3 => told.err.as_slice() == b"cannot write\n".as_slice(),
+        4 => told.out.is_empty() && told.err.as_slice() == b"no memory\n".as_slice(),
+        _ => false,
+    };
+    assert!(rt; is_whole_or_refused);
 }

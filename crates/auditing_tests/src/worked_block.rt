@@ -2,7 +2,7 @@
 //! spell.
 
 use auditor::{Table, WalkError};
-use labels::{Row, Sample};
+use labels::Sample;
 use std::alloc::Global;
 
 /// The index.
@@ -71,14 +71,6 @@ pub fn table_of_files(
     Table::walk(alloc, index, copy, tombstones)
 }
 
-fn is_row(row: &Row, name: &str, job: &str, zone: &str, value: i64) -> bool {
-    let labels = row.labels();
-    labels.value("__name__") == name
-        && labels.value("job") == job
-        && labels.value("zone") == zone
-        && row.samples() == [Sample::new(10, value)].as_slice()
-}
-
 fn is_worked(table: &Table) -> bool {
     let series = table.series();
     if series.len() != SERIES.len() {
@@ -86,7 +78,13 @@ fn is_worked(table: &Table) -> bool {
     }
     for (at, (number, name, job, zone, value)) in SERIES.iter().enumerate() {
         let (reference, row) = &series[at];
-        if reference.number() != *number || !is_row(row, name, job, zone, *value) {
+        let labels = row.labels();
+        if reference.number() != *number
+            || labels.value("__name__") != *name
+            || labels.value("job") != *job
+            || labels.value("zone") != *zone
+            || row.samples() != [Sample::new(10, *value)].as_slice()
+        {
             return false;
         }
     }
