@@ -96,15 +96,17 @@ impl<J: Naming> Board<J> {
     }
 }
 
+fn pair_of(alloc: Global, name: &str, value: &str) -> Option<(String, String)> {
+    let name = String::from_str(alloc, name).ok()?;
+    Some((name, String::from_str(alloc, value).ok()?))
+}
+
 /// `up` of a job and a zone.
 fn labels_of(alloc: Global, job: &str, zone: &str) -> Option<LabelSet> {
     let mut pairs = Vec::new(alloc);
-    for (name, value) in [("__name__", "up"), ("job", job), ("zone", zone)] {
-        let name = String::from_str(alloc, name).ok()?;
-        pairs
-            .push((name, String::from_str(alloc, value).ok()?))
-            .ok()?;
-    }
+    pairs.push(pair_of(alloc, "__name__", "up")?).ok()?;
+    pairs.push(pair_of(alloc, "job", job)?).ok()?;
+    pairs.push(pair_of(alloc, "zone", zone)?).ok()?;
     LabelSet::new(alloc, pairs).ok()
 }
 

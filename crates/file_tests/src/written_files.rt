@@ -13,14 +13,20 @@ type Listed = (
 );
 
 fn row_of(alloc: Global, listed: &Listed) -> Option<Row> {
+    let mut pairs = Vec::new(alloc);
+    for (name, value) in listed.0 {
+        let name = String::from_str(alloc, name).ok()?;
+        pairs
+            .push((name, String::from_str(alloc, value).ok()?))
+            .ok()?;
+    }
     let mut samples = Vec::new(alloc);
     for (from, until, value) in listed.1 {
         for t in *from..*until {
             samples.push(Sample::new(t, *value)).ok()?;
         }
     }
-    let labels = LabelSet::of_sorted_texts(alloc, listed.0).ok()?;
-    Some(Row::new(labels, samples))
+    Some(Row::new(LabelSet::new(alloc, pairs).ok()?, samples))
 }
 
 fn rows_of(alloc: Global, listed: &[Listed]) -> Option<Vec<Row>> {

@@ -8,10 +8,7 @@ use std::alloc::Global;
 
 /// The code that a block was refused with, or `ok`.
 fn code_of(made: Result<Block, &'static str>) -> &'static str {
-    match made {
-        Ok(_) => "ok",
-        Err(code) => code,
-    }
+    made.err().unwrap_or("ok")
 }
 
 /// Whether a block has these ends, and so many series and samples.
