@@ -10,7 +10,7 @@ use Rattle.index_reader.specs.Layout.{SeriesEntry, Body}
 use Rattle.index_reader.specs.Indexes.{Series, Indexed, IsConsistent, chunk_lists, series_of}
 use Rattle.index_reader.specs.Spelled.{AreLater, AreChunks, AreBodies, IsIndex}
 use Rattle.block.proofs.Checks.{all_pass}
-use Rattle.block.specs.Sound.{lies_in, IsHeld, AreBehind, AreInTurn, IsStored, IsSound}
+use Rattle.block.specs.Sound.{lies_in, IsHeld, AreBehind, AreInTurn, IsStored, IsSoundBlock}
 use Rattle.block.specs.Opening.{have_few}
 
 spanned : (mint maxt : ℤ) (span : ℕ) → maxt ≡ mint +ℤ pos span → mint ≤ℤ maxt
@@ -75,7 +75,7 @@ stored_each range file (s ∷ ss) turn held few inside =
 pub sound_of : (range : ℤ × ℤ) (index file : List ℕ) (x : Indexed) → IsConsistent x
     → IsIndex index x → AllByRecursion (AllByRecursion (IsHeld file)) (chunk_lists x.series)
     → list_all (have_few file) (chunk_lists x.series) ≡ true
-    → list_all (list_all (lies_in range)) (chunk_lists x.series) ≡ true → IsSound range file x
+    → list_all (list_all (lies_in range)) (chunk_lists x.series) ≡ true → IsSoundBlock range file x
 sound_of range index file x consistent i held few inside = record {
   consistent = consistent;
   stored = stored_each range file x.series (turned_in index x i) held few inside;

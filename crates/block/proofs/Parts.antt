@@ -23,7 +23,7 @@ use Rattle.tombstones.specs.Covering.{covered}
 use Rattle.block.specs.Ranges.{covers}
 use Rattle.block.specs.Samples.{chunk_samples, samples_in, undeleted}
 use Rattle.block.specs.Blocks.{series_row, part_of, AreInside}
-use Rattle.block.specs.Sound.{lies_in, IsHeld, IsStored, IsSound}
+use Rattle.block.specs.Sound.{lies_in, IsHeld, IsStored, IsSoundBlock}
 use Rattle.block.proofs.Turns.{weaker, all_append, all_filter, is_below, is_upto, below, upto, span_of, sorted_in}
 
 -- references
@@ -105,7 +105,7 @@ sorted_rows range file deletions (s ∷ ss) a =
     (sorted_row range file deletions s a.0, sorted_rows range file deletions ss a.1)
 
 pub is_part : (range : ℤ × ℤ) (file : List ℕ) (x : Indexed) (deletions : List Deletion)
-    → IsSound range file x → IsPart (part_of file deletions x.series)
+    → IsSoundBlock range file x → IsPart (part_of file deletions x.series)
 is_part range file x deletions sound =
     let same = references_same file deletions x.series in
     let size : length (label_sets x.series) ≡ length x.series =
@@ -178,5 +178,5 @@ inside_each range file deletions (s ∷ ss) a = (
 )
 
 pub is_inside : (range : ℤ × ℤ) (file : List ℕ) (x : Indexed) (deletions : List Deletion)
-    → IsSound range file x → AreInside range (part_of file deletions x.series)
+    → IsSoundBlock range file x → AreInside range (part_of file deletions x.series)
 is_inside range file x deletions sound = inside_each range file deletions x.series sound.stored

@@ -23,7 +23,7 @@ use Rattle.block.specs.declared.blocks.Block.TheInside.{Inside}
 use Rattle.block.specs.Blocks.{Shown, shown_of, series_row, part_of}
 use Rattle.block.specs.CarriedPairs.{AreNamed}
 use Rattle.block.specs.Samples.{samples_in}
-use Rattle.block.specs.Sound.{AreInTurn, IsStored, IsSound}
+use Rattle.block.specs.Sound.{AreInTurn, IsStored, IsSoundBlock}
 use Rattle.block.specs.Wanted.{AreHeld}
 use Rattle.block.proofs.Parts.{references_same}
 use Rattle.block.proofs.Wanting.{is_asked}
@@ -321,9 +321,9 @@ module _ (f : Files) (inside : Inside) (value : Shown) (e : f ≡ arc_value insi
 
 -- what holds of the fields
 module _ (f : Files) (inside : Inside) (e : f ≡ arc_value inside.files)
-    (h : IsSound inside.range (arc_value inside.files).chunks (arc_value inside.files).index) where
-  sound : IsSound inside.range f.chunks f.index
-  sound = subst (λ (x : Files). IsSound inside.range x.chunks x.index) (sym e) h
+    (h : IsSoundBlock inside.range (arc_value inside.files).chunks (arc_value inside.files).index) where
+  sound : IsSoundBlock inside.range f.chunks f.index
+  sound = subst (λ (x : Files). IsSoundBlock inside.range x.chunks x.index) (sym e) h
 
   pub rising : IsStrictlyIncreasing (indexes.references f.index.series)
   rising = sound.consistent.ascending

@@ -40,6 +40,6 @@ pub record IsStored (range : ℤ × ℤ) (file : List ℕ) (s : Series) : Type 0
   pub inside : AllByRecursion (λ (c : Chunk). lies_in range c ≡ true) s.chunks
 
 -- the index is consistent, and the chunks of each of its series are stored
-pub record IsSound (range : ℤ × ℤ) (file : List ℕ) (x : Indexed) : Type 0 where
+pub record IsSoundBlock (range : ℤ × ℤ) (file : List ℕ) (x : Indexed) : Type 0 where
   pub consistent : IsConsistent x
   pub stored : AllByRecursion (IsStored range file) x.series

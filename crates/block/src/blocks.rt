@@ -50,12 +50,13 @@ impl Model for Block {
 
     ghost use Rattle.std.specs.Arc.{arc_value};
     ghost use Rattle.block.specs.Blocks.{shown_of};
-    ghost use Rattle.block.specs.Sound.{IsSound};
+    ghost use Rattle.block.specs.Sound.{IsSoundBlock};
 
     ghost view = { λ b.
         shown_of b.range (arc_value b.files).chunks (arc_value b.files).index b.tombstones };
 
-    ghost invariant = { λ b. IsSound b.range (arc_value b.files).chunks (arc_value b.files).index };
+    ghost invariant = { λ b.
+        IsSoundBlock b.range (arc_value b.files).chunks (arc_value b.files).index };
 }
 
 // The checks, and what they leave.

@@ -19,7 +19,7 @@ use Rattle.index_reader.specs.Steps.{each}
 use Rattle.index_reader.specs.FlatBodies.{body_in, bodies_in, label_sets_in}
 use Rattle.index_reader.specs.PostingsChecks.{section_at, references_at, lists_at}
 use Rattle.index_reader.specs.Checks.{labels_of_each}
-use Rattle.index_reader.specs.CheckedFile.{IsSound}
+use Rattle.index_reader.specs.CheckedFile.{IsSoundLayout}
 use Rattle.wire.proofs.Steps.{bind_ok}
 use Rattle.index_reader.proofs.Walks.{flat_long, ok_is}
 use Rattle.index_reader.proofs.Whole.{omega_length, end_inside}
@@ -42,7 +42,7 @@ few_symbols file x p =
     ∙ length-append (big_bytes 4 (length x.symbols)) (flat_map symbol x.symbols) in
     omega (arith, size, long, flat_long x.symbols)
 
-sound : (file : List ℕ) (o : Layout) → IsLayout file (layout_seen o) → IsSound file o
+sound : (file : List ℕ) (o : Layout) → IsLayout file (layout_seen o) → IsSoundLayout file o
 sound file o p = record {
   placed = p.placed;
   few = omega (
@@ -63,7 +63,7 @@ sound file o p = record {
 }
 
 pub sound_found : (file : List ℕ) (r : Result Layout IndexError)
-    → IfOk r (λ o. IsLayout file (layout_seen o)) → IfOk r (λ o. IsSound file o)
+    → IfOk r (λ o. IsLayout file (layout_seen o)) → IfOk r (λ o. IsSoundLayout file o)
 sound_found file (Ok o) p = sound file o p
 sound_found file (Err e) p = tt
 

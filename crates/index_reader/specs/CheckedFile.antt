@@ -32,7 +32,7 @@ carriers_seen b =
     carriers (references_in_order b.series.items) (label_sets_in b.labels.items b.series.items)
 
 -- what the later checks may build on
-pub record IsSound (file : List ℕ) (o : Layout) : Type 0 where
+pub record IsSoundLayout (file : List ℕ) (o : Layout) : Type 0 where
   pub placed : IsPlaced o.contents (length file)
   pub few : length o.symbols.items < 2 ^ 32
   pub order : ascending (bytes_of o.symbols.items) ≡ true
@@ -51,7 +51,7 @@ read_seen c = record {
 -- what is kept of a file that was checked fits together
 pub record IsHeldIn (file : List ℕ) (c : Checked) : Type 0 where
   pub parts : IsLayout file (layout_seen c.layout)
-  pub sound : IsSound file c.layout
+  pub sound : IsSoundLayout file c.layout
   pub referred : references_in_order c.bodies.series.items
       ≡ entry_references (entries_seen c.layout.entries.items)
   pub symbols : symbol_texts c.symbols ≡ bytes_of c.layout.symbols.items

@@ -2,7 +2,7 @@
 
 ghost use Rattle.std.specs.Prelude.{◌≡◌, length, IfOk};
 ghost use Rattle.index_reader.specs.AgreementChecks.{entry_references};
-ghost use Rattle.index_reader.specs.CheckedFile.{bodies_seen, read_seen, IsHeldIn, IsSound};
+ghost use Rattle.index_reader.specs.CheckedFile.{bodies_seen, read_seen, IsHeldIn, IsSoundLayout};
 ghost use Rattle.index_reader.specs.Checks.{bodies_of, postings_of, read_of, indexed, IsRead};
 ghost use Rattle.index_reader.specs.FlatBodies.{references_in_order};
 ghost use Rattle.index_reader.specs.Layout.{IsPlaced};
@@ -35,7 +35,7 @@ pub struct Checked<'a> {
 
 #[tactic(auto, using(crate::proofs::Sound::sets_are), unfolding(crate::specs::Checks::bodies_of))]
 fn check_bodies(alloc: Global, file: &[u8], layout: &Layout<'_>) -> Result<Bodies, IndexError>
-    requires { IsSound file.now layout.now }
+    requires { IsSoundLayout file.now layout.now }
     ensures exact { Gives bodies_seen result (bodies_of file.now (layout_seen layout.now)) }
     ensures referred { IfOk result (λ b. references_in_order b.series.items
         ≡ entry_references (entries_seen layout.now.entries.items)) }

@@ -5,7 +5,7 @@ ghost use Rattle.std.specs.Prelude.{◌≡◌, ◌+◌, ◌≤◌, length, IfOk,
 ghost use Rattle.byteorder.specs.Endian.{big_number};
 ghost use Rattle.wire.specs.Checksum.{crc32c};
 ghost use Rattle.index_reader.specs.Checks.{layout_of};
-ghost use Rattle.index_reader.specs.CheckedFile.{IsSound};
+ghost use Rattle.index_reader.specs.CheckedFile.{IsSoundLayout};
 ghost use Rattle.index_reader.specs.Frames.{checked_at, frame_at};
 ghost use Rattle.index_reader.specs.Grammar.{IsLayout};
 ghost use Rattle.index_reader.specs.HeadChecks.{contents_at, contents_of, in_order, head_of};
@@ -195,7 +195,7 @@ pub fn read_layout(alloc: Global, file: &[u8]) -> Result<Layout<'_>, IndexError>
     // The first check that fails is answered.
     ensures exact { Gives layout_seen result (layout_of file.now) }
     // What later checks build on.
-    ensures sound { IfOk result (λ o. IsSound file.now o) }
+    ensures sound { IfOk result (λ o. IsSoundLayout file.now o) }
 {
     layout_of(alloc, file)
 }

@@ -29,9 +29,9 @@ CutMeans body (Err _) = ⊥
 abbrev pub deletion_in : Data → Option (List ℕ × ℤ × ℤ)
 deletion_in d =
     if has_members 3 d then
-    option_and_then (λ text. option_and_then (λ from. option_and_then (λ to. asked_between text from to)
-    (time_at (codes "to") d)) (time_at (codes "from") d))
-    (text_at (codes "selector") d)
+    option_and_then (λ text. option_and_then (λ from.
+    option_and_then (λ to. asked_between text from to) (time_at (codes "to") d))
+    (time_at (codes "from") d)) (text_at (codes "selector") d)
     else None
 
 abbrev pub deletion_of : List ℕ → Option (List ℕ × ℤ × ℤ)

@@ -35,7 +35,7 @@ time_named name pairs = option_and_then time_of (only (values_named name pairs))
 abbrev pub asked_in : List (List ℕ × List ℕ) → Option (List ℕ × ℤ × ℤ)
 asked_in pairs =
     if length pairs == 3 then
-    option_and_then (λ text. option_and_then (λ from. option_and_then (λ to. asked_between text from to)
-    (time_named (codes "to") pairs)) (time_named (codes "from") pairs))
-    (only (values_named (codes "selector") pairs))
+    option_and_then (λ text. option_and_then (λ from.
+    option_and_then (λ to. asked_between text from to) (time_named (codes "to") pairs))
+    (time_named (codes "from") pairs)) (only (values_named (codes "selector") pairs))
     else None

@@ -20,7 +20,8 @@ pub record AreMatchersOf (text : List ℕ) (ms : List MatcherView) : Type 0 wher
 
 -- why a selector's text gives no matchers
 abbrev pub IsSelectorError : List ℕ → ReadError → Type 0
-IsSelectorError text (Refused (BadSelector error)) = (error ≢ selector.Memory) × RefusedBy text error
+IsSelectorError text (Refused (BadSelector error)) =
+    (error ≢ selector.Memory) × RefusedBy text error
 IsSelectorError text Memory = ⊤
 IsSelectorError text _ = ⊥
 

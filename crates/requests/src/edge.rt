@@ -4,9 +4,25 @@ ghost use Rattle.std.specs.Prelude.{◌≡◌, ◌≤◌, ℕ, List, Option, len
 ghost use Rattle.std.specs.Io.KnownBytes.{ReadConsumes};
 ghost use Rattle.requests.specs.Edge.{IsCounted};
 
-/// A call to the outside failed.
+use std::error::Error;
+use std::fmt;
+
+/// A read from a client, or a write to one, failed.
 #[derive(Clone, Copy, Debug, PartialEq, Eq, Drop)]
 pub struct Fault;
+
+impl fmt::Display for Fault {
+    ghost use Rattle.std.specs.Prelude.{Some};
+    ghost use Rattle.requests.specs.Edge.{fault_text};
+
+    ghost output = { λ _. Some fault_text };
+
+    fn fmt<W: fmt::Write>(&self, f: &mut fmt::Formatter<W>) -> fmt::Result {
+        write!(f, "a read or a write failed")
+    }
+}
+
+impl Error for Fault {}
 
 /// What a request is read from: it gives its bytes in pieces of its own choice. A reader over
 /// memory tells in its meaning which bytes are left; a socket tells none.

@@ -4,7 +4,7 @@ use Rattle.std.proofs.lemmas.Result.{err_from_is_err_and}
 use Rattle.block.specs.declared.blocks.Files.{Files}
 use Rattle.block.specs.Blocks.{part_of, shown_of}
 use Rattle.block.specs.Grammar.{IsBlock}
-use Rattle.block.specs.Sound.{IsSound}
+use Rattle.block.specs.Sound.{IsSoundBlock}
 use Rattle.block.proofs.Chunked.{sound_of}
 use Rattle.block.proofs.Found.{block_spelled}
 use Rattle.block.proofs.Refusals.{block_fails_index, block_fails_chunks, block_fails_stored, block_fails_deleted, block_outside, block_opens}
@@ -69,7 +69,7 @@ invariant_of-result g c =
     (subst (λ r. IfOk r (IsIndex c.args.index.now)) c.in_ok-index.was c.requires.spelled)
     c.in_ok-check_stored.ensures.held c.in_ok-check_stored.ensures.few
     (sym c.are_inside.ensures ∙ c.if-not-are_inside.false) in
-    subst (λ (f : Files). IsSound c.args.range f.chunks f.index)
+    subst (λ (f : Files). IsSoundBlock c.args.range f.chunks f.index)
     (sym c.in_ok-files.ensures.ok) sound
 
 pub returns-clause-exact : goal.returns-clause-exact
