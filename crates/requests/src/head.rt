@@ -34,12 +34,8 @@ pub fn read_some<R: Inlet>(
 {
     let mut piece = [0u8; 8192];
     let limit = most.min(8192);
-    let Ok(n) = reader.read(&mut piece[..limit]) else {
-        return Err(ReadError::Fault);
-    };
-    if buf.extend_from_slice(&piece[..n]).is_err() {
-        return Err(ReadError::Memory);
-    }
+    let n = reader.read(&mut piece[..limit])?;
+    buf.extend_from_slice(&piece[..n])?;
     Ok(n)
 }
 

@@ -3,7 +3,7 @@
 ghost use Rattle.std.specs.Prelude.{◌≡◌};
 ghost use Rattle.requests.specs.declared.request.ReadError.TheVariants as read_error;
 
-use crate::Refusal;
+use crate::{Fault, Refusal};
 use labels::{LabelSet, Sample};
 use matchers::{Matcher, Query};
 use std::alloc::{AllocError, AllocFailed};
@@ -75,6 +75,14 @@ impl<T: Drop> From<AllocFailed<T>> for ReadError {
 
     fn from(_: AllocFailed<T>) -> ReadError {
         ReadError::Memory
+    }
+}
+
+impl From<Fault> for ReadError {
+    ghost from_gives = { λ _ e. e ≡ read_error.Fault };
+
+    fn from(_: Fault) -> ReadError {
+        ReadError::Fault
     }
 }
 
