@@ -2,6 +2,8 @@
 RT ?= rt
 PREFIX ?= /usr/local
 JOBS ?= $(shell nproc)
+# Checks that the gate runs side by side: each takes up to some 4 GB of a machine's 24.
+GATE_JOBS ?= $(shell n=$$(nproc); echo $$((n < 4 ? n : 4)))
 CRATES := $(shell sed -e 's/\#.*//' -e 's/:.*//' -e '/^[[:space:]]*$$/d' crates.txt)
 
 .PHONY: help try demo test gate-times allocations audits serving bench install $(addprefix check-,$(CRATES))
@@ -18,10 +20,10 @@ demo: ## proves every crate, as many side by side as there are processors, and r
 	@cd crates/querier && $(RT) run -- demo
 
 test: ## the merge gate: every proof from nothing, must-fail edits, tests, programs
-	@$(RT) ci
+	@RT_JOBS=$(GATE_JOBS) $(RT) ci
 
 gate-times: ## runs the gate and tells its minutes by crate, for proofs, proofs of tests and edits
-	@tests/gate-times $(RT) ci
+	@RT_JOBS=$(GATE_JOBS) tests/gate-times $(RT) ci
 
 allocations: ## refuses each allocation of an index's opening, a store's changes, the demo, audits and a connection in turn (needs a C compiler)
 	@RT="$(RT)" tests/allocations
