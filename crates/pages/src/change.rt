@@ -1,4 +1,5 @@
-//! Changes of one entry in its place: what another version holds of the pages on the way is copied first.
+//! Changes of one entry in its place: of the pages on the way, those that another version holds are
+//! copied first.
 
 ghost use Rattle.std.specs.Prelude.{◌≡◌, ◌<◌, length, OnOk};
 ghost use Rattle.pages.specs.Pages.{leaf_list, leaf_lists, branch_list, branch_parts, branch_lists, top_list, joined, IsLeafSize, IsPaged, IsBranch, AreBranches, IsTop, IsChanged};

@@ -1,10 +1,12 @@
-//! Lists in pages that versions share: a version that changes one entry copies a page of each level, and no more.
+//! Lists in pages that versions share: a version that changes one entry copies one page of each
+//! level, and no more.
 //!
-//! [`PagedList`] is a list by place, seen by contracts as the plain list: `get` and `leaf_from` read it, `set` and
-//! `push` change it. [`SortedPages`] is a list in an order, whose caller knows the order: `find` takes a [`Probe`], and
-//! `at`, `insert` and `set` take the [`Spot`] that it found. A page holds values of an [`Entry`]: a number, or a pointer.
-//! A clone of either is one pointer, and neither sees what is written to the other. A version that is let go gives up
-//! the pages that it alone held.
+//! [`PagedList`] is a list by place, which contracts see as the plain list: `get` and `leaf_from`
+//! read it, `set` and `push` change it. [`SortedPages`] is a list in an order that its caller
+//! knows: `find` takes a [`Probe`], and `at`, `insert` and `set` take the [`Spot`] that it found. A
+//! page holds values of an [`Entry`]: a number, or a pointer. A clone of a list copies one pointer,
+//! and neither of the two sees what is written to the other. A version that is dropped gives up the
+//! pages that it alone held.
 //!
 //! ```text
 //! let mut list = PagedList::<u32, 16>::new(alloc)?;
@@ -16,8 +18,8 @@
 //! assert_eq!(rt; (list.get(0).copied(), old.get(0).copied()), (Some(11), Some(10)));
 //! ```
 //!
-//! It stands on std alone. Persistent vectors of wide pages are those of Bagwell's tries and Clojure; the sorted pages
-//! are a B-tree of three levels.
+//! It stands on std alone. Persistent vectors of wide pages are known from Bagwell's tries and
+//! Clojure; the sorted pages are a B-tree of three levels.
 #![tactic(auto)]
 
 mod change;

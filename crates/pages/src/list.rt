@@ -10,11 +10,13 @@ use std::alloc::{AllocError, Global};
 use std::marker::Model;
 use std::sync::Arc;
 
-/// A list whose versions share their pages: leaves of `LEAF` entries, 128 of them in a branch, and one page of branches.
+/// A list whose versions share their pages: leaves of `LEAF` entries, 128 of them in a branch, and
+/// one page of branches.
 ///
-/// Clauses see the plain list. A clone copies one pointer. A write copies what another version holds of the three pages
-/// on its way, and no other. So it costs at most `LEAF` clones of an entry and 128 counts of leaves, beside a count of
-/// each branch: 512 of them hold 1,048,576 entries in leaves of 16, and the page of branches grows beyond that.
+/// Clauses see the plain list. A clone copies one pointer. Of the three pages on its way, a write
+/// copies those that another version holds, and no others. So it costs at most `LEAF` clones of an
+/// entry and 128 counts of leaves, beside a count of each branch: 512 of them hold 1,048,576
+/// entries in leaves of 16, and the page of branches grows beyond that.
 #[derive(Drop)]
 pub struct PagedList<E: Entry, const LEAF: usize> {
     top: Top<E>,
@@ -34,8 +36,8 @@ impl<E: Entry, const LEAF: usize> Model for PagedList<E, LEAF> {
 }
 
 impl<E: Entry, const LEAF: usize> PagedList<E, LEAF> {
-    /// The list of no entry. `LEAF` is from 8 to 65,536: small for pointers, whose copies are counted, and large for
-    /// numbers.
+    /// The empty list. `LEAF` is from 8 to 65,536: small for pointers, whose copies are counted,
+    /// and large for numbers.
     pub fn new(alloc: Global) -> Result<PagedList<E, LEAF>, AllocError>
         requires { IsLeafSize LEAF }
         ensures { IfOk result (λ list. list ≡ []) }
@@ -103,7 +105,8 @@ impl<E: Entry, const LEAF: usize> PagedList<E, LEAF> {
         set_in_top::<E, LEAF>(&mut self.top, i, x)
     }
 
-    /// Changes the entry at a place. After an `Err` that entry may be another, and all others stand as they were.
+    /// Changes the entry at a place. After an `Err` that entry may be another, and all others are
+    /// as they were.
     pub fn change<C: Change<E>>(&mut self, i: usize, change: &C) -> Result<(), AllocError>
         requires { i < length self.old }
         ensures ok { OnOk result (IsChanged (C.after change.now) self.old i self.new) }

@@ -16,7 +16,8 @@ pub trait Probe<E: Entry> {
         ensures { result ≡ order self.now (E.item entry.now) };
 }
 
-/// A place in sorted pages: before an entry, or after the last of a page. It holds until the next insertion.
+/// A place in sorted pages: before an entry, or after the last of a page. It is valid until the
+/// next insertion.
 #[derive(Clone, Copy, Debug)]
 pub struct Spot {
     pub group: usize,

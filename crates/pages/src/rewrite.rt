@@ -1,4 +1,5 @@
-//! Changes of one entry of sorted pages: what another version holds of the pages on the way is copied first.
+//! Changes of one entry of sorted pages: of the pages on the way, those that another version holds
+//! are copied first.
 
 ghost use Rattle.std.specs.Prelude.{◌≡◌, ◌<◌, length, OnOk, OnErr};
 ghost use Rattle.pages.specs.Pages.{leaf_list, leaf_lists, branch_parts, groups_of, top_groups, joined, IsChanged};

@@ -16,11 +16,13 @@ use std::alloc::{AllocError, Global};
 use std::marker::Model;
 use std::sync::Arc;
 
-/// A list in an order whose versions share their pages: pages of at most 128 entries, in groups of at most 128 pages.
+/// A list in an order, whose versions share their pages: pages of at most 128 entries, in groups of
+/// at most 128 pages.
 ///
-/// Clauses see the lists of the pages of each group, and `entries_of` them is the plain list. The order is the
-/// caller's: a search takes a [`Probe`] that knows it, and an insertion takes the [`Spot`] that a search found. A clone
-/// copies one pointer. An insertion copies what another version holds of one page, one group and the page of groups.
+/// Clauses see the lists of the pages of each group, and `entries_of` them is the plain list. The
+/// order is the caller's: a search takes a [`Probe`] that knows it, and an insertion takes the
+/// [`Spot`] that a search found. A clone copies one pointer. Of one page, one group and the page of
+/// groups, an insertion copies those that another version holds.
 #[derive(Drop)]
 pub struct SortedPages<E: Entry> {
     top: Top<E>,
@@ -75,7 +77,8 @@ impl<E: Entry> SortedPages<E> {
         entry_after(self.top.as_slice(), spot, n)
     }
 
-    /// Where the sought entry stands, or else would stand, in a list that the probe splits: three searches by halving.
+    /// Where the sought entry stands, or else would stand, in a list that the probe splits: three
+    /// searches by halving.
     pub fn find<P: Probe<E>>(&self, probe: &P) -> Result<Spot, Spot>
         ensures found { IsSplit (P.order probe.now) (entries_of self.now)
             → IfOk result (λ spot.
@@ -124,7 +127,8 @@ impl<E: Entry> SortedPages<E> {
         }
     }
 
-    /// The entries from a spot to the end of a page, and the spot after them; `None` where none follows.
+    /// The entries from a spot to the end of a page, and the spot after them; `None` where none
+    /// follows.
     pub fn walk(&self, spot: Spot) -> Option<(&[E], Spot)>
         requires { IsSpot self.now spot }
         ensures none { IfNone result (length (entries_of self.now) ≤ place_of self.now spot) }
@@ -138,8 +142,8 @@ impl<E: Entry> SortedPages<E> {
         step(self.top.as_slice(), spot)
     }
 
-    /// Puts an entry at a spot, before what stands there. Other spots hold no longer. No list has more than
-    /// `usize::MAX` entries: there it is an error.
+    /// Puts an entry at a spot, before what stands there. Other spots are no longer valid. No list
+    /// has more than `usize::MAX` entries: one more is an error.
     pub fn insert(&mut self, alloc: Global, spot: Spot, x: E) -> Result<(), AllocError>
         requires { IsSpot self.old spot }
         ensures ok { OnOk result (entries_of self.new

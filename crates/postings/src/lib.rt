@@ -110,7 +110,7 @@ pub trait Source {
         requires { i < length (values self.now name.now) }
         ensures { slice_get (values self.now name.now) i ≡ Some result.now };
 
-    /// The value at a place that is not the first, where the one before it is at hand. A source that
+    /// The value at a place that is not the first, where the one before it is known. A source that
     /// finds values by halving need not count from the first one. Takes no memory.
     fn value_after(&self, name: &str, i: usize, before: &str) -> &str
         requires later { 0 < i }

@@ -1,7 +1,7 @@
 //! The program `querier`: audited answers to selectors over Prometheus time series.
 //!
-//! It hands its words, the files of the host and its two outputs to `commands::run::run`, whose contract
-//! says what is written and with which status it ends.
+//! It passes its words, the files of the host and its two outputs to `commands::run::run`, whose
+//! contract says what is written and with which status it ends.
 #![tactic(auto)]
 
 use commands::run::run;

@@ -1,6 +1,6 @@
-//! The body of `/write` in its usual spelling, read straight from its tokens: an array of rows, each
-//! an object of `labels`, in the order of their names, and then `samples`, whose times and values
-//! are integers. Such a body is by far the most frequent one, and needs no tree of JSON values.
+//! The body of `/write` in its usual spelling, read straight from its tokens: an array of rows,
+//! each an object of `labels`, in the order of their names, and then `samples`, whose times and
+//! values are integers. Most bodies are of this form, and it needs no tree of JSON values.
 
 ghost use Rattle.std.specs.Prelude.{◌≡◌, ◌<◌, ◌==◌, ◌∷◌, ℕ, List, Some, true, false, length, slice_index, option_and_then, IfOk, IfSome, OnOk, IsTrue};
 ghost use Rattle.std.specs.Ordering.{nat_cmp};
