@@ -3,7 +3,7 @@ use Rattle.std.proofs.Common.{◌≡◌, ℕ, ◌+◌, ◌<◌, List, [], ◌∷
 use Rattle.std.specs.List.{AllZip}
 use Rattle.std.proofs.lemmas.List.{length-map, take-map, take-append-drop, map_more, drop_more, get_or-map}
 use Rattle.auditor.specs.declared.judgement.BlockTable.{BlockTable}
-use Rattle.audit_command.specs.Reading.{Reads, IsReadingFault, paths_of}
+use Rattle.audit_command.specs.Reading.{Host, IsReadingFault, paths_of}
 use Rattle.audit_command.specs.Walking.{IsTableAt, AreTablesAt, IsFaultAt, IsFirstFault}
 use Rattle.audit_command.specs.declared.fault.Fault.{Fault}
 use Rattle.audit_command.specs.declared.fault.Fault.TheVariants.{Words, Refused, CannotReadInput, BadReply, CannotRead, CannotWrite, Memory}
@@ -14,7 +14,7 @@ AllZip_more R [] (w ∷ ys) x y all one = absurd all
 AllZip_more R (z ∷ xs) [] x y all one = absurd all
 AllZip_more R (z ∷ xs) (w ∷ ys) x y all one = (all.0, AllZip_more R xs ys x y all.1 one)
 
-module _ (reads : Reads) (texts : List (Bor (List ℕ))) (i : ℕ) (d : Bor (List ℕ)) (tables : List BlockTable) (within : i < length texts)
+module _ (reads : Host) (texts : List (Bor (List ℕ))) (i : ℕ) (d : Bor (List ℕ)) (tables : List BlockTable) (within : i < length texts)
     (known : AreTablesAt reads (take i (paths_of texts)) tables) where
   more_paths : take (i + 1) (paths_of texts) ≡ take i (paths_of texts) ++ (get_or texts i d).now ∷ []
   more_paths =

@@ -3,7 +3,7 @@ use Rattle.std.specs.Prelude.{◌≡◌, ℕ, ◌<◌, ◌≤◌, Bool, true, fa
 use Rattle.std.specs.Prelude.{IfSome, string_bytes, if◌then◌else◌}
 use Rattle.std.specs.List.{list_any}
 use Rattle.matchers.specs.Grammar.{IsSelector}
-use Rattle.matchers.specs.Queries.{is_range}
+use Rattle.matchers.specs.Queries.{is_query_range}
 use Rattle.matchers.specs.Selectors.{AreMade, RefusedBy}
 use Rattle.matchers.specs.Views.{MatcherView, QueryView}
 use Rattle.matchers.specs.declared.error.QueryError.TheVariants.{BadRange, TooManyMatchers}
@@ -15,7 +15,7 @@ use Rattle.auditor.specs.declared.judgement.BlockTable.{BlockTable}
 use Rattle.auditor.specs.declared.judgement.Line.{Line}
 use Rattle.auditor.specs.declared.reply.Reply.{Reply}
 use Rattle.audit_command.specs.Asking.{directories_of}
-use Rattle.audit_command.specs.Reading.{Reads}
+use Rattle.audit_command.specs.Reading.{Host}
 use Rattle.audit_command.specs.Walking.{AreTablesAt, IsFirstFault}
 use Rattle.audit_command.specs.declared.command.Asked.{Asked}
 use Rattle.audit_command.specs.declared.fault.Fault.{Fault}
@@ -38,7 +38,7 @@ pub record IsAccepted (text : List ℕ) (ms : List MatcherView) : Type 0 where
 -- the query that was asked: the selector is accepted as one of its matchers, and the ranges are one
 pub record IsQueryOf (asked : Asked) (query : QueryView) : Type 0 where
   pub matchers : IsAccepted asked.selector.now query.matchers
-  pub is_range : is_range asked.from asked.to ≡ true
+  pub is_query_range : is_query_range asked.from asked.to ≡ true
   pub first : query.from ≡ asked.from
   pub last : query.to ≡ asked.to
 
@@ -46,7 +46,7 @@ pub record IsQueryOf (asked : Asked) (query : QueryView) : Type 0 where
 pub record HasBadRange (asked : Asked) : Type 0 where
   pub ms : List MatcherView
   pub selector : IsAccepted asked.selector.now ms
-  pub no_range : is_range asked.from asked.to ≡ false
+  pub no_range : is_query_range asked.from asked.to ≡ false
 
 -- when a text is refused as a selector
 abbrev pub IsTextRefusal : List ℕ → SelectorError → Type 0
@@ -128,7 +128,7 @@ abbrev pub outcome_of : List Line → Outcome
 outcome_of lines = if has_fault lines then Flawed else Done
 
 -- the report is that of the lines of the reply to the query, over the blocks in the directories
-pub record IsReport (reads : Reads) (input : Option (List ℕ)) (asked : Asked)
+pub record IsReport (reads : Host) (input : Option (List ℕ)) (asked : Asked)
     (report : Report) : Type 0 where
   pub query : QueryView
   pub is_asked : IsQueryOf asked query
@@ -154,7 +154,7 @@ IsWritingFault (CannotRead path) = ⊥
 -- Why an audit ends before its lines are written: by the query; by the reply, where the query is
 -- accepted; by the directories, where there is a reply too; or by the writer, where there is a
 -- report.
-pub data IsAuditFault (reads : Reads) (input : Option (List ℕ)) (asked : Asked)
+pub data IsAuditFault (reads : Host) (input : Option (List ℕ)) (asked : Asked)
     (fault : Fault) : Type 0 where
   by_query : IsSelectionFault asked fault → IsAuditFault reads input asked fault
   by_reply : IsAllowed asked → IsReplyFault input fault → IsAuditFault reads input asked fault

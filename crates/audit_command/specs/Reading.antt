@@ -18,17 +18,17 @@ abbrev pub paths_of : List (Bor (List ℕ)) → List (List ℕ)
 paths_of directories = map (λ directory. directory.now) directories
 
 -- what reading a path may find: the bytes of a file, or nothing where it cannot be read
-abbrev pub Reads : Type 1
-Reads = List ℕ → Option (List ℕ) → Type 0
+abbrev pub Host : Type 1
+Host = List ℕ → Option (List ℕ) → Type 0
 
 -- the bytes are those of the file at a path, at most so many of them
-pub record AreFirst (reads : Reads) (path : List ℕ) (most : ℕ) (bytes : List ℕ) : Type 0 where
+pub record AreFirstBytes (reads : Host) (path : List ℕ) (most : ℕ) (bytes : List ℕ) : Type 0 where
   pub file : List ℕ
   pub found : reads path (Some file)
   pub first : bytes ≡ take most file
 
 -- why a path is not read: nothing can be read there, or memory failed
-abbrev pub IsReadFailure : Reads → List ℕ → ReadError → Type 0
+abbrev pub IsReadFailure : Host → List ℕ → ReadError → Type 0
 IsReadFailure reads path failure.Unreadable = reads path None
 IsReadFailure reads path failure.Memory = Unit {0}
 
@@ -44,31 +44,31 @@ path_of directory name = directory ++ 47 ∷ text_of name
 
 -- The bytes are those of a file of a directory. A file may have 1 GiB; of one that is longer they
 -- are the first that show it.
-pub record IsRead (reads : Reads) (directory : List ℕ) (name : FileName) (bytes : List ℕ) : Type 0
+pub record IsRead (reads : Host) (directory : List ℕ) (name : FileName) (bytes : List ℕ) : Type 0
   where
     pub file : List ℕ
     pub found : reads (path_of directory name) (Some file)
     pub first : bytes ≡ take 1073741825 file
 
 -- the bytes of the files of a directory
-pub record AreRead (reads : Reads) (directory : List ℕ) (files : BlockFiles) : Type 0 where
+pub record AreRead (reads : Host) (directory : List ℕ) (files : BlockFiles) : Type 0 where
   pub index : IsRead reads directory Index files.index.items
   pub chunks : IsRead reads directory Chunks files.chunks.items
   pub tombstones : IsRead reads directory Tombstones files.tombstones.items
 
 -- a file of a directory can be read
-pub record IsFound (reads : Reads) (directory : List ℕ) (name : FileName) : Type 0 where
+pub record IsFound (reads : Host) (directory : List ℕ) (name : FileName) : Type 0 where
   pub file : List ℕ
   pub found : reads (path_of directory name) (Some file)
 
 -- the path is that of a file of a directory, and nothing can be read there
-pub record IsUnreadAt (reads : Reads) (directory : List ℕ) (name : FileName)
+pub record IsUnreadAt (reads : Host) (directory : List ℕ) (name : FileName)
     (path : List ℕ) : Type 0 where
   pub is : path ≡ path_of directory name
   pub unread : reads path None
 
 -- why a file of a directory is not read
-abbrev pub IsFileFault : Reads → List ℕ → FileName → Fault → Type 0
+abbrev pub IsFileFault : Host → List ℕ → FileName → Fault → Type 0
 IsFileFault reads directory name (CannotRead path) =
     IsUnreadAt reads directory name (string_bytes path)
 IsFileFault reads directory name Memory = Unit {0}
@@ -83,7 +83,7 @@ abbrev pub reading_order : List FileName
 reading_order = Index ∷ Chunks ∷ Tombstones ∷ []
 
 -- the path is that of the first file of a directory that cannot be read
-pub record IsUnread (reads : Reads) (directory path : List ℕ) : Type 0 where
+pub record IsUnread (reads : Host) (directory path : List ℕ) : Type 0 where
   pub before : List FileName
   pub name : FileName
   pub after : List FileName
@@ -92,7 +92,7 @@ pub record IsUnread (reads : Reads) (directory path : List ℕ) : Type 0 where
   pub at : IsUnreadAt reads directory name path
 
 -- why the files of a directory are not read
-abbrev pub IsReadingFault : Reads → List ℕ → Fault → Type 0
+abbrev pub IsReadingFault : Host → List ℕ → Fault → Type 0
 IsReadingFault reads directory (CannotRead path) = IsUnread reads directory (string_bytes path)
 IsReadingFault reads directory Memory = Unit {0}
 IsReadingFault reads directory CannotWrite = ⊥

@@ -6,7 +6,7 @@ use Rattle.clap.specs.Words.{Text}
 use Rattle.audit_command.specs.Asking.{AreTaken, IsAskedBy}
 use Rattle.audit_command.specs.Auditing.{IsReport, IsAuditFault}
 use Rattle.audit_command.specs.Faults.{status_of, line_of}
-use Rattle.audit_command.specs.Reading.{Reads}
+use Rattle.audit_command.specs.Reading.{Host}
 use Rattle.audit_command.specs.declared.command.Asked.{Asked}
 use Rattle.audit_command.specs.declared.fault.Fault.{Fault}
 use Rattle.audit_command.specs.declared.fault.Fault.TheVariants as fault
@@ -16,7 +16,7 @@ use Rattle.audit_command.specs.declared.report.Report.{Report}
 use Rattle.audit_command.specs.declared.program.Ending.{Ending}
 
 -- the lines of the report were written, and nothing else; the outcome is that of the report
-pub record IsAudited (reads : Reads) (input : Option (List ℕ)) (asked : Asked)
+pub record IsReported (reads : Host) (input : Option (List ℕ)) (asked : Asked)
     (old new : Option (List ℕ)) (outcome : Outcome) : Type 0 where
   pub report : Report
   pub is : IsReport reads input asked report
@@ -34,15 +34,15 @@ KeepsAt (fault.CannotRead path) old new = Keeps old new
 KeepsAt fault.Memory old new = Keeps old new
 
 -- how an audit ends
-abbrev pub IsAuditEnd : Reads → Option (List ℕ) → Asked → Option (List ℕ) → Option (List ℕ)
+abbrev pub IsAuditEnd : Host → Option (List ℕ) → Asked → Option (List ℕ) → Option (List ℕ)
     → Result Outcome Fault → Type 0
-IsAuditEnd reads input asked old new (Ok outcome) = IsAudited reads input asked old new outcome
+IsAuditEnd reads input asked old new (Ok outcome) = IsReported reads input asked old new outcome
 IsAuditEnd reads input asked old new (Err fault) = IsAuditFault reads input asked fault
     × KeepsAt fault old new
 
 -- how words that `clap` takes end: as the audit that they ask for, or by want of memory before it
 -- begins
-pub data IsEnd (reads : Reads) (input : Option (List ℕ)) (words : List Text)
+pub data IsEnd (reads : Host) (input : Option (List ℕ)) (words : List Text)
     (old new : Option (List ℕ)) (end : Result Outcome Fault) : Type 0 where
   by_audit : (asked : Asked) → IsAskedBy words asked → IsAuditEnd reads input asked old new end
       → IsEnd reads input words old new end
@@ -75,7 +75,7 @@ IsTold (Err fault) told old new = OnOk told (IfSome (line_of fault) (Appends old
 
 -- Words that `clap` takes end as the audit that they ask for, and others as no audit. The exit
 -- status says which end it is, and a fault was told.
-pub record HasEnded (reads : Reads) (input : Option (List ℕ)) (words : List Text)
+pub record HasEnded (reads : Host) (input : Option (List ℕ)) (words : List Text)
     (old new told_old told_new : Option (List ℕ)) (ending : Ending) : Type 0 where
   pub end : Result Outcome Fault
   pub audit : AreTaken words → IsEnd reads input words old new end

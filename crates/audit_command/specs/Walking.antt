@@ -8,7 +8,7 @@ use Rattle.auditor.specs.declared.walk.error.WalkError.TheVariants.{Memory}
 use Rattle.auditor.specs.WalkCodes.{code_of}
 use Rattle.auditor.specs.BlockFiles.Checks.{Files, IsWalkError}
 use Rattle.auditor.specs.BlockFiles.Spelled.{IsWalked}
-use Rattle.audit_command.specs.Reading.{Reads, IsRead, IsReadingFault}
+use Rattle.audit_command.specs.Reading.{Host, IsRead, IsReadingFault}
 use Rattle.audit_command.specs.declared.fault.Fault.{Fault}
 use Rattle.audit_command.specs.declared.fault.Fault.TheVariants as fault
 use Rattle.audit_command.specs.declared.files.BlockFiles.{BlockFiles}
@@ -36,7 +36,7 @@ IsTableOf files (Walked part) = IsWalked files.index files.chunks files.tombston
 IsTableOf files (Refused code) = IsRefusedAs files code.now
 
 -- what is known of the block in a directory, from the bytes that were read of its files
-pub record IsTableAt (reads : Reads) (directory : List ℕ) (table : BlockTable) : Type 0 where
+pub record IsTableAt (reads : Host) (directory : List ℕ) (table : BlockTable) : Type 0 where
   pub files : Files
   pub index : IsRead reads directory Index files.index
   pub chunks : IsRead reads directory Chunks files.chunks
@@ -44,11 +44,11 @@ pub record IsTableAt (reads : Reads) (directory : List ℕ) (table : BlockTable)
   pub known : IsTableOf files table
 
 -- what is known of the blocks in directories, in their order
-abbrev pub AreTablesAt : Reads → List (List ℕ) → List BlockTable → Type 0
+abbrev pub AreTablesAt : Host → List (List ℕ) → List BlockTable → Type 0
 AreTablesAt reads directories tables = AllZip (IsTableAt reads) directories tables
 
 -- the directories before one were read, and that one is at fault
-pub record IsFaultAt (reads : Reads) (directories : List (List ℕ)) (f : Fault) : Type 0 where
+pub record IsFaultAt (reads : Host) (directories : List (List ℕ)) (f : Fault) : Type 0 where
   pub before : List (List ℕ)
   pub directory : List ℕ
   pub after : List (List ℕ)
@@ -59,7 +59,7 @@ pub record IsFaultAt (reads : Reads) (directories : List (List ℕ)) (f : Fault)
 
 -- why the blocks in directories are not known: by the first of them of which a file cannot be read,
 -- or by memory
-abbrev pub IsFirstFault : Reads → List (List ℕ) → Fault → Type 0
+abbrev pub IsFirstFault : Host → List (List ℕ) → Fault → Type 0
 IsFirstFault reads directories (fault.CannotRead path) =
     IsFaultAt reads directories (fault.CannotRead path)
 IsFirstFault reads directories fault.Memory = Unit {0}

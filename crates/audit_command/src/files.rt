@@ -2,7 +2,7 @@
 
 ghost use Rattle.std.specs.Prelude.{◌≡◌, ◌≤◌, ◌+◌, ℕ, List, Option, length, take, string_bytes};
 ghost use Rattle.std.specs.Prelude.{IfOk, IfErr, IfSome};
-ghost use Rattle.audit_command.specs.Reading.{path_of, text_of, AreFirst, AreRead, IsRead};
+ghost use Rattle.audit_command.specs.Reading.{path_of, text_of, AreFirstBytes, AreRead, IsRead};
 ghost use Rattle.audit_command.specs.Reading.{IsReadFailure, IsFileFault, IsReadingFault};
 
 use crate::fault::Fault;
@@ -44,7 +44,8 @@ pub trait ReadFiles {
 
     /// The first bytes of the file at a path, at most so many.
     fn read_file(&self, alloc: Global, path: &str, most: usize) -> Result<Vec<u8>, ReadError>
-        ensures ok { IfOk result (λ bytes. AreFirst (may_read self.now) path.now most bytes.items) }
+        ensures ok { IfOk result (λ bytes.
+            AreFirstBytes (may_read self.now) path.now most bytes.items) }
         ensures err { IfErr result (λ error. IsReadFailure (may_read self.now) path.now error) };
 }
 

@@ -5,7 +5,7 @@ use Rattle.auditor.specs.declared.reply.ReplyError.TheVariants.{BadReply, Memory
 
 -- what was answered, seen by view, is what is said, and a bad reply says nothing; no memory says
 -- nothing of it
-abbrev pub Reads : {X Y : Type 0} → (X → Y) → Result X ReplyError → Option Y → Type 0
-Reads view (Ok x) said = said ≡ Some (view x)
-Reads view (Err BadReply) said = said ≡ None
-Reads view (Err Memory) said = Unit {0}
+abbrev pub ReadsAs : {X Y : Type 0} → (X → Y) → Result X ReplyError → Option Y → Type 0
+ReadsAs view (Ok x) said = said ≡ Some (view x)
+ReadsAs view (Err BadReply) said = said ≡ None
+ReadsAs view (Err Memory) said = Unit {0}

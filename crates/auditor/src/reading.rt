@@ -11,7 +11,7 @@ ghost use Rattle.serde_json.specs.Find.{get, as_array};
 ghost use Rattle.labels.specs.Pairs.{texts_of};
 ghost use Rattle.postings.specs.declared.part_name.PartName.TheVariants.{Block};
 ghost use Rattle.auditor.specs.Judgements.{name_text};
-ghost use Rattle.auditor.specs.Read.{Reads};
+ghost use Rattle.auditor.specs.Read.{ReadsAs};
 ghost use Rattle.auditor.specs.Replies.{has_members, has_items, reference_said, sample_said};
 ghost use Rattle.auditor.specs.Replies.{list_said, said_at, are_labels, texts_said, labels_said};
 ghost use Rattle.auditor.specs.Replies.{row_said, verdict_named, verdict_said, interval_said};
@@ -49,14 +49,14 @@ fn has_items(value: &Value, count: usize) -> bool
 
 /// The member of a name.
 fn member<'a>(value: &'a Value, name: &str) -> Result<&'a Value, ReplyError>
-    ensures { Reads (λ v. view v.now) result (get name.now (view value.now)) }
+    ensures { ReadsAs (λ v. view v.now) result (get name.now (view value.now)) }
 {
     value.get(name).ok_or(ReplyError::BadReply)
 }
 
 /// The items of a list.
 fn items_of(value: &Value) -> Result<&[Value], ReplyError>
-    ensures { Reads (λ v. items_view v.now) result (as_array (view value.now)) }
+    ensures { ReadsAs (λ v. items_view v.now) result (as_array (view value.now)) }
 {
     match value.as_array() {
         Some(items) => Ok(items.as_slice()),
@@ -189,7 +189,7 @@ fn skipped_of(value: &Value) -> Option<usize>
 }
 
 fn samples_of(alloc: Global, value: &Value) -> Result<Vec<Sample>, ReplyError>
-    ensures { Reads (λ v. v.items) result (list_said sample_said (view value.now)) }
+    ensures { ReadsAs (λ v. v.items) result (list_said sample_said (view value.now)) }
 {
     let items = items_of(value)?;
     let mut samples = Vec::with_capacity(alloc, items.len())?;
@@ -203,7 +203,7 @@ fn samples_of(alloc: Global, value: &Value) -> Result<Vec<Sample>, ReplyError>
 }
 
 fn intervals_of(alloc: Global, value: &Value) -> Result<Vec<Interval>, ReplyError>
-    ensures { Reads (λ v. v.items) result (list_said interval_said (view value.now)) }
+    ensures { ReadsAs (λ v. v.items) result (list_said interval_said (view value.now)) }
 {
     let items = items_of(value)?;
     let mut intervals = Vec::with_capacity(alloc, items.len())?;
@@ -217,7 +217,7 @@ fn intervals_of(alloc: Global, value: &Value) -> Result<Vec<Interval>, ReplyErro
 }
 
 fn references_of(alloc: Global, value: &Value) -> Result<Vec<SeriesRef>, ReplyError>
-    ensures { Reads (λ v. v.items) result (list_said reference_said (view value.now)) }
+    ensures { ReadsAs (λ v. v.items) result (list_said reference_said (view value.now)) }
 {
     let items = items_of(value)?;
     let mut references = Vec::with_capacity(alloc, items.len())?;
@@ -279,7 +279,8 @@ fn are_labels(pairs: &[(&str, &str)]) -> bool
 
 /// The names of members, each with its text.
 fn texts_of(alloc: Global, members: &Map<String, Value>) -> Result<Vec<(&str, &str)>, ReplyError>
-    ensures { Reads (λ v. texts_of v.items) result (texts_said (members_view members.now.entries)) }
+    ensures { ReadsAs (λ v. texts_of v.items) result
+        (texts_said (members_view members.now.entries)) }
 {
     let mut texts = Vec::with_capacity(alloc, members.len())?;
     for (name, value) in members {
@@ -292,7 +293,7 @@ fn texts_of(alloc: Global, members: &Map<String, Value>) -> Result<Vec<(&str, &s
 }
 
 fn labels_of(alloc: Global, value: &Value) -> Result<LabelSet, ReplyError>
-    ensures { Reads (λ l. l) result (labels_said (view value.now)) }
+    ensures { ReadsAs (λ l. l) result (labels_said (view value.now)) }
 {
     let Some(members) = value.as_object() else {
         return Err(ReplyError::BadReply);
@@ -305,7 +306,7 @@ fn labels_of(alloc: Global, value: &Value) -> Result<LabelSet, ReplyError>
 }
 
 fn row_of(alloc: Global, value: &Value) -> Result<Row, ReplyError>
-    ensures { Reads (λ row. row) result (row_said (view value.now)) }
+    ensures { ReadsAs (λ row. row) result (row_said (view value.now)) }
 {
     if !has_members(value, 2) {
         return Err(ReplyError::BadReply);
@@ -316,7 +317,7 @@ fn row_of(alloc: Global, value: &Value) -> Result<Row, ReplyError>
 }
 
 fn rows_of(alloc: Global, value: &Value) -> Result<Vec<Row>, ReplyError>
-    ensures { Reads (λ v. v.items) result (list_said row_said (view value.now)) }
+    ensures { ReadsAs (λ v. v.items) result (list_said row_said (view value.now)) }
 {
     let items = items_of(value)?;
     let mut rows = Vec::with_capacity(alloc, items.len())?;
@@ -327,13 +328,14 @@ fn rows_of(alloc: Global, value: &Value) -> Result<Vec<Row>, ReplyError>
 }
 
 fn name_at(value: &Value) -> Result<PartName, ReplyError>
-    ensures { Reads (λ name. name) result (said_at (codes "part") part_name_said (view value.now)) }
+    ensures { ReadsAs (λ name. name) result
+        (said_at (codes "part") part_name_said (view value.now)) }
 {
     part_name_of(member(value, "part")?).ok_or(ReplyError::BadReply)
 }
 
 fn searched_of(alloc: Global, value: &Value) -> Result<PartAnswer, ReplyError>
-    ensures { Reads told_of_answer result (searched_said (view value.now)) }
+    ensures { ReadsAs told_of_answer result (searched_said (view value.now)) }
 {
     let part = name_at(value)?;
     let rows = rows_of(alloc, member(value, "rows")?)?;
@@ -348,7 +350,7 @@ fn searched_of(alloc: Global, value: &Value) -> Result<PartAnswer, ReplyError>
 }
 
 fn part_of(alloc: Global, value: &Value) -> Result<ToldPart, ReplyError>
-    ensures { Reads told_of_part result (part_said (view value.now)) }
+    ensures { ReadsAs told_of_part result (part_said (view value.now)) }
 {
     if has_members(value, 2) {
         let number = skipped_of(value).ok_or(ReplyError::BadReply)?;
@@ -361,7 +363,8 @@ fn part_of(alloc: Global, value: &Value) -> Result<ToldPart, ReplyError>
 }
 
 fn parts_of(alloc: Global, value: &Value) -> Result<Vec<ToldPart>, ReplyError>
-    ensures { Reads (λ v. map told_of_part v.items) result (list_said part_said (view value.now)) }
+    ensures { ReadsAs (λ v. map told_of_part v.items) result
+        (list_said part_said (view value.now)) }
 {
     let items = items_of(value)?;
     let mut parts = Vec::with_capacity(alloc, items.len())?;
@@ -372,7 +375,7 @@ fn parts_of(alloc: Global, value: &Value) -> Result<Vec<ToldPart>, ReplyError>
 }
 
 fn reply_of(alloc: Global, value: &Value) -> Result<Reply, ReplyError>
-    ensures { Reads told_of result (reply_said (view value.now)) }
+    ensures { ReadsAs told_of result (reply_said (view value.now)) }
 {
     if !has_members(value, 2) {
         return Err(ReplyError::BadReply);
@@ -383,7 +386,7 @@ fn reply_of(alloc: Global, value: &Value) -> Result<Reply, ReplyError>
 }
 
 fn tree_of(alloc: Global, text: &[u8]) -> Result<Value, ReplyError>
-    ensures { Reads (λ value. view value) result (tree_of text.now) }
+    ensures { ReadsAs (λ value. view value) result (tree_of text.now) }
 {
     match Value::from_slice(alloc, text) {
         Ok(value) => Ok(value),
@@ -403,7 +406,7 @@ impl Reply {
     /// not fit, names of parts that are written in another way, a head that is skipped, labels that
     /// are no label set. It makes a tree of the text, and lists as long as those of the text.
     pub fn read(alloc: Global, text: &[u8]) -> Result<Reply, ReplyError>
-        ensures { Reads told_of result (text_said text.now) }
+        ensures { ReadsAs told_of result (text_said text.now) }
     {
         let tree = tree_of(alloc, text)?;
         reply_of(alloc, &tree)

@@ -8,14 +8,14 @@ use Rattle.labels.specs.Parts.{Part}
 use Rattle.labels.specs.Rows.{Row}
 use Rattle.index_reader.specs.Indexes.{Series, Indexed}
 use Rattle.tombstones.specs.declared.deletion.Deletion.{Deletion}
-use Rattle.tombstones.specs.Covering.{covers, covered}
+use Rattle.tombstones.specs.Covering.{deletes, covered}
 use Rattle.block.specs.Samples.{samples_in, undeleted}
 use Rattle.block.specs.Blocks.{series_row, part_of, shown_of}
 use Rattle.block.specs.Opening.{is_known}
 
 pub covered_any_order : (xs ys : List Deletion) → IsPermutation xs ys → (reference : ℕ) (t : ℤ)
     → covered xs reference t ≡ covered ys reference t
-covered_any_order xs ys p reference t = list_any-IsPermutation (covers reference t) xs ys p
+covered_any_order xs ys p reference t = list_any-IsPermutation (deletes reference t) xs ys p
 
 undeleted_same : (xs ys : List Deletion) → IsPermutation xs ys
     → (reference : ℕ) (samples : List (ℤ × ℤ))

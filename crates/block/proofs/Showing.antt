@@ -21,7 +21,7 @@ use Rattle.tombstones.specs.Covering.{covered}
 use Rattle.block.specs.declared.blocks.Files.{Files}
 use Rattle.block.specs.declared.blocks.Block.TheInside.{Inside}
 use Rattle.block.specs.Blocks.{Shown, shown_of, series_row, part_of}
-use Rattle.block.specs.CarriedPairs.{AreNamed}
+use Rattle.block.specs.CarriedPairs.{AreCarriedPairs}
 use Rattle.block.specs.Samples.{samples_in}
 use Rattle.block.specs.Sound.{AreInTurn, IsStored, IsSoundBlock}
 use Rattle.block.specs.Wanted.{AreHeld}
@@ -209,7 +209,7 @@ module _ (file : List ℕ) (deletions : List Deletion) where
       go true ih = ap (λ (rs : List ℕ). s.reference ∷ rs) ih
       go false ih = ih
 
-  pub named_in : (x : Indexed) → IsConsistent x → AreNamed (part_of file deletions x.series) x.pairs
+  pub named_in : (x : Indexed) → IsConsistent x → AreCarriedPairs (part_of file deletions x.series) x.pairs
   named_in x sound = record {
     in_order = sound.pairs_in_order;
     carried =

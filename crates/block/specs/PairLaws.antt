@@ -13,7 +13,7 @@ use Rattle.labels.proofs.PartRows.{some_row, row_kept, carried_itself}
 use Rattle.labels.proofs.Times.{true_not_false}
 use Rattle.postings.specs.Values.{AreAscending, AreValuesOf}
 use Rattle.index_reader.specs.Indexes.{values_of}
-use Rattle.block.specs.CarriedPairs.{Pair, AreInOrder, AreNamed}
+use Rattle.block.specs.CarriedPairs.{Pair, ArePairsInOrder, AreCarriedPairs}
 
 -- the order of the values
 
@@ -26,7 +26,7 @@ value_less name a b p q l =
     subst (λ (m : List ℕ). text_cmp a.0 m ≡ Equal) same (text_self a.0) in
     sym (ap (λ o. ordering_then o (text_cmp a.1 b.1)) tie) ∙ l
 
-tail_in_order : (x : Pair) (xs : List Pair) → AreInOrder (x ∷ xs) → AreInOrder xs
+tail_in_order : (x : Pair) (xs : List Pair) → ArePairsInOrder (x ∷ xs) → ArePairsInOrder xs
 tail_in_order x xs h k l =
     let n : suc k + 1 ≡ suc (k + 1) = omega arith in
     subst (λ (m : ℕ). pair_cmp (get_or xs k ([], [])) (get_or (x ∷ xs) m ([], [])) ≡ Less) n
@@ -38,7 +38,7 @@ later_each : (x : Pair) (xs : List Pair)
 later_each x [] y a e = tt
 later_each x (z ∷ zs) y a e = (pair_total.trans x y z e a.0, later_each x zs y a.1 e)
 
-less_each : (x : Pair) (xs : List Pair) → AreInOrder (x ∷ xs)
+less_each : (x : Pair) (xs : List Pair) → ArePairsInOrder (x ∷ xs)
     → AllByRecursion (λ (y : Pair). pair_cmp x y ≡ Less) xs
 less_each x [] h = tt
 less_each x (y ∷ ys) h =
@@ -72,7 +72,8 @@ first_ascends v (w ∷ ws) a h (suc k) l =
 none_ascend : AreAscending []
 none_ascend k l = absurd (omega (arith, l))
 
-values_ascend : (name : List ℕ) (xs : List Pair) → AreInOrder xs → AreAscending (values_of name xs)
+values_ascend : (name : List ℕ) (xs : List Pair) → ArePairsInOrder xs
+    → AreAscending (values_of name xs)
 values_ascend name [] h = none_ascend
 values_ascend name (x ∷ xs) h =
     go (bytes_eq x.0 name) refl (values_ascend name xs (tail_in_order x xs h))
@@ -146,7 +147,7 @@ unlisted name value (x ∷ xs) e c = elim (Contains-cases x xs (name, value) c) 
     rest false h = h
 
 -- the values of a name among the pairs are those that it has in the part
-pub are_values_of : (part : Part) (pairs : List Pair) (name : List ℕ) → AreNamed part pairs
+pub are_values_of : (part : Part) (pairs : List Pair) (name : List ℕ) → AreCarriedPairs part pairs
     → AreValuesOf part name (values_of name pairs)
 are_values_of part pairs name h = record {
   ascending = values_ascend name pairs h.in_order;

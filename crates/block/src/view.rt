@@ -3,7 +3,7 @@
 ghost use Rattle.std.specs.Prelude.{◌≡◌, ℕ, ◌<◌, List, [], length, slice_get, Some, IfNone, IfSome, IfOk};
 ghost use Rattle.labels.specs.Parts.{IsPart, labels_in, row_at, samples_within};
 ghost use Rattle.labels.proofs.PartProps.{IsPart-prop};
-ghost use Rattle.block.specs.CarriedPairs.{AreNamed};
+ghost use Rattle.block.specs.CarriedPairs.{AreCarriedPairs};
 
 use crate::blocks::Block;
 use crate::live_list::LiveList;
@@ -18,7 +18,7 @@ use std::alloc::{AllocError, Global};
 pub struct BlockView<'a> {
     block: &'a Block,
     ghost is_part: { IsPart block.now.part } by { IsPart-prop block.now.part },
-    ghost named: { AreNamed block.now.part block.now.pairs },
+    ghost named: { AreCarriedPairs block.now.part block.now.pairs },
 }
 
 impl Block {

@@ -10,7 +10,8 @@ use Rattle.labels.specs.Rows.{Row}
 use Rattle.index_reader.specs.declared.chunk.Chunk.{Chunk}
 use Rattle.index_reader.specs.Layout.{rounded, TableEntry}
 use Rattle.index_reader.specs.Seen.{bytes_of}
-use Rattle.index_reader.specs.Grammar.{entry, frame, checked, contents_text}
+use Rattle.wire.specs.Checksum.{checked}
+use Rattle.index_reader.specs.Grammar.{entry, frame, contents_text}
 use Rattle.index_reader.specs.Spelled.{listed_text, table_text}
 use Rattle.block_writer.specs.declared.error.WriteError.{WriteError}
 use Rattle.block_writer.specs.Writing.{series_text}

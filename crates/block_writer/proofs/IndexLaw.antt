@@ -10,7 +10,8 @@ use Rattle.labels.specs.Labels.{labels_cmp}
 use Rattle.labels.specs.LabelSets.{IsLabelSet}
 use Rattle.labels.specs.Rows.{Row}
 use Rattle.labels.proofs.Times.{first_T, T_of}
-use Rattle.index_reader.specs.Grammar.{frame, checked, contents_text}
+use Rattle.wire.specs.Checksum.{checked}
+use Rattle.index_reader.specs.Grammar.{frame, contents_text}
 use Rattle.index_reader.specs.Indexes.{references}
 use Rattle.index_reader.specs.Spelled.{table_text, AreBodies, AreSections, IsIndex, lists_for}
 use Rattle.block_writer.specs.EntryBodies.{bodies_of}

@@ -5,10 +5,10 @@ use Rattle.std.proofs.Math.Seq.{drop-append_seam}
 use Rattle.std.proofs.lemmas.Bool.{lt-ltb, le-ltb}
 use Rattle.byteorder.specs.Endian.{big_bytes}
 use Rattle.wire.specs.Spelling.{groups, uvarint}
-use Rattle.wire.specs.Checksum.{crc32c}
+use Rattle.wire.specs.Checksum.{checked, crc32c}
 use Rattle.wire.proofs.Laws.{uvarint_long}
 use Rattle.chunk_reader.specs.Grammar.{sample_text, body_text, plain}
-use Rattle.index_reader.specs.Grammar.{frame, checked, contents_text, symbol}
+use Rattle.index_reader.specs.Grammar.{frame, contents_text, symbol}
 use Rattle.index_reader.specs.Spelled.{list_text}
 use Rattle.block_writer.specs.declared.error.WriteError.{WriteError}
 use Rattle.block_writer.specs.declared.error.WriteError.TheVariants.{Memory, Limit}

@@ -12,7 +12,8 @@ use Rattle.labels.specs.declared.sample.TheConstants.{MIN_TIME, MAX_TIME}
 use Rattle.index_reader.specs.declared.chunk.Chunk.{Chunk}
 use Rattle.wire.specs.Spelling.{uvarint}
 use Rattle.wire.proofs.Laws.{uvarint_long}
-use Rattle.chunk_reader.specs.Grammar.{body_text, checked, chunk_text, plain, time_at, IsBatch, IsChunk}
+use Rattle.wire.specs.Checksum.{checked}
+use Rattle.chunk_reader.specs.Grammar.{body_text, chunk_text, plain, time_at, IsBatch, IsChunk}
 use Rattle.block.specs.Ranges.{covers}
 use Rattle.block.specs.Sound.{lies_in}
 use Rattle.block_writer.specs.EntryBodies.{chunk_of, chunks_from}

@@ -5,7 +5,8 @@ use Rattle.std.specs.List.{flat_map, list_all, AllByRecursion}
 use Rattle.std.specs.List.Sorted.{IsStrictlySortedBy, IsStrictlyIncreasing}
 use Rattle.std.proofs.lemmas.Bool.{lt-ltb, le-leb}
 use Rattle.labels.specs.Labels.{pair_cmp}
-use Rattle.index_reader.specs.Grammar.{frame, checked, contents_text}
+use Rattle.wire.specs.Checksum.{checked}
+use Rattle.index_reader.specs.Grammar.{frame, contents_text}
 use Rattle.index_reader.specs.Layout.{is_before, is_within, rises}
 use Rattle.index_reader.specs.Spelled.{table_text, pairs_of, AreSections, IsTable}
 use Rattle.block_writer.specs.IndexText.{section_text, listed_from, contents_of}

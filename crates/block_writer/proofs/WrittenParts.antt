@@ -3,7 +3,8 @@ use Rattle.std.proofs.Common.{◌≡◌, ℕ, ◌+◌, ◌≤◌, List, ◌++◌
 use Rattle.std.specs.List.{flat_map, AllByRecursion}
 use Rattle.std.specs.Str.{IsUtf8}
 use Rattle.labels.specs.Rows.{Row}
-use Rattle.index_reader.specs.Grammar.{frame, checked, contents_text, IsLayout}
+use Rattle.wire.specs.Checksum.{checked}
+use Rattle.index_reader.specs.Grammar.{frame, contents_text, IsLayout}
 use Rattle.index_reader.specs.Spelled.{table_text, AreZero}
 use Rattle.index_reader.proofs.Gaps.{zeros_of}
 use Rattle.block_writer.specs.EntryBodies.{bodies_of}

@@ -7,7 +7,8 @@ use Rattle.labels.specs.Rows.{Row}
 use Rattle.labels.specs.Parts.{carries}
 use Rattle.index_reader.specs.declared.layout.TableOfContents.{TableOfContents}
 use Rattle.index_reader.specs.Layout.{rounded, TableEntry}
-use Rattle.index_reader.specs.Grammar.{frame, entry, symbol, checked, contents_text}
+use Rattle.wire.specs.Checksum.{checked}
+use Rattle.index_reader.specs.Grammar.{frame, entry, symbol, contents_text}
 use Rattle.index_reader.specs.Spelled.{list_text, table_text}
 use Rattle.block_writer.specs.EntryBodies.{bodies_of}
 

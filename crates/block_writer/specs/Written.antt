@@ -27,8 +27,8 @@ IsReason text Limit = limit < length text
 IsReason text Memory = Unit {0}
 
 -- a refusal of rows: a file of them would be too long
-abbrev pub IsTooLong : List Row → WriteError → Type 0
-IsTooLong rows Limit =
+abbrev pub IsFileTooLong : List Row → WriteError → Type 0
+IsFileTooLong rows Limit =
     (limit < length (chunks_text rows))
     ⊎ ((text : List ℕ) × IsWrittenIndex rows text × (limit < length text))
-IsTooLong rows Memory = Unit {0}
+IsFileTooLong rows Memory = Unit {0}

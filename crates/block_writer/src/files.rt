@@ -3,7 +3,7 @@
 ghost use Rattle.std.specs.Prelude.{◌≡◌, ◌≤◌, [], length, IfOk, IfErr};
 ghost use Rattle.block_writer.specs.Writing.{chunks_text};
 ghost use Rattle.block_writer.specs.SpellRows.{SpellRowsAnywhere};
-ghost use Rattle.block_writer.specs.Written.{limit, IsTooLong, IsWrittenIndex};
+ghost use Rattle.block_writer.specs.Written.{limit, IsFileTooLong, IsWrittenIndex};
 ghost use Rattle.tombstones.specs.Grammar.{IsTombstones};
 
 use crate::chunks::chunks_file;
@@ -47,7 +47,7 @@ pub fn write(alloc: Global, rows: &PartRows) -> Result<BlockBytes, WriteError>
     ensures block { IfOk result (λ files.
         SpellRowsAnywhere files.index.items files.chunks.items files.tombstones.items rows.now) }
     // Rows are refused only where a file of them is too long.
-    ensures reason { IfErr result (IsTooLong rows.now) }
+    ensures reason { IfErr result (IsFileTooLong rows.now) }
 {
     let chunks = chunks_file(alloc, rows)?;
     if chunks.len() > MAX_LEN {

@@ -10,7 +10,7 @@ ghost use Rattle.block_writer.specs.IndexText.{index_text, start_text, symbols_t
 ghost use Rattle.block_writer.specs.PartRows.{are_part_rows};
 ghost use Rattle.block_writer.specs.Typed.{HaveTexts};
 ghost use Rattle.block_writer.specs.Writing.{chunks_text};
-ghost use Rattle.block_writer.specs.Written.{limit, IsReason, IsTooLong, IsWrittenIndex};
+ghost use Rattle.block_writer.specs.Written.{limit, IsReason, IsFileTooLong, IsWrittenIndex};
 
 use crate::carriers::lists_of;
 use crate::entries::{pad, put_entries};
@@ -34,7 +34,7 @@ pub(crate) fn index_file(alloc: Global, rows: &PartRows) -> Result<Vec<u8>, Writ
     requires { length (chunks_text rows.now) ≤ limit }
     ensures written { IfOk result (λ file. IsWrittenIndex rows.now file.items) }
     ensures short { IfOk result (λ file. length file.items ≤ limit) }
-    ensures reason { IfErr result (IsTooLong rows.now) }
+    ensures reason { IfErr result (IsFileTooLong rows.now) }
     ensures typed { OnOk result (HaveTexts rows.now) }
     ensures part { OnOk result (IsTrue (are_part_rows rows.now)) }
 {

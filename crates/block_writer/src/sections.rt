@@ -5,8 +5,8 @@ ghost use Rattle.std.specs.Prelude.{◌≡◌, ◌≤◌, ◌++◌, ◌∷◌, [
 ghost use Rattle.std.specs.List.{flat_map};
 ghost use Rattle.byteorder.specs.Endian.{big_bytes};
 ghost use Rattle.labels.specs.Pairs.{texts_of};
-ghost use Rattle.wire.specs.Checksum.{crc32c};
-ghost use Rattle.index_reader.specs.Grammar.{frame, checked, contents_text, symbol};
+ghost use Rattle.wire.specs.Checksum.{checked, crc32c};
+ghost use Rattle.index_reader.specs.Grammar.{frame, contents_text, symbol};
 ghost use Rattle.index_reader.specs.Spelled.{list_text, listed_text, table_text};
 ghost use Rattle.block_writer.specs.IndexText.{contents_of, listed_from, postings_text, section_text};
 ghost use Rattle.block_writer.specs.Written.{IsReason};

@@ -11,13 +11,13 @@ use Rattle.std.proofs.lemmas.List.Concat.{flat_map-cons}
 use Rattle.byteorder.specs.Endian.{big_bytes}
 use Rattle.wire.specs.Spelling.{uvarint, IsBytes}
 use Rattle.wire.specs.Reading.{number_at, bytes_at, uvarint_at}
-use Rattle.wire.specs.Checksum.{crc32c}
+use Rattle.wire.specs.Checksum.{checked, crc32c}
 use Rattle.wire.proofs.ChecksumBound.{crc32c_below}
 use Rattle.wire.proofs.Fields.{IsBytes-drop, IsBytes-front, IsBytes-back, number_takes_4, number_again_4, bytes_takes, bytes_again}
 use Rattle.wire.proofs.Laws.{uvarint_takes, uvarint_again, uvarint_long}
 use Rattle.chunk_reader.specs.declared.error.ChunkError.{ChunkError}
 use Rattle.chunk_reader.specs.declared.error.ChunkError.TheVariants.{Magic, Version, Reference, Crc, XorEncoding, OtherEncoding, Shape, TimesDisagree}
-use Rattle.chunk_reader.specs.Grammar.{checked, chunk_text, body_text, sample_text, signed_text, plain, segment_of, time_at, IsChunk, IsSegment}
+use Rattle.chunk_reader.specs.Grammar.{chunk_text, body_text, sample_text, signed_text, plain, segment_of, time_at, IsChunk, IsSegment}
 use Rattle.wire.specs.Outcome.{Answers, or_refused}
 use Rattle.chunk_reader.specs.Reading.{opened, content_at, decode, batch_in, is_outside, spans, samples_of}
 use Rattle.chunk_reader.proofs.Batches.{IsBody, batch_takes, batch_again, length-body_text, eqb_same}

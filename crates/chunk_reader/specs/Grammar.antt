@@ -9,7 +9,7 @@ use Rattle.byteorder.specs.Endian.{big_bytes}
 use Rattle.labels.specs.Contents.{in_range}
 use Rattle.labels.specs.declared.sample.TheConstants.{MIN_TIME, MAX_TIME}
 use Rattle.wire.specs.Spelling.{uvarint}
-use Rattle.wire.specs.Checksum.{crc32c}
+use Rattle.wire.specs.Checksum.{checked}
 
 -- a time or a value: eight bytes, two's complement
 abbrev pub signed_text : ℤ → List ℕ
@@ -21,10 +21,6 @@ sample_text s = signed_text s.0 ++ signed_text s.1
 -- the body: how many samples, in two bytes, and the samples
 abbrev pub body_text : List (ℤ × ℤ) → List ℕ
 body_text samples = big_bytes 2 (length samples) ++ flat_map sample_text samples
-
--- content, and its checksum
-abbrev pub checked : List ℕ → List ℕ
-checked content = content ++ big_bytes 4 (crc32c content)
 
 -- the length of the body, the byte of its encoding, the body, and the checksum of byte and body
 abbrev pub chunk_text : ℕ → List ℕ → List ℕ

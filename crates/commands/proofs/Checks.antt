@@ -7,7 +7,7 @@ use Rattle.std.proofs.lemmas.List.{append-nil, map-append, take-append-drop}
 use Rattle.std.proofs.lemmas.List.Folds.{list_any-append}
 use Rattle.std.proofs.lemmas.Grind.{flat_map-append}
 use Rattle.commands.specs.Checking.{Judged, IsJudgedAt, IsChecked, IsCheckFault, IsCutAt, judgement_line, is_refused, outcome_of}
-use Rattle.commands.specs.Reading.{Reads, IsDirectoryFault, paths_of}
+use Rattle.commands.specs.Reading.{Host, IsDirectoryFault, paths_of}
 use Rattle.commands.proofs.Paths.{paths_of_more, parts_of_paths}
 use Rattle.commands.specs.Selecting.{KeepsAt}
 use Rattle.commands.specs.declared.fault.Fault.{Fault}
@@ -59,7 +59,7 @@ outcome_of_more judged directory judgement =
     ∙ outcome_by (list_any (λ (j : Judged). is_refused j.1) judged) (is_refused judgement)
 
 -- no directory was checked
-pub none_checked : (reads : Reads) (old : Option (List ℕ)) → IsChecked reads [] old old Done
+pub none_checked : (reads : Host) (old : Option (List ℕ)) → IsChecked reads [] old old Done
 none_checked reads old = record {
   judged = [];
   order = refl;
@@ -69,7 +69,7 @@ none_checked reads old = record {
 }
 
 -- one more directory was checked
-pub one_more_checked : (reads : Reads) (directories : List (List ℕ)) (directory : List ℕ)
+pub one_more_checked : (reads : Host) (directories : List (List ℕ)) (directory : List ℕ)
     (old mid new : Option (List ℕ)) (outcome : Outcome) (judgement : Judgement)
     → IsChecked reads directories old mid outcome → IsJudgedAt reads directory judgement
     → Appends mid new (judgement_line directory judgement)
@@ -98,7 +98,7 @@ one_more_checked reads directories directory old mid new outcome judgement befor
     }
 
 -- the next of the texts was checked
-pub next_checked : (reads : Reads) (texts : List (Bor (List ℕ))) (i : ℕ) (d : Bor (List ℕ))
+pub next_checked : (reads : Host) (texts : List (Bor (List ℕ))) (i : ℕ) (d : Bor (List ℕ))
     (old mid new : Option (List ℕ)) (outcome next : Outcome) (judgement : Judgement)
     → i < length texts → IsChecked reads (take i (paths_of texts)) old mid outcome
     → IsJudgedAt reads (get_or texts i d).now judgement
@@ -109,7 +109,7 @@ next_checked reads texts i d old mid new outcome next judgement h before one lin
     rw (is, paths_of_more texts i d h) (one_more_checked reads (take i (paths_of texts))
     (get_or texts i d).now old mid new outcome judgement before one line)
 
-kept_checked : (reads : Reads) (directories : List (List ℕ)) (old mid new : Option (List ℕ))
+kept_checked : (reads : Host) (directories : List (List ℕ)) (old mid new : Option (List ℕ))
     (outcome : Outcome) → IsChecked reads directories old mid outcome → Keeps mid new
     → IsChecked reads directories old new outcome
 kept_checked reads directories old mid new outcome before kept = record {
@@ -121,7 +121,7 @@ kept_checked reads directories old mid new outcome before kept = record {
 }
 
 -- the next of the texts was not checked
-pub stopped : (reads : Reads) (texts : List (Bor (List ℕ))) (i : ℕ) (d : Bor (List ℕ))
+pub stopped : (reads : Host) (texts : List (Bor (List ℕ))) (i : ℕ) (d : Bor (List ℕ))
     (old mid new : Option (List ℕ)) (outcome : Outcome) (why : Fault)
     → i < length texts → IsChecked reads (take i (paths_of texts)) old mid outcome
     → IsDirectoryFault reads (get_or texts i d).now why → KeepsAt why mid new

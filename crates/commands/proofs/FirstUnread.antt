@@ -1,18 +1,18 @@
 -- Which file is the first that cannot be read.
 use Rattle.std.proofs.Common.{◌≡◌, ℕ, List, ◌∷◌, ◌++◌}
 use Rattle.std.specs.List.{AllByRecursion}
-use Rattle.commands.specs.Reading.{Reads, IsRead, IsFound, IsFileFault, IsReadingFault, IsDirectoryFault, reading_order}
+use Rattle.commands.specs.Reading.{Host, IsRead, IsFound, IsFileFault, IsReadingFault, IsDirectoryFault, reading_order}
 use Rattle.commands.specs.declared.fault.Fault.{Fault}
 use Rattle.commands.specs.declared.fault.Fault.TheVariants.{Words, Refused, CannotRead, CannotWrite, CannotListen, Memory}
 use Rattle.commands.specs.declared.files.FileName.{FileName}
 
 -- a file that was read can be read
-pub found : (reads : Reads) (directory : List ℕ) (name : FileName) (bytes : List ℕ)
+pub found : (reads : Host) (directory : List ℕ) (name : FileName) (bytes : List ℕ)
     → IsRead reads directory name bytes → IsFound reads directory name
 found reads directory name bytes read = record { file = read.file; found = read.found }
 
 -- the fault of a file, after those before it were read
-pub fault_after : (reads : Reads) (directory : List ℕ) (before : List FileName) (name : FileName)
+pub fault_after : (reads : Host) (directory : List ℕ) (before : List FileName) (name : FileName)
     (after : List FileName) → reading_order ≡ before ++ name ∷ after
     → AllByRecursion (λ (earlier : FileName). IsFound reads directory earlier) before
     → (fault : Fault) → IsFileFault reads directory name fault
@@ -26,7 +26,7 @@ fault_after reads directory before name after order each (Words error) h = h
 fault_after reads directory before name after order each (Refused refusal) h = h
 
 -- what keeps a directory from being judged keeps its line from being written
-pub unwritten : (reads : Reads) (directory : List ℕ) (fault : Fault)
+pub unwritten : (reads : Host) (directory : List ℕ) (fault : Fault)
     → IsReadingFault reads directory fault → IsDirectoryFault reads directory fault
 unwritten reads directory (CannotRead path) h = h
 unwritten reads directory Memory h = h

@@ -5,7 +5,7 @@ use Rattle.std.specs.Io.KnownBytes.{Keeps}
 use Rattle.clap.specs.Words.{Text}
 use Rattle.commands.specs.Checking.{IsBegun}
 use Rattle.commands.specs.Lines.{IsLineOf}
-use Rattle.commands.specs.Reading.{Reads}
+use Rattle.commands.specs.Reading.{Host}
 use Rattle.commands.specs.DemoAnswer.{by_writing}
 use Rattle.commands.specs.Selecting.{KeepsAt, by_selection}
 use Rattle.commands.specs.ServingRuns.{by_directories}
@@ -32,7 +32,7 @@ unused (fault.CannotListen port) old = keeps_itself old
 unused fault.Memory old = keeps_itself old
 
 -- no line of any directory was written
-pub none_begun : (reads : Reads) (directories : List (List ℕ)) (old : Option (List ℕ))
+pub none_begun : (reads : Host) (directories : List (List ℕ)) (old : Option (List ℕ))
     → IsBegun reads directories old old
 none_begun reads directories old = record {
   before = [];
@@ -42,7 +42,7 @@ none_begun reads directories old = record {
   checked = none_checked reads old;
 }
 
-memory_fault : (reads : Reads) (line : Line) (old : Option (List ℕ))
+memory_fault : (reads : Host) (line : Line) (old : Option (List ℕ))
     → IsLineFault reads line old old fault.Memory
 memory_fault reads Demo old = (by_writing tt, keeps_itself old)
 memory_fault reads (Select s texts) old = (by_selection tt, keeps_itself old)
@@ -50,19 +50,19 @@ memory_fault reads (Check texts) old = none_begun reads (map (λ text. text.now)
 memory_fault reads (Serve serving texts) old = by_directories tt (keeps_itself old)
 
 -- a line may end by want of memory before it begins
-pub end_without_memory : (reads : Reads) (words : List Text) (old : Option (List ℕ)) → IsTaken words
+pub end_without_memory : (reads : Host) (words : List Text) (old : Option (List ℕ)) → IsTaken words
     → IsEnd reads words old old (Err fault.Memory)
 end_without_memory reads words old taken =
     record { line = taken.line; is = taken.is; ends = memory_fault reads taken.line old }
 
 -- the end of a line is that of its words
-pub end_of_line : (reads : Reads) (words : List Text) (line : Line) (old new : Option (List ℕ))
+pub end_of_line : (reads : Host) (words : List Text) (line : Line) (old new : Option (List ℕ))
     (end : Result Outcome Fault) → IsLineOf words line
     → IsLineEnd reads line old new end → IsEnd reads words old new end
 end_of_line reads words line old new end is ends = record { line = line; is = is; ends = ends }
 
 -- what the writer holds at the end of a line
-pub kept_at_end : (reads : Reads) (words : List Text) (line : Line) (old new : Option (List ℕ))
+pub kept_at_end : (reads : Host) (words : List Text) (line : Line) (old new : Option (List ℕ))
     (end : Result Outcome Fault) → IsLineOf words line
     → IsLineEnd reads line old new end → IsEarlyLine words ⊎ KeepsAtEnd old new end
 kept_at_end reads words (Check texts) old new end is ends =

@@ -16,7 +16,7 @@ use Rattle.commands.specs.Checking.{IsJudgedAt}
 use Rattle.commands.specs.Faults.{block_fault}
 use Rattle.commands.specs.Judging.{block_in, bytes_of, IsSpelledAs}
 use Rattle.commands.specs.Opening.{IsBlockAt, AreBlocksAt, IsBlockFault, IsFirstFault, IsOpeningFault}
-use Rattle.commands.specs.Reading.{Reads, AreRead, IsReadingFault, paths_of}
+use Rattle.commands.specs.Reading.{Host, AreRead, IsReadingFault, paths_of}
 use Rattle.commands.specs.declared.fault.Fault.{Fault}
 use Rattle.commands.specs.declared.fault.Fault.TheVariants.{Words, Refused, CannotRead, CannotWrite, CannotListen, Memory}
 use Rattle.commands.specs.declared.fault.Refusal.TheVariants.{Labels, Matcher, Selector, Query, Commit, Block, Open, Snapshot}
@@ -34,7 +34,7 @@ AllZip_more R (z ∷ xs) [] x y all one = absurd all
 AllZip_more R (z ∷ xs) (w ∷ ys) x y all one = (all.0, AllZip_more R xs ys x y all.1 one)
 
 -- one more directory was opened
-pub one_more_opened : (reads : Reads) (texts : List (Bor (List ℕ))) (i : ℕ) (d : Bor (List ℕ))
+pub one_more_opened : (reads : Host) (texts : List (Bor (List ℕ))) (i : ℕ) (d : Bor (List ℕ))
     (blocks : List Shown) (block : Shown) → i < length texts
     → AreBlocksAt reads (take i (paths_of texts)) (map part_in blocks)
     → IsBlockAt reads (get_or texts i d).now (part_in block)
@@ -45,14 +45,14 @@ one_more_opened reads texts i d blocks block h before one =
     (get_or texts i d).now (part_in block) before one)
 
 -- as many blocks as directories
-pub as_many : (reads : Reads) (directories : List (List ℕ)) (blocks : List Shown)
+pub as_many : (reads : Host) (directories : List (List ℕ)) (blocks : List Shown)
     → AreBlocksAt reads directories (map part_in blocks) → length blocks ≡ length directories
 as_many reads directories blocks opened =
     rw (length-map blocks part_in) at
     (AllZip-long (IsBlockAt reads) directories (map part_in blocks) opened)
 
 -- what keeps the files of a directory from being read keeps its block from being opened
-pub unopened : (reads : Reads) (directory : List ℕ) (fault : Fault)
+pub unopened : (reads : Host) (directory : List ℕ) (fault : Fault)
     → IsReadingFault reads directory fault → IsBlockFault reads directory fault
 unopened reads directory (CannotRead path) h = h
 unopened reads directory Memory h = h
@@ -61,7 +61,7 @@ unopened reads directory (CannotListen port) h = h
 unopened reads directory (Words error) h = h
 unopened reads directory (Refused refusal) h = absurd h
 
-module _ (reads : Reads) (directory : List ℕ) (files : BlockFiles)
+module _ (reads : Host) (directory : List ℕ) (files : BlockFiles)
     (read : AreRead reads directory files) where
   judged_at : (e : BlockError) → (e ≡ block.Memory → ⊥)
       → Fails e (block_in (or_meta (range_said files.meta.items)) (bytes_of files))
@@ -87,7 +87,7 @@ module _ (reads : Reads) (directory : List ℕ) (files : BlockFiles)
   refused_at block.UnknownSeries exact only = judged_at block.UnknownSeries (λ m. cc) exact only
   refused_at block.OutsideRange exact only = judged_at block.OutsideRange (λ m. cc) exact only
 
-module _ (reads : Reads) (texts : List (Bor (List ℕ))) (i : ℕ) (d : Bor (List ℕ))
+module _ (reads : Host) (texts : List (Bor (List ℕ))) (i : ℕ) (d : Bor (List ℕ))
     (blocks : List BlockPart) (within : i < length texts)
     (opened : AreBlocksAt reads (take i (paths_of texts)) blocks) where
   -- the next of the directories is the first at fault
@@ -123,7 +123,7 @@ paths_of_both texts n =
     ∙ ap paths_of (take-append-drop n texts)
 
 -- the blocks of a run of directories and of the rest
-pub both_opened : (reads : Reads) (texts : List (Bor (List ℕ))) (n : ℕ) (front back : List Shown)
+pub both_opened : (reads : Host) (texts : List (Bor (List ℕ))) (n : ℕ) (front back : List Shown)
     → AreBlocksAt reads (paths_of (take n texts)) (map part_in front)
     → AreBlocksAt reads (paths_of (drop n texts)) (map part_in back)
     → AreBlocksAt reads (paths_of texts) (map part_in (front ++ back))
@@ -136,7 +136,7 @@ both_opened reads texts n front back first second =
     (paths_of (drop n texts)) (map part_in front) (map part_in back) first second))
 
 -- the first at fault of a run of directories is that of all
-pub fault_in_front : (reads : Reads) (texts : List (Bor (List ℕ))) (n : ℕ) (fault : Fault)
+pub fault_in_front : (reads : Host) (texts : List (Bor (List ℕ))) (n : ℕ) (fault : Fault)
     → IsFirstFault reads (paths_of (take n texts)) fault → IsFirstFault reads (paths_of texts) fault
 fault_in_front reads texts n fault h = record {
   before = h.before;
@@ -152,7 +152,7 @@ fault_in_front reads texts n fault h = record {
 }
 
 -- where a run of directories was opened, the first at fault of the rest is that of all
-pub fault_in_back : (reads : Reads) (texts : List (Bor (List ℕ))) (n : ℕ) (blocks : List Shown)
+pub fault_in_back : (reads : Host) (texts : List (Bor (List ℕ))) (n : ℕ) (blocks : List Shown)
     (fault : Fault) → AreBlocksAt reads (paths_of (take n texts)) (map part_in blocks)
     → IsFirstFault reads (paths_of (drop n texts)) fault → IsFirstFault reads (paths_of texts) fault
 fault_in_back reads texts n blocks fault opened h = record {
@@ -171,7 +171,7 @@ fault_in_back reads texts n blocks fault opened h = record {
 }
 
 -- where memory runs out, it may be at the first directory
-pub fault_at_first : (reads : Reads) (texts : List (Bor (List ℕ))) → 0 < length texts
+pub fault_at_first : (reads : Host) (texts : List (Bor (List ℕ))) → 0 < length texts
     → IsFirstFault reads (paths_of texts) Memory
 fault_at_first reads [] some = let none : ⊥ = omega (arith, some) in absurd none
 fault_at_first reads (text ∷ texts) some = record {
@@ -185,7 +185,7 @@ fault_at_first reads (text ∷ texts) some = record {
 }
 
 -- the first of the directories at fault keeps all from being opened
-pub first_is_opening : (reads : Reads) (directories : List (List ℕ)) (fault : Fault)
+pub first_is_opening : (reads : Host) (directories : List (List ℕ)) (fault : Fault)
     → IsFirstFault reads directories fault → IsOpeningFault reads directories fault
 first_is_opening reads directories (CannotRead path) h = h
 first_is_opening reads directories (Refused (Block error)) h = h

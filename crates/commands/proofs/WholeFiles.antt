@@ -6,7 +6,7 @@ use Rattle.block.specs.Metas.{or_meta, range_said}
 use Rattle.block.specs.declared.error.BlockError.{BlockError}
 use Rattle.block.proofs.LongFiles.{meta_first, block_first, spelled_first, spelled_of_first}
 use Rattle.commands.specs.Judging.{bytes_of, block_in, judgement_of, IsSpelledAs, IsSpelled, IsJudged}
-use Rattle.commands.specs.Reading.{Reads, Files, AreRead, AreFilesAt}
+use Rattle.commands.specs.Reading.{Host, Files, AreRead, AreFilesAt}
 use Rattle.commands.specs.declared.files.BlockFiles.{BlockFiles}
 use Rattle.commands.specs.declared.judgement.Judgement.{Judgement}
 use Rattle.commands.specs.declared.judgement.Judgement.TheVariants.{Sound, Refused}
@@ -62,7 +62,7 @@ judged_alike w judgement h = record {
 
 -- ---- the files of a directory
 
-pub whole_of : (reads : Reads) (directory : List ℕ) (files : BlockFiles)
+pub whole_of : (reads : Host) (directory : List ℕ) (files : BlockFiles)
     → AreRead reads directory files → Files
 whole_of reads directory files read = record {
   meta = read.meta.file;
@@ -71,7 +71,7 @@ whole_of reads directory files read = record {
   tombstones = read.tombstones.file;
 }
 
-pub whole_found : (reads : Reads) (directory : List ℕ) (files : BlockFiles)
+pub whole_found : (reads : Host) (directory : List ℕ) (files : BlockFiles)
     (read : AreRead reads directory files)
     → AreFilesAt reads directory (whole_of reads directory files read)
 unfolding whole_of
@@ -82,7 +82,7 @@ whole_found reads directory files read = record {
   tombstones = read.tombstones.found;
 }
 
-first_read : (reads : Reads) (directory : List ℕ) (files : BlockFiles)
+first_read : (reads : Host) (directory : List ℕ) (files : BlockFiles)
     (read : AreRead reads directory files)
     → bytes_of files ≡ first_of (whole_of reads directory files read)
 unfolding whole_of
@@ -93,14 +93,14 @@ first_read reads directory files read = λ i. record {
   tombstones = read.tombstones.first i;
 }
 
-pub whole_judged : (reads : Reads) (directory : List ℕ) (files : BlockFiles)
+pub whole_judged : (reads : Host) (directory : List ℕ) (files : BlockFiles)
     (read : AreRead reads directory files) (judgement : Judgement)
     → IsJudged (bytes_of files) judgement → IsJudged (whole_of reads directory files read) judgement
 whole_judged reads directory files read judgement h =
     judged_alike (whole_of reads directory files read) judgement
     (subst (λ (w : Files). IsJudged w judgement) (first_read reads directory files read) h)
 
-pub whole_spelled : (reads : Reads) (directory : List ℕ) (files : BlockFiles)
+pub whole_spelled : (reads : Host) (directory : List ℕ) (files : BlockFiles)
     (read : AreRead reads directory files) (range : ℤ × ℤ) (part : Part)
     → IsSpelledAs (bytes_of files) range part
     → IsSpelledAs (whole_of reads directory files read) range part

@@ -4,7 +4,7 @@ use Rattle.std.specs.Prelude.{decimal, string_bytes, if◌then◌else◌}
 use Rattle.std.specs.List.{AllByRecursion, flat_map, list_any}
 use Rattle.std.specs.Io.KnownBytes.{Appends}
 use Rattle.commands.specs.Judging.{IsJudged}
-use Rattle.commands.specs.Reading.{Reads, Files, AreFilesAt, IsUnread}
+use Rattle.commands.specs.Reading.{Host, Files, AreFilesAt, IsUnread}
 use Rattle.commands.specs.Sending.{AppendsPrefix}
 use Rattle.commands.specs.declared.fault.Fault.{Fault}
 use Rattle.commands.specs.declared.fault.Fault.TheVariants.{Words, Refused, CannotRead, CannotWrite}
@@ -27,7 +27,7 @@ judgement_line directory judgement =
     directory ++ (codes ": " ++ (judgement_text judgement ++ 10 ∷ []))
 
 -- what the files of a directory, each of them whole, are judged to be
-pub record IsJudgedAt (reads : Reads) (directory : List ℕ) (judgement : Judgement) : Type 0 where
+pub record IsJudgedAt (reads : Host) (directory : List ℕ) (judgement : Judgement) : Type 0 where
   pub files : Files
   pub found : AreFilesAt reads directory files
   pub judged : IsJudged files judgement
@@ -46,7 +46,7 @@ abbrev pub outcome_of : List Judged → Outcome
 outcome_of judged = if list_any (λ j. is_refused j.1) judged then outcome.Refused else outcome.Done
 
 -- exactly the lines of these directories were written, in this order
-pub record IsChecked (reads : Reads) (directories : List (List ℕ)) (old new : Option (List ℕ))
+pub record IsChecked (reads : Host) (directories : List (List ℕ)) (old new : Option (List ℕ))
     (outcome : Outcome) : Type 0 where
   pub judged : List Judged
   pub order : map (λ j. j.0) judged ≡ directories
@@ -55,7 +55,7 @@ pub record IsChecked (reads : Reads) (directories : List (List ℕ)) (old new : 
   pub outcome_is : outcome ≡ outcome_of judged
 
 -- exactly the lines of the directories before some place were written
-pub record IsBegun (reads : Reads) (directories : List (List ℕ))
+pub record IsBegun (reads : Host) (directories : List (List ℕ))
     (old new : Option (List ℕ)) : Type 0 where
   pub before : List (List ℕ)
   pub rest : List (List ℕ)
@@ -64,7 +64,7 @@ pub record IsBegun (reads : Reads) (directories : List (List ℕ))
   pub checked : IsChecked reads before old new outcome
 
 -- exactly the lines of the directories before one of which a file cannot be read
-pub record IsUnreadCheck (reads : Reads) (directories : List (List ℕ)) (old new : Option (List ℕ))
+pub record IsUnreadCheck (reads : Host) (directories : List (List ℕ)) (old new : Option (List ℕ))
     (path : List ℕ) : Type 0 where
   pub before : List (List ℕ)
   pub directory : List ℕ
@@ -75,14 +75,14 @@ pub record IsUnreadCheck (reads : Reads) (directories : List (List ℕ)) (old ne
   pub unread : IsUnread reads directory path
 
 -- where the writer failed, a prefix of the right line of a directory was written
-abbrev pub IsCutAt : Reads → List ℕ → Option (List ℕ) → Option (List ℕ) → Fault → Type 0
+abbrev pub IsCutAt : Host → List ℕ → Option (List ℕ) → Option (List ℕ) → Fault → Type 0
 IsCutAt reads directory old new CannotWrite =
     (judgement : Judgement) × IsJudgedAt reads directory judgement
     × AppendsPrefix old new (judgement_line directory judgement)
 IsCutAt reads directory old new fault = Unit {0}
 
 -- a prefix of the lines of the first directories was written, each of them judged
-pub record IsCutShort (reads : Reads) (directories : List (List ℕ))
+pub record IsCutShort (reads : Host) (directories : List (List ℕ))
     (old new : Option (List ℕ)) : Type 0 where
   pub judged : List Judged
   pub rest : List (List ℕ)
@@ -91,7 +91,7 @@ pub record IsCutShort (reads : Reads) (directories : List (List ℕ))
   pub written : AppendsPrefix old new (flat_map (λ j. judgement_line j.0 j.1) judged)
 
 -- why a check ends before it is done, and what was written by then
-abbrev pub IsCheckFault : Reads → List (List ℕ) → Option (List ℕ) → Option (List ℕ) → Fault → Type 0
+abbrev pub IsCheckFault : Host → List (List ℕ) → Option (List ℕ) → Option (List ℕ) → Fault → Type 0
 IsCheckFault reads directories old new (CannotRead path) =
     IsUnreadCheck reads directories old new (string_bytes path)
 IsCheckFault reads directories old new Memory = IsBegun reads directories old new

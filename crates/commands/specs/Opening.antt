@@ -6,7 +6,7 @@ use Rattle.head.specs.Heads.{BlockPart, SnapshotParts}
 use Rattle.snapshots.specs.declared.error.OpenError.TheVariants as store
 use Rattle.commands.specs.Checking.{IsJudgedAt}
 use Rattle.commands.specs.Judging.{IsSpelledAs}
-use Rattle.commands.specs.Reading.{Reads, Files, AreFilesAt, IsUnread}
+use Rattle.commands.specs.Reading.{Host, Files, AreFilesAt, IsUnread}
 use Rattle.commands.specs.declared.fault.Fault.{Fault}
 use Rattle.commands.specs.declared.fault.Fault.TheVariants.{Words, Refused, CannotRead, CannotWrite}
 use Rattle.commands.specs.declared.fault.Fault.TheVariants.{CannotListen, Memory}
@@ -15,18 +15,18 @@ use Rattle.commands.specs.declared.fault.Refusal.TheVariants.{Commit, Block, Ope
 use Rattle.commands.specs.declared.judgement.Judgement.TheVariants as judgement
 
 -- the block that a directory holds: the bytes of its files spell its range and its part
-pub record IsBlockAt (reads : Reads) (directory : List ℕ) (block : BlockPart) : Type 0 where
+pub record IsBlockAt (reads : Host) (directory : List ℕ) (block : BlockPart) : Type 0 where
   pub files : Files
   pub found : AreFilesAt reads directory files
   pub spelled : IsSpelledAs files (block.min, block.max) block.part
 
 -- the blocks that directories hold, in their order
-abbrev pub AreBlocksAt : Reads → List (List ℕ) → List BlockPart → Type 0
+abbrev pub AreBlocksAt : Host → List (List ℕ) → List BlockPart → Type 0
 AreBlocksAt reads directories blocks = AllZip (IsBlockAt reads) directories blocks
 
 -- why the block of a directory is not opened: a file cannot be read, or the files are judged to be
 -- no block
-abbrev pub IsBlockFault : Reads → List ℕ → Fault → Type 0
+abbrev pub IsBlockFault : Host → List ℕ → Fault → Type 0
 IsBlockFault reads directory (CannotRead path) = IsUnread reads directory (string_bytes path)
 IsBlockFault reads directory (Refused (Block error)) =
     IsJudgedAt reads directory (judgement.Refused error)
@@ -43,7 +43,7 @@ IsBlockFault reads directory (CannotListen port) = ⊥
 IsBlockFault reads directory Memory = Unit {0}
 
 -- the directories before one hold blocks, and that one is at fault
-pub record IsFirstFault (reads : Reads) (directories : List (List ℕ)) (fault : Fault) : Type 0 where
+pub record IsFirstFault (reads : Host) (directories : List (List ℕ)) (fault : Fault) : Type 0 where
   pub before : List (List ℕ)
   pub directory : List ℕ
   pub after : List (List ℕ)
@@ -53,13 +53,13 @@ pub record IsFirstFault (reads : Reads) (directories : List (List ℕ)) (fault :
   pub at : IsBlockFault reads directory fault
 
 -- each directory holds a block, and there are more than 63
-pub record AreTooMany (reads : Reads) (directories : List (List ℕ)) : Type 0 where
+pub record AreTooMany (reads : Host) (directories : List (List ℕ)) : Type 0 where
   pub blocks : List BlockPart
   pub opened : AreBlocksAt reads directories blocks
   pub many : 63 < length directories
 
 -- why directories are not opened: by the first of them that is at fault, and then by their number
-abbrev pub IsOpeningFault : Reads → List (List ℕ) → Fault → Type 0
+abbrev pub IsOpeningFault : Host → List (List ℕ) → Fault → Type 0
 IsOpeningFault reads directories (CannotRead path) =
     IsFirstFault reads directories (CannotRead path)
 IsOpeningFault reads directories (Refused (Block error)) =
@@ -80,7 +80,7 @@ IsOpeningFault reads directories (CannotListen port) = ⊥
 IsOpeningFault reads directories Memory = Unit {0}
 
 -- the snapshot of the blocks that the directories hold, in their order, and of an empty head
-pub record IsOpeningOf (reads : Reads) (directories : List (List ℕ))
+pub record IsOpeningOf (reads : Host) (directories : List (List ℕ))
     (snapshot : SnapshotParts) : Type 0 where
   pub blocks : List BlockPart
   pub opened : AreBlocksAt reads directories blocks

@@ -17,17 +17,17 @@ abbrev pub paths_of : List (Bor (List ℕ)) → List (List ℕ)
 paths_of directories = map (λ directory. directory.now) directories
 
 -- what reading a path may find: the bytes of a file, or nothing where it cannot be read
-abbrev pub Reads : Type 1
-Reads = List ℕ → Option (List ℕ) → Type 0
+abbrev pub Host : Type 1
+Host = List ℕ → Option (List ℕ) → Type 0
 
 -- the bytes are those of the file at a path, at most so many of them
-pub record AreFirst (reads : Reads) (path : List ℕ) (most : ℕ) (bytes : List ℕ) : Type 0 where
+pub record AreFirstBytes (reads : Host) (path : List ℕ) (most : ℕ) (bytes : List ℕ) : Type 0 where
   pub file : List ℕ
   pub found : reads path (Some file)
   pub first : bytes ≡ take most file
 
 -- why a path is not read: nothing can be read there, or memory failed
-abbrev pub IsReadFailure : Reads → List ℕ → ReadError → Type 0
+abbrev pub IsReadFailure : Host → List ℕ → ReadError → Type 0
 IsReadFailure reads path failure.Unreadable = reads path None
 IsReadFailure reads path failure.Memory = Unit {0}
 
@@ -51,14 +51,14 @@ limit_of Tombstones = 1073741824
 
 -- the bytes are those of a file of a directory; of one that is longer than it may be, the first
 -- that show it
-pub record IsRead (reads : Reads) (directory : List ℕ) (name : FileName)
+pub record IsRead (reads : Host) (directory : List ℕ) (name : FileName)
     (bytes : List ℕ) : Type 0 where
   pub file : List ℕ
   pub found : reads (path_of directory name) (Some file)
   pub first : bytes ≡ take (limit_of name + 1) file
 
 -- the bytes of the four files of a directory
-pub record AreRead (reads : Reads) (directory : List ℕ) (files : BlockFiles) : Type 0 where
+pub record AreRead (reads : Host) (directory : List ℕ) (files : BlockFiles) : Type 0 where
   pub meta : IsRead reads directory Meta files.meta.items
   pub index : IsRead reads directory Index files.index.items
   pub chunks : IsRead reads directory Chunks files.chunks.items
@@ -72,25 +72,25 @@ pub record Files : Type 0 where
   pub tombstones : List ℕ
 
 -- the four files of a directory, each of them whole
-pub record AreFilesAt (reads : Reads) (directory : List ℕ) (files : Files) : Type 0 where
+pub record AreFilesAt (reads : Host) (directory : List ℕ) (files : Files) : Type 0 where
   pub meta : reads (path_of directory Meta) (Some files.meta)
   pub index : reads (path_of directory Index) (Some files.index)
   pub chunks : reads (path_of directory Chunks) (Some files.chunks)
   pub tombstones : reads (path_of directory Tombstones) (Some files.tombstones)
 
 -- a file of a directory can be read
-pub record IsFound (reads : Reads) (directory : List ℕ) (name : FileName) : Type 0 where
+pub record IsFound (reads : Host) (directory : List ℕ) (name : FileName) : Type 0 where
   pub file : List ℕ
   pub found : reads (path_of directory name) (Some file)
 
 -- the path is that of a file of a directory, and nothing can be read there
-pub record IsUnreadAt (reads : Reads) (directory : List ℕ) (name : FileName)
+pub record IsUnreadAt (reads : Host) (directory : List ℕ) (name : FileName)
     (path : List ℕ) : Type 0 where
   pub is : path ≡ path_of directory name
   pub unread : reads path None
 
 -- why a file of a directory is not read
-abbrev pub IsFileFault : Reads → List ℕ → FileName → Fault → Type 0
+abbrev pub IsFileFault : Host → List ℕ → FileName → Fault → Type 0
 IsFileFault reads directory name (CannotRead path) =
     IsUnreadAt reads directory name (string_bytes path)
 IsFileFault reads directory name Memory = Unit {0}
@@ -104,7 +104,7 @@ abbrev pub reading_order : List FileName
 reading_order = Meta ∷ Index ∷ Chunks ∷ Tombstones ∷ []
 
 -- the path is that of the first file of a directory that cannot be read
-pub record IsUnread (reads : Reads) (directory path : List ℕ) : Type 0 where
+pub record IsUnread (reads : Host) (directory path : List ℕ) : Type 0 where
   pub before : List FileName
   pub name : FileName
   pub after : List FileName
@@ -113,7 +113,7 @@ pub record IsUnread (reads : Reads) (directory path : List ℕ) : Type 0 where
   pub at : IsUnreadAt reads directory name path
 
 -- why a directory is not judged
-abbrev pub IsReadingFault : Reads → List ℕ → Fault → Type 0
+abbrev pub IsReadingFault : Host → List ℕ → Fault → Type 0
 IsReadingFault reads directory (CannotRead path) = IsUnread reads directory (string_bytes path)
 IsReadingFault reads directory Memory = Unit {0}
 IsReadingFault reads directory CannotWrite = ⊥
@@ -122,7 +122,7 @@ IsReadingFault reads directory (Words error) = ⊥
 IsReadingFault reads directory (Refused refusal) = ⊥
 
 -- why a directory is not judged, or its line not written
-abbrev pub IsDirectoryFault : Reads → List ℕ → Fault → Type 0
+abbrev pub IsDirectoryFault : Host → List ℕ → Fault → Type 0
 IsDirectoryFault reads directory (CannotRead path) = IsUnread reads directory (string_bytes path)
 IsDirectoryFault reads directory Memory = Unit {0}
 IsDirectoryFault reads directory CannotWrite = Unit {0}

@@ -7,9 +7,9 @@ use Rattle.commands.specs.Demo.{demo_events, demo_query}
 use Rattle.commands.specs.DemoAnswer.{IsDemoFault, WritesAnswerAfter}
 use Rattle.commands.specs.Faults.{status_of, line_of}
 use Rattle.commands.specs.Lines.{querier_app, IsLineOf}
-use Rattle.commands.specs.Reading.{Reads, paths_of}
+use Rattle.commands.specs.Reading.{Host, paths_of}
 use Rattle.commands.specs.Selecting.{IsSelectFault, KeepsAt, WritesSelection}
-use Rattle.commands.specs.ServingRuns.{IsServed, IsServeFault}
+use Rattle.commands.specs.ServingRuns.{IsListening, IsServeFault}
 use Rattle.commands.specs.declared.command.Line.{Line}
 use Rattle.commands.specs.declared.command.Line.TheVariants.{Demo, Select, Check, Serve}
 use Rattle.commands.specs.declared.fault.Fault.{Fault}
@@ -25,18 +25,18 @@ pub record IsTaken (words : List Text) : Type 0 where
   pub is : IsLineOf words line
 
 -- what a line asks for was written; the demo, a selection and a server end with their text alone
-abbrev pub IsDone : Reads → Line → Option (List ℕ) → Option (List ℕ) → Outcome → Type 0
+abbrev pub IsDone : Host → Line → Option (List ℕ) → Option (List ℕ) → Outcome → Type 0
 IsDone reads Demo old new Done =
     WritesAnswerAfter demo_events (demo_query (pos 0) (pos 100)) old new
 IsDone reads Demo old new Refused = ⊥
 IsDone reads (Select s texts) old new Done = WritesSelection reads (paths_of texts.items) s old new
 IsDone reads (Select s texts) old new Refused = ⊥
 IsDone reads (Check texts) old new outcome = IsChecked reads (paths_of texts.items) old new outcome
-IsDone reads (Serve serving texts) old new Done = IsServed reads (paths_of texts.items) old new
+IsDone reads (Serve serving texts) old new Done = IsListening reads (paths_of texts.items) old new
 IsDone reads (Serve serving texts) old new Refused = ⊥
 
 -- why a line ends before it is done, and what was written by then
-abbrev pub IsLineFault : Reads → Line → Option (List ℕ) → Option (List ℕ) → Fault → Type 0
+abbrev pub IsLineFault : Host → Line → Option (List ℕ) → Option (List ℕ) → Fault → Type 0
 IsLineFault reads Demo old new fault = IsDemoFault fault × KeepsAt fault old new
 IsLineFault reads (Select s texts) old new fault =
     IsSelectFault reads (paths_of texts.items) s fault × KeepsAt fault old new
@@ -46,13 +46,13 @@ IsLineFault reads (Serve serving texts) old new fault =
     IsServeFault reads (paths_of texts.items) serving old new fault
 
 -- how a line ends
-abbrev pub IsLineEnd : Reads → Line → Option (List ℕ) → Option (List ℕ)
+abbrev pub IsLineEnd : Host → Line → Option (List ℕ) → Option (List ℕ)
     → Result Outcome Fault → Type 0
 IsLineEnd reads line old new (Ok outcome) = IsDone reads line old new outcome
 IsLineEnd reads line old new (Err fault) = IsLineFault reads line old new fault
 
 -- the words are a line, and it ends so
-pub record IsEnd (reads : Reads) (words : List Text) (old new : Option (List ℕ))
+pub record IsEnd (reads : Host) (words : List Text) (old new : Option (List ℕ))
     (end : Result Outcome Fault) : Type 0 where
   pub line : Line
   pub is : IsLineOf words line
@@ -94,7 +94,7 @@ IsTold (Err fault) told old new = OnOk told (IfSome (line_of fault) (Appends old
 
 -- The words that are a line end as that line does, and others as no line may. The exit status says
 -- which end it is, and a fault was told.
-pub record HasEnded (reads : Reads) (words : List Text)
+pub record HasEnded (reads : Host) (words : List Text)
     (old new told_old told_new : Option (List ℕ)) (ending : Ending) : Type 0 where
   pub end : Result Outcome Fault
   pub line : IsTaken words → IsEnd reads words old new end

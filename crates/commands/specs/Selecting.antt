@@ -2,7 +2,7 @@
 use Rattle.std.specs.Prelude.{◌≡◌, ℕ, ◌<◌, ◌≤◌, true, false, List, Option, length}
 use Rattle.std.specs.Io.KnownBytes.{Appends, Keeps}
 use Rattle.matchers.specs.Grammar.{IsSelector}
-use Rattle.matchers.specs.Queries.{is_range}
+use Rattle.matchers.specs.Queries.{is_query_range}
 use Rattle.matchers.specs.Selectors.{AreMade, RefusedBy}
 use Rattle.matchers.specs.Views.{MatcherView, QueryView}
 use Rattle.matchers.specs.declared.error.QueryError.TheVariants.{BadRange, TooManyMatchers}
@@ -12,7 +12,7 @@ use Rattle.head.specs.Heads.{SnapshotParts}
 use Rattle.query_http.specs.Audited.{IsAudited}
 use Rattle.commands.specs.Opening.{IsOpeningOf, IsOpeningFault}
 use Rattle.commands.specs.Printed.{line_text}
-use Rattle.commands.specs.Reading.{Reads}
+use Rattle.commands.specs.Reading.{Host}
 use Rattle.query_http.specs.declared.audited.AuditedAnswer.{AuditedAnswer}
 use Rattle.commands.specs.declared.command.Selection.{Selection}
 use Rattle.commands.specs.declared.fault.Fault.{Fault}
@@ -32,7 +32,7 @@ pub record IsAccepted (text : List ℕ) (ms : List MatcherView) : Type 0 where
 -- the text of a selection is accepted as a selector of the query's matchers, and the ranges are one
 pub record IsQueryOf (asked : Selection) (query : QueryView) : Type 0 where
   pub matchers : IsAccepted asked.selector.now query.matchers
-  pub is_range : is_range asked.from asked.to ≡ true
+  pub is_query_range : is_query_range asked.from asked.to ≡ true
   pub first : query.from ≡ asked.from
   pub last : query.to ≡ asked.to
 
@@ -40,7 +40,7 @@ pub record IsQueryOf (asked : Selection) (query : QueryView) : Type 0 where
 pub record HasBadRange (asked : Selection) : Type 0 where
   pub ms : List MatcherView
   pub selector : IsAccepted asked.selector.now ms
-  pub no_range : is_range asked.from asked.to ≡ false
+  pub no_range : is_query_range asked.from asked.to ≡ false
 
 -- when the text is refused
 abbrev pub IsTextRefusal : List ℕ → SelectorError → Type 0
@@ -81,7 +81,7 @@ pub record WritesAnswer (query : QueryView) (snapshot : SnapshotParts)
 
 -- an audited answer to the selection was written, over the blocks that the directories hold, and a
 -- line feed
-pub record WritesSelection (reads : Reads) (directories : List (List ℕ)) (asked : Selection)
+pub record WritesSelection (reads : Host) (directories : List (List ℕ)) (asked : Selection)
     (old new : Option (List ℕ)) : Type 0 where
   pub query : QueryView
   pub is_asked : IsQueryOf asked query
@@ -113,13 +113,13 @@ pub record IsAllowed (asked : Selection) : Type 0 where
   pub is_asked : IsQueryOf asked query
 
 -- the directories hold the blocks of a snapshot
-pub record AreOpened (reads : Reads) (directories : List (List ℕ)) : Type 0 where
+pub record AreOpened (reads : Host) (directories : List (List ℕ)) : Type 0 where
   pub snapshot : SnapshotParts
   pub opened : IsOpeningOf reads directories snapshot
 
 -- why a selection over directories ends before it is done: by the selection; by the directories,
 -- where the selection is accepted; or by memory or the writer, where the directories are opened too
-pub data IsSelectFault (reads : Reads) (directories : List (List ℕ)) (asked : Selection)
+pub data IsSelectFault (reads : Host) (directories : List (List ℕ)) (asked : Selection)
     (fault : Fault) : Type 0 where
   by_selection : IsSelectionFault asked fault → IsSelectFault reads directories asked fault
   by_directories : IsAllowed asked → IsOpeningFault reads directories fault

@@ -5,7 +5,7 @@ use Rattle.head.specs.Heads.{BlockPart}
 use Rattle.snapshots.specs.Seats.{IsRoom}
 use Rattle.snapshots.specs.declared.error.OpenError.TheVariants as store
 use Rattle.commands.specs.Opening.{AreBlocksAt, IsOpeningFault}
-use Rattle.commands.specs.Reading.{Reads}
+use Rattle.commands.specs.Reading.{Host}
 use Rattle.commands.specs.Selecting.{IsOfMemory, KeepsAt}
 use Rattle.commands.specs.declared.command.Serving.{Serving}
 use Rattle.commands.specs.declared.fault.Fault.{Fault}
@@ -24,13 +24,13 @@ pub record TellsPort (old new : Option (List ℕ)) : Type 0 where
   pub written : Appends old new (listening_line port)
 
 -- the directories hold blocks that a store can be opened over
-pub record AreServable (reads : Reads) (directories : List (List ℕ)) : Type 0 where
+pub record AreServable (reads : Host) (directories : List (List ℕ)) : Type 0 where
   pub blocks : List BlockPart
   pub opened : AreBlocksAt reads directories blocks
   pub few : length directories ≤ 63
 
 -- the directories hold blocks, and the port at which a store over them is served was told
-pub record IsServed (reads : Reads) (directories : List (List ℕ))
+pub record IsListening (reads : Host) (directories : List (List ℕ))
     (old new : Option (List ℕ)) : Type 0 where
   pub servable : AreServable reads directories
   pub told : TellsPort old new
@@ -64,7 +64,7 @@ IsServingFault serving old new fault =
 -- Why a line of `serve` ends before each worker has: by the directories; or, where they hold
 -- blocks, by the store, the port or the writer, or by want of memory once the port was told. Before
 -- that the writer holds what it held, unless it failed.
-pub data IsServeFault (reads : Reads) (directories : List (List ℕ)) (serving : Serving)
+pub data IsServeFault (reads : Host) (directories : List (List ℕ)) (serving : Serving)
     (old new : Option (List ℕ)) (fault : Fault) : Type 0 where
   by_directories : IsOpeningFault reads directories fault → KeepsAt fault old new
       → IsServeFault reads directories serving old new fault

@@ -4,7 +4,7 @@ ghost use Rattle.std.specs.Prelude.{◌≡◌, ◌<◌, ◌≤◌, true, [], ◌
 ghost use Rattle.std.specs.Prelude.{pos, IsTrue, IfOk, IfErr, OnOk};
 ghost use Rattle.labels.specs.Contents.{is_time};
 ghost use Rattle.labels.specs.Names.{is_name};
-ghost use Rattle.matchers.specs.Queries.{is_range};
+ghost use Rattle.matchers.specs.Queries.{is_query_range};
 ghost use Rattle.head.specs.Blocks.{opening_of};
 ghost use Rattle.head.specs.Worlds.{batch};
 ghost use Rattle.snapshots.specs.Replays.{EndsWith};
@@ -117,7 +117,7 @@ fn equal(alloc: Global, name: &str, text: &str) -> Result<Matcher, Fault>
 /// The query `up{job="a"}` in a closed range of times.
 pub fn query(alloc: Global, from: i64, to: i64) -> Result<Query, Fault>
     ensures ok { IfOk result (λ q. q ≡ demo_query from to) }
-    ensures err { IfErr result (λ fault. is_range from to ≡ true → IsOfMemory fault) }
+    ensures err { IfErr result (λ fault. is_query_range from to ≡ true → IsOfMemory fault) }
 {
     let mut matchers = Vec::new(alloc);
     matchers.push(equal(alloc, "__name__", "up")?)?;

@@ -5,7 +5,7 @@ ghost use Rattle.std.specs.Prelude.{IfOk, IfErr, IfSome};
 ghost use Rattle.std.specs.Thread.{IsSync};
 ghost use Rattle.commands.specs.Indexing.{IsOpened};
 ghost use Rattle.commands.specs.declared.files.FileName.TheVariants as file_name;
-ghost use Rattle.commands.specs.Reading.{limit_of, path_of, text_of, AreFirst, AreRead, IsRead};
+ghost use Rattle.commands.specs.Reading.{limit_of, path_of, text_of, AreFirstBytes, AreRead, IsRead};
 ghost use Rattle.commands.specs.Reading.{IsReadFailure, IsFileFault, IsReadingFault};
 
 use crate::fault::Fault;
@@ -49,7 +49,8 @@ pub trait ReadFiles: Sync {
 
     /// The first bytes of the file at a path, at most so many.
     fn read_file(&self, alloc: Global, path: &str, most: usize) -> Result<Vec<u8>, ReadError>
-        ensures ok { IfOk result (λ bytes. AreFirst (may_read self.now) path.now most bytes.items) }
+        ensures ok { IfOk result (λ bytes.
+            AreFirstBytes (may_read self.now) path.now most bytes.items) }
         ensures err { IfErr result (λ error. IsReadFailure (may_read self.now) path.now error) };
 }
 

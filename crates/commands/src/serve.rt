@@ -4,7 +4,7 @@ ghost use Rattle.std.specs.Prelude.{◌≡◌, ◌≤◌, length, map, string_by
 ghost use Rattle.head.specs.Blocks.{part_in, opening_of};
 ghost use Rattle.commands.specs.Reading.{paths_of};
 ghost use Rattle.commands.specs.Selecting.{KeepsAt};
-ghost use Rattle.commands.specs.ServingRuns.{listening_line, TellsPort, IsServed, IsStoreFault};
+ghost use Rattle.commands.specs.ServingRuns.{listening_line, TellsPort, IsListening, IsStoreFault};
 ghost use Rattle.commands.specs.ServingRuns.{IsServeFault, IsServingFault};
 ghost use Rattle.commands.specs.declared.fault.Fault.TheVariants.{CannotListen};
 
@@ -121,7 +121,7 @@ pub fn serve<
     directories: &[&str],
     out: &mut W,
 ) -> Result<(), Fault>
-    ensures ok { OnOk result (IsServed (F.may_read files.now) (paths_of directories.now)
+    ensures ok { OnOk result (IsListening (F.may_read files.now) (paths_of directories.now)
         (W.contents out.old) (W.contents out.new)) }
     ensures err { IfErr result (λ fault. IsServeFault (F.may_read files.now)
         (paths_of directories.now) serving (W.contents out.old) (W.contents out.new) fault) }

@@ -3,7 +3,7 @@ use Rattle.std.specs.Prelude.{ℕ, ℤ, ◌+◌, ◌*◌, ◌≤◌, Bool, ◌&&
 use Rattle.std.specs.List.{list_any, list_all}
 use Rattle.labels.specs.Labels.{Labels, same_labels}
 use Rattle.labels.specs.Contents.{is_time}
-use Rattle.matchers.specs.Queries.{is_range}
+use Rattle.matchers.specs.Queries.{is_query_range}
 use Rattle.matchers.specs.Views.{MatcherView}
 use Rattle.head.specs.Worlds.{Batch, Event, batch, deletion, cut}
 
@@ -13,7 +13,7 @@ is_batch xs = nat_le (length xs) 4096 && list_all (λ x. is_time x.1.0) xs
 
 -- whether there are at most 16 matchers, and a range that begins and ends at times
 abbrev pub is_deletion : List MatcherView → ℤ → ℤ → Bool
-is_deletion ms from to = nat_le (length ms) 16 && is_range from to
+is_deletion ms from to = nat_le (length ms) 16 && is_query_range from to
 
 -- what every event keeps
 abbrev pub IsEvent : Event → Type 0

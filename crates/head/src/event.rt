@@ -3,7 +3,7 @@
 ghost use Rattle.std.specs.Prelude.{◌≡◌, IsTrue, Some, None, MatchOption};
 ghost use Rattle.std.specs.List.{list_all};
 ghost use Rattle.labels.specs.Contents.{is_time};
-ghost use Rattle.matchers.specs.Queries.{is_range};
+ghost use Rattle.matchers.specs.Queries.{is_query_range};
 ghost use Rattle.head.specs.Batches.{is_batch, is_deletion};
 ghost use Rattle.head.specs.Worlds.{batch, batch_of, deletion, cut, matchers_of};
 
@@ -49,8 +49,8 @@ fn are_timed(samples: &[(LabelSet, Sample)]) -> bool
 
 /// Whether a closed range of times begins at a time, ends at one, and does not end before it
 /// begins.
-fn is_range(from: i64, to: i64) -> bool
-    ensures { result ≡ is_range from to }
+fn is_query_range(from: i64, to: i64) -> bool
+    ensures { result ≡ is_query_range from to }
 {
     MIN_TIME <= from && from <= to && to <= MAX_TIME
 }
@@ -81,7 +81,7 @@ impl Event {
     pub fn is_deletion(matchers: &[Matcher], from: i64, to: i64) -> bool
         ensures { result ≡ is_deletion matchers.now from to }
     {
-        matchers.len() <= MAX_MATCHERS && is_range(from, to)
+        matchers.len() <= MAX_MATCHERS && is_query_range(from, to)
     }
 
     /// A deletion of the samples from one time to another, both included, of the series that

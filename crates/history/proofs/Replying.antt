@@ -14,14 +14,14 @@ use Rattle.history.specs.declared.reply.Reply.{Reply}
 use Rattle.history.specs.declared.reply.Reply.TheVariants.{Done, NotAppended, Refused}
 use Rattle.history.specs.Steps.{Step, append, commit}
 use Rattle.history.specs.Machine.{Buffers, with_buffer, Machine, Outcome, done, not_appended, refused, settled, machine_step, machine_replies}
-use Rattle.history.specs.Replies.{IsReply, IsSettled, IsStep}
+use Rattle.history.specs.Replies.{TellsOutcome, IsSettled, IsStep}
 use Rattle.history.proofs.Keeping.{replaced, put_back}
 
 is_step : (old new : Machine) (step : Step) (reply : Reply) (o : Outcome × Machine)
-    → machine_step old step ≡ o → IsReply o.0 reply → o.1 ≡ new → IsStep old step reply new
+    → machine_step old step ≡ o → TellsOutcome o.0 reply → o.1 ≡ new → IsStep old step reply new
 is_step old new step reply o is said after = record {
   answer =
-      subst (λ (x : Outcome). IsReply x reply) (sym (ap (λ (p : Outcome × Machine). p.0) is)) said;
+      subst (λ (x : Outcome). TellsOutcome x reply) (sym (ap (λ (p : Outcome × Machine). p.0) is)) said;
   after = ap (λ (p : Outcome × Machine). p.1) is ∙ after;
 }
 
@@ -52,7 +52,7 @@ module _ (w : World) (old left new : Buffers) (actor : ℕ)
           record { world = w; buffers = with_buffer actor (old actor ++ (l, s) ∷ []) old },
         ) else (not_appended TimeRange, m))) (ap (λ xs. nat_le 4096 (length xs)) (sym own_is)
         ∙ full (length own) many))
-        (subst (IsReply (not_appended Full)) (sym said) refl)
+        (subst (TellsOutcome (not_appended Full)) (sym said) refl)
         (ap (λ (b : Buffers). record { world = w; buffers = b })
         (put_back actor samples old left new (same ∙ own_is) taken put))
 
@@ -75,7 +75,7 @@ module _ (w : World) (old left new : Buffers) (actor : ℕ)
           done,
           record { world = w; buffers = with_buffer actor (old actor ++ (l, s) ∷ []) old },
         ) else (not_appended TimeRange, m)) timed)
-        (subst (IsReply (not_appended TimeRange)) (sym said) refl)
+        (subst (TellsOutcome (not_appended TimeRange)) (sym said) refl)
         (ap (λ (b : Buffers). record { world = w; buffers = b })
         (put_back actor samples old left new (same ∙ own_is) taken put))
 
@@ -95,7 +95,7 @@ module _ (w : World) (old left new : Buffers) (actor : ℕ)
           m,
         ))) (ap (λ xs. nat_le 4096 (length xs)) (sym own_is) ∙ not_full (length own) few)
         ∙ ap (λ b. if b then (done, next) else (not_appended TimeRange, m)) timed)
-        (subst (IsReply done) (sym said) refl)
+        (subst (TellsOutcome done) (sym said) refl)
         (ap (λ (b : Buffers). record { world = w; buffers = b })
         (sym (replaced actor samples old left new taken put
         ∙ ap (λ xs. with_buffer actor xs old) (more ∙ ap (λ xs. xs ++ (l, s) ∷ []) own_is))))
@@ -125,17 +125,17 @@ pub reply_step : (first m next : Machine) (steps : List Step) (i : ℕ) (step : 
     (old new : List Reply) → i < length steps → step ≡ get_or steps i step
     → IsStep m step reply next
     → new ≡ old ++ reply ∷ []
-    → ((rest : List Reply) → AllZip IsReply (machine_replies m (drop i steps)) rest
-    → AllZip IsReply (machine_replies first steps) (old ++ rest))
-    → (rest : List Reply) → AllZip IsReply (machine_replies next (drop (i + 1) steps)) rest
-    → AllZip IsReply (machine_replies first steps) (new ++ rest)
+    → ((rest : List Reply) → AllZip TellsOutcome (machine_replies m (drop i steps)) rest
+    → AllZip TellsOutcome (machine_replies first steps) (old ++ rest))
+    → (rest : List Reply) → AllZip TellsOutcome (machine_replies next (drop (i + 1) steps)) rest
+    → AllZip TellsOutcome (machine_replies first steps) (new ++ rest)
 reply_step first m next steps i step reply old new inside at is pushed before rest h =
-    subst (AllZip IsReply (machine_replies first steps))
+    subst (AllZip TellsOutcome (machine_replies first steps))
     (sym (ap (λ rs. rs ++ rest) pushed ∙ append_assoc old (reply ∷ []) rest))
     (before (reply ∷ rest)
-    (subst (λ (ss : List Step). AllZip IsReply (machine_replies m ss) (reply ∷ rest))
+    (subst (λ (ss : List Step). AllZip TellsOutcome (machine_replies m ss) (reply ∷ rest))
     (sym (drop_more steps i step inside ∙ ap (λ x. x ∷ drop (i + 1) steps) (sym at))) (
       is.answer,
-      subst (λ (n : Machine). AllZip IsReply (machine_replies n (drop (i + 1) steps)) rest)
+      subst (λ (n : Machine). AllZip TellsOutcome (machine_replies n (drop (i + 1) steps)) rest)
           (sym is.after) h,
     )))

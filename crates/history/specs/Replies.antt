@@ -21,12 +21,12 @@ pub record TellsRefusal (error : CommitError) (refusal : Refusal) : Type 0 where
   pub not_memory : error ≢ Memory
 
 -- the reply tells what the step came to: the step's own refusal, or the rows of what was found
-abbrev pub IsReply : Outcome → Reply → Type 0
-IsReply outcome Done = outcome ≡ done
-IsReply outcome (NotAppended error) = outcome ≡ not_appended error
-IsReply outcome (Refused error) =
+abbrev pub TellsOutcome : Outcome → Reply → Type 0
+TellsOutcome outcome Done = outcome ≡ done
+TellsOutcome outcome (NotAppended error) = outcome ≡ not_appended error
+TellsOutcome outcome (Refused error) =
     (refusal : Refusal) × (outcome ≡ refused refusal) × TellsRefusal error refusal
-IsReply outcome (Rows rows) =
+TellsOutcome outcome (Rows rows) =
     (content : Content) × (outcome ≡ found content) × AreRows rows.items content
 
 -- the step's outcome is what was made, or its refusal
@@ -36,7 +36,7 @@ IsSettled step (Err error) = (refusal : Refusal) × (step ≡ Err refusal) × Te
 
 -- the reply is the step's, and new is the machine after it
 pub record IsStep (old : Machine) (step : Step) (reply : Reply) (new : Machine) : Type 0 where
-  pub answer : IsReply (machine_step old step).0 reply
+  pub answer : TellsOutcome (machine_step old step).0 reply
   pub after : (machine_step old step).1 ≡ new
 
 -- the world of the snapshot that an event made, or of the one before it

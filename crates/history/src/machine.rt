@@ -6,7 +6,7 @@ ghost use Rattle.head.specs.Heads.{world_of};
 ghost use Rattle.head.specs.Limits.{most};
 ghost use Rattle.head.specs.Worlds.{World, stepped};
 ghost use Rattle.history.specs.Machine.{started, machine_replies};
-ghost use Rattle.history.specs.Replies.{IsReply, IsSettled, IsStep, machine_at, world_after};
+ghost use Rattle.history.specs.Replies.{TellsOutcome, IsSettled, IsStep, machine_at, world_after};
 ghost use Rattle.history.specs.Steps.{append, commit, change};
 
 use crate::buffers::Held;
@@ -130,8 +130,8 @@ fn latest_of<'a>(opening: &'a Snapshot, latest: &'a Option<Snapshot>) -> &'a Sna
 /// where that is accepted and as it was where it is refused. Where memory ends there are no
 /// replies. A query looks at every sample of every part.
 pub fn run(alloc: Global, opening: &Snapshot, steps: &[Step]) -> Result<Vec<Reply>, AllocError>
-    ensures { IfOk result (λ replies.
-        AllZip IsReply (machine_replies (started (world_of opening.now)) steps.now) replies.items) }
+    ensures { IfOk result (λ replies. AllZip TellsOutcome
+        (machine_replies (started (world_of opening.now)) steps.now) replies.items) }
 {
     let mut latest = None;
     let mut held = Held::new(alloc);

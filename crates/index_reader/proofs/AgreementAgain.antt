@@ -17,7 +17,7 @@ use Rattle.index_reader.specs.Layout.{SeriesEntry, ascending, Label, Body, Table
 use Rattle.index_reader.specs.Steps.{each}
 use Rattle.index_reader.specs.References.{words, references_in}
 use Rattle.index_reader.specs.Spelled.{AreLabels, pairs_of, lists_for}
-use Rattle.index_reader.specs.CarriedPairs.{Carried, references_carrying, Agree}
+use Rattle.index_reader.specs.CarriedPairs.{Carried, references_carrying, ListsAgree}
 use Rattle.index_reader.specs.Lookups.{symbol_of, key_before, place_of}
 use Rattle.index_reader.specs.AgreementChecks.{key_at, keys_at, list_of_label, lists_of_series, each_all, Carrier, carriers, are_used, agreement_of}
 use Rattle.index_reader.specs.AgreementChecks as agreement
@@ -357,7 +357,7 @@ listed_again : (symbols : List (List ℕ)) (ps : List SeriesEntry) (bs : List Bo
     → map references_in raws ≡ references x.series ∷ lists_for x.pairs x.series
     → (placed : List Carried) → each_all (lists_of_series keys)
     (carriers (agreement.entry_references ps) (checks.labels_of_each bs)) ≡ Ok placed
-    → Agree (map references_in raws) placed
+    → ListsAgree (map references_in raws) placed
 listed_again symbols ps bs x keys raws order s h a lists placed e k lt =
     subst (λ (ls : List (List ℕ)). k < length ls → get_or ls k [] ≡ references_carrying k placed)
     (sym lists)

@@ -6,7 +6,7 @@ use Rattle.std.proofs.lemmas.List.{get_or-set_same, get_or-set_other, length-set
 use Rattle.std.specs.Borrow.{Bor}
 use Rattle.std.proofs.Math.Seq.{drop-cons}
 use Rattle.index_reader.specs.References.{references_in}
-use Rattle.index_reader.specs.CarriedPairs.{Carried, references_carrying, Agree, is_first, all_empty, are_used_up}
+use Rattle.index_reader.specs.CarriedPairs.{Carried, references_carrying, ListsAgree, is_first, all_empty, are_used_up}
 use Rattle.index_reader.specs.Seen.{references_in_each}
 
 abbrev pub InRange : ℕ → List Carried → Type 0
@@ -53,7 +53,7 @@ range_set : (n m : ℕ) (cs : List Carried) → n ≡ m → InRange n cs → InR
 range_set n m cs e h = rw (← e) h
 
 pub drained_takes : (cs : List Carried) (rests : List (List ℕ)) → InRange (length rests) cs
-    → are_used_up rests cs ≡ true → Agree rests cs
+    → are_used_up rests cs ≡ true → ListsAgree rests cs
 unfolding are_used_up references_carrying
 drained_takes [] rests fits h k lt = empty_takes rests h k
 drained_takes (c ∷ cs) rests fits h k lt =
@@ -79,7 +79,7 @@ drained_takes (c ∷ cs) rests fits h k lt =
     ]
 
 pub drained_again : (cs : List Carried) (rests : List (List ℕ)) → InRange (length rests) cs
-    → Agree rests cs → are_used_up rests cs ≡ true
+    → ListsAgree rests cs → are_used_up rests cs ≡ true
 unfolding are_used_up references_carrying
 drained_again [] rests fits a = empty_again rests a
 drained_again (c ∷ cs) rests fits a =

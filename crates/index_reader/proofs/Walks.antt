@@ -8,7 +8,7 @@ use Rattle.std.proofs.lemmas.Str.{IsUtf8-from_is_utf8, is_utf8-from_IsUtf8}
 use Rattle.std.proofs.lemmas.List.{append-nil, length-append, length-drop, length-take, nil_from_length}
 use Rattle.std.proofs.lemmas.List.Concat.{flat_map-cons}
 use Rattle.byteorder.specs.Endian.{big_bytes}
-use Rattle.wire.specs.Checksum.{crc32c}
+use Rattle.wire.specs.Checksum.{checked, crc32c}
 use Rattle.wire.specs.Spelling.{uvarint}
 use Rattle.wire.specs.Reading.{number_at, bytes_at, uvarint_at}
 use Rattle.wire.specs.Spelling.{IsBytes}
@@ -21,7 +21,7 @@ use Rattle.wire.specs.Outcome.{◌>>=◌, or_refused}
 use Rattle.index_reader.specs.SymbolChecks.{symbol_at, symbols_from, symbols_of}
 use Rattle.index_reader.specs.Layout.{ascending, SeriesEntry, rounded}
 use Rattle.index_reader.specs.EntryChecks.{entry_at, entries_from}
-use Rattle.index_reader.specs.Grammar.{checked, entry, symbol, IsSymbolTable, IsWalk}
+use Rattle.index_reader.specs.Grammar.{entry, symbol, IsSymbolTable, IsWalk}
 use Rattle.index_reader.proofs.WalkLoops.{guard_ended, entry_shorter}
 use Rattle.wire.proofs.Steps.{bind_ok, refused_ok}
 use Rattle.index_reader.proofs.Fields.{Takes, takes, Takes-then, entry_takes, entry_again}

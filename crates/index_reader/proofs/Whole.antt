@@ -5,7 +5,7 @@ use Rattle.std.proofs.lemmas.Bool.{lt-ltb, le-ltb, le-leb, ltb-false, eqb-true}
 use Rattle.std.proofs.lemmas.List.{length-append, length-drop, length-take, take-append-drop, drop-drop, get_or-take, take_all}
 use Rattle.byteorder.specs.Endian.{big_number, big_bytes}
 use Rattle.byteorder.specs.Numbers.{big_number-reads_back}
-use Rattle.wire.specs.Checksum.{crc32c}
+use Rattle.wire.specs.Checksum.{checked, crc32c}
 use Rattle.wire.proofs.ChecksumBound.{crc32c_below}
 use Rattle.wire.specs.Spelling.{IsBytes}
 use Rattle.wire.proofs.Fields.{IsBytes-take, IsBytes-drop, IsBytes-front, IsBytes-back, big_bytes_4, big_bytes_8}
@@ -19,7 +19,7 @@ use Rattle.index_reader.specs.Frames.{frame_at}
 use Rattle.index_reader.specs.SymbolChecks.{symbols_of}
 use Rattle.index_reader.specs.EntryChecks.{entries_from}
 use Rattle.index_reader.specs.Checks.{layout_of}
-use Rattle.index_reader.specs.Grammar.{checked, frame, contents_text, IsLayout}
+use Rattle.index_reader.specs.Grammar.{frame, contents_text, IsLayout}
 use Rattle.index_reader.specs.Outcome.{Gives}
 use Rattle.index_reader.proofs.WalkLoops.{guard_ended}
 use Rattle.wire.proofs.Steps.{bind_ok}

@@ -12,8 +12,9 @@ references_carrying k (c ∷ cs) =
     if c.0 == k then c.1 ∷ references_carrying k cs else references_carrying k cs
 
 -- each list is exactly the references of the series with its pair
-abbrev pub Agree : List (List ℕ) → List Carried → Type 0
-Agree lists carried = (k : ℕ) → k < length lists → get_or lists k [] ≡ references_carrying k carried
+abbrev pub ListsAgree : List (List ℕ) → List Carried → Type 0
+ListsAgree lists carried =
+    (k : ℕ) → k < length lists → get_or lists k [] ≡ references_carrying k carried
 
 -- The same as a test: the lists are used up, one reference after the other, in the order in which
 -- the series carry them.

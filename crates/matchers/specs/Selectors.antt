@@ -21,7 +21,7 @@ abbrev pub AreMade : List MatcherView → Type 0
 AreMade [] = Unit {0}
 AreMade (m ∷ ms) = IsMade m × AreMade ms
 
-pub record IsTooLong (m : MatcherView) : Type 0 where
+pub record IsPatternTooLong (m : MatcherView) : Type 0 where
   pub takes : takes_pattern m.op ≡ true
   pub long : 256 < length m.text
 
@@ -34,7 +34,7 @@ abbrev pub IsFaultOf : MatcherView → SelectorError → Type 0
 IsFaultOf m (Syntax at) = ⊥
 IsFaultOf m Empty = ⊥
 IsFaultOf m TooMany = ⊥
-IsFaultOf m PatternTooLong = IsTooLong m
+IsFaultOf m PatternTooLong = IsPatternTooLong m
 IsFaultOf m PatternRefused = IsRefusedMatcher m
 IsFaultOf m Memory = takes_pattern m.op ≡ true
 

@@ -1,7 +1,7 @@
 //! Queries.
 
 ghost use Rattle.std.specs.Prelude.{◌≡◌, ◌↔◌, ◌<◌, ◌≤◌, true, false, length, IfOk, IsErrOf};
-ghost use Rattle.matchers.specs.Queries.{is_range};
+ghost use Rattle.matchers.specs.Queries.{is_query_range};
 
 use crate::{Matcher, QueryError};
 use labels::{MAX_TIME, MIN_TIME};
@@ -24,15 +24,15 @@ impl Model for Query {
 
     ghost Value = { QueryView };
 
-    ghost use Rattle.matchers.specs.Queries.{is_range};
+    ghost use Rattle.matchers.specs.Queries.{is_query_range};
 
     ghost view = { λ q. record { matchers = q.matchers.items; from = q.from; to = q.to } };
 
-    ghost invariant = { λ q. (is_range q.from q.to ≡ true) × (length q.matchers.items ≤ 16) };
+    ghost invariant = { λ q. (is_query_range q.from q.to ≡ true) × (length q.matchers.items ≤ 16) };
 }
 
-fn is_range(from: i64, to: i64) -> bool
-    ensures { result ≡ is_range from to }
+fn is_query_range(from: i64, to: i64) -> bool
+    ensures { result ≡ is_query_range from to }
 {
     MIN_TIME <= from && from <= to && to <= MAX_TIME
 }
@@ -46,11 +46,11 @@ impl Query {
     pub fn new(matchers: Vec<Matcher>, from: i64, to: i64) -> Result<Query, QueryError>
         ensures ok { IfOk result (λ q.
             q ≡ record { matchers = matchers.items; from = from; to = to }) }
-        ensures bad_range { IsErrOf result QueryError.BadRange ↔ (is_range from to ≡ false) }
+        ensures bad_range { IsErrOf result QueryError.BadRange ↔ (is_query_range from to ≡ false) }
         ensures too_many { IsErrOf result QueryError.TooManyMatchers
-            ↔ ((is_range from to ≡ true) × (16 < length matchers.items)) }
+            ↔ ((is_query_range from to ≡ true) × (16 < length matchers.items)) }
     {
-        if !is_range(from, to) {
+        if !is_query_range(from, to) {
             return Err(QueryError::BadRange);
         }
         if matchers.len() > MAX_MATCHERS {
@@ -70,7 +70,7 @@ impl Query {
     /// The first time of the range, in milliseconds.
     pub fn from(&self) -> i64
         ensures value { result ≡ self.now.from }
-        ensures range { is_range self.now.from self.now.to ≡ true }
+        ensures range { is_query_range self.now.from self.now.to ≡ true }
     {
         self.from
     }

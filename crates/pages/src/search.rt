@@ -169,7 +169,8 @@ fn is_in_pages<E: Entry>(pages: &[Leaf<E>], spot: Spot) -> bool
 /// Whether an entry stands at a spot.
 pub(crate) fn is_in_groups<E: Entry>(groups: &[Branch<E>], spot: Spot) -> bool
     ensures { result ≡ nat_lt spot.at
-        (length (slice_index_or (slice_index_or (groups_of E.item groups.now) spot.group []) spot.page [])) }
+        (length (slice_index_or
+        (slice_index_or (groups_of E.item groups.now) spot.group []) spot.page [])) }
 {
     spot.group < groups.len() && is_in_pages(groups[spot.group].as_slice(), spot)
 }

@@ -12,7 +12,7 @@ use Rattle.head.specs.declared.error.CommitError.{CommitError}
 use Rattle.head.specs.declared.error.CommitError.TheVariants as commit_error
 use Rattle.snapshots.specs.declared.entry.Entry.{Entry}
 use Rattle.snapshots.specs.Replays.{EndsWith, AreAccepted, IsRefusedAfter}
-use Rattle.snapshots.specs.Seats.{Place, IsCounted}
+use Rattle.snapshots.specs.Seats.{Place, HasOneMoreEvent}
 use Rattle.snapshots.specs.Views.{Known}
 use Rattle.requests.specs.declared.refusal.Refusal.{Refusal}
 use Rattle.requests.specs.declared.refusal.Refusal.TheVariants.{Unavailable}
@@ -87,7 +87,7 @@ pub record IsAcceptedReply (opening : SnapshotParts) (event : Event) (before aft
   pub receipt : List Entry
   pub ends : EndsWith event before.seat.number receipt
   pub accepted : AreAccepted opening receipt
-  pub counted : IsCounted before.seat after.seat receipt
+  pub counted : HasOneMoreEvent before.seat after.seat receipt
   pub learnt : IsPrefix receipt after.known.told
   pub told : IsPrefix before.known.told after.known.told
   pub seen : after.known.seen ≡ before.known.seen

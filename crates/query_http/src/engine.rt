@@ -1,7 +1,7 @@
 //! Serving one connection: a request is read, done and replied to.
 
 ghost use Rattle.std.specs.Prelude.{◌≡◌, [], IfOk, IfErr, IfSome, OnErr, IsErrOf};
-ghost use Rattle.requests.specs.Edge.{IsCounted};
+ghost use Rattle.requests.specs.Edge.{HasGrown};
 ghost use Rattle.requests.specs.Fitting.{IsFit};
 ghost use Rattle.query_http.specs.Bounds.{IsBounded};
 ghost use Rattle.query_http.specs.Made.{text_of};
@@ -86,7 +86,7 @@ fn reply_to<J: Naming, C: Wait + Drop, R: Inlet>(
     ensures unread { IsErrOf result Served.ReadFault
         → worker pass.new seat.new ≡ worker pass.old seat.old }
     ensures reads { IsErrOf result Served.ReadFault
-        → IsCounted (R.failed_reads reader.old) (R.failed_reads reader.new) }
+        → HasGrown (R.failed_reads reader.old) (R.failed_reads reader.new) }
 {
     match read_request_into(alloc, reader, &mut buffers.request) {
         Ok(request) => do_asked(rt, alloc, buffers, request, pass, seat, committer),
@@ -120,9 +120,9 @@ pub fn serve_one_with<J: Naming, C: Wait + Drop, R: Inlet, W: Outlet>(
         (W.output writer.old) (W.output writer.new) result }
     ensures silent { IsSilent result → writer.new ≡ writer.old }
     ensures reads { result ≡ Served.ReadFault
-        → IsCounted (R.failed_reads reader.old) (R.failed_reads reader.new) }
+        → HasGrown (R.failed_reads reader.old) (R.failed_reads reader.new) }
     ensures writes { result ≡ Served.WriteFault
-        → IsCounted (W.failed_writes writer.old) (W.failed_writes writer.new) }
+        → HasGrown (W.failed_writes writer.old) (W.failed_writes writer.new) }
     ensures bounded { IsBounded buffers.new }
 {
     let made = reply_to(rt, alloc, buffers, reader, pass, seat, committer);
@@ -154,9 +154,9 @@ pub fn serve_one<J: Naming, C: Wait + Drop, R: Inlet, W: Outlet>(
         (W.output writer.old) (W.output writer.new) result }
     ensures silent { IsSilent result → writer.new ≡ writer.old }
     ensures reads { result ≡ Served.ReadFault
-        → IsCounted (R.failed_reads reader.old) (R.failed_reads reader.new) }
+        → HasGrown (R.failed_reads reader.old) (R.failed_reads reader.new) }
     ensures writes { result ≡ Served.WriteFault
-        → IsCounted (W.failed_writes writer.old) (W.failed_writes writer.new) }
+        → HasGrown (W.failed_writes writer.old) (W.failed_writes writer.new) }
 {
     let mut buffers = Buffers::new(alloc);
     serve_one_with(

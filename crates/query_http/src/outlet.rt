@@ -3,7 +3,7 @@
 ghost use Rattle.std.specs.Prelude.{◌≡◌, ◌<◌, ◌≤◌, ℕ, List, Option, length};
 ghost use Rattle.std.specs.Prelude.{IfOk, OnOk, OnErr};
 ghost use Rattle.std.specs.Io.KnownBytes.{WriteAppends, Appends};
-ghost use Rattle.requests.specs.Edge.{IsCounted};
+ghost use Rattle.requests.specs.Edge.{HasGrown};
 ghost use Rattle.query_http.specs.Writing.{AppendsFront};
 
 use requests::Fault;
@@ -23,8 +23,8 @@ pub trait Outlet {
         ensures ok { IfOk result (λ n. 0 < n
             → failed_writes self.new ≡ failed_writes self.old) }
         ensures none { IfOk result (λ n. n ≡ 0 → 0 < length buf.now
-            → IsCounted (failed_writes self.old) (failed_writes self.new)) }
-        ensures err { OnErr result (IsCounted (failed_writes self.old) (failed_writes self.new)) };
+            → HasGrown (failed_writes self.old) (failed_writes self.new)) }
+        ensures err { OnErr result (HasGrown (failed_writes self.old) (failed_writes self.new)) };
 }
 
 /// Writes the whole text; or a prefix of it, where the writer fails.
@@ -33,7 +33,7 @@ pub fn write_whole<W: Outlet>(writer: &mut W, text: &[u8]) -> Result<(), Fault>
     ensures counted { OnOk result (W.failed_writes writer.new ≡ W.failed_writes writer.old) }
     ensures err { OnErr result (AppendsFront (W.output writer.old) (W.output writer.new) text.now) }
     ensures failed { OnErr result
-        (IsCounted (W.failed_writes writer.old) (W.failed_writes writer.new)) }
+        (HasGrown (W.failed_writes writer.old) (W.failed_writes writer.new)) }
 {
     let mut done = 0;
     while done < text.len() {

@@ -6,7 +6,7 @@ use Rattle.std.proofs.lemmas.Bool.{and_parts}
 use Rattle.labels.specs.Contents.{is_time}
 use Rattle.labels.specs.Labels.{Labels}
 use Rattle.labels.specs.Rows.{Row}
-use Rattle.matchers.specs.Queries.{is_range}
+use Rattle.matchers.specs.Queries.{is_query_range}
 use Rattle.serde_json.specs.Data.{Data, Items, no_items, item}
 use Rattle.serde_json.specs.Find.{get, at, as_array}
 use Rattle.serde_json.specs.Events.{items_len}
@@ -53,7 +53,7 @@ cut_timed body t e =
     time_at_timed (codes "at") found.0 t (if_some (has_members 1 found.0) (time_at (codes "at") found.0) t found.2)
 
 -- from two times, the first not above the second
-range_from : (a b : ℤ) → is_time a ≡ true → is_time b ≡ true → int_lt b a ≡ false → is_range a b ≡ true
+range_from : (a b : ℤ) → is_time a ≡ true → is_time b ≡ true → int_lt b a ≡ false → is_query_range a b ≡ true
 range_from a b first last order =
     let low = and_parts (not (int_lt a (negsuc 4611686018427387903))) (not (int_lt (pos 4611686018427387903) a)) first in
     let high = and_parts (not (int_lt b (negsuc 4611686018427387903))) (not (int_lt (pos 4611686018427387903) b)) last in
@@ -64,7 +64,7 @@ between_parts : (text : List ℕ) (a b : ℤ) (under : Bool) (form : List ℕ ×
 between_parts text a b true form e is = absurd (cc)
 between_parts text a b false form e is = (e, cc)
 
-pub deletion_range : (body : List ℕ) (form : List ℕ × ℤ × ℤ) → deletion_of body ≡ Some form → is_range form.1 form.2 ≡ true
+pub deletion_range : (body : List ℕ) (form : List ℕ × ℤ × ℤ) → deletion_of body ≡ Some form → is_query_range form.1 form.2 ≡ true
 deletion_range body form e =
     let found = some_from deletion_in (json_of body) form e in
     let d = found.0 in

@@ -1,7 +1,7 @@
 -- What the parts of a query string give the whole.
 use Rattle.std.proofs.Common.{◌≡◌, ◌<◌, ◌≤◌, ℕ, ℤ, true, false, List, length, Some, Err, IsErrOf, refl, sym, ap, true≢false, arith, ◌∙◌}
 use Rattle.matchers.specs.Views.{MatcherView, QueryView}
-use Rattle.matchers.specs.Queries.{is_range}
+use Rattle.matchers.specs.Queries.{is_query_range}
 use Rattle.matchers.specs.declared.error.QueryError.{QueryError}
 use Rattle.matchers.specs.declared.error.QueryError.TheVariants.{BadRange, TooManyMatchers}
 use Rattle.requests.specs.declared.refusal.Refusal.TheVariants.{BadHead, HeadTooLong, NoSuchPath, Method, BadQuery, BadSelector, BadBody, BodyTooLong, Refused as RefusedEvent, Unavailable}
@@ -28,9 +28,9 @@ refused_select query form is (Refused (RefusedEvent cause)) p = absurd p
 refused_select query form is (Refused Unavailable) p = absurd p
 
 -- what `Query::new` answers, of the numbers that it was passed
-pub no_query_error : (e : QueryError) (from to a b : ℤ) (ms : List MatcherView) → a ≡ from → b ≡ to → is_range from to ≡ true → length ms ≤ 16
-    → (IsErrOf {T = QueryView} (Err e) BadRange → is_range a b ≡ false)
-    → (IsErrOf {T = QueryView} (Err e) TooManyMatchers → (is_range a b ≡ true) × (16 < length ms)) → ⊥
+pub no_query_error : (e : QueryError) (from to a b : ℤ) (ms : List MatcherView) → a ≡ from → b ≡ to → is_query_range from to ≡ true → length ms ≤ 16
+    → (IsErrOf {T = QueryView} (Err e) BadRange → is_query_range a b ≡ false)
+    → (IsErrOf {T = QueryView} (Err e) TooManyMatchers → (is_query_range a b ≡ true) × (16 < length ms)) → ⊥
 no_query_error BadRange from to a b ms same_from same_to range few bad many =
     true≢false (sym range ∙ (rw (same_from, same_to) at (bad refl)))
 no_query_error TooManyMatchers from to a b ms same_from same_to range few bad many = omega (arith, few, (many refl).1)

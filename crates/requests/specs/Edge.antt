@@ -2,8 +2,8 @@
 use Rattle.std.specs.Prelude.{◌≡◌, ◌<◌, ◌-◌, ◌^◌, ◌⊎◌, ℕ, List, codes}
 
 -- a count of failed calls grew, or is the greatest `u64`
-abbrev pub IsCounted : ℕ → ℕ → Type 0
-IsCounted old new = (old < new) ⊎ (new ≡ 2 ^ 64 - 1)
+abbrev pub HasGrown : ℕ → ℕ → Type 0
+HasGrown old new = (old < new) ⊎ (new ≡ 2 ^ 64 - 1)
 
 -- a failed call in a line, for people
 abbrev pub fault_text : List ℕ

@@ -3,7 +3,7 @@ use Rattle.std.specs.Prelude.{◌≡◌, ◌≤◌, ℤ, Bool, true, List, lengt
 use Rattle.std.specs.List.{list_all}
 use Rattle.labels.specs.Contents.{is_time}
 use Rattle.labels.specs.Labels.{Labels}
-use Rattle.matchers.specs.Queries.{is_range}
+use Rattle.matchers.specs.Queries.{is_query_range}
 use Rattle.requests.specs.declared.request.Request.{Request}
 use Rattle.requests.specs.declared.request.Request.TheVariants.{Select, Write, Delete, Cut}
 
@@ -16,5 +16,5 @@ are_timed samples = list_all (λ (s : Labels × (ℤ × ℤ)). is_time s.1.0) sa
 abbrev pub IsFit : Request → Type 0
 IsFit (Select query) = ⊤
 IsFit (Write batch) = (length batch.items ≤ 4096) × (are_timed batch.items ≡ true)
-IsFit (Delete matchers from to) = (is_range from to ≡ true) × (length matchers.items ≤ 16)
+IsFit (Delete matchers from to) = (is_query_range from to ≡ true) × (length matchers.items ≤ 16)
 IsFit (Cut t) = is_time t ≡ true

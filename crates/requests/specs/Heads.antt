@@ -23,8 +23,8 @@ IsBadHead input =
     ⊎ ((front : List ℕ) × IsFrontOf front input × (length front ≤ 8192) × RequestOverflows 64 front)
 
 -- 8,192 bytes do not end a head that can still be one
-abbrev pub IsTooLong : List ℕ → Type 0
-IsTooLong input =
+abbrev pub IsHeadTooLong : List ℕ → Type 0
+IsHeadTooLong input =
     (front : List ℕ) × IsFrontOf front input × (length front ≡ 8192)
     × HasNoRequest front × MayBecomeRequest front
 
@@ -32,7 +32,7 @@ IsTooLong input =
 abbrev pub EndsHead : ReadError → List ℕ → Type 0
 EndsHead Closed input = input ≡ []
 EndsHead (Refused BadHead) input = IsBadHead input
-EndsHead (Refused HeadTooLong) input = IsTooLong input
+EndsHead (Refused HeadTooLong) input = IsHeadTooLong input
 EndsHead (Refused _) input = ⊥
 EndsHead Fault input = ⊤
 EndsHead Memory input = ⊤

@@ -10,7 +10,7 @@ use Rattle.requests.specs.declared.target.Path.{Path}
 use Rattle.requests.specs.declared.target.Path.TheVariants.{Select, Write, Delete, Cut}
 use Rattle.requests.specs.Changes.{CutMeans, DeleteMeans}
 use Rattle.requests.specs.Fields.{fields_of, length_asked}
-use Rattle.requests.specs.Heads.{IsBadHead, IsTooLong}
+use Rattle.requests.specs.Heads.{IsBadHead, IsHeadTooLong}
 use Rattle.requests.specs.Requests.{Meaning}
 use Rattle.requests.specs.Selecting.{SelectMeans}
 use Rattle.requests.specs.Targets.{path_asked, query_text}
@@ -57,7 +57,7 @@ abbrev pub Means : List ℕ → Meaning → Type 0
 Means input meaning =
     AsksByHead input meaning
     ⊎ ((IsBadHead input × (meaning ≡ Err BadHead))
-    ⊎ (IsTooLong input × (meaning ≡ Err HeadTooLong)))
+    ⊎ (IsHeadTooLong input × (meaning ≡ Err HeadTooLong)))
 
 -- the answer is a meaning of the bytes, unless the reader failed or memory was refused
 abbrev pub Answers : Result Request ReadError → List ℕ → Type 0

@@ -2,7 +2,7 @@
 
 ghost use Rattle.std.specs.Prelude.{◌≡◌, ◌≤◌, ℕ, List, Option, length, IfOk, OnOk, OnErr};
 ghost use Rattle.std.specs.Io.KnownBytes.{ReadConsumes};
-ghost use Rattle.requests.specs.Edge.{IsCounted};
+ghost use Rattle.requests.specs.Edge.{HasGrown};
 
 use std::error::Error;
 use std::fmt;
@@ -37,5 +37,5 @@ pub trait Inlet {
         ensures bound { IfOk result (λ n. n ≤ length buf.new) }
         ensures bytes { ReadConsumes (input self.old) (input self.new) result buf.new }
         ensures ok { OnOk result (failed_reads self.new ≡ failed_reads self.old) }
-        ensures err { OnErr result (IsCounted (failed_reads self.old) (failed_reads self.new)) };
+        ensures err { OnErr result (HasGrown (failed_reads self.old) (failed_reads self.new)) };
 }

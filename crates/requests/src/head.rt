@@ -3,7 +3,7 @@
 ghost use Rattle.std.specs.Prelude.{◌≡◌, ◌<◌, ◌≤◌, ◌⊎◌, ◌++◌, ◌+◌, ℕ, List, [], length, vec_len};
 ghost use Rattle.std.specs.Prelude.{IfOk, IfErr, IfSome, OnOk, IsErrOf};
 ghost use Rattle.std.specs.Io.KnownBytes.{Consumes, IsAtEnd};
-ghost use Rattle.requests.specs.Edge.{IsCounted};
+ghost use Rattle.requests.specs.Edge.{HasGrown};
 ghost use Rattle.requests.specs.Ending.{EndsReading};
 ghost use Rattle.requests.specs.Heads.{BeginsWithHead, EndsHead};
 ghost use Rattle.requests.specs.Looks.{Looks};
@@ -30,7 +30,7 @@ pub fn read_some<R: Inlet>(
     ensures counted { OnOk result (R.failed_reads reader.new ≡ R.failed_reads reader.old) }
     ensures err { IfErr result (λ e. (e ≡ ReadError.Fault) ⊎ (e ≡ ReadError.Memory)) }
     ensures failed { IsErrOf result ReadError.Fault
-        → IsCounted (R.failed_reads reader.old) (R.failed_reads reader.new) }
+        → HasGrown (R.failed_reads reader.old) (R.failed_reads reader.new) }
 {
     let mut piece = [0u8; 8192];
     let limit = most.min(8192);
@@ -69,7 +69,7 @@ pub fn read_head<R: Inlet>(reader: &mut R, buf: &mut Vec<u8>) -> Result<(), Read
     ensures err { IfErr result (λ e. IfSome (R.input reader.old) (EndsHead e)) }
     ensures refusal { IfErr result EndsReading }
     ensures failed { IsErrOf result ReadError.Fault
-        → IsCounted (R.failed_reads reader.old) (R.failed_reads reader.new) }
+        → HasGrown (R.failed_reads reader.old) (R.failed_reads reader.new) }
 {
     while buf.len() < MAX_HEAD {
         let most = MAX_HEAD - buf.len();

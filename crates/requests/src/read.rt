@@ -3,7 +3,7 @@
 ghost use Rattle.std.specs.Prelude.{◌≡◌, ◌<◌, ◌≤◌, ◌++◌, ℕ, List, drop, take, length, vec_len, IfOk, IfErr, IfSome, OnOk, OnErr, IsErrOf};
 ghost use Rattle.std.specs.Io.KnownBytes.{Consumes};
 ghost use Rattle.httparse.specs.Grammar.{RequestHead};
-ghost use Rattle.requests.specs.Edge.{IsCounted};
+ghost use Rattle.requests.specs.Edge.{HasGrown};
 ghost use Rattle.requests.specs.Ending.{EndsReading};
 ghost use Rattle.requests.specs.Fields.{IsHeadIn};
 ghost use Rattle.requests.specs.Fitting.{IsFit};
@@ -30,7 +30,7 @@ fn read_body<R: Inlet>(reader: &mut R, buf: &mut Vec<u8>, end: usize) -> Result<
         (λ more. EndsBody buf.old.items end e more)) }
     ensures refusal { IfErr result EndsReading }
     ensures failed { IsErrOf result ReadError.Fault
-        → IsCounted (R.failed_reads reader.old) (R.failed_reads reader.new) }
+        → HasGrown (R.failed_reads reader.old) (R.failed_reads reader.new) }
 {
     while buf.len() < end {
         let most = end - buf.len();
@@ -72,7 +72,7 @@ fn read_after<R: Inlet>(
     ensures fits { IfOk result IsFit }
     ensures refusal { IfErr result EndsReading }
     ensures failed { IsErrOf result ReadError.Fault
-        → IsCounted (R.failed_reads reader.old) (R.failed_reads reader.new) }
+        → HasGrown (R.failed_reads reader.old) (R.failed_reads reader.new) }
 {
     let head = head_of(buf.as_slice());
     let path = match path_asked(head.method, head.target) {
@@ -111,7 +111,7 @@ pub fn read_request_into<R: Inlet>(
     ensures fits { IfOk result IsFit }
     ensures refusal { IfErr result EndsReading }
     ensures failed { IsErrOf result ReadError.Fault
-        → IsCounted (R.failed_reads reader.old) (R.failed_reads reader.new) }
+        → HasGrown (R.failed_reads reader.old) (R.failed_reads reader.new) }
 {
     buf.clear();
     read_head(reader, buf)?;
@@ -124,7 +124,7 @@ pub fn read_request<R: Inlet>(alloc: Global, reader: &mut R) -> Result<Request, 
     ensures fits { IfOk result IsFit }
     ensures refusal { IfErr result EndsReading }
     ensures failed { IsErrOf result ReadError.Fault
-        → IsCounted (R.failed_reads reader.old) (R.failed_reads reader.new) }
+        → HasGrown (R.failed_reads reader.old) (R.failed_reads reader.new) }
 {
     let mut buf = Vec::new(alloc);
     read_request_into(alloc, reader, &mut buf)

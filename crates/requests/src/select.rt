@@ -2,7 +2,7 @@
 
 ghost use Rattle.std.specs.Prelude.{◌≡◌, string_bytes, true, option_map, IfSome, IfOk, IfErr};
 ghost use Rattle.labels.specs.Pairs.{pairs_of};
-ghost use Rattle.matchers.specs.Queries.{is_range};
+ghost use Rattle.matchers.specs.Queries.{is_query_range};
 ghost use Rattle.requests.specs.QueryStrings.{query_pairs, values_named, only, asked_in};
 ghost use Rattle.requests.specs.Selecting.{AreMatchersOf, IsSelectorError, SelectMeans};
 ghost use Rattle.requests.specs.Requests.{Told};
@@ -40,7 +40,7 @@ fn only_value<'p>(pairs: &'p [(String, String)], name: &str) -> Option<&'p str>
 // The text of the selector, and the ends of the range.
 fn asked_in<'p>(pairs: &'p [(String, String)]) -> Option<(&'p str, i64, i64)>
     ensures value { option_map (λ a. (a.0.now, a.1, a.2)) result ≡ asked_in (pairs_of pairs.now) }
-    ensures range { IfSome result (λ a. is_range a.1 a.2 ≡ true) }
+    ensures range { IfSome result (λ a. is_query_range a.1 a.2 ≡ true) }
 {
     if pairs.len() != 3 {
         return None;

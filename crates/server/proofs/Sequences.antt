@@ -3,7 +3,7 @@ use Rattle.std.proofs.Common.{◌≡◌, ℕ, ◌+◌, List, [], ◌∷◌, ◌+
 use Rattle.std.proofs.lemmas.List.{map-append}
 use Rattle.head.specs.Heads.{SnapshotParts}
 use Rattle.query_http.specs.Serving.{Worker}
-use Rattle.server.specs.Sessions.{Session, Ending, IsServed, AreServed, Arrives, AreFirst, AreAdded}
+use Rattle.server.specs.Sessions.{Session, Ending, IsServed, AreServed, Arrives, AreFirstToCome, AreAdded}
 use Rattle.server.specs.Working.{Works}
 
 served_more : (opening : SnapshotParts) (before between after : Worker)
@@ -16,7 +16,7 @@ served_more opening before between after (t ∷ ss) s h one =
     (h.0, h.1, served_more opening h.0 between after ss s h.2 one)
 
 first_more : (coming mid left : Option (List (List ℕ))) (ss : List Session) (s : Session)
-    → AreFirst coming mid ss → Arrives mid left s.input → AreFirst coming left (ss ++ s ∷ [])
+    → AreFirstToCome coming mid ss → Arrives mid left s.input → AreFirstToCome coming left (ss ++ s ∷ [])
 first_more None mid left ss s h here = tt
 first_more (Some old) None left ss s h here = absurd (cc h.1)
 first_more (Some old) (Some mid) left ss s h here =
@@ -61,7 +61,7 @@ works_more opening before between after coming mid left past told ended count s 
           (s.ending ∷ []) done.told added);
     }
 
-none_first : (coming : Option (List (List ℕ))) → AreFirst coming coming []
+none_first : (coming : Option (List (List ℕ))) → AreFirstToCome coming coming []
 none_first None = tt
 none_first (Some old) = (old, refl, refl)
 

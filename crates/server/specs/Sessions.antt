@@ -42,9 +42,9 @@ abbrev pub IsOver : Option (List (List ℕ)) → Type 0
 IsOver coming = IfSome coming (λ rest. rest ≡ [])
 
 -- the connections are the first of those to come, in their order, and the others are still to come
-abbrev pub AreFirst : Option (List (List ℕ)) → Option (List (List ℕ)) → List Session → Type 0
-AreFirst None new ss = ⊤
-AreFirst (Some old) new ss =
+abbrev pub AreFirstToCome : Option (List (List ℕ)) → Option (List (List ℕ)) → List Session → Type 0
+AreFirstToCome None new ss = ⊤
+AreFirstToCome (Some old) new ss =
     (rest : List (List ℕ)) × (new ≡ Some rest)
     × (map Some old ≡ map (λ s. s.input) ss ++ map Some rest)
 

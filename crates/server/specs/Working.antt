@@ -3,7 +3,7 @@ use Rattle.std.specs.Prelude.{◌≡◌, ◌≤◌, ℕ, ◌+◌, List, Option, 
 use mathlib.Core.List.{IsPrefix}
 use Rattle.head.specs.Heads.{SnapshotParts}
 use Rattle.query_http.specs.Serving.{Worker}
-use Rattle.server.specs.Sessions.{Session, Ending, AreServed, AreFirst, AreAdded}
+use Rattle.server.specs.Sessions.{Session, Ending, AreServed, AreFirstToCome, AreAdded}
 
 -- The worker served so many connections, one after another, the first of those that were to come,
 -- and each ended as its connection was served.
@@ -13,7 +13,7 @@ pub record Works (opening : SnapshotParts) (before after : Worker)
   pub sessions : List Session
   pub counted : length sessions ≡ count
   pub served : AreServed opening before sessions after
-  pub first : AreFirst coming left sessions
+  pub first : AreFirstToCome coming left sessions
   pub told : AreAdded past ended (map (λ s. s.ending) sessions)
 
 -- The worker knows no less, sits where it sat, and has published at most so many events more.

@@ -26,8 +26,8 @@ AreCounts counts entries =
 
 -- the seat has published one event more, and the list has as many under its number as its count
 -- says
-abbrev pub IsCounted : Place → Place → List Entry → Type 0
-IsCounted old new entries =
+abbrev pub HasOneMoreEvent : Place → Place → List Entry → Type 0
+HasOneMoreEvent old new entries =
     (new ≡ record old { count = old.count + 1 }) × (count_of old.number entries ≡ new.count)
 
 -- the seats are numbered from n on, and have published nothing

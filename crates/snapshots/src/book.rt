@@ -10,7 +10,7 @@ ghost use Rattle.std.specs.Arc.{arc_value};
 ghost use Rattle.snapshots.specs.Marks.{accepted};
 ghost use Rattle.snapshots.specs.Grows.{Shows};
 ghost use Rattle.snapshots.specs.Replays.{IsAfter, Steps, IsEventRefusal};
-ghost use Rattle.snapshots.specs.Seats.{FitsSeat, AreCounts, IsCounted};
+ghost use Rattle.snapshots.specs.Seats.{FitsSeat, AreCounts, HasOneMoreEvent};
 
 use crate::entry::Entry;
 use crate::log::LogEnd;
@@ -134,7 +134,7 @@ impl<J: Naming, R: Wait + Drop> Book<J, R> {
         ensures added { IfOk result (λ r. self.new.entries ≡ r) }
         ensures counts { OnOk result (self.new.counts
             ≡ slice_set self.old.counts seat.old.number (seat.old.count + 1)) }
-        ensures counted { IfOk result (λ r. IsCounted seat.old seat.new r) }
+        ensures counted { IfOk result (λ r. HasOneMoreEvent seat.old seat.new r) }
         ensures books { AreCounts self.new.counts self.new.entries }
         ensures world { IsAfter J.opening self.new.entries self.new.parts }
     {

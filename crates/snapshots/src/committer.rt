@@ -5,7 +5,7 @@ ghost use Rattle.labels.specs.Contents.{is_time};
 ghost use Rattle.head.specs.Batches.{is_deletion};
 ghost use Rattle.head.specs.Worlds.{batch, deletion, cut, matchers_of};
 ghost use Rattle.snapshots.specs.Replays.{EndsWith, AreAccepted, IsRefusedAfter, IsOfSeatOrMemory};
-ghost use Rattle.snapshots.specs.Seats.{IsCounted};
+ghost use Rattle.snapshots.specs.Seats.{HasOneMoreEvent};
 
 use crate::appender::Appender;
 use crate::book::Book;
@@ -49,7 +49,7 @@ impl<J: Naming, R: Wait + Drop> Committer<J, R> {
     ) -> Result<Receipt<J>, (Event, CommitError)>
         ensures ends { IfOk result (λ r. EndsWith event seat.old.number r) }
         ensures accepted { IfOk result (λ r. AreAccepted J.opening r) }
-        ensures counted { IfOk result (λ r. IsCounted seat.old seat.new r) }
+        ensures counted { IfOk result (λ r. HasOneMoreEvent seat.old seat.new r) }
         ensures kept { IfErr result (λ e. (e.0 ≡ event) × (seat.new ≡ seat.old)) }
         ensures refused { IfErr result (λ e. IsRefusedAfter J.opening e.1 event) }
     {
@@ -70,7 +70,7 @@ impl<J: Naming, R: Wait + Drop> Committer<J, R> {
     ) -> Result<Receipt<J>, (Appender, CommitError)>
         ensures ends { IfOk result (λ r. EndsWith (batch appender) seat.old.number r) }
         ensures accepted { IfOk result (λ r. AreAccepted J.opening r) }
-        ensures counted { IfOk result (λ r. IsCounted seat.old seat.new r) }
+        ensures counted { IfOk result (λ r. HasOneMoreEvent seat.old seat.new r) }
         ensures kept { IfErr result (λ e. (e.0 ≡ appender) × (seat.new ≡ seat.old)) }
         ensures refused { IfErr result (λ e. IsRefusedAfter J.opening e.1 (batch appender)) }
     {
@@ -96,7 +96,7 @@ impl<J: Naming, R: Wait + Drop> Committer<J, R> {
         requires { IsTrue (is_deletion matchers.items from to) }
         ensures ends { IfOk result (EndsWith (deletion matchers.items from to) seat.old.number) }
         ensures accepted { IfOk result (λ r. AreAccepted J.opening r) }
-        ensures counted { IfOk result (λ r. IsCounted seat.old seat.new r) }
+        ensures counted { IfOk result (λ r. HasOneMoreEvent seat.old seat.new r) }
         ensures kept { IfErr result (λ e. (e.0.items ≡ matchers.items) × (seat.new ≡ seat.old)) }
         ensures refused { IfErr result (λ e. IsOfSeatOrMemory e.1) }
     {
@@ -121,7 +121,7 @@ impl<J: Naming, R: Wait + Drop> Committer<J, R> {
         requires { IsTrue (is_time at) }
         ensures ends { IfOk result (λ r. EndsWith (cut at) seat.old.number r) }
         ensures accepted { IfOk result (λ r. AreAccepted J.opening r) }
-        ensures counted { IfOk result (λ r. IsCounted seat.old seat.new r) }
+        ensures counted { IfOk result (λ r. HasOneMoreEvent seat.old seat.new r) }
         ensures kept { OnErr result (seat.new ≡ seat.old) }
         ensures refused { IfErr result (λ e. IsRefusedAfter J.opening e (cut at)) }
     {

@@ -12,7 +12,7 @@ use Rattle.std.proofs.lemmas.Cmp.{ranked, int_ranked, nat_cmp_total, int_cmp_tot
 use Rattle.std.proofs.lemmas.List.Edits.{get_or-insert_at, get_or-insert_above, get_or-insert_below, length-insert}
 use Rattle.std.proofs.lemmas.List.Sorted.{sorted_far, ranks_by}
 use Rattle.tombstones.specs.declared.deletion.Deletion.{Deletion}
-use Rattle.tombstones.specs.Covering.{covers}
+use Rattle.tombstones.specs.Covering.{deletes}
 use Rattle.tombstones.specs.Order.{AreInOrder, beginning, beginning_cmp, begins_by}
 
 -- one place of the order is at or before another
@@ -108,7 +108,7 @@ and_first true false c h = refl
 and_first false b c h = refl
 
 -- it does not cover the time
-pub not_yet : (r : ℕ) (t : ℤ) (d : Deletion) → begins_by r t d ≡ false → covers r t d ≡ false
+pub not_yet : (r : ℕ) (t : ℤ) (d : Deletion) → begins_by r t d ≡ false → deletes r t d ≡ false
 not_yet r t d h =
     and_first (eqb d.reference r) (int_le d.from t) (int_le t d.to)
     (or_parts (ltb d.reference r) (eqb d.reference r && int_le d.from t) h).1

@@ -8,10 +8,10 @@ use Rattle.std.proofs.lemmas.List.Folds.{list_any_at, list_any_none}
 use Rattle.std.proofs.lemmas.List.Sorted.{list_any-IsPermutation, IsPermutation-insert}
 use Rattle.std.specs.List.{insert}
 use Rattle.tombstones.specs.declared.deletion.Deletion.{Deletion}
-use Rattle.tombstones.specs.Covering.{holds, covers, covered, has_deletion}
+use Rattle.tombstones.specs.Covering.{holds, deletes, covered, has_deletion}
 
 pub other_series : (reference : ℕ) (t : ℤ) (d : Deletion) → (d.reference ≡ reference → ⊥)
-    → covers reference t d ≡ false
+    → deletes reference t d ≡ false
 other_series reference t d h = ap (λ (b : Bool). b && holds d t) (ne_eqb d.reference reference h)
 
 abbrev pub deletion : ℕ → ℤ → ℤ → Deletion
@@ -49,7 +49,7 @@ added kept old new place d e same view made =
 pub covered_all : (deletions held : List Deletion) (reference : ℕ) (t : ℤ)
     → IsPermutation deletions held → covered held reference t ≡ covered deletions reference t
 covered_all deletions held reference t p =
-    sym (list_any-IsPermutation (covers reference t) deletions held p)
+    sym (list_any-IsPermutation (deletes reference t) deletions held p)
 
 -- whether a deletion of the series is held, by the first place that is not below it
 pub has_none : (deletions : List Deletion) (k reference : ℕ)

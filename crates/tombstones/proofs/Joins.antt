@@ -5,7 +5,7 @@ use Rattle.std.specs.List.{list_any}
 use Rattle.std.specs.List.Sorted.{IsPermutation}
 use Rattle.std.proofs.lemmas.List.{get_or_default, map_more}
 use Rattle.tombstones.specs.declared.deletion.Deletion.{Deletion}
-use Rattle.tombstones.specs.Covering.{are_covered, covered, covers, interval}
+use Rattle.tombstones.specs.Covering.{are_covered, covered, deletes, interval}
 use Rattle.tombstones.proofs.Covers.{covered_all}
 
 or_assoc : (a b c : Bool) → (a || (b || c)) ≡ ((a || b) || c)
@@ -34,7 +34,7 @@ and_or false b c = refl
 
 -- the deletions of one interval
 any_interval : (rs : List ℕ) (from to : ℤ) (r : ℕ) (t : ℤ)
-    → list_any (covers r t) (map (interval from to) rs) ≡ are_covered rs from to r t
+    → list_any (deletes r t) (map (interval from to) rs) ≡ are_covered rs from to r t
 any_interval [] from to r t = refl
 any_interval (x ∷ rs) from to r t =
     ap (λ b. (eqb x r && (int_le from t && int_le t to)) || b) (any_interval rs from to r t)
@@ -46,7 +46,7 @@ pub covered_joined : (ds all held : List Deletion) (rs : List ℕ) (from to : �
 covered_joined ds all held rs from to r t e p =
     covered_all all held r t p
     ∙ ap (λ (xs : List Deletion). covered xs r t) e
-    ∙ any_append (covers r t) ds (map (interval from to) rs)
+    ∙ any_append (deletes r t) ds (map (interval from to) rs)
     ∙ ap (λ b. covered ds r t || b) (any_interval rs from to r t)
     ∙ or_swap (covered ds r t) (are_covered rs from to r t)
 

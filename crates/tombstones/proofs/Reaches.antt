@@ -11,7 +11,7 @@ use Rattle.std.proofs.lemmas.List.{get_or_append_left, get_or_default, get_or-se
 use Rattle.std.proofs.lemmas.List.Edits.{get_or-insert_below}
 use Rattle.std.proofs.lemmas.List.Folds.{list_any_more}
 use Rattle.tombstones.specs.declared.deletion.Deletion.{Deletion}
-use Rattle.tombstones.specs.Covering.{covered, covers, holds}
+use Rattle.tombstones.specs.Covering.{covered, deletes, holds}
 use Rattle.tombstones.specs.Order.{AreInOrder, AreReaches, IsOrdered, IsReach, begins_by, deletion_at}
 use Rattle.tombstones.proofs.Begun.{IsUpTo, begun, by_reference, le_true, not_yet, true_le, up_to}
 use Rattle.tombstones.proofs.Covers.{other_series}
@@ -24,7 +24,7 @@ none_taken [] zero reference t below = refl
 none_taken [] (suc k) reference t below = refl
 none_taken (x ∷ deletions) zero reference t below = refl
 none_taken (x ∷ deletions) (suc k) reference t below =
-    let first : covers reference t x ≡ false =
+    let first : deletes reference t x ≡ false =
     other_series reference t x (λ e. omega (arith, e, below 0 x (omega arith) (omega arith))) in
     ap (λ (b : Bool). b || covered (take k deletions) reference t) first
     ∙ none_taken deletions k reference t (λ j d l m. below (suc j) d (omega arith) (omega arith))
@@ -47,7 +47,7 @@ taken [] (suc k) reference t after = refl
 taken (x ∷ deletions) zero reference t after =
     none_later (x ∷ deletions) reference t (λ j d l. after j d (omega arith) l)
 taken (x ∷ deletions) (suc k) reference t after =
-    ap (λ (b : Bool). covers reference t x || b)
+    ap (λ (b : Bool). deletes reference t x || b)
     (taken deletions k reference t (λ j d l m. after (suc j) d (omega arith) (omega arith)))
 
 -- the deletions up to a place, by those before it
@@ -58,7 +58,7 @@ one_more : (deletions : List Deletion) (k : ℕ) (t : ℤ) → k < length deleti
     || int_le t (deletion_at deletions k).to)
 one_more deletions k t lt begins =
     let e = deletion_at deletions k in
-    list_any_more (covers e.reference t) deletions k _ lt
+    list_any_more (deletes e.reference t) deletions k _ lt
     ∙ ap (λ (b : Bool). covered (take k deletions) e.reference t || (b && holds e t))
     (eq-eqb e.reference e.reference refl)
     ∙ ap (λ (b : Bool). covered (take k deletions) e.reference t || (b && int_le t e.to)) begins

@@ -8,12 +8,12 @@ abbrev pub holds : Deletion → ℤ → Bool
 holds d t = int_le d.from t && int_le t d.to
 
 -- whether a deletion is of this series and holds the time
-abbrev pub covers : ℕ → ℤ → Deletion → Bool
-covers reference t d = d.reference == reference && holds d t
+abbrev pub deletes : ℕ → ℤ → Deletion → Bool
+deletes reference t d = d.reference == reference && holds d t
 
--- whether one of the deletions covers a time of a series
+-- whether one of the deletions deletes a time of a series
 abbrev pub covered : List Deletion → ℕ → ℤ → Bool
-covered deletions reference t = list_any (covers reference t) deletions
+covered deletions reference t = list_any (deletes reference t) deletions
 
 -- whether one of the deletions is of this series
 abbrev pub has_deletion : List Deletion → ℕ → Bool

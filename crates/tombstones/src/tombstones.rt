@@ -1,8 +1,8 @@
-//! Deletions, and whether one of them covers a time.
+//! Deletions, and whether one of them deletes a time.
 
 ghost use Rattle.std.specs.Prelude.{◌≡◌, map, ◌<◌, ◌≤◌, ◌++◌, ◌∷◌, ◌||◌, [], true, false, ℕ, ℤ, List, length, slice_index_or, IfOk, OnErr, OnOk};
 ghost use Rattle.std.specs.List.Sorted.{IsPermutation};
-ghost use Rattle.tombstones.specs.Covering.{are_covered, covered, covers, has_deletion, interval, CoversAlso};
+ghost use Rattle.tombstones.specs.Covering.{are_covered, covered, deletes, has_deletion, interval, CoversAlso};
 ghost use Rattle.tombstones.specs.Grammar.{IsTombstones, SpellsAll};
 ghost use Rattle.tombstones.specs.Order.{AreInOrder, AreReaches, IsOrdered, IsReach, begins_by};
 ghost use Rattle.tombstones.specs.Outcome.{GivesAll};
@@ -71,7 +71,7 @@ impl Tombstones {
         self.deletions.as_slice()
     }
 
-    /// Whether a deletion of the series covers the time. It takes time in proportion to the
+    /// Whether a deletion of the series deletes the time. It takes time in proportion to the
     /// logarithm of the count of deletions, however many are of the series.
     pub fn deleted(&self, reference: SeriesRef, t: i64) -> bool
         ensures { result ≡ covered self.now reference t }
@@ -96,7 +96,7 @@ impl Tombstones {
     /// count of deletions. Where memory runs out nothing is added.
     pub fn add(&mut self, reference: SeriesRef, from: i64, to: i64) -> Result<(), AllocError>
         ensures ok { OnOk result
-            (CoversAlso self.old (λ r t. covers r t (interval from to reference)) self.new) }
+            (CoversAlso self.old (λ r t. deletes r t (interval from to reference)) self.new) }
         ensures all { OnOk result (IsPermutation (interval from to reference ∷ self.old) self.new) }
         ensures err { OnErr result (self.new ≡ self.old) }
     {

@@ -1,5 +1,6 @@
 -- The checksum CRC-32C (Castagnoli), bit by bit.
-use Rattle.std.specs.Prelude.{ℕ, zero, suc, ◌/◌, ◌%◌, ◌==◌, if◌then◌else◌, bit_xor, List, [], ◌∷◌}
+use Rattle.std.specs.Prelude.{ℕ, zero, suc, ◌/◌, ◌%◌, ◌==◌, if◌then◌else◌, bit_xor, List, [], ◌∷◌, ◌++◌}
+use Rattle.byteorder.specs.Endian.{big_bytes}
 
 -- The register without its lowest bit. Where that bit is 1, the reflected polynomial is added.
 unfoldable pub shifted_once : ℕ → ℕ
@@ -18,3 +19,7 @@ register c (b ∷ bytes) = register (shifted 8 (bit_xor c b)) bytes
 -- from a register of ones, and all its bits turned at the end
 unfoldable pub crc32c : List ℕ → ℕ
 crc32c bytes = bit_xor (register 0xFFFF_FFFF bytes) 0xFFFF_FFFF
+
+-- content, and its checksum in the four bytes after it
+abbrev pub checked : List ℕ → List ℕ
+checked content = content ++ big_bytes 4 (crc32c content)

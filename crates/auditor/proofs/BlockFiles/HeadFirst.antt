@@ -6,7 +6,7 @@ use Rattle.std.proofs.lemmas.List.{length-drop, get_or-take}
 use Rattle.byteorder.specs.Endian.{big_number, big_bytes}
 use Rattle.byteorder.specs.Numbers.{big_number-reads_back}
 use Rattle.wire.specs.Spelling.{IsBytes}
-use Rattle.wire.specs.Checksum.{crc32c}
+use Rattle.wire.specs.Checksum.{checked, crc32c}
 use Rattle.wire.proofs.ChecksumBound.{crc32c_below}
 use Rattle.wire.proofs.Fields.{IsBytes-take, IsBytes-drop, IsBytes-front, IsBytes-back}
 use Rattle.wire.proofs.KnownReads.{chosen}
@@ -15,7 +15,7 @@ use Rattle.auditor.specs.declared.walk.error.WalkError.{WalkError}
 use Rattle.auditor.specs.declared.walk.error.WalkError.TheVariants.{TooShort, Magic, Version, ContentsCrc, ContentsOrder, SymbolsCrc, Limit}
 use Rattle.auditor.specs.IndexFile.Reading.{IsPlaced, in_order, has_magic, table_of, head_of, frame_at, symbols_of, entries_from, rounded, series_end, parts_of}
 use Rattle.wire.specs.Outcome.{◌>>=◌}
-use Rattle.auditor.specs.IndexFile.Grammar.{checked, frame, contents_text}
+use Rattle.auditor.specs.IndexFile.Grammar.{frame, contents_text}
 use Rattle.auditor.specs.BlockFiles.Checks.{Files, Check, FirstFailing, HasContents, HasFrame}
 use Rattle.auditor.proofs.IndexFile.Fields.{eqb_same, frame_takes, frame_again}
 use Rattle.auditor.proofs.IndexFile.Head.{head_placed}

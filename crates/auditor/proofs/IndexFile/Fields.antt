@@ -2,7 +2,7 @@
 use Rattle.std.proofs.Common.{◌≡◌, ℕ, ◌^◌, ◌<◌, true, eqb, List, ◌++◌, length, Ok, refl, sym, ap, subst, ◌∙◌, append_assoc}
 use Rattle.std.proofs.lemmas.Bool.{eqb-true, eqb-false, true_from_ne_false}
 use Rattle.byteorder.specs.Endian.{big_bytes}
-use Rattle.wire.specs.Checksum.{crc32c}
+use Rattle.wire.specs.Checksum.{checked, crc32c}
 use Rattle.wire.proofs.ChecksumBound.{crc32c_below}
 use Rattle.wire.specs.Spelling.{uvarint}
 use Rattle.wire.specs.Reading.{number_at, bytes_at, uvarint_at}
@@ -13,7 +13,7 @@ use Rattle.auditor.specs.declared.walk.error.WalkError.{WalkError}
 use Rattle.auditor.specs.declared.walk.error.WalkError.TheVariants.{SeriesCrc}
 use Rattle.auditor.specs.IndexFile.Reading.{checked_at, frame_at, entry_at}
 use Rattle.wire.specs.Outcome.{or_refused}
-use Rattle.auditor.specs.IndexFile.Grammar.{checked, frame, entry}
+use Rattle.auditor.specs.IndexFile.Grammar.{frame, entry}
 use Rattle.auditor.proofs.IndexFile.WalkLoops.{guard_ended}
 use Rattle.wire.proofs.Steps.{bind_ok, refused_ok}
 

@@ -8,7 +8,7 @@ use Rattle.std.proofs.lemmas.Str.{IsUtf8-from_is_utf8, is_utf8-from_IsUtf8}
 use Rattle.std.proofs.lemmas.List.{append-nil, length-append, length-drop, length-take, nil_from_length}
 use Rattle.std.proofs.lemmas.List.Concat.{flat_map-cons}
 use Rattle.byteorder.specs.Endian.{big_bytes}
-use Rattle.wire.specs.Checksum.{crc32c}
+use Rattle.wire.specs.Checksum.{checked, crc32c}
 use Rattle.wire.specs.Spelling.{uvarint}
 use Rattle.wire.specs.Reading.{number_at, bytes_at, uvarint_at}
 use Rattle.wire.specs.Spelling.{IsBytes}
@@ -19,7 +19,7 @@ use Rattle.auditor.specs.declared.walk.error.WalkError.{WalkError}
 use Rattle.auditor.specs.declared.walk.error.WalkError.TheVariants.{Symbols}
 use Rattle.auditor.specs.IndexFile.Reading.{symbol_at, symbols_from, symbols_of, ascending, Place, entry_at, entries_from, rounded}
 use Rattle.wire.specs.Outcome.{◌>>=◌, or_refused}
-use Rattle.auditor.specs.IndexFile.Grammar.{checked, entry, symbol, IsSymbolTable, IsWalk}
+use Rattle.auditor.specs.IndexFile.Grammar.{entry, symbol, IsSymbolTable, IsWalk}
 use Rattle.auditor.proofs.IndexFile.WalkLoops.{guard_ended, entry_shorter}
 use Rattle.wire.proofs.Steps.{bind_ok, refused_ok}
 use Rattle.auditor.proofs.IndexFile.Fields.{Takes, takes, Takes-then, entry_takes, entry_again}

@@ -5,7 +5,7 @@ use Rattle.std.proofs.lemmas.Bool.{lt-ltb, le-ltb, le-leb, ltb-false, eqb-true}
 use Rattle.std.proofs.lemmas.List.{length-append, length-drop, length-take, take-append-drop, drop-drop, get_or-take, take_all}
 use Rattle.byteorder.specs.Endian.{big_number, big_bytes}
 use Rattle.byteorder.specs.Numbers.{big_number-reads_back}
-use Rattle.wire.specs.Checksum.{crc32c}
+use Rattle.wire.specs.Checksum.{checked, crc32c}
 use Rattle.wire.proofs.ChecksumBound.{crc32c_below}
 use Rattle.wire.specs.Spelling.{IsBytes}
 use Rattle.wire.proofs.Fields.{IsBytes-take, IsBytes-drop, IsBytes-front, IsBytes-back, big_bytes_4, big_bytes_8}
@@ -14,7 +14,7 @@ use Rattle.auditor.specs.declared.walk.contents.Contents.{Contents}
 use Rattle.auditor.specs.declared.walk.error.WalkError.{WalkError}
 use Rattle.auditor.specs.declared.walk.error.WalkError.TheVariants.{ContentsCrc, ContentsOrder, SymbolsCrc}
 use Rattle.auditor.specs.IndexFile.Reading.{IsPlaced, in_order, has_magic, contents_at, table_of, head_of, frame_at, symbols_of, entries_from, rounded, series_end, Parts, parts_of}
-use Rattle.auditor.specs.IndexFile.Grammar.{checked, frame, contents_text, IsParts}
+use Rattle.auditor.specs.IndexFile.Grammar.{frame, contents_text, IsParts}
 use Rattle.auditor.specs.IndexFile.Outcome.{Gives}
 use Rattle.auditor.proofs.IndexFile.WalkLoops.{guard_ended}
 use Rattle.wire.proofs.Steps.{bind_ok}

@@ -20,7 +20,8 @@ use Rattle.auditor.specs.declared.walk.error.WalkError.TheVariants.{SeriesOrder,
 use Rattle.auditor.specs.declared.walk.error.WalkError.TheVariants.{UnknownSeries}
 use Rattle.auditor.specs.IndexFile.Outcome.{of_chunk, of_tombstone}
 use Rattle.auditor.specs.IndexFile.Reading.{IsPlaced, Parts, series_end}
-use Rattle.auditor.specs.IndexFile.Grammar.{checked, contents_text, frame, StandsAt, IsSymbolTable}
+use Rattle.wire.specs.Checksum.{checked}
+use Rattle.auditor.specs.IndexFile.Grammar.{contents_text, frame, StandsAt, IsSymbolTable}
 use Rattle.auditor.specs.IndexFile.Grammar.{IsParts}
 use Rattle.auditor.specs.IndexFile.Bodies.{Body}
 use Rattle.auditor.specs.IndexFile.Flat.{gaps_zero}

@@ -5,13 +5,9 @@ use Rattle.std.specs.List.{flat_map, AllByRecursion}
 use Rattle.std.specs.Str.{IsUtf8}
 use Rattle.byteorder.specs.Endian.{big_bytes}
 use Rattle.wire.specs.Spelling.{uvarint}
-use Rattle.wire.specs.Checksum.{crc32c}
+use Rattle.wire.specs.Checksum.{checked}
 use Rattle.auditor.specs.declared.walk.contents.Contents.{Contents}
 use Rattle.auditor.specs.IndexFile.Reading.{IsPlaced, Place, Parts, ascending, rounded, series_end}
-
--- content, and its checksum
-abbrev pub checked : List ℕ → List ℕ
-checked content = content ++ big_bytes 4 (crc32c content)
 
 -- four bytes of length, the content, its checksum
 abbrev pub frame : List ℕ → List ℕ

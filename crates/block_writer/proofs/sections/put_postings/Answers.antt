@@ -1,7 +1,8 @@
 use Rattle.std.proofs.Common.{◌≡◌, ◌++◌, [], ◌∷◌, length, ◌∙◌, arith}
 use Rattle.std.specs.Prelude.{map}
 use Rattle.labels.specs.Pairs.{texts_of}
-use Rattle.index_reader.specs.Grammar.{frame, checked, contents_text}
+use Rattle.wire.specs.Checksum.{checked}
+use Rattle.index_reader.specs.Grammar.{frame, contents_text}
 use Rattle.block_writer.specs.IndexText.{contents_of}
 use Rattle.block_writer.proofs.Building.{postings_is}
 use Rattle.block_writer.proofs.sections.put_postings.Goals as goal

@@ -2,7 +2,7 @@ use Rattle.std.proofs.Common.{subst}
 use Rattle.std.specs.Arc.{arc_value}
 use Rattle.labels.specs.Parts.{IsPart}
 use Rattle.block.specs.Blocks.{Shown}
-use Rattle.block.specs.CarriedPairs.{AreNamed}
+use Rattle.block.specs.CarriedPairs.{AreCarriedPairs}
 use Rattle.block.proofs.Parts.{is_part}
 use Rattle.block.proofs.Showing.{named_in}
 use Rattle.block.proofs.blocks.Block.view.Goals as goal
@@ -16,6 +16,6 @@ invariant_of-result c =
           subst (λ (s : Shown). IsPart s.part) c.self.view_is
           (is_part b.range f.chunks f.index b.tombstones c.self.invariant);
       named =
-          subst (λ (s : Shown). AreNamed s.part s.pairs) c.self.view_is
+          subst (λ (s : Shown). AreCarriedPairs s.part s.pairs) c.self.view_is
           (named_in f.chunks b.tombstones f.index c.self.invariant.consistent);
     }

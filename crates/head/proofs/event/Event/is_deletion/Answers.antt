@@ -1,6 +1,6 @@
 use Rattle.std.specs.Prelude.{◌≡◌, length}
 use Rattle.std.proofs.Common.{◌∙◌, rules, to_z, of_z, w64}
-use Rattle.matchers.specs.Queries.{is_range}
+use Rattle.matchers.specs.Queries.{is_query_range}
 use Rattle.head.proofs.EventTests.{with_few}
 use Rattle.head.proofs.event.Event.is_deletion.Goals as goal
 
@@ -9,5 +9,5 @@ returns-then-matchers-le-MAX_MATCHERS c =
     let from_is : to_z w64 (of_z w64 c.args.from) ≡ c.args.from = search rules in
     let to_is : to_z w64 (of_z w64 c.args.to) ≡ c.args.to = search rules in
     c.is_range.ensures
-    ∙ (λ i. is_range (from_is i) (to_is i))
+    ∙ (λ i. is_query_range (from_is i) (to_is i))
     ∙ with_few (length c.args.matchers.now) 16 _ c.if-matchers-le-MAX_MATCHERS.true
