@@ -1,5 +1,5 @@
 -- The bodies of a written index: each spells its labels and its chunks.
-use Rattle.std.proofs.Common.{◌≡◌, ◌≢◌, ℕ, zero, suc, ◌+◌, ◌-◌, ◌^◌, ◌<◌, ◌≤◌, true, false, not, List, [], ◌∷◌, ◌++◌, length, get_or, take, drop, map, pos, negsuc, ◌+ℤ◌, ◌-ℤ◌, refl, sym, ap, subst, ◌∙◌, length-append, arith}
+use Rattle.std.proofs.Common.{◌≡◌, ◌≢◌, ℕ, zero, suc, ◌+◌, ◌-◌, ◌^◌, ◌<◌, ◌≤◌, Bool, true, false, not, List, [], ◌∷◌, ◌++◌, length, get_or, take, drop, map, pos, negsuc, ◌+ℤ◌, ◌-ℤ◌, refl, sym, ap, subst, ◌∙◌, length-append, arith}
 use Rattle.std.specs.Prelude.{ℤ, T, int_lt, if◌then◌else◌}
 use Rattle.std.specs.Int.Signed.{◌<ℤ◌, ◌≤ℤ◌, lt_z_no}
 use Rattle.std.specs.Int.RustNames.{unsigned_abs}
@@ -11,7 +11,6 @@ use Rattle.std.specs.declared.cmp.Ordering.{Ordering}
 use Rattle.std.specs.declared.cmp.Ordering.TheVariants.{Less, Equal, Greater}
 use Rattle.std.specs.Cmp.{IsTotalOrder, tied_itself}
 use Rattle.std.specs.FinMap.Entries.{is_sorted, below_all}
-use Rattle.std.proofs.lemmas.Bool.{lt-ltb}
 use Rattle.std.proofs.lemmas.Int.{ints}
 use Rattle.std.proofs.lemmas.List.{length-map, length-take, take-append-drop}
 use Rattle.std.proofs.lemmas.List.Elements.{All-head, All-tail, Contains-append_left, Contains-append_right}
@@ -26,7 +25,8 @@ use Rattle.labels.proofs.Times.{first_T, second_T, both_T, lt_of, T_of}
 use Rattle.wire.specs.Spelling.{uvarint, zigzag}
 use Rattle.chunk_reader.specs.Grammar.{time_at}
 use Rattle.index_reader.specs.declared.chunk.Chunk.{Chunk}
-use Rattle.index_reader.specs.Layout.{is_time, rounded}
+use Rattle.labels.specs.Contents.{is_time}
+use Rattle.index_reader.specs.Layout.{rounded}
 use Rattle.index_reader.specs.Grammar.{entry}
 use Rattle.index_reader.specs.Spelled.{AreLabels, label_text, IsFirst, IsLater, AreLater, AreChunks, IsBody, AreBodies}
 use Rattle.block.proofs.Turns.{below}
@@ -103,15 +103,24 @@ time_in (s ∷ ss) (suc i) lt h =
     time_in ss i (omega (arith, lt)) (second_T (in_range MIN_TIME MAX_TIME s.0)
     (list_all (λ (s : ℤ × ℤ). in_range MIN_TIME MAX_TIME s.0) ss) h)
 
-small_pos : (n : ℕ) → pos n ≤ℤ MAX_TIME → n < 2 ^ 62
-small_pos n h = omega (arith, ints)
+true_from : (b : Bool) → T b → b ≡ true
+true_from true h = refl
+true_from false h = absurd h
 
-small_neg : (n : ℕ) → MIN_TIME ≤ℤ negsuc n → n < 2 ^ 62
-small_neg n h = omega (arith, ints)
+not_under : (a b : ℤ) → b ≤ℤ a → T (not (int_lt a b))
+not_under a b le = go (int_lt a b) (λ e. below a b e)
+  where
+    go : (lt : Bool) → (lt ≡ true → a <ℤ b) → T (not lt)
+    go true h =
+        let less : a <ℤ b = h refl in
+        absurd (omega (arith, ints))
+    go false h = tt
 
 is_in_time : (t : ℤ) → MIN_TIME ≤ℤ t → t ≤ℤ MAX_TIME → is_time t ≡ true
-is_in_time (pos n) low high = lt-ltb n (2 ^ 62) (small_pos n high)
-is_in_time (negsuc n) low high = lt-ltb n (2 ^ 62) (small_neg n low)
+is_in_time t low high =
+    true_from (is_time t)
+    (both_T (not (int_lt t MIN_TIME)) (not (int_lt MAX_TIME t))
+    (not_under t MIN_TIME low) (not_under MAX_TIME t high))
 
 -- how far apart two times are
 

@@ -1,16 +1,21 @@
 -- A chunk that is spelled so is read.
-use Rattle.std.proofs.Common.{◌≡◌, ℕ, ◌^◌, ◌<◌, true, false, cond, eqb, List, ◌++◌, Some, None, refl, ap, subst, ◌∙◌, append_assoc, arith}
-use Rattle.std.specs.Prelude.{ℤ, pos, negsuc, ◌+ℤ◌}
-use Rattle.std.proofs.lemmas.Bool.{lt-ltb, ltb-true, eqb-true, false_from_ne_true}
+use Rattle.std.proofs.Common.{◌≡◌, ℕ, ◌*◌, ◌+◌, ◌^◌, ◌<◌, true, false, not, cond, eqb, List, ◌++◌, Some, None, refl, ap, subst, ◌∙◌, append_assoc, arith}
+use Rattle.std.specs.Prelude.{ℤ, pos, negsuc, int_lt, ◌+ℤ◌}
+use Rattle.std.specs.Int.Signed.{◌≤ℤ◌, lt_z_no}
+use Rattle.std.proofs.lemmas.Int.{ints}
+use Rattle.std.proofs.lemmas.Bool.{lt-ltb, eqb-true, false_from_ne_true}
 use Rattle.wire.specs.Spelling.{uvarint, varint, zigzag}
 use Rattle.wire.proofs.Laws.{uvarint_again}
 use Rattle.wire.proofs.Signed.{varint_again}
 use Rattle.index_reader.specs.declared.chunk.Chunk.{Chunk}
-use Rattle.index_reader.specs.Layout.{is_time}
+use Rattle.labels.specs.Contents.{is_time}
+use Rattle.labels.specs.declared.sample.TheConstants.{MIN_TIME, MAX_TIME}
+use Rattle.labels.proofs.Times.{first_T, second_T, T_of}
 use Rattle.index_reader.specs.ChunkChecks.{is_reference, natural, time_after, reference_after, first_at, later_at}
 use Rattle.index_reader.specs.Spelled.{IsFirst, IsLater}
 
 time_again : (z : ℤ) (n : ℕ) (t : ℤ) → t ≡ z +ℤ pos n → is_time t ≡ true → time_after z n ≡ Some t
+unfolding time_after
 time_again z n t e h = subst (λ (w : ℤ). cond (is_time w) (Some w) None ≡ Some t) e (rw h refl)
 
 reference_again : (n : ℕ) (z : ℤ) (m : ℕ) → pos m ≡ pos n +ℤ z → m < 2 ^ 64
@@ -19,9 +24,21 @@ reference_again n z m e lt =
     subst (λ (w : ℤ). cond (is_reference w) (Some (natural w)) None ≡ Some m) e
     (rw (lt-ltb m (2 ^ 64) lt) refl)
 
+no_later : (z : ℤ) → is_time z ≡ true → z ≤ℤ MAX_TIME
+no_later z h = lt_z_no (second_T (not (int_lt z MIN_TIME)) (not (int_lt MAX_TIME z)) (T_of _ h))
+
+no_earlier : (z : ℤ) → is_time z ≡ true → MIN_TIME ≤ℤ z
+no_earlier z h = lt_z_no (first_T (not (int_lt z MIN_TIME)) (not (int_lt MAX_TIME z)) (T_of _ h))
+
+doubled : (n : ℕ) → pos n ≤ℤ MAX_TIME → n * 2 < 2 ^ 64
+doubled n h = omega (arith, ints)
+
+doubled_below : (n : ℕ) → MIN_TIME ≤ℤ negsuc n → n * 2 + 1 < 2 ^ 64
+doubled_below n h = omega (arith, ints)
+
 zigzag_time : (z : ℤ) → is_time z ≡ true → zigzag z < 2 ^ 64
-zigzag_time (pos n) h = omega (arith, ltb-true n (2 ^ 62) h)
-zigzag_time (negsuc n) h = omega (arith, ltb-true n (2 ^ 62) h)
+zigzag_time (pos n) h = doubled n (no_later (pos n) h)
+zigzag_time (negsuc n) h = doubled_below n (no_earlier (negsuc n) h)
 
 not_zero : (n : ℕ) → 0 < n → eqb n 0 ≡ false
 not_zero n lt =

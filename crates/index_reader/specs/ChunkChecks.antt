@@ -3,7 +3,7 @@ use Rattle.std.specs.Prelude.{ℕ, List, length, Result, Ok, Err, Bool, ◌^◌,
 use Rattle.wire.specs.Reading.{uvarint_at, varint_at}
 use Rattle.wire.specs.declared.error.WireError.{WireError}
 use Rattle.index_reader.specs.declared.chunk.Chunk.{Chunk}
-use Rattle.index_reader.specs.Layout.{is_time}
+use Rattle.labels.specs.Contents.{is_time}
 
 -- a reference, which is no less than 0 and has 64 bits
 abbrev pub is_reference : ℤ → Bool
@@ -11,7 +11,7 @@ is_reference (pos n) = nat_lt n (2 ^ 64)
 is_reference (negsuc n) = nat_lt 0 0
 
 -- the time that is this much later, where it is one
-abbrev pub time_after : ℤ → ℕ → Option ℤ
+unfoldable pub time_after : ℤ → ℕ → Option ℤ
 time_after z n = if is_time (z +ℤ pos n) then Some (z +ℤ pos n) else None
 
 -- a number that is no less than 0

@@ -1,7 +1,7 @@
 -- Where the parts of an index stand: the words that its grammar and its reader share.
 use Rattle.std.specs.Cmp.Lexicographic.{slice_cmp}
 use Rattle.std.specs.Ordering.{is_lt, nat_cmp, ordering_then}
-use Rattle.std.specs.Prelude.{◌≡◌, ℕ, ◌+◌, ◌<◌, ◌≤◌, true, List, [], ◌∷◌, Bool, ◌&&◌, ◌^◌, nat_lt, nat_le, ◌==◌, if◌then◌else◌, ◌⊎◌, ◌*◌, ◌/◌, ℤ, pos, negsuc}
+use Rattle.std.specs.Prelude.{◌≡◌, ℕ, ◌+◌, ◌<◌, ◌≤◌, true, List, [], ◌∷◌, Bool, ◌&&◌, nat_lt, nat_le, ◌==◌, if◌then◌else◌, ◌⊎◌, ◌*◌, ◌/◌}
 use Rattle.index_reader.specs.declared.chunk.Chunk.{Chunk}
 use Rattle.index_reader.specs.declared.layout.TableOfContents.{TableOfContents}
 
@@ -61,11 +61,6 @@ Label = ℕ × ℕ
 pub record Body : Type 0 where
   pub labels : List Label
   pub chunks : List Chunk
-
--- from -2^62 to 2^62 - 1
-abbrev pub is_time : ℤ → Bool
-is_time (pos n) = nat_lt n (2 ^ 62)
-is_time (negsuc n) = nat_lt n (2 ^ 62)
 
 -- ---- the offset table
 

@@ -7,7 +7,8 @@ use Rattle.labels.specs.Names.{is_name}
 use Rattle.wire.specs.Spelling.{uvarint, varint, zigzag}
 use Rattle.index_reader.specs.declared.layout.TableOfContents.{TableOfContents}
 use Rattle.index_reader.specs.declared.chunk.Chunk.{Chunk}
-use Rattle.index_reader.specs.Layout.{SeriesEntry, Layout, series_end, is_time, Label, Body, TableEntry, is_before, is_within, rises, postings_end}
+use Rattle.labels.specs.Contents.{is_time}
+use Rattle.index_reader.specs.Layout.{SeriesEntry, Layout, series_end, Label, Body, TableEntry, is_before, is_within, rises, postings_end}
 use Rattle.index_reader.specs.Grammar.{frame, symbol, StandsAt, IsLayout}
 use Rattle.index_reader.specs.Indexes.{Series, Indexed, references, references_with, series_of, IsConsistent}
 

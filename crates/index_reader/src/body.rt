@@ -3,7 +3,7 @@
 ghost use Rattle.std.specs.Prelude.{◌≡◌, ◌+◌, ◌<◌, ◌≤◌, ◌^◌, length, get_or, slice_get, Ok, true, nat_le, IsTrue, IfOk};
 ghost use Rattle.index_reader.specs.Outcome.{Gives};
 ghost use Rattle.index_reader.specs.Seen.{bytes_of};
-ghost use Rattle.index_reader.specs.Layout.{is_time};
+ghost use Rattle.labels.specs.Contents.{is_time};
 ghost use Rattle.index_reader.specs.Steps.{steps, with_front};
 ghost use Rattle.index_reader.specs.BodyChecks.{is_label, label_at, labels_at, chunk_at, chunks_at, body_at, behind_both};
 

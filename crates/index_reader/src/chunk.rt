@@ -1,10 +1,10 @@
 //! The chunks of a series body.
 ghost use Rattle.std.specs.Prelude.{◌≡◌, ◌<◌, IsTrue, true, IfSome};
-ghost use Rattle.index_reader.specs.Layout.{is_time};
+ghost use Rattle.labels.specs.Contents.{is_time};
 ghost use Rattle.index_reader.specs.ChunkChecks.{time_after, reference_after, first_at, later_at};
 ghost use Rattle.index_reader.specs.Seen.{chunk_seen};
 
-use labels::{MAX_TIME, MIN_TIME};
+use labels::{MAX_TIME, is_time};
 use wire::Cut;
 
 /// A chunk's times and its reference.
@@ -15,12 +15,7 @@ pub struct Chunk {
     pub reference: u64,
 }
 
-fn is_time(time: i64) -> bool
-    ensures { result ≡ is_time time }
-{
-    (MIN_TIME <= time) & (time <= MAX_TIME)
-}
-
+#[tactic(auto, unfolding(crate::specs::ChunkChecks::time_after))]
 fn time_after(before: i64, gap: u64) -> Option<i64>
     requires { is_time before ≡ true }
     ensures exact { result ≡ time_after before gap }

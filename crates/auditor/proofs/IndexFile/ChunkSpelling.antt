@@ -8,7 +8,8 @@ use Rattle.wire.specs.Reading.{uvarint_at, varint_at}
 use Rattle.wire.proofs.Laws.{uvarint_takes}
 use Rattle.wire.proofs.Signed.{varint_takes}
 use Rattle.auditor.specs.declared.walk.chunk.Chunk.{Chunk}
-use Rattle.auditor.specs.IndexFile.Chunks.{is_time, is_reference, natural, time_after, reference_after, ◌>>=◌, read, first_at, later_at}
+use Rattle.labels.specs.Contents.{is_time}
+use Rattle.auditor.specs.IndexFile.Chunks.{is_reference, natural, time_after, reference_after, ◌>>=◌, read, first_at, later_at}
 use Rattle.auditor.specs.IndexFile.Spelled.{IsFirst, IsLater}
 use Rattle.auditor.proofs.IndexFile.Fields.{Takes, takes, Takes-then}
 
@@ -38,6 +39,7 @@ not_so true o y h = absurd cc
 not_so false o y h = (refl, h)
 
 time_is : (z : ℤ) (n : ℕ) (t : ℤ) → time_after z n ≡ Some t → (t ≡ z +ℤ pos n) × (is_time t ≡ true)
+unfolding time_after
 time_is z n t h =
     let w = z +ℤ pos n in
     let g = so (is_time w) (Some w) t h in

@@ -1,14 +1,10 @@
 -- The chunks of a series body.
 use Rattle.std.specs.Prelude.{ℕ, ◌^◌, ℤ, pos, negsuc, ◌+ℤ◌, Bool, List, Result, Ok, Err, Option}
 use Rattle.std.specs.Prelude.{Some, None, nat_lt, ◌==◌, if◌then◌else◌}
+use Rattle.labels.specs.Contents.{is_time}
 use Rattle.wire.specs.declared.error.WireError.{WireError}
 use Rattle.wire.specs.Reading.{uvarint_at, varint_at}
 use Rattle.auditor.specs.declared.walk.chunk.Chunk.{Chunk}
-
--- from -2^62 to 2^62 - 1
-abbrev pub is_time : ℤ → Bool
-is_time (pos n) = nat_lt n (2 ^ 62)
-is_time (negsuc n) = nat_lt n (2 ^ 62)
 
 -- a reference, which is no less than 0 and has 64 bits
 abbrev pub is_reference : ℤ → Bool
@@ -16,7 +12,7 @@ is_reference (pos n) = nat_lt n (2 ^ 64)
 is_reference (negsuc n) = nat_lt 0 0
 
 -- the time that is this much later, where it is one
-abbrev pub time_after : ℤ → ℕ → Option ℤ
+unfoldable pub time_after : ℤ → ℕ → Option ℤ
 time_after z n = if is_time (z +ℤ pos n) then Some (z +ℤ pos n) else None
 
 -- a number that is no less than 0

@@ -8,7 +8,7 @@ use Rattle.labels.specs.Labels.{labels_cmp}
 use Rattle.auditor.specs.declared.walk.chunk.Chunk.{Chunk}
 use Rattle.auditor.specs.IndexFile.Reading.{Place, Parts, series_end}
 use Rattle.auditor.specs.IndexFile.Grammar.{IsParts}
-use Rattle.auditor.specs.IndexFile.Chunks.{is_time}
+use Rattle.labels.specs.Contents.{is_time}
 use Rattle.auditor.specs.IndexFile.Bodies.{Label, Body}
 use Rattle.auditor.specs.IndexFile.Flat.{gaps_zero}
 use Rattle.auditor.specs.IndexFile.Series.{Series, series_of, label_sets}

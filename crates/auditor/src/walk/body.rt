@@ -4,7 +4,7 @@ ghost use Rattle.std.specs.Prelude.{◌≡◌, ◌+◌, ◌<◌, ◌≤◌, ◌^
 ghost use Rattle.std.specs.Prelude.{nat_le, IsTrue, IfOk};
 ghost use Rattle.auditor.specs.IndexFile.Outcome.{Gives};
 ghost use Rattle.auditor.specs.IndexFile.Seen.{texts};
-ghost use Rattle.auditor.specs.IndexFile.Chunks.{is_time};
+ghost use Rattle.labels.specs.Contents.{is_time};
 ghost use Rattle.auditor.specs.IndexFile.Steps.{steps, with_front};
 ghost use Rattle.auditor.specs.IndexFile.Bodies.{is_label, label_at, labels_at, chunk_at};
 ghost use Rattle.auditor.specs.IndexFile.Bodies.{chunks_at, body_at, behind_both};

@@ -1,11 +1,12 @@
 //! The chunks that the body of a series names.
 
 ghost use Rattle.std.specs.Prelude.{◌≡◌, ◌<◌, true, IfSome};
-ghost use Rattle.auditor.specs.IndexFile.Chunks.{is_time, time_after, reference_after, first_at};
+ghost use Rattle.labels.specs.Contents.{is_time};
+ghost use Rattle.auditor.specs.IndexFile.Chunks.{time_after, reference_after, first_at};
 ghost use Rattle.auditor.specs.IndexFile.Chunks.{later_at};
 ghost use Rattle.auditor.specs.IndexFile.SeenChunks.{seen_chunk};
 
-use labels::{MAX_TIME, MIN_TIME};
+use labels::{MAX_TIME, is_time};
 use wire::Cut;
 
 /// A chunk's first and last time, in milliseconds, and its reference.
@@ -16,12 +17,7 @@ pub struct Chunk {
     pub reference: u64,
 }
 
-fn is_time(time: i64) -> bool
-    ensures { result ≡ is_time time }
-{
-    (MIN_TIME <= time) & (time <= MAX_TIME)
-}
-
+#[tactic(auto, unfolding(crate::specs::IndexFile::Chunks::time_after))]
 fn time_after(before: i64, gap: u64) -> Option<i64>
     requires { is_time before ≡ true }
     ensures exact { result ≡ time_after before gap }

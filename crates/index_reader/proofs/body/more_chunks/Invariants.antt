@@ -1,5 +1,5 @@
 use Rattle.std.proofs.Common.{◌≡◌, ◌-◌, true}
-use Rattle.index_reader.specs.Layout.{is_time}
+use Rattle.labels.specs.Contents.{is_time}
 use Rattle.index_reader.specs.Steps.{steps, with_front}
 use Rattle.index_reader.specs.BodyChecks.{chunk_at}
 use Rattle.index_reader.proofs.body.more_chunks.Given as goal

@@ -1,5 +1,5 @@
 use Rattle.std.proofs.Common.{◌≡◌, ◌-◌, true}
-use Rattle.auditor.specs.IndexFile.Chunks.{is_time}
+use Rattle.labels.specs.Contents.{is_time}
 use Rattle.auditor.specs.IndexFile.Steps.{steps, with_front}
 use Rattle.auditor.specs.IndexFile.Bodies.{chunk_at}
 use Rattle.auditor.proofs.walk.body.more_chunks.Given as goal
