@@ -38,7 +38,7 @@ pub record IsAccepted (text : List ℕ) (ms : List MatcherView) : Type 0 where
 -- the query that was asked: the selector is accepted as one of its matchers, and the ranges are one
 pub record IsQueryOf (asked : Asked) (query : QueryView) : Type 0 where
   pub matchers : IsAccepted asked.selector.now query.matchers
-  pub is_query_range : is_query_range asked.from asked.to ≡ true
+  pub is_range : is_query_range asked.from asked.to ≡ true
   pub first : query.from ≡ asked.from
   pub last : query.to ≡ asked.to
 

@@ -32,7 +32,7 @@ pub record IsAccepted (text : List ℕ) (ms : List MatcherView) : Type 0 where
 -- the text of a selection is accepted as a selector of the query's matchers, and the ranges are one
 pub record IsQueryOf (asked : Selection) (query : QueryView) : Type 0 where
   pub matchers : IsAccepted asked.selector.now query.matchers
-  pub is_query_range : is_query_range asked.from asked.to ≡ true
+  pub is_range : is_query_range asked.from asked.to ≡ true
   pub first : query.from ≡ asked.from
   pub last : query.to ≡ asked.to
 

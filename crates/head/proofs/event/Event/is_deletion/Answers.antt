@@ -8,6 +8,6 @@ pub returns-then-matchers-le-MAX_MATCHERS : goal.returns-then-matchers-le-MAX_MA
 returns-then-matchers-le-MAX_MATCHERS c =
     let from_is : to_z w64 (of_z w64 c.args.from) ≡ c.args.from = search rules in
     let to_is : to_z w64 (of_z w64 c.args.to) ≡ c.args.to = search rules in
-    c.is_range.ensures
+    c.is_query_range.ensures
     ∙ (λ i. is_query_range (from_is i) (to_is i))
     ∙ with_few (length c.args.matchers.now) 16 _ c.if-matchers-le-MAX_MATCHERS.true
