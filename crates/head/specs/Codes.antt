@@ -34,7 +34,7 @@ commit_text (OutOfOrder at) =
 commit_text (Duplicate at) =
     codes "E3: sample " ++ decimal at
     ++ codes " has the newest time of its series and another value"
-commit_text Limit = codes "E4: too many series, or too many samples of one"
+commit_text Limit = codes "E4: too many series, too many samples of one, or too large a block"
 commit_text CutTooLow = codes "E5: the time of the cut is not above the floor"
 commit_text TooManyParts = codes "E6: there would be more than 63 blocks"
 commit_text Seat = codes "E7: the seat is none of this store's"

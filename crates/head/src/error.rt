@@ -102,7 +102,10 @@ impl fmt::Display for CommitError {
                 f,
                 "E3: sample {at} has the newest time of its series and another value"
             ),
-            CommitError::Limit => write!(f, "E4: too many series, or too many samples of one"),
+            CommitError::Limit => write!(
+                f,
+                "E4: too many series, too many samples of one, or too large a block"
+            ),
             CommitError::CutTooLow => write!(f, "E5: the time of the cut is not above the floor"),
             CommitError::TooManyParts => write!(f, "E6: there would be more than 63 blocks"),
             CommitError::Seat => write!(f, "E7: the seat is none of this store's"),
