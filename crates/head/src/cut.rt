@@ -63,7 +63,7 @@ fn rows_within(alloc: Global, head: &SeriesList, from: i64, to: i64) -> Result<V
 }
 
 /// The head's samples before a time, as rows in label order.
-fn leaving(alloc: Global, at: &Snapshot, time: i64) -> Result<Vec<Row>, AllocError>
+fn rows_below(alloc: Global, at: &Snapshot, time: i64) -> Result<Vec<Row>, AllocError>
     requires { int_lt at.now.floor time ≡ true }
     ensures { IfOk result (λ rows. AreLeaving time at.now rows.items) }
 {
@@ -127,7 +127,7 @@ fn blocks_after(alloc: Global, at: &Snapshot, time: i64) -> Result<Arc<Vec<Block
     ensures refused { IfErr result (λ e.
         IsStepRefusal e (cut_off fits (world_of at.now) time (leaving time at.now))) }
 {
-    let rows = leaving(alloc, at, time)?;
+    let rows = rows_below(alloc, at, time)?;
     if rows.is_empty() {
         return Ok(Arc::try_clone(&at.blocks)?);
     }

@@ -91,7 +91,7 @@ fn blocks_without(
 
 /// The snapshot without the samples that now stand in the closed range, of the series that satisfy
 /// all matchers. The files of the blocks are shared, and so are the head's other series.
-pub(crate) fn deleted_from(
+pub(crate) fn snapshot_without(
     alloc: Global,
     at: &Snapshot,
     matchers: &[Matcher],

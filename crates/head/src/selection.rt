@@ -90,7 +90,7 @@ fn common<P: Postings + Drop>(
 }
 
 /// The references of the series that satisfy all matchers.
-fn satisfying<S: Source>(
+fn matching_references<S: Source>(
     alloc: Global,
     source: &S,
     matchers: &[Matcher],
@@ -127,6 +127,6 @@ pub(crate) fn struck_references<S: Source>(
     ensures { IfOk result (λ found. found.items
         ≡ references_of (is_struck matchers.now from to) (S.part source.now)) }
 {
-    let found = satisfying(alloc, source, matchers)?;
+    let found = matching_references(alloc, source, matchers)?;
     common(alloc, found.as_slice(), source.live(alloc, from, to)?)
 }

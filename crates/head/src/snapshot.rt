@@ -11,7 +11,7 @@ ghost use Rattle.head.specs.Outcomes.{IsStepRefusal};
 ghost use Rattle.head.specs.Limits.{most};
 
 use crate::cut::cut_at;
-use crate::deletion::deleted_from;
+use crate::deletion::snapshot_without;
 use crate::draft::{Draft, add_each};
 use crate::error::CommitError;
 use crate::event::{Event, Kind};
@@ -124,7 +124,7 @@ impl Snapshot {
     }
 }
 
-fn committed_to(
+fn snapshot_with(
     alloc: Global,
     at: &Snapshot,
     batch: &[(LabelSet, Sample)],
@@ -161,9 +161,9 @@ pub fn apply(alloc: Global, at: &Snapshot, event: &Event) -> Result<Snapshot, Co
     ensures copied { IfOk result (λ s. CopiesFew event.now s.copied) }
 {
     match event.kind() {
-        Kind::Batch(samples) => committed_to(alloc, at, samples.as_slice()),
+        Kind::Batch(samples) => snapshot_with(alloc, at, samples.as_slice()),
         Kind::Deletion(matchers, from, to) => {
-            match deleted_from(alloc, at, matchers.as_slice(), *from, *to) {
+            match snapshot_without(alloc, at, matchers.as_slice(), *from, *to) {
                 Ok(snapshot) => Ok(snapshot),
                 Err(AllocError) => Err(CommitError::Memory),
             }

@@ -20,7 +20,7 @@ use Rattle.head.proofs.SlotLaws.{owned-shared, AllOwn-shared, series_shared}
 use Rattle.head.proofs.Applies.{accepted, refused}
 use Rattle.head.proofs.PartLaws.{IsPart-head_part, few_after_batch}
 use Rattle.head.proofs.Applies.{same_world}
-use Rattle.head.proofs.snapshot.committed_to.Goals as goal
+use Rattle.head.proofs.snapshot.snapshot_with.Goals as goal
 
 pub add_each-requires-clause-ordered : goal.add_each-requires-clause-ordered
 add_each-requires-clause-ordered c =

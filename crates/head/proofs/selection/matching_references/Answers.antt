@@ -8,7 +8,7 @@ use Rattle.matchers.specs.Satisfies.{satisfies_all}
 use Rattle.block.specs.Fewer.{is_among}
 use Rattle.head.proofs.Selecting.{satisfies_none, satisfies_one, satisfies_more, two_fronts, fronts_more, empty_of}
 use Rattle.head.proofs.SlotLaws.{if_ok}
-use Rattle.head.proofs.selection.satisfying.Goals as goal
+use Rattle.head.proofs.selection.matching_references.Goals as goal
 
 pub returns-in-empty : goal.returns-in-empty
 returns-in-empty g c =

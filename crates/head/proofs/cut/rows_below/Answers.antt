@@ -6,7 +6,7 @@ use Rattle.head.specs.HeadRows.{rows_within}
 use Rattle.head.specs.Cuts.{AreLeaving}
 use Rattle.head.specs.Snapshots.{parts_in}
 use Rattle.head.proofs.Leaving.{leaving_rows}
-use Rattle.head.proofs.cut.leaving.Goals as goal
+use Rattle.head.proofs.cut.rows_below.Goals as goal
 
 pub returns : goal.returns
 returns c =

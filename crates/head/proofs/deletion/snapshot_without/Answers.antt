@@ -5,7 +5,7 @@ use Rattle.head.specs.Heads.{SnapshotParts, IsSoundSnapshot}
 use Rattle.head.specs.Removing.{blocks_kept, head_kept, survives}
 use Rattle.head.specs.Snapshots.{parts_in}
 use Rattle.head.proofs.Deleting.{less_is_sound}
-use Rattle.head.proofs.deletion.deleted_from.Goals as goal
+use Rattle.head.proofs.deletion.snapshot_without.Goals as goal
 
 pub invariant_of-result : goal.invariant_of-result
 invariant_of-result c =
