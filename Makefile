@@ -2,7 +2,7 @@
 RT ?= rt
 PREFIX ?= /usr/local
 JOBS ?= $(shell nproc)
-# Checks that the gate runs side by side: each takes up to some 4 GB of a machine's 24.
+# Checks that the gate runs side by side: the largest takes some 5.5 GB of a machine's 24, most half of that.
 GATE_JOBS ?= $(shell n=$$(nproc); echo $$((n < 4 ? n : 4)))
 CRATES := $(shell sed -e 's/\#.*//' -e 's/:.*//' -e '/^[[:space:]]*$$/d' crates.txt)
 
