@@ -28,7 +28,7 @@ gate-times: ## runs the gate and tells its minutes by crate, for proofs, proofs 
 allocations: ## refuses each allocation of an index's opening, a store's changes, the demo, audits and a connection in turn (needs a C compiler)
 	@RT="$(RT)" tests/allocations
 
-audits: ## pipes what querier tells, right and changed, through auditor (needs rustc)
+audits: ## pipes querier's replies, as they are and changed, through auditor (needs rustc)
 	@RT="$(RT)" tests/audits
 
 serving: ## runs the server and asks it with curl: the session of the README, slow and silent clients
