@@ -1,5 +1,5 @@
 -- Where the lists of a walk stand, and how they go on.
-use Rattle.std.specs.Prelude.{◌≡◌, ℕ, zero, suc, ◌<◌, ◌≤◌, List, [], ◌∷◌, length, map, Option, None}
+use Rattle.std.specs.Prelude.{◌≡◌, ℕ, zero, suc, ◌<◌, ◌≤◌, List, [], ◌∷◌, length, map, slice_index_or, Option, None}
 use Rattle.std.specs.List.{filter}
 use Rattle.labels.specs.Ascending.{first_of, rest_of, not_below}
 use Rattle.labels.specs.Sets.{has}
@@ -37,6 +37,15 @@ abbrev pub asked_in_walk : {P Q L : Type 0} → (P → List ℕ) → (Q → List
     → List (Q × ℕ) → L × ℕ → Asked
 asked_in_walk of_all of_list of_live all lists live =
     asked_by_lists (of_all all.0) (map (λ list. of_list list.0) lists) (of_live live.0)
+
+-- no list has moved, by its count
+abbrev pub AllFresh : {P : Type 0} → List (P × ℕ) → Type 0
+AllFresh {P} lists = (k : ℕ) (d : P × ℕ) → k < length lists → (slice_index_or lists k d).1 ≡ 0
+
+-- no list has moved more than n times, by its count
+abbrev pub AllMovedAtMost : {P : Type 0} → ℕ → List (P × ℕ) → Type 0
+AllMovedAtMost {P} n lists =
+    (k : ℕ) (d : P × ℕ) → k < length lists → (slice_index_or lists k d).1 ≤ n
 
 -- of n lists that begin at `begins k` and the live list, which begins at `live`: none begins past
 -- `end`; under Match that is `from`, under Rejected j list j is the first of those that begin

@@ -1,7 +1,7 @@
-use Rattle.std.proofs.Common.{◌-◌, ◌≡◌, ℕ, ◌<◌, ◌≤◌, length, slice_index_or, map}
+use Rattle.std.proofs.Common.{◌-◌, ◌≡◌, ℕ, ◌<◌, ◌≤◌, length, slice_index_or}
 use Rattle.std.specs.List.{Contains}
 use Rattle.labels.specs.Ascending.{not_below}
-use Rattle.cover.specs.Walking.{asked_in_walk, accepted_by, alive}
+use Rattle.cover.specs.Walking.{asked_in_walk, accepted_by, alive, AllMovedAtMost}
 use Rattle.cover.proofs.Greedy.{Sofar}
 use Rattle.cover.proofs.walk.walk.Given as goal
 
@@ -20,8 +20,7 @@ invariant-loop-next g l = record {
       ≡ not_below b (alive (asked_in_walk g.P.Postings.remaining g.Q.Postings.remaining g.L.Postings.remaining
       l.initial.all l.initial.lists l.initial.live))));
   count : l.all.1 ≤ length l.certificate.items;
-  each : (j : ℕ) (d : _) → j < length l.lists
-      → (slice_index_or l.lists j d).1 ≤ length l.certificate.items;
+  each : AllMovedAtMost (length l.certificate.items) l.lists;
   live_count : l.live.1 ≤ length l.certificate.items;
   within : l.next ≤ 4294967296;
 }
