@@ -1,5 +1,5 @@
 -- A change of one item in its page.
-use Rattle.std.proofs.Common.{◌≡◌, ◌⊎◌, ℕ, zero, suc, ◌+◌, ◌-◌, ◌/◌, ◌%◌, ◌<◌, List, [], ◌∷◌, ◌++◌, map, length, get_or, set, drop, Vec, Global, refl, sym, ap, ◌∙◌, arith, length-drop, length-append, length-set}
+use Rattle.std.proofs.Common.{◌≡◌, ◌⊎◌, ℕ, zero, suc, ◌+◌, ◌/◌, ◌%◌, ◌<◌, List, [], ◌∷◌, map, length, get_or, set, drop, Vec, Global, refl, sym, ap, ◌∙◌, arith, length-drop, length-append, length-set}
 use Rattle.std.specs.List.{AllZip}
 use Rattle.std.specs.Vec.{with_item}
 use Rattle.std.proofs.lemmas.List.{get_or-drop, get_or_append_left, get_or-map, map-set, length-map}

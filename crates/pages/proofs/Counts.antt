@@ -1,11 +1,11 @@
 -- How many entries stand before a page, and after a spot.
-use Rattle.std.proofs.Common.{◌≡◌, ℕ, zero, suc, ◌+◌, ◌<◌, ◌≤◌, List, [], ◌∷◌, ◌++◌, map, length, get_or, drop, slice_get, Option, Some, refl, sym, ap, ◌∙◌, subst, arith, zero-add}
+use Rattle.std.proofs.Common.{◌≡◌, ℕ, zero, suc, ◌+◌, ◌<◌, ◌≤◌, List, [], ◌∷◌, map, length, get_or, drop, slice_get, refl, sym, ap, ◌∙◌, arith, zero-add}
 use Rattle.std.proofs.lemmas.List.{length-map}
 use Rattle.pages.specs.Pages.{flattened, IsPrefix}
 use Rattle.pages.specs.declared.probe.Spot.{Spot}
-use Rattle.pages.specs.Sorted.{start_of, place_in, place_of, IsGroup, AreGroups, IsSpotIn, HasEntry, entries_of}
+use Rattle.pages.specs.Sorted.{start_of, place_of, IsGroup, IsSpotIn, HasEntry, entries_of}
 use Rattle.pages.proofs.Pieces.{part_at}
-use Rattle.pages.proofs.Spots.{start_next, start_end, start_fits, got_left}
+use Rattle.pages.proofs.Spots.{start_next, start_fits, got_left}
 use Rattle.pages.proofs.Groups.{group_at, entry_group, entry_place}
 
 module _ {P X : Type 0} (shown : P → List X) (pages : List P) (k : ℕ) (page : P) (n : ℕ) (within : k < length pages) (is : page ≡ get_or pages k page) (len : n ≡ length (shown page)) where

@@ -1,4 +1,4 @@
-use Rattle.std.proofs.Common.{◌*◌, ◌∙◌, ◌/◌, ◌%◌, length, arith, ap}
+use Rattle.std.proofs.Common.{◌*◌, ◌/◌, arith}
 use Rattle.std.proofs.lemmas.Result.{on_ok_weaker}
 use Rattle.std.proofs.lemmas.List.Elements.{All-set}
 use Rattle.pages.specs.Pages.{branch_list, IsBranch}

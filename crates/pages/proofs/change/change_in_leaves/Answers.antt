@@ -1,4 +1,4 @@
-use Rattle.std.proofs.Common.{◌∙◌, ◌/◌, ◌%◌, length, arith, ap}
+use Rattle.std.proofs.Common.{◌/◌, arith}
 use Rattle.std.proofs.lemmas.Result.{on_ok_weaker}
 use Rattle.pages.specs.Pages.{leaf_list}
 use Rattle.pages.proofs.Pieces.{held_by, page_in, item_in_page, still_paged, vec_bound}

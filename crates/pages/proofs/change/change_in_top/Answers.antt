@@ -1,4 +1,4 @@
-use Rattle.std.proofs.Common.{◌≡◌, ◌<◌, ◌∙◌, Vec, Global, length, sym, ap, subst}
+use Rattle.std.proofs.Common.{◌<◌, ◌∙◌, Vec, Global, length, sym, ap, subst}
 use Rattle.std.proofs.lemmas.Result.{on_ok_weaker, IfErr-at_err}
 use Rattle.std.specs.Arc.{arc_value}
 use Rattle.pages.specs.Pages.{branch_lists, top_list, flattened, AreBranches}

@@ -1,7 +1,6 @@
-use Rattle.std.proofs.Common.{◌≡◌, ◌∙◌, ◌<◌, ◌≤◌, ◌+◌, [], map, length, get_or, sym, ap, arith}
+use Rattle.std.proofs.Common.{◌≡◌, ◌∙◌, ◌<◌, [], map, length, get_or, sym, ap, arith}
 use Rattle.std.proofs.lemmas.List.{length-map}
 use Rattle.pages.specs.Pages.{leaf_list, leaf_lists, branch_parts, groups_of, flattened}
-use Rattle.pages.specs.Sorted.{start_of}
 use Rattle.pages.proofs.Pieces.{part_at}
 use Rattle.pages.proofs.Spots.{start_end}
 use Rattle.pages.proofs.Counts.{group_next, group_fits}

@@ -1,7 +1,7 @@
 use Rattle.std.proofs.Common.{◌∙◌, Vec, Global, map, sym, ap, subst}
 use Rattle.std.proofs.lemmas.Result.{on_ok_weaker, on_err_weaker, IfErr-at_err}
 use Rattle.std.specs.Arc.{arc_value}
-use Rattle.pages.specs.Pages.{leaf_list, flattened, IsChanged}
+use Rattle.pages.specs.Pages.{leaf_list, flattened}
 use Rattle.pages.specs.Sorted.{IsGroup, HasEntryIn, place_in}
 use Rattle.pages.proofs.Clones.{branch_clone, on_err, is_ok_from}
 use Rattle.pages.proofs.Changes.{changed_in}
