@@ -16,7 +16,7 @@ use Rattle.postings.proofs.Choosing.{Entry, where_rises, in_rows, to_rows, rows_
 use Rattle.cover.specs.declared.certificate.Interval.{Interval}
 use Rattle.cover.specs.Certificates.{IsAsked, IsLeftmost, IsMatching, AreMatches}
 use Rattle.cover.specs.Asking.{labels_at, samples_at, satisfies_at, asked, matching_references}
-use Rattle.cover.specs.Walking.{accepted, alive, asked_of, list_at}
+use Rattle.cover.specs.Walking.{accepted_by, alive, asked_by_lists, list_at}
 use Rattle.cover.proofs.Agreement.{asks, Agree, AgreeLive, leftmost_too}
 use Rattle.cover.proofs.Farthest.{length_map}
 
@@ -146,7 +146,7 @@ agrees part (m ∷ ms) is zero r l c = where_has (λ labels. satisfies m labels)
 agrees part (m ∷ ms) is (suc j) r l c = agrees part ms is j r (omega (arith, l)) c
 
 pub leftmost_asked : (part : Part) (q : QueryView) (c : List Interval) → IsPart part
-    → IsLeftmost (asked_of (references part) (lists_of part q.matchers)
+    → IsLeftmost (asked_by_lists (references part) (lists_of part q.matchers)
     (live_references q.from q.to part)) c → IsLeftmost (asked part q) c
 leftmost_asked part q c is l =
     leftmost_too (references part) (length q.matchers)
@@ -181,14 +181,14 @@ kept_from part ms R Y j is er ey l =
 
 pub accepted_from : {X : Type 0} (F : X → List ℕ) (xs : List X) (R L : List ℕ) (part : Part)
     (ms : List MatcherView) → R ≡ references part → map F xs ≡ lists_of part ms → IsPart part
-    → (j : ℕ) (d : X) → j < length xs → F (get_or xs j d) ≡ accepted (asked_of R (map F xs) L) j
+    → (j : ℕ) (d : X) → j < length xs → F (get_or xs j d) ≡ accepted_by (asked_by_lists R (map F xs) L) j
 accepted_from F xs R L part ms er ey is j d l =
     list_at_map F xs j d l
     ∙ kept_from part ms R (map F xs) j is (sym er) (sym ey) (omega (arith, l, length_map F xs))
 
 pub living_from : (from to : ℤ) (part : Part) (R : List ℕ) (Y : List (List ℕ)) (L : List ℕ)
     → R ≡ references part → L ≡ live_references from to part → IsPart part
-    → L ≡ alive (asked_of R Y L)
+    → L ≡ alive (asked_by_lists R Y L)
 living_from from to part R Y L er el is =
     subst (λ (Q : List ℕ). L ≡ filter (λ (r : ℕ). has L r) Q) (sym er)
     (subst (λ (Z : List ℕ). Z ≡ filter (λ (r : ℕ). has Z r) (references part)) (sym el)
@@ -197,7 +197,7 @@ living_from from to part R Y L er el is =
     (rows_sub (λ row. has_sample from to row.1.1) part)))
 
 pub part_from : (part : Part) (R : List ℕ) (Y : List (List ℕ)) (L : List ℕ) → R ≡ references part
-    → IsPart part → IsAsked (asked_of R Y L)
+    → IsPart part → IsAsked (asked_by_lists R Y L)
 part_from part R Y L e is = record {
   ascending = subst IsStrictlyIncreasing (sym e) is.ascending;
   in_range = λ r c. is.in_range r (subst (λ (Q : List ℕ). Contains Q r) e c);
@@ -205,14 +205,14 @@ part_from part R Y L e is = record {
 
 pub leftmost_from : (part : Part) (q : QueryView) (R : List ℕ) (Y : List (List ℕ)) (L : List ℕ)
     (c : List Interval) → R ≡ references part → Y ≡ lists_of part q.matchers
-    → L ≡ live_references q.from q.to part → IsPart part → IsLeftmost (asked_of R Y L) c
+    → L ≡ live_references q.from q.to part → IsPart part → IsLeftmost (asked_by_lists R Y L) c
     → IsLeftmost (asked part q) c
 leftmost_from part q R Y L c er ey el is l =
     leftmost_asked part q c is
-    (subst (λ (M : List ℕ). IsLeftmost (asked_of (references part) (lists_of part q.matchers) M) c)
+    (subst (λ (M : List ℕ). IsLeftmost (asked_by_lists (references part) (lists_of part q.matchers) M) c)
     el
-    (subst (λ (Z : List (List ℕ)). IsLeftmost (asked_of (references part) Z L) c) ey
-    (subst (λ (Q : List ℕ). IsLeftmost (asked_of Q Y L) c) er l)))
+    (subst (λ (Z : List (List ℕ)). IsLeftmost (asked_by_lists (references part) Z L) c) ey
+    (subst (λ (Q : List ℕ). IsLeftmost (asked_by_lists Q Y L) c) er l)))
 
 pub asked_part : (part : Part) (q : QueryView) → IsPart part → IsAsked (asked part q)
 asked_part part q is = record { ascending = is.ascending; in_range = is.in_range }

@@ -1,5 +1,5 @@
 -- What is said of a cover, from its leftmost certificate.
-use Rattle.std.proofs.Common.{◌≡◌, ℕ, ◌+◌, ◌*◌, ◌≤◌, length, ap, sym, subst, ◌∙◌}
+use Rattle.std.proofs.Common.{◌≡◌, ◌+◌, ◌*◌, ◌≤◌, length, ap, sym, subst, ◌∙◌}
 use Rattle.labels.specs.Parts.{Part, IsPart}
 use Rattle.matchers.specs.Views.{QueryView}
 use Rattle.cover.specs.declared.part_cover.PartCover.{PartCover}

@@ -3,7 +3,7 @@ use Rattle.std.proofs.Common.{◌≡◌, ℕ, zero, suc, ◌+◌, ◌<◌, ◌�
 use Rattle.std.proofs.Math.Nat.{mul-le-mul_left}
 use Rattle.cover.specs.declared.certificate.Verdict.{Verdict}
 use Rattle.cover.specs.declared.certificate.Verdict.TheVariants.{Match, NoSample, Rejected}
-use Rattle.cover.specs.Walking.{TellsFarthest, IsFarthestAt}
+use Rattle.cover.specs.Walking.{AllFresh, AllMovedAtMost, TellsFarthest, IsFarthestAt}
 
 below_more : (k n : ℕ) → k < n + 1 → (k < n) ⊎ (k ≡ n)
 below_more k n h = grind arith
@@ -91,10 +91,6 @@ at_push P (y ∷ ys) x h p zero d l = h 0 d (omega arith)
 at_push P (y ∷ ys) x h p (suc k) d l =
     at_push P ys x (λ i e m. h (suc i) e (omega (arith, m))) p k d (omega (arith, l))
 
--- no list is moved yet
-abbrev pub AllFresh : {X : Type 0} → List (X × ℕ) → Type 0
-AllFresh {X} xs = (k : ℕ) (d : X × ℕ) → k < length xs → (get_or xs k d).1 ≡ 0
-
 pub fresh_same : {X : Type 0} (xs ys : List (X × ℕ)) → ys ≡ xs → AllFresh xs → AllFresh ys
 fresh_same {X} xs ys e h = subst (λ (zs : List (X × ℕ)). AllFresh zs) (sym e) h
 
@@ -107,9 +103,6 @@ pub moves_bound : (r f n len m : ℕ) → r ≤ f + n * len → f ≤ n → len 
 moves_bound r f n len m a b e =
     let same : n * len ≡ n * m = ap (λ z. n * z) e in
     omega arith
-
-abbrev pub AllMovedAtMost : {X : Type 0} → ℕ → List (X × ℕ) → Type 0
-AllMovedAtMost {X} n xs = (k : ℕ) (d : X × ℕ) → k < length xs → (get_or xs k d).1 ≤ n
 
 pub moved_same : {X : Type 0} (n : ℕ) (xs ys : List (X × ℕ)) → ys ≡ xs → AllMovedAtMost n xs
     → AllMovedAtMost n ys

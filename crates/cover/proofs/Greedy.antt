@@ -12,7 +12,7 @@ use Rattle.cover.specs.declared.certificate.Interval.{Interval}
 use Rattle.cover.specs.declared.certificate.Verdict.{Verdict}
 use Rattle.cover.specs.declared.certificate.Verdict.TheVariants.{Match, NoSample, Rejected}
 use Rattle.cover.specs.Certificates.{Asked, IsAsked, references_between, IsRun, FitsUnder, run_of, IsChained, NamesSmallest, IsLeftmost}
-use Rattle.cover.specs.Walking.{accepted, alive}
+use Rattle.cover.specs.Walking.{accepted_by, alive}
 use Rattle.cover.proofs.Runs.{in_run, of_run, in_between, of_map, interval_run}
 use Rattle.cover.proofs.Longest.{GoesFarthest, farthest_longest}
 
@@ -117,7 +117,7 @@ reach_of refs test e = first_or_end (not_below e (filter test refs))
 
 -- the first reference from e on that matcher j accepts, or the end
 abbrev pub reach : Asked → ℕ → ℕ → ℕ
-reach a e j = first_or_end (not_below e (accepted a j))
+reach a e j = first_or_end (not_below e (accepted_by a j))
 
 -- the first live reference from e on, or the end
 abbrev pub reach_live : Asked → ℕ → ℕ

@@ -1,4 +1,4 @@
--- What is said of a part's cover: its certificate, its separators, and how often its lists moved.
+-- What is said of a part's cover: its certificate, its separators, and the moves of its lists.
 use Rattle.std.specs.Prelude.{◌≡◌, ◌+◌, ◌*◌, ◌≤◌, List, length}
 use Rattle.labels.specs.Parts.{Part}
 use Rattle.matchers.specs.Views.{QueryView}
@@ -11,8 +11,8 @@ use Rattle.cover.specs.declared.part_cover.PartCover.{PartCover}
 -- The cover of a part for a query. Its certificate is the leftmost one: it is valid, no valid one
 -- has fewer intervals, and its matches are exactly the references that the query asks for. Its
 -- separators are where the intervals begin, so they are as many, and they show that no fewer would
--- do. Its lists made at most two moves more than there are matchers for each interval of any valid
--- certificate.
+-- do. Its lists report at most two moves more than there are matchers for each interval of any
+-- valid certificate.
 pub record IsCoverOf (part : Part) (query : QueryView) (cover : PartCover) : Type 0 where
   pub leftmost : IsLeftmost (asked part query) cover.certificate.items
   pub valid : IsValidCertificate (asked part query) cover.certificate.items

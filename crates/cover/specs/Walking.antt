@@ -1,5 +1,5 @@
 -- Where the lists of a walk stand, and how they go on.
-use Rattle.std.specs.Prelude.{◌≡◌, ℕ, zero, suc, ◌<◌, ◌≤◌, List, [], ◌∷◌, length, Option, None}
+use Rattle.std.specs.Prelude.{◌≡◌, ℕ, zero, suc, ◌<◌, ◌≤◌, List, [], ◌∷◌, length, map, slice_index_or, Option, None}
 use Rattle.std.specs.List.{filter}
 use Rattle.labels.specs.Ascending.{first_of, rest_of, not_below}
 use Rattle.labels.specs.Sets.{has}
@@ -8,8 +8,8 @@ use Rattle.cover.specs.declared.certificate.Verdict.TheVariants.{Match, NoSample
 use Rattle.cover.specs.Certificates.{Asked}
 
 -- the references that matcher j accepts
-abbrev pub accepted : Asked → ℕ → List ℕ
-accepted a j = filter (λ (r : ℕ). a.accepts j r) a.references
+abbrev pub accepted_by : Asked → ℕ → List ℕ
+accepted_by a j = filter (λ (r : ℕ). a.accepts j r) a.references
 
 -- the live references
 abbrev pub alive : Asked → List ℕ
@@ -23,13 +23,29 @@ list_at (xs ∷ xss) (suc j) = list_at xss j
 
 -- what is asked by a list of all references, a list of the accepted ones for each matcher, and a
 -- list of the live ones
-abbrev pub asked_of : List ℕ → List (List ℕ) → List ℕ → Asked
-asked_of references lists live = record {
+abbrev pub asked_by_lists : List ℕ → List (List ℕ) → List ℕ → Asked
+asked_by_lists references lists live = record {
   references = references;
   matchers = length lists;
   accepts = λ j r. has (list_at lists j) r;
   live = λ r. has live r;
 }
+
+-- what is asked by what remains of a walk's lists, each of which stands beside the count of its
+-- moves: the list of all references, a list for each matcher, and the list of the live ones
+abbrev pub asked_in_walk : {P Q L : Type 0} → (P → List ℕ) → (Q → List ℕ) → (L → List ℕ) → P × ℕ
+    → List (Q × ℕ) → L × ℕ → Asked
+asked_in_walk of_all of_list of_live all lists live =
+    asked_by_lists (of_all all.0) (map (λ list. of_list list.0) lists) (of_live live.0)
+
+-- no list has moved, by its count
+abbrev pub AllFresh : {P : Type 0} → List (P × ℕ) → Type 0
+AllFresh {P} lists = (k : ℕ) (d : P × ℕ) → k < length lists → (slice_index_or lists k d).1 ≡ 0
+
+-- no list has moved more than n times, by its count
+abbrev pub AllMovedAtMost : {P : Type 0} → ℕ → List (P × ℕ) → Type 0
+AllMovedAtMost {P} n lists =
+    (k : ℕ) (d : P × ℕ) → k < length lists → (slice_index_or lists k d).1 ≤ n
 
 -- of n lists that begin at `begins k` and the live list, which begins at `live`: none begins past
 -- `end`; under Match that is `from`, under Rejected j list j is the first of those that begin

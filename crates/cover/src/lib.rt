@@ -8,9 +8,9 @@
 //! [`cover`] gives the leftmost certificate: each run is as long as any fitting run from its first
 //! reference, and the smallest matcher that rejects it is named. So it is valid and no valid
 //! certificate has fewer runs, over all ways of cutting the references, and the first references of
-//! its runs, which no two in one fitting run, show that by themselves. Its lists make at most
-//! `m + 2` moves for each interval of any valid certificate, with `m` matchers. The laws behind it
-//! are those of [`certificate_laws`].
+//! its runs, of which no fitting run contains two, show that by themselves. Its lists report at
+//! most `m + 2` moves for each interval of any valid certificate, with `m` matchers: each counts
+//! one for an `advance` or a `seek`. The laws of certificates are those of [`certificate_laws`].
 //!
 //! Of a `part` with six series, of which 1 and 6 are `up` of job `a`, 2 and 3 `up` of job `b`, and
 //! 4 and 5 `down`:

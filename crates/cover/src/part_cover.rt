@@ -5,6 +5,7 @@ ghost use Rattle.matchers.specs.Satisfies.{satisfies};
 ghost use Rattle.labels.specs.Parts.{references_where};
 ghost use Rattle.cover.specs.Certificates.{IsValidCertificate, IsLeftmost, begins_of};
 ghost use Rattle.cover.specs.Asking.{asked};
+ghost use Rattle.cover.specs.Walking.{AllFresh, AllMovedAtMost};
 ghost use Rattle.cover.specs.Covers.{IsCoverOf};
 
 use crate::certificate::Interval;
@@ -43,8 +44,7 @@ fn chosen_lists<S: Source>(
     ensures lists { IfOk result (λ v.
         map (λ l. ⟦<Chosen<S::List> as Postings>⟧.remaining l.0) v.items ≡ map
         (λ m. references_where (λ labels. satisfies m labels) (S.part source.now)) matchers.now) }
-    ensures fresh { IfOk result (λ v.
-        (k : ℕ) (d : _) → k < length v.items → (slice_index_or v.items k d).1 ≡ 0) }
+    ensures fresh { IfOk result (λ v. AllFresh v.items) }
 {
     let mut lists = Vec::new(alloc);
     for matcher in matchers {
@@ -56,9 +56,7 @@ fn chosen_lists<S: Source>(
 
 /// The moves of all lists together, up to the greatest number.
 fn sum_moves<P>(first: u64, lists: &[Counted<P>]) -> u64
-    ensures { (n : ℕ)
-        → ((k : ℕ) (d : Counted P) → k < length lists.now → (slice_index_or lists.now k d).1 ≤ n)
-        → result ≤ first + n * length lists.now }
+    ensures { (n : ℕ) → AllMovedAtMost n lists.now → result ≤ first + n * length lists.now }
 {
     let mut sum = first;
     for list in lists.iter() {

@@ -4,7 +4,7 @@ ghost use Rattle.std.specs.Prelude.{◌≡◌, ℕ, ◌+◌, ◌*◌, ◌^◌, �
 ghost use Rattle.std.specs.List.{Contains, filter};
 ghost use Rattle.labels.specs.Ascending.{first_of, rest_of, not_below, first_or_end, or_end};
 ghost use Rattle.cover.specs.Certificates.{IsAsked, IsLeftmost, begins_of};
-ghost use Rattle.cover.specs.Walking.{asked_of, accepted, alive, TellsFarthest, MovesOn};
+ghost use Rattle.cover.specs.Walking.{asked_in_walk, accepted_by, alive, AllFresh, AllMovedAtMost, TellsFarthest, MovesOn};
 
 use crate::certificate::{Interval, Verdict};
 use labels::SeriesRef;
@@ -99,22 +99,20 @@ pub(crate) fn walk<P: Postings, Q: Postings, L: Postings>(
     lists: &mut [Counted<Q>],
     live: &mut Counted<L>,
 ) -> Result<Vec<Interval>, AllocError>
-    requires part { IsAsked (asked_of (P.remaining all.old.0) (map (λ l. Q.remaining l.0) lists.old)
-        (L.remaining live.old.0)) }
+    requires part { IsAsked
+        (asked_in_walk P.remaining Q.remaining L.remaining all.old lists.old live.old) }
     requires accepted { (j : ℕ) (d : Counted Q) → j < length lists.old
-        → Q.remaining (slice_index_or lists.old j d).0 ≡ accepted (asked_of (P.remaining all.old.0)
-        (map (λ l. Q.remaining l.0) lists.old) (L.remaining live.old.0)) j }
-    requires living { L.remaining live.old.0 ≡ alive (asked_of (P.remaining all.old.0)
-        (map (λ l. Q.remaining l.0) lists.old) (L.remaining live.old.0)) }
+        → Q.remaining (slice_index_or lists.old j d).0 ≡ accepted_by
+        (asked_in_walk P.remaining Q.remaining L.remaining all.old lists.old live.old) j }
+    requires living { L.remaining live.old.0 ≡ alive
+        (asked_in_walk P.remaining Q.remaining L.remaining all.old lists.old live.old) }
     requires fresh { all.old.1 ≡ 0 }
-    requires each_fresh { (j : ℕ) (d : Counted Q) → j < length lists.old
-        → (slice_index_or lists.old j d).1 ≡ 0 }
+    requires each_fresh { AllFresh lists.old }
     requires live_fresh { live.old.1 ≡ 0 }
-    ensures leftmost { IfOk result (λ c. IsLeftmost (asked_of (P.remaining all.old.0)
-        (map (λ l. Q.remaining l.0) lists.old) (L.remaining live.old.0)) c.items) }
+    ensures leftmost { IfOk result (λ c. IsLeftmost
+        (asked_in_walk P.remaining Q.remaining L.remaining all.old lists.old live.old) c.items) }
     ensures moves { IfOk result (λ c. all.new.1 ≤ length c.items) }
-    ensures each_moves { IfOk result (λ c. (j : ℕ) (d : Counted Q) → j < length lists.old
-        → (slice_index_or lists.new j d).1 ≤ length c.items) }
+    ensures each_moves { IfOk result (λ c. AllMovedAtMost (length c.items) lists.new) }
     ensures live_moves { IfOk result (λ c. live.new.1 ≤ length c.items) }
 {
     let mut certificate = Vec::new(alloc);

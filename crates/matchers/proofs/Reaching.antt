@@ -13,7 +13,7 @@ use Rattle.matchers.specs.declared.scanner.State.TheVariants.{Start, Metric, Aft
 use Rattle.matchers.specs.declared.scanner.Mark.{Mark}
 use Rattle.matchers.specs.declared.scanner.Mark.TheVariants as mark
 use Rattle.matchers.specs.Grammar.{is_space, starts_metric, continues_metric, IsSelector, BeginsSelector, IsNoSelector, HasOneReading}
-use Rattle.matchers.specs.Scanner.{Move, step, end_mark, marked, reads, Progress, nothing_read, taken, joined, forward, Reached, ReadUpTo}
+use Rattle.matchers.specs.Scanner.{Move, step, end_mark, marked, reads, Progress, nothing_read, taken, begun_by, forward, Reached, ReadUpTo}
 use Rattle.matchers.specs.Views.{MatcherView}
 use Rattle.matchers.proofs.Branches.{cond_false, by_cases, never, same_some}
 use Rattle.matchers.proofs.Residues.{read_on, move}
@@ -39,7 +39,7 @@ forward_taken mark.Metric b p ms = closes op.Equal (p.name ++ codes "__name__") 
     ends_metric : (p : Progress) (ms : List MatcherView) → forward p (marked b mark.Metric ms) ≡ p.done ++ record { name = p.name ++ codes "__name__"; op = op.Equal; text = p.text } ∷ ms
     ends_metric p ms = rw (append-nil p.text) refl
 
-    closes : (op : Op) (name text : List ℕ) (done ms : List MatcherView) → (done ++ record { name = name; op = op; text = text } ∷ []) ++ joined [] [] ms ≡ done ++ record { name = name; op = op; text = text } ∷ ms
+    closes : (op : Op) (name text : List ℕ) (done ms : List MatcherView) → (done ++ record { name = name; op = op; text = text } ∷ []) ++ begun_by [] [] ms ≡ done ++ record { name = name; op = op; text = text } ∷ ms
     closes op name text done [] = append-nil _
     closes op name text done (m ∷ ms) = append_assoc done _ (m ∷ ms)
 forward_taken (mark.Matcher op) b p ms = closes op p.name p.text p.done ms ∙ sym (ends_matcher p ms)
@@ -47,7 +47,7 @@ forward_taken (mark.Matcher op) b p ms = closes op p.name p.text p.done ms ∙ s
     ends_matcher : (p : Progress) (ms : List MatcherView) → forward p (marked b (mark.Matcher op) ms) ≡ p.done ++ record { name = p.name; op = op; text = p.text } ∷ ms
     ends_matcher p ms = rw (append-nil p.name, append-nil p.text) refl
 
-    closes : (op : Op) (name text : List ℕ) (done ms : List MatcherView) → (done ++ record { name = name; op = op; text = text } ∷ []) ++ joined [] [] ms ≡ done ++ record { name = name; op = op; text = text } ∷ ms
+    closes : (op : Op) (name text : List ℕ) (done ms : List MatcherView) → (done ++ record { name = name; op = op; text = text } ∷ []) ++ begun_by [] [] ms ≡ done ++ record { name = name; op = op; text = text } ∷ ms
     closes op name text done [] = append-nil _
     closes op name text done (m ∷ ms) = append_assoc done _ (m ∷ ms)
 
@@ -56,13 +56,13 @@ map_taken : (m : Mark) (b : ℕ) (p : Progress) (o : Option (List MatcherView)) 
 map_taken m b p None = refl
 map_taken m b p (Some ms) = ap Some (sym (forward_taken m b p ms))
 
-joined_nothing : (ms : List MatcherView) → joined [] [] ms ≡ ms
-joined_nothing [] = refl
-joined_nothing (m ∷ ms) = refl
+begun_by_nothing : (ms : List MatcherView) → begun_by [] [] ms ≡ ms
+begun_by_nothing [] = refl
+begun_by_nothing (m ∷ ms) = refl
 
 map_nothing : (o : Option (List MatcherView)) → o ≡ option_map (forward nothing_read) o
 map_nothing None = refl
-map_nothing (Some ms) = ap Some (sym (joined_nothing ms))
+map_nothing (Some ms) = ap Some (sym (begun_by_nothing ms))
 
 pub starts : (text : List ℕ) → ReadUpTo text text Start nothing_read 0
 starts text = record { front = []; whole = refl; place = refl; reached = record { each = λ more. map_nothing (reads more Start) } }

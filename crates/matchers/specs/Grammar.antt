@@ -76,7 +76,7 @@ pub record BeginsNext (m : MatcherView) (text rest : List ℕ) : Type 0 where
   pub is : text ≡ before ++ (44 ∷ (after ++ start))
   pub matcher : BeginsMatcher m start rest
 
--- what follows a matcher in braces: these matchers, each behind a comma, and the closing brace
+-- what follows a matcher in braces: these matchers, each after a comma, and the closing brace
 abbrev pub BeginsFurther : List MatcherView → List ℕ → List ℕ → Type 0
 BeginsFurther [] text rest = BeginsClosing text rest
 BeginsFurther (m ∷ ms) text rest =

@@ -162,13 +162,15 @@ taken mark.Metric bytes p =
     closed op.Equal (record { done = p.done; name = p.name ++ codes "__name__"; text = p.text })
 taken (mark.Matcher op) bytes p = closed op p
 
-abbrev pub joined : List ℕ → List ℕ → List MatcherView → List MatcherView
-joined name text [] = []
-joined name text (m ∷ ms) = record { name = name ++ m.name; op = m.op; text = text ++ m.text } ∷ ms
+-- the matchers, where the name and the text of the first begin with these
+abbrev pub begun_by : List ℕ → List ℕ → List MatcherView → List MatcherView
+begun_by name text [] = []
+begun_by name text (m ∷ ms) =
+    record { name = name ++ m.name; op = m.op; text = text ++ m.text } ∷ ms
 
 -- the matchers of the whole, from what was read and those that the rest stands for
 abbrev pub forward : Progress → List MatcherView → List MatcherView
-forward p ms = p.done ++ joined p.name p.text ms
+forward p ms = p.done ++ begun_by p.name p.text ms
 
 -- whatever follows the front, the machine reads it on from this state and this progress
 pub record Reached (front : List ℕ) (s : State) (p : Progress) : Type 0 where

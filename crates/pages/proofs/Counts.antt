@@ -1,11 +1,11 @@
--- How many entries stand before a page, and behind a spot.
-use Rattle.std.proofs.Common.{◌≡◌, ℕ, zero, suc, ◌+◌, ◌<◌, ◌≤◌, List, [], ◌∷◌, ◌++◌, map, length, get_or, drop, slice_get, Option, Some, refl, sym, ap, ◌∙◌, subst, arith, zero-add}
+-- How many entries stand before a page, and after a spot.
+use Rattle.std.proofs.Common.{◌≡◌, ℕ, zero, suc, ◌+◌, ◌<◌, ◌≤◌, List, [], ◌∷◌, map, length, get_or, drop, slice_get, refl, sym, ap, ◌∙◌, arith, zero-add}
 use Rattle.std.proofs.lemmas.List.{length-map}
-use Rattle.pages.specs.Pages.{joined, IsPrefix}
+use Rattle.pages.specs.Pages.{flattened, IsPrefix}
 use Rattle.pages.specs.declared.probe.Spot.{Spot}
-use Rattle.pages.specs.Sorted.{start_of, place_in, place_of, IsGroup, AreGroups, IsSpotIn, HasEntry, entries_of}
+use Rattle.pages.specs.Sorted.{start_of, place_of, IsGroup, IsSpotIn, HasEntry, entries_of}
 use Rattle.pages.proofs.Pieces.{part_at}
-use Rattle.pages.proofs.Spots.{start_next, start_end, start_fits, got_left}
+use Rattle.pages.proofs.Spots.{start_next, start_fits, got_left}
 use Rattle.pages.proofs.Groups.{group_at, entry_group, entry_place}
 
 module _ {P X : Type 0} (shown : P → List X) (pages : List P) (k : ℕ) (page : P) (n : ℕ) (within : k < length pages) (is : page ≡ get_or pages k page) (len : n ≡ length (shown page)) where
@@ -21,22 +21,22 @@ module _ {P X : Type 0} (shown : P → List X) (pages : List P) (k : ℕ) (page 
       let one : suc k ≡ k + 1 = omega arith in
       omega (arith, start_next (map shown pages) k among, part, ap (start_of (map shown pages)) one)
 
-  pub count_fits : start_of (map shown pages) k + n ≤ length (joined (map shown pages))
+  pub count_fits : start_of (map shown pages) k + n ≤ length (flattened (map shown pages))
   count_fits = omega (arith, start_fits (map shown pages) k among, part)
 
 -- the entries of a group are some of all
-pub group_fits : {X : Type 0} (groups : List (List (List X))) (g : ℕ) (pages : List (List X)) → g < length groups → get_or groups g [] ≡ pages → start_of (map joined groups) g + length (joined pages) ≤ length (entries_of groups)
+pub group_fits : {X : Type 0} (groups : List (List (List X))) (g : ℕ) (pages : List (List X)) → g < length groups → get_or groups g [] ≡ pages → start_of (map flattened groups) g + length (flattened pages) ≤ length (entries_of groups)
 group_fits groups g pages within is =
-    omega (arith, start_fits (map joined groups) g (omega (arith, within, length-map groups joined)), ap length (group_at groups g), ap (λ l. length (joined l)) is)
+    omega (arith, start_fits (map flattened groups) g (omega (arith, within, length-map groups flattened)), ap length (group_at groups g), ap (λ l. length (flattened l)) is)
 
 -- one group more
-pub group_next : {X : Type 0} (groups : List (List (List X))) (g : ℕ) (pages : List (List X)) → g < length groups → get_or groups g [] ≡ pages → start_of (map joined groups) g + length (joined pages) ≡ start_of (map joined groups) (g + 1)
+pub group_next : {X : Type 0} (groups : List (List (List X))) (g : ℕ) (pages : List (List X)) → g < length groups → get_or groups g [] ≡ pages → start_of (map flattened groups) g + length (flattened pages) ≡ start_of (map flattened groups) (g + 1)
 group_next groups g pages within is =
     let one : suc g ≡ g + 1 = omega arith in
-    omega (arith, start_next (map joined groups) g (omega (arith, within, length-map groups joined)), ap length (group_at groups g), ap (λ l. length (joined l)) is, ap (start_of (map joined groups)) one)
+    omega (arith, start_next (map flattened groups) g (omega (arith, within, length-map groups flattened)), ap length (group_at groups g), ap (λ l. length (flattened l)) is, ap (start_of (map flattened groups)) one)
 
 -- a place of a group lies in it
-pub spot_fits : {X : Type 0} (pages : List (List X)) (spot : Spot) → IsGroup pages → IsSpotIn pages spot → start_of pages spot.page + spot.at ≤ length (joined pages)
+pub spot_fits : {X : Type 0} (pages : List (List X)) (spot : Spot) → IsGroup pages → IsSpotIn pages spot → start_of pages spot.page + spot.at ≤ length (flattened pages)
 spot_fits pages spot h s = omega (arith, start_fits pages spot.page (s.page_in h.0), s.at_in)
 
 abbrev the_empty : (X : Type 0) → List X

@@ -1,9 +1,9 @@
 -- Pages, each seen as a list.
 use Rattle.std.proofs.Common.{◌≡◌, ℕ, zero, suc, ◌/◌, ◌%◌, ◌<◌, ◌≤◌, List, [], ◌∷◌, ◌++◌, map, length, get_or, set, drop, slice_get, All, Vec, Global, vec_len, refl, sym, ap, ◌∙◌, subst, arith, length-drop, append_assoc}
 use Rattle.std.proofs.lemmas.List.{get_or-map, length-map, map-set, map_push, drop-map, append-nil}
-use Rattle.pages.specs.Pages.{Page, branch_parts, branch_list, IsBranch, joined, IsPaged, IsPrefix}
+use Rattle.pages.specs.Pages.{Page, branch_parts, branch_list, IsBranch, flattened, IsPaged, IsPrefix}
 use Rattle.pages.proofs.Parts.{IsPlace, place_of}
-use Rattle.pages.proofs.Writes.{set_at_place, paged_set, IsPushed, push_at_place, joined_push, paged_push}
+use Rattle.pages.proofs.Writes.{set_at_place, paged_set, IsPushed, push_at_place, flattened_push, paged_push}
 
 pub vec_bound : {P : Type 0} (v : Vec P Global) (i : ℕ) → i < length v.items → i < vec_len v
 vec_bound v i h = omega (arith, v.ok.0)
@@ -26,7 +26,7 @@ all_read F pages q page all h e = subst F (sym e) (all q page h)
 
 -- a branch of one item
 pub branch_new : {E X : Type 0} (item : E → X) (branch : Page (Page E)) (x : X) → branch_parts item branch ≡ (x ∷ []) ∷ [] → branch_list item branch ≡ x ∷ []
-branch_new item branch x e = ap joined e
+branch_new item branch x e = ap flattened e
 
 pub is_branch_new : {E X : Type 0} (item : E → X) (n : ℕ) (branch : Page (Page E)) (x : X) → 0 < n → branch_parts item branch ≡ (x ∷ []) ∷ [] → IsBranch item n branch
 is_branch_new item n branch x h e = rw e (omega (arith, h))
@@ -40,7 +40,7 @@ leaf_held item items front r h e = omega (arith, ap length e, length-drop r item
 
 module _ {P X : Type 0} (shown : P → List X) where
   -- the page that holds an item
-  pub held_by : (n : ℕ) (pages : List P) (at : ℕ) → 0 < n → IsPaged n (map shown pages) → at < length (joined (map shown pages)) → IsPlace (map shown pages) at (at / n) (at % n)
+  pub held_by : (n : ℕ) (pages : List P) (at : ℕ) → 0 < n → IsPaged n (map shown pages) → at < length (flattened (map shown pages)) → IsPlace (map shown pages) at (at / n) (at % n)
   held_by n pages at h paged held = place_of n (map shown pages) (at / n) (at % n) at paged (omega arith) (omega arith) held
 
   pub page_in : (pages : List P) (at q r : ℕ) → IsPlace (map shown pages) at q r → q < length pages
@@ -56,18 +56,18 @@ module _ {P X : Type 0} (shown : P → List X) where
   pub item_in_page : (pages : List P) (at q r : ℕ) (page : P) → IsPlace (map shown pages) at q r → page ≡ get_or pages q page → r < length (shown page)
   item_in_page pages at q r page w e = subst (λ l. r < length l) (part_read pages at q r page w e) w.item_in
 
-  pub prefix_in : (pages : List P) (at q r : ℕ) (page : P) (front : List X) → IsPlace (map shown pages) at q r → page ≡ get_or pages q page → IsPrefix front (drop r (shown page)) → IsPrefix front (drop at (joined (map shown pages)))
+  pub prefix_in : (pages : List P) (at q r : ℕ) (page : P) (front : List X) → IsPlace (map shown pages) at q r → page ≡ get_or pages q page → IsPrefix front (drop r (shown page)) → IsPrefix front (drop at (flattened (map shown pages)))
   prefix_in pages at q r page front w e b = (
-    b.0 ++ joined (drop (suc q) (map shown pages)),
-    w.rest ∙ (ap (λ l. drop r l ++ joined (drop (suc q) (map shown pages))) (part_read pages at q r page w e) ∙ (ap (λ l. l ++ joined (drop (suc q) (map shown pages))) b.1 ∙ append_assoc front b.0 (joined (drop (suc q) (map shown pages))))),
+    b.0 ++ flattened (drop (suc q) (map shown pages)),
+    w.rest ∙ (ap (λ l. drop r l ++ flattened (drop (suc q) (map shown pages))) (part_read pages at q r page w e) ∙ (ap (λ l. l ++ flattened (drop (suc q) (map shown pages))) b.1 ∙ append_assoc front b.0 (flattened (drop (suc q) (map shown pages))))),
   )
 
   -- a page is written, at r
-  pub whole_set : (n : ℕ) (pages : List P) (at : ℕ) (page new : P) (x : X) → 0 < n → IsPaged n (map shown pages) → at < length (joined (map shown pages)) → page ≡ get_or pages (at / n) page → shown new ≡ set (shown page) (at % n) x → joined (map shown (set pages (at / n) new)) ≡ set (joined (map shown pages)) at x
+  pub whole_set : (n : ℕ) (pages : List P) (at : ℕ) (page new : P) (x : X) → 0 < n → IsPaged n (map shown pages) → at < length (flattened (map shown pages)) → page ≡ get_or pages (at / n) page → shown new ≡ set (shown page) (at % n) x → flattened (map shown (set pages (at / n) new)) ≡ set (flattened (map shown pages)) at x
   whole_set n pages at page new x h paged held e is =
       let w : IsPlace (map shown pages) at (at / n) (at % n) = held_by n pages at h paged held in
-      ap joined (map-set shown pages (at / n) new)
-      ∙ (ap (λ l. joined (set (map shown pages) (at / n) l)) (is ∙ ap (λ l. set l (at % n) x) (sym (part_read pages at (at / n) (at % n) page w e)))
+      ap flattened (map-set shown pages (at / n) new)
+      ∙ (ap (λ l. flattened (set (map shown pages) (at / n) l)) (is ∙ ap (λ l. set l (at % n) x) (sym (part_read pages at (at / n) (at % n) page w e)))
       ∙ set_at_place n (map shown pages) (at / n) (at % n) at x paged (omega arith) (omega arith) held)
 
   -- a page is replaced by one of the same length
@@ -86,26 +86,26 @@ module _ {P X : Type 0} (shown : P → List X) where
       set_itself (x ∷ xs) (suc i) = ap (λ t. x ∷ t) (set_itself xs i)
 
   -- an item joins the page that has room
-  pub has_room : (n : ℕ) (pages : List P) (at : ℕ) (x : X) → 0 < n → IsPaged n (map shown pages) → at ≡ length (joined (map shown pages)) → at / n < length pages → IsPushed n (map shown pages) (at / n) (at % n) x
+  pub has_room : (n : ℕ) (pages : List P) (at : ℕ) (x : X) → 0 < n → IsPaged n (map shown pages) → at ≡ length (flattened (map shown pages)) → at / n < length pages → IsPushed n (map shown pages) (at / n) (at % n) x
   has_room n pages at x h paged end room =
       push_at_place n (map shown pages) (at / n) (at % n) x paged (omega arith) (omega arith) (omega (arith, length-map pages shown))
 
-  pub room_len : (n : ℕ) (pages : List P) (at : ℕ) (x : X) (page : P) → 0 < n → IsPaged n (map shown pages) → at ≡ length (joined (map shown pages)) → at / n < length pages → page ≡ get_or pages (at / n) page → at % n ≡ length (shown page)
+  pub room_len : (n : ℕ) (pages : List P) (at : ℕ) (x : X) (page : P) → 0 < n → IsPaged n (map shown pages) → at ≡ length (flattened (map shown pages)) → at / n < length pages → page ≡ get_or pages (at / n) page → at % n ≡ length (shown page)
   room_len n pages at x page h paged end room e =
       sym (has_room n pages at x h paged end room).part_len ∙ ap length (part_at pages (at / n) page room e)
 
-  pub whole_push : (n : ℕ) (pages : List P) (at : ℕ) (page new : P) (x : X) → 0 < n → IsPaged n (map shown pages) → at ≡ length (joined (map shown pages)) → at / n < length pages → page ≡ get_or pages (at / n) page → shown new ≡ shown page ++ x ∷ [] → (joined (map shown (set pages (at / n) new)) ≡ joined (map shown pages) ++ x ∷ []) × IsPaged n (map shown (set pages (at / n) new))
+  pub whole_push : (n : ℕ) (pages : List P) (at : ℕ) (page new : P) (x : X) → 0 < n → IsPaged n (map shown pages) → at ≡ length (flattened (map shown pages)) → at / n < length pages → page ≡ get_or pages (at / n) page → shown new ≡ shown page ++ x ∷ [] → (flattened (map shown (set pages (at / n) new)) ≡ flattened (map shown pages) ++ x ∷ []) × IsPaged n (map shown (set pages (at / n) new))
   whole_push n pages at page new x h paged end room e is =
       let w : IsPushed n (map shown pages) (at / n) (at % n) x = has_room n pages at x h paged end room in
       let same : map shown (set pages (at / n) new) ≡ set (map shown pages) (at / n) (get_or (map shown pages) (at / n) [] ++ x ∷ []) =
       map-set shown pages (at / n) new ∙ ap (λ l. set (map shown pages) (at / n) l) (is ∙ ap (λ l. l ++ x ∷ []) (sym (part_at pages (at / n) page room e))) in
-      (ap joined same ∙ w.whole, subst (IsPaged n) (sym same) w.paged)
+      (ap flattened same ∙ w.whole, subst (IsPaged n) (sym same) w.paged)
 
   -- an item in a new page
-  pub page_push : (n : ℕ) (pages : List P) (at : ℕ) (new : P) (x : X) → 0 < n → IsPaged n (map shown pages) → at ≡ length (joined (map shown pages)) → length pages ≤ at / n → shown new ≡ x ∷ [] → (joined (map shown (pages ++ new ∷ [])) ≡ joined (map shown pages) ++ x ∷ []) × IsPaged n (map shown (pages ++ new ∷ []))
+  pub page_push : (n : ℕ) (pages : List P) (at : ℕ) (new : P) (x : X) → 0 < n → IsPaged n (map shown pages) → at ≡ length (flattened (map shown pages)) → length pages ≤ at / n → shown new ≡ x ∷ [] → (flattened (map shown (pages ++ new ∷ [])) ≡ flattened (map shown pages) ++ x ∷ []) × IsPaged n (map shown (pages ++ new ∷ []))
   page_push n pages at new x h paged end room is =
       let same : map shown (pages ++ new ∷ []) ≡ map shown pages ++ (x ∷ []) ∷ [] =
       map_push shown pages new ∙ ap (λ l. map shown pages ++ l ∷ []) is in (
-        ap joined same ∙ joined_push (map shown pages) (x ∷ []),
+        ap flattened same ∙ flattened_push (map shown pages) (x ∷ []),
         subst (IsPaged n) (sym same) (paged_push n (map shown pages) (at / n) (at % n) (x ∷ []) paged (omega arith) (omega (arith, length-map pages shown)) (omega arith)),
       )

@@ -6,13 +6,13 @@ use Rattle.std.specs.List.Sorted.{IsSearchInRange, IsBinarySearchResult, IsNonDe
 use Rattle.std.specs.Ordering.{ordering_index}
 use Rattle.std.specs.declared.cmp.Ordering.{Ordering}
 use Rattle.std.specs.declared.cmp.Ordering.TheVariants.{Less, Equal, Greater}
-use Rattle.pages.specs.Pages.{joined}
+use Rattle.pages.specs.Pages.{flattened}
 use Rattle.pages.specs.Sorted.{start_of, IsSplit, IsHit, IsGap, starts_low}
 use Rattle.pages.proofs.Spots.{AreSome, low_before, hit_in, gap_in}
 use Rattle.pages.proofs.Pieces.{part_at}
 
 module _ {P X : Type 0} (shown : P → List X) (order : X → Ordering) where
-  pub parted : (pages : List P) → AreSome (map shown pages) → IsSplit order (joined (map shown pages)) → IsPartitionedBy (λ p. starts_low order (shown p)) pages
+  pub parted : (pages : List P) → AreSome (map shown pages) → IsSplit order (flattened (map shown pages)) → IsPartitionedBy (λ p. starts_low order (shown p)) pages
   parted pages kept split i j d l h e =
       subst (λ t. starts_low order t ≡ true) (get_or-map shown pages i d [] (omega arith))
       (low_before order (map shown pages) i j kept split l (omega (arith, length-map pages shown))
@@ -67,11 +67,11 @@ module _ {P X : Type 0} (shown : P → List X) (order : X → Ordering) (pages :
   among : k < length (map shown pages)
   among = omega (arith, length-map pages shown)
 
-  pub found_in : (at : ℕ) → IsHit order (shown page) at → IsHit order (joined (map shown pages)) (start_of (map shown pages) k + at)
+  pub found_in : (at : ℕ) → IsHit order (shown page) at → IsHit order (flattened (map shown pages)) (start_of (map shown pages) k + at)
   found_in at h =
       let w : IsHit order (get_or (map shown pages) k []) at = subst (λ l. IsHit order l at) (sym (part_at shown pages k page within is)) h in
       hit_in order (map shown pages) k at among w.inside w.same
 
-  pub absent_in : (at : ℕ) → AreSome (map shown pages) → IsSplit order (joined (map shown pages)) → starts_low order (get_or (map shown pages) k []) ≡ true → ((j : ℕ) → suc k ≤ j → j < length (map shown pages) → starts_low order (get_or (map shown pages) j []) ≡ false) → IsGap order (shown page) at → IsGap order (joined (map shown pages)) (start_of (map shown pages) k + at)
+  pub absent_in : (at : ℕ) → AreSome (map shown pages) → IsSplit order (flattened (map shown pages)) → starts_low order (get_or (map shown pages) k []) ≡ true → ((j : ℕ) → suc k ≤ j → j < length (map shown pages) → starts_low order (get_or (map shown pages) j []) ≡ false) → IsGap order (shown page) at → IsGap order (flattened (map shown pages)) (start_of (map shown pages) k + at)
   absent_in at kept split low high h =
       gap_in order (map shown pages) k at kept split among (subst (λ l. IsGap order l at) (sym (part_at shown pages k page within is)) h) low high

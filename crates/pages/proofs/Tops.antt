@@ -4,7 +4,7 @@ use Rattle.std.specs.List.{AllZip}
 use Rattle.std.proofs.lemmas.List.{get_or-drop}
 use Rattle.std.specs.Arc.{arc_value}
 use Rattle.std.proofs.lemmas.List.Elements.{AllZip-get_or, length_all_zip}
-use Rattle.pages.specs.Pages.{Page, leaf_list, branch_list, branch_lists, joined, IsPaged, IsBranch, AreBranches, IsPrefix}
+use Rattle.pages.specs.Pages.{Page, leaf_list, branch_list, branch_lists, flattened, IsPaged, IsBranch, AreBranches, IsPrefix}
 use Rattle.pages.proofs.Clones.{zip_items}
 use Rattle.pages.proofs.Pieces.{get_drop}
 
@@ -24,7 +24,7 @@ SamePage c d = arc_value d ≡ arc_value c
 
 module _ {E X : Type 0} (item : E → X) where
   same_list : (x y : Page (Page E)) → SamePage x y → branch_list item y ≡ branch_list item x
-  same_list x y e = ap (λ (u : Vec (Page E) Global). joined (map (leaf_list item) u.items)) e
+  same_list x y e = ap (λ (u : Vec (Page E) Global). flattened (map (leaf_list item) u.items)) e
 
   same_branch : (n : ℕ) (x y : Page (Page E)) → SamePage x y → IsBranch item n x → IsBranch item n y
   same_branch n x y e h = subst (λ (u : Vec (Page E) Global). IsPaged n (map (leaf_list item) u.items)) (sym e) h

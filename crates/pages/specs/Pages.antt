@@ -6,9 +6,9 @@ use Rattle.std.proofs.Common.{Global}
 use Rattle.pages.specs.declared.page.TheConstants.{FAN}
 
 -- the lists, one after another
-abbrev pub joined : {X : Type 0} → List (List X) → List X
-joined [] = []
-joined (part ∷ parts) = part ++ joined parts
+abbrev pub flattened : {X : Type 0} → List (List X) → List X
+flattened [] = []
+flattened (part ∷ parts) = part ++ flattened parts
 
 -- each part but the last has this many items, and the last has at most as many
 abbrev pub IsPaged : {X : Type 0} → ℕ → List (List X) → Type 0
@@ -23,6 +23,10 @@ IsPrefix {X} front xs = (rest : List X) × (xs ≡ front ++ rest)
 -- the list with what stands at a place changed
 abbrev pub IsChanged : {X : Type 0} → (X → X) → List X → ℕ → List X → Type 0
 IsChanged {X} after old at new = (d : X) → new ≡ slice_set old at (after (slice_index_or old at d))
+
+-- the list, where what stands at a place may be another
+abbrev pub IsSetAt : {X : Type 0} → List X → ℕ → List X → Type 0
+IsSetAt {X} old at new = (x : X) × (new ≡ slice_set old at x)
 
 -- a leaf may have this many entries
 abbrev pub IsLeafSize : ℕ → Type 0
@@ -40,19 +44,27 @@ module _ {E X : Type 0} (item : E → X) where
   abbrev pub leaf_lists : List (Page E) → List (List X)
   leaf_lists leaves = map leaf_list leaves
 
+  -- the entries of leaves
+  abbrev pub leaves_list : List (Page E) → List X
+  leaves_list leaves = flattened (leaf_lists leaves)
+
   -- the lists of the leaves of a branch
   abbrev pub branch_parts : Page (Page E) → List (List X)
   branch_parts branch = leaf_lists (arc_value branch).items
 
   abbrev pub branch_list : Page (Page E) → List X
-  branch_list branch = joined (branch_parts branch)
+  branch_list branch = flattened (branch_parts branch)
 
   -- the lists of the branches
   abbrev pub branch_lists : List (Page (Page E)) → List (List X)
   branch_lists branches = map branch_list branches
 
+  -- the entries of branches
+  abbrev pub branches_list : List (Page (Page E)) → List X
+  branches_list branches = flattened (branch_lists branches)
+
   abbrev pub top_list : Page (Page (Page E)) → List X
-  top_list top = joined (branch_lists (arc_value top).items)
+  top_list top = flattened (branch_lists (arc_value top).items)
 
   -- the lists of the pages of each group
   abbrev pub groups_of : List (Page (Page E)) → List (List (List X))

@@ -2,7 +2,7 @@
 //! copied first.
 
 ghost use Rattle.std.specs.Prelude.{◌≡◌, ◌<◌, length, OnOk};
-ghost use Rattle.pages.specs.Pages.{leaf_list, leaf_lists, branch_list, branch_parts, branch_lists, top_list, joined, IsLeafSize, IsPaged, IsBranch, AreBranches, IsTop, IsChanged};
+ghost use Rattle.pages.specs.Pages.{leaf_list, leaf_lists, leaves_list, branch_list, branch_parts, branch_lists, branches_list, top_list, IsLeafSize, IsPaged, IsBranch, AreBranches, IsTop, IsChanged, IsSetAt};
 
 use crate::Entry;
 use crate::page::{Branch, FAN, Leaf, Top};
@@ -26,6 +26,7 @@ fn change_in_leaf<E: Entry, C: Change<E>>(
     requires { at < length (leaf_list E.item leaf.old) }
     ensures ok { OnOk result (IsChanged (C.after change.now) (leaf_list E.item leaf.old) at
         (leaf_list E.item leaf.new)) }
+    ensures others { IsSetAt (leaf_list E.item leaf.old) at (leaf_list E.item leaf.new) }
     ensures count { length (leaf_list E.item leaf.new) ≡ length (leaf_list E.item leaf.old) }
 {
     let own = Arc::make_mut(leaf)?;
@@ -39,12 +40,13 @@ fn change_in_leaves<E: Entry, const LEAF: usize, C: Change<E>>(
 ) -> Result<(), AllocError>
     requires size { IsLeafSize LEAF }
     requires paged { IsPaged LEAF (leaf_lists E.item leaves.old.items) }
-    requires held { at < length (joined (leaf_lists E.item leaves.old.items)) }
+    requires held { at < length (leaves_list E.item leaves.old.items) }
     ensures ok { OnOk result (IsChanged (C.after change.now)
-        (joined (leaf_lists E.item leaves.old.items)) at
-        (joined (leaf_lists E.item leaves.new.items))) }
-    ensures count { length (joined (leaf_lists E.item leaves.new.items))
-        ≡ length (joined (leaf_lists E.item leaves.old.items)) }
+        (leaves_list E.item leaves.old.items) at (leaves_list E.item leaves.new.items)) }
+    ensures others { IsSetAt (leaves_list E.item leaves.old.items) at
+        (leaves_list E.item leaves.new.items) }
+    ensures count { length (leaves_list E.item leaves.new.items)
+        ≡ length (leaves_list E.item leaves.old.items) }
     ensures paged { IsPaged LEAF (leaf_lists E.item leaves.new.items) }
 {
     change_in_leaf(&mut leaves[at / LEAF], at % LEAF, change)
@@ -60,6 +62,7 @@ fn change_in_branch<E: Entry, const LEAF: usize, C: Change<E>>(
     requires held { at < length (branch_list E.item branch.old) }
     ensures ok { OnOk result (IsChanged (C.after change.now) (branch_list E.item branch.old) at
         (branch_list E.item branch.new)) }
+    ensures others { IsSetAt (branch_list E.item branch.old) at (branch_list E.item branch.new) }
     ensures count { length (branch_list E.item branch.new)
         ≡ length (branch_list E.item branch.old) }
     ensures paged { IsBranch E.item LEAF branch.new }
@@ -75,12 +78,13 @@ fn change_in_branches<E: Entry, const LEAF: usize, C: Change<E>>(
 ) -> Result<(), AllocError>
     requires size { IsLeafSize LEAF }
     requires branches { AreBranches E.item LEAF branches.old.items }
-    requires held { at < length (joined (branch_lists E.item branches.old.items)) }
+    requires held { at < length (branches_list E.item branches.old.items) }
     ensures ok { OnOk result (IsChanged (C.after change.now)
-        (joined (branch_lists E.item branches.old.items)) at
-        (joined (branch_lists E.item branches.new.items))) }
-    ensures count { length (joined (branch_lists E.item branches.new.items))
-        ≡ length (joined (branch_lists E.item branches.old.items)) }
+        (branches_list E.item branches.old.items) at (branches_list E.item branches.new.items)) }
+    ensures others { IsSetAt (branches_list E.item branches.old.items) at
+        (branches_list E.item branches.new.items) }
+    ensures count { length (branches_list E.item branches.new.items)
+        ≡ length (branches_list E.item branches.old.items) }
     ensures branches { AreBranches E.item LEAF branches.new.items }
 {
     change_in_branch::<E, LEAF, C>(&mut branches[at / (LEAF * FAN)], at % (LEAF * FAN), change)
@@ -97,6 +101,7 @@ pub(crate) fn change_in_top<E: Entry, const LEAF: usize, C: Change<E>>(
     requires held { at < length (top_list E.item top.old) }
     ensures ok { OnOk result (IsChanged (C.after change.now) (top_list E.item top.old) at
         (top_list E.item top.new)) }
+    ensures others { IsSetAt (top_list E.item top.old) at (top_list E.item top.new) }
     ensures count { length (top_list E.item top.new) ≡ length (top_list E.item top.old) }
     ensures top { IsTop E.item LEAF top.new }
 {

@@ -2,8 +2,8 @@
 
 ghost use Rattle.std.specs.Prelude.{◌≡◌, ℕ, ◌+◌, ◌<◌, ◌≤◌, [], ◌++◌, length, map, slice_index_or, slice_set, IfOk, OnOk, OnErr};
 ghost use Rattle.std.specs.List.{insert};
-ghost use Rattle.pages.specs.Pages.{leaf_list, leaf_lists, branch_parts, groups_of, top_groups, joined};
-ghost use Rattle.pages.specs.Sorted.{start_of, place_in, place_of, put_in, set_in, put_at, set_at, IsSpotIn, IsSpot, HasEntryIn, HasEntry, IsKept, AreKept, IsGroup, AreGroups, entries_of};
+ghost use Rattle.pages.specs.Pages.{leaf_list, leaf_lists, leaves_list, branch_list, branch_parts, groups_of, top_groups};
+ghost use Rattle.pages.specs.Sorted.{start_of, groups_list, top_entries, put_in, set_in, put_at, set_at, IsSpotIn, IsSpot, HasEntryIn, HasEntry, FitsPage, EachFitsPage, IsGroup, AreGroups};
 
 use crate::page::{Branch, FAN, FULL, Leaf, Top, branch_of, set_in_leaf};
 use crate::{Entry, Spot};
@@ -13,7 +13,7 @@ use std::sync::Arc;
 fn set_in_pages<E: Entry>(pages: &mut Vec<Leaf<E>>, spot: Spot, x: E) -> Result<(), AllocError>
     requires group { IsGroup (leaf_lists E.item pages.old.items) }
     requires entry { HasEntryIn (leaf_lists E.item pages.old.items) spot }
-    ensures ok { OnOk result (joined (leaf_lists E.item pages.new.items)
+    ensures ok { OnOk result (leaves_list E.item pages.new.items
         ≡ set_in (leaf_lists E.item pages.old.items) spot (E.item x)) }
     ensures err { OnErr result (leaf_lists E.item pages.new.items
         ≡ leaf_lists E.item pages.old.items) }
@@ -25,7 +25,7 @@ fn set_in_pages<E: Entry>(pages: &mut Vec<Leaf<E>>, spot: Spot, x: E) -> Result<
 fn set_in_group<E: Entry>(group: &mut Branch<E>, spot: Spot, x: E) -> Result<(), AllocError>
     requires group { IsGroup (branch_parts E.item group.old) }
     requires entry { HasEntryIn (branch_parts E.item group.old) spot }
-    ensures ok { OnOk result (joined (branch_parts E.item group.new)
+    ensures ok { OnOk result (branch_list E.item group.new
         ≡ set_in (branch_parts E.item group.old) spot (E.item x)) }
     ensures err { OnErr result (branch_parts E.item group.new ≡ branch_parts E.item group.old) }
     ensures group { IsGroup (branch_parts E.item group.new) }
@@ -37,7 +37,7 @@ fn set_in_group<E: Entry>(group: &mut Branch<E>, spot: Spot, x: E) -> Result<(),
 fn set_in_groups<E: Entry>(groups: &mut Vec<Branch<E>>, spot: Spot, x: E) -> Result<(), AllocError>
     requires groups { AreGroups (groups_of E.item groups.old.items) }
     requires entry { HasEntry (groups_of E.item groups.old.items) spot }
-    ensures ok { OnOk result (entries_of (groups_of E.item groups.new.items)
+    ensures ok { OnOk result (groups_list E.item groups.new.items
         ≡ set_at (groups_of E.item groups.old.items) spot (E.item x)) }
     ensures err { OnErr result (groups_of E.item groups.new.items
         ≡ groups_of E.item groups.old.items) }
@@ -50,7 +50,7 @@ fn set_in_groups<E: Entry>(groups: &mut Vec<Branch<E>>, spot: Spot, x: E) -> Res
 pub(crate) fn replace_at<E: Entry>(top: &mut Top<E>, spot: Spot, x: E) -> Result<(), AllocError>
     requires groups { AreGroups (top_groups E.item top.old) }
     requires entry { HasEntry (top_groups E.item top.old) spot }
-    ensures ok { OnOk result (entries_of (top_groups E.item top.new)
+    ensures ok { OnOk result (top_entries E.item top.new
         ≡ set_at (top_groups E.item top.old) spot (E.item x)) }
     ensures err { OnErr result (top_groups E.item top.new ≡ top_groups E.item top.old) }
     ensures groups { AreGroups (top_groups E.item top.new) }
@@ -77,8 +77,8 @@ fn halves_with<E: Entry>(page: &Vec<E>, at: usize, x: E) -> Result<(Vec<E>, Vec<
     requires full { length page.now.items ≡ FULL }
     ensures whole { IfOk result (λ p. map E.item p.0.items ++ map E.item p.1.items
         ≡ insert (map E.item page.now.items) at (E.item x)) }
-    ensures kept { IfOk result (λ p.
-        IsKept (map E.item p.0.items) × IsKept (map E.item p.1.items)) }
+    ensures fits { IfOk result (λ p.
+        FitsPage (map E.item p.0.items) × FitsPage (map E.item p.1.items)) }
 {
     let mut left = with_entry(page, at, x)?;
     let right = left.split_off(FULL / 2)?;
@@ -109,8 +109,8 @@ fn insert_in_full_page<E: Entry>(
     requires within { page < length pages.old.items }
     requires full { length (slice_index_or (leaf_lists E.item pages.old.items) page []) ≡ FULL }
     requires inside { at ≤ FULL }
-    ensures ok { OnOk result (joined (leaf_lists E.item pages.new.items)
-        ≡ insert (joined (leaf_lists E.item pages.old.items))
+    ensures ok { OnOk result (leaves_list E.item pages.new.items
+        ≡ insert (leaves_list E.item pages.old.items)
         (start_of (leaf_lists E.item pages.old.items) page + at) (E.item x)) }
     ensures err { OnErr result (leaf_lists E.item pages.new.items
         ≡ leaf_lists E.item pages.old.items) }
@@ -134,7 +134,7 @@ fn insert_in_pages<E: Entry>(
 ) -> Result<(), AllocError>
     requires group { IsGroup (leaf_lists E.item pages.old.items) }
     requires spot { IsSpotIn (leaf_lists E.item pages.old.items) spot }
-    ensures ok { OnOk result (joined (leaf_lists E.item pages.new.items)
+    ensures ok { OnOk result (leaves_list E.item pages.new.items
         ≡ put_in (leaf_lists E.item pages.old.items) spot (E.item x)) }
     ensures err { OnErr result (leaf_lists E.item pages.new.items
         ≡ leaf_lists E.item pages.old.items) }
@@ -156,7 +156,7 @@ fn insert_in_group<E: Entry>(
 ) -> Result<(), AllocError>
     requires group { IsGroup (branch_parts E.item group.old) }
     requires spot { IsSpotIn (branch_parts E.item group.old) spot }
-    ensures ok { OnOk result (joined (branch_parts E.item group.new)
+    ensures ok { OnOk result (branch_list E.item group.new
         ≡ put_in (branch_parts E.item group.old) spot (E.item x)) }
     ensures err { OnErr result (branch_parts E.item group.new ≡ branch_parts E.item group.old) }
     ensures group { IsGroup (branch_parts E.item group.new) }
@@ -175,8 +175,7 @@ fn group_halves_with<E: Entry>(
     requires group { IsGroup (leaf_lists E.item group.now.items) }
     requires spot { IsSpotIn (leaf_lists E.item group.now.items) spot }
     requires full { FAN ≤ length group.now.items }
-    ensures whole { IfOk result (λ p.
-        joined (leaf_lists E.item p.0.items) ++ joined (leaf_lists E.item p.1.items)
+    ensures whole { IfOk result (λ p. leaves_list E.item p.0.items ++ leaves_list E.item p.1.items
         ≡ put_in (leaf_lists E.item group.now.items) spot (E.item x)) }
     ensures groups { IfOk result (λ p.
         IsGroup (leaf_lists E.item p.0.items) × IsGroup (leaf_lists E.item p.1.items)) }
@@ -200,7 +199,7 @@ fn insert_in_full_group<E: Entry>(
         (slice_index_or (groups_of E.item groups.old.items) spot.group []) spot }
     requires full { FAN
         ≤ length (slice_index_or (groups_of E.item groups.old.items) spot.group []) }
-    ensures ok { OnOk result (entries_of (groups_of E.item groups.new.items)
+    ensures ok { OnOk result (groups_list E.item groups.new.items
         ≡ put_at (groups_of E.item groups.old.items) spot (E.item x)) }
     ensures err { OnErr result (groups_of E.item groups.new.items
         ≡ groups_of E.item groups.old.items) }
@@ -223,7 +222,7 @@ fn insert_in_groups<E: Entry>(
 ) -> Result<(), AllocError>
     requires groups { AreGroups (groups_of E.item groups.old.items) }
     requires spot { IsSpot (groups_of E.item groups.old.items) spot }
-    ensures ok { OnOk result (entries_of (groups_of E.item groups.new.items)
+    ensures ok { OnOk result (groups_list E.item groups.new.items
         ≡ put_at (groups_of E.item groups.old.items) spot (E.item x)) }
     ensures err { OnErr result (groups_of E.item groups.new.items
         ≡ groups_of E.item groups.old.items) }
@@ -249,7 +248,7 @@ pub(crate) fn insert_at<E: Entry>(
 ) -> Result<(), AllocError>
     requires groups { AreGroups (top_groups E.item top.old) }
     requires spot { IsSpot (top_groups E.item top.old) spot }
-    ensures ok { OnOk result (entries_of (top_groups E.item top.new)
+    ensures ok { OnOk result (top_entries E.item top.new
         ≡ put_at (top_groups E.item top.old) spot (E.item x)) }
     ensures err { OnErr result (top_groups E.item top.new ≡ top_groups E.item top.old) }
     ensures groups { AreGroups (top_groups E.item top.new) }

@@ -8,7 +8,7 @@
 //! and neither of the two sees what is written to the other. A version that is dropped gives up the
 //! pages that it alone held.
 //!
-//! ```text
+//! ```
 //! let mut list = PagedList::<u32, 16>::new(alloc)?;
 //! list.push(alloc, 10)?;
 //! list.push(alloc, 20)?;

@@ -1,7 +1,7 @@
 //! A list in pages that versions share.
 
 ghost use Rattle.std.specs.Prelude.{◌≡◌, ◌<◌, ◌≤◌, ◌++◌, [], ◌∷◌, length, drop, map, slice_get, slice_set, slice_index_or, Some, IfSome, IfNone, IfOk, OnOk, OnErr};
-ghost use Rattle.pages.specs.Pages.{IsLeafSize, IsPrefix, IsChanged};
+ghost use Rattle.pages.specs.Pages.{IsLeafSize, IsPrefix, IsChanged, IsSetAt};
 
 use crate::Entry;
 use crate::change::{Change, change_in_top};
@@ -110,6 +110,7 @@ impl<E: Entry, const LEAF: usize> PagedList<E, LEAF> {
     pub fn change<C: Change<E>>(&mut self, i: usize, change: &C) -> Result<(), AllocError>
         requires { i < length self.old }
         ensures ok { OnOk result (IsChanged (C.after change.now) self.old i self.new) }
+        ensures others { IsSetAt self.old i self.new }
         ensures count { length self.new ≡ length self.old }
     {
         change_in_top::<E, LEAF, C>(&mut self.top, i, change)

@@ -1,7 +1,7 @@
 //! Pages, and pages of pages: a write copies those on its way that another version holds.
 
 ghost use Rattle.std.specs.Prelude.{◌≡◌, ◌+◌, ◌<◌, [], ◌∷◌, ◌++◌, length, map, drop, slice_set, IfOk, OnOk, OnErr};
-ghost use Rattle.pages.specs.Pages.{leaf_list, leaf_lists, branch_list, branch_parts, branch_lists, top_list, joined, IsLeafSize, IsPaged, IsBranch, AreBranches, IsTop, IsPrefix};
+ghost use Rattle.pages.specs.Pages.{leaf_list, leaf_lists, leaves_list, branch_list, branch_parts, branch_lists, branches_list, top_list, IsLeafSize, IsPaged, IsBranch, AreBranches, IsTop, IsPrefix};
 
 use crate::Entry;
 use std::alloc::{AllocError, Global};
@@ -29,10 +29,9 @@ pub(crate) fn leaf_from<E>(leaf: &[E], at: usize) -> &[E]
 fn branch_from<E: Entry, const LEAF: usize>(branch: &[Leaf<E>], at: usize) -> &[E]
     requires size { IsLeafSize LEAF }
     requires paged { IsPaged LEAF (leaf_lists E.item branch.now) }
-    requires held { at < length (joined (leaf_lists E.item branch.now)) }
+    requires held { at < length (leaves_list E.item branch.now) }
     ensures some { 0 < length result.now }
-    ensures prefix { IsPrefix (map E.item result.now)
-        (drop at (joined (leaf_lists E.item branch.now))) }
+    ensures prefix { IsPrefix (map E.item result.now) (drop at (leaves_list E.item branch.now)) }
 {
     leaf_from(branch[at / LEAF].as_slice(), at % LEAF)
 }
@@ -41,10 +40,9 @@ fn branch_from<E: Entry, const LEAF: usize>(branch: &[Leaf<E>], at: usize) -> &[
 pub(crate) fn top_from<E: Entry, const LEAF: usize>(top: &[Branch<E>], at: usize) -> &[E]
     requires size { IsLeafSize LEAF }
     requires branches { AreBranches E.item LEAF top.now }
-    requires held { at < length (joined (branch_lists E.item top.now)) }
+    requires held { at < length (branches_list E.item top.now) }
     ensures some { 0 < length result.now }
-    ensures prefix { IsPrefix (map E.item result.now)
-        (drop at (joined (branch_lists E.item top.now))) }
+    ensures prefix { IsPrefix (map E.item result.now) (drop at (branches_list E.item top.now)) }
 {
     branch_from::<E, LEAF>(top[at / (LEAF * FAN)].as_slice(), at % (LEAF * FAN))
 }
@@ -67,9 +65,9 @@ fn set_in_leaves<E: Entry, const LEAF: usize>(
 ) -> Result<(), AllocError>
     requires size { IsLeafSize LEAF }
     requires paged { IsPaged LEAF (leaf_lists E.item leaves.old.items) }
-    requires held { at < length (joined (leaf_lists E.item leaves.old.items)) }
-    ensures ok { OnOk result (joined (leaf_lists E.item leaves.new.items)
-        ≡ slice_set (joined (leaf_lists E.item leaves.old.items)) at (E.item x)) }
+    requires held { at < length (leaves_list E.item leaves.old.items) }
+    ensures ok { OnOk result (leaves_list E.item leaves.new.items
+        ≡ slice_set (leaves_list E.item leaves.old.items) at (E.item x)) }
     ensures err { OnErr result (leaf_lists E.item leaves.new.items
         ≡ leaf_lists E.item leaves.old.items) }
     ensures paged { IsPaged LEAF (leaf_lists E.item leaves.new.items) }
@@ -101,11 +99,11 @@ fn set_in_branches<E: Entry, const LEAF: usize>(
 ) -> Result<(), AllocError>
     requires size { IsLeafSize LEAF }
     requires branches { AreBranches E.item LEAF branches.old.items }
-    requires held { at < length (joined (branch_lists E.item branches.old.items)) }
-    ensures ok { OnOk result (joined (branch_lists E.item branches.new.items)
-        ≡ slice_set (joined (branch_lists E.item branches.old.items)) at (E.item x)) }
-    ensures err { OnErr result (joined (branch_lists E.item branches.new.items)
-        ≡ joined (branch_lists E.item branches.old.items)) }
+    requires held { at < length (branches_list E.item branches.old.items) }
+    ensures ok { OnOk result (branches_list E.item branches.new.items
+        ≡ slice_set (branches_list E.item branches.old.items) at (E.item x)) }
+    ensures err { OnErr result (branches_list E.item branches.new.items
+        ≡ branches_list E.item branches.old.items) }
     ensures branches { AreBranches E.item LEAF branches.new.items }
 {
     set_in_branch::<E, LEAF>(&mut branches[at / (LEAF * FAN)], at % (LEAF * FAN), x)
@@ -163,9 +161,9 @@ fn push_to_leaves<E: Entry, const LEAF: usize>(
 ) -> Result<(), AllocError>
     requires size { IsLeafSize LEAF }
     requires paged { IsPaged LEAF (leaf_lists E.item leaves.old.items) }
-    requires end { at ≡ length (joined (leaf_lists E.item leaves.old.items)) }
-    ensures ok { OnOk result (joined (leaf_lists E.item leaves.new.items)
-        ≡ joined (leaf_lists E.item leaves.old.items) ++ E.item x ∷ []) }
+    requires end { at ≡ length (leaves_list E.item leaves.old.items) }
+    ensures ok { OnOk result (leaves_list E.item leaves.new.items
+        ≡ leaves_list E.item leaves.old.items ++ E.item x ∷ []) }
     ensures err { OnErr result (leaf_lists E.item leaves.new.items
         ≡ leaf_lists E.item leaves.old.items) }
     ensures paged { IsPaged LEAF (leaf_lists E.item leaves.new.items) }
@@ -203,11 +201,11 @@ fn push_to_branches<E: Entry, const LEAF: usize>(
 ) -> Result<(), AllocError>
     requires size { IsLeafSize LEAF }
     requires branches { AreBranches E.item LEAF branches.old.items }
-    requires end { at ≡ length (joined (branch_lists E.item branches.old.items)) }
-    ensures ok { OnOk result (joined (branch_lists E.item branches.new.items)
-        ≡ joined (branch_lists E.item branches.old.items) ++ E.item x ∷ []) }
-    ensures err { OnErr result (joined (branch_lists E.item branches.new.items)
-        ≡ joined (branch_lists E.item branches.old.items)) }
+    requires end { at ≡ length (branches_list E.item branches.old.items) }
+    ensures ok { OnOk result (branches_list E.item branches.new.items
+        ≡ branches_list E.item branches.old.items ++ E.item x ∷ []) }
+    ensures err { OnErr result (branches_list E.item branches.new.items
+        ≡ branches_list E.item branches.old.items) }
     ensures branches { AreBranches E.item LEAF branches.new.items }
 {
     if at / (LEAF * FAN) < branches.len() {

@@ -1,8 +1,8 @@
-//! Places of spots among all entries, and the entries at places behind a spot.
+//! Places of spots among all entries, and the entries at places after a spot.
 
 ghost use Rattle.std.specs.Prelude.{◌≡◌, ◌+◌, ◌<◌, ◌≤◌, ◌^◌, length, map, slice_get, Some};
-ghost use Rattle.pages.specs.Pages.{leaf_lists, groups_of, joined};
-ghost use Rattle.pages.specs.Sorted.{start_of, place_of, IsSpot, AreGroups, entries_of};
+ghost use Rattle.pages.specs.Pages.{leaf_lists, leaves_list, groups_of, flattened};
+ghost use Rattle.pages.specs.Sorted.{start_of, place_in_groups, groups_list, IsSpot, AreGroups};
 
 use crate::page::{Branch, Leaf};
 use crate::search::entry_of;
@@ -12,7 +12,7 @@ use crate::{Entry, Spot};
 /// How many entries stand in the pages before one.
 fn start_in_pages<E: Entry>(pages: &[Leaf<E>], page: usize) -> usize
     requires within { page ≤ length pages.now }
-    requires few { length (joined (leaf_lists E.item pages.now)) < 2 ^ 64 }
+    requires few { length (leaves_list E.item pages.now) < 2 ^ 64 }
     ensures { result ≡ start_of (leaf_lists E.item pages.now) page }
 {
     let mut count = 0;
@@ -27,8 +27,8 @@ fn start_in_pages<E: Entry>(pages: &[Leaf<E>], page: usize) -> usize
 /// How many entries stand in the groups before one.
 fn start_in_groups<E: Entry>(groups: &[Branch<E>], group: usize) -> usize
     requires within { group ≤ length groups.now }
-    requires few { length (entries_of (groups_of E.item groups.now)) < 2 ^ 64 }
-    ensures { result ≡ start_of (map joined (groups_of E.item groups.now)) group }
+    requires few { length (groups_list E.item groups.now) < 2 ^ 64 }
+    ensures { result ≡ start_of (map flattened (groups_of E.item groups.now)) group }
 {
     let mut count = 0;
     let mut k = 0;
@@ -44,8 +44,8 @@ fn start_in_groups<E: Entry>(groups: &[Branch<E>], group: usize) -> usize
 pub(crate) fn place_at<E: Entry>(groups: &[Branch<E>], spot: Spot) -> usize
     requires groups { AreGroups (groups_of E.item groups.now) }
     requires spot { IsSpot (groups_of E.item groups.now) spot }
-    requires few { length (entries_of (groups_of E.item groups.now)) < 2 ^ 64 }
-    ensures { result ≡ place_of (groups_of E.item groups.now) spot }
+    requires few { length (groups_list E.item groups.now) < 2 ^ 64 }
+    ensures { result ≡ place_in_groups E.item groups.now spot }
 {
     if groups.is_empty() {
         return 0;
@@ -54,14 +54,13 @@ pub(crate) fn place_at<E: Entry>(groups: &[Branch<E>], spot: Spot) -> usize
     start_in_groups(groups, spot.group) + (start_in_pages(pages, spot.page) + spot.at)
 }
 
-/// The entry so many places behind a spot: it goes over the pages between.
+/// The entry so many places after a spot: it goes over the pages between.
 pub(crate) fn entry_after<E: Entry>(groups: &[Branch<E>], spot: Spot, n: usize) -> &E
     requires groups { AreGroups (groups_of E.item groups.now) }
     requires spot { IsSpot (groups_of E.item groups.now) spot }
-    requires held { place_of (groups_of E.item groups.now) spot + n
-        < length (entries_of (groups_of E.item groups.now)) }
-    ensures { slice_get (entries_of (groups_of E.item groups.now))
-        (place_of (groups_of E.item groups.now) spot + n)
+    requires held { place_in_groups E.item groups.now spot + n
+        < length (groups_list E.item groups.now) }
+    ensures { slice_get (groups_list E.item groups.now) (place_in_groups E.item groups.now spot + n)
         ≡ Some (E.item result.now) }
 {
     let mut spot = spot;

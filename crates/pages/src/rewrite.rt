@@ -2,8 +2,8 @@
 //! are copied first.
 
 ghost use Rattle.std.specs.Prelude.{◌≡◌, ◌<◌, length, OnOk, OnErr};
-ghost use Rattle.pages.specs.Pages.{leaf_list, leaf_lists, branch_parts, groups_of, top_groups, joined, IsChanged};
-ghost use Rattle.pages.specs.Sorted.{place_in, place_of, HasEntryIn, HasEntry, IsGroup, AreGroups, entries_of};
+ghost use Rattle.pages.specs.Pages.{leaf_list, leaf_lists, branch_parts, groups_of, top_groups, IsChanged};
+ghost use Rattle.pages.specs.Sorted.{IsChangedIn, IsChangedAt, HasEntryIn, HasEntry, IsGroup, AreGroups};
 
 use crate::page::{Branch, Leaf, Top};
 use crate::{Entry, Spot};
@@ -41,10 +41,8 @@ fn change_in_pages<E: Entry, C: WholeChange<E>>(
 ) -> Result<(), AllocError>
     requires group { IsGroup (leaf_lists E.item pages.old.items) }
     requires entry { HasEntryIn (leaf_lists E.item pages.old.items) spot }
-    ensures ok { OnOk result (IsChanged (C.after change.now)
-        (joined (leaf_lists E.item pages.old.items))
-        (place_in (leaf_lists E.item pages.old.items) spot)
-        (joined (leaf_lists E.item pages.new.items))) }
+    ensures ok { OnOk result (IsChangedIn (C.after change.now) (leaf_lists E.item pages.old.items)
+        spot (leaf_lists E.item pages.new.items)) }
     ensures err { OnErr result (leaf_lists E.item pages.new.items
         ≡ leaf_lists E.item pages.old.items) }
     ensures group { IsGroup (leaf_lists E.item pages.new.items) }
@@ -59,10 +57,8 @@ fn change_in_group<E: Entry, C: WholeChange<E>>(
 ) -> Result<(), AllocError>
     requires group { IsGroup (branch_parts E.item group.old) }
     requires entry { HasEntryIn (branch_parts E.item group.old) spot }
-    ensures ok { OnOk result (IsChanged (C.after change.now)
-        (joined (branch_parts E.item group.old))
-        (place_in (branch_parts E.item group.old) spot)
-        (joined (branch_parts E.item group.new))) }
+    ensures ok { OnOk result (IsChangedIn (C.after change.now) (branch_parts E.item group.old) spot
+        (branch_parts E.item group.new)) }
     ensures err { OnErr result (branch_parts E.item group.new ≡ branch_parts E.item group.old) }
     ensures group { IsGroup (branch_parts E.item group.new) }
 {
@@ -77,10 +73,8 @@ fn change_in_groups<E: Entry, C: WholeChange<E>>(
 ) -> Result<(), AllocError>
     requires groups { AreGroups (groups_of E.item groups.old.items) }
     requires entry { HasEntry (groups_of E.item groups.old.items) spot }
-    ensures ok { OnOk result (IsChanged (C.after change.now)
-        (entries_of (groups_of E.item groups.old.items))
-        (place_of (groups_of E.item groups.old.items) spot)
-        (entries_of (groups_of E.item groups.new.items))) }
+    ensures ok { OnOk result (IsChangedAt (C.after change.now) (groups_of E.item groups.old.items)
+        spot (groups_of E.item groups.new.items)) }
     ensures err { OnErr result (groups_of E.item groups.new.items
         ≡ groups_of E.item groups.old.items) }
     ensures groups { AreGroups (groups_of E.item groups.new.items) }
@@ -96,10 +90,8 @@ pub(crate) fn change_at<E: Entry, C: WholeChange<E>>(
 ) -> Result<(), AllocError>
     requires groups { AreGroups (top_groups E.item top.old) }
     requires entry { HasEntry (top_groups E.item top.old) spot }
-    ensures ok { OnOk result (IsChanged (C.after change.now)
-        (entries_of (top_groups E.item top.old))
-        (place_of (top_groups E.item top.old) spot)
-        (entries_of (top_groups E.item top.new))) }
+    ensures ok { OnOk result (IsChangedAt (C.after change.now) (top_groups E.item top.old) spot
+        (top_groups E.item top.new)) }
     ensures err { OnErr result (top_groups E.item top.new ≡ top_groups E.item top.old) }
     ensures groups { AreGroups (top_groups E.item top.new) }
 {

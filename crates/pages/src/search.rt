@@ -3,8 +3,8 @@
 ghost use Rattle.std.specs.Prelude.{◌≡◌, ℕ, ◌<◌, ◌≤◌, [], true, false, nat_lt, length, map, slice_index_or, slice_get, Some, MatchResult, IfOk, IfErr};
 ghost use Rattle.std.specs.Ordering.{ordering_index};
 ghost use Rattle.std.specs.List.Sorted.{IsNonDecreasingBy, IsSearchInRange};
-ghost use Rattle.pages.specs.Pages.{leaf_list, leaf_lists, branch_parts, groups_of, joined};
-ghost use Rattle.pages.specs.Sorted.{place_in, place_of, IsSpotIn, IsSpot, HasEntryIn, HasEntry, AreKept, AreGroups, entries_of, IsRising, IsSplit, IsHit, IsGap, starts_low};
+ghost use Rattle.pages.specs.Pages.{leaf_list, leaf_lists, leaves_list, branch_parts, groups_of, flattened};
+ghost use Rattle.pages.specs.Sorted.{page_of_spot, place_in_pages, place_in_groups, groups_list, IsSpotIn, IsSpot, HasEntryIn, HasEntry, EachFitsPage, AreGroups, IsRising, IsSplit, IsHit, IsHitIn, IsHitAt, IsGap, IsGapIn, IsGapAt, starts_low, StartLowUpTo};
 
 use crate::page::{Branch, Leaf};
 use crate::{Entry, Probe, Spot};
@@ -20,16 +20,10 @@ fn starts_by<E: Entry, P: Probe<E>>(page: &Leaf<E>, probe: &P) -> bool
 
 /// How many pages start by an entry that is not greater than what is sought.
 fn pages_before<E: Entry, P: Probe<E>>(pages: &[Leaf<E>], probe: &P) -> usize
-    requires { AreKept (leaf_lists E.item pages.now) }
+    requires { EachFitsPage (leaf_lists E.item pages.now) }
     ensures inside { result ≤ length pages.now }
-    ensures low { IsSplit (P.order probe.now) (joined (leaf_lists E.item pages.now))
-        → (j : ℕ) → j < result
-        → starts_low (P.order probe.now) (slice_index_or (leaf_lists E.item pages.now) j [])
-        ≡ true }
-    ensures high { IsSplit (P.order probe.now) (joined (leaf_lists E.item pages.now))
-        → (j : ℕ) → result ≤ j → j < length (leaf_lists E.item pages.now)
-        → starts_low (P.order probe.now) (slice_index_or (leaf_lists E.item pages.now) j [])
-        ≡ false }
+    ensures starts { IsSplit (P.order probe.now) (leaves_list E.item pages.now)
+        → StartLowUpTo (P.order probe.now) result (leaf_lists E.item pages.now) }
 {
     pages.partition_point(|page| starts_by(page, probe))
 }
@@ -50,15 +44,12 @@ fn find_in_pages<E: Entry, P: Probe<E>>(
     group: usize,
     probe: &P,
 ) -> Result<Spot, Spot>
-    requires { AreKept (leaf_lists E.item pages.now) }
-    ensures found { IsSplit (P.order probe.now) (joined (leaf_lists E.item pages.now))
-        → IfOk result (λ spot. IsHit (P.order probe.now) (joined (leaf_lists E.item pages.now))
-        (place_in (leaf_lists E.item pages.now) spot)) }
-    ensures absent { IsSplit (P.order probe.now) (joined (leaf_lists E.item pages.now))
-        → IfErr result (λ spot. IsGap (P.order probe.now) (joined (leaf_lists E.item pages.now))
-        (place_in (leaf_lists E.item pages.now) spot)) }
-    ensures spot { MatchResult result
-        (IsSpotIn (leaf_lists E.item pages.now))
+    requires { EachFitsPage (leaf_lists E.item pages.now) }
+    ensures found { IsSplit (P.order probe.now) (leaves_list E.item pages.now)
+        → IfOk result (IsHitIn (P.order probe.now) (leaf_lists E.item pages.now)) }
+    ensures absent { IsSplit (P.order probe.now) (leaves_list E.item pages.now)
+        → IfErr result (IsGapIn (P.order probe.now) (leaf_lists E.item pages.now)) }
+    ensures spot { MatchResult result (IsSpotIn (leaf_lists E.item pages.now))
         (IsSpotIn (leaf_lists E.item pages.now)) }
     ensures entry { IfOk result (HasEntryIn (leaf_lists E.item pages.now)) }
     ensures group { MatchResult result (λ spot. spot.group ≡ group) (λ spot. spot.group ≡ group) }
@@ -92,14 +83,8 @@ fn first_starts_by<E: Entry, P: Probe<E>>(group: &Branch<E>, probe: &P) -> bool
 fn groups_before<E: Entry, P: Probe<E>>(groups: &[Branch<E>], probe: &P) -> usize
     requires { AreGroups (groups_of E.item groups.now) }
     ensures inside { result ≤ length groups.now }
-    ensures low { IsSplit (P.order probe.now) (entries_of (groups_of E.item groups.now))
-        → (j : ℕ) → j < result
-        → starts_low (P.order probe.now)
-        (slice_index_or (map joined (groups_of E.item groups.now)) j []) ≡ true }
-    ensures high { IsSplit (P.order probe.now) (entries_of (groups_of E.item groups.now))
-        → (j : ℕ) → result ≤ j → j < length (map joined (groups_of E.item groups.now))
-        → starts_low (P.order probe.now)
-        (slice_index_or (map joined (groups_of E.item groups.now)) j []) ≡ false }
+    ensures starts { IsSplit (P.order probe.now) (groups_list E.item groups.now)
+        → StartLowUpTo (P.order probe.now) result (map flattened (groups_of E.item groups.now)) }
 {
     groups.partition_point(|group| first_starts_by(group, probe))
 }
@@ -110,14 +95,11 @@ pub(crate) fn find_in_groups<E: Entry, P: Probe<E>>(
     probe: &P,
 ) -> Result<Spot, Spot>
     requires { AreGroups (groups_of E.item groups.now) }
-    ensures found { IsSplit (P.order probe.now) (entries_of (groups_of E.item groups.now))
-        → IfOk result (λ spot. IsHit (P.order probe.now) (entries_of (groups_of E.item groups.now))
-        (place_of (groups_of E.item groups.now) spot)) }
-    ensures absent { IsSplit (P.order probe.now) (entries_of (groups_of E.item groups.now))
-        → IfErr result (λ spot. IsGap (P.order probe.now) (entries_of (groups_of E.item groups.now))
-        (place_of (groups_of E.item groups.now) spot)) }
-    ensures spot { MatchResult result
-        (IsSpot (groups_of E.item groups.now))
+    ensures found { IsSplit (P.order probe.now) (groups_list E.item groups.now)
+        → IfOk result (IsHitAt (P.order probe.now) (groups_of E.item groups.now)) }
+    ensures absent { IsSplit (P.order probe.now) (groups_list E.item groups.now)
+        → IfErr result (IsGapAt (P.order probe.now) (groups_of E.item groups.now)) }
+    ensures spot { MatchResult result (IsSpot (groups_of E.item groups.now))
         (IsSpot (groups_of E.item groups.now)) }
     ensures entry { IfOk result (HasEntry (groups_of E.item groups.now)) }
 {
@@ -142,8 +124,7 @@ pub(crate) fn entry_of<E: Entry>(page: &[E], at: usize) -> &E
 
 fn entry_in_pages<E: Entry>(pages: &[Leaf<E>], spot: Spot) -> &E
     requires { HasEntryIn (leaf_lists E.item pages.now) spot }
-    ensures { slice_get (joined (leaf_lists E.item pages.now))
-        (place_in (leaf_lists E.item pages.now) spot)
+    ensures { slice_get (leaves_list E.item pages.now) (place_in_pages E.item pages.now spot)
         ≡ Some (E.item result.now) }
 {
     entry_of(pages[spot.page].as_slice(), spot.at)
@@ -152,8 +133,7 @@ fn entry_in_pages<E: Entry>(pages: &[Leaf<E>], spot: Spot) -> &E
 /// The entry at a spot.
 pub(crate) fn entry_in_groups<E: Entry>(groups: &[Branch<E>], spot: Spot) -> &E
     requires { HasEntry (groups_of E.item groups.now) spot }
-    ensures { slice_get (entries_of (groups_of E.item groups.now))
-        (place_of (groups_of E.item groups.now) spot)
+    ensures { slice_get (groups_list E.item groups.now) (place_in_groups E.item groups.now spot)
         ≡ Some (E.item result.now) }
 {
     entry_in_pages(groups[spot.group].as_slice(), spot)
@@ -168,9 +148,7 @@ fn is_in_pages<E: Entry>(pages: &[Leaf<E>], spot: Spot) -> bool
 
 /// Whether an entry stands at a spot.
 pub(crate) fn is_in_groups<E: Entry>(groups: &[Branch<E>], spot: Spot) -> bool
-    ensures { result ≡ nat_lt spot.at
-        (length (slice_index_or
-        (slice_index_or (groups_of E.item groups.now) spot.group []) spot.page [])) }
+    ensures { result ≡ nat_lt spot.at (length (page_of_spot (groups_of E.item groups.now) spot)) }
 {
     spot.group < groups.len() && is_in_pages(groups[spot.group].as_slice(), spot)
 }

@@ -67,7 +67,7 @@ impl<E: Entry> SortedPages<E> {
         place_at(self.top.as_slice(), spot)
     }
 
-    /// The entry so many places behind a spot: it goes over the pages between.
+    /// The entry so many places after a spot: it goes over the pages between.
     pub fn entry_after(&self, spot: Spot, n: usize) -> &E
         requires spot { IsSpot self.now spot }
         requires held { place_of self.now spot + n < length (entries_of self.now) }

@@ -1,8 +1,8 @@
 //! A walk over sorted pages, page by page.
 
 ghost use Rattle.std.specs.Prelude.{◌≡◌, ◌+◌, ◌<◌, ◌≤◌, [], length, map, drop, slice_index_or, IfSome, IfNone};
-ghost use Rattle.pages.specs.Pages.{leaf_list, leaf_lists, groups_of, joined, IsPrefix};
-ghost use Rattle.pages.specs.Sorted.{place_in, place_of, IsSpotIn, IsSpot, HasEntryIn, HasEntry, IsGroup, AreGroups, entries_of};
+ghost use Rattle.pages.specs.Pages.{leaf_list, leaf_lists, leaves_list, groups_of, IsPrefix};
+ghost use Rattle.pages.specs.Sorted.{page_of_spot, place_in_pages, place_in_groups, groups_list, IsSpotIn, IsSpot, HasEntryIn, HasEntry, IsGroup, AreGroups};
 
 use crate::page::{Branch, Leaf, leaf_from};
 use crate::{Entry, Spot};
@@ -11,12 +11,11 @@ use crate::{Entry, Spot};
 fn entry_spot_in_pages<E: Entry>(pages: &[Leaf<E>], spot: Spot) -> Option<Spot>
     requires group { IsGroup (leaf_lists E.item pages.now) }
     requires spot { IsSpotIn (leaf_lists E.item pages.now) spot }
-    ensures none { IfNone result
-        (length (joined (leaf_lists E.item pages.now))
-        ≤ place_in (leaf_lists E.item pages.now) spot) }
+    ensures none { IfNone result (length (leaves_list E.item pages.now)
+        ≤ place_in_pages E.item pages.now spot) }
     ensures entry { IfSome result (HasEntryIn (leaf_lists E.item pages.now)) }
-    ensures same { IfSome result (λ next. place_in (leaf_lists E.item pages.now) next
-        ≡ place_in (leaf_lists E.item pages.now) spot) }
+    ensures same { IfSome result (λ next. place_in_pages E.item pages.now next
+        ≡ place_in_pages E.item pages.now spot) }
     ensures group { IfSome result (λ next. next.group ≡ spot.group) }
 {
     let Spot { group, page, at } = spot;
@@ -36,12 +35,11 @@ fn entry_spot_in_pages<E: Entry>(pages: &[Leaf<E>], spot: Spot) -> Option<Spot>
 fn entry_spot<E: Entry>(groups: &[Branch<E>], spot: Spot) -> Option<Spot>
     requires groups { AreGroups (groups_of E.item groups.now) }
     requires spot { IsSpot (groups_of E.item groups.now) spot }
-    ensures none { IfNone result
-        (length (entries_of (groups_of E.item groups.now))
-        ≤ place_of (groups_of E.item groups.now) spot) }
+    ensures none { IfNone result (length (groups_list E.item groups.now)
+        ≤ place_in_groups E.item groups.now spot) }
     ensures entry { IfSome result (HasEntry (groups_of E.item groups.now)) }
-    ensures same { IfSome result (λ next. place_of (groups_of E.item groups.now) next
-        ≡ place_of (groups_of E.item groups.now) spot) }
+    ensures same { IfSome result (λ next. place_in_groups E.item groups.now next
+        ≡ place_in_groups E.item groups.now spot) }
 {
     if groups.is_empty() {
         return None;
@@ -72,8 +70,7 @@ fn page_in_pages<E: Entry>(pages: &[Leaf<E>], spot: Spot) -> &[E]
 
 fn page_in_groups<E: Entry>(groups: &[Branch<E>], spot: Spot) -> &[E]
     requires { HasEntry (groups_of E.item groups.now) spot }
-    ensures { map E.item result.now
-        ≡ slice_index_or (slice_index_or (groups_of E.item groups.now) spot.group []) spot.page [] }
+    ensures { map E.item result.now ≡ page_of_spot (groups_of E.item groups.now) spot }
 {
     page_in_pages(groups[spot.group].as_slice(), spot)
 }
@@ -82,16 +79,14 @@ fn page_in_groups<E: Entry>(groups: &[Branch<E>], spot: Spot) -> &[E]
 pub(crate) fn step<E: Entry>(groups: &[Branch<E>], spot: Spot) -> Option<(&[E], Spot)>
     requires groups { AreGroups (groups_of E.item groups.now) }
     requires spot { IsSpot (groups_of E.item groups.now) spot }
-    ensures none { IfNone result
-        (length (entries_of (groups_of E.item groups.now))
-        ≤ place_of (groups_of E.item groups.now) spot) }
+    ensures none { IfNone result (length (groups_list E.item groups.now)
+        ≤ place_in_groups E.item groups.now spot) }
     ensures some { IfSome result (λ step. 0 < length step.0.now) }
     ensures prefix { IfSome result (λ step. IsPrefix (map E.item step.0.now)
-        (drop (place_of (groups_of E.item groups.now) spot)
-        (entries_of (groups_of E.item groups.now)))) }
+        (drop (place_in_groups E.item groups.now spot) (groups_list E.item groups.now))) }
     ensures spot { IfSome result (λ step. IsSpot (groups_of E.item groups.now) step.1) }
-    ensures after { IfSome result (λ step. place_of (groups_of E.item groups.now) step.1
-        ≡ place_of (groups_of E.item groups.now) spot + length step.0.now) }
+    ensures after { IfSome result (λ step. place_in_groups E.item groups.now step.1
+        ≡ place_in_groups E.item groups.now spot + length step.0.now) }
 {
     let next = entry_spot(groups, spot)?;
     let page = page_in_groups(groups, next);

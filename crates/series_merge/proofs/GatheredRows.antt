@@ -15,8 +15,8 @@ use Rattle.labels.proofs.Times.{both_T, first_T, second_T}
 use Rattle.labels.proofs.ContentLaws.{is_sorted-points_in}
 use Rattle.cover.specs.declared.part_cover.PartAnswer.{PartAnswer}
 use Rattle.labels.specs.Rows.{row_before}
-use Rattle.series_merge.specs.Merging.{IsRowList, row_lists, newest_first, merged_content, joined}
-use Rattle.series_merge.proofs.Joining.{AreRows-joined, laid_over-sorted, laid_over-newest_first}
+use Rattle.series_merge.specs.Merging.{IsRowList, row_lists, newest_first, merged_content, joined_rows}
+use Rattle.series_merge.proofs.Joining.{AreRows-joined_rows, laid_over-sorted, laid_over-newest_first}
 
 below-front : (p : Point) (xs ys : Content) → T (below_all point_cmp p (xs ++ ys))
     → T (below_all point_cmp p xs)
@@ -67,13 +67,13 @@ pub AreRows-merged : (answers : List PartAnswer) (found sorted : List Row)
     → ((a : PartAnswer) → Contains answers a → IsRowList a.rows.items)
     → found ≡ newest_first (row_lists answers) → IsPermutation found sorted
     → IsSortedBy row_before sorted → IsStableBy row_before found sorted
-    → AreRows (joined sorted []) (merged_content answers)
+    → AreRows (joined_rows sorted []) (merged_content answers)
 AreRows-merged answers found sorted are is moved up stable =
-    subst (AreRows (joined sorted []))
+    subst (AreRows (joined_rows sorted []))
     (laid_over-sorted found sorted stable
     ∙ ap (λ rows. laid_over (points_of rows) []) is
     ∙ laid_over-newest_first (row_lists answers) [])
-    (AreRows-joined sorted up
+    (AreRows-joined_rows sorted up
     (All-permutation IsFull found sorted moved (subst (All IsFull) (sym is)
     (all_gathered IsFull answers (λ a h. full_of a.rows.items (are a h).of_content.full))))
     (times_sorted answers found sorted are is moved))

@@ -11,24 +11,24 @@ use Rattle.labels.specs.Labels.{Labels, labels_cmp, same_labels}
 use Rattle.labels.specs.Rows.{Row}
 use Rattle.labels.proofs.OrderLaws.{labels_exact}
 use Rattle.labels.proofs.Times.{true_not_false}
-use Rattle.series_merge.specs.Merging.{laid_times, join, joined}
+use Rattle.series_merge.specs.Merging.{laid_times, join, joined_rows}
 use Rattle.series_merge.proofs.LaidTimes.{laid_times-assoc, is_sorted-laid_times}
 
 -- the times of the row rise
 abbrev pub Rises : Row → Type 0
 Rises r = T (is_sorted int_cmp r.1)
 
-joined-last : (rest : List Row) (row : Row) (later : List Row)
-    → joined (rest ++ row ∷ []) later ≡ joined rest (join row later)
-joined-last [] row later = refl
-joined-last (r ∷ rs) row later = ap (join r) (joined-last rs row later)
+joined_rows-last : (rest : List Row) (row : Row) (later : List Row)
+    → joined_rows (rest ++ row ∷ []) later ≡ joined_rows rest (join row later)
+joined_rows-last [] row later = refl
+joined_rows-last (r ∷ rs) row later = ap (join r) (joined_rows-last rs row later)
 
 -- the last row goes before those that come after it
 pub joined_step : (rows rest : List Row) (row : Row) (old new whole : List Row)
-    → rows ≡ rest ++ row ∷ [] → joined rows old ≡ whole
-    → new ≡ join row old → joined rest new ≡ whole
+    → rows ≡ rest ++ row ∷ [] → joined_rows rows old ≡ whole
+    → new ≡ join row old → joined_rows rest new ≡ whole
 joined_step rows rest row old new whole e inv put =
-    ap (joined rest) put ∙ sym (joined-last rest row old) ∙ ap (λ xs. joined xs old) (sym e) ∙ inv
+    ap (joined_rows rest) put ∙ sym (joined_rows-last rest row old) ∙ ap (λ xs. joined_rows xs old) (sym e) ∙ inv
 
 is_equal : (o : Ordering) → is_eq o ≡ true → o ≡ Equal
 is_equal Less h = absurd (true_not_false (sym h))
@@ -46,11 +46,11 @@ rises-join r (m ∷ ms) h all =
       | false ↦ All-cons Rises r (m ∷ ms) h all
     ]
 
-rises-joined : (rows : List Row) → All Rises rows → All Rises (joined rows [])
-rises-joined [] all = All-nil Rises
-rises-joined (r ∷ rs) all =
-    rises-join r (joined rs []) (All-head Rises r rs all)
-    (rises-joined rs (All-tail Rises r rs all))
+rises-joined_rows : (rows : List Row) → All Rises rows → All Rises (joined_rows rows [])
+rises-joined_rows [] all = All-nil Rises
+rises-joined_rows (r ∷ rs) all =
+    rises-join r (joined_rows rs []) (All-head Rises r rs all)
+    (rises-joined_rows rs (All-tail Rises r rs all))
 
 -- a row laid over another is joined to rows as the two are, one after the other
 join_laid : (r m : Row) (rows : List Row) → same_labels r.0 m.0 ≡ true → All Rises rows
@@ -83,8 +83,8 @@ All-reverse P rows h k d lt =
 -- a row laid over the first of the rows, where that has its label set: what all of them make does
 -- not change
 joined_laid : (r m : Row) (rows : List Row) → same_labels r.0 m.0 ≡ true → All Rises rows
-    → joined ((r.0, laid_times r.1 m.1) ∷ rows) [] ≡ join r (joined (m ∷ rows) [])
-joined_laid r m rows same rise = join_laid r m (joined rows []) same (rises-joined rows rise)
+    → joined_rows ((r.0, laid_times r.1 m.1) ∷ rows) [] ≡ join r (joined_rows (m ∷ rows) [])
+joined_laid r m rows same rise = join_laid r m (joined_rows rows []) same (rises-joined_rows rows rise)
 
 reverse_last : (rest : List Row) (x : Row) → reverse (rest ++ x ∷ []) ≡ x ∷ reverse rest
 reverse_last rest x = reverse-append rest (x ∷ [])
@@ -93,11 +93,11 @@ reverse_last rest x = reverse-append rest (x ∷ [])
 pub joined_over : (r m x : Row) (later rest new : List Row) → later ≡ rest ++ m ∷ []
     → new ≡ rest ++ x ∷ [] → x ≡ (r.0, laid_times r.1 m.1)
     → same_labels r.0 m.0 ≡ true → All Rises rest
-    → joined (reverse new) [] ≡ join r (joined (reverse later) [])
+    → joined_rows (reverse new) [] ≡ join r (joined_rows (reverse later) [])
 joined_over r m x later rest new e f is same rise =
-    ap (λ (xs : List Row). joined (reverse xs) []) f
-    ∙ ap (λ (xs : List Row). joined xs []) (reverse_last rest x)
-    ∙ ap (λ (y : Row). joined (y ∷ reverse rest) []) is
+    ap (λ (xs : List Row). joined_rows (reverse xs) []) f
+    ∙ ap (λ (xs : List Row). joined_rows xs []) (reverse_last rest x)
+    ∙ ap (λ (y : Row). joined_rows (y ∷ reverse rest) []) is
     ∙ joined_laid r m (reverse rest) same (All-reverse Rises rest rise)
-    ∙ ap (λ (xs : List Row). join r (joined xs [])) (sym (reverse_last rest m))
-    ∙ ap (λ (xs : List Row). join r (joined (reverse xs) [])) (sym e)
+    ∙ ap (λ (xs : List Row). join r (joined_rows xs [])) (sym (reverse_last rest m))
+    ∙ ap (λ (xs : List Row). join r (joined_rows (reverse xs) [])) (sym e)

@@ -19,7 +19,7 @@ use Rattle.labels.proofs.Times.{both_T, first_T, second_T, T_of, true_not_false}
 use Rattle.labels.proofs.ContentLaws.{labels_self, find-laid_over, is_sorted-laid_over, same_content, or_else}
 use Rattle.labels.proofs.RowPuts.{AreRows-row_put}
 use Rattle.labels.specs.Rows.{row_before}
-use Rattle.series_merge.specs.Merging.{laid_each, newest_first, laid_times, join, joined}
+use Rattle.series_merge.specs.Merging.{laid_each, newest_first, laid_times, join, joined_rows}
 use Rattle.labels.proofs.SortedRows.{find-alike, alike_kept, sorted-tail}
 
 pub laid_over-++ : (xs ys c : Content) → laid_over (xs ++ ys) c ≡ laid_over xs (laid_over ys c)
@@ -125,34 +125,34 @@ AreRows-join r (m ∷ ms) c full times up is =
     subst (λ (rows : List Row). AreRows rows (laid_over (points_in r.0 r.1) c))
     (sym (join_is r m ms full times is.ascending up)) (AreRows-put_each r.0 r.1 (m ∷ ms) c is)
 
-joined-first : (l : Labels) (r : Row) (rows : List Row) → is_lt (labels_cmp r.0 l) ≡ false
+joined_rows-first : (l : Labels) (r : Row) (rows : List Row) → is_lt (labels_cmp r.0 l) ≡ false
     → NoneBefore l (join r rows)
-joined-first l r [] h = h
-joined-first l r (m ∷ ms) h = elim (same_labels r.0 m.0) as (λ b. NoneBefore l (cond b ((
+joined_rows-first l r [] h = h
+joined_rows-first l r (m ∷ ms) h = elim (same_labels r.0 m.0) as (λ b. NoneBefore l (cond b ((
   r.0,
   laid_times r.1 m.1,
 ) ∷ ms) (r ∷ m ∷ ms))) [ true ↦ h | false ↦ h ]
 
 none_before : (r : Row) (rs : List Row) → IsSortedBy row_before (r ∷ rs)
-    → NoneBefore r.0 (joined rs [])
+    → NoneBefore r.0 (joined_rows rs [])
 none_before r [] up = tt
-none_before r (m ∷ ms) up = joined-first r.0 m (joined ms []) (up 0 r (omega arith) (omega arith))
+none_before r (m ∷ ms) up = joined_rows-first r.0 m (joined_rows ms []) (up 0 r (omega arith) (omega arith))
 
 nothing : AreRows [] []
 nothing = record { points = refl; ascending = tt; full = tt }
 
 -- sorted rows, joined, are the rows of what they list; of several at one point the first stands
-pub AreRows-joined : (rows : List Row) → IsSortedBy row_before rows → All IsFull rows
+pub AreRows-joined_rows : (rows : List Row) → IsSortedBy row_before rows → All IsFull rows
     → All (λ r. T (is_sorted int_cmp r.1)) rows
-    → AreRows (joined rows []) (laid_over (points_of rows) [])
-AreRows-joined [] up full times = nothing
-AreRows-joined (r ∷ rs) up full times =
-    subst (AreRows (join r (joined rs [])))
+    → AreRows (joined_rows rows []) (laid_over (points_of rows) [])
+AreRows-joined_rows [] up full times = nothing
+AreRows-joined_rows (r ∷ rs) up full times =
+    subst (AreRows (join r (joined_rows rs [])))
     (sym (laid_over-++ (points_in r.0 r.1) (points_of rs) []))
-    (AreRows-join r (joined rs []) (laid_over (points_of rs) []) (All-head IsFull r rs full)
+    (AreRows-join r (joined_rows rs []) (laid_over (points_of rs) []) (All-head IsFull r rs full)
     (All-head (λ (x : Row). T (is_sorted int_cmp x.1)) r rs times)
     (none_before r rs up)
-    (AreRows-joined rs (sorted-tail r rs up) (All-tail IsFull r rs full)
+    (AreRows-joined_rows rs (sorted-tail r rs up) (All-tail IsFull r rs full)
     (All-tail (λ (x : Row). T (is_sorted int_cmp x.1)) r rs times)))
 
 -- a stable sort by label sets lists the same

@@ -41,6 +41,6 @@ join r [] = r ∷ []
 join r (m ∷ ms) = if same_labels r.0 m.0 then (r.0, laid_times r.1 m.1) ∷ ms else r ∷ m ∷ ms
 
 -- rows in label order before others, one row for each label set
-abbrev pub joined : List Row → List Row → List Row
-joined [] rows = rows
-joined (r ∷ rs) rows = join r (joined rs rows)
+abbrev pub joined_rows : List Row → List Row → List Row
+joined_rows [] rows = rows
+joined_rows (r ∷ rs) rows = join r (joined_rows rs rows)

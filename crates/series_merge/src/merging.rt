@@ -8,7 +8,7 @@ ghost use Rattle.std.specs.Ordering.{int_cmp};
 ghost use Rattle.std.specs.FinMap.Entries.{is_sorted};
 ghost use Rattle.labels.specs.Rows.{AreRows, IsFull};
 ghost use Rattle.series_merge.specs.Merging.{IsRowList, row_lists, newest_first, merged_content};
-ghost use Rattle.series_merge.specs.Merging.{laid_times, join, joined};
+ghost use Rattle.series_merge.specs.Merging.{laid_times, join, joined_rows};
 
 use cover::PartAnswer;
 use labels::{Row, Sample, sort_rows};
@@ -132,7 +132,8 @@ fn join_row(
     requires rises { T (is_sorted int_cmp row.1) }
     requires all_rise { All (λ r. T (is_sorted int_cmp r.1)) later.old.items }
     ensures same { OnOk result
-        (joined (reverse later.new.items) [] ≡ join row (joined (reverse later.old.items) [])) }
+        (joined_rows (reverse later.new.items) []
+        ≡ join row (joined_rows (reverse later.old.items) [])) }
     ensures whole { IfOk result (λ whole. whole ≡ true
         → reverse later.new.items ≡ join row (reverse later.old.items)) }
     ensures all { all ≡ true → IfOk result (λ whole. whole ≡ true) }
@@ -160,8 +161,8 @@ fn join_row(
 /// are left, or all of them. Tells whether each label set stands once now.
 fn join_round(alloc: Global, rows: Vec<Row>, all: bool) -> Result<(Vec<Row>, bool), AllocError>
     requires { All (λ r. T (is_sorted int_cmp r.1)) rows.items }
-    ensures same { IfOk result (λ r. joined r.0.items [] ≡ joined rows.items []) }
-    ensures whole { IfOk result (λ r. r.1 ≡ true → r.0.items ≡ joined rows.items []) }
+    ensures same { IfOk result (λ r. joined_rows r.0.items [] ≡ joined_rows rows.items []) }
+    ensures whole { IfOk result (λ r. r.1 ≡ true → r.0.items ≡ joined_rows rows.items []) }
     ensures all { all ≡ true → IfOk result (λ r. r.1 ≡ true) }
     ensures rise { IfOk result (λ r. All (λ x. T (is_sorted int_cmp x.1)) r.0.items) }
 {
@@ -185,7 +186,7 @@ fn join_round(alloc: Global, rows: Vec<Row>, all: bool) -> Result<(Vec<Row>, boo
 /// and only they are copied.
 fn join_rows(alloc: Global, rows: Vec<Row>) -> Result<Vec<Row>, AllocError>
     requires { All (λ r. T (is_sorted int_cmp r.1)) rows.items }
-    ensures { IfOk result (λ rows'. rows'.items ≡ joined rows.items []) }
+    ensures { IfOk result (λ rows'. rows'.items ≡ joined_rows rows.items []) }
 {
     let mut rows = rows;
     let mut left = rows.len();

@@ -1,8 +1,9 @@
-use Rattle.std.proofs.Common.{◌≡◌, ℕ, ◌<◌, length, map, take, slice_index_or}
+use Rattle.std.proofs.Common.{◌≡◌, map, take}
 use Rattle.matchers.specs.Satisfies.{satisfies}
 use Rattle.labels.specs.Parts.{references_where}
 use Rattle.postings.specs.contracts.chosen.ChosenPostings.TheImpl.{ghosts as chosen_ghosts}
 use Rattle.postings.specs.contracts.union.UnionPostings.TheImpl.{ghosts as union_ghosts, dict as union_dict}
+use Rattle.cover.specs.Walking.{AllFresh}
 use Rattle.cover.proofs.part_cover.chosen_lists.Given as goal
 
 abbrev pub invariant-loop-matcher : goal.invariant-loop-matcher
@@ -13,5 +14,5 @@ invariant-loop-matcher g l = record {
       g.S.List.Destruct-dict)).remaining x.0) l.lists.items
       ≡ map (λ m. references_where (λ labels. satisfies m labels) (g.S.Source.part l.source))
       (take l.matcher-index l.matchers);
-  fresh : (k : ℕ) (d : _) → k < length l.lists.items → (slice_index_or l.lists.items k d).1 ≡ 0;
+  fresh : AllFresh l.lists.items;
 }

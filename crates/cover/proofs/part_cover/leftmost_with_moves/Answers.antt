@@ -1,13 +1,9 @@
-use Rattle.std.proofs.Common.{◌≡◌, ◌+◌, ◌*◌, ◌≤◌, [], length, map, ap, sym, subst, ◌∙◌, arith, rules, to_z, of_z, w64}
+use Rattle.std.proofs.Common.{◌≡◌, [], length, map, ap, ◌∙◌, arith, rules, to_z, of_z, w64}
 use Rattle.std.proofs.lemmas.Int.{ints}
 use Rattle.matchers.specs.Satisfies.{satisfies}
 use Rattle.labels.specs.Parts.{references_where, live_references}
-use Rattle.cover.specs.Asking.{asked}
-use Rattle.cover.specs.Certificates.{AreSeparators, begins_of, matches_of}
-use Rattle.cover.proofs.Choices.{part_from, accepted_from, living_from, leftmost_from, asked_part, matches_selected}
-use Rattle.cover.proofs.Least.{leftmost_least, leftmost_separates, length-begins}
-use Rattle.cover.proofs.Matching.{valid_matches}
-use Rattle.cover.proofs.Farthest.{fresh_same, moves_bound, bound_of_any, moved_same, same_lengths}
+use Rattle.cover.proofs.Choices.{part_from, accepted_from, living_from, leftmost_from}
+use Rattle.cover.proofs.Farthest.{fresh_same, moves_bound, moved_same, same_lengths}
 use Rattle.labels.proofs.SetLemmas.{written_back}
 use Rattle.cover.proofs.part_cover.leftmost_with_moves.Goals as goal
 

@@ -4,7 +4,7 @@ use Rattle.labels.specs.Ascending.{not_below, first_or_end, or_end}
 use Rattle.labels.proofs.Lists.{or_end-first}
 use Rattle.cover.specs.declared.certificate.Interval.{Interval}
 use Rattle.cover.specs.Certificates.{Asked}
-use Rattle.cover.specs.Walking.{asked_of, accepted, alive}
+use Rattle.cover.specs.Walking.{asked_in_walk, accepted_by, alive}
 use Rattle.cover.proofs.Greedy.{Sofar, reach, sofar_push, sofar_done, IsGood}
 use Rattle.cover.proofs.Turns.{Turn, turn, stands_at, starts, starts_stand, not_below_zero, sought, starts_within, turn_within}
 use Rattle.cover.proofs.Farthest.{at_map, length_map}
@@ -14,8 +14,8 @@ use Rattle.cover.proofs.walk.walk.Goals as goal
 pub loop-next-init : goal.loop-next-init
 loop-next-init g c =
     let a : Asked =
-    asked_of (g.P.Postings.remaining c.args.all.now.0) (map (λ x. g.Q.Postings.remaining x.0)
-    c.args.lists.now) (g.L.Postings.remaining c.args.live.now.0) in
+    asked_in_walk g.P.Postings.remaining g.Q.Postings.remaining g.L.Postings.remaining
+    c.args.all.now c.args.lists.now c.args.live.now in
     let begins : c.number_or_end-next.result ≡ first_or_end a.references =
     c.number_or_end-next.ensures
     ∙ ap or_end c.current.ensures
@@ -30,7 +30,7 @@ loop-next-init g c =
             s.1 ∙ ap (λ (z : ℕ). not_below z a.references) (sym begins),
           );
       lists =
-          λ j d l. (0, (omega arith, c.requires.accepted j d l ∙ not_below_zero (accepted a j)));
+          λ j d l. (0, (omega arith, c.requires.accepted j d l ∙ not_below_zero (accepted_by a j)));
       living = (0, (omega arith, c.requires.living ∙ not_below_zero (alive a)));
       count = omega (arith, c.requires.fresh);
       each = λ j d l. omega (arith, c.requires.each_fresh j d l);
@@ -40,14 +40,13 @@ loop-next-init g c =
 
 -- what one turn of the loop found
 the_turn : (g : given.Over) (c : goal.In_ok-push g)
-    → Turn (asked_of (g.P.Postings.remaining c.args.all.now.0)
-    (map (λ x. g.Q.Postings.remaining x.0) c.args.lists.now)
-    (g.L.Postings.remaining c.args.live.now.0)) c.new-from.result c.farthest-verdict.result.0
+    → Turn (asked_in_walk g.P.Postings.remaining g.Q.Postings.remaining g.L.Postings.remaining
+    c.args.all.now c.args.lists.now c.args.live.now) c.new-from.result c.farthest-verdict.result.0
     (g.P.Postings.remaining c.move_on.new.all.0) c.move_on.result
 the_turn g c =
     let a : Asked =
-    asked_of (g.P.Postings.remaining c.args.all.now.0) (map (λ x. g.Q.Postings.remaining x.0)
-    c.args.lists.now) (g.L.Postings.remaining c.args.live.now.0) in
+    asked_in_walk g.P.Postings.remaining g.Q.Postings.remaining g.L.Postings.remaining
+    c.args.all.now c.args.lists.now c.args.live.now in
     let same : c.new-from.result ≡ c.loop-next.next = c.new-from.ensures in
     let stands : Contains a.references c.loop-next.next
     × (g.P.Postings.remaining c.loop-next.all.0 ≡ not_below c.loop-next.next a.references) =
@@ -77,10 +76,10 @@ the_turn g c =
     (λ n. n ≡ reach a c.new-from.result k) l (λ d.
     let old : k < length c.loop-next.lists = omega (arith, l, c.seek_each.auto.lists) in
     let was : (b : ℕ) × ((b ≤ c.loop-next.next) × (g.Q.Postings.remaining
-    (slice_index_or c.loop-next.lists k d).0 ≡ not_below b (accepted a k))) =
+    (slice_index_or c.loop-next.lists k d).0 ≡ not_below b (accepted_by a k))) =
     c.loop-next.invariant.lists k d old in
     ap first_or_end (c.seek_each.ensures.moved k d old
-    ∙ sought (accepted a k) was.0 c.new-from.result (g.Q.Postings.remaining
+    ∙ sought (accepted_by a k) was.0 c.new-from.result (g.Q.Postings.remaining
     (slice_index_or c.loop-next.lists k d).0) (omega (arith, was.1.0, same)) was.1.1)))
     (ap first_or_end live_is)
     c.farthest-verdict.ensures c.move_on.ensures.moved
@@ -97,8 +96,8 @@ loop-next-smaller g c = omega (
 pub loop-next-preserved : goal.loop-next-preserved
 loop-next-preserved g c =
     let a : Asked =
-    asked_of (g.P.Postings.remaining c.args.all.now.0) (map (λ x. g.Q.Postings.remaining x.0)
-    c.args.lists.now) (g.L.Postings.remaining c.args.live.now.0) in
+    asked_in_walk g.P.Postings.remaining g.Q.Postings.remaining g.L.Postings.remaining
+    c.args.all.now c.args.lists.now c.args.live.now in
     let t : Turn a c.new-from.result c.farthest-verdict.result.0
     (g.P.Postings.remaining c.move_on.new.all.0) c.move_on.result = the_turn g c in
     let until : c.number_or_end-next-in-loop-next.result ≡ or_end c.move_on.result =
@@ -131,13 +130,13 @@ loop-next-preserved g c =
       lists = λ j d l.
           let old : j < length c.loop-next.lists = omega (arith, l, c.seek_each.auto.lists) in
           let was : (b : ℕ) × ((b ≤ c.loop-next.next) × (g.Q.Postings.remaining
-          (slice_index_or c.loop-next.lists j d).0 ≡ not_below b (accepted a j))) =
+          (slice_index_or c.loop-next.lists j d).0 ≡ not_below b (accepted_by a j))) =
           c.loop-next.invariant.lists j d old in (
             c.new-from.result,
             (
               omega (arith, t.forward, until),
               c.seek_each.ensures.moved j d old
-                  ∙ sought (accepted a j) was.0 c.new-from.result
+                  ∙ sought (accepted_by a j) was.0 c.new-from.result
                   (g.Q.Postings.remaining (slice_index_or c.loop-next.lists j d).0)
                   (omega (arith, was.1.0, c.new-from.ensures)) was.1.1,
             ),
@@ -160,8 +159,8 @@ loop-next-preserved g c =
 pub returns-clause-leftmost : goal.returns-clause-leftmost
 returns-clause-leftmost g c =
     let a : Asked =
-    asked_of (g.P.Postings.remaining c.args.all.now.0) (map (λ x. g.Q.Postings.remaining x.0)
-    c.args.lists.now) (g.L.Postings.remaining c.args.live.now.0) in
+    asked_in_walk g.P.Postings.remaining g.Q.Postings.remaining g.L.Postings.remaining
+    c.args.all.now c.args.lists.now c.args.live.now in
     let low : c.loop-next.next ≡ 4294967296 =
     omega (arith, c.loop-next.invariant.within, c.loop-next-test.false) in
     sofar_done a c.loop-next.certificate.items c.requires.part

@@ -1,8 +1,8 @@
-use Rattle.std.proofs.Common.{◌∙◌, ◌/◌, ◌%◌, length, arith, ap}
+use Rattle.std.proofs.Common.{◌/◌, arith}
 use Rattle.std.proofs.lemmas.Result.{on_ok_weaker}
 use Rattle.pages.specs.Pages.{leaf_list}
 use Rattle.pages.proofs.Pieces.{held_by, page_in, item_in_page, still_paged, vec_bound}
-use Rattle.pages.proofs.Changes.{whole_changed, whole_count}
+use Rattle.pages.proofs.Changes.{whole_changed, whole_others, whole_count}
 use Rattle.pages.proofs.change.change_in_leaves.Goals as goal
 
 pub index_mut-requires : goal.index_mut-requires
@@ -24,3 +24,7 @@ returns-clause-count g c =
 pub returns-clause-paged : goal.returns-clause-paged
 returns-clause-paged g c =
     still_paged (leaf_list g.E.Entry.item) g.row.LEAF c.args.leaves.now.items (c.args.at / g.row.LEAF) c.index_mut.result.now c.change_in_leaf.new.leaf c.requires.paged (page_in (leaf_list g.E.Entry.item) c.args.leaves.now.items c.args.at _ _ (held_by (leaf_list g.E.Entry.item) g.row.LEAF c.args.leaves.now.items c.args.at (omega (arith, c.requires.size.0)) c.requires.paged c.requires.held)) c.index_mut.ensures.value c.change_in_leaf.ensures.count
+
+pub returns-clause-others : goal.returns-clause-others
+returns-clause-others g c =
+    whole_others (leaf_list g.E.Entry.item) g.row.LEAF c.args.leaves.now.items c.args.at c.index_mut.result.now c.change_in_leaf.new.leaf (omega (arith, c.requires.size.0)) c.requires.paged c.requires.held c.index_mut.ensures.value c.change_in_leaf.ensures.others

@@ -1,10 +1,10 @@
 use Rattle.std.proofs.Common.{◌∙◌, ◌≡◌, map, length, sym, ap, subst, arith}
 use Rattle.std.specs.List.{insert}
 use Rattle.std.proofs.lemmas.List.{length-map}
-use Rattle.pages.specs.Pages.{leaf_list, joined}
+use Rattle.pages.specs.Pages.{leaf_list, flattened}
 use Rattle.pages.specs.Sorted.{IsGroup, IsSpotIn, place_in}
 use Rattle.pages.proofs.Clones.{pages_clone}
-use Rattle.pages.proofs.GroupWrites.{joined_halves, group_halves}
+use Rattle.pages.proofs.GroupWrites.{flattened_halves, group_halves}
 use Rattle.pages.proofs.edit.group_halves_with.Goals as goal
 
 pub insert_in_pages-requires-clause-group : goal.insert_in_pages-requires-clause-group
@@ -17,9 +17,9 @@ insert_in_pages-requires-clause-spot g c =
 
 pub returns-clause-whole : goal.returns-clause-whole
 returns-clause-whole g c =
-    joined_halves (leaf_list g.E.Entry.item) c.insert_in_pages.new.pages.items c.split_off.new.self.items c.in_ok-right.right.items 64 c.in_ok-right.ensures.items c.in_ok-right.ensures.tail
+    flattened_halves (leaf_list g.E.Entry.item) c.insert_in_pages.new.pages.items c.split_off.new.self.items c.in_ok-right.right.items 64 c.in_ok-right.ensures.items c.in_ok-right.ensures.tail
     ∙ (c.in_ok-insert_in_pages.ensures.ok
-    ∙ ap (λ l. insert (joined l) (place_in l c.args.spot) (g.E.Entry.item c.args.x)) (pages_clone g.E.Entry.item c.args.group.now.items c.in_ok-left.left.items c.in_ok-left.ensures.cases.0))
+    ∙ ap (λ l. insert (flattened l) (place_in l c.args.spot) (g.E.Entry.item c.args.x)) (pages_clone g.E.Entry.item c.args.group.now.items c.in_ok-left.left.items c.in_ok-left.ensures.cases.0))
 
 pub returns-clause-groups : goal.returns-clause-groups
 returns-clause-groups g c =

@@ -2,7 +2,7 @@ use Rattle.std.proofs.Common.{◌∙◌, Vec, Global, map, sym, ap, subst}
 use Rattle.std.proofs.lemmas.Result.{on_ok_weaker, on_err_weaker, IfErr-at_err}
 use Rattle.std.specs.List.{insert}
 use Rattle.std.specs.Arc.{arc_value}
-use Rattle.pages.specs.Pages.{leaf_list, joined}
+use Rattle.pages.specs.Pages.{leaf_list, flattened}
 use Rattle.pages.specs.Sorted.{IsGroup, IsSpotIn, place_in}
 use Rattle.pages.proofs.Clones.{branch_clone, on_err, is_ok_from}
 use Rattle.pages.proofs.edit.insert_in_group.Goals as goal
@@ -26,8 +26,8 @@ insert_in_pages-requires-clause-spot g c =
 pub returns-clause-ok : goal.returns-clause-ok
 returns-clause-ok g c =
     on_ok_weaker c.insert_in_pages.result
-    (λ e. ap (λ (v : Vec _ Global). joined (map (leaf_list g.E.Entry.item) v.items)) (c.make_mut.follows.holds _ (is_ok_from _ _ c.in_ok-own.was))
-    ∙ (e ∙ ap (λ l. insert (joined l) (place_in l c.args.spot) (g.E.Entry.item c.args.x)) (branch_clone g.E.Entry.item (arc_value c.args.group.now) _ _ c.in_ok-own.ensures.value)))
+    (λ e. ap (λ (v : Vec _ Global). flattened (map (leaf_list g.E.Entry.item) v.items)) (c.make_mut.follows.holds _ (is_ok_from _ _ c.in_ok-own.was))
+    ∙ (e ∙ ap (λ l. insert (flattened l) (place_in l c.args.spot) (g.E.Entry.item c.args.x)) (branch_clone g.E.Entry.item (arc_value c.args.group.now) _ _ c.in_ok-own.ensures.value)))
     c.insert_in_pages.ensures.ok
 
 pub returns-clause-err : goal.returns-clause-err

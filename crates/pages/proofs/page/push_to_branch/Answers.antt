@@ -1,13 +1,13 @@
 use Rattle.std.proofs.Common.{◌≡◌, ◌∙◌, Vec, Global, length, map, ◌++◌, ◌∷◌, [], sym, ap, subst}
 use Rattle.std.proofs.lemmas.Result.{on_ok_weaker, on_err_weaker, IfErr-at_err}
 use Rattle.std.specs.Arc.{arc_value}
-use Rattle.pages.specs.Pages.{leaf_list, joined, IsPaged}
+use Rattle.pages.specs.Pages.{leaf_list, flattened, IsPaged}
 use Rattle.pages.proofs.Clones.{branch_clone, on_err, is_ok_from}
 use Rattle.pages.proofs.page.push_to_branch.Goals as goal
 
 pub returns-in_err-own-clause-err : goal.returns-in_err-own-clause-err
 returns-in_err-own-clause-err g c =
-    on_err c.from_residual.result (ap joined (branch_clone g.E.Entry.item (arc_value c.args.branch.now) _ _ (IfErr-at_err _ c.in_err-own.was c.make_mut.follows.holds-at-none)))
+    on_err c.from_residual.result (ap flattened (branch_clone g.E.Entry.item (arc_value c.args.branch.now) _ _ (IfErr-at_err _ c.in_err-own.was c.make_mut.follows.holds-at-none)))
 
 pub returns-in_err-own-clause-paged : goal.returns-in_err-own-clause-paged
 returns-in_err-own-clause-paged g c =
@@ -19,18 +19,18 @@ push_to_leaves-requires-clause-paged g c =
 
 pub push_to_leaves-requires-clause-end : goal.push_to_leaves-requires-clause-end
 push_to_leaves-requires-clause-end g c =
-    subst (λ l. c.args.at ≡ length (joined l)) (sym (branch_clone g.E.Entry.item (arc_value c.args.branch.now) _ _ c.in_ok-own.ensures.value)) c.requires.end
+    subst (λ l. c.args.at ≡ length (flattened l)) (sym (branch_clone g.E.Entry.item (arc_value c.args.branch.now) _ _ c.in_ok-own.ensures.value)) c.requires.end
 
 pub returns-clause-ok : goal.returns-clause-ok
 returns-clause-ok g c =
     on_ok_weaker c.push_to_leaves.result
-    (λ e. ap (λ (v : Vec _ Global). joined (map (leaf_list g.E.Entry.item) v.items)) (c.make_mut.follows.holds _ (is_ok_from _ _ c.in_ok-own.was))
-    ∙ (e ∙ ap (λ l. joined l ++ g.E.Entry.item c.args.x ∷ []) (branch_clone g.E.Entry.item (arc_value c.args.branch.now) _ _ c.in_ok-own.ensures.value)))
+    (λ e. ap (λ (v : Vec _ Global). flattened (map (leaf_list g.E.Entry.item) v.items)) (c.make_mut.follows.holds _ (is_ok_from _ _ c.in_ok-own.was))
+    ∙ (e ∙ ap (λ l. flattened l ++ g.E.Entry.item c.args.x ∷ []) (branch_clone g.E.Entry.item (arc_value c.args.branch.now) _ _ c.in_ok-own.ensures.value)))
     c.push_to_leaves.ensures.ok
 
 pub returns-clause-err : goal.returns-clause-err
 returns-clause-err g c =
     on_err_weaker c.push_to_leaves.result
-    (λ e. ap (λ (v : Vec _ Global). joined (map (leaf_list g.E.Entry.item) v.items)) (c.make_mut.follows.holds _ (is_ok_from _ _ c.in_ok-own.was))
-    ∙ ap joined (e ∙ branch_clone g.E.Entry.item (arc_value c.args.branch.now) _ _ c.in_ok-own.ensures.value))
+    (λ e. ap (λ (v : Vec _ Global). flattened (map (leaf_list g.E.Entry.item) v.items)) (c.make_mut.follows.holds _ (is_ok_from _ _ c.in_ok-own.was))
+    ∙ ap flattened (e ∙ branch_clone g.E.Entry.item (arc_value c.args.branch.now) _ _ c.in_ok-own.ensures.value))
     c.push_to_leaves.ensures.err

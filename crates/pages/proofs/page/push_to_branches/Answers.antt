@@ -1,7 +1,7 @@
 use Rattle.std.proofs.Common.{◌*◌, ◌∙◌, ◌<◌, ◌≤◌, ◌/◌, List, map, length, ap, sym, subst, arith}
 use Rattle.std.proofs.lemmas.Result.{on_ok_weaker, on_err_weaker}
 use Rattle.std.proofs.lemmas.List.Elements.{All-set, All-push}
-use Rattle.pages.specs.Pages.{Page, branch_list, joined, IsBranch, AreBranches}
+use Rattle.pages.specs.Pages.{Page, branch_list, flattened, IsBranch, AreBranches}
 use Rattle.pages.proofs.Clones.{in_either}
 use Rattle.pages.proofs.Pieces.{room_len, branch_new, is_branch_new, whole_push, page_push, whole_same, still_paged, vec_room, vec_full}
 use Rattle.pages.proofs.page.push_to_branches.Goals as goal
@@ -19,7 +19,7 @@ returns-then-at-len-clause-ok g c =
 pub returns-then-at-len-clause-err : goal.returns-then-at-len-clause-err
 returns-then-at-len-clause-err g c =
     let room : c.args.at / (g.row.LEAF * 128) < length c.args.branches.now.items = vec_room c.args.branches.now _ c.len.result c.len.ensures c.if-at-len.true in
-    on_err_weaker c.push_to_branch.result (λ e. ap joined (whole_same (branch_list g.E.Entry.item) c.args.branches.now.items (c.args.at / (g.row.LEAF * 128)) c.index_mut.result.now c.push_to_branch.new.branch room c.index_mut.ensures.value e)) c.push_to_branch.ensures.err
+    on_err_weaker c.push_to_branch.result (λ e. ap flattened (whole_same (branch_list g.E.Entry.item) c.args.branches.now.items (c.args.at / (g.row.LEAF * 128)) c.index_mut.result.now c.push_to_branch.new.branch room c.index_mut.ensures.value e)) c.push_to_branch.ensures.err
 
 pub returns-then-at-len-clause-branches : goal.returns-then-at-len-clause-branches
 returns-then-at-len-clause-branches g c =
@@ -35,7 +35,7 @@ returns-then-at-len-clause-branches g c =
 pub returns-clause-ok : goal.returns-clause-ok
 returns-clause-ok g c =
     let full : length c.args.branches.now.items ≤ c.args.at / (g.row.LEAF * 128) = vec_full c.args.branches.now _ c.len.result c.len.ensures c.if-at-len.false in
-    ap (λ l. joined (map (branch_list g.E.Entry.item) l)) c.in_ok-push.ensures.items
+    ap (λ l. flattened (map (branch_list g.E.Entry.item) l)) c.in_ok-push.ensures.items
     ∙ (page_push (branch_list g.E.Entry.item) (g.row.LEAF * 128) c.args.branches.now.items c.args.at c.in_ok-branch_of.field-0 (g.E.Entry.item c.args.x) (omega (arith, c.requires.size.0)) c.requires.branches.paged c.requires.end full (branch_new g.E.Entry.item c.in_ok-branch_of.field-0 _ c.in_ok-branch_of.ensures)).0
 
 pub returns-clause-branches : goal.returns-clause-branches

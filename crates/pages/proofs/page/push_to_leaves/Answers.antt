@@ -1,6 +1,6 @@
 use Rattle.std.proofs.Common.{◌∙◌, ◌<◌, ◌≤◌, ◌/◌, map, length, ap, sym, subst, arith}
 use Rattle.std.proofs.lemmas.Result.{on_ok_weaker, on_err_weaker}
-use Rattle.pages.specs.Pages.{leaf_list, joined, IsPaged}
+use Rattle.pages.specs.Pages.{leaf_list, flattened, IsPaged}
 use Rattle.pages.proofs.Clones.{in_either}
 use Rattle.pages.proofs.Pieces.{whole_push, page_push, whole_same, still_paged, vec_room, vec_full}
 use Rattle.pages.proofs.page.push_to_leaves.Goals as goal
@@ -26,7 +26,7 @@ returns-then-at-len-clause-paged g c =
 pub returns-clause-ok : goal.returns-clause-ok
 returns-clause-ok g c =
     let full : length c.args.leaves.now.items ≤ c.args.at / g.row.LEAF = vec_full c.args.leaves.now _ c.len.result c.len.ensures c.if-at-len.false in
-    ap (λ l. joined (map (leaf_list g.E.Entry.item) l)) c.in_ok-push.ensures.items
+    ap (λ l. flattened (map (leaf_list g.E.Entry.item) l)) c.in_ok-push.ensures.items
     ∙ (page_push (leaf_list g.E.Entry.item) g.row.LEAF c.args.leaves.now.items c.args.at c.in_ok-leaf_of.field-0 (g.E.Entry.item c.args.x) (omega (arith, c.requires.size.0)) c.requires.paged c.requires.end full c.in_ok-leaf_of.ensures).0
 
 pub returns-clause-paged : goal.returns-clause-paged

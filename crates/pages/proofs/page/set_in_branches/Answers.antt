@@ -1,7 +1,7 @@
 use Rattle.std.proofs.Common.{◌*◌, ◌∙◌, ◌/◌, ◌%◌, length, length-set, arith, ap}
 use Rattle.std.proofs.lemmas.Result.{on_ok_weaker, on_err_weaker}
 use Rattle.std.proofs.lemmas.List.Elements.{All-set}
-use Rattle.pages.specs.Pages.{branch_list, IsBranch, joined}
+use Rattle.pages.specs.Pages.{branch_list, IsBranch, flattened}
 use Rattle.pages.proofs.Clones.{in_either}
 use Rattle.pages.proofs.Pieces.{held_by, page_in, item_in_page, whole_set, whole_same, still_paged, vec_bound, all_read}
 use Rattle.pages.proofs.page.set_in_branches.Goals as goal
@@ -24,7 +24,7 @@ returns-clause-ok g c =
 
 pub returns-clause-err : goal.returns-clause-err
 returns-clause-err g c =
-    on_err_weaker c.set_in_branch.result (λ e. ap joined (whole_same (branch_list g.E.Entry.item) c.args.branches.now.items (c.args.at / (g.row.LEAF * 128)) c.index_mut.result.now c.set_in_branch.new.branch (page_in (branch_list g.E.Entry.item) c.args.branches.now.items c.args.at _ _ (held_by (branch_list g.E.Entry.item) (g.row.LEAF * 128) c.args.branches.now.items c.args.at (omega (arith, c.requires.size.0)) c.requires.branches.paged c.requires.held)) c.index_mut.ensures.value e)) c.set_in_branch.ensures.err
+    on_err_weaker c.set_in_branch.result (λ e. ap flattened (whole_same (branch_list g.E.Entry.item) c.args.branches.now.items (c.args.at / (g.row.LEAF * 128)) c.index_mut.result.now c.set_in_branch.new.branch (page_in (branch_list g.E.Entry.item) c.args.branches.now.items c.args.at _ _ (held_by (branch_list g.E.Entry.item) (g.row.LEAF * 128) c.args.branches.now.items c.args.at (omega (arith, c.requires.size.0)) c.requires.branches.paged c.requires.held)) c.index_mut.ensures.value e)) c.set_in_branch.ensures.err
 
 pub returns-clause-branches : goal.returns-clause-branches
 returns-clause-branches g c = record {

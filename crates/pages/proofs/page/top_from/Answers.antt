@@ -1,5 +1,5 @@
 use Rattle.std.proofs.Common.{◌*◌, ◌<◌, ◌∙◌, ◌/◌, ◌%◌, List, length, map, drop, arith, sym, ap, subst}
-use Rattle.pages.specs.Pages.{Page, leaf_list, branch_list, joined, IsBranch, IsPrefix}
+use Rattle.pages.specs.Pages.{Page, leaf_list, branch_list, flattened, IsBranch, IsPrefix}
 use Rattle.pages.proofs.Pieces.{held_by, page_in, item_in_page, prefix_in}
 use Rattle.pages.proofs.page.top_from.Goals as goal
 
@@ -21,4 +21,4 @@ branch_from-requires-clause-held g c =
 pub returns-clause-prefix : goal.returns-clause-prefix
 returns-clause-prefix g c =
     prefix_in (branch_list g.E.Entry.item) c.args.top.now c.args.at _ _ c.index-top-at.result _ (held_by (branch_list g.E.Entry.item) (g.row.LEAF * 128) c.args.top.now c.args.at (omega (arith, c.requires.size.0)) c.requires.branches.paged c.requires.held) c.index-top-at.is
-    (subst (λ (l : List (Page _)). IsPrefix (map g.E.Entry.item c.branch_from.result.now) (drop (c.args.at % (g.row.LEAF * 128)) (joined (map (leaf_list g.E.Entry.item) l)))) (c.as_slice.ensures.value ∙ ap (λ v. v.items) c.deref.ensures) c.branch_from.ensures.prefix)
+    (subst (λ (l : List (Page _)). IsPrefix (map g.E.Entry.item c.branch_from.result.now) (drop (c.args.at % (g.row.LEAF * 128)) (flattened (map (leaf_list g.E.Entry.item) l)))) (c.as_slice.ensures.value ∙ ap (λ v. v.items) c.deref.ensures) c.branch_from.ensures.prefix)

@@ -1,4 +1,4 @@
-use Rattle.std.proofs.Common.{◌≡◌, ◌∙◌, ◌<◌, List, map, length, slice_get, sym, ap, arith}
+use Rattle.std.proofs.Common.{◌∙◌, List, map, slice_get, sym, ap, arith}
 use Rattle.std.proofs.lemmas.List.{length-map}
 use Rattle.pages.specs.Pages.{groups_of}
 use Rattle.pages.specs.Sorted.{place_of, entries_of}

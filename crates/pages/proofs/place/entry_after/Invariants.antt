@@ -1,4 +1,4 @@
-use Rattle.std.proofs.Common.{◌≡◌, ◌+◌, length}
+use Rattle.std.proofs.Common.{◌≡◌, ◌+◌}
 use Rattle.pages.specs.Pages.{groups_of}
 use Rattle.pages.specs.Sorted.{place_of, IsSpot}
 use Rattle.pages.proofs.place.entry_after.Given as goal

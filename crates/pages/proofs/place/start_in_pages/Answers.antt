@@ -1,5 +1,5 @@
-use Rattle.std.proofs.Common.{◌≡◌, ◌<◌, ◌≤◌, ◌+◌, length, arith}
-use Rattle.pages.specs.Pages.{leaf_list, leaf_lists}
+use Rattle.std.proofs.Common.{◌≡◌, ◌<◌, length, arith}
+use Rattle.pages.specs.Pages.{leaf_list}
 use Rattle.pages.proofs.Inserts.{page_len}
 use Rattle.pages.proofs.Counts.{count_next, count_fits}
 use Rattle.pages.proofs.place.start_in_pages.Goals as goal

@@ -1,7 +1,7 @@
 use Rattle.std.proofs.Common.{◌∙◌, Vec, Global, map, sym, ap, subst}
 use Rattle.std.proofs.lemmas.Result.{on_ok_weaker, on_err_weaker, IfErr-at_err}
 use Rattle.std.specs.Arc.{arc_value}
-use Rattle.pages.specs.Pages.{leaf_list, joined, IsChanged}
+use Rattle.pages.specs.Pages.{leaf_list, flattened}
 use Rattle.pages.specs.Sorted.{IsGroup, HasEntryIn, place_in}
 use Rattle.pages.proofs.Clones.{branch_clone, on_err, is_ok_from}
 use Rattle.pages.proofs.Changes.{changed_in}
@@ -26,9 +26,9 @@ change_in_pages-requires-clause-entry g c =
 pub returns-clause-ok : goal.returns-clause-ok
 returns-clause-ok g c =
     on_ok_weaker c.change_in_pages.result
-    (changed_in (g.C.WholeChange.after c.args.change.now) joined (λ l. place_in l c.args.spot)
+    (changed_in (g.C.WholeChange.after c.args.change.now) flattened (λ l. place_in l c.args.spot)
     (branch_clone g.E.Entry.item (arc_value c.args.group.now) _ _ c.in_ok-own.ensures.value)
-    (ap (λ (v : Vec _ Global). joined (map (leaf_list g.E.Entry.item) v.items)) (c.make_mut.follows.holds _ (is_ok_from _ _ c.in_ok-own.was))))
+    (ap (λ (v : Vec _ Global). flattened (map (leaf_list g.E.Entry.item) v.items)) (c.make_mut.follows.holds _ (is_ok_from _ _ c.in_ok-own.was))))
     c.change_in_pages.ensures.ok
 
 pub returns-clause-err : goal.returns-clause-err

@@ -4,7 +4,7 @@ use Rattle.std.proofs.lemmas.List.{length-map}
 use Rattle.pages.specs.Pages.{branch_parts, groups_of}
 use Rattle.pages.proofs.Pieces.{whole_same}
 use Rattle.pages.proofs.Groups.{entry_group}
-use Rattle.pages.proofs.GroupWrites.{replaced, groups_set, spot_changed}
+use Rattle.pages.proofs.GroupWrites.{groups_set, spot_changed}
 use Rattle.pages.proofs.rewrite.change_in_groups.Goals as goal
 
 pub returns-clause-ok : goal.returns-clause-ok

@@ -12,7 +12,7 @@ use Rattle.pages.proofs.search.find_in_pages.Goals as goal
 pub returns-then-count-eq0-clause-absent : goal.returns-then-count-eq0-clause-absent
 returns-then-count-eq0-clause-absent g c split =
     gap_first (g.P.Probe.order c.args.probe.now) (map (leaf_list g.E.Entry.item) c.args.pages.now) (some_kept _ c.requires) split
-    (λ j l b. c.pages_before-count.ensures.high split j (omega arith) b)
+    (λ j l b. (c.pages_before-count.ensures.starts split).high j (omega arith) b)
 
 pub returns-in-Ok-clause-found : goal.returns-in-Ok-clause-found
 returns-in-Ok-clause-found g c split =
@@ -25,8 +25,8 @@ pub returns-in-Err-clause-absent : goal.returns-in-Err-clause-absent
 returns-in-Err-clause-absent g c split =
     absent_in (leaf_list g.E.Entry.item) (g.P.Probe.order c.args.probe.now) c.args.pages.now (c.pages_before-count.result - 1) c.index-pages-page.result (omega (arith, c.pages_before-count.ensures.inside)) c.index-pages-page.is c.in-Err.at
     (some_kept _ c.requires) split
-    (c.pages_before-count.ensures.low split (c.pages_before-count.result - 1) (omega arith))
-    (λ j l b. c.pages_before-count.ensures.high split j (omega arith) b)
+    ((c.pages_before-count.ensures.starts split).low (c.pages_before-count.result - 1) (omega arith))
+    (λ j l b. (c.pages_before-count.ensures.starts split).high j (omega arith) b)
     (subst (λ (l : List _). IsGap (g.P.Probe.order c.args.probe.now) (map g.E.Entry.item l) c.in-Err.at) (c.as_slice.ensures.value ∙ ap (λ v. v.items) c.deref.ensures) (c.in-Err.ensures.absent (subst (λ l. IsNonDecreasingBy (λ y. ordering_index (g.P.Probe.order c.args.probe.now y)) l)
     (part_at (leaf_list g.E.Entry.item) c.args.pages.now (c.pages_before-count.result - 1) c.index-pages-page.result (omega (arith, c.pages_before-count.ensures.inside)) c.index-pages-page.is ∙ ap (map g.E.Entry.item) (sym (c.as_slice.ensures.value ∙ ap (λ v. v.items) c.deref.ensures)))
     (rises_in (g.P.Probe.order c.args.probe.now) (map (leaf_list g.E.Entry.item) c.args.pages.now) (c.pages_before-count.result - 1) split (omega (arith, c.pages_before-count.ensures.inside, length-map c.args.pages.now (leaf_list g.E.Entry.item)))))))

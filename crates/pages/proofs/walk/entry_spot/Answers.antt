@@ -1,6 +1,6 @@
 use Rattle.std.proofs.Common.{◌≡◌, ◌<◌, ◌≤◌, ◌∙◌, [], List, map, length, get_or, arith, sym, ap, subst}
 use Rattle.std.proofs.lemmas.List.{length-map}
-use Rattle.pages.specs.Pages.{leaf_list, branch_parts, joined}
+use Rattle.pages.specs.Pages.{leaf_list, branch_parts, flattened}
 use Rattle.pages.specs.Sorted.{place_in}
 use Rattle.pages.proofs.Pieces.{part_at}
 use Rattle.pages.proofs.Walks.{slice_within, turned_group, last_group}
@@ -14,7 +14,7 @@ returns-then-group-groups-clause-same g c =
     part_at (branch_parts g.E.Entry.item) c.args.groups.now c.args.spot.group c.index-groups-group.result within c.index-groups-group.is
     ∙ ap (map (leaf_list g.E.Entry.item)) (sym (c.as_slice.ensures.value ∙ ap (λ v. v.items) c.deref.ensures)) in
     (turned_group groups c.args.spot (omega (arith, length-map c.args.groups.now (branch_parts g.E.Entry.item))) c.requires.groups c.requires.spot.spot_in
-    (subst (λ l. length (joined l) ≤ place_in l c.args.spot) (sym is) c.in-None.ensures.none)
+    (subst (λ l. length (flattened l) ≤ place_in l c.args.spot) (sym is) c.in-None.ensures.none)
     (omega (arith, c.if-group-groups.true, length-map c.args.groups.now (branch_parts g.E.Entry.item)))).1
 
 pub returns-else-group-groups-clause-none : goal.returns-else-group-groups-clause-none
@@ -25,5 +25,5 @@ returns-else-group-groups-clause-none g c =
     part_at (branch_parts g.E.Entry.item) c.args.groups.now c.args.spot.group c.index-groups-group.result within c.index-groups-group.is
     ∙ ap (map (leaf_list g.E.Entry.item)) (sym (c.as_slice.ensures.value ∙ ap (λ v. v.items) c.deref.ensures)) in
     last_group groups c.args.spot (omega (arith, length-map c.args.groups.now (branch_parts g.E.Entry.item))) c.requires.groups c.requires.spot.spot_in
-    (subst (λ l. length (joined l) ≤ place_in l c.args.spot) (sym is) c.in-None.ensures.none)
+    (subst (λ l. length (flattened l) ≤ place_in l c.args.spot) (sym is) c.in-None.ensures.none)
     (omega (arith, c.if-group-groups.false, length-map c.args.groups.now (branch_parts g.E.Entry.item)))

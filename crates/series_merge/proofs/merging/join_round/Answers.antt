@@ -2,7 +2,7 @@ use Rattle.std.proofs.Common.{List, [], reverse}
 use Rattle.std.proofs.lemmas.Bool.{and_parts, and_from}
 use Rattle.std.proofs.lemmas.List.Elements.{All-pop}
 use Rattle.labels.specs.Rows.{Row}
-use Rattle.series_merge.specs.Merging.{joined}
+use Rattle.series_merge.specs.Merging.{joined_rows}
 use Rattle.series_merge.proofs.JoinSteps.{Rises, joined_step}
 use Rattle.series_merge.proofs.merging.join_round.Goals as goal
 
@@ -11,12 +11,12 @@ loop-row-preserved c =
     let l = c.loop-row in
     let rest : List Row = c.pop.new.self.items in
     let row : Row = c.in-Some.row in
-    let whole = joined c.args.rows.items [] in
+    let whole = joined_rows c.args.rows.items [] in
     let put = c.in_ok-put.ensures in
     record {
       same =
-          joined_step l.rows.items rest row (joined (reverse l.later.items) [])
-          (joined (reverse c.join_row.new.later.items) []) whole c.in-Some.ensures.items
+          joined_step l.rows.items rest row (joined_rows (reverse l.later.items) [])
+          (joined_rows (reverse c.join_row.new.later.items) []) whole c.in-Some.ensures.items
           l.invariant.same put.same;
       whole = λ w.
           let both = and_parts l.whole c.in_ok-put.put w in
