@@ -1,28 +1,26 @@
 -- What spells an index of a block spells its series, whatever its postings are.
-use Rattle.std.proofs.Common.{◌≡◌, ℕ, zero, suc, ◌+◌, ◌-◌, ◌<◌, ◌≤◌, true, List, [], ◌∷◌, ◌++◌, length, get_or, map, take, drop, refl, sym, ◌∙◌, ap, subst, length-append, arith}
+use Rattle.std.proofs.Common.{◌≡◌, ℕ, zero, suc, ◌+◌, ◌<◌, ◌≤◌, true, List, [], ◌∷◌, ◌++◌, length, get_or, map, refl, sym, ◌∙◌, ap, subst, inl, inr, arith}
 use Rattle.std.specs.Prelude.{◌&&◌}
-use Rattle.std.specs.List.{flat_map}
+use Rattle.std.specs.List.{Contains, flat_map}
 use Rattle.std.specs.declared.cmp.Ordering.TheVariants.{Less}
-use Rattle.std.proofs.lemmas.List.{length-map, length-take}
+use Rattle.std.proofs.lemmas.List.{length-map}
 use Rattle.wire.specs.Spelling.{uvarint}
+use Rattle.labels.proofs.Lists.{here, there, Contains-cases, none_in_nil}
 use Rattle.labels.specs.Labels.{Labels, labels_cmp}
 use Rattle.index_reader.specs.declared.layout.TableOfContents as kept_contents
 use Rattle.index_reader.specs.declared.chunk.Chunk as kept_chunk
 use Rattle.index_reader.specs.Layout as index_layout
 use Rattle.index_reader.specs.Grammar as grammar
-use Rattle.index_reader.specs.EntryChecks as entry_checks
 use Rattle.index_reader.specs.Spelled as spelled
 use Rattle.index_reader.specs.Indexes as indexes
-use Rattle.index_reader.proofs.Gaps.{gaps_of}
 use Rattle.auditor.specs.declared.walk.contents.Contents.{Contents}
 use Rattle.auditor.specs.declared.walk.chunk.Chunk.{Chunk}
 use Rattle.auditor.specs.IndexFile.Reading.{IsPlaced, Place, Parts, ascending, is_less, series_end}
 use Rattle.auditor.specs.IndexFile.Grammar.{IsSymbolTable, IsWalk, IsParts}
 use Rattle.auditor.specs.IndexFile.Bodies.{Label, Body}
-use Rattle.auditor.specs.IndexFile.Flat.{zero_between, gaps_zero}
 use Rattle.auditor.specs.IndexFile.Labelled.{IsLabel, AreLabels}
 use Rattle.auditor.specs.IndexFile.Series.{Series, references, label_sets, series_at, series_of}
-use Rattle.auditor.specs.IndexFile.Spelled.{IsFirst, IsLater, AreLater, AreChunks, IsBody, AreBodies, AreInOrder, IsIndex}
+use Rattle.auditor.specs.IndexFile.Spelled.{IsFirst, IsLater, AreLater, AreChunks, IsBody, AreBodies, AreZero, AreInOrder, IsIndex}
 
 -- the auditor's words for what the store's reader has
 
@@ -202,31 +200,21 @@ few_again (b ∷ bs) few (suc k) d lt =
 
 -- the bytes between the entries
 
-gaps_again : (ps : List index_layout.SeriesEntry) (file : List ℕ) (end from : ℕ)
-    → gaps_zero file end from (map place_told ps) ≡ entry_checks.gaps_zero file end from ps
-unfolding gaps_zero entry_checks.gaps_zero
-gaps_again [] file end from = refl
-gaps_again (p ∷ ps) file end from =
-    ap (λ b. zero_between file from p.offset && b) (gaps_again ps file end p.end)
+told_of : (ps : List index_layout.SeriesEntry) (p : index_layout.SeriesEntry) → Contains ps p
+    → Contains (map place_told ps) (place_told p)
+told_of [] p c = absurd (none_in_nil p c)
+told_of (q ∷ ps) p c =
+    elim (Contains-cases q ps p c) [
+      | inl e ↦
+          subst (λ (x : Place). Contains (place_told q ∷ map place_told ps) x) (ap place_told e)
+          (here (place_told q) (map place_told ps))
+      | inr m ↦ there (place_told q) (place_told p) (map place_told ps) (told_of ps p m)
+    ]
 
-zeros_again : (file : List ℕ) (x : index_layout.Layout) → grammar.IsLayout file x
-    → spelled.AreZero file x.symbols_end (index_layout.series_end x.contents) x.entries
-    → gaps_zero file (index_layout.series_end x.contents) x.symbols_end (map place_told x.entries)
-    ≡ true
-zeros_again file x i zeros =
-    let t = x.contents in
-    let stands = i.symbols.1 in
-    let front : x.symbols_end ≤ index_layout.rounded t.series = omega (
-      arith,
-      i.symbols.3,
-      i.placed.series,
-      ap length stands.1,
-      length-append (grammar.frame i.symbols.0) stands.0,
-      length-take (t.series - 5) (drop 5 file),
-    ) in
-    gaps_again x.entries file (index_layout.series_end t) x.symbols_end
-    ∙ gaps_of x.entries file (index_layout.series_end t) (index_layout.rounded t.series)
-    x.symbols_end i.entries front zeros
+zeros_again : (file : List ℕ) (from to : ℕ) (ps : List index_layout.SeriesEntry)
+    → spelled.AreZero file from to ps → AreZero file from to (map place_told ps)
+zeros_again file from to ps zeros k low high none =
+    zeros k low high (λ p c lies. none (place_told p) (told_of ps p c) lies)
 
 -- the series
 
@@ -266,7 +254,9 @@ index_again file x i = record {
   layout = layout_again file i.parts i.layout;
   bodies = map body_told i.bodies;
   spelled = bodies_again i.parts.symbols i.parts.entries i.bodies i.spelled;
-  gaps = zeros_again file i.parts i.layout i.gaps;
+  gaps =
+      zeros_again file i.parts.symbols_end (index_layout.series_end i.parts.contents)
+      i.parts.entries i.gaps;
   series_are =
       ap (λ (ss : List indexes.Series). map series_told ss) i.series
       ∙ sym (series_again i.parts.symbols i.parts.entries i.bodies);

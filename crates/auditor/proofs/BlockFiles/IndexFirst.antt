@@ -19,6 +19,7 @@ use Rattle.wire.proofs.Steps.{bind_ok}
 use Rattle.auditor.proofs.IndexFile.Walks.{ok_is}
 use Rattle.auditor.proofs.IndexFile.Whole.{parts_take, parts_again}
 use Rattle.auditor.proofs.IndexFile.Sound.{few_symbols}
+use Rattle.auditor.proofs.IndexFile.Gaps.{zeros_of, gaps_in}
 use Rattle.auditor.proofs.IndexFile.Spelling.{walk_bytes, bodies_spelled}
 use Rattle.auditor.proofs.IndexFile.BodyAgain.{bodies_again}
 use Rattle.auditor.proofs.IndexFile.Facts.{bodied, chain, in_order_so, is_index}
@@ -97,7 +98,7 @@ has_bodies file p bs fits layout read gaps = record {
   spelled =
       bodies_spelled p.symbols p.entries bs (walk_bytes p.entries file (series_end p.contents)
       (rounded p.contents.series) fits layout.entries) read;
-  gaps = gaps;
+  gaps = zeros_of p.entries file (series_end p.contents) p.symbols_end gaps;
   series_are = refl;
 }
 
@@ -122,7 +123,7 @@ bodies_first f e rest p fits parts h =
                   let b = bodies_are file p o.0 fits parts o.1 in
                   let moved =
                   subst (λ (y : Parts). gaps_zero file (series_end y.contents) y.symbols_end
-                  y.entries ≡ true) b.0 o.1.gaps in
+                  y.entries ≡ true) b.0 (gaps_in file o.1.parts o.1.layout o.1.gaps) in
                   true_not gaps moved g.0,
               is_refusal (List Body) Series e g.1,
             )

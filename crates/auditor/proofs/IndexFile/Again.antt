@@ -23,6 +23,7 @@ use Rattle.auditor.specs.IndexFile.Spelled.{AreBodies, AreInOrder, IsIndex}
 use Rattle.auditor.proofs.IndexFile.Walks.{done}
 use Rattle.auditor.proofs.IndexFile.Whole.{parts_again}
 use Rattle.auditor.proofs.IndexFile.Sound.{few_symbols}
+use Rattle.auditor.proofs.IndexFile.Gaps.{gaps_in}
 use Rattle.auditor.proofs.IndexFile.Orders.{InTable, label_sets_cmp}
 use Rattle.auditor.proofs.IndexFile.Facts.{in_table, set_at, sets_are, series_length}
 use Rattle.auditor.proofs.IndexFile.BodyAgain.{bodies_again}
@@ -148,7 +149,7 @@ index_again file x fits i =
     let length_is : length x ≡ length bs =
     ap (λ (ss : List Series). length ss) i.series_are ∙ series_length symbols p.entries bs count in
     let b =
-    bodies_read file p bs a i.gaps
+    bodies_read file p bs a (gaps_in file p i.layout i.gaps)
     (order_again file p bs x i.layout i.spelled i.series_are i.in_order) in
     let e = le-ltb 1048576 (length bs) (omega (arith, length_is, i.few)) in
     let r =

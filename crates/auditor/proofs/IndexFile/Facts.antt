@@ -28,6 +28,7 @@ use Rattle.auditor.specs.IndexFile.Spelled.{AreInOrder, IsIndex}
 use Rattle.auditor.proofs.IndexFile.WalkLoops.{guard_ended}
 use Rattle.wire.proofs.Steps.{bind_ok}
 use Rattle.auditor.proofs.IndexFile.OneByOne.{each_length}
+use Rattle.auditor.proofs.IndexFile.Gaps.{zeros_of}
 use Rattle.auditor.proofs.IndexFile.Orders.{InTable, label_sets_cmp}
 use Rattle.auditor.proofs.IndexFile.Naming.{bodies_take}
 use Rattle.auditor.proofs.IndexFile.Spelling.{walk_bytes, bodies_spelled}
@@ -222,7 +223,8 @@ is_index file r fits p h =
           bodies_spelled symbols entries r.bodies (walk_bytes entries file
           (series_end r.parts.contents) (rounded r.parts.contents.series) fits p.entries)
           c.bodies.read;
-      gaps = c.bodies.gaps;
+      gaps =
+          zeros_of entries file (series_end r.parts.contents) r.parts.symbols_end c.bodies.gaps;
       series_are = refl;
       in_order = in_order_so file r.parts r.bodies p c.bodies;
       few = omega (arith, count, c.few);

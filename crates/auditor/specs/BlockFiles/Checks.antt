@@ -24,9 +24,8 @@ use Rattle.wire.specs.Checksum.{checked}
 use Rattle.auditor.specs.IndexFile.Grammar.{contents_text, frame, StandsAt, IsSymbolTable}
 use Rattle.auditor.specs.IndexFile.Grammar.{IsParts}
 use Rattle.auditor.specs.IndexFile.Bodies.{Body}
-use Rattle.auditor.specs.IndexFile.Flat.{gaps_zero}
 use Rattle.auditor.specs.IndexFile.Series as series
-use Rattle.auditor.specs.IndexFile.Spelled.{AreBodies, AreInOrder, IsIndex}
+use Rattle.auditor.specs.IndexFile.Spelled.{AreBodies, AreZero, AreInOrder, IsIndex}
 use Rattle.auditor.specs.BlockFiles.Reading.{each, series_check}
 use Rattle.auditor.specs.BlockFiles.Spelled.{AreSpelled, IsWalked}
 
@@ -68,13 +67,13 @@ pub record HasFrame (index : List ℕ) (content : List ℕ) : Type 0 where
   pub placed : IsPlaced t (length index)
   pub stands : StandsAt index 5 t.series (frame content)
 
--- the entries are laid out so, a body stands in each, and nothing but zeros between them
+-- the entries are laid out so, a body stands in each, and each byte between that lies in none is 0
 pub record HasBodies (index : List ℕ) (ss : List series.Series) : Type 0 where
   pub parts : Parts
   pub layout : IsParts index parts
   pub bodies : List Body
   pub spelled : AreBodies parts.symbols parts.entries bodies
-  pub gaps : gaps_zero index (series_end parts.contents) parts.symbols_end parts.entries ≡ true
+  pub gaps : AreZero index parts.symbols_end (series_end parts.contents) parts.entries
   pub series_are : ss ≡ series.series_of parts.symbols parts.entries bodies
 
 -- samples stand in the chunks that a series names
