@@ -1,7 +1,7 @@
 -- What spells an index of a block spells its series, whatever its postings are.
-use Rattle.std.proofs.Common.{◌≡◌, ℕ, zero, suc, ◌+◌, ◌<◌, ◌≤◌, true, List, [], ◌∷◌, ◌++◌, length, get_or, map, refl, sym, ◌∙◌, ap, subst, inl, inr, arith}
+use Rattle.std.proofs.Common.{◌≡◌, ℕ, zero, suc, ◌+◌, ◌<◌, ◌≤◌, List, [], ◌∷◌, ◌++◌, length, get_or, map, refl, sym, ◌∙◌, ap, subst, inl, inr, arith}
 use Rattle.std.specs.Prelude.{◌&&◌}
-use Rattle.std.specs.List.{Contains, flat_map}
+use Rattle.std.specs.List.{Contains}
 use Rattle.std.specs.declared.cmp.Ordering.TheVariants.{Less}
 use Rattle.std.proofs.lemmas.List.{length-map}
 use Rattle.wire.specs.Spelling.{uvarint}
@@ -15,10 +15,9 @@ use Rattle.index_reader.specs.Spelled as spelled
 use Rattle.index_reader.specs.Indexes as indexes
 use Rattle.auditor.specs.declared.walk.contents.Contents.{Contents}
 use Rattle.auditor.specs.declared.walk.chunk.Chunk.{Chunk}
-use Rattle.auditor.specs.IndexFile.Reading.{IsPlaced, Place, Parts, ascending, is_less, series_end}
-use Rattle.auditor.specs.IndexFile.Grammar.{IsSymbolTable, IsWalk, IsParts}
-use Rattle.auditor.specs.IndexFile.Bodies.{Label, Body}
-use Rattle.auditor.specs.IndexFile.Labelled.{IsLabel, AreLabels}
+use Rattle.auditor.specs.IndexFile.Layout.{IsPlaced, SeriesEntry, Layout, ascending, is_less, Label, Body}
+use Rattle.auditor.specs.IndexFile.Grammar.{IsSymbolTable, IsWalk, IsLayout}
+use Rattle.auditor.specs.IndexFile.Labelled.{AreLabels}
 use Rattle.auditor.specs.IndexFile.Series.{Series, references, label_sets, series_at, series_of}
 use Rattle.auditor.specs.IndexFile.Spelled.{IsFirst, IsLater, AreLater, AreChunks, IsBody, AreBodies, AreZero, AreInOrder, IsIndex}
 
@@ -34,15 +33,15 @@ contents_told t = record {
   postings_offsets = t.postings_offsets;
 }
 
-abbrev pub place_told : index_layout.SeriesEntry → Place
-place_told p = record { offset = p.offset; body = p.body; end = p.end }
+abbrev pub entry_told : index_layout.SeriesEntry → SeriesEntry
+entry_told p = record { offset = p.offset; body = p.body; end = p.end }
 
-abbrev pub parts_told : index_layout.Layout → Parts
-parts_told x = record {
+abbrev pub layout_told : index_layout.Layout → Layout
+layout_told x = record {
   contents = contents_told x.contents;
   symbols = x.symbols;
   symbols_end = x.symbols_end;
-  entries = map place_told x.entries;
+  entries = map entry_told x.entries;
 }
 
 abbrev pub chunk_told : kept_chunk.Chunk → Chunk
@@ -83,7 +82,7 @@ symbols_again content symbols t =
     record { text = t.text; order = ascending_again symbols ∙ t.order; texts = t.texts }
 
 walk_again : (ps : List index_layout.SeriesEntry) (file : List ℕ) (end at : ℕ)
-    → grammar.IsWalk file end at ps → IsWalk file end at (map place_told ps)
+    → grammar.IsWalk file end at ps → IsWalk file end at (map entry_told ps)
 walk_again [] file end at w = w
 walk_again (p ∷ ps) file end at w = (
   w.0,
@@ -94,7 +93,7 @@ walk_again (p ∷ ps) file end at w = (
 )
 
 layout_again : (file : List ℕ) (x : index_layout.Layout) → grammar.IsLayout file x
-    → IsParts file (parts_told x)
+    → IsLayout file (layout_told x)
 layout_again file x i = record {
   start = i.start;
   contents = i.contents;
@@ -182,7 +181,7 @@ body_again symbols b text i = record {
 
 bodies_again : (symbols : List (List ℕ)) (ps : List index_layout.SeriesEntry)
     (bs : List index_layout.Body) → spelled.AreBodies symbols ps bs
-    → AreBodies symbols (map place_told ps) (map body_told bs)
+    → AreBodies symbols (map entry_told ps) (map body_told bs)
 bodies_again symbols [] [] are = tt
 bodies_again symbols [] (b ∷ bs) are = absurd are
 bodies_again symbols (p ∷ ps) [] are = absurd are
@@ -201,31 +200,31 @@ few_again (b ∷ bs) few (suc k) d lt =
 -- the bytes between the entries
 
 told_of : (ps : List index_layout.SeriesEntry) (p : index_layout.SeriesEntry) → Contains ps p
-    → Contains (map place_told ps) (place_told p)
+    → Contains (map entry_told ps) (entry_told p)
 told_of [] p c = absurd (none_in_nil p c)
 told_of (q ∷ ps) p c =
     elim (Contains-cases q ps p c) [
       | inl e ↦
-          subst (λ (x : Place). Contains (place_told q ∷ map place_told ps) x) (ap place_told e)
-          (here (place_told q) (map place_told ps))
-      | inr m ↦ there (place_told q) (place_told p) (map place_told ps) (told_of ps p m)
+          subst (λ (x : SeriesEntry). Contains (entry_told q ∷ map entry_told ps) x) (ap entry_told e)
+          (here (entry_told q) (map entry_told ps))
+      | inr m ↦ there (entry_told q) (entry_told p) (map entry_told ps) (told_of ps p m)
     ]
 
 zeros_again : (file : List ℕ) (from to : ℕ) (ps : List index_layout.SeriesEntry)
-    → spelled.AreZero file from to ps → AreZero file from to (map place_told ps)
+    → spelled.AreZero file from to ps → AreZero file from to (map entry_told ps)
 zeros_again file from to ps zeros k low high none =
-    zeros k low high (λ p c lies. none (place_told p) (told_of ps p c) lies)
+    zeros k low high (λ p c lies. none (entry_told p) (told_of ps p c) lies)
 
 -- the series
 
 pub series_again : (symbols : List (List ℕ)) (ps : List index_layout.SeriesEntry)
-    (bs : List index_layout.Body) → series_of symbols (map place_told ps) (map body_told bs)
+    (bs : List index_layout.Body) → series_of symbols (map entry_told ps) (map body_told bs)
     ≡ map series_told (indexes.series_of symbols ps bs)
 unfolding series_of indexes.series_of
 series_again symbols [] bs = refl
 series_again symbols (p ∷ ps) [] = refl
 series_again symbols (p ∷ ps) (b ∷ bs) =
-    ap (λ (ss : List Series). series_at symbols (place_told p) (body_told b) ∷ ss)
+    ap (λ (ss : List Series). series_at symbols (entry_told p) (body_told b) ∷ ss)
     (series_again symbols ps bs)
 
 sets_again : (ss : List indexes.Series) → label_sets (map series_told ss) ≡ indexes.label_sets ss
@@ -250,7 +249,7 @@ order_again ss order k lt =
 pub index_again : (file : List ℕ) (x : indexes.Indexed) → spelled.IsIndex file x
     → IsIndex file (map series_told x.series)
 index_again file x i = record {
-  parts = parts_told i.parts;
+  parts = layout_told i.parts;
   layout = layout_again file i.parts i.layout;
   bodies = map body_told i.bodies;
   spelled = bodies_again i.parts.symbols i.parts.entries i.bodies i.spelled;

@@ -5,8 +5,8 @@ use Rattle.std.specs.List.{list_all, Contains}
 use Rattle.std.proofs.lemmas.Bool.{cases_lt, eqb-true}
 use Rattle.std.proofs.lemmas.List.{drop_all, get_or-drop, get_or-take, length-append, length-take}
 use Rattle.labels.proofs.Lists.{here, there, Contains-cases, none_in_nil}
-use Rattle.auditor.specs.IndexFile.Reading.{Place, Parts, rounded, series_end}
-use Rattle.auditor.specs.IndexFile.Grammar.{entry, frame, IsWalk, IsParts}
+use Rattle.auditor.specs.IndexFile.Layout.{SeriesEntry, Layout, rounded, series_end}
+use Rattle.auditor.specs.IndexFile.Grammar.{entry, frame, IsWalk, IsLayout}
 use Rattle.auditor.specs.IndexFile.Flat.{zero_between, gaps_zero}
 use Rattle.auditor.specs.IndexFile.Spelled.{AreZero}
 use Rattle.auditor.proofs.IndexFile.Eaches.{drop_at_place}
@@ -14,7 +14,7 @@ use Rattle.auditor.proofs.IndexFile.Eaches.{drop_at_place}
 pub nothing_between : (file : List ℕ) (from to : ℕ) → to ≤ from → zero_between file from to ≡ true
 nothing_between file from to le = let e : to - from ≡ 0 = omega arith in rw e refl
 
-pub gap_step : (file : List ℕ) (end from : ℕ) (ps : List Place) (i : ℕ) (p : Place) (r whole : Bool)
+pub gap_step : (file : List ℕ) (end from : ℕ) (ps : List SeriesEntry) (i : ℕ) (p : SeriesEntry) (r whole : Bool)
     → slice_get ps i ≡ Some p → r ≡ zero_between file from p.offset
     → gaps_zero file end from (drop i ps) ≡ whole
     → whole ≡ (r && gaps_zero file end p.end (drop (i + 1) ps))
@@ -23,7 +23,7 @@ gap_step file end from ps i p r whole g t h =
     let f : i + 1 ≡ suc i = omega arith in
     sym h ∙ rw (drop_at_place ps i p g, f, t) refl
 
-pub gap_end : (file : List ℕ) (end from : ℕ) (ps : List Place) (i : ℕ) (whole : Bool)
+pub gap_end : (file : List ℕ) (end from : ℕ) (ps : List SeriesEntry) (i : ℕ) (whole : Bool)
     → length ps ≤ i → gaps_zero file end from (drop i ps) ≡ whole
     → zero_between file from end ≡ whole
 unfolding gaps_zero
@@ -67,7 +67,7 @@ zero_from file from to h = all_zero_from (slice_range file from to) (λ i lt.
     in_range file from to i inside ∙ h (from + i) (omega arith) (omega (arith, inside)))
 
 -- zeros between the entries are all bytes in no entry
-pub zeros_of : (ps : List Place) (file : List ℕ) (end from : ℕ)
+pub zeros_of : (ps : List SeriesEntry) (file : List ℕ) (end from : ℕ)
     → gaps_zero file end from ps ≡ true → AreZero file from end ps
 unfolding gaps_zero
 zeros_of [] file end from h k le lt none = zero_at file from end k h le lt
@@ -83,17 +83,17 @@ zeros_of (p ∷ ps) file end from h k le lt none =
           ]
     ]
 
-walk_after : (ps : List Place) (file : List ℕ) (end at : ℕ) (q : Place)
+walk_after : (ps : List SeriesEntry) (file : List ℕ) (end at : ℕ) (q : SeriesEntry)
     → IsWalk file end at ps → Contains ps q → at ≤ q.offset
 walk_after [] file end at q w c = absurd (none_in_nil q c)
 walk_after (p ∷ ps) file end at q w c =
     elim (Contains-cases p ps q c) [
-      | inl e ↦ omega (arith, w.0, ap (λ (x : Place). x.offset) e)
+      | inl e ↦ omega (arith, w.0, ap (λ (x : SeriesEntry). x.offset) e)
       | inr m ↦ omega (arith, walk_after ps file end (rounded (at + length (entry p.body))) q w.3 m)
     ]
 
 -- where each byte in no entry is 0, there are zeros between entries that stand one after another
-pub gaps_of : (ps : List Place) (file : List ℕ) (end at from : ℕ) → IsWalk file end at ps
+pub gaps_of : (ps : List SeriesEntry) (file : List ℕ) (end at from : ℕ) → IsWalk file end at ps
     → from ≤ at → AreZero file from end ps → gaps_zero file end from ps ≡ true
 unfolding gaps_zero
 gaps_of [] file end at from w le h =
@@ -103,19 +103,19 @@ gaps_of (p ∷ ps) file end at from w le h =
     let up : p.end ≤ next = omega (arith, w.4) in
     let one = zero_from file from p.offset (λ k a b. h k a (omega (arith, b, w.0, w.1)) (λ q c l.
     elim (Contains-cases p ps q c) [
-      | inl e ↦ omega (arith, b, l.0, ap (λ (x : Place). x.offset) e)
+      | inl e ↦ omega (arith, b, l.0, ap (λ (x : SeriesEntry). x.offset) e)
       | inr m ↦ omega (arith, b, l.0, w.0, w.4, up, walk_after ps file end next q w.3 m)
     ])) in
     let more = gaps_of ps file end next p.end w.3 up (λ k a b none. h k
     (omega (arith, le, w.4, a)) b (λ q c l.
     elim (Contains-cases p ps q c) [
-      | inl e ↦ omega (arith, a, l.1, ap (λ (x : Place). x.end) e)
+      | inl e ↦ omega (arith, a, l.1, ap (λ (x : SeriesEntry). x.end) e)
       | inr m ↦ none q m l
     ])) in
     rw (one, more) refl
 
 -- the same of a layout, from the end of its symbols up to the end of its entries
-pub gaps_in : (file : List ℕ) (p : Parts) → IsParts file p
+pub gaps_in : (file : List ℕ) (p : Layout) → IsLayout file p
     → AreZero file p.symbols_end (series_end p.contents) p.entries
     → gaps_zero file (series_end p.contents) p.symbols_end p.entries ≡ true
 gaps_in file p i zeros =

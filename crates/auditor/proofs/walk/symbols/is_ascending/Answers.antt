@@ -3,7 +3,7 @@ use Rattle.std.specs.Borrow.{Bor}
 use Rattle.std.proofs.lemmas.List.{length-map}
 use Rattle.std.proofs.Math.ListN.{get_or-map}
 use Rattle.auditor.specs.IndexFile.Seen.{texts}
-use Rattle.auditor.specs.IndexFile.Reading.{ascending, is_less}
+use Rattle.auditor.specs.IndexFile.Layout.{ascending, is_less}
 use Rattle.auditor.proofs.IndexFile.WalkLoops.{ascending_step, ascending_end}
 use Rattle.auditor.proofs.walk.symbols.is_ascending.Goals as goal
 

@@ -1,5 +1,5 @@
 use Rattle.std.proofs.Common.{◌≡◌, ◌<◌, ◌-◌, drop, length}
-use Rattle.auditor.specs.IndexFile.Reading.{ascending}
+use Rattle.auditor.specs.IndexFile.Layout.{ascending}
 use Rattle.auditor.specs.IndexFile.Seen.{texts}
 use Rattle.auditor.proofs.walk.symbols.is_ascending.Given as goal
 
