@@ -1,5 +1,5 @@
 -- Loops that read one thing after another.
-use Rattle.std.proofs.Common.{◌≡◌, ℕ, zero, suc, ◌-◌, ◌+◌, ◌≤◌, ◌<◌, Bool, true, false, ◌&&◌, cond, ltb, eqb, List, [], ◌∷◌, ◌++◌, length, get_or, take, drop, Result, Ok, Err, refl, sym, ap, ◌∙◌, inl, inr, append_assoc, arith}
+use Rattle.std.proofs.Common.{◌≡◌, ℕ, zero, suc, ◌-◌, ◌+◌, ◌≤◌, ◌<◌, Bool, true, false, cond, ltb, eqb, List, [], ◌∷◌, ◌++◌, length, take, drop, Result, Ok, Err, refl, sym, ap, ◌∙◌, inl, inr, append_assoc, arith}
 use Rattle.std.specs.Prelude.{slice_range}
 use Rattle.std.proofs.lemmas.Bool.{lt-ltb, le-ltb, ltb-false}
 use Rattle.std.proofs.lemmas.List.{append-nil, length-drop, length-take}
@@ -13,10 +13,9 @@ use Rattle.wire.proofs.Laws.{uvarint_shorter}
 use Rattle.auditor.specs.declared.walk.error.WalkError.{WalkError}
 use Rattle.auditor.specs.declared.walk.error.WalkError.TheVariants.{SeriesCrc}
 use Rattle.auditor.specs.IndexFile.Outcome.{is_memory, Fails}
-use Rattle.auditor.specs.IndexFile.Layout.{SeriesEntry, rounded, ascending, is_less}
+use Rattle.auditor.specs.IndexFile.Layout.{SeriesEntry, rounded}
 use Rattle.auditor.specs.IndexFile.Reading.{checked_at, symbol_at, symbols_from, entry_at, entries_from}
 use Rattle.wire.specs.Outcome.{◌>>=◌, or_refused}
-use Rattle.std.proofs.Math.Seq.{drop-cons}
 
 -- a test that did not fail
 pub guard_ok : {A E : Type 0} (b : Bool) (d : E) (x y : A) → cond b (Err d) (Ok x) ≡ Ok y
@@ -181,41 +180,6 @@ walk_done (suc n) front file end at total le so_far =
     let one : with_places front (entries_from (suc n) file end at) ≡ Ok front =
     rw (le-ltb at end le) (ap (λ (ps : List SeriesEntry). Ok ps) (append-nil front)) in
     sym so_far ∙ one
-
--- ---- texts in order
-
-drop_two : (xs : List (List ℕ)) (i : ℕ) → i + 1 < length xs
-    → drop i xs ≡ get_or xs i [] ∷ get_or xs (i + 1) [] ∷ drop (i + 2) xs
-drop_two xs i lt =
-    let a = drop-cons xs i [] (omega arith) in
-    let b = drop-cons xs (i + 1) [] lt in
-    let e : suc i ≡ i + 1 = omega arith in
-    let f : suc (i + 1) ≡ i + 2 = omega arith in
-    a
-    ∙ ap (λ (n : ℕ). get_or xs i [] ∷ drop n xs) e
-    ∙ ap (λ (ys : List (List ℕ)). get_or xs i [] ∷ ys) (b
-    ∙ ap (λ (n : ℕ). get_or xs (i + 1) [] ∷ drop n xs) f)
-
-pub ascending_step : (xs : List (List ℕ)) (i : ℕ) → i + 1 < length xs → ascending (drop i xs)
-    ≡ (is_less (get_or xs i []) (get_or xs (i + 1) []) && ascending (drop (i + 1) xs))
-unfolding ascending
-ascending_step xs i lt =
-    let b = drop-cons xs (i + 1) [] lt in
-    let f : suc (i + 1) ≡ i + 2 = omega arith in
-    let c : drop (i + 1) xs ≡ get_or xs (i + 1) [] ∷ drop (i + 2) xs =
-    b ∙ ap (λ (n : ℕ). get_or xs (i + 1) [] ∷ drop n xs) f in
-    ap ascending (drop_two xs i lt)
-    ∙ ap (λ (ys : List (List ℕ)). is_less (get_or xs i []) (get_or xs (i + 1) [])
-    && ascending ys) (sym c)
-
-ascending_few : (xs : List (List ℕ)) → length xs ≤ 1 → ascending xs ≡ true
-unfolding ascending
-ascending_few [] le = refl
-ascending_few (x ∷ []) le = refl
-ascending_few (x ∷ y ∷ xs) le = absurd (omega arith)
-
-pub ascending_end : (xs : List (List ℕ)) (i : ℕ) → length xs ≤ i + 1 → ascending (drop i xs) ≡ true
-ascending_end xs i le = ascending_few (drop i xs) (omega (arith, length-drop i xs))
 
 -- the next entry stands after this one, and what it needs of numbers
 pub after_entry : (file : List ℕ) (end at : ℕ) (x : List ℕ × List ℕ) → at < end → end ≤ length file

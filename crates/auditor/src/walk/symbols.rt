@@ -4,8 +4,7 @@ ghost use Rattle.std.specs.Prelude.{◌≡◌, ◌<◌, length, slice_get, Some,
 ghost use Rattle.std.specs.Str.{is_utf8};
 ghost use Rattle.auditor.specs.IndexFile.Outcome.{Gives};
 ghost use Rattle.auditor.specs.IndexFile.Layout.{is_less, ascending};
-ghost use Rattle.auditor.specs.IndexFile.Reading.{symbol_at, symbols_from};
-ghost use Rattle.auditor.specs.IndexFile.Reading.{symbols_of};
+ghost use Rattle.auditor.specs.IndexFile.Reading.{symbol_at, symbols_from, symbols_of};
 ghost use Rattle.auditor.specs.IndexFile.Seen.{texts};
 
 use crate::walk::error::WalkError;
@@ -55,16 +54,7 @@ fn is_less(a: &[u8], b: &[u8]) -> bool
 fn is_ascending(symbols: &[&str]) -> bool
     ensures { result ≡ ascending (texts symbols.now) }
 {
-    let mut at = 1;
-    while at < symbols.len() {
-        let before = symbols[at - 1];
-        let next = symbols[at];
-        if !is_less(before.as_bytes(), next.as_bytes()) {
-            return false;
-        }
-        at += 1;
-    }
-    true
+    symbols.is_sorted_by(|a, b| is_less(a.as_bytes(), b.as_bytes()))
 }
 
 /// The symbols that the content of a symbol table counts and lists, in place.
