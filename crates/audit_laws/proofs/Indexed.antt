@@ -1,28 +1,25 @@
 -- What spells an index of a block spells its series, whatever its postings are.
-use Rattle.std.proofs.Common.{◌≡◌, ℕ, zero, suc, ◌+◌, ◌-◌, ◌<◌, ◌≤◌, true, List, [], ◌∷◌, ◌++◌, length, get_or, map, take, drop, refl, sym, ◌∙◌, ap, subst, length-append, arith}
+use Rattle.std.proofs.Common.{◌≡◌, ℕ, zero, suc, ◌+◌, ◌<◌, ◌≤◌, List, [], ◌∷◌, ◌++◌, length, get_or, map, refl, sym, ◌∙◌, ap, subst, inl, inr, arith}
 use Rattle.std.specs.Prelude.{◌&&◌}
-use Rattle.std.specs.List.{flat_map}
+use Rattle.std.specs.List.{Contains}
 use Rattle.std.specs.declared.cmp.Ordering.TheVariants.{Less}
-use Rattle.std.proofs.lemmas.List.{length-map, length-take}
+use Rattle.std.proofs.lemmas.List.{length-map}
 use Rattle.wire.specs.Spelling.{uvarint}
+use Rattle.labels.proofs.Lists.{here, there, Contains-cases, none_in_nil}
 use Rattle.labels.specs.Labels.{Labels, labels_cmp}
 use Rattle.index_reader.specs.declared.layout.TableOfContents as kept_contents
 use Rattle.index_reader.specs.declared.chunk.Chunk as kept_chunk
 use Rattle.index_reader.specs.Layout as index_layout
 use Rattle.index_reader.specs.Grammar as grammar
-use Rattle.index_reader.specs.EntryChecks as entry_checks
 use Rattle.index_reader.specs.Spelled as spelled
 use Rattle.index_reader.specs.Indexes as indexes
-use Rattle.index_reader.proofs.Gaps.{gaps_of}
 use Rattle.auditor.specs.declared.walk.contents.Contents.{Contents}
 use Rattle.auditor.specs.declared.walk.chunk.Chunk.{Chunk}
-use Rattle.auditor.specs.IndexFile.Reading.{IsPlaced, Place, Parts, ascending, is_less, series_end}
-use Rattle.auditor.specs.IndexFile.Grammar.{IsSymbolTable, IsWalk, IsParts}
-use Rattle.auditor.specs.IndexFile.Bodies.{Label, Body}
-use Rattle.auditor.specs.IndexFile.Flat.{zero_between, gaps_zero}
-use Rattle.auditor.specs.IndexFile.Labelled.{IsLabel, AreLabels}
+use Rattle.auditor.specs.IndexFile.Layout.{IsPlaced, SeriesEntry, Layout, ascending, is_less, Label, Body}
+use Rattle.auditor.specs.IndexFile.Grammar.{IsSymbolTable, IsWalk, IsLayout}
+use Rattle.auditor.specs.IndexFile.Labelled.{AreLabels}
 use Rattle.auditor.specs.IndexFile.Series.{Series, references, label_sets, series_at, series_of}
-use Rattle.auditor.specs.IndexFile.Spelled.{IsFirst, IsLater, AreLater, AreChunks, IsBody, AreBodies, AreInOrder, IsIndex}
+use Rattle.auditor.specs.IndexFile.Spelled.{IsFirst, IsLater, AreLater, AreChunks, IsBody, AreBodies, AreZero, AreInOrder, IsIndex}
 
 -- the auditor's words for what the store's reader has
 
@@ -36,15 +33,15 @@ contents_told t = record {
   postings_offsets = t.postings_offsets;
 }
 
-abbrev pub place_told : index_layout.SeriesEntry → Place
-place_told p = record { offset = p.offset; body = p.body; end = p.end }
+abbrev pub entry_told : index_layout.SeriesEntry → SeriesEntry
+entry_told p = record { offset = p.offset; body = p.body; end = p.end }
 
-abbrev pub parts_told : index_layout.Layout → Parts
-parts_told x = record {
+abbrev pub layout_told : index_layout.Layout → Layout
+layout_told x = record {
   contents = contents_told x.contents;
   symbols = x.symbols;
   symbols_end = x.symbols_end;
-  entries = map place_told x.entries;
+  entries = map entry_told x.entries;
 }
 
 abbrev pub chunk_told : kept_chunk.Chunk → Chunk
@@ -85,7 +82,7 @@ symbols_again content symbols t =
     record { text = t.text; order = ascending_again symbols ∙ t.order; texts = t.texts }
 
 walk_again : (ps : List index_layout.SeriesEntry) (file : List ℕ) (end at : ℕ)
-    → grammar.IsWalk file end at ps → IsWalk file end at (map place_told ps)
+    → grammar.IsWalk file end at ps → IsWalk file end at (map entry_told ps)
 walk_again [] file end at w = w
 walk_again (p ∷ ps) file end at w = (
   w.0,
@@ -96,7 +93,7 @@ walk_again (p ∷ ps) file end at w = (
 )
 
 layout_again : (file : List ℕ) (x : index_layout.Layout) → grammar.IsLayout file x
-    → IsParts file (parts_told x)
+    → IsLayout file (layout_told x)
 layout_again file x i = record {
   start = i.start;
   contents = i.contents;
@@ -184,7 +181,7 @@ body_again symbols b text i = record {
 
 bodies_again : (symbols : List (List ℕ)) (ps : List index_layout.SeriesEntry)
     (bs : List index_layout.Body) → spelled.AreBodies symbols ps bs
-    → AreBodies symbols (map place_told ps) (map body_told bs)
+    → AreBodies symbols (map entry_told ps) (map body_told bs)
 bodies_again symbols [] [] are = tt
 bodies_again symbols [] (b ∷ bs) are = absurd are
 bodies_again symbols (p ∷ ps) [] are = absurd are
@@ -202,42 +199,32 @@ few_again (b ∷ bs) few (suc k) d lt =
 
 -- the bytes between the entries
 
-gaps_again : (ps : List index_layout.SeriesEntry) (file : List ℕ) (end from : ℕ)
-    → gaps_zero file end from (map place_told ps) ≡ entry_checks.gaps_zero file end from ps
-unfolding gaps_zero entry_checks.gaps_zero
-gaps_again [] file end from = refl
-gaps_again (p ∷ ps) file end from =
-    ap (λ b. zero_between file from p.offset && b) (gaps_again ps file end p.end)
+told_of : (ps : List index_layout.SeriesEntry) (p : index_layout.SeriesEntry) → Contains ps p
+    → Contains (map entry_told ps) (entry_told p)
+told_of [] p c = absurd (none_in_nil p c)
+told_of (q ∷ ps) p c =
+    elim (Contains-cases q ps p c) [
+      | inl e ↦
+          subst (λ (x : SeriesEntry). Contains (entry_told q ∷ map entry_told ps) x) (ap entry_told e)
+          (here (entry_told q) (map entry_told ps))
+      | inr m ↦ there (entry_told q) (entry_told p) (map entry_told ps) (told_of ps p m)
+    ]
 
-zeros_again : (file : List ℕ) (x : index_layout.Layout) → grammar.IsLayout file x
-    → spelled.AreZero file x.symbols_end (index_layout.series_end x.contents) x.entries
-    → gaps_zero file (index_layout.series_end x.contents) x.symbols_end (map place_told x.entries)
-    ≡ true
-zeros_again file x i zeros =
-    let t = x.contents in
-    let stands = i.symbols.1 in
-    let front : x.symbols_end ≤ index_layout.rounded t.series = omega (
-      arith,
-      i.symbols.3,
-      i.placed.series,
-      ap length stands.1,
-      length-append (grammar.frame i.symbols.0) stands.0,
-      length-take (t.series - 5) (drop 5 file),
-    ) in
-    gaps_again x.entries file (index_layout.series_end t) x.symbols_end
-    ∙ gaps_of x.entries file (index_layout.series_end t) (index_layout.rounded t.series)
-    x.symbols_end i.entries front zeros
+zeros_again : (file : List ℕ) (from to : ℕ) (ps : List index_layout.SeriesEntry)
+    → spelled.AreZero file from to ps → AreZero file from to (map entry_told ps)
+zeros_again file from to ps zeros k low high none =
+    zeros k low high (λ p c lies. none (entry_told p) (told_of ps p c) lies)
 
 -- the series
 
 pub series_again : (symbols : List (List ℕ)) (ps : List index_layout.SeriesEntry)
-    (bs : List index_layout.Body) → series_of symbols (map place_told ps) (map body_told bs)
+    (bs : List index_layout.Body) → series_of symbols (map entry_told ps) (map body_told bs)
     ≡ map series_told (indexes.series_of symbols ps bs)
 unfolding series_of indexes.series_of
 series_again symbols [] bs = refl
 series_again symbols (p ∷ ps) [] = refl
 series_again symbols (p ∷ ps) (b ∷ bs) =
-    ap (λ (ss : List Series). series_at symbols (place_told p) (body_told b) ∷ ss)
+    ap (λ (ss : List Series). series_at symbols (entry_told p) (body_told b) ∷ ss)
     (series_again symbols ps bs)
 
 sets_again : (ss : List indexes.Series) → label_sets (map series_told ss) ≡ indexes.label_sets ss
@@ -262,11 +249,13 @@ order_again ss order k lt =
 pub index_again : (file : List ℕ) (x : indexes.Indexed) → spelled.IsIndex file x
     → IsIndex file (map series_told x.series)
 index_again file x i = record {
-  parts = parts_told i.parts;
+  parts = layout_told i.parts;
   layout = layout_again file i.parts i.layout;
   bodies = map body_told i.bodies;
   spelled = bodies_again i.parts.symbols i.parts.entries i.bodies i.spelled;
-  gaps = zeros_again file i.parts i.layout i.gaps;
+  gaps =
+      zeros_again file i.parts.symbols_end (index_layout.series_end i.parts.contents)
+      i.parts.entries i.gaps;
   series_are =
       ap (λ (ss : List indexes.Series). map series_told ss) i.series
       ∙ sym (series_again i.parts.symbols i.parts.entries i.bodies);

@@ -1,5 +1,5 @@
 -- What spells a block of a part spells the part without the postings.
-use Rattle.std.proofs.Common.{◌≡◌, ℕ, List, [], ◌∷◌, map, sym, subst}
+use Rattle.std.proofs.Common.{ℕ, List, [], ◌∷◌, map, sym, subst}
 use Rattle.std.specs.Prelude.{ℤ}
 use Rattle.std.specs.List.{AllByRecursion, Contains}
 use Rattle.labels.specs.Parts.{Part}
@@ -7,8 +7,7 @@ use Rattle.index_reader.specs.declared.chunk.Chunk as kept_chunk
 use Rattle.index_reader.specs.Indexes as indexes
 use Rattle.tombstones.specs.declared.deletion.Deletion.{Deletion}
 use Rattle.block.specs.Grammar as block
-use Rattle.auditor.specs.IndexFile.Series.{references}
-use Rattle.auditor.specs.BlockFiles.Spelled.{AreSpelled, AreRows, IsWalked}
+use Rattle.auditor.specs.BlockFiles.Spelled.{AreSpelled, AreRowsOfSeries, IsWalked}
 use Rattle.audit_laws.proofs.Indexed.{chunk_told, series_told, references_again, index_again}
 
 spelled_again : (file : List ℕ) (cs : List kept_chunk.Chunk) (samples : List (ℤ × ℤ))
@@ -19,7 +18,7 @@ spelled_again file (c ∷ cs) samples are =
 
 rows_again : (range : ℤ × ℤ) (file : List ℕ) (deletions : List Deletion) (ss : List indexes.Series)
     (part : Part) → block.AreRows range file deletions ss part
-    → AreRows file deletions (map series_told ss) part
+    → AreRowsOfSeries file deletions (map series_told ss) part
 rows_again range file deletions [] [] are = tt
 rows_again range file deletions [] (row ∷ rows) are = absurd are
 rows_again range file deletions (s ∷ ss) [] are = absurd are

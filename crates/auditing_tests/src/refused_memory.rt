@@ -68,7 +68,7 @@ fn audits_refused_memory_answer_when_made_again(rt: HostRuntime) {
 #[test]
 fn a_walk_refused_memory_answers_when_made_again(rt: HostRuntime) {
     let told = match walk_outcome(rt.alloc(), INDEX, CHUNKS, TOMBSTONES) {
-        "Memory" => walk_outcome(rt.alloc(), INDEX, CHUNKS, TOMBSTONES),
+        "memory" => walk_outcome(rt.alloc(), INDEX, CHUNKS, TOMBSTONES),
         told => told,
     };
     assert!(rt; told == "part");

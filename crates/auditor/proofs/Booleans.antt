@@ -1,7 +1,7 @@
 -- Tests that hold together, and of each element of a list.
-use Rattle.std.proofs.Common.{◌≡◌, Bool, true, false, cond, ◌⊎◌, inl, inr, List, [], ◌∷◌, refl, subst}
+use Rattle.std.proofs.Common.{◌≡◌, Bool, true, false, ◌⊎◌, inl, inr, List, [], ◌∷◌, refl, subst}
 use Rattle.std.specs.Prelude.{◌&&◌, ◌||◌, not}
-use Rattle.std.specs.List.{list_all, list_any, Contains}
+use Rattle.std.specs.List.{list_all, Contains}
 use Rattle.labels.proofs.Lists.{here, there, Contains-cases, none_in_nil}
 
 pub and_left : (x y : Bool) → (x && y) ≡ true → x ≡ true

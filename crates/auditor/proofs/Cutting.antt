@@ -1,5 +1,5 @@
 -- Intervals that cut the references of a part are a partition of it.
-use Rattle.std.proofs.Common.{◌≡◌, ℕ, ◌<◌, ◌≤◌, Bool, true, false, cond, inl, inr, List, [], ◌∷◌, ◌++◌, map, refl, sym, ◌∙◌, ap, subst, arith}
+use Rattle.std.proofs.Common.{◌≡◌, ℕ, ◌<◌, ◌≤◌, true, false, inl, inr, List, [], ◌∷◌, ◌++◌, map, refl, sym, ◌∙◌, ap, subst, arith}
 use Rattle.std.specs.Prelude.{nat_le, nat_lt, ◌&&◌, ◌==◌, Some}
 use Rattle.std.specs.List.{filter, flat_map, Contains}
 use Rattle.std.specs.List.Sorted.{IsStrictlyIncreasing}
@@ -11,7 +11,7 @@ use Rattle.cover.specs.declared.certificate.Interval.{Interval}
 use Rattle.cover.specs.Certificates.{Asked, IsAsked, IsRun, run_of, next_from, IsChained}
 use Rattle.cover.proofs.Runs.{in_run, of_run, AllForward, begins_not_below, in_some, of_map, interval_run}
 use Rattle.auditor.specs.Auditing.{IsCut}
-use Rattle.auditor.specs.Looking.{rows_from, first_at, cuts}
+use Rattle.auditor.specs.Looking.{rows_from, first_reference, cuts}
 use Rattle.auditor.proofs.Booleans.{and_left, and_right, and_both}
 use Rattle.auditor.proofs.Splitting.{references-filter, rises_from}
 
@@ -44,14 +44,14 @@ cuts_chain [] rows rises small e = record {
 }
 cuts_chain (i ∷ is) rows rises small e =
     let rest : Part = rows_from i.until rows in
-    let e123 : ((i.from == first_at rows) && nat_lt i.from i.until && (i.until == first_at rest))
+    let e123 : ((i.from == first_reference rows) && nat_lt i.from i.until && (i.until == first_reference rest))
     ≡ true = and_left _ (cuts is rest) e in
-    let e12 : ((i.from == first_at rows) && nat_lt i.from i.until) ≡ true =
-    and_left _ (i.until == first_at rest) e123 in
-    let e1 : (i.from == first_at rows) ≡ true = and_left _ (nat_lt i.from i.until) e12 in
-    let e2 : nat_lt i.from i.until ≡ true = and_right (i.from == first_at rows) _ e12 in
-    let e3 : (i.until == first_at rest) ≡ true =
-    and_right ((i.from == first_at rows) && nat_lt i.from i.until) _ e123 in
+    let e12 : ((i.from == first_reference rows) && nat_lt i.from i.until) ≡ true =
+    and_left _ (i.until == first_reference rest) e123 in
+    let e1 : (i.from == first_reference rows) ≡ true = and_left _ (nat_lt i.from i.until) e12 in
+    let e2 : nat_lt i.from i.until ≡ true = and_right (i.from == first_reference rows) _ e12 in
+    let e3 : (i.until == first_reference rest) ≡ true =
+    and_right ((i.from == first_reference rows) && nat_lt i.from i.until) _ e123 in
     let from_is : i.from ≡ first_or_end (references rows) = grind (arith, nat_tests) in
     let forward : i.from < i.until = grind (arith, nat_tests) in
     let until_is : i.until ≡ first_or_end (references rest) = grind (arith, nat_tests) in
@@ -60,8 +60,8 @@ cuts_chain (i ∷ is) rows rises small e =
     let small' : AreSmall (references rest) =
     subst AreSmall (sym same) (small_from i.until (references rows) small) in
     let ih : Chain is (references rest) =
-    cuts_chain is rest (rises_from i.until rows rises) small' (and_right ((i.from == first_at rows)
-    && nat_lt i.from i.until && (i.until == first_at rest)) (cuts is rest) e) in
+    cuts_chain is rest (rises_from i.until rows rises) small' (and_right ((i.from == first_reference rows)
+    && nat_lt i.from i.until && (i.until == first_reference rest)) (cuts is rest) e) in
     let top : first_or_end (references rest) ≤ 4294967296 = first_within (references rest) small' in
     let begins : Contains (references rows) i.from =
     subst (λ (r : ℕ). Contains (references rows) r) (sym from_is)
@@ -113,10 +113,10 @@ chain_cuts (i ∷ is) rows rises small ch =
     until_first i is (references rows) rises small next (λ k m. (ch.members k (there i k is m)).0)
     ∙ ap first_or_end (sym same) in
     let ahead : AllForward is = λ k m. (ch.members k (there i k is m)).1 in
-    let from_is : i.from ≡ first_at rows = ch.first in
-    let e1 : (i.from == first_at rows) ≡ true = grind (arith, nat_tests) in
+    let from_is : i.from ≡ first_reference rows = ch.first in
+    let e1 : (i.from == first_reference rows) ≡ true = grind (arith, nat_tests) in
     let e2 : nat_lt i.from i.until ≡ true = grind (arith, nat_tests) in
-    let e3 : (i.until == first_at rest) ≡ true = grind (arith, nat_tests) in
+    let e3 : (i.until == first_reference rest) ≡ true = grind (arith, nat_tests) in
     let ih : cuts is rest
     ≡ true = chain_cuts is rest (rises_from i.until rows rises) small' (record {
       chained = ch.chained.1;

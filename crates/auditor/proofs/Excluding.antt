@@ -1,5 +1,5 @@
 -- A sound answer has no flaw.
-use Rattle.std.proofs.Common.{◌≡◌, ℕ, zero, suc, ◌<◌, true, false, ◌⊎◌, inl, inr, List, [], ◌∷◌, refl, sym, ◌∙◌}
+use Rattle.std.proofs.Common.{ℕ, zero, suc, ◌<◌, inl, inr, List, [], ◌∷◌, sym, ◌∙◌}
 use Rattle.std.specs.List.{Contains}
 use Rattle.std.specs.List.Sorted.{IsStrictlyIncreasing}
 use Rattle.labels.specs.Parts.{Part}
@@ -14,7 +14,7 @@ use Rattle.cover.specs.Asking.{asked}
 use Rattle.cover.specs.Certificates.{Asked, IsFittingRun}
 use Rattle.auditor.specs.declared.flaw.Flaw.{Flaw}
 use Rattle.auditor.specs.declared.flaw.Flaw.TheVariants.{NotAPartition, NotMatching, NotRejected, SeparatorCount, SeparatorsFit, WrongRows, UnknownMatcher, NotSilent, Hidden, WrongMerge}
-use Rattle.auditor.specs.Auditing.{AllFit, IsFirstMisfit, AreCounted, ShareAt, IsSoundAnswer, IsFlaw}
+use Rattle.auditor.specs.Auditing.{AllFit, IsFirstMisfit, ShareAt, IsSoundAnswer, IsFlaw}
 
 misfits_not : (a : Asked) (c : List Interval) (v : Verdict) → IsFirstMisfit a c v → AllFit a c → ⊥
 misfits_not a [] v h fit = h

@@ -1,12 +1,11 @@
 -- Whether the series of a run fit under a verdict.
-use Rattle.std.proofs.Common.{◌≡◌, ℕ, zero, suc, ◌<◌, ◌≤◌, ℤ, Bool, true, false, cond, ◌⊎◌, inl, inr, List, [], ◌∷◌, length, map, Option, None, Some, refl, sym, ◌∙◌, ap, subst, arith}
-use Rattle.std.specs.Prelude.{nat_le, nat_lt, nat_eq, ◌&&◌, ◌||◌, not}
-use Rattle.std.specs.List.{filter, list_all, Contains}
+use Rattle.std.proofs.Common.{◌≡◌, ℕ, zero, suc, ◌<◌, ◌≤◌, true, false, cond, inl, inr, List, [], ◌∷◌, length, None, Some, refl, sym, ◌∙◌, ap, subst, arith}
+use Rattle.std.specs.Prelude.{nat_le, nat_lt, nat_eq, ◌&&◌, not}
+use Rattle.std.specs.List.{filter, Contains}
 use Rattle.std.specs.List.Sorted.{IsStrictlyIncreasing}
 use Rattle.std.proofs.lemmas.Bool.Decides.{nat_tests}
 use Rattle.labels.specs.Labels.{Labels}
-use Rattle.labels.specs.Rows.{Row}
-use Rattle.labels.specs.Parts.{Part, references, IsPart, has_sample}
+use Rattle.labels.specs.Parts.{Part, references, has_sample}
 use Rattle.labels.specs.Ascending.{first_or_end}
 use Rattle.labels.proofs.Lists.{here, there, Contains-cases, none_in_nil, rising-tail, rising-head, filter-same, filter-from, filter-filter, filter-all, first-least}
 use Rattle.matchers.specs.Satisfies.{satisfies, satisfies_all}
@@ -15,7 +14,7 @@ use Rattle.cover.specs.declared.certificate.Interval.{Interval}
 use Rattle.cover.specs.declared.certificate.Verdict.{Verdict}
 use Rattle.cover.specs.declared.certificate.Verdict.TheVariants.{Match, NoSample, Rejected}
 use Rattle.cover.specs.Asking.{asked, labels_at, samples_at, satisfies_at}
-use Rattle.cover.specs.Certificates.{Asked, IsMatching, FitsUnder, run_of, next_from, IsChained}
+use Rattle.cover.specs.Certificates.{IsMatching, FitsUnder, run_of, next_from, IsChained}
 use Rattle.cover.proofs.Runs.{AllForward}
 use Rattle.auditor.specs.Auditing.{names_known, all_known, AllFit, IsFirstMisfit}
 use Rattle.auditor.specs.Looking.{rows_below, rows_from, answers, are_silent, are_rejected, is_one_match, fits, first_misfit}

@@ -1,22 +1,20 @@
 -- What the tests of an audit say of an answer.
-use Rattle.std.proofs.Common.{◌≡◌, ℕ, ◌+◌, ◌<◌, ◌≤◌, true, false, List, [], ◌∷◌, length, Option, None, Some, refl, sym, ◌∙◌, ap, subst, arith}
+use Rattle.std.proofs.Common.{◌≡◌, ℕ, ◌+◌, ◌≤◌, true, false, List, [], ◌∷◌, length, None, Some, subst, arith}
 use Rattle.std.specs.Prelude.{◌==◌, ◌&&◌}
-use Rattle.std.specs.List.{Contains}
 use Rattle.std.specs.List.Sorted.{IsStrictlyIncreasing}
 use Rattle.std.proofs.lemmas.Bool.Decides.{nat_tests}
 use Rattle.labels.specs.Rows.{Row, AreRows}
 use Rattle.labels.specs.Parts.{Part, references, IsPart}
-use Rattle.labels.proofs.Lists.{none_in_nil}
 use Rattle.matchers.specs.Views.{QueryView}
 use Rattle.cover.specs.declared.certificate.Interval.{Interval}
 use Rattle.cover.specs.declared.certificate.Verdict.{Verdict}
 use Rattle.cover.specs.declared.certificate.Verdict.TheVariants.{Match, NoSample, Rejected}
 use Rattle.cover.specs.declared.part_cover.PartAnswer.{PartAnswer}
 use Rattle.cover.specs.Asking.{asked}
-use Rattle.cover.specs.Certificates.{IsAsked, IsLeast, IsValidCertificate, AreSeparators}
+use Rattle.cover.specs.Certificates.{IsLeast, AreSeparators}
 use Rattle.cover.proofs.Choices.{asked_part}
 use Rattle.cover.proofs.Least.{separators_bound}
-use Rattle.auditor.specs.Auditing.{all_known, IsCut, AllFit, IsFirstMisfit, AreCounted, IsFirstShared, IsPartitioned, selected_content, IsSoundAnswer, IsFlaw, IsJudgement, misfit_flaw}
+use Rattle.auditor.specs.Auditing.{all_known, IsCut, AllFit, AreCounted, IsFirstShared, IsPartitioned, selected_content, IsSoundAnswer, IsFlaw, misfit_flaw}
 use Rattle.auditor.specs.Looking.{cuts, first_misfit, are_picked, shared_at}
 use Rattle.auditor.proofs.Booleans.{and_left, and_right, and_both}
 use Rattle.auditor.proofs.Cutting.{Chain, cuts_chain, chain_cuts, chain_cut, cut_chain}

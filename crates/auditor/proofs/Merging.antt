@@ -1,5 +1,5 @@
 -- What is listed, put in order, is what is listed last at each point.
-use Rattle.std.proofs.Common.{◌≡◌, ◌≢◌, ℕ, suc, ◌+◌, ◌<◌, ℤ, pos, Bool, true, false, cond, not, ◌&&◌, T, List, [], ◌∷◌, ◌++◌, Option, None, Some, length, get_or, reverse, refl, sym, ◌∙◌, ap, subst, arith}
+use Rattle.std.proofs.Common.{◌≡◌, ◌≢◌, ℕ, suc, ◌+◌, ℤ, pos, Bool, true, false, cond, not, ◌&&◌, T, List, [], ◌∷◌, Option, None, Some, length, get_or, reverse, refl, sym, ◌∙◌, ap, subst, arith}
 use Rattle.std.specs.Prelude.{◌==◌}
 use Rattle.std.specs.List.{filter, list_all, dedup, dedup_from}
 use Rattle.std.specs.List.Sorted.{IsSortedBy, IsStableBy, ties}
@@ -12,12 +12,12 @@ use Rattle.std.proofs.lemmas.Bool.Decides.{nat_tests}
 use Rattle.std.proofs.lemmas.Grind.{reverse_onto}
 use Rattle.std.proofs.lemmas.List.Elements.{filter_agree}
 use Rattle.std.proofs.lemmas.List.Sorted.{ranks_by}
-use Rattle.labels.specs.Labels.{Labels, Point, labels_cmp, point_cmp}
+use Rattle.labels.specs.Labels.{Point, point_cmp}
 use Rattle.labels.specs.Contents.{Content}
-use Rattle.labels.specs.Rows.{Row, points_of, IsFull, AreFull, AreRows}
+use Rattle.labels.specs.Rows.{Row, AreFull}
 use Rattle.labels.proofs.OrderLaws.{point_total, point_exact}
 use Rattle.labels.proofs.Times.{both_T, T_of}
-use Rattle.labels.proofs.ContentLaws.{or_else, or_else_cond, or_else_none, find-++, same_content}
+use Rattle.labels.proofs.ContentLaws.{or_else, or_else_none, find-++, same_content}
 use Rattle.auditor.specs.Listing.{with_each, point_before, same_point}
 use Rattle.auditor.proofs.Booleans.{and_left, and_right}
 

@@ -1,18 +1,17 @@
 -- Separators of a part, and those that share a fitting run.
-use Rattle.std.proofs.Common.{◌≡◌, ℕ, zero, suc, ◌+◌, ◌<◌, ◌≤◌, Bool, true, false, cond, ◌⊎◌, inl, inr, List, [], ◌∷◌, length, get_or, drop, map, Option, None, Some, refl, sym, ◌∙◌, ap, subst, arith}
-use Rattle.std.specs.Prelude.{nat_le, nat_lt, ◌&&◌, ◌||◌, ◌==◌, not}
+use Rattle.std.proofs.Common.{◌≡◌, ℕ, zero, suc, ◌+◌, ◌<◌, ◌≤◌, Bool, true, false, cond, inl, inr, List, [], ◌∷◌, length, get_or, drop, Option, None, Some, refl, sym, ◌∙◌, ap, subst, arith}
+use Rattle.std.specs.Prelude.{nat_le, nat_lt, ◌&&◌, ◌==◌, not}
 use Rattle.std.specs.List.{filter, list_all, list_any, Contains}
 use Rattle.std.specs.List.Sorted.{IsStrictlyIncreasing}
 use Rattle.std.proofs.lemmas.Bool.Decides.{nat_tests}
-use Rattle.labels.specs.Parts.{Part, references, has_sample}
-use Rattle.labels.specs.Ascending.{first_of, not_below}
+use Rattle.labels.specs.Parts.{Part, references}
+use Rattle.labels.specs.Ascending.{first_of}
 use Rattle.labels.proofs.Lists.{here, there, Contains-cases, none_in_nil, rising-tail, rising-head, rising-cons, filter-same, filter-from, filter-has, filter-filter, not_below-here}
-use Rattle.matchers.specs.Satisfies.{satisfies}
 use Rattle.matchers.specs.Views.{MatcherView, QueryView}
 use Rattle.cover.specs.declared.certificate.Verdict.{Verdict}
 use Rattle.cover.specs.declared.certificate.Verdict.TheVariants.{Match, NoSample, Rejected}
 use Rattle.cover.specs.Asking.{asked, satisfies_at}
-use Rattle.cover.specs.Certificates.{Asked, IsAsked, references_between, IsRun, FitsUnder, IsFittingRun, AreSeparators}
+use Rattle.cover.specs.Certificates.{references_between, IsRun, FitsUnder, IsFittingRun, AreSeparators}
 use Rattle.cover.proofs.Runs.{in_between, of_between}
 use Rattle.auditor.specs.Auditing.{ShareARun, ShareAt, IsFirstShared}
 use Rattle.auditor.specs.Looking.{rows_below, rows_from, begin_with, after_first, are_picked, are_silent, rejects_each, are_rejected, share_verdict, first_shared}

@@ -1,5 +1,5 @@
 -- Series below a bound, and the others.
-use Rattle.std.proofs.Common.{◌≡◌, ℕ, ◌<◌, ◌≤◌, Bool, true, false, cond, inl, inr, List, [], ◌∷◌, length, map, take, drop, refl, sym, ◌∙◌, ap, subst, arith}
+use Rattle.std.proofs.Common.{◌≡◌, ℕ, ◌<◌, ◌≤◌, Bool, true, false, cond, inl, inr, [], ◌∷◌, length, take, drop, refl, sym, ◌∙◌, ap, subst, arith}
 use Rattle.std.specs.Prelude.{nat_le, nat_lt, ◌&&◌}
 use Rattle.std.specs.List.{filter, take_while, Contains}
 use Rattle.std.specs.List.Sorted.{IsStrictlyIncreasing}
@@ -7,7 +7,7 @@ use Rattle.std.proofs.lemmas.Bool.Decides.{nat_tests}
 use Rattle.std.proofs.lemmas.List.Sums.{take_while-cons}
 use Rattle.labels.specs.Rows.{Row}
 use Rattle.labels.specs.Parts.{Part, references}
-use Rattle.labels.proofs.Lists.{here, there, Contains-cases, none_in_nil, rising-tail, rising-head, rising-filter, filter-none, filter-all, filter-same, filter-from, filter-has, filter-filter, below_or_not}
+use Rattle.labels.proofs.Lists.{Contains-cases, rising-tail, rising-head, rising-filter, filter-none, filter-all, filter-same, filter-filter, below_or_not}
 use Rattle.cover.proofs.Runs.{map-has, of_map}
 use Rattle.auditor.specs.Looking.{rows_below, rows_from}
 

@@ -22,22 +22,22 @@ code_of Hidden = codes "F9"
 code_of WrongMerge = codes "F10"
 
 -- a flaw in a line, for people
-abbrev pub text_of : Flaw → List ℕ
-text_of NotAPartition = codes "F1: the intervals are no partition of the part"
-text_of NotMatching = codes "F2: a match is not one series that answers"
-text_of (NotRejected matcher) = codes "F3: matcher " ++ decimal matcher
+abbrev pub flaw_text : Flaw → List ℕ
+flaw_text NotAPartition = codes "F1: the intervals are no partition of the part"
+flaw_text NotMatching = codes "F2: a match is not one series that answers"
+flaw_text (NotRejected matcher) = codes "F3: matcher " ++ decimal matcher
     ++ codes " accepts a series that it is said to reject"
-text_of SeparatorCount =
+flaw_text SeparatorCount =
     codes "F4: the separators are not ascending references, one for each interval"
-text_of (SeparatorsFit at) = codes "F5: separator " ++ decimal at
+flaw_text (SeparatorsFit at) = codes "F5: separator " ++ decimal at
     ++ codes " and the next lie in one fitting run"
-text_of WrongRows = codes "F6: the rows are not those of the part"
-text_of UnknownMatcher = codes "F7: a verdict names a matcher that is not there"
-text_of NotSilent = codes "F8: a series that is said to have no sample in the range has one"
-text_of Hidden = codes "F9: a skipped part has rows to show"
-text_of WrongMerge = codes "F10: the rows are not those that the parts list"
+flaw_text WrongRows = codes "F6: the rows are not those of the part"
+flaw_text UnknownMatcher = codes "F7: a verdict names a matcher that is not there"
+flaw_text NotSilent = codes "F8: a series that is said to have no sample in the range has one"
+flaw_text Hidden = codes "F9: a skipped part has rows to show"
+flaw_text WrongMerge = codes "F10: the rows are not those that the parts list"
 
 -- why an audit does not say yes, in a line
 abbrev pub error_text : AuditError → List ℕ
-error_text (errors.Flaw flaw) = text_of flaw
+error_text (errors.Flaw flaw) = flaw_text flaw
 error_text errors.Memory = codes "no memory"

@@ -2,7 +2,6 @@
 use Rattle.std.specs.Prelude.{ℕ, ℤ, Bool, true, false, not, ◌&&◌, ◌||◌, ◌==◌, List, [], ◌∷◌, Option}
 use Rattle.std.specs.Prelude.{None, Some, map, nat_le, nat_lt, ◌+◌, if◌then◌else◌}
 use Rattle.std.specs.List.{filter, list_all, list_any}
-use Rattle.labels.specs.Labels.{Labels}
 use Rattle.labels.specs.Contents.{in_range}
 use Rattle.labels.specs.Rows.{Row}
 use Rattle.labels.specs.Parts.{Part, references, has_sample}
@@ -23,15 +22,15 @@ abbrev pub rows_from : ℕ → Part → Part
 rows_from bound rows = filter (λ (row : ℕ × Row). nat_le bound row.0) rows
 
 -- the first reference, or the end of all references
-abbrev pub first_at : Part → ℕ
-first_at rows = first_or_end (references rows)
+abbrev pub first_reference : Part → ℕ
+first_reference rows = first_or_end (references rows)
 
 -- whether the intervals cut the series into runs, one after another
 abbrev pub cuts : List Interval → Part → Bool
-cuts [] rows = first_at rows == 4294967296
+cuts [] rows = first_reference rows == 4294967296
 cuts (i ∷ is) rows =
-    (i.from == first_at rows) && nat_lt i.from i.until
-    && (i.until == first_at (rows_from i.until rows))
+    (i.from == first_reference rows) && nat_lt i.from i.until
+    && (i.until == first_reference (rows_from i.until rows))
     && cuts is (rows_from i.until rows)
 
 -- whether a series answers: it satisfies every matcher and has a sample in the range

@@ -163,7 +163,7 @@ is_padded (b ∷ bs) = (b == 48) && not (length bs == 0)
 abbrev pub number_said : List ℕ → Option ℕ
 number_said text = if is_padded text then None else digits_from 0 text
 
--- what follows a beginning
+-- what follows a prefix
 abbrev pub after : List ℕ → List ℕ → Option (List ℕ)
 after front text =
     if bytes_eq (take (length front) text) front then Some (drop (length front) text) else None

@@ -12,7 +12,7 @@ use Rattle.auditor.specs.declared.walk.error.WalkError.TheVariants.{Tombstones, 
 
 -- the number of a refusal, as text
 abbrev pub code_of : WalkError → List ℕ
-code_of Memory = codes "Memory"
+code_of Memory = codes "memory"
 code_of TooShort = codes "I1"
 code_of Magic = codes "I2"
 code_of Version = codes "I3"

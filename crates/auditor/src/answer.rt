@@ -5,8 +5,8 @@ ghost use Rattle.labels.specs.Parts.{Part, IsPart};
 ghost use Rattle.matchers.specs.Views.{QueryView};
 ghost use Rattle.cover.specs.Certificates.{IsLeast};
 ghost use Rattle.cover.specs.Asking.{asked};
-ghost use Rattle.auditor.specs.Auditing.{IsSoundAnswer, IsFlaw, IsJudgement, IsAuditError, misfit_flaw};
-ghost use Rattle.auditor.specs.Auditing.{all_known};
+ghost use Rattle.auditor.specs.Auditing.{IsSoundAnswer, IsFlaw, IsJudgement, IsAuditError};
+ghost use Rattle.auditor.specs.Auditing.{misfit_flaw, all_known};
 ghost use Rattle.auditor.specs.Looking.{cuts};
 
 use crate::flaw::{AuditError, Flaw};
@@ -91,9 +91,10 @@ fn first_flaw(
 /// in this order: `F7`; `F1`; over the intervals in order `F2`, `F3` or `F8`; `F4`; `F5`, at the
 /// least place; `F6`.
 ///
-/// With n series, m matchers and k intervals it makes at most (m + 1)(3n + k) looks: one matcher
-/// held against one value, or the samples of one series held against the range. It takes memory for
-/// the searches of patterns, and for the selected rows, which it puts in label order.
+/// By design, and stated by no clause: with n series, m matchers and k intervals it makes at most
+/// (m + 1)(3n + k) looks. A look holds one matcher against one value, or the samples of one series
+/// against the range. It takes memory for the searches of patterns, and for the selected rows,
+/// which it puts in label order.
 pub fn audit(
     alloc: Global,
     table: &Table,

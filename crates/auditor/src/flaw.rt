@@ -58,9 +58,9 @@ impl Flaw {
 
 impl fmt::Display for Flaw {
     ghost use Rattle.std.specs.Prelude.{Some};
-    ghost use Rattle.auditor.specs.Errors.{text_of};
+    ghost use Rattle.auditor.specs.Errors.{flaw_text};
 
-    ghost output = { λ flaw. Some (text_of flaw) };
+    ghost output = { λ flaw. Some (flaw_text flaw) };
 
     fn fmt<W: fmt::Write>(&self, f: &mut fmt::Formatter<W>) -> fmt::Result {
         match self {

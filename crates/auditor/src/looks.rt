@@ -6,7 +6,8 @@ ghost use Rattle.std.specs.List.Sorted.{IsStrictlyIncreasing};
 ghost use Rattle.labels.specs.Contents.{in_range};
 ghost use Rattle.labels.specs.Parts.{has_sample, references};
 ghost use Rattle.matchers.specs.Satisfies.{satisfies, satisfies_all};
-ghost use Rattle.auditor.specs.Looking.{rows_below, rows_from, first_at, answers, are_silent};
+ghost use Rattle.auditor.specs.Looking.{rows_below, rows_from, first_reference, answers};
+ghost use Rattle.auditor.specs.Looking.{are_silent};
 ghost use Rattle.auditor.specs.Looking.{rejects_each, are_rejected, is_one_match, fits};
 ghost use Rattle.auditor.specs.Looking.{share_verdict};
 ghost use Rattle.auditor.specs.Auditing.{names_known};
@@ -51,7 +52,7 @@ pub(crate) fn split_at_bound(
 
 /// The reference of the first series, or the end of all references.
 pub(crate) fn first_or_end(series: &[(SeriesRef, Row)]) -> u64
-    ensures { result ≡ first_at series.now }
+    ensures { result ≡ first_reference series.now }
 {
     match series.first() {
         Some(entry) => u64::from(entry.0.number()),

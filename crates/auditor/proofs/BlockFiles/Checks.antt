@@ -7,7 +7,7 @@ use Rattle.chunk_reader.specs.declared.error.ChunkError.{ChunkError}
 use Rattle.wire.proofs.Steps.{bind_ok}
 use Rattle.auditor.specs.IndexFile.Series.{Series, references}
 use Rattle.tombstones.specs.declared.deletion.Deletion.{Deletion}
-use Rattle.auditor.specs.BlockFiles.Reading.{each, is_known}
+use Rattle.auditor.specs.BlockFiles.Reading.{each_check, is_known}
 
 both_hold : (a b : Bool) → (a && b) ≡ true → (a ≡ true) × (b ≡ true)
 both_hold true b h = (refl, h)
@@ -31,15 +31,15 @@ weaken P Q h (x ∷ xs) a = (h x a.0, weaken P Q h xs a.1)
 -- the checks of all, one after the other
 
 pub each_pass : {A : Type 0} (check : A → Result (Unit {0}) ChunkError) (xs : List A)
-    → each check xs ≡ Ok tt → AllByRecursion (λ x. check x ≡ Ok tt) xs
-unfolding each
+    → each_check check xs ≡ Ok tt → AllByRecursion (λ x. check x ≡ Ok tt) xs
+unfolding each_check
 each_pass check [] h = tt
 each_pass check (x ∷ xs) h =
-    let a = bind_ok (check x) (λ _. each check xs) tt h in (a.1, each_pass check xs a.2)
+    let a = bind_ok (check x) (λ _. each_check check xs) tt h in (a.1, each_pass check xs a.2)
 
 pub pass_each : {A : Type 0} (check : A → Result (Unit {0}) ChunkError) (xs : List A)
-    → AllByRecursion (λ x. check x ≡ Ok tt) xs → each check xs ≡ Ok tt
-unfolding each
+    → AllByRecursion (λ x. check x ≡ Ok tt) xs → each_check check xs ≡ Ok tt
+unfolding each_check
 pass_each check [] a = refl
 pass_each check (x ∷ xs) a = rw (a.0) (pass_each check xs a.1)
 

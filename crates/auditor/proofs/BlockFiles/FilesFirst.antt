@@ -23,7 +23,7 @@ use Rattle.auditor.specs.IndexFile.Whole.{read_of, indexed_of}
 use Rattle.auditor.specs.IndexFile.Spelled.{IsIndex}
 use Rattle.auditor.specs.BlockFiles.Samples.{or_none, chunk_read, chunk_samples, samples_in}
 use Rattle.auditor.specs.BlockFiles.Sound.{IsHeld}
-use Rattle.auditor.specs.BlockFiles.Reading.{or_chunks, or_tombstones, each, chunk_check, series_check, is_few, is_known, stored_of, deleted_of, walked_of}
+use Rattle.auditor.specs.BlockFiles.Reading.{or_chunks, or_tombstones, each_check, chunk_check, series_check, is_few, is_known, stored_of, deleted_of, walked_of}
 use Rattle.auditor.specs.BlockFiles.Checks.{Files, Check, FirstFailing, HasSamples, HasFewSamples, checks, IsWalkError}
 use Rattle.auditor.proofs.IndexFile.Again.{index_again}
 use Rattle.auditor.proofs.BlockFiles.Checks.{all_pass, pass_all, each_pass, pass_each, weaken}
@@ -97,7 +97,7 @@ few_pass file s h =
     (subst (λ (x : List (ℤ × ℤ)). length x ≤ 1048576) (spelled_in file s.chunks h.0 h.1).0 h.2)
 
 few_sampled : (file : List ℕ) (ss : List Series) → IsBytes file
-    → each (series_check file) ss ≡ Ok tt → list_all (is_few file) ss ≡ true
+    → each_check (series_check file) ss ≡ Ok tt → list_all (is_few file) ss ≡ true
     → AllByRecursion (HasFewSamples file) ss
 few_sampled file ss fits read few =
     both_of ss (each_pass (series_check file) ss read) (all_pass (is_few file) ss few)
@@ -130,7 +130,7 @@ stored_first : (f : Files) (e : WalkError) (rest : List Check) (ss : List Series
 unfolding stored_of
 stored_first f e rest ss index_fits fits read h =
     let file = f.chunks in
-    let checked = each (series_check file) ss in
+    let checked = each_check (series_check file) ss in
     elim (bind_err (or_chunks checked) _ e h) [
       | inl a ↦
           let c = chunks_refused checked e a in
@@ -171,7 +171,7 @@ stored_passes : (f : Files) (e : WalkError) (rest : List Check) (ss : List Serie
 unfolding stored_of
 stored_passes f e rest ss fits read h more =
     let file = f.chunks in
-    let checked = each (series_check file) ss in
+    let checked = each_check (series_check file) ss in
     let a = bind_ok (or_chunks checked) _ tt h in
     let passed : checked ≡ Ok tt = chunks_given checked tt a.1 in
     let few = guard_passed (list_all (is_few file) ss) a.2 in

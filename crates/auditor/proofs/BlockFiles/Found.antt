@@ -21,7 +21,7 @@ use Rattle.auditor.specs.IndexFile.Spelled.{IsIndex}
 use Rattle.auditor.specs.BlockFiles.Samples.{chunk_samples, samples_in, part_of}
 use Rattle.auditor.specs.BlockFiles.Sound.{IsHeld}
 use Rattle.auditor.specs.BlockFiles.Reading.{or_tombstones, have_few, is_few, is_known, deleted_of}
-use Rattle.auditor.specs.BlockFiles.Spelled.{AreSpelled, AreRows, IsWalked}
+use Rattle.auditor.specs.BlockFiles.Spelled.{AreSpelled, AreRowsOfSeries, IsWalked}
 use Rattle.auditor.proofs.BlockFiles.Checks.{all_pass, weaken, known_in}
 use Rattle.auditor.proofs.BlockFiles.AnyOrder.{part_any_order}
 use Rattle.auditor.proofs.BlockFiles.Refusals.{all_lists, facts_of_lists}
@@ -72,7 +72,7 @@ deleted_known tombstones ss deletions fits h =
 pub are_rows : (file : List ℕ) (deletions : List Deletion) (ss : List Series)
     → AllByRecursion (λ (s : Series). AllByRecursion (IsHeld file) s.chunks) ss
     → AllByRecursion (λ (s : Series). length (samples_in file s.chunks) ≤ 1048576) ss
-    → AreRows file deletions ss (part_of file deletions ss)
+    → AreRowsOfSeries file deletions ss (part_of file deletions ss)
 are_rows file deletions [] held few = tt
 are_rows file deletions (s ∷ ss) held few = (
   record {

@@ -13,7 +13,8 @@ use Rattle.wire.proofs.KnownReads.{chosen}
 use Rattle.auditor.specs.declared.walk.contents.Contents.{Contents}
 use Rattle.auditor.specs.declared.walk.error.WalkError.{WalkError}
 use Rattle.auditor.specs.declared.walk.error.WalkError.TheVariants.{TooShort, Magic, Version, ContentsCrc, ContentsOrder, SymbolsCrc, Limit}
-use Rattle.auditor.specs.IndexFile.Reading.{IsPlaced, in_order, has_magic, table_of, head_of, frame_at, symbols_of, entries_from, rounded, series_end, parts_of}
+use Rattle.auditor.specs.IndexFile.Layout.{IsPlaced, rounded, series_end}
+use Rattle.auditor.specs.IndexFile.Reading.{in_order, has_magic, table_of, head_of, frame_at, symbols_of, entries_from, layout_of}
 use Rattle.wire.specs.Outcome.{◌>>=◌}
 use Rattle.auditor.specs.IndexFile.Grammar.{frame, contents_text}
 use Rattle.auditor.specs.BlockFiles.Checks.{Files, Check, FirstFailing, HasContents, HasFrame}
@@ -258,11 +259,11 @@ frame_read file content t fits read h =
     )
 
 pub parts_first : (f : Files) (e : WalkError) (rest : List Check) → IsBytes f.index
-    → parts_of f.index ≡ Err e
+    → layout_of f.index ≡ Err e
     → FirstFailing (Check.index_size ∷ Check.head_room ∷ Check.magic ∷ Check.version
     ∷ Check.contents_sum ∷ Check.contents_order ∷ Check.symbols_frame ∷ Check.symbols
     ∷ Check.entries ∷ rest) f e
-unfolding parts_of
+unfolding layout_of
 parts_first f e rest fits h =
     let file = f.index in
     elim (bind_err (head_of file) _ e h) [
@@ -313,7 +314,7 @@ parts_first f e rest fits h =
                               (rounded t.series)) _ e c.2) [
                                 | inl d ↦ inl (
                                   λ o.
-                                      not_both (parts_of file) o.0 e
+                                      not_both (layout_of file) o.0 e
                                       (parts_again file o.0 fits o.1) h,
                                   sym (of_entries (length file) file (series_end t)
                                       (rounded t.series) e d),

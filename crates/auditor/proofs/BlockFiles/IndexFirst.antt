@@ -6,12 +6,12 @@ use Rattle.wire.specs.Spelling.{IsBytes}
 use Rattle.wire.proofs.KnownReads.{chosen}
 use Rattle.auditor.specs.declared.walk.error.WalkError.{WalkError}
 use Rattle.auditor.specs.declared.walk.error.WalkError.TheVariants.{Series, SeriesOrder, Limit}
-use Rattle.auditor.specs.IndexFile.Reading.{Parts, rounded, series_end, parts_of}
-use Rattle.auditor.specs.IndexFile.Grammar.{IsParts}
-use Rattle.auditor.specs.IndexFile.Bodies.{Body}
+use Rattle.auditor.specs.IndexFile.Layout.{Layout, rounded, series_end, Body}
+use Rattle.auditor.specs.IndexFile.Reading.{layout_of}
+use Rattle.auditor.specs.IndexFile.Grammar.{IsLayout}
 use Rattle.auditor.specs.IndexFile.Each.{each, rises}
-use Rattle.auditor.specs.IndexFile.Flat.{body_of_place, is_before, gaps_zero}
-use Rattle.auditor.specs.IndexFile.Whole.{label_sets, bodies_of, is_small, Read, read_of, series_in, indexed_of}
+use Rattle.auditor.specs.IndexFile.Flat.{body_of_entry, is_before, gaps_zero}
+use Rattle.auditor.specs.IndexFile.Whole.{labels_of_each, bodies_of, is_small, Read, read_of, series_in, indexed_of}
 use Rattle.auditor.specs.IndexFile.Series as indexes
 use Rattle.auditor.specs.IndexFile.Spelled.{IsIndex}
 use Rattle.auditor.specs.BlockFiles.Checks.{Files, Check, FirstFailing, HasFrame, HasBodies}
@@ -19,6 +19,7 @@ use Rattle.wire.proofs.Steps.{bind_ok}
 use Rattle.auditor.proofs.IndexFile.Walks.{ok_is}
 use Rattle.auditor.proofs.IndexFile.Whole.{parts_take, parts_again}
 use Rattle.auditor.proofs.IndexFile.Sound.{few_symbols}
+use Rattle.auditor.proofs.IndexFile.Gaps.{zeros_of, gaps_in}
 use Rattle.auditor.proofs.IndexFile.Spelling.{walk_bytes, bodies_spelled}
 use Rattle.auditor.proofs.IndexFile.BodyAgain.{bodies_again}
 use Rattle.auditor.proofs.IndexFile.Facts.{bodied, chain, in_order_so, is_index}
@@ -33,7 +34,7 @@ true_not false a b = absurd cc
 -- ---- checks that pass
 
 -- a layout passes the checks of an index up to those of its entries
-parts_pass : (f : Files) (e : WalkError) (rest : List Check) (x : Parts) → IsParts f.index x
+parts_pass : (f : Files) (e : WalkError) (rest : List Check) (x : Layout) → IsLayout f.index x
     → FirstFailing rest f e
     → FirstFailing (Check.index_size ∷ Check.head_room ∷ Check.magic ∷ Check.version
     ∷ Check.contents_sum ∷ Check.contents_order ∷ Check.symbols_frame ∷ Check.symbols
@@ -74,20 +75,20 @@ index_passes f e rest ss i more =
 -- ---- bodies
 
 -- what bodies are read as
-bodies_are : (file : List ℕ) (p : Parts) (ss : List indexes.Series) → IsBytes file
-    → parts_of file ≡ Ok p → (h : HasBodies file ss)
-    → (h.parts ≡ p) × (each (body_of_place p.symbols) p.entries ≡ Ok h.bodies)
+bodies_are : (file : List ℕ) (p : Layout) (ss : List indexes.Series) → IsBytes file
+    → layout_of file ≡ Ok p → (h : HasBodies file ss)
+    → (h.parts ≡ p) × (each (body_of_entry p.symbols) p.entries ≡ Ok h.bodies)
 bodies_are file p ss fits read h =
     let x = h.parts in
-    let same : x ≡ p = same_value (parts_of file) x p (parts_again file x fits h.layout) read in
+    let same : x ≡ p = same_value (layout_of file) x p (parts_again file x fits h.layout) read in
     let small : length file < 2 ^ 32 = omega (arith, h.layout.placed.short) in
     let here =
     bodies_again x.symbols x.entries h.bodies (few_symbols file x h.layout) (walk_sizes x.entries
     file (series_end x.contents) (rounded x.contents.series) small h.layout.entries) h.spelled in
-    (same, subst (λ (y : Parts). each (body_of_place y.symbols) y.entries ≡ Ok h.bodies) same here)
+    (same, subst (λ (y : Layout). each (body_of_entry y.symbols) y.entries ≡ Ok h.bodies) same here)
 
-has_bodies : (file : List ℕ) (p : Parts) (bs : List Body) → IsBytes file → IsParts file p
-    → each (body_of_place p.symbols) p.entries ≡ Ok bs
+has_bodies : (file : List ℕ) (p : Layout) (bs : List Body) → IsBytes file → IsLayout file p
+    → each (body_of_entry p.symbols) p.entries ≡ Ok bs
     → gaps_zero file (series_end p.contents) p.symbols_end p.entries ≡ true
     → HasBodies file (indexes.series_of p.symbols p.entries bs)
 has_bodies file p bs fits layout read gaps = record {
@@ -97,18 +98,18 @@ has_bodies file p bs fits layout read gaps = record {
   spelled =
       bodies_spelled p.symbols p.entries bs (walk_bytes p.entries file (series_end p.contents)
       (rounded p.contents.series) fits layout.entries) read;
-  gaps = gaps;
+  gaps = zeros_of p.entries file (series_end p.contents) p.symbols_end gaps;
   series_are = refl;
 }
 
-bodies_first : (f : Files) (e : WalkError) (rest : List Check) (p : Parts) → IsBytes f.index
-    → parts_of f.index ≡ Ok p → bodies_of f.index p ≡ Err e
+bodies_first : (f : Files) (e : WalkError) (rest : List Check) (p : Layout) → IsBytes f.index
+    → layout_of f.index ≡ Ok p → bodies_of f.index p ≡ Err e
     → FirstFailing (Check.bodies ∷ Check.series_order ∷ rest) f e
 unfolding bodies_of
 bodies_first f e rest p fits parts h =
     let file = f.index in
     let layout = parts_take file p fits parts in
-    let read = each (body_of_place p.symbols) p.entries in
+    let read = each (body_of_entry p.symbols) p.entries in
     let gaps = gaps_zero file (series_end p.contents) p.symbols_end p.entries in
     elim (bind_err read _ e h) [
       | inl a ↦ inl (
@@ -121,8 +122,8 @@ bodies_first f e rest p fits parts h =
               λ o.
                   let b = bodies_are file p o.0 fits parts o.1 in
                   let moved =
-                  subst (λ (y : Parts). gaps_zero file (series_end y.contents) y.symbols_end
-                  y.entries ≡ true) b.0 o.1.gaps in
+                  subst (λ (y : Layout). gaps_zero file (series_end y.contents) y.symbols_end
+                  y.entries ≡ true) b.0 (gaps_in file o.1.parts o.1.layout o.1.gaps) in
                   true_not gaps moved g.0,
               is_refusal (List Body) Series e g.1,
             )
@@ -130,7 +131,7 @@ bodies_first f e rest p fits parts h =
                 let held = has_bodies file p a.0 fits layout a.1 g.0 in
                 inr (
                   (indexes.series_of p.symbols p.entries a.0, held),
-                  elim (chosen (rises is_before (label_sets a.0)) _ _ _ g.1) [
+                  elim (chosen (rises is_before (labels_of_each a.0)) _ _ _ g.1) [
                     | inl r ↦ absurd (ok_not _ _ r.1)
                     | inr r ↦ inl (
                       λ o.
@@ -139,7 +140,7 @@ bodies_first f e rest p fits parts h =
                           let up =
                           order_again file o.1.parts o.1.bodies o.0 o.1.layout o.1.spelled
                           o.1.series_are o.2 in
-                          true_not _ (subst (λ (bs : List Body). rises is_before (label_sets bs)
+                          true_not _ (subst (λ (bs : List Body). rises is_before (labels_of_each bs)
                           ≡ true) same up) r.0,
                       is_refusal (List Body) SeriesOrder e r.1,
                     )
@@ -165,7 +166,7 @@ pub index_first : (f : Files) (e : WalkError) (rest : List Check) → IsBytes f.
 unfolding read_of
 index_first f e rest fits h =
     let file = f.index in
-    elim (bind_err (parts_of file) _ e h) [
+    elim (bind_err (layout_of file) _ e h) [
       | inl a ↦
           parts_first f e (Check.bodies ∷ Check.series_order ∷ Check.series_counts ∷ rest) fits a
       | inr a ↦
@@ -180,7 +181,7 @@ index_first f e rest fits h =
                 let ss = indexes.series_of p.symbols p.entries b.0 in
                 let limit : e ≡ Limit = elim (chosen (nat_lt 1048576 (length b.0)) _ _ _ b.2) [
                   | inl n ↦ is_refusal Read Limit e n.1
-                  | inr n ↦ elim (chosen (list_all is_small (label_sets b.0)) _ _ _ n.1) [
+                  | inr n ↦ elim (chosen (list_all is_small (labels_of_each b.0)) _ _ _ n.1) [
                     | inl s ↦ absurd (ok_not _ _ s.1)
                     | inr s ↦ is_refusal Read Limit e s.1
                   ]

@@ -19,8 +19,8 @@ use Rattle.auditor.specs.IndexFile.Series.{Series, references}
 use Rattle.auditor.specs.IndexFile.Whole.{indexed_of}
 use Rattle.auditor.specs.BlockFiles.Samples.{or_none, chunk_read, chunk_samples, samples_in, undeleted, undeleted_row, part_of}
 use Rattle.auditor.specs.BlockFiles.Sound.{IsHeld}
-use Rattle.auditor.specs.BlockFiles.Reading.{each, chunk_check, series_check, is_few, is_known, stored_of, deleted_of, walked_of}
-use Rattle.auditor.specs.BlockFiles.Spelled.{AreSpelled, AreRows, IsWalked}
+use Rattle.auditor.specs.BlockFiles.Reading.{each_check, chunk_check, series_check, is_few, is_known, stored_of, deleted_of, walked_of}
+use Rattle.auditor.specs.BlockFiles.Spelled.{AreSpelled, AreRowsOfSeries, IsWalked}
 use Rattle.auditor.proofs.IndexFile.Again.{index_again}
 use Rattle.auditor.proofs.BlockFiles.Checks.{pass_all, pass_each, weaken, in_known}
 use Rattle.auditor.proofs.BlockFiles.Found.{AreHeld, AreKnown}
@@ -65,7 +65,7 @@ held_passes file s h =
 pub held_stored : (file : List ℕ) (ss : List Series) → AreHeld file ss → stored_of file ss ≡ Ok tt
 unfolding stored_of
 held_stored file ss h =
-    let read : each (series_check file) ss ≡ Ok tt =
+    let read : each_check (series_check file) ss ≡ Ok tt =
     pass_each (series_check file) ss (weaken (λ s. AllByRecursion (IsHeld file) s.chunks)
     (λ s. series_check file s ≡ Ok tt) (λ s e. held_passes file s e) ss h.held) in
     let few : list_all (is_few file) ss ≡ true =
@@ -111,7 +111,7 @@ row_same file deletions s row samples reference labels kept same =
     ∙ ap (undeleted deletions s.reference) same)
 
 pub rows_read : (file : List ℕ) (deletions : List Deletion) (ss : List Series) (part : Part)
-    → AreRows file deletions ss part → AreRead file deletions ss part
+    → AreRowsOfSeries file deletions ss part → AreRead file deletions ss part
 rows_read file deletions [] [] a = record { stored = record { held = tt; few = tt }; same = refl }
 rows_read file deletions [] (row ∷ rows) a = absurd a
 rows_read file deletions (s ∷ ss) [] a = absurd a

@@ -18,8 +18,7 @@ use Rattle.labels.proofs.Lists.{Contains-cases, none_in_nil}
 use Rattle.tombstones.specs.declared.deletion.Deletion.{Deletion}
 use Rattle.tombstones.specs.Covering.{covered}
 use Rattle.auditor.specs.declared.walk.chunk.Chunk.{Chunk}
-use Rattle.auditor.specs.IndexFile.Reading.{Place, rounded, series_end}
-use Rattle.auditor.specs.IndexFile.Bodies.{Body}
+use Rattle.auditor.specs.IndexFile.Layout.{SeriesEntry, rounded, series_end, Body}
 use Rattle.auditor.specs.IndexFile.Series.{Series, label_sets, chunk_lists, series_of}
 use Rattle.auditor.specs.IndexFile.Series as indexes
 use Rattle.auditor.specs.IndexFile.Spelled.{AreLater, AreChunks, AreBodies, IsIndex}
@@ -113,7 +112,7 @@ in_turn : (cs : List Chunk) (text : List ℕ) → AreChunks cs text → AreInTur
 in_turn [] text h = tt
 in_turn (c ∷ cs) text h = (spanned c.mint c.maxt h.3.span h.3.ends, behind_each c cs h.1 h.4)
 
-turned : (symbols : List (List ℕ)) (ps : List Place) (bs : List Body) → AreBodies symbols ps bs
+turned : (symbols : List (List ℕ)) (ps : List SeriesEntry) (bs : List Body) → AreBodies symbols ps bs
     → AllByRecursion (λ (s : Series). AreInTurn s.chunks) (series_of symbols ps bs)
 unfolding series_of
 turned symbols [] bs h = tt

@@ -21,7 +21,7 @@ use Rattle.wire.specs.Outcome.{◌>>=◌}
 use Rattle.auditor.specs.IndexFile.Series.{Series, references, chunk_lists}
 use Rattle.auditor.specs.IndexFile.Whole.{indexed_of}
 use Rattle.auditor.specs.BlockFiles.Samples.{part_of}
-use Rattle.auditor.specs.BlockFiles.Reading.{or_chunks, or_tombstones, each, chunk_check, series_check, have_few, is_few, is_known, stored_of, deleted_of, walked_of}
+use Rattle.auditor.specs.BlockFiles.Reading.{or_chunks, or_tombstones, each_check, chunk_check, series_check, have_few, is_few, is_known, stored_of, deleted_of, walked_of}
 use Rattle.auditor.proofs.BlockFiles.AnyOrder.{known_any_order, part_any_order}
 use Rattle.auditor.proofs.BlockFiles.Checks.{known_in, in_known}
 
@@ -50,8 +50,8 @@ tombstones_fail e read f h = rw h refl
 -- checks of series, as checks of their chunks
 
 pub each_lists : (check : List Chunk → Result (Unit {0}) ChunkError) (ss : List Series)
-    → each (λ (s : Series). check s.chunks) ss ≡ each check (chunk_lists ss)
-unfolding each
+    → each_check (λ (s : Series). check s.chunks) ss ≡ each_check check (chunk_lists ss)
+unfolding each_check
 each_lists check [] = refl
 each_lists check (s ∷ ss) =
     ap (λ r. check s.chunks >>= λ _. r) (each_lists check ss)
@@ -67,27 +67,27 @@ facts_of_lists P [] a = tt
 facts_of_lists P (s ∷ ss) a = (a.0, facts_of_lists P ss a.1)
 
 pub stored_fails : (file : List ℕ) (ss : List Series) (e : ChunkError)
-    → each (each (chunk_check file)) (chunk_lists ss) ≡ Err e
+    → each_check (each_check (chunk_check file)) (chunk_lists ss) ≡ Err e
     → Fails (of_chunk e) (stored_of file ss)
 unfolding stored_of
 stored_fails file ss e h =
-    chunks_fail e (each (series_check file) ss) _ (each_lists (each (chunk_check file)) ss ∙ h)
+    chunks_fail e (each_check (series_check file) ss) _ (each_lists (each_check (chunk_check file)) ss ∙ h)
 
 pub stored_many : (file : List ℕ) (ss : List Series)
-    → each (each (chunk_check file)) (chunk_lists ss) ≡ Ok tt
+    → each_check (each_check (chunk_check file)) (chunk_lists ss) ≡ Ok tt
     → list_all (have_few file) (chunk_lists ss) ≡ false → stored_of file ss ≡ Err Limit
 unfolding stored_of
 stored_many file ss h few =
-    let one : each (series_check file) ss ≡ Ok tt = each_lists (each (chunk_check file)) ss ∙ h in
+    let one : each_check (series_check file) ss ≡ Ok tt = each_lists (each_check (chunk_check file)) ss ∙ h in
     let two : list_all (is_few file) ss ≡ false = all_lists (have_few file) ss ∙ few in
     rw (one, two) refl
 
 pub stored_few : (file : List ℕ) (ss : List Series)
-    → each (each (chunk_check file)) (chunk_lists ss) ≡ Ok tt
+    → each_check (each_check (chunk_check file)) (chunk_lists ss) ≡ Ok tt
     → list_all (have_few file) (chunk_lists ss) ≡ true → stored_of file ss ≡ Ok tt
 unfolding stored_of
 stored_few file ss h few =
-    let one : each (series_check file) ss ≡ Ok tt = each_lists (each (chunk_check file)) ss ∙ h in
+    let one : each_check (series_check file) ss ≡ Ok tt = each_lists (each_check (chunk_check file)) ss ∙ h in
     let two : list_all (is_few file) ss ≡ true = all_lists (have_few file) ss ∙ few in
     rw (one, two) refl
 

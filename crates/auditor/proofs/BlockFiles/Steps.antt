@@ -9,7 +9,7 @@ use Rattle.std.proofs.lemmas.Grind.{take_at_read, flat_map-append}
 use Rattle.std.proofs.lemmas.Option.{slice_get_within, get_or_from_slice_get}
 use Rattle.labels.proofs.Lists.{rising-head, rising-tail}
 use Rattle.chunk_reader.specs.declared.error.ChunkError.{ChunkError}
-use Rattle.auditor.specs.BlockFiles.Reading.{each}
+use Rattle.auditor.specs.BlockFiles.Reading.{each_check}
 use Rattle.auditor.proofs.BlockFiles.Turns.{all_append}
 
 -- the element at a place and those after it
@@ -32,26 +32,26 @@ take_next xs i x h =
 
 pub each_next : {A : Type 0} (check : A → Result (Unit {0}) ChunkError) (xs : List A) (i : ℕ)
     (x : A) (whole : Result (Unit {0}) ChunkError) → slice_get xs i ≡ Some x → check x ≡ Ok tt
-    → each check (drop i xs) ≡ whole → each check (drop (i + 1) xs) ≡ whole
-unfolding each
+    → each_check check (drop i xs) ≡ whole → each_check check (drop (i + 1) xs) ≡ whole
+unfolding each_check
 each_next check xs i x whole h passes so_far =
-    let one : each check (x ∷ drop (i + 1) xs) ≡ each check (drop (i + 1) xs) = rw passes refl in
-    sym one ∙ sym (ap (each check) (from_place xs i x h)) ∙ so_far
+    let one : each_check check (x ∷ drop (i + 1) xs) ≡ each_check check (drop (i + 1) xs) = rw passes refl in
+    sym one ∙ sym (ap (each_check check) (from_place xs i x h)) ∙ so_far
 
 pub each_stops : {A : Type 0} (check : A → Result (Unit {0}) ChunkError) (xs : List A) (i : ℕ)
     (x : A) (e : ChunkError) (whole : Result (Unit {0}) ChunkError) → slice_get xs i ≡ Some x
     → check x ≡ Err e
-    → each check (drop i xs) ≡ whole → whole ≡ Err e
-unfolding each
+    → each_check check (drop i xs) ≡ whole → whole ≡ Err e
+unfolding each_check
 each_stops check xs i x e whole h fails so_far =
-    let one : each check (x ∷ drop (i + 1) xs) ≡ Err e = rw fails refl in
-    sym so_far ∙ ap (each check) (from_place xs i x h) ∙ one
+    let one : each_check check (x ∷ drop (i + 1) xs) ≡ Err e = rw fails refl in
+    sym so_far ∙ ap (each_check check) (from_place xs i x h) ∙ one
 
 pub each_ends : {A : Type 0} (check : A → Result (Unit {0}) ChunkError) (xs : List A) (n : ℕ)
-    (whole : Result (Unit {0}) ChunkError) → length xs ≤ n → each check (drop n xs) ≡ whole
+    (whole : Result (Unit {0}) ChunkError) → length xs ≤ n → each_check check (drop n xs) ≡ whole
     → whole ≡ Ok tt
-unfolding each
-each_ends check xs n whole le so_far = sym so_far ∙ ap (each check) (drop_all n xs le)
+unfolding each_check
+each_ends check xs n whole le so_far = sym so_far ∙ ap (each_check check) (drop_all n xs le)
 
 -- a test of all
 

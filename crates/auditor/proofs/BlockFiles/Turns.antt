@@ -123,7 +123,7 @@ pub span_of : (file : List ℕ) (reference : ℕ) (mint maxt : ℤ) (ss : List (
 span_of file reference mint maxt ss x =
     spans mint maxt ss x.batch.some x.batch.ascending x.first x.last
 
--- chunks behind another
+-- chunks after another
 pub record IsRun (before : ℤ) (ss : List (ℤ × ℤ)) : Type 0 where
   pub sorted : T (is_sorted int_cmp ss)
   pub later : AllByRecursion (λ (s : ℤ × ℤ). before <ℤ s.0) ss

@@ -10,31 +10,32 @@ use Rattle.byteorder.specs.Endian.{big_bytes}
 use Rattle.wire.specs.Spelling.{IsBytes, uvarint}
 use Rattle.wire.specs.Checksum.{crc32c}
 use Rattle.labels.specs.Labels.{labels_cmp}
-use Rattle.auditor.specs.IndexFile.Reading.{Place, Parts, ascending, rounded, series_end, parts_of}
-use Rattle.auditor.specs.IndexFile.Grammar.{entry, IsWalk, IsParts}
-use Rattle.auditor.specs.IndexFile.Bodies.{Label, Body}
+use Rattle.auditor.specs.IndexFile.Layout.{SeriesEntry, Layout, ascending, rounded, series_end, Label, Body}
+use Rattle.auditor.specs.IndexFile.Reading.{layout_of}
+use Rattle.auditor.specs.IndexFile.Grammar.{entry, IsWalk, IsLayout}
 use Rattle.auditor.specs.IndexFile.Each.{each, rises}
-use Rattle.auditor.specs.IndexFile.Flat.{body_of_place, is_before, gaps_zero}
+use Rattle.auditor.specs.IndexFile.Flat.{body_of_entry, is_before, gaps_zero}
 use Rattle.auditor.specs.IndexFile.Labelled.{AreLabels}
-use Rattle.auditor.specs.IndexFile.Whole.{label_sets, bodies_of, is_small, Read, read_of, series_in, indexed_of}
+use Rattle.auditor.specs.IndexFile.Whole.{labels_of_each, bodies_of, is_small, Read, read_of, series_in, indexed_of}
 use Rattle.auditor.specs.IndexFile.Series.{Series, named, series_of}
 use Rattle.auditor.specs.IndexFile.Series as indexes
 use Rattle.auditor.specs.IndexFile.Spelled.{AreBodies, AreInOrder, IsIndex}
 use Rattle.auditor.proofs.IndexFile.Walks.{done}
 use Rattle.auditor.proofs.IndexFile.Whole.{parts_again}
 use Rattle.auditor.proofs.IndexFile.Sound.{few_symbols}
+use Rattle.auditor.proofs.IndexFile.Gaps.{gaps_in}
 use Rattle.auditor.proofs.IndexFile.Orders.{InTable, label_sets_cmp}
 use Rattle.auditor.proofs.IndexFile.Facts.{in_table, set_at, sets_are, series_length}
 use Rattle.auditor.proofs.IndexFile.BodyAgain.{bodies_again}
 
-pub bodies_count : (symbols : List (List ℕ)) (ps : List Place) (bs : List Body)
+pub bodies_count : (symbols : List (List ℕ)) (ps : List SeriesEntry) (bs : List Body)
     → AreBodies symbols ps bs → length bs ≡ length ps
 bodies_count symbols [] [] h = refl
 bodies_count symbols [] (b ∷ bs) h = absurd h
 bodies_count symbols (p ∷ ps) [] h = absurd h
 bodies_count symbols (p ∷ ps) (b ∷ bs) h = ap suc (bodies_count symbols ps bs h.1)
 
-bodies_labelled : (symbols : List (List ℕ)) (ps : List Place) (bs : List Body)
+bodies_labelled : (symbols : List (List ℕ)) (ps : List SeriesEntry) (bs : List Body)
     → AreBodies symbols ps bs → (j : ℕ) (d : Body) → j < length bs
     → AreLabels symbols 0 (get_or bs j d).labels
 bodies_labelled symbols [] [] h j d lt = absurd (omega arith)
@@ -44,7 +45,7 @@ bodies_labelled symbols (p ∷ ps) (b ∷ bs) h zero d lt = h.0.labels
 bodies_labelled symbols (p ∷ ps) (b ∷ bs) h (suc j) d lt =
     bodies_labelled symbols ps bs h.1 j d (omega arith)
 
-pub walk_sizes : (ps : List Place) (file : List ℕ) (end at : ℕ) → length file < 2 ^ 32
+pub walk_sizes : (ps : List SeriesEntry) (file : List ℕ) (end at : ℕ) → length file < 2 ^ 32
     → IsWalk file end at ps → AllByRecursion (λ p. length p.body < 2 ^ 32) ps
 walk_sizes [] file end at small w = tt
 walk_sizes (p ∷ ps) file end at small w =
@@ -86,23 +87,23 @@ sets_again symbols (a ∷ b ∷ ls) order inside h =
 
 small_sets : (bs : List Body)
     → ((k : ℕ) (d : Body) → k < length bs → length (get_or bs k d).labels ≤ 64)
-    → list_all is_small (label_sets bs) ≡ true
+    → list_all is_small (labels_of_each bs) ≡ true
 small_sets [] h = refl
 small_sets (b ∷ bs) h = rw (
   le-leb (length b.labels) 64 (h 0 b (omega arith)),
   small_sets bs (λ k d lt. h (suc k) d (omega arith)),
 ) refl
 
-bodies_read : (file : List ℕ) (p : Parts) (bs : List Body)
-    → each (body_of_place p.symbols) p.entries ≡ Ok bs
+bodies_read : (file : List ℕ) (p : Layout) (bs : List Body)
+    → each (body_of_entry p.symbols) p.entries ≡ Ok bs
     → gaps_zero file (series_end p.contents) p.symbols_end p.entries ≡ true
-    → rises is_before (label_sets bs) ≡ true → bodies_of file p ≡ Ok bs
+    → rises is_before (labels_of_each bs) ≡ true → bodies_of file p ≡ Ok bs
 unfolding bodies_of
 bodies_read file p bs a b c = rw (a, b, c) refl
 
-whole_read : (file : List ℕ) (p : Parts) (bs : List Body) → parts_of file ≡ Ok p
+whole_read : (file : List ℕ) (p : Layout) (bs : List Body) → layout_of file ≡ Ok p
     → bodies_of file p ≡ Ok bs → nat_lt 1048576 (length bs) ≡ false
-    → list_all is_small (label_sets bs) ≡ true
+    → list_all is_small (labels_of_each bs) ≡ true
     → read_of file ≡ Ok (record { parts = p; bodies = bs })
 unfolding read_of
 whole_read file p bs a b c d = rw (a, b, c, d) refl
@@ -113,9 +114,9 @@ unfolding indexed_of
 series_read file r x h e = rw h (ap (λ (y : List Series). done y) e)
 
 -- series in order have bodies in order
-pub order_again : (file : List ℕ) (p : Parts) (bs : List Body) (ss : List Series) → IsParts file p
+pub order_again : (file : List ℕ) (p : Layout) (bs : List Body) (ss : List Series) → IsLayout file p
     → AreBodies p.symbols p.entries bs → ss ≡ series_of p.symbols p.entries bs → AreInOrder ss
-    → rises is_before (label_sets bs) ≡ true
+    → rises is_before (labels_of_each bs) ≡ true
 order_again file p bs ss layout spelled series_are in_order =
     let symbols = p.symbols in
     let order : ascending symbols ≡ true = layout.symbols.2.order in
@@ -127,7 +128,7 @@ order_again file p bs ss layout spelled series_are in_order =
     let length_is : length ss ≡ length bs =
     ap (λ (xs : List Series). length xs) series_are ∙ series_length symbols p.entries bs count in
     let n = length-map bs (λ (b : Body). b.labels) in
-    sets_again symbols (label_sets bs) order
+    sets_again symbols (labels_of_each bs) order
     (λ j d lj. let o = set_at bs j d lj in subst (InTable symbols) (sym o.1)
     (in_table symbols 0 (get_or bs j o.0).labels (labelled j o.0 o.2)))
     (λ k lt. subst (λ (xs : List (List (List ℕ × List ℕ))). labels_cmp (get_or xs k [])
@@ -148,7 +149,7 @@ index_again file x fits i =
     let length_is : length x ≡ length bs =
     ap (λ (ss : List Series). length ss) i.series_are ∙ series_length symbols p.entries bs count in
     let b =
-    bodies_read file p bs a i.gaps
+    bodies_read file p bs a (gaps_in file p i.layout i.gaps)
     (order_again file p bs x i.layout i.spelled i.series_are i.in_order) in
     let e = le-ltb 1048576 (length bs) (omega (arith, length_is, i.few)) in
     let r =

@@ -7,11 +7,11 @@ use Rattle.std.proofs.lemmas.List.Concat.{flat_map-cons}
 use Rattle.wire.specs.Spelling.{uvarint, varint}
 use Rattle.wire.proofs.Laws.{uvarint_again, uvarint_long}
 use Rattle.auditor.specs.declared.walk.chunk.Chunk.{Chunk}
-use Rattle.auditor.specs.IndexFile.Reading.{Place}
+use Rattle.auditor.specs.IndexFile.Layout.{SeriesEntry, Label, Body}
 use Rattle.auditor.specs.IndexFile.Steps.{steps}
 use Rattle.auditor.specs.IndexFile.Each.{each}
-use Rattle.auditor.specs.IndexFile.Bodies.{Label, Body, is_label, label_at, labels_at, chunk_at, chunks_at, body_at}
-use Rattle.auditor.specs.IndexFile.Flat.{body_of_place}
+use Rattle.auditor.specs.IndexFile.Bodies.{is_label, label_at, labels_at, chunk_at, chunks_at, body_at}
+use Rattle.auditor.specs.IndexFile.Flat.{body_of_entry}
 use Rattle.auditor.specs.IndexFile.Labelled.{IsLabel, AreLabels}
 use Rattle.auditor.specs.IndexFile.Spelled.{label_text, AreLater, AreChunks, IsBody, AreBodies}
 use Rattle.auditor.proofs.IndexFile.ChunkAgain.{first_again, later_again}
@@ -172,9 +172,9 @@ body_again symbols b text few small h =
     let cs = chunks_again b.chunks h.chunks_text (omega (arith, small, a, n)) h.chunks in
     ap (body_at symbols) h.spelled ∙ rw (ls.1, cs.1) refl
 
-pub bodies_again : (symbols : List (List ℕ)) (ps : List Place) (bs : List Body)
+pub bodies_again : (symbols : List (List ℕ)) (ps : List SeriesEntry) (bs : List Body)
     → length symbols < 2 ^ 32 → AllByRecursion (λ p. length p.body < 2 ^ 32) ps
-    → AreBodies symbols ps bs → each (body_of_place symbols) ps ≡ Ok bs
+    → AreBodies symbols ps bs → each (body_of_entry symbols) ps ≡ Ok bs
 unfolding each
 bodies_again symbols [] [] few small h = refl
 bodies_again symbols [] (b ∷ bs) few small h = absurd h

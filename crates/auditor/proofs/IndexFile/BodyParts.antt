@@ -5,7 +5,8 @@ use Rattle.auditor.specs.declared.walk.error.WalkError.TheVariants.{Memory, Seri
 use Rattle.auditor.specs.IndexFile.Outcome.{Fails}
 use Rattle.auditor.specs.declared.walk.chunk.Chunk.{Chunk}
 use Rattle.auditor.specs.IndexFile.Steps.{with_front}
-use Rattle.auditor.specs.IndexFile.Bodies.{Label, labels_at, chunks_at, body_at, behind_both}
+use Rattle.auditor.specs.IndexFile.Layout.{Label}
+use Rattle.auditor.specs.IndexFile.Bodies.{labels_at, chunks_at, body_at, behind_both}
 use Rattle.auditor.proofs.IndexFile.Stepping.{front_ok, front_fails}
 
 abbrev both : List Label → List Chunk → Result (List Label × List Chunk) WalkError

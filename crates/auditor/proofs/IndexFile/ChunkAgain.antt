@@ -11,7 +11,7 @@ use Rattle.auditor.specs.declared.walk.chunk.Chunk.{Chunk}
 use Rattle.labels.specs.Contents.{is_time}
 use Rattle.labels.specs.declared.sample.TheConstants.{MIN_TIME, MAX_TIME}
 use Rattle.labels.proofs.Times.{first_T, second_T, T_of}
-use Rattle.auditor.specs.IndexFile.Chunks.{is_reference, natural, time_after, reference_after, first_at, later_at}
+use Rattle.auditor.specs.IndexFile.Chunks.{is_reference, natural, time_after, reference_after, first_chunk_at, later_chunk_at}
 use Rattle.auditor.specs.IndexFile.Spelled.{IsFirst, IsLater}
 
 time_again : (z : ℤ) (n : ℕ) (t : ℤ) → t ≡ z +ℤ pos n → is_time t ≡ true → time_after z n ≡ Some t
@@ -46,8 +46,8 @@ not_zero n lt =
     absurd (omega (arith, lt, eqb-true n 0 h)))
 
 pub first_again : (c : Chunk) (text rest : List ℕ) → IsFirst c text
-    → first_at (text ++ rest) ≡ Some (c, rest)
-unfolding first_at
+    → first_chunk_at (text ++ rest) ≡ Some (c, rest)
+unfolding first_chunk_at
 first_again c text rest f =
     let grouped : text ++ rest
     ≡ varint c.mint ++ (uvarint f.span ++ (uvarint c.reference ++ rest)) =
@@ -55,7 +55,7 @@ first_again c text rest f =
     ∙ append_assoc (varint c.mint) (uvarint f.span ++ uvarint c.reference) rest
     ∙ ap (λ (x : List ℕ). varint c.mint ++ x)
     (append_assoc (uvarint f.span) (uvarint c.reference) rest) in
-    ap first_at grouped
+    ap first_chunk_at grouped
     ∙ rw (
       varint_again c.mint (uvarint f.span ++ (uvarint c.reference ++ rest))
           (zigzag_time c.mint f.begins_in_time),
@@ -66,15 +66,15 @@ first_again c text rest f =
     ) refl
 
 pub later_again : (before c : Chunk) (text rest : List ℕ) → IsLater before c text
-    → later_at before (text ++ rest) ≡ Some (c, rest)
-unfolding later_at
+    → later_chunk_at before (text ++ rest) ≡ Some (c, rest)
+unfolding later_chunk_at
 later_again before c text rest l =
     let grouped : text ++ rest ≡ uvarint l.gap ++ (uvarint l.span ++ (varint l.step ++ rest)) =
     ap (λ (x : List ℕ). x ++ rest) l.spelled
     ∙ append_assoc (uvarint l.gap) (uvarint l.span ++ varint l.step) rest
     ∙ ap (λ (x : List ℕ). uvarint l.gap ++ x)
     (append_assoc (uvarint l.span) (varint l.step) rest) in
-    ap (later_at before) grouped
+    ap (later_chunk_at before) grouped
     ∙ rw (
       uvarint_again l.gap (uvarint l.span ++ (varint l.step ++ rest)) l.gap_fits,
       uvarint_again l.span (varint l.step ++ rest) l.span_fits,

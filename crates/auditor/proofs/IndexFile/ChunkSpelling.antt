@@ -9,7 +9,7 @@ use Rattle.wire.proofs.Laws.{uvarint_takes}
 use Rattle.wire.proofs.Signed.{varint_takes}
 use Rattle.auditor.specs.declared.walk.chunk.Chunk.{Chunk}
 use Rattle.labels.specs.Contents.{is_time}
-use Rattle.auditor.specs.IndexFile.Chunks.{is_reference, natural, time_after, reference_after, ◌>>=◌, read, first_at, later_at}
+use Rattle.auditor.specs.IndexFile.Chunks.{is_reference, natural, time_after, reference_after, ◌>>=◌, read, first_chunk_at, later_chunk_at}
 use Rattle.auditor.specs.IndexFile.Spelled.{IsFirst, IsLater}
 use Rattle.auditor.proofs.IndexFile.Fields.{Takes, takes, Takes-then}
 
@@ -63,9 +63,9 @@ above_zero : (n : ℕ) → eqb n 0 ≡ false → 0 < n
 above_zero zero h = absurd cc
 above_zero (suc n) h = omega arith
 
-pub first_spelled : (bytes : List ℕ) (y : Chunk × List ℕ) → IsBytes bytes → first_at bytes ≡ Some y
+pub first_spelled : (bytes : List ℕ) (y : Chunk × List ℕ) → IsBytes bytes → first_chunk_at bytes ≡ Some y
     → (text : List ℕ) × Takes bytes text y.1 × IsFirst y.0 text
-unfolding first_at
+unfolding first_chunk_at
 first_spelled bytes y fits h =
     let a = some_bind (read (varint_at bytes)) _ y h in
     let b = some_bind (read (uvarint_at a.0.1)) _ y a.2 in
@@ -97,9 +97,9 @@ first_spelled bytes y fits h =
     (some_is made y t.2) (text, took, whole)
 
 pub later_spelled : (before : Chunk) (bytes : List ℕ) (y : Chunk × List ℕ) → IsBytes bytes
-    → later_at before bytes ≡ Some y
+    → later_chunk_at before bytes ≡ Some y
     → (text : List ℕ) × Takes bytes text y.1 × IsLater before y.0 text
-unfolding later_at
+unfolding later_chunk_at
 later_spelled before bytes y fits h =
     let a = some_bind (read (uvarint_at bytes)) _ y h in
     let b = some_bind (read (uvarint_at a.0.1)) _ y a.2 in

@@ -7,13 +7,14 @@ use Rattle.wire.proofs.KnownReads.{chosen}
 use Rattle.auditor.specs.declared.walk.chunk.Chunk.{Chunk}
 use Rattle.auditor.specs.declared.walk.error.WalkError.{WalkError}
 use Rattle.auditor.specs.declared.walk.error.WalkError.TheVariants.{Symbols, SeriesCrc, Series}
-use Rattle.auditor.specs.IndexFile.Reading.{checked_at, frame_at, symbol_at, symbols_from, symbols_of, entry_at, entries_from, Place}
+use Rattle.auditor.specs.IndexFile.Layout.{SeriesEntry}
+use Rattle.auditor.specs.IndexFile.Reading.{checked_at, frame_at, symbol_at, symbols_from, symbols_of, entry_at, entries_from}
 use Rattle.wire.specs.Outcome.{◌>>=◌, or_refused}
 use Rattle.auditor.specs.IndexFile.Steps.{steps}
 use Rattle.auditor.specs.IndexFile.Each.{each}
 use Rattle.auditor.specs.IndexFile.Bodies.{label_at, labels_at, or_series, chunk_at, behind, chunks_at, body_at}
-use Rattle.auditor.specs.IndexFile.Chunks.{first_at, later_at}
-use Rattle.auditor.specs.IndexFile.Flat.{body_of_place}
+use Rattle.auditor.specs.IndexFile.Chunks.{first_chunk_at, later_chunk_at}
+use Rattle.auditor.specs.IndexFile.Flat.{body_of_entry}
 
 -- a refusal
 abbrev pub refused : (A : Type 0) → WalkError → Result A WalkError
@@ -135,7 +136,7 @@ of_series {A} None e h = same_refusal A Series e h
 of_chunk : (s : Chunk × List ℕ) → OnlyErr Series (chunk_at s)
 unfolding chunk_at
 of_chunk s e h =
-    of_bind Series (or_series (later_at s.0 s.1)) _ e h (of_series (later_at s.0 s.1)) (λ next g.
+    of_bind Series (or_series (later_chunk_at s.0 s.1)) _ e h (of_series (later_chunk_at s.0 s.1)) (λ next g.
     not_ok Series e _ g)
 
 of_behind : (c : Chunk) (r : Result (List Chunk × (Chunk × List ℕ)) WalkError) → OnlyErr Series r
@@ -150,7 +151,7 @@ of_chunks bytes e h =
     (of_refused Series (uvarint_at bytes)) (λ n g. elim (chosen (eqb n.0 0) _ _ _ g) [
       | inl x ↦ same_refusal (List Chunk × (Chunk × List ℕ)) Series e x.1
       | inr x ↦
-          of_bind Series (or_series (first_at n.1)) _ e x.1 (of_series (first_at n.1)) (λ first k.
+          of_bind Series (or_series (first_chunk_at n.1)) _ e x.1 (of_series (first_chunk_at n.1)) (λ first k.
           of_behind first.0 (steps chunk_at (n.0 - 1) first)
           (of_steps Series chunk_at of_chunk (n.0 - 1) first) e k)
     ])
@@ -169,7 +170,7 @@ of_each d step all (a ∷ as') e h =
     of_bind d (step a) _ e h (all a) (λ x g.
     of_bind d (each step as') _ e g (of_each d step all as') (λ xs k. not_ok d e _ k))
 
-pub of_bodies : (symbols : List (List ℕ)) (ps : List Place)
-    → OnlyErr Series (each (body_of_place symbols) ps)
+pub of_bodies : (symbols : List (List ℕ)) (ps : List SeriesEntry)
+    → OnlyErr Series (each (body_of_entry symbols) ps)
 of_bodies symbols ps e h =
-    of_each Series (body_of_place symbols) (λ p c g. of_body symbols p.body c g) ps e h
+    of_each Series (body_of_entry symbols) (λ p c g. of_body symbols p.body c g) ps e h

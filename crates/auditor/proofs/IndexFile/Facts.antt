@@ -15,19 +15,20 @@ use Rattle.wire.proofs.Laws.{uvarint_long}
 use Rattle.labels.specs.Labels.{labels_cmp}
 use Rattle.auditor.specs.declared.walk.error.WalkError.{WalkError}
 use Rattle.auditor.specs.declared.walk.error.WalkError.TheVariants.{Series, SeriesOrder, Limit}
-use Rattle.auditor.specs.IndexFile.Reading.{Place, Parts, ascending, rounded, series_end, parts_of}
-use Rattle.auditor.specs.IndexFile.Grammar.{entry, IsWalk, IsParts}
-use Rattle.auditor.specs.IndexFile.Bodies.{Label, Body}
+use Rattle.auditor.specs.IndexFile.Layout.{SeriesEntry, Layout, ascending, rounded, series_end, Label, Body}
+use Rattle.auditor.specs.IndexFile.Reading.{layout_of}
+use Rattle.auditor.specs.IndexFile.Grammar.{entry, IsWalk, IsLayout}
 use Rattle.auditor.specs.IndexFile.Each.{each, rises}
-use Rattle.auditor.specs.IndexFile.Flat.{body_of_place, is_before, gaps_zero}
+use Rattle.auditor.specs.IndexFile.Flat.{body_of_entry, is_before, gaps_zero}
 use Rattle.auditor.specs.IndexFile.Labelled.{AreLabels}
-use Rattle.auditor.specs.IndexFile.Whole.{label_sets, bodies_of, is_small, Read, read_of, series_in}
+use Rattle.auditor.specs.IndexFile.Whole.{labels_of_each, bodies_of, is_small, Read, read_of, series_in}
 use Rattle.auditor.specs.IndexFile.Series.{references, named, series_of}
 use Rattle.auditor.specs.IndexFile.Series as indexes
 use Rattle.auditor.specs.IndexFile.Spelled.{AreInOrder, IsIndex}
 use Rattle.auditor.proofs.IndexFile.WalkLoops.{guard_ended}
 use Rattle.wire.proofs.Steps.{bind_ok}
 use Rattle.auditor.proofs.IndexFile.OneByOne.{each_length}
+use Rattle.auditor.proofs.IndexFile.Gaps.{zeros_of}
 use Rattle.auditor.proofs.IndexFile.Orders.{InTable, label_sets_cmp}
 use Rattle.auditor.proofs.IndexFile.Naming.{bodies_take}
 use Rattle.auditor.proofs.IndexFile.Spelling.{walk_bytes, bodies_spelled}
@@ -48,51 +49,51 @@ is_so false d read y h = absurd cc
 
 -- ---- the steps of the whole
 
-pub record AreRead (file : List ℕ) (p : Parts) (bs : List Body) : Type 0 where
-  pub read : each (body_of_place p.symbols) p.entries ≡ Ok bs
+pub record AreRead (file : List ℕ) (p : Layout) (bs : List Body) : Type 0 where
+  pub read : each (body_of_entry p.symbols) p.entries ≡ Ok bs
   pub gaps : gaps_zero file (series_end p.contents) p.symbols_end p.entries ≡ true
-  pub rising : rises is_before (label_sets bs) ≡ true
+  pub rising : rises is_before (labels_of_each bs) ≡ true
 
 pub record Chain (file : List ℕ) (r : Read) : Type 0 where
-  pub parts : parts_of file ≡ Ok r.parts
+  pub parts : layout_of file ≡ Ok r.parts
   pub bodies : AreRead file r.parts r.bodies
   pub few : length r.bodies ≤ 1048576
-  pub small : list_all is_small (label_sets r.bodies) ≡ true
+  pub small : list_all is_small (labels_of_each r.bodies) ≡ true
 
-pub bodied : (file : List ℕ) (p : Parts) (bs : List Body)
+pub bodied : (file : List ℕ) (p : Layout) (bs : List Body)
     → bodies_of file p ≡ Ok bs → AreRead file p bs
 unfolding bodies_of
 bodied file p bs h =
-    let e = bind_ok (each (body_of_place p.symbols) p.entries) _ bs h in
+    let e = bind_ok (each (body_of_entry p.symbols) p.entries) _ bs h in
     let g =
     is_so (gaps_zero file (series_end p.contents) p.symbols_end p.entries) Series _ bs e.2 in
-    let k = guard_ended (rises is_before (label_sets e.0)) SeriesOrder e.0 bs g.1 in
+    let k = guard_ended (rises is_before (labels_of_each e.0)) SeriesOrder e.0 bs g.1 in
     subst (AreRead file p) k.1 (record { read = e.1; gaps = g.0; rising = k.0 })
 
 pub chain : (file : List ℕ) (r : Read) → read_of file ≡ Ok r → Chain file r
 unfolding read_of
 chain file r h =
-    let p = bind_ok (parts_of file) _ r h in
+    let p = bind_ok (layout_of file) _ r h in
     let b = bind_ok (bodies_of file p.0) _ r p.2 in
     let n = not_so (nat_lt 1048576 (length b.0)) Limit _ r b.2 in
     let made : Read = record { parts = p.0; bodies = b.0 } in
-    let s = guard_ended (list_all is_small (label_sets b.0)) Limit made r n.1 in
+    let s = guard_ended (list_all is_small (labels_of_each b.0)) Limit made r n.1 in
     let le = ltb-false 1048576 (length b.0) n.0 in
     subst (Chain file) s.1
     (record { parts = p.1; bodies = bodied file p.0 b.0 b.1; few = omega (arith, le); small = s.0 })
 
 -- ---- the order of series
 
-pub refs_are : (symbols : List (List ℕ)) (ps : List Place) (bs : List Body) → length bs ≡ length ps
-    → references (series_of symbols ps bs) ≡ map (λ (p : Place). p.offset / 16) ps
+pub refs_are : (symbols : List (List ℕ)) (ps : List SeriesEntry) (bs : List Body) → length bs ≡ length ps
+    → references (series_of symbols ps bs) ≡ map (λ (p : SeriesEntry). p.offset / 16) ps
 unfolding series_of
 refs_are symbols [] bs e = refl
 refs_are symbols (p ∷ ps) [] e = absurd (omega (arith, e))
 refs_are symbols (p ∷ ps) (b ∷ bs) e =
     ap (λ (rs : List ℕ). p.offset / 16 ∷ rs) (refs_are symbols ps bs (omega (arith, e)))
 
-pub sets_are : (symbols : List (List ℕ)) (ps : List Place) (bs : List Body) → length bs ≡ length ps
-    → indexes.label_sets (series_of symbols ps bs) ≡ map (named symbols) (label_sets bs)
+pub sets_are : (symbols : List (List ℕ)) (ps : List SeriesEntry) (bs : List Body) → length bs ≡ length ps
+    → indexes.label_sets (series_of symbols ps bs) ≡ map (named symbols) (labels_of_each bs)
 unfolding series_of
 sets_are symbols [] [] e = refl
 sets_are symbols [] (b ∷ bs) e = absurd (omega (arith, e))
@@ -101,7 +102,7 @@ sets_are symbols (p ∷ ps) (b ∷ bs) e =
     ap (λ (rs : List (List (List ℕ × List ℕ))). named symbols b.labels ∷ rs)
     (sets_are symbols ps bs (omega (arith, e)))
 
-pub series_length : (symbols : List (List ℕ)) (ps : List Place) (bs : List Body)
+pub series_length : (symbols : List (List ℕ)) (ps : List SeriesEntry) (bs : List Body)
     → length bs ≡ length ps → length (series_of symbols ps bs) ≡ length bs
 unfolding series_of
 series_length symbols [] [] e = refl
@@ -122,8 +123,8 @@ whole_rounds n = omega arith
 goes_up : (at n : ℕ) → at % 16 ≡ 0 → 0 < n → at / 16 < rounded (at + n) / 16
 goes_up at n whole some = omega (arith, whole, some)
 
-pub walk_rises : (ps : List Place) (file : List ℕ) (end at : ℕ) → at % 16 ≡ 0
-    → IsWalk file end at ps → IsStrictlyIncreasing (map (λ (p : Place). p.offset / 16) ps)
+pub walk_rises : (ps : List SeriesEntry) (file : List ℕ) (end at : ℕ) → at % 16 ≡ 0
+    → IsWalk file end at ps → IsStrictlyIncreasing (map (λ (p : SeriesEntry). p.offset / 16) ps)
 walk_rises [] file end at whole w k lt = absurd (omega arith)
 walk_rises (p ∷ []) file end at whole w k lt = absurd (omega arith)
 walk_rises (p ∷ q ∷ ps) file end at whole w zero lt =
@@ -135,9 +136,9 @@ walk_rises (p ∷ q ∷ ps) file end at whole w (suc k) lt =
     rw e (walk_rises (q ∷ ps) file end (rounded (at + length (entry p.body)))
     (whole_rounds (at + length (entry p.body))) w.3 k (omega arith))
 
-pub walk_small : (ps : List Place) (file : List ℕ) (end at : ℕ) → IsWalk file end at ps
+pub walk_small : (ps : List SeriesEntry) (file : List ℕ) (end at : ℕ) → IsWalk file end at ps
     → end ≤ 2 ^ 32 → (k : ℕ) → k < length ps
-    → get_or (map (λ (p : Place). p.offset / 16) ps) k 0 < 2 ^ 32
+    → get_or (map (λ (p : SeriesEntry). p.offset / 16) ps) k 0 < 2 ^ 32
 walk_small [] file end at w le k lt = absurd (omega arith)
 walk_small (p ∷ ps) file end at w le zero lt =
     let e : p.offset ≡ at = w.0 in
@@ -173,46 +174,46 @@ sets_rise symbols (a ∷ b ∷ ls) order inside h (suc k) lt =
     rw e (sets_rise symbols (b ∷ ls) order (λ j d l. inside (suc j) d (omega arith))
     (both (is_before a b) (rises is_before (b ∷ ls)) h).1 k (omega arith))
 
-pub few_labels : (bs : List Body) (k : ℕ) (d : Body) → list_all is_small (label_sets bs) ≡ true
+pub few_labels : (bs : List Body) (k : ℕ) (d : Body) → list_all is_small (labels_of_each bs) ≡ true
     → k < length bs → length (get_or bs k d).labels ≤ 64
 few_labels [] k d h lt = absurd (omega arith)
 few_labels (b ∷ bs) zero d h lt =
-    leb-true (length b.labels) 64 (both (is_small b.labels) (list_all is_small (label_sets bs)) h).0
+    leb-true (length b.labels) 64 (both (is_small b.labels) (list_all is_small (labels_of_each bs)) h).0
 few_labels (b ∷ bs) (suc k) d h lt =
     few_labels bs k d
-    (both (is_small b.labels) (list_all is_small (label_sets bs)) h).1 (omega arith)
+    (both (is_small b.labels) (list_all is_small (labels_of_each bs)) h).1 (omega arith)
 
-pub set_at : (bs : List Body) (k : ℕ) (d : List Label) → k < length (label_sets bs)
-    → (e : Body) × (get_or (label_sets bs) k d ≡ (get_or bs k e).labels) × (k < length bs)
+pub set_at : (bs : List Body) (k : ℕ) (d : List Label) → k < length (labels_of_each bs)
+    → (e : Body) × (get_or (labels_of_each bs) k d ≡ (get_or bs k e).labels) × (k < length bs)
 set_at [] k d lt = absurd (omega arith)
 set_at (b ∷ bs) zero d lt = (b, refl, omega arith)
 set_at (b ∷ bs) (suc k) d lt = let r = set_at bs k d (omega arith) in (r.0, r.1, omega (arith, r.2))
 
 -- bodies that were read are in the order of their label sets
-pub in_order_so : (file : List ℕ) (p : Parts) (bs : List Body) → IsParts file p → AreRead file p bs
+pub in_order_so : (file : List ℕ) (p : Layout) (bs : List Body) → IsLayout file p → AreRead file p bs
     → AreInOrder (series_of p.symbols p.entries bs)
 in_order_so file p bs layout r =
     let symbols = p.symbols in
     let order : ascending symbols ≡ true = layout.symbols.2.order in
     let labelled = bodies_take symbols p.entries bs r.read in
-    let size = each_length (body_of_place symbols) p.entries bs r.read in
+    let size = each_length (body_of_entry symbols) p.entries bs r.read in
     let sets = sets_are symbols p.entries bs size in
     let count = series_length symbols p.entries bs size in
     λ k lt. subst (λ (ss : List (List (List ℕ × List ℕ))).
     labels_cmp (get_or ss k []) (get_or ss (k + 1) []) ≡ Less) (sym sets)
-    (sets_rise symbols (label_sets bs) order (λ j d lj. let o = set_at bs j d lj in subst
+    (sets_rise symbols (labels_of_each bs) order (λ j d lj. let o = set_at bs j d lj in subst
     (InTable symbols) (sym o.1) (in_table symbols 0 (get_or bs j o.0).labels (labelled j o.0 o.2)))
     r.rising k (omega (arith, lt, count, length-map bs (λ (b : Body). b.labels))))
 
 -- ---- all of it
 
-pub is_index : (file : List ℕ) (r : Read) → IsBytes file → IsParts file r.parts
+pub is_index : (file : List ℕ) (r : Read) → IsBytes file → IsLayout file r.parts
     → read_of file ≡ Ok r → IsIndex file (series_in r)
 is_index file r fits p h =
     let c = chain file r h in
     let symbols = r.parts.symbols in
     let entries = r.parts.entries in
-    let size = each_length (body_of_place symbols) entries r.bodies c.bodies.read in
+    let size = each_length (body_of_entry symbols) entries r.bodies c.bodies.read in
     let count = series_length symbols entries r.bodies size in
     record {
       parts = r.parts;
@@ -222,7 +223,8 @@ is_index file r fits p h =
           bodies_spelled symbols entries r.bodies (walk_bytes entries file
           (series_end r.parts.contents) (rounded r.parts.contents.series) fits p.entries)
           c.bodies.read;
-      gaps = c.bodies.gaps;
+      gaps =
+          zeros_of entries file (series_end r.parts.contents) r.parts.symbols_end c.bodies.gaps;
       series_are = refl;
       in_order = in_order_so file r.parts r.bodies p c.bodies;
       few = omega (arith, count, c.few);

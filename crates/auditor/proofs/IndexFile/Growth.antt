@@ -7,7 +7,8 @@ use Rattle.auditor.specs.declared.walk.error.WalkError.{WalkError}
 use Rattle.auditor.specs.declared.walk.error.WalkError.TheVariants.{Memory}
 use Rattle.auditor.specs.IndexFile.Outcome.{Fails}
 use Rattle.auditor.specs.declared.walk.chunk.Chunk.{Chunk}
-use Rattle.auditor.specs.IndexFile.Bodies.{Label, Body, behind_both}
+use Rattle.auditor.specs.IndexFile.Layout.{Label, Body}
+use Rattle.auditor.specs.IndexFile.Bodies.{behind_both}
 use Rattle.auditor.specs.declared.walk.bodies.Span.{Span}
 use Rattle.auditor.specs.IndexFile.Flat.{body_in, bodies_in, IsIn, AllIn}
 

@@ -5,7 +5,8 @@ use Rattle.std.proofs.lemmas.Bool.{leb-true, ltb-true, ltb-false, eqb-true}
 use Rattle.wire.proofs.KnownReads.{chosen}
 use Rattle.auditor.specs.declared.walk.contents.Contents.{Contents}
 use Rattle.auditor.specs.declared.walk.error.WalkError.TheVariants.{ContentsOrder}
-use Rattle.auditor.specs.IndexFile.Reading.{IsPlaced, in_order, has_magic, table_of, head_of}
+use Rattle.auditor.specs.IndexFile.Layout.{IsPlaced}
+use Rattle.auditor.specs.IndexFile.Reading.{in_order, has_magic, table_of, head_of}
 use Rattle.auditor.proofs.IndexFile.WalkLoops.{guard_ended}
 use Rattle.wire.proofs.Steps.{bind_ok}
 

@@ -9,14 +9,13 @@ use Rattle.auditor.specs.declared.walk.bodies.Span.{Span}
 use Rattle.auditor.specs.declared.walk.entries.Entry.{Entry}
 use Rattle.auditor.specs.declared.walk.chunk.Chunk.{Chunk}
 use Rattle.auditor.specs.IndexFile.Outcome.{is_memory, Fails}
-use Rattle.auditor.specs.IndexFile.Reading.{Place, ascending}
-use Rattle.auditor.specs.IndexFile.Seen.{place, places, texts}
-use Rattle.auditor.specs.IndexFile.Bodies.{Label, Body}
+use Rattle.auditor.specs.IndexFile.Layout.{SeriesEntry, ascending, Label, Body}
+use Rattle.auditor.specs.IndexFile.Seen.{entry_seen, entries_seen, texts}
 use Rattle.auditor.specs.IndexFile.Labelled.{AreLabels}
 use Rattle.auditor.specs.IndexFile.Flat.{body_in, bodies_in}
 use Rattle.auditor.specs.IndexFile.Whole.{read_of, series_in, indexed_of}
 use Rattle.auditor.specs.IndexFile.Series.{Series, named, series_at, series_of}
-use Rattle.auditor.specs.IndexFile.Kept.{read_seen, series_seen, IsHeldIn, AreInTable, IsKept}
+use Rattle.auditor.specs.IndexFile.Kept.{read_seen, series_seen, IsHeldIn, AreInTable, IsCheckedIndex}
 use Rattle.wire.proofs.Steps.{fails_on}
 use Rattle.auditor.proofs.IndexFile.Naming.{first_below, bodies_take, is_label_set}
 use Rattle.auditor.proofs.IndexFile.Facts.{chain, few_labels, series_length}
@@ -24,7 +23,7 @@ use Rattle.auditor.proofs.IndexFile.Places.{mapped_at, stands_at}
 
 -- ---- the series at a place
 
-pub series_here : (symbols : List (List ℕ)) (ps : List Place) (bs : List Body) (i : ℕ) (p : Place)
+pub series_here : (symbols : List (List ℕ)) (ps : List SeriesEntry) (bs : List Body) (i : ℕ) (p : SeriesEntry)
     (b : Body) → slice_get ps i ≡ Some p → slice_get bs i ≡ Some b
     → slice_get (series_of symbols ps bs) i ≡ Some (series_at symbols p b)
 unfolding series_of
@@ -36,20 +35,20 @@ series_here symbols (x ∷ ps) (y ∷ bs) zero p b g h =
     rw (e, f) refl
 series_here symbols (x ∷ ps) (y ∷ bs) (suc i) p b g h = series_here symbols ps bs i p b g h
 
-pub rows_long : (c : Checked) (x : List Series) → IsKept c → series_seen c ≡ x
+pub rows_long : (c : Checked) (x : List Series) → IsCheckedIndex c → series_seen c ≡ x
     → length x ≡ length c.bodies.rows.items
 rows_long c x k view =
     let bs = bodies_in c.bodies.labels.items c.bodies.chunks.items c.bodies.rows.items in
     let n = length-map c.bodies.rows.items (body_in c.bodies.labels.items c.bodies.chunks.items) in
-    let m = length-map c.layout.entries.items place in
+    let m = length-map c.layout.entries.items entry_seen in
     let long =
-    series_length (texts c.layout.symbols.items) (places c.layout.entries.items) bs
+    series_length (texts c.layout.symbols.items) (entries_seen c.layout.entries.items) bs
     (omega (arith, n, m, k.counted)) in
     omega (arith, n, long, ap (λ (ss : List Series). length ss) view)
 
-pub series_stands : (c : Checked) (x : List Series) (i : ℕ) (r : Span) (p : Place)
+pub series_stands : (c : Checked) (x : List Series) (i : ℕ) (r : Span) (p : SeriesEntry)
     → series_seen c ≡ x → slice_get c.bodies.rows.items i ≡ Some r
-    → slice_get (places c.layout.entries.items) i ≡ Some p
+    → slice_get (entries_seen c.layout.entries.items) i ≡ Some p
     → slice_get x i ≡ Some (series_at (texts c.layout.symbols.items) p
     (body_in c.bodies.labels.items c.bodies.chunks.items r))
 series_stands c x i r p view g h =
@@ -57,32 +56,32 @@ series_stands c x i r p view g h =
     let cs = c.bodies.chunks.items in
     let symbols = texts c.layout.symbols.items in
     subst (λ (ss : List Series). slice_get ss i ≡ Some (series_at symbols p (body_in ls cs r))) view
-    (series_here symbols (places c.layout.entries.items) (bodies_in ls cs c.bodies.rows.items) i p
+    (series_here symbols (entries_seen c.layout.entries.items) (bodies_in ls cs c.bodies.rows.items) i p
     (body_in ls cs r) h (mapped_at (body_in ls cs) c.bodies.rows.items i r g))
 
-pub row_inside : (c : Checked) (x : List Series) (i : ℕ) (rows : List Span) → IsKept c
+pub row_inside : (c : Checked) (x : List Series) (i : ℕ) (rows : List Span) → IsCheckedIndex c
     → series_seen c ≡ x → i < length x → rows ≡ c.bodies.rows.items → i < length rows
 row_inside c x i rows k view lt e =
     omega (arith, lt, rows_long c x k view, ap (λ (rs : List Span). length rs) e)
 
-pub entry_inside : (c : Checked) (x : List Series) (i : ℕ) (entries : List Entry) → IsKept c
+pub entry_inside : (c : Checked) (x : List Series) (i : ℕ) (entries : List Entry) → IsCheckedIndex c
     → series_seen c ≡ x → i < length x → entries ≡ c.layout.entries.items → i < length entries
 entry_inside c x i entries k view lt e =
     omega (arith, lt, rows_long c x k view, k.counted, ap (λ (es : List Entry). length es) e)
 
-pub series_of_row : (c : Checked) (x : List Series) (i : ℕ) (r : Span) → IsKept c
+pub series_of_row : (c : Checked) (x : List Series) (i : ℕ) (r : Span) → IsCheckedIndex c
     → series_seen c ≡ x → i < length x → slice_get c.bodies.rows.items i ≡ Some r
-    → (p : Place) × (slice_get x i ≡ Some (series_at (texts c.layout.symbols.items) p
+    → (p : SeriesEntry) × (slice_get x i ≡ Some (series_at (texts c.layout.symbols.items) p
     (body_in c.bodies.labels.items c.bodies.chunks.items r)))
 series_of_row c x i r k view lt g =
-    let none : Place = record { offset = 0; body = []; end = 0 } in
-    let ps = places c.layout.entries.items in
+    let none : SeriesEntry = record { offset = 0; body = []; end = 0 } in
+    let ps = entries_seen c.layout.entries.items in
     let inside : i < length ps =
-    omega (arith, lt, rows_long c x k view, k.counted, length-map c.layout.entries.items place) in
+    omega (arith, lt, rows_long c x k view, k.counted, length-map c.layout.entries.items entry_seen) in
     (get_or ps i none, series_stands c x i r (get_or ps i none) view g (stands_at ps i none inside))
 
-pub series_of_entry : (c : Checked) (x : List Series) (i : ℕ) (p : Place) → IsKept c
-    → series_seen c ≡ x → i < length x → slice_get (places c.layout.entries.items) i ≡ Some p
+pub series_of_entry : (c : Checked) (x : List Series) (i : ℕ) (p : SeriesEntry) → IsCheckedIndex c
+    → series_seen c ≡ x → i < length x → slice_get (entries_seen c.layout.entries.items) i ≡ Some p
     → (b : Body) × (slice_get x i ≡ Some (series_at (texts c.layout.symbols.items) p b))
 series_of_entry c x i p k view lt g =
     let none : Body = record { labels = []; chunks = [] } in
@@ -93,7 +92,7 @@ series_of_entry c x i p k view lt g =
     let b = get_or bs i none in (
       b,
       subst (λ (ss : List Series). slice_get ss i ≡ Some (series_at symbols p b)) view (series_here
-          symbols (places c.layout.entries.items) bs i p b g (stands_at bs i none inside)),
+          symbols (entries_seen c.layout.entries.items) bs i p b g (stands_at bs i none inside)),
     )
 
 -- ---- what the checks leave
@@ -109,7 +108,7 @@ inside_so symbols ls h =
     λ k d lt. let o = first_below symbols 0 ls k d h lt in (o.name_in, o.value_in)
 
 pub is_kept : (file : List ℕ) (c : Checked) → IsHeldIn file c
-    → read_of file ≡ Ok (read_seen c) → IsKept c
+    → read_of file ≡ Ok (read_seen c) → IsCheckedIndex c
 is_kept file c h read =
     let ls = c.bodies.labels.items in
     let cs = c.bodies.chunks.items in
@@ -118,7 +117,7 @@ is_kept file c h read =
     let bs = bodies_in ls cs rs in
     let steps = chain file (read_seen c) read in
     let order : ascending symbols ≡ true = h.sound.order in
-    let labelled = bodies_take symbols (places c.layout.entries.items) bs steps.bodies.read in
+    let labelled = bodies_take symbols (entries_seen c.layout.entries.items) bs steps.bodies.read in
     let size = length-map rs (body_in ls cs) in
     record {
       inside = h.inside;

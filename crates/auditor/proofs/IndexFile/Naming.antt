@@ -7,14 +7,14 @@ use Rattle.wire.specs.Reading.{uvarint_at}
 use Rattle.labels.specs.Names.{is_name}
 use Rattle.labels.specs.LabelSets.{IsLabelSet}
 use Rattle.auditor.specs.declared.walk.error.WalkError.TheVariants.{Series}
-use Rattle.auditor.specs.IndexFile.Reading.{Place, ascending}
+use Rattle.auditor.specs.IndexFile.Layout.{SeriesEntry, ascending, Label, Body}
 use Rattle.wire.specs.Outcome.{or_refused}
 use Rattle.auditor.specs.IndexFile.Labelled.{IsLabel, AreLabels}
 use Rattle.auditor.specs.IndexFile.Steps.{steps}
-use Rattle.auditor.specs.IndexFile.Bodies.{Label, Body, is_label, label_at, labels_at, chunks_at, body_at}
+use Rattle.auditor.specs.IndexFile.Bodies.{is_label, label_at, labels_at, chunks_at, body_at}
 use Rattle.auditor.specs.IndexFile.Each.{each}
-use Rattle.auditor.specs.IndexFile.Flat.{body_of_place}
-use Rattle.auditor.specs.IndexFile.Series.{text_of, named}
+use Rattle.auditor.specs.IndexFile.Flat.{body_of_entry}
+use Rattle.auditor.specs.IndexFile.Series.{pair_of, named}
 use Rattle.auditor.proofs.IndexFile.WalkLoops.{guard_ended}
 use Rattle.wire.proofs.Steps.{bind_ok}
 use Rattle.auditor.proofs.IndexFile.Walks.{ok_is}
@@ -100,15 +100,15 @@ behind_first symbols b others bs e one more k d lt =
     subst (λ (zs : List Body). k < length zs → AreLabels symbols 0 (get_or zs k d).labels) e
     (at_each symbols b others one more k d) lt
 
-pub bodies_take : (symbols : List (List ℕ)) (ps : List Place) (bs : List Body)
-    → each (body_of_place symbols) ps ≡ Ok bs → (k : ℕ) (d : Body) → k < length bs
+pub bodies_take : (symbols : List (List ℕ)) (ps : List SeriesEntry) (bs : List Body)
+    → each (body_of_entry symbols) ps ≡ Ok bs → (k : ℕ) (d : Body) → k < length bs
     → AreLabels symbols 0 (get_or bs k d).labels
 unfolding each
 bodies_take symbols [] bs h k d lt =
     let e : [] ≡ bs = ok_is [] bs h in absurd (omega (arith, ap length e))
 bodies_take symbols (p ∷ ps) bs h k d lt =
-    let b = bind_ok (body_of_place symbols p) _ bs h in
-    let others = bind_ok (each (body_of_place symbols) ps) _ bs b.2 in
+    let b = bind_ok (body_of_entry symbols p) _ bs h in
+    let others = bind_ok (each (body_of_entry symbols) ps) _ bs b.2 in
     let e : b.0 ∷ others.0 ≡ bs = ok_is (b.0 ∷ others.0) bs others.2 in
     behind_first symbols b.0 others.0 bs e (body_takes symbols p.body b.0 b.1)
     (λ j c l. bodies_take symbols ps others.0 others.1 j c l) k d lt
@@ -139,7 +139,7 @@ in_order symbols low (l ∷ ls) h (suc k) d lt =
     rw e (in_order symbols (l.0 + 1) ls h.1 k d (omega arith))
 
 named_at : (symbols : List (List ℕ)) (ls : List Label) (k : ℕ) (d : List ℕ × List ℕ) (c : Label)
-    → k < length ls → get_or (named symbols ls) k d ≡ text_of symbols (get_or ls k c)
+    → k < length ls → get_or (named symbols ls) k d ≡ pair_of symbols (get_or ls k c)
 named_at symbols [] k d c lt = absurd (omega arith)
 named_at symbols (l ∷ ls) zero d c lt = refl
 named_at symbols (l ∷ ls) (suc k) d c lt = named_at symbols ls k d c (omega arith)
@@ -152,7 +152,7 @@ pub is_label_set : (symbols : List (List ℕ)) (ls : List Label) → ascending s
     → AreLabels symbols 0 ls → length ls ≤ 64 → IsLabelSet (named symbols ls)
 is_label_set symbols ls sorted h few = record {
   by_name = λ k d lt.
-      let n = length-map ls (text_of symbols) in
+      let n = length-map ls (pair_of symbols) in
       let c : Label = (0, 0) in
       let a = named_at symbols ls k d c (omega (arith, n)) in
       let b = named_at symbols ls (k + 1) d c (omega (arith, n)) in
@@ -160,14 +160,14 @@ is_label_set symbols ls sorted h few = record {
       rw (a, b) (symbols_less symbols (get_or ls k c).0 (get_or ls (k + 1) c).0 sorted
       (in_order symbols 0 ls h k c (omega (arith, n))) o.name_in);
   named = λ k d lt.
-      let n = length-map ls (text_of symbols) in
+      let n = length-map ls (pair_of symbols) in
       let c : Label = (0, 0) in
       rw (named_at symbols ls k d c (omega (arith, n)))
       (first_below symbols 0 ls k c h (omega (arith, n))).name;
   valued = λ k d lt.
-      let n = length-map ls (text_of symbols) in
+      let n = length-map ls (pair_of symbols) in
       let c : Label = (0, 0) in
       rw (named_at symbols ls k d c (omega (arith, n)))
       (full _ (first_below symbols 0 ls k c h (omega (arith, n))).value);
-  few = omega (arith, few, length-map ls (text_of symbols));
+  few = omega (arith, few, length-map ls (pair_of symbols));
 }

@@ -10,25 +10,25 @@ use Rattle.auditor.specs.declared.walk.entries.Entry.{Entry}
 use Rattle.auditor.specs.declared.walk.layout.Layout.{Layout}
 use Rattle.auditor.specs.declared.walk.bodies.Span.{Span}
 use Rattle.auditor.specs.declared.walk.chunk.Chunk.{Chunk}
-use Rattle.auditor.specs.IndexFile.Reading.{Parts, rounded, series_end}
-use Rattle.auditor.specs.IndexFile.Grammar.{entry, symbol, IsWalk, IsParts}
-use Rattle.auditor.specs.IndexFile.Seen.{places, seen}
-use Rattle.auditor.specs.IndexFile.Bodies.{Label}
-use Rattle.auditor.specs.IndexFile.Flat.{body_in, bodies_in, label_sets_in, AllIn, AreInside}
-use Rattle.auditor.specs.IndexFile.Whole.{label_sets}
+use Rattle.auditor.specs.IndexFile.Layout.{rounded, series_end, Label}
+use Rattle.auditor.specs.IndexFile.Layout as layout
+use Rattle.auditor.specs.IndexFile.Grammar.{entry, symbol, IsWalk, IsLayout}
+use Rattle.auditor.specs.IndexFile.Seen.{entries_seen, seen}
+use Rattle.auditor.specs.IndexFile.Flat.{body_in, bodies_in, label_sets_in, AllIn, AreSpansIn}
+use Rattle.auditor.specs.IndexFile.Whole.{labels_of_each}
 use Rattle.auditor.specs.IndexFile.Sound.{IsSoundLayout}
 use Rattle.auditor.proofs.IndexFile.Walks.{flat_long}
 use Rattle.auditor.proofs.IndexFile.Whole.{omega_length, end_inside}
 use Rattle.auditor.proofs.IndexFile.Eaches.{drop_at_place}
 
-walk_inside : (es : List Entry) (file : List ℕ) (end at len : ℕ) → IsWalk file end at (places es)
+walk_inside : (es : List Entry) (file : List ℕ) (end at len : ℕ) → IsWalk file end at (entries_seen es)
     → end ≤ len → (k : ℕ) (d : Entry) → k < length es → (get_or es k d).offset ≤ len
 walk_inside [] file end at len w le k d lt = absurd (omega arith)
 walk_inside (e ∷ es) file end at len w le zero d lt = omega (arith, w.0, w.1)
 walk_inside (e ∷ es) file end at len w le (suc k) d lt =
     walk_inside es file end (rounded (at + length (entry e.body.now))) len w.3 le k d (omega arith)
 
-pub few_symbols : (file : List ℕ) (x : Parts) → IsParts file x → length x.symbols < 2 ^ 32
+pub few_symbols : (file : List ℕ) (x : layout.Layout) → IsLayout file x → length x.symbols < 2 ^ 32
 few_symbols file x p =
     let content = p.symbols.0 in
     let size = omega_length file x.contents content p.symbols.1.0 p.symbols.1.1 p.placed in
@@ -37,7 +37,7 @@ few_symbols file x p =
     ∙ length-append (big_bytes 4 (length x.symbols)) (flat_map symbol x.symbols) in
     omega (arith, size, long, flat_long x.symbols)
 
-sound : (file : List ℕ) (o : Layout) → IsParts file (seen o) → IsSoundLayout file o
+sound : (file : List ℕ) (o : Layout) → IsLayout file (seen o) → IsSoundLayout file o
 sound file o p = record {
   placed = p.placed;
   few = omega (
@@ -58,14 +58,14 @@ sound file o p = record {
 }
 
 pub sound_found : (file : List ℕ) (r : Result Layout WalkError)
-    → IfOk r (λ o. IsParts file (seen o)) → IfOk r (λ o. IsSoundLayout file o)
+    → IfOk r (λ o. IsLayout file (seen o)) → IfOk r (λ o. IsSoundLayout file o)
 sound_found file (Ok o) p = sound file o p
 sound_found file (Err e) p = tt
 
 -- ---- flat lists
 
 pub sets_are : (labels : List Label) (chunks : List Chunk) (rows : List Span)
-    → label_sets (bodies_in labels chunks rows) ≡ label_sets_in labels rows
+    → labels_of_each (bodies_in labels chunks rows) ≡ label_sets_in labels rows
 sets_are labels chunks [] = refl
 sets_are labels chunks (r ∷ rows) =
     ap (λ (xs : List (List Label)). slice_range labels r.labels_start r.labels_end ∷ xs)
@@ -76,7 +76,7 @@ pub count_is : (labels : List Label) (chunks : List Chunk) (rows : List Span)
 count_is labels chunks rows = length-map rows (body_in labels chunks)
 
 pub labels_inside : (labels : List Label) (chunks : List Chunk) (rows : List Span)
-    → AllIn labels chunks rows → AreInside labels rows
+    → AllIn labels chunks rows → AreSpansIn labels rows
 labels_inside labels chunks rows h =
     λ k d lt. let o = h k d lt in (o.labels_ordered, o.labels_inside)
 

@@ -14,14 +14,14 @@ use Rattle.wire.proofs.Laws.{uvarint_takes}
 use Rattle.auditor.specs.declared.walk.chunk.Chunk.{Chunk}
 use Rattle.auditor.specs.declared.walk.error.WalkError.{WalkError}
 use Rattle.auditor.specs.declared.walk.error.WalkError.TheVariants.{Series}
-use Rattle.auditor.specs.IndexFile.Reading.{Place, rounded}
+use Rattle.auditor.specs.IndexFile.Layout.{SeriesEntry, rounded, Label, Body}
 use Rattle.wire.specs.Outcome.{or_refused}
 use Rattle.auditor.specs.IndexFile.Grammar.{entry, IsWalk}
 use Rattle.auditor.specs.IndexFile.Steps.{steps}
 use Rattle.auditor.specs.IndexFile.Each.{each}
-use Rattle.auditor.specs.IndexFile.Bodies.{Label, Body, is_label, label_at, labels_at, or_series, chunk_at, chunks_at, behind, body_at}
-use Rattle.auditor.specs.IndexFile.Chunks.{first_at, later_at}
-use Rattle.auditor.specs.IndexFile.Flat.{body_of_place}
+use Rattle.auditor.specs.IndexFile.Bodies.{is_label, label_at, labels_at, or_series, chunk_at, chunks_at, behind, body_at}
+use Rattle.auditor.specs.IndexFile.Chunks.{first_chunk_at, later_chunk_at}
+use Rattle.auditor.specs.IndexFile.Flat.{body_of_entry}
 use Rattle.auditor.specs.IndexFile.Labelled.{AreLabels}
 use Rattle.auditor.specs.IndexFile.Spelled.{label_text, IsLater, AreLater, AreChunks, IsBody, AreBodies}
 use Rattle.auditor.proofs.IndexFile.WalkLoops.{guard_ended}
@@ -100,8 +100,8 @@ chunk_spelled : (s : Chunk × List ℕ) (y : Chunk × (Chunk × List ℕ)) → I
     → (text : List ℕ) × Takes s.1 text y.1.1 × IsLater s.0 y.0 text × (y.1.0 ≡ y.0)
 unfolding chunk_at
 chunk_spelled s y fits h =
-    let a = bind_ok (or_series (later_at s.0 s.1)) _ y h in
-    let l = later_spelled s.0 s.1 a.0 fits (series_ok (later_at s.0 s.1) a.0 a.1) in
+    let a = bind_ok (or_series (later_chunk_at s.0 s.1)) _ y h in
+    let l = later_spelled s.0 s.1 a.0 fits (series_ok (later_chunk_at s.0 s.1) a.0 a.1) in
     let made : Chunk × (Chunk × List ℕ) = (a.0.0, a.0) in
     subst (λ (z : Chunk × (Chunk × List ℕ)). (text : List ℕ) × Takes s.1 text z.1.1
     × IsLater s.0 z.0 text × (z.1.0 ≡ z.0)) (ok_is made y a.2) (l.0, l.1, l.2, refl)
@@ -150,10 +150,10 @@ unfolding chunks_at
 chunks_spelled bytes x fits h =
     let n = bind_ok (or_refused Series (uvarint_at bytes)) _ x h in
     let g = not_so (eqb n.0.0 0) Series _ x n.2 in
-    let f = bind_ok (or_series (first_at n.0.1)) _ x g.1 in
+    let f = bind_ok (or_series (first_chunk_at n.0.1)) _ x g.1 in
     let b = behind_ok f.0.0 (steps chunk_at (n.0.0 - 1) f.0) x f.2 in
     let t0 = uvarint_read Series bytes n.0 fits n.1 in
-    let one = first_spelled n.0.1 f.0 t0.rest_fits (series_ok (first_at n.0.1) f.0 f.1) in
+    let one = first_spelled n.0.1 f.0 t0.rest_fits (series_ok (first_chunk_at n.0.1) f.0 f.1) in
     let more = later_all (n.0.0 - 1) f.0 b.0 one.1.rest_fits b.1 in
     let count : n.0.0 ≡ length b.0.0 + 1 = omega (arith, more.3, above_zero n.0.0 g.0) in
     let text = uvarint (length b.0.0 + 1) ++ (one.0 ++ more.0) in
@@ -188,7 +188,7 @@ body_spelled symbols bytes b fits h =
     subst (λ (z : Body). IsBody symbols z bytes) g.1
     (record { chunks_text = t1.0; spelled = text; labels = labelled; chunks = t1.2 })
 
-pub walk_bytes : (ps : List Place) (file : List ℕ) (end at : ℕ) → IsBytes file
+pub walk_bytes : (ps : List SeriesEntry) (file : List ℕ) (end at : ℕ) → IsBytes file
     → IsWalk file end at ps → AllByRecursion (λ p. IsBytes p.body) ps
 walk_bytes [] file end at fits w = tt
 walk_bytes (p ∷ ps) file end at fits w =
@@ -199,12 +199,12 @@ walk_bytes (p ∷ ps) file end at fits w =
     (IsBytes-back (uvarint (length p.body)) _ (IsBytes-front (entry p.body) rest text)) in
     (body, walk_bytes ps file end (rounded (at + length (entry p.body))) fits w.3)
 
-pub bodies_spelled : (symbols : List (List ℕ)) (ps : List Place) (bs : List Body)
-    → AllByRecursion (λ p. IsBytes p.body) ps → each (body_of_place symbols) ps ≡ Ok bs
+pub bodies_spelled : (symbols : List (List ℕ)) (ps : List SeriesEntry) (bs : List Body)
+    → AllByRecursion (λ p. IsBytes p.body) ps → each (body_of_entry symbols) ps ≡ Ok bs
     → AreBodies symbols ps bs
 bodies_spelled symbols [] bs fits h =
-    subst (AreBodies symbols []) (each_nil (body_of_place symbols) bs h) tt
+    subst (AreBodies symbols []) (each_nil (body_of_entry symbols) bs h) tt
 bodies_spelled symbols (p ∷ ps) bs fits h =
-    let x = each_cons (body_of_place symbols) p ps bs h in
+    let x = each_cons (body_of_entry symbols) p ps bs h in
     subst (AreBodies symbols (p ∷ ps)) x.4
     (body_spelled symbols p.body x.0 fits.0 x.2, bodies_spelled symbols ps x.1 fits.1 x.3)

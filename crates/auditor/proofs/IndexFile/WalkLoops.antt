@@ -1,5 +1,5 @@
 -- Loops that read one thing after another.
-use Rattle.std.proofs.Common.{◌≡◌, ℕ, zero, suc, ◌-◌, ◌+◌, ◌≤◌, ◌<◌, Bool, true, false, ◌&&◌, cond, ltb, eqb, List, [], ◌∷◌, ◌++◌, length, get_or, take, drop, Result, Ok, Err, refl, sym, ap, ◌∙◌, inl, inr, append_assoc, arith}
+use Rattle.std.proofs.Common.{◌≡◌, ℕ, zero, suc, ◌-◌, ◌+◌, ◌≤◌, ◌<◌, Bool, true, false, cond, ltb, eqb, List, [], ◌∷◌, ◌++◌, length, take, drop, Result, Ok, Err, refl, sym, ap, ◌∙◌, inl, inr, append_assoc, arith}
 use Rattle.std.specs.Prelude.{slice_range}
 use Rattle.std.proofs.lemmas.Bool.{lt-ltb, le-ltb, ltb-false}
 use Rattle.std.proofs.lemmas.List.{append-nil, length-drop, length-take}
@@ -13,9 +13,9 @@ use Rattle.wire.proofs.Laws.{uvarint_shorter}
 use Rattle.auditor.specs.declared.walk.error.WalkError.{WalkError}
 use Rattle.auditor.specs.declared.walk.error.WalkError.TheVariants.{SeriesCrc}
 use Rattle.auditor.specs.IndexFile.Outcome.{is_memory, Fails}
-use Rattle.auditor.specs.IndexFile.Reading.{checked_at, Place, symbol_at, symbols_from, entry_at, entries_from, rounded, ascending, is_less}
+use Rattle.auditor.specs.IndexFile.Layout.{SeriesEntry, rounded}
+use Rattle.auditor.specs.IndexFile.Reading.{checked_at, symbol_at, symbols_from, entry_at, entries_from}
 use Rattle.wire.specs.Outcome.{◌>>=◌, or_refused}
-use Rattle.std.proofs.Math.Seq.{drop-cons}
 
 -- a test that did not fail
 pub guard_ok : {A E : Type 0} (b : Bool) (d : E) (x y : A) → cond b (Err d) (Ok x) ≡ Ok y
@@ -33,7 +33,7 @@ abbrev pub with_front : List (List ℕ) → Result (List (List ℕ) × List ℕ)
     → Result (List (List ℕ) × List ℕ) WalkError
 with_front front read = read >>= λ x. Ok (front ++ x.0, x.1)
 
-abbrev pub with_places : List Place → Result (List Place) WalkError → Result (List Place) WalkError
+abbrev pub with_places : List SeriesEntry → Result (List SeriesEntry) WalkError → Result (List SeriesEntry) WalkError
 with_places front read = read >>= λ x. Ok (front ++ x)
 
 regroup : (front : List (List ℕ)) (s : List ℕ) (read : Result (List (List ℕ) × List ℕ) WalkError)
@@ -128,13 +128,13 @@ entry_shorter bytes x h =
     let b = checked_shorter SeriesCrc a.0 x a.2 in
     omega (arith, b, uvarint_shorter bytes a.0 (refused_ok SeriesCrc (uvarint_at bytes) a.0 a.1))
 
-regroup_places : (front : List Place) (p : Place) (read : Result (List Place) WalkError)
+regroup_places : (front : List SeriesEntry) (p : SeriesEntry) (read : Result (List SeriesEntry) WalkError)
     → with_places front (read >>= λ x. Ok (p ∷ x)) ≡ with_places (front ++ p ∷ []) read
-regroup_places front p (Ok x) = ap (λ (ps : List Place). Ok ps) (simp append_assoc)
+regroup_places front p (Ok x) = ap (λ (ps : List SeriesEntry). Ok ps) (simp append_assoc)
 regroup_places front p (Err f) = refl
 
-pub walk_on : (n : ℕ) (front : List Place) (file : List ℕ) (end at : ℕ) (body after : List ℕ)
-    (total : Result (List Place) WalkError) → at < end → end - at ≤ n
+pub walk_on : (n : ℕ) (front : List SeriesEntry) (file : List ℕ) (end at : ℕ) (body after : List ℕ)
+    (total : Result (List SeriesEntry) WalkError) → at < end → end - at ≤ n
     → entry_at (slice_range file at end) ≡ Ok (body, after)
     → with_places front (entries_from n file end at) ≡ total
     → (m : ℕ) × (suc m ≡ n) × (with_places (front ++ (record {
@@ -145,15 +145,15 @@ pub walk_on : (n : ℕ) (front : List Place) (file : List ℕ) (end at : ℕ) (b
 unfolding entries_from
 walk_on zero front file end at body after total lt le h so_far = absurd (omega arith)
 walk_on (suc m) front file end at body after total lt le h so_far =
-    let p : Place = record { offset = at; body = body; end = end - length after } in
+    let p : SeriesEntry = record { offset = at; body = body; end = end - length after } in
     let one : with_places front (entries_from (suc m) file end at)
     ≡ with_places (front ++ p ∷ []) (entries_from m file end (rounded (end - length after))) =
     rw (lt-ltb at end lt, h)
     (regroup_places front p (entries_from m file end (rounded (end - length after)))) in
     (m, refl, sym one ∙ so_far)
 
-pub walk_fails : (e : WalkError) (n : ℕ) (front : List Place) (file : List ℕ) (end at : ℕ)
-    (total : Result (List Place) WalkError) → at < end → end - at ≤ n
+pub walk_fails : (e : WalkError) (n : ℕ) (front : List SeriesEntry) (file : List ℕ) (end at : ℕ)
+    (total : Result (List SeriesEntry) WalkError) → at < end → end - at ≤ n
     → Fails e (entry_at (slice_range file at end))
     → with_places front (entries_from n file end at) ≡ total → Fails e total
 unfolding entries_from
@@ -161,60 +161,25 @@ walk_fails e zero front file end at total lt le h so_far = absurd (omega arith)
 walk_fails e (suc m) front file end at total lt le h so_far =
     let others =
     λ (entry : List ℕ × List ℕ).
-    entries_from m file end (rounded (end - length entry.1)) >>= λ (ps : List Place).
+    entries_from m file end (rounded (end - length entry.1)) >>= λ (ps : List SeriesEntry).
     Ok ((record { offset = at; body = entry.0; end = end - length entry.1 }) ∷ ps) in
-    let last : List Place → Result (List Place) WalkError = λ x. Ok (front ++ x) in
+    let last : List SeriesEntry → Result (List SeriesEntry) WalkError = λ x. Ok (front ++ x) in
     let one : (entry_at (slice_range file at end) >>= λ entry. (others entry >>= last))
     ≡ with_places front (entries_from (suc m) file end at) =
     rw (lt-ltb at end lt) (chain (entry_at (slice_range file at end)) others last) in
     fails_on is_memory e (entry_at (slice_range file at end)) (λ entry. others entry >>= last)
     total (one ∙ so_far) h
 
-pub walk_done : (n : ℕ) (front : List Place) (file : List ℕ) (end at : ℕ)
-    (total : Result (List Place) WalkError) → end ≤ at
+pub walk_done : (n : ℕ) (front : List SeriesEntry) (file : List ℕ) (end at : ℕ)
+    (total : Result (List SeriesEntry) WalkError) → end ≤ at
     → with_places front (entries_from n file end at) ≡ total → total ≡ Ok front
 unfolding entries_from
 walk_done zero front file end at total le so_far =
-    sym so_far ∙ ap (λ (ps : List Place). Ok ps) (append-nil front)
+    sym so_far ∙ ap (λ (ps : List SeriesEntry). Ok ps) (append-nil front)
 walk_done (suc n) front file end at total le so_far =
     let one : with_places front (entries_from (suc n) file end at) ≡ Ok front =
-    rw (le-ltb at end le) (ap (λ (ps : List Place). Ok ps) (append-nil front)) in
+    rw (le-ltb at end le) (ap (λ (ps : List SeriesEntry). Ok ps) (append-nil front)) in
     sym so_far ∙ one
-
--- ---- texts in order
-
-drop_two : (xs : List (List ℕ)) (i : ℕ) → i + 1 < length xs
-    → drop i xs ≡ get_or xs i [] ∷ get_or xs (i + 1) [] ∷ drop (i + 2) xs
-drop_two xs i lt =
-    let a = drop-cons xs i [] (omega arith) in
-    let b = drop-cons xs (i + 1) [] lt in
-    let e : suc i ≡ i + 1 = omega arith in
-    let f : suc (i + 1) ≡ i + 2 = omega arith in
-    a
-    ∙ ap (λ (n : ℕ). get_or xs i [] ∷ drop n xs) e
-    ∙ ap (λ (ys : List (List ℕ)). get_or xs i [] ∷ ys) (b
-    ∙ ap (λ (n : ℕ). get_or xs (i + 1) [] ∷ drop n xs) f)
-
-pub ascending_step : (xs : List (List ℕ)) (i : ℕ) → i + 1 < length xs → ascending (drop i xs)
-    ≡ (is_less (get_or xs i []) (get_or xs (i + 1) []) && ascending (drop (i + 1) xs))
-unfolding ascending
-ascending_step xs i lt =
-    let b = drop-cons xs (i + 1) [] lt in
-    let f : suc (i + 1) ≡ i + 2 = omega arith in
-    let c : drop (i + 1) xs ≡ get_or xs (i + 1) [] ∷ drop (i + 2) xs =
-    b ∙ ap (λ (n : ℕ). get_or xs (i + 1) [] ∷ drop n xs) f in
-    ap ascending (drop_two xs i lt)
-    ∙ ap (λ (ys : List (List ℕ)). is_less (get_or xs i []) (get_or xs (i + 1) [])
-    && ascending ys) (sym c)
-
-ascending_few : (xs : List (List ℕ)) → length xs ≤ 1 → ascending xs ≡ true
-unfolding ascending
-ascending_few [] le = refl
-ascending_few (x ∷ []) le = refl
-ascending_few (x ∷ y ∷ xs) le = absurd (omega arith)
-
-pub ascending_end : (xs : List (List ℕ)) (i : ℕ) → length xs ≤ i + 1 → ascending (drop i xs) ≡ true
-ascending_end xs i le = ascending_few (drop i xs) (omega (arith, length-drop i xs))
 
 -- the next entry stands after this one, and what it needs of numbers
 pub after_entry : (file : List ℕ) (end at : ℕ) (x : List ℕ × List ℕ) → at < end → end ≤ length file
@@ -226,6 +191,6 @@ after_entry file end at x lt le h =
     omega (arith, length-take (end - at) (drop at file), length-drop at file) in
     (omega (arith, s, n), omega (arith, s, n))
 
-pub with_places_nil : (r : Result (List Place) WalkError) → with_places [] r ≡ r
+pub with_places_nil : (r : Result (List SeriesEntry) WalkError) → with_places [] r ≡ r
 with_places_nil (Ok x) = refl
 with_places_nil (Err e) = refl

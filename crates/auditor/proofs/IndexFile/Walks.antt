@@ -17,7 +17,8 @@ use Rattle.wire.proofs.KnownReads.{chosen}
 use Rattle.wire.proofs.Laws.{uvarint_takes, uvarint_again, uvarint_long}
 use Rattle.auditor.specs.declared.walk.error.WalkError.{WalkError}
 use Rattle.auditor.specs.declared.walk.error.WalkError.TheVariants.{Symbols}
-use Rattle.auditor.specs.IndexFile.Reading.{symbol_at, symbols_from, symbols_of, ascending, Place, entry_at, entries_from, rounded}
+use Rattle.auditor.specs.IndexFile.Layout.{ascending, SeriesEntry, rounded}
+use Rattle.auditor.specs.IndexFile.Reading.{symbol_at, symbols_from, symbols_of, entry_at, entries_from}
 use Rattle.wire.specs.Outcome.{◌>>=◌, or_refused}
 use Rattle.auditor.specs.IndexFile.Grammar.{entry, symbol, IsSymbolTable, IsWalk}
 use Rattle.auditor.proofs.IndexFile.WalkLoops.{guard_ended, entry_shorter}
@@ -171,15 +172,15 @@ pub range_length : (file : List ℕ) (at end : ℕ) → end ≤ length file
 range_length file at end le =
     omega (arith, length-take (end - at) (drop at file), length-drop at file)
 
-pub walk_takes : (n : ℕ) (file : List ℕ) (end at : ℕ) (ps : List Place) → IsBytes file
+pub walk_takes : (n : ℕ) (file : List ℕ) (end at : ℕ) (ps : List SeriesEntry) → IsBytes file
     → end ≤ length file → end - at ≤ n → entries_from n file end at ≡ Ok ps → IsWalk file end at ps
 unfolding entries_from
 walk_takes zero file end at ps fits inside enough h =
-    subst (λ (y : List Place). IsWalk file end at y) (ok_is [] ps h) (omega arith)
+    subst (λ (y : List SeriesEntry). IsWalk file end at y) (ok_is [] ps h) (omega arith)
 walk_takes (suc n) file end at ps fits inside enough h =
     elim (chosen (ltb at end) _ _ _ h) [
       | inr t ↦
-          subst (λ (y : List Place). IsWalk file end at y) (ok_is [] ps t.1) (ltb-false _ _ t.0)
+          subst (λ (y : List SeriesEntry). IsWalk file end at y) (ok_is [] ps t.1) (ltb-false _ _ t.0)
       | inl t ↦
           let bytes = slice_range file at end in
           let a =
@@ -191,7 +192,7 @@ walk_takes (suc n) file end at ps fits inside enough h =
           }) ∷ others)) ps t.1 in
           let b =
           bind_ok (entries_from n file end (rounded (end - length a.0.1)))
-          (λ (others : List Place). Ok ((record {
+          (λ (others : List SeriesEntry). Ok ((record {
             offset = at;
             body = a.0.0;
             end = end - length a.0.1;
@@ -210,12 +211,12 @@ walk_takes (suc n) file end at ps fits inside enough h =
           let others : IsWalk file end (rounded (end - length a.0.1)) b.0 =
           walk_takes n file end (rounded (end - length a.0.1)) b.0 fits inside
           (omega (arith, stop, size, shorter, range_length file at end inside)) b.1 in
-          let p : Place = record { offset = at; body = a.0.0; end = end - length a.0.1 } in
-          subst (λ (y : List Place). IsWalk file end at y) (ok_is (p ∷ b.0) ps b.2)
+          let p : SeriesEntry = record { offset = at; body = a.0.0; end = end - length a.0.1 } in
+          subst (λ (y : List SeriesEntry). IsWalk file end at y) (ok_is (p ∷ b.0) ps b.2)
           (refl, lt, (a.0.1, took.parts), rw (← stop) others, stop)
     ]
 
-pub walk_again : (n : ℕ) (file : List ℕ) (end at : ℕ) (ps : List Place) → IsBytes file
+pub walk_again : (n : ℕ) (file : List ℕ) (end at : ℕ) (ps : List SeriesEntry) → IsBytes file
     → end ≤ length file → end < 2 ^ 32 → end - at ≤ n → IsWalk file end at ps
     → entries_from n file end at ≡ Ok ps
 unfolding entries_from
@@ -241,10 +242,10 @@ walk_again (suc n) file end at (p ∷ ps) fits inside small enough w =
     let others =
     walk_again n file end (rounded (at + length (entry p.body))) ps fits inside small
     (omega (arith, size, long, some, w.1)) w.3 in
-    let made : Place = record { offset = at; body = p.body; end = end - length rest } in
+    let made : SeriesEntry = record { offset = at; body = p.body; end = end - length rest } in
     let same : made ≡ p =
     ap (λ (o : ℕ). record { offset = o; body = p.body; end = end - length rest }) (sym w.0)
     ∙ ap (λ (o : ℕ). record { offset = p.offset; body = p.body; end = o }) (stop ∙ sym w.4) in
     let next : entries_from n file end (rounded (end - length rest)) ≡ Ok ps =
     ap (λ (o : ℕ). entries_from n file end (rounded o)) stop ∙ others in
-    rw (lt-ltb at end w.1, read, next) (ap (λ (q : Place). done (q ∷ ps)) same)
+    rw (lt-ltb at end w.1, read, next) (ap (λ (q : SeriesEntry). done (q ∷ ps)) same)

@@ -13,8 +13,9 @@ use Rattle.wire.proofs.KnownReads.{chosen}
 use Rattle.auditor.specs.declared.walk.contents.Contents.{Contents}
 use Rattle.auditor.specs.declared.walk.error.WalkError.{WalkError}
 use Rattle.auditor.specs.declared.walk.error.WalkError.TheVariants.{ContentsCrc, ContentsOrder, SymbolsCrc}
-use Rattle.auditor.specs.IndexFile.Reading.{IsPlaced, in_order, has_magic, contents_at, table_of, head_of, frame_at, symbols_of, entries_from, rounded, series_end, Parts, parts_of}
-use Rattle.auditor.specs.IndexFile.Grammar.{frame, contents_text, IsParts}
+use Rattle.auditor.specs.IndexFile.Layout.{IsPlaced, rounded, series_end, Layout}
+use Rattle.auditor.specs.IndexFile.Reading.{in_order, has_magic, contents_at, table_of, head_of, frame_at, symbols_of, entries_from, layout_of}
+use Rattle.auditor.specs.IndexFile.Grammar.{frame, contents_text, IsLayout}
 use Rattle.auditor.specs.IndexFile.Outcome.{Gives}
 use Rattle.auditor.proofs.IndexFile.WalkLoops.{guard_ended}
 use Rattle.wire.proofs.Steps.{bind_ok}
@@ -276,8 +277,8 @@ frame_length content = omega (
   length-append content (big_bytes 4 (crc32c content)),
 )
 
-pub parts_take : (file : List ℕ) (x : Parts) → IsBytes file → parts_of file ≡ Ok x → IsParts file x
-unfolding parts_of
+pub parts_take : (file : List ℕ) (x : Layout) → IsBytes file → layout_of file ≡ Ok x → IsLayout file x
+unfolding layout_of
 parts_take file x fits h =
     let a = bind_ok (head_of file) _ x h in
     let t = a.0 in
@@ -296,19 +297,19 @@ parts_take file x fits h =
     walk_takes (length file) file (series_end t) (rounded t.series) d.0 fits
     (end_inside t (length file) placed) (omega (arith, end_inside t (length file) placed)) d.1 in
     let table_end : length b.0.0 + 13 ≡ 5 + length (frame b.0.0) = frame_length b.0.0 in
-    let made : Parts =
+    let made : Layout =
     record { contents = t; symbols = c.0; symbols_end = length b.0.0 + 13; entries = d.0 } in
-    let all : IsParts file made = record {
+    let all : IsLayout file made = record {
       start = head.start;
       contents = head.contents;
       placed = placed;
       symbols = (b.0.0, (b.0.1, fr.parts), table, table_end);
       entries = walk;
     } in
-    subst (λ (y : Parts). IsParts file y) (ok_is made x d.2) all
+    subst (λ (y : Layout). IsLayout file y) (ok_is made x d.2) all
 
-pub parts_again : (file : List ℕ) (x : Parts) → IsBytes file → IsParts file x → parts_of file ≡ Ok x
-unfolding parts_of
+pub parts_again : (file : List ℕ) (x : Layout) → IsBytes file → IsLayout file x → layout_of file ≡ Ok x
+unfolding layout_of
 parts_again file x fits p =
     let t = x.contents in
     let head : head_of file ≡ Ok t =
@@ -333,7 +334,7 @@ parts_again file x fits p =
     let table_end : length content + 13 ≡ x.symbols_end = frame_length content ∙ sym p.symbols.3 in
     rw (head, fr, table, walk) (ap (λ (e : ℕ). done (record x { symbols_end = e })) table_end)
 
-pub is_found : {X : Type 0} (view : X → Parts) (file : List ℕ) (r : Result X WalkError)
-    → IsBytes file → Gives view r (parts_of file) → IfOk r (λ x. IsParts file (view x))
+pub is_found : {X : Type 0} (view : X → Layout) (file : List ℕ) (r : Result X WalkError)
+    → IsBytes file → Gives view r (layout_of file) → IfOk r (λ x. IsLayout file (view x))
 is_found view file (Ok x) fits h = parts_take file (view x) fits h
 is_found view file (Err e) fits h = tt

@@ -1,5 +1,5 @@
 -- The checks of the walk, one by one in their order, and the first that fails.
-use Rattle.std.specs.Prelude.{◌≡◌, ◌⊎◌, ℕ, ◌-◌, ◌≤◌, true, ℤ, List, [], ◌∷◌, length, take, drop}
+use Rattle.std.specs.Prelude.{◌≡◌, ◌⊎◌, ℕ, ◌-◌, ◌≤◌, ℤ, List, [], ◌∷◌, length, take, drop}
 use Rattle.std.specs.Prelude.{Err}
 use Rattle.std.specs.List.{AllByRecursion}
 use Rattle.labels.specs.Parts.{Part}
@@ -19,15 +19,13 @@ use Rattle.auditor.specs.declared.walk.error.WalkError.TheVariants.{Symbols, Ser
 use Rattle.auditor.specs.declared.walk.error.WalkError.TheVariants.{SeriesOrder, Limit}
 use Rattle.auditor.specs.declared.walk.error.WalkError.TheVariants.{UnknownSeries}
 use Rattle.auditor.specs.IndexFile.Outcome.{of_chunk, of_tombstone}
-use Rattle.auditor.specs.IndexFile.Reading.{IsPlaced, Parts, series_end}
+use Rattle.auditor.specs.IndexFile.Layout.{IsPlaced, Layout, series_end, Body}
 use Rattle.wire.specs.Checksum.{checked}
 use Rattle.auditor.specs.IndexFile.Grammar.{contents_text, frame, StandsAt, IsSymbolTable}
-use Rattle.auditor.specs.IndexFile.Grammar.{IsParts}
-use Rattle.auditor.specs.IndexFile.Bodies.{Body}
-use Rattle.auditor.specs.IndexFile.Flat.{gaps_zero}
+use Rattle.auditor.specs.IndexFile.Grammar.{IsLayout}
 use Rattle.auditor.specs.IndexFile.Series as series
-use Rattle.auditor.specs.IndexFile.Spelled.{AreBodies, AreInOrder, IsIndex}
-use Rattle.auditor.specs.BlockFiles.Reading.{each, series_check}
+use Rattle.auditor.specs.IndexFile.Spelled.{AreBodies, AreZero, AreInOrder, IsIndex}
+use Rattle.auditor.specs.BlockFiles.Reading.{each_check, series_check}
 use Rattle.auditor.specs.BlockFiles.Spelled.{AreSpelled, IsWalked}
 
 -- the files of a block, but for its range
@@ -68,13 +66,13 @@ pub record HasFrame (index : List ℕ) (content : List ℕ) : Type 0 where
   pub placed : IsPlaced t (length index)
   pub stands : StandsAt index 5 t.series (frame content)
 
--- the entries are laid out so, a body stands in each, and nothing but zeros between them
+-- the entries are laid out so, a body stands in each, and each byte between that lies in none is 0
 pub record HasBodies (index : List ℕ) (ss : List series.Series) : Type 0 where
-  pub parts : Parts
-  pub layout : IsParts index parts
+  pub parts : Layout
+  pub layout : IsLayout index parts
   pub bodies : List Body
   pub spelled : AreBodies parts.symbols parts.entries bodies
-  pub gaps : gaps_zero index (series_end parts.contents) parts.symbols_end parts.entries ≡ true
+  pub gaps : AreZero index parts.symbols_end (series_end parts.contents) parts.entries
   pub series_are : ss ≡ series.series_of parts.symbols parts.entries bodies
 
 -- samples stand in the chunks that a series names
@@ -97,7 +95,7 @@ Holds contents_order f = (t : Contents) × HasContents f.index t × IsPlaced t (
 Holds symbols_frame f = (content : List ℕ) × HasFrame f.index content
 Holds symbols f = (content : List ℕ) × (table : List (List ℕ)) × HasFrame f.index content
     × IsSymbolTable content table
-Holds entries f = (x : Parts) × IsParts f.index x
+Holds entries f = (x : Layout) × IsLayout f.index x
 Holds bodies f = (ss : List series.Series) × HasBodies f.index ss
 Holds series_order f = (ss : List series.Series) × HasBodies f.index ss × AreInOrder ss
 Holds series_counts f = (ss : List series.Series) × IsIndex f.index ss
@@ -126,7 +124,7 @@ Answers series_order f e = e ≡ SeriesOrder
 Answers series_counts f e = e ≡ Limit
 Answers chunks_head f e = (c : ChunkError) × (opened f.chunks ≡ Err c) × (e ≡ of_chunk c)
 Answers each_chunk f e = (ss : List series.Series) × (c : ChunkError) × IsIndex f.index ss
-    × (each (series_check f.chunks) ss ≡ Err c) × (e ≡ of_chunk c)
+    × (each_check (series_check f.chunks) ss ≡ Err c) × (e ≡ of_chunk c)
 Answers sample_counts f e = e ≡ Limit
 Answers deletions f e = (d : TombstoneError) × (deletions_of f.tombstones ≡ Err d)
     × (e ≡ of_tombstone d)

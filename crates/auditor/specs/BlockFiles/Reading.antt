@@ -28,10 +28,10 @@ or_tombstones (Ok x) = Ok x
 or_tombstones (Err e) = Err (of_tombstone e)
 
 -- nothing, where a check accepts all of a list; else the first refusal
-unfoldable pub each : {A : Type 0} → (A → Result (Unit {0}) ChunkError) → List A
+unfoldable pub each_check : {A : Type 0} → (A → Result (Unit {0}) ChunkError) → List A
     → Result (Unit {0}) ChunkError
-each check [] = Ok tt
-each check (a ∷ as') = check a >>= λ _. each check as'
+each_check check [] = Ok tt
+each_check check (a ∷ as') = check a >>= λ _. each_check check as'
 
 -- a chunk that can be read
 abbrev pub chunk_check : List ℕ → Chunk → Result (Unit {0}) ChunkError
@@ -39,7 +39,7 @@ chunk_check file c = chunk_read file c >>= λ _. Ok tt
 
 -- all chunks of a series
 abbrev pub series_check : List ℕ → Series → Result (Unit {0}) ChunkError
-series_check file s = each (chunk_check file) s.chunks
+series_check file s = each_check (chunk_check file) s.chunks
 
 -- whether chunks have no more than 1,048,576 samples, deleted ones too
 abbrev pub have_few : List ℕ → List Chunk → Bool
@@ -56,7 +56,7 @@ is_known series d = list_any (λ s. s.reference == d.reference) series
 -- the chunks of all series, in their order, and then whether each has few samples
 unfoldable pub stored_of : List ℕ → List Series → Result (Unit {0}) WalkError
 stored_of file series = do
-  each_read ← or_chunks (each (series_check file) series)
+  each_read ← or_chunks (each_check (series_check file) series)
   if list_all (is_few file) series then Ok tt else Err Limit
 
 -- the deletions, all of series that there are

@@ -29,12 +29,12 @@ pub record IsRow (file : List ℕ) (deletions : List Deletion) (s : Series) (row
     pub kept : row.1.1 ≡ undeleted deletions s.reference samples
 
 -- a row for each series
-abbrev pub AreRows : List ℕ → List Deletion → List Series → Part → Type 0
-AreRows file deletions [] [] = Unit {0}
-AreRows file deletions [] (row ∷ rows) = ⊥
-AreRows file deletions (s ∷ ss) [] = ⊥
-AreRows file deletions (s ∷ ss) (row ∷ rows) = IsRow file deletions s row
-    × AreRows file deletions ss rows
+abbrev pub AreRowsOfSeries : List ℕ → List Deletion → List Series → Part → Type 0
+AreRowsOfSeries file deletions [] [] = Unit {0}
+AreRowsOfSeries file deletions [] (row ∷ rows) = ⊥
+AreRowsOfSeries file deletions (s ∷ ss) [] = ⊥
+AreRowsOfSeries file deletions (s ∷ ss) (row ∷ rows) = IsRow file deletions s row
+    × AreRowsOfSeries file deletions ss rows
 
 -- the three files are an index, whatever its postings are, a segment that holds the chunks which
 -- the index names, and deletions of its series; and the rows of the series are the part
@@ -45,4 +45,4 @@ pub record IsWalked (index chunks tombstones : List ℕ) (part : Part) : Type 0 
   pub deletions : List Deletion
   pub deleted : IsTombstones tombstones deletions
   pub known : AllByRecursion (λ (d : Deletion). Contains (references series) d.reference) deletions
-  pub rows : AreRows chunks deletions series part
+  pub rows : AreRowsOfSeries chunks deletions series part

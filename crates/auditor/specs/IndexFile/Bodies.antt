@@ -7,12 +7,9 @@ use Rattle.auditor.specs.declared.walk.error.WalkError.{WalkError}
 use Rattle.auditor.specs.declared.walk.error.WalkError.TheVariants.{Series}
 use Rattle.wire.specs.Outcome.{◌>>=◌, or_refused}
 use Rattle.auditor.specs.declared.walk.chunk.Chunk.{Chunk}
-use Rattle.auditor.specs.IndexFile.Chunks.{first_at, later_at}
+use Rattle.auditor.specs.IndexFile.Chunks.{first_chunk_at, later_chunk_at}
+use Rattle.auditor.specs.IndexFile.Layout.{Label, Body}
 use Rattle.auditor.specs.IndexFile.Steps.{steps}
-
--- a name and a value, by the numbers of their symbols
-abbrev pub Label : Type 0
-Label = ℕ × ℕ
 
 -- a name from this symbol on, and a value that is not empty
 unfoldable pub is_label : List (List ℕ) → ℕ → ℕ → ℕ → Bool
@@ -42,7 +39,7 @@ or_series None = Err Series
 -- a chunk after another
 unfoldable pub chunk_at : Chunk × List ℕ → Result (Chunk × (Chunk × List ℕ)) WalkError
 chunk_at s = do
-  next ← or_series (later_at s.0 s.1)
+  next ← or_series (later_chunk_at s.0 s.1)
   Ok (next.0, next)
 
 -- later chunks with the first before them
@@ -56,13 +53,8 @@ unfoldable pub chunks_at : List ℕ → Result (List Chunk × (Chunk × List ℕ
 chunks_at bytes = do
   n ← or_refused Series (uvarint_at bytes)
   if n.0 == 0 then Err Series else (do
-    first ← or_series (first_at n.1)
+    first ← or_series (first_chunk_at n.1)
     behind first.0 (steps chunk_at (n.0 - 1) first))
-
--- what a body says
-pub record Body : Type 0 where
-  pub labels : List Label
-  pub chunks : List Chunk
 
 -- a body, of which nothing is left over
 unfoldable pub body_at : List (List ℕ) → List ℕ → Result Body WalkError

@@ -36,8 +36,8 @@ read (Ok x) = Some x
 read (Err e) = None
 
 -- the first chunk of a series
-unfoldable pub first_at : List ℕ → Option (Chunk × List ℕ)
-first_at bytes = do
+unfoldable pub first_chunk_at : List ℕ → Option (Chunk × List ℕ)
+first_chunk_at bytes = do
   mint ← read (varint_at bytes)
   length ← read (uvarint_at mint.1)
   reference ← read (uvarint_at length.1)
@@ -46,8 +46,8 @@ first_at bytes = do
     Some (record { mint = mint.0; maxt = maxt; reference = reference.0 }, reference.1)) else None
 
 -- a chunk after another
-unfoldable pub later_at : Chunk → List ℕ → Option (Chunk × List ℕ)
-later_at before bytes = do
+unfoldable pub later_chunk_at : Chunk → List ℕ → Option (Chunk × List ℕ)
+later_chunk_at before bytes = do
   gap ← read (uvarint_at bytes)
   length ← read (uvarint_at gap.1)
   step ← read (varint_at length.1)

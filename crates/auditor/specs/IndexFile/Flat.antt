@@ -5,9 +5,9 @@ use Rattle.std.specs.List.{All, list_all}
 use Rattle.std.specs.Ordering.{is_lt}
 use Rattle.std.specs.Cmp.Lexicographic.{slice_cmp}
 use Rattle.auditor.specs.declared.walk.error.WalkError.{WalkError}
-use Rattle.auditor.specs.IndexFile.Reading.{Place}
+use Rattle.auditor.specs.IndexFile.Layout.{SeriesEntry, Label, Body}
 use Rattle.auditor.specs.declared.walk.chunk.Chunk.{Chunk}
-use Rattle.auditor.specs.IndexFile.Bodies.{Label, Body, body_at}
+use Rattle.auditor.specs.IndexFile.Bodies.{body_at}
 use Rattle.auditor.specs.IndexFile.Order.{key_cmp}
 use Rattle.auditor.specs.declared.walk.bodies.Span.{Span}
 
@@ -33,9 +33,9 @@ pub record IsIn (labels : List Label) (chunks : List Chunk) (r : Span) : Type 0 
 abbrev pub AllIn : List Label → List Chunk → List Span → Type 0
 AllIn labels chunks rows = All (IsIn labels chunks) rows
 
--- the body of an entry
-abbrev pub body_of_place : List (List ℕ) → Place → Result Body WalkError
-body_of_place symbols p = body_at symbols p.body
+-- what the body of an entry is read as
+abbrev pub body_of_entry : List (List ℕ) → SeriesEntry → Result Body WalkError
+body_of_entry symbols p = body_at symbols p.body
 
 -- ---- the order of the series, on the numbers of their symbols
 
@@ -43,13 +43,13 @@ body_of_place symbols p = body_at symbols p.body
 abbrev pub label_sets_in : List Label → List Span → List (List Label)
 label_sets_in labels rows = map (λ r. slice_range labels r.labels_start r.labels_end) rows
 
--- whether labels are below others; a beginning is smaller
+-- whether labels are below others; a prefix is smaller
 abbrev pub is_before : List Label → List Label → Bool
 is_before a b = is_lt (slice_cmp key_cmp a b)
 
 -- the places of the labels lie in their list
-abbrev pub AreInside : List Label → List Span → Type 0
-AreInside labels rows = All (λ r. (r.labels_start ≤ r.labels_end) × (r.labels_end ≤ length labels))
+abbrev pub AreSpansIn : List Label → List Span → Type 0
+AreSpansIn labels rows = All (λ r. (r.labels_start ≤ r.labels_end) × (r.labels_end ≤ length labels))
     rows
 
 -- ---- the bytes between the entries
@@ -59,6 +59,6 @@ abbrev pub zero_between : List ℕ → ℕ → ℕ → Bool
 zero_between file from to = list_all (λ b. b == 0) (slice_range file from to)
 
 -- from a place up to an end, what lies in no entry is 0
-unfoldable pub gaps_zero : List ℕ → ℕ → ℕ → List Place → Bool
+unfoldable pub gaps_zero : List ℕ → ℕ → ℕ → List SeriesEntry → Bool
 gaps_zero file end from [] = zero_between file from end
 gaps_zero file end from (p ∷ ps) = zero_between file from p.offset && gaps_zero file end p.end ps

@@ -7,7 +7,8 @@ use Rattle.byteorder.specs.Endian.{big_bytes}
 use Rattle.wire.specs.Spelling.{uvarint}
 use Rattle.wire.specs.Checksum.{checked}
 use Rattle.auditor.specs.declared.walk.contents.Contents.{Contents}
-use Rattle.auditor.specs.IndexFile.Reading.{IsPlaced, Place, Parts, ascending, rounded, series_end}
+use Rattle.auditor.specs.IndexFile.Layout.{IsPlaced, SeriesEntry, Layout, ascending, rounded}
+use Rattle.auditor.specs.IndexFile.Layout.{series_end}
 
 -- four bytes of length, the content, its checksum
 abbrev pub frame : List ℕ → List ℕ
@@ -39,14 +40,14 @@ contents_text t =
     ++ (big_bytes 8 t.postings ++ big_bytes 8 t.postings_offsets))))
 
 -- From this place up to the end there are these entries, each at the next multiple of 16.
-abbrev pub IsWalk : List ℕ → ℕ → ℕ → List Place → Type 0
+abbrev pub IsWalk : List ℕ → ℕ → ℕ → List SeriesEntry → Type 0
 IsWalk file end at [] = end ≤ at
 IsWalk file end at (p ∷ ps) = (p.offset ≡ at) × (at < end) × StandsAt file at end (entry p.body)
     × IsWalk file end (rounded (at + length (entry p.body))) ps
     × (p.end ≡ at + length (entry p.body))
 
 -- the file is an index with these parts
-pub record IsParts (file : List ℕ) (x : Parts) : Type 0 where
+pub record IsLayout (file : List ℕ) (x : Layout) : Type 0 where
   pub start : take 5 file ≡ 0xBA ∷ 0xAA ∷ 0xD7 ∷ 0 ∷ 2 ∷ []
   pub contents : drop (length file - 52) file ≡ checked (contents_text x.contents)
   pub placed : IsPlaced x.contents (length file)

@@ -5,8 +5,8 @@ use Rattle.labels.specs.LabelSets.{IsLabelSet}
 use Rattle.auditor.specs.declared.walk.checked.Checked.{Checked}
 use Rattle.auditor.specs.IndexFile.Seen.{texts, seen}
 use Rattle.auditor.specs.IndexFile.Sound.{IsSoundLayout}
-use Rattle.auditor.specs.IndexFile.Grammar.{IsParts}
-use Rattle.auditor.specs.IndexFile.Bodies.{Label}
+use Rattle.auditor.specs.IndexFile.Grammar.{IsLayout}
+use Rattle.auditor.specs.IndexFile.Layout.{Label}
 use Rattle.auditor.specs.IndexFile.Flat.{bodies_in, AllIn}
 use Rattle.auditor.specs.IndexFile.Series.{Series, named}
 use Rattle.auditor.specs.IndexFile.Whole.{Read, series_in}
@@ -24,7 +24,7 @@ series_seen c = series_in (read_seen c)
 
 -- what was checked fits together
 pub record IsHeldIn (file : List ℕ) (c : Checked) : Type 0 where
-  pub parts : IsParts file (seen c.layout)
+  pub parts : IsLayout file (seen c.layout)
   pub sound : IsSoundLayout file c.layout
   pub inside : AllIn c.bodies.labels.items c.bodies.chunks.items c.bodies.rows.items
   pub counted : length c.bodies.rows.items ≡ length c.layout.entries.items
@@ -34,7 +34,7 @@ abbrev pub AreInTable : List (List ℕ) → List Label → Type 0
 AreInTable symbols ls = All (λ l. (l.0 < length symbols) × (l.1 < length symbols)) ls
 
 -- the labels of each body are of the symbols, and make a label set; references have 32 bits
-pub record IsKept (c : Checked) : Type 0 where
+pub record IsCheckedIndex (c : Checked) : Type 0 where
   pub inside : AllIn c.bodies.labels.items c.bodies.chunks.items c.bodies.rows.items
   pub counted : length c.bodies.rows.items ≡ length c.layout.entries.items
   pub small : All (λ e. e.offset < 2 ^ 32) c.layout.entries.items

@@ -1,7 +1,7 @@
 -- The labels of a series, by the numbers of their symbols.
 use Rattle.std.specs.Prelude.{◌≡◌, ℕ, ◌+◌, ◌<◌, ◌≤◌, true, List, [], ◌∷◌, length, get_or}
 use Rattle.labels.specs.Names.{is_name}
-use Rattle.auditor.specs.IndexFile.Bodies.{Label}
+use Rattle.auditor.specs.IndexFile.Layout.{Label}
 
 -- a label of these symbols: its name is a label name that stands at this place or after it, its
 -- value is not empty

@@ -1,7 +1,7 @@
 -- Names and values by the numbers of their symbols, in order.
 use Rattle.std.specs.Ordering.{nat_cmp, ordering_then}
 use Rattle.std.specs.declared.cmp.Ordering.{Ordering}
-use Rattle.auditor.specs.IndexFile.Bodies.{Label}
+use Rattle.auditor.specs.IndexFile.Layout.{Label}
 
 -- a name and a value by their symbols
 abbrev pub key_cmp : Label → Label → Ordering

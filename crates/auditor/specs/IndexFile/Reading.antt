@@ -1,10 +1,8 @@
 -- Reading an index from its bytes. Each check has its refusal, and the first that fails is
 -- answered.
-use Rattle.std.specs.Prelude.{◌≡◌, ℕ, zero, suc, ◌+◌, ◌-◌, ◌≤◌, ◌<◌, ◌⊎◌, ◌*◌, ◌/◌, List, [], ◌∷◌}
-use Rattle.std.specs.Prelude.{length, take, drop, slice_index, slice_range, Result, Ok, Err, Bool}
-use Rattle.std.specs.Prelude.{true, nat_lt, nat_le, ◌==◌, ◌&&◌, ◌||◌, if◌then◌else◌}
-use Rattle.std.specs.Ordering.{nat_cmp, is_lt}
-use Rattle.std.specs.Cmp.Lexicographic.{slice_cmp}
+use Rattle.std.specs.Prelude.{ℕ, zero, suc, ◌+◌, ◌-◌, List, [], ◌∷◌, length, take, drop, Result, Ok}
+use Rattle.std.specs.Prelude.{Err, Bool, slice_index, slice_range, nat_lt, nat_le, ◌==◌, ◌&&◌, ◌||◌}
+use Rattle.std.specs.Prelude.{if◌then◌else◌}
 use Rattle.std.specs.Str.{is_utf8}
 use Rattle.byteorder.specs.Endian.{big_number}
 use Rattle.wire.specs.Reading.{number_at, bytes_at, uvarint_at}
@@ -15,6 +13,7 @@ use Rattle.auditor.specs.declared.walk.error.WalkError.{WalkError}
 use Rattle.auditor.specs.declared.walk.error.WalkError.TheVariants.{Limit, TooShort, Magic, Version}
 use Rattle.auditor.specs.declared.walk.error.WalkError.TheVariants.{ContentsCrc, ContentsOrder}
 use Rattle.auditor.specs.declared.walk.error.WalkError.TheVariants.{SymbolsCrc, Symbols, SeriesCrc}
+use Rattle.auditor.specs.IndexFile.Layout.{SeriesEntry, Layout, series_end, ascending, rounded}
 
 -- ---- the table of contents
 
@@ -34,10 +33,6 @@ unfoldable pub table_of : List ℕ → Result Contents WalkError
 table_of table =
     if big_number 4 (drop 48 table) == crc32c (take 48 table) then Ok (contents_at table)
     else Err ContentsCrc
-
--- where the series entries end
-abbrev pub series_end : Contents → ℕ
-series_end t = if t.label_indices == 0 then t.postings else t.label_indices
 
 -- the parts stand in their order, below the end
 abbrev pub in_order : Contents → ℕ → Bool
@@ -65,20 +60,6 @@ head_of file =
     else Err Version)
     else Err Magic
 
--- the same as facts, of a file of this length
-pub record IsPlaced (t : Contents) (len : ℕ) : Type 0 where
-  pub long : 57 ≤ len
-  pub short : len ≤ 0x4000_0000
-  pub symbols : t.symbols ≡ 5
-  pub series : 5 < t.series
-  pub postings : t.series ≤ t.postings
-  pub postings_offsets : t.postings ≤ t.postings_offsets
-  pub end : t.postings_offsets + 52 < len
-  pub label_indices : (t.label_indices ≡ 0)
-      ⊎ ((t.series ≤ t.label_indices) × (t.label_indices ≤ t.postings))
-  pub label_offsets : (t.label_offsets ≡ 0)
-      ⊎ ((t.postings ≤ t.label_offsets) × (t.label_offsets ≤ t.postings_offsets))
-
 -- ---- content with its checksum after it
 
 -- content of this length and its checksum, and what stands after them
@@ -93,16 +74,6 @@ unfoldable pub frame_at : WalkError → List ℕ → Result (List ℕ × List �
 frame_at e bytes = or_refused e (number_at 4 bytes) >>= checked_at e
 
 -- ---- symbols
-
--- whether a text is below another, by bytes
-abbrev pub is_less : List ℕ → List ℕ → Bool
-is_less a b = is_lt (slice_cmp nat_cmp a b)
-
--- whether each text is below the next
-unfoldable pub ascending : List (List ℕ) → Bool
-ascending [] = true
-ascending (a ∷ []) = true
-ascending (a ∷ b ∷ rest) = is_less a b && ascending (b ∷ rest)
 
 -- a text with its length before it
 unfoldable pub symbol_at : List ℕ → Result (List ℕ × List ℕ) WalkError
@@ -128,22 +99,12 @@ symbols_of content = do
 
 -- ---- the walk over the series entries
 
--- where an entry stands, its body, and where it ends
-pub record Place : Type 0 where
-  pub offset : ℕ
-  pub body : List ℕ
-  pub end : ℕ
-
--- the next multiple of 16
-abbrev pub rounded : ℕ → ℕ
-rounded n = (n + 15) / 16 * 16
-
 -- a series entry: its body, and what stands after it
 unfoldable pub entry_at : List ℕ → Result (List ℕ × List ℕ) WalkError
 entry_at bytes = or_refused SeriesCrc (uvarint_at bytes) >>= checked_at SeriesCrc
 
 -- the entries from a place on, below the end: no more than this many
-unfoldable pub entries_from : ℕ → List ℕ → ℕ → ℕ → Result (List Place) WalkError
+unfoldable pub entries_from : ℕ → List ℕ → ℕ → ℕ → Result (List SeriesEntry) WalkError
 entries_from zero file end at = Ok []
 entries_from (suc n) file end at = if nat_lt at end then (do
   entry ← entry_at (slice_range file at end)
@@ -153,16 +114,9 @@ entries_from (suc n) file end at = if nat_lt at end then (do
 
 -- ---- the whole
 
--- the table of contents, the symbols and where they end, and the entries
-pub record Parts : Type 0 where
-  pub contents : Contents
-  pub symbols : List (List ℕ)
-  pub symbols_end : ℕ
-  pub entries : List Place
-
 -- the checks up to those of the series entries
-unfoldable pub parts_of : List ℕ → Result Parts WalkError
-parts_of file = do
+unfoldable pub layout_of : List ℕ → Result Layout WalkError
+layout_of file = do
   t ← head_of file
   frame ← frame_at SymbolsCrc (slice_range file 5 t.series)
   symbols ← symbols_of frame.0

@@ -3,25 +3,26 @@ use Rattle.std.specs.Prelude.{ℕ, List, map}
 use Rattle.std.specs.Borrow.{Bor}
 use Rattle.auditor.specs.declared.walk.entries.Entry.{Entry}
 use Rattle.auditor.specs.declared.walk.layout.Layout.{Layout}
-use Rattle.auditor.specs.IndexFile.Reading.{Place, Parts}
+use Rattle.auditor.specs.IndexFile.Layout.{SeriesEntry}
+use Rattle.auditor.specs.IndexFile.Layout as layout
 
 -- texts as their bytes
 abbrev pub texts : List (Bor (List ℕ)) → List (List ℕ)
 texts ss = map (λ s. s.now) ss
 
 -- an entry
-abbrev pub place : Entry → Place
-place e = record { offset = e.offset; body = e.body.now; end = e.end }
+abbrev pub entry_seen : Entry → SeriesEntry
+entry_seen e = record { offset = e.offset; body = e.body.now; end = e.end }
 
 -- all entries
-abbrev pub places : List Entry → List Place
-places es = map place es
+abbrev pub entries_seen : List Entry → List SeriesEntry
+entries_seen es = map entry_seen es
 
 -- all of it
-abbrev pub seen : Layout → Parts
+abbrev pub seen : Layout → layout.Layout
 seen o = record {
   contents = o.contents;
   symbols = texts o.symbols.items;
   symbols_end = o.symbols_end;
-  entries = places o.entries.items;
+  entries = entries_seen o.entries.items;
 }

@@ -2,7 +2,7 @@
 use Rattle.std.specs.Prelude.{◌≡◌, ℕ, ◌≤◌, ◌<◌, ◌^◌, true, List, length}
 use Rattle.std.specs.List.{All}
 use Rattle.auditor.specs.declared.walk.layout.Layout.{Layout}
-use Rattle.auditor.specs.IndexFile.Reading.{IsPlaced, ascending}
+use Rattle.auditor.specs.IndexFile.Layout.{IsPlaced, ascending}
 use Rattle.auditor.specs.IndexFile.Seen.{texts}
 
 -- the parts stand in their order, symbols are few and ascend, and entries stand in the file

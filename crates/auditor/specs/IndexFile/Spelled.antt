@@ -1,16 +1,14 @@
 -- The series of an index, by the bytes that spell them.
 use Rattle.std.specs.Prelude.{◌≡◌, ℕ, ◌+◌, ◌^◌, ◌<◌, ◌≤◌, ℤ, pos, ◌+ℤ◌, true, List, [], ◌∷◌, ◌++◌}
-use Rattle.std.specs.Prelude.{length, get_or}
-use Rattle.std.specs.List.{flat_map}
+use Rattle.std.specs.Prelude.{length, get_or, slice_index}
+use Rattle.std.specs.List.{flat_map, Contains}
 use Rattle.std.specs.declared.cmp.Ordering.TheVariants.{Less}
 use Rattle.wire.specs.Spelling.{uvarint, varint, zigzag}
 use Rattle.labels.specs.Labels.{labels_cmp}
 use Rattle.auditor.specs.declared.walk.chunk.Chunk.{Chunk}
-use Rattle.auditor.specs.IndexFile.Reading.{Place, Parts, series_end}
-use Rattle.auditor.specs.IndexFile.Grammar.{IsParts}
+use Rattle.auditor.specs.IndexFile.Layout.{SeriesEntry, Layout, series_end, Label, Body}
+use Rattle.auditor.specs.IndexFile.Grammar.{IsLayout}
 use Rattle.labels.specs.Contents.{is_time}
-use Rattle.auditor.specs.IndexFile.Bodies.{Label, Body}
-use Rattle.auditor.specs.IndexFile.Flat.{gaps_zero}
 use Rattle.auditor.specs.IndexFile.Series.{Series, series_of, label_sets}
 use Rattle.auditor.specs.IndexFile.Labelled.{AreLabels}
 
@@ -67,11 +65,20 @@ pub record IsBody (symbols : List (List ℕ)) (b : Body) (text : List ℕ) : Typ
   pub chunks : AreChunks b.chunks chunks_text
 
 -- the body of each entry
-abbrev pub AreBodies : List (List ℕ) → List Place → List Body → Type 0
+abbrev pub AreBodies : List (List ℕ) → List SeriesEntry → List Body → Type 0
 AreBodies symbols [] [] = Unit {0}
 AreBodies symbols [] (b ∷ bs) = ⊥
 AreBodies symbols (p ∷ ps) [] = ⊥
 AreBodies symbols (p ∷ ps) (b ∷ bs) = IsBody symbols b p.body × AreBodies symbols ps bs
+
+-- a place in the file lies in an entry
+abbrev pub LiesIn : ℕ → SeriesEntry → Type 0
+LiesIn k p = (p.offset ≤ k) × (k < p.end)
+
+-- from one place up to another, each byte in no entry is 0
+abbrev pub AreZero : List ℕ → ℕ → ℕ → List SeriesEntry → Type 0
+AreZero file from to entries = (k : ℕ) → from ≤ k → k < to
+    → ((p : SeriesEntry) → Contains entries p → LiesIn k p → ⊥) → slice_index file k ≡ 0
 
 -- label sets strictly ascend
 abbrev pub AreInOrder : List Series → Type 0
@@ -79,14 +86,14 @@ AreInOrder ss = (k : ℕ) → k + 1 < length ss → labels_cmp (get_or (label_se
     (get_or (label_sets ss) (k + 1) []) ≡ Less
 
 -- the file is an index of these series, whatever its postings are: its layout; a body in each
--- entry, and zeros between them; the series ascend by their label sets, and are no more than
--- 1,048,576, of no more than 64 labels each
+-- entry, and each byte between that lies in no entry is 0; the series ascend by their label sets,
+-- and are no more than 1,048,576, of no more than 64 labels each
 pub record IsIndex (file : List ℕ) (series : List Series) : Type 0 where
-  pub parts : Parts
-  pub layout : IsParts file parts
+  pub parts : Layout
+  pub layout : IsLayout file parts
   pub bodies : List Body
   pub spelled : AreBodies parts.symbols parts.entries bodies
-  pub gaps : gaps_zero file (series_end parts.contents) parts.symbols_end parts.entries ≡ true
+  pub gaps : AreZero file parts.symbols_end (series_end parts.contents) parts.entries
   pub series_are : series ≡ series_of parts.symbols parts.entries bodies
   pub in_order : AreInOrder series
   pub few : length series ≤ 1048576

@@ -4,24 +4,24 @@ use Rattle.std.specs.Prelude.{if◌then◌else◌}
 use Rattle.std.specs.List.{list_all}
 use Rattle.auditor.specs.declared.walk.error.WalkError.{WalkError}
 use Rattle.auditor.specs.declared.walk.error.WalkError.TheVariants.{Series, SeriesOrder, Limit}
-use Rattle.auditor.specs.IndexFile.Reading.{Parts, series_end, parts_of}
+use Rattle.auditor.specs.IndexFile.Layout.{Layout, series_end, Label, Body}
+use Rattle.auditor.specs.IndexFile.Reading.{layout_of}
 use Rattle.wire.specs.Outcome.{◌>>=◌}
-use Rattle.auditor.specs.IndexFile.Bodies.{Label, Body}
 use Rattle.auditor.specs.IndexFile.Each.{each, rises}
-use Rattle.auditor.specs.IndexFile.Flat.{body_of_place, is_before, gaps_zero}
+use Rattle.auditor.specs.IndexFile.Flat.{body_of_entry, is_before, gaps_zero}
 use Rattle.auditor.specs.IndexFile.Series.{series_of}
 use Rattle.auditor.specs.IndexFile.Series as series
 
 -- the labels of each body
-abbrev pub label_sets : List Body → List (List Label)
-label_sets bodies = map (λ b. b.labels) bodies
+abbrev pub labels_of_each : List Body → List (List Label)
+labels_of_each bodies = map (λ b. b.labels) bodies
 
 -- the bodies of the entries, with nothing but zeros between them, and their label sets in order
-unfoldable pub bodies_of : List ℕ → Parts → Result (List Body) WalkError
+unfoldable pub bodies_of : List ℕ → Layout → Result (List Body) WalkError
 bodies_of file p = do
-  bodies ← each (body_of_place p.symbols) p.entries
+  bodies ← each (body_of_entry p.symbols) p.entries
   if gaps_zero file (series_end p.contents) p.symbols_end p.entries
-      then (if rises is_before (label_sets bodies) then Ok bodies else Err SeriesOrder)
+      then (if rises is_before (labels_of_each bodies) then Ok bodies else Err SeriesOrder)
       else Err Series
 
 -- whether a series has at most 64 labels
@@ -30,16 +30,17 @@ is_small labels = nat_le (length labels) 64
 
 -- what an index says of its series: its parts, and the bodies of its entries
 pub record Read : Type 0 where
-  pub parts : Parts
+  pub parts : Layout
   pub bodies : List Body
 
 -- all checks in their order, and what they read
 unfoldable pub read_of : List ℕ → Result Read WalkError
 read_of file = do
-  parts ← parts_of file
+  parts ← layout_of file
   bodies ← bodies_of file parts
   if nat_lt 1048576 (length bodies) then Err Limit else (
-      if list_all is_small (label_sets bodies) then Ok (record { parts = parts; bodies = bodies })
+      if list_all is_small (labels_of_each bodies)
+      then Ok (record { parts = parts; bodies = bodies })
       else Err Limit)
 
 -- the series of what was read

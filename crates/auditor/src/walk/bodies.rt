@@ -3,11 +3,11 @@
 ghost use Rattle.std.specs.Prelude.{◌≡◌, ◌<◌, ◌^◌, length, slice_get, Some, IfOk, All, ◌≤◌, ◌==◌};
 ghost use Rattle.std.specs.List.{list_all};
 ghost use Rattle.auditor.specs.IndexFile.Outcome.{Gives};
-ghost use Rattle.auditor.specs.IndexFile.Seen.{texts, place, places};
+ghost use Rattle.auditor.specs.IndexFile.Seen.{texts, entry_seen, entries_seen};
 ghost use Rattle.auditor.specs.IndexFile.Each.{each, rises};
 ghost use Rattle.auditor.specs.IndexFile.Whole.{is_small};
-ghost use Rattle.auditor.specs.IndexFile.Flat.{body_in, bodies_in, AllIn, body_of_place};
-ghost use Rattle.auditor.specs.IndexFile.Flat.{label_sets_in, is_before, AreInside, zero_between};
+ghost use Rattle.auditor.specs.IndexFile.Flat.{body_in, bodies_in, AllIn, body_of_entry};
+ghost use Rattle.auditor.specs.IndexFile.Flat.{label_sets_in, is_before, AreSpansIn, zero_between};
 ghost use Rattle.auditor.specs.IndexFile.Flat.{gaps_zero};
 
 use crate::walk::body::body_into;
@@ -54,7 +54,7 @@ pub(crate) fn bodies_of(
 ) -> Result<Bodies, WalkError>
     requires { length symbols.now < 2 ^ 32 }
     ensures exact { Gives (λ b. bodies_in b.labels.items b.chunks.items b.rows.items) result
-        (each (body_of_place (texts symbols.now)) (places entries.now)) }
+        (each (body_of_entry (texts symbols.now)) (entries_seen entries.now)) }
     ensures inside { IfOk result (λ b. AllIn b.labels.items b.chunks.items b.rows.items) }
     ensures counted { IfOk result (λ b. length b.rows.items ≡ length entries.now) }
 {
@@ -93,7 +93,7 @@ pub(crate) fn label_set_at<'a>(
     rows: &[Span],
     i: usize,
 ) -> &'a [(u32, u32)]
-    requires inside { AreInside labels.now rows.now }
+    requires inside { AreSpansIn labels.now rows.now }
     requires i_in { i < length rows.now }
     ensures { slice_get (label_sets_in labels.now rows.now) i ≡ Some result.now }
 {
@@ -109,7 +109,7 @@ fn is_before(a: &[(u32, u32)], b: &[(u32, u32)]) -> bool
 
 /// Whether each label set is below the next.
 pub(crate) fn is_rising(labels: &[(u32, u32)], rows: &[Span]) -> bool
-    requires { AreInside labels.now rows.now }
+    requires { AreSpansIn labels.now rows.now }
     ensures { result ≡ rises is_before (label_sets_in labels.now rows.now) }
 {
     let mut at = 1;
@@ -133,7 +133,7 @@ fn is_small(labels: &[(u32, u32)]) -> bool
 
 /// Whether no series has more than 64 labels.
 pub(crate) fn are_small(labels: &[(u32, u32)], rows: &[Span]) -> bool
-    requires { AreInside labels.now rows.now }
+    requires { AreSpansIn labels.now rows.now }
     ensures { result ≡ list_all is_small (label_sets_in labels.now rows.now) }
 {
     for at in 0..rows.len() {
@@ -166,7 +166,7 @@ fn zero_between(file: &[u8], from: usize, to: usize) -> bool
 pub(crate) fn gaps_are_zero(file: &[u8], first: usize, end: usize, entries: &[Entry<'_>]) -> bool
     requires within { end ≤ length file.now }
     requires inside { All (λ e. e.offset ≤ length file.now) entries.now }
-    ensures { result ≡ gaps_zero file.now end first (places entries.now) }
+    ensures { result ≡ gaps_zero file.now end first (entries_seen entries.now) }
 {
     let mut from = first;
     for at in 0..entries.len() {

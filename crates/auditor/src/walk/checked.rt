@@ -11,7 +11,7 @@ ghost use Rattle.auditor.specs.IndexFile.Kept.{read_seen, IsHeldIn};
 use crate::walk::bodies::{Bodies, are_small, bodies_of, gaps_are_zero, is_rising};
 use crate::walk::contents::series_end;
 use crate::walk::error::WalkError;
-use crate::walk::layout::{Layout, layout_of};
+use crate::walk::layout::{Layout, read_layout};
 use std::alloc::Global;
 
 const MAX_SERIES: usize = 1_048_576;
@@ -48,7 +48,7 @@ pub(crate) fn checked_of(alloc: Global, file: &[u8]) -> Result<Checked<'_>, Walk
     ensures exact { Gives read_seen result (read_of file.now) }
     ensures held { IfOk result (IsHeldIn file.now) }
 {
-    let layout = layout_of(alloc, file)?;
+    let layout = read_layout(alloc, file)?;
     let bodies = checked_bodies(alloc, file, &layout)?;
     if bodies.rows.len() > MAX_SERIES {
         return Err(WalkError::Limit);

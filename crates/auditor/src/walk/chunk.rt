@@ -2,8 +2,8 @@
 
 ghost use Rattle.std.specs.Prelude.{◌≡◌, ◌<◌, true, IfSome};
 ghost use Rattle.labels.specs.Contents.{is_time};
-ghost use Rattle.auditor.specs.IndexFile.Chunks.{time_after, reference_after, first_at};
-ghost use Rattle.auditor.specs.IndexFile.Chunks.{later_at};
+ghost use Rattle.auditor.specs.IndexFile.Chunks.{time_after, reference_after, first_chunk_at};
+ghost use Rattle.auditor.specs.IndexFile.Chunks.{later_chunk_at};
 ghost use Rattle.auditor.specs.IndexFile.SeenChunks.{seen_chunk};
 
 use labels::{MAX_TIME, is_time};
@@ -41,9 +41,9 @@ fn reference_after(before: u64, step: i64) -> Option<u64>
 }
 
 /// The first chunk of a series, and the bytes after it.
-#[tactic(auto, unfolding(crate::specs::IndexFile::Chunks::first_at))]
+#[tactic(auto, unfolding(crate::specs::IndexFile::Chunks::first_chunk_at))]
 pub(crate) fn first_of(bytes: &[u8]) -> Option<(Chunk, &[u8])>
-    ensures exact { seen_chunk result ≡ first_at bytes.now }
+    ensures exact { seen_chunk result ≡ first_chunk_at bytes.now }
     ensures times { IfSome result (λ x. is_time x.0.maxt ≡ true) }
 {
     let mut cut = Cut::new(bytes);
@@ -65,10 +65,10 @@ pub(crate) fn first_of(bytes: &[u8]) -> Option<(Chunk, &[u8])>
 }
 
 /// A chunk after another of the series, and the bytes after it.
-#[tactic(auto, unfolding(crate::specs::IndexFile::Chunks::later_at))]
+#[tactic(auto, unfolding(crate::specs::IndexFile::Chunks::later_chunk_at))]
 pub(crate) fn later_of(before: Chunk, bytes: &[u8]) -> Option<(Chunk, &[u8])>
     requires { is_time before.maxt ≡ true }
-    ensures exact { seen_chunk result ≡ later_at before bytes.now }
+    ensures exact { seen_chunk result ≡ later_chunk_at before bytes.now }
     ensures times { IfSome result (λ x. is_time x.0.maxt ≡ true) }
 {
     let mut cut = Cut::new(bytes);

@@ -4,8 +4,8 @@ ghost use Rattle.std.specs.Prelude.{◌≡◌, ◌+◌, ◌-◌, ◌<◌, ◌≤
 ghost use Rattle.byteorder.specs.Endian.{big_number};
 ghost use Rattle.wire.specs.Checksum.{crc32c};
 ghost use Rattle.auditor.specs.IndexFile.Outcome.{Gives};
-ghost use Rattle.auditor.specs.IndexFile.Reading.{IsPlaced, contents_at, series_end, in_order};
-ghost use Rattle.auditor.specs.IndexFile.Reading.{head_of, table_of};
+ghost use Rattle.auditor.specs.IndexFile.Layout.{IsPlaced, series_end};
+ghost use Rattle.auditor.specs.IndexFile.Reading.{contents_at, in_order, head_of, table_of};
 
 use crate::walk::error::WalkError;
 use byteorder::{BigEndian, ByteOrder};

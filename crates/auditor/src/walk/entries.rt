@@ -3,7 +3,7 @@
 ghost use Rattle.std.specs.Prelude.{◌≡◌, ◌<◌, ◌≤◌, length, slice_get, Some};
 ghost use Rattle.auditor.specs.IndexFile.Outcome.{Gives};
 ghost use Rattle.auditor.specs.IndexFile.Reading.{entry_at, entries_from};
-ghost use Rattle.auditor.specs.IndexFile.Seen.{place, places};
+ghost use Rattle.auditor.specs.IndexFile.Seen.{entry_seen, entries_seen};
 
 use crate::walk::error::WalkError;
 use crate::walk::framed::checked_of;
@@ -38,7 +38,7 @@ pub(crate) fn entries_of(
 ) -> Result<Vec<Entry<'_>>, WalkError>
     requires within { end ≤ length file.now }
     requires small { length file.now ≤ 0x4000_0000 }
-    ensures { Gives (λ v. places v.items) result
+    ensures { Gives (λ v. entries_seen v.items) result
         (entries_from (length file.now) file.now end start) }
 {
     let mut entries = Vec::new(alloc);
@@ -59,7 +59,7 @@ pub(crate) fn entries_of(
 /// The entry at a place.
 pub(crate) fn entry_in<'a>(entries: &[Entry<'a>], i: usize) -> Entry<'a>
     requires { i < length entries.now }
-    ensures seen { slice_get (places entries.now) i ≡ Some (place result) }
+    ensures seen { slice_get (entries_seen entries.now) i ≡ Some (entry_seen result) }
     ensures value { slice_get entries.now i ≡ Some result }
 {
     entries[i]

@@ -54,7 +54,7 @@ impl WalkError {
         ensures { result.now ≡ code_of self }
     {
         match self {
-            WalkError::Memory => "Memory",
+            WalkError::Memory => "memory",
             WalkError::TooShort => "I1",
             WalkError::Magic => "I2",
             WalkError::Version => "I3",

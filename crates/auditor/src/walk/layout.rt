@@ -2,8 +2,9 @@
 
 ghost use Rattle.std.specs.Prelude.{◌≡◌, Ok, IfOk};
 ghost use Rattle.auditor.specs.IndexFile.Outcome.{Gives};
-ghost use Rattle.auditor.specs.IndexFile.Reading.{Parts, parts_of};
-ghost use Rattle.auditor.specs.IndexFile.Grammar.{IsParts};
+ghost use Rattle.auditor.specs.IndexFile.Layout as layout;
+ghost use Rattle.auditor.specs.IndexFile.Reading.{layout_of};
+ghost use Rattle.auditor.specs.IndexFile.Grammar.{IsLayout};
 ghost use Rattle.auditor.specs.IndexFile.Seen.{seen};
 ghost use Rattle.auditor.specs.IndexFile.Sound.{IsSoundLayout};
 
@@ -23,9 +24,9 @@ pub struct Layout<'a> {
     pub entries: Vec<Entry<'a>>,
 }
 
-#[tactic(auto, unfolding(crate::specs::IndexFile::Reading::parts_of))]
-fn parts_of(alloc: Global, file: &[u8]) -> Result<Layout<'_>, WalkError>
-    ensures { Gives seen result (parts_of file.now) }
+#[tactic(auto, unfolding(crate::specs::IndexFile::Reading::layout_of))]
+fn layout_of(alloc: Global, file: &[u8]) -> Result<Layout<'_>, WalkError>
+    ensures { Gives seen result (layout_of file.now) }
 {
     let contents = contents_of(file)?;
     let series = contents.series as usize;
@@ -43,15 +44,15 @@ fn parts_of(alloc: Global, file: &[u8]) -> Result<Layout<'_>, WalkError>
 }
 
 /// The layout of an index, or the first of the checks `I15` (length), `I1` to `I8` that fails.
-pub(crate) fn layout_of(alloc: Global, file: &[u8]) -> Result<Layout<'_>, WalkError>
+pub(crate) fn read_layout(alloc: Global, file: &[u8]) -> Result<Layout<'_>, WalkError>
     // The first check that fails is answered.
-    ensures exact { Gives seen result (parts_of file.now) }
+    ensures exact { Gives seen result (layout_of file.now) }
     // What is given is laid out so.
-    ensures found { IfOk result (λ o. IsParts file.now (seen o)) }
+    ensures found { IfOk result (λ o. IsLayout file.now (seen o)) }
     // What is laid out so is given, unless memory runs out.
-    ensures only { (x : Parts) → IsParts file.now x → Gives seen result (Ok x) }
+    ensures only { (x : layout.Layout) → IsLayout file.now x → Gives seen result (Ok x) }
     // What later checks build on.
     ensures sound { IfOk result (λ o. IsSoundLayout file.now o) }
 {
-    parts_of(alloc, file)
+    layout_of(alloc, file)
 }

@@ -7,8 +7,8 @@ ghost use Rattle.labels.specs.LabelSets.{IsLabelSet};
 ghost use Rattle.auditor.specs.IndexFile.Outcome.{Gives};
 ghost use Rattle.auditor.specs.IndexFile.Seen.{texts};
 ghost use Rattle.auditor.specs.IndexFile.Series.{Series as SeriesValue, references, label_sets};
-ghost use Rattle.auditor.specs.IndexFile.Series.{chunk_lists, text_of, named};
-ghost use Rattle.auditor.specs.IndexFile.Kept.{series_seen, AreInTable, IsKept};
+ghost use Rattle.auditor.specs.IndexFile.Series.{chunk_lists, pair_of, named};
+ghost use Rattle.auditor.specs.IndexFile.Kept.{series_seen, AreInTable, IsCheckedIndex};
 ghost use Rattle.auditor.specs.IndexFile.Whole.{indexed_of};
 ghost use Rattle.auditor.specs.IndexFile.Spelled.{IsIndex};
 
@@ -34,11 +34,11 @@ impl<'a> Model for SeriesEntries<'a> {
 
     ghost Value = { List SeriesValue };
 
-    ghost use Rattle.auditor.specs.IndexFile.Kept.{series_seen, IsKept};
+    ghost use Rattle.auditor.specs.IndexFile.Kept.{series_seen, IsCheckedIndex};
 
     ghost view = { λ e. series_seen e.checked };
 
-    ghost invariant = { λ e. IsKept e.checked };
+    ghost invariant = { λ e. IsCheckedIndex e.checked };
 }
 
 fn label_at(labels: &[(u32, u32)], i: usize) -> (u32, u32)
@@ -51,7 +51,7 @@ fn label_at(labels: &[(u32, u32)], i: usize) -> (u32, u32)
 // The name and the value of a label.
 fn pair_of<'a>(symbols: &[&'a str], label: (u32, u32)) -> (&'a str, &'a str)
     requires { (label.0 < length symbols.now) × (label.1 < length symbols.now) }
-    ensures { (result.0.now, result.1.now) ≡ text_of (texts symbols.now) label }
+    ensures { (result.0.now, result.1.now) ≡ pair_of (texts symbols.now) label }
 {
     (symbols[label.0 as usize], symbols[label.1 as usize])
 }

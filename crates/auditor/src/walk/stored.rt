@@ -6,7 +6,7 @@ ghost use Rattle.wire.specs.Outcome.{Answers};
 ghost use Rattle.auditor.specs.IndexFile.Outcome.{Gives};
 ghost use Rattle.auditor.specs.IndexFile.Series.{chunk_lists};
 ghost use Rattle.auditor.specs.BlockFiles.Sound.{IsHeld, IsCounted};
-ghost use Rattle.auditor.specs.BlockFiles.Reading.{each, chunk_check, have_few, stored_of};
+ghost use Rattle.auditor.specs.BlockFiles.Reading.{each_check, chunk_check, have_few, stored_of};
 
 use crate::walk::chunk::Chunk;
 use crate::walk::error::WalkError;
@@ -26,7 +26,7 @@ fn count_in(chunks: &Chunks, chunk: &Chunk) -> Result<u64, ChunkError>
 
 // Whether the chunks of a series hold few samples.
 fn are_few(chunks: &Chunks, list: &[Chunk]) -> Result<bool, ChunkError>
-    ensures exact { Answers (λ _. tt) result (each (chunk_check chunks.now) list.now) }
+    ensures exact { Answers (λ _. tt) result (each_check (chunk_check chunks.now) list.now) }
     ensures few { IfOk result (λ few. few ≡ have_few chunks.now list.now) }
     ensures held { OnOk result (AllByRecursion (IsHeld chunks.now) list.now) }
 {
@@ -41,7 +41,7 @@ fn are_few(chunks: &Chunks, list: &[Chunk]) -> Result<bool, ChunkError>
 // Whether the chunks of each series hold few samples.
 fn all_few(entries: &SeriesEntries<'_>, chunks: &Chunks) -> Result<bool, ChunkError>
     ensures exact { Answers (λ _. tt) result
-        (each (each (chunk_check chunks.now)) (chunk_lists entries.now)) }
+        (each_check (each_check (chunk_check chunks.now)) (chunk_lists entries.now)) }
     ensures few { IfOk result (λ few.
         few ≡ list_all (have_few chunks.now) (chunk_lists entries.now)) }
     ensures held { OnOk result

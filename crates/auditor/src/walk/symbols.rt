@@ -3,8 +3,8 @@
 ghost use Rattle.std.specs.Prelude.{◌≡◌, ◌<◌, length, slice_get, Some, MatchOption, true, false};
 ghost use Rattle.std.specs.Str.{is_utf8};
 ghost use Rattle.auditor.specs.IndexFile.Outcome.{Gives};
-ghost use Rattle.auditor.specs.IndexFile.Reading.{is_less, ascending, symbol_at, symbols_from};
-ghost use Rattle.auditor.specs.IndexFile.Reading.{symbols_of};
+ghost use Rattle.auditor.specs.IndexFile.Layout.{is_less, ascending};
+ghost use Rattle.auditor.specs.IndexFile.Reading.{symbol_at, symbols_from, symbols_of};
 ghost use Rattle.auditor.specs.IndexFile.Seen.{texts};
 
 use crate::walk::error::WalkError;
@@ -12,7 +12,7 @@ use std::alloc::Global;
 use std::cmp::Ordering;
 use wire::Cut;
 
-fn text_of(bytes: &[u8]) -> Option<&str>
+fn as_text(bytes: &[u8]) -> Option<&str>
     ensures { MatchOption result (is_utf8 bytes.now ≡ false)
         (λ s. (is_utf8 bytes.now ≡ true) × (s.now ≡ bytes.now)) }
 {
@@ -26,7 +26,7 @@ fn symbol_of(bytes: &[u8]) -> Result<(&str, &[u8]), WalkError>
     let mut cut = Cut::new(bytes);
     let len = cut.uvarint().or(Err(WalkError::Symbols))?;
     let text = cut.bytes(len as usize).or(Err(WalkError::Symbols))?;
-    let Some(text) = text_of(text) else {
+    let Some(text) = as_text(text) else {
         return Err(WalkError::Symbols);
     };
     Ok((text, cut.rest()))
@@ -54,16 +54,7 @@ fn is_less(a: &[u8], b: &[u8]) -> bool
 fn is_ascending(symbols: &[&str]) -> bool
     ensures { result ≡ ascending (texts symbols.now) }
 {
-    let mut at = 1;
-    while at < symbols.len() {
-        let before = symbols[at - 1];
-        let next = symbols[at];
-        if !is_less(before.as_bytes(), next.as_bytes()) {
-            return false;
-        }
-        at += 1;
-    }
-    true
+    symbols.is_sorted_by(|a, b| is_less(a.as_bytes(), b.as_bytes()))
 }
 
 /// The symbols that the content of a symbol table counts and lists, in place.

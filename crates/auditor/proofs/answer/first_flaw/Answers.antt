@@ -1,5 +1,4 @@
-use Rattle.std.proofs.Common.{◌≡◌, true, false, List, length, sym, ◌∙◌, ap, subst}
-use Rattle.cover.specs.declared.certificate.Interval.{Interval}
+use Rattle.std.proofs.Common.{◌≡◌, true, false, length}
 use Rattle.auditor.specs.Auditing.{all_known}
 use Rattle.auditor.specs.Looking.{cuts}
 use Rattle.auditor.proofs.Judging.{not_cut}

@@ -1,13 +1,12 @@
-use Rattle.std.proofs.Common.{◌≡◌, ℕ, true, false, Option, None, Some, List, length, sym, ◌∙◌, ap, subst}
+use Rattle.std.proofs.Common.{◌≡◌, None, Some, List, length, sym, ◌∙◌, ap, subst}
 use Rattle.std.specs.Prelude.{◌==◌, ◌&&◌}
-use Rattle.labels.specs.Rows.{Row, AreRows}
+use Rattle.labels.specs.Rows.{AreRows}
 use Rattle.labels.proofs.RowLaws.{same_rows as one_content}
 use Rattle.labels.proofs.Times.{true_not_false}
 use Rattle.matchers.specs.Views.{QueryView}
-use Rattle.cover.specs.declared.certificate.Verdict.{Verdict}
 use Rattle.cover.specs.declared.certificate.Interval.{Interval}
 use Rattle.auditor.specs.declared.flaw.Flaw.{Flaw}
-use Rattle.auditor.specs.Auditing.{IsFlaw, misfit_flaw, selected_content}
+use Rattle.auditor.specs.Auditing.{IsFlaw, selected_content}
 use Rattle.auditor.specs.Looking.{first_misfit, are_picked, shared_at}
 use Rattle.auditor.proofs.Judging.{partitioned, all_fit, misfit_is, counted_of, not_counted, shared_is, separated_of, sound_of}
 use Rattle.auditor.proofs.answer.flaw_of_cut.Goals as goal

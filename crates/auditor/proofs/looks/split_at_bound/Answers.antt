@@ -1,7 +1,6 @@
-use Rattle.std.proofs.Common.{◌≡◌, sym, ◌∙◌, ap, subst, take, drop}
+use Rattle.std.proofs.Common.{sym, ◌∙◌, ap, subst, take, drop}
 use Rattle.std.specs.List.Sorted.{IsStrictlyIncreasing}
 use Rattle.labels.specs.Parts.{Part, references}
-use Rattle.auditor.specs.Looking.{rows_from}
 use Rattle.auditor.proofs.Splitting.{take-below, drop-below, rises_from}
 use Rattle.auditor.proofs.looks.split_at_bound.Goals as goal
 

@@ -1,9 +1,8 @@
-use Rattle.std.proofs.Common.{◌≡◌, true, false, T, List, ◌++◌, refl, sym, ◌∙◌, ap, subst}
+use Rattle.std.proofs.Common.{T, List, ◌++◌, refl, sym, ◌∙◌, ap, subst}
 use Rattle.std.specs.FinMap.Entries.{is_sorted}
 use Rattle.labels.specs.Labels.{labels_cmp}
 use Rattle.labels.specs.Rows.{points_of}
 use Rattle.labels.proofs.Times.{T_of, true_not_false}
-use Rattle.auditor.specs.Listing.{last_listed}
 use Rattle.auditor.proofs.Merging.{Sample, all_full, full_all}
 use Rattle.auditor.proofs.merged.audit_merge.Goals as goal
 use Rattle.auditor.proofs.merged.audit_merge.Goals.{then-not-are_in_order-via-then-not-are_in_order, then-not-are_in_order-via-else-not-are_in_order+then-not-are_full}

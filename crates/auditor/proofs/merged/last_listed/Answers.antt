@@ -1,4 +1,4 @@
-use Rattle.std.proofs.Common.{◌≡◌, List, reverse, ◌∙◌, ap, subst}
+use Rattle.std.proofs.Common.{List, reverse, ◌∙◌, ap, subst}
 use Rattle.std.specs.List.Sorted.{IsStableBy}
 use Rattle.auditor.specs.Listing.{listed, point_before}
 use Rattle.auditor.proofs.Merging.{Sample, last_is}

@@ -1,4 +1,4 @@
-use Rattle.std.proofs.Common.{◌≡◌, subst, List}
+use Rattle.std.proofs.Common.{subst, List}
 use Rattle.std.specs.List.Sorted.{IsPermutation, IsStableBy}
 use Rattle.labels.specs.Rows.{Row, row_before}
 use Rattle.matchers.specs.Satisfies.{satisfies_all}

@@ -1,5 +1,4 @@
-use Rattle.std.proofs.Common.{◌≡◌, ℕ, ◌+◌, true, false, Option, Some, sym, ◌∙◌, ap, subst, arith}
-use Rattle.labels.specs.Parts.{Part}
+use Rattle.std.proofs.Common.{◌≡◌, ◌+◌, sym, ◌∙◌, ap}
 use Rattle.matchers.specs.Views.{QueryView}
 use Rattle.auditor.specs.Looking.{rows_below, rows_from, share_verdict, first_shared, shared_at}
 use Rattle.auditor.proofs.Separating.{shared_here, shared_later}

@@ -1,7 +1,7 @@
 use Rattle.std.proofs.Common.{◌≡◌, drop}
 use Rattle.std.specs.List.Sorted.{IsStrictlyIncreasing}
 use Rattle.labels.specs.Parts.{references}
-use Rattle.auditor.specs.Looking.{first_shared, rows_from}
+use Rattle.auditor.specs.Looking.{first_shared}
 use Rattle.auditor.proofs.separators.first_shared.Given as goal
 
 abbrev pub invariant-loop-at : goal.invariant-loop-at

@@ -3,30 +3,30 @@ use Rattle.std.specs.Prelude.{slice_get}
 use Rattle.std.proofs.lemmas.Result.{err_from_is_err_and}
 use Rattle.std.proofs.lemmas.List.{length-map, length_push}
 use Rattle.auditor.specs.declared.walk.error.WalkError.{WalkError}
-use Rattle.auditor.specs.IndexFile.Reading.{Place}
-use Rattle.auditor.specs.IndexFile.Seen.{texts, place, places}
+use Rattle.auditor.specs.IndexFile.Layout.{SeriesEntry, Label, Body}
+use Rattle.auditor.specs.IndexFile.Seen.{texts, entry_seen, entries_seen}
 use Rattle.auditor.specs.declared.walk.chunk.Chunk.{Chunk}
-use Rattle.auditor.specs.IndexFile.Bodies.{Label, Body, body_at, behind_both}
+use Rattle.auditor.specs.IndexFile.Bodies.{body_at, behind_both}
 use Rattle.auditor.specs.IndexFile.Each.{each, behind_items}
 use Rattle.auditor.proofs.IndexFile.Eaches.{each_on, each_fails, each_done}
 use Rattle.auditor.specs.declared.walk.bodies.Span.{Span}
-use Rattle.auditor.specs.IndexFile.Flat.{bodies_in, AllIn, body_of_place}
+use Rattle.auditor.specs.IndexFile.Flat.{bodies_in, AllIn, body_of_entry}
 use Rattle.auditor.proofs.IndexFile.Growth.{both_ok, both_fails, bodies_added, all_added}
 use Rattle.auditor.proofs.walk.bodies.bodies_of.Goals as goal
 
-record IsOn (symbols : List (List ℕ)) (ps : List Place) (at : ℕ) (ls : List Label) (cs : List Chunk)
+record IsOn (symbols : List (List ℕ)) (ps : List SeriesEntry) (at : ℕ) (ls : List Label) (cs : List Chunk)
     (rs : List Span) (total : Result (List Body) WalkError) : Type 0 where
   inside : AllIn ls cs rs
-  so_far : behind_items (bodies_in ls cs rs) (each (body_of_place symbols) (drop at ps)) ≡ total
+  so_far : behind_items (bodies_in ls cs rs) (each (body_of_entry symbols) (drop at ps)) ≡ total
 
 one_longer : (rs rs' : List Span) (r : Span) → rs' ≡ rs ++ r ∷ [] → length rs' ≡ length rs + 1
 one_longer rs rs' r pushed = rw pushed (length_push rs r)
 
-with_body : (symbols : List (List ℕ)) (ps : List Place) (at : ℕ) (p : Place) (ls ls' : List Label)
+with_body : (symbols : List (List ℕ)) (ps : List SeriesEntry) (at : ℕ) (p : SeriesEntry) (ls ls' : List Label)
     (cs cs' : List Chunk) (rs rs' : List Span) (r : Span) (b : Body)
     (total : Result (List Body) WalkError)
     → AllIn ls cs rs
-    → behind_items (bodies_in ls cs rs) (each (body_of_place symbols) (drop at ps)) ≡ total
+    → behind_items (bodies_in ls cs rs) (each (body_of_entry symbols) (drop at ps)) ≡ total
     → slice_get ps at ≡ Some p → body_at symbols p.body ≡ Ok b → ls' ≡ ls ++ b.labels
     → cs' ≡ cs ++ b.chunks → rs' ≡ rs ++ r ∷ []
     → r.labels_start ≡ length ls → r.labels_end ≡ length ls' → r.chunks_start ≡ length cs
@@ -49,14 +49,14 @@ with_body symbols ps at p ls ls' cs cs' rs rs' r b total inside so_far g read gr
           (subst (AllIn (ls ++ b.labels) (cs ++ b.chunks)) (sym pushed) whole));
       so_far =
           ap (λ (front : List Body). behind_items front
-          (each (body_of_place symbols) (drop (at + 1) ps))) same
-          ∙ each_on (body_of_place symbols) ps at p b (bodies_in ls cs rs) total g read so_far;
+          (each (body_of_entry symbols) (drop (at + 1) ps))) same
+          ∙ each_on (body_of_entry symbols) ps at p b (bodies_in ls cs rs) total g read so_far;
     }
 
-one_more : (symbols : List (List ℕ)) (ps : List Place) (at : ℕ) (p : Place) (ls ls' : List Label)
+one_more : (symbols : List (List ℕ)) (ps : List SeriesEntry) (at : ℕ) (p : SeriesEntry) (ls ls' : List Label)
     (cs cs' : List Chunk) (rs rs' : List Span) (r : Span) (total : Result (List Body) WalkError)
     → AllIn ls cs rs
-    → behind_items (bodies_in ls cs rs) (each (body_of_place symbols) (drop at ps)) ≡ total
+    → behind_items (bodies_in ls cs rs) (each (body_of_entry symbols) (drop at ps)) ≡ total
     → slice_get ps at ≡ Some p → behind_both ls cs (body_at symbols p.body) ≡ Ok (ls', cs')
     → rs' ≡ rs ++ r ∷ []
     → r.labels_start ≡ length ls → r.labels_end ≡ length ls' → r.chunks_start ≡ length cs
@@ -70,8 +70,8 @@ returns-in_err-body_into-clause-exact c =
     let p =
     err_from_is_err_and c.from_residual-in_err-body_into.result
     c.from_residual-in_err-body_into.ensures.1 in
-    rw (p.1, p.2) (each_fails (body_of_place (texts c.args.symbols.now))
-    c.in_err-body_into.field-0.0 (places c.args.entries.now) c.loop-at.at _
+    rw (p.1, p.2) (each_fails (body_of_entry (texts c.args.symbols.now))
+    c.in_err-body_into.field-0.0 (entries_seen c.args.entries.now) c.loop-at.at _
     (bodies_in c.loop-at.labels.items c.loop-at.chunks.items c.loop-at.rows.items) _
     c.entry_in-entry.ensures.seen (both_fails c.in_err-body_into.field-0.0 _ _ _
     c.in_err-body_into.ensures) c.loop-at.invariant.so_far)
@@ -79,7 +79,7 @@ returns-in_err-body_into-clause-exact c =
 pub loop-at-preserved : goal.loop-at-preserved
 loop-at-preserved c =
     let m =
-    one_more (texts c.args.symbols.now) (places c.args.entries.now) c.loop-at.at _ _ _ _ _ _ _ _ _
+    one_more (texts c.args.symbols.now) (entries_seen c.args.entries.now) c.loop-at.at _ _ _ _ _ _ _ _ _
     c.loop-at.invariant.inside c.loop-at.invariant.so_far c.entry_in-entry.ensures.seen
     c.in_ok-body_into.ensures c.in_ok-push.ensures.items (omega arith) (omega arith) (omega arith)
     (omega arith) in
@@ -93,6 +93,6 @@ loop-at-preserved c =
 
 pub returns-clause-exact : goal.returns-clause-exact
 returns-clause-exact c =
-    each_done (body_of_place (texts c.args.symbols.now)) (places c.args.entries.now) c.loop-at.at
+    each_done (body_of_entry (texts c.args.symbols.now)) (entries_seen c.args.entries.now) c.loop-at.at
     (bodies_in c.loop-at.labels.items c.loop-at.chunks.items c.loop-at.rows.items) _
-    (omega (arith, length-map c.args.entries.now place)) c.loop-at.invariant.so_far
+    (omega (arith, length-map c.args.entries.now entry_seen)) c.loop-at.invariant.so_far

@@ -1,7 +1,7 @@
 use Rattle.std.proofs.Common.{◌≡◌, drop, length}
-use Rattle.auditor.specs.IndexFile.Seen.{texts, places}
+use Rattle.auditor.specs.IndexFile.Seen.{texts, entries_seen}
 use Rattle.auditor.specs.IndexFile.Each.{each, behind_items}
-use Rattle.auditor.specs.IndexFile.Flat.{bodies_in, AllIn, body_of_place}
+use Rattle.auditor.specs.IndexFile.Flat.{bodies_in, AllIn, body_of_entry}
 use Rattle.auditor.proofs.walk.bodies.bodies_of.Given as goal
 
 abbrev pub invariant-loop-at : goal.invariant-loop-at
@@ -9,6 +9,6 @@ invariant-loop-at l = record {
   inside : AllIn l.labels.items l.chunks.items l.rows.items;
   counted : length l.rows.items ≡ l.at;
   so_far : behind_items (bodies_in l.labels.items l.chunks.items l.rows.items)
-      (each (body_of_place (texts l.symbols)) (drop l.at (places l.entries)))
-      ≡ each (body_of_place (texts l.symbols)) (places l.entries);
+      (each (body_of_entry (texts l.symbols)) (drop l.at (entries_seen l.entries)))
+      ≡ each (body_of_entry (texts l.symbols)) (entries_seen l.entries);
 }

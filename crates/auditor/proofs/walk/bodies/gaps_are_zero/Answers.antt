@@ -4,7 +4,7 @@ use Rattle.std.specs.List.{All}
 use Rattle.std.proofs.lemmas.List.{length-map}
 use Rattle.std.proofs.lemmas.Option.{get_or_from_slice_get}
 use Rattle.auditor.specs.declared.walk.entries.Entry.{Entry}
-use Rattle.auditor.specs.IndexFile.Seen.{place, places}
+use Rattle.auditor.specs.IndexFile.Seen.{entry_seen, entries_seen}
 use Rattle.auditor.proofs.IndexFile.Gaps.{gap_step, gap_end}
 use Rattle.auditor.proofs.walk.bodies.gaps_are_zero.Goals as goal
 
@@ -21,7 +21,7 @@ zero_between-requires c =
 pub returns-then-not-zero_between : goal.returns-then-not-zero_between
 returns-then-not-zero_between c =
     let n =
-    gap_step c.args.file.now c.args.end c.loop-at.from (places c.args.entries.now) c.loop-at.at _
+    gap_step c.args.file.now c.args.end c.loop-at.from (entries_seen c.args.entries.now) c.loop-at.at _
     c.zero_between.result _ c.entry_in-entry.ensures.seen c.zero_between.ensures
     c.loop-at.invariant in
     sym (rw c.if-not-zero_between.true at n)
@@ -29,7 +29,7 @@ returns-then-not-zero_between c =
 pub loop-at-preserved : goal.loop-at-preserved
 loop-at-preserved c =
     let n =
-    gap_step c.args.file.now c.args.end c.loop-at.from (places c.args.entries.now) c.loop-at.at _
+    gap_step c.args.file.now c.args.end c.loop-at.from (entries_seen c.args.entries.now) c.loop-at.at _
     c.zero_between.result _ c.entry_in-entry.ensures.seen c.zero_between.ensures
     c.loop-at.invariant in
     sym (rw c.if-not-zero_between.false at n)
@@ -37,5 +37,5 @@ loop-at-preserved c =
 pub returns : goal.returns
 returns c =
     c.zero_between-2.ensures
-    ∙ gap_end c.args.file.now c.args.end c.loop-at.from (places c.args.entries.now) c.loop-at.at _
-    (omega (arith, length-map c.args.entries.now place)) c.loop-at.invariant
+    ∙ gap_end c.args.file.now c.args.end c.loop-at.from (entries_seen c.args.entries.now) c.loop-at.at _
+    (omega (arith, length-map c.args.entries.now entry_seen)) c.loop-at.invariant

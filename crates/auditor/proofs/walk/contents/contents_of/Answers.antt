@@ -3,7 +3,8 @@ use Rattle.std.specs.Prelude.{IfOk}
 use Rattle.auditor.specs.declared.walk.contents.Contents.{Contents}
 use Rattle.auditor.specs.declared.walk.error.WalkError.{WalkError}
 use Rattle.auditor.specs.IndexFile.Outcome.{Gives}
-use Rattle.auditor.specs.IndexFile.Reading.{IsPlaced, head_of}
+use Rattle.auditor.specs.IndexFile.Layout.{IsPlaced}
+use Rattle.auditor.specs.IndexFile.Reading.{head_of}
 use Rattle.auditor.proofs.IndexFile.Head.{head_placed}
 use Rattle.auditor.proofs.walk.contents.contents_of.Goals as goal
 

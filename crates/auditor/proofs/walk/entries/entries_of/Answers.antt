@@ -1,8 +1,8 @@
 use Rattle.std.proofs.Common.{◌≡◌, ◌++◌, ◌∷◌, [], ◌-◌, length, arith}
 use Rattle.std.proofs.lemmas.Result.{err_from_is_err_and}
 use Rattle.std.proofs.lemmas.List.{map_push}
-use Rattle.auditor.specs.IndexFile.Seen.{place, places}
-use Rattle.auditor.specs.IndexFile.Reading.{Place}
+use Rattle.auditor.specs.IndexFile.Seen.{entry_seen, entries_seen}
+use Rattle.auditor.specs.IndexFile.Layout.{SeriesEntry}
 use Rattle.auditor.proofs.IndexFile.WalkLoops.{walk_on, walk_fails, walk_done, after_entry, with_places_nil}
 use Rattle.auditor.proofs.walk.entries.entries_of.Goals as goal
 
@@ -18,7 +18,7 @@ returns-in_err-body c =
     let p = err_from_is_err_and c.from_residual.result c.from_residual.ensures.1 in
     let l = c.loop-at in
     rw (p.1, p.2)
-    (walk_fails c.in_err-body.field-0.0 l.invariant.0 (places l.entries.items) c.args.file.now
+    (walk_fails c.in_err-body.field-0.0 l.invariant.0 (entries_seen l.entries.items) c.args.file.now
     c.args.end l.at _ c.loop-at-test.true l.invariant.1 c.in_err-body.ensures l.invariant.2)
 
 pub overflow_sub-stop : goal.overflow_sub-stop
@@ -43,21 +43,21 @@ loop-at-preserved c =
     let a =
     after_entry c.args.file.now c.args.end l.at (c.in_ok-body.body.now, c.in_ok-body.after.now)
     c.loop-at-test.true c.requires.within c.in_ok-body.ensures in
-    let p : Place = record {
+    let p : SeriesEntry = record {
       offset = l.at;
       body = c.in_ok-body.body.now;
       end = c.args.end - length c.in_ok-body.after.now;
     } in
     let w =
-    walk_on l.invariant.0 (places l.entries.items) c.args.file.now c.args.end l.at
+    walk_on l.invariant.0 (entries_seen l.entries.items) c.args.file.now c.args.end l.at
     c.in_ok-body.body.now c.in_ok-body.after.now _ c.loop-at-test.true l.invariant.1
     c.in_ok-body.ensures l.invariant.2 in
-    let e : places c.push.new.self.items ≡ places l.entries.items ++ p ∷ [] =
-    rw c.in_ok-push.ensures.items (map_push place l.entries.items _) in
+    let e : entries_seen c.push.new.self.items ≡ entries_seen l.entries.items ++ p ∷ [] =
+    rw c.in_ok-push.ensures.items (map_push entry_seen l.entries.items _) in
     (w.0, omega (arith, a.1, w.1), rw e w.2)
 
 pub returns : goal.returns
 returns c =
     let l = c.loop-at in
-    walk_done l.invariant.0 (places l.entries.items) c.args.file.now c.args.end l.at _
+    walk_done l.invariant.0 (entries_seen l.entries.items) c.args.file.now c.args.end l.at _
     c.loop-at-test.false l.invariant.2

@@ -1,9 +1,9 @@
 use Rattle.std.proofs.Common.{◌≡◌, ◌<◌, [], ◌∷◌, ◌++◌, length, refl, arith}
 use Rattle.std.proofs.lemmas.List.{map_push, length-map}
 use Rattle.labels.specs.Pairs.{texts_of}
-use Rattle.auditor.specs.IndexFile.Bodies.{Label}
+use Rattle.auditor.specs.IndexFile.Layout.{Label}
 use Rattle.auditor.specs.IndexFile.Seen.{texts}
-use Rattle.auditor.specs.IndexFile.Series.{text_of, named}
+use Rattle.auditor.specs.IndexFile.Series.{pair_of, named}
 use Rattle.auditor.proofs.IndexFile.Places.{all_here, mapped_at, moved_on, ended_so}
 use Rattle.auditor.proofs.walk.series_entries.pairs_of.Goals as goal
 
@@ -30,7 +30,7 @@ loop-at-preserved c =
       p.1.now,
     )) l.pairs.items c.pair_of.result) in
     rw e (moved_on (texts_of l.pairs.items) (named (texts c.args.symbols.now) c.args.labels.now)
-    l.at _ _ (mapped_at (text_of (texts c.args.symbols.now)) c.args.labels.now l.at _
+    l.at _ _ (mapped_at (pair_of (texts c.args.symbols.now)) c.args.labels.now l.at _
     c.label_at-label.ensures) c.pair_of.ensures l.invariant)
 
 pub returns : goal.returns
@@ -38,5 +38,5 @@ returns c =
     ended_so (texts_of c.loop-at.pairs.items) (named (texts c.args.symbols.now) c.args.labels.now)
     c.loop-at.at (omega (
       arith,
-      length-map c.args.labels.now (text_of (texts c.args.symbols.now)),
+      length-map c.args.labels.now (pair_of (texts c.args.symbols.now)),
     )) c.loop-at.invariant

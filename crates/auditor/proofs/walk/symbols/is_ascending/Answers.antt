@@ -1,48 +1,53 @@
-use Rattle.std.proofs.Common.{◌≡◌, ◌+◌, ◌-◌, [], length, get_or, ℕ, List, Bool, ◌&&◌, ◌<◌, drop, arith, sym, ◌∙◌}
+use Rattle.std.proofs.Common.{◌≡◌, ℕ, zero, suc, ◌+◌, ◌<◌, Bool, true, false, ◌&&◌, List, [], ◌∷◌, length, get_or, refl, sym, rules, arith}
 use Rattle.std.specs.Borrow.{Bor}
-use Rattle.std.proofs.lemmas.List.{length-map}
-use Rattle.std.proofs.Math.ListN.{get_or-map}
+use Rattle.std.specs.List.{IsAllAdjacentAnswer}
+use Rattle.std.proofs.lemmas.Fn.{always_returns_same}
 use Rattle.auditor.specs.IndexFile.Seen.{texts}
-use Rattle.auditor.specs.IndexFile.Reading.{ascending, is_less}
-use Rattle.auditor.proofs.IndexFile.WalkLoops.{ascending_step, ascending_end}
+use Rattle.auditor.specs.IndexFile.Layout.{ascending, is_less}
 use Rattle.auditor.proofs.walk.symbols.is_ascending.Goals as goal
 
-text_at : (symbols : List (Bor (List ℕ))) (i : ℕ)
-    → (get_or symbols i (record { ref_ptr = (0, 0); now = [] })).now ≡ get_or (texts symbols) i []
-text_at symbols i =
-    sym (get_or-map (λ (s : Bor (List ℕ)). s.now) symbols i (record { ref_ptr = (0, 0); now = [] }))
+abbrev below : Bor (List ℕ) → Bor (List ℕ) → Bool
+below a b = is_less a.now b.now
 
--- the test between two texts decides
-next : (xs : List (List ℕ)) (at : ℕ) (a b : List ℕ) (r whole : Bool) → 0 < at → at < length xs
-    → a ≡ get_or xs (at - 1) [] → b ≡ get_or xs at [] → r ≡ is_less a b
-    → ascending (drop (at - 1) xs) ≡ whole → whole ≡ (r && ascending (drop at xs))
-next xs at a b r whole pos lt e f t h =
-    let back : at - 1 + 1 ≡ at = omega arith in
-    rw (t, e, f) (sym h ∙ rw back at (ascending_step xs (at - 1) (omega arith)))
+all_below : (xs : List (Bor (List ℕ)))
+    → ((k : ℕ) (d : Bor (List ℕ)) → k + 1 < length xs
+    → true ≡ below (get_or xs k d) (get_or xs (k + 1) d)) → true ≡ ascending (texts xs)
+unfolding ascending
+all_below [] h = refl
+all_below (a ∷ []) h = refl
+all_below (a ∷ b ∷ xs) h =
+    let one : below a b ≡ true = sym (h 0 a (omega arith)) in
+    let more = all_below (b ∷ xs) (λ k d lt.
+    let e : suc k + 1 ≡ suc (k + 1) = omega arith in
+    let o = h (suc k) d (omega arith) in
+    rw e at o) in
+    rw (one, ← more) refl
 
-pub returns-then-not-is_less : goal.returns-then-not-is_less
-returns-then-not-is_less c =
-    let xs = c.args.symbols.now in
-    let i = c.loop-at.at in
-    let n =
-    next (texts xs) i _ _ c.is_less.result _ c.loop-at.invariant.0
-    (omega (arith, length-map xs (λ s. s.now))) (c.as_bytes.ensures.value ∙ text_at xs (i - 1))
-    (c.as_bytes-in-loop-at.ensures.value ∙ text_at xs i) c.is_less.ensures c.loop-at.invariant.1 in
-    sym (rw c.if-not-is_less.true at n)
+not_both : (p q : Bool) → false ≡ q → false ≡ (p && q)
+not_both true q h = h
+not_both false q h = refl
 
-pub loop-at-preserved : goal.loop-at-preserved
-loop-at-preserved c =
-    let xs = c.args.symbols.now in
-    let i = c.loop-at.at in
-    let n =
-    next (texts xs) i _ _ c.is_less.result _ c.loop-at.invariant.0
-    (omega (arith, length-map xs (λ s. s.now))) (c.as_bytes.ensures.value ∙ text_at xs (i - 1))
-    (c.as_bytes-in-loop-at.ensures.value ∙ text_at xs i) c.is_less.ensures c.loop-at.invariant.1 in
-    let e : i + 1 - 1 ≡ i = omega arith in
-    (omega arith, rw e (sym (rw c.if-not-is_less.false at n)))
+some_not : (xs : List (Bor (List ℕ))) (k : ℕ) → k + 1 < length xs
+    → ((d : Bor (List ℕ)) → false ≡ below (get_or xs k d) (get_or xs (k + 1) d))
+    → false ≡ ascending (texts xs)
+unfolding ascending
+some_not [] k lt h = absurd (omega arith)
+some_not (a ∷ []) k lt h = absurd (omega arith)
+some_not (a ∷ b ∷ xs) zero lt h = let one : below a b ≡ false = sym (h a) in rw one refl
+some_not (a ∷ b ∷ xs) (suc k) lt h =
+    not_both (below a b) (ascending (texts (b ∷ xs))) (some_not (b ∷ xs) k (omega arith) (λ d.
+    let e : suc k + 1 ≡ suc (k + 1) = omega arith in
+    let o = h d in
+    rw e at o))
+
+-- what comparing each text with the next tells
+told : (xs : List (Bor (List ℕ))) (r : Bool) → IsAllAdjacentAnswer (λ x y b. b ≡ below x y) xs r
+    → r ≡ ascending (texts xs)
+told xs true each = all_below xs each
+told xs false one = some_not xs one.0 one.1 one.2
 
 pub returns : goal.returns
 returns c =
-    let xs = c.args.symbols.now in
-    sym (ascending_end (texts xs) (c.loop-at.at - 1) (omega (arith, length-map xs (λ s. s.now))))
-    ∙ c.loop-at.invariant.1
+    told c.args.symbols.now c.is_sorted_by.result
+    (c.is_sorted_by.ensures.cases below (always_returns_same _ (λ a r. r ≡ below a.0.now a.1.0.now) _
+    (λ a r q k. search rules)))

@@ -3,22 +3,22 @@ use Rattle.auditor.specs.IndexFile.Seen.{seen}
 use Rattle.auditor.specs.IndexFile.Outcome.{Gives}
 use Rattle.auditor.proofs.IndexFile.Whole.{is_found, parts_again}
 use Rattle.auditor.proofs.IndexFile.Sound.{sound_found}
-use Rattle.auditor.proofs.walk.layout.layout_of.Goals as goal
+use Rattle.auditor.proofs.walk.layout.read_layout.Goals as goal
 
 pub returns-clause-found : goal.returns-clause-found
-returns-clause-found c = is_found seen c.args.file.now c.parts_of.result (λ i. omega (
+returns-clause-found c = is_found seen c.args.file.now c.layout_of.result (λ i. omega (
   arith,
   c.type_inv.file i,
-)) c.parts_of.ensures
+)) c.layout_of.ensures
 
 pub returns-clause-only : goal.returns-clause-only
 returns-clause-only c =
-    λ x p. subst (λ f. Gives seen c.parts_of.result f) (parts_again c.args.file.now x (λ i. omega (
+    λ x p. subst (λ f. Gives seen c.layout_of.result f) (parts_again c.args.file.now x (λ i. omega (
       arith,
       c.type_inv.file i,
-    )) p) c.parts_of.ensures
+    )) p) c.layout_of.ensures
 
 pub returns-clause-sound : goal.returns-clause-sound
 returns-clause-sound c =
-    sound_found c.args.file.now c.parts_of.result (is_found seen c.args.file.now c.parts_of.result
-    (λ i. omega (arith, c.type_inv.file i)) c.parts_of.ensures)
+    sound_found c.args.file.now c.layout_of.result (is_found seen c.args.file.now c.layout_of.result
+    (λ i. omega (arith, c.type_inv.file i)) c.layout_of.ensures)
