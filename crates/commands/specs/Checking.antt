@@ -24,7 +24,7 @@ judgement_text (judgement.Refused error) = codes "refused " ++ code_of error
 -- the line of a directory
 abbrev pub judgement_line : List ℕ → Judgement → List ℕ
 judgement_line directory judgement =
-    directory ++ codes ": " ++ judgement_text judgement ++ codes "\n"
+    directory ++ (codes ": " ++ (judgement_text judgement ++ codes "\n"))
 
 -- what the files of a directory, each of them whole, are judged to be
 pub record IsJudgedAt (reads : Host) (directory : List ℕ) (judgement : Judgement) : Type 0 where

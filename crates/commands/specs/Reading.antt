@@ -41,7 +41,7 @@ text_of Tombstones = codes "tombstones"
 
 -- the path of a file of a directory
 abbrev pub path_of : List ℕ → FileName → List ℕ
-path_of directory name = directory ++ codes "/" ++ text_of name
+path_of directory name = directory ++ (codes "/" ++ text_of name)
 
 -- how many bytes a file of a block may have
 abbrev pub limit_of : FileName → ℕ
