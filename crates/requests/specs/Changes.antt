@@ -1,8 +1,7 @@
 -- What the bodies of `/delete` and `/cut` ask.
-use Rattle.std.specs.Prelude.{◌≡◌, ◌≢◌, ℕ, ℤ, List, Option, None, Some, Ok, Err, option_and_then, codes, if◌then◌else◌}
+use Rattle.std.specs.Prelude.{◌≡◌, ℕ, ℤ, List, Option, None, Some, Ok, Err, option_and_then, codes, if◌then◌else◌}
 use Rattle.serde_json.specs.Data.{Data}
-use Rattle.matchers.specs.Selectors.{IsAccepted, RefusedBy}
-use Rattle.matchers.specs.declared.error.SelectorError.TheVariants as selector
+use Rattle.matchers.specs.Selectors.{IsAccepted, IsTextRefusal}
 use Rattle.requests.specs.declared.refusal.Refusal.TheVariants.{BadSelector, BadBody}
 use Rattle.requests.specs.declared.request.Request.TheVariants.{Delete, Cut}
 use Rattle.requests.specs.Json.{json_of, has_members, time_at, text_at}
@@ -45,5 +44,5 @@ DeleteMeans body (Ok _) = ⊥
 DeleteMeans body (Err BadBody) = deletion_of body ≡ None
 DeleteMeans body (Err (BadSelector error)) =
     (form : List ℕ × ℤ × ℤ) × (deletion_of body ≡ Some form)
-    × (error ≢ selector.Memory) × RefusedBy form.0 error
+    × IsTextRefusal form.0 error
 DeleteMeans body (Err _) = ⊥

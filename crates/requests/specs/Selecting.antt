@@ -1,8 +1,7 @@
 -- What a query string asks of `/select`.
-use Rattle.std.specs.Prelude.{◌≡◌, ◌≢◌, ℕ, ℤ, List, None, Some, Ok, Err, ⊤}
+use Rattle.std.specs.Prelude.{◌≡◌, ℕ, ℤ, List, None, Some, Ok, Err, ⊤}
 use Rattle.matchers.specs.Views.{QueryView}
-use Rattle.matchers.specs.Selectors.{IsAccepted, RefusedBy}
-use Rattle.matchers.specs.declared.error.SelectorError.TheVariants as selector
+use Rattle.matchers.specs.Selectors.{IsAccepted, IsTextRefusal}
 use Rattle.requests.specs.declared.refusal.Refusal.TheVariants.{BadQuery, BadSelector}
 use Rattle.requests.specs.declared.request.Request.TheVariants.{Select}
 use Rattle.requests.specs.declared.request.ReadError.{ReadError}
@@ -12,8 +11,7 @@ use Rattle.requests.specs.Requests.{Meaning}
 
 -- why a selector's text gives no matchers
 abbrev pub IsSelectorError : List ℕ → ReadError → Type 0
-IsSelectorError text (Refused (BadSelector error)) =
-    (error ≢ selector.Memory) × RefusedBy text error
+IsSelectorError text (Refused (BadSelector error)) = IsTextRefusal text error
 IsSelectorError text Memory = ⊤
 IsSelectorError text _ = ⊥
 
@@ -31,5 +29,5 @@ SelectMeans query (Ok _) = ⊥
 SelectMeans query (Err BadQuery) = asked_in (query_pairs query) ≡ None
 SelectMeans query (Err (BadSelector error)) =
     (form : List ℕ × ℤ × ℤ) × (asked_in (query_pairs query) ≡ Some form)
-    × (error ≢ selector.Memory) × RefusedBy form.0 error
+    × IsTextRefusal form.0 error
 SelectMeans query (Err _) = ⊥
