@@ -1,14 +1,11 @@
 -- What is said of a reply, and why nothing is.
-use Rattle.std.specs.Prelude.{◌≡◌, ℕ, ◌<◌, ◌≤◌, Bool, true, false, List, length, Option, None, Some}
+use Rattle.std.specs.Prelude.{◌≡◌, ℕ, Bool, true, false, List, Option, None, Some}
 use Rattle.std.specs.Prelude.{IfSome, string_bytes, if◌then◌else◌}
 use Rattle.std.specs.List.{list_any}
-use Rattle.matchers.specs.Grammar.{IsSelector}
 use Rattle.matchers.specs.Queries.{is_query_range}
-use Rattle.matchers.specs.Selectors.{AreMade, RefusedBy}
+use Rattle.matchers.specs.Selectors.{IsAccepted, IsTextRefusal}
 use Rattle.matchers.specs.Views.{MatcherView, QueryView}
 use Rattle.matchers.specs.declared.error.QueryError.TheVariants.{BadRange, TooManyMatchers}
-use Rattle.matchers.specs.declared.error.SelectorError.{SelectorError}
-use Rattle.matchers.specs.declared.error.SelectorError.TheVariants as selector
 use Rattle.auditor.specs.Judgements.{AreLines, is_fault, lines_text}
 use Rattle.auditor.specs.Replies.{text_said, told_of}
 use Rattle.auditor.specs.declared.judgement.BlockTable.{BlockTable}
@@ -28,13 +25,6 @@ use Rattle.audit_command.specs.declared.report.Outcome.{Outcome}
 use Rattle.audit_command.specs.declared.report.Outcome.TheVariants.{Done, Flawed}
 use Rattle.audit_command.specs.declared.report.Report.{Report}
 
--- the text is accepted as a selector of these matchers: they are 1 to 16, and each can be made
-pub record IsAccepted (text : List ℕ) (ms : List MatcherView) : Type 0 where
-  pub selector : IsSelector text ms
-  pub some : 0 < length ms
-  pub few : length ms ≤ 16
-  pub made : AreMade ms
-
 -- the query that was asked: the selector is accepted as one of its matchers, and the ranges are one
 pub record IsQueryOf (asked : Asked) (query : QueryView) : Type 0 where
   pub matchers : IsAccepted asked.selector.now query.matchers
@@ -47,15 +37,6 @@ pub record HasBadRange (asked : Asked) : Type 0 where
   pub ms : List MatcherView
   pub selector : IsAccepted asked.selector.now ms
   pub no_range : is_query_range asked.from asked.to ≡ false
-
--- when a text is refused as a selector
-abbrev pub IsTextRefusal : List ℕ → SelectorError → Type 0
-IsTextRefusal text (selector.Syntax at) = RefusedBy text (selector.Syntax at)
-IsTextRefusal text selector.Empty = RefusedBy text selector.Empty
-IsTextRefusal text selector.TooMany = RefusedBy text selector.TooMany
-IsTextRefusal text selector.PatternTooLong = RefusedBy text selector.PatternTooLong
-IsTextRefusal text selector.PatternRefused = RefusedBy text selector.PatternRefused
-IsTextRefusal text selector.Memory = ⊥
 
 -- when the query is refused: by the selector, and then by the range
 abbrev pub IsSelectionRefusal : Asked → Refusal → Type 0

@@ -40,7 +40,7 @@ text_of Tombstones = codes "tombstones"
 
 -- the path of a file of a directory
 abbrev pub path_of : List ℕ → FileName → List ℕ
-path_of directory name = directory ++ 47 ∷ text_of name
+path_of directory name = directory ++ (codes "/" ++ text_of name)
 
 -- The bytes are those of a file of a directory. A file may have 1 GiB; of one that is longer they
 -- are the first that show it.

@@ -4,6 +4,7 @@ use crate::host::Blocks;
 use crate::replies::{BEGIN, BLOCK, EMPTY, SKIPPED, UNSEPARATED};
 use audit_command::{Ending, run};
 use std::alloc::Global;
+use std::str;
 
 /// The text of a reply, in pieces.
 type Text = [&'static str; 3];
@@ -308,6 +309,25 @@ fn each_run_ends_so_and_other_words_are_a_fault(rt: HostRuntime) {
     for words in OTHER_WORDS {
         assert!(rt; is_fault_of_words(rt.alloc(), *words), "{words:?}");
     }
+}
+
+/// How the words are written.
+const USAGE: &str = "Usage: auditor [OPTIONS] --selector <S> [DIR]...\n";
+
+fn tells_usage(alloc: Global, words: Words) -> bool {
+    let Some(told) = told_by(alloc, words, NOTHING) else {
+        return false;
+    };
+    let is_done = told.ending.status == 0 && told.err.is_empty();
+    match str::from_utf8(told.out.as_slice()) {
+        Ok(text) => is_done && text.contains(USAGE),
+        Err(_) => false,
+    }
+}
+
+#[test]
+fn help_tells_how_the_words_are_written(rt: HostRuntime) {
+    assert!(rt; tells_usage(rt.alloc(), &["--help"]));
 }
 
 /// A run is whole, or tells that a writer refused, or that there is no memory. `tests/allocations`

@@ -140,6 +140,12 @@ const HELP: &[Row<'_>] = &[
         "",
     ),
     (&["select", "-h"], 0, "more than 63 directories", ""),
+    (
+        &["serve", "--help"],
+        0,
+        "Usage: querier serve [OPTIONS] --port <P> [DIR]...",
+        "",
+    ),
     (&["check", "--help"], 0, "DIR: refused I14", ""),
     (&["help", "check"], 0, "3 a file cannot be", ""),
 ];

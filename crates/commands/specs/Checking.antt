@@ -1,5 +1,5 @@
 -- What `check` says of directories, and in which lines.
-use Rattle.std.specs.Prelude.{◌≡◌, ℕ, List, [], ◌∷◌, ◌++◌, Bool, true, false, map, Option, codes}
+use Rattle.std.specs.Prelude.{◌≡◌, ℕ, List, ◌∷◌, ◌++◌, Bool, true, false, map, Option, codes}
 use Rattle.std.specs.Prelude.{decimal, string_bytes, if◌then◌else◌}
 use Rattle.std.specs.List.{AllByRecursion, flat_map, list_any}
 use Rattle.std.specs.Io.KnownBytes.{Appends}
@@ -24,7 +24,7 @@ judgement_text (judgement.Refused error) = codes "refused " ++ code_of error
 -- the line of a directory
 abbrev pub judgement_line : List ℕ → Judgement → List ℕ
 judgement_line directory judgement =
-    directory ++ (codes ": " ++ (judgement_text judgement ++ 10 ∷ []))
+    directory ++ (codes ": " ++ (judgement_text judgement ++ codes "\n"))
 
 -- what the files of a directory, each of them whole, are judged to be
 pub record IsJudgedAt (reads : Host) (directory : List ℕ) (judgement : Judgement) : Type 0 where

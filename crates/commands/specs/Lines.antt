@@ -7,7 +7,7 @@ use Rattle.std.specs.Str.Parse.{IsNumeral, without_leading_sign, signed_digits_v
 use Rattle.labels.specs.declared.sample.TheConstants.{MIN_TIME, MAX_TIME}
 use Rattle.clap.specs.Lexer.{usize_max}
 use Rattle.clap.specs.Words.{App, Row, Rule, Text, new_app, new_rule, with_rule, with_subcommand}
-use Rattle.clap.specs.Words.{first_of, one_of, all_of, subcommand_of}
+use Rattle.clap.specs.Words.{first_of, one_of, all_of, subcommand_of, takes}
 use Rattle.clap.specs.declared.builder.value_parser.ValueParser.TheVariants.{Signed}
 use Rattle.commands.specs.OptionRules.{directories_rule}
 use Rattle.commands.specs.ServingLines.{serve_app, IsServe}
@@ -111,3 +111,11 @@ IsFoundLine found None = (line : Line) → IsLineIn found line → ⊥
 -- what the words ask for, as `clap` reads them
 abbrev pub IsLineOf : List Text → Line → Type 0
 IsLineOf words line = IsLineIn (subcommand_of querier_app words) line
+
+-- `clap` takes the words
+abbrev pub AreTakenByClap : List Text → Type 0
+AreTakenByClap words = takes querier_app words ≡ true
+
+-- the words are no line
+abbrev pub AreNoLine : List Text → Type 0
+AreNoLine words = (line : Line) → IsLineOf words line → ⊥

@@ -1,7 +1,10 @@
 -- Which blocks directories hold, and why they are not opened.
-use Rattle.std.specs.Prelude.{◌≡◌, ℕ, ◌<◌, ◌≤◌, List, ◌∷◌, ◌++◌, length, string_bytes}
+use Rattle.std.specs.Prelude.{◌≡◌, ℕ, ◌<◌, ◌≤◌, List, ◌∷◌, ◌++◌, length, map, string_bytes}
+use Rattle.std.specs.Prelude.{Result, IfOk, IfErr, Vec}
 use Rattle.std.specs.List.{AllZip}
-use Rattle.head.specs.Blocks.{opening_of}
+use Rattle.std.proofs.Common.{Global}
+use Rattle.block.specs.Blocks.{Shown}
+use Rattle.head.specs.Blocks.{opening_of, part_in}
 use Rattle.head.specs.Heads.{BlockPart, SnapshotParts}
 use Rattle.snapshots.specs.declared.error.OpenError.TheVariants as store
 use Rattle.commands.specs.Checking.{IsJudgedAt}
@@ -51,6 +54,12 @@ pub record IsFirstFault (reads : Host) (directories : List (List ℕ)) (fault : 
   pub blocks : List BlockPart
   pub opened : AreBlocksAt reads before blocks
   pub at : IsBlockFault reads directory fault
+
+-- what came of opening directories: the blocks that they hold, or the fault of the first at fault
+abbrev pub AreOpenedOrFault : Host → List (List ℕ) → Result (Vec Shown Global) Fault → Type 0
+AreOpenedOrFault reads directories opened =
+    IfOk opened (λ blocks. AreBlocksAt reads directories (map part_in blocks.items))
+    × IfErr opened (λ fault. IsFirstFault reads directories fault)
 
 -- each directory holds a block, and there are more than 63
 pub record AreTooMany (reads : Host) (directories : List (List ℕ)) : Type 0 where

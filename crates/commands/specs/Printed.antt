@@ -1,8 +1,8 @@
 -- What is printed of an answer.
-use Rattle.std.specs.Prelude.{ℕ, List, [], ◌∷◌, ◌++◌}
+use Rattle.std.specs.Prelude.{ℕ, List, ◌++◌, codes}
 use Rattle.query_http.specs.declared.audited.AuditedAnswer.{AuditedAnswer}
 use Rattle.query_http.specs.Reply.{body_text}
 
 -- the text of an answer, and a line feed
 abbrev pub line_text : AuditedAnswer → List ℕ
-line_text answer = body_text answer.parts.items answer.rows.items ++ 10 ∷ []
+line_text answer = body_text answer.parts.items answer.rows.items ++ codes "\n"

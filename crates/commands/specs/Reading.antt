@@ -1,8 +1,9 @@
 -- What is read of the files of a directory.
 use Rattle.std.specs.Prelude.{◌≡◌, ℕ, ◌+◌, List, [], ◌∷◌, ◌++◌, map, take, Option, None, Some}
-use Rattle.std.specs.Prelude.{codes, string_bytes}
+use Rattle.std.specs.Prelude.{Result, IfOk, IfErr, Vec, codes, string_bytes}
 use Rattle.std.specs.Borrow.{Bor}
 use Rattle.std.specs.List.{AllByRecursion}
+use Rattle.std.proofs.Common.{Global}
 use Rattle.commands.specs.declared.fault.Fault.{Fault}
 use Rattle.commands.specs.declared.fault.Fault.TheVariants.{Words, Refused, CannotRead, CannotWrite}
 use Rattle.commands.specs.declared.fault.Fault.TheVariants.{CannotListen, Memory}
@@ -40,7 +41,7 @@ text_of Tombstones = codes "tombstones"
 
 -- the path of a file of a directory
 abbrev pub path_of : List ℕ → FileName → List ℕ
-path_of directory name = directory ++ 47 ∷ text_of name
+path_of directory name = directory ++ (codes "/" ++ text_of name)
 
 -- how many bytes a file of a block may have
 abbrev pub limit_of : FileName → ℕ
@@ -98,6 +99,12 @@ IsFileFault reads directory name CannotWrite = ⊥
 IsFileFault reads directory name (CannotListen port) = ⊥
 IsFileFault reads directory name (Words error) = ⊥
 IsFileFault reads directory name (Refused refusal) = ⊥
+
+-- what came of reading a file of a directory: its bytes, or why it is not read
+abbrev pub IsReadOrFault : Host → List ℕ → FileName → Result (Vec ℕ Global) Fault → Type 0
+IsReadOrFault reads directory name read =
+    IfOk read (λ bytes. IsRead reads directory name bytes.items)
+    × IfErr read (λ fault. IsFileFault reads directory name fault)
 
 -- the files of a block, in the order in which they are read
 abbrev pub reading_order : List FileName

@@ -1,12 +1,12 @@
 -- How the lines of the program end.
-use Rattle.std.specs.Prelude.{◌≡◌, ℕ, pos, true, List, Option, Result, Ok, Err, IsOk, OnOk, IfSome}
+use Rattle.std.specs.Prelude.{◌≡◌, ℕ, pos, List, Option, Result, Ok, Err, IsOk, OnOk, IfSome}
 use Rattle.std.specs.Io.KnownBytes.{Appends, Keeps}
-use Rattle.clap.specs.Words.{Text, takes}
+use Rattle.clap.specs.Words.{Text}
 use Rattle.commands.specs.Checking.{IsChecked, IsCheckFault}
 use Rattle.commands.specs.Demo.{demo_events, demo_query}
 use Rattle.commands.specs.DemoAnswer.{IsDemoFault, WritesAnswerAfter}
 use Rattle.commands.specs.Faults.{status_of, line_of}
-use Rattle.commands.specs.Lines.{querier_app, IsLineOf}
+use Rattle.commands.specs.Lines.{AreNoLine, AreTakenByClap, IsLineOf}
 use Rattle.commands.specs.Reading.{Host, paths_of}
 use Rattle.commands.specs.Selecting.{IsSelectFault, KeepsAt, WritesSelection}
 use Rattle.commands.specs.ServingRuns.{IsListening, IsServeFault}
@@ -20,7 +20,7 @@ use Rattle.commands.specs.declared.run.Ending.{Ending}
 
 -- `clap` takes the words, and they are a line
 pub record IsTaken (words : List Text) : Type 0 where
-  pub by_clap : takes querier_app words ≡ true
+  pub by_clap : AreTakenByClap words
   pub line : Line
   pub is : IsLineOf words line
 
@@ -98,9 +98,8 @@ pub record HasEnded (reads : Host) (words : List Text)
     (old new told_old told_new : Option (List ℕ)) (ending : Ending) : Type 0 where
   pub end : Result Outcome Fault
   pub line : IsTaken words → IsEnd reads words old new end
-  pub no_line : ((line : Line) → IsLineOf words line → ⊥) → IsNoLine end
-  pub refused : takes querier_app words ≡ true
-      → ((line : Line) → IsLineOf words line → ⊥) → IsWordsFault end
+  pub no_line : AreNoLine words → IsNoLine end
+  pub refused : AreTakenByClap words → AreNoLine words → IsWordsFault end
   pub status : ending.status ≡ status_at end
   pub told : IsTold end ending.told told_old told_new
 

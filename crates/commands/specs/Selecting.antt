@@ -1,13 +1,10 @@
 -- What a selection asks for, and why it is refused.
-use Rattle.std.specs.Prelude.{◌≡◌, ℕ, ◌<◌, ◌≤◌, true, false, List, Option, length}
+use Rattle.std.specs.Prelude.{◌≡◌, ℕ, true, false, List, Option}
 use Rattle.std.specs.Io.KnownBytes.{Appends, Keeps}
-use Rattle.matchers.specs.Grammar.{IsSelector}
 use Rattle.matchers.specs.Queries.{is_query_range}
-use Rattle.matchers.specs.Selectors.{AreMade, RefusedBy}
+use Rattle.matchers.specs.Selectors.{IsAccepted, IsTextRefusal}
 use Rattle.matchers.specs.Views.{MatcherView, QueryView}
 use Rattle.matchers.specs.declared.error.QueryError.TheVariants.{BadRange, TooManyMatchers}
-use Rattle.matchers.specs.declared.error.SelectorError.{SelectorError}
-use Rattle.matchers.specs.declared.error.SelectorError.TheVariants as selector
 use Rattle.head.specs.Heads.{SnapshotParts}
 use Rattle.query_http.specs.Audited.{IsAudited}
 use Rattle.commands.specs.Opening.{IsOpeningOf, IsOpeningFault}
@@ -22,13 +19,6 @@ use Rattle.commands.specs.declared.fault.Refusal.{Refusal}
 use Rattle.commands.specs.declared.fault.Refusal.TheVariants.{Labels, Matcher, Selector, Query}
 use Rattle.commands.specs.declared.fault.Refusal.TheVariants.{Commit, Block, Open, Snapshot}
 
--- the text is accepted as a selector of these matchers: they are 1 to 16, and each can be made
-pub record IsAccepted (text : List ℕ) (ms : List MatcherView) : Type 0 where
-  pub selector : IsSelector text ms
-  pub some : 0 < length ms
-  pub few : length ms ≤ 16
-  pub made : AreMade ms
-
 -- the text of a selection is accepted as a selector of the query's matchers, and the ranges are one
 pub record IsQueryOf (asked : Selection) (query : QueryView) : Type 0 where
   pub matchers : IsAccepted asked.selector.now query.matchers
@@ -41,15 +31,6 @@ pub record HasBadRange (asked : Selection) : Type 0 where
   pub ms : List MatcherView
   pub selector : IsAccepted asked.selector.now ms
   pub no_range : is_query_range asked.from asked.to ≡ false
-
--- when the text is refused
-abbrev pub IsTextRefusal : List ℕ → SelectorError → Type 0
-IsTextRefusal text (selector.Syntax at) = RefusedBy text (selector.Syntax at)
-IsTextRefusal text selector.Empty = RefusedBy text selector.Empty
-IsTextRefusal text selector.TooMany = RefusedBy text selector.TooMany
-IsTextRefusal text selector.PatternTooLong = RefusedBy text selector.PatternTooLong
-IsTextRefusal text selector.PatternRefused = RefusedBy text selector.PatternRefused
-IsTextRefusal text selector.Memory = ⊥
 
 -- when a selection is refused: by its text, and then by its range
 abbrev pub IsSelectionRefusal : Selection → Refusal → Type 0

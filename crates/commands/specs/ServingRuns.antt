@@ -1,5 +1,5 @@
 -- What is told of a store that is served, and why none is.
-use Rattle.std.specs.Prelude.{◌≡◌, ◌⊎◌, ℕ, ◌≤◌, List, [], ◌∷◌, ◌++◌, Option, length, codes, decimal}
+use Rattle.std.specs.Prelude.{◌≡◌, ◌⊎◌, ℕ, ◌≤◌, List, ◌++◌, Option, length, codes, decimal}
 use Rattle.std.specs.Io.KnownBytes.{Appends}
 use Rattle.head.specs.Heads.{BlockPart}
 use Rattle.snapshots.specs.Seats.{IsRoom}
@@ -16,7 +16,7 @@ use Rattle.commands.specs.declared.fault.Refusal.TheVariants.{Commit, Block, Ope
 
 -- the line of a port
 abbrev pub listening_line : ℕ → List ℕ
-listening_line port = codes "listening " ++ decimal port ++ 10 ∷ []
+listening_line port = codes "listening " ++ decimal port ++ codes "\n"
 
 -- the line of some port was written, and nothing else
 pub record TellsPort (old new : Option (List ℕ)) : Type 0 where

@@ -1,17 +1,17 @@
 //! The command line.
 
-ghost use Rattle.std.specs.Prelude.{◌≡◌, ◌⊎◌, true, false, [], codes, map, unwrap_or, IfOk, IfErr};
+ghost use Rattle.std.specs.Prelude.{◌≡◌, ◌⊎◌, false, [], codes, map, unwrap_or, IfOk, IfErr};
 ghost use Rattle.commands.specs.ServingLines.{count_rule, port_rule, serve_app, IsCountIn};
 ghost use Rattle.commands.specs.ServingLines.{IsServingIn};
 ghost use Rattle.commands.specs.Running.{IsTaken};
 ghost use Rattle.clap.specs.Values.{kind_of};
 ghost use Rattle.clap.specs.Matches.{found_of};
 ghost use Rattle.clap.specs.Words.{app_of, new_app, rule_of, rows_of, one_of, first_of, all_of};
-ghost use Rattle.clap.specs.Words.{subcommand_of, subcommand_rows_of, takes};
+ghost use Rattle.clap.specs.Words.{subcommand_of, subcommand_rows_of};
 ghost use Rattle.commands.specs.OptionRules.{directories_rule};
 ghost use Rattle.commands.specs.Lines.{time_rule, selector_rule, blocks_rule, select_app};
 ghost use Rattle.commands.specs.Lines.{check_app, querier_app, IsTimeIn, IsSelectionIn};
-ghost use Rattle.commands.specs.Lines.{IsFoundLine, IsLineOf, texts_of};
+ghost use Rattle.commands.specs.Lines.{AreTakenByClap, IsFoundLine, IsLineOf, texts_of};
 
 use clap::builder::ValueParser;
 use clap::error::ErrorKind;
@@ -360,7 +360,7 @@ fn matches_in<'a>(alloc: Global, words: &'a [String]) -> Result<ArgMatches<'a>, 
     ensures ok { IfOk result (λ found.
         subcommand_rows_of found ≡ subcommand_of querier_app (texts_of words.entry.now)) }
     ensures err { IfErr result (λ e.
-        takes querier_app (texts_of words.entry.now) ≡ true → kind_of e ≡ ErrorKind.OutOfMemory) }
+        AreTakenByClap (texts_of words.entry.now) → kind_of e ≡ ErrorKind.OutOfMemory) }
 {
     querier(alloc)?.try_get_matches_from(words)
 }
@@ -378,7 +378,7 @@ pub fn read_line<'a>(alloc: Global, words: &'a [String]) -> Result<Line<'a>, Err
     ensures ok { IfOk result (λ line. IsLineOf (texts_of words.entry.now) line) }
     ensures err { IfErr result (λ e.
         IsTaken (texts_of words.entry.now) → kind_of e ≡ ErrorKind.OutOfMemory) }
-    ensures refused { IfErr result (λ e. takes querier_app (texts_of words.entry.now) ≡ true
+    ensures refused { IfErr result (λ e. AreTakenByClap (texts_of words.entry.now)
         → (kind_of e ≡ ErrorKind.OutOfMemory) ⊎ (kind_of e ≡ ErrorKind.MissingSubcommand)) }
 {
     let found = matches_in(alloc, words)?;

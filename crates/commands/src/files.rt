@@ -3,10 +3,10 @@
 ghost use Rattle.std.specs.Prelude.{◌≡◌, ◌≤◌, ◌+◌, ℕ, List, Option, length, take, string_bytes};
 ghost use Rattle.std.specs.Prelude.{IfOk, IfErr, IfSome};
 ghost use Rattle.std.specs.Thread.{IsSync};
-ghost use Rattle.commands.specs.Indexing.{IsOpened};
+ghost use Rattle.commands.specs.Indexing.{IsIndexReadOrFault, IsOpened};
 ghost use Rattle.commands.specs.declared.files.FileName.TheVariants as file_name;
 ghost use Rattle.commands.specs.Reading.{limit_of, path_of, text_of, AreFirstBytes, AreRead, IsRead};
-ghost use Rattle.commands.specs.Reading.{IsReadFailure, IsFileFault, IsReadingFault};
+ghost use Rattle.commands.specs.Reading.{IsReadFailure, IsReadOrFault, IsFileFault, IsReadingFault};
 
 use crate::fault::Fault;
 use index_reader::{Index, IndexError};
@@ -200,17 +200,12 @@ pub fn read_block<T: Threads + Sync, F: ReadFiles>(
     let meta = read_one(alloc, files, directory, FileName::Meta)?;
     let apart = || -> Result<Vec<u8>, Fault>
         requires { IsSync F.row }
-        ensures { (IfOk result (λ bytes.
-            IsRead (F.may_read files.entry.now) directory.entry.now file_name.Chunks bytes.items))
-            × (IfErr result (λ fault.
-            IsFileFault (F.may_read files.entry.now) directory.entry.now file_name.Chunks fault)) }
+        ensures { IsReadOrFault (F.may_read files.entry.now) directory.entry.now file_name.Chunks
+            result }
     { read_one(alloc, files, directory, FileName::Chunks) };
     let here = || -> Result<(Vec<u8>, Result<Index, IndexError>), Fault>
         requires { IsSync F.row }
-        ensures { (IfOk result (λ read.
-            IsRead (F.may_read files.entry.now) directory.entry.now file_name.Index read.0.items))
-            × (IfOk result (λ read. IsOpened read.0.items read.1)) × (IfErr result (λ fault.
-            IsFileFault (F.may_read files.entry.now) directory.entry.now file_name.Index fault)) }
+        ensures { IsIndexReadOrFault (F.may_read files.entry.now) directory.entry.now result }
     { read_index(alloc, files, directory) };
     let (chunks, index) = join(rt, apart, here);
     let (index, opened) = index?;

@@ -18,7 +18,15 @@
 //! ];
 //! let mut out: Vec<u8> = Vec::new(alloc);
 //! let mut err: Vec<u8> = Vec::new(alloc);
-//! let ending = run(&rt, alloc, &rt, &words, &mut io::empty(), &mut out, &mut err);
+//! let ending = run(
+//!     &rt,
+//!     alloc,
+//!     &rt,
+//!     &words,
+//!     &mut io::empty(),
+//!     &mut out,
+//!     &mut err,
+//! );
 //! assert_eq!(rt; (ending.status, out.len()), (1, 0));
 //! assert_eq!(rt; err.as_slice(), b"refused M6\n".as_slice());
 //! ```

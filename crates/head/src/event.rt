@@ -3,12 +3,11 @@
 ghost use Rattle.std.specs.Prelude.{◌≡◌, IsTrue, Some, None, MatchOption};
 ghost use Rattle.std.specs.List.{list_all};
 ghost use Rattle.labels.specs.Contents.{is_time};
-ghost use Rattle.matchers.specs.Queries.{is_query_range};
 ghost use Rattle.head.specs.Batches.{is_batch, is_deletion};
 ghost use Rattle.head.specs.Worlds.{batch, batch_of, deletion, cut, matchers_of};
 
-use labels::{LabelSet, MAX_TIME, MIN_TIME, Sample, is_time};
-use matchers::{MAX_MATCHERS, Matcher};
+use labels::{LabelSet, Sample, is_time};
+use matchers::{MAX_MATCHERS, Matcher, is_query_range};
 use std::marker::Model;
 
 /// The greatest number of samples in a batch.
@@ -45,14 +44,6 @@ fn are_timed(samples: &[(LabelSet, Sample)]) -> bool
     ensures { result ≡ list_all (λ x. is_time x.1.0) samples.now }
 {
     samples.iter().all(|sample| is_time(sample.1.t()))
-}
-
-/// Whether a closed range of times begins at a time, ends at one, and does not end before it
-/// begins.
-fn is_query_range(from: i64, to: i64) -> bool
-    ensures { result ≡ is_query_range from to }
-{
-    MIN_TIME <= from && from <= to && to <= MAX_TIME
 }
 
 impl Event {

@@ -85,3 +85,19 @@ RefusedBy text TooMany = HasTooMany text
 RefusedBy text PatternTooLong = HasFaulty text PatternTooLong
 RefusedBy text PatternRefused = HasFaulty text PatternRefused
 RefusedBy text Memory = Unit {0}
+
+-- the text is accepted as a selector of these matchers: they are 1 to 16, and each can be made
+pub record IsAccepted (text : List ℕ) (ms : List MatcherView) : Type 0 where
+  pub selector : IsSelector text ms
+  pub some : 0 < length ms
+  pub few : length ms ≤ 16
+  pub made : AreMade ms
+
+-- when a text is refused as a selector, by what it is
+abbrev pub IsTextRefusal : List ℕ → SelectorError → Type 0
+IsTextRefusal text (Syntax at) = RefusedBy text (Syntax at)
+IsTextRefusal text Empty = RefusedBy text Empty
+IsTextRefusal text TooMany = RefusedBy text TooMany
+IsTextRefusal text PatternTooLong = RefusedBy text PatternTooLong
+IsTextRefusal text PatternRefused = RefusedBy text PatternRefused
+IsTextRefusal text Memory = ⊥

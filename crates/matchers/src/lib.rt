@@ -34,6 +34,6 @@ mod tester;
 pub use error::{MatcherError, QueryError, SelectorError};
 pub use matcher::{Matcher, Op};
 pub use pattern::MAX_PATTERN_BYTES;
-pub use query::{MAX_MATCHERS, Query};
+pub use query::{MAX_MATCHERS, Query, is_query_range};
 pub use selector::Selector;
 pub use tester::Tester;

@@ -31,7 +31,8 @@ impl Model for Query {
     ghost invariant = { λ q. (is_query_range q.from q.to ≡ true) × (length q.matchers.items ≤ 16) };
 }
 
-fn is_query_range(from: i64, to: i64) -> bool
+/// Whether both ends are in [`MIN_TIME`] to [`MAX_TIME`], and the first is not above the second.
+pub fn is_query_range(from: i64, to: i64) -> bool
     ensures { result ≡ is_query_range from to }
 {
     MIN_TIME <= from && from <= to && to <= MAX_TIME

@@ -1,7 +1,10 @@
 -- A refusal that reading ends in is of what came.
 use Rattle.std.proofs.Common.{◌≡◌, ℕ, Bool, true, false, List, Option, None, Some, Result, Ok, Err, IfErr, nat_lt, codes}
-use Rattle.std.specs.Prelude.{if◌then◌else◌}
+use Rattle.std.specs.Prelude.{◌≢◌, if◌then◌else◌}
 use Rattle.std.specs.Str.Parse.{digits_value}
+use Rattle.matchers.specs.Selectors.{IsTextRefusal}
+use Rattle.matchers.specs.declared.error.SelectorError.{SelectorError}
+use Rattle.matchers.specs.declared.error.SelectorError.TheVariants as selector
 use Rattle.requests.specs.declared.refusal.Refusal.{Refusal}
 use Rattle.requests.specs.declared.refusal.Refusal.TheVariants.{BadHead, HeadTooLong, NoSuchPath, Method, BadQuery, BadSelector, BadBody, BodyTooLong, Refused as RefusedEvent, Unavailable}
 use Rattle.requests.specs.declared.request.Request.{Request}
@@ -47,13 +50,22 @@ asked_length fields =
 pub length_ends : (fields : List (List ℕ × List ℕ)) (refusal : Refusal) → length_asked fields ≡ Err refusal → IsOfBytes refusal
 length_ends fields refusal e = rw e at (asked_length fields)
 
+-- what a text is refused for is no want of memory
+not_memory : (text : List ℕ) (error : SelectorError) → IsTextRefusal text error → error ≢ selector.Memory
+not_memory text (selector.Syntax at) p e = cc
+not_memory text selector.Empty p e = cc
+not_memory text selector.TooMany p e = cc
+not_memory text selector.PatternTooLong p e = cc
+not_memory text selector.PatternRefused p e = cc
+not_memory text selector.Memory p e = absurd p
+
 pub select_ends : (query : List ℕ) (refusal : Refusal) → SelectMeans query (Err refusal) → IsOfBytes refusal
 select_ends query BadHead p = absurd p
 select_ends query HeadTooLong p = absurd p
 select_ends query NoSuchPath p = absurd p
 select_ends query Method p = absurd p
 select_ends query BadQuery p = tt
-select_ends query (BadSelector error) p = p.2
+select_ends query (BadSelector error) p = not_memory _ error p.2
 select_ends query BadBody p = absurd p
 select_ends query BodyTooLong p = absurd p
 select_ends query (RefusedEvent cause) p = absurd p
@@ -65,7 +77,7 @@ delete_ends body HeadTooLong p = absurd p
 delete_ends body NoSuchPath p = absurd p
 delete_ends body Method p = absurd p
 delete_ends body BadQuery p = absurd p
-delete_ends body (BadSelector error) p = p.2
+delete_ends body (BadSelector error) p = not_memory _ error p.2
 delete_ends body BadBody p = tt
 delete_ends body BodyTooLong p = absurd p
 delete_ends body (RefusedEvent cause) p = absurd p

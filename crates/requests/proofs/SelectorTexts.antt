@@ -2,6 +2,7 @@
 use Rattle.std.proofs.Common.{◌≡◌, ◌<◌, ◌≤◌, ℕ, ℤ, true, false, List, length, Some, Err, IsErrOf, refl, sym, ap, true≢false, arith, ◌∙◌}
 use Rattle.matchers.specs.Views.{MatcherView, QueryView}
 use Rattle.matchers.specs.Queries.{is_query_range}
+use Rattle.matchers.specs.Selectors.{IsAccepted}
 use Rattle.matchers.specs.declared.error.QueryError.{QueryError}
 use Rattle.matchers.specs.declared.error.QueryError.TheVariants.{BadRange, TooManyMatchers}
 use Rattle.requests.specs.declared.refusal.Refusal.TheVariants.{BadHead, HeadTooLong, NoSuchPath, Method, BadQuery, BadSelector, BadBody, BodyTooLong, Refused as RefusedEvent, Unavailable}
@@ -9,7 +10,7 @@ use Rattle.requests.specs.declared.request.ReadError.{ReadError}
 use Rattle.requests.specs.declared.request.ReadError.TheVariants.{Closed, Fault, Memory, Refused}
 use Rattle.requests.specs.QueryStrings.{query_pairs, asked_in}
 use Rattle.requests.specs.Requests.{Told}
-use Rattle.requests.specs.Selecting.{AreMatchersOf, IsQueryOf, IsSelectorError, SelectMeans}
+use Rattle.requests.specs.Selecting.{IsQueryOfForm, IsSelectorError, SelectMeans}
 
 pub refused_select : (query : List ℕ) (form : List ℕ × ℤ × ℤ) → asked_in (query_pairs query) ≡ Some form
     → (e : ReadError) → IsSelectorError form.0 e → Told (SelectMeans query) (Err e)
@@ -21,7 +22,7 @@ refused_select query form is (Refused HeadTooLong) p = absurd p
 refused_select query form is (Refused NoSuchPath) p = absurd p
 refused_select query form is (Refused Method) p = absurd p
 refused_select query form is (Refused BadQuery) p = absurd p
-refused_select query form is (Refused (BadSelector error)) p = (form, is, p.0, p.1)
+refused_select query form is (Refused (BadSelector error)) p = (form, is, p)
 refused_select query form is (Refused BadBody) p = absurd p
 refused_select query form is (Refused BodyTooLong) p = absurd p
 refused_select query form is (Refused (RefusedEvent cause)) p = absurd p
@@ -35,8 +36,8 @@ no_query_error BadRange from to a b ms same_from same_to range few bad many =
     true≢false (sym range ∙ (rw (same_from, same_to) at (bad refl)))
 no_query_error TooManyMatchers from to a b ms same_from same_to range few bad many = omega (arith, few, (many refl).1)
 
-pub query_of : (form : List ℕ × ℤ × ℤ) (ms : List MatcherView) (q : QueryView) (a b : ℤ) → AreMatchersOf form.0 ms
-    → q ≡ record { matchers = ms; from = a; to = b } → a ≡ form.1 → b ≡ form.2 → IsQueryOf form q
+pub query_of : (form : List ℕ × ℤ × ℤ) (ms : List MatcherView) (q : QueryView) (a b : ℤ) → IsAccepted form.0 ms
+    → q ≡ record { matchers = ms; from = a; to = b } → a ≡ form.1 → b ≡ form.2 → IsQueryOfForm form q
 query_of form ms q a b are is same_from same_to = record {
   matchers = rw is are;
   from = ap (λ (q : QueryView). q.from) is ∙ same_from;

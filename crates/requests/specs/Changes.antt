@@ -1,13 +1,11 @@
 -- What the bodies of `/delete` and `/cut` ask.
-use Rattle.std.specs.Prelude.{◌≡◌, ◌≢◌, ℕ, ℤ, List, Option, None, Some, Ok, Err, option_and_then, codes, if◌then◌else◌}
+use Rattle.std.specs.Prelude.{◌≡◌, ℕ, ℤ, List, Option, None, Some, Ok, Err, option_and_then, codes, if◌then◌else◌}
 use Rattle.serde_json.specs.Data.{Data}
-use Rattle.matchers.specs.Selectors.{RefusedBy}
-use Rattle.matchers.specs.declared.error.SelectorError.TheVariants as selector
+use Rattle.matchers.specs.Selectors.{IsAccepted, IsTextRefusal}
 use Rattle.requests.specs.declared.refusal.Refusal.TheVariants.{BadSelector, BadBody}
 use Rattle.requests.specs.declared.request.Request.TheVariants.{Delete, Cut}
 use Rattle.requests.specs.Json.{json_of, has_members, time_at, text_at}
 use Rattle.requests.specs.QueryStrings.{asked_between}
-use Rattle.requests.specs.Selecting.{AreMatchersOf}
 use Rattle.requests.specs.Requests.{Meaning}
 
 -- the time of an object with the member `at` alone
@@ -41,10 +39,10 @@ deletion_of body = option_and_then deletion_in (json_of body)
 abbrev pub DeleteMeans : List ℕ → Meaning → Type 0
 DeleteMeans body (Ok (Delete matchers from to)) =
     (form : List ℕ × ℤ × ℤ) × (deletion_of body ≡ Some form)
-    × AreMatchersOf form.0 matchers.items × (from ≡ form.1) × (to ≡ form.2)
+    × IsAccepted form.0 matchers.items × (from ≡ form.1) × (to ≡ form.2)
 DeleteMeans body (Ok _) = ⊥
 DeleteMeans body (Err BadBody) = deletion_of body ≡ None
 DeleteMeans body (Err (BadSelector error)) =
     (form : List ℕ × ℤ × ℤ) × (deletion_of body ≡ Some form)
-    × (error ≢ selector.Memory) × RefusedBy form.0 error
+    × IsTextRefusal form.0 error
 DeleteMeans body (Err _) = ⊥

@@ -6,12 +6,12 @@ use Rattle.form_urlencoded.specs.Form.{raw_pairs, decode}
 use Rattle.requests.specs.Times.{time_of}
 
 -- the text that a name or a value of a form stands for
-abbrev pub text_of : List ℕ → List ℕ
-text_of bytes = utf8_lossy (decode bytes)
+abbrev pub decoded_text : List ℕ → List ℕ
+decoded_text bytes = utf8_lossy (decode bytes)
 
 -- the names and the values of a form
 abbrev pub query_pairs : List ℕ → List (List ℕ × List ℕ)
-query_pairs query = map (λ pair. (text_of pair.0, text_of pair.1)) (raw_pairs query)
+query_pairs query = map (λ pair. (decoded_text pair.0, decoded_text pair.1)) (raw_pairs query)
 
 -- the values under a name
 abbrev pub values_named : List ℕ → List (List ℕ × List ℕ) → List (List ℕ)

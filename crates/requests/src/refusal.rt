@@ -95,9 +95,9 @@ impl Refusal {
 
 impl fmt::Display for Refusal {
     ghost use Rattle.std.specs.Prelude.{Some};
-    ghost use Rattle.requests.specs.Refusals.{text_of};
+    ghost use Rattle.requests.specs.Refusals.{refusal_line};
 
-    ghost output = { λ refusal. Some (text_of refusal) };
+    ghost output = { λ refusal. Some (refusal_line refusal) };
 
     fn fmt<W: fmt::Write>(&self, f: &mut fmt::Formatter<W>) -> fmt::Result {
         match self {

@@ -4,7 +4,8 @@ ghost use Rattle.std.specs.Prelude.{◌≡◌, ◌≤◌, ◌+◌, ◌++◌, IfO
 ghost use Rattle.serde_json.specs.View.{view};
 ghost use Rattle.serde_json.specs.Written.{compact_text};
 ghost use Rattle.requests.specs.Refusals.{told_cause, code_of, status_of, cause_of};
-ghost use Rattle.requests.specs.Replies.{refusal_data, cause_data, done_data, head_text, reply_text, refusal_body, refusal_text, done_text};
+ghost use Rattle.requests.specs.Replies.{refusal_data, cause_data, done_data, head_text, reply_text};
+ghost use Rattle.requests.specs.Replies.{refusal_body, refusal_text, done_text};
 
 use crate::{Cause, Refusal, Status};
 use itoa::write_digits;
@@ -15,7 +16,8 @@ fn head(alloc: Global, number: u16, reason: &str, len: usize) -> Result<String, 
     ensures { IfOk result (λ text. string_bytes text ≡ head_text number reason.now len) }
 {
     format!(in alloc;
-        "HTTP/1.1 {number} {reason}\r\nContent-Type: application/json\r\nContent-Length: {len}\r\nConnection: close\r\n\r\n"
+        "HTTP/1.1 {number} {reason}\r\nContent-Type: application/json\r\n\
+         Content-Length: {len}\r\nConnection: close\r\n\r\n"
     )
 }
 

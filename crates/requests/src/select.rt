@@ -3,8 +3,9 @@
 ghost use Rattle.std.specs.Prelude.{◌≡◌, string_bytes, true, option_map, IfSome, IfOk, IfErr};
 ghost use Rattle.labels.specs.Pairs.{pairs_of};
 ghost use Rattle.matchers.specs.Queries.{is_query_range};
+ghost use Rattle.matchers.specs.Selectors.{IsAccepted};
 ghost use Rattle.requests.specs.QueryStrings.{query_pairs, values_named, only, asked_in};
-ghost use Rattle.requests.specs.Selecting.{AreMatchersOf, IsSelectorError, SelectMeans};
+ghost use Rattle.requests.specs.Selecting.{IsSelectorError, SelectMeans};
 ghost use Rattle.requests.specs.Requests.{Told};
 
 use crate::times::time_of;
@@ -56,7 +57,7 @@ fn asked_in<'p>(pairs: &'p [(String, String)]) -> Option<(&'p str, i64, i64)>
 
 /// The matchers of a selector's text; `H6` where it is refused.
 pub fn matchers_of(alloc: Global, text: &str) -> Result<Vec<Matcher>, ReadError>
-    ensures ok { IfOk result (λ v. AreMatchersOf text.now v.items) }
+    ensures ok { IfOk result (λ v. IsAccepted text.now v.items) }
     ensures err { IfErr result (λ e. IsSelectorError text.now e) }
 {
     match Selector::parse(alloc, text) {
