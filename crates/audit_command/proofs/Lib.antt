@@ -1,4 +1,5 @@
 pub mod CommandLines
 pub mod FirstUnread
+pub mod WholeFiles
 pub mod Directories
 pub mod Endings

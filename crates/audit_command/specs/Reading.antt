@@ -3,6 +3,7 @@ use Rattle.std.specs.Prelude.{◌≡◌, ℕ, List, [], ◌∷◌, ◌++◌, map
 use Rattle.std.specs.Prelude.{string_bytes}
 use Rattle.std.specs.Borrow.{Bor}
 use Rattle.std.specs.List.{AllByRecursion}
+use Rattle.auditor.specs.BlockFiles.Checks.{Files}
 use Rattle.audit_command.specs.declared.fault.Fault.{Fault}
 use Rattle.audit_command.specs.declared.fault.Fault.TheVariants.{Words, Refused, CannotReadInput}
 use Rattle.audit_command.specs.declared.fault.Fault.TheVariants.{BadReply, CannotRead}
@@ -55,6 +56,12 @@ pub record AreRead (reads : Host) (directory : List ℕ) (files : BlockFiles) : 
   pub index : IsRead reads directory Index files.index.items
   pub chunks : IsRead reads directory Chunks files.chunks.items
   pub tombstones : IsRead reads directory Tombstones files.tombstones.items
+
+-- the three files of a directory, each of them whole
+pub record AreFilesAt (reads : Host) (directory : List ℕ) (files : Files) : Type 0 where
+  pub index : reads (path_of directory Index) (Some files.index)
+  pub chunks : reads (path_of directory Chunks) (Some files.chunks)
+  pub tombstones : reads (path_of directory Tombstones) (Some files.tombstones)
 
 -- a file of a directory can be read
 pub record IsFound (reads : Host) (directory : List ℕ) (name : FileName) : Type 0 where

@@ -8,11 +8,10 @@ use Rattle.auditor.specs.declared.walk.error.WalkError.TheVariants.{Memory}
 use Rattle.auditor.specs.WalkCodes.{code_of}
 use Rattle.auditor.specs.BlockFiles.Checks.{Files, IsWalkError}
 use Rattle.auditor.specs.BlockFiles.Spelled.{IsWalked}
-use Rattle.audit_command.specs.Reading.{Host, IsRead, IsReadingFault}
+use Rattle.audit_command.specs.Reading.{Host, AreFilesAt, IsReadingFault}
 use Rattle.audit_command.specs.declared.fault.Fault.{Fault}
 use Rattle.audit_command.specs.declared.fault.Fault.TheVariants as fault
 use Rattle.audit_command.specs.declared.files.BlockFiles.{BlockFiles}
-use Rattle.audit_command.specs.declared.files.FileName.TheVariants.{Index, Chunks, Tombstones}
 
 -- the files fail a check of the walk, the first that fails, and this is its code
 pub record IsRefusedAs (files : Files) (code : List ℕ) : Type 0 where
@@ -35,12 +34,10 @@ abbrev pub IsTableOf : Files → BlockTable → Type 0
 IsTableOf files (Walked part) = IsWalked files.index files.chunks files.tombstones part
 IsTableOf files (Refused code) = IsRefusedAs files code.now
 
--- what is known of the block in a directory, from the bytes that were read of its files
+-- what is known of the block in a directory, by its files, each of them whole
 pub record IsTableAt (reads : Host) (directory : List ℕ) (table : BlockTable) : Type 0 where
   pub files : Files
-  pub index : IsRead reads directory Index files.index
-  pub chunks : IsRead reads directory Chunks files.chunks
-  pub tombstones : IsRead reads directory Tombstones files.tombstones
+  pub found : AreFilesAt reads directory files
   pub known : IsTableOf files table
 
 -- what is known of the blocks in directories, in their order

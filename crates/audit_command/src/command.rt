@@ -89,7 +89,7 @@ fn auditor<'a>(alloc: Global) -> Result<Command<'a>, AllocError>
 {
     Command::new(alloc, "auditor")
         .bin_name("auditor")?
-        .about("Audits a reply to a selector over blocks, and trusts nothing of the store")
+        .about("Audits a reply to a selector, without the store's index reader, search or merge")
         .after_help(LINES)
         .version("0.1.0")
         .no_binary_name(true)

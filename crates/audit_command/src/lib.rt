@@ -1,5 +1,5 @@
 //! What the program `auditor` does: it reads a reply and the files of blocks, and says whether the
-//! reply is right. It trusts nothing of the store that sent it.
+//! reply is right. It shares no index reader, search or merge with the store that sent it.
 //!
 //! [`run`] does what the words after the program's name ask for, over files, a reader and two
 //! writers: `--selector S [--from N] [--to N] [DIR]...` has it write a line for each part of the

@@ -39,7 +39,8 @@ fn table_at<F: ReadFiles>(alloc: Global, files: &F, directory: &str) -> Result<B
 /// What is known of the blocks in these directories, in their order, up to the first that cannot be
 /// read.
 ///
-/// A block whose files are refused is none that cannot be read: its refusal is kept.
+/// A block whose files are refused is none that cannot be read: its refusal is kept. What is known
+/// is of the whole files, though of one that is too long only the bytes that show it are read.
 pub fn tables_at<F: ReadFiles>(
     alloc: Global,
     files: &F,

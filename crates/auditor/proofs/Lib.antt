@@ -15,3 +15,4 @@ pub mod Replying
 pub mod Labelled
 pub mod Lines
 pub mod Naming
+pub mod LongFiles

@@ -1,5 +1,6 @@
 //! The program `auditor`: it reads a reply from standard input and the files of blocks from disk,
-//! and says whether the reply is right. It trusts nothing of the store that sent it.
+//! and says whether the reply is right. It shares no index reader, search or merge with the store
+//! that sent it.
 //!
 //! It passes its words, the host's files and input and its two outputs to `audit_command::run`,
 //! whose contract says what is written and with which status it ends.
