@@ -102,7 +102,7 @@ indexed_of file = do
   Ok (indexed r)
 
 -- what the checks leave
-pub record IsRead (r : Read) : Type 0 where
+pub record IsSoundRead (r : Read) : Type 0 where
   pub listing : IsListing r.parts.symbols r.keys (series_in_file r) (map references_in r.lists)
   pub labelled : (k : ℕ) (d : Body) → k < length r.bodies
       → IsLabelSet (named r.parts.symbols (get_or r.bodies k d).labels)

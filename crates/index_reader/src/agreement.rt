@@ -21,7 +21,7 @@ use byteorder::{BigEndian, ByteOrder};
 use std::alloc::{AllocError, Global};
 
 #[tactic(auto, using(crate::proofs::Firsts::of_firsts))]
-fn first_of(bytes: &[u8]) -> Option<(u32, &[u8])>
+fn first_reference(bytes: &[u8]) -> Option<(u32, &[u8])>
     ensures { MatchOption result (references_in bytes.now ≡ [])
         (λ x. references_in bytes.now ≡ x.0 ∷ references_in x.1.now) }
 {
@@ -36,7 +36,7 @@ fn first_of(bytes: &[u8]) -> Option<(u32, &[u8])>
 fn is_empty(bytes: &[u8]) -> bool
     ensures { result ≡ (length (references_in bytes.now) == 0) }
 {
-    first_of(bytes).is_none()
+    first_reference(bytes).is_none()
 }
 
 // Takes the reference from the front of the list at a place, where it stands there.
@@ -51,7 +51,7 @@ fn take_reference<'a>(
     ensures counted { length lists.new.items ≡ length lists.old.items }
 {
     let list = lists[place];
-    let Some((first, after)) = first_of(list) else {
+    let Some((first, after)) = first_reference(list) else {
         return Err(IndexError::PostingsDisagree);
     };
     if first != reference {

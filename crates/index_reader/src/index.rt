@@ -39,12 +39,12 @@ impl Model for Index {
     ghost Value = { Indexed };
 
     ghost use Rattle.index_reader.specs.Seen.{strings_of};
-    ghost use Rattle.index_reader.specs.KeptIndex.{indexed_in, IsKept};
+    ghost use Rattle.index_reader.specs.KeptIndex.{indexed_in, IsKeptIndex};
 
     ghost view = { λ x. indexed_in (strings_of x.symbols.texts.items)
         x.keys.pairs.items x.labels.items x.chunks.items x.series.items };
 
-    ghost invariant = { λ x. IsKept (strings_of x.symbols.texts.items)
+    ghost invariant = { λ x. IsKeptIndex (strings_of x.symbols.texts.items)
         x.keys.pairs.items x.labels.items x.chunks.items x.series.items x.lists };
 }
 

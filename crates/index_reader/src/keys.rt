@@ -82,7 +82,7 @@ fn is_before(a: (u32, u32), b: (u32, u32)) -> bool
 }
 
 /// Whether each pair is below the next.
-pub fn are_rising(keys: &[(u32, u32)]) -> bool
+pub fn is_rising(keys: &[(u32, u32)]) -> bool
     ensures { result ≡ rises key_before keys.now }
 {
     let mut at = 1;

@@ -21,7 +21,7 @@ pub struct Symbols {
     ghost order: { ascending (strings_of texts.items) ≡ true },
 }
 
-fn text_of(bytes: &[u8]) -> Option<&str>
+fn utf8_text(bytes: &[u8]) -> Option<&str>
     ensures { MatchOption result (is_utf8 bytes.now ≡ false)
         (λ s. (is_utf8 bytes.now ≡ true) × (s.now ≡ bytes.now)) }
 {
@@ -34,7 +34,7 @@ fn read_symbol<'a>(cut: &mut Cut<'a>) -> Result<&'a str, IndexError>
 {
     let len = cut.uvarint().or(Err(IndexError::Symbols))?;
     let text = cut.bytes(len as usize).or(Err(IndexError::Symbols))?;
-    text_of(text).ok_or(IndexError::Symbols)
+    utf8_text(text).ok_or(IndexError::Symbols)
 }
 
 fn symbols_from<'a>(
@@ -57,7 +57,7 @@ fn is_less(a: &[u8], b: &[u8]) -> bool
     matches!(a.cmp(b), Ordering::Less)
 }
 
-fn is_ascending(symbols: &[&str]) -> bool
+fn is_rising(symbols: &[&str]) -> bool
     ensures { result ≡ ascending (bytes_of symbols.now) }
 {
     let mut at = 1;
@@ -80,7 +80,7 @@ pub fn symbols_of(alloc: Global, content: &[u8]) -> Result<Vec<&str>, IndexError
     let mut cut = Cut::new(content);
     let count = cut.be32().or(Err(IndexError::Symbols))?;
     let symbols = symbols_from(alloc, count, &mut cut)?;
-    let whole = cut.is_empty() & is_ascending(&symbols);
+    let whole = cut.is_empty() & is_rising(&symbols);
     if !whole {
         return Err(IndexError::Symbols);
     }

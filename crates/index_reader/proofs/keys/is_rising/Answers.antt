@@ -1,7 +1,7 @@
 use Rattle.std.proofs.Common.{◌≡◌, ◌+◌, ◌-◌, sym, arith}
 use Rattle.index_reader.specs.Lookups.{key_before}
 use Rattle.index_reader.proofs.Rising.{next, at_end}
-use Rattle.index_reader.proofs.keys.are_rising.Goals as goal
+use Rattle.index_reader.proofs.keys.is_rising.Goals as goal
 
 pub returns-then-not-is_before : goal.returns-then-not-is_before
 returns-then-not-is_before c =

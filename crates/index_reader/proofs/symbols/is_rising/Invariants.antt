@@ -1,7 +1,7 @@
 use Rattle.std.proofs.Common.{◌≡◌, ◌<◌, ◌-◌, drop, length}
 use Rattle.index_reader.specs.Layout.{ascending}
 use Rattle.index_reader.specs.Seen.{bytes_of}
-use Rattle.index_reader.proofs.symbols.is_ascending.Given as goal
+use Rattle.index_reader.proofs.symbols.is_rising.Given as goal
 
 abbrev pub invariant-loop-at : goal.invariant-loop-at
 invariant-loop-at l =

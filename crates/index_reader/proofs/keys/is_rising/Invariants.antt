@@ -1,7 +1,7 @@
 use Rattle.std.proofs.Common.{◌≡◌, ◌<◌, ◌-◌, drop, length}
 use Rattle.index_reader.specs.Layout.{rises}
 use Rattle.index_reader.specs.Lookups.{key_before}
-use Rattle.index_reader.proofs.keys.are_rising.Given as goal
+use Rattle.index_reader.proofs.keys.is_rising.Given as goal
 
 abbrev pub invariant-loop-at : goal.invariant-loop-at
 invariant-loop-at l =

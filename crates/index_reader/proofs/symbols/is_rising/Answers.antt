@@ -5,7 +5,7 @@ use Rattle.std.proofs.Math.ListN.{get_or-map}
 use Rattle.index_reader.specs.Seen.{bytes_of}
 use Rattle.index_reader.specs.Layout.{ascending, is_less}
 use Rattle.index_reader.proofs.WalkLoops.{ascending_step, ascending_end}
-use Rattle.index_reader.proofs.symbols.is_ascending.Goals as goal
+use Rattle.index_reader.proofs.symbols.is_rising.Goals as goal
 
 text_at : (symbols : List (Bor (List ℕ))) (i : ℕ) → (get_or symbols i (record {
   ref_ptr = (0, 0);
