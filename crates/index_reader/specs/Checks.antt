@@ -64,7 +64,7 @@ postings_of file t = do
 abbrev pub is_small : List Label → Bool
 is_small labels = nat_le (length labels) 64
 
--- what an index holds: its parts, the bodies of its entries, the pairs behind the empty one, and
+-- what an index holds: its parts, the bodies of its entries, the pairs after the empty one, and
 -- the bytes of all lists
 pub record Read : Type 0 where
   pub parts : Layout

@@ -15,7 +15,7 @@ pub record Series : Type 0 where
   pub labels : Labels
   pub chunks : List Chunk
 
--- an index: its series in file order, and the pairs that it lists behind the empty one
+-- an index: its series in file order, and the pairs that it lists after the empty one
 pub record Indexed : Type 0 where
   pub series : List Series
   pub pairs : List (List ℕ × List ℕ)

@@ -52,7 +52,7 @@ abbrev pub references_of_label : List (List ℕ) → Label → List indexes.Seri
 references_of_label symbols l series =
     references_with (get_or symbols l.0 []) (get_or symbols l.1 []) series
 
--- symbols and pairs of them ascend; the first list is that of all series, and behind it stands for
+-- symbols and pairs of them ascend; the first list is that of all series, and after it stands for
 -- each pair the list of the series that carry it, of which there are some; other pairs no series
 -- carries
 pub record IsListing (symbols : List (List ℕ)) (keys : List Label) (series : List indexes.Series)

@@ -46,7 +46,7 @@ layout_seen o = record {
   entries = entries_seen o.entries.items;
 }
 
--- a chunk that was read, and the bytes behind it
+-- a chunk that was read, and the bytes after it
 abbrev pub chunk_seen : Option (Chunk × Bor (List ℕ)) → Option (Chunk × List ℕ)
 chunk_seen (Some x) = Some (x.0, x.1.now)
 chunk_seen None = None

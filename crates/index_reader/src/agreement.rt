@@ -169,7 +169,7 @@ fn have_bytes(lists: &[&[u8]]) -> bool
     lists.iter().all(|list| list.len() > 0)
 }
 
-// Whether no list behind the first is empty.
+// Whether no list after the first is empty.
 #[tactic(auto, using(crate::proofs::Placing::used_behind))]
 fn are_used(lists: &[&[u8]]) -> bool
     ensures { result ≡ are_used (bytes_of lists.now) }
@@ -208,7 +208,7 @@ fn use_up_lists(
     Ok(keys)
 }
 
-/// The pairs of the table behind the empty one, where its lists are exactly the references of the
+/// The pairs of the table after the empty one, where its lists are exactly the references of the
 /// series that carry them. It looks at each label of each series once, and keeps no list of them.
 pub fn check_agreement(
     alloc: Global,

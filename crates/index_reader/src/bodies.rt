@@ -19,7 +19,7 @@ use labels::SeriesRef;
 use std::alloc::Global;
 use std::cmp::Ordering;
 
-/// The labels and the chunks of all bodies, one body behind the other, and the series of each.
+/// The labels and the chunks of all bodies, one body after the other, and the series of each.
 #[derive(Drop)]
 pub struct Bodies {
     pub labels: Vec<(u32, u32)>,

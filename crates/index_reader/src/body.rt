@@ -65,7 +65,7 @@ fn more_labels<'a>(
     Ok((low, rest))
 }
 
-/// Adds the labels of a body, and gives what stands behind them.
+/// Adds the labels of a body, and gives what stands after them.
 #[tactic(auto, unfolding(crate::specs::BodyChecks::labels_at))]
 pub fn labels_into<'a>(
     symbols: &[&str],
@@ -114,7 +114,7 @@ fn more_chunks<'a>(
     Ok((before, rest))
 }
 
-/// Adds the chunks of a body, and gives what stands behind them.
+/// Adds the chunks of a body, and gives what stands after them.
 #[tactic(auto, using(crate::proofs::Stepping::behind_front), unfolding(crate::specs::BodyChecks::chunks_at))]
 pub fn chunks_into<'a>(
     bytes: &'a [u8],

@@ -16,7 +16,7 @@ struct ListSpan {
     end: usize,
 }
 
-/// Lists of ascending references, one behind the other in one buffer.
+/// Lists of ascending references, one after the other in one buffer.
 #[derive(Debug, Drop)]
 pub struct Lists {
     bytes: Vec<u8>,

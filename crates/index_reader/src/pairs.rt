@@ -43,7 +43,7 @@ fn keys_of_entries(
     ensures counted { IfOk result (λ v. length v.items ≡ length table.now) }
 {
     let mut keys = Vec::with_capacity(alloc, table.len())?;
-    // Entries ascend, so the next often has the name of the last and the symbol behind its value.
+    // Entries ascend, so the next often has the name of the last and the symbol after its value.
     let mut guess = (0usize, 0usize);
     for at in 0..table.len() {
         let listed = table_entry_at(table, at);
@@ -54,7 +54,7 @@ fn keys_of_entries(
     Ok(keys)
 }
 
-/// The pairs of the table behind the empty one.
+/// The pairs of the table after the empty one.
 #[tactic(auto, unfolding(crate::specs::AgreementChecks::keys_at))]
 pub fn keys_of(
     alloc: Global,
