@@ -20,6 +20,10 @@ use Rattle.index_reader.proofs.Searching.{keys_total, strict_from_rises}
 use Rattle.index_reader.proofs.Placing.{mapped_at}
 use Rattle.index_reader.proofs.Texts.{got, stands_at, bytes_other, found_is, place_found, place_is}
 
+pub if_none : {A : Type 0} (r : Option A) {X : Type 0} → X → IfNone r X
+if_none (Some a) x = tt
+if_none None x = x
+
 true_or_false : (b : Bool) → b ≡ true → b ≡ false → ⊥
 true_or_false b t f = let e : true ≡ false = sym t ∙ f in absurd cc
 

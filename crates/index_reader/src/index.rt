@@ -157,9 +157,7 @@ impl Index {
         ensures some { IfSome result
             (λ e. references_with name.now value.now self.now.series ≡ [] → ⊥) }
     {
-        let Some(at) = place_of_pair(&self.symbols, &self.keys, name, value) else {
-            return None;
-        };
+        let at = place_of_pair(&self.symbols, &self.keys, name, value)?;
         Some(self.lists.entries_at(at + 1))
     }
 

@@ -24,12 +24,9 @@ fn key_of(
     ensures { Gives (λ k. k) result
         (key_at (symbol_texts symbols.now) (table_entry_seen listed.now)) }
 {
-    let Some(name) = find_symbol_near(symbols, guess.0, listed.name) else {
-        return Err(IndexError::PostingsDisagree);
-    };
-    let Some(value) = find_symbol_near(symbols, guess.1, listed.value) else {
-        return Err(IndexError::PostingsDisagree);
-    };
+    let fault = IndexError::PostingsDisagree;
+    let name = find_symbol_near(symbols, guess.0, listed.name).ok_or(fault)?;
+    let value = find_symbol_near(symbols, guess.1, listed.value).ok_or(fault)?;
     Ok((name as u32, value as u32))
 }
 
@@ -89,12 +86,8 @@ pub fn place_of_pair(symbols: &Symbols, keys: &Keys, name: &str, value: &str) ->
         → named_label (symbol_texts symbols.now) (get_or keys.now.pairs.items k (0, 0))
         ≡ (name.now, value.now) → ⊥) }
 {
-    let Some(first) = find_symbol(symbols, name.as_bytes()) else {
-        return None;
-    };
-    let Some(second) = find_symbol(symbols, value.as_bytes()) else {
-        return None;
-    };
+    let first = find_symbol(symbols, name.as_bytes())?;
+    let second = find_symbol(symbols, value.as_bytes())?;
     place_of(keys, (first as u32, second as u32))
 }
 

@@ -60,16 +60,7 @@ fn is_less(a: &[u8], b: &[u8]) -> bool
 fn is_rising(symbols: &[&str]) -> bool
     ensures { result ≡ ascending (bytes_of symbols.now) }
 {
-    let mut at = 1;
-    while at < symbols.len() {
-        let before = symbols[at - 1];
-        let next = symbols[at];
-        if !is_less(before.as_bytes(), next.as_bytes()) {
-            return false;
-        }
-        at += 1;
-    }
-    true
+    symbols.is_sorted_by(|a, b| is_less(a.as_bytes(), b.as_bytes()))
 }
 
 /// The symbols of the content of a symbol table.
