@@ -1,8 +1,7 @@
 -- What was read, without where it lies in memory.
 use Rattle.std.specs.Borrow.{Bor}
-use Rattle.std.specs.Prelude.{ℕ, List, map, Option, Some, None, string_bytes}
+use Rattle.std.specs.Prelude.{ℕ, List, map, string_bytes}
 use Rattle.std.specs.declared.string.String.{String}
-use Rattle.index_reader.specs.declared.chunk.Chunk.{Chunk}
 use Rattle.index_reader.specs.References.{references_in}
 use Rattle.index_reader.specs.declared.layout.Layout.{Layout}
 use Rattle.index_reader.specs.declared.series_entries.SeriesEntry.{SeriesEntry}
@@ -45,8 +44,3 @@ layout_seen o = record {
   symbols_end = o.symbols_end;
   entries = entries_seen o.entries.items;
 }
-
--- a chunk that was read, and the bytes after it
-abbrev pub chunk_seen : Option (Chunk × Bor (List ℕ)) → Option (Chunk × List ℕ)
-chunk_seen (Some x) = Some (x.0, x.1.now)
-chunk_seen None = None

@@ -8,5 +8,5 @@ abbrev pub invariant-loop : goal.invariant-loop
 invariant-loop l =
     with_front l.labels.items (steps (label_at (bytes_of l.symbols)) (l.count - l.counter) (
       l.low,
-      l.rest,
-    )) ≡ with_front l.fn.labels.items (steps (label_at (bytes_of l.symbols)) l.count (0, l.bytes))
+      l.cut,
+    )) ≡ with_front l.fn.labels.items (steps (label_at (bytes_of l.symbols)) l.count (0, l.fn.cut))
