@@ -172,7 +172,7 @@ rows_inside file c h i = λ k d lt.
     let r = get_or rs k d in
     subst (λ (symbols : List (List ℕ)). AreInTable symbols
     (slice_range ls r.labels_start r.labels_end)) (sym h.symbols)
-    (subst (λ (b : Body). AreInTable (bytes_of c.layout.symbols.items) b.labels) e o)
+    (subst (λ (b : Body). AreInTable (bytes_of c.layout.symbols.texts.items) b.labels) e o)
 
 rows_labelled : (file : List ℕ) (c : Checked) → IsHeldIn file c → IsSoundRead (read_seen c)
     → All (λ (r : Series). IsLabelSet (named (strings_of c.symbols.texts.items)
@@ -187,7 +187,7 @@ rows_labelled file c h i = λ k d lt.
     let r = get_or rs k d in
     subst (λ (symbols : List (List ℕ)).
     IsLabelSet (named symbols (slice_range ls r.labels_start r.labels_end))) (sym h.symbols)
-    (subst (λ (b : Body). IsLabelSet (named (bytes_of c.layout.symbols.items) b.labels)) e o)
+    (subst (λ (b : Body). IsLabelSet (named (bytes_of c.layout.symbols.texts.items) b.labels)) e o)
 
 rows_within : (file : List ℕ) (c : Checked) → IsHeldIn file c → IsSoundRead (read_seen c)
     → AreSeriesIn (strings_of c.symbols.texts.items) c.bodies.labels.items c.bodies.chunks.items
@@ -231,17 +231,17 @@ whole_is file c labels chunks ss h f e g =
     let bs = bodies_in c.bodies.labels.items c.bodies.chunks.items c.bodies.series.items in
     let ps = entries_seen c.layout.entries.items in
     let symbols = strings_of c.symbols.texts.items in
-    let a : series_of (bytes_of c.layout.symbols.items) ps bs ≡ all_in symbols labels chunks ss =
+    let a : series_of (bytes_of c.layout.symbols.texts.items) ps bs ≡ all_in symbols labels chunks ss =
     ap (λ (y : List (List ℕ)). series_of y ps bs) (sym h.symbols)
     ∙ sym (held_series file c h)
     ∙ ap (all_in symbols c.bodies.labels.items c.bodies.chunks.items) (sym g)
     ∙ ap (λ (ls : List Label). all_in symbols ls c.bodies.chunks.items ss) (sym f)
     ∙ ap (λ (cs : List Chunk). all_in symbols labels cs ss) (sym e) in
-    let b : named (bytes_of c.layout.symbols.items) c.keys.pairs.items
+    let b : named (bytes_of c.layout.symbols.texts.items) c.keys.pairs.items
     ≡ named symbols c.keys.pairs.items =
     ap (λ (y : List (List ℕ)). named y c.keys.pairs.items) (sym h.symbols) in
     ap (λ (x : List indexes.Series). of_both x
-    (named (bytes_of c.layout.symbols.items) c.keys.pairs.items)) a
+    (named (bytes_of c.layout.symbols.texts.items) c.keys.pairs.items)) a
     ∙ ap (of_both (all_in symbols labels chunks ss)) b
 
 pub is_kept : (file : List ℕ) (c : Checked) (labels : List Label) (chunks : List Chunk)

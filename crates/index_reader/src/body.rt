@@ -9,26 +9,32 @@ ghost use Rattle.index_reader.specs.BodyChecks.{is_label, label_at, labels_at, c
 
 use crate::chunk::{Chunk, read_first, read_later};
 use crate::error::IndexError;
+use crate::symbols::SymbolTable;
 use labels::is_name;
 use wire::Cut;
 
 #[tactic(auto, unfolding(crate::specs::BodyChecks::is_label))]
-fn is_label(symbols: &[&str], low: u64, name: u64, value: u64) -> bool
-    ensures exact { result ≡ is_label (bytes_of symbols.now) low name value }
-    ensures within { IsTrue result → (name < length symbols.now) × (value < length symbols.now) }
+fn is_label(symbols: &SymbolTable<'_>, low: u64, name: u64, value: u64) -> bool
+    ensures exact { result ≡ is_label (bytes_of symbols.now.texts.items) low name value }
+    ensures within { IsTrue result → (name < length symbols.now.texts.items)
+        × (value < length symbols.now.texts.items) }
 {
-    let within = (low <= name) & (name < symbols.len() as u64) & (value < symbols.len() as u64);
+    let count = symbols.texts.len() as u64;
+    let within = (low <= name) & (name < count) & (value < count);
     if !within {
         return false;
     }
-    is_name(symbols[name as usize]) & !symbols[value as usize].is_empty()
+    is_name(symbols.texts[name as usize]) & !symbols.texts[value as usize].is_empty()
 }
 
 #[tactic(auto, unfolding(crate::specs::BodyChecks::label_at))]
-fn read_label(symbols: &[&str], low: u64, cut: &mut Cut<'_>) -> Result<(u32, u32), IndexError>
-    requires { length symbols.now < 2 ^ 32 }
+fn read_label(
+    symbols: &SymbolTable<'_>,
+    low: u64,
+    cut: &mut Cut<'_>,
+) -> Result<(u32, u32), IndexError>
     ensures { Gives (λ l. (l, (l.0 + 1, cut.new))) result
-        (label_at (bytes_of symbols.now) (low, cut.old)) }
+        (label_at (bytes_of symbols.now.texts.items) (low, cut.old)) }
 {
     let name = cut.uvarint().or(Err(IndexError::Series))?;
     let value = cut.uvarint().or(Err(IndexError::Series))?;
@@ -39,15 +45,14 @@ fn read_label(symbols: &[&str], low: u64, cut: &mut Cut<'_>) -> Result<(u32, u32
 }
 
 fn more_labels(
-    symbols: &[&str],
+    symbols: &SymbolTable<'_>,
     count: u64,
     cut: &mut Cut<'_>,
     labels: &mut Vec<(u32, u32)>,
 ) -> Result<u64, IndexError>
-    requires { length symbols.now < 2 ^ 32 }
     ensures { Gives (λ low. (labels.new.items, (low, cut.new))) result
         (with_front labels.old.items
-        (steps (label_at (bytes_of symbols.now)) count (0, cut.old))) }
+        (steps (label_at (bytes_of symbols.now.texts.items)) count (0, cut.old))) }
 {
     let mut low = 0;
     for _ in 0..count {
@@ -61,13 +66,12 @@ fn more_labels(
 /// Adds the labels of a body, and gives the symbol from which a further name would begin.
 #[tactic(auto, unfolding(crate::specs::BodyChecks::labels_at))]
 pub fn labels_into(
-    symbols: &[&str],
+    symbols: &SymbolTable<'_>,
     cut: &mut Cut<'_>,
     labels: &mut Vec<(u32, u32)>,
 ) -> Result<u64, IndexError>
-    requires { length symbols.now < 2 ^ 32 }
     ensures { Gives (λ low. (labels.new.items, (low, cut.new))) result
-        (with_front labels.old.items (labels_at (bytes_of symbols.now) cut.old)) }
+        (with_front labels.old.items (labels_at (bytes_of symbols.now.texts.items) cut.old)) }
 {
     let count = cut.uvarint().or(Err(IndexError::Series))?;
     more_labels(symbols, count, cut, labels)
@@ -118,15 +122,14 @@ pub fn chunks_into(cut: &mut Cut<'_>, chunks: &mut Vec<Chunk>) -> Result<Chunk, 
 
 /// Adds the labels and the chunks of a body.
 pub fn body_into(
-    symbols: &[&str],
+    symbols: &SymbolTable<'_>,
     body: &[u8],
     labels: &mut Vec<(u32, u32)>,
     chunks: &mut Vec<Chunk>,
 ) -> Result<(), IndexError>
-    requires { length symbols.now < 2 ^ 32 }
     ensures { Gives (λ _. (labels.new.items, chunks.new.items)) result
         (behind_both labels.old.items chunks.old.items
-        (body_at (bytes_of symbols.now) body.now)) }
+        (body_at (bytes_of symbols.now.texts.items) body.now)) }
 {
     let mut cut = Cut::new(body);
     labels_into(symbols, &mut cut, labels)?;
