@@ -231,7 +231,8 @@ whole_is file c labels chunks ss h f e g =
     let bs = bodies_in c.bodies.labels.items c.bodies.chunks.items c.bodies.series.items in
     let ps = entries_seen c.layout.entries.items in
     let symbols = strings_of c.symbols.texts.items in
-    let a : series_of (bytes_of c.layout.symbols.texts.items) ps bs ≡ all_in symbols labels chunks ss =
+    let a : series_of (bytes_of c.layout.symbols.texts.items) ps bs
+    ≡ all_in symbols labels chunks ss =
     ap (λ (y : List (List ℕ)). series_of y ps bs) (sym h.symbols)
     ∙ sym (held_series file c h)
     ∙ ap (all_in symbols c.bodies.labels.items c.bodies.chunks.items) (sym g)

@@ -67,7 +67,8 @@ sound_found file (Err e) p = tt
 count_of : (n : ℕ) (bytes : List ℕ) (x : List (List ℕ) × List ℕ) → symbols_from n bytes ≡ Ok x
     → length x.0 ≡ n
 unfolding symbols_from
-count_of zero bytes x h = ap (λ (y : List (List ℕ) × List ℕ). length y.0) (sym (ok_is ([], bytes) x h))
+count_of zero bytes x h =
+    ap (λ (y : List (List ℕ) × List ℕ). length y.0) (sym (ok_is ([], bytes) x h))
 count_of (suc n) bytes x h =
     let a = bind_ok (symbol_at bytes) _ x h in
     let b = bind_ok (symbols_from n a.0.1) _ x a.2 in

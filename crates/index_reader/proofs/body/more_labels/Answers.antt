@@ -8,7 +8,8 @@ use Rattle.index_reader.proofs.body.more_labels.Goals as goal
 pub returns-in_err-label : goal.returns-in_err-label
 returns-in_err-label c =
     let p = err_from_is_err_and c.from_residual.result c.from_residual.ensures.1 in
-    rw (p.1, p.2) (ends (label_at (bytes_of c.args.symbols.now.texts.items)) c.in_err-label.field-0.0
+    rw (p.1, p.2)
+    (ends (label_at (bytes_of c.args.symbols.now.texts.items)) c.in_err-label.field-0.0
     c.loop.labels.items c.args.count c.loop.counter (c.loop.low, c.loop.cut) _ c.loop-test.true
     c.in_err-label.ensures c.loop.invariant)
 
@@ -24,5 +25,5 @@ loop-preserved c =
 
 pub returns : goal.returns
 returns c =
-    is_done (label_at (bytes_of c.args.symbols.now.texts.items)) c.loop.labels.items c.args.count c.loop.counter
-    (c.loop.low, c.loop.cut) _ c.loop-test.false c.loop.invariant
+    is_done (label_at (bytes_of c.args.symbols.now.texts.items)) c.loop.labels.items
+    c.args.count c.loop.counter (c.loop.low, c.loop.cut) _ c.loop-test.false c.loop.invariant
