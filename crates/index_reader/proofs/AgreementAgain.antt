@@ -22,7 +22,7 @@ use Rattle.index_reader.specs.Lookups.{symbol_of, key_before, place_of}
 use Rattle.index_reader.specs.AgreementChecks.{key_at, keys_at, list_of_label, lists_of_series, each_all, Carrier, carriers, are_used, agreement_of}
 use Rattle.index_reader.specs.AgreementChecks as agreement
 use Rattle.index_reader.specs.Checks as checks
-use Rattle.index_reader.specs.Indexes.{Series, Indexed, references, references_with, text_of, named, series_at, series_of}
+use Rattle.index_reader.specs.Indexes.{Series, Indexed, references, references_with, named_label, named, series_at, series_of}
 use Rattle.index_reader.proofs.Searching.{strict_from_rises, ascending_is, search_found}
 use Rattle.index_reader.proofs.Orders.{pairs_cmp}
 use Rattle.index_reader.proofs.Naming.{first_below}
@@ -56,7 +56,7 @@ symbol_is symbols i order lt =
 
 label_from : (symbols : List (List ℕ)) (low : ℕ) (ls : List Label) (name value : List ℕ)
     → AreLabels symbols low ls → carries name value (named symbols ls) ≡ true
-    → (l : Label) × IsInside symbols l × (text_of symbols l ≡ (name, value))
+    → (l : Label) × IsInside symbols l × (named_label symbols l ≡ (name, value))
 label_from symbols low [] name value h c =
     absurd (true_not_false (carries name value []) c (carries_none name value))
 label_from symbols low (l ∷ ls) name value h c =
@@ -69,23 +69,23 @@ label_from symbols low (l ∷ ls) name value h c =
     v = get_or symbols l.1 []
 
     go : (carries name value (named symbols ls) ≡ true
-        → (k : Label) × IsInside symbols k × (text_of symbols k ≡ (name, value))) → (b : Bool)
+        → (k : Label) × IsInside symbols k × (named_label symbols k ≡ (name, value))) → (b : Bool)
         → bytes_eq n name ≡ b
-        → (k : Label) × IsInside symbols k × (text_of symbols k ≡ (name, value))
+        → (k : Label) × IsInside symbols k × (named_label symbols k ≡ (name, value))
     go more true q =
         let w : (not (bytes_eq value []) && bytes_eq v value) ≡ true =
         sym (carries_same name value n v (named symbols ls) q) ∙ c in
         let e = bytes_exact n name q in
         let f = bytes_exact v value (both (not (bytes_eq value [])) (bytes_eq v value) w).1 in
         let inside : IsInside symbols l = (h.0.name_in, h.0.value_in) in
-        let is : text_of symbols l ≡ (name, value) = λ i. (e i, f i) in
+        let is : named_label symbols l ≡ (name, value) = λ i. (e i, f i) in
         (l, inside, is)
     go more false q = more (sym (carries_other name value n v (named symbols ls) q) ∙ c)
 
 label_of : (symbols : List (List ℕ)) (ps : List SeriesEntry) (bs : List Body) (name value : List ℕ)
     → ((j : ℕ) (d : Body) → j < length bs → AreLabels symbols 0 (get_or bs j d).labels)
     → (references_with name value (series_of symbols ps bs) ≡ [] → ⊥)
-    → (l : Label) × IsInside symbols l × (text_of symbols l ≡ (name, value))
+    → (l : Label) × IsInside symbols l × (named_label symbols l ≡ (name, value))
 unfolding series_of
 label_of symbols [] bs name value h some = absurd (some refl)
 label_of symbols (p ∷ ps) [] name value h some = absurd (some refl)
@@ -97,9 +97,9 @@ label_of symbols (p ∷ ps) (b ∷ bs) name value h some =
     rest = filter (λ (s : Series). carries name value s.labels) (series_of symbols ps bs)
 
     go : ((references_with name value (series_of symbols ps bs) ≡ [] → ⊥)
-        → (l : Label) × IsInside symbols l × (text_of symbols l ≡ (name, value))) → (c : Bool)
+        → (l : Label) × IsInside symbols l × (named_label symbols l ≡ (name, value))) → (c : Bool)
         → carries name value (named symbols b.labels) ≡ c
-        → (l : Label) × IsInside symbols l × (text_of symbols l ≡ (name, value))
+        → (l : Label) × IsInside symbols l × (named_label symbols l ≡ (name, value))
     go more true q = label_from symbols 0 b.labels name value (h 0 b (omega arith)) q
     go more false q =
         more (λ (e : references_with name value (series_of symbols ps bs) ≡ []).
@@ -112,7 +112,8 @@ HasKeys symbols pairs =
     (keys : List Label) × AllByRecursion (IsInside symbols) keys × (named symbols keys ≡ pairs)
 
 keys_for : (symbols : List (List ℕ)) (pairs : List Pair)
-    → ((p : Pair) → Contains pairs p → (l : Label) × IsInside symbols l × (text_of symbols l ≡ p))
+    → ((p : Pair) → Contains pairs p
+    → (l : Label) × IsInside symbols l × (named_label symbols l ≡ p))
     → HasKeys symbols pairs
 keys_for symbols [] h = ([], tt, refl)
 keys_for symbols (p ∷ pairs) h =
@@ -130,7 +131,7 @@ inside_all symbols (x ∷ keys) h zero d lt = h.0
 inside_all symbols (x ∷ keys) h (suc k) d lt = inside_all symbols keys h.1 k d (omega arith)
 
 less_so : (symbols : List (List ℕ)) (a b : Label) → ascending symbols ≡ true → IsInside symbols a
-    → IsInside symbols b → pair_cmp (text_of symbols a) (text_of symbols b) ≡ Less
+    → IsInside symbols b → pair_cmp (named_label symbols a) (named_label symbols b) ≡ Less
     → key_before a b ≡ true
 less_so symbols a b order i j h = ap is_lt (sym (pairs_cmp symbols a b order i j) ∙ h)
 
@@ -152,7 +153,7 @@ keys_rise symbols (a ∷ b ∷ keys) order inside h =
     rw (one, more) refl
 
 key_again : (symbols : List (List ℕ)) (l : TableEntry) (key : Label) → ascending symbols ≡ true
-    → IsInside symbols key → text_of symbols key ≡ (l.name, l.value) → key_at symbols l ≡ Ok key
+    → IsInside symbols key → named_label symbols key ≡ (l.name, l.value) → key_at symbols l ≡ Ok key
 unfolding key_at
 key_again symbols l key order i e =
     let n : symbol_of symbols l.name ≡ Some key.0 =
@@ -172,7 +173,7 @@ keys_again symbols (l ∷ table) [] order i e =
     absurd (omega (arith, ap (λ (ps : List Pair). length ps) e))
 keys_again symbols (l ∷ table) (key ∷ keys) order i e =
     let none : Pair = ([], []) in
-    let one : text_of symbols key ≡ (l.name, l.value) =
+    let one : named_label symbols key ≡ (l.name, l.value) =
     ap (λ (ps : List Pair). get_or ps 0 none) e in
     let more : named symbols keys ≡ pairs_of table = ap (λ (ps : List Pair). drop 1 ps) e in
     rw (key_again symbols l key order i.0 one, keys_again symbols table keys order i.1 more) refl
@@ -312,7 +313,7 @@ keys_of symbols ps bs x order s h c =
       arith,
       lt,
       ap (λ (ps' : List Pair). length ps') found.2,
-      length-map found.0 (text_of symbols),
+      length-map found.0 (named_label symbols),
     ))) in (
       found.0,
       record {
@@ -334,7 +335,7 @@ label_placed symbols ps bs x keys order s n h c a j d k lj lk =
     let l = get_or ls k (0, 0) in
     let labelled = h j d lj in
     let o = first_below symbols 0 ls k (0, 0) labelled lk in
-    let p : Pair = text_of symbols l in
+    let p : Pair = named_label symbols l in
     let carried = own_label symbols 0 ls k order labelled lk in
     let some =
     λ (e : references_with p.0 p.1 x.series ≡ []). some_with symbols ps bs p.0 p.1 j d n lj carried
@@ -387,7 +388,7 @@ listed_again symbols ps bs x keys raws order s h a lists placed e k lt =
     at_place (suc j) l =
         let q : j + 1 ≡ suc j = omega arith in
         let n = length-map x.pairs (λ (p : Pair). references_with p.0 p.1 x.series) in
-        let m = length-map keys (text_of symbols) in
+        let m = length-map keys (named_label symbols) in
         let w = ap (λ (ps' : List Pair). length ps') a.are in
         at_pair j (omega (arith, l, n, m, w)) ∙ ap (λ (i : ℕ). references_carrying i placed) q
 
@@ -455,7 +456,7 @@ agreement_again symbols ps bs x table raws order s n h c t lists =
       arith,
       ap (λ (ls : List (List ℕ)). length ls) lists,
       length-map x.pairs (λ (p : Pair). references_with p.0 p.1 x.series),
-      length-map keys (text_of symbols),
+      length-map keys (named_label symbols),
       ap (λ (ps' : List Pair). length ps') a.are,
     ) in
     let fits =

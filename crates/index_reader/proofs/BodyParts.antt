@@ -1,5 +1,7 @@
 -- A body: its labels, and then its chunks.
-use Rattle.std.proofs.Common.{◌≡◌, ℕ, true, false, eqb, List, ◌++◌, length, Result, Ok, Err, refl, sym, ap, ◌∙◌}
+use Rattle.std.proofs.Common.{◌≡◌, ℕ, Bool, true, false, eqb, List, [], ◌∷◌, ◌++◌, length, Result, Ok, Err, refl, sym, ap, ◌∙◌, arith}
+use Rattle.std.specs.Prelude.{◌↔◌, IsTrue}
+use Rattle.std.proofs.lemmas.Bool.{eqb-true, false_from_ne_true}
 use Rattle.index_reader.specs.declared.error.IndexError.{IndexError}
 use Rattle.index_reader.specs.declared.error.IndexError.TheVariants.{Memory, Series}
 use Rattle.index_reader.specs.Outcome.{Fails}
@@ -11,6 +13,13 @@ use Rattle.index_reader.proofs.Stepping.{front_ok, front_fails}
 
 abbrev both : List Label → List Chunk → Result (List Label × List Chunk) IndexError
 both xs ys = Ok (xs, ys)
+
+pub empty_is : (xs : List ℕ) (b : Bool) → IsTrue b ↔ (xs ≡ []) → eqb (length xs) 0 ≡ b
+empty_is [] b h = sym (h.1 refl)
+empty_is (x ∷ xs) true h = let e : x ∷ xs ≡ [] = h.0 refl in absurd cc
+empty_is (x ∷ xs) false h =
+    false_from_ne_true (eqb (length (x ∷ xs)) 0)
+    (λ t. let e = eqb-true (length (x ∷ xs)) 0 t in omega arith)
 
 pub labels_fail : (e : IndexError) (ls : List Label) (cs : List Chunk) (symbols : List (List ℕ))
     (b : List ℕ) → Fails e (with_front ls (labels_at symbols b))

@@ -20,7 +20,7 @@ use Rattle.index_reader.specs.declared.layout.TableOfContents.{TableOfContents}
 use Rattle.index_reader.specs.declared.error.IndexError.{IndexError}
 use Rattle.index_reader.specs.declared.error.IndexError.TheVariants.{Series, SeriesOrder, Limit, PostingsDisagree}
 use Rattle.index_reader.specs.Layout.{SeriesEntry, Layout, ascending, rounded, series_end, Label, Body, TableEntry, rises, postings_end}
-use Rattle.index_reader.specs.Checks.{layout_of, labels_of_each, bodies_of, postings_of, is_small, Read, read_of, IsRead}
+use Rattle.index_reader.specs.Checks.{layout_of, labels_of_each, bodies_of, postings_of, is_small, Read, read_of, IsSoundRead}
 use Rattle.index_reader.specs.Grammar.{entry, IsWalk, IsLayout}
 use Rattle.index_reader.specs.TableChecks.{table_content_at, table_at}
 use Rattle.index_reader.specs.PostingsChecks.{lists_at, section_at, references_at}
@@ -32,7 +32,7 @@ use Rattle.index_reader.specs.CarriedPairs.{Carried, are_used_up}
 use Rattle.index_reader.specs.Lookups.{symbol_of, key_before}
 use Rattle.index_reader.specs.AgreementChecks.{Carrier, or_disagree, key_at, keys_at, lists_of_series, each_all, carriers, are_used, agreement_of}
 use Rattle.index_reader.specs.AgreementChecks as agreement
-use Rattle.index_reader.specs.Indexes.{references, references_with, text_of, named, series_at, series_of, IsConsistent}
+use Rattle.index_reader.specs.Indexes.{references, references_with, named_label, named, series_at, series_of, IsConsistent}
 use Rattle.index_reader.specs.Indexes as indexes
 use Rattle.index_reader.specs.KeptIndex.{IsListing}
 use Rattle.index_reader.proofs.WalkLoops.{guard_ended}
@@ -410,10 +410,10 @@ pairs_rise symbols (a ∷ b ∷ keys) order inside h (suc k) lt =
 
 pub in_named : (symbols : List (List ℕ)) (keys : List Label) (p : List ℕ × List ℕ)
     → Contains (named symbols keys) p
-    → (k : ℕ) × (k < length keys) × (text_of symbols (get_or keys k (0, 0)) ≡ p)
+    → (k : ℕ) × (k < length keys) × (named_label symbols (get_or keys k (0, 0)) ≡ p)
 in_named symbols [] p c = absurd (none_in_nil p c)
 in_named symbols (key ∷ keys) p c =
-    elim (Contains-cases (text_of symbols key) (named symbols keys) p c) [
+    elim (Contains-cases (named_label symbols key) (named symbols keys) p c) [
       | inl e ↦ (0, omega arith, e)
       | inr d ↦ let r = in_named symbols keys p d in (suc r.0, omega (arith, r.1), r.2)
     ]
@@ -436,24 +436,24 @@ same_pair x p = go (bytes_eq x.0 p.0) refl (bytes_eq x.1 p.1) refl
 
 named_or_not : (symbols : List (List ℕ)) (keys : List Label) (p : List ℕ × List ℕ)
     → Contains (named symbols keys) p
-    ⊎ ((k : ℕ) → k < length keys → text_of symbols (get_or keys k (0, 0)) ≡ p → ⊥)
+    ⊎ ((k : ℕ) → k < length keys → named_label symbols (get_or keys k (0, 0)) ≡ p → ⊥)
 named_or_not symbols [] p = inr (λ k lt e. absurd (omega arith))
 named_or_not symbols (key ∷ keys) p =
-    elim (same_pair (text_of symbols key) p) [
+    elim (same_pair (named_label symbols key) p) [
       | inl e ↦
           inl (subst (λ (q : List ℕ × List ℕ). Contains (named symbols (key ∷ keys)) q) e
-          (here (text_of symbols key) (named symbols keys)))
+          (here (named_label symbols key) (named symbols keys)))
       | inr n ↦
           elim (named_or_not symbols keys p) [
-            | inl c ↦ inl (there (text_of symbols key) p (named symbols keys) c)
+            | inl c ↦ inl (there (named_label symbols key) p (named symbols keys) c)
             | inr lacks ↦ inr (none_of symbols key keys p n lacks)
           ]
     ]
   where
     none_of : (symbols : List (List ℕ)) (key : Label) (keys : List Label) (p : List ℕ × List ℕ)
-        → (text_of symbols key ≡ p → ⊥)
-        → ((k : ℕ) → k < length keys → text_of symbols (get_or keys k (0, 0)) ≡ p → ⊥) → (k : ℕ)
-        → k < suc (length keys) → text_of symbols (get_or (key ∷ keys) k (0, 0)) ≡ p → ⊥
+        → (named_label symbols key ≡ p → ⊥)
+        → ((k : ℕ) → k < length keys → named_label symbols (get_or keys k (0, 0)) ≡ p → ⊥) → (k : ℕ)
+        → k < suc (length keys) → named_label symbols (get_or (key ∷ keys) k (0, 0)) ≡ p → ⊥
     none_of symbols key keys p n lacks zero lt e = n e
     none_of symbols key keys p n lacks (suc k) lt e = lacks k (omega arith) e
 
@@ -508,7 +508,8 @@ counted_lists file to table lists h =
     let b = each_length references_at contents.0 lists contents.2 in
     (omega (arith, a, b), sound_lists contents.0 lists contents.2)
 
-pub read_is : (file : List ℕ) (r : Read) → IsLayout file r.parts → read_of file ≡ Ok r → IsRead r
+pub read_is : (file : List ℕ) (r : Read) → IsLayout file r.parts → read_of file ≡ Ok r
+    → IsSoundRead r
 read_is file r p h =
     let c = chain file r h in
     let symbols = r.parts.symbols in
@@ -557,7 +558,7 @@ read_is file r p h =
             (omega (arith, lt, count, length-map r.bodies (λ (b : Body). b.labels))));
         pairs_in_order =
             λ k lt. pairs_rise symbols r.keys order l.inside l.rising k
-            (omega (arith, lt, length-map r.keys (text_of symbols)));
+            (omega (arith, lt, length-map r.keys (named_label symbols)));
         carried =
             carried_in symbols r.keys (series_of symbols r.parts.entries r.bodies)
             (map references_in r.lists) l;

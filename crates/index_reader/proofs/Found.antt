@@ -11,7 +11,7 @@ use Rattle.index_reader.specs.Steps.{each}
 use Rattle.index_reader.specs.Lookups.{symbol_of}
 use Rattle.index_reader.specs.AgreementChecks.{or_disagree, key_at}
 use Rattle.index_reader.specs.Checks.{Read, read_of, indexed}
-use Rattle.index_reader.specs.Indexes.{Series, references, references_with, text_of, named, series_of}
+use Rattle.index_reader.specs.Indexes.{Series, references, references_with, named_label, named, series_of}
 use Rattle.index_reader.specs.KeptIndex.{IsListing}
 use Rattle.index_reader.specs.Spelled.{pairs_of, lists_for, AreSections, IsIndex}
 use Rattle.index_reader.proofs.Gaps.{zeros_of}
@@ -58,7 +58,7 @@ pub lists_are : (symbols : List (List ℕ)) (keys : List Label) (series : List S
 lists_are symbols keys series lists l =
     let n =
     length-map (named symbols keys) (λ (p : List ℕ × List ℕ). references_with p.0 p.1 series) in
-    let m = length-map keys (text_of symbols) in
+    let m = length-map keys (named_label symbols) in
     same_lists lists (references series ∷ lists_for (named symbols keys) series)
     (omega (arith, n, m, l.counted)) (list_is symbols keys series lists l)
 
@@ -72,7 +72,7 @@ abbrev pub pair_of : TableEntry → List ℕ × List ℕ
 pair_of l = (l.name, l.value)
 
 key_pair : (symbols : List (List ℕ)) (l : TableEntry) (key : Label) → key_at symbols l ≡ Ok key
-    → pair_of l ≡ text_of symbols key
+    → pair_of l ≡ named_label symbols key
 unfolding key_at
 key_pair symbols l key h =
     let n = bind_ok (or_disagree (symbol_of symbols l.name)) _ key h in
@@ -80,8 +80,8 @@ key_pair symbols l key h =
     let made : Label = (n.0, v.0) in
     let a = (symbol_found symbols l.name n.0 (agreed_ok (symbol_of symbols l.name) n.0 n.1)).1 in
     let b = (symbol_found symbols l.value v.0 (agreed_ok (symbol_of symbols l.value) v.0 v.1)).1 in
-    let s : pair_of l ≡ text_of symbols made = λ i. (sym a i, sym b i) in
-    s ∙ ap (text_of symbols) (ok_is made key v.2)
+    let s : pair_of l ≡ named_label symbols made = λ i. (sym a i, sym b i) in
+    s ∙ ap (named_label symbols) (ok_is made key v.2)
 
 rest_pairs : (symbols : List (List ℕ)) (ls : List TableEntry) (keys : List Label)
     → each (key_at symbols) ls ≡ Ok keys → pairs_of ls ≡ named symbols keys
@@ -89,7 +89,8 @@ rest_pairs symbols [] keys h = ap (named symbols) (each_nil (key_at symbols) key
 rest_pairs symbols (l ∷ ls) keys h =
     let x = each_cons (key_at symbols) l ls keys h in
     ap (λ (p : List ℕ × List ℕ). p ∷ pairs_of ls) (key_pair symbols l x.0 x.2)
-    ∙ ap (λ (ps : List (List ℕ × List ℕ)). text_of symbols x.0 ∷ ps) (rest_pairs symbols ls x.1 x.3)
+    ∙ ap (λ (ps : List (List ℕ × List ℕ)). named_label symbols x.0 ∷ ps)
+    (rest_pairs symbols ls x.1 x.3)
     ∙ ap (named symbols) x.4
 
 pub table_pairs : (symbols : List (List ℕ)) (table : List TableEntry) (keys : List Label)

@@ -17,10 +17,10 @@ use Rattle.index_reader.specs.FlatBodies.{body_in, bodies_in, references_in_orde
 use Rattle.index_reader.specs.References.{references_in, IsList}
 use Rattle.index_reader.specs.Seen.{bytes_of, entries_seen, strings_of}
 use Rattle.index_reader.specs.AgreementChecks as agreement
-use Rattle.index_reader.specs.Indexes.{text_of, named, series_at, series_of, references, references_with}
+use Rattle.index_reader.specs.Indexes.{named_label, named, series_at, series_of, references, references_with}
 use Rattle.index_reader.specs.Indexes as indexes
-use Rattle.index_reader.specs.KeptIndex.{series_in, all_in, indexed_in, AreWithin, AreInTable, IsListing, IsKept}
-use Rattle.index_reader.specs.Checks.{read_of, indexed, indexed_of, IsRead}
+use Rattle.index_reader.specs.KeptIndex.{series_in, all_in, indexed_in, AreSeriesIn, AreInTable, IsListing, IsKeptIndex}
+use Rattle.index_reader.specs.Checks.{read_of, indexed, indexed_of, IsSoundRead}
 use Rattle.index_reader.specs.Spelled.{IsIndex}
 use Rattle.index_reader.specs.CheckedFile.{read_seen, IsHeldIn}
 use Rattle.wire.proofs.Steps.{fails_on}
@@ -32,7 +32,7 @@ use Rattle.index_reader.proofs.Facts.{read_is}
 use Rattle.index_reader.proofs.Texts.{got, stands_at}
 
 pub is_read : (file : List ℕ) (r : Result Checked IndexError) → Gives read_seen r (read_of file)
-    → IfOk r (IsHeldIn file) → IfOk r (λ c. IsRead (read_seen c))
+    → IfOk r (IsHeldIn file) → IfOk r (λ c. IsSoundRead (read_seen c))
 is_read file (Ok c) g h = read_is file (read_seen c) h.parts g
 is_read file (Err e) g h = tt
 
@@ -129,7 +129,7 @@ series_seen symbols keys labels chunks ss x i s view lt e =
 
 pub listed_entry : (symbols : List (List ℕ)) (keys : List Label) (series : List indexes.Series)
     (lists : List (List ℕ)) → IsListing symbols keys series lists → (name value : List ℕ) (i : ℕ)
-    → i < length keys → text_of symbols (get_or keys i (0, 0)) ≡ (name, value)
+    → i < length keys → named_label symbols (get_or keys i (0, 0)) ≡ (name, value)
     → (e : List ℕ × ℕ) → slice_get lists (i + 1) ≡ Some e.0 → e.1 ≡ 0
     → e ≡ (references_with name value series, 0)
 listed_entry symbols keys series lists l name value i lt t e g z =
@@ -159,7 +159,7 @@ pub exact_is : (file : List ℕ) (c : Checked) (x : indexes.Indexed) → read_of
 unfolding indexed_of
 exact_is file c x h e = rw h (ap (λ (y : indexes.Indexed). done y) e)
 
-rows_inside : (file : List ℕ) (c : Checked) → IsHeldIn file c → IsRead (read_seen c)
+rows_inside : (file : List ℕ) (c : Checked) → IsHeldIn file c → IsSoundRead (read_seen c)
     → All (λ (r : Series). AreInTable (strings_of c.symbols.texts.items)
     (slice_range c.bodies.labels.items r.labels_start r.labels_end)) c.bodies.series.items
 rows_inside file c h i = λ k d lt.
@@ -172,9 +172,9 @@ rows_inside file c h i = λ k d lt.
     let r = get_or rs k d in
     subst (λ (symbols : List (List ℕ)). AreInTable symbols
     (slice_range ls r.labels_start r.labels_end)) (sym h.symbols)
-    (subst (λ (b : Body). AreInTable (bytes_of c.layout.symbols.items) b.labels) e o)
+    (subst (λ (b : Body). AreInTable (bytes_of c.layout.symbols.texts.items) b.labels) e o)
 
-rows_labelled : (file : List ℕ) (c : Checked) → IsHeldIn file c → IsRead (read_seen c)
+rows_labelled : (file : List ℕ) (c : Checked) → IsHeldIn file c → IsSoundRead (read_seen c)
     → All (λ (r : Series). IsLabelSet (named (strings_of c.symbols.texts.items)
     (slice_range c.bodies.labels.items r.labels_start r.labels_end))) c.bodies.series.items
 rows_labelled file c h i = λ k d lt.
@@ -187,10 +187,10 @@ rows_labelled file c h i = λ k d lt.
     let r = get_or rs k d in
     subst (λ (symbols : List (List ℕ)).
     IsLabelSet (named symbols (slice_range ls r.labels_start r.labels_end))) (sym h.symbols)
-    (subst (λ (b : Body). IsLabelSet (named (bytes_of c.layout.symbols.items) b.labels)) e o)
+    (subst (λ (b : Body). IsLabelSet (named (bytes_of c.layout.symbols.texts.items) b.labels)) e o)
 
-rows_within : (file : List ℕ) (c : Checked) → IsHeldIn file c → IsRead (read_seen c)
-    → AreWithin (strings_of c.symbols.texts.items) c.bodies.labels.items c.bodies.chunks.items
+rows_within : (file : List ℕ) (c : Checked) → IsHeldIn file c → IsSoundRead (read_seen c)
+    → AreSeriesIn (strings_of c.symbols.texts.items) c.bodies.labels.items c.bodies.chunks.items
     c.bodies.series.items
 rows_within file c h i = λ k d lt. let o = c.bodies.inside k d lt in record {
   labels_ordered = o.labels_ordered;
@@ -201,7 +201,7 @@ rows_within file c h i = λ k d lt. let o = c.bodies.inside k d lt in record {
   labelled = rows_labelled file c h i k d lt;
 }
 
-pub lists_whole : (c : Checked) → IsRead (read_seen c)
+pub lists_whole : (c : Checked) → IsSoundRead (read_seen c)
     → All (λ (l : Bor (List ℕ)). IsList l.now) c.lists.items
 lists_whole c i = λ k d lt.
     let e : get_or (bytes_of c.lists.items) k d.now ≡ (get_or c.lists.items k d).now =
@@ -231,25 +231,26 @@ whole_is file c labels chunks ss h f e g =
     let bs = bodies_in c.bodies.labels.items c.bodies.chunks.items c.bodies.series.items in
     let ps = entries_seen c.layout.entries.items in
     let symbols = strings_of c.symbols.texts.items in
-    let a : series_of (bytes_of c.layout.symbols.items) ps bs ≡ all_in symbols labels chunks ss =
+    let a : series_of (bytes_of c.layout.symbols.texts.items) ps bs
+    ≡ all_in symbols labels chunks ss =
     ap (λ (y : List (List ℕ)). series_of y ps bs) (sym h.symbols)
     ∙ sym (held_series file c h)
     ∙ ap (all_in symbols c.bodies.labels.items c.bodies.chunks.items) (sym g)
     ∙ ap (λ (ls : List Label). all_in symbols ls c.bodies.chunks.items ss) (sym f)
     ∙ ap (λ (cs : List Chunk). all_in symbols labels cs ss) (sym e) in
-    let b : named (bytes_of c.layout.symbols.items) c.keys.pairs.items
+    let b : named (bytes_of c.layout.symbols.texts.items) c.keys.pairs.items
     ≡ named symbols c.keys.pairs.items =
     ap (λ (y : List (List ℕ)). named y c.keys.pairs.items) (sym h.symbols) in
     ap (λ (x : List indexes.Series). of_both x
-    (named (bytes_of c.layout.symbols.items) c.keys.pairs.items)) a
+    (named (bytes_of c.layout.symbols.texts.items) c.keys.pairs.items)) a
     ∙ ap (of_both (all_in symbols labels chunks ss)) b
 
 pub is_kept : (file : List ℕ) (c : Checked) (labels : List Label) (chunks : List Chunk)
-    (ss : List Series) (lists : List (List ℕ)) → IsHeldIn file c → IsRead (read_seen c)
+    (ss : List Series) (lists : List (List ℕ)) → IsHeldIn file c → IsSoundRead (read_seen c)
     → labels ≡ c.bodies.labels.items → chunks ≡ c.bodies.chunks.items
     → ss ≡ c.bodies.series.items
     → lists ≡ map references_in (bytes_of c.lists.items)
-    → IsKept (strings_of c.symbols.texts.items) c.keys.pairs.items labels chunks ss lists
+    → IsKeptIndex (strings_of c.symbols.texts.items) c.keys.pairs.items labels chunks ss lists
 is_kept file c labels chunks ss lists h i f e g copied =
     let bs = bodies_in c.bodies.labels.items c.bodies.chunks.items c.bodies.series.items in
     let ps = entries_seen c.layout.entries.items in
@@ -266,9 +267,9 @@ is_kept file c labels chunks ss lists h i f e g copied =
     ∙ ap (λ (cs : List Chunk). all_in symbols labels cs ss) (sym e) in
     record {
       within =
-          subst (λ (ls : List Label). AreWithin symbols ls chunks ss) (sym f)
-          (subst (λ (cs : List Chunk). AreWithin symbols c.bodies.labels.items cs ss) (sym e)
-          (subst (AreWithin symbols c.bodies.labels.items c.bodies.chunks.items) (sym g)
+          subst (λ (ls : List Label). AreSeriesIn symbols ls chunks ss) (sym f)
+          (subst (λ (cs : List Chunk). AreSeriesIn symbols c.bodies.labels.items cs ss) (sym e)
+          (subst (AreSeriesIn symbols c.bodies.labels.items c.bodies.chunks.items) (sym g)
           (rows_within file c h i)));
       listing =
           subst (IsListing symbols keys (all_in symbols labels chunks ss)) (sym copied)

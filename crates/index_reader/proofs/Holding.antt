@@ -5,15 +5,15 @@ use Rattle.std.proofs.lemmas.Bool.{cases_lt}
 use Rattle.std.proofs.lemmas.List.{length-append, get_or_append_left, map_push, get_or_at, length_push}
 use Rattle.index_reader.specs.declared.lists.ListSpan.{ListSpan}
 use Rattle.index_reader.specs.References.{references_in}
-use Rattle.index_reader.specs.KeptLists.{kept_list_at, kept_lists_at, IsHeld, AreHeld}
+use Rattle.index_reader.specs.KeptLists.{kept_list_at, kept_lists_at, IsListAt, AreListsAt}
 use Rattle.index_reader.proofs.Growth.{range_grown, range_end}
 
-list_grown : (bytes more : List ℕ) (p : ListSpan) → IsHeld bytes p
+list_grown : (bytes more : List ℕ) (p : ListSpan) → IsListAt bytes p
     → kept_list_at (bytes ++ more) p ≡ kept_list_at bytes p
 list_grown bytes more p h =
     ap references_in (range_grown bytes more p.start p.end h.ordered h.inside)
 
-held_grown : (bytes more : List ℕ) (p : ListSpan) → IsHeld bytes p → IsHeld (bytes ++ more) p
+held_grown : (bytes more : List ℕ) (p : ListSpan) → IsListAt bytes p → IsListAt (bytes ++ more) p
 held_grown bytes more p h = record {
   ordered = h.ordered;
   inside = omega (arith, h.inside, length-append bytes more);
@@ -21,11 +21,11 @@ held_grown bytes more p h = record {
   increasing = subst IsStrictlyIncreasing (sym (list_grown bytes more p h)) h.increasing;
 }
 
-pub all_grown : (bytes more : List ℕ) (ps : List ListSpan) → AreHeld bytes ps
-    → AreHeld (bytes ++ more) ps
+pub all_grown : (bytes more : List ℕ) (ps : List ListSpan) → AreListsAt bytes ps
+    → AreListsAt (bytes ++ more) ps
 all_grown bytes more ps h = λ k d lt. held_grown bytes more (get_or ps k d) (h k d lt)
 
-pub lists_grown : (bytes more : List ℕ) (ps : List ListSpan) → AreHeld bytes ps
+pub lists_grown : (bytes more : List ℕ) (ps : List ListSpan) → AreListsAt bytes ps
     → kept_lists_at (bytes ++ more) ps ≡ kept_lists_at bytes ps
 lists_grown bytes more [] h = refl
 lists_grown bytes more (p ∷ ps) h =
@@ -37,7 +37,7 @@ last_list : (bytes list : List ℕ) (p : ListSpan) → p.start ≡ length bytes
     → p.end ≡ length (bytes ++ list) → kept_list_at (bytes ++ list) p ≡ references_in list
 last_list bytes list p s e = rw (s, e, range_end bytes list) refl
 
-pub lists_added : (bytes list : List ℕ) (ps : List ListSpan) (p : ListSpan) → AreHeld bytes ps
+pub lists_added : (bytes list : List ℕ) (ps : List ListSpan) (p : ListSpan) → AreListsAt bytes ps
     → p.start ≡ length bytes → p.end ≡ length (bytes ++ list)
     → kept_lists_at (bytes ++ list) (ps ++ p ∷ [])
     ≡ kept_lists_at bytes ps ++ references_in list ∷ []
@@ -49,7 +49,7 @@ lists_added bytes list ps p h s e =
 
 added_held : (bytes list : List ℕ) (p : ListSpan) → length list % 4 ≡ 0
     → IsStrictlyIncreasing (references_in list) → p.start ≡ length bytes
-    → p.end ≡ length (bytes ++ list) → IsHeld (bytes ++ list) p
+    → p.end ≡ length (bytes ++ list) → IsListAt (bytes ++ list) p
 added_held bytes list p four inc s e =
     let size : p.end - p.start ≡ length list = omega (arith, s, e, length-append bytes list) in
     record {
@@ -59,9 +59,9 @@ added_held bytes list p four inc s e =
       increasing = subst IsStrictlyIncreasing (sym (last_list bytes list p s e)) inc;
     }
 
-pub all_added : (bytes list : List ℕ) (ps : List ListSpan) (p : ListSpan) → AreHeld bytes ps
+pub all_added : (bytes list : List ℕ) (ps : List ListSpan) (p : ListSpan) → AreListsAt bytes ps
     → length list % 4 ≡ 0 → IsStrictlyIncreasing (references_in list) → p.start ≡ length bytes
-    → p.end ≡ length (bytes ++ list) → AreHeld (bytes ++ list) (ps ++ p ∷ [])
+    → p.end ≡ length (bytes ++ list) → AreListsAt (bytes ++ list) (ps ++ p ∷ [])
 all_added bytes list ps p h four inc s e = λ k d lt.
     elim (cases_lt k (length ps)) [
       | inl below ↦

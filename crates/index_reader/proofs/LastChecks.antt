@@ -18,7 +18,7 @@ use Rattle.index_reader.specs.FlatBodies.{body_of_entry}
 use Rattle.index_reader.specs.CarriedPairs.{are_used_up}
 use Rattle.index_reader.specs.AgreementChecks.{Carrier, or_disagree, key_at, keys_at, list_of_label, lists_of_series, each_all, carriers, are_used, agreement_of}
 use Rattle.index_reader.specs.AgreementChecks as agreement
-use Rattle.index_reader.specs.Indexes.{Series, Indexed, text_of, named, series_of}
+use Rattle.index_reader.specs.Indexes.{Series, Indexed, named_label, named, series_of}
 use Rattle.index_reader.specs.Spelled.{pairs_of}
 use Rattle.index_reader.specs.Stated.{Stated, stated_in, stated_of, Agrees, AreFew, AreLastChecks}
 use Rattle.wire.proofs.Steps.{bind_ok}
@@ -94,7 +94,7 @@ small_is symbols [] bs h = tt
 small_is symbols (p ∷ ps) [] h = tt
 small_is symbols (p ∷ ps) (b ∷ bs) h =
     let q = both (is_small b.labels) (list_all is_small (labels_of_each bs)) h in (
-      omega (arith, leb-true (length b.labels) 64 q.0, length-map b.labels (text_of symbols)),
+      omega (arith, leb-true (length b.labels) 64 q.0, length-map b.labels (named_label symbols)),
       small_is symbols ps bs q.1,
     )
 
@@ -108,7 +108,7 @@ small_again symbols [] (b ∷ bs) n h = absurd (omega (arith, n))
 small_again symbols (p ∷ ps) [] n h = refl
 small_again symbols (p ∷ ps) (b ∷ bs) n h =
     rw (
-      le-leb (length b.labels) 64 (omega (arith, h.0, length-map b.labels (text_of symbols))),
+      le-leb (length b.labels) 64 (omega (arith, h.0, length-map b.labels (named_label symbols))),
       small_again symbols ps bs (omega (arith, n)) h.1,
     ) refl
 

@@ -11,7 +11,7 @@ use Rattle.index_reader.specs.CarriedPairs.{Carried, references_carrying}
 use Rattle.index_reader.specs.Lookups.{key_before, place_of}
 use Rattle.index_reader.specs.AgreementChecks.{list_of_label, Carrier, lists_of_series, each_all, carriers}
 use Rattle.index_reader.specs.AgreementChecks as agreement
-use Rattle.index_reader.specs.Indexes.{Series, references, references_with, text_of, named, series_at, series_of}
+use Rattle.index_reader.specs.Indexes.{Series, references, references_with, named_label, named, series_at, series_of}
 use Rattle.index_reader.specs.Checks as checks
 use Rattle.wire.proofs.Steps.{bind_ok}
 use Rattle.index_reader.proofs.Walks.{ok_is}
@@ -264,7 +264,7 @@ of_pair symbols keys k t order rising inside at n_in v_in (p ∷ ps) (b ∷ bs) 
 
 abbrev pub IsAbsent : List (List ℕ) → List Label → List ℕ → List ℕ → Type 0
 IsAbsent symbols keys name value =
-    (k : ℕ) → k < length keys → text_of symbols (get_or keys k (0, 0)) ≡ (name, value) → ⊥
+    (k : ℕ) → k < length keys → named_label symbols (get_or keys k (0, 0)) ≡ (name, value) → ⊥
 
 no_value : (symbols : List (List ℕ)) (keys : List Label) (name value : List ℕ)
     → IsAbsent symbols keys name value → (l : Label) (a : ℕ) → place_of keys l ≡ Some a
@@ -274,8 +274,8 @@ no_value symbols keys name value lacks l a g n v =
     let f = place_found keys l a g in
     let e = bytes_exact (get_or symbols l.0 []) name n in
     let e' = bytes_exact (get_or symbols l.1 []) value v in
-    let is : text_of symbols l ≡ (name, value) = λ i. (e i, e' i) in
-    lacks a f.0 (ap (text_of symbols) f.1 ∙ is)
+    let is : named_label symbols l ≡ (name, value) = λ i. (e i, e' i) in
+    lacks a f.0 (ap (named_label symbols) f.1 ∙ is)
 
 absent_one : (symbols : List (List ℕ)) (keys : List Label) (name value : List ℕ)
     → IsAbsent symbols keys name value → (r : ℕ) (ls : List Label) (cs : List Carried)

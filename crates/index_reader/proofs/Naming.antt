@@ -13,7 +13,7 @@ use Rattle.index_reader.specs.Layout.{SeriesEntry, ascending, Label, Body}
 use Rattle.index_reader.specs.Spelled.{IsLabel, AreLabels}
 use Rattle.index_reader.specs.BodyChecks.{is_label, label_at, labels_at, chunks_at, body_at}
 use Rattle.index_reader.specs.FlatBodies.{body_of_entry}
-use Rattle.index_reader.specs.Indexes.{text_of, named}
+use Rattle.index_reader.specs.Indexes.{named_label, named}
 use Rattle.index_reader.proofs.WalkLoops.{guard_ended}
 use Rattle.wire.proofs.Steps.{bind_ok}
 use Rattle.index_reader.proofs.Walks.{ok_is}
@@ -138,7 +138,7 @@ in_order symbols low (l ∷ ls) h (suc k) d lt =
     rw e (in_order symbols (l.0 + 1) ls h.1 k d (omega arith))
 
 named_at : (symbols : List (List ℕ)) (ls : List Label) (k : ℕ) (d : List ℕ × List ℕ) (c : Label)
-    → k < length ls → get_or (named symbols ls) k d ≡ text_of symbols (get_or ls k c)
+    → k < length ls → get_or (named symbols ls) k d ≡ named_label symbols (get_or ls k c)
 named_at symbols [] k d c lt = absurd (omega arith)
 named_at symbols (l ∷ ls) zero d c lt = refl
 named_at symbols (l ∷ ls) (suc k) d c lt = named_at symbols ls k d c (omega arith)
@@ -151,7 +151,7 @@ pub is_label_set : (symbols : List (List ℕ)) (ls : List Label) → ascending s
     → AreLabels symbols 0 ls → length ls ≤ 64 → IsLabelSet (named symbols ls)
 is_label_set symbols ls sorted h few = record {
   by_name = λ k d lt.
-      let n = length-map ls (text_of symbols) in
+      let n = length-map ls (named_label symbols) in
       let c : Label = (0, 0) in
       let a = named_at symbols ls k d c (omega (arith, n)) in
       let b = named_at symbols ls (k + 1) d c (omega (arith, n)) in
@@ -159,14 +159,14 @@ is_label_set symbols ls sorted h few = record {
       rw (a, b) (symbols_less symbols (get_or ls k c).0 (get_or ls (k + 1) c).0 sorted
       (in_order symbols 0 ls h k c (omega (arith, n))) o.name_in);
   named = λ k d lt.
-      let n = length-map ls (text_of symbols) in
+      let n = length-map ls (named_label symbols) in
       let c : Label = (0, 0) in
       rw (named_at symbols ls k d c (omega (arith, n)))
       (first_below symbols 0 ls k c h (omega (arith, n))).name;
   valued = λ k d lt.
-      let n = length-map ls (text_of symbols) in
+      let n = length-map ls (named_label symbols) in
       let c : Label = (0, 0) in
       rw (named_at symbols ls k d c (omega (arith, n)))
       (full _ (first_below symbols 0 ls k c h (omega (arith, n))).value);
-  few = omega (arith, few, length-map ls (text_of symbols));
+  few = omega (arith, few, length-map ls (named_label symbols));
 }

@@ -9,6 +9,7 @@ use Rattle.std.specs.Cmp.Lexicographic.{slice_cmp}
 use Rattle.std.proofs.lemmas.Bool.{cases_lt, cases_eq, lt-ltb, le-ltb, eqb-true, eqb-false, false_from_ne_true, true_from_ne_false}
 use Rattle.std.proofs.lemmas.Cmp.{nat_list_cmp_total}
 use Rattle.labels.specs.Labels.{text_cmp, pair_cmp}
+use Rattle.index_reader.specs.Indexes.{named_label}
 use Rattle.index_reader.specs.Layout.{is_less, ascending}
 
 both : (p q : Bool) → (p && q) ≡ true → (p ≡ true) × (q ≡ true)
@@ -88,21 +89,19 @@ symbols_cmp xs i j h a b =
 abbrev pub number_pair_cmp : (ℕ × ℕ) → (ℕ × ℕ) → Ordering
 number_pair_cmp a b = ordering_then (nat_cmp a.0 b.0) (nat_cmp a.1 b.1)
 
-abbrev pub text_of : List (List ℕ) → (ℕ × ℕ) → List ℕ × List ℕ
-text_of xs p = (get_or xs p.0 [], get_or xs p.1 [])
-
 abbrev pub InTable : List (List ℕ) → List (ℕ × ℕ) → Type 0
 InTable xs ps = AllByRecursion (λ p. (p.0 < length xs) × (p.1 < length xs)) ps
 
 pub pairs_cmp : (xs : List (List ℕ)) (a b : ℕ × ℕ) → ascending xs ≡ true
     → (a.0 < length xs) × (a.1 < length xs) → (b.0 < length xs) × (b.1 < length xs)
-    → pair_cmp (text_of xs a) (text_of xs b) ≡ number_pair_cmp a b
+    → pair_cmp (named_label xs a) (named_label xs b) ≡ number_pair_cmp a b
 pairs_cmp xs a b h p q =
     rw (symbols_cmp xs a.0 b.0 h p.0 q.0, symbols_cmp xs a.1 b.1 h p.1 q.1) refl
 
 -- label sets compare as the lists of the numbers of their symbols
 pub label_sets_cmp : (xs : List (List ℕ)) (ps qs : List (ℕ × ℕ)) → ascending xs ≡ true
-    → InTable xs ps → InTable xs qs → slice_cmp pair_cmp (map (text_of xs) ps) (map (text_of xs) qs)
+    → InTable xs ps → InTable xs qs
+    → slice_cmp pair_cmp (map (named_label xs) ps) (map (named_label xs) qs)
     ≡ slice_cmp number_pair_cmp ps qs
 label_sets_cmp xs [] [] h p q = refl
 label_sets_cmp xs [] (b ∷ qs) h p q = refl

@@ -1,6 +1,7 @@
 -- Neighbours, one after another.
-use Rattle.std.proofs.Common.{◌≡◌, ℕ, zero, suc, ◌-◌, ◌<◌, ◌≤◌, Bool, true, ◌&&◌, List, [], ◌∷◌, length, drop, Some, refl, sym, ap, ◌∙◌, arith}
-use Rattle.std.specs.Prelude.{slice_get}
+use Rattle.std.proofs.Common.{◌≡◌, ℕ, zero, suc, ◌+◌, ◌-◌, ◌<◌, ◌≤◌, Bool, true, false, ◌&&◌, List, [], ◌∷◌, length, drop, get_or, Some, refl, sym, ap, ◌∙◌, arith}
+use Rattle.std.specs.List.{IsAllAdjacentAnswer}
+use Rattle.std.specs.Prelude.{map, slice_get}
 use Rattle.std.proofs.lemmas.List.{length-drop}
 use Rattle.index_reader.specs.Layout.{rises}
 
@@ -35,3 +36,48 @@ pub at_end : {X : Type 0} (less : X → X → Bool) (xs : List X) (at : ℕ) (wh
     → length xs ≤ at → rises less (drop (at - 1) xs) ≡ whole → true ≡ whole
 at_end less xs at whole le h =
     sym (few less (drop (at - 1) xs) (omega (arith, length-drop (at - 1) xs))) ∙ h
+
+-- ---- by the answers for each two neighbours
+
+and_false : (b : Bool) → false ≡ (b && false)
+and_false true = refl
+and_false false = refl
+
+all_below : {X : Type 0} (less : X → X → Bool) (xs : List X)
+    → ((k : ℕ) (d : X) → suc k < length xs → true ≡ less (get_or xs k d) (get_or xs (suc k) d))
+    → true ≡ rises less xs
+unfolding rises
+all_below less [] h = refl
+all_below less (x ∷ []) h = refl
+all_below less (x ∷ y ∷ xs) h =
+    let first : true ≡ less x y = h 0 x (omega arith) in
+    let others : true ≡ rises less (y ∷ xs) =
+    all_below less (y ∷ xs) (λ k d lt. h (suc k) d (omega arith)) in
+    rw (sym first, sym others) refl
+
+some_above : {X : Type 0} (less : X → X → Bool) (xs : List X) (k : ℕ) → suc k < length xs
+    → ((d : X) → false ≡ less (get_or xs k d) (get_or xs (suc k) d)) → false ≡ rises less xs
+unfolding rises
+some_above less [] k lt h = absurd (omega arith)
+some_above less (x ∷ []) k lt h = absurd (omega arith)
+some_above less (x ∷ y ∷ xs) zero lt h = let first : false ≡ less x y = h x in rw (sym first) refl
+some_above less (x ∷ y ∷ xs) (suc k) lt h =
+    let others : false ≡ rises less (y ∷ xs) = some_above less (y ∷ xs) k (omega arith) h in
+    rw (sym others) (and_false (less x y))
+
+pub by_neighbours : {X : Type 0} (less : X → X → Bool) (xs : List X) (r : Bool)
+    → IsAllAdjacentAnswer (λ x y b. b ≡ less x y) xs r → r ≡ rises less xs
+by_neighbours less xs true each =
+    all_below less xs (λ k d lt.
+    let s : k + 1 ≡ suc k = omega arith in rw s at (each k d (omega (arith, lt))))
+by_neighbours less xs false other =
+    let s : other.0 + 1 ≡ suc other.0 = omega arith in
+    some_above less xs other.0 (omega (arith, other.1)) (λ d. rw s at (other.2 d))
+
+pub of_mapped : {X Y : Type 0} (f : X → Y) (less : Y → Y → Bool) (xs : List X)
+    → rises (λ a b. less (f a) (f b)) xs ≡ rises less (map f xs)
+unfolding rises
+of_mapped f less [] = refl
+of_mapped f less (x ∷ []) = refl
+of_mapped f less (x ∷ y ∷ xs) =
+    ap (λ (b : Bool). less (f x) (f y) && b) (of_mapped f less (y ∷ xs))

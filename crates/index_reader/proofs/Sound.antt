@@ -14,12 +14,13 @@ use Rattle.index_reader.specs.declared.offset_table.TableEntry.{TableEntry}
 use Rattle.index_reader.specs.Layout.{rounded, series_end, Label}
 use Rattle.index_reader.specs.Layout as layout
 use Rattle.index_reader.specs.Grammar.{entry, symbol, IsWalk, IsLayout}
-use Rattle.index_reader.specs.Seen.{entries_seen, layout_seen, bytes_of, table_seen, table_entry_seen}
+use Rattle.index_reader.specs.Seen.{entries_seen, bytes_of, table_seen, table_entry_seen}
 use Rattle.index_reader.specs.Steps.{each}
 use Rattle.index_reader.specs.FlatBodies.{body_in, bodies_in, label_sets_in}
 use Rattle.index_reader.specs.PostingsChecks.{section_at, references_at, lists_at}
 use Rattle.index_reader.specs.Checks.{labels_of_each}
-use Rattle.index_reader.specs.CheckedFile.{IsSoundLayout}
+use Rattle.index_reader.specs.SymbolChecks.{symbol_at, symbols_from}
+use Rattle.index_reader.specs.CheckedFile.{IsSoundLayout, layout_seen}
 use Rattle.wire.proofs.Steps.{bind_ok}
 use Rattle.index_reader.proofs.Walks.{flat_long, ok_is}
 use Rattle.index_reader.proofs.Whole.{omega_length, end_inside}
@@ -45,12 +46,6 @@ few_symbols file x p =
 sound : (file : List ℕ) (o : Layout) → IsLayout file (layout_seen o) → IsSoundLayout file o
 sound file o p = record {
   placed = p.placed;
-  few = omega (
-    arith,
-    few_symbols file (layout_seen o) p,
-    length-map o.symbols.items (λ (s : Bor (List ℕ)). s.now),
-  );
-  order = p.symbols.2.order;
   small = λ k d lt. omega (
     arith,
     p.placed.short,
@@ -66,6 +61,26 @@ pub sound_found : (file : List ℕ) (r : Result Layout IndexError)
     → IfOk r (λ o. IsLayout file (layout_seen o)) → IfOk r (λ o. IsSoundLayout file o)
 sound_found file (Ok o) p = sound file o p
 sound_found file (Err e) p = tt
+
+-- ---- symbols
+
+count_of : (n : ℕ) (bytes : List ℕ) (x : List (List ℕ) × List ℕ) → symbols_from n bytes ≡ Ok x
+    → length x.0 ≡ n
+unfolding symbols_from
+count_of zero bytes x h =
+    ap (λ (y : List (List ℕ) × List ℕ). length y.0) (sym (ok_is ([], bytes) x h))
+count_of (suc n) bytes x h =
+    let a = bind_ok (symbol_at bytes) _ x h in
+    let b = bind_ok (symbols_from n a.0.1) _ x a.2 in
+    let made : List (List ℕ) × List ℕ = (a.0.0 ∷ b.0.0, b.0.1) in
+    ap (λ (y : List (List ℕ) × List ℕ). length y.0) (sym (ok_is made x b.2))
+    ∙ ap suc (count_of n a.0.1 b.0 b.1)
+
+pub symbols_counted : (n : ℕ) (bytes : List ℕ) (symbols : List (Bor (List ℕ))) (rest : List ℕ)
+    → symbols_from n bytes ≡ Ok (bytes_of symbols, rest) → length symbols ≡ n
+symbols_counted n bytes symbols rest h =
+    sym (length-map symbols (λ (s : Bor (List ℕ)). s.now))
+    ∙ count_of n bytes (bytes_of symbols, rest) h
 
 -- ---- flat lists
 

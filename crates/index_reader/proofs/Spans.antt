@@ -13,12 +13,16 @@ use Rattle.labels.specs.Labels.{text_cmp}
 use Rattle.labels.proofs.Texts.{bytes_exact, bytes_self}
 use Rattle.index_reader.specs.Layout.{ascending, Label, rises}
 use Rattle.index_reader.specs.Lookups.{next, index_of, key_cmp, key_before, symbol_of, place_of}
-use Rattle.index_reader.specs.Indexes.{text_of, named, values_of}
+use Rattle.index_reader.specs.Indexes.{named_label, named, values_of}
 use Rattle.index_reader.specs.KeptIndex.{AreInTable}
 use Rattle.index_reader.proofs.Orders.{number_greater}
 use Rattle.index_reader.proofs.Searching.{keys_total, strict_from_rises}
 use Rattle.index_reader.proofs.Placing.{mapped_at}
 use Rattle.index_reader.proofs.Texts.{got, stands_at, bytes_other, found_is, place_found, place_is}
+
+pub if_none : {A : Type 0} (r : Option A) {X : Type 0} → X → IfNone r X
+if_none (Some a) x = tt
+if_none None x = x
 
 true_or_false : (b : Bool) → b ≡ true → b ≡ false → ⊥
 true_or_false b t f = let e : true ≡ false = sym t ∙ f in absurd cc
@@ -76,14 +80,14 @@ same_symbol symbols i j order a b e =
 
 pub no_name : (symbols : List (List ℕ)) (keys : List Label) (name value : List ℕ)
     → AreInTable symbols keys → symbol_of symbols name ≡ None → (k : ℕ) → k < length keys
-    → text_of symbols (get_or keys k (0, 0)) ≡ (name, value) → ⊥
+    → named_label symbols (get_or keys k (0, 0)) ≡ (name, value) → ⊥
 no_name symbols keys name value inside h k lt e =
     no_symbol symbols name (get_or keys k (0, 0)).0 h (inside k (0, 0) lt).0
     (ap (λ (p : List ℕ × List ℕ). p.0) e)
 
 pub no_value : (symbols : List (List ℕ)) (keys : List Label) (name value : List ℕ)
     → AreInTable symbols keys → symbol_of symbols value ≡ None → (k : ℕ) → k < length keys
-    → text_of symbols (get_or keys k (0, 0)) ≡ (name, value) → ⊥
+    → named_label symbols (get_or keys k (0, 0)) ≡ (name, value) → ⊥
 no_value symbols keys name value inside h k lt e =
     no_symbol symbols value (get_or keys k (0, 0)).1 h (inside k (0, 0) lt).1
     (ap (λ (p : List ℕ × List ℕ). p.1) e)
@@ -91,20 +95,21 @@ no_value symbols keys name value inside h k lt e =
 pub pair_found : (symbols : List (List ℕ)) (keys : List Label) (name value : List ℕ) (n v : ℕ)
     (r : Option ℕ) → symbol_of symbols name ≡ Some n → symbol_of symbols value ≡ Some v
     → r ≡ place_of keys (n, v)
-    → IfSome r (λ i. (i < length keys) × (text_of symbols (get_or keys i (0, 0)) ≡ (name, value)))
+    → IfSome r (λ i.
+    (i < length keys) × (named_label symbols (get_or keys i (0, 0)) ≡ (name, value)))
 pair_found symbols keys name value n v None a b e = tt
 pair_found symbols keys name value n v (Some i) a b e =
     let f = place_found keys (n, v) i (sym e) in
     let p = (symbol_found symbols name n a).1 in
     let q = (symbol_found symbols value v b).1 in
-    let is : text_of symbols (n, v) ≡ (name, value) = λ j. (p j, q j) in
-    (f.0, ap (text_of symbols) f.1 ∙ is)
+    let is : named_label symbols (n, v) ≡ (name, value) = λ j. (p j, q j) in
+    (f.0, ap (named_label symbols) f.1 ∙ is)
 
 none_there : (symbols : List (List ℕ)) (keys : List Label) (name value : List ℕ) (n v : ℕ)
     → ascending symbols ≡ true → rises key_before keys ≡ true → AreInTable symbols keys
     → symbol_of symbols name ≡ Some n → symbol_of symbols value ≡ Some v
     → place_of keys (n, v) ≡ None
-    → (k : ℕ) → k < length keys → text_of symbols (get_or keys k (0, 0)) ≡ (name, value) → ⊥
+    → (k : ℕ) → k < length keys → named_label symbols (get_or keys k (0, 0)) ≡ (name, value) → ⊥
 none_there symbols keys name value n v order rising inside a b e k lt t =
     let key = get_or keys k (0, 0) in
     let o = inside k (0, 0) lt in
@@ -125,7 +130,7 @@ pub pair_absent : (symbols : List (List ℕ)) (keys : List Label) (name value : 
     → AreInTable symbols keys → symbol_of symbols name ≡ Some n → symbol_of symbols value ≡ Some v
     → r ≡ place_of keys (n, v)
     → IfNone r ((k : ℕ) → k < length keys
-    → text_of symbols (get_or keys k (0, 0)) ≡ (name, value) → ⊥)
+    → named_label symbols (get_or keys k (0, 0)) ≡ (name, value) → ⊥)
 pair_absent symbols keys name value n v None order rising inside a b e =
     none_there symbols keys name value n v order rising inside a b (sym e)
 pair_absent symbols keys name value n v (Some i) order rising inside a b e = tt

@@ -22,7 +22,7 @@ key_at symbols l = do
   value ← or_disagree (symbol_of symbols l.value)
   Ok (name, value)
 
--- the entries behind the first, which is that of the empty pair
+-- the entries after the first, which is that of the empty pair
 unfoldable pub keys_at : List (List ℕ) → List TableEntry → Result (List Label) IndexError
 keys_at symbols [] = Err PostingsDisagree
 keys_at symbols (l ∷ ls) =
@@ -47,7 +47,7 @@ lists_of_series keys s = do
   others ← each (list_of_label keys s.0) s.1
   Ok ((0, s.0) ∷ others)
 
--- what the steps give, one behind the other
+-- what the steps give, one after the other
 unfoldable pub each_all : {A X : Type 0}
     → (A → Result (List X) IndexError) → List A → Result (List X) IndexError
 each_all step [] = Ok []
@@ -66,11 +66,11 @@ carriers [] ls = []
 carriers (r ∷ rs) [] = []
 carriers (r ∷ rs) (l ∷ ls) = (r, l) ∷ carriers rs ls
 
--- no list behind the first is empty
+-- no list after the first is empty
 abbrev pub are_used : List (List ℕ) → Bool
 are_used lists = list_all (λ l. nat_lt 0 (length l)) (drop 1 lists)
 
--- the pairs of the table behind the first, where its lists are exactly the references of the series
+-- the pairs of the table after the first, where its lists are exactly the references of the series
 -- that carry them
 unfoldable pub agreement_of : List (List ℕ) → List TableEntry → List (List ℕ) → List Carrier
     → Result (List Label) IndexError

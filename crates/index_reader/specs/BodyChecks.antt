@@ -16,7 +16,7 @@ is_label symbols low name value =
     nat_le low name && nat_lt name (length symbols) && nat_lt value (length symbols)
     && is_name (get_or symbols name []) && nat_lt 0 (length (get_or symbols value []))
 
--- a label, where names begin at a symbol: the next begins behind it
+-- a label, where names begin at a symbol: the next begins after it
 unfoldable pub label_at : List (List ℕ) → ℕ × List ℕ → Result (Label × (ℕ × List ℕ)) IndexError
 label_at symbols s = do
   name ← or_refused Series (uvarint_at s.1)
@@ -35,7 +35,7 @@ abbrev pub or_series : {A : Type 0} → Option A → Result A IndexError
 or_series (Some x) = Ok x
 or_series None = Err Series
 
--- a chunk behind another
+-- a chunk after another
 unfoldable pub chunk_at : Chunk × List ℕ → Result (Chunk × (Chunk × List ℕ)) IndexError
 chunk_at s = do
   next ← or_series (later_at s.0 s.1)
@@ -63,7 +63,7 @@ body_at symbols bytes = do
   if length chunks.1.1 == 0 then Ok (record { labels = labels.0; chunks = chunks.0 })
       else Err Series
 
--- behind the labels and chunks that were there before
+-- after the labels and chunks that were there before
 abbrev pub behind_both : List Label → List Chunk → Result Body IndexError
     → Result (List Label × List Chunk) IndexError
 behind_both labels chunks (Ok b) = Ok (labels ++ b.labels, chunks ++ b.chunks)

@@ -1,18 +1,28 @@
 -- What is kept of a file that was checked, without where it lies in memory.
 use Rattle.std.specs.List.{All}
-use Rattle.std.specs.Prelude.{◌≡◌, ℕ, ◌≤◌, ◌<◌, ◌^◌, true, List, length}
+use Rattle.std.specs.Prelude.{◌≡◌, ℕ, ◌≤◌, ◌<◌, ◌^◌, List, length}
 use Rattle.index_reader.specs.declared.checks.Checked.{Checked}
 use Rattle.index_reader.specs.declared.bodies.Bodies.{Bodies}
 use Rattle.index_reader.specs.declared.keys.Keys.{Keys}
 use Rattle.index_reader.specs.declared.layout.Layout.{Layout}
 use Rattle.index_reader.specs.declared.symbols.Symbols.{Symbols}
-use Rattle.index_reader.specs.Layout.{IsPlaced, ascending, Body}
+use Rattle.index_reader.specs.Layout.{IsPlaced, Body}
 use Rattle.index_reader.specs.AgreementChecks.{Carrier, carriers, entry_references}
 use Rattle.index_reader.specs.Checks.{Read}
 use Rattle.index_reader.specs.FlatBodies.{bodies_in, label_sets_in, references_in_order}
 use Rattle.index_reader.specs.Grammar.{IsLayout}
 use Rattle.index_reader.specs.Indexes.{named}
-use Rattle.index_reader.specs.Seen.{bytes_of, entries_seen, layout_seen, strings_of}
+use Rattle.index_reader.specs.Seen.{bytes_of, entries_seen, strings_of}
+use Rattle.index_reader.specs.Layout as layout
+
+-- the table of contents, the symbols and the entries
+abbrev pub layout_seen : Layout → layout.Layout
+layout_seen o = record {
+  contents = o.contents;
+  symbols = bytes_of o.symbols.texts.items;
+  symbols_end = o.symbols_end;
+  entries = entries_seen o.entries.items;
+}
 
 -- symbols as their bytes
 abbrev pub symbol_texts : Symbols → List (List ℕ)
@@ -34,8 +44,6 @@ carriers_seen b =
 -- what the later checks may build on
 pub record IsSoundLayout (file : List ℕ) (o : Layout) : Type 0 where
   pub placed : IsPlaced o.contents (length file)
-  pub few : length o.symbols.items < 2 ^ 32
-  pub order : ascending (bytes_of o.symbols.items) ≡ true
   pub offsets : All (λ e. e.offset ≤ length file) o.entries.items
   pub small : All (λ e. e.offset < 2 ^ 32) o.entries.items
 
@@ -54,4 +62,4 @@ pub record IsHeldIn (file : List ℕ) (c : Checked) : Type 0 where
   pub sound : IsSoundLayout file c.layout
   pub referred : references_in_order c.bodies.series.items
       ≡ entry_references (entries_seen c.layout.entries.items)
-  pub symbols : symbol_texts c.symbols ≡ bytes_of c.layout.symbols.items
+  pub symbols : symbol_texts c.symbols ≡ bytes_of c.layout.symbols.texts.items

@@ -64,7 +64,7 @@ postings_of file t = do
 abbrev pub is_small : List Label → Bool
 is_small labels = nat_le (length labels) 64
 
--- what an index holds: its parts, the bodies of its entries, the pairs behind the empty one, and
+-- what an index holds: its parts, the bodies of its entries, the pairs after the empty one, and
 -- the bytes of all lists
 pub record Read : Type 0 where
   pub parts : Layout
@@ -102,7 +102,7 @@ indexed_of file = do
   Ok (indexed r)
 
 -- what the checks leave
-pub record IsRead (r : Read) : Type 0 where
+pub record IsSoundRead (r : Read) : Type 0 where
   pub listing : IsListing r.parts.symbols r.keys (series_in_file r) (map references_in r.lists)
   pub labelled : (k : ℕ) (d : Body) → k < length r.bodies
       → IsLabelSet (named r.parts.symbols (get_or r.bodies k d).labels)

@@ -44,7 +44,7 @@ first_at bytes = do
     maxt ← time_after mint.0 length.0
     Some (record { mint = mint.0; maxt = maxt; reference = reference.0 }, reference.1)) else None
 
--- a chunk behind another
+-- a chunk after another
 unfoldable pub later_at : Chunk → List ℕ → Option (Chunk × List ℕ)
 later_at before bytes = do
   gap ← read (uvarint_at bytes)

@@ -5,7 +5,7 @@ use Rattle.index_reader.specs.declared.error.IndexError.TheVariants.{Memory, Too
 
 -- the number of a refusal, as text
 abbrev pub code_of : IndexError → List ℕ
-code_of Memory = codes "Memory"
+code_of Memory = codes "memory"
 code_of TooShort = codes "I1"
 code_of Magic = codes "I2"
 code_of Version = codes "I3"

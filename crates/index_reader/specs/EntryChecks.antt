@@ -8,7 +8,7 @@ use Rattle.index_reader.specs.Frames.{checked_at}
 use Rattle.index_reader.specs.Layout.{SeriesEntry, rounded}
 use Rattle.wire.specs.Outcome.{◌>>=◌, or_refused}
 
--- a series entry: its body, and what stands behind it
+-- a series entry: its body, and what stands after it
 unfoldable pub entry_at : List ℕ → Result (List ℕ × List ℕ) IndexError
 entry_at bytes = or_refused SeriesCrc (uvarint_at bytes) >>= checked_at SeriesCrc
 

@@ -46,6 +46,6 @@ body_of_entry symbols p = body_at symbols p.body
 abbrev pub label_sets_in : List Label → List Series → List (List Label)
 label_sets_in labels series = map (λ s. slice_range labels s.labels_start s.labels_end) series
 
--- whether labels are below others; a beginning is smaller
+-- whether labels are below others; a prefix is smaller
 abbrev pub labels_before : List Label → List Label → Bool
 labels_before a b = is_lt (slice_cmp key_cmp a b)

@@ -5,7 +5,7 @@ use Rattle.wire.specs.Reading.{number_at, bytes_at}
 use Rattle.index_reader.specs.declared.error.IndexError.{IndexError}
 use Rattle.wire.specs.Outcome.{◌>>=◌, or_refused}
 
--- content of this length and its checksum, and what stands behind them
+-- content of this length and its checksum, and what stands after them
 abbrev pub checked_at : IndexError → ℕ × List ℕ → Result (List ℕ × List ℕ) IndexError
 checked_at e len = do
   content ← or_refused e (bytes_at len.0 len.1)

@@ -15,7 +15,7 @@ pub record Series : Type 0 where
   pub labels : Labels
   pub chunks : List Chunk
 
--- an index: its series in file order, and the pairs that it lists behind the empty one
+-- an index: its series in file order, and the pairs that it lists after the empty one
 pub record Indexed : Type 0 where
   pub series : List Series
   pub pairs : List (List ℕ × List ℕ)
@@ -57,12 +57,12 @@ pub record IsConsistent (x : Indexed) : Type 0 where
       → Contains x.pairs (name, value)
 
 -- a name and a value by their symbols, as texts
-abbrev pub text_of : List (List ℕ) → Label → List ℕ × List ℕ
-text_of symbols l = (get_or symbols l.0 [], get_or symbols l.1 [])
+abbrev pub named_label : List (List ℕ) → Label → List ℕ × List ℕ
+named_label symbols l = (get_or symbols l.0 [], get_or symbols l.1 [])
 
 -- pairs by their symbols, as texts
 abbrev pub named : List (List ℕ) → List Label → List (List ℕ × List ℕ)
-named symbols ls = map (text_of symbols) ls
+named symbols ls = map (named_label symbols) ls
 
 -- the series of an entry and its body; a reference is the sixteenth part of the entry's offset
 abbrev pub series_at : List (List ℕ) → SeriesEntry → Body → Series

@@ -4,7 +4,7 @@ use Rattle.std.specs.Prelude.{◌≡◌, ℕ, ◌+◌, ◌<◌, ◌≤◌, true,
 use Rattle.labels.specs.LabelSets.{IsLabelSet}
 use Rattle.index_reader.specs.declared.chunk.Chunk.{Chunk}
 use Rattle.index_reader.specs.declared.series.Series.{Series}
-use Rattle.index_reader.specs.Indexes.{Indexed, references, references_with, text_of, named}
+use Rattle.index_reader.specs.Indexes.{Indexed, references, references_with, named_label, named}
 use Rattle.index_reader.specs.Layout.{rises, ascending, Label}
 use Rattle.index_reader.specs.Lookups.{key_before}
 use Rattle.index_reader.specs.Indexes as indexes
@@ -33,7 +33,7 @@ abbrev pub AreInTable : List (List ℕ) → List Label → Type 0
 AreInTable symbols ls = All (λ l. (l.0 < length symbols) × (l.1 < length symbols)) ls
 
 -- the labels and the chunks of a series are there, and its labels make a label set
-pub record IsWithin (symbols : List (List ℕ)) (labels : List Label)
+pub record IsSeriesIn (symbols : List (List ℕ)) (labels : List Label)
     (chunks : List Chunk) (s : Series)
     : Type 0 where
   pub labels_ordered : s.labels_start ≤ s.labels_end
@@ -44,15 +44,15 @@ pub record IsWithin (symbols : List (List ℕ)) (labels : List Label)
   pub labelled : IsLabelSet (named symbols (slice_range labels s.labels_start s.labels_end))
 
 -- those of each series are
-abbrev pub AreWithin : List (List ℕ) → List Label → List Chunk → List Series → Type 0
-AreWithin symbols labels chunks ss = All (IsWithin symbols labels chunks) ss
+abbrev pub AreSeriesIn : List (List ℕ) → List Label → List Chunk → List Series → Type 0
+AreSeriesIn symbols labels chunks ss = All (IsSeriesIn symbols labels chunks) ss
 
 -- the references of the series that carry a label
 abbrev pub references_of_label : List (List ℕ) → Label → List indexes.Series → List ℕ
 references_of_label symbols l series =
     references_with (get_or symbols l.0 []) (get_or symbols l.1 []) series
 
--- symbols and pairs of them ascend; the first list is that of all series, and behind it stands for
+-- symbols and pairs of them ascend; the first list is that of all series, and after it stands for
 -- each pair the list of the series that carry it, of which there are some; other pairs no series
 -- carries
 pub record IsListing (symbols : List (List ℕ)) (keys : List Label) (series : List indexes.Series)
@@ -67,11 +67,11 @@ pub record IsListing (symbols : List (List ℕ)) (keys : List Label) (series : L
       → get_or lists (k + 1) [] ≡ references_of_label symbols (get_or keys k (0, 0)) series
   pub some : (k : ℕ) → k < length keys → get_or lists (k + 1) [] ≡ [] → ⊥
   pub absent : (name value : List ℕ)
-      → ((k : ℕ) → k < length keys → text_of symbols (get_or keys k (0, 0)) ≡ (name, value) → ⊥)
+      → ((k : ℕ) → k < length keys → named_label symbols (get_or keys k (0, 0)) ≡ (name, value) → ⊥)
       → references_with name value series ≡ []
 
 -- all of it
-pub record IsKept (symbols : List (List ℕ)) (keys labels : List Label) (chunks : List Chunk)
+pub record IsKeptIndex (symbols : List (List ℕ)) (keys labels : List Label) (chunks : List Chunk)
     (ss : List Series) (lists : List (List ℕ)) : Type 0 where
-  pub within : AreWithin symbols labels chunks ss
+  pub within : AreSeriesIn symbols labels chunks ss
   pub listing : IsListing symbols keys (all_in symbols labels chunks ss) lists

@@ -14,12 +14,12 @@ abbrev pub kept_lists_at : List ℕ → List ListSpan → List (List ℕ)
 kept_lists_at bytes ps = map (kept_list_at bytes) ps
 
 -- a list stands here
-pub record IsHeld (bytes : List ℕ) (p : ListSpan) : Type 0 where
+pub record IsListAt (bytes : List ℕ) (p : ListSpan) : Type 0 where
   pub ordered : p.start ≤ p.end
   pub inside : p.end ≤ length bytes
   pub whole : (p.end - p.start) % 4 ≡ 0
   pub increasing : IsStrictlyIncreasing (kept_list_at bytes p)
 
 -- a list stands at each of the places
-abbrev pub AreHeld : List ℕ → List ListSpan → Type 0
-AreHeld bytes ps = All (IsHeld bytes) ps
+abbrev pub AreListsAt : List ℕ → List ListSpan → Type 0
+AreListsAt bytes ps = All (IsListAt bytes) ps

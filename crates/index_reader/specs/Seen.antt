@@ -1,10 +1,8 @@
 -- What was read, without where it lies in memory.
 use Rattle.std.specs.Borrow.{Bor}
-use Rattle.std.specs.Prelude.{ℕ, List, map, Option, Some, None, string_bytes}
+use Rattle.std.specs.Prelude.{ℕ, List, map, string_bytes}
 use Rattle.std.specs.declared.string.String.{String}
-use Rattle.index_reader.specs.declared.chunk.Chunk.{Chunk}
 use Rattle.index_reader.specs.References.{references_in}
-use Rattle.index_reader.specs.declared.layout.Layout.{Layout}
 use Rattle.index_reader.specs.declared.series_entries.SeriesEntry.{SeriesEntry}
 use Rattle.index_reader.specs.declared.offset_table.TableEntry.{TableEntry}
 use Rattle.index_reader.specs.Layout as layout
@@ -36,17 +34,3 @@ table_entry_seen l = record { name = l.name.now; value = l.value.now; offset = l
 -- all entries of the table
 abbrev pub table_seen : List TableEntry → List layout.TableEntry
 table_seen ls = map table_entry_seen ls
-
--- the table of contents, the symbols and the entries
-abbrev pub layout_seen : Layout → layout.Layout
-layout_seen o = record {
-  contents = o.contents;
-  symbols = bytes_of o.symbols.items;
-  symbols_end = o.symbols_end;
-  entries = entries_seen o.entries.items;
-}
-
--- a chunk that was read, and the bytes behind it
-abbrev pub chunk_seen : Option (Chunk × Bor (List ℕ)) → Option (Chunk × List ℕ)
-chunk_seen (Some x) = Some (x.0, x.1.now)
-chunk_seen None = None

@@ -21,7 +21,7 @@ take_reference r lists k =
     if is_first r (get_or lists k []) then Ok (slice_set lists k (drop 1 (get_or lists k [])))
     else Err PostingsDisagree
 
--- it is taken from the list of a label, which stands behind the first
+-- it is taken from the list of a label, which stands after the first
 unfoldable pub take_label : List Label → ℕ → List (List ℕ) → Label
     → Result (List (List ℕ)) IndexError
 take_label keys r lists l = do
@@ -35,7 +35,7 @@ take_series keys lists s = do
   rest ← take_reference s.0 lists 0
   in_turn (take_label keys s.0) rest s.1
 
--- the pairs of the table behind the first, where the series in their order use up its lists
+-- the pairs of the table after the first, where the series in their order use up its lists
 unfoldable pub keys_used_up : List (List ℕ) → List TableEntry → List (List ℕ) → List Carrier
     → Result (List Label) IndexError
 keys_used_up symbols table lists series = do

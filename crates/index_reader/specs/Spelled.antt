@@ -14,7 +14,7 @@ use Rattle.index_reader.specs.Indexes.{Series, Indexed, references, references_w
 
 -- ---- labels, by the numbers of their symbols
 
--- a label of these symbols: its name is a label name that stands at this place or behind it, its
+-- a label of these symbols: its name is a label name that stands at this place or after it, its
 -- value is not empty
 pub record IsLabel (symbols : List (List ℕ)) (low : ℕ) (l : Label) : Type 0 where
   pub from : low ≤ l.0
@@ -23,7 +23,7 @@ pub record IsLabel (symbols : List (List ℕ)) (low : ℕ) (l : Label) : Type 0 
   pub name : is_name (get_or symbols l.0 []) ≡ true
   pub value : 0 < length (get_or symbols l.1 [])
 
--- each name stands behind the one before
+-- each name stands after the one before
 abbrev pub AreLabels : List (List ℕ) → ℕ → List Label → Type 0
 AreLabels symbols low [] = Unit {0}
 AreLabels symbols low (l ∷ ls) = IsLabel symbols low l × AreLabels symbols (l.0 + 1) ls
@@ -60,7 +60,7 @@ pub record IsLater (before c : Chunk) (text : List ℕ) : Type 0 where
   pub ends_in_time : is_time c.maxt ≡ true
   pub fits : c.reference < 2 ^ 64
 
--- chunks behind another, one after the other
+-- chunks after another, in their order
 abbrev pub AreLater : Chunk → List Chunk → List ℕ → Type 0
 AreLater before [] text = text ≡ []
 AreLater before (c ∷ cs) text =
@@ -142,7 +142,7 @@ abbrev pub lists_for : List (List ℕ × List ℕ) → List Series → List (Lis
 lists_for pairs series = map (λ p. references_with p.0 p.1 series) pairs
 
 -- the file is an index of these series and pairs: its layout; a body in each entry, and zeros in no
--- entry; a table that lists the empty pair with all series, and behind it exactly the pairs that
+-- entry; a table that lists the empty pair with all series, and after it exactly the pairs that
 -- series carry, each with those series; and no more than 64 labels in a series
 pub record IsIndex (file : List ℕ) (x : Indexed) : Type 0 where
   pub parts : Layout

@@ -33,7 +33,7 @@ stated_of file = do
   postings ← postings_of file parts.contents
   Ok (stated_in parts bodies postings.0 postings.1)
 
--- the pairs are the empty one and behind it exactly those that series carry; the empty pair lists
+-- the pairs are the empty one and after it exactly those that series carry; the empty pair lists
 -- all series, and each other pair the series that carry it
 pub record Agrees (stated : Stated) : Type 0 where
   pub others : List (List ℕ × List ℕ)

@@ -12,7 +12,7 @@ steps step (suc n) s = do
   others ← steps step n first.1
   Ok (first.0 ∷ others.0, others.1)
 
--- behind what was there before
+-- after what was there before
 abbrev pub with_front : {S X : Type 0}
     → List X → Result (List X × S) IndexError → Result (List X × S) IndexError
 with_front front (Ok x) = Ok (front ++ x.0, x.1)

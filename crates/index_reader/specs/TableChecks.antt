@@ -16,7 +16,7 @@ text_at bytes = do
   len ← or_refused Offsets (uvarint_at bytes)
   or_refused Offsets (bytes_at len.0 len.1)
 
--- an entry of the table, and what stands behind it
+-- an entry of the table, and what stands after it
 unfoldable pub table_entry_at : List ℕ → Result (TableEntry × List ℕ) IndexError
 table_entry_at bytes = do
   tag ← or_refused Offsets (byte_at bytes)

@@ -21,7 +21,7 @@ use byteorder::{BigEndian, ByteOrder};
 use std::alloc::{AllocError, Global};
 
 #[tactic(auto, using(crate::proofs::Firsts::of_firsts))]
-fn first_of(bytes: &[u8]) -> Option<(u32, &[u8])>
+fn first_reference(bytes: &[u8]) -> Option<(u32, &[u8])>
     ensures { MatchOption result (references_in bytes.now ≡ [])
         (λ x. references_in bytes.now ≡ x.0 ∷ references_in x.1.now) }
 {
@@ -36,7 +36,7 @@ fn first_of(bytes: &[u8]) -> Option<(u32, &[u8])>
 fn is_empty(bytes: &[u8]) -> bool
     ensures { result ≡ (length (references_in bytes.now) == 0) }
 {
-    first_of(bytes).is_none()
+    first_reference(bytes).is_none()
 }
 
 // Takes the reference from the front of the list at a place, where it stands there.
@@ -51,7 +51,7 @@ fn take_reference<'a>(
     ensures counted { length lists.new.items ≡ length lists.old.items }
 {
     let list = lists[place];
-    let Some((first, after)) = first_of(list) else {
+    let Some((first, after)) = first_reference(list) else {
         return Err(IndexError::PostingsDisagree);
     };
     if first != reference {
@@ -169,7 +169,7 @@ fn have_bytes(lists: &[&[u8]]) -> bool
     lists.iter().all(|list| list.len() > 0)
 }
 
-// Whether no list behind the first is empty.
+// Whether no list after the first is empty.
 #[tactic(auto, using(crate::proofs::Placing::used_behind))]
 fn are_used(lists: &[&[u8]]) -> bool
     ensures { result ≡ are_used (bytes_of lists.now) }
@@ -208,7 +208,7 @@ fn use_up_lists(
     Ok(keys)
 }
 
-/// The pairs of the table behind the empty one, where its lists are exactly the references of the
+/// The pairs of the table after the empty one, where its lists are exactly the references of the
 /// series that carry them. It looks at each label of each series once, and keeps no list of them.
 pub fn check_agreement(
     alloc: Global,

@@ -15,11 +15,12 @@ use crate::chunk::Chunk;
 use crate::error::IndexError;
 use crate::series::Series;
 use crate::series_entries::{SeriesEntry, entry_at, reference_at};
+use crate::symbols::SymbolTable;
 use labels::SeriesRef;
 use std::alloc::Global;
 use std::cmp::Ordering;
 
-/// The labels and the chunks of all bodies, one body behind the other, and the series of each.
+/// The labels and the chunks of all bodies, one body after the other, and the series of each.
 #[derive(Drop)]
 pub struct Bodies {
     pub labels: Vec<(u32, u32)>,
@@ -45,13 +46,12 @@ pub fn flat_parts(bodies: Bodies) -> (Vec<(u32, u32)>, Vec<Chunk>, Vec<Series>)
 /// The bodies of all entries.
 pub fn bodies_of(
     alloc: Global,
-    symbols: &[&str],
+    symbols: &SymbolTable<'_>,
     entries: &[SeriesEntry<'_>],
 ) -> Result<Bodies, IndexError>
-    requires few { length symbols.now < 2 ^ 32 }
-    requires small { All (λ e. e.offset < 2 ^ 32) entries.now }
+    requires { All (λ e. e.offset < 2 ^ 32) entries.now }
     ensures exact { Gives (λ b. bodies_in b.labels.items b.chunks.items b.series.items) result
-        (each (body_of_entry (bytes_of symbols.now)) (entries_seen entries.now)) }
+        (each (body_of_entry (bytes_of symbols.now.texts.items)) (entries_seen entries.now)) }
     ensures referred { IfOk result (λ b. references_in_order b.series.items
         ≡ entry_references (entries_seen entries.now)) }
 {

@@ -7,149 +7,134 @@ ghost use Rattle.labels.specs.Contents.{is_time};
 ghost use Rattle.index_reader.specs.Steps.{steps, with_front};
 ghost use Rattle.index_reader.specs.BodyChecks.{is_label, label_at, labels_at, chunk_at, chunks_at, body_at, behind_both};
 
-use crate::chunk::{Chunk, first_of, later_of};
+use crate::chunk::{Chunk, read_first, read_later};
 use crate::error::IndexError;
+use crate::symbols::SymbolTable;
 use labels::is_name;
 use wire::Cut;
 
 #[tactic(auto, unfolding(crate::specs::BodyChecks::is_label))]
-fn is_label(symbols: &[&str], low: u64, name: u64, value: u64) -> bool
-    ensures exact { result ≡ is_label (bytes_of symbols.now) low name value }
-    ensures within { IsTrue result → (name < length symbols.now) × (value < length symbols.now) }
+fn is_label(symbols: &SymbolTable<'_>, low: u64, name: u64, value: u64) -> bool
+    ensures exact { result ≡ is_label (bytes_of symbols.now.texts.items) low name value }
+    ensures within { IsTrue result → (name < length symbols.now.texts.items)
+        × (value < length symbols.now.texts.items) }
 {
-    let within = (low <= name) & (name < symbols.len() as u64) & (value < symbols.len() as u64);
+    let count = symbols.texts.len() as u64;
+    let within = (low <= name) & (name < count) & (value < count);
     if !within {
         return false;
     }
-    is_name(symbols[name as usize]) & !symbols[value as usize].is_empty()
+    is_name(symbols.texts[name as usize]) & !symbols.texts[value as usize].is_empty()
 }
 
 #[tactic(auto, unfolding(crate::specs::BodyChecks::label_at))]
-fn label_of<'a>(
-    symbols: &[&str],
+fn read_label(
+    symbols: &SymbolTable<'_>,
     low: u64,
-    bytes: &'a [u8],
-) -> Result<((u32, u32), (u64, &'a [u8])), IndexError>
-    requires { length symbols.now < 2 ^ 32 }
-    ensures { Gives (λ x. (x.0, (x.1.0, x.1.1.now))) result
-        (label_at (bytes_of symbols.now) (low, bytes.now)) }
+    cut: &mut Cut<'_>,
+) -> Result<(u32, u32), IndexError>
+    ensures { Gives (λ l. (l, (l.0 + 1, cut.new))) result
+        (label_at (bytes_of symbols.now.texts.items) (low, cut.old)) }
 {
-    let mut cut = Cut::new(bytes);
     let name = cut.uvarint().or(Err(IndexError::Series))?;
     let value = cut.uvarint().or(Err(IndexError::Series))?;
     if !is_label(symbols, low, name, value) {
         return Err(IndexError::Series);
     }
-    Ok(((name as u32, value as u32), (name + 1, cut.rest())))
+    Ok((name as u32, value as u32))
 }
 
-fn more_labels<'a>(
-    symbols: &[&str],
+fn more_labels(
+    symbols: &SymbolTable<'_>,
     count: u64,
-    bytes: &'a [u8],
+    cut: &mut Cut<'_>,
     labels: &mut Vec<(u32, u32)>,
-) -> Result<(u64, &'a [u8]), IndexError>
-    requires { length symbols.now < 2 ^ 32 }
-    ensures { Gives (λ x. (labels.new.items, (x.0, x.1.now))) result
+) -> Result<u64, IndexError>
+    ensures { Gives (λ low. (labels.new.items, (low, cut.new))) result
         (with_front labels.old.items
-        (steps (label_at (bytes_of symbols.now)) count (0, bytes.now))) }
+        (steps (label_at (bytes_of symbols.now.texts.items)) count (0, cut.old))) }
 {
     let mut low = 0;
-    let mut rest = bytes;
     for _ in 0..count {
-        let (label, after) = label_of(symbols, low, rest)?;
+        let label = read_label(symbols, low, cut)?;
         labels.push(label)?;
-        low = after.0;
-        rest = after.1;
+        low = u64::from(label.0) + 1;
     }
-    Ok((low, rest))
+    Ok(low)
 }
 
-/// Adds the labels of a body, and gives what stands behind them.
+/// Adds the labels of a body, and gives the symbol from which a further name would begin.
 #[tactic(auto, unfolding(crate::specs::BodyChecks::labels_at))]
-pub fn labels_into<'a>(
-    symbols: &[&str],
-    bytes: &'a [u8],
+pub fn labels_into(
+    symbols: &SymbolTable<'_>,
+    cut: &mut Cut<'_>,
     labels: &mut Vec<(u32, u32)>,
-) -> Result<(u64, &'a [u8]), IndexError>
-    requires { length symbols.now < 2 ^ 32 }
-    ensures { Gives (λ x. (labels.new.items, (x.0, x.1.now))) result
-        (with_front labels.old.items (labels_at (bytes_of symbols.now) bytes.now)) }
+) -> Result<u64, IndexError>
+    ensures { Gives (λ low. (labels.new.items, (low, cut.new))) result
+        (with_front labels.old.items (labels_at (bytes_of symbols.now.texts.items) cut.old)) }
 {
-    let mut cut = Cut::new(bytes);
     let count = cut.uvarint().or(Err(IndexError::Series))?;
-    more_labels(symbols, count, cut.rest(), labels)
+    more_labels(symbols, count, cut, labels)
 }
 
 #[tactic(auto, unfolding(crate::specs::BodyChecks::chunk_at))]
-fn chunk_of(before: Chunk, bytes: &[u8]) -> Result<(Chunk, (Chunk, &[u8])), IndexError>
+fn read_chunk(before: Chunk, cut: &mut Cut<'_>) -> Result<Chunk, IndexError>
     requires { is_time before.maxt ≡ true }
-    ensures exact { Gives (λ x. (x.0, (x.1.0, x.1.1.now))) result (chunk_at (before, bytes.now)) }
-    ensures times { IfOk result (λ x. is_time x.1.0.maxt ≡ true) }
+    ensures exact { Gives (λ c. (c, (c, cut.new))) result (chunk_at (before, cut.old)) }
+    ensures times { IfOk result (λ c. is_time c.maxt ≡ true) }
 {
-    let Some((chunk, after)) = later_of(before, bytes) else {
-        return Err(IndexError::Series);
-    };
-    Ok((chunk, (chunk, after)))
+    read_later(before, cut).ok_or(IndexError::Series)
 }
 
-fn more_chunks<'a>(
+fn more_chunks(
     first: Chunk,
     count: u64,
-    bytes: &'a [u8],
+    cut: &mut Cut<'_>,
     chunks: &mut Vec<Chunk>,
-) -> Result<(Chunk, &'a [u8]), IndexError>
+) -> Result<Chunk, IndexError>
     requires { is_time first.maxt ≡ true }
-    ensures { Gives (λ x. (chunks.new.items, (x.0, x.1.now))) result
-        (with_front chunks.old.items (steps chunk_at count (first, bytes.now))) }
+    ensures { Gives (λ c. (chunks.new.items, (c, cut.new))) result
+        (with_front chunks.old.items (steps chunk_at count (first, cut.old))) }
 {
     let mut before = first;
-    let mut rest = bytes;
     for _ in 0..count {
-        let (chunk, after) = chunk_of(before, rest)?;
+        let chunk = read_chunk(before, cut)?;
         chunks.push(chunk)?;
-        before = after.0;
-        rest = after.1;
+        before = chunk;
     }
-    Ok((before, rest))
+    Ok(before)
 }
 
-/// Adds the chunks of a body, and gives what stands behind them.
+/// Adds the chunks of a body, and gives the last.
 #[tactic(auto, using(crate::proofs::Stepping::behind_front), unfolding(crate::specs::BodyChecks::chunks_at))]
-pub fn chunks_into<'a>(
-    bytes: &'a [u8],
-    chunks: &mut Vec<Chunk>,
-) -> Result<(Chunk, &'a [u8]), IndexError>
-    ensures { Gives (λ x. (chunks.new.items, (x.0, x.1.now))) result
-        (with_front chunks.old.items (chunks_at bytes.now)) }
+pub fn chunks_into(cut: &mut Cut<'_>, chunks: &mut Vec<Chunk>) -> Result<Chunk, IndexError>
+    ensures { Gives (λ c. (chunks.new.items, (c, cut.new))) result
+        (with_front chunks.old.items (chunks_at cut.old)) }
 {
-    let mut cut = Cut::new(bytes);
     let count = cut.uvarint().or(Err(IndexError::Series))?;
     if count == 0 {
         return Err(IndexError::Series);
     }
-    let Some((first, rest)) = first_of(cut.rest()) else {
-        return Err(IndexError::Series);
-    };
+    let first = read_first(cut).ok_or(IndexError::Series)?;
     chunks.push(first)?;
-    more_chunks(first, count - 1, rest, chunks)
+    more_chunks(first, count - 1, cut, chunks)
 }
 
 /// Adds the labels and the chunks of a body.
 pub fn body_into(
-    symbols: &[&str],
+    symbols: &SymbolTable<'_>,
     body: &[u8],
     labels: &mut Vec<(u32, u32)>,
     chunks: &mut Vec<Chunk>,
 ) -> Result<(), IndexError>
-    requires { length symbols.now < 2 ^ 32 }
     ensures { Gives (λ _. (labels.new.items, chunks.new.items)) result
         (behind_both labels.old.items chunks.old.items
-        (body_at (bytes_of symbols.now) body.now)) }
+        (body_at (bytes_of symbols.now.texts.items) body.now)) }
 {
-    let (_, rest) = labels_into(symbols, body, labels)?;
-    let (_, rest) = chunks_into(rest, chunks)?;
-    if !rest.is_empty() {
+    let mut cut = Cut::new(body);
+    labels_into(symbols, &mut cut, labels)?;
+    chunks_into(&mut cut, chunks)?;
+    if !cut.is_empty() {
         return Err(IndexError::Series);
     }
     Ok(())

@@ -2,12 +2,12 @@
 
 ghost use Rattle.std.specs.Prelude.{◌≡◌, length, IfOk};
 ghost use Rattle.index_reader.specs.AgreementChecks.{entry_references};
-ghost use Rattle.index_reader.specs.CheckedFile.{bodies_seen, read_seen, IsHeldIn, IsSoundLayout};
-ghost use Rattle.index_reader.specs.Checks.{bodies_of, postings_of, read_of, indexed, IsRead};
+ghost use Rattle.index_reader.specs.CheckedFile.{bodies_seen, read_seen, IsHeldIn, IsSoundLayout, layout_seen};
+ghost use Rattle.index_reader.specs.Checks.{bodies_of, postings_of, read_of, indexed, IsSoundRead};
 ghost use Rattle.index_reader.specs.FlatBodies.{references_in_order};
 ghost use Rattle.index_reader.specs.Layout.{IsPlaced};
 ghost use Rattle.index_reader.specs.Outcome.{Gives};
-ghost use Rattle.index_reader.specs.Seen.{bytes_of, entries_seen, layout_seen, table_seen};
+ghost use Rattle.index_reader.specs.Seen.{bytes_of, entries_seen, table_seen};
 ghost use Rattle.index_reader.specs.Spelled.{IsIndex};
 
 use crate::agreement::check_agreement;
@@ -103,7 +103,7 @@ pub fn check_all(alloc: Global, file: &[u8]) -> Result<Checked<'_>, IndexError>
 pub fn check(alloc: Global, file: &[u8]) -> Result<Checked<'_>, IndexError>
     ensures exact { Gives read_seen result (read_of file.now) }
     ensures held { IfOk result (IsHeldIn file.now) }
-    ensures read { IfOk result (λ c. IsRead (read_seen c)) }
+    ensures read { IfOk result (λ c. IsSoundRead (read_seen c)) }
     ensures spelled { IfOk result (λ c. IsIndex file.now (indexed (read_seen c))) }
 {
     check_all(alloc, file)

@@ -1,8 +1,8 @@
 //! The chunks of a series body.
-ghost use Rattle.std.specs.Prelude.{◌≡◌, ◌<◌, IsTrue, true, IfSome};
+
+ghost use Rattle.std.specs.Prelude.{◌≡◌, ◌<◌, IsTrue, true, IfSome, MatchOption, Some, None};
 ghost use Rattle.labels.specs.Contents.{is_time};
 ghost use Rattle.index_reader.specs.ChunkChecks.{time_after, reference_after, first_at, later_at};
-ghost use Rattle.index_reader.specs.Seen.{chunk_seen};
 
 use labels::{MAX_TIME, is_time};
 use wire::Cut;
@@ -39,11 +39,11 @@ fn reference_after(before: u64, step: i64) -> Option<u64>
 }
 
 #[tactic(auto, unfolding(crate::specs::ChunkChecks::first_at))]
-pub fn first_of(bytes: &[u8]) -> Option<(Chunk, &[u8])>
-    ensures exact { chunk_seen result ≡ first_at bytes.now }
-    ensures times { IfSome result (λ x. is_time x.0.maxt ≡ true) }
+pub fn read_first(cut: &mut Cut<'_>) -> Option<Chunk>
+    ensures exact { MatchOption result (first_at cut.old ≡ None)
+        (λ c. first_at cut.old ≡ Some (c, cut.new)) }
+    ensures times { IfSome result (λ c. is_time c.maxt ≡ true) }
 {
-    let mut cut = Cut::new(bytes);
     let mint = cut.varint().ok()?;
     let length = cut.uvarint().ok()?;
     let reference = cut.uvarint().ok()?;
@@ -51,23 +51,20 @@ pub fn first_of(bytes: &[u8]) -> Option<(Chunk, &[u8])>
         return None;
     }
     let maxt = time_after(mint, length)?;
-    Some((
-        Chunk {
-            mint,
-            maxt,
-            reference,
-        },
-        cut.rest(),
-    ))
+    Some(Chunk {
+        mint,
+        maxt,
+        reference,
+    })
 }
 
 #[tactic(auto, unfolding(crate::specs::ChunkChecks::later_at))]
-pub fn later_of(before: Chunk, bytes: &[u8]) -> Option<(Chunk, &[u8])>
+pub fn read_later(before: Chunk, cut: &mut Cut<'_>) -> Option<Chunk>
     requires { is_time before.maxt ≡ true }
-    ensures exact { chunk_seen result ≡ later_at before bytes.now }
-    ensures times { IfSome result (λ x. is_time x.0.maxt ≡ true) }
+    ensures exact { MatchOption result (later_at before cut.old ≡ None)
+        (λ c. later_at before cut.old ≡ Some (c, cut.new)) }
+    ensures times { IfSome result (λ c. is_time c.maxt ≡ true) }
 {
-    let mut cut = Cut::new(bytes);
     let gap = cut.uvarint().ok()?;
     let length = cut.uvarint().ok()?;
     let step = cut.varint().ok()?;
@@ -77,12 +74,9 @@ pub fn later_of(before: Chunk, bytes: &[u8]) -> Option<(Chunk, &[u8])>
     let mint = time_after(before.maxt, gap)?;
     let maxt = time_after(mint, length)?;
     let reference = reference_after(before.reference, step)?;
-    Some((
-        Chunk {
-            mint,
-            maxt,
-            reference,
-        },
-        cut.rest(),
-    ))
+    Some(Chunk {
+        mint,
+        maxt,
+        reference,
+    })
 }

@@ -54,7 +54,7 @@ impl IndexError {
         ensures { result.now ≡ code_of self }
     {
         match self {
-            IndexError::Memory => "Memory",
+            IndexError::Memory => "memory",
             IndexError::TooShort => "I1",
             IndexError::Magic => "I2",
             IndexError::Version => "I3",

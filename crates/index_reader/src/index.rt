@@ -39,12 +39,12 @@ impl Model for Index {
     ghost Value = { Indexed };
 
     ghost use Rattle.index_reader.specs.Seen.{strings_of};
-    ghost use Rattle.index_reader.specs.KeptIndex.{indexed_in, IsKept};
+    ghost use Rattle.index_reader.specs.KeptIndex.{indexed_in, IsKeptIndex};
 
     ghost view = { λ x. indexed_in (strings_of x.symbols.texts.items)
         x.keys.pairs.items x.labels.items x.chunks.items x.series.items };
 
-    ghost invariant = { λ x. IsKept (strings_of x.symbols.texts.items)
+    ghost invariant = { λ x. IsKeptIndex (strings_of x.symbols.texts.items)
         x.keys.pairs.items x.labels.items x.chunks.items x.series.items x.lists };
 }
 
@@ -157,9 +157,7 @@ impl Index {
         ensures some { IfSome result
             (λ e. references_with name.now value.now self.now.series ≡ [] → ⊥) }
     {
-        let Some(at) = place_of_pair(&self.symbols, &self.keys, name, value) else {
-            return None;
-        };
+        let at = place_of_pair(&self.symbols, &self.keys, name, value)?;
         Some(self.lists.entries_at(at + 1))
     }
 

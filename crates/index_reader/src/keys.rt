@@ -82,17 +82,10 @@ fn is_before(a: (u32, u32), b: (u32, u32)) -> bool
 }
 
 /// Whether each pair is below the next.
-pub fn are_rising(keys: &[(u32, u32)]) -> bool
+pub fn is_rising(keys: &[(u32, u32)]) -> bool
     ensures { result ≡ rises key_before keys.now }
 {
-    let mut at = 1;
-    while at < keys.len() {
-        if !is_before(key_in(keys, at - 1), key_in(keys, at)) {
-            return false;
-        }
-        at += 1;
-    }
-    true
+    keys.is_sorted_by(|a, b| is_before(*a, *b))
 }
 
 /// How many of ascending pairs have a name below this one.

@@ -5,18 +5,17 @@ ghost use Rattle.std.specs.Prelude.{◌≡◌, ◌+◌, ◌≤◌, length, IfOk,
 ghost use Rattle.byteorder.specs.Endian.{big_number};
 ghost use Rattle.wire.specs.Checksum.{crc32c};
 ghost use Rattle.index_reader.specs.Checks.{layout_of};
-ghost use Rattle.index_reader.specs.CheckedFile.{IsSoundLayout};
+ghost use Rattle.index_reader.specs.CheckedFile.{IsSoundLayout, layout_seen};
 ghost use Rattle.index_reader.specs.Frames.{checked_at, frame_at};
 ghost use Rattle.index_reader.specs.Grammar.{IsLayout};
 ghost use Rattle.index_reader.specs.HeadChecks.{contents_at, contents_of, in_order, head_of};
 ghost use Rattle.index_reader.specs.Layout.{series_end, IsPlaced};
 ghost use Rattle.index_reader.specs.Outcome.{Gives};
-ghost use Rattle.index_reader.specs.Seen.{layout_seen};
 ghost use Rattle.index_reader.specs.Layout as layout;
 
 use crate::error::IndexError;
 use crate::series_entries::{SeriesEntry, entries_of};
-use crate::symbols::symbols_of;
+use crate::symbols::{SymbolTable, symbols_of};
 use byteorder::{BigEndian, ByteOrder};
 use std::alloc::Global;
 use wire::{Cut, crc32c};
@@ -39,7 +38,7 @@ pub const LIMIT: usize = 0x4000_0000;
 #[derive(Drop)]
 pub struct Layout<'a> {
     pub contents: TableOfContents,
-    pub symbols: Vec<&'a str>,
+    pub symbols: SymbolTable<'a>,
     pub symbols_end: usize,
     pub entries: Vec<SeriesEntry<'a>>,
 }

@@ -16,7 +16,7 @@ struct ListSpan {
     end: usize,
 }
 
-/// Lists of ascending references, one behind the other in one buffer.
+/// Lists of ascending references, one after the other in one buffer.
 #[derive(Debug, Drop)]
 pub struct Lists {
     bytes: Vec<u8>,
@@ -28,11 +28,11 @@ impl Model for Lists {
 
     ghost Value = { List (List ℕ) };
 
-    ghost use Rattle.index_reader.specs.KeptLists.{kept_lists_at, AreHeld};
+    ghost use Rattle.index_reader.specs.KeptLists.{kept_lists_at, AreListsAt};
 
     ghost view = { λ l. kept_lists_at l.bytes.items l.spans.items };
 
-    ghost invariant = { λ l. AreHeld l.bytes.items l.spans.items };
+    ghost invariant = { λ l. AreListsAt l.bytes.items l.spans.items };
 }
 
 impl Lists {

@@ -83,14 +83,7 @@ pub fn table_entry_at<'a>(table: &[TableEntry<'a>], i: usize) -> TableEntry<'a>
 fn is_rising(table: &[TableEntry<'_>]) -> bool
     ensures { result ≡ rises is_before (table_seen table.now) }
 {
-    let mut at = 1;
-    while at < table.len() {
-        if !is_before(&table_entry_at(table, at - 1), &table_entry_at(table, at)) {
-            return false;
-        }
-        at += 1;
-    }
-    true
+    table.is_sorted_by(is_before)
 }
 
 fn all_within(table: &[TableEntry<'_>], from: u64, to: u64) -> bool

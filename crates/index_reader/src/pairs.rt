@@ -3,14 +3,14 @@
 ghost use Rattle.std.specs.Prelude.{◌≡◌, ◌+◌, ◌<◌, ◌≤◌, length, slice_range, map, slice_get, Some, IfOk, ℕ, [], IfSome, IfNone, get_or};
 ghost use Rattle.index_reader.specs.AgreementChecks.{key_at, keys_at};
 ghost use Rattle.index_reader.specs.CheckedFile.{symbol_texts, pair_texts};
-ghost use Rattle.index_reader.specs.Indexes.{values_of, text_of};
+ghost use Rattle.index_reader.specs.Indexes.{values_of, named_label};
 ghost use Rattle.index_reader.specs.KeptIndex.{AreInTable};
 ghost use Rattle.index_reader.specs.Outcome.{Gives};
 ghost use Rattle.index_reader.specs.Seen.{table_entry_seen, table_seen};
 ghost use Rattle.index_reader.specs.Steps.{each};
 
 use crate::error::IndexError;
-use crate::keys::{Keys, are_rising, count_below, pair_at, place_of};
+use crate::keys::{Keys, count_below, is_rising, pair_at, place_of};
 use crate::offset_table::{TableEntry, table_entry_at};
 use crate::symbols::{Symbols, find_symbol, find_symbol_near, text_in};
 use std::alloc::Global;
@@ -24,12 +24,9 @@ fn key_of(
     ensures { Gives (λ k. k) result
         (key_at (symbol_texts symbols.now) (table_entry_seen listed.now)) }
 {
-    let Some(name) = find_symbol_near(symbols, guess.0, listed.name) else {
-        return Err(IndexError::PostingsDisagree);
-    };
-    let Some(value) = find_symbol_near(symbols, guess.1, listed.value) else {
-        return Err(IndexError::PostingsDisagree);
-    };
+    let fault = IndexError::PostingsDisagree;
+    let name = find_symbol_near(symbols, guess.0, listed.name).ok_or(fault)?;
+    let value = find_symbol_near(symbols, guess.1, listed.value).ok_or(fault)?;
     Ok((name as u32, value as u32))
 }
 
@@ -43,7 +40,7 @@ fn keys_of_entries(
     ensures counted { IfOk result (λ v. length v.items ≡ length table.now) }
 {
     let mut keys = Vec::with_capacity(alloc, table.len())?;
-    // Entries ascend, so the next often has the name of the last and the symbol behind its value.
+    // Entries ascend, so the next often has the name of the last and the symbol after its value.
     let mut guess = (0usize, 0usize);
     for at in 0..table.len() {
         let listed = table_entry_at(table, at);
@@ -54,7 +51,7 @@ fn keys_of_entries(
     Ok(keys)
 }
 
-/// The pairs of the table behind the empty one.
+/// The pairs of the table after the empty one.
 #[tactic(auto, unfolding(crate::specs::AgreementChecks::keys_at))]
 pub fn keys_of(
     alloc: Global,
@@ -73,7 +70,7 @@ pub fn keys_of(
         return Err(IndexError::PostingsDisagree);
     }
     let pairs = keys_of_entries(alloc, symbols, rest)?;
-    if !are_rising(&pairs) {
+    if !is_rising(&pairs) {
         return Err(IndexError::PostingsDisagree);
     }
     Ok(Keys { pairs })
@@ -83,18 +80,14 @@ pub fn keys_of(
 pub fn place_of_pair(symbols: &Symbols, keys: &Keys, name: &str, value: &str) -> Option<usize>
     requires inside { AreInTable (symbol_texts symbols.now) keys.now.pairs.items }
     ensures found { IfSome result (λ i. (i < length keys.now.pairs.items)
-        × (text_of (symbol_texts symbols.now) (get_or keys.now.pairs.items i (0, 0))
+        × (named_label (symbol_texts symbols.now) (get_or keys.now.pairs.items i (0, 0))
         ≡ (name.now, value.now))) }
     ensures absent { IfNone result ((k : ℕ) → k < length keys.now.pairs.items
-        → text_of (symbol_texts symbols.now) (get_or keys.now.pairs.items k (0, 0))
+        → named_label (symbol_texts symbols.now) (get_or keys.now.pairs.items k (0, 0))
         ≡ (name.now, value.now) → ⊥) }
 {
-    let Some(first) = find_symbol(symbols, name.as_bytes()) else {
-        return None;
-    };
-    let Some(second) = find_symbol(symbols, value.as_bytes()) else {
-        return None;
-    };
+    let first = find_symbol(symbols, name.as_bytes())?;
+    let second = find_symbol(symbols, value.as_bytes())?;
     place_of(keys, (first as u32, second as u32))
 }
 

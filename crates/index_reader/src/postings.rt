@@ -104,7 +104,7 @@ fn is_less(a: u32, b: u32) -> bool
     a < b
 }
 
-fn are_rising(bytes: &[u8]) -> bool
+fn is_rising(bytes: &[u8]) -> bool
     ensures { result ≡ rises nat_lt (references_in bytes.now) }
 {
     let len = bytes.len() / 4;
@@ -125,7 +125,7 @@ fn references_of(content: &[u8]) -> Result<&[u8], IndexError>
     let mut cut = Cut::new(content);
     let count = cut.be32().or(Err(IndexError::Postings))?;
     let rest = cut.rest();
-    let whole = (rest.len() as u64 == 4 * u64::from(count)) & are_rising(rest);
+    let whole = (rest.len() as u64 == 4 * u64::from(count)) & is_rising(rest);
     if !whole {
         return Err(IndexError::Postings);
     }

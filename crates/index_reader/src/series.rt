@@ -4,7 +4,7 @@ ghost use Rattle.std.specs.Prelude.{◌≡◌, ◌<◌, length, IfOk};
 ghost use Rattle.labels.specs.LabelSets.{IsLabelSet};
 ghost use Rattle.labels.specs.Pairs.{texts_of};
 ghost use Rattle.index_reader.specs.CheckedFile.{symbol_texts};
-ghost use Rattle.index_reader.specs.Indexes.{text_of, named};
+ghost use Rattle.index_reader.specs.Indexes.{named_label, named};
 ghost use Rattle.index_reader.specs.KeptIndex.{AreInTable};
 
 use crate::keys::key_in;
@@ -26,7 +26,7 @@ pub struct Series {
 fn pair_of(symbols: &Symbols, label: (u32, u32)) -> (&str, &str)
     requires { (label.0 < length symbols.now.texts.items)
         × (label.1 < length symbols.now.texts.items) }
-    ensures { (result.0.now, result.1.now) ≡ text_of (symbol_texts symbols.now) label }
+    ensures { (result.0.now, result.1.now) ≡ named_label (symbol_texts symbols.now) label }
 {
     (
         text_in(symbols, label.0 as usize),

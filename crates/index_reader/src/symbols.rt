@@ -21,7 +21,15 @@ pub struct Symbols {
     ghost order: { ascending (strings_of texts.items) ≡ true },
 }
 
-fn text_of(bytes: &[u8]) -> Option<&str>
+/// The same, in place in the file.
+#[derive(Drop)]
+pub struct SymbolTable<'a> {
+    pub texts: Vec<&'a str>,
+    ghost few: { length texts.items < 2 ^ 32 },
+    ghost order: { ascending (bytes_of texts.items) ≡ true },
+}
+
+fn utf8_text(bytes: &[u8]) -> Option<&str>
     ensures { MatchOption result (is_utf8 bytes.now ≡ false)
         (λ s. (is_utf8 bytes.now ≡ true) × (s.now ≡ bytes.now)) }
 {
@@ -34,7 +42,7 @@ fn read_symbol<'a>(cut: &mut Cut<'a>) -> Result<&'a str, IndexError>
 {
     let len = cut.uvarint().or(Err(IndexError::Symbols))?;
     let text = cut.bytes(len as usize).or(Err(IndexError::Symbols))?;
-    text_of(text).ok_or(IndexError::Symbols)
+    utf8_text(text).ok_or(IndexError::Symbols)
 }
 
 fn symbols_from<'a>(
@@ -42,7 +50,8 @@ fn symbols_from<'a>(
     count: u32,
     cut: &mut Cut<'a>,
 ) -> Result<Vec<&'a str>, IndexError>
-    ensures { Gives (λ v. (bytes_of v.items, cut.new)) result (symbols_from count cut.old) }
+    ensures exact { Gives (λ v. (bytes_of v.items, cut.new)) result (symbols_from count cut.old) }
+    ensures counted { IfOk result (λ v. length v.items ≡ count) }
 {
     let mut symbols = Vec::new(alloc);
     for _ in 0..count {
@@ -57,34 +66,25 @@ fn is_less(a: &[u8], b: &[u8]) -> bool
     matches!(a.cmp(b), Ordering::Less)
 }
 
-fn is_ascending(symbols: &[&str]) -> bool
+fn is_rising(symbols: &[&str]) -> bool
     ensures { result ≡ ascending (bytes_of symbols.now) }
 {
-    let mut at = 1;
-    while at < symbols.len() {
-        let before = symbols[at - 1];
-        let next = symbols[at];
-        if !is_less(before.as_bytes(), next.as_bytes()) {
-            return false;
-        }
-        at += 1;
-    }
-    true
+    symbols.is_sorted_by(|a, b| is_less(a.as_bytes(), b.as_bytes()))
 }
 
 /// The symbols of the content of a symbol table.
 #[tactic(auto, unfolding(crate::specs::SymbolChecks::symbols_of))]
-pub fn symbols_of(alloc: Global, content: &[u8]) -> Result<Vec<&str>, IndexError>
-    ensures { Gives (λ v. bytes_of v.items) result (symbols_of content.now) }
+pub fn symbols_of(alloc: Global, content: &[u8]) -> Result<SymbolTable<'_>, IndexError>
+    ensures { Gives (λ t. bytes_of t.texts.items) result (symbols_of content.now) }
 {
     let mut cut = Cut::new(content);
     let count = cut.be32().or(Err(IndexError::Symbols))?;
-    let symbols = symbols_from(alloc, count, &mut cut)?;
-    let whole = cut.is_empty() & is_ascending(&symbols);
+    let texts = symbols_from(alloc, count, &mut cut)?;
+    let whole = cut.is_empty() & is_rising(&texts);
     if !whole {
         return Err(IndexError::Symbols);
     }
-    Ok(symbols)
+    Ok(SymbolTable { texts })
 }
 
 fn text_at<'a>(symbols: &[&'a str], i: usize) -> &'a str
@@ -108,12 +108,10 @@ fn copy_texts(alloc: Global, symbols: &[&str]) -> Result<Vec<String>, AllocError
 }
 
 /// The symbols as texts of their own.
-pub fn copy_symbols(alloc: Global, symbols: &[&str]) -> Result<Symbols, AllocError>
-    requires few { length symbols.now < 2 ^ 32 }
-    requires order { ascending (bytes_of symbols.now) ≡ true }
-    ensures { IfOk result (λ v. strings_of v.texts.items ≡ bytes_of symbols.now) }
+pub fn copy_symbols(alloc: Global, symbols: &SymbolTable<'_>) -> Result<Symbols, AllocError>
+    ensures { IfOk result (λ v. strings_of v.texts.items ≡ bytes_of symbols.now.texts.items) }
 {
-    let texts = copy_texts(alloc, symbols)?;
+    let texts = copy_texts(alloc, &symbols.texts)?;
     Ok(Symbols { texts })
 }
 

@@ -80,7 +80,7 @@ returns-in_err-body_into-clause-exact c =
     let p =
     err_from_is_err_and c.from_residual-in_err-body_into.result
     c.from_residual-in_err-body_into.ensures.1 in
-    rw (p.1, p.2) (each_fails (body_of_entry (bytes_of c.args.symbols.now))
+    rw (p.1, p.2) (each_fails (body_of_entry (bytes_of c.args.symbols.now.texts.items))
     c.in_err-body_into.field-0.0 (entries_seen c.args.entries.now) c.loop-at.at _
     (bodies_in c.loop-at.labels.items c.loop-at.chunks.items c.loop-at.series.items) _
     c.entry_at-entry.ensures.seen (both_fails c.in_err-body_into.field-0.0 _ _ _
@@ -89,8 +89,9 @@ returns-in_err-body_into-clause-exact c =
 pub loop-at-preserved : goal.loop-at-preserved
 loop-at-preserved c =
     let m =
-    one_more (bytes_of c.args.symbols.now) (entries_seen c.args.entries.now) c.loop-at.at _ _ _ _ _
-    _ _ _ _ c.loop-at.invariant.inside c.loop-at.invariant.so_far c.entry_at-entry.ensures.seen
+    one_more (bytes_of c.args.symbols.now.texts.items) (entries_seen c.args.entries.now)
+    c.loop-at.at _ _ _ _ _ _ _ _ _ c.loop-at.invariant.inside
+    c.loop-at.invariant.so_far c.entry_at-entry.ensures.seen
     c.in_ok-body_into.ensures c.in_ok-push.ensures.items (omega arith) (omega arith) (omega arith)
     (omega arith) in
     record {
@@ -104,8 +105,9 @@ loop-at-preserved c =
 
 pub returns-clause-exact : goal.returns-clause-exact
 returns-clause-exact c =
-    each_done (body_of_entry (bytes_of c.args.symbols.now)) (entries_seen c.args.entries.now)
-    c.loop-at.at (bodies_in c.loop-at.labels.items c.loop-at.chunks.items c.loop-at.series.items) _
+    each_done (body_of_entry (bytes_of c.args.symbols.now.texts.items))
+    (entries_seen c.args.entries.now) c.loop-at.at
+    (bodies_in c.loop-at.labels.items c.loop-at.chunks.items c.loop-at.series.items) _
     (omega (arith, length-map c.args.entries.now entry_seen)) c.loop-at.invariant.so_far
 
 pub returns-clause-referred : goal.returns-clause-referred

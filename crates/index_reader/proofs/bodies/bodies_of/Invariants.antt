@@ -12,6 +12,6 @@ invariant-loop-at l = record {
       ++ drop l.at (entry_references (entries_seen l.entries))
       ≡ entry_references (entries_seen l.entries);
   so_far : behind_items (bodies_in l.labels.items l.chunks.items l.series.items)
-      (each (body_of_entry (bytes_of l.symbols)) (drop l.at (entries_seen l.entries)))
-      ≡ each (body_of_entry (bytes_of l.symbols)) (entries_seen l.entries);
+      (each (body_of_entry (bytes_of l.symbols.texts.items)) (drop l.at (entries_seen l.entries)))
+      ≡ each (body_of_entry (bytes_of l.symbols.texts.items)) (entries_seen l.entries);
 }

@@ -9,7 +9,7 @@ returns-in_err-chunk c =
     rw (p.1, p.2)
     (ends chunk_at c.in_err-chunk.field-0.0 c.loop.chunks.items c.args.count c.loop.counter (
       c.loop.before,
-      c.loop.rest.now,
+      c.loop.cut,
     ) _ c.loop-test.true c.in_err-chunk.ensures.exact c.loop.invariant.so_far)
 
 pub loop-preserved : goal.loop-preserved
@@ -17,13 +17,13 @@ loop-preserved c = record {
   times = c.in_ok-chunk.ensures.times;
   so_far =
       rw c.in_ok-push.ensures.items (goes_on chunk_at c.loop.chunks.items c.args.count
-      c.loop.counter (c.loop.before, c.loop.rest.now) c.in_ok-chunk.chunk (
-        c.in_ok-chunk.after.0,
-        c.in_ok-chunk.after.1.now,
+      c.loop.counter (c.loop.before, c.loop.cut) c.in_ok-chunk.chunk (
+        c.in_ok-chunk.chunk,
+        c.read_chunk.new.cut,
       ) _ c.loop-test.true c.in_ok-chunk.ensures.exact c.loop.invariant.so_far);
 }
 
 pub returns : goal.returns
 returns c =
     is_done chunk_at c.loop.chunks.items c.args.count c.loop.counter
-    (c.loop.before, c.loop.rest.now) _ c.loop-test.false c.loop.invariant.so_far
+    (c.loop.before, c.loop.cut) _ c.loop-test.false c.loop.invariant.so_far

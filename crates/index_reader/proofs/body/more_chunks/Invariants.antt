@@ -7,6 +7,6 @@ use Rattle.index_reader.proofs.body.more_chunks.Given as goal
 abbrev pub invariant-loop : goal.invariant-loop
 invariant-loop l = record {
   times : is_time l.before.maxt ≡ true;
-  so_far : with_front l.chunks.items (steps chunk_at (l.count - l.counter) (l.before, l.rest))
-      ≡ with_front l.fn.chunks.items (steps chunk_at l.count (l.fn.first, l.bytes));
+  so_far : with_front l.chunks.items (steps chunk_at (l.count - l.counter) (l.before, l.cut))
+      ≡ with_front l.fn.chunks.items (steps chunk_at l.count (l.fn.first, l.fn.cut));
 }

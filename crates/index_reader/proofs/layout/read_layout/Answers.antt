@@ -1,5 +1,5 @@
 use Rattle.std.proofs.Common.{subst, arith}
-use Rattle.index_reader.specs.Seen.{layout_seen}
+use Rattle.index_reader.specs.CheckedFile.{layout_seen}
 use Rattle.index_reader.specs.Outcome.{Gives}
 use Rattle.index_reader.proofs.Whole.{is_found, parts_again}
 use Rattle.index_reader.proofs.Sound.{sound_found}

@@ -3,7 +3,7 @@ use Rattle.std.proofs.lemmas.List.{map_push, length-map}
 use Rattle.labels.specs.Pairs.{texts_of}
 use Rattle.index_reader.specs.Layout.{Label}
 use Rattle.index_reader.specs.Seen.{strings_of}
-use Rattle.index_reader.specs.Indexes.{text_of, named}
+use Rattle.index_reader.specs.Indexes.{named_label, named}
 use Rattle.index_reader.proofs.Placing.{mapped_at}
 use Rattle.index_reader.proofs.Held.{all_here, moved_on, ended_so}
 use Rattle.index_reader.proofs.series.pairs_of.Goals as goal
@@ -31,7 +31,7 @@ loop-at-preserved c =
       p.1.now,
     )) l.pairs.items c.pair_of.result) in
     rw e (moved_on (texts_of l.pairs.items) (named (strings_of c.args.symbols.now.texts.items)
-    c.args.labels.now) l.at _ _ (mapped_at (text_of (strings_of c.args.symbols.now.texts.items))
+    c.args.labels.now) l.at _ _ (mapped_at (named_label (strings_of c.args.symbols.now.texts.items))
     c.args.labels.now l.at _ c.key_in-label.ensures) c.pair_of.ensures l.invariant)
 
 pub returns : goal.returns
@@ -39,5 +39,5 @@ returns c =
     ended_so (texts_of c.loop-at.pairs.items)
     (named (strings_of c.args.symbols.now.texts.items) c.args.labels.now) c.loop-at.at (omega (
       arith,
-      length-map c.args.labels.now (text_of (strings_of c.args.symbols.now.texts.items)),
+      length-map c.args.labels.now (named_label (strings_of c.args.symbols.now.texts.items)),
     )) c.loop-at.invariant

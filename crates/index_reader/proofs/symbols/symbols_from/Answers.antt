@@ -4,10 +4,11 @@ use Rattle.std.proofs.lemmas.List.{map_push}
 use Rattle.index_reader.specs.Seen.{bytes_of}
 use Rattle.index_reader.specs.SymbolChecks.{symbols_from}
 use Rattle.index_reader.proofs.WalkLoops.{goes_on, ends, is_done}
+use Rattle.index_reader.proofs.Sound.{symbols_counted}
 use Rattle.index_reader.proofs.symbols.symbols_from.Goals as goal
 
-pub returns-in_err-read_symbol : goal.returns-in_err-read_symbol
-returns-in_err-read_symbol c =
+pub returns-in_err-read_symbol-clause-exact : goal.returns-in_err-read_symbol-clause-exact
+returns-in_err-read_symbol-clause-exact c =
     let p = err_from_is_err_and c.from_residual.result c.from_residual.ensures.1 in
     rw (p.1, p.2) (ends c.in_err-read_symbol.field-0.0 (bytes_of c.loop.symbols.items) c.args.count
     c.loop.counter c.loop.cut (symbols_from c.args.count c.args.cut.now) c.loop-test.true
@@ -22,7 +23,13 @@ loop-preserved c =
     c.read_symbol.new.cut (symbols_from c.args.count c.args.cut.now) c.loop-test.true
     c.in_ok-read_symbol.ensures c.loop.invariant)
 
-pub returns : goal.returns
-returns c =
+pub returns-clause-exact : goal.returns-clause-exact
+returns-clause-exact c =
     is_done (bytes_of c.loop.symbols.items) c.args.count c.loop.counter c.loop.cut
     (symbols_from c.args.count c.args.cut.now) c.loop-test.false c.loop.invariant
+
+pub returns-clause-counted : goal.returns-clause-counted
+returns-clause-counted c =
+    symbols_counted c.args.count c.args.cut.now c.loop.symbols.items c.loop.cut
+    (is_done (bytes_of c.loop.symbols.items) c.args.count c.loop.counter c.loop.cut
+    (symbols_from c.args.count c.args.cut.now) c.loop-test.false c.loop.invariant)

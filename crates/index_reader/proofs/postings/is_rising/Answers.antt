@@ -3,7 +3,7 @@ use Rattle.index_reader.proofs.WordsAt.{length-refs}
 use Rattle.index_reader.specs.References.{references_in}
 use Rattle.std.specs.Prelude.{nat_lt}
 use Rattle.index_reader.proofs.Rising.{next, at_end}
-use Rattle.index_reader.proofs.postings.are_rising.Goals as goal
+use Rattle.index_reader.proofs.postings.is_rising.Goals as goal
 
 pub returns-then-not-is_less : goal.returns-then-not-is_less
 returns-then-not-is_less c =

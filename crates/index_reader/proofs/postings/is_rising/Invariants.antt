@@ -2,7 +2,7 @@ use Rattle.std.proofs.Common.{◌≡◌, ◌<◌, ◌-◌, drop}
 use Rattle.index_reader.specs.References.{references_in}
 use Rattle.std.specs.Prelude.{nat_lt}
 use Rattle.index_reader.specs.Layout.{rises}
-use Rattle.index_reader.proofs.postings.are_rising.Given as goal
+use Rattle.index_reader.proofs.postings.is_rising.Given as goal
 
 abbrev pub invariant-loop-at : goal.invariant-loop-at
 invariant-loop-at l =
