@@ -10,7 +10,7 @@ use Rattle.std.proofs.lemmas.Int.{ints}
 use Rattle.std.proofs.lemmas.List.{length-drop, length-append, take-append-drop, drop_at}
 use Rattle.byteorder.specs.Endian.{big_number, big_bytes}
 use Rattle.byteorder.specs.Numbers.{big_from-lt, big_number-reads_back}
-use Rattle.labels.specs.Contents.{in_range}
+use Rattle.labels.specs.Contents.{is_time}
 use Rattle.labels.specs.declared.sample.TheConstants.{MIN_TIME, MAX_TIME}
 use Rattle.labels.proofs.Times.{first_T, second_T}
 use Rattle.wire.specs.Spelling.{IsBytes}
@@ -28,7 +28,7 @@ values_of : (samples : List (ℤ × ℤ)) → AllByRecursion Fit samples
 values_of [] fits = tt
 values_of (s ∷ samples) fits = (fits.0.1, values_of samples fits.1)
 
-time_fits : (z : ℤ) → T (in_range MIN_TIME MAX_TIME z) → FitsSigned w64 z
+time_fits : (z : ℤ) → T (is_time z) → FitsSigned w64 z
 time_fits (pos n) h =
     let le : pos n ≤ℤ MAX_TIME =
     lt_z_no (second_T (not (int_lt (pos n) MIN_TIME)) (not (int_lt MAX_TIME (pos n))) h) in
@@ -39,16 +39,16 @@ time_fits (negsuc n) h =
     record { sfits = omega (arith, ints) }
 
 fits_of : (samples : List (ℤ × ℤ))
-    → T (list_all (λ (s : ℤ × ℤ). in_range MIN_TIME MAX_TIME s.0) samples)
+    → T (list_all (λ (s : ℤ × ℤ). is_time s.0) samples)
     → AllByRecursion (λ (s : ℤ × ℤ). FitsSigned w64 s.1) samples → AllByRecursion Fit samples
 fits_of [] times values = tt
 fits_of (s ∷ samples) times values =
     let time =
-    first_T (in_range MIN_TIME MAX_TIME s.0)
-    (list_all (λ (s : ℤ × ℤ). in_range MIN_TIME MAX_TIME s.0) samples) times in
+    first_T (is_time s.0)
+    (list_all (λ (s : ℤ × ℤ). is_time s.0) samples) times in
     let others =
-    second_T (in_range MIN_TIME MAX_TIME s.0)
-    (list_all (λ (s : ℤ × ℤ). in_range MIN_TIME MAX_TIME s.0) samples) times in
+    second_T (is_time s.0)
+    (list_all (λ (s : ℤ × ℤ). is_time s.0) samples) times in
     ((time_fits s.0 time, values.0), fits_of samples others values.1)
 
 pub record IsBody (body : List ℕ) (samples : List (ℤ × ℤ)) : Type 0 where
