@@ -16,7 +16,7 @@ use Rattle.labels.proofs.Times.{first_T, second_T}
 use Rattle.wire.specs.Spelling.{IsBytes}
 use Rattle.wire.proofs.Fields.{IsBytes-drop}
 use Rattle.chunk_reader.specs.declared.error.ChunkError.TheVariants.{Shape}
-use Rattle.chunk_reader.specs.Grammar.{sample_text, body_text, IsBatch}
+use Rattle.chunk_reader.specs.Grammar.{sample_text, batch_text, IsBatch}
 use Rattle.chunk_reader.specs.Reading.{samples_from, samples_in, rises, batch_in}
 use Rattle.chunk_reader.proofs.Places.{length-samples_in}
 use Rattle.chunk_reader.proofs.Rising.{and_true, rises-is_sorted, rises-times, rises_from_times}
@@ -52,7 +52,7 @@ fits_of (s ∷ samples) times values =
     ((time_fits s.0 time, values.0), fits_of samples others values.1)
 
 pub record IsBody (body : List ℕ) (samples : List (ℤ × ℤ)) : Type 0 where
-  pub text : body ≡ body_text samples
+  pub text : body ≡ batch_text samples
   pub batch : IsBatch samples
 
 counted : (body : List ℕ) → IsBytes body → 0 < big_number 2 body
@@ -71,7 +71,7 @@ counted body fits some len rising =
     samples_take (length tail / 16) tail tail_fits whole in
     let front : big_bytes 2 n ≡ take 2 body = big_bytes_2 body fits (omega (arith, len)) in
     let few : n < 2 ^ 16 = big_from-lt 0 2 body fits in
-    let text : body_text samples ≡ body =
+    let text : batch_text samples ≡ body =
     ap (λ (k : ℕ). big_bytes 2 k ++ flat_map sample_text samples) count
     ∙ ap (λ (t : List ℕ). big_bytes 2 n ++ t) texts
     ∙ ap (λ (t : List ℕ). t ++ tail) front
@@ -122,9 +122,9 @@ batch_from body n samples count some len found rising =
     both _ _ (both _ _ counts sizes) (ap (rises (MIN_TIME -ℤ pos 1)) found ∙ rising) in
     rw (long, tests) (ap value found)
 
-pub length-body_text : (samples : List (ℤ × ℤ))
-    → length (body_text samples) ≡ 2 + 16 * length samples
-length-body_text samples = omega (
+pub length-batch_text : (samples : List (ℤ × ℤ))
+    → length (batch_text samples) ≡ 2 + 16 * length samples
+length-batch_text samples = omega (
   arith,
   length-append (big_bytes 2 (length samples)) (flat_map sample_text samples),
   length-texts samples,
@@ -139,13 +139,13 @@ texts_again samples b =
     ∙ samples_again samples (fits_of samples b.times b.values)
 
 pub batch_again : (samples : List (ℤ × ℤ)) → IsBatch samples
-    → batch_in (body_text samples) ≡ Ok samples
+    → batch_in (batch_text samples) ≡ Ok samples
 batch_again samples b =
     let n = length samples in
     let texts = flat_map sample_text samples in
-    let tail : drop 2 (body_text samples) ≡ texts = drop_at (big_bytes 2 n) texts 2 refl in
+    let tail : drop 2 (batch_text samples) ≡ texts = drop_at (big_bytes 2 n) texts 2 refl in
     let few : n < 2 ^ 16 = omega (arith, b.few) in
-    let found : samples_in (drop 2 (body_text samples)) ≡ samples =
+    let found : samples_in (drop 2 (batch_text samples)) ≡ samples =
     ap samples_in tail ∙ texts_again samples b in
-    batch_from (body_text samples) n samples (big_number-reads_back 2 n texts few) b.some
-    (length-body_text samples) found (rises_from_times samples b.ascending b.times)
+    batch_from (batch_text samples) n samples (big_number-reads_back 2 n texts few) b.some
+    (length-batch_text samples) found (rises_from_times samples b.ascending b.times)

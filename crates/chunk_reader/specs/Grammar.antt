@@ -18,8 +18,8 @@ abbrev pub sample_text : ℤ × ℤ → List ℕ
 sample_text s = signed_text s.0 ++ signed_text s.1
 
 -- the body: how many samples, in two bytes, and the samples
-abbrev pub body_text : List (ℤ × ℤ) → List ℕ
-body_text samples = big_bytes 2 (length samples) ++ flat_map sample_text samples
+abbrev pub batch_text : List (ℤ × ℤ) → List ℕ
+batch_text samples = big_bytes 2 (length samples) ++ flat_map sample_text samples
 
 -- the length of the body, the byte of its encoding, the body, and the checksum of byte and body
 abbrev pub chunk_text : ℕ → List ℕ → List ℕ
@@ -52,7 +52,7 @@ pub record IsChunk (file : List ℕ) (reference : ℕ) (mint maxt : ℤ)
   pub segment : segment_of reference ≡ 0
   pub behind_head : 8 ≤ reference
   pub stands : (rest : List ℕ)
-      × (drop reference file ≡ chunk_text plain (body_text samples) ++ rest)
+      × (drop reference file ≡ chunk_text plain (batch_text samples) ++ rest)
   pub batch : IsBatch samples
   pub first : time_at samples 0 ≡ mint
   pub last : time_at samples (length samples - 1) ≡ maxt
