@@ -12,7 +12,7 @@ use Rattle.tombstones.specs.Grammar.{IsTombstones}
 use Rattle.block.specs.Samples.{undeleted}
 use Rattle.block.specs.Sound.{lies_in}
 
--- these samples stand in these chunks, one chunk behind the other
+-- these samples stand in these chunks, one chunk after the other
 abbrev pub AreSpelled : List ℕ → List Chunk → List (ℤ × ℤ) → Type 0
 AreSpelled file [] samples = samples ≡ []
 AreSpelled file (c ∷ cs) samples =

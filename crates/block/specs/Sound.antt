@@ -21,12 +21,12 @@ pub record IsCounted (file : List ℕ) (c : Chunk) (count : ℕ) : Type 0 where
   pub count_is : count ≡ length (chunk_samples file c)
   pub held : IsHeld file c
 
--- each chunk begins behind the end of the one before
+-- each chunk begins after the end of the one before
 abbrev pub AreBehind : Chunk → List Chunk → Type 0
 AreBehind before [] = Unit {0}
 AreBehind before (c ∷ cs) = (before.maxt <ℤ c.mint) × (c.mint ≤ℤ c.maxt) × AreBehind c cs
 
--- no chunk ends before it begins, and each begins behind the end of the one before
+-- no chunk ends before it begins, and each begins after the end of the one before
 abbrev pub AreInTurn : List Chunk → Type 0
 AreInTurn [] = Unit {0}
 AreInTurn (c ∷ cs) = (c.mint ≤ℤ c.maxt) × AreBehind c cs

@@ -58,8 +58,8 @@ fn live_in_all(
 /// How many samples of all series are not deleted, up to the greatest number.
 pub(crate) fn count_live(index: &Index, chunks: &Chunks, tombstones: &Tombstones) -> u64
     requires { AllByRecursion (AreHeld chunks.now) (chunk_lists index.now.series) }
-    ensures { result
-        ≡ min (sample_count (part_of chunks.now tombstones.now index.now.series)) (2 ^ 64 - 1) }
+    ensures { result ≡ min
+        (sample_count (part_of chunks.now tombstones.now index.now.series)) (2 ^ 64 - 1) }
 {
     let mut count = 0u64;
     for at in 0..index.len() {
