@@ -6,7 +6,7 @@ use Rattle.tombstones.specs.declared.deletion.Deletion.{Deletion}
 use Rattle.tombstones.specs.Covering.{covered}
 use Rattle.labels.specs.Contents.{in_range}
 use Rattle.block.specs.declared.samples.Wanted.{Wanted}
-use Rattle.block.specs.Sound.{IsHeld}
+use Rattle.block.specs.Sound.{IsHeldChunk}
 
 -- whether a time lies in the closed range and no deletion of the series covers it
 abbrev pub is_wanted : List Deletion → ℕ → ℤ → ℤ → ℤ → Bool
@@ -26,5 +26,5 @@ abbrev pub meets : ℤ → ℤ → Chunk → Bool
 meets from to c = not (int_lt c.maxt from) && not (int_lt to c.mint)
 
 -- each of the chunks stands in the file
-abbrev pub AreHeld : List ℕ → List Chunk → Type 0
-AreHeld file chunks = AllByRecursion (IsHeld file) chunks
+abbrev pub AreHeldChunks : List ℕ → List Chunk → Type 0
+AreHeldChunks file chunks = AllByRecursion (IsHeldChunk file) chunks

@@ -3,8 +3,8 @@
 ghost use Rattle.std.specs.Prelude.{◌≡◌, ◌++◌, ℤ, filter, OnOk};
 ghost use Rattle.std.specs.List.{list_any};
 ghost use Rattle.block.specs.Samples.{chunk_samples, samples_in};
-ghost use Rattle.block.specs.Sound.{AreInTurn, IsHeld};
-ghost use Rattle.block.specs.Wanted.{AreHeld, meets, wants, wants_end};
+ghost use Rattle.block.specs.Sound.{AreInTurn, IsHeldChunk};
+ghost use Rattle.block.specs.Wanted.{AreHeldChunks, meets, wants, wants_end};
 
 use chunk_reader::{Chunks, Samples};
 use index_reader::Chunk;
@@ -61,7 +61,7 @@ fn meeting_chunks(series: &[Chunk], times: Times) -> &[Chunk]
 
 /// The samples of a chunk, in place. No check of it is made again.
 pub(crate) fn chunk_samples(chunks: &Chunks, chunk: Chunk) -> Samples<'_>
-    requires { IsHeld chunks.now chunk }
+    requires { IsHeldChunk chunks.now chunk }
     ensures { result ≡ chunk_samples chunks.now chunk }
 {
     chunks.stored(chunk.reference, chunk.mint, chunk.maxt)
@@ -92,7 +92,7 @@ pub(crate) fn push_each(
     series: &[Chunk],
     wanted: &Wanted<'_>,
 ) -> Result<(), AllocError>
-    requires held { AreHeld chunks.now series.now }
+    requires held { AreHeldChunks chunks.now series.now }
     requires in_turn { AreInTurn series.now }
     ensures { OnOk result (found.new.items ≡ found.old.items
         ++ filter (λ (s : ℤ × ℤ). wants wanted.now s.0) (samples_in chunks.now series.now)) }
@@ -129,7 +129,7 @@ fn has_wanted_end(series: &[Chunk], wanted: &Wanted<'_>) -> bool
 
 /// Whether one of the samples is wanted. It reads the chunks up to the first that has one.
 fn has_wanted_within(chunks: &Chunks, series: &[Chunk], wanted: &Wanted<'_>) -> bool
-    requires { AreHeld chunks.now series.now }
+    requires { AreHeldChunks chunks.now series.now }
     ensures { result
         ≡ list_any (λ (s : ℤ × ℤ). wants wanted.now s.0) (samples_in chunks.now series.now) }
 {
@@ -144,7 +144,7 @@ fn has_wanted_within(chunks: &Chunks, series: &[Chunk], wanted: &Wanted<'_>) -> 
 /// Whether one of the samples is wanted. It finds the chunks whose times meet the range by halving;
 /// where the first or the last time of one of them says so it reads no chunk.
 pub(crate) fn is_any_wanted(chunks: &Chunks, series: &[Chunk], wanted: &Wanted<'_>) -> bool
-    requires held { AreHeld chunks.now series.now }
+    requires held { AreHeldChunks chunks.now series.now }
     requires in_turn { AreInTurn series.now }
     ensures { result
         ≡ list_any (λ (s : ℤ × ℤ). wants wanted.now s.0) (samples_in chunks.now series.now) }
