@@ -10,7 +10,7 @@ use Rattle.index_reader.specs.Indexes.{Series, Indexed}
 use Rattle.tombstones.specs.declared.deletion.Deletion.{Deletion}
 use Rattle.tombstones.specs.Covering.{deletes, covered}
 use Rattle.block.specs.Samples.{samples_in, undeleted}
-use Rattle.block.specs.Blocks.{series_row, part_of, shown_of}
+use Rattle.block.specs.Blocks.{series_row, part_of_series, shown_of}
 use Rattle.block.specs.Opening.{is_known}
 
 pub covered_any_order : (xs ys : List Deletion) → IsPermutation xs ys → (reference : ℕ) (t : ℤ)
@@ -40,10 +40,10 @@ row_any_order file xs ys p s = ap (λ (samples : List (ℤ × ℤ)). (
 )) (undeleted_any_order xs ys p s.reference (samples_in file s.chunks))
 
 pub part_any_order : (file : List ℕ) (xs ys : List Deletion) → IsPermutation xs ys
-    → (ss : List Series) → part_of file xs ss ≡ part_of file ys ss
+    → (ss : List Series) → part_of_series file xs ss ≡ part_of_series file ys ss
 part_any_order file xs ys p [] = refl
 part_any_order file xs ys p (s ∷ ss) =
-    ap (λ (row : ℕ × Row). row ∷ part_of file xs ss) (row_any_order file xs ys p s)
+    ap (λ (row : ℕ × Row). row ∷ part_of_series file xs ss) (row_any_order file xs ys p s)
     ∙ ap (λ (rows : Part). series_row file ys s ∷ rows) (part_any_order file xs ys p ss)
 
 pub shown_any_order : (range : ℤ × ℤ) (file : List ℕ) (x : Indexed) (xs ys : List Deletion)

@@ -10,7 +10,7 @@ use Rattle.index_reader.specs.Layout.{SeriesEntry, Body}
 use Rattle.index_reader.specs.Indexes.{Series, Indexed, IsConsistent, chunk_lists, series_of}
 use Rattle.index_reader.specs.Spelled.{AreLater, AreChunks, AreBodies, IsIndex}
 use Rattle.block.proofs.Checks.{all_pass}
-use Rattle.block.specs.Sound.{lies_in, IsHeld, AreBehind, AreInTurn, IsStored, IsSoundBlock}
+use Rattle.block.specs.Sound.{lies_in, IsHeldChunk, AreBehind, AreInTurn, IsStored, IsSoundBlock}
 use Rattle.block.specs.Opening.{have_few}
 
 spanned : (mint maxt : ℤ) (span : ℕ) → maxt ≡ mint +ℤ pos span → mint ≤ℤ maxt
@@ -53,7 +53,7 @@ and_true false b h = absurd cc
 
 pub stored_each : (range : ℤ × ℤ) (file : List ℕ) (ss : List Series)
     → AllByRecursion (λ (s : Series). AreInTurn s.chunks) ss
-    → AllByRecursion (AllByRecursion (IsHeld file)) (chunk_lists ss)
+    → AllByRecursion (AllByRecursion (IsHeldChunk file)) (chunk_lists ss)
     → list_all (have_few file) (chunk_lists ss) ≡ true
     → list_all (list_all (lies_in range)) (chunk_lists ss) ≡ true
     → AllByRecursion (IsStored range file) ss
@@ -73,7 +73,7 @@ stored_each range file (s ∷ ss) turn held few inside =
     )
 
 pub sound_of : (range : ℤ × ℤ) (index file : List ℕ) (x : Indexed) → IsConsistent x
-    → IsIndex index x → AllByRecursion (AllByRecursion (IsHeld file)) (chunk_lists x.series)
+    → IsIndex index x → AllByRecursion (AllByRecursion (IsHeldChunk file)) (chunk_lists x.series)
     → list_all (have_few file) (chunk_lists x.series) ≡ true
     → list_all (list_all (lies_in range)) (chunk_lists x.series) ≡ true → IsSoundBlock range file x
 sound_of range index file x consistent i held few inside = record {

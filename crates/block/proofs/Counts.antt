@@ -13,7 +13,7 @@ use Rattle.index_reader.specs.Indexes.{Series, references, chunk_lists}
 use Rattle.tombstones.specs.declared.deletion.Deletion.{Deletion}
 use Rattle.tombstones.specs.Covering.{covered, has_deletion, holds}
 use Rattle.block.specs.Samples.{chunk_samples, samples_in, undeleted}
-use Rattle.block.specs.Blocks.{series_row, part_of, sample_count}
+use Rattle.block.specs.Blocks.{series_row, part_of_series, sample_count}
 use Rattle.block.specs.Sound.{IsStored}
 use Rattle.block.proofs.Steps.{take_next}
 
@@ -105,8 +105,8 @@ same_value x y e = cc
 pub series_next : (ds : List Deletion) (file : List ℕ) (ss : List Series) (i r : ℕ)
     (cs : List Chunk) → slice_get (references ss) i ≡ Some r
     → slice_get (chunk_lists ss) i ≡ Some cs
-    → sample_count (part_of file ds (take (i + 1) ss))
-    ≡ sample_count (part_of file ds (take i ss)) + length (undeleted ds r (samples_in file cs))
+    → sample_count (part_of_series file ds (take (i + 1) ss))
+    ≡ sample_count (part_of_series file ds (take i ss)) + length (undeleted ds r (samples_in file cs))
 series_next ds file ss i r cs g h =
     let size : length (references ss) ≡ length ss = length-map ss (λ (s : Series). s.reference) in
     let lt : i < length ss = omega (arith, size, slice_get_within (references ss) i r g) in
@@ -120,12 +120,12 @@ series_next ds file ss i r cs g h =
     same_value s.chunks cs (sym (slice_get-map (λ (x : Series). x.chunks) ss i
     ∙ ap (option_map (λ (x : Series). x.chunks)) at)
     ∙ h) in
-    let e : part_of file ds (take (i + 1) ss)
-    ≡ part_of file ds (take i ss) ++ series_row file ds s ∷ [] =
+    let e : part_of_series file ds (take (i + 1) ss)
+    ≡ part_of_series file ds (take i ss) ++ series_row file ds s ∷ [] =
     map_more (series_row file ds) ss i none lt in
-    let n : sample_count (part_of file ds (take (i + 1) ss))
-    ≡ sample_count (part_of file ds (take i ss)) + sample_count (series_row file ds s ∷ []) =
-    ap sample_count e ∙ count_append (part_of file ds (take i ss)) (series_row file ds s ∷ []) in
+    let n : sample_count (part_of_series file ds (take (i + 1) ss))
+    ≡ sample_count (part_of_series file ds (take i ss)) + sample_count (series_row file ds s ∷ []) =
+    ap sample_count e ∙ count_append (part_of_series file ds (take i ss)) (series_row file ds s ∷ []) in
     let m : length (undeleted ds s.reference (samples_in file s.chunks))
     ≡ length (undeleted ds r (samples_in file cs)) =
     ap (λ (x : ℕ). length (undeleted ds x (samples_in file s.chunks))) one
@@ -143,7 +143,7 @@ filter_short test (x ∷ xs) =
 
 pub count_bound : (range : ℤ × ℤ) (file : List ℕ) (ds : List Deletion) (ss : List Series)
     → AllByRecursion (IsStored range file) ss
-    → sample_count (part_of file ds ss) ≤ 1048576 * length ss
+    → sample_count (part_of_series file ds ss) ≤ 1048576 * length ss
 count_bound range file ds [] a = omega arith
 count_bound range file ds (s ∷ ss) a =
     let rest = count_bound range file ds ss a.1 in
@@ -153,7 +153,7 @@ count_bound range file ds (s ∷ ss) a =
 
 pub count_whole : (range : ℤ × ℤ) (file : List ℕ) (ds : List Deletion) (ss : List Series) (n : ℕ)
     → AllByRecursion (IsStored range file) ss → length ss ≤ 1048576
-    → n ≡ min (sample_count (part_of file ds ss)) (2 ^ 64 - 1)
-    → n ≡ sample_count (part_of file ds ss)
+    → n ≡ min (sample_count (part_of_series file ds ss)) (2 ^ 64 - 1)
+    → n ≡ sample_count (part_of_series file ds ss)
 count_whole range file ds ss n a few e =
     let bound = count_bound range file ds ss a in omega (arith, bound, few, e)

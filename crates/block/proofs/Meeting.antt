@@ -10,8 +10,8 @@ use Rattle.labels.proofs.Lists.{filter-filter}
 use Rattle.index_reader.specs.declared.chunk.Chunk.{Chunk}
 use Rattle.tombstones.specs.declared.deletion.Deletion.{Deletion}
 use Rattle.block.specs.Samples.{chunk_samples, samples_in}
-use Rattle.block.specs.Sound.{IsHeld, AreBehind, AreInTurn}
-use Rattle.block.specs.Wanted.{AreHeld, meets}
+use Rattle.block.specs.Sound.{IsHeldChunk, AreBehind, AreInTurn}
+use Rattle.block.specs.Wanted.{AreHeldChunks, meets}
 use Rattle.block.proofs.Passing.{kept_nothing}
 use Rattle.block.proofs.Turns.{all_filter, below, is_below}
 use Rattle.block.proofs.Wanting.{is_asked, unmet}
@@ -152,7 +152,7 @@ module _ (deletions : List Deletion) (reference : ℕ) (from to : ℤ) (file : L
   abbrev asked : ℤ × ℤ → Bool
   asked s = is_asked deletions reference from to s
 
-  kept_met : (cs : List Chunk) → AreHeld file cs
+  kept_met : (cs : List Chunk) → AreHeldChunks file cs
       → filter asked (samples_in file (filter (meets from to) cs))
       ≡ filter asked (samples_in file cs)
   kept_met [] held = refl
@@ -188,12 +188,12 @@ any_some {X} p (x ∷ xs) = go (p x) (any_some p xs)
     go false ih = ih
 
 pub held_met : (from to : ℤ) (file : List ℕ) (cs met : List Chunk) → met ≡ filter (meets from to) cs
-    → AreHeld file cs → AreHeld file met
+    → AreHeldChunks file cs → AreHeldChunks file met
 held_met from to file cs met e held =
-    subst (AreHeld file) (sym e) (all_filter (IsHeld file) (meets from to) cs held)
+    subst (AreHeldChunks file) (sym e) (all_filter (IsHeldChunk file) (meets from to) cs held)
 
 module _ (deletions : List Deletion) (reference : ℕ) (from to : ℤ) (file : List ℕ)
-    (cs met : List Chunk) (e : met ≡ filter (meets from to) cs) (held : AreHeld file cs) where
+    (cs met : List Chunk) (e : met ≡ filter (meets from to) cs) (held : AreHeldChunks file cs) where
   pub kept_in_met : filter (is_asked deletions reference from to) (samples_in file met)
       ≡ filter (is_asked deletions reference from to) (samples_in file cs)
   kept_in_met =

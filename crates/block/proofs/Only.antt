@@ -18,10 +18,10 @@ use Rattle.tombstones.specs.declared.deletion.Deletion.{Deletion}
 use Rattle.tombstones.specs.Reading.{deletions_of}
 use Rattle.tombstones.proofs.Whole.{tombstones_again}
 use Rattle.block.specs.Samples.{or_none, chunk_read, chunk_samples, samples_in, undeleted}
-use Rattle.block.specs.Blocks.{Shown, series_row, part_of, shown_of}
-use Rattle.block.specs.Sound.{lies_in, IsHeld}
+use Rattle.block.specs.Blocks.{Shown, series_row, part_of_series, shown_of}
+use Rattle.block.specs.Sound.{lies_in, IsHeldChunk}
 use Rattle.block.specs.Opening.{each, chunk_check, series_check, is_few, is_known, is_inside, stored_of, deleted_of, block_of}
-use Rattle.block.specs.Grammar.{AreSpelled, AreRows, IsBlock}
+use Rattle.block.specs.Grammar.{AreSpelled, AreRowsOfSeries, IsBlock}
 use Rattle.block.proofs.Checks.{pass_all, pass_each, weaken, in_known}
 use Rattle.block.proofs.Found.{AreHeld, AreKnown}
 
@@ -29,7 +29,7 @@ use Rattle.block.proofs.Found.{AreHeld, AreKnown}
 
 pub spelled_held : (file : List ℕ) (c : Chunk) (samples : List (ℤ × ℤ))
     → IsChunk file c.reference c.mint c.maxt samples
-    → (samples ≡ chunk_samples file c) × IsHeld file c
+    → (samples ≡ chunk_samples file c) × IsHeldChunk file c
 spelled_held file c samples x =
     let read : chunk_read file c ≡ value samples =
     chunk_again file c.reference c.mint c.maxt samples x in
@@ -42,7 +42,7 @@ spelled_held file c samples x =
     )
 
 pub spelled_in : (file : List ℕ) (cs : List Chunk) (samples : List (ℤ × ℤ))
-    → AreSpelled file cs samples → (samples ≡ samples_in file cs) × AllByRecursion (IsHeld file) cs
+    → AreSpelled file cs samples → (samples ≡ samples_in file cs) × AllByRecursion (IsHeldChunk file) cs
 spelled_in file [] samples a = (a, tt)
 spelled_in file (c ∷ cs) samples a =
     let one = spelled_held file c a.0 a.3 in
@@ -53,20 +53,20 @@ spelled_in file (c ∷ cs) samples a =
       (one.1, others.1),
     )
 
-pub held_checked : (file : List ℕ) (c : Chunk) → IsHeld file c → chunk_check file c ≡ Ok tt
+pub held_checked : (file : List ℕ) (c : Chunk) → IsHeldChunk file c → chunk_check file c ≡ Ok tt
 held_checked file c h = rw (h.reads) refl
 
-pub held_passes : (file : List ℕ) (s : Series) → AllByRecursion (IsHeld file) s.chunks
+pub held_passes : (file : List ℕ) (s : Series) → AllByRecursion (IsHeldChunk file) s.chunks
     → series_check file s ≡ Ok tt
 held_passes file s h =
-    pass_each (chunk_check file) s.chunks (weaken (IsHeld file) (λ c. chunk_check file c ≡ Ok tt)
+    pass_each (chunk_check file) s.chunks (weaken (IsHeldChunk file) (λ c. chunk_check file c ≡ Ok tt)
     (λ c e. held_checked file c e) s.chunks h)
 
 pub held_stored : (file : List ℕ) (ss : List Series) → AreHeld file ss → stored_of file ss ≡ Ok tt
 unfolding stored_of
 held_stored file ss h =
     let read : each (series_check file) ss ≡ Ok tt =
-    pass_each (series_check file) ss (weaken (λ s. AllByRecursion (IsHeld file) s.chunks)
+    pass_each (series_check file) ss (weaken (λ s. AllByRecursion (IsHeldChunk file) s.chunks)
     (λ s. series_check file s ≡ Ok tt) (λ s e. held_passes file s e) ss h.held) in
     let few : list_all (is_few file) ss ≡ true =
     pass_all (is_few file) ss
@@ -110,7 +110,7 @@ pub record AreRead (range : ℤ × ℤ) (file : List ℕ) (deletions : List Dele
   pub stored : AreHeld file ss
   pub inside : AllByRecursion
       (λ (s : Series). AllByRecursion (λ (c : Chunk). lies_in range c ≡ true) s.chunks) ss
-  pub same : part ≡ part_of file deletions ss
+  pub same : part ≡ part_of_series file deletions ss
 
 row_same : (file : List ℕ) (deletions : List Deletion) (s : Series) (row : ℕ × Row)
     (samples : List (ℤ × ℤ)) → row.0 ≡ s.reference → row.1.0 ≡ s.labels
@@ -123,7 +123,7 @@ row_same file deletions s row samples reference labels kept same =
     ∙ ap (undeleted deletions s.reference) same)
 
 pub rows_read : (range : ℤ × ℤ) (file : List ℕ) (deletions : List Deletion) (ss : List Series)
-    (part : Part) → AreRows range file deletions ss part → AreRead range file deletions ss part
+    (part : Part) → AreRowsOfSeries range file deletions ss part → AreRead range file deletions ss part
 rows_read range file deletions [] [] a =
     record { stored = record { held = tt; few = tt }; inside = tt; same = refl }
 rows_read range file deletions [] (row ∷ rows) a = absurd a

@@ -22,14 +22,14 @@ use Rattle.tombstones.specs.declared.deletion.Deletion.{Deletion}
 use Rattle.tombstones.specs.Covering.{covered}
 use Rattle.block.specs.Ranges.{covers}
 use Rattle.block.specs.Samples.{chunk_samples, samples_in, undeleted}
-use Rattle.block.specs.Blocks.{series_row, part_of, AreInside}
-use Rattle.block.specs.Sound.{lies_in, IsHeld, IsStored, IsSoundBlock}
+use Rattle.block.specs.Blocks.{series_row, part_of_series, AreInside}
+use Rattle.block.specs.Sound.{lies_in, IsHeldChunk, IsStored, IsSoundBlock}
 use Rattle.block.proofs.Turns.{weaker, all_append, all_filter, is_below, is_upto, below, upto, span_of, sorted_in}
 
 -- references
 
 pub references_same : (file : List ℕ) (deletions : List Deletion) (ss : List Series)
-    → references (part_of file deletions ss) ≡ indexes.references ss
+    → references (part_of_series file deletions ss) ≡ indexes.references ss
 references_same file deletions [] = refl
 references_same file deletions (s ∷ ss) =
     ap (λ (xs : List ℕ). s.reference ∷ xs) (references_same file deletions ss)
@@ -68,11 +68,11 @@ less_each x (y ∷ ys) h =
 
 apart_from : (l : Labels) (file : List ℕ) (deletions : List Deletion) (ss : List Series)
     (other : ℕ × Row) → AllByRecursion (λ (y : Labels). labels_cmp l y ≡ Less) (label_sets ss)
-    → Contains (part_of file deletions ss) other
+    → Contains (part_of_series file deletions ss) other
     → same_labels l other.1.0 ≡ false
 apart_from l file deletions [] other less held = absurd (none_in_nil other held)
 apart_from l file deletions (s ∷ ss) other less held =
-    elim (Contains-cases (series_row file deletions s) (part_of file deletions ss) other held) [
+    elim (Contains-cases (series_row file deletions s) (part_of_series file deletions ss) other held) [
       | inl e ↦ subst (λ (row : ℕ × Row). same_labels l row.1.0 ≡ false) e (ap is_eq less.0)
       | inr rest ↦ apart_from l file deletions ss other less.1 rest
     ]
@@ -80,7 +80,7 @@ apart_from l file deletions (s ∷ ss) other less held =
 distinct_in : (file : List ℕ) (deletions : List Deletion) (ss : List Series)
     → ((k : ℕ) → k + 1 < length (label_sets ss)
     → labels_cmp (get_or (label_sets ss) k []) (get_or (label_sets ss) (k + 1) []) ≡ Less)
-    → AreDistinct (part_of file deletions ss)
+    → AreDistinct (part_of_series file deletions ss)
 distinct_in file deletions [] h = tt
 distinct_in file deletions (s ∷ ss) h = (
   λ other held.
@@ -99,13 +99,13 @@ sorted_row range file deletions s x =
 
 sorted_rows : (range : ℤ × ℤ) (file : List ℕ) (deletions : List Deletion) (ss : List Series)
     → AllByRecursion (IsStored range file) ss
-    → AllByRecursion (λ (row : ℕ × Row). T (is_sorted int_cmp row.1.1)) (part_of file deletions ss)
+    → AllByRecursion (λ (row : ℕ × Row). T (is_sorted int_cmp row.1.1)) (part_of_series file deletions ss)
 sorted_rows range file deletions [] a = tt
 sorted_rows range file deletions (s ∷ ss) a =
     (sorted_row range file deletions s a.0, sorted_rows range file deletions ss a.1)
 
 pub is_part : (range : ℤ × ℤ) (file : List ℕ) (x : Indexed) (deletions : List Deletion)
-    → IsSoundBlock range file x → IsPart (part_of file deletions x.series)
+    → IsSoundBlock range file x → IsPart (part_of_series file deletions x.series)
 is_part range file x deletions sound =
     let same = references_same file deletions x.series in
     let size : length (label_sets x.series) ≡ length x.series =
@@ -120,8 +120,8 @@ is_part range file x deletions sound =
           sound.consistent.in_order k (omega (arith, size, lt)));
       times =
           λ row held. All-contains (λ (r : ℕ × Row). T (is_sorted int_cmp r.1.1))
-          (part_of file deletions x.series) row
-          (All-from_recursion (λ (r : ℕ × Row). T (is_sorted int_cmp r.1.1)) (part_of file deletions
+          (part_of_series file deletions x.series) row
+          (All-from_recursion (λ (r : ℕ × Row). T (is_sorted int_cmp r.1.1)) (part_of_series file deletions
           x.series) (sorted_rows range file deletions x.series sound.stored)) held;
     }
 
@@ -150,7 +150,7 @@ covered_all range mint maxt (s ∷ ss) le lt a b =
       covered_all range mint maxt ss le lt a.1 b.1,
     )
 
-pub chunk_inside : (range : ℤ × ℤ) (file : List ℕ) (c : Chunk) → IsHeld file c
+pub chunk_inside : (range : ℤ × ℤ) (file : List ℕ) (c : Chunk) → IsHeldChunk file c
     → lies_in range c ≡ true
     → AllByRecursion (λ (s : ℤ × ℤ). covers range s.0 ≡ true) (chunk_samples file c)
 chunk_inside range file c held inside =
@@ -160,7 +160,7 @@ chunk_inside range file c held inside =
     (below c.maxt range.1 ends.1) span.begin span.end
 
 pub chunks_inside : (range : ℤ × ℤ) (file : List ℕ) (cs : List Chunk)
-    → AllByRecursion (IsHeld file) cs → AllByRecursion (λ (c : Chunk). lies_in range c ≡ true) cs
+    → AllByRecursion (IsHeldChunk file) cs → AllByRecursion (λ (c : Chunk). lies_in range c ≡ true) cs
     → AllByRecursion (λ (s : ℤ × ℤ). covers range s.0 ≡ true) (samples_in file cs)
 chunks_inside range file [] held inside = tt
 chunks_inside range file (c ∷ cs) held inside =
@@ -168,7 +168,7 @@ chunks_inside range file (c ∷ cs) held inside =
     (chunk_inside range file c held.0 inside.0) (chunks_inside range file cs held.1 inside.1)
 
 inside_each : (range : ℤ × ℤ) (file : List ℕ) (deletions : List Deletion) (ss : List Series)
-    → AllByRecursion (IsStored range file) ss → AreInside range (part_of file deletions ss)
+    → AllByRecursion (IsStored range file) ss → AreInside range (part_of_series file deletions ss)
 inside_each range file deletions [] a = tt
 inside_each range file deletions (s ∷ ss) a = (
   all_filter (λ (e : ℤ × ℤ). covers range e.0 ≡ true)
@@ -178,5 +178,5 @@ inside_each range file deletions (s ∷ ss) a = (
 )
 
 pub is_inside : (range : ℤ × ℤ) (file : List ℕ) (x : Indexed) (deletions : List Deletion)
-    → IsSoundBlock range file x → AreInside range (part_of file deletions x.series)
+    → IsSoundBlock range file x → AreInside range (part_of_series file deletions x.series)
 is_inside range file x deletions sound = inside_each range file deletions x.series sound.stored

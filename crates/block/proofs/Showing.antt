@@ -20,11 +20,11 @@ use Rattle.tombstones.specs.declared.deletion.Deletion.{Deletion}
 use Rattle.tombstones.specs.Covering.{covered}
 use Rattle.block.specs.declared.blocks.Files.{Files}
 use Rattle.block.specs.declared.blocks.Block.TheInside.{Inside}
-use Rattle.block.specs.Blocks.{Shown, shown_of, series_row, part_of}
+use Rattle.block.specs.Blocks.{Shown, shown_of, series_row, part_of_series}
 use Rattle.block.specs.CarriedPairs.{AreCarriedPairs}
 use Rattle.block.specs.Samples.{samples_in}
 use Rattle.block.specs.Sound.{AreInTurn, IsStored, IsSoundBlock}
-use Rattle.block.specs.Wanted.{AreHeld}
+use Rattle.block.specs.Wanted.{AreHeldChunks}
 use Rattle.block.proofs.Parts.{references_same}
 use Rattle.block.proofs.Wanting.{is_asked}
 
@@ -70,14 +70,14 @@ one_number a b h = grind (arith, nat_tests)
 module _ (file : List ℕ) (deletions : List Deletion) where
   row_here : (ss : List Series) (i : ℕ) (s : Series) → IsStrictlyIncreasing (indexes.references ss)
       → slice_get ss i ≡ Some s
-      → row_at s.reference (part_of file deletions ss) ≡ Some (series_row file deletions s).1
+      → row_at s.reference (part_of_series file deletions ss) ≡ Some (series_row file deletions s).1
   row_here [] i s rising h = absurd cc
   row_here (x ∷ xs) zero s rising h =
       let same : x ≡ s = cc in
-      subst (λ (t : Series). row_at t.reference (part_of file deletions (x ∷ xs))
+      subst (λ (t : Series). row_at t.reference (part_of_series file deletions (x ∷ xs))
       ≡ Some (series_row file deletions t).1) same
       (ap (λ b. cond b (Some (series_row file deletions x).1)
-      (row_at x.reference (part_of file deletions xs))) (same_number x.reference))
+      (row_at x.reference (part_of_series file deletions xs))) (same_number x.reference))
   row_here (x ∷ xs) (suc i) s rising h =
       let size : length (indexes.references xs) ≡ length xs =
       length-map xs (λ (t : Series). t.reference) in
@@ -86,7 +86,7 @@ module _ (file : List ℕ) (deletions : List Deletion) where
       let lt : x.reference < s.reference =
       rising-head x.reference (indexes.references xs) rising s.reference at in
       ap (λ b. cond b (Some (series_row file deletions x).1)
-      (row_at s.reference (part_of file deletions xs))) (other_number x.reference s.reference lt)
+      (row_at s.reference (part_of_series file deletions xs))) (other_number x.reference s.reference lt)
       ∙ row_here xs i s (rising-tail x.reference (indexes.references xs) rising) h
     where
       reference_in : (ys : List Series) (k : ℕ) (t : Series) → slice_get ys k ≡ Some t
@@ -100,14 +100,14 @@ module _ (file : List ℕ) (deletions : List Deletion) where
           there y.reference t.reference (indexes.references ys) (reference_in ys k t g)
 
   pub row_nowhere : (ss : List Series) (r : ℕ) → (Contains (indexes.references ss) r → ⊥)
-      → row_at r (part_of file deletions ss) ≡ None
+      → row_at r (part_of_series file deletions ss) ≡ None
   row_nowhere [] r none = refl
   row_nowhere (s ∷ ss) r none =
       go (nat_eq s.reference r) refl
       (row_nowhere ss r (λ c. none (there s.reference r (indexes.references ss) c)))
     where
-      go : (b : Bool) → nat_eq s.reference r ≡ b → row_at r (part_of file deletions ss) ≡ None
-          → cond b (Some (series_row file deletions s).1) (row_at r (part_of file deletions ss))
+      go : (b : Bool) → nat_eq s.reference r ≡ b → row_at r (part_of_series file deletions ss) ≡ None
+          → cond b (Some (series_row file deletions s).1) (row_at r (part_of_series file deletions ss))
           ≡ None
       go true e ih =
           absurd (none (subst (λ (x : ℕ). Contains (indexes.references (s ∷ ss)) x)
@@ -117,19 +117,19 @@ module _ (file : List ℕ) (deletions : List Deletion) where
   pub labels_here : (ss : List Series) (i r : ℕ) (l : Labels)
       → IsStrictlyIncreasing (indexes.references ss) → slice_get (indexes.references ss) i ≡ Some r
       → slice_get (label_sets ss) i ≡ Some l
-      → labels_in (row_at r (part_of file deletions ss)) ≡ Some l
+      → labels_in (row_at r (part_of_series file deletions ss)) ≡ Some l
   labels_here ss i r l rising h g =
       let p = came_from (λ (s : Series). s.reference) ss i r h in
       let q = came_from (λ (s : Series). s.labels) ss i l g in
       let same : p.0 ≡ q.0 = cc (p.1.0, q.1.0) in
-      ap (λ (x : ℕ). labels_in (row_at x (part_of file deletions ss))) (sym p.1.1)
+      ap (λ (x : ℕ). labels_in (row_at x (part_of_series file deletions ss))) (sym p.1.1)
       ∙ ap labels_in (row_here ss i p.0 rising p.1.0)
       ∙ ap (λ (s : Series). Some s.labels) same
       ∙ ap (λ (x : Labels). Some x) q.1.1
 
   pub within_here : (from to : ℤ) (ss : List Series) (i r : ℕ) (cs : List Chunk) (row : ℕ × Row)
       → slice_get (indexes.references ss) i ≡ Some r → slice_get (chunk_lists ss) i ≡ Some cs
-      → slice_get (part_of file deletions ss) i ≡ Some row
+      → slice_get (part_of_series file deletions ss) i ≡ Some row
       → filter (is_asked deletions r from to) (samples_in file cs) ≡ within from to row.1.1
   within_here from to ss i r cs row h g f =
       let p = came_from (λ (s : Series). s.reference) ss i r h in
@@ -150,22 +150,22 @@ module _ (file : List ℕ) (deletions : List Deletion) where
 
   pub row_stands : (ss : List Series) (i r : ℕ) → IsStrictlyIncreasing (indexes.references ss)
       → slice_get (indexes.references ss) i ≡ Some r
-      → (row : ℕ × Row) × ((slice_get (part_of file deletions ss) i ≡ Some row)
-      × (row_at r (part_of file deletions ss) ≡ Some row.1))
+      → (row : ℕ × Row) × ((slice_get (part_of_series file deletions ss) i ≡ Some row)
+      × (row_at r (part_of_series file deletions ss) ≡ Some row.1))
   row_stands ss i r rising h =
       let p = came_from (λ (s : Series). s.reference) ss i r h in (
         series_row file deletions p.0,
         (
           slice_get-map (series_row file deletions) ss i
               ∙ ap (option_map (series_row file deletions)) p.1.0,
-          ap (λ (x : ℕ). row_at x (part_of file deletions ss)) (sym p.1.1)
+          ap (λ (x : ℕ). row_at x (part_of_series file deletions ss)) (sym p.1.1)
               ∙ row_here ss i p.0 rising p.1.0,
         ),
       )
 
   pub set_here : (ss : List Series) (i : ℕ) (l : Labels) (row : ℕ × Row)
       → slice_get (label_sets ss) i ≡ Some l
-      → slice_get (part_of file deletions ss) i ≡ Some row → l ≡ row.1.0
+      → slice_get (part_of_series file deletions ss) i ≡ Some row → l ≡ row.1.0
   set_here ss i l row g f =
       let q = came_from (λ (s : Series). s.labels) ss i l g in
       let w = came_from (series_row file deletions) ss i row f in
@@ -174,7 +174,7 @@ module _ (file : List ℕ) (deletions : List Deletion) where
 
   pub live_here : (from to : ℤ) (ss : List Series) (i r : ℕ) (cs : List Chunk) (row : ℕ × Row)
       → slice_get (indexes.references ss) i ≡ Some r → slice_get (chunk_lists ss) i ≡ Some cs
-      → slice_get (part_of file deletions ss) i ≡ Some row
+      → slice_get (part_of_series file deletions ss) i ≡ Some row
       → list_any (is_asked deletions r from to) (samples_in file cs) ≡ has_sample from to row.1.1
   live_here from to ss i r cs row h g f =
       let p = came_from (λ (s : Series). s.reference) ss i r h in
@@ -194,22 +194,22 @@ module _ (file : List ℕ) (deletions : List Deletion) where
       ∙ ap (λ (x : ℕ × Row). has_sample from to x.1.1) w.1.1
 
   with_same : (name value : List ℕ) (ss : List Series) → references_with name value ss
-      ≡ references_where (carries name value) (part_of file deletions ss)
+      ≡ references_where (carries name value) (part_of_series file deletions ss)
   with_same name value [] = refl
   with_same name value (s ∷ ss) = go (carries name value s.labels) (with_same name value ss)
     where
       go : (b : Bool) → references_with name value ss
-          ≡ references_where (carries name value) (part_of file deletions ss)
+          ≡ references_where (carries name value) (part_of_series file deletions ss)
           → map (λ (t : Series). t.reference)
           (cond b (s ∷ filter (λ (t : Series). carries name value t.labels) ss)
           (filter (λ (t : Series). carries name value t.labels) ss))
           ≡ map (λ (row : ℕ × Row). row.0) (cond b (series_row file deletions s
-          ∷ filter (λ (row : ℕ × Row). carries name value row.1.0) (part_of file deletions ss))
-          (filter (λ (row : ℕ × Row). carries name value row.1.0) (part_of file deletions ss)))
+          ∷ filter (λ (row : ℕ × Row). carries name value row.1.0) (part_of_series file deletions ss))
+          (filter (λ (row : ℕ × Row). carries name value row.1.0) (part_of_series file deletions ss)))
       go true ih = ap (λ (rs : List ℕ). s.reference ∷ rs) ih
       go false ih = ih
 
-  pub named_in : (x : Indexed) → IsConsistent x → AreCarriedPairs (part_of file deletions x.series) x.pairs
+  pub named_in : (x : Indexed) → IsConsistent x → AreCarriedPairs (part_of_series file deletions x.series) x.pairs
   named_in x sound = record {
     in_order = sound.pairs_in_order;
     carried =
@@ -241,9 +241,9 @@ fact_at P (x ∷ xs) (suc i) cs all h = fact_at P xs i cs all.1 h
 module _ (f : Files) (inside : Inside) (value : Shown) (e : f ≡ arc_value inside.files)
     (v : shown_of inside.range (arc_value inside.files).chunks (arc_value inside.files).index
     inside.tombstones ≡ value) where
-  pub part_is : part_of f.chunks inside.tombstones f.index.series ≡ value.part
+  pub part_is : part_of_series f.chunks inside.tombstones f.index.series ≡ value.part
   part_is =
-      ap (λ (x : Files). part_of x.chunks inside.tombstones x.index.series) e
+      ap (λ (x : Files). part_of_series x.chunks inside.tombstones x.index.series) e
       ∙ ap (λ (x : Shown). x.part) v
 
   pub refs_are : indexes.references f.index.series ≡ references value.part
@@ -328,14 +328,14 @@ module _ (f : Files) (inside : Inside) (e : f ≡ arc_value inside.files)
   pub rising : IsStrictlyIncreasing (indexes.references f.index.series)
   rising = sound.consistent.ascending
 
-  pub all_held : AllByRecursion (AreHeld f.chunks) (chunk_lists f.index.series)
+  pub all_held : AllByRecursion (AreHeldChunks f.chunks) (chunk_lists f.index.series)
   all_held =
-      stored_chunks inside.range f.chunks (AreHeld f.chunks) (λ s stored. stored.held)
+      stored_chunks inside.range f.chunks (AreHeldChunks f.chunks) (λ s stored. stored.held)
       f.index.series sound.stored
 
   pub are_held : (i : ℕ) (cs : List Chunk) → slice_get (chunk_lists f.index.series) i ≡ Some cs
-      → AreHeld f.chunks cs
-  are_held i cs g = fact_at (AreHeld f.chunks) (chunk_lists f.index.series) i cs all_held g
+      → AreHeldChunks f.chunks cs
+  are_held i cs g = fact_at (AreHeldChunks f.chunks) (chunk_lists f.index.series) i cs all_held g
 
   pub are_in_turn : (i : ℕ) (cs : List Chunk)
       → slice_get (chunk_lists f.index.series) i ≡ Some cs → AreInTurn cs

@@ -12,7 +12,7 @@ use Rattle.labels.proofs.Times.{both_T, first_T, second_T, T_of, less_of, lt_of}
 use Rattle.chunk_reader.specs.Grammar.{time_at, IsChunk}
 use Rattle.index_reader.specs.declared.chunk.Chunk.{Chunk}
 use Rattle.block.specs.Samples.{chunk_samples, samples_in}
-use Rattle.block.specs.Sound.{IsHeld, AreBehind, AreInTurn}
+use Rattle.block.specs.Sound.{IsHeldChunk, AreBehind, AreInTurn}
 
 pub weaker : {X : Type 0} (P Q : X → Type 0) → ((x : X) → P x → Q x) → (xs : List X)
     → AllByRecursion P xs → AllByRecursion Q xs
@@ -129,7 +129,7 @@ pub record IsRun (before : ℤ) (ss : List (ℤ × ℤ)) : Type 0 where
   pub later : AllByRecursion (λ (s : ℤ × ℤ). before <ℤ s.0) ss
 
 pub run_of : (file : List ℕ) (before : Chunk) (cs : List Chunk) → AreBehind before cs
-    → AllByRecursion (IsHeld file) cs → IsRun before.maxt (samples_in file cs)
+    → AllByRecursion (IsHeldChunk file) cs → IsRun before.maxt (samples_in file cs)
 run_of file before [] turn held = record { sorted = tt; later = tt }
 run_of file before (c ∷ cs) turn held =
     let rest = run_of file c cs turn.2 held.1 in
@@ -149,7 +149,7 @@ run_of file before (c ∷ cs) turn held =
     }
 
 -- the samples of a series
-pub sorted_in : (file : List ℕ) (cs : List Chunk) → AreInTurn cs → AllByRecursion (IsHeld file) cs
+pub sorted_in : (file : List ℕ) (cs : List Chunk) → AreInTurn cs → AllByRecursion (IsHeldChunk file) cs
     → T (is_sorted int_cmp (samples_in file cs))
 sorted_in file [] turn held = tt
 sorted_in file (c ∷ cs) turn held =

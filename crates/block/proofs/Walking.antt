@@ -9,7 +9,7 @@ use Rattle.std.proofs.lemmas.Bool.Decides.{nat_tests}
 use Rattle.labels.specs.Ascending.{first_of, rest_of, not_below}
 use Rattle.labels.specs.Rows.{Row}
 use Rattle.labels.specs.Parts.{Part, references, references_of, live_references, has_sample}
-use Rattle.labels.proofs.Lists.{first_in, here, Contains-cases, rising-head, rising-tail, filter-all}
+use Rattle.labels.proofs.Lists.{first_in, Contains-cases, rising-head, rising-tail, filter-all}
 use Rattle.labels.proofs.PartRows.{kept_in}
 use Rattle.block.specs.ListLaws.{rises_from}
 use Rattle.block.proofs.Places.{first_at}

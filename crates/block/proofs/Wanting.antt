@@ -14,8 +14,8 @@ use Rattle.index_reader.specs.declared.chunk.Chunk.{Chunk}
 use Rattle.tombstones.specs.declared.deletion.Deletion.{Deletion}
 use Rattle.tombstones.specs.Covering.{covered}
 use Rattle.block.specs.Samples.{chunk_samples, samples_in}
-use Rattle.block.specs.Sound.{IsHeld}
-use Rattle.block.specs.Wanted.{AreHeld, is_wanted, meets}
+use Rattle.block.specs.Sound.{IsHeldChunk}
+use Rattle.block.specs.Wanted.{AreHeldChunks, is_wanted, meets}
 use Rattle.block.proofs.Passing.{any_passed, any_found, kept_one, kept_none, and_false, or_true}
 use Rattle.block.proofs.Turns.{below, is_below, span_of}
 
@@ -104,7 +104,7 @@ module _ (deletions : List Deletion) (reference : ℕ) (from to : ℤ) where
     unmet_each c ss e low.1 high.1,
   )
 
-  pub unmet : (file : List ℕ) (c : Chunk) → IsHeld file c → meets from to c ≡ false
+  pub unmet : (file : List ℕ) (c : Chunk) → IsHeldChunk file c → meets from to c ≡ false
       → AllByRecursion (λ (s : ℤ × ℤ). is_asked s ≡ false) (chunk_samples file c)
   unmet file c held e =
       let span = span_of file c.reference c.mint c.maxt (chunk_samples file c) held.stands in
@@ -161,7 +161,7 @@ module _ (deletions : List Deletion) (reference : ℕ) (from to : ℤ) where
       ∙ h
 
   -- the first or the last sample of a chunk
-  end_asked : (file : List ℕ) (c : Chunk) → IsHeld file c → has_end c ≡ true
+  end_asked : (file : List ℕ) (c : Chunk) → IsHeldChunk file c → has_end c ≡ true
       → list_any is_asked (chunk_samples file c) ≡ true
   end_asked file c held e = go (is_wanted deletions reference from to c.mint) refl
     where
@@ -189,7 +189,7 @@ module _ (deletions : List Deletion) (reference : ℕ) (from to : ℤ) where
       go true f = at_first f
       go false f = at_last (sym (ap (λ b. b || is_wanted deletions reference from to c.maxt) f) ∙ e)
 
-  pub ends_asked : (file : List ℕ) (chunks : List Chunk) → AreHeld file chunks
+  pub ends_asked : (file : List ℕ) (chunks : List Chunk) → AreHeldChunks file chunks
       → list_any has_end chunks ≡ true → list_any is_asked (samples_in file chunks) ≡ true
   ends_asked file [] held e = absurd (true_not_false (sym e))
   ends_asked file (c ∷ cs) held e =

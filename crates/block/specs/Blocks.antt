@@ -20,13 +20,13 @@ series_row chunks deletions s =
     (s.reference, (s.labels, undeleted deletions s.reference (samples_in chunks s.chunks)))
 
 -- all series
-abbrev pub part_of : List ℕ → List Deletion → List Series → Part
-part_of chunks deletions series = map (series_row chunks deletions) series
+abbrev pub part_of_series : List ℕ → List Deletion → List Series → Part
+part_of_series chunks deletions series = map (series_row chunks deletions) series
 
 -- a range, the chunks' file, what the index holds and the deletions, as what a block shows
 abbrev pub shown_of : ℤ × ℤ → List ℕ → Indexed → List Deletion → Shown
 shown_of range chunks x deletions =
-    record { range = range; part = part_of chunks deletions x.series; pairs = x.pairs }
+    record { range = range; part = part_of_series chunks deletions x.series; pairs = x.pairs }
 
 -- the time of each sample lies in the range
 abbrev pub AreInside : ℤ × ℤ → Part → Type 0

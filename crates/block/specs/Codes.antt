@@ -7,7 +7,7 @@ use Rattle.block.specs.declared.error.BlockError.{BlockError}
 use Rattle.block.specs.declared.error.BlockError.TheVariants.{Memory, Meta, Index, Chunks, Tombstones, UnknownSeries, OutsideRange}
 
 abbrev pub code_of : BlockError → List ℕ
-code_of Memory = codes "Memory"
+code_of Memory = codes "memory"
 code_of Meta = codes "B2"
 code_of (Index e) = index.code_of e
 code_of (Chunks e) = chunk.code_of e

@@ -12,7 +12,7 @@ use Rattle.tombstones.specs.Grammar.{IsTombstones}
 use Rattle.block.specs.Samples.{undeleted}
 use Rattle.block.specs.Sound.{lies_in}
 
--- these samples stand in these chunks, one chunk behind the other
+-- these samples stand in these chunks, one chunk after the other
 abbrev pub AreSpelled : List ℕ → List Chunk → List (ℤ × ℤ) → Type 0
 AreSpelled file [] samples = samples ≡ []
 AreSpelled file (c ∷ cs) samples =
@@ -32,12 +32,12 @@ pub record IsRow (range : ℤ × ℤ) (file : List ℕ) (deletions : List Deleti
   pub kept : row.1.1 ≡ undeleted deletions s.reference samples
 
 -- a row for each series
-abbrev pub AreRows : ℤ × ℤ → List ℕ → List Deletion → List Series → Part → Type 0
-AreRows range file deletions [] [] = Unit {0}
-AreRows range file deletions [] (row ∷ rows) = ⊥
-AreRows range file deletions (s ∷ ss) [] = ⊥
-AreRows range file deletions (s ∷ ss) (row ∷ rows) =
-    IsRow range file deletions s row × AreRows range file deletions ss rows
+abbrev pub AreRowsOfSeries : ℤ × ℤ → List ℕ → List Deletion → List Series → Part → Type 0
+AreRowsOfSeries range file deletions [] [] = Unit {0}
+AreRowsOfSeries range file deletions [] (row ∷ rows) = ⊥
+AreRowsOfSeries range file deletions (s ∷ ss) [] = ⊥
+AreRowsOfSeries range file deletions (s ∷ ss) (row ∷ rows) =
+    IsRow range file deletions s row × AreRowsOfSeries range file deletions ss rows
 
 -- the three files are an index, a segment that holds the chunks which the index names, and
 -- deletions of its series; and the rows of the series are the part
@@ -49,4 +49,4 @@ pub record IsBlock (range : ℤ × ℤ) (index chunks tombstones : List ℕ) (pa
   pub deleted : IsTombstones tombstones deletions
   pub known : AllByRecursion (λ (d : Deletion). Contains (references x.series) d.reference)
       deletions
-  pub rows : AreRows range chunks deletions x.series part
+  pub rows : AreRowsOfSeries range chunks deletions x.series part

@@ -20,7 +20,7 @@ chunk_read file c = samples_of file c.reference c.mint c.maxt
 abbrev pub chunk_samples : List ℕ → Chunk → List (ℤ × ℤ)
 chunk_samples file c = or_none (chunk_read file c)
 
--- the samples of chunks, one behind the other
+-- the samples of chunks, one after the other
 abbrev pub samples_in : List ℕ → List Chunk → List (ℤ × ℤ)
 samples_in file chunks = flat_map (chunk_samples file) chunks
 

@@ -12,21 +12,21 @@ abbrev pub lies_in : ℤ × ℤ → Chunk → Bool
 lies_in range c = int_le range.0 c.mint && int_lt c.maxt range.1
 
 -- a chunk is read, and is what stands in the file
-pub record IsHeld (file : List ℕ) (c : Chunk) : Type 0 where
+pub record IsHeldChunk (file : List ℕ) (c : Chunk) : Type 0 where
   pub reads : chunk_read file c ≡ Ok (chunk_samples file c)
   pub stands : IsChunk file c.reference c.mint c.maxt (chunk_samples file c)
 
 -- a chunk is held, of so many samples
 pub record IsCounted (file : List ℕ) (c : Chunk) (count : ℕ) : Type 0 where
   pub count_is : count ≡ length (chunk_samples file c)
-  pub held : IsHeld file c
+  pub held : IsHeldChunk file c
 
--- each chunk begins behind the end of the one before
+-- each chunk begins after the end of the one before
 abbrev pub AreBehind : Chunk → List Chunk → Type 0
 AreBehind before [] = Unit {0}
 AreBehind before (c ∷ cs) = (before.maxt <ℤ c.mint) × (c.mint ≤ℤ c.maxt) × AreBehind c cs
 
--- no chunk ends before it begins, and each begins behind the end of the one before
+-- no chunk ends before it begins, and each begins after the end of the one before
 abbrev pub AreInTurn : List Chunk → Type 0
 AreInTurn [] = Unit {0}
 AreInTurn (c ∷ cs) = (c.mint ≤ℤ c.maxt) × AreBehind c cs
@@ -34,7 +34,7 @@ AreInTurn (c ∷ cs) = (c.mint ≤ℤ c.maxt) × AreBehind c cs
 -- the chunks of a series are held, in the order of their times, not too many samples, and inside
 -- the range
 pub record IsStored (range : ℤ × ℤ) (file : List ℕ) (s : Series) : Type 0 where
-  pub held : AllByRecursion (IsHeld file) s.chunks
+  pub held : AllByRecursion (IsHeldChunk file) s.chunks
   pub in_turn : AreInTurn s.chunks
   pub few : length (samples_in file s.chunks) ≤ 1048576
   pub inside : AllByRecursion (λ (c : Chunk). lies_in range c ≡ true) s.chunks

@@ -1,20 +1,30 @@
 -- The samples of a series that are asked for.
-use Rattle.std.specs.Prelude.{ℕ, ℤ, List, Bool, not, ◌&&◌, int_lt}
+use Rattle.std.specs.Prelude.{ℕ, ℤ, List, Bool, not, ◌&&◌, ◌||◌, int_lt}
 use Rattle.std.specs.List.{AllByRecursion}
 use Rattle.index_reader.specs.declared.chunk.Chunk.{Chunk}
 use Rattle.tombstones.specs.declared.deletion.Deletion.{Deletion}
 use Rattle.tombstones.specs.Covering.{covered}
 use Rattle.labels.specs.Contents.{in_range}
-use Rattle.block.specs.Sound.{IsHeld}
+use Rattle.block.specs.declared.samples.Wanted.{Wanted}
+use Rattle.block.specs.Sound.{IsHeldChunk}
 
 -- whether a time lies in the closed range and no deletion of the series covers it
 abbrev pub is_wanted : List Deletion → ℕ → ℤ → ℤ → ℤ → Bool
 is_wanted deletions reference from to t = in_range from to t && not (covered deletions reference t)
+
+-- whether a time is asked for
+abbrev pub wants : Wanted → ℤ → Bool
+wants wanted t =
+    is_wanted wanted.tombstones.now wanted.reference wanted.times.from wanted.times.to t
+
+-- whether the first or the last time of a chunk is asked for
+abbrev pub wants_end : Wanted → Chunk → Bool
+wants_end wanted c = wants wanted c.mint || wants wanted c.maxt
 
 -- whether a chunk may have a sample in the closed range
 abbrev pub meets : ℤ → ℤ → Chunk → Bool
 meets from to c = not (int_lt c.maxt from) && not (int_lt to c.mint)
 
 -- each of the chunks stands in the file
-abbrev pub AreHeld : List ℕ → List Chunk → Type 0
-AreHeld file chunks = AllByRecursion (IsHeld file) chunks
+abbrev pub AreHeldChunks : List ℕ → List Chunk → Type 0
+AreHeldChunks file chunks = AllByRecursion (IsHeldChunk file) chunks

@@ -7,7 +7,7 @@ ghost use Rattle.index_reader.specs.Indexes.{chunk_lists};
 ghost use Rattle.wire.specs.Outcome.{Answers};
 ghost use Rattle.block.specs.Opening.{each, chunk_check, have_few};
 ghost use Rattle.block.specs.Shared.{IsLookedAt, lists_between};
-ghost use Rattle.block.specs.Sound.{IsHeld, IsCounted};
+ghost use Rattle.block.specs.Sound.{IsHeldChunk, IsCounted};
 
 use chunk_reader::{ChunkError, Chunks};
 use index_reader::{Chunk, Index};
@@ -28,7 +28,7 @@ fn count_in(chunks: &Chunks, chunk: &Chunk) -> Result<u64, ChunkError>
 fn are_few(chunks: &Chunks, list: &[Chunk]) -> Result<bool, ChunkError>
     ensures exact { Answers (λ _. tt) result (each (chunk_check chunks.now) list.now) }
     ensures few { IfOk result (λ few. few ≡ have_few chunks.now list.now) }
-    ensures held { OnOk result (AllByRecursion (IsHeld chunks.now) list.now) }
+    ensures held { OnOk result (AllByRecursion (IsHeldChunk chunks.now) list.now) }
 {
     let mut count = 0u64;
     for chunk in list {

@@ -4,9 +4,9 @@ ghost use Rattle.std.specs.Prelude.{◌≡◌, ◌<◌, ◌-◌, ◌^◌, length
 ghost use Rattle.std.specs.List.{AllByRecursion};
 ghost use Rattle.index_reader.specs.Indexes.{chunk_lists};
 ghost use Rattle.block.specs.Samples.{chunk_samples, samples_in, undeleted};
-ghost use Rattle.block.specs.Blocks.{part_of, sample_count};
-ghost use Rattle.block.specs.Sound.{IsHeld};
-ghost use Rattle.block.specs.Wanted.{AreHeld};
+ghost use Rattle.block.specs.Blocks.{part_of_series, sample_count};
+ghost use Rattle.block.specs.Sound.{IsHeldChunk};
+ghost use Rattle.block.specs.Wanted.{AreHeldChunks};
 
 use crate::samples::chunk_samples;
 use chunk_reader::{Chunks, Samples};
@@ -27,7 +27,7 @@ fn live_among(samples: &Samples<'_>, tombstones: &Tombstones, reference: SeriesR
 }
 
 fn live_in(chunks: &Chunks, chunk: &Chunk, tombstones: &Tombstones, reference: SeriesRef) -> u64
-    requires { IsHeld chunks.now chunk.now }
+    requires { IsHeldChunk chunks.now chunk.now }
     ensures { result
         ≡ length (undeleted tombstones.now reference (chunk_samples chunks.now chunk.now)) }
 {
@@ -44,7 +44,7 @@ fn live_in_all(
     tombstones: &Tombstones,
     reference: SeriesRef,
 ) -> u64
-    requires { AreHeld chunks.now list.now }
+    requires { AreHeldChunks chunks.now list.now }
     ensures { result ≡ min (length (undeleted tombstones.now reference
         (samples_in chunks.now list.now))) (2 ^ 64 - 1) }
 {
@@ -57,9 +57,9 @@ fn live_in_all(
 
 /// How many samples of all series are not deleted, up to the greatest number.
 pub(crate) fn count_live(index: &Index, chunks: &Chunks, tombstones: &Tombstones) -> u64
-    requires { AllByRecursion (AreHeld chunks.now) (chunk_lists index.now.series) }
-    ensures { result
-        ≡ min (sample_count (part_of chunks.now tombstones.now index.now.series)) (2 ^ 64 - 1) }
+    requires { AllByRecursion (AreHeldChunks chunks.now) (chunk_lists index.now.series) }
+    ensures { result ≡ min
+        (sample_count (part_of_series chunks.now tombstones.now index.now.series)) (2 ^ 64 - 1) }
 {
     let mut count = 0u64;
     for at in 0..index.len() {

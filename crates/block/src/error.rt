@@ -39,7 +39,7 @@ impl BlockError {
         ensures { result.now ≡ code_of self }
     {
         match self {
-            BlockError::Memory => "Memory",
+            BlockError::Memory => "memory",
             BlockError::Meta => "B2",
             BlockError::Index(error) => error.code(),
             BlockError::Chunks(error) => error.code(),

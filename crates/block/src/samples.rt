@@ -1,10 +1,10 @@
 //! The samples of one series in a closed range of times, less those that are deleted.
 
-ghost use Rattle.std.specs.Prelude.{◌≡◌, ◌++◌, ◌||◌, ℤ, filter, OnOk};
+ghost use Rattle.std.specs.Prelude.{◌≡◌, ◌++◌, ℤ, filter, OnOk};
 ghost use Rattle.std.specs.List.{list_any};
 ghost use Rattle.block.specs.Samples.{chunk_samples, samples_in};
-ghost use Rattle.block.specs.Sound.{AreInTurn, IsHeld};
-ghost use Rattle.block.specs.Wanted.{AreHeld, is_wanted, meets};
+ghost use Rattle.block.specs.Sound.{AreInTurn, IsHeldChunk};
+ghost use Rattle.block.specs.Wanted.{AreHeldChunks, meets, wants, wants_end};
 
 use chunk_reader::{Chunks, Samples};
 use index_reader::Chunk;
@@ -28,27 +28,23 @@ pub(crate) struct Wanted<'a> {
 }
 
 impl<'a> Wanted<'a> {
-    fn is_time(&self, t: i64) -> bool
-        ensures { result ≡ is_wanted self.now.tombstones.now self.now.reference self.now.times.from
-            self.now.times.to t }
+    fn wants(&self, t: i64) -> bool
+        ensures { result ≡ wants self.now t }
     {
         self.times.from <= t && t <= self.times.to && !self.tombstones.deleted(self.reference, t)
     }
 
     fn has(&self, sample: Sample) -> bool
-        ensures { result ≡ is_wanted self.now.tombstones.now self.now.reference self.now.times.from
-            self.now.times.to sample.0 }
+        ensures { result ≡ wants self.now sample.0 }
     {
-        self.is_time(sample.t())
+        self.wants(sample.t())
     }
 
     /// Whether the first or the last time of the chunk is wanted.
     fn has_end(&self, chunk: Chunk) -> bool
-        ensures { result ≡ (is_wanted self.now.tombstones.now self.now.reference self.now.times.from
-            self.now.times.to chunk.mint || is_wanted self.now.tombstones.now self.now.reference
-            self.now.times.from self.now.times.to chunk.maxt) }
+        ensures { result ≡ wants_end self.now chunk }
     {
-        self.is_time(chunk.mint) || self.is_time(chunk.maxt)
+        self.wants(chunk.mint) || self.wants(chunk.maxt)
     }
 }
 
@@ -65,7 +61,7 @@ fn meeting_chunks(series: &[Chunk], times: Times) -> &[Chunk]
 
 /// The samples of a chunk, in place. No check of it is made again.
 pub(crate) fn chunk_samples(chunks: &Chunks, chunk: Chunk) -> Samples<'_>
-    requires { IsHeld chunks.now chunk }
+    requires { IsHeldChunk chunks.now chunk }
     ensures { result ≡ chunk_samples chunks.now chunk }
 {
     chunks.stored(chunk.reference, chunk.mint, chunk.maxt)
@@ -77,8 +73,7 @@ fn push_wanted(
     wanted: &Wanted<'_>,
 ) -> Result<(), AllocError>
     ensures { OnOk result (found.new.items
-        ≡ found.old.items ++ filter (λ (s : ℤ × ℤ). is_wanted wanted.now.tombstones.now
-        wanted.now.reference wanted.now.times.from wanted.now.times.to s.0) samples.now) }
+        ≡ found.old.items ++ filter (λ (s : ℤ × ℤ). wants wanted.now s.0) samples.now) }
 {
     for i in 0..samples.len() {
         let sample = samples.get(i);
@@ -97,11 +92,10 @@ pub(crate) fn push_each(
     series: &[Chunk],
     wanted: &Wanted<'_>,
 ) -> Result<(), AllocError>
-    requires held { AreHeld chunks.now series.now }
+    requires held { AreHeldChunks chunks.now series.now }
     requires in_turn { AreInTurn series.now }
     ensures { OnOk result (found.new.items ≡ found.old.items
-        ++ filter (λ (s : ℤ × ℤ). is_wanted wanted.now.tombstones.now wanted.now.reference
-        wanted.now.times.from wanted.now.times.to s.0) (samples_in chunks.now series.now)) }
+        ++ filter (λ (s : ℤ × ℤ). wants wanted.now s.0) (samples_in chunks.now series.now)) }
 {
     let met = meeting_chunks(series, wanted.times);
     for chunk in met {
@@ -111,8 +105,7 @@ pub(crate) fn push_each(
 }
 
 fn has_wanted(samples: &Samples<'_>, wanted: &Wanted<'_>) -> bool
-    ensures { result ≡ list_any (λ (s : ℤ × ℤ). is_wanted wanted.now.tombstones.now
-        wanted.now.reference wanted.now.times.from wanted.now.times.to s.0) samples.now }
+    ensures { result ≡ list_any (λ (s : ℤ × ℤ). wants wanted.now s.0) samples.now }
 {
     for i in 0..samples.len() {
         if wanted.has(samples.get(i)) {
@@ -124,9 +117,7 @@ fn has_wanted(samples: &Samples<'_>, wanted: &Wanted<'_>) -> bool
 
 /// Whether a chunk begins or ends with a sample that is wanted. It reads no chunk.
 fn has_wanted_end(series: &[Chunk], wanted: &Wanted<'_>) -> bool
-    ensures { result ≡ list_any (λ c. is_wanted wanted.now.tombstones.now wanted.now.reference
-        wanted.now.times.from wanted.now.times.to c.mint || is_wanted wanted.now.tombstones.now
-        wanted.now.reference wanted.now.times.from wanted.now.times.to c.maxt) series.now }
+    ensures { result ≡ list_any (wants_end wanted.now) series.now }
 {
     for chunk in series {
         if wanted.has_end(*chunk) {
@@ -138,10 +129,9 @@ fn has_wanted_end(series: &[Chunk], wanted: &Wanted<'_>) -> bool
 
 /// Whether one of the samples is wanted. It reads the chunks up to the first that has one.
 fn has_wanted_within(chunks: &Chunks, series: &[Chunk], wanted: &Wanted<'_>) -> bool
-    requires { AreHeld chunks.now series.now }
+    requires { AreHeldChunks chunks.now series.now }
     ensures { result
-        ≡ list_any (λ (s : ℤ × ℤ). is_wanted wanted.now.tombstones.now wanted.now.reference
-        wanted.now.times.from wanted.now.times.to s.0) (samples_in chunks.now series.now) }
+        ≡ list_any (λ (s : ℤ × ℤ). wants wanted.now s.0) (samples_in chunks.now series.now) }
 {
     for chunk in series {
         if has_wanted(&chunk_samples(chunks, *chunk), wanted) {
@@ -154,11 +144,10 @@ fn has_wanted_within(chunks: &Chunks, series: &[Chunk], wanted: &Wanted<'_>) -> 
 /// Whether one of the samples is wanted. It finds the chunks whose times meet the range by halving;
 /// where the first or the last time of one of them says so it reads no chunk.
 pub(crate) fn is_any_wanted(chunks: &Chunks, series: &[Chunk], wanted: &Wanted<'_>) -> bool
-    requires held { AreHeld chunks.now series.now }
+    requires held { AreHeldChunks chunks.now series.now }
     requires in_turn { AreInTurn series.now }
     ensures { result
-        ≡ list_any (λ (s : ℤ × ℤ). is_wanted wanted.now.tombstones.now wanted.now.reference
-        wanted.now.times.from wanted.now.times.to s.0) (samples_in chunks.now series.now) }
+        ≡ list_any (λ (s : ℤ × ℤ). wants wanted.now s.0) (samples_in chunks.now series.now) }
 {
     let met = meeting_chunks(series, wanted.times);
     if has_wanted_end(met, wanted) {

@@ -7,7 +7,7 @@ use Rattle.byteorder.specs.Endian.{big_bytes}
 use Rattle.wire.specs.Spelling.{groups, uvarint}
 use Rattle.wire.specs.Checksum.{checked, crc32c}
 use Rattle.wire.proofs.Laws.{uvarint_long}
-use Rattle.chunk_reader.specs.Grammar.{sample_text, body_text, plain}
+use Rattle.chunk_reader.specs.Grammar.{sample_text, batch_text, plain}
 use Rattle.index_reader.specs.Grammar.{frame, contents_text, symbol}
 use Rattle.index_reader.specs.Spelled.{list_text}
 use Rattle.block_writer.specs.declared.error.WriteError.{WriteError}
@@ -46,7 +46,7 @@ samples_long : (ss : List (ℤ × ℤ)) → length (flat_map sample_text ss) ≡
 samples_long [] = refl
 samples_long (s ∷ ss) = omega (arith, samples_long ss)
 
-body_long : (ss : List (ℤ × ℤ)) → length (body_text ss) ≡ 2 + 16 * length ss
+body_long : (ss : List (ℤ × ℤ)) → length (batch_text ss) ≡ 2 + 16 * length ss
 body_long ss = omega (arith, samples_long ss)
 
 piece_long : (ss : List (ℤ × ℤ))
@@ -54,13 +54,13 @@ piece_long : (ss : List (ℤ × ℤ))
 unfolding piece_text
 piece_long ss =
     let e : length (piece_text ss)
-    ≡ length (uvarint (length (body_text ss))) + (5 + length (body_text ss)) = omega (
+    ≡ length (uvarint (length (batch_text ss))) + (5 + length (batch_text ss)) = omega (
       arith,
-      length-append (uvarint (length (body_text ss)))
-          ((0xE0 ∷ body_text ss) ++ big_bytes 4 (crc32c (0xE0 ∷ body_text ss))),
-      length-append (0xE0 ∷ body_text ss) (big_bytes 4 (crc32c (0xE0 ∷ body_text ss))),
+      length-append (uvarint (length (batch_text ss)))
+          ((0xE0 ∷ batch_text ss) ++ big_bytes 4 (crc32c (0xE0 ∷ batch_text ss))),
+      length-append (0xE0 ∷ batch_text ss) (big_bytes 4 (crc32c (0xE0 ∷ batch_text ss))),
     ) in
-    let f : length (uvarint (length (body_text ss))) ≡ length (uvarint (2 + 16 * length ss)) =
+    let f : length (uvarint (length (batch_text ss))) ≡ length (uvarint (2 + 16 * length ss)) =
     ap (λ n. length (uvarint n)) (body_long ss) in
     omega (arith, e, f, body_long ss)
 
@@ -132,14 +132,14 @@ section_is out a b d e len count refs counted long first second third fourth =
 
 -- a chunk, field by field
 pub chunk_is : (out a b c : List ℕ) (start : ℕ) (ss : List (ℤ × ℤ)) → start ≡ length a
-    → a ≡ out ++ uvarint (2 + 16 * length ss) → b ≡ a ++ plain ∷ body_text ss
+    → a ≡ out ++ uvarint (2 + 16 * length ss) → b ≡ a ++ plain ∷ batch_text ss
     → c ≡ b ++ big_bytes 4 (crc32c (drop start b)) → c ≡ out ++ piece_text ss
 unfolding piece_text
 chunk_is out a b c start ss at first second third =
-    let text = plain ∷ body_text ss in
+    let text = plain ∷ batch_text ss in
     let content : drop start b ≡ text = (λ i. drop (at i) (second i)) ∙ drop-append_seam a text in
-    let size : 2 + 16 * length ss ≡ length (body_text ss) = omega (arith, body_long ss) in
-    let begun : a ≡ out ++ uvarint (length (body_text ss)) =
+    let size : 2 + 16 * length ss ≡ length (batch_text ss) = omega (arith, body_long ss) in
+    let begun : a ≡ out ++ uvarint (length (batch_text ss)) =
     first ∙ ap (λ n. out ++ uvarint n) size in
     third
     ∙ (λ i. second i ++ big_bytes 4 (crc32c (content i)))

@@ -1,24 +1,19 @@
 -- Keys that rise from each to the next rise strictly.
-use Rattle.std.proofs.Common.{◌≡◌, ℕ, suc, ◌+◌, ◌-◌, ◌<◌, ◌≤◌, inl, inr, Bool, true, false, ◌&&◌, List, [], ◌∷◌, length, drop, get_or, refl, sym, ap, ◌∙◌, arith}
+use Rattle.std.proofs.Common.{◌≡◌, ℕ, zero, suc, ◌+◌, ◌<◌, Bool, true, false, ◌&&◌, List, [], ◌∷◌, length, drop, get_or, refl, sym, ap, subst, ◌∙◌, arith}
 use Rattle.std.specs.Prelude.{T}
+use Rattle.std.specs.List.{IsAllAdjacentAnswer}
 use Rattle.std.specs.declared.cmp.Ordering.{Ordering}
 use Rattle.std.specs.declared.cmp.Ordering.TheVariants.{Less, Equal, Greater}
 use Rattle.std.specs.Ordering.{is_lt}
 use Rattle.std.specs.Cmp.{IsTotalOrder}
 use Rattle.std.specs.FinMap.Entries.{is_sorted, below_all}
 use Rattle.std.proofs.Math.Seq.{drop-cons}
-use Rattle.std.proofs.lemmas.Bool.{cases_lt}
-use Rattle.std.proofs.lemmas.List.{drop_all}
 use Rattle.labels.proofs.Times.{both_T, first_T, second_T, T_of}
 
 less_from : (o : Ordering) → T (is_lt o) → o ≡ Less
 less_from Less h = refl
 less_from Equal h = absurd h
 less_from Greater h = absurd h
-
-true_from : (b : Bool) → T b → b ≡ true
-true_from true h = refl
-true_from false h = absurd h
 
 -- what is below a key is below those above it
 below_more : {K X : Type 0} (R : K → K → Ordering) → IsTotalOrder R → (x y : K) (es : List (K × X))
@@ -62,50 +57,46 @@ pub from_read : {X : Type 0} (xs : List X) (i : ℕ) (x : X) → i < length xs �
     → drop i xs ≡ x ∷ drop (i + 1) xs
 from_read {X} xs i x lt read = one_at xs i x lt ∙ ap (λ (y : X). y ∷ drop (i + 1) xs) (sym read)
 
--- from a place on, keys rise where the one there is below the next, and those from the next on rise
-is_sorted-at : {K X : Type 0} (R : K → K → Ordering) → IsTotalOrder R
-    → (es : List (K × X)) (i : ℕ) (x y : K × X) → 0 < i → i < length es
-    → x ≡ get_or es (i - 1) x → y ≡ get_or es i y
-    → is_sorted R (drop (i - 1) es) ≡ (is_lt (R x.0 y.0) && is_sorted R (drop i es))
-is_sorted-at {K} {X} R o es i x y some lt first second =
-    let back : i - 1 + 1 ≡ i = omega arith in
-    let here : drop i es ≡ y ∷ drop (i + 1) es = from_read es i y lt second in
-    ap (is_sorted R) (from_read es (i - 1) x (omega arith) first
-    ∙ ap (λ (n : ℕ). x ∷ drop n es) back
-    ∙ ap (λ (ys : List (K × X)). x ∷ ys) here)
-    ∙ is_sorted-two R o x y (drop (i + 1) es)
-    ∙ ap (λ (ys : List (K × X)). is_lt (R x.0 y.0) && is_sorted R ys) (sym here)
+-- keys rise where each is below the next
+rising : {K X : Type 0} (R : K → K → Ordering) → IsTotalOrder R → (es : List (K × X))
+    → ((k : ℕ) (d : K × X) → k + 1 < length es
+    → true ≡ is_lt (R (get_or es k d).0 (get_or es (k + 1) d).0))
+    → true ≡ is_sorted R es
+rising R o [] h = refl
+rising R o (d ∷ []) h = refl
+rising {K} {X} R o (d ∷ e ∷ es) h =
+    rising R o (e ∷ es) (λ k x l.
+    let next : suc k + 1 ≡ suc (k + 1) = omega arith in
+    subst (λ (n : ℕ). true ≡ is_lt (R (get_or (e ∷ es) k x).0 (get_or (d ∷ e ∷ es) n x).0)) next
+    (h (suc k) x (omega (arith, l))))
+    ∙ ap (λ (b : Bool). b && is_sorted R (e ∷ es)) (h 0 d (omega arith))
+    ∙ sym (is_sorted-two R o d e es)
 
--- how a look at each and the next goes on, and where it stops
-pub goes_on : {K X : Type 0} (R : K → K → Ordering) → IsTotalOrder R
-    → (es : List (K × X)) (i : ℕ) (x y : K × X) (whole : Bool) → 0 < i → i < length es
-    → x ≡ get_or es (i - 1) x → y ≡ get_or es i y
-    → is_lt (R x.0 y.0) ≡ true → is_sorted R (drop (i - 1) es) ≡ whole
-    → is_sorted R (drop (i + 1 - 1) es) ≡ whole
-goes_on R o es i x y whole some lt first second less so_far =
-    let same : i + 1 - 1 ≡ i = omega arith in
-    ap (λ (n : ℕ). is_sorted R (drop n es)) same
-    ∙ sym (is_sorted-at R o es i x y some lt first second
-    ∙ ap (λ (b : Bool). b && is_sorted R (drop i es)) less)
-    ∙ so_far
+-- and do not where one is not
+falling : {K X : Type 0} (R : K → K → Ordering) → IsTotalOrder R → (es : List (K × X)) (k : ℕ)
+    → k + 1 < length es
+    → ((d : K × X) → false ≡ is_lt (R (get_or es k d).0 (get_or es (k + 1) d).0))
+    → false ≡ is_sorted R es
+falling R o [] k lt h = absurd (omega (arith, lt))
+falling R o (d ∷ []) k lt h = absurd (omega (arith, lt))
+falling R o (d ∷ e ∷ es) zero lt h =
+    ap (λ (b : Bool). b && is_sorted R (e ∷ es)) (h d) ∙ sym (is_sorted-two R o d e es)
+falling {K} {X} R o (d ∷ e ∷ es) (suc k) lt h =
+    let next : suc k + 1 ≡ suc (k + 1) = omega arith in
+    let others : false ≡ is_sorted R (e ∷ es) =
+    falling R o (e ∷ es) k (omega (arith, lt)) (λ x. subst (λ (n : ℕ). false
+    ≡ is_lt (R (get_or (e ∷ es) k x).0 (get_or (d ∷ e ∷ es) n x).0)) next (h x)) in
+    sym (and_false (is_lt (R d.0 e.0)))
+    ∙ ap (λ (b : Bool). is_lt (R d.0 e.0) && b) others
+    ∙ sym (is_sorted-two R o d e es)
+  where
+    and_false : (b : Bool) → (b && false) ≡ false
+    and_false true = refl
+    and_false false = refl
 
-pub stops : {K X : Type 0} (R : K → K → Ordering) → IsTotalOrder R
-    → (es : List (K × X)) (i : ℕ) (x y : K × X) (whole : Bool) → 0 < i → i < length es
-    → x ≡ get_or es (i - 1) x → y ≡ get_or es i y
-    → is_lt (R x.0 y.0) ≡ false → is_sorted R (drop (i - 1) es) ≡ whole → false ≡ whole
-stops R o es i x y whole some lt first second less so_far =
-    sym (is_sorted-at R o es i x y some lt first second
-    ∙ ap (λ (b : Bool). b && is_sorted R (drop i es)) less)
-    ∙ so_far
-
--- the last element alone rises
-pub is_sorted-last : {K X : Type 0} (R : K → K → Ordering) (es : List (K × X)) (i : ℕ)
-    → length es ≤ i → is_sorted R (drop (i - 1) es) ≡ true
-is_sorted-last R [] i le = ap (is_sorted R) (drop_all (i - 1) [] (omega arith))
-is_sorted-last {K} {X} R (e ∷ es) i le = elim (cases_lt (i - 1) (length (e ∷ es))) [
-  | inl lt ↦
-      ap (is_sorted R) (one_at (e ∷ es) (i - 1) e lt
-      ∙ ap (λ (ys : List (K × X)). get_or (e ∷ es) (i - 1) e ∷ ys)
-      (drop_all (i - 1 + 1) (e ∷ es) (omega arith)))
-  | inr past ↦ ap (is_sorted R) (drop_all (i - 1) (e ∷ es) past)
-]
+-- what comparing each key with the next tells
+pub rise_from_pairs : {K X : Type 0} (R : K → K → Ordering) → IsTotalOrder R
+    → (es : List (K × X)) (r : Bool)
+    → IsAllAdjacentAnswer (λ x y b. b ≡ is_lt (R x.0 y.0)) es r → r ≡ is_sorted R es
+rise_from_pairs R o es true each = rising R o es (λ k d l. each k d l)
+rise_from_pairs R o es false other = falling R o es other.0 other.1 other.2

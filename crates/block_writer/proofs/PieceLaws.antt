@@ -13,7 +13,7 @@ use Rattle.index_reader.specs.declared.chunk.Chunk.{Chunk}
 use Rattle.wire.specs.Spelling.{uvarint}
 use Rattle.wire.proofs.Laws.{uvarint_long}
 use Rattle.wire.specs.Checksum.{checked}
-use Rattle.chunk_reader.specs.Grammar.{body_text, chunk_text, plain, time_at, IsBatch, IsChunk}
+use Rattle.chunk_reader.specs.Grammar.{batch_text, chunk_text, plain, time_at, IsBatch, IsChunk}
 use Rattle.block.specs.Ranges.{covers}
 use Rattle.block.specs.Sound.{lies_in}
 use Rattle.block_writer.specs.EntryBodies.{chunk_of, chunks_from}
@@ -131,7 +131,7 @@ pub piece_stands : (file : List ℕ) (at : ℕ) (range : ℤ × ℤ) (samples : 
     (time_at (take 120 samples) (length (take 120 samples) - 1)) (take 120 samples)
 unfolding piece_text
 piece_stands file at range samples rest short behind some r stands =
-    let body = body_text (take 120 samples) in
+    let body = batch_text (take 120 samples) in
     let size = length-append (uvarint (length body)) (checked (plain ∷ body)) in
     let inside : at < length file = omega (
       arith,

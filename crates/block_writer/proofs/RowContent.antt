@@ -1,5 +1,5 @@
 -- The content of a part with exactly the rows of a written block.
-use Rattle.std.proofs.Common.{◌≡◌, ℤ, List, [], ◌∷◌, ap, ◌∙◌}
+use Rattle.std.proofs.Common.{◌≡◌, List, [], ◌∷◌, ap, ◌∙◌}
 use Rattle.std.specs.Prelude.{T}
 use Rattle.std.specs.Bool.{IsTrue}
 use Rattle.std.specs.List.{list_all, AllByRecursion}

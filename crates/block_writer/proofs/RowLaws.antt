@@ -17,7 +17,7 @@ use Rattle.chunk_reader.specs.Grammar.{IsSegment}
 use Rattle.tombstones.specs.Grammar.{IsTombstones}
 use Rattle.block.specs.Samples.{undeleted}
 use Rattle.block.specs.Sound.{lies_in}
-use Rattle.block.specs.Grammar.{AreSpelled, IsRow, AreRows, IsBlock}
+use Rattle.block.specs.Grammar.{AreSpelled, IsRow, AreRowsOfSeries, IsBlock}
 use Rattle.block_writer.specs.EntryBodies.{chunks_from, chunks_of}
 use Rattle.block_writer.specs.PartRows.{has_some, is_series, are_part_rows}
 use Rattle.block_writer.specs.SpellRows.{SpellRows}
@@ -95,7 +95,7 @@ all_text rows = flat_map (λ (row : Row). series_text row.1) rows
 pub rows_spelled : (range : ℤ × ℤ) (file : List ℕ) (at : ℕ) (ss : List Series) (rows : List Row)
     → length file ≤ 0x4000_0000 → 8 ≤ at → AreReadyRows range rows → AreSeriesOf at ss rows
     → drop at file ≡ all_text rows
-    → AreRows range file [] ss (numbered ss rows)
+    → AreRowsOfSeries range file [] ss (numbered ss rows)
 rows_spelled range file at [] [] short behind ready series stands = tt
 rows_spelled range file at [] (row ∷ rows) short behind ready series stands = absurd series
 rows_spelled range file at (s ∷ ss) [] short behind ready series stands = absurd series

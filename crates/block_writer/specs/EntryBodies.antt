@@ -58,12 +58,12 @@ later_text before c =
     uvarint (apart before.maxt c.mint)
     ++ (uvarint (apart c.mint c.maxt) ++ varint (pos c.reference -ℤ pos before.reference))
 
--- chunks behind another
+-- chunks after another
 unfoldable pub later_texts : Chunk → List Chunk → List ℕ
 later_texts before [] = []
 later_texts before (c ∷ cs) = later_text before c ++ later_texts c cs
 
--- the first chunk, and those behind it
+-- the first chunk, and those after it
 abbrev pub chunk_texts : List Chunk → List ℕ
 chunk_texts [] = []
 chunk_texts (c ∷ cs) = first_text c ++ later_texts c cs

@@ -1,5 +1,6 @@
 -- The bytes of an index that is written.
-use Rattle.std.specs.Prelude.{◌≡◌, ℕ, ◌+◌, ◌-◌, ◌/◌, ◌<◌, List, [], ◌∷◌, ◌++◌, length, map, get_or, replicate, if◌then◌else◌}
+use Rattle.std.specs.Prelude.{◌≡◌, ℕ, ◌+◌, ◌-◌, ◌/◌, ◌<◌, List, Vec, [], ◌∷◌, ◌++◌, length, map, get_or, slice_set, slice_index_or, replicate, if◌then◌else◌}
+use Rattle.std.proofs.Common.{Global}
 use Rattle.std.specs.List.{flat_map}
 use Rattle.byteorder.specs.Endian.{big_bytes}
 use Rattle.labels.specs.Labels.{Labels}
@@ -24,12 +25,12 @@ symbols_text symbols = big_bytes 4 (length symbols) ++ flat_map symbol symbols
 abbrev pub start_text : List (List ℕ) → List ℕ
 start_text symbols = padded ((0xBA ∷ 0xAA ∷ 0xD7 ∷ 0 ∷ 2 ∷ []) ++ frame (symbols_text symbols))
 
--- entries behind what stands there, each at a multiple of 16
+-- entries after what stands there, each at a multiple of 16
 unfoldable pub with_entries : List ℕ → List (List ℕ) → List ℕ
 with_entries out [] = out
 with_entries out (body ∷ bodies) = with_entries (padded out ++ entry body) bodies
 
--- the references of entries that stand behind a place: each is the sixteenth part of where the
+-- the references of entries that stand after a place: each is the sixteenth part of where the
 -- entry stands
 unfoldable pub references_from : ℕ → List (List ℕ) → List ℕ
 references_from at [] = []
@@ -48,13 +49,26 @@ carriers name value (row ∷ rows) (r ∷ references) =
 abbrev pub lists_of : List (List ℕ × List ℕ) → List Row → List ℕ → List (List ℕ)
 lists_of pairs rows references = map (λ p. carriers p.0 p.1 rows references) pairs
 
--- a reference behind the list of each pair that its labels carry, and the other lists as they were
+-- the references of each list
+abbrev pub lists_in : List (Vec ℕ Global) → List (List ℕ)
+lists_in lists = map (λ l. l.items) lists
+
+-- a reference after the list at a place, and the other lists as they were
+abbrev pub given_at : ℕ → ℕ → List (List ℕ) → List (List ℕ)
+given_at at reference lists =
+    slice_set lists at (slice_index_or lists at [] ++ reference ∷ [])
+
+-- a reference after the list of each pair that its labels carry, and the other lists as they were
 abbrev pub IsGivenTo : List (List ℕ × List ℕ) → Labels → ℕ → List (List ℕ) → List (List ℕ) → Type 0
 IsGivenTo pairs labels r old new =
     (k : ℕ) → k < length pairs → get_or new k [] ≡ get_or old k [] ++ (if carries (get_or pairs k (
       [],
       [],
     )).0 (get_or pairs k ([], [])).1 labels then r ∷ [] else [])
+
+-- the pairs that have a section: before the pairs of the series stands the empty one, of all series
+abbrev pub listed_pairs : List (List ℕ × List ℕ) → List (List ℕ × List ℕ)
+listed_pairs pairs = ([], []) ∷ pairs
 
 -- a postings section
 abbrev pub section_text : List ℕ → List ℕ
@@ -81,7 +95,7 @@ contents_of series postings offsets =
       postings_offsets = offsets;
     }
 
--- what stands behind the series: the sections of the pairs in their order, the offset table, the
+-- what stands after the series: the sections of the pairs in their order, the offset table, the
 -- table of contents
 unfoldable pub postings_text : ℕ → ℕ → List (List ℕ × List ℕ) → List (List ℕ) → List ℕ
 postings_text series at pairs lists =
@@ -94,7 +108,7 @@ unfoldable pub index_text : List (List ℕ) → List (List ℕ × List ℕ) → 
 index_text symbols pairs rows =
     with_entries (start_text symbols) (bodies_of symbols 8 rows)
     ++ postings_text (length (start_text symbols))
-    (length (with_entries (start_text symbols) (bodies_of symbols 8 rows))) (([], []) ∷ pairs)
+    (length (with_entries (start_text symbols) (bodies_of symbols 8 rows))) (listed_pairs pairs)
     (references_from (length (start_text symbols)) (bodies_of symbols 8 rows)
     ∷ lists_of pairs rows
     (references_from (length (start_text symbols)) (bodies_of symbols 8 rows)))

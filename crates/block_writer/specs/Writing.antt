@@ -2,7 +2,7 @@
 use Rattle.std.specs.Prelude.{ℕ, ℤ, zero, suc, List, [], ◌∷◌, length, take, drop}
 use Rattle.std.specs.List.{flat_map}
 use Rattle.labels.specs.Rows.{Row}
-use Rattle.chunk_reader.specs.Grammar.{body_text, chunk_text, plain}
+use Rattle.chunk_reader.specs.Grammar.{batch_text, chunk_text, plain}
 
 -- samples in pieces of 120, the last with what is left; n is not below their number
 unfoldable pub pieces : ℕ → List (ℤ × ℤ) → List (List (ℤ × ℤ))
@@ -12,7 +12,7 @@ pieces (suc n) (s ∷ ss) = take 120 (s ∷ ss) ∷ pieces n (drop 120 (s ∷ ss
 
 -- a chunk of samples that stand uncompressed
 unfoldable pub piece_text : List (ℤ × ℤ) → List ℕ
-piece_text samples = chunk_text plain (body_text samples)
+piece_text samples = chunk_text plain (batch_text samples)
 
 -- the chunks of a series
 abbrev pub series_text : List (ℤ × ℤ) → List ℕ

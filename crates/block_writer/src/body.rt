@@ -17,7 +17,7 @@ use std::alloc::{AllocError, Global};
 use wire::{put_uvarint, put_varint};
 
 /// Appends the body of a row's entry, whose chunks stand from a place of the chunks file on, and
-/// gives the place behind them.
+/// gives the place after them.
 #[tactic(auto, unfolding(crate::specs::EntryBodies::body_of))]
 pub fn put_body(
     alloc: Global,
@@ -52,7 +52,7 @@ fn put_labels(out: &mut Vec<u8>, symbols: &[&str], labels: &LabelSet) -> Result<
     Ok(())
 }
 
-// The chunks of a series that stand from a place on, and the place behind them.
+// The chunks of a series that stand from a place on, and the place after them.
 fn chunks_of(
     alloc: Global,
     samples: &[Sample],

@@ -1,13 +1,13 @@
 //! Which series carry each pair.
 
-ghost use Rattle.std.specs.Prelude.{◌≡◌, ◌<◌, ◌++◌, ◌∷◌, [], length, map, slice_index_or, slice_set, vec_len, OnOk, IfOk};
+ghost use Rattle.std.specs.Prelude.{◌≡◌, ◌<◌, [], length, vec_len, OnOk, IfOk};
 ghost use Rattle.std.specs.List.{All, Contains};
 ghost use Rattle.std.specs.List.Sorted.{IsStrictlySortedBy};
 ghost use Rattle.labels.specs.Labels.{pair_cmp};
 ghost use Rattle.labels.specs.Pairs.{texts_of};
 ghost use Rattle.block_writer.specs.InUse.{pairs_in, HoldsEachOnce};
 ghost use Rattle.block_writer.specs.EntryBodies.{place_among};
-ghost use Rattle.block_writer.specs.IndexText.{lists_of, IsGivenTo};
+ghost use Rattle.block_writer.specs.IndexText.{given_at, lists_in, lists_of, IsGivenTo};
 
 use labels::{LabelSet, Row};
 use std::alloc::{AllocError, Global};
@@ -24,7 +24,7 @@ pub fn lists_of(
     requires held { HoldsEachOnce pair_cmp (pairs_in rows.now) (texts_of pairs.now) }
     requires each { length references.now ≡ length rows.now }
     ensures { IfOk result (λ v.
-        map (λ l. l.items) v.items ≡ lists_of (texts_of pairs.now) rows.now references.now) }
+        lists_in v.items ≡ lists_of (texts_of pairs.now) rows.now references.now) }
 {
     let mut lists = empty_lists(alloc, pairs.len())?;
     for (i, row) in rows.iter().enumerate() {
@@ -55,7 +55,7 @@ fn put_row(
     requires held { All (Contains (texts_of pairs.now)) labels.now }
     requires each { vec_len lists.old ≡ length pairs.now }
     ensures given { OnOk result (IsGivenTo (texts_of pairs.now) labels.now reference
-        (map (λ l. l.items) lists.old.items) (map (λ l. l.items) lists.new.items)) }
+        (lists_in lists.old.items) (lists_in lists.new.items)) }
     ensures each { vec_len lists.new ≡ vec_len lists.old }
 {
     for i in 0..labels.len() {
@@ -66,9 +66,8 @@ fn put_row(
 
 fn put_at(lists: &mut Vec<Vec<u32>>, at: usize, reference: u32) -> Result<(), AllocError>
     requires { at < vec_len lists.old }
-    ensures added { OnOk result (map (λ l. l.items) lists.new.items
-        ≡ slice_set (map (λ l. l.items) lists.old.items) at
-        (slice_index_or (map (λ l. l.items) lists.old.items) at [] ++ reference ∷ [])) }
+    ensures added { OnOk result
+        (lists_in lists.new.items ≡ given_at at reference (lists_in lists.old.items)) }
     ensures each { vec_len lists.new ≡ vec_len lists.old }
 {
     lists[at].push(reference)?;

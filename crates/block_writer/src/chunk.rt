@@ -2,7 +2,7 @@
 
 ghost use Rattle.std.specs.Prelude.{◌≡◌, ◌<◌, ◌++◌, ◌∷◌, length, OnOk};
 ghost use Rattle.std.specs.List.{flat_map, All};
-ghost use Rattle.chunk_reader.specs.Grammar.{body_text, plain, sample_text};
+ghost use Rattle.chunk_reader.specs.Grammar.{batch_text, plain, sample_text};
 ghost use Rattle.block_writer.specs.Typed.{IsOf64Bits};
 ghost use Rattle.block_writer.specs.Writing.{piece_text};
 
@@ -30,7 +30,7 @@ pub(crate) fn put_chunk(out: &mut Vec<u8>, samples: &[Sample]) -> Result<(), All
 /// Appends the encoding's byte, the count and the samples.
 fn put_content(out: &mut Vec<u8>, samples: &[Sample]) -> Result<(), AllocError>
     requires { length samples.now < 65536 }
-    ensures text { OnOk result (out.new.items ≡ out.old.items ++ plain ∷ body_text samples.now) }
+    ensures text { OnOk result (out.new.items ≡ out.old.items ++ plain ∷ batch_text samples.now) }
     ensures typed { OnOk result (All IsOf64Bits samples.now) }
 {
     let mut count = [0u8; 2];

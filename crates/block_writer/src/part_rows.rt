@@ -54,12 +54,7 @@ impl PartRows {
 fn rise(rows: &[Row]) -> bool
     ensures { result ≡ is_sorted labels_cmp rows.now }
 {
-    for i in 1..rows.len() {
-        if !is_before(&rows[i - 1], &rows[i]) {
-            return false;
-        }
-    }
-    true
+    rows.is_sorted_by(|a, b| is_before(a, b))
 }
 
 fn is_before(a: &Row, b: &Row) -> bool
@@ -83,12 +78,7 @@ fn is_series(row: &Row) -> bool
 fn times_rise(samples: &[Sample]) -> bool
     ensures { result ≡ is_sorted int_cmp samples.now }
 {
-    for i in 1..samples.len() {
-        if !is_earlier(samples[i - 1], samples[i]) {
-            return false;
-        }
-    }
-    true
+    samples.is_sorted_by(|a, b| is_earlier(*a, *b))
 }
 
 fn is_earlier(a: Sample, b: Sample) -> bool

@@ -1,14 +1,14 @@
-//! What stands behind the series: the postings sections, the table of their offsets, the table of
+//! What stands after the series: the postings sections, the table of their offsets, the table of
 //! contents.
 
-ghost use Rattle.std.specs.Prelude.{◌≡◌, ◌≤◌, ◌++◌, ◌∷◌, [], length, map, drop, string_bytes, OnOk, IfOk, IfErr};
+ghost use Rattle.std.specs.Prelude.{◌≡◌, ◌≤◌, ◌++◌, ◌∷◌, length, drop, string_bytes, OnOk, IfOk, IfErr};
 ghost use Rattle.std.specs.List.{flat_map};
 ghost use Rattle.byteorder.specs.Endian.{big_bytes};
 ghost use Rattle.labels.specs.Pairs.{texts_of};
 ghost use Rattle.wire.specs.Checksum.{checked, crc32c};
 ghost use Rattle.index_reader.specs.Grammar.{frame, contents_text, symbol};
 ghost use Rattle.index_reader.specs.Spelled.{list_text, listed_text, table_text};
-ghost use Rattle.block_writer.specs.IndexText.{contents_of, listed_from, postings_text, section_text};
+ghost use Rattle.block_writer.specs.IndexText.{contents_of, listed_from, listed_pairs, lists_in, postings_text, section_text};
 ghost use Rattle.block_writer.specs.Written.{IsReason};
 
 use crate::error::WriteError;
@@ -28,10 +28,11 @@ pub fn put_postings(
     lists: &[Vec<u32>],
 ) -> Result<(), WriteError>
     requires { length lists.now ≡ length pairs.now }
-    ensures text { OnOk result (out.new.items ≡ out.old.items ++ postings_text series (length
-        out.old.items) (([], []) ∷ texts_of pairs.now) (all.now ∷ map (λ l. l.items) lists.now)) }
+    ensures text { OnOk result (out.new.items
+        ≡ out.old.items ++ postings_text series (length out.old.items)
+        (listed_pairs (texts_of pairs.now)) (all.now ∷ lists_in lists.now)) }
     ensures reason { IfErr result (IsReason (postings_text series (length out.old.items)
-        (([], []) ∷ texts_of pairs.now) (all.now ∷ map (λ l. l.items) lists.now))) }
+        (listed_pairs (texts_of pairs.now)) (all.now ∷ lists_in lists.now))) }
 {
     let postings = out.len();
     let table = put_sections(alloc, out, pairs, all, lists)?;
@@ -51,11 +52,11 @@ fn put_sections(
 ) -> Result<Vec<u8>, WriteError>
     requires { length lists.now ≡ length pairs.now }
     ensures text { OnOk result (out.new.items
-        ≡ out.old.items ++ flat_map section_text (all.now ∷ map (λ l. l.items) lists.now)) }
+        ≡ out.old.items ++ flat_map section_text (all.now ∷ lists_in lists.now)) }
     ensures table { IfOk result (λ t. t.items ≡ table_text (listed_from (length out.old.items)
-        (([], []) ∷ texts_of pairs.now) (all.now ∷ map (λ l. l.items) lists.now))) }
+        (listed_pairs (texts_of pairs.now)) (all.now ∷ lists_in lists.now))) }
     ensures reason { IfErr result
-        (IsReason (flat_map section_text (all.now ∷ map (λ l. l.items) lists.now))) }
+        (IsReason (flat_map section_text (all.now ∷ lists_in lists.now))) }
 {
     let mut table = Vec::new(alloc);
     put_be32(&mut table, within(pairs.len() + 1)?)?;

@@ -10,13 +10,13 @@ use Rattle.std.proofs.lemmas.Int.{ints}
 use Rattle.std.proofs.lemmas.List.{length-drop, length-append, take-append-drop, drop_at}
 use Rattle.byteorder.specs.Endian.{big_number, big_bytes}
 use Rattle.byteorder.specs.Numbers.{big_from-lt, big_number-reads_back}
-use Rattle.labels.specs.Contents.{in_range}
+use Rattle.labels.specs.Contents.{is_time}
 use Rattle.labels.specs.declared.sample.TheConstants.{MIN_TIME, MAX_TIME}
 use Rattle.labels.proofs.Times.{first_T, second_T}
 use Rattle.wire.specs.Spelling.{IsBytes}
 use Rattle.wire.proofs.Fields.{IsBytes-drop}
 use Rattle.chunk_reader.specs.declared.error.ChunkError.TheVariants.{Shape}
-use Rattle.chunk_reader.specs.Grammar.{sample_text, body_text, IsBatch}
+use Rattle.chunk_reader.specs.Grammar.{sample_text, batch_text, IsBatch}
 use Rattle.chunk_reader.specs.Reading.{samples_from, samples_in, rises, batch_in}
 use Rattle.chunk_reader.proofs.Places.{length-samples_in}
 use Rattle.chunk_reader.proofs.Rising.{and_true, rises-is_sorted, rises-times, rises_from_times}
@@ -28,7 +28,7 @@ values_of : (samples : List (ℤ × ℤ)) → AllByRecursion Fit samples
 values_of [] fits = tt
 values_of (s ∷ samples) fits = (fits.0.1, values_of samples fits.1)
 
-time_fits : (z : ℤ) → T (in_range MIN_TIME MAX_TIME z) → FitsSigned w64 z
+time_fits : (z : ℤ) → T (is_time z) → FitsSigned w64 z
 time_fits (pos n) h =
     let le : pos n ≤ℤ MAX_TIME =
     lt_z_no (second_T (not (int_lt (pos n) MIN_TIME)) (not (int_lt MAX_TIME (pos n))) h) in
@@ -39,20 +39,20 @@ time_fits (negsuc n) h =
     record { sfits = omega (arith, ints) }
 
 fits_of : (samples : List (ℤ × ℤ))
-    → T (list_all (λ (s : ℤ × ℤ). in_range MIN_TIME MAX_TIME s.0) samples)
+    → T (list_all (λ (s : ℤ × ℤ). is_time s.0) samples)
     → AllByRecursion (λ (s : ℤ × ℤ). FitsSigned w64 s.1) samples → AllByRecursion Fit samples
 fits_of [] times values = tt
 fits_of (s ∷ samples) times values =
     let time =
-    first_T (in_range MIN_TIME MAX_TIME s.0)
-    (list_all (λ (s : ℤ × ℤ). in_range MIN_TIME MAX_TIME s.0) samples) times in
+    first_T (is_time s.0)
+    (list_all (λ (s : ℤ × ℤ). is_time s.0) samples) times in
     let others =
-    second_T (in_range MIN_TIME MAX_TIME s.0)
-    (list_all (λ (s : ℤ × ℤ). in_range MIN_TIME MAX_TIME s.0) samples) times in
+    second_T (is_time s.0)
+    (list_all (λ (s : ℤ × ℤ). is_time s.0) samples) times in
     ((time_fits s.0 time, values.0), fits_of samples others values.1)
 
 pub record IsBody (body : List ℕ) (samples : List (ℤ × ℤ)) : Type 0 where
-  pub text : body ≡ body_text samples
+  pub text : body ≡ batch_text samples
   pub batch : IsBatch samples
 
 counted : (body : List ℕ) → IsBytes body → 0 < big_number 2 body
@@ -71,7 +71,7 @@ counted body fits some len rising =
     samples_take (length tail / 16) tail tail_fits whole in
     let front : big_bytes 2 n ≡ take 2 body = big_bytes_2 body fits (omega (arith, len)) in
     let few : n < 2 ^ 16 = big_from-lt 0 2 body fits in
-    let text : body_text samples ≡ body =
+    let text : batch_text samples ≡ body =
     ap (λ (k : ℕ). big_bytes 2 k ++ flat_map sample_text samples) count
     ∙ ap (λ (t : List ℕ). big_bytes 2 n ++ t) texts
     ∙ ap (λ (t : List ℕ). t ++ tail) front
@@ -122,9 +122,9 @@ batch_from body n samples count some len found rising =
     both _ _ (both _ _ counts sizes) (ap (rises (MIN_TIME -ℤ pos 1)) found ∙ rising) in
     rw (long, tests) (ap value found)
 
-pub length-body_text : (samples : List (ℤ × ℤ))
-    → length (body_text samples) ≡ 2 + 16 * length samples
-length-body_text samples = omega (
+pub length-batch_text : (samples : List (ℤ × ℤ))
+    → length (batch_text samples) ≡ 2 + 16 * length samples
+length-batch_text samples = omega (
   arith,
   length-append (big_bytes 2 (length samples)) (flat_map sample_text samples),
   length-texts samples,
@@ -139,13 +139,13 @@ texts_again samples b =
     ∙ samples_again samples (fits_of samples b.times b.values)
 
 pub batch_again : (samples : List (ℤ × ℤ)) → IsBatch samples
-    → batch_in (body_text samples) ≡ Ok samples
+    → batch_in (batch_text samples) ≡ Ok samples
 batch_again samples b =
     let n = length samples in
     let texts = flat_map sample_text samples in
-    let tail : drop 2 (body_text samples) ≡ texts = drop_at (big_bytes 2 n) texts 2 refl in
+    let tail : drop 2 (batch_text samples) ≡ texts = drop_at (big_bytes 2 n) texts 2 refl in
     let few : n < 2 ^ 16 = omega (arith, b.few) in
-    let found : samples_in (drop 2 (body_text samples)) ≡ samples =
+    let found : samples_in (drop 2 (batch_text samples)) ≡ samples =
     ap samples_in tail ∙ texts_again samples b in
-    batch_from (body_text samples) n samples (big_number-reads_back 2 n texts few) b.some
-    (length-body_text samples) found (rises_from_times samples b.ascending b.times)
+    batch_from (batch_text samples) n samples (big_number-reads_back 2 n texts few) b.some
+    (length-batch_text samples) found (rises_from_times samples b.ascending b.times)

@@ -12,7 +12,7 @@ use Rattle.std.proofs.lemmas.Int.{ints}
 use Rattle.std.proofs.lemmas.Grind.{take_at_read}
 use Rattle.std.proofs.lemmas.List.{drop_all}
 use Rattle.std.proofs.lemmas.Option.{slice_get_within, get_or_from_slice_get}
-use Rattle.labels.specs.Contents.{in_range}
+use Rattle.labels.specs.Contents.{is_time}
 use Rattle.labels.specs.declared.sample.TheConstants.{MIN_TIME, MAX_TIME}
 use Rattle.labels.proofs.Times.{both_T, first_T, second_T, T_of, less_of, lt_of}
 use Rattle.chunk_reader.specs.Reading.{rises}
@@ -134,7 +134,7 @@ rises-is_sorted before (s ∷ samples) h =
 
 pub rises-times : (before : ℤ) (samples : List (ℤ × ℤ)) → (MIN_TIME -ℤ pos 1) ≤ℤ before
     → rises before samples ≡ true
-    → T (list_all (λ (s : ℤ × ℤ). in_range MIN_TIME MAX_TIME s.0) samples)
+    → T (list_all (λ (s : ℤ × ℤ). is_time s.0) samples)
 rises-times before [] le h = tt
 rises-times before (s ∷ samples) le h =
     let g = step before s samples h in
@@ -146,7 +146,7 @@ rises-times before (s ∷ samples) le h =
 
 rises_above : (before : ℤ) (samples : List (ℤ × ℤ)) → T (below_all int_cmp before samples)
     → T (is_sorted int_cmp samples)
-    → T (list_all (λ (s : ℤ × ℤ). in_range MIN_TIME MAX_TIME s.0) samples)
+    → T (list_all (λ (s : ℤ × ℤ). is_time s.0) samples)
     → rises before samples ≡ true
 unfolding rises
 rises_above before [] below ascending times = refl
@@ -155,35 +155,35 @@ rises_above before (s ∷ samples) below ascending times =
     lt_of before s.0
     (less_from _ (first_T (is_lt (int_cmp before s.0)) (below_all int_cmp before samples) below)) in
     let time =
-    first_T (in_range MIN_TIME MAX_TIME s.0)
-    (list_all (λ (s : ℤ × ℤ). in_range MIN_TIME MAX_TIME s.0) samples) times in
+    first_T (is_time s.0)
+    (list_all (λ (s : ℤ × ℤ). is_time s.0) samples) times in
     let high : s.0 ≤ℤ MAX_TIME =
     lt_z_no (second_T (not (int_lt s.0 MIN_TIME)) (not (int_lt MAX_TIME s.0)) time) in
     let below_others =
     first_T (below_all int_cmp s.0 samples) (is_sorted int_cmp samples) ascending in
     let others : rises s.0 samples ≡ true =
     rises_above s.0 samples below_others (second_T (below_all int_cmp s.0 samples)
-    (is_sorted int_cmp samples) ascending) (second_T (in_range MIN_TIME MAX_TIME s.0)
-    (list_all (λ (s : ℤ × ℤ). in_range MIN_TIME MAX_TIME s.0) samples) times) in
+    (is_sorted int_cmp samples) ascending) (second_T (is_time s.0)
+    (list_all (λ (s : ℤ × ℤ). is_time s.0) samples) times) in
     rw (lt, is_within s.0 MAX_TIME high, others) refl
 
 below_times : (samples : List (ℤ × ℤ))
-    → T (list_all (λ (s : ℤ × ℤ). in_range MIN_TIME MAX_TIME s.0) samples)
+    → T (list_all (λ (s : ℤ × ℤ). is_time s.0) samples)
     → T (below_all int_cmp (MIN_TIME -ℤ pos 1) samples)
 below_times [] times = tt
 below_times (s ∷ samples) times =
     let time =
-    first_T (in_range MIN_TIME MAX_TIME s.0)
-    (list_all (λ (s : ℤ × ℤ). in_range MIN_TIME MAX_TIME s.0) samples) times in
+    first_T (is_time s.0)
+    (list_all (λ (s : ℤ × ℤ). is_time s.0) samples) times in
     let low : MIN_TIME ≤ℤ s.0 =
     lt_z_no (first_T (not (int_lt s.0 MIN_TIME)) (not (int_lt MAX_TIME s.0)) time) in
     let lt : (MIN_TIME -ℤ pos 1) <ℤ s.0 = omega (arith, ints) in
     both_T _ _ (is_less_T (MIN_TIME -ℤ pos 1) s.0 lt)
-    (below_times samples (second_T (in_range MIN_TIME MAX_TIME s.0)
-    (list_all (λ (s : ℤ × ℤ). in_range MIN_TIME MAX_TIME s.0) samples) times))
+    (below_times samples (second_T (is_time s.0)
+    (list_all (λ (s : ℤ × ℤ). is_time s.0) samples) times))
 
 pub rises_from_times : (samples : List (ℤ × ℤ)) → T (is_sorted int_cmp samples)
-    → T (list_all (λ (s : ℤ × ℤ). in_range MIN_TIME MAX_TIME s.0) samples)
+    → T (list_all (λ (s : ℤ × ℤ). is_time s.0) samples)
     → rises (MIN_TIME -ℤ pos 1) samples ≡ true
 rises_from_times samples ascending times =
     rises_above (MIN_TIME -ℤ pos 1) samples (below_times samples times) ascending times

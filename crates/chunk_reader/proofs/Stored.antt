@@ -11,9 +11,9 @@ use Rattle.wire.specs.Checksum.{crc32c}
 use Rattle.wire.proofs.Fields.{bytes_again}
 use Rattle.wire.proofs.KnownReads.{same_read}
 use Rattle.wire.proofs.Laws.{uvarint_again}
-use Rattle.chunk_reader.specs.Grammar.{body_text, sample_text, plain, IsChunk}
+use Rattle.chunk_reader.specs.Grammar.{batch_text, sample_text, plain, IsChunk}
 use Rattle.chunk_reader.specs.Reading.{samples_in}
-use Rattle.chunk_reader.proofs.Batches.{length-body_text, texts_again}
+use Rattle.chunk_reader.proofs.Batches.{length-batch_text, texts_again}
 use Rattle.chunk_reader.proofs.SampleTexts.{length-texts}
 use Rattle.chunk_reader.proofs.Whole.{chunk_text_apart}
 
@@ -30,11 +30,11 @@ pub samples_behind : (file : List ℕ) (reference : ℕ) (mint maxt : ℤ) (samp
     → uvarint_at (drop reference file) ≡ Ok (len, after) → bytes_at 3 after ≡ Ok (front, behind)
     → bytes_at (len - 2) behind ≡ Ok (found, last) → found ≡ flat_map sample_text samples
 samples_behind file reference mint maxt samples len after front behind found last x one two three =
-    let body = body_text samples in
+    let body = batch_text samples in
     let texts = flat_map sample_text samples in
     let head = plain ∷ big_bytes 2 (length samples) in
     let rest = big_bytes 4 (crc32c (plain ∷ body)) ++ x.stands.0 in
-    let small : length body < 2 ^ 64 = omega (arith, length-body_text samples, x.batch.few) in
+    let small : length body < 2 ^ 64 = omega (arith, length-batch_text samples, x.batch.few) in
     let apart : drop reference file ≡ uvarint (length body) ++ (head ++ (texts ++ rest)) =
     x.stands.1 ∙ chunk_text_apart plain body x.stands.0 in
     let first =
@@ -46,7 +46,7 @@ samples_behind file reference mint maxt samples len after front behind found las
     same_read head front (texts ++ rest) behind
     (sym (bytes_again head (texts ++ rest)) ∙ ap (bytes_at 3) first.1 ∙ two) in
     let size : length texts ≡ len - 2 =
-    omega (arith, first.0, length-body_text samples, length-texts samples) in
+    omega (arith, first.0, length-batch_text samples, length-texts samples) in
     let third =
     same_read texts found rest last (sym (bytes_again texts rest)
     ∙ ap (bytes_at (length texts)) second.1

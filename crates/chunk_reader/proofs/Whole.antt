@@ -17,10 +17,10 @@ use Rattle.wire.proofs.Fields.{IsBytes-drop, IsBytes-front, IsBytes-back, number
 use Rattle.wire.proofs.Laws.{uvarint_takes, uvarint_again, uvarint_long}
 use Rattle.chunk_reader.specs.declared.error.ChunkError.{ChunkError}
 use Rattle.chunk_reader.specs.declared.error.ChunkError.TheVariants.{Magic, Version, Reference, Crc, XorEncoding, OtherEncoding, Shape, TimesDisagree}
-use Rattle.chunk_reader.specs.Grammar.{chunk_text, body_text, sample_text, signed_text, plain, segment_of, time_at, IsChunk, IsSegment}
+use Rattle.chunk_reader.specs.Grammar.{chunk_text, batch_text, sample_text, signed_text, plain, segment_of, time_at, IsChunk, IsSegment}
 use Rattle.wire.specs.Outcome.{Answers, or_refused}
 use Rattle.chunk_reader.specs.Reading.{opened, content_at, decode, batch_in, is_outside, spans, samples_of}
-use Rattle.chunk_reader.proofs.Batches.{IsBody, batch_takes, batch_again, length-body_text, eqb_same}
+use Rattle.chunk_reader.proofs.Batches.{IsBody, batch_takes, batch_again, length-batch_text, eqb_same}
 use Rattle.chunk_reader.proofs.Rising.{and_true}
 use Rattle.chunk_reader.proofs.Spans.{int_eq-true, int_eq_same}
 use Rattle.wire.proofs.Steps.{bind_ok, refused_ok, not_failed, passed, same_value, rest_fits}
@@ -181,7 +181,7 @@ chunk_takes file reference mint maxt samples fits h =
     let t = decoded_takes k.0.0 k.0.1 d.0 (λ i. content_fits (suc i)) d.1 in
     let ends =
     and_true (int_eq (time_at d.0 0) mint) (int_eq (time_at d.0 (length d.0 - 1)) maxt) s.0 in
-    let text : bytes ≡ chunk_text plain (body_text d.0) ++ front.rest =
+    let text : bytes ≡ chunk_text plain (batch_text d.0) ++ front.rest =
     front.text
     ∙ ap (λ (e : ℕ). chunk_text e k.0.1 ++ front.rest) t.0
     ∙ ap (λ (b : List ℕ). chunk_text plain b ++ front.rest) t.1.text in
@@ -233,19 +233,19 @@ samples_bytes (s ∷ samples) =
     subst IsBytes (sym (flat_map-cons sample_text s samples))
     (both_fit (sample_text s) (flat_map sample_text samples) first (samples_bytes samples))
 
-content_bytes : (samples : List (ℤ × ℤ)) → IsBytes (plain ∷ body_text samples)
+content_bytes : (samples : List (ℤ × ℤ)) → IsBytes (plain ∷ batch_text samples)
 content_bytes samples =
-    one_more_fits plain (body_text samples) (omega arith) (both_fit (big_bytes 2 (length samples))
+    one_more_fits plain (batch_text samples) (omega arith) (both_fit (big_bytes 2 (length samples))
     (flat_map sample_text samples) (number_fits 2 (length samples)) (samples_bytes samples))
 
 pub chunk_again : (file : List ℕ) (reference : ℕ) (mint maxt : ℤ) (samples : List (ℤ × ℤ))
     → IsChunk file reference mint maxt samples → samples_of file reference mint maxt ≡ Ok samples
 unfolding samples_of
 chunk_again file reference mint maxt samples x =
-    let body = body_text samples in
+    let body = batch_text samples in
     let rest = x.stands.0 in
     let content_fits = content_bytes samples in
-    let small : length body < 2 ^ 64 = omega (arith, length-body_text samples, x.batch.few) in
+    let small : length body < 2 ^ 64 = omega (arith, length-batch_text samples, x.batch.few) in
     let long : 0 < length (chunk_text plain body) = omega (
       arith,
       length-append (uvarint (length body)) (checked (plain ∷ body)),

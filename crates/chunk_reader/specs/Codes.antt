@@ -4,7 +4,7 @@ use Rattle.chunk_reader.specs.declared.error.ChunkError.{ChunkError}
 use Rattle.chunk_reader.specs.declared.error.ChunkError.TheVariants.{Memory, Magic, Version, Reference, Crc, XorEncoding, OtherEncoding, Shape, TimesDisagree}
 
 abbrev pub code_of : ChunkError → List ℕ
-code_of Memory = codes "Memory"
+code_of Memory = codes "memory"
 code_of Magic = codes "C1"
 code_of Version = codes "C2"
 code_of Reference = codes "C3"

@@ -6,8 +6,7 @@ use Rattle.std.specs.FinMap.Entries.{is_sorted}
 use Rattle.std.specs.Int.{w64, cast_unsigned}
 use Rattle.std.specs.Int.RustNames.{FitsSigned}
 use Rattle.byteorder.specs.Endian.{big_bytes}
-use Rattle.labels.specs.Contents.{in_range}
-use Rattle.labels.specs.declared.sample.TheConstants.{MIN_TIME, MAX_TIME}
+use Rattle.labels.specs.Contents.{is_time}
 use Rattle.wire.specs.Spelling.{uvarint}
 use Rattle.wire.specs.Checksum.{checked}
 
@@ -19,8 +18,8 @@ abbrev pub sample_text : ℤ × ℤ → List ℕ
 sample_text s = signed_text s.0 ++ signed_text s.1
 
 -- the body: how many samples, in two bytes, and the samples
-abbrev pub body_text : List (ℤ × ℤ) → List ℕ
-body_text samples = big_bytes 2 (length samples) ++ flat_map sample_text samples
+abbrev pub batch_text : List (ℤ × ℤ) → List ℕ
+batch_text samples = big_bytes 2 (length samples) ++ flat_map sample_text samples
 
 -- the length of the body, the byte of its encoding, the body, and the checksum of byte and body
 abbrev pub chunk_text : ℕ → List ℕ → List ℕ
@@ -38,7 +37,7 @@ pub record IsBatch (samples : List (ℤ × ℤ)) : Type 0 where
   pub some : 0 < length samples
   pub few : length samples < 65536
   pub ascending : T (is_sorted int_cmp samples)
-  pub times : T (list_all (λ s. in_range MIN_TIME MAX_TIME s.0) samples)
+  pub times : T (list_all (λ s. is_time s.0) samples)
   pub values : AllByRecursion (λ s. FitsSigned w64 s.1) samples
 
 -- the upper 32 bits of a reference are the number of a segment file, from 0; the lower 32 are a
@@ -46,14 +45,14 @@ pub record IsBatch (samples : List (ℤ × ℤ)) : Type 0 where
 abbrev pub segment_of : ℕ → ℕ
 segment_of reference = reference / 2 ^ 32
 
--- the reference is of the first segment, which this file is; and at this place behind the head
+-- the reference is of the first segment, which this file is; and at this place after the head
 -- stands a chunk of these samples, which begin and end at these times
 pub record IsChunk (file : List ℕ) (reference : ℕ) (mint maxt : ℤ)
     (samples : List (ℤ × ℤ)) : Type 0 where
   pub segment : segment_of reference ≡ 0
   pub behind_head : 8 ≤ reference
   pub stands : (rest : List ℕ)
-      × (drop reference file ≡ chunk_text plain (body_text samples) ++ rest)
+      × (drop reference file ≡ chunk_text plain (batch_text samples) ++ rest)
   pub batch : IsBatch samples
   pub first : time_at samples 0 ≡ mint
   pub last : time_at samples (length samples - 1) ≡ maxt

@@ -65,7 +65,7 @@ abbrev pub spans : ℤ → ℤ → List (ℤ × ℤ) → Bool
 spans mint maxt samples =
     int_eq (time_at samples 0) mint && int_eq (time_at samples (length samples - 1)) maxt
 
--- whether a reference is of another segment, or of no place behind the head of this one
+-- whether a reference is of another segment, or of no place after the head of this one
 abbrev pub is_outside : List ℕ → ℕ → Bool
 is_outside file reference =
     not (segment_of reference == 0) || nat_lt reference 8 || nat_le (length file) reference

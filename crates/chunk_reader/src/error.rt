@@ -16,7 +16,7 @@ pub enum ChunkError {
     Magic,
     /// `C2`: these are not followed by `01 00 00 00`.
     Version,
-    /// `C3`: the reference names no place behind the head within the file.
+    /// `C3`: the reference names no place after the head within the file.
     Reference,
     /// `C4`: the chunk is not whole, or its checksum is another.
     Crc,
@@ -39,7 +39,7 @@ impl ChunkError {
         ensures { result.now ≡ code_of self }
     {
         match self {
-            ChunkError::Memory => "Memory",
+            ChunkError::Memory => "memory",
             ChunkError::Magic => "C1",
             ChunkError::Version => "C2",
             ChunkError::Reference => "C3",

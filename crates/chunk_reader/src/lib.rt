@@ -1,4 +1,4 @@
-//! The chunks file of a block: batches of samples, each behind its length and before its checksum.
+//! The chunks file of a block: batches of samples, each after its length and before its checksum.
 //!
 //! [`Chunks`] owns the file's bytes; `open` looks at its head alone. `find` and `samples` look at
 //! the one chunk that a series entry names, by its place and its first and last time, and give its

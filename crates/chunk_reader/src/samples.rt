@@ -8,7 +8,7 @@ use labels::{MAX_TIME, MIN_TIME, Sample};
 use std::alloc::{AllocError, Global};
 use std::marker::Model;
 
-/// Samples that stand one behind the other, sixteen bytes each, and are decoded as they are asked
+/// Samples that stand one after the other, sixteen bytes each, and are decoded as they are asked
 /// for.
 #[derive(Drop)]
 pub struct Samples<'a> {

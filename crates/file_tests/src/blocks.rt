@@ -213,7 +213,7 @@ fn another_text_is_refused(rt: HostRuntime) {
     }
     let no_text = b"{\"minTime\":0,\"maxTime\":20,\"version\":1,\"\xFF\":0}";
     assert!(rt; said(alloc, no_text, 0, 20) == "B2");
-    assert!(rt; BlockError::Memory.code() == "Memory");
+    assert!(rt; BlockError::Memory.code() == "memory");
 }
 
 /// The worked text, with spaces up to this length.

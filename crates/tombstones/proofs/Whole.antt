@@ -1,7 +1,7 @@
 -- The deletions that are read are the ones spelled, and spelled deletions are read.
-use Rattle.std.proofs.Common.{◌≡◌, ℕ, zero, suc, ◌+◌, ◌-◌, ◌^◌, ◌<◌, ◌≤◌, Bool, true, false, ◌&&◌, eqb, ltb, List, [], ◌∷◌, ◌++◌, length, Result, Ok, Err, pos, negsuc, refl, sym, ap, subst, ◌∙◌, append_assoc, arith}
-use Rattle.std.specs.Prelude.{ℤ, int_le, IfOk, T}
-use Rattle.std.specs.Int.Signed.{◌≤ℤ◌}
+use Rattle.std.proofs.Common.{◌≡◌, ℕ, zero, suc, ◌+◌, ◌-◌, ◌^◌, ◌<◌, ◌≤◌, Bool, true, false, ◌&&◌, not, eqb, ltb, List, [], ◌∷◌, ◌++◌, length, Result, Ok, Err, pos, negsuc, refl, sym, ap, subst, ◌∙◌, append_assoc, arith}
+use Rattle.std.specs.Prelude.{ℤ, int_le, int_lt, IfOk}
+use Rattle.std.specs.Int.Signed.{◌≤ℤ◌, lt_z_no}
 use Rattle.std.specs.List.{AllByRecursion}
 use Rattle.std.specs.List.Sorted.{IsPermutation}
 use Rattle.std.proofs.lemmas.Bool.{ltb-false, le-ltb, eqb-true, eqb-false, true_from_ne_false}
@@ -10,6 +10,8 @@ use Rattle.std.proofs.lemmas.List.{length-append, nil_from_length}
 use Rattle.std.proofs.lemmas.List.Concat.{flat_map-cons}
 use Rattle.byteorder.specs.Endian.{big_bytes}
 use Rattle.labels.specs.declared.sample.TheConstants.{MIN_TIME, MAX_TIME}
+use Rattle.labels.specs.Contents.{is_time}
+use Rattle.labels.proofs.Times.{first_T, second_T, T_of}
 use Rattle.wire.specs.Spelling.{uvarint, varint, zigzag, IsBytes}
 use Rattle.wire.specs.Reading.{byte_at, bytes_at, number_at, uvarint_at, varint_at}
 use Rattle.wire.specs.Checksum.{crc32c}
@@ -68,16 +70,16 @@ and_true : (a b : Bool) → (a && b) ≡ true → (a ≡ true) × (b ≡ true)
 and_true true b h = (refl, h)
 and_true false b h = absurd cc
 
-fact : (b : Bool) → b ≡ true → T b
-fact b e = subst T (sym e) tt
-
-within : (a b : ℤ) → int_le a b ≡ true → a ≤ℤ b
-within a b h = record { le = fact _ h }
-
 -- a time is spelled as a number of 64 bits
-small : (z : ℤ) → MIN_TIME ≤ℤ z → z ≤ℤ MAX_TIME → zigzag z < 2 ^ 64
-small (pos n) low high = omega (arith, ints)
-small (negsuc n) low high = omega (arith, ints)
+small : (z : ℤ) → is_time z ≡ true → zigzag z < 2 ^ 64
+small (pos n) h =
+    let high : pos n ≤ℤ MAX_TIME =
+    lt_z_no (second_T (not (int_lt (pos n) MIN_TIME)) (not (int_lt MAX_TIME (pos n))) (T_of _ h)) in
+    omega (arith, ints)
+small (negsuc n) h =
+    let low : MIN_TIME ≤ℤ negsuc n =
+    lt_z_no (first_T (not (int_lt (negsuc n) MIN_TIME)) (not (int_lt MAX_TIME (negsuc n))) (T_of _ h)) in
+    omega (arith, ints)
 
 record Smalls (d : Deletion) : Type 0 where
   from : zigzag d.from < 2 ^ 64
@@ -85,15 +87,9 @@ record Smalls (d : Deletion) : Type 0 where
 
 smalls : (d : Deletion) → IsDeletion d → Smalls d
 smalls d s =
-    let a =
-    and_true (int_le d.from d.to && int_le MIN_TIME d.from) (int_le d.to MAX_TIME) s.interval in
-    let b = and_true (int_le d.from d.to) (int_le MIN_TIME d.from) a.0 in
-    let order : d.from ≤ℤ d.to = within d.from d.to b.0 in
-    let low : MIN_TIME ≤ℤ d.from = within MIN_TIME d.from b.1 in
-    let high : d.to ≤ℤ MAX_TIME = within d.to MAX_TIME a.1 in
-    let from_high : d.from ≤ℤ MAX_TIME = omega (arith, ints) in
-    let to_low : MIN_TIME ≤ℤ d.to = omega (arith, ints) in
-    record { from = small d.from low from_high; to = small d.to to_low high }
+    let a = and_true (int_le d.from d.to && is_time d.from) (is_time d.to) s.interval in
+    let b = and_true (int_le d.from d.to) (is_time d.from) a.0 in
+    record { from = small d.from b.1; to = small d.to a.1 }
 
 pub entry_again : (d : Deletion) (rest : List ℕ) → IsDeletion d
     → entry_at (entry_text d ++ rest) ≡ Ok (d, rest)

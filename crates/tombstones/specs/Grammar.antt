@@ -3,7 +3,7 @@ use Rattle.std.specs.Prelude.{◌≡◌, ℕ, ℤ, ◌≤◌, ◌<◌, ◌^◌, 
 use Rattle.std.specs.List.{flat_map, AllByRecursion}
 use Rattle.std.specs.List.Sorted.{IsPermutation}
 use Rattle.byteorder.specs.Endian.{big_bytes}
-use Rattle.labels.specs.declared.sample.TheConstants.{MIN_TIME, MAX_TIME}
+use Rattle.labels.specs.Contents.{is_time}
 use Rattle.wire.specs.Spelling.{uvarint, varint}
 use Rattle.wire.specs.Checksum.{crc32c}
 use Rattle.tombstones.specs.declared.deletion.Deletion.{Deletion}
@@ -14,7 +14,7 @@ entry_text d = uvarint d.reference ++ (varint d.from ++ varint d.to)
 
 -- an interval is not empty, and both its ends are times
 abbrev pub is_interval : ℤ → ℤ → Bool
-is_interval from to = int_le from to && int_le MIN_TIME from && int_le to MAX_TIME
+is_interval from to = int_le from to && is_time from && is_time to
 
 pub record IsDeletion (d : Deletion) : Type 0 where
   pub reference : d.reference < 2 ^ 32

@@ -7,7 +7,7 @@ ghost use Rattle.tombstones.specs.Reading.{checked_at, deletions_from, deletions
 
 use crate::deletion::Deletion;
 use crate::error::TombstoneError;
-use labels::{MAX_TIME, MIN_TIME};
+use labels::is_time;
 use std::alloc::Global;
 use wire::{Cut, crc32c};
 
@@ -48,12 +48,12 @@ fn entries_of(file: &[u8]) -> Result<&[u8], TombstoneError>
 }
 
 #[tactic(auto, unfolding(crate::specs::Reading::checked_at))]
-fn checked_of(behind: &[u8]) -> Result<&[u8], TombstoneError>
-    ensures { Gives (λ x. x.now) result (checked_at behind.now) }
+fn checked_of(after: &[u8]) -> Result<&[u8], TombstoneError>
+    ensures { Gives (λ x. x.now) result (checked_at after.now) }
 {
-    let mut cut = Cut::new(behind);
+    let mut cut = Cut::new(after);
     let entries = cut
-        .bytes(behind.len().saturating_sub(4))
+        .bytes(after.len().saturating_sub(4))
         .or(Err(TombstoneError::Shape))?;
     let sum = cut.be32().or(Err(TombstoneError::Shape))?;
     if sum != crc32c(entries) {
@@ -103,5 +103,5 @@ fn entry_of(bytes: &[u8]) -> Result<(Deletion, &[u8]), TombstoneError>
 fn is_interval(from: i64, to: i64) -> bool
     ensures { result ≡ is_interval from to }
 {
-    (from <= to) & (MIN_TIME <= from) & (to <= MAX_TIME)
+    from <= to && is_time(from) && is_time(to)
 }

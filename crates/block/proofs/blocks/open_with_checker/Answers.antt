@@ -2,7 +2,7 @@ use Rattle.std.specs.Prelude.{IfOk}
 use Rattle.std.proofs.Common.{Ok, sym, ap, subst, ◌∙◌, arith}
 use Rattle.std.proofs.lemmas.Result.{err_from_is_err_and}
 use Rattle.block.specs.declared.blocks.Files.{Files}
-use Rattle.block.specs.Blocks.{part_of, shown_of}
+use Rattle.block.specs.Blocks.{part_of_series, shown_of}
 use Rattle.block.specs.Grammar.{IsBlock}
 use Rattle.block.specs.Sound.{IsSoundBlock}
 use Rattle.block.proofs.Chunked.{sound_of}
@@ -96,5 +96,5 @@ returns-clause-found g c =
     c.in_ok-check_stored.ensures.few x.1 x.2 (sym c.are_inside.ensures
     ∙ c.if-not-are_inside.false) in
     subst (λ (f : Files). IsBlock c.args.range c.args.index.now c.args.chunks.items
-    c.args.tombstones.now (part_of f.chunks c.in_ok-deletions.deletions f.index.series))
+    c.args.tombstones.now (part_of_series f.chunks c.in_ok-deletions.deletions f.index.series))
     (sym c.in_ok-files.ensures.ok) spelled

@@ -1,13 +1,13 @@
 use Rattle.std.proofs.Common.{sym, ap, ◌∙◌, arith}
 use Rattle.std.specs.List.{list_any}
-use Rattle.block.specs.Sound.{IsHeld}
+use Rattle.block.specs.Sound.{IsHeldChunk}
 use Rattle.block.proofs.Passing.{held_at}
 use Rattle.block.proofs.Wanting.{is_asked, chunk_passed, chunk_found, chunks_ended}
 use Rattle.block.proofs.samples.has_wanted_within.Goals as goal
 
 pub chunk_samples-requires : goal.chunk_samples-requires
 chunk_samples-requires c =
-    held_at (IsHeld c.args.chunks.now) c.args.series.now c.loop-chunk.chunk-index _
+    held_at (IsHeldChunk c.args.chunks.now) c.args.series.now c.loop-chunk.chunk-index _
     (omega arith) c.requires
 
 pub loop-chunk-preserved : goal.loop-chunk-preserved

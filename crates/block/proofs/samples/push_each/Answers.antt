@@ -1,5 +1,5 @@
 use Rattle.std.proofs.Common.{◌++◌, ℤ, List, filter, ap, ◌∙◌, arith}
-use Rattle.block.specs.Sound.{IsHeld}
+use Rattle.block.specs.Sound.{IsHeldChunk}
 use Rattle.block.proofs.Meeting.{held_met, kept_in_met}
 use Rattle.block.proofs.Passing.{held_at}
 use Rattle.block.proofs.Wanting.{is_asked, chunk_kept, chunks_kept}
@@ -8,7 +8,7 @@ use Rattle.block.proofs.samples.push_each.Goals as goal
 pub chunk_samples-requires : goal.chunk_samples-requires
 chunk_samples-requires c =
     let w = c.args.wanted.now in
-    held_at (IsHeld c.args.chunks.now) c.meeting_chunks-met.result.now c.loop-chunk.chunk-index _
+    held_at (IsHeldChunk c.args.chunks.now) c.meeting_chunks-met.result.now c.loop-chunk.chunk-index _
     (omega arith) (held_met w.times.from w.times.to c.args.chunks.now c.args.series.now
     c.meeting_chunks-met.result.now c.meeting_chunks-met.ensures c.requires.held)
 

@@ -1,23 +1,13 @@
-use Rattle.std.proofs.Common.{sym, ◌∙◌, arith}
+use Rattle.std.proofs.Common.{◌≡◌, rules}
+use Rattle.std.specs.Ordering.{is_lt}
+use Rattle.std.proofs.lemmas.Fn.{always_returns_same}
 use Rattle.labels.specs.Labels.{labels_cmp}
 use Rattle.labels.specs.Laws.{labels_total}
-use Rattle.block_writer.proofs.Neighbours.{goes_on, stops, is_sorted-last}
+use Rattle.block_writer.proofs.Neighbours.{rise_from_pairs}
 use Rattle.block_writer.proofs.part_rows.rise.Goals as goal
-
-pub returns-then-not-is_before : goal.returns-then-not-is_before
-returns-then-not-is_before c =
-    stops labels_cmp labels_total c.args.rows.now c.loop-i.i c.index-rows-i.result
-    c.index-rows-i-in-loop-i.result _ (omega arith) (omega arith) c.index-rows-i.is
-    c.index-rows-i-in-loop-i.is (sym c.is_before.ensures
-    ∙ c.if-not-is_before.true) c.loop-i.invariant
-
-pub loop-i-preserved : goal.loop-i-preserved
-loop-i-preserved c =
-    goes_on labels_cmp labels_total c.args.rows.now c.loop-i.i c.index-rows-i.result
-    c.index-rows-i-in-loop-i.result _ (omega arith) (omega arith) c.index-rows-i.is
-    c.index-rows-i-in-loop-i.is (sym c.is_before.ensures
-    ∙ c.if-not-is_before.false) c.loop-i.invariant
 
 pub returns : goal.returns
 returns c =
-    sym (is_sorted-last labels_cmp c.args.rows.now c.loop-i.i (omega arith)) ∙ c.loop-i.invariant
+    rise_from_pairs labels_cmp labels_total c.args.rows.now c.is_sorted_by.result
+    (c.is_sorted_by.ensures.cases (λ x y. is_lt (labels_cmp x.0 y.0)) (always_returns_same _
+    (λ a r. r ≡ is_lt (labels_cmp a.0.now.0 a.1.0.now.0)) _ (λ a r q k. search rules)))

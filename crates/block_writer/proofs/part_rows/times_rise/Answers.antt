@@ -1,23 +1,12 @@
-use Rattle.std.proofs.Common.{sym, ◌∙◌, arith}
-use Rattle.std.specs.Ordering.{int_cmp}
+use Rattle.std.proofs.Common.{◌≡◌, rules}
+use Rattle.std.specs.Ordering.{int_cmp, is_lt}
 use Rattle.std.proofs.lemmas.Cmp.{int_cmp_total}
-use Rattle.block_writer.proofs.Neighbours.{goes_on, stops, is_sorted-last}
+use Rattle.std.proofs.lemmas.Fn.{always_returns_same}
+use Rattle.block_writer.proofs.Neighbours.{rise_from_pairs}
 use Rattle.block_writer.proofs.part_rows.times_rise.Goals as goal
-
-pub returns-then-not-is_earlier : goal.returns-then-not-is_earlier
-returns-then-not-is_earlier c =
-    stops int_cmp int_cmp_total c.args.samples.now c.loop-i.i c.index-samples-i.result
-    c.index-samples-i-in-loop-i.result _ (omega arith) (omega arith) c.index-samples-i.is
-    c.index-samples-i-in-loop-i.is (sym c.is_earlier.ensures
-    ∙ c.if-not-is_earlier.true) c.loop-i.invariant
-
-pub loop-i-preserved : goal.loop-i-preserved
-loop-i-preserved c =
-    goes_on int_cmp int_cmp_total c.args.samples.now c.loop-i.i c.index-samples-i.result
-    c.index-samples-i-in-loop-i.result _ (omega arith) (omega arith) c.index-samples-i.is
-    c.index-samples-i-in-loop-i.is (sym c.is_earlier.ensures
-    ∙ c.if-not-is_earlier.false) c.loop-i.invariant
 
 pub returns : goal.returns
 returns c =
-    sym (is_sorted-last int_cmp c.args.samples.now c.loop-i.i (omega arith)) ∙ c.loop-i.invariant
+    rise_from_pairs int_cmp int_cmp_total c.args.samples.now c.is_sorted_by.result
+    (c.is_sorted_by.ensures.cases (λ x y. is_lt (int_cmp x.0 y.0)) (always_returns_same _
+    (λ a r. r ≡ is_lt (int_cmp a.0.now.0 a.1.0.now.0)) _ (λ a r q k. search rules)))

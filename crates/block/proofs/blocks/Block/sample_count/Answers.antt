@@ -3,7 +3,7 @@ use Rattle.std.specs.List.{AllByRecursion}
 use Rattle.std.specs.Arc.{arc_value}
 use Rattle.index_reader.specs.Indexes.{chunk_lists}
 use Rattle.block.specs.declared.blocks.Files.{Files}
-use Rattle.block.specs.Wanted.{AreHeld}
+use Rattle.block.specs.Wanted.{AreHeldChunks}
 use Rattle.block.specs.Blocks.{Shown, sample_count}
 use Rattle.block.proofs.Counts.{count_whole}
 use Rattle.block.proofs.Showing.{all_held}
@@ -11,7 +11,7 @@ use Rattle.block.proofs.blocks.Block.sample_count.Goals as goal
 
 pub count_live-requires : goal.count_live-requires
 count_live-requires c =
-    subst (λ (f : Files). AllByRecursion (AreHeld f.chunks)
+    subst (λ (f : Files). AllByRecursion (AreHeldChunks f.chunks)
     (chunk_lists c.deref.result.now.index.series)) (c.deref.ensures ∙ sym c.deref-2.ensures)
     (all_held c.deref.result.now c.self.inside c.deref.ensures c.self.invariant)
 

@@ -3,7 +3,7 @@ use Rattle.std.specs.Arc.{arc_value}
 use Rattle.std.specs.Int.{w64}
 use Rattle.std.proofs.lemmas.Int.{to_z-of_z}
 use Rattle.block.specs.declared.blocks.Files.{Files}
-use Rattle.block.specs.Blocks.{Shown, part_of}
+use Rattle.block.specs.Blocks.{Shown, part_of_series}
 use Rattle.block.specs.Fewer.{part_without}
 use Rattle.block.proofs.Removed.{part_removed}
 use Rattle.block.proofs.blocks.Block.without.Goals as goal
@@ -14,7 +14,7 @@ returns-clause-part c =
     let f = arc_value b.files in
     let rs = c.args.references.now in
     let clone = c.in_ok-files.ensures in
-    ap (λ (x : Files). part_of x.chunks c.in_ok-tombstones.tombstones x.index.series)
+    ap (λ (x : Files). part_of_series x.chunks c.in_ok-tombstones.tombstones x.index.series)
     c.in_ok-files.ensures
     ∙ part_removed f.chunks rs _ _ c.args.from c.args.to b.tombstones c.in_ok-tombstones.tombstones
     f.index.series (to_z-of_z w64 c.args.from c.ranges.from) (to_z-of_z w64 c.args.to c.ranges.to)

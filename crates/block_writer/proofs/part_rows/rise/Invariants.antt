@@ -1,7 +1,0 @@
-use Rattle.std.proofs.Common.{◌≡◌, ◌-◌, drop}
-use Rattle.std.specs.FinMap.Entries.{is_sorted}
-use Rattle.labels.specs.Labels.{labels_cmp}
-use Rattle.block_writer.proofs.part_rows.rise.Given as goal
-
-abbrev pub invariant-loop-i : goal.invariant-loop-i
-invariant-loop-i l = is_sorted labels_cmp (drop (l.i - 1) l.rows) ≡ is_sorted labels_cmp l.rows

@@ -1,7 +1,0 @@
-use Rattle.std.proofs.Common.{◌≡◌, ◌-◌, drop}
-use Rattle.std.specs.Ordering.{int_cmp}
-use Rattle.std.specs.FinMap.Entries.{is_sorted}
-use Rattle.block_writer.proofs.part_rows.times_rise.Given as goal
-
-abbrev pub invariant-loop-i : goal.invariant-loop-i
-invariant-loop-i l = is_sorted int_cmp (drop (l.i - 1) l.samples) ≡ is_sorted int_cmp l.samples
