@@ -11,7 +11,7 @@ use Rattle.block_search.specs.Skipping.{LosesNothing, asked_parts}
 use Rattle.snapshots.specs.Replays.{IsAfter}
 use Rattle.snapshots.specs.Views.{Known}
 use Rattle.query_http.specs.Audited.{IsAnsweredPart}
-use Rattle.query_http.specs.Headline.{asked_of, IsHeadline}
+use Rattle.query_http.specs.Headline.{selected_by, IsHeadline}
 use Rattle.query_http.specs.declared.audited.AuditedAnswer.{AuditedAnswer}
 
 -- the content of a snapshot's world is that of its parts
@@ -23,7 +23,7 @@ module _ (opening : SnapshotParts) (query : QueryView) (before after : Known)
     (answer : AuditedAnswer) where
   pub headline : (s : SnapshotParts) → IsPrefix before.seen after.seen
       → IsPrefix before.told after.seen → IsAfter opening after.seen s
-      → AreRows answer.rows.items (asked_of (content_of (parts_of s)) query)
+      → AreRows answer.rows.items (selected_by query (content_of (parts_of s)))
       → LosesNothing query s
       → AllZip (IsAnsweredPart query) (asked_parts query s) answer.parts.items
       → IsHeadline opening query before after answer
@@ -33,7 +33,7 @@ module _ (opening : SnapshotParts) (query : QueryView) (before after : Known)
     snapshot = s;
     replay = after_events;
     rows =
-        subst (λ (c : Content). AreRows answer.rows.items (asked_of c query))
+        subst (λ (c : Content). AreRows answer.rows.items (selected_by query c))
         (world_content s) rows;
     whole = whole;
     parts = parts;

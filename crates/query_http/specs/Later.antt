@@ -48,6 +48,6 @@ abbrev pub later_members : Labels → List ℕ
 later_members labels = flat_map later_member labels
 
 -- an opening bracket in place of the first comma
-abbrev pub opened : ℕ → List ℕ → List ℕ
-opened first [] = first ∷ []
-opened first (x ∷ xs) = first ∷ xs
+abbrev pub with_bracket : ℕ → List ℕ → List ℕ
+with_bracket first [] = first ∷ []
+with_bracket first (x ∷ xs) = first ∷ xs
