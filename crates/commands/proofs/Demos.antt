@@ -14,7 +14,8 @@ use Rattle.snapshots.specs.declared.entry.Entry.{Entry}
 use Rattle.snapshots.specs.Replays.{events_in, EndsWith}
 use Rattle.snapshots.specs.Views.{Known}
 use Rattle.snapshots.proofs.Prefixes.{prefix_trans}
-use Rattle.query_http.specs.Headline.{selected_by, IsHeadline}
+use Rattle.query_http.specs.Audited.{selected_by}
+use Rattle.query_http.specs.Headline.{IsHeadline}
 use Rattle.query_http.specs.declared.audited.AuditedAnswer.{AuditedAnswer}
 use Rattle.query_http.proofs.Headlines.{world_content}
 use Rattle.commands.specs.Demo.{first_event, second_event, demo_events}
