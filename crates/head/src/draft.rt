@@ -232,10 +232,7 @@ fn add_known(
     if series.is_full() {
         return Err(CommitError::Limit);
     }
-    match draft.grow(alloc, place, sample) {
-        Ok(copied) => Ok(copied),
-        Err(AllocError) => Err(CommitError::Memory),
-    }
+    Ok(draft.grow(alloc, place, sample)?)
 }
 
 /// Adds a series of a label set that no other has.

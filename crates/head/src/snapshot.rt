@@ -163,10 +163,7 @@ pub fn apply(alloc: Global, at: &Snapshot, event: &Event) -> Result<Snapshot, Co
     match event.kind() {
         Kind::Batch(samples) => snapshot_with(alloc, at, samples.as_slice()),
         Kind::Deletion(matchers, from, to) => {
-            match snapshot_without(alloc, at, matchers.as_slice(), *from, *to) {
-                Ok(snapshot) => Ok(snapshot),
-                Err(AllocError) => Err(CommitError::Memory),
-            }
+            Ok(snapshot_without(alloc, at, matchers.as_slice(), *from, *to)?)
         }
         Kind::Cut(time) => cut_at(alloc, at, *time),
     }
