@@ -154,7 +154,7 @@ fn run_of(lists: &Lists, name: &str) -> (Spot, Spot)
     (first_of(lists, name), first_after(lists, name))
 }
 
-/// The value of the pair of the list so many places behind a spot.
+/// The value of the pair of the list so many places after a spot.
 fn value_after(lists: &Lists, spot: Spot, i: usize) -> &str
     requires spot { IsSpot lists.now spot }
     requires held { place_of lists.now spot + i < length (entries_of lists.now) }
