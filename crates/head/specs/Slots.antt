@@ -34,7 +34,7 @@ owned slots = sum_by own_count slots
 abbrev pub AllOwn : (Labels → Bool) → List Slot → Type 0
 AllOwn p slots = T (list_all (λ slot. not (is_own slot) || p (series_in slot).labels) slots)
 
--- the own series are those of before, and ones of this label set
+-- each own series has this label set, or one that an own series had before
 abbrev pub AddsOwnOf : Labels → List Slot → List Slot → Type 0
 AddsOwnOf labels old new = (p : Labels → Bool) → T (p labels) → AllOwn p old → AllOwn p new
 

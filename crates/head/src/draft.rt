@@ -232,7 +232,10 @@ fn add_known(
     if series.is_full() {
         return Err(CommitError::Limit);
     }
-    Ok(draft.grow(alloc, place, sample)?)
+    match draft.grow(alloc, place, sample) {
+        Ok(copied) => Ok(copied),
+        Err(AllocError) => Err(CommitError::Memory),
+    }
 }
 
 /// Adds a series of a label set that no other has.

@@ -9,8 +9,8 @@ use Rattle.head.specs.Taking.{series_added, grown, with_series}
 use Rattle.head.proofs.SlotLaws.{labels_stay, AllOwn-set}
 use Rattle.head.proofs.draft.add_known.Goals as goal
 
-pub returns-clause-step : goal.returns-clause-step
-returns-clause-step c = λ d.
+pub returns-in-Ok-clause-step : goal.returns-in-Ok-clause-step
+returns-in-Ok-clause-step c = λ d.
     let slots : List Slot = c.args.draft.now in
     let head : List HeadSeries = series_in_each slots in
     let k = c.args.place in
@@ -19,17 +19,17 @@ returns-clause-step c = λ d.
     let step : series_added most c.args.at c.args.sample h ≡ Ok (grown c.args.sample h) = search rules in
     ap (λ (x : HeadSeries). with_series head k (series_added most c.args.at c.args.sample x)) (sym is)
     ∙ ap (with_series head k) step
-    ∙ ap Ok (ap (λ (x : HeadSeries). slice_set head k (grown c.args.sample x)) is ∙ sym (ap (λ (ss : List Slot). series_in_each ss) (c.in_ok-grow.ensures.grown d) ∙ map-set series_in slots k (Own (grown c.args.sample (slice_index_or head k d)))))
+    ∙ ap Ok (ap (λ (x : HeadSeries). slice_set head k (grown c.args.sample x)) is ∙ sym (ap (λ (ss : List Slot). series_in_each ss) (c.in-Ok.ensures.grown d) ∙ map-set series_in slots k (Own (grown c.args.sample (slice_index_or head k d)))))
 
-pub returns-clause-labels : goal.returns-clause-labels
-returns-clause-labels c =
+pub returns-in-Ok-clause-labels : goal.returns-in-Ok-clause-labels
+returns-in-Ok-clause-labels c =
     let slots : List Slot = c.args.draft.now in
     let d : HeadSeries = c.series-series.result.now in
-    ap (λ (ss : List Slot). sets_of (series_in_each ss)) (c.in_ok-grow.ensures.grown d)
+    ap (λ (ss : List Slot). sets_of (series_in_each ss)) (c.in-Ok.ensures.grown d)
     ∙ labels_stay slots c.args.place (grown c.args.sample (slice_index_or (series_in_each slots) c.args.place d)) d refl
 
-pub returns-clause-owners : goal.returns-clause-owners
-returns-clause-owners c = λ p d h all.
+pub returns-in-Ok-clause-owners : goal.returns-in-Ok-clause-owners
+returns-in-Ok-clause-owners c = λ p d h all.
     let slots : List Slot = c.args.draft.now in
-    subst (λ (ss : List Slot). AllOwn p ss) (sym (c.in_ok-grow.ensures.grown d))
+    subst (λ (ss : List Slot). AllOwn p ss) (sym (c.in-Ok.ensures.grown d))
     (AllOwn-set p slots c.args.place (Own (grown c.args.sample (slice_index_or (series_in_each slots) c.args.place d))) h all)
