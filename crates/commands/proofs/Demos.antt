@@ -14,7 +14,8 @@ use Rattle.snapshots.specs.declared.entry.Entry.{Entry}
 use Rattle.snapshots.specs.Replays.{events_in, EndsWith}
 use Rattle.snapshots.specs.Views.{Known}
 use Rattle.snapshots.proofs.Prefixes.{prefix_trans}
-use Rattle.query_http.specs.Headline.{asked_of, IsHeadline}
+use Rattle.query_http.specs.Audited.{selected_by}
+use Rattle.query_http.specs.Headline.{IsHeadline}
 use Rattle.query_http.specs.declared.audited.AuditedAnswer.{AuditedAnswer}
 use Rattle.query_http.proofs.Headlines.{world_content}
 use Rattle.commands.specs.Demo.{first_event, second_event, demo_events}
@@ -69,7 +70,7 @@ module _ (opening : SnapshotParts) (query : QueryView) (before after : Known)
         ∙ (ap (replayed most (world_of opening)) (sym events) ∙ h.replay.replay);
     audited = record {
       each = h.parts;
-      rows = subst (λ (c : Content). AreRows answer.rows.items (asked_of c query))
+      rows = subst (λ (c : Content). AreRows answer.rows.items (selected_by query c))
           (sym (world_content h.snapshot)) h.rows;
     };
   }

@@ -12,13 +12,11 @@ use Rattle.std.proofs.lemmas.Bool.Decides.{nat_tests}
 use Rattle.labels.specs.Parts.{has_sample}
 use Rattle.labels.proofs.Times.{first_T, second_T, both_T, true_not_false}
 use Rattle.head.specs.ChunkEnds.{ends_before}
+use Rattle.head.specs.Chunks.{joined_chunks}
 use Rattle.head.proofs.Sampling.{none_after, lt_before, less_is}
 
 abbrev pub Samples : Type 0
 Samples = List (ℤ × ℤ)
-
-abbrev pub joined : List Samples → Samples → Samples
-joined sealed last = flat_map (λ (samples : Samples). samples) sealed ++ last
 
 -- what comes before samples of which the last lies before a time lies before it
 first_before : (a : ℤ) (s x : ℤ × ℤ) (xs : Samples) → T (below_all int_cmp s.0 (x ∷ xs)) → ends_before a (x ∷ xs) ≡ true → int_lt s.0 a ≡ true
@@ -63,36 +61,36 @@ decided a b [] ys h e = absurd (true_not_false e)
 decided a b (s ∷ []) ys h e = last_decides a b s ys (int_lt b s.0) refl (first_T _ _ h) e
 decided a b (s ∷ x ∷ xs) ys h e = ap (λ z. (not (int_lt s.0 a) && not (int_lt b s.0)) || z) (decided a b (x ∷ xs) ys (second_T _ _ h) e)
 
-regroup : (c : Samples) (cs : List Samples) (last : Samples) → joined (c ∷ cs) last ≡ c ++ joined cs last
+regroup : (c : Samples) (cs : List Samples) (last : Samples) → joined_chunks (c ∷ cs) last ≡ c ++ joined_chunks cs last
 regroup c cs last = append_assoc c (flat_map (λ (samples : Samples). samples) cs) last
 
-sorted_regroup : (c : Samples) (cs : List Samples) (last : Samples) → T (is_sorted int_cmp (joined (c ∷ cs) last)) → T (is_sorted int_cmp (c ++ joined cs last))
+sorted_regroup : (c : Samples) (cs : List Samples) (last : Samples) → T (is_sorted int_cmp (joined_chunks (c ∷ cs) last)) → T (is_sorted int_cmp (c ++ joined_chunks cs last))
 sorted_regroup c cs last h = subst (λ (xs : Samples). T (is_sorted int_cmp xs)) (regroup c cs last) h
 
 -- the first chunk that does not end before the range decides
-pub chunk_decides : (a b : ℤ) (cs : List Samples) (last : Samples) (i : ℕ) (d : Samples) → T (is_sorted int_cmp (joined cs last)) → i < length cs
-    → ((k : ℕ) (e : Samples) → k < i → ends_before a (get_or cs k e) ≡ true) → ends_before a (get_or cs i d) ≡ false → has_sample a b (get_or cs i d) ≡ has_sample a b (joined cs last)
+pub chunk_decides : (a b : ℤ) (cs : List Samples) (last : Samples) (i : ℕ) (d : Samples) → T (is_sorted int_cmp (joined_chunks cs last)) → i < length cs
+    → ((k : ℕ) (e : Samples) → k < i → ends_before a (get_or cs k e) ≡ true) → ends_before a (get_or cs i d) ≡ false → has_sample a b (get_or cs i d) ≡ has_sample a b (joined_chunks cs last)
 chunk_decides a b [] last i d h l before here = absurd (omega (arith, l))
 chunk_decides a b (c ∷ cs) last zero d h l before here =
-    sym (ap (has_sample a b) (regroup c cs last) ∙ decided a b c (joined cs last) (sorted_regroup c cs last h) here)
+    sym (ap (has_sample a b) (regroup c cs last) ∙ decided a b c (joined_chunks cs last) (sorted_regroup c cs last h) here)
 chunk_decides a b (c ∷ cs) last (suc i) d h l before here =
-    chunk_decides a b cs last i d (sorted_back c (joined cs last) (sorted_regroup c cs last h)) (omega (arith, l)) (λ k e m. before (suc k) e (omega (arith, m))) here
-    ∙ sym (ap (has_sample a b) (regroup c cs last) ∙ skipped a b c (joined cs last) (sorted_regroup c cs last h) (before zero c (omega arith)))
+    chunk_decides a b cs last i d (sorted_back c (joined_chunks cs last) (sorted_regroup c cs last h)) (omega (arith, l)) (λ k e m. before (suc k) e (omega (arith, m))) here
+    ∙ sym (ap (has_sample a b) (regroup c cs last) ∙ skipped a b c (joined_chunks cs last) (sorted_regroup c cs last h) (before zero c (omega arith)))
 
 -- where all chunks end before the range, what comes last decides
-pub last_chunk_decides : (a b : ℤ) (cs : List Samples) (last : Samples) → T (is_sorted int_cmp (joined cs last))
-    → ((k : ℕ) (e : Samples) → k < length cs → ends_before a (get_or cs k e) ≡ true) → has_sample a b last ≡ has_sample a b (joined cs last)
+pub last_chunk_decides : (a b : ℤ) (cs : List Samples) (last : Samples) → T (is_sorted int_cmp (joined_chunks cs last))
+    → ((k : ℕ) (e : Samples) → k < length cs → ends_before a (get_or cs k e) ≡ true) → has_sample a b last ≡ has_sample a b (joined_chunks cs last)
 last_chunk_decides a b [] last h before = refl
 last_chunk_decides a b (c ∷ cs) last h before =
-    last_chunk_decides a b cs last (sorted_back c (joined cs last) (sorted_regroup c cs last h)) (λ k e m. before (suc k) e (omega (arith, m)))
-    ∙ sym (ap (has_sample a b) (regroup c cs last) ∙ skipped a b c (joined cs last) (sorted_regroup c cs last h) (before zero c (omega arith)))
+    last_chunk_decides a b cs last (sorted_back c (joined_chunks cs last) (sorted_regroup c cs last h)) (λ k e m. before (suc k) e (omega (arith, m)))
+    ∙ sym (ap (has_sample a b) (regroup c cs last) ∙ skipped a b c (joined_chunks cs last) (sorted_regroup c cs last h) (before zero c (omega arith)))
 
-pub sorted_chunk : (cs : List Samples) (last : Samples) (i : ℕ) (d : Samples) → T (is_sorted int_cmp (joined cs last)) → i < length cs → T (is_sorted int_cmp (get_or cs i d))
+pub sorted_chunk : (cs : List Samples) (last : Samples) (i : ℕ) (d : Samples) → T (is_sorted int_cmp (joined_chunks cs last)) → i < length cs → T (is_sorted int_cmp (get_or cs i d))
 sorted_chunk [] last i d h l = absurd (omega (arith, l))
-sorted_chunk (c ∷ cs) last zero d h l = sorted_front c (joined cs last) (sorted_regroup c cs last h)
-sorted_chunk (c ∷ cs) last (suc i) d h l = sorted_chunk cs last i d (sorted_back c (joined cs last) (sorted_regroup c cs last h)) (omega (arith, l))
+sorted_chunk (c ∷ cs) last zero d h l = sorted_front c (joined_chunks cs last) (sorted_regroup c cs last h)
+sorted_chunk (c ∷ cs) last (suc i) d h l = sorted_chunk cs last i d (sorted_back c (joined_chunks cs last) (sorted_regroup c cs last h)) (omega (arith, l))
 
-pub sorted_last : (cs : List Samples) (last : Samples) → T (is_sorted int_cmp (joined cs last)) → T (is_sorted int_cmp last)
+pub sorted_last : (cs : List Samples) (last : Samples) → T (is_sorted int_cmp (joined_chunks cs last)) → T (is_sorted int_cmp last)
 sorted_last cs last h = sorted_back (flat_map (λ (samples : Samples). samples) cs) last h
 
 -- a chunk before one that has a sample and ends before a time ends before it too
@@ -121,28 +119,28 @@ in_back : (xs ys : Samples) (y : ℤ × ℤ) → Contains ys y → Contains (xs 
 in_back [] ys y c = c
 in_back (x ∷ xs) ys y c = let r = in_back xs ys y c in (suc r.0, omega (arith, r.1), r.2)
 
-in_joined : (cs : List Samples) (last : Samples) (j : ℕ) (d : Samples) (y : ℤ × ℤ) → j < length cs → Contains (get_or cs j d) y → Contains (joined cs last) y
+in_joined : (cs : List Samples) (last : Samples) (j : ℕ) (d : Samples) (y : ℤ × ℤ) → j < length cs → Contains (get_or cs j d) y → Contains (joined_chunks cs last) y
 in_joined [] last j d y l c = absurd (omega (arith, l))
-in_joined (x ∷ xs) last zero d y l c = subst (λ (zs : Samples). Contains zs y) (sym (regroup x xs last)) (in_front x (joined xs last) y c)
-in_joined (x ∷ xs) last (suc j) d y l c = subst (λ (zs : Samples). Contains zs y) (sym (regroup x xs last)) (in_back x (joined xs last) y (in_joined xs last j d y (omega (arith, l)) c))
+in_joined (x ∷ xs) last zero d y l c = subst (λ (zs : Samples). Contains zs y) (sym (regroup x xs last)) (in_front x (joined_chunks xs last) y c)
+in_joined (x ∷ xs) last (suc j) d y l c = subst (λ (zs : Samples). Contains zs y) (sym (regroup x xs last)) (in_back x (joined_chunks xs last) y (in_joined xs last j d y (omega (arith, l)) c))
 
-earlier_ends : (a : ℤ) (c : Samples) (cs : List Samples) (last : Samples) (j : ℕ) (d : Samples) → T (is_sorted int_cmp (joined (c ∷ cs) last)) → j < length cs → (chunk : Samples) → get_or cs j d ≡ chunk → chunk ≢ [] → ends_before a chunk ≡ true → ends_before a c ≡ true
+earlier_ends : (a : ℤ) (c : Samples) (cs : List Samples) (last : Samples) (j : ℕ) (d : Samples) → T (is_sorted int_cmp (joined_chunks (c ∷ cs) last)) → j < length cs → (chunk : Samples) → get_or cs j d ≡ chunk → chunk ≢ [] → ends_before a chunk ≡ true → ends_before a c ≡ true
 earlier_ends a c cs last j d h l [] e full t = absurd (full refl)
 earlier_ends a c cs last j d h l (y ∷ ys) e full t =
-    let g : T (is_sorted int_cmp (c ++ joined cs last)) = sorted_regroup c cs last h in
-    let own : T (is_sorted int_cmp (y ∷ ys)) = subst (λ (zs : Samples). T (is_sorted int_cmp zs)) e (sorted_chunk cs last j d (sorted_back c (joined cs last) g) l) in
-    all_before a y.0 c (joined cs last) g y
+    let g : T (is_sorted int_cmp (c ++ joined_chunks cs last)) = sorted_regroup c cs last h in
+    let own : T (is_sorted int_cmp (y ∷ ys)) = subst (λ (zs : Samples). T (is_sorted int_cmp zs)) e (sorted_chunk cs last j d (sorted_back c (joined_chunks cs last) g) l) in
+    all_before a y.0 c (joined_chunks cs last) g y
     (in_joined cs last j d y l (subst (λ (zs : Samples). Contains zs y) (sym e) (zero, omega arith, refl)))
     (first_ends a y ys own t)
 
 -- chunks that end before a time stand first
-pub ends_parted : (a : ℤ) (cs : List Samples) (last : Samples) → T (is_sorted int_cmp (joined cs last)) → ((k : ℕ) (e : Samples) → k < length cs → get_or cs k e ≢ []) → IsPartitionedBy (ends_before a) cs
+pub ends_parted : (a : ℤ) (cs : List Samples) (last : Samples) → T (is_sorted int_cmp (joined_chunks cs last)) → ((k : ℕ) (e : Samples) → k < length cs → get_or cs k e ≢ []) → IsPartitionedBy (ends_before a) cs
 ends_parted a [] last h full i j d le l t = absurd (omega (arith, l))
 ends_parted a (c ∷ cs) last h full zero zero d le l t = t
 ends_parted a (c ∷ cs) last h full (suc i) zero d le l t = absurd (omega (arith, le))
 ends_parted a (c ∷ cs) last h full zero (suc j) d le l t = earlier_ends a c cs last j d h (omega (arith, l)) (get_or cs j d) refl (full (suc j) d l) t
 ends_parted a (c ∷ cs) last h full (suc i) (suc j) d le l t =
-    ends_parted a cs last (sorted_back c (joined cs last) (sorted_regroup c cs last h)) (λ k e m. full (suc k) e (omega (arith, m))) i j d (omega (arith, le)) (omega (arith, l)) t
+    ends_parted a cs last (sorted_back c (joined_chunks cs last) (sorted_regroup c cs last h)) (λ k e m. full (suc k) e (omega (arith, m))) i j d (omega (arith, le)) (omega (arith, l)) t
 
 -- the last sample tells whether a chunk ends before a time
 pub ends_at : (t : ℤ) (xs : Samples) (k : ℕ) (x : ℤ × ℤ) → k + 1 ≡ length xs → x ≡ get_or xs k x → int_lt x.0 t ≡ ends_before t xs
@@ -165,7 +163,7 @@ full_chunks (c ∷ cs) h zero e l = nonempty c (first_T _ _ h)
 full_chunks (c ∷ cs) h (suc k) e l = full_chunks cs (second_T _ _ h) k e (omega (arith, l))
 
 module _ {X : Type 0} (f : X → Samples) (xs : List X) (last : Samples) where
-  pub parted_each : (a : ℤ) → T (is_sorted int_cmp (joined (map f xs) last)) → T (list_all (λ samples. nat_eq (length samples) 120) (map f xs)) → IsPartitionedBy (λ x. ends_before a (f x)) xs
+  pub parted_each : (a : ℤ) → T (is_sorted int_cmp (joined_chunks (map f xs) last)) → T (list_all (λ samples. nat_eq (length samples) 120) (map f xs)) → IsPartitionedBy (λ x. ends_before a (f x)) xs
   parted_each a h full i j d le l t =
       let inside : j < length (map f xs) = omega (arith, l, length-map xs f) in
       subst (λ c. ends_before a c ≡ true) (get_or-map f xs i d)
@@ -184,20 +182,20 @@ module _ {X : Type 0} (f : X → Samples) (xs : List X) (last : Samples) where
       let d = some_x xs k inside in
       ap (ends_before a) (get_or-map_below f xs k d e inside) ∙ h k d l
 
-  pub sorted_here : (i : ℕ) (x : X) (s : Samples) → T (is_sorted int_cmp (joined (map f xs) last)) → i < length xs → x ≡ get_or xs i x → s ≡ f x → T (is_sorted int_cmp s)
+  pub sorted_here : (i : ℕ) (x : X) (s : Samples) → T (is_sorted int_cmp (joined_chunks (map f xs) last)) → i < length xs → x ≡ get_or xs i x → s ≡ f x → T (is_sorted int_cmp s)
   sorted_here i x s h l e same = subst (λ (c : Samples). T (is_sorted int_cmp c)) (found_at i x s e same) (sorted_chunk (map f xs) last i (f x) h (omega (arith, l, length-map xs f)))
 
   -- the chunk that was searched for decides
-  pub decides_here : (a b : ℤ) (i : ℕ) (x : X) (s : Samples) → T (is_sorted int_cmp (joined (map f xs) last)) → i < length xs → x ≡ get_or xs i x → s ≡ f x
-      → IsPartitionPoint (λ y. ends_before a (f y) ≡ true) (λ y. ends_before a (f y) ≡ false) xs i → has_sample a b s ≡ has_sample a b (joined (map f xs) last)
+  pub decides_here : (a b : ℤ) (i : ℕ) (x : X) (s : Samples) → T (is_sorted int_cmp (joined_chunks (map f xs) last)) → i < length xs → x ≡ get_or xs i x → s ≡ f x
+      → IsPartitionPoint (λ y. ends_before a (f y) ≡ true) (λ y. ends_before a (f y) ≡ false) xs i → has_sample a b s ≡ has_sample a b (joined_chunks (map f xs) last)
   decides_here a b i x s h l e same point =
       ap (has_sample a b) (sym (found_at i x s e same))
       ∙ chunk_decides a b (map f xs) last i (f x) h (omega (arith, l, length-map xs f))
       (λ k c m. ends_each a k i (omega (arith, l)) (λ j d n. point.0 j d (omega arith) n) c m)
       (ap (ends_before a) (get_or-map f xs i x) ∙ point.1 i x (omega arith) l)
 
-  pub decides_last : (a b : ℤ) (i : ℕ) → T (is_sorted int_cmp (joined (map f xs) last)) → length xs ≤ i
-      → IsPartitionPoint (λ y. ends_before a (f y) ≡ true) (λ y. ends_before a (f y) ≡ false) xs i → has_sample a b last ≡ has_sample a b (joined (map f xs) last)
+  pub decides_last : (a b : ℤ) (i : ℕ) → T (is_sorted int_cmp (joined_chunks (map f xs) last)) → length xs ≤ i
+      → IsPartitionPoint (λ y. ends_before a (f y) ≡ true) (λ y. ends_before a (f y) ≡ false) xs i → has_sample a b last ≡ has_sample a b (joined_chunks (map f xs) last)
   decides_last a b i h l point =
       last_chunk_decides a b (map f xs) last h
       (λ k c m. ends_each a k (length xs) (omega arith) (λ j d n. point.0 j d (omega arith) (omega (arith, n, l))) c (omega (arith, m, length-map xs f)))

@@ -47,7 +47,7 @@ next_less : (x y : Pair × List ℕ) (ys : PairLists) → T (is_sorted pair_cmp 
 next_less x y ys h = keys_ascend pair_total (x ∷ y ∷ ys) h 0 1 x (omega arith) (omega arith)
 
 module _ (name : List ℕ) where
-  -- behind a pair of a greater name no pair has the name
+  -- after a pair of a greater name no pair has the name
   none_above : (y : Pair × List ℕ) (ys : PairLists) → T (is_sorted pair_cmp (y ∷ ys))
       → is_le (text_cmp y.0.0 name) ≡ false → values_under name (y ∷ ys) ≡ []
   none_above y [] h le =
@@ -62,7 +62,7 @@ module _ (name : List ℕ) where
           (sym (names_up_to name y.0 z.0 (next_less y z zs h) e) ∙ le))
       go false e = refl
 
-  -- behind a pair of the name its next value is that of the next pair
+  -- after a pair of the name its next value is that of the next pair
   next_first : (x : Pair × List ℕ) (xs : PairLists) → T (is_sorted pair_cmp (x ∷ xs))
       → x.0.0 ≡ name → 0 < length (values_under name xs)
       → (0 < length xs) × (slice_get (values_under name xs) 0 ≡ Some (get_or xs 0 none).0.1)

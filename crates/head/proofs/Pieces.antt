@@ -28,8 +28,8 @@ passed xs from t start end middle at up h le lt e less = let low : at < t = belo
 }
 
 -- a piece without its first items
-pub piece_behind : (piece xs : List ℕ) (place ahead : ℕ) → ahead ≤ length piece → piece ≡ take (length piece) (drop place xs) → drop ahead piece ≡ take (length (drop ahead piece)) (drop (place + ahead) xs)
-piece_behind piece xs place ahead h e =
+pub piece_after : (piece xs : List ℕ) (place ahead : ℕ) → ahead ≤ length piece → piece ≡ take (length piece) (drop place xs) → drop ahead piece ≡ take (length (drop ahead piece)) (drop (place + ahead) xs)
+piece_after piece xs place ahead h e =
     let m = length piece - ahead in
     let n : length piece ≡ ahead + m = omega (arith, h) in
     let k : length (drop ahead piece) ≡ m = length-drop ahead piece in

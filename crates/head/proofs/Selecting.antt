@@ -154,10 +154,10 @@ pub struck_rows : (ms : List MatcherView) (from to : ℤ) (part : Part) → IsSt
     → filter (is_among (live_references from to part)) (references_where (satisfies_all ms) part) ≡ references_of (is_struck ms from to) part
 struck_rows ms from to part rises = common_rows (λ row. has_sample from to row.1.1) (λ row. satisfies_all ms row.1.0) part rises
 
--- what stands behind the first two
-behind_two : {X : Type 0} (a b : X) (others : List X)
+-- what stands after the first two
+after_two : {X : Type 0} (a b : X) (others : List X)
     → take (length (a ∷ b ∷ others) - 2) (drop 2 (a ∷ b ∷ others)) ≡ others
-behind_two a b others =
+after_two a b others =
     let n : length (a ∷ b ∷ others) - 2 ≡ length others = omega arith in
     ap (λ k. take k others) n ∙ take_all (length others) others (omega arith)
 
@@ -168,7 +168,7 @@ two_fronts [] a b long first second = absurd (omega (arith, long))
 two_fronts (x ∷ []) a b long first second = absurd (omega (arith, long))
 two_fronts (x ∷ y ∷ others) a b long first second = λ i. first i ∷ second i ∷ []
 
--- the first two, and one more of those behind them
+-- the first two, and one more of those after them
 pub fronts_more : {X : Type 0} (xs : List X) (m : X) (i : ℕ) → 2 ≤ length xs
     → i < length (take (length xs - 2) (drop 2 xs))
     → m ≡ slice_index_or (take (length xs - 2) (drop 2 xs)) i m
@@ -176,7 +176,7 @@ pub fronts_more : {X : Type 0} (xs : List X) (m : X) (i : ℕ) → 2 ≤ length 
 fronts_more [] m i long l is = absurd (omega (arith, long))
 fronts_more (x ∷ []) m i long l is = absurd (omega (arith, long))
 fronts_more {X} (x ∷ y ∷ others) m i long l is =
-    let whole = behind_two x y others in
+    let whole = after_two x y others in
     let inside : i < length others = subst (λ (zs : List X). i < length zs) whole l in
     let at : m ≡ slice_index_or others i m =
     subst (λ (zs : List X). m ≡ slice_index_or zs i m) whole is in

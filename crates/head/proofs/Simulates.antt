@@ -11,7 +11,7 @@ use Rattle.labels.specs.Labels.{Labels, Point, labels_cmp, point_cmp, same_label
 use Rattle.labels.specs.Contents.{Content, held_from}
 use Rattle.head.specs.Refusals.{Refusal, out_of_bounds, out_of_order, duplicate, limit}
 use Rattle.head.specs.Limits.{Limits}
-use Rattle.head.specs.Worlds.{World, joined, joined_in, added_after, added, added_each, committed}
+use Rattle.head.specs.Worlds.{World, with_sample, with_sample_in_room, added_after, added, added_each, committed}
 use Rattle.labels.specs.Rows.{points_in}
 use Rattle.labels.specs.Parts.{laid_over, over}
 use Rattle.head.specs.Heads.{HeadSeries, newest_in, head_part, SnapshotParts, world_of, series_at, IsSoundSeries, IsSoundHead, IsSoundSnapshot}
@@ -155,18 +155,18 @@ IsSoundWith s (Err e) = Unit {0}
 abbrev pub Follows : SnapshotParts → Result World Refusal → Result (List HeadSeries) Refusal → Type 0
 Follows s r q = (r ≡ world_with s q) × IsSoundWith s q
 
-joined-world_of : (s : SnapshotParts) (l : Labels) (x : ℤ × ℤ) → IsSoundSnapshot s → IsSoundSnapshot (record s { head = extended l x s.head }) → find int_cmp x.0 (samples_at l s.head) ≡ None → joined (world_of s) l x ≡ world_of (record s { head = extended l x s.head })
+with_sample-world_of : (s : SnapshotParts) (l : Labels) (x : ℤ × ℤ) → IsSoundSnapshot s → IsSoundSnapshot (record s { head = extended l x s.head }) → find int_cmp x.0 (samples_at l s.head) ≡ None → with_sample (world_of s) l x ≡ world_of (record s { head = extended l x s.head })
 unfolding world_of
-joined-world_of s l x sound more none = λ i. record { content = put-world_of s l x sound more none i; newest = with_newest-newest_in l x s.head i; floor = s.floor; blocks = length s.blocks }
+with_sample-world_of s l x sound more none = λ i. record { content = put-world_of s l x sound more none i; newest = with_newest-newest_in l x s.head i; floor = s.floor; blocks = length s.blocks }
 
 joins : (s : SnapshotParts) (l : Labels) (x : ℤ × ℤ) (a b : Bool) → a ≡ b → IsSoundSnapshot s → int_lt x.0 s.floor ≡ false → (b ≡ false → IfSeries (IsNext x) (series_at l s.head)) →
-    Follows s (if a then Err limit else Ok (joined (world_of s) l x)) (if b then Err limit else Ok (extended l x s.head))
-joins s l x a true e sound above less = (ap (λ c. if c then Err limit else Ok (joined (world_of s) l x)) e, tt)
+    Follows s (if a then Err limit else Ok (with_sample (world_of s) l x)) (if b then Err limit else Ok (extended l x s.head))
+joins s l x a true e sound above less = (ap (λ c. if c then Err limit else Ok (with_sample (world_of s) l x)) e, tt)
 joins s l x a false e sound above less =
     let next = less refl in
     let more : IsSoundSnapshot (record s { head = extended l x s.head }) = record { few = sound.few; time = sound.time; ends = sound.ends; head = IsSoundHead-extended s.floor l x s.head above sound.head next; blocks = sound.blocks } in (
-      ap (λ c. if c then Err limit else Ok (joined (world_of s) l x)) e
-          ∙ ap Ok (joined-world_of s l x sound more (none_later s.floor x (series_at l s.head) (sound_at s.floor l s.head sound.head) next)),
+      ap (λ c. if c then Err limit else Ok (with_sample (world_of s) l x)) e
+          ∙ ap Ok (with_sample-world_of s l x sound more (none_later s.floor x (series_at l s.head) (sound_at s.floor l s.head sound.head) next)),
       more,
     )
 
@@ -184,11 +184,11 @@ follows_after most s at l x sound room size above None is = joins s l x _ _
     sound above (λ _. subst (IfSeries (IsNext x)) (sym is) tt)
 follows_after most s at l x sound room size above (Some h) is =
     elim (int_lt x.0 h.newest.0) as (λ a. int_lt x.0 h.newest.0 ≡ a → Follows s
-    (if a then Err (out_of_order at) else if int_eq x.0 h.newest.0 then (if int_eq x.1 h.newest.1 then Ok (world_of s) else Err (duplicate at)) else joined_in most (world_of s) l x (Some h.newest))
+    (if a then Err (out_of_order at) else if int_eq x.0 h.newest.0 then (if int_eq x.1 h.newest.1 then Ok (world_of s) else Err (duplicate at)) else with_sample_in_room most (world_of s) l x (Some h.newest))
     (if a then Err (out_of_order at) else if int_eq x.0 h.newest.0 then (if int_eq x.1 h.newest.1 then Ok s.head else Err (duplicate at)) else if nat_le most.samples (length h.samples) then Err limit else Ok (extended l x s.head))) [
       | true ↦ λ p. (refl, tt)
       | false ↦ λ p. elim (int_eq x.0 h.newest.0) as (λ b. int_eq x.0 h.newest.0 ≡ b → Follows s
-          (if b then (if int_eq x.1 h.newest.1 then Ok (world_of s) else Err (duplicate at)) else joined_in most (world_of s) l x (Some h.newest))
+          (if b then (if int_eq x.1 h.newest.1 then Ok (world_of s) else Err (duplicate at)) else with_sample_in_room most (world_of s) l x (Some h.newest))
           (if b then (if int_eq x.1 h.newest.1 then Ok s.head else Err (duplicate at)) else if nat_le most.samples (length h.samples) then Err limit else Ok (extended l x s.head))) [
             | true ↦ λ q. elim (int_eq x.1 h.newest.1) as (λ c. Follows s (if c then Ok (world_of s) else Err (duplicate at)) (if c then Ok s.head else Err (duplicate at))) [
               | true ↦ (refl, sound)

@@ -30,8 +30,8 @@ abbrev pub set_count : Batch → ℕ
 set_count [] = 0
 set_count (x ∷ xs) = (if has_set xs x.0 then 0 else 1) + set_count xs
 
--- a commit copies at most 119 samples for each label set that its batch names; of other events
--- nothing is said
+-- a commit reports at most 119 copied samples for each label set that its batch names; of other
+-- events nothing is said
 abbrev pub CopiesFew : Event → ℕ → Type 0
 CopiesFew (batch xs) copied = copied ≤ 119 * set_count xs
 CopiesFew (deletion ms from to) copied = Unit {0}

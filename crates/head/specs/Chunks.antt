@@ -8,6 +8,6 @@ abbrev pub joined_chunks : List (List (ℤ × ℤ)) → List (ℤ × ℤ) → Li
 joined_chunks sealed last = flat_map (λ (samples : List (ℤ × ℤ)). samples) sealed ++ last
 
 -- each sealed chunk is full, and the open one is not
-pub record AreChunks (sealed : List (List (ℤ × ℤ))) (last : List (ℤ × ℤ)) : Type 0 where
+pub record OnlyLastHasRoom (sealed : List (List (ℤ × ℤ))) (last : List (ℤ × ℤ)) : Type 0 where
   pub full : T (list_all (λ samples. nat_eq (length samples) CHUNK) sealed)
   pub fewer : length last < CHUNK

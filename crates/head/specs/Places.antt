@@ -1,5 +1,7 @@
 -- Where a pair, or a name, stands among ascending pairs.
 use Rattle.std.specs.Prelude.{◌≡◌, ◌<◌, ◌≤◌, ◌-◌, ℕ, Bool, true, false, List, length, map, take, drop, slice_index_or}
+use Rattle.std.specs.Ordering.{is_le, is_lt, nat_cmp}
+use Rattle.std.specs.Cmp.Lexicographic.{slice_cmp}
 use Rattle.std.specs.declared.cmp.Ordering.{Ordering}
 use Rattle.std.specs.declared.cmp.Ordering.TheVariants.{Less, Greater}
 use Rattle.labels.specs.Labels.{pair_cmp}
@@ -25,6 +27,14 @@ pub record IsNameBoundary (test : List ℕ → Bool) (lists : PairLists) (i : �
       → test (slice_index_or lists k d).0.0 ≡ true
   pub fails_after : (k : ℕ) (d : Pair × List ℕ) → i ≤ k → k < length lists
       → test (slice_index_or lists k d).0.0 ≡ false
+
+-- the lists of greater names, and those of the name itself, stand from this place on
+abbrev pub BeginsName : List ℕ → PairLists → ℕ → Type 0
+BeginsName name = IsNameBoundary (λ n. is_lt (slice_cmp nat_cmp n name))
+
+-- the lists of greater names stand from this place on
+abbrev pub EndsName : List ℕ → PairLists → ℕ → Type 0
+EndsName name = IsNameBoundary (λ n. is_le (slice_cmp nat_cmp n name))
 
 -- the lists of a name stand from the first place up to, not including, the second
 pub record IsRunOf (name : List ℕ) (lists : PairLists) (start end : ℕ) : Type 0 where

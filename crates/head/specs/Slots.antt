@@ -1,5 +1,5 @@
 -- The series of a version in the making.
-use Rattle.std.specs.Prelude.{ℕ, ◌+◌, Bool, true, false, not, ◌||◌, T, List, [], ◌∷◌, ◌++◌, Option, None, Some, map}
+use Rattle.std.specs.Prelude.{ℕ, ◌+◌, Bool, true, false, not, ◌||◌, T, List, [], ◌∷◌, ◌++◌, Option, None, Some, map, slice_index_or}
 use Rattle.std.specs.List.{list_all, sum_by}
 use Rattle.labels.specs.Labels.{Labels}
 use Rattle.head.specs.Heads.{HeadSeries}
@@ -33,6 +33,14 @@ owned slots = sum_by own_count slots
 -- the label sets of this version's own series pass a test
 abbrev pub AllOwn : (Labels → Bool) → List Slot → Type 0
 AllOwn p slots = T (list_all (λ slot. not (is_own slot) || p (series_in slot).labels) slots)
+
+-- each own series has this label set, or one that an own series had before
+abbrev pub AddsOwnOf : Labels → List Slot → List Slot → Type 0
+AddsOwnOf labels old new = (p : Labels → Bool) → T (p labels) → AllOwn p old → AllOwn p new
+
+-- the series at a place
+abbrev pub series_in_place : List Slot → ℕ → HeadSeries → HeadSeries
+series_in_place slots place d = slice_index_or (series_in_each slots) place d
 
 -- a series of the last version, in whose place this one may have its own
 abbrev pub slot_at : HeadSeries → Option HeadSeries → Slot

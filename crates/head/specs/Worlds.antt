@@ -26,8 +26,8 @@ with_newest l s [] = (l, s) ∷ []
 with_newest l s (e ∷ es) = if same_labels l e.0 then (e.0, s) ∷ es else e ∷ with_newest l s es
 
 -- the sample joins the content
-abbrev pub joined : World → Labels → ℤ × ℤ → World
-joined w l s =
+abbrev pub with_sample : World → Labels → ℤ × ℤ → World
+with_sample w l s =
     record w {
       content = put point_cmp (l, s.0) s.1 w.content;
       newest = with_newest l s w.newest;
@@ -40,16 +40,16 @@ is_full most w l known =
     || nat_le most.samples (held_from w.floor l w.content)
 
 -- the sample joins where there is room
-abbrev pub joined_in : Limits → World → Labels → ℤ × ℤ → Option (ℤ × ℤ) → Result World Refusal
-joined_in most w l s known = if is_full most w l known then Err limit else Ok (joined w l s)
+abbrev pub with_sample_in_room : Limits → World → Labels → ℤ × ℤ → Option (ℤ × ℤ) → Result World Refusal
+with_sample_in_room most w l s known = if is_full most w l known then Err limit else Ok (with_sample w l s)
 
 -- by the newest sample of its label set
 abbrev pub added_after : Limits → World → ℕ → Labels → ℤ × ℤ → Option (ℤ × ℤ) → Result World Refusal
-added_after most w at l s None = joined_in most w l s None
+added_after most w at l s None = with_sample_in_room most w l s None
 added_after most w at l s (Some known) =
     if int_lt s.0 known.0 then Err (out_of_order at)
     else if int_eq s.0 known.0 then (if int_eq s.1 known.1 then Ok w else Err (duplicate at))
-    else joined_in most w l s (Some known)
+    else with_sample_in_room most w l s (Some known)
 
 -- one sample of a batch, which stands at this place
 abbrev pub added : Limits → World → ℕ → Labels × (ℤ × ℤ) → Result World Refusal

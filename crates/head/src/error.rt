@@ -38,7 +38,8 @@ pub enum CommitError {
     OutOfOrder { at: usize },
     /// E3: the sample has the newest time of its label set, and another value.
     Duplicate { at: usize },
-    /// E4: the head would have too many series, or one series too many samples.
+    /// E4: the head would have too many series, or one series too many samples, or a file of a
+    /// cut's block would be too long.
     Limit,
     /// E5: the time of a cut is not above the floor.
     CutTooLow,

@@ -5,14 +5,12 @@ ghost use Rattle.std.specs.Prelude.{get_or};
 ghost use Rattle.std.specs.Prelude.{slice_get, IfOk, OnOk, OnErr, IfSome, IfNone, Some, None};
 ghost use Rattle.std.specs.Arc.{arc_value};
 ghost use Rattle.std.specs.Prelude.{T};
-ghost use Rattle.std.specs.Ordering.{is_lt, is_le, nat_cmp};
-ghost use Rattle.std.specs.Cmp.Lexicographic.{slice_cmp};
 ghost use Rattle.std.specs.FinMap.Entries.{is_sorted, find};
 ghost use Rattle.labels.specs.Labels.{pair_cmp};
 ghost use Rattle.labels.specs.LabelSets.{IsLabelSet};
 ghost use Rattle.labels.specs.Parts.{Part};
 ghost use Rattle.head.specs.Index.{listed_more, listed_each, values_under, IsIndexOf};
-ghost use Rattle.head.specs.Places.{IsNameBoundary, IsRunOf};
+ghost use Rattle.head.specs.Places.{BeginsName, EndsName, IsRunOf};
 ghost use Rattle.pages.specs.Sorted.{entries_of, place_of, IsSpot};
 
 use crate::listed::{Listed, order_of};
@@ -121,8 +119,7 @@ impl WholeChange<Arc<Listed>> for Push {
 fn first_of(lists: &Lists, name: &str) -> Spot
     requires { T (is_sorted pair_cmp (entries_of lists.now)) }
     ensures spot { IsSpot lists.now result }
-    ensures place { IsNameBoundary (λ n. is_lt (slice_cmp nat_cmp n name.now))
-        (entries_of lists.now) (place_of lists.now result) }
+    ensures place { BeginsName name.now (entries_of lists.now) (place_of lists.now result) }
 {
     match lists.find(&FirstOf { name }) {
         Ok(spot) => spot,
@@ -134,8 +131,7 @@ fn first_of(lists: &Lists, name: &str) -> Spot
 fn first_after(lists: &Lists, name: &str) -> Spot
     requires { T (is_sorted pair_cmp (entries_of lists.now)) }
     ensures spot { IsSpot lists.now result }
-    ensures place { IsNameBoundary (λ n. is_le (slice_cmp nat_cmp n name.now))
-        (entries_of lists.now) (place_of lists.now result) }
+    ensures place { EndsName name.now (entries_of lists.now) (place_of lists.now result) }
 {
     match lists.find(&FirstAfter { name }) {
         Ok(spot) => spot,
@@ -154,7 +150,7 @@ fn run_of(lists: &Lists, name: &str) -> (Spot, Spot)
     (first_of(lists, name), first_after(lists, name))
 }
 
-/// The value of the pair of the list so many places behind a spot.
+/// The value of the pair of the list so many places after a spot.
 fn value_after(lists: &Lists, spot: Spot, i: usize) -> &str
     requires spot { IsSpot lists.now spot }
     requires held { place_of lists.now spot + i < length (entries_of lists.now) }

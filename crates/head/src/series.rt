@@ -180,7 +180,7 @@ pub(crate) struct Series {
 
 impl Model for Series {
     ghost use Rattle.head.specs.Heads.{HeadSeries};
-    ghost use Rattle.head.specs.Chunks.{joined_chunks, AreChunks};
+    ghost use Rattle.head.specs.Chunks.{joined_chunks, OnlyLastHasRoom};
 
     ghost Value = { HeadSeries };
 
@@ -190,7 +190,7 @@ impl Model for Series {
       newest = s.newest;
     } };
 
-    ghost invariant = { λ s. AreChunks s.sealed s.tail.items };
+    ghost invariant = { λ s. OnlyLastHasRoom s.sealed s.tail.items };
 }
 
 fn is_within(sample: Sample, from: i64, to: i64) -> bool

@@ -151,8 +151,8 @@ fn snapshot_with(
 }
 
 /// The snapshot after an event. It shares with the one before what the event leaves alone: a batch
-/// copies at most 119 samples for each of its label sets and keeps the blocks; a cut keeps the
-/// blocks too, and adds at most one. A refusal leaves no trace.
+/// reports at most 119 copied samples for each of its label sets and keeps the blocks; a cut keeps
+/// the blocks too, and adds at most one. A refusal leaves no trace.
 pub fn apply(alloc: Global, at: &Snapshot, event: &Event) -> Result<Snapshot, CommitError>
     ensures ok { IfOk result (λ s. stepped most (world_of at.now) event.now ≡ Ok (world_of s)) }
     ensures refused { IfErr result (λ e.
@@ -163,10 +163,7 @@ pub fn apply(alloc: Global, at: &Snapshot, event: &Event) -> Result<Snapshot, Co
     match event.kind() {
         Kind::Batch(samples) => snapshot_with(alloc, at, samples.as_slice()),
         Kind::Deletion(matchers, from, to) => {
-            match snapshot_without(alloc, at, matchers.as_slice(), *from, *to) {
-                Ok(snapshot) => Ok(snapshot),
-                Err(AllocError) => Err(CommitError::Memory),
-            }
+            Ok(snapshot_without(alloc, at, matchers.as_slice(), *from, *to)?)
         }
         Kind::Cut(time) => cut_at(alloc, at, *time),
     }

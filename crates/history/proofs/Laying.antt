@@ -14,7 +14,7 @@ use Rattle.labels.proofs.ContentLaws.{over-last, is_sorted-over}
 use Rattle.labels.proofs.Restricting.{kept-++, kept-points_in, kept-points_of, kept-laid_over}
 use Rattle.matchers.specs.Satisfies.{satisfies_all}
 use Rattle.matchers.specs.Views.{QueryView}
-use Rattle.history.specs.Asking.{asked, part_within}
+use Rattle.history.specs.Asking.{selected_by, part_within}
 
 laid_over-++ : (xs ys c : Content) → laid_over (xs ++ ys) c ≡ laid_over xs (laid_over ys c)
 laid_over-++ [] ys c = refl
@@ -101,9 +101,9 @@ module _ (q : QueryView) where
   passes p = satisfies_all q.matchers p.0 && in_range q.from q.to p.1
 
   -- what is asked of one row
-  asked-row : (l : Labels) (ss : List (ℤ × ℤ)) → asked q (points_in l ss)
+  selected-row : (l : Labels) (ss : List (ℤ × ℤ)) → selected_by q (points_in l ss)
       ≡ cond (satisfies_all q.matchers l) (points_in l (within q.from q.to ss)) []
-  asked-row l ss =
+  selected-row l ss =
       kept-points_in (λ p. satisfies_all q.matchers p.0 && in_range q.from q.to p.1) l ss
       ∙ elim (satisfies_all q.matchers l)
       as (λ b. points_in l (filter (λ (s : ℤ × ℤ). b && in_range q.from q.to s.0) ss)
@@ -114,17 +114,19 @@ module _ (q : QueryView) where
 
   -- the last row of a part is put first
   last_row : (rest : Part) (row : ℕ × Row) (c : Content)
-      → laid_over (asked q (points_of (rows_in (rest ++ row ∷ [])))) c
-      ≡ laid_over (asked q (points_of (rows_in rest))) (cond (satisfies_all q.matchers row.1.0)
+      → laid_over (selected_by q (points_of (rows_in (rest ++ row ∷ [])))) c
+      ≡ laid_over (selected_by q (points_of (rows_in rest)))
+      (cond (satisfies_all q.matchers row.1.0)
       (laid_over (points_in row.1.0 (within q.from q.to row.1.1)) c) c)
   last_row rest row c =
-      ap (λ es. laid_over (asked q es) c) (points_last rest row)
+      ap (λ es. laid_over (selected_by q es) c) (points_last rest row)
       ∙ ap (λ es. laid_over es c) (kept-++ (λ p. satisfies_all q.matchers p.0
       && in_range q.from q.to p.1) (points_of (rows_in rest)) (points_in row.1.0 row.1.1))
-      ∙ laid_over-++ (asked q (points_of (rows_in rest))) (asked q (points_in row.1.0 row.1.1)) c
-      ∙ ap (λ es. laid_over (asked q (points_of (rows_in rest))) (laid_over es c))
-      (asked-row row.1.0 row.1.1)
-      ∙ ap (laid_over (asked q (points_of (rows_in rest))))
+      ∙ laid_over-++ (selected_by q (points_of (rows_in rest)))
+      (selected_by q (points_in row.1.0 row.1.1)) c
+      ∙ ap (λ es. laid_over (selected_by q (points_of (rows_in rest))) (laid_over es c))
+      (selected-row row.1.0 row.1.1)
+      ∙ ap (laid_over (selected_by q (points_of (rows_in rest))))
       (elim (satisfies_all q.matchers row.1.0)
       as (λ b. laid_over (cond b (points_in row.1.0 (within q.from q.to row.1.1)) []) c
       ≡ cond b (laid_over (points_in row.1.0 (within q.from q.to row.1.1)) c) c) [
@@ -135,36 +137,38 @@ module _ (q : QueryView) where
   pub row_step : (all rest : Part) (row : ℕ × Row) (old new whole : Content)
       → all ≡ rest ++ row ∷ [] → satisfies_all q.matchers row.1.0 ≡ true
       → new ≡ laid_over (points_in row.1.0 (within q.from q.to row.1.1)) old
-      → laid_over (asked q (points_of (rows_in all))) old ≡ whole
-      → laid_over (asked q (points_of (rows_in rest))) new ≡ whole
+      → laid_over (selected_by q (points_of (rows_in all))) old ≡ whole
+      → laid_over (selected_by q (points_of (rows_in rest))) new ≡ whole
   row_step all rest row old new whole is passed made inv =
-      ap (laid_over (asked q (points_of (rows_in rest)))) (made
+      ap (laid_over (selected_by q (points_of (rows_in rest)))) (made
       ∙ sym (ap (λ b. cond b (laid_over (points_in row.1.0 (within q.from q.to row.1.1)) old) old)
       passed))
       ∙ sym (last_row rest row old)
-      ∙ ap (λ part. laid_over (asked q (points_of (rows_in part))) old) (sym is) ∙ inv
+      ∙ ap (λ part. laid_over (selected_by q (points_of (rows_in part))) old) (sym is) ∙ inv
 
   pub no_row_step : (all rest : Part) (row : ℕ × Row) (old whole : Content) → all ≡ rest ++ row ∷ []
       → satisfies_all q.matchers row.1.0 ≡ false
-      → laid_over (asked q (points_of (rows_in all))) old ≡ whole
-      → laid_over (asked q (points_of (rows_in rest))) old ≡ whole
+      → laid_over (selected_by q (points_of (rows_in all))) old ≡ whole
+      → laid_over (selected_by q (points_of (rows_in rest))) old ≡ whole
   no_row_step all rest row old whole is failed inv =
-      ap (laid_over (asked q (points_of (rows_in rest)))) (sym (ap
+      ap (laid_over (selected_by q (points_of (rows_in rest)))) (sym (ap
       (λ b. cond b (laid_over (points_in row.1.0 (within q.from q.to row.1.1)) old) old) failed))
       ∙ sym (last_row rest row old)
-      ∙ ap (λ part. laid_over (asked q (points_of (rows_in part))) old) (sym is) ∙ inv
+      ∙ ap (λ part. laid_over (selected_by q (points_of (rows_in part))) old) (sym is) ∙ inv
 
   -- one part more
-  pub asked-part : (parts : List Part) (part : Part) → asked q (content_of (parts ++ part ∷ []))
-      ≡ laid_over (asked q (points_of (rows_in part))) (asked q (content_of parts))
-  asked-part parts part =
-      ap (asked q) (over-last parts [] part)
+  pub selected-part : (parts : List Part) (part : Part)
+      → selected_by q (content_of (parts ++ part ∷ []))
+      ≡ laid_over (selected_by q (points_of (rows_in part))) (selected_by q (content_of parts))
+  selected-part parts part =
+      ap (selected_by q) (over-last parts [] part)
       ∙ kept-laid_over (λ p. satisfies_all q.matchers p.0 && in_range q.from q.to p.1)
       (points_of (rows_in part)) (over [] parts) (is_sorted-over parts [] tt)
 
   -- what is asked of parts is in order
-  pub is_sorted-asked : (parts : List Part) → T (is_sorted point_cmp (asked q (content_of parts)))
-  is_sorted-asked parts =
+  pub is_sorted-selected : (parts : List Part)
+      → T (is_sorted point_cmp (selected_by q (content_of parts)))
+  is_sorted-selected parts =
       is_sorted-where_key point_cmp (λ p. satisfies_all q.matchers p.0 && in_range q.from q.to p.1)
       (content_of parts) (is_sorted-over parts [] tt)
 
@@ -200,9 +204,10 @@ module _ (q : QueryView) where
     (row.1.0, asked_twice (satisfies_all q.matchers row.1.0) row.1.1 i),
   ) ∷ kept_within rows i
 
-  pub asked_within : (part : Part)
-      → asked q (points_of (rows_in (part_within q part))) ≡ asked q (points_of (rows_in part))
-  asked_within part =
+  pub selected_within : (part : Part)
+      → selected_by q (points_of (rows_in (part_within q part)))
+      ≡ selected_by q (points_of (rows_in part))
+  selected_within part =
       kept-points_of (λ p. satisfies_all q.matchers p.0 && in_range q.from q.to p.1)
       (part_within q part)
       ∙ ap (λ x. points_of (rows_in x)) (kept_within part)

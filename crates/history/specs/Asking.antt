@@ -6,8 +6,8 @@ use Rattle.matchers.specs.Satisfies.{satisfies_all}
 use Rattle.matchers.specs.Views.{QueryView}
 
 -- the samples of label sets that satisfy each matcher, in the range
-abbrev pub asked : QueryView → Content → Content
-asked query samples = selected (satisfies_all query.matchers) query.from query.to samples
+abbrev pub selected_by : QueryView → Content → Content
+selected_by query samples = selected (satisfies_all query.matchers) query.from query.to samples
 
 -- a part, with the samples in the range alone
 abbrev pub part_within : QueryView → Part → Part

@@ -9,7 +9,7 @@ ghost use Rattle.labels.specs.Parts.{content_of, laid_over, rows_in, within};
 ghost use Rattle.matchers.specs.Satisfies.{satisfies_all};
 ghost use Rattle.head.specs.Heads.{parts_of};
 ghost use Rattle.head.specs.Shown.{part_of};
-ghost use Rattle.history.specs.Asking.{asked, part_within};
+ghost use Rattle.history.specs.Asking.{selected_by, part_within};
 ghost use Rattle.history.specs.Pushing.{pushed};
 
 use head::{HeadView, Snapshot};
@@ -66,7 +66,7 @@ fn lay_part(
     query: &Query,
 ) -> Result<(), AllocError>
     ensures { OnOk result (content.new.entries
-        ≡ laid_over (asked query.now (points_of (rows_in part.items))) content.old.entries) }
+        ≡ laid_over (selected_by query.now (points_of (rows_in part.items))) content.old.entries) }
 {
     let mut part = part;
     while let Some((_, row)) = part.pop() {
@@ -101,7 +101,7 @@ fn list_head(
 /// time, the last part's.
 fn find_content(alloc: Global, snapshot: &Snapshot, query: &Query) -> Result<Content, AllocError>
     ensures { IfOk result (λ content. content.entries
-        ≡ asked query.now (content_of (parts_of snapshot.now))) }
+        ≡ selected_by query.now (content_of (parts_of snapshot.now))) }
 {
     let mut content = BTreeMap::new(alloc);
     for block in snapshot.blocks() {
@@ -176,7 +176,7 @@ pub(crate) fn rows_of(
     query: &Query,
 ) -> Result<Vec<Row>, AllocError>
     ensures { IfOk result (λ rows.
-        AreRows rows.items (asked query.now (content_of (parts_of snapshot.now)))) }
+        AreRows rows.items (selected_by query.now (content_of (parts_of snapshot.now)))) }
 {
     group_rows(alloc, find_content(alloc, snapshot, query)?)
 }

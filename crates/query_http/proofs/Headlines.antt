@@ -1,17 +1,16 @@
 -- The answer of a snapshot that stands after the events that were seen.
 use Rattle.std.proofs.Common.{◌≡◌, refl, subst}
-use Rattle.std.specs.List.{AllZip}
 use mathlib.Core.List.{IsPrefix}
 use Rattle.labels.specs.Contents.{Content}
 use Rattle.labels.specs.Rows.{AreRows}
 use Rattle.labels.specs.Parts.{content_of}
 use Rattle.matchers.specs.Views.{QueryView}
 use Rattle.head.specs.Heads.{SnapshotParts, parts_of, world_of}
-use Rattle.block_search.specs.Skipping.{LosesNothing, asked_parts}
+use Rattle.block_search.specs.Skipping.{LosesNothing}
 use Rattle.snapshots.specs.Replays.{IsAfter}
 use Rattle.snapshots.specs.Views.{Known}
-use Rattle.query_http.specs.Audited.{IsAnsweredPart}
-use Rattle.query_http.specs.Headline.{asked_of, IsHeadline}
+use Rattle.query_http.specs.Audited.{AreAnsweredParts, selected_by, selected_in}
+use Rattle.query_http.specs.Headline.{IsHeadline}
 use Rattle.query_http.specs.declared.audited.AuditedAnswer.{AuditedAnswer}
 
 -- the content of a snapshot's world is that of its parts
@@ -23,9 +22,9 @@ module _ (opening : SnapshotParts) (query : QueryView) (before after : Known)
     (answer : AuditedAnswer) where
   pub headline : (s : SnapshotParts) → IsPrefix before.seen after.seen
       → IsPrefix before.told after.seen → IsAfter opening after.seen s
-      → AreRows answer.rows.items (asked_of (content_of (parts_of s)) query)
+      → AreRows answer.rows.items (selected_in query s)
       → LosesNothing query s
-      → AllZip (IsAnsweredPart query) (asked_parts query s) answer.parts.items
+      → AreAnsweredParts query s answer.parts.items
       → IsHeadline opening query before after answer
   headline s seen told after_events rows whole parts = record {
     seen = seen;
@@ -33,7 +32,7 @@ module _ (opening : SnapshotParts) (query : QueryView) (before after : Known)
     snapshot = s;
     replay = after_events;
     rows =
-        subst (λ (c : Content). AreRows answer.rows.items (asked_of c query))
+        subst (λ (c : Content). AreRows answer.rows.items (selected_by query c))
         (world_content s) rows;
     whole = whole;
     parts = parts;

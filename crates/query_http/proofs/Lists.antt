@@ -5,7 +5,7 @@ use Rattle.serde_json.specs.Data.{Data}
 use Rattle.serde_json.specs.View.{items_of}
 use Rattle.serde_json.specs.Written.{compact_text, items_text}
 use Rattle.query_http.specs.Reply.{list_data}
-use Rattle.query_http.specs.Later.{later_text, opened}
+use Rattle.query_http.specs.Later.{later_text, with_bracket}
 
 later_items : {A : Type 0} (data_of : A → Data) (xs : List A)
     → items_text true (items_of (map data_of xs)) ≡ later_text data_of xs ++ 93 ∷ []
@@ -16,7 +16,7 @@ later_items data_of (x ∷ xs) =
     (sym (append_assoc (compact_text (data_of x)) (later_text data_of xs) (93 ∷ [])))
 
 opened_later : {A : Type 0} (data_of : A → Data) (xs : List A)
-    → opened 91 (later_text data_of xs) ++ 93 ∷ [] ≡ compact_text (list_data data_of xs)
+    → with_bracket 91 (later_text data_of xs) ++ 93 ∷ [] ≡ compact_text (list_data data_of xs)
 opened_later data_of [] = refl
 opened_later data_of (x ∷ xs) =
     ap (λ s. 91 ∷ s) (append_assoc (compact_text (data_of x)) (later_text data_of xs) (93 ∷ [])
@@ -24,16 +24,17 @@ opened_later data_of (x ∷ xs) =
 
 -- what stands between brackets after `old`
 pub bracketed : (old later new : List ℕ) (n first last : ℕ) → n ≡ length old → new ≡ old ++ later
-    → take n new ++ (opened first (drop n new) ++ last ∷ [])
-    ≡ old ++ (opened first later ++ last ∷ [])
+    → take n new ++ (with_bracket first (drop n new) ++ last ∷ [])
+    ≡ old ++ (with_bracket first later ++ last ∷ [])
 bracketed old later new n first last e is =
-    rw (e, is) (ap₂ (λ (a b : List ℕ). a ++ (opened first b ++ last ∷ []))
+    rw (e, is) (ap₂ (λ (a b : List ℕ). a ++ (with_bracket first b ++ last ∷ []))
     (take-append_seam old later) (drop-append_seam old later))
 
 -- the list that stands after `old`
 pub listed : {A : Type 0} (data_of : A → Data) (xs : List A) (old new : List ℕ) (n : ℕ)
     → n ≡ length old → new ≡ old ++ later_text data_of xs
-    → take n new ++ (opened 91 (drop n new) ++ 93 ∷ []) ≡ old ++ compact_text (list_data data_of xs)
+    → take n new ++ (with_bracket 91 (drop n new) ++ 93 ∷ [])
+    ≡ old ++ compact_text (list_data data_of xs)
 listed data_of xs old new n e is =
     bracketed old (later_text data_of xs) new n 91 93 e is
     ∙ ap (λ s. old ++ s) (opened_later data_of xs)

@@ -15,7 +15,7 @@ use Rattle.cover.specs.declared.part_cover.PartAnswer.{PartAnswer}
 use Rattle.postings.specs.declared.part_name.PartName.{PartName}
 use Rattle.query_http.specs.declared.audited.AnsweredPart.{AnsweredPart}
 use Rattle.query_http.specs.Reply.{label_members, row_data, list_data, sample_data, interval_data, verdict_data, searched_data, skipped_data, part_data, name_text, natural, body_text}
-use Rattle.query_http.specs.Later.{later_members, opened}
+use Rattle.query_http.specs.Later.{later_members, with_bracket}
 
 abbrev in_order : Labels → Members
 in_order [] = no_members
@@ -81,7 +81,7 @@ later_in_order (p ∷ ps) =
     (sym (append_assoc (quoted p.0) (58 ∷ quoted p.1) (later_members ps)))
 
 opened_in_order : (ps : Labels)
-    → opened 123 (later_members ps) ++ 125 ∷ [] ≡ compact_text (object (in_order ps))
+    → with_bracket 123 (later_members ps) ++ 125 ∷ [] ≡ compact_text (object (in_order ps))
 opened_in_order [] = refl
 opened_in_order (p ∷ ps) =
     sym (ap (λ s. 123 ∷ (quoted p.0 ++ 58 ∷ (quoted p.1 ++ s))) (later_in_order ps)
@@ -94,7 +94,7 @@ opened_in_order (p ∷ ps) =
 
 -- the object of a label set
 pub opened_labels : (ps : Labels) → IsByName ps
-    → opened 123 (later_members ps) ++ 125 ∷ [] ≡ compact_text (object (label_members ps))
+    → with_bracket 123 (later_members ps) ++ 125 ∷ [] ≡ compact_text (object (label_members ps))
 opened_labels ps h =
     opened_in_order ps ∙ sym (ap (λ ms. compact_text (object ms)) (members_rise ps (rise ps h)))
 

@@ -1,20 +1,13 @@
 -- The headline: what the audited answer of a store says.
-use Rattle.std.specs.List.{AllZip}
 use mathlib.Core.List.{IsPrefix}
-use Rattle.labels.specs.Contents.{Content, selected}
 use Rattle.labels.specs.Rows.{AreRows}
 use Rattle.matchers.specs.Views.{QueryView}
-use Rattle.matchers.specs.Satisfies.{satisfies_all}
 use Rattle.head.specs.Heads.{SnapshotParts, world_of}
-use Rattle.block_search.specs.Skipping.{LosesNothing, asked_parts}
+use Rattle.block_search.specs.Skipping.{LosesNothing}
 use Rattle.snapshots.specs.Replays.{IsAfter}
 use Rattle.snapshots.specs.Views.{Known}
-use Rattle.query_http.specs.Audited.{IsAnsweredPart}
+use Rattle.query_http.specs.Audited.{AreAnsweredParts, selected_by}
 use Rattle.query_http.specs.declared.audited.AuditedAnswer.{AuditedAnswer}
-
--- the samples that a query asks for: of label sets that satisfy all matchers, in the closed range
-abbrev pub asked_of : Content → QueryView → Content
-asked_of content query = selected (satisfies_all query.matchers) query.from query.to content
 
 -- A pass asked a store that had opened with this snapshot. It knew `before` when it asked and
 -- `after` when it was answered. The list of events that it has seen then begins with what it
@@ -31,6 +24,6 @@ pub record IsHeadline (opening : SnapshotParts) (query : QueryView) (before afte
   pub told : IsPrefix before.told after.seen
   pub snapshot : SnapshotParts
   pub replay : IsAfter opening after.seen snapshot
-  pub rows : AreRows answer.rows.items (asked_of (world_of snapshot).content query)
+  pub rows : AreRows answer.rows.items (selected_by query (world_of snapshot).content)
   pub whole : LosesNothing query snapshot
-  pub parts : AllZip (IsAnsweredPart query) (asked_parts query snapshot) answer.parts.items
+  pub parts : AreAnsweredParts query snapshot answer.parts.items

@@ -1,5 +1,5 @@
 -- The text of items and members that stand after others.
-use Rattle.std.specs.Prelude.{ℕ, ℤ, List, [], ◌∷◌, ◌++◌, flat_map}
+use Rattle.std.specs.Prelude.{ℕ, ℤ, List, [], ◌∷◌, ◌++◌, codes, flat_map}
 use Rattle.json.specs.Print.{quoted}
 use Rattle.serde_json.specs.Data.{Data}
 use Rattle.serde_json.specs.Written.{compact_text}
@@ -14,40 +14,40 @@ use Rattle.query_http.specs.Reply.{skipped_data, part_data}
 
 -- each item with a comma before it
 abbrev pub later_text : {A : Type 0} → (A → Data) → List A → List ℕ
-later_text data_of xs = flat_map (λ x. 44 ∷ compact_text (data_of x)) xs
+later_text data_of xs = flat_map (λ x. codes "," ++ compact_text (data_of x)) xs
 
 -- a sample with a comma before it
 abbrev pub later_sample : ℤ × ℤ → List ℕ
-later_sample s = 44 ∷ compact_text (sample_data s)
+later_sample s = codes "," ++ compact_text (sample_data s)
 
 -- a row with a comma before it
 abbrev pub later_row : Row → List ℕ
-later_row r = 44 ∷ compact_text (row_data r)
+later_row r = codes "," ++ compact_text (row_data r)
 
 -- an interval with a comma before it
 abbrev pub later_interval : Interval → List ℕ
-later_interval i = 44 ∷ compact_text (interval_data i)
+later_interval i = codes "," ++ compact_text (interval_data i)
 
 -- a part's answer with a comma before it
 abbrev pub later_searched : PartAnswer → List ℕ
-later_searched a = 44 ∷ compact_text (searched_data a)
+later_searched a = codes "," ++ compact_text (searched_data a)
 
 -- that a part is skipped, with a comma before it
 abbrev pub later_skipped : PartName → List ℕ
-later_skipped name = 44 ∷ compact_text (skipped_data name)
+later_skipped name = codes "," ++ compact_text (skipped_data name)
 
 -- what is told of a part, with a comma before it
 abbrev pub later_part : AnsweredPart → List ℕ
-later_part part = 44 ∷ compact_text (part_data part)
+later_part part = codes "," ++ compact_text (part_data part)
 
 -- a label with a comma before it
 abbrev pub later_member : List ℕ × List ℕ → List ℕ
-later_member p = 44 ∷ (quoted p.0 ++ 58 ∷ quoted p.1)
+later_member p = codes "," ++ (quoted p.0 ++ (codes ":" ++ quoted p.1))
 
 abbrev pub later_members : Labels → List ℕ
 later_members labels = flat_map later_member labels
 
 -- an opening bracket in place of the first comma
-abbrev pub opened : ℕ → List ℕ → List ℕ
-opened first [] = first ∷ []
-opened first (x ∷ xs) = first ∷ xs
+abbrev pub with_bracket : ℕ → List ℕ → List ℕ
+with_bracket first [] = first ∷ []
+with_bracket first (x ∷ xs) = first ∷ xs

@@ -12,7 +12,7 @@ use Rattle.head.specs.declared.error.CommitError.{CommitError}
 use Rattle.head.specs.declared.error.CommitError.TheVariants as commit_error
 use Rattle.snapshots.specs.declared.entry.Entry.{Entry}
 use Rattle.snapshots.specs.Replays.{EndsWith, AreAccepted, IsRefusedAfter}
-use Rattle.snapshots.specs.Seats.{Place, HasOneMoreEvent}
+use Rattle.snapshots.specs.Seats.{SeatView, HasOneMoreEvent}
 use Rattle.snapshots.specs.Views.{Known}
 use Rattle.requests.specs.declared.refusal.Refusal.{Refusal}
 use Rattle.requests.specs.declared.refusal.Refusal.TheVariants.{Unavailable}
@@ -35,9 +35,9 @@ use Rattle.query_http.specs.declared.engine.Served.TheVariants as served
 -- a worker: what its pass knows, and its seat
 pub record Worker : Type 0 where
   pub known : Known
-  pub seat : Place
+  pub seat : SeatView
 
-abbrev pub worker : Known → Place → Worker
+abbrev pub worker : Known → SeatView → Worker
 worker known seat = record { known = known; seat = seat }
 
 -- the worker has learnt no receipt and published no event, and has seen no less

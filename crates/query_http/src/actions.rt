@@ -20,7 +20,7 @@ use crate::buffers::Buffers;
 use crate::error::AskError;
 use crate::headline::ask;
 use crate::made::Reply;
-use crate::reply::body_behind;
+use crate::reply::body_after;
 use head::CommitError;
 use labels::{LabelSet, Sample};
 use matchers::{Matcher, Query};
@@ -58,7 +58,7 @@ fn answer_reply(
 {
     let parts = answer.parts.as_slice();
     let rows = answer.rows.as_slice();
-    let mut bytes = body_behind(alloc, buffers, HEAD_ROOM, parts, rows)?;
+    let mut bytes = body_after(alloc, buffers, HEAD_ROOM, parts, rows)?;
     let start = place_success_head(bytes.as_mut_slice(), HEAD_ROOM);
     Ok(Reply {
         status: Status::Done,

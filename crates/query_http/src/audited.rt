@@ -1,15 +1,10 @@
 //! The answer of a snapshot to a query: what is told of each part, and the rows of all.
 
 ghost use Rattle.std.specs.Prelude.{◌≡◌, ◌++◌, IfOk, OnOk, reverse};
-ghost use Rattle.std.specs.List.{AllZip};
-ghost use Rattle.labels.specs.Contents.{selected};
 ghost use Rattle.labels.specs.Rows.{AreRows};
-ghost use Rattle.labels.specs.Parts.{content_of};
-ghost use Rattle.matchers.specs.Satisfies.{satisfies_all};
-ghost use Rattle.head.specs.Heads.{parts_of};
-ghost use Rattle.block_search.specs.Skipping.{LosesNothing, asked_parts};
+ghost use Rattle.block_search.specs.Skipping.{LosesNothing};
 ghost use Rattle.block_search.specs.Answers.{AreAnswers};
-ghost use Rattle.query_http.specs.Audited.{IsAnsweredPart};
+ghost use Rattle.query_http.specs.Audited.{AreAnsweredParts, selected_in};
 ghost use Rattle.query_http.specs.Telling.{told_of_one, left_after};
 
 use block_search::{OpenGate, is_skipped, search, search_one_by_one};
@@ -67,8 +62,7 @@ fn answered_parts(
     answers: Vec<PartAnswer>,
 ) -> Result<Vec<AnsweredPart>, AllocError>
     requires { AreAnswers query.now snapshot.now answers.items }
-    ensures { IfOk result (λ parts.
-        AllZip (IsAnsweredPart query.now) (asked_parts query.now snapshot.now) parts.items) }
+    ensures { IfOk result (λ parts. AreAnsweredParts query.now snapshot.now parts.items) }
 {
     let mut left = answers;
     left.reverse();
@@ -91,11 +85,8 @@ fn audited_answer(
 ) -> Result<AuditedAnswer, AllocError>
     requires each { AreAnswers query.now snapshot.now answers.items }
     requires whole { LosesNothing query.now snapshot.now }
-    ensures each { IfOk result (λ a.
-        AllZip (IsAnsweredPart query.now) (asked_parts query.now snapshot.now) a.parts.items) }
-    ensures rows { IfOk result (λ a.
-        AreRows a.rows.items (selected (satisfies_all query.now.matchers) query.now.from
-        query.now.to (content_of (parts_of snapshot.now)))) }
+    ensures each { IfOk result (λ a. AreAnsweredParts query.now snapshot.now a.parts.items) }
+    ensures rows { IfOk result (λ a. AreRows a.rows.items (selected_in query.now snapshot.now)) }
 {
     let rows = merge(alloc, answers.as_slice())?;
     let parts = answered_parts(alloc, snapshot, query, answers)?;
@@ -108,11 +99,8 @@ pub fn answer(
     snapshot: &Snapshot,
     query: &Query,
 ) -> Result<AuditedAnswer, AllocError>
-    ensures each { IfOk result (λ a.
-        AllZip (IsAnsweredPart query.now) (asked_parts query.now snapshot.now) a.parts.items) }
-    ensures rows { IfOk result (λ a.
-        AreRows a.rows.items (selected (satisfies_all query.now.matchers) query.now.from
-        query.now.to (content_of (parts_of snapshot.now)))) }
+    ensures each { IfOk result (λ a. AreAnsweredParts query.now snapshot.now a.parts.items) }
+    ensures rows { IfOk result (λ a. AreRows a.rows.items (selected_in query.now snapshot.now)) }
     ensures whole { OnOk result (LosesNothing query.now snapshot.now) }
 {
     let answers = search_one_by_one(alloc, snapshot, query)?;
@@ -127,11 +115,8 @@ pub fn answer_by_workers<R: Threads + Sync>(
     snapshot: &Snapshot,
     query: &Query,
 ) -> Result<AuditedAnswer, AllocError>
-    ensures each { IfOk result (λ a.
-        AllZip (IsAnsweredPart query.now) (asked_parts query.now snapshot.now) a.parts.items) }
-    ensures rows { IfOk result (λ a.
-        AreRows a.rows.items (selected (satisfies_all query.now.matchers) query.now.from
-        query.now.to (content_of (parts_of snapshot.now)))) }
+    ensures each { IfOk result (λ a. AreAnsweredParts query.now snapshot.now a.parts.items) }
+    ensures rows { IfOk result (λ a. AreRows a.rows.items (selected_in query.now snapshot.now)) }
     ensures whole { OnOk result (LosesNothing query.now snapshot.now) }
 {
     let answers = search(rt, alloc, snapshot, query, &OpenGate)?;

@@ -1,7 +1,7 @@
 //! The brackets of lists and objects.
 
 ghost use Rattle.std.specs.Prelude.{◌≡◌, ◌≤◌, [], ◌∷◌, ◌++◌, take, drop, vec_len, OnOk};
-ghost use Rattle.query_http.specs.Later.{opened};
+ghost use Rattle.query_http.specs.Later.{with_bracket};
 
 use std::alloc::AllocError;
 
@@ -10,7 +10,7 @@ use std::alloc::AllocError;
 fn open_list(out: &mut Vec<u8>, start: usize, first: u8) -> Result<(), AllocError>
     requires { start ≤ vec_len out.old }
     ensures { OnOk result (out.new.items
-        ≡ take start out.old.items ++ opened first (drop start out.old.items)) }
+        ≡ take start out.old.items ++ with_bracket first (drop start out.old.items)) }
 {
     if start == out.len() {
         out.push(first)?;
@@ -28,8 +28,8 @@ pub(crate) fn close_list(
     last: u8,
 ) -> Result<(), AllocError>
     requires { start ≤ vec_len out.old }
-    ensures { OnOk result (out.new.items
-        ≡ take start out.old.items ++ (opened first (drop start out.old.items) ++ last ∷ [])) }
+    ensures { OnOk result (out.new.items ≡ take start out.old.items
+        ++ (with_bracket first (drop start out.old.items) ++ last ∷ [])) }
 {
     open_list(out, start, first)?;
     out.push(last)?;

@@ -4,7 +4,7 @@ ghost use Rattle.std.specs.Prelude.{◌≡◌, ◌≤◌, drop, vec_len};
 
 use requests::Status;
 
-/// A reply: its status, and its whole text, which stands behind room.
+/// A reply: its status, and its whole text, which stands after room.
 #[derive(Drop)]
 pub(crate) struct Reply {
     pub(crate) status: Status,
@@ -14,7 +14,7 @@ pub(crate) struct Reply {
 }
 
 impl Reply {
-    /// A reply whose text stands behind no room.
+    /// A reply whose text stands after no room.
     pub(crate) fn new(status: Status, text: Vec<u8>) -> Reply
         ensures number { result.status ≡ status }
         ensures spelled { drop result.start result.bytes.items ≡ text.items }

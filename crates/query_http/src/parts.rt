@@ -3,7 +3,7 @@
 
 ghost use Rattle.std.specs.Prelude.{◌≡◌, ◌++◌, OnOk, IfOk, string_bytes};
 ghost use Rattle.serde_json.specs.Written.{compact_text};
-ghost use Rattle.query_http.specs.Reply.{verdict_data, interval_data, list_data, natural};
+ghost use Rattle.query_http.specs.Reply.{verdict_data, interval_data, json_list, natural};
 ghost use Rattle.query_http.specs.Reply.{name_text, part_data};
 ghost use Rattle.query_http.specs.Later.{later_interval, later_searched, later_skipped, later_part};
 ghost use Rattle.query_http.specs.Later.{later_text};
@@ -57,7 +57,7 @@ fn append_later_intervals(out: &mut Vec<u8>, intervals: &[Interval]) -> Result<(
 /// Appends the intervals as a list.
 fn append_intervals(out: &mut Vec<u8>, intervals: &[Interval]) -> Result<(), AllocError>
     ensures { OnOk result (out.new.items
-        ≡ out.old.items ++ compact_text (list_data interval_data intervals.now)) }
+        ≡ out.old.items ++ json_list interval_data intervals.now) }
 {
     let start = out.len();
     append_later_intervals(out, intervals)?;
@@ -77,8 +77,7 @@ fn append_later_references(out: &mut Vec<u8>, references: &[SeriesRef]) -> Resul
 
 /// Appends the references as a list.
 fn append_references(out: &mut Vec<u8>, references: &[SeriesRef]) -> Result<(), AllocError>
-    ensures { OnOk result (out.new.items
-        ≡ out.old.items ++ compact_text (list_data natural references.now)) }
+    ensures { OnOk result (out.new.items ≡ out.old.items ++ json_list natural references.now) }
 {
     let start = out.len();
     append_later_references(out, references)?;
@@ -164,8 +163,7 @@ pub fn append_parts(
     parts: &[AnsweredPart],
     rows: &RowText<'_>,
 ) -> Result<(), AllocError>
-    ensures { OnOk result (out.new.items
-        ≡ out.old.items ++ compact_text (list_data part_data parts.now)) }
+    ensures { OnOk result (out.new.items ≡ out.old.items ++ json_list part_data parts.now) }
 {
     let start = out.len();
     append_later_parts(alloc, out, parts, rows)?;

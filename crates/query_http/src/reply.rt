@@ -52,9 +52,9 @@ fn room_of(parts: &[AnsweredPart], rows: &[Row]) -> usize {
     room
 }
 
-/// The text of the answer to a query behind so many bytes of room, in the buffer of the reply,
+/// The text of the answer to a query after so many bytes of room, in the buffer of the reply,
 /// which is taken out.
-pub(crate) fn body_behind(
+pub(crate) fn body_after(
     alloc: Global,
     buffers: &mut Buffers,
     room: usize,
@@ -81,5 +81,5 @@ pub fn body(alloc: Global, parts: &[AnsweredPart], rows: &[Row]) -> Result<Vec<u
     ensures { IfOk result (λ text. text.items ≡ body_text parts.now rows.now) }
 {
     let mut buffers = Buffers::new(alloc);
-    body_behind(alloc, &mut buffers, 0, parts, rows)
+    body_after(alloc, &mut buffers, 0, parts, rows)
 }

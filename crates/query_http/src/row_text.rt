@@ -2,8 +2,7 @@
 
 ghost use Rattle.std.specs.Prelude.{◌≡◌, ◌++◌, OnOk};
 ghost use Rattle.std.specs.Bool.{OnTrue};
-ghost use Rattle.serde_json.specs.Written.{compact_text};
-ghost use Rattle.query_http.specs.Reply.{row_data, list_data};
+ghost use Rattle.query_http.specs.Reply.{row_data, json_list};
 
 use crate::rows::append_rows;
 use labels::{LabelSet, Row, Sample};
@@ -67,7 +66,7 @@ fn are_same(a: &[Row], b: &[Row]) -> bool
 
 /// Writes the rows as a list into a buffer, whose content is dropped.
 pub fn write_rows(buf: &mut Vec<u8>, rows: &[Row]) -> Result<(), AllocError>
-    ensures { OnOk result (buf.new.items ≡ compact_text (list_data row_data rows.now)) }
+    ensures { OnOk result (buf.new.items ≡ json_list row_data rows.now) }
 {
     buf.clear();
     buf.reserve(room_of_rows(rows))?;
@@ -79,13 +78,13 @@ pub fn write_rows(buf: &mut Vec<u8>, rows: &[Row]) -> Result<(), AllocError>
 pub struct RowText<'a> {
     rows: &'a [Row],
     text: &'a [u8],
-    ghost spelled: { text.now ≡ compact_text (list_data row_data rows.now) },
+    ghost spelled: { text.now ≡ json_list row_data rows.now },
 }
 
 impl<'a> RowText<'a> {
     /// Rows with the text that [`write_rows`] wrote of them.
     pub fn new(rows: &'a [Row], text: &'a [u8]) -> RowText<'a>
-        requires { text.now ≡ compact_text (list_data row_data rows.now) }
+        requires { text.now ≡ json_list row_data rows.now }
         ensures { result.rows.now ≡ rows.now }
     {
         RowText { rows, text }
@@ -94,15 +93,14 @@ impl<'a> RowText<'a> {
     /// Appends the rows as a list.
     pub fn append(&self, out: &mut Vec<u8>) -> Result<(), AllocError>
         ensures { OnOk result (out.new.items
-            ≡ out.old.items ++ compact_text (list_data row_data self.now.rows.now)) }
+            ≡ out.old.items ++ json_list row_data self.now.rows.now) }
     {
         out.extend_from_slice(self.text)
     }
 
     /// Appends the rows of a part as a list; where they are the same, their text is copied.
     pub fn append_part(&self, out: &mut Vec<u8>, rows: &[Row]) -> Result<(), AllocError>
-        ensures { OnOk result (out.new.items
-            ≡ out.old.items ++ compact_text (list_data row_data rows.now)) }
+        ensures { OnOk result (out.new.items ≡ out.old.items ++ json_list row_data rows.now) }
     {
         if are_same(rows, self.rows) {
             return self.append(out);

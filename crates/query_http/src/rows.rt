@@ -1,9 +1,7 @@
 //! Label sets and rows.
 
 ghost use Rattle.std.specs.Prelude.{◌≡◌, ◌++◌, OnOk};
-ghost use Rattle.serde_json.specs.Data.{object};
-ghost use Rattle.serde_json.specs.Written.{compact_text};
-ghost use Rattle.query_http.specs.Reply.{label_members, row_data, list_data};
+ghost use Rattle.query_http.specs.Reply.{row_data, json_labels, json_list};
 ghost use Rattle.query_http.specs.Later.{later_member, later_members, later_row, later_text};
 
 use crate::brackets::close_list;
@@ -33,8 +31,7 @@ fn append_members(out: &mut Vec<u8>, labels: &LabelSet) -> Result<(), AllocError
 
 /// Appends the label set as an object.
 pub fn append_labels(out: &mut Vec<u8>, labels: &LabelSet) -> Result<(), AllocError>
-    ensures { OnOk result (out.new.items
-        ≡ out.old.items ++ compact_text (object (label_members labels.now))) }
+    ensures { OnOk result (out.new.items ≡ out.old.items ++ json_labels labels.now) }
 {
     let _count = labels.len();
     let start = out.len();
@@ -67,8 +64,7 @@ fn append_later_rows(out: &mut Vec<u8>, rows: &[Row]) -> Result<(), AllocError>
 
 /// Appends the rows as a list.
 pub fn append_rows(out: &mut Vec<u8>, rows: &[Row]) -> Result<(), AllocError>
-    ensures { OnOk result (out.new.items
-        ≡ out.old.items ++ compact_text (list_data row_data rows.now)) }
+    ensures { OnOk result (out.new.items ≡ out.old.items ++ json_list row_data rows.now) }
 {
     let start = out.len();
     append_later_rows(out, rows)?;

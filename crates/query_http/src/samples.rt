@@ -1,8 +1,7 @@
 //! Samples.
 
 ghost use Rattle.std.specs.Prelude.{◌≡◌, ◌+◌, ◌≤◌, ◌∷◌, ◌++◌, length, drop, OnOk};
-ghost use Rattle.serde_json.specs.Written.{compact_text};
-ghost use Rattle.query_http.specs.Reply.{sample_data, list_data};
+ghost use Rattle.query_http.specs.Reply.{sample_data, json_list};
 ghost use Rattle.query_http.specs.Later.{later_sample, later_text};
 
 use crate::brackets::close_list;
@@ -84,8 +83,7 @@ pub fn append_samples(
     buf: &mut [u8; ROOM],
     samples: &[Sample],
 ) -> Result<(), AllocError>
-    ensures { OnOk result (out.new.items
-        ≡ out.old.items ++ compact_text (list_data sample_data samples.now)) }
+    ensures { OnOk result (out.new.items ≡ out.old.items ++ json_list sample_data samples.now) }
 {
     let start = out.len();
     append_later(out, buf, samples)?;

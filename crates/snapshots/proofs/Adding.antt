@@ -6,7 +6,7 @@ use mathlib.Core.List.{IsPrefix}
 use prog.Atomic.{either}
 use Rattle.logbook.specs.Pages.{Cell, cell, keeps, no_nib, step, Moves, Goes}
 use Rattle.snapshots.specs.declared.entry.Mark.{Mark}
-use Rattle.snapshots.specs.Rules.{IsKept, Adds}
+use Rattle.snapshots.specs.Rules.{HoldLength, Adds}
 use Rattle.snapshots.proofs.Prefixes.{prefix_whole}
 
 abbrev pub shown : List Mark → List Mark
@@ -17,7 +17,7 @@ moved xs ys n = Unit {0}
 
 pub adds_goes : (log v : List Mark) (e : Mark) (old : ℕ) → length v ≡ old → IsPrefix v log
     → (b : Bool) → (length log == old) ≡ b
-    → Goes IsKept shown moved 0 (v, (no_nib, None)) (λ n. either (n == old) (old + 1) n)
+    → Goes HoldLength shown moved 0 (v, (no_nib, None)) (λ n. either (n == old) (old + 1) n)
     (Adds (step 0 old (old + 1) e) (v, (no_nib, None))) ((length log, true) ∷ (0, true) ∷ []) log
 adds_goes log v e old len pre true is =
     let here : length log ≡ old = grind (arith, nat_tests) in
@@ -48,11 +48,11 @@ adds_goes log v e old len pre false is =
 -- whatever the book is, the exchange adds the mark to all that was seen, or finds that the log is
 -- longer
 pub adds_moves : (v : List Mark) (e : Mark) (old : ℕ) → length v ≡ old
-    → Moves IsKept shown moved 0 (v, (no_nib, None)) (λ n. either (n == old) (old + 1) n)
+    → Moves HoldLength shown moved 0 (v, (no_nib, None)) (λ n. either (n == old) (old + 1) n)
     (Adds (step 0 old (old + 1) e) (v, (no_nib, None)))
 adds_moves v e old len cs log kept pre away =
     let P : List Cell → Type 0 =
     λ c. (0 < length c) × ((cell c 0).1 ≡ true)
-    × Goes IsKept shown moved 0 (v, (no_nib, None)) (λ n. either (n == old) (old + 1) n)
+    × Goes HoldLength shown moved 0 (v, (no_nib, None)) (λ n. either (n == old) (old + 1) n)
     (Adds (step 0 old (old + 1) e) (v, (no_nib, None))) c log in
     subst P (sym kept) (omega arith, refl, adds_goes log v e old len pre (length log == old) refl)

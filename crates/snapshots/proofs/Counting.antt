@@ -4,7 +4,7 @@ use Rattle.std.proofs.Common.{refl, sym, ap, ◌∙◌, subst, arith, length-set
 use Rattle.std.proofs.lemmas.List.{get_or-set_same, get_or-set_other}
 use Rattle.std.proofs.lemmas.Bool.Decides.{nat_tests}
 use Rattle.snapshots.specs.declared.entry.Entry.{Entry}
-use Rattle.snapshots.specs.Seats.{Place, AreFresh, count_of, AreCounts}
+use Rattle.snapshots.specs.Seats.{SeatView, AreFresh, count_of, AreCounts}
 
 pub count_of-snoc : (k : ℕ) (es : List Entry) (e : Entry)
     → count_of k (es ++ e ∷ []) ≡ count_of k es + (if k == e.seat then 1 else 0)
@@ -66,7 +66,7 @@ counted_next counts es all e number n are is seat in_range more =
     rw (is, more, ← seat)
     (counts_own counts es e are (subst (λ (k : ℕ). k < length counts) (sym seat) in_range))
 
-pub fresh-snoc : (n m : ℕ) (ss : List Place) (s : Place)
+pub fresh-snoc : (n m : ℕ) (ss : List SeatView) (s : SeatView)
     → AreFresh n ss → length ss ≡ m → s.number ≡ n + m → s.count ≡ 0 → AreFresh n (ss ++ s ∷ [])
 fresh-snoc n m [] s h len is zero = (omega arith, zero, tt)
 fresh-snoc n m (t ∷ ss) s h len is zero =

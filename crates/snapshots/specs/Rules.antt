@@ -5,8 +5,8 @@ use Rattle.snapshots.specs.declared.entry.Mark.{Mark}
 
 -- the first word is the length of the log; a book has two words, of which this one leaves the
 -- second at 0
-abbrev pub IsKept : List Cell → List Mark → Type 0
-IsKept cells log = cells ≡ (length log, true) ∷ (0, true) ∷ []
+abbrev pub HoldLength : List Cell → List Mark → Type 0
+HoldLength cells log = cells ≡ (length log, true) ∷ (0, true) ∷ []
 
 -- the word of a book that has the length of its log
 abbrev pub end_of : Book → Named

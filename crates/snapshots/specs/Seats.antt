@@ -3,7 +3,7 @@ use Rattle.std.specs.Prelude.{◌≡◌, ◌<◌, ◌≤◌, ℕ, ◌+◌, ◌==
 use Rattle.snapshots.specs.declared.entry.Entry.{Entry}
 
 -- a seat: its number, and how many events it has published
-pub record Place : Type 0 where
+pub record SeatView : Type 0 where
   pub number : ℕ
   pub count : ℕ
 
@@ -13,7 +13,7 @@ count_of seat [] = 0
 count_of seat (e ∷ es) = (if seat == e.seat then 1 else 0) + count_of seat es
 
 -- the seat's number is one of the store's, its count is the book's, and may grow
-abbrev pub FitsSeat : Place → List ℕ → Type 0
+abbrev pub FitsSeat : SeatView → List ℕ → Type 0
 FitsSeat seat counts =
     (seat.number < length counts)
     × (slice_index counts seat.number ≡ seat.count)
@@ -26,12 +26,12 @@ AreCounts counts entries =
 
 -- the seat has published one event more, and the list has as many under its number as its count
 -- says
-abbrev pub HasOneMoreEvent : Place → Place → List Entry → Type 0
+abbrev pub HasOneMoreEvent : SeatView → SeatView → List Entry → Type 0
 HasOneMoreEvent old new entries =
     (new ≡ record old { count = old.count + 1 }) × (count_of old.number entries ≡ new.count)
 
 -- the seats are numbered from n on, and have published nothing
-abbrev pub AreFresh : ℕ → List Place → Type 0
+abbrev pub AreFresh : ℕ → List SeatView → Type 0
 AreFresh n [] = Unit {0}
 AreFresh n (s ∷ ss) = (s.number ≡ n) × (s.count ≡ 0) × AreFresh (n + 1) ss
 

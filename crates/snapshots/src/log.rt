@@ -14,9 +14,9 @@ pub struct Law;
 impl Rule<Mark, u64> for Law {
     ghost use Rattle.std.specs.Prelude.{[]};
     ghost use base.Fml.{ftrue};
-    ghost use Rattle.snapshots.specs.Rules.{IsKept};
+    ghost use Rattle.snapshots.specs.Rules.{HoldLength};
 
-    ghost holds = { λ cells log. IsKept cells log };
+    ghost holds = { λ cells log. HoldLength cells log };
 
     ghost first = { [] };
 

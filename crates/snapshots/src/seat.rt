@@ -14,9 +14,9 @@ pub struct Seat<J: Naming> {
 }
 
 impl<J: Naming> Model for Seat<J> {
-    ghost use Rattle.snapshots.specs.Seats.{Place};
+    ghost use Rattle.snapshots.specs.Seats.{SeatView};
 
-    ghost Value = { Place };
+    ghost Value = { SeatView };
 
     ghost view = { λ s. record { number = s.number; count = s.count } };
 }

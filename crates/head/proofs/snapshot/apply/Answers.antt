@@ -8,24 +8,24 @@ use Rattle.head.specs.Worlds.{Event, deletion, stepped}
 use Rattle.head.proofs.Deleting.{deleted-world_of}
 use Rattle.head.proofs.snapshot.apply.Goals as goal
 
-pub returns-in-Ok-clause-ok : goal.returns-in-Ok-clause-ok
-returns-in-Ok-clause-ok c =
+pub returns-in_ok-snapshot_without-in-Deletion-clause-ok : goal.returns-in_ok-snapshot_without-in-Deletion-clause-ok
+returns-in_ok-snapshot_without-in-Deletion-clause-ok c =
     let from_is : to_z w64 (of_z w64 c.in-Deletion.from) ≡ c.in-Deletion.from = search rules in
     let to_is : to_z w64 (of_z w64 c.in-Deletion.to) ≡ c.in-Deletion.to = search rules in
     let ms = c.in-Deletion.matchers.items in
     let event_is : c.args.event.now ≡ deletion ms c.in-Deletion.from c.in-Deletion.to = sym c.kind.ensures.shown ∙ ap change_of c.in-Deletion.is in
-    let made : c.in-Ok.snapshot ≡ snapshot_less (survives ms c.in-Deletion.from c.in-Deletion.to) c.args.at.now =
-    c.in-Ok.ensures ∙ (λ i. snapshot_less (survives (c.as_slice-in-Deletion.ensures.value i) (from_is i) (to_is i)) c.args.at.now) in
+    let made : c.in_ok-snapshot_without-in-Deletion.field-0 ≡ snapshot_less (survives ms c.in-Deletion.from c.in-Deletion.to) c.args.at.now =
+    c.in_ok-snapshot_without-in-Deletion.ensures ∙ (λ i. snapshot_less (survives (c.as_slice-in-Deletion.ensures.value i) (from_is i) (to_is i)) c.args.at.now) in
     ap (stepped most (world_of c.args.at.now)) event_is
     ∙ ap Ok (sym (ap world_of made ∙ deleted-world_of ms c.in-Deletion.from c.in-Deletion.to c.args.at.now))
 
-pub returns-in-Ok-clause-kept : goal.returns-in-Ok-clause-kept
-returns-in-Ok-clause-kept c =
+pub returns-in_ok-snapshot_without-in-Deletion-clause-kept : goal.returns-in_ok-snapshot_without-in-Deletion-clause-kept
+returns-in_ok-snapshot_without-in-Deletion-clause-kept c =
     let from_is : to_z w64 (of_z w64 c.in-Deletion.from) ≡ c.in-Deletion.from = search rules in
     let to_is : to_z w64 (of_z w64 c.in-Deletion.to) ≡ c.in-Deletion.to = search rules in
     let ms = c.in-Deletion.matchers.items in
     let event_is : c.args.event.now ≡ deletion ms c.in-Deletion.from c.in-Deletion.to = sym c.kind.ensures.shown ∙ ap change_of c.in-Deletion.is in
-    let made : c.in-Ok.snapshot ≡ snapshot_less (survives ms c.in-Deletion.from c.in-Deletion.to) c.args.at.now =
-    c.in-Ok.ensures ∙ (λ i. snapshot_less (survives (c.as_slice-in-Deletion.ensures.value i) (from_is i) (to_is i)) c.args.at.now) in
-    subst (λ (event : Event). KeepsBlocks event c.args.at.now c.in-Ok.snapshot.blocks) (sym event_is)
+    let made : c.in_ok-snapshot_without-in-Deletion.field-0 ≡ snapshot_less (survives ms c.in-Deletion.from c.in-Deletion.to) c.args.at.now =
+    c.in_ok-snapshot_without-in-Deletion.ensures ∙ (λ i. snapshot_less (survives (c.as_slice-in-Deletion.ensures.value i) (from_is i) (to_is i)) c.args.at.now) in
+    subst (λ (event : Event). KeepsBlocks event c.args.at.now c.in_ok-snapshot_without-in-Deletion.field-0.blocks) (sym event_is)
     (ap (λ (s : SnapshotParts). s.blocks) made)

@@ -3,7 +3,7 @@ use Rattle.std.proofs.lemmas.Result.{IfOk-weaker}
 use Rattle.labels.specs.Parts.{content_of}
 use Rattle.head.specs.Heads.{world_of, parts_of}
 use Rattle.history.specs.declared.reply.Reply.TheVariants.{Rows}
-use Rattle.history.specs.Asking.{asked}
+use Rattle.history.specs.Asking.{selected_by}
 use Rattle.history.specs.Replies.{IsStep, machine_at, world_after}
 use Rattle.history.specs.Shown.{step_of}
 use Rattle.history.specs.Steps.{Step}
@@ -33,7 +33,7 @@ returns-in_ok-rows_of-in-Query c =
     (ap (step_of c.parts-actor.result.0) (sym c.in-Query.is) ∙ c.parts-actor.ensures)
     (record {
       answer = (
-        asked c.in-Query.query (content_of (parts_of c.args.at.now)),
+        selected_by c.in-Query.query (content_of (parts_of c.args.at.now)),
         refl,
         c.in_ok-rows_of-in-Query.ensures,
       );

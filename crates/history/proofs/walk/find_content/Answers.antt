@@ -4,8 +4,8 @@ use Rattle.block.specs.Blocks.{Shown}
 use Rattle.labels.specs.Rows.{points_of}
 use Rattle.labels.specs.Parts.{Part, rows_in, laid_over, content_of}
 use Rattle.head.specs.Heads.{BlockPart, HeadSeries, head_part}
-use Rattle.history.specs.Asking.{asked, part_within}
-use Rattle.history.proofs.Laying.{asked-part, asked_within}
+use Rattle.history.specs.Asking.{selected_by, part_within}
+use Rattle.history.proofs.Laying.{selected-part, selected_within}
 use Rattle.history.proofs.Listing.{parts_in_blocks}
 use Rattle.history.proofs.walk.find_content.Goals as goal
 
@@ -18,9 +18,9 @@ loop-block-preserved c =
     let parts : List Part = map (λ (b : Shown). b.part) (take i blocks) in
     let list_is : c.in_ok-list_all.field-0.items ≡ block.part = c.in_ok-list_all.ensures in
     c.in_ok-lay_part.ensures
-    ∙ (λ j. laid_over (asked q (points_of (rows_in (list_is j)))) (c.loop-block.invariant j))
-    ∙ sym (asked-part q parts block.part)
-    ∙ ap (λ (ps : List Part). asked q (content_of ps))
+    ∙ (λ j. laid_over (selected_by q (points_of (rows_in (list_is j)))) (c.loop-block.invariant j))
+    ∙ sym (selected-part q parts block.part)
+    ∙ ap (λ (ps : List Part). selected_by q (content_of ps))
     (ap (λ (b : Shown). parts ++ b.part ∷ []) c.block-item.is
     ∙ sym (map_more (λ (b : Shown). b.part) blocks i block c.loop-block-test.true))
 
@@ -39,7 +39,9 @@ returns c =
     ∙ sym (parts_in_blocks blocks)
     ∙ ap (map (λ (b : BlockPart). b.part)) c.blocks-block-items.ensures in
     c.in_ok-lay_part-2.ensures
-    ∙ (λ j. laid_over (asked q (points_of (rows_in (list_is j)))) (c.loop-block.invariant j))
+    ∙ (λ j. laid_over (selected_by q (points_of (rows_in (list_is j)))) (c.loop-block.invariant j))
     ∙ (λ j.
-    laid_over (asked_within q (head_part snapshot.head) j) (asked q (content_of (parts_is j))))
-    ∙ sym (asked-part q (map (λ (b : BlockPart). b.part) snapshot.blocks) (head_part snapshot.head))
+    laid_over (selected_within q (head_part snapshot.head) j)
+    (selected_by q (content_of (parts_is j))))
+    ∙ sym (selected-part q (map (λ (b : BlockPart). b.part) snapshot.blocks)
+    (head_part snapshot.head))

@@ -1,9 +1,9 @@
 use Rattle.std.proofs.Common.{◌≡◌, map, take}
 use Rattle.labels.specs.Parts.{content_of}
-use Rattle.history.specs.Asking.{asked}
+use Rattle.history.specs.Asking.{selected_by}
 use Rattle.history.proofs.walk.find_content.Given as goal
 
 abbrev pub invariant-loop-block : goal.invariant-loop-block
 invariant-loop-block l =
     l.content.entries
-    ≡ asked l.query (content_of (map (λ b. b.part) (take l.block-index l.block-items)))
+    ≡ selected_by l.query (content_of (map (λ b. b.part) (take l.block-index l.block-items)))
