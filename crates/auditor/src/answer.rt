@@ -93,8 +93,10 @@ fn first_flaw(
 ///
 /// By design, and stated by no clause: with n series, m matchers and k intervals it makes at most
 /// (m + 1)(3n + k) looks. A look holds one matcher against one value, or the samples of one series
-/// against the range. It takes memory for the searches of patterns, and for the selected rows,
-/// which it puts in label order.
+/// against the range.
+///
+/// An audit takes memory for the searches of patterns, and for the selected rows, which it puts in
+/// label order.
 pub fn audit(
     alloc: Global,
     table: &Table,

@@ -19,7 +19,7 @@ abbrev pub series_row : List ℕ → List Deletion → Series → ℕ × Row
 series_row chunks deletions s =
     (s.reference, (s.labels, undeleted deletions s.reference (samples_in chunks s.chunks)))
 
--- all series
+-- the rows of all series
 abbrev pub part_of_series : List ℕ → List Deletion → List Series → Part
 part_of_series chunks deletions series = map (series_row chunks deletions) series
 

@@ -12,7 +12,7 @@ use Rattle.block.specs.Sound.{IsHeldChunk}
 abbrev pub is_wanted : List Deletion → ℕ → ℤ → ℤ → ℤ → Bool
 is_wanted deletions reference from to t = in_range from to t && not (covered deletions reference t)
 
--- whether a time is asked for
+-- whether a time is asked for: it lies in the wanted range, and no deletion of the series covers it
 abbrev pub wants : Wanted → ℤ → Bool
 wants wanted t =
     is_wanted wanted.tombstones.now wanted.reference wanted.times.from wanted.times.to t

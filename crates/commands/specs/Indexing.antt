@@ -21,8 +21,8 @@ abbrev pub IndexRead : Type 0
 IndexRead = Vec ℕ Global × Result Indexed IndexError
 
 -- what came of reading and opening the index of a directory
-abbrev pub IsIndexReadOrFault : Host → List ℕ → Result IndexRead Fault → Type 0
-IsIndexReadOrFault reads directory read =
+abbrev pub IsIndexOutcome : Host → List ℕ → Result IndexRead Fault → Type 0
+IsIndexOutcome reads directory read =
     IfOk read (λ index. IsRead reads directory Index index.0.items)
     × IfOk read (λ index. IsOpened index.0.items index.1)
     × IfErr read (λ fault. IsFileFault reads directory Index fault)

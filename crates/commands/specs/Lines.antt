@@ -117,5 +117,5 @@ abbrev pub AreTakenByClap : List Text → Type 0
 AreTakenByClap words = takes querier_app words ≡ true
 
 -- the words are no line
-abbrev pub AreNoLine : List Text → Type 0
-AreNoLine words = (line : Line) → IsLineOf words line → ⊥
+abbrev pub AreNoCommandLine : List Text → Type 0
+AreNoCommandLine words = (line : Line) → IsLineOf words line → ⊥

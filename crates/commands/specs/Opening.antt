@@ -56,8 +56,8 @@ pub record IsFirstFault (reads : Host) (directories : List (List ℕ)) (fault : 
   pub at : IsBlockFault reads directory fault
 
 -- what came of opening directories: the blocks that they hold, or the fault of the first at fault
-abbrev pub AreOpenedOrFault : Host → List (List ℕ) → Result (Vec Shown Global) Fault → Type 0
-AreOpenedOrFault reads directories opened =
+abbrev pub IsOpeningOutcome : Host → List (List ℕ) → Result (Vec Shown Global) Fault → Type 0
+IsOpeningOutcome reads directories opened =
     IfOk opened (λ blocks. AreBlocksAt reads directories (map part_in blocks.items))
     × IfErr opened (λ fault. IsFirstFault reads directories fault)
 

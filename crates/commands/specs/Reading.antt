@@ -101,8 +101,8 @@ IsFileFault reads directory name (Words error) = ⊥
 IsFileFault reads directory name (Refused refusal) = ⊥
 
 -- what came of reading a file of a directory: its bytes, or why it is not read
-abbrev pub IsReadOrFault : Host → List ℕ → FileName → Result (Vec ℕ Global) Fault → Type 0
-IsReadOrFault reads directory name read =
+abbrev pub IsFileOutcome : Host → List ℕ → FileName → Result (Vec ℕ Global) Fault → Type 0
+IsFileOutcome reads directory name read =
     IfOk read (λ bytes. IsRead reads directory name bytes.items)
     × IfErr read (λ fault. IsFileFault reads directory name fault)
 

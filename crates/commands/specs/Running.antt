@@ -6,7 +6,7 @@ use Rattle.commands.specs.Checking.{IsChecked, IsCheckFault}
 use Rattle.commands.specs.Demo.{demo_events, demo_query}
 use Rattle.commands.specs.DemoAnswer.{IsDemoFault, WritesAnswerAfter}
 use Rattle.commands.specs.Faults.{status_of, line_of}
-use Rattle.commands.specs.Lines.{AreNoLine, AreTakenByClap, IsLineOf}
+use Rattle.commands.specs.Lines.{AreNoCommandLine, AreTakenByClap, IsLineOf}
 use Rattle.commands.specs.Reading.{Host, paths_of}
 use Rattle.commands.specs.Selecting.{IsSelectFault, KeepsAt, WritesSelection}
 use Rattle.commands.specs.ServingRuns.{IsListening, IsServeFault}
@@ -98,8 +98,8 @@ pub record HasEnded (reads : Host) (words : List Text)
     (old new told_old told_new : Option (List ℕ)) (ending : Ending) : Type 0 where
   pub end : Result Outcome Fault
   pub line : IsTaken words → IsEnd reads words old new end
-  pub no_line : AreNoLine words → IsNoLine end
-  pub refused : AreTakenByClap words → AreNoLine words → IsWordsFault end
+  pub no_line : AreNoCommandLine words → IsNoLine end
+  pub refused : AreTakenByClap words → AreNoCommandLine words → IsWordsFault end
   pub status : ending.status ≡ status_at end
   pub told : IsTold end ending.told told_old told_new
 

@@ -3,10 +3,10 @@
 ghost use Rattle.std.specs.Prelude.{◌≡◌, ◌≤◌, ◌+◌, ℕ, List, Option, length, take, string_bytes};
 ghost use Rattle.std.specs.Prelude.{IfOk, IfErr, IfSome};
 ghost use Rattle.std.specs.Thread.{IsSync};
-ghost use Rattle.commands.specs.Indexing.{IsIndexReadOrFault, IsOpened};
+ghost use Rattle.commands.specs.Indexing.{IsIndexOutcome, IsOpened};
 ghost use Rattle.commands.specs.declared.files.FileName.TheVariants as file_name;
 ghost use Rattle.commands.specs.Reading.{limit_of, path_of, text_of, AreFirstBytes, AreRead, IsRead};
-ghost use Rattle.commands.specs.Reading.{IsReadFailure, IsReadOrFault, IsFileFault, IsReadingFault};
+ghost use Rattle.commands.specs.Reading.{IsReadFailure, IsFileOutcome, IsFileFault, IsReadingFault};
 
 use crate::fault::Fault;
 use index_reader::{Index, IndexError};
@@ -200,12 +200,12 @@ pub fn read_block<T: Threads + Sync, F: ReadFiles>(
     let meta = read_one(alloc, files, directory, FileName::Meta)?;
     let apart = || -> Result<Vec<u8>, Fault>
         requires { IsSync F.row }
-        ensures { IsReadOrFault (F.may_read files.entry.now) directory.entry.now file_name.Chunks
+        ensures { IsFileOutcome (F.may_read files.entry.now) directory.entry.now file_name.Chunks
             result }
     { read_one(alloc, files, directory, FileName::Chunks) };
     let here = || -> Result<(Vec<u8>, Result<Index, IndexError>), Fault>
         requires { IsSync F.row }
-        ensures { IsIndexReadOrFault (F.may_read files.entry.now) directory.entry.now result }
+        ensures { IsIndexOutcome (F.may_read files.entry.now) directory.entry.now result }
     { read_index(alloc, files, directory) };
     let (chunks, index) = join(rt, apart, here);
     let (index, opened) = index?;

@@ -5,7 +5,7 @@ ghost use Rattle.std.specs.Thread.{IsSync};
 ghost use Rattle.head.specs.Blocks.{part_in};
 ghost use Rattle.commands.specs.Reading.{paths_of};
 ghost use Rattle.commands.specs.Opening.{IsBlockAt, AreBlocksAt, IsBlockFault, IsFirstFault};
-ghost use Rattle.commands.specs.Opening.{AreOpenedOrFault, IsOpeningOf, IsOpeningFault};
+ghost use Rattle.commands.specs.Opening.{IsOpeningOutcome, IsOpeningOf, IsOpeningFault};
 
 use crate::fault::{Fault, Refusal};
 use crate::files::{ReadFiles, read_block};
@@ -78,11 +78,11 @@ fn open_among<T: Threads + Sync, F: ReadFiles>(
     let (front, back) = directories.split_at(count / 2);
     let early = || -> Result<Vec<Block>, Fault>
         requires { IsSync T.row × IsSync F.row }
-        ensures { AreOpenedOrFault (F.may_read files.entry.now) (paths_of front.entry.now) result }
+        ensures { IsOpeningOutcome (F.may_read files.entry.now) (paths_of front.entry.now) result }
     { open_among(rt, alloc, files, front, helpers) };
     let late = || -> Result<Vec<Block>, Fault>
         requires { IsSync T.row × IsSync F.row }
-        ensures { AreOpenedOrFault (F.may_read files.entry.now) (paths_of back.entry.now) result }
+        ensures { IsOpeningOutcome (F.may_read files.entry.now) (paths_of back.entry.now) result }
     { open_among(rt, alloc, files, back, rest) };
     let (first, second) = join(rt, early, late);
     let mut blocks = first?;

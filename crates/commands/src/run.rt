@@ -4,7 +4,7 @@ ghost use Rattle.std.specs.Prelude.{◌≡◌, ◌≤◌, ◌⊎◌, pos, IfOk, 
 ghost use Rattle.std.specs.Io.KnownBytes.{Appends, Keeps};
 ghost use Rattle.commands.specs.Printed.{line_text};
 ghost use Rattle.commands.specs.Demo.{demo_events, demo_query};
-ghost use Rattle.commands.specs.Lines.{texts_of, AreNoLine, AreTakenByClap};
+ghost use Rattle.commands.specs.Lines.{texts_of, AreNoCommandLine, AreTakenByClap};
 ghost use Rattle.commands.specs.Running.{IsTaken, IsLineEnd, IsEnd, IsNoLine, IsWordsFault};
 ghost use Rattle.commands.specs.Running.{IsEarlyLine, IsTold, HasEnded, KeepsAtEnd, status_at};
 ghost use Rattle.commands.specs.DemoAnswer.{IsDemoFault, WritesAnswerAfter};
@@ -100,9 +100,9 @@ fn execute<
 >(rt: &Q, alloc: Global, files: &F, words: &[String], out: &mut W) -> Result<Outcome, Fault>
     ensures ends { IsTaken (texts_of words.now) → IsEnd (F.may_read files.now) (texts_of words.now)
         (W.contents out.old) (W.contents out.new) result }
-    ensures no_line { AreNoLine (texts_of words.now) → IsNoLine result }
+    ensures no_line { AreNoCommandLine (texts_of words.now) → IsNoLine result }
     ensures refused { AreTakenByClap (texts_of words.now)
-        → AreNoLine (texts_of words.now) → IsWordsFault result }
+        → AreNoCommandLine (texts_of words.now) → IsWordsFault result }
     ensures kept { IsEarlyLine (texts_of words.now)
         ⊎ KeepsAtEnd (W.contents out.old) (W.contents out.new) result }
 {

@@ -28,11 +28,11 @@ pub record IsNameBoundary (test : List ℕ → Bool) (lists : PairLists) (i : �
   pub fails_after : (k : ℕ) (d : Pair × List ℕ) → i ≤ k → k < length lists
       → test (slice_index_or lists k d).0.0 ≡ false
 
--- the lists of greater names, and those of the name itself, stand from this place on
+-- the lists of this name and of greater ones stand from this place on, those of smaller ones before
 abbrev pub BeginsName : List ℕ → PairLists → ℕ → Type 0
 BeginsName name = IsNameBoundary (λ n. is_lt (slice_cmp nat_cmp n name))
 
--- the lists of greater names stand from this place on
+-- the lists of greater names stand from this place on, all others before
 abbrev pub EndsName : List ℕ → PairLists → ℕ → Type 0
 EndsName name = IsNameBoundary (λ n. is_le (slice_cmp nat_cmp n name))
 

@@ -35,12 +35,12 @@ abbrev pub AllOwn : (Labels → Bool) → List Slot → Type 0
 AllOwn p slots = T (list_all (λ slot. not (is_own slot) || p (series_in slot).labels) slots)
 
 -- each own series has this label set, or one that an own series had before
-abbrev pub AddsOwnOf : Labels → List Slot → List Slot → Type 0
-AddsOwnOf labels old new = (p : Labels → Bool) → T (p labels) → AllOwn p old → AllOwn p new
+abbrev pub AddsNoOwnBut : Labels → List Slot → List Slot → Type 0
+AddsNoOwnBut labels old new = (p : Labels → Bool) → T (p labels) → AllOwn p old → AllOwn p new
 
 -- the series at a place
-abbrev pub series_in_place : List Slot → ℕ → HeadSeries → HeadSeries
-series_in_place slots place d = slice_index_or (series_in_each slots) place d
+abbrev pub series_at_place : List Slot → ℕ → HeadSeries → HeadSeries
+series_at_place slots place d = slice_index_or (series_in_each slots) place d
 
 -- a series of the last version, in whose place this one may have its own
 abbrev pub slot_at : HeadSeries → Option HeadSeries → Slot

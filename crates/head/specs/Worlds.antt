@@ -40,8 +40,10 @@ is_full most w l known =
     || nat_le most.samples (held_from w.floor l w.content)
 
 -- the sample joins where there is room
-abbrev pub with_sample_in_room : Limits → World → Labels → ℤ × ℤ → Option (ℤ × ℤ) → Result World Refusal
-with_sample_in_room most w l s known = if is_full most w l known then Err limit else Ok (with_sample w l s)
+abbrev pub with_sample_in_room :
+    Limits → World → Labels → ℤ × ℤ → Option (ℤ × ℤ) → Result World Refusal
+with_sample_in_room most w l s known =
+    if is_full most w l known then Err limit else Ok (with_sample w l s)
 
 -- by the newest sample of its label set
 abbrev pub added_after : Limits → World → ℕ → Labels → ℤ × ℤ → Option (ℤ × ℤ) → Result World Refusal

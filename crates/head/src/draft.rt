@@ -14,7 +14,7 @@ ghost use Rattle.head.specs.Orders.{sets_of, IsOrderOf, HasSet};
 ghost use Rattle.head.specs.Outcomes.{IsOutcome};
 ghost use Rattle.head.specs.Limits.{most};
 ghost use Rattle.head.specs.Slots.{Shared, Own, series_in, series_in_each, own_count, owned};
-ghost use Rattle.head.specs.Slots.{AllOwn, AddsOwnOf, series_in_place, slot_at, slots_from};
+ghost use Rattle.head.specs.Slots.{AllOwn, AddsNoOwnBut, series_at_place, slot_at, slots_from};
 ghost use Rattle.std.specs.Ordering.{nat_cmp};
 ghost use Rattle.std.specs.BTreeMap.{get};
 
@@ -109,7 +109,7 @@ impl Draft {
     fn grow(&mut self, alloc: Global, place: usize, sample: Sample) -> Result<u64, AllocError>
         requires { place < length self.old }
         ensures grown { IfOk result (λ _. (d : HeadSeries) → self.new ≡ slice_set self.old place
-            (Own (grown sample (series_in_place self.old place d)))) }
+            (Own (grown sample (series_at_place self.old place d)))) }
         ensures few { IfOk result (λ copied. copied < 120) }
         ensures counted { IfOk result
             (λ copied. copied + 119 * owned self.old ≤ 119 * owned self.new) }
@@ -207,7 +207,7 @@ fn add_known(
 ) -> Result<u64, CommitError>
     requires { place < length draft.old }
     ensures step { (d : HeadSeries) → IsOutcome result (with_series (series_in_each draft.old) place
-        (series_added most at sample (series_in_place draft.old place d)))
+        (series_added most at sample (series_at_place draft.old place d)))
         (series_in_each draft.new) }
     ensures few { IfOk result (λ copied. copied < 120) }
     ensures labels { OnOk result (sets_of (series_in_each draft.new)
@@ -215,7 +215,7 @@ fn add_known(
     ensures counted { IfOk result
         (λ copied. copied + 119 * owned draft.old ≤ 119 * owned draft.new) }
     ensures owners { OnOk result ((p : Labels → Bool) (d : HeadSeries)
-        → T (p (series_in_place draft.old place d).labels)
+        → T (p (series_at_place draft.old place d).labels)
         → AllOwn p draft.old → AllOwn p draft.new) }
 {
     let series = draft.series(place);
@@ -269,7 +269,7 @@ fn add_new(
         (new_added most labels.now sample (series_in_each draft.old)) (series_in_each draft.new) }
     ensures ordered { OnOk result (IsOrderOf order.new (series_in_each draft.new)) }
     ensures counted { OnOk result (owned draft.old ≤ owned draft.new) }
-    ensures owners { OnOk result (AddsOwnOf labels.now draft.old draft.new) }
+    ensures owners { OnOk result (AddsNoOwnBut labels.now draft.old draft.new) }
 {
     if draft.len() >= MAX_SERIES {
         return Err(CommitError::Limit);
@@ -326,7 +326,7 @@ fn add(
     ensures ordered { OnOk result (IsOrderOf order.new (series_in_each draft.new)) }
     ensures counted { IfOk result
         (λ copied. copied + 119 * owned draft.old ≤ 119 * owned draft.new) }
-    ensures owners { OnOk result (AddsOwnOf labels.now draft.old draft.new) }
+    ensures owners { OnOk result (AddsNoOwnBut labels.now draft.old draft.new) }
 {
     if sample.t() < floor {
         return Err(CommitError::OutOfBounds { at });

@@ -43,7 +43,7 @@ pub record IsSeriesIn (symbols : List (List ℕ)) (labels : List Label)
   pub in_table : AreInTable symbols (slice_range labels s.labels_start s.labels_end)
   pub labelled : IsLabelSet (named symbols (slice_range labels s.labels_start s.labels_end))
 
--- those of each series are
+-- each series stands so
 abbrev pub AreSeriesIn : List (List ℕ) → List Label → List Chunk → List Series → Type 0
 AreSeriesIn symbols labels chunks ss = All (IsSeriesIn symbols labels chunks) ss
 

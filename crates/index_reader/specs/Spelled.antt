@@ -141,9 +141,10 @@ pairs_of table = map (λ l. (l.name, l.value)) table
 abbrev pub lists_for : List (List ℕ × List ℕ) → List Series → List (List ℕ)
 lists_for pairs series = map (λ p. references_with p.0 p.1 series) pairs
 
--- the file is an index of these series and pairs: its layout; a body in each entry, and zeros in no
--- entry; a table that lists the empty pair with all series, and after it exactly the pairs that
--- series carry, each with those series; and no more than 64 labels in a series
+-- the file is an index of these series and pairs: its layout; a body in each entry, and after the
+-- symbols, up to where the series end, 0 in each byte of no entry; a table that lists the empty pair
+-- with all series, and after it exactly the pairs that series carry, each with those series; and no
+-- more than 64 labels in a series
 pub record IsIndex (file : List ℕ) (x : Indexed) : Type 0 where
   pub parts : Layout
   pub layout : IsLayout file parts

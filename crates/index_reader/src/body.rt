@@ -63,7 +63,7 @@ fn more_labels(
     Ok(low)
 }
 
-/// Adds the labels of a body, and gives the symbol from which a further name would begin.
+/// Adds the labels of a body, and gives the least symbol that a further name may have.
 #[tactic(auto, unfolding(crate::specs::BodyChecks::labels_at))]
 pub fn labels_into(
     symbols: &SymbolTable<'_>,

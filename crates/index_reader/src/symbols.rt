@@ -21,7 +21,7 @@ pub struct Symbols {
     ghost order: { ascending (strings_of texts.items) ≡ true },
 }
 
-/// The same, in place in the file.
+/// The symbols of an index, in place in the file.
 #[derive(Drop)]
 pub struct SymbolTable<'a> {
     pub texts: Vec<&'a str>,

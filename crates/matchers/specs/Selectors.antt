@@ -93,7 +93,7 @@ pub record IsAccepted (text : List ℕ) (ms : List MatcherView) : Type 0 where
   pub few : length ms ≤ 16
   pub made : AreMade ms
 
--- when a text is refused as a selector, by what it is
+-- when a text is refused as a selector, for another cause than memory
 abbrev pub IsTextRefusal : List ℕ → SelectorError → Type 0
 IsTextRefusal text (Syntax at) = RefusedBy text (Syntax at)
 IsTextRefusal text Empty = RefusedBy text Empty

@@ -5,7 +5,7 @@ use Rattle.std.proofs.lemmas.List.{map-set, take-map, drop-map, length-map, get_
 use Rattle.std.proofs.lemmas.List.Elements.{All-set, All-append, All-cons, All-take, All-drop}
 use Rattle.pages.specs.Pages.{flattened, IsChanged}
 use Rattle.pages.specs.declared.probe.Spot.{Spot}
-use Rattle.pages.specs.Sorted.{start_of, place_in, place_of, FitsPage, EachFitsPage, IsGroup, AreGroups, IsSpotIn, IsSpot, HasEntryIn, entries_of}
+use Rattle.pages.specs.Sorted.{start_of, place_in, place_of, MakesPage, EachMakesPage, IsGroup, AreGroups, IsSpotIn, IsSpot, HasEntryIn, entries_of}
 use Rattle.pages.proofs.Pieces.{part_at}
 use Rattle.pages.proofs.Spots.{item_at, start_fits}
 use Rattle.pages.proofs.Inserts.{map_insert, whole_halves, page_insert, pages_insert, page_set_spot}
@@ -31,10 +31,10 @@ module _ {P X : Type 0} (shown : P → List X) where
   flattened_halves long left right n l r =
       sym (flattened_append (map shown left) (map shown right)) ∙ ap flattened (whole_halves shown long left right n l r)
 
-  pub group_halves : (long : List P) → 128 ≤ length long → EachFitsPage (map shown long) → IsGroup (map shown (take 64 long)) × IsGroup (map shown (drop 64 long))
+  pub group_halves : (long : List P) → 128 ≤ length long → EachMakesPage (map shown long) → IsGroup (map shown (take 64 long)) × IsGroup (map shown (drop 64 long))
   group_halves long h kept = (
-    (omega (arith, length-map (take 64 long) shown, length-take-le 64 long (omega arith)), subst EachFitsPage (take-map shown 64 long) (All-take FitsPage 64 (map shown long) kept)),
-    (omega (arith, length-map (drop 64 long) shown, length-drop 64 long), subst EachFitsPage (drop-map shown 64 long) (All-drop FitsPage 64 (map shown long) kept)),
+    (omega (arith, length-map (take 64 long) shown, length-take-le 64 long (omega arith)), subst EachMakesPage (take-map shown 64 long) (All-take MakesPage 64 (map shown long) kept)),
+    (omega (arith, length-map (drop 64 long) shown, length-drop 64 long), subst EachMakesPage (drop-map shown 64 long) (All-drop MakesPage 64 (map shown long) kept)),
   )
 
 place_fits : {X : Type 0} (pages : List (List X)) (spot : Spot) → IsGroup pages → IsSpotIn pages spot → place_in pages spot ≤ length (flattened pages)

@@ -6,7 +6,7 @@ use Rattle.std.specs.Arc.{arc_value}
 use Rattle.std.proofs.lemmas.List.Edits.{insert-append_left, insert-append_right, length-insert}
 use Rattle.std.proofs.lemmas.List.Elements.{All-set, All-append, All-cons, All-take, All-drop}
 use Rattle.pages.specs.Pages.{Page, leaf_list, flattened, IsChanged}
-use Rattle.pages.specs.Sorted.{start_of, FitsPage, EachFitsPage, IsGroup, IsSpotIn}
+use Rattle.pages.specs.Sorted.{start_of, MakesPage, EachMakesPage, IsGroup, IsSpotIn}
 use Rattle.pages.specs.declared.probe.Spot.{Spot}
 use Rattle.pages.proofs.Pieces.{part_at}
 use Rattle.pages.proofs.Spots.{item_at}
@@ -28,9 +28,9 @@ split_at [] k left right h = absurd (omega arith)
 split_at (q ∷ qs) zero left right h = sym (append_assoc left right (flattened qs))
 split_at (q ∷ qs) (suc k) left right h = ap (λ s. q ++ s) (split_at qs k left right (omega arith))
 
-kept_insert : {X : Type 0} (parts : List (List X)) (k : ℕ) (right : List X) → EachFitsPage parts → FitsPage right → EachFitsPage (insert parts k right)
+kept_insert : {X : Type 0} (parts : List (List X)) (k : ℕ) (right : List X) → EachMakesPage parts → MakesPage right → EachMakesPage (insert parts k right)
 kept_insert parts k right kept ok =
-    All-append FitsPage (take k parts) (right ∷ drop k parts) (All-take FitsPage k parts kept) (All-cons FitsPage right (drop k parts) ok (All-drop FitsPage k parts kept))
+    All-append MakesPage (take k parts) (right ∷ drop k parts) (All-take MakesPage k parts kept) (All-cons MakesPage right (drop k parts) ok (All-drop MakesPage k parts kept))
 
 pub map_insert : {P X : Type 0} (shown : P → X) (pages : List P) (k : ℕ) (new : P) → map shown (insert pages k new) ≡ insert (map shown pages) k (shown new)
 map_insert shown pages k new =
@@ -46,8 +46,8 @@ module _ {P X : Type 0} (shown : P → List X) (pages : List P) (k : ℕ) (page 
       ap flattened (map-set shown pages k new ∙ ap (λ s. set (map shown pages) k s) (e ∙ ap (λ s. insert s at x) (sym part)))
       ∙ insert_at (map shown pages) k at x (omega (arith, length-map pages shown)) (subst (λ s. at ≤ length s) (sym part) l)
 
-  pub page_kept : (new : P) → EachFitsPage (map shown pages) → FitsPage (shown new) → EachFitsPage (map shown (set pages k new))
-  page_kept new kept ok = subst EachFitsPage (sym (map-set shown pages k new)) (All-set FitsPage (map shown pages) k (shown new) ok kept)
+  pub page_kept : (new : P) → EachMakesPage (map shown pages) → MakesPage (shown new) → EachMakesPage (map shown (set pages k new))
+  page_kept new kept ok = subst EachMakesPage (sym (map-set shown pages k new)) (All-set MakesPage (map shown pages) k (shown new) ok kept)
 
   two : (left right : P) → map shown (set (insert pages (k + 1) right) k left) ≡ set (insert (map shown pages) (suc k) (shown right)) k (shown left)
   two left right =
@@ -64,18 +64,18 @@ module _ {P X : Type 0} (shown : P → List X) (pages : List P) (k : ℕ) (page 
       ∙ (ap (λ s. flattened (set (map shown pages) k s)) (e ∙ ap (λ s. insert s at x) (sym part))
       ∙ insert_at (map shown pages) k at x among (subst (λ s. at ≤ length s) (sym part) l)))
 
-  pub pages_kept : (left right : P) → EachFitsPage (map shown pages) → FitsPage (shown left) → FitsPage (shown right) → EachFitsPage (map shown (set (insert pages (k + 1) right) k left))
+  pub pages_kept : (left right : P) → EachMakesPage (map shown pages) → MakesPage (shown left) → MakesPage (shown right) → EachMakesPage (map shown (set (insert pages (k + 1) right) k left))
   pages_kept left right kept l r =
-      subst EachFitsPage (sym (two left right)) (All-set FitsPage (insert (map shown pages) (suc k) (shown right)) k (shown left) l (kept_insert (map shown pages) (suc k) (shown right) kept r))
+      subst EachMakesPage (sym (two left right)) (All-set MakesPage (insert (map shown pages) (suc k) (shown right)) k (shown left) l (kept_insert (map shown pages) (suc k) (shown right) kept r))
 
 -- one more item than a page that is not full
-pub kept_more : {X : Type 0} (page new : List X) (at : ℕ) (x : X) → at ≤ length page → length page < 128 → new ≡ insert page at x → FitsPage new
+pub kept_more : {X : Type 0} (page new : List X) (at : ℕ) (x : X) → at ≤ length page → length page < 128 → new ≡ insert page at x → MakesPage new
 kept_more page new at x l room e =
     let n : length new ≡ length page + 1 = ap length e ∙ length-insert page at x l in
     (omega arith, omega arith)
 
 -- the two halves of a full page with one more item
-pub kept_halves : {E X : Type 0} (item : E → X) (page long : List E) (at : ℕ) (x : X) → at ≤ length page → length page ≡ 128 → map item long ≡ insert (map item page) at x → FitsPage (map item (take 64 long)) × FitsPage (map item (drop 64 long))
+pub kept_halves : {E X : Type 0} (item : E → X) (page long : List E) (at : ℕ) (x : X) → at ≤ length page → length page ≡ 128 → map item long ≡ insert (map item page) at x → MakesPage (map item (take 64 long)) × MakesPage (map item (drop 64 long))
 kept_halves item page long at x l full e =
     let n : length long ≡ 129 = sym (length-map long item) ∙ (ap length e ∙ (length-insert (map item page) at x (omega (arith, length-map page item)) ∙ omega (arith, length-map page item))) in
     let a : length (map item (take 64 long)) ≡ 64 = length-map (take 64 long) item ∙ length-take-le 64 long (omega arith) in
@@ -143,5 +143,5 @@ page_change_spot shown pages k page new at after within is l changed d =
     ∙ ap (λ x. set (flattened (map shown pages)) (start_of (map shown pages) k + at) (after x))
     (sym (item_at (map shown pages) k at d (omega (arith, length-map pages shown)) (subst (λ s. at < length s) (sym part) l) ∙ ap (λ s. get_or s at d) part))
 
-pub kept_same : {X : Type 0} (page new : List X) → FitsPage page → length new ≡ length page → FitsPage new
+pub kept_same : {X : Type 0} (page new : List X) → MakesPage page → length new ≡ length page → MakesPage new
 kept_same page new h e = (omega (arith, h.0), omega (arith, h.1))

@@ -6,13 +6,13 @@ use Rattle.std.specs.List.Sorted.{IsNonDecreasingBy}
 use Rattle.std.specs.declared.cmp.Ordering.{Ordering}
 use Rattle.std.specs.declared.cmp.Ordering.TheVariants.{Less, Equal, Greater}
 use Rattle.pages.specs.Pages.{flattened}
-use Rattle.pages.specs.Sorted.{start_of, EachFitsPage, IsSplit, IsHit, IsGap, starts_low}
+use Rattle.pages.specs.Sorted.{start_of, EachMakesPage, IsSplit, IsHit, IsGap, starts_low}
 
 -- each part has an item
 abbrev pub AreSome : {X : Type 0} → List (List X) → Type 0
 AreSome parts = All (λ part. 0 < length part) parts
 
-pub some_kept : {X : Type 0} (parts : List (List X)) → EachFitsPage parts → AreSome parts
+pub some_kept : {X : Type 0} (parts : List (List X)) → EachMakesPage parts → AreSome parts
 some_kept parts kept k d h = (kept k d h).0
 
 greater_is : (o : Ordering) → is_le o ≡ false → o ≡ Greater

@@ -24,7 +24,7 @@ IsPrefix {X} front xs = (rest : List X) × (xs ≡ front ++ rest)
 abbrev pub IsChanged : {X : Type 0} → (X → X) → List X → ℕ → List X → Type 0
 IsChanged {X} after old at new = (d : X) → new ≡ slice_set old at (after (slice_index_or old at d))
 
--- the list, where what stands at a place may be another
+-- the same list, but for what stands at a place
 abbrev pub IsSetAt : {X : Type 0} → List X → ℕ → List X → Type 0
 IsSetAt {X} old at new = (x : X) × (new ≡ slice_set old at x)
 

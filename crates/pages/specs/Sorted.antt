@@ -14,16 +14,16 @@ module _ {X : Type 0} where
   abbrev pub start_of : List (List X) → ℕ → ℕ
   start_of parts k = length (flattened (take k parts))
 
-  -- a page has an entry, and no more than it may
-  abbrev pub FitsPage : List X → Type 0
-  FitsPage page = (0 < length page) × (length page ≤ FULL)
+  -- a list makes a page: it has an entry, and no more than a page may
+  abbrev pub MakesPage : List X → Type 0
+  MakesPage page = (0 < length page) × (length page ≤ FULL)
 
-  abbrev pub EachFitsPage : List (List X) → Type 0
-  EachFitsPage pages = All FitsPage pages
+  abbrev pub EachMakesPage : List (List X) → Type 0
+  EachMakesPage pages = All MakesPage pages
 
   -- a group has a page
   abbrev pub IsGroup : List (List X) → Type 0
-  IsGroup pages = (0 < length pages) × EachFitsPage pages
+  IsGroup pages = (0 < length pages) × EachMakesPage pages
 
   abbrev pub AreGroups : List (List (List X)) → Type 0
   AreGroups groups = All IsGroup groups
@@ -135,7 +135,7 @@ module _ {X : Type 0} where
     IsGapAt groups spot = IsGap (entries_of groups) (place_of groups spot)
 
 module _ {E X : Type 0} (item : E → X) where
-  -- the entries of groups, and those of their page
+  -- the entries of groups, and those of the page that holds all groups
   abbrev pub groups_list : List (Page (Page E)) → List X
   groups_list groups = entries_of (groups_of item groups)
 

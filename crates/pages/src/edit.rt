@@ -3,7 +3,7 @@
 ghost use Rattle.std.specs.Prelude.{◌≡◌, ℕ, ◌+◌, ◌<◌, ◌≤◌, [], ◌++◌, length, map, slice_index_or, slice_set, IfOk, OnOk, OnErr};
 ghost use Rattle.std.specs.List.{insert};
 ghost use Rattle.pages.specs.Pages.{leaf_list, leaf_lists, leaves_list, branch_list, branch_parts, groups_of, top_groups};
-ghost use Rattle.pages.specs.Sorted.{start_of, groups_list, top_entries, put_in, set_in, put_at, set_at, IsSpotIn, IsSpot, HasEntryIn, HasEntry, FitsPage, EachFitsPage, IsGroup, AreGroups};
+ghost use Rattle.pages.specs.Sorted.{start_of, groups_list, top_entries, put_in, set_in, put_at, set_at, IsSpotIn, IsSpot, HasEntryIn, HasEntry, MakesPage, EachMakesPage, IsGroup, AreGroups};
 
 use crate::page::{Branch, FAN, FULL, Leaf, Top, branch_of, set_in_leaf};
 use crate::{Entry, Spot};
@@ -78,7 +78,7 @@ fn halves_with<E: Entry>(page: &Vec<E>, at: usize, x: E) -> Result<(Vec<E>, Vec<
     ensures whole { IfOk result (λ p. map E.item p.0.items ++ map E.item p.1.items
         ≡ insert (map E.item page.now.items) at (E.item x)) }
     ensures fits { IfOk result (λ p.
-        FitsPage (map E.item p.0.items) × FitsPage (map E.item p.1.items)) }
+        MakesPage (map E.item p.0.items) × MakesPage (map E.item p.1.items)) }
 {
     let mut left = with_entry(page, at, x)?;
     let right = left.split_off(FULL / 2)?;

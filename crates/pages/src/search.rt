@@ -4,7 +4,7 @@ ghost use Rattle.std.specs.Prelude.{◌≡◌, ℕ, ◌<◌, ◌≤◌, [], true
 ghost use Rattle.std.specs.Ordering.{ordering_index};
 ghost use Rattle.std.specs.List.Sorted.{IsNonDecreasingBy, IsSearchInRange};
 ghost use Rattle.pages.specs.Pages.{leaf_list, leaf_lists, leaves_list, branch_parts, groups_of, flattened};
-ghost use Rattle.pages.specs.Sorted.{page_of_spot, place_in_pages, place_in_groups, groups_list, IsSpotIn, IsSpot, HasEntryIn, HasEntry, EachFitsPage, AreGroups, IsRising, IsSplit, IsHit, IsHitIn, IsHitAt, IsGap, IsGapIn, IsGapAt, starts_low, StartLowUpTo};
+ghost use Rattle.pages.specs.Sorted.{page_of_spot, place_in_pages, place_in_groups, groups_list, IsSpotIn, IsSpot, HasEntryIn, HasEntry, EachMakesPage, AreGroups, IsRising, IsSplit, IsHit, IsHitIn, IsHitAt, IsGap, IsGapIn, IsGapAt, starts_low, StartLowUpTo};
 
 use crate::page::{Branch, Leaf};
 use crate::{Entry, Probe, Spot};
@@ -20,7 +20,7 @@ fn starts_by<E: Entry, P: Probe<E>>(page: &Leaf<E>, probe: &P) -> bool
 
 /// How many pages start by an entry that is not greater than what is sought.
 fn pages_before<E: Entry, P: Probe<E>>(pages: &[Leaf<E>], probe: &P) -> usize
-    requires { EachFitsPage (leaf_lists E.item pages.now) }
+    requires { EachMakesPage (leaf_lists E.item pages.now) }
     ensures inside { result ≤ length pages.now }
     ensures starts { IsSplit (P.order probe.now) (leaves_list E.item pages.now)
         → StartLowUpTo (P.order probe.now) result (leaf_lists E.item pages.now) }
@@ -44,7 +44,7 @@ fn find_in_pages<E: Entry, P: Probe<E>>(
     group: usize,
     probe: &P,
 ) -> Result<Spot, Spot>
-    requires { EachFitsPage (leaf_lists E.item pages.now) }
+    requires { EachMakesPage (leaf_lists E.item pages.now) }
     ensures found { IsSplit (P.order probe.now) (leaves_list E.item pages.now)
         → IfOk result (IsHitIn (P.order probe.now) (leaf_lists E.item pages.now)) }
     ensures absent { IsSplit (P.order probe.now) (leaves_list E.item pages.now)

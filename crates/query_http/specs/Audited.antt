@@ -17,7 +17,7 @@ use Rattle.query_http.specs.declared.audited.AuditedAnswer.{AuditedAnswer}
 abbrev pub selected_by : QueryView → Content → Content
 selected_by query content = selected (satisfies_all query.matchers) query.from query.to content
 
--- those of all parts of a snapshot
+-- the samples that a query asks of all parts of a snapshot
 abbrev pub selected_in : QueryView → SnapshotParts → Content
 selected_in query snapshot = selected_by query (content_of (parts_of snapshot))
 
@@ -27,7 +27,7 @@ IsAnsweredPart query asked (Searched answer) =
     (asked.skipped ≡ false) × IsAnswerOf query asked answer
 IsAnsweredPart query asked (Skipped name) = (asked.skipped ≡ true) × (name ≡ asked.name)
 
--- each part of the snapshot is told of, in their order
+-- the parts of the snapshot are told of, in their order
 abbrev pub AreAnsweredParts : QueryView → SnapshotParts → List AnsweredPart → Type 0
 AreAnsweredParts query snapshot parts =
     AllZip (IsAnsweredPart query) (asked_parts query snapshot) parts

@@ -1,4 +1,4 @@
--- A reply as it is made: its text stands after room.
+-- A reply as it is made: its text, with room before it.
 use Rattle.std.specs.Prelude.{ℕ, List, drop}
 use Rattle.query_http.specs.declared.made.Reply.{Reply}
 

@@ -4,7 +4,7 @@ ghost use Rattle.std.specs.Prelude.{◌≡◌, ◌≤◌, drop, vec_len};
 
 use requests::Status;
 
-/// A reply: its status, and its whole text, which stands after room.
+/// A reply: its status, and its whole text, with room before it.
 #[derive(Drop)]
 pub(crate) struct Reply {
     pub(crate) status: Status,
@@ -14,7 +14,7 @@ pub(crate) struct Reply {
 }
 
 impl Reply {
-    /// A reply whose text stands after no room.
+    /// A reply with no room before its text.
     pub(crate) fn new(status: Status, text: Vec<u8>) -> Reply
         ensures number { result.status ≡ status }
         ensures spelled { drop result.start result.bytes.items ≡ text.items }

@@ -10,7 +10,7 @@ use Rattle.requests.specs.declared.request.ReadError.{ReadError}
 use Rattle.requests.specs.declared.request.ReadError.TheVariants.{Closed, Fault, Memory, Refused}
 use Rattle.requests.specs.QueryStrings.{query_pairs, asked_in}
 use Rattle.requests.specs.Requests.{Told}
-use Rattle.requests.specs.Selecting.{IsQueryOfForm, IsSelectorError, SelectMeans}
+use Rattle.requests.specs.Selecting.{IsQueryAskedBy, IsSelectorError, SelectMeans}
 
 pub refused_select : (query : List ℕ) (form : List ℕ × ℤ × ℤ) → asked_in (query_pairs query) ≡ Some form
     → (e : ReadError) → IsSelectorError form.0 e → Told (SelectMeans query) (Err e)
@@ -37,7 +37,7 @@ no_query_error BadRange from to a b ms same_from same_to range few bad many =
 no_query_error TooManyMatchers from to a b ms same_from same_to range few bad many = omega (arith, few, (many refl).1)
 
 pub query_of : (form : List ℕ × ℤ × ℤ) (ms : List MatcherView) (q : QueryView) (a b : ℤ) → IsAccepted form.0 ms
-    → q ≡ record { matchers = ms; from = a; to = b } → a ≡ form.1 → b ≡ form.2 → IsQueryOfForm form q
+    → q ≡ record { matchers = ms; from = a; to = b } → a ≡ form.1 → b ≡ form.2 → IsQueryAskedBy form q
 query_of form ms q a b are is same_from same_to = record {
   matchers = rw is are;
   from = ap (λ (q : QueryView). q.from) is ∙ same_from;

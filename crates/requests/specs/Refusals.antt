@@ -62,14 +62,14 @@ cause_of (Refused cause) = Some (told_cause cause)
 cause_of Unavailable = None
 
 -- a refusal in a line, for people
-abbrev pub refusal_line : Refusal → List ℕ
-refusal_line BadHead = codes "H1: the bytes are no head of a request"
-refusal_line HeadTooLong = codes "H2: the head has more than 8192 bytes"
-refusal_line NoSuchPath = codes "H3: there is no such path"
-refusal_line Method = codes "H4: the path takes another method"
-refusal_line BadQuery = codes "H5: the query string is not of the path's form"
-refusal_line (BadSelector error) = codes "H6: the selector is refused: " ++ selector_text error
-refusal_line BadBody = codes "H7: the body is not of the path's form, or is cut short"
-refusal_line BodyTooLong = codes "H8: the body has more than 1048576 bytes"
-refusal_line (Refused cause) = codes "H9: the store refuses the event: " ++ cause.code.now
-refusal_line Unavailable = codes "H10: the store lends no snapshot"
+abbrev pub refusal_message : Refusal → List ℕ
+refusal_message BadHead = codes "H1: the bytes are no head of a request"
+refusal_message HeadTooLong = codes "H2: the head has more than 8192 bytes"
+refusal_message NoSuchPath = codes "H3: there is no such path"
+refusal_message Method = codes "H4: the path takes another method"
+refusal_message BadQuery = codes "H5: the query string is not of the path's form"
+refusal_message (BadSelector error) = codes "H6: the selector is refused: " ++ selector_text error
+refusal_message BadBody = codes "H7: the body is not of the path's form, or is cut short"
+refusal_message BodyTooLong = codes "H8: the body has more than 1048576 bytes"
+refusal_message (Refused cause) = codes "H9: the store refuses the event: " ++ cause.code.now
+refusal_message Unavailable = codes "H10: the store lends no snapshot"

@@ -16,7 +16,7 @@ IsSelectorError text Memory = ⊤
 IsSelectorError text _ = ⊥
 
 -- the query has the matchers of a form's text and its two times
-pub record IsQueryOfForm (form : List ℕ × ℤ × ℤ) (query : QueryView) : Type 0 where
+pub record IsQueryAskedBy (form : List ℕ × ℤ × ℤ) (query : QueryView) : Type 0 where
   pub matchers : IsAccepted form.0 query.matchers
   pub from : query.from ≡ form.1
   pub to : query.to ≡ form.2
@@ -24,7 +24,7 @@ pub record IsQueryOfForm (form : List ℕ × ℤ × ℤ) (query : QueryView) : T
 -- a query string of the form asks a query, or its selector is refused; another is a bad one
 abbrev pub SelectMeans : List ℕ → Meaning → Type 0
 SelectMeans query (Ok (Select asked)) =
-    (form : List ℕ × ℤ × ℤ) × (asked_in (query_pairs query) ≡ Some form) × IsQueryOfForm form asked
+    (form : List ℕ × ℤ × ℤ) × (asked_in (query_pairs query) ≡ Some form) × IsQueryAskedBy form asked
 SelectMeans query (Ok _) = ⊥
 SelectMeans query (Err BadQuery) = asked_in (query_pairs query) ≡ None
 SelectMeans query (Err (BadSelector error)) =

@@ -11,7 +11,7 @@ use Rattle.requests.specs.declared.target.Path.TheVariants.{Select, Write, Delet
 abbrev pub path_text : List ℕ → List ℕ
 path_text target = before_first (λ byte. byte == 63) target
 
--- what stands behind the first `?`
+-- what stands after the first `?`
 abbrev pub query_text : List ℕ → List ℕ
 query_text target = after_first (λ byte. byte == 63) target
 

@@ -18,7 +18,7 @@ pub struct Cause {
 }
 
 /// Why a request is refused. Several may hold: the first in this order is answered, save that `H8`
-/// comes before `H7` and `H6` comes behind them in a body.
+/// comes before `H7` and `H6` comes after them in a body.
 #[derive(Clone, Copy, Debug, PartialEq, Eq, Drop)]
 pub enum Refusal {
     /// `H1`: the bytes are no request head of at most 64 fields, or end within one.
@@ -95,9 +95,9 @@ impl Refusal {
 
 impl fmt::Display for Refusal {
     ghost use Rattle.std.specs.Prelude.{Some};
-    ghost use Rattle.requests.specs.Refusals.{refusal_line};
+    ghost use Rattle.requests.specs.Refusals.{refusal_message};
 
-    ghost output = { λ refusal. Some (refusal_line refusal) };
+    ghost output = { λ refusal. Some (refusal_message refusal) };
 
     fn fmt<W: fmt::Write>(&self, f: &mut fmt::Formatter<W>) -> fmt::Result {
         match self {

@@ -46,9 +46,9 @@ pub enum ReadError {
 
 impl fmt::Display for ReadError {
     ghost use Rattle.std.specs.Prelude.{Some};
-    ghost use Rattle.requests.specs.ReadErrors.{read_error_line};
+    ghost use Rattle.requests.specs.ReadErrors.{read_error_message};
 
-    ghost output = { λ error. Some (read_error_line error) };
+    ghost output = { λ error. Some (read_error_message error) };
 
     fn fmt<W: fmt::Write>(&self, f: &mut fmt::Formatter<W>) -> fmt::Result {
         match self {

@@ -48,7 +48,7 @@ impl Status {
         self.line().0
     }
 
-    /// The reason that stands behind the number.
+    /// The reason that stands after the number.
     pub fn reason(self) -> &'static str
         ensures { result.now ≡ status_reason self }
     {

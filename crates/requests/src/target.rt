@@ -1,4 +1,4 @@
-//! The target of a request: a path, and the query string behind it.
+//! The target of a request: a path, and the query string after it.
 
 ghost use Rattle.std.specs.Prelude.{◌≡◌, IfErr};
 ghost use Rattle.requests.specs.Ending.{IsOfBytes};
@@ -36,7 +36,7 @@ fn path_text(target: &[u8]) -> &[u8]
     }
 }
 
-/// What stands behind the first `?` of a target, nothing where there is none.
+/// What stands after the first `?` of a target, nothing where there is none.
 pub fn query_text(target: &[u8]) -> &[u8]
     ensures { result.now ≡ query_text target.now }
 {

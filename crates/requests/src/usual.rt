@@ -122,7 +122,7 @@ fn unsigned(numeral: &Numeral<'_>) -> Option<i64>
     numeral.to_i64(false)
 }
 
-// The integer below 0 of a numeral behind a minus: `-0` is none.
+// The integer below 0 of a numeral after a minus: `-0` is none.
 fn negative(numeral: &Numeral<'_>) -> Option<i64>
     ensures { IfSome result (λ z. option_and_then as_i64 (number_from true numeral.now) ≡ Some z) }
 {
@@ -184,7 +184,7 @@ fn samples(alloc: Global, reader: &mut Reader<'_>) -> Result<Vec<Sample>, Stop>
     Ok(samples)
 }
 
-// Whether a pair may stand in a label set behind the pair of the name `last`.
+// Whether a pair may stand in a label set after the pair of the name `last`.
 fn may_follow(last: &str, name: &str, value: &str) -> bool
     ensures behind { IsTrue result → slice_cmp nat_cmp name.now last.now ≡ Greater }
     ensures named { IsTrue result → is_name name.now ≡ true }

@@ -1,5 +1,5 @@
 //! Answers over blocks and heads: the texts over two blocks that share a time, spelled by hand, and
-//! over a head behind them. The blocks have one series `{__name__="up",job="a"}` at reference 3,
+//! over a head after them. The blocks have one series `{__name__="up",job="a"}` at reference 3,
 //! that is, at byte 48 of the index.
 
 mod overlapping;

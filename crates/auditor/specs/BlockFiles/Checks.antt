@@ -66,7 +66,8 @@ pub record HasFrame (index : List ℕ) (content : List ℕ) : Type 0 where
   pub placed : IsPlaced t (length index)
   pub stands : StandsAt index 5 t.series (frame content)
 
--- the entries are laid out so, a body stands in each, and each byte between that lies in none is 0
+-- the entries are laid out so, a body stands in each, and after the symbols, up to where the series
+-- end, each byte in no entry is 0
 pub record HasBodies (index : List ℕ) (ss : List series.Series) : Type 0 where
   pub parts : Layout
   pub layout : IsLayout index parts

@@ -86,8 +86,8 @@ AreInOrder ss = (k : ℕ) → k + 1 < length ss → labels_cmp (get_or (label_se
     (get_or (label_sets ss) (k + 1) []) ≡ Less
 
 -- the file is an index of these series, whatever its postings are: its layout; a body in each
--- entry, and each byte between that lies in no entry is 0; the series ascend by their label sets,
--- and are no more than 1,048,576, of no more than 64 labels each
+-- entry, and after the symbols, up to where the series end, 0 in each byte of no entry; the series
+-- ascend by their label sets, and are no more than 1,048,576, of no more than 64 labels each
 pub record IsIndex (file : List ℕ) (series : List Series) : Type 0 where
   pub parts : Layout
   pub layout : IsLayout file parts

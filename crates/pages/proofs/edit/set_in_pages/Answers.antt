@@ -2,7 +2,7 @@ use Rattle.std.proofs.Common.{◌∙◌, ◌<◌, [], map, length, length-set, a
 use Rattle.std.proofs.lemmas.Result.{on_ok_weaker, on_err_weaker}
 use Rattle.std.proofs.lemmas.List.{length-map}
 use Rattle.pages.specs.Pages.{leaf_list}
-use Rattle.pages.specs.Sorted.{FitsPage}
+use Rattle.pages.specs.Sorted.{MakesPage}
 use Rattle.pages.proofs.Clones.{in_either}
 use Rattle.pages.proofs.Pieces.{part_at, whole_same, vec_bound}
 use Rattle.pages.proofs.Spots.{part_in}
@@ -37,7 +37,7 @@ pub returns-clause-group : goal.returns-clause-group
 returns-clause-group g c =
     let among : c.args.spot.page < length (map (leaf_list g.E.Entry.item) c.args.pages.now.items) = part_in (map (leaf_list g.E.Entry.item) c.args.pages.now.items) c.args.spot.page c.args.spot.at c.requires.entry in
     let within : c.args.spot.page < length c.args.pages.now.items = omega (arith, length-map c.args.pages.now.items (leaf_list g.E.Entry.item)) in
-    let was : FitsPage (leaf_list g.E.Entry.item c.index_mut.result.now) = subst FitsPage (part_at (leaf_list g.E.Entry.item) c.args.pages.now.items c.args.spot.page c.index_mut.result.now within c.index_mut.ensures.value) (c.requires.group.1 c.args.spot.page [] among) in (
+    let was : MakesPage (leaf_list g.E.Entry.item c.index_mut.result.now) = subst MakesPage (part_at (leaf_list g.E.Entry.item) c.args.pages.now.items c.args.spot.page c.index_mut.result.now within c.index_mut.ensures.value) (c.requires.group.1 c.args.spot.page [] among) in (
       some_set (leaf_list g.E.Entry.item) c.args.pages.now.items c.args.spot.page c.set_in_leaf.new.leaf c.requires.group.0,
       page_kept (leaf_list g.E.Entry.item) c.args.pages.now.items c.args.spot.page c.index_mut.result.now within c.index_mut.ensures.value c.set_in_leaf.new.leaf c.requires.group.1
           (kept_same (leaf_list g.E.Entry.item c.index_mut.result.now) (leaf_list g.E.Entry.item c.set_in_leaf.new.leaf) was
