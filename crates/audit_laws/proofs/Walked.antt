@@ -17,7 +17,7 @@ spelled_again file (c ∷ cs) samples are =
     (are.0, are.1, are.2, are.3, spelled_again file cs are.1 are.4)
 
 rows_again : (range : ℤ × ℤ) (file : List ℕ) (deletions : List Deletion) (ss : List indexes.Series)
-    (part : Part) → block.AreRows range file deletions ss part
+    (part : Part) → block.AreRowsOfSeries range file deletions ss part
     → AreRowsOfSeries file deletions (map series_told ss) part
 rows_again range file deletions [] [] are = tt
 rows_again range file deletions [] (row ∷ rows) are = absurd are
