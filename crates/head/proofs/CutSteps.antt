@@ -4,8 +4,8 @@ use Rattle.std.proofs.Common.{sym, ◌∙◌, ap, subst, arith, inl, inr}
 use Rattle.std.proofs.lemmas.Bool.Decides.{nat_tests}
 use Rattle.std.proofs.lemmas.Int.{ints}
 use Rattle.labels.specs.Contents.{Content, is_time}
-use Rattle.labels.specs.Rows.{Row, AreRows}
-use Rattle.labels.proofs.RowLaws.{rows_of, rows_of-points_of}
+use Rattle.labels.specs.Rows.{Row, rows_of, AreRows}
+use Rattle.labels.proofs.RowLaws.{rows_of-points_of}
 use Rattle.head.specs.Fits.{files_fit, fits}
 use Rattle.head.specs.Refusals.{Refusal, limit, cut_too_low, too_many_parts}
 use Rattle.head.specs.Worlds.{World, raised, cut_off, cut_at, cut}

@@ -4,8 +4,7 @@ use Rattle.std.specs.declared.cmp.Ordering.{Ordering}
 use Rattle.std.specs.declared.cmp.Ordering.TheVariants.{Less, Equal, Greater}
 use Rattle.labels.specs.Labels.{text_cmp, pair_cmp}
 use Rattle.labels.specs.Contents.{Content}
-use Rattle.labels.specs.Rows.{Row}
-use Rattle.labels.proofs.RowLaws.{rows_of}
+use Rattle.labels.specs.Rows.{Row, rows_of}
 use Rattle.block_writer.specs.InUse.{texts_in, pairs_in}
 use Rattle.block_writer.specs.IndexText.{index_text}
 use Rattle.block_writer.specs.Writing.{chunks_text}

@@ -7,19 +7,10 @@ use Rattle.std.specs.FinMap.Entries.{is_sorted, below_all}
 use Rattle.std.proofs.Common.{sym, ◌∙◌, ap}
 use Rattle.labels.specs.Labels.{Labels, labels_cmp, same_labels}
 use Rattle.labels.specs.Contents.{Content}
-use Rattle.labels.specs.Rows.{Row, points_in, points_of, IsFull, AreFull, AreRows}
+use Rattle.labels.specs.Rows.{Row, points_in, points_of, add_front, rows_of, IsFull, AreFull}
+use Rattle.labels.specs.Rows.{AreRows}
 use Rattle.labels.proofs.Times.{first_T, second_T}
 use Rattle.labels.proofs.OrderLaws.{same_self}
-
--- one more sample before rows
-abbrev pub add_front : Labels → ℤ × ℤ → List Row → List Row
-add_front l s [] = (l, s ∷ []) ∷ []
-add_front l s (r ∷ rs) = cond (same_labels l r.0) ((l, s ∷ r.1) ∷ rs) ((l, s ∷ []) ∷ r ∷ rs)
-
--- the rows of a content
-abbrev pub rows_of : Content → List Row
-rows_of [] = []
-rows_of (e ∷ es) = add_front e.0.0 (e.0.1, e.1) (rows_of es)
 
 lt_not_eq : (r : Ordering) → T (is_lt r) → is_eq r ≡ false
 lt_not_eq Less p = refl

@@ -1,8 +1,8 @@
 -- Rows: the samples of each label set.
-use Rattle.std.specs.Prelude.{◌≡◌, ◌≢◌, ℤ, Bool, T, List, [], ◌∷◌, ◌++◌}
+use Rattle.std.specs.Prelude.{◌≡◌, ◌≢◌, ℤ, Bool, T, List, [], ◌∷◌, ◌++◌, cond}
 use Rattle.std.specs.Ordering.{is_lt}
 use Rattle.std.specs.FinMap.Entries.{is_sorted}
-use Rattle.labels.specs.Labels.{Labels, labels_cmp}
+use Rattle.labels.specs.Labels.{Labels, labels_cmp, same_labels}
 use Rattle.labels.specs.Contents.{Content}
 
 -- a label set with samples
@@ -18,6 +18,16 @@ points_in l (s ∷ ss) = ((l, s.0), s.1) ∷ points_in l ss
 abbrev pub points_of : List Row → Content
 points_of [] = []
 points_of (r ∷ rs) = points_in r.0 r.1 ++ points_of rs
+
+-- one more sample before rows
+abbrev pub add_front : Labels → ℤ × ℤ → List Row → List Row
+add_front l s [] = (l, s ∷ []) ∷ []
+add_front l s (r ∷ rs) = cond (same_labels l r.0) ((l, s ∷ r.1) ∷ rs) ((l, s ∷ []) ∷ r ∷ rs)
+
+-- the rows of a content
+abbrev pub rows_of : Content → List Row
+rows_of [] = []
+rows_of (e ∷ es) = add_front e.0.0 (e.0.1, e.1) (rows_of es)
 
 -- a row with a sample
 abbrev pub IsFull : Row → Type 0
