@@ -12,7 +12,7 @@ help: ## lists the targets
 	@grep -hE '^[a-z-]+:.*## ' $(MAKEFILE_LIST) | sed -E 's/^([a-z-]+):.*## /\1\t/' | expand -t 16
 	@echo "check-CRATE     proves one crate; CRATE is one of: $(CRATES)"
 
-try: ## runs `querier demo` with no proof, in about two minutes
+try: ## runs `querier demo` with no proof, in about a minute
 	@cd crates/querier && $(RT) try -- demo
 
 demo: ## proves every crate, as many side by side as there are processors, and runs `querier demo`
@@ -25,7 +25,7 @@ test: ## the merge gate: every proof from nothing, must-fail edits, tests, progr
 gate-times: ## runs the gate and tells its minutes by crate, for proofs, proofs of tests and edits
 	@RT_JOBS=$(GATE_JOBS) tests/gate-times $(RT) ci
 
-allocations: ## refuses each allocation of an index's opening, a store's changes, the demo, audits and a connection in turn (needs a C compiler)
+allocations: ## refuses each allocation in turn: of an opening, changes of a store, the demo, a selection, a search, connections and audits (needs a C compiler)
 	@RT="$(RT)" tests/allocations
 
 audits: ## pipes querier's replies, as they are and changed, through auditor (needs rustc)
