@@ -1,9 +1,9 @@
 //! The head of a request, in whatever pieces it comes.
 
-ghost use Rattle.std.specs.Prelude.{◌≡◌, ◌<◌, ◌≤◌, ◌⊎◌, ◌++◌, ◌+◌, ℕ, List, [], length, vec_len};
+ghost use Rattle.std.specs.Prelude.{◌≡◌, ◌<◌, ◌≤◌, ◌⊎◌, ◌+◌, [], vec_len};
 ghost use Rattle.std.specs.Prelude.{IfOk, IfErr, IfSome, OnOk, IsErrOf};
 ghost use Rattle.std.specs.Io.KnownBytes.{Consumes, IsAtEnd};
-ghost use Rattle.requests.specs.Edge.{HasGrown};
+ghost use Rattle.requests.specs.Edge.{HasGrown, HasMoved};
 ghost use Rattle.requests.specs.Ending.{EndsReading};
 ghost use Rattle.requests.specs.Heads.{BeginsWithHead, EndsHead};
 ghost use Rattle.requests.specs.Looks.{Looks};
@@ -24,8 +24,8 @@ pub fn read_some<R: Inlet>(
     requires { 0 < most }
     ensures count { IfOk result (λ n. n ≤ most) }
     ensures len { IfOk result (λ n. vec_len buf.new ≡ vec_len buf.old + n) }
-    ensures bytes { IfOk result (λ n. (bs : List ℕ) × (buf.new.items ≡ buf.old.items ++ bs)
-        × (length bs ≡ n) × Consumes (R.input reader.old) (R.input reader.new) bs) }
+    ensures bytes { OnOk result
+        (HasMoved (R.input reader.old) (R.input reader.new) buf.old.items buf.new.items) }
     ensures end { IfOk result (λ n. n ≡ 0 → IsAtEnd (R.input reader.new)) }
     ensures counted { OnOk result (R.failed_reads reader.new ≡ R.failed_reads reader.old) }
     ensures err { IfErr result (λ e. (e ≡ ReadError.Fault) ⊎ (e ≡ ReadError.Memory)) }

@@ -1,9 +1,8 @@
 //! A request, read from its first byte to its last.
 
-ghost use Rattle.std.specs.Prelude.{◌≡◌, ◌<◌, ◌≤◌, ◌++◌, ℕ, List, drop, take, length, vec_len, IfOk, IfErr, IfSome, OnOk, OnErr, IsErrOf};
-ghost use Rattle.std.specs.Io.KnownBytes.{Consumes};
+ghost use Rattle.std.specs.Prelude.{◌≤◌, vec_len, IfOk, IfErr, IfSome, OnOk, IsErrOf};
 ghost use Rattle.httparse.specs.Grammar.{RequestHead};
-ghost use Rattle.requests.specs.Edge.{HasGrown};
+ghost use Rattle.requests.specs.Edge.{HasGrown, HasMoved};
 ghost use Rattle.requests.specs.Ending.{EndsReading};
 ghost use Rattle.requests.specs.Fields.{IsHeadIn};
 ghost use Rattle.requests.specs.Fitting.{IsFit};
@@ -24,8 +23,8 @@ use std::alloc::Global;
 // Reads until the buffer has so many bytes: `H7` where the input ends before.
 fn read_body<R: Inlet>(reader: &mut R, buf: &mut Vec<u8>, end: usize) -> Result<(), ReadError>
     ensures whole { OnOk result (end ≤ vec_len buf.new) }
-    ensures bytes { OnOk result ((bs : List ℕ) × (buf.new.items ≡ buf.old.items ++ bs)
-        × Consumes (R.input reader.old) (R.input reader.new) bs) }
+    ensures bytes { OnOk result
+        (HasMoved (R.input reader.old) (R.input reader.new) buf.old.items buf.new.items) }
     ensures err { IfErr result (λ e. IfSome (R.input reader.old)
         (λ more. EndsBody buf.old.items end e more)) }
     ensures refusal { IfErr result EndsReading }

@@ -13,8 +13,9 @@ ghost use Rattle.labels.specs.Pairs.{texts_of};
 ghost use Rattle.serde_json.specs.Find.{as_i64};
 ghost use Rattle.serde_json.specs.Read.{number_from, number_of};
 ghost use Rattle.requests.specs.Json.{integer_in};
-ghost use Rattle.requests.specs.Rows.{WrittenRow, AreRowsOf, IsRowOf, row_in, rows_of, sample_in};
+ghost use Rattle.requests.specs.Rows.{WrittenRow, AreRowsOf, IsRowOf, row_in, sample_in};
 ghost use Rattle.requests.specs.Usual.{AreLabels, Comes, pairs_of_object, rows_of_list, samples_of_list};
+ghost use Rattle.requests.specs.Writing.{IsWritten};
 
 use fast_float::Numeral;
 use json::{Invalid, Reader, Scratch, Token};
@@ -239,8 +240,7 @@ fn rows(alloc: Global, reader: &mut Reader<'_>) -> Result<Vec<Row>, Stop>
 }
 
 fn rows_of_text(alloc: Global, text: &str) -> Result<Vec<Row>, Stop>
-    ensures { IfOk result (λ rows. (written : List WrittenRow)
-        × (rows_of text.now ≡ Some written) × AreRowsOf written rows.items) }
+    ensures { IfOk result (λ rows. IsWritten text.now rows.items) }
 {
     let mut scratch = Scratch::new(alloc);
     let mut reader = Reader::new(text, &mut scratch)?;
@@ -253,8 +253,7 @@ fn rows_of_text(alloc: Global, text: &str) -> Result<Vec<Row>, Stop>
 
 /// The rows that a body writes, where it is spelled as usual; nothing is said of another body.
 pub fn usual_rows(alloc: Global, body: &[u8]) -> Result<Option<Vec<Row>>, AllocError>
-    ensures { IfOk result (λ o. IfSome o (λ rows. (written : List WrittenRow)
-        × (rows_of body.now ≡ Some written) × AreRowsOf written rows.items)) }
+    ensures { IfOk result (λ o. IfSome o (λ rows. IsWritten body.now rows.items)) }
 {
     let Ok(text) = simdutf8::compat::from_utf8(body) else {
         return Ok(None);
