@@ -1,9 +1,9 @@
 //! A request, read from its first byte to its last.
 
-ghost use Rattle.std.specs.Prelude.{◌≤◌, vec_len, IfOk, IfErr, IfSome, OnOk, IsErrOf};
+ghost use Rattle.std.specs.Prelude.{◌≤◌, vec_len, IfOk, IfErr, IfSome, OnOk};
 ghost use Rattle.httparse.specs.Grammar.{RequestHead};
-ghost use Rattle.requests.specs.Edge.{HasGrown, HasMoved};
-ghost use Rattle.requests.specs.Ending.{EndsReading};
+ghost use Rattle.requests.specs.Edge.{HasMoved};
+ghost use Rattle.requests.specs.Ending.{EndsReading, IsCountedFault};
 ghost use Rattle.requests.specs.Fields.{IsHeadIn};
 ghost use Rattle.requests.specs.Fitting.{IsFit};
 ghost use Rattle.requests.specs.Heads.{BeginsWithHead};
@@ -28,8 +28,7 @@ fn read_body<R: Inlet>(reader: &mut R, buf: &mut Vec<u8>, end: usize) -> Result<
     ensures err { IfErr result (λ e. IfSome (R.input reader.old)
         (λ more. EndsBody buf.old.items end e more)) }
     ensures refusal { IfErr result EndsReading }
-    ensures failed { IsErrOf result ReadError.Fault
-        → HasGrown (R.failed_reads reader.old) (R.failed_reads reader.new) }
+    ensures failed { IsCountedFault result (R.failed_reads reader.old) (R.failed_reads reader.new) }
 {
     while buf.len() < end {
         let most = end - buf.len();
@@ -70,8 +69,7 @@ fn read_after<R: Inlet>(
     ensures means { AsksAfter buf.old.items (R.input reader.old) result }
     ensures fits { IfOk result IsFit }
     ensures refusal { IfErr result EndsReading }
-    ensures failed { IsErrOf result ReadError.Fault
-        → HasGrown (R.failed_reads reader.old) (R.failed_reads reader.new) }
+    ensures failed { IsCountedFault result (R.failed_reads reader.old) (R.failed_reads reader.new) }
 {
     let head = head_of(buf.as_slice());
     let path = match path_asked(head.method, head.target) {
@@ -109,8 +107,7 @@ pub fn read_request_into<R: Inlet>(
     ensures means { IfSome (R.input reader.old) (Answers result) }
     ensures fits { IfOk result IsFit }
     ensures refusal { IfErr result EndsReading }
-    ensures failed { IsErrOf result ReadError.Fault
-        → HasGrown (R.failed_reads reader.old) (R.failed_reads reader.new) }
+    ensures failed { IsCountedFault result (R.failed_reads reader.old) (R.failed_reads reader.new) }
 {
     buf.clear();
     read_head(reader, buf)?;
@@ -122,8 +119,7 @@ pub fn read_request<R: Inlet>(alloc: Global, reader: &mut R) -> Result<Request, 
     ensures means { IfSome (R.input reader.old) (Answers result) }
     ensures fits { IfOk result IsFit }
     ensures refusal { IfErr result EndsReading }
-    ensures failed { IsErrOf result ReadError.Fault
-        → HasGrown (R.failed_reads reader.old) (R.failed_reads reader.new) }
+    ensures failed { IsCountedFault result (R.failed_reads reader.old) (R.failed_reads reader.new) }
 {
     let mut buf = Vec::new(alloc);
     read_request_into(alloc, reader, &mut buf)

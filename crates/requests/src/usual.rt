@@ -2,7 +2,7 @@
 //! each an object of `labels`, in the order of their names, and then `samples`, whose times and
 //! values are integers. Most bodies are of this form, and it needs no tree of JSON values.
 
-ghost use Rattle.std.specs.Prelude.{◌≡◌, ◌<◌, ◌==◌, ◌∷◌, ℕ, List, Some, true, false, length, slice_index, option_and_then, IfOk, IfSome, OnOk, IsTrue};
+ghost use Rattle.std.specs.Prelude.{◌≡◌, ◌<◌, ◌==◌, ◌∷◌, Some, true, false, length, slice_index, option_and_then, IfOk, IfSome, OnOk, IsTrue};
 ghost use Rattle.std.specs.Ordering.{nat_cmp};
 ghost use Rattle.std.specs.declared.cmp.Ordering.TheVariants.{Greater};
 ghost use Rattle.std.specs.Cmp.Lexicographic.{slice_cmp};
@@ -13,8 +13,8 @@ ghost use Rattle.labels.specs.Pairs.{texts_of};
 ghost use Rattle.serde_json.specs.Find.{as_i64};
 ghost use Rattle.serde_json.specs.Read.{number_from, number_of};
 ghost use Rattle.requests.specs.Json.{integer_in};
-ghost use Rattle.requests.specs.Rows.{WrittenRow, AreRowsOf, IsRowOf, row_in, sample_in};
-ghost use Rattle.requests.specs.Usual.{AreLabels, Comes, pairs_of_object, rows_of_list, samples_of_list};
+ghost use Rattle.requests.specs.Rows.{sample_in};
+ghost use Rattle.requests.specs.Usual.{AreLabels, Comes, RowComes, RowsCome, pairs_of_object, samples_of_list};
 ghost use Rattle.requests.specs.Writing.{IsWritten};
 
 use fast_float::Numeral;
@@ -214,8 +214,7 @@ fn pairs<'t>(alloc: Global, reader: &mut Reader<'t>) -> Result<Vec<(&'t str, &'t
 }
 
 fn row(alloc: Global, reader: &mut Reader<'_>) -> Result<Row, Stop>
-    ensures { IfOk result (λ row. (written : WrittenRow)
-        × Comes row_in 3 reader.old written reader.new × IsRowOf written row) }
+    ensures { IfOk result (λ row. RowComes reader.old row reader.new) }
 {
     begin_object(reader)?;
     key(reader, "labels")?;
@@ -228,8 +227,7 @@ fn row(alloc: Global, reader: &mut Reader<'_>) -> Result<Row, Stop>
 }
 
 fn rows(alloc: Global, reader: &mut Reader<'_>) -> Result<Vec<Row>, Stop>
-    ensures { IfOk result (λ rows. (written : List WrittenRow)
-        × Comes rows_of_list 4 reader.old written reader.new × AreRowsOf written rows.items) }
+    ensures { IfOk result (λ rows. RowsCome reader.old rows.items reader.new) }
 {
     begin_array(reader)?;
     let mut rows = Vec::new(alloc);
