@@ -16,13 +16,9 @@ use Rattle.postings.proofs.Choosing.{Entry, where_rises, in_rows, to_rows, rows_
 use Rattle.cover.specs.declared.certificate.Interval.{Interval}
 use Rattle.cover.specs.Certificates.{IsAsked, IsLeftmost, IsMatching, AreMatches}
 use Rattle.cover.specs.Asking.{labels_at, samples_at, satisfies_at, asked, matching_references}
-use Rattle.cover.specs.Walking.{accepted_by, alive, asked_by_lists, list_at}
+use Rattle.cover.specs.Walking.{accepted_by, alive, asked_by_lists, list_at, lists_of}
 use Rattle.cover.proofs.Agreement.{asks, Agree, AgreeLive, leftmost_too}
 use Rattle.cover.proofs.Farthest.{length_map}
-
--- the lists that the matchers choose
-abbrev pub lists_of : Part → List MatcherView → List (List ℕ)
-lists_of part ms = map (λ m. references_where (λ labels. satisfies m labels) part) ms
 
 -- a list of some references is what a filter by it keeps
 kept_by : (xs refs : List ℕ) → IsStrictlyIncreasing xs → IsStrictlyIncreasing refs

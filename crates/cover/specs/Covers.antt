@@ -1,5 +1,5 @@
 -- What is said of a part's cover: its certificate, its separators, and the moves of its lists.
-use Rattle.std.specs.Prelude.{◌≡◌, ◌+◌, ◌*◌, ◌≤◌, List, length}
+use Rattle.std.specs.Prelude.{◌≡◌, ℕ, ◌+◌, ◌*◌, ◌≤◌, List, length}
 use Rattle.labels.specs.Parts.{Part}
 use Rattle.matchers.specs.Views.{QueryView}
 use Rattle.cover.specs.Asking.{asked, matching_references}
@@ -7,6 +7,12 @@ use Rattle.cover.specs.Certificates.{IsLeftmost, IsValidCertificate, IsLeast, Ar
 use Rattle.cover.specs.Certificates.{begins_of, matches_of}
 use Rattle.cover.specs.declared.certificate.Interval.{Interval}
 use Rattle.cover.specs.declared.part_cover.PartCover.{PartCover}
+
+-- At most so many moves for each interval of any valid certificate.
+abbrev pub MovesAtMost : Part → QueryView → ℕ → ℕ → Type 0
+MovesAtMost part query each moves =
+    (other : List Interval) → IsValidCertificate (asked part query) other
+    → moves ≤ each * length other
 
 -- The cover of a part for a query. Its certificate is the leftmost one: it is valid, no valid one
 -- has fewer intervals, and its matches are exactly the references that the query asks for. Its
@@ -21,5 +27,4 @@ pub record IsCoverOf (part : Part) (query : QueryView) (cover : PartCover) : Typ
   pub begins : cover.separators.items ≡ begins_of cover.certificate.items
   pub as_many : length cover.separators.items ≡ length cover.certificate.items
   pub separated : AreSeparators (asked part query) cover.separators.items
-  pub moves : (other : List Interval) → IsValidCertificate (asked part query) other
-      → cover.moves ≤ (length query.matchers + 2) * length other
+  pub moves : MovesAtMost part query (length query.matchers + 2) cover.moves

@@ -1,11 +1,22 @@
 -- Where the lists of a walk stand, and how they go on.
-use Rattle.std.specs.Prelude.{◌≡◌, ℕ, zero, suc, ◌<◌, ◌≤◌, List, [], ◌∷◌, length, map, slice_index_or, Option, None}
+use Rattle.std.specs.Prelude.{◌≡◌, ℕ, zero, suc, ◌+◌, ◌<◌, ◌≤◌, List, [], ◌∷◌, length, map, slice_index, slice_index_or, Option, None}
 use Rattle.std.specs.List.{filter}
-use Rattle.labels.specs.Ascending.{first_of, rest_of, not_below}
+use Rattle.labels.specs.Ascending.{first_of, rest_of, first_or_end, not_below}
+use Rattle.labels.specs.Parts.{Part, references_where}
 use Rattle.labels.specs.Sets.{has}
+use Rattle.matchers.specs.Satisfies.{satisfies}
+use Rattle.matchers.specs.Views.{MatcherView}
 use Rattle.cover.specs.declared.certificate.Verdict.{Verdict}
 use Rattle.cover.specs.declared.certificate.Verdict.TheVariants.{Match, NoSample, Rejected}
 use Rattle.cover.specs.Certificates.{Asked}
+
+-- what remains of each list, which stands beside the count of its moves
+abbrev pub remaining_of : {P : Type 0} → (P → List ℕ) → List (P × ℕ) → List (List ℕ)
+remaining_of remaining lists = map (λ list. remaining list.0) lists
+
+-- the list of each matcher: the references of the part whose label set satisfies it
+abbrev pub lists_of : Part → List MatcherView → List (List ℕ)
+lists_of part matchers = map (λ m. references_where (λ labels. satisfies m labels) part) matchers
 
 -- the references that matcher j accepts
 abbrev pub accepted_by : Asked → ℕ → List ℕ
@@ -36,7 +47,26 @@ asked_by_lists references lists live = record {
 abbrev pub asked_in_walk : {P Q L : Type 0} → (P → List ℕ) → (Q → List ℕ) → (L → List ℕ) → P × ℕ
     → List (Q × ℕ) → L × ℕ → Asked
 asked_in_walk of_all of_list of_live all lists live =
-    asked_by_lists (of_all all.0) (map (λ list. of_list list.0) lists) (of_live live.0)
+    asked_by_lists (of_all all.0) (remaining_of of_list lists) (of_live live.0)
+
+-- what remains of each list are the references that the matcher of its number accepts
+abbrev pub AreAccepted : {P : Type 0} → (P → List ℕ) → Asked → List (P × ℕ) → Type 0
+AreAccepted {P} remaining a lists =
+    (j : ℕ) (d : P × ℕ) → j < length lists
+    → remaining (slice_index_or lists j d).0 ≡ accepted_by a j
+
+-- each list has gone on to the reference
+abbrev pub AllMovedTo : {P : Type 0} → (P → List ℕ) → ℕ → List (P × ℕ) → List (P × ℕ) → Type 0
+AllMovedTo {P} remaining from before after =
+    (k : ℕ) (d : P × ℕ) → k < length before
+    → remaining (slice_index_or after k d).0
+    ≡ not_below from (remaining (slice_index_or before k d).0)
+
+-- no list has moved more than once, by its count
+abbrev pub AllMovedAtMostOnce : {P : Type 0} → List (P × ℕ) → List (P × ℕ) → Type 0
+AllMovedAtMostOnce {P} before after =
+    (k : ℕ) (d : P × ℕ) → k < length before
+    → (slice_index_or after k d).1 ≤ (slice_index_or before k d).1 + 1
 
 -- no list has moved, by its count
 abbrev pub AllFresh : {P : Type 0} → List (P × ℕ) → Type 0
@@ -63,6 +93,18 @@ pub record TellsFarthest (begins : ℕ → ℕ) (n live from : ℕ) (verdict : V
   pub live_least : live ≤ end
   pub not_before : from ≤ end
   pub at : IsFarthestAt begins n live from verdict end
+
+-- where the list of this number begins
+abbrev pub begins_at : {P : Type 0} → (P → List ℕ) → List (P × ℕ) → ℕ → ℕ
+begins_at remaining lists k =
+    slice_index (map (λ list. first_or_end (remaining list.0)) lists) k
+
+-- which list of a walk begins farthest past `from`, and where
+abbrev pub TellsFarthestIn : {P L : Type 0} → (P → List ℕ) → (L → List ℕ) → List (P × ℕ) → L × ℕ
+    → ℕ → Verdict → ℕ → Type 0
+TellsFarthestIn of_list of_live lists live from verdict end =
+    TellsFarthest (begins_at of_list lists) (length lists) (first_or_end (of_live live.0)) from
+    verdict end
 
 -- what remains of the list of all and the reference that is next, after a seek to `end`
 abbrev pub Sought : List ℕ → List ℕ → ℕ → Option ℕ → Type 0

@@ -1,12 +1,10 @@
 //! The certificate of a part, its separators, and how often its lists moved.
 
-ghost use Rattle.std.specs.Prelude.{◌≡◌, ℕ, ◌+◌, ◌-◌, ◌^◌, min, ◌*◌, ◌<◌, ◌≤◌, List, [], ◌∷◌, length, map, slice_index_or, IfOk};
-ghost use Rattle.matchers.specs.Satisfies.{satisfies};
-ghost use Rattle.labels.specs.Parts.{references_where};
-ghost use Rattle.cover.specs.Certificates.{IsValidCertificate, IsLeftmost, begins_of};
+ghost use Rattle.std.specs.Prelude.{◌≡◌, ℕ, ◌+◌, ◌-◌, ◌^◌, min, ◌*◌, ◌≤◌, length, IfOk};
+ghost use Rattle.cover.specs.Certificates.{IsLeftmost, begins_of};
 ghost use Rattle.cover.specs.Asking.{asked};
-ghost use Rattle.cover.specs.Walking.{AllFresh, AllMovedAtMost};
-ghost use Rattle.cover.specs.Covers.{IsCoverOf};
+ghost use Rattle.cover.specs.Walking.{AllFresh, AllMovedAtMost, lists_of, remaining_of};
+ghost use Rattle.cover.specs.Covers.{IsCoverOf, MovesAtMost};
 
 use crate::certificate::Interval;
 use crate::walk::walk;
@@ -41,9 +39,8 @@ fn chosen_lists<S: Source>(
     source: &S,
     matchers: &[Matcher],
 ) -> Result<Vec<Counted<Chosen<S::List>>>, AllocError>
-    ensures lists { IfOk result (λ v.
-        map (λ l. ⟦<Chosen<S::List> as Postings>⟧.remaining l.0) v.items ≡ map
-        (λ m. references_where (λ labels. satisfies m labels) (S.part source.now)) matchers.now) }
+    ensures lists { IfOk result (λ v. remaining_of ⟦<Chosen<S::List> as Postings>⟧.remaining v.items
+        ≡ lists_of (S.part source.now) matchers.now) }
     ensures fresh { IfOk result (λ v. AllFresh v.items) }
 {
     let mut lists = Vec::new(alloc);
@@ -114,12 +111,9 @@ pub fn cover_with_moves<S: Source>(
 ) -> Result<(PartCover, Moves), AllocError>
     ensures cover { IfOk result (λ c. IsCoverOf (S.part source.now) query.now c.0) }
     ensures sum { IfOk result (λ c. c.0.moves ≡ min (c.1.of_lists + c.1.of_live) (2 ^ 64 - 1)) }
-    ensures of_lists { IfOk result (λ c.
-        (other : List Interval) → IsValidCertificate (asked (S.part source.now) query.now) other
-        → c.1.of_lists ≤ (length query.now.matchers + 1) * length other) }
-    ensures of_live { IfOk result (λ c.
-        (other : List Interval) → IsValidCertificate (asked (S.part source.now) query.now) other
-        → c.1.of_live ≤ length other) }
+    ensures of_lists { IfOk result (λ c. MovesAtMost (S.part source.now) query.now
+        (length query.now.matchers + 1) c.1.of_lists) }
+    ensures of_live { IfOk result (λ c. MovesAtMost (S.part source.now) query.now 1 c.1.of_live) }
 {
     let (certificate, moves) = leftmost_with_moves(alloc, source, query)?;
     let separators = first_references(alloc, certificate.as_slice())?;

@@ -1,10 +1,9 @@
 //! The walk over the lists of a query, which goes to the farthest at each step.
 
-ghost use Rattle.std.specs.Prelude.{◌≡◌, ℕ, ◌+◌, ◌*◌, ◌^◌, ◌-◌, ◌<◌, ◌≤◌, List, [], ◌∷◌, length, map, slice_index, slice_index_or, MatchOption, IfOk};
-ghost use Rattle.std.specs.List.{Contains, filter};
-ghost use Rattle.labels.specs.Ascending.{first_of, rest_of, not_below, first_or_end, or_end};
-ghost use Rattle.cover.specs.Certificates.{IsAsked, IsLeftmost, begins_of};
-ghost use Rattle.cover.specs.Walking.{asked_in_walk, accepted_by, alive, AllFresh, AllMovedAtMost, TellsFarthest, MovesOn};
+ghost use Rattle.std.specs.Prelude.{◌≡◌, ◌+◌, ◌<◌, ◌≤◌, length, IfOk};
+ghost use Rattle.labels.specs.Ascending.{or_end};
+ghost use Rattle.cover.specs.Certificates.{IsAsked, IsLeftmost};
+ghost use Rattle.cover.specs.Walking.{asked_in_walk, alive, AreAccepted, AllFresh, AllMovedAtMost, AllMovedAtMostOnce, AllMovedTo, TellsFarthestIn, MovesOn};
 
 use crate::certificate::{Interval, Verdict};
 use labels::SeriesRef;
@@ -26,11 +25,8 @@ fn number_or_end(next: Option<SeriesRef>) -> u64
 
 /// Moves each list to the reference.
 fn seek_each<P: Postings>(lists: &mut [Counted<P>], from: SeriesRef)
-    ensures moved { (k : ℕ) (d : Counted P) → k < length lists.old
-        → P.remaining (slice_index_or lists.new k d).0
-        ≡ not_below from (P.remaining (slice_index_or lists.old k d).0) }
-    ensures counted { (k : ℕ) (d : Counted P) → k < length lists.old
-        → (slice_index_or lists.new k d).1 ≤ (slice_index_or lists.old k d).1 + 1 }
+    ensures moved { AllMovedTo P.remaining from lists.old lists.new }
+    ensures counted { AllMovedAtMostOnce lists.old lists.new }
 {
     for list in lists.iter_mut() {
         list.seek(from);
@@ -56,9 +52,7 @@ fn farthest<P: Postings, L: Postings>(
     live: &Counted<L>,
     from: SeriesRef,
 ) -> (Verdict, u64)
-    ensures { TellsFarthest (λ (k : ℕ).
-        slice_index (map (λ (l : Counted P). first_or_end (P.remaining l.0)) lists.now) k)
-        (length lists.now) (first_or_end (L.remaining live.now.0)) from result.0 result.1 }
+    ensures { TellsFarthestIn P.remaining L.remaining lists.now live.now from result.0 result.1 }
 {
     let mut verdict = Verdict::Match;
     let mut end = u64::from(from.number());
@@ -101,9 +95,8 @@ pub(crate) fn walk<P: Postings, Q: Postings, L: Postings>(
 ) -> Result<Vec<Interval>, AllocError>
     requires part { IsAsked
         (asked_in_walk P.remaining Q.remaining L.remaining all.old lists.old live.old) }
-    requires accepted { (j : ℕ) (d : Counted Q) → j < length lists.old
-        → Q.remaining (slice_index_or lists.old j d).0 ≡ accepted_by
-        (asked_in_walk P.remaining Q.remaining L.remaining all.old lists.old live.old) j }
+    requires accepted { AreAccepted Q.remaining
+        (asked_in_walk P.remaining Q.remaining L.remaining all.old lists.old live.old) lists.old }
     requires living { L.remaining live.old.0 ≡ alive
         (asked_in_walk P.remaining Q.remaining L.remaining all.old lists.old live.old) }
     requires fresh { all.old.1 ≡ 0 }

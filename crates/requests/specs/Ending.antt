@@ -1,10 +1,11 @@
 -- What reading a request can end in.
-use Rattle.std.specs.Prelude.{◌≢◌, ⊤}
+use Rattle.std.specs.Prelude.{◌≢◌, ℕ, Result, IsErrOf, ⊤}
 use Rattle.matchers.specs.declared.error.SelectorError.TheVariants as selector
 use Rattle.requests.specs.declared.refusal.Refusal.{Refusal}
 use Rattle.requests.specs.declared.refusal.Refusal.TheVariants.{BadHead, HeadTooLong, NoSuchPath, Method, BadQuery, BadSelector, BadBody, BodyTooLong, Refused, Unavailable}
 use Rattle.requests.specs.declared.request.ReadError.{ReadError}
 use Rattle.requests.specs.declared.request.ReadError.TheVariants as ends
+use Rattle.requests.specs.Edge.{HasGrown}
 
 -- the refusal is of what came, `H1` to `H8`, and none of a store
 abbrev pub IsOfBytes : Refusal → Type 0
@@ -25,3 +26,7 @@ EndsReading ends.Closed = ⊤
 EndsReading ends.Fault = ⊤
 EndsReading ends.Memory = ⊤
 EndsReading (ends.Refused refusal) = IsOfBytes refusal
+
+-- the answer is `Fault` only where the count of failed reads has grown
+abbrev pub IsCountedFault : {A : Type 0} → Result A ReadError → ℕ → ℕ → Type 0
+IsCountedFault result old new = IsErrOf result ends.Fault → HasGrown old new

@@ -1,6 +1,7 @@
 -- The rows that a body writes.
-use Rattle.std.specs.Prelude.{◌≡◌, ℕ, ℤ, Bool, ◌==◌, List, [], ◌∷◌, ◌++◌, map, Option, None, Some, option_and_then, option_map, is_none, codes, if◌then◌else◌}
+use Rattle.std.specs.Prelude.{◌≡◌, ℕ, ℤ, Bool, true, false, ◌==◌, List, [], ◌∷◌, ◌++◌, map, Option, None, Some, option_and_then, option_map, is_none, string_bytes, codes, if◌then◌else◌}
 use Rattle.std.specs.List.{AllZip}
+use Rattle.std.specs.declared.string.String.{String}
 use Rattle.labels.specs.LabelSets.{IsMadeOf, refusal_of}
 use Rattle.labels.specs.Labels.{Labels}
 use Rattle.labels.specs.Rows.{Row}
@@ -8,6 +9,14 @@ use Rattle.serde_json.specs.Data.{Data, Items, no_items, item, Members, no_membe
 use Rattle.serde_json.specs.Find.{get, at, as_array, as_object, as_str}
 use Rattle.serde_json.specs.Events.{items_len}
 use Rattle.requests.specs.Json.{json_of, has_members, integer_in, time_in}
+
+-- a pair of strings as a pair of bytes
+abbrev pub pair_bytes : {Z : Type 0} → String Z × String Z → List ℕ × List ℕ
+pair_bytes pair = (string_bytes pair.0, string_bytes pair.1)
+
+-- the pair of a member's name and its text, if it is a text
+abbrev pub pair_of : List ℕ → Data → Option (List ℕ × List ℕ)
+pair_of name d = option_map (λ text. (name, text)) (as_str d)
 
 -- the pairs of names and texts, if each member is a text
 abbrev pub pairs_in : Members → Option (List (List ℕ × List ℕ))
@@ -52,6 +61,11 @@ WrittenRow = List (List ℕ × List ℕ) × List (ℤ × ℤ)
 abbrev pub is_labelled : List (List ℕ × List ℕ) → Bool
 is_labelled pairs = is_none (refusal_of pairs)
 
+-- the label set that pairs make, or none where they make none
+abbrev pub IsLabelSetOf : List (List ℕ × List ℕ) → Option Labels → Type 0
+IsLabelSetOf pairs None = is_labelled pairs ≡ false
+IsLabelSetOf pairs (Some labels) = (is_labelled pairs ≡ true) × IsMadeOf labels pairs
+
 -- the row of pairs that make a label set
 abbrev pub row_with : Data → List (List ℕ × List ℕ) → Option WrittenRow
 row_with d pairs =
@@ -79,6 +93,17 @@ pub record IsRowOf (written : WrittenRow) (row : Row) : Type 0 where
 -- the rows as they are written, one by one
 abbrev pub AreRowsOf : List WrittenRow → List Row → Type 0
 AreRowsOf written rows = AllZip IsRowOf written rows
+
+-- the row that a value writes, or none where it writes none
+abbrev pub IsRowIn : Data → Option Row → Type 0
+IsRowIn d None = row_in d ≡ None
+IsRowIn d (Some row) = (written : WrittenRow) × (row_in d ≡ Some written) × IsRowOf written row
+
+-- the rows that the items write, or none where an item writes none
+abbrev pub AreRowsIn : Items → Option (List Row) → Type 0
+AreRowsIn ds None = rows_in ds ≡ None
+AreRowsIn ds (Some rows) =
+    (written : List WrittenRow) × (rows_in ds ≡ Some written) × AreRowsOf written rows
 
 -- the samples of rows in their order, each with its label set
 abbrev pub batch_of : List Row → List (Labels × (ℤ × ℤ))

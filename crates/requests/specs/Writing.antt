@@ -1,5 +1,5 @@
 -- What the body of `/write` asks.
-use Rattle.std.specs.Prelude.{◌≡◌, ◌<◌, ◌≤◌, ◌⊎◌, ℕ, List, None, Some, Ok, Err, length}
+use Rattle.std.specs.Prelude.{◌≡◌, ◌<◌, ◌≤◌, ◌⊎◌, ℕ, List, Option, None, Some, Ok, Err, length}
 use Rattle.labels.specs.Rows.{Row}
 use Rattle.requests.specs.declared.refusal.Refusal.TheVariants.{BadBody}
 use Rattle.requests.specs.declared.request.Request.TheVariants.{Write}
@@ -11,6 +11,11 @@ pub record IsWritten (body : List ℕ) (rows : List Row) : Type 0 where
   pub written : List WrittenRow
   pub spelled : rows_of body ≡ Some written
   pub each : AreRowsOf written rows
+
+-- the rows that a body writes, or none where it writes none
+abbrev pub AreRowsInBody : List ℕ → Option (List Row) → Type 0
+AreRowsInBody body None = rows_of body ≡ None
+AreRowsInBody body (Some rows) = IsWritten body rows
 
 -- rows of at most 4,096 samples ask a batch; another body is a bad one
 abbrev pub WriteMeans : List ℕ → Meaning → Type 0

@@ -1,10 +1,10 @@
 //! The head of a request, in whatever pieces it comes.
 
-ghost use Rattle.std.specs.Prelude.{◌≡◌, ◌<◌, ◌≤◌, ◌⊎◌, ◌++◌, ◌+◌, ℕ, List, [], length, vec_len};
-ghost use Rattle.std.specs.Prelude.{IfOk, IfErr, IfSome, OnOk, IsErrOf};
+ghost use Rattle.std.specs.Prelude.{◌≡◌, ◌<◌, ◌≤◌, ◌⊎◌, ◌+◌, [], vec_len};
+ghost use Rattle.std.specs.Prelude.{IfOk, IfErr, IfSome, OnOk};
 ghost use Rattle.std.specs.Io.KnownBytes.{Consumes, IsAtEnd};
-ghost use Rattle.requests.specs.Edge.{HasGrown};
-ghost use Rattle.requests.specs.Ending.{EndsReading};
+ghost use Rattle.requests.specs.Edge.{HasMoved};
+ghost use Rattle.requests.specs.Ending.{EndsReading, IsCountedFault};
 ghost use Rattle.requests.specs.Heads.{BeginsWithHead, EndsHead};
 ghost use Rattle.requests.specs.Looks.{Looks};
 
@@ -24,13 +24,12 @@ pub fn read_some<R: Inlet>(
     requires { 0 < most }
     ensures count { IfOk result (λ n. n ≤ most) }
     ensures len { IfOk result (λ n. vec_len buf.new ≡ vec_len buf.old + n) }
-    ensures bytes { IfOk result (λ n. (bs : List ℕ) × (buf.new.items ≡ buf.old.items ++ bs)
-        × (length bs ≡ n) × Consumes (R.input reader.old) (R.input reader.new) bs) }
+    ensures bytes { OnOk result
+        (HasMoved (R.input reader.old) (R.input reader.new) buf.old.items buf.new.items) }
     ensures end { IfOk result (λ n. n ≡ 0 → IsAtEnd (R.input reader.new)) }
     ensures counted { OnOk result (R.failed_reads reader.new ≡ R.failed_reads reader.old) }
     ensures err { IfErr result (λ e. (e ≡ ReadError.Fault) ⊎ (e ≡ ReadError.Memory)) }
-    ensures failed { IsErrOf result ReadError.Fault
-        → HasGrown (R.failed_reads reader.old) (R.failed_reads reader.new) }
+    ensures failed { IsCountedFault result (R.failed_reads reader.old) (R.failed_reads reader.new) }
 {
     let mut piece = [0u8; 8192];
     let limit = most.min(8192);
@@ -68,8 +67,7 @@ pub fn read_head<R: Inlet>(reader: &mut R, buf: &mut Vec<u8>) -> Result<(), Read
     ensures counted { OnOk result (R.failed_reads reader.new ≡ R.failed_reads reader.old) }
     ensures err { IfErr result (λ e. IfSome (R.input reader.old) (EndsHead e)) }
     ensures refusal { IfErr result EndsReading }
-    ensures failed { IsErrOf result ReadError.Fault
-        → HasGrown (R.failed_reads reader.old) (R.failed_reads reader.new) }
+    ensures failed { IsCountedFault result (R.failed_reads reader.old) (R.failed_reads reader.new) }
 {
     while buf.len() < MAX_HEAD {
         let most = MAX_HEAD - buf.len();

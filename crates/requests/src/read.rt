@@ -1,10 +1,9 @@
 //! A request, read from its first byte to its last.
 
-ghost use Rattle.std.specs.Prelude.{◌≡◌, ◌<◌, ◌≤◌, ◌++◌, ℕ, List, drop, take, length, vec_len, IfOk, IfErr, IfSome, OnOk, OnErr, IsErrOf};
-ghost use Rattle.std.specs.Io.KnownBytes.{Consumes};
+ghost use Rattle.std.specs.Prelude.{◌≤◌, vec_len, IfOk, IfErr, IfSome, OnOk};
 ghost use Rattle.httparse.specs.Grammar.{RequestHead};
-ghost use Rattle.requests.specs.Edge.{HasGrown};
-ghost use Rattle.requests.specs.Ending.{EndsReading};
+ghost use Rattle.requests.specs.Edge.{HasMoved};
+ghost use Rattle.requests.specs.Ending.{EndsReading, IsCountedFault};
 ghost use Rattle.requests.specs.Fields.{IsHeadIn};
 ghost use Rattle.requests.specs.Fitting.{IsFit};
 ghost use Rattle.requests.specs.Heads.{BeginsWithHead};
@@ -24,13 +23,12 @@ use std::alloc::Global;
 // Reads until the buffer has so many bytes: `H7` where the input ends before.
 fn read_body<R: Inlet>(reader: &mut R, buf: &mut Vec<u8>, end: usize) -> Result<(), ReadError>
     ensures whole { OnOk result (end ≤ vec_len buf.new) }
-    ensures bytes { OnOk result ((bs : List ℕ) × (buf.new.items ≡ buf.old.items ++ bs)
-        × Consumes (R.input reader.old) (R.input reader.new) bs) }
+    ensures bytes { OnOk result
+        (HasMoved (R.input reader.old) (R.input reader.new) buf.old.items buf.new.items) }
     ensures err { IfErr result (λ e. IfSome (R.input reader.old)
         (λ more. EndsBody buf.old.items end e more)) }
     ensures refusal { IfErr result EndsReading }
-    ensures failed { IsErrOf result ReadError.Fault
-        → HasGrown (R.failed_reads reader.old) (R.failed_reads reader.new) }
+    ensures failed { IsCountedFault result (R.failed_reads reader.old) (R.failed_reads reader.new) }
 {
     while buf.len() < end {
         let most = end - buf.len();
@@ -71,8 +69,7 @@ fn read_after<R: Inlet>(
     ensures means { AsksAfter buf.old.items (R.input reader.old) result }
     ensures fits { IfOk result IsFit }
     ensures refusal { IfErr result EndsReading }
-    ensures failed { IsErrOf result ReadError.Fault
-        → HasGrown (R.failed_reads reader.old) (R.failed_reads reader.new) }
+    ensures failed { IsCountedFault result (R.failed_reads reader.old) (R.failed_reads reader.new) }
 {
     let head = head_of(buf.as_slice());
     let path = match path_asked(head.method, head.target) {
@@ -110,8 +107,7 @@ pub fn read_request_into<R: Inlet>(
     ensures means { IfSome (R.input reader.old) (Answers result) }
     ensures fits { IfOk result IsFit }
     ensures refusal { IfErr result EndsReading }
-    ensures failed { IsErrOf result ReadError.Fault
-        → HasGrown (R.failed_reads reader.old) (R.failed_reads reader.new) }
+    ensures failed { IsCountedFault result (R.failed_reads reader.old) (R.failed_reads reader.new) }
 {
     buf.clear();
     read_head(reader, buf)?;
@@ -123,8 +119,7 @@ pub fn read_request<R: Inlet>(alloc: Global, reader: &mut R) -> Result<Request, 
     ensures means { IfSome (R.input reader.old) (Answers result) }
     ensures fits { IfOk result IsFit }
     ensures refusal { IfErr result EndsReading }
-    ensures failed { IsErrOf result ReadError.Fault
-        → HasGrown (R.failed_reads reader.old) (R.failed_reads reader.new) }
+    ensures failed { IsCountedFault result (R.failed_reads reader.old) (R.failed_reads reader.new) }
 {
     let mut buf = Vec::new(alloc);
     read_request_into(alloc, reader, &mut buf)

@@ -2,7 +2,7 @@
 //! each an object of `labels`, in the order of their names, and then `samples`, whose times and
 //! values are integers. Most bodies are of this form, and it needs no tree of JSON values.
 
-ghost use Rattle.std.specs.Prelude.{◌≡◌, ◌<◌, ◌==◌, ◌∷◌, ℕ, List, Some, true, false, length, slice_index, option_and_then, IfOk, IfSome, OnOk, IsTrue};
+ghost use Rattle.std.specs.Prelude.{◌≡◌, ◌<◌, ◌==◌, ◌∷◌, Some, true, false, length, slice_index, option_and_then, IfOk, IfSome, OnOk, IsTrue};
 ghost use Rattle.std.specs.Ordering.{nat_cmp};
 ghost use Rattle.std.specs.declared.cmp.Ordering.TheVariants.{Greater};
 ghost use Rattle.std.specs.Cmp.Lexicographic.{slice_cmp};
@@ -13,8 +13,9 @@ ghost use Rattle.labels.specs.Pairs.{texts_of};
 ghost use Rattle.serde_json.specs.Find.{as_i64};
 ghost use Rattle.serde_json.specs.Read.{number_from, number_of};
 ghost use Rattle.requests.specs.Json.{integer_in};
-ghost use Rattle.requests.specs.Rows.{WrittenRow, AreRowsOf, IsRowOf, row_in, rows_of, sample_in};
-ghost use Rattle.requests.specs.Usual.{AreLabels, Comes, pairs_of_object, rows_of_list, samples_of_list};
+ghost use Rattle.requests.specs.Rows.{sample_in};
+ghost use Rattle.requests.specs.Usual.{AreLabels, Comes, RowComes, RowsCome, pairs_of_object, samples_of_list};
+ghost use Rattle.requests.specs.Writing.{IsWritten};
 
 use fast_float::Numeral;
 use json::{Invalid, Reader, Scratch, Token};
@@ -213,8 +214,7 @@ fn pairs<'t>(alloc: Global, reader: &mut Reader<'t>) -> Result<Vec<(&'t str, &'t
 }
 
 fn row(alloc: Global, reader: &mut Reader<'_>) -> Result<Row, Stop>
-    ensures { IfOk result (λ row. (written : WrittenRow)
-        × Comes row_in 3 reader.old written reader.new × IsRowOf written row) }
+    ensures { IfOk result (λ row. RowComes reader.old row reader.new) }
 {
     begin_object(reader)?;
     key(reader, "labels")?;
@@ -227,8 +227,7 @@ fn row(alloc: Global, reader: &mut Reader<'_>) -> Result<Row, Stop>
 }
 
 fn rows(alloc: Global, reader: &mut Reader<'_>) -> Result<Vec<Row>, Stop>
-    ensures { IfOk result (λ rows. (written : List WrittenRow)
-        × Comes rows_of_list 4 reader.old written reader.new × AreRowsOf written rows.items) }
+    ensures { IfOk result (λ rows. RowsCome reader.old rows.items reader.new) }
 {
     begin_array(reader)?;
     let mut rows = Vec::new(alloc);
@@ -239,8 +238,7 @@ fn rows(alloc: Global, reader: &mut Reader<'_>) -> Result<Vec<Row>, Stop>
 }
 
 fn rows_of_text(alloc: Global, text: &str) -> Result<Vec<Row>, Stop>
-    ensures { IfOk result (λ rows. (written : List WrittenRow)
-        × (rows_of text.now ≡ Some written) × AreRowsOf written rows.items) }
+    ensures { IfOk result (λ rows. IsWritten text.now rows.items) }
 {
     let mut scratch = Scratch::new(alloc);
     let mut reader = Reader::new(text, &mut scratch)?;
@@ -253,8 +251,7 @@ fn rows_of_text(alloc: Global, text: &str) -> Result<Vec<Row>, Stop>
 
 /// The rows that a body writes, where it is spelled as usual; nothing is said of another body.
 pub fn usual_rows(alloc: Global, body: &[u8]) -> Result<Option<Vec<Row>>, AllocError>
-    ensures { IfOk result (λ o. IfSome o (λ rows. (written : List WrittenRow)
-        × (rows_of body.now ≡ Some written) × AreRowsOf written rows.items)) }
+    ensures { IfOk result (λ o. IfSome o (λ rows. IsWritten body.now rows.items)) }
 {
     let Ok(text) = simdutf8::compat::from_utf8(body) else {
         return Ok(None);

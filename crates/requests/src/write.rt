@@ -1,12 +1,10 @@
 //! The body of `/write`: rows of label sets and samples.
 
-ghost use Rattle.std.specs.Prelude.{◌≡◌, ◌++◌, ℤ, map, option_map, option_and_then, string_bytes, IfOk, OnOk, MatchOption};
+ghost use Rattle.std.specs.Prelude.{◌≡◌, ◌++◌, ℤ, map, option_map, string_bytes, IfOk, OnOk};
 ghost use Rattle.labels.specs.Pairs.{pairs_of};
-ghost use Rattle.labels.specs.LabelSets.{IsMadeOf};
-ghost use Rattle.serde_json.specs.Find.{as_array, as_object, as_str, get};
 ghost use Rattle.serde_json.specs.View.{view, items_view, members_view};
-ghost use Rattle.requests.specs.Rows.{pairs_in, labels_at, time_item, integer_item, sample_in, samples_in, samples_at, is_labelled, row_in, rows_in, rows_of, batch_of, IsRowOf, AreRowsOf};
-ghost use Rattle.requests.specs.Writing.{WriteMeans};
+ghost use Rattle.requests.specs.Rows.{pair_bytes, pair_of, pairs_in, labels_at, time_item, integer_item, sample_in, samples_in, samples_at, batch_of, IsLabelSetOf, IsRowIn, AreRowsIn};
+ghost use Rattle.requests.specs.Writing.{AreRowsInBody, WriteMeans};
 ghost use Rattle.requests.specs.Requests.{Told};
 
 use crate::usual::usual_rows;
@@ -21,9 +19,8 @@ fn pair_of(
     name: &String,
     value: &Value,
 ) -> Result<Option<(String, String)>, AllocError>
-    ensures { IfOk result (λ o. option_map (λ p. (string_bytes p.0, string_bytes p.1)) o
-        ≡ option_map {U = List ℕ × List ℕ} (λ text. (string_bytes name.now, text))
-        (as_str (view value.now))) }
+    ensures { IfOk result (λ o. option_map pair_bytes o
+        ≡ pair_of (string_bytes name.now) (view value.now)) }
 {
     let Some(text) = value.as_str() else {
         return Ok(None);
@@ -113,9 +110,7 @@ fn samples_at(alloc: Global, value: &Value) -> Result<Option<Vec<Sample>>, Alloc
 
 // The label set of these pairs, if they make one.
 fn label_set(alloc: Global, pairs: Vec<(String, String)>) -> Result<Option<LabelSet>, AllocError>
-    ensures { IfOk result (λ o. MatchOption o (is_labelled (pairs_of pairs.items) ≡ false)
-        (λ labels. (is_labelled (pairs_of pairs.items) ≡ true)
-        × IsMadeOf labels (pairs_of pairs.items))) }
+    ensures { IfOk result (IsLabelSetOf (pairs_of pairs.items)) }
 {
     match LabelSet::new(alloc, pairs) {
         Ok(labels) => Ok(Some(labels)),
@@ -125,9 +120,7 @@ fn label_set(alloc: Global, pairs: Vec<(String, String)>) -> Result<Option<Label
 }
 
 fn row_in(alloc: Global, value: &Value) -> Result<Option<Row>, AllocError>
-    ensures { IfOk result (λ o. MatchOption o (row_in (view value.now) ≡ None)
-        (λ row. (written : WrittenRow) × (row_in (view value.now) ≡ Some written)
-        × IsRowOf written row)) }
+    ensures { IfOk result (IsRowIn (view value.now)) }
 {
     if !has_members(value, 2) {
         return Ok(None);
@@ -144,13 +137,8 @@ fn row_in(alloc: Global, value: &Value) -> Result<Option<Row>, AllocError>
     Ok(Some(Row::new(labels, samples)))
 }
 
-ghost use Rattle.requests.specs.Rows.{WrittenRow};
-ghost use Rattle.std.specs.Prelude.{ℕ, List, true, false, None, Some};
-
 fn rows_in(alloc: Global, items: &[Value]) -> Result<Option<Vec<Row>>, AllocError>
-    ensures { IfOk result (λ o. MatchOption o (rows_in (items_view items.now) ≡ None)
-        (λ rows. (written : List WrittenRow) × (rows_in (items_view items.now) ≡ Some written)
-        × AreRowsOf written rows.items)) }
+    ensures { IfOk result (λ o. AreRowsIn (items_view items.now) (option_map (λ v. v.items) o)) }
 {
     let mut rows = Vec::with_capacity(alloc, items.len())?;
     for item in items {
@@ -164,9 +152,7 @@ fn rows_in(alloc: Global, items: &[Value]) -> Result<Option<Vec<Row>>, AllocErro
 
 // The rows by way of a tree of JSON values.
 fn rows_by_tree(alloc: Global, body: &[u8]) -> Result<Option<Vec<Row>>, AllocError>
-    ensures { IfOk result (λ o. MatchOption o (rows_of body.now ≡ None)
-        (λ rows. (written : List WrittenRow) × (rows_of body.now ≡ Some written)
-        × AreRowsOf written rows.items)) }
+    ensures { IfOk result (λ o. AreRowsInBody body.now (option_map (λ v. v.items) o)) }
 {
     let Some(value) = json_of(alloc, body)? else {
         return Ok(None);
@@ -178,9 +164,7 @@ fn rows_by_tree(alloc: Global, body: &[u8]) -> Result<Option<Vec<Row>>, AllocErr
 }
 
 fn rows_of(alloc: Global, body: &[u8]) -> Result<Option<Vec<Row>>, AllocError>
-    ensures { IfOk result (λ o. MatchOption o (rows_of body.now ≡ None)
-        (λ rows. (written : List WrittenRow) × (rows_of body.now ≡ Some written)
-        × AreRowsOf written rows.items)) }
+    ensures { IfOk result (λ o. AreRowsInBody body.now (option_map (λ v. v.items) o)) }
 {
     match usual_rows(alloc, body)? {
         Some(rows) => Ok(Some(rows)),

@@ -1,15 +1,14 @@
-use Rattle.std.proofs.Common.{◌≡◌, ℕ, ◌<◌, length, map, get_or, ap, subst, ◌∙◌, inl, inr, arith}
+use Rattle.std.proofs.Common.{◌≡◌, ℕ, ◌<◌, length, ap, subst, ◌∙◌, inl, inr, arith}
 use Rattle.std.proofs.lemmas.List.{get_or_default}
 use Rattle.labels.specs.Ascending.{first_or_end, or_end}
 use Rattle.labels.proofs.Lists.{or_end-first, below_or_not}
-use Rattle.cover.specs.Walking.{TellsFarthest}
+use Rattle.cover.specs.Walking.{TellsFarthest, begins_at}
 use Rattle.cover.proofs.Farthest.{farthest_more, farthest_same, live_farther, live_nearer, at_map}
 use Rattle.cover.proofs.walk.farthest.Goals as goal
 
 pub loop-number-preserved : goal.loop-number-preserved
 loop-number-preserved g c =
-    let begins : ℕ → ℕ =
-    λ k. get_or (map (λ x. first_or_end (g.P.Postings.remaining x.0)) c.args.lists.now) k 0 in
+    let begins : ℕ → ℕ = begins_at g.P.Postings.remaining c.args.lists.now in
     let within : c.loop-number.number < length c.args.lists.now =
     omega (arith, c.loop-number-test.true) in
     let b : c.number_or_end-begins.result ≡ begins c.loop-number.number =
@@ -33,8 +32,7 @@ loop-number-preserved g c =
 
 pub returns : goal.returns
 returns g c =
-    let begins : ℕ → ℕ =
-    λ k. get_or (map (λ x. first_or_end (g.P.Postings.remaining x.0)) c.args.lists.now) k 0 in
+    let begins : ℕ → ℕ = begins_at g.P.Postings.remaining c.args.lists.now in
     let n = length c.args.lists.now in
     let all : c.loop-number.number ≡ n =
     omega (arith, c.loop-number-test.false, c.loop-number.auto.number-end) in

@@ -1,10 +1,10 @@
-use Rattle.std.proofs.Common.{◌≡◌, ℕ, ◌+◌, ◌<◌, ◌≤◌, [], ◌∷◌, ◌++◌, length, map, get_or, slice_index_or, sym, ap, subst, ◌∙◌, arith, length-append}
+use Rattle.std.proofs.Common.{◌≡◌, ℕ, ◌+◌, ◌<◌, ◌≤◌, [], ◌∷◌, ◌++◌, length, slice_index_or, sym, ap, subst, ◌∙◌, arith, length-append}
 use Rattle.std.specs.List.{Contains}
 use Rattle.labels.specs.Ascending.{not_below, first_or_end, or_end}
 use Rattle.labels.proofs.Lists.{or_end-first}
 use Rattle.cover.specs.declared.certificate.Interval.{Interval}
 use Rattle.cover.specs.Certificates.{Asked}
-use Rattle.cover.specs.Walking.{asked_in_walk, accepted_by, alive}
+use Rattle.cover.specs.Walking.{asked_in_walk, accepted_by, alive, begins_at}
 use Rattle.cover.proofs.Greedy.{Sofar, reach, sofar_push, sofar_done, IsGood}
 use Rattle.cover.proofs.Turns.{Turn, turn, stands_at, starts, starts_stand, not_below_zero, sought, starts_within, turn_within}
 use Rattle.cover.proofs.Farthest.{at_map, length_map}
@@ -65,8 +65,7 @@ the_turn g c =
     ∙ sought (alive a) living.0 c.new-from.result (g.L.Postings.remaining c.loop-next.live.0)
     (omega (arith, living.1.0, c.new-from.ensures)) living.1.1 in
     turn a c.new-from.result
-    (λ (k : ℕ).
-    get_or (map (λ x. first_or_end (g.Q.Postings.remaining x.0)) c.seek_each.new.lists) k 0)
+    (begins_at g.Q.Postings.remaining c.seek_each.new.lists)
     (length c.seek_each.new.lists) (first_or_end (g.L.Postings.remaining c.seek.new.self.0))
     c.farthest-verdict.result.1 c.farthest-verdict.result.0
     (g.P.Postings.remaining c.loop-next.all.0) (g.P.Postings.remaining c.move_on.new.all.0)

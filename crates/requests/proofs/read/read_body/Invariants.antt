@@ -1,11 +1,10 @@
-use Rattle.std.proofs.Common.{◌≡◌, ◌++◌, ◌-◌, ℕ, List, vec_len}
-use Rattle.std.specs.Io.KnownBytes.{Consumes}
+use Rattle.std.proofs.Common.{◌≡◌, ◌-◌, vec_len}
+use Rattle.requests.specs.Edge.{HasMoved}
 use Rattle.requests.proofs.read.read_body.Given as goal
 
 abbrev pub invariant-loop-buf : goal.invariant-loop-buf
 invariant-loop-buf g l =
-    ((bs : List ℕ) × (l.buf.items ≡ l.initial.buf.items ++ bs)
-    × Consumes (g.R.Inlet.input l.initial.reader) (g.R.Inlet.input l.reader) bs)
+    HasMoved (g.R.Inlet.input l.initial.reader) (g.R.Inlet.input l.reader) l.initial.buf.items l.buf.items
     × (g.R.Inlet.failed_reads l.reader ≡ g.R.Inlet.failed_reads l.initial.reader)
 
 abbrev pub decreases-loop-buf : goal.decreases-loop-buf
