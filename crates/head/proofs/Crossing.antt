@@ -1,5 +1,4 @@
 -- Threads may share a snapshot: each type that it has may be shared, and moved where an `Arc` holds it.
-use denote.RattleType.{RattleType}
 use denote.Param.Send.{IsSend, IsSync, sendable}
 use Rattle.std.proofs.Crossing as heap
 use Rattle.block.proofs.Crossing.{LabelSet-send, LabelSet-sync, Block-send, Block-sync}

@@ -1,26 +1,24 @@
 -- The rows of the samples that leave a head, and what stays.
-use Rattle.std.proofs.Common.{◌≡◌, ◌≢◌, ◌≤◌, ◌<◌, ◌+◌, ℕ, zero, suc, ℤ, map, take, get_or, Bool, true, false, cond, T, List, [], ◌∷◌, ◌++◌, None, Option, length, refl, sym, ◌∙◌, ap, subst, arith}
-use Rattle.std.specs.Prelude.{not, ◌&&◌, IsTrue, int_lt, int_le, filter, pos, ◌-ℤ◌}
+use Rattle.std.proofs.Common.{◌≡◌, ◌≢◌, ◌≤◌, ◌<◌, ℕ, zero, suc, ℤ, get_or, Bool, true, false, cond, T, List, [], ◌∷◌, ◌++◌, None, Option, length, refl, sym, ◌∙◌, ap, subst, arith}
+use Rattle.std.specs.Prelude.{not, ◌&&◌, int_lt, int_le, filter, pos, ◌-ℤ◌}
 use Rattle.std.specs.List.{All, AllByRecursion, list_all}
 use Rattle.std.specs.List.Sorted.{IsPermutation, IsSortedBy, IsStableBy}
 use Rattle.std.specs.Ordering.{int_cmp}
 use Rattle.std.specs.FinMap.Entries.{find, is_sorted, is_sorted-where_key}
 use Rattle.std.proofs.lemmas.Int.{ints}
-use Rattle.std.proofs.lemmas.List.{take_more, map-append}
 use Rattle.std.proofs.lemmas.List.Elements.{All-cons, All-nil, All-head, All-tail}
 use Rattle.std.proofs.lemmas.List.Sorted.{All-permutation, length_permutation}
-use Rattle.labels.specs.Labels.{Labels, Point, labels_cmp, point_cmp}
+use Rattle.labels.specs.Labels.{Labels, Point, point_cmp}
 use Rattle.labels.specs.Contents.{Content, in_range}
-use Rattle.labels.specs.Rows.{Row, points_in, points_of, IsFull, AreFull, AreRows, row_before}
+use Rattle.labels.specs.Rows.{Row, points_in, points_of, AreRows, row_before}
 use Rattle.labels.specs.Parts.{laid_over, within}
 use Rattle.labels.proofs.Restricting.{kept, find-kept, kept-laid_over}
 use Rattle.labels.proofs.ContentLaws.{same_content}
-use Rattle.labels.proofs.SortedRows.{not_cons}
-use Rattle.labels.proofs.Times.{both_T, first_T, second_T, T_of, not_T}
+use Rattle.labels.proofs.Times.{both_T, first_T, second_T, not_T}
 use Rattle.block.specs.Ranges.{covers}
 use Rattle.block_writer.specs.PartRows.{is_series, are_part_rows}
-use Rattle.block_writer.specs.SpellRows.{IsWithin, AreWithin}
-use Rattle.head.specs.Heads.{HeadSeries, SnapshotParts, world_of, IsSoundSeries, IsSoundHead, IsSoundSnapshot}
+use Rattle.block_writer.specs.SpellRows.{IsWithin}
+use Rattle.head.specs.Heads.{HeadSeries, SnapshotParts, IsSoundSeries, IsSoundHead, IsSoundSnapshot}
 use Rattle.head.specs.HeadRows.{with_row, rows_within}
 use Rattle.head.specs.Cuts.{leaving, AreLeaving}
 use Rattle.head.specs.Removing.{outside, from_on, series_kept, series_less, head_cut}

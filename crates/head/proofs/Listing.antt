@@ -1,10 +1,9 @@
 -- The lists of pairs, where a search among them ended.
-use Rattle.std.proofs.Common.{◌≡◌, ◌≢◌, ℕ, ◌+◌, ◌-◌, ◌<◌, ◌≤◌, Bool, true, false, List, [], ◌∷◌, ◌++◌, length, get_or, set, Option, unwrap_or, Result, Ok, Err, OnOk, refl, sym, ap, ◌∙◌, arith}
+use Rattle.std.proofs.Common.{◌≡◌, ◌≢◌, ℕ, Bool, true, false, List, [], ◌∷◌, ◌++◌, get_or, set, Option, unwrap_or, Result, Ok, Err, OnOk, refl, sym, ap, ◌∙◌}
 use Rattle.std.specs.Prelude.{T}
 use Rattle.std.specs.List.{insert}
-use Rattle.std.specs.declared.cmp.Ordering.{Ordering}
 use Rattle.std.specs.declared.cmp.Ordering.TheVariants.{Less, Equal, Greater}
-use Rattle.std.specs.FinMap.Entries.{find, put, is_sorted}
+use Rattle.std.specs.FinMap.Entries.{put, is_sorted}
 use Rattle.labels.specs.Labels.{pair_cmp}
 use Rattle.labels.proofs.Texts.{pair_total, pair_exact}
 use Rattle.pages.specs.Pages.{IsChanged}

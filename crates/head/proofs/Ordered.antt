@@ -1,8 +1,8 @@
 -- The places of series by their label sets, as a head grows and is cut.
-use Rattle.std.specs.Prelude.{◌≡◌, ◌<◌, ◌≤◌, ◌+◌, ℕ, zero, suc, ℤ, Bool, true, false, cond, List, [], ◌∷◌, ◌++◌, Option, None, Some, length, take, is_some, int_lt, not, refl, filter, slice_index_or, unwrap_or}
+use Rattle.std.specs.Prelude.{◌≡◌, ◌<◌, ◌+◌, ℕ, zero, suc, ℤ, Bool, true, false, cond, List, [], ◌∷◌, ◌++◌, Option, None, Some, length, take, is_some, int_lt, not, refl, slice_index_or, unwrap_or}
 use Rattle.std.specs.FinMap.Entries.{find, put, find-put}
-use Rattle.std.proofs.Common.{◌-◌, ◌⊎◌, inl, inr, sym, ◌∙◌, ap, subst, arith}
-use Rattle.std.proofs.lemmas.List.{get_or_append_left, get_or-append_right, length-append}
+use Rattle.std.proofs.Common.{◌⊎◌, inl, inr, sym, ◌∙◌, ap, subst, arith}
+use Rattle.std.proofs.lemmas.List.{get_or_append_left, length-append}
 use Rattle.std.specs.Cmp.{tied_itself}
 use Rattle.std.specs.Ordering.{is_eq}
 use Rattle.labels.specs.Labels.{Labels, labels_cmp, same_labels}
@@ -11,7 +11,7 @@ use Rattle.labels.proofs.OrderLaws.{same_turn}
 use Rattle.labels.proofs.Times.{true_not_false}
 use Rattle.head.specs.Heads.{HeadSeries, series_at, IsSoundHead}
 use Rattle.head.specs.Orders.{sets_of, IsOrderOf, HasSet}
-use Rattle.head.specs.Removing.{series_kept, from_on, head_kept, head_cut}
+use Rattle.head.specs.Removing.{series_kept, from_on, head_cut}
 use Rattle.head.specs.Taking.{place_from}
 use Rattle.head.proofs.HeadLaws.{same_path}
 

@@ -1,7 +1,7 @@
 -- Series in slots.
-use Rattle.std.specs.Prelude.{◌≡◌, ◌<◌, ◌≤◌, ◌+◌, ◌*◌, ◌-◌, ℕ, zero, suc, Bool, true, false, not, ◌||◌, T, List, [], ◌∷◌, ◌++◌, Option, None, Some, Result, Ok, Err, is_some, map, length, slice_index, slice_index_or, slice_set, OnOk, IfOk, refl}
+use Rattle.std.specs.Prelude.{◌≡◌, ◌<◌, ◌≤◌, ◌+◌, ◌*◌, ◌-◌, ℕ, zero, suc, Bool, true, false, not, ◌||◌, T, List, [], ◌∷◌, ◌++◌, Option, None, Some, Result, Ok, Err, is_some, map, length, slice_index_or, slice_set, OnOk, IfOk, refl}
 use Rattle.std.specs.List.{list_all}
-use Rattle.std.proofs.Common.{sym, ◌∙◌, ap, subst, arith, append_assoc, append-nil, inl, inr}
+use Rattle.std.proofs.Common.{sym, ◌∙◌, ap, arith, append_assoc, append-nil, inl, inr}
 use Rattle.std.proofs.lemmas.Cmp.{ranked}
 use Rattle.std.proofs.lemmas.Bool.{cases_eq}
 use Rattle.std.proofs.lemmas.Bool.Decides.{leb_tells}
@@ -11,7 +11,7 @@ use Rattle.std.specs.Map.{lookup}
 use Rattle.std.specs.declared.cmp.Ordering.{Ordering}
 use Rattle.std.specs.declared.cmp.Ordering.TheVariants.{Less, Equal, Greater}
 use Rattle.std.proofs.Math.Seq.{map-set_same}
-use Rattle.std.proofs.lemmas.List.{length-map, length-append, map-append, map-set, set-get_or, get_or_append_left, get_or-append_right, set-append_left, set-append_right, get_or-map as get_or-map_below}
+use Rattle.std.proofs.lemmas.List.{length-map, length-append, map-append, map-set, get_or_append_left, get_or-append_right, set-append_left, set-append_right, get_or-map as get_or-map_below}
 use Rattle.std.proofs.lemmas.List.Sums.{sum_by-append, sum_by-set}
 use Rattle.labels.specs.Labels.{Labels}
 use Rattle.labels.proofs.Times.{both_T, first_T, second_T, true_not_false}

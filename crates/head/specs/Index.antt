@@ -1,6 +1,6 @@
 -- The postings index of a part: from each pair of a name and a value to the references of the
 -- series that carry it.
-use Rattle.std.specs.Prelude.{◌≡◌, ◌≢◌, ℕ, T, List, [], ◌∷◌, ◌++◌, Some, map, filter, unwrap_or, not}
+use Rattle.std.specs.Prelude.{◌≡◌, ◌≢◌, ℕ, ℤ, T, List, [], ◌∷◌, ◌++◌, Some, map, filter, unwrap_or, not}
 use Rattle.std.specs.List.{list_all}
 use Rattle.std.specs.Ordering.{nat_cmp}
 use Rattle.std.specs.Cmp.Lexicographic.{slice_cmp}
@@ -46,3 +46,9 @@ pub record IsIndexOf (lists : PairLists) (part : Part) : Type 0 where
   pub filled : (name value : List ℕ) → find pair_cmp (name, value) lists ≢ Some []
   pub listed : (name value : List ℕ)
       → listed (name, value) lists ≡ references_where (carries name value) part
+
+-- Where the old lists are the index of a part, the new ones are that of the part with one series
+-- more, of this reference and label set.
+abbrev pub AddsSeries : ℕ → Labels → PairLists → PairLists → Type 0
+AddsSeries reference labels old new = (part : Part) (samples : List (ℤ × ℤ)) → IsIndexOf old part
+    → IsIndexOf new (part ++ (reference, (labels, samples)) ∷ [])

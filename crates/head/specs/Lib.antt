@@ -4,6 +4,7 @@ pub mod Fits
 pub mod Worlds
 pub mod Batches
 pub mod Heads
+pub mod Pointers
 pub mod Chunks
 pub mod Orders
 pub mod Slots

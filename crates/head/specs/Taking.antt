@@ -1,5 +1,5 @@
 -- How a head takes the samples of a batch, one series at a time.
-use Rattle.std.specs.Prelude.{ℕ, ℤ, ◌+◌, List, [], ◌∷◌, ◌++◌, Option, None, Some, Result, Ok, Err, nat_le, int_lt, length, slice_set, if◌then◌else◌}
+use Rattle.std.specs.Prelude.{ℕ, ℤ, ◌+◌, List, [], ◌∷◌, ◌++◌, Option, None, Some, Result, Ok, Err, nat_le, int_lt, length, slice_set, slice_index_or, if◌then◌else◌}
 use Rattle.std.specs.Ordering.{int_eq}
 use Rattle.labels.specs.Labels.{Labels, same_labels}
 use Rattle.head.specs.Refusals.{Refusal, out_of_bounds, out_of_order, duplicate, limit}
@@ -27,6 +27,12 @@ abbrev pub with_series : List HeadSeries → ℕ → Result HeadSeries Refusal
     → Result (List HeadSeries) Refusal
 with_series head k (Ok h) = Ok (slice_set head k h)
 with_series head k (Err e) = Err e
+
+-- one sample of a batch at the series in a place
+abbrev pub added_at_place : Limits → List HeadSeries → ℕ → ℕ → ℤ × ℤ → HeadSeries
+    → Result (List HeadSeries) Refusal
+added_at_place most head place at s d =
+    with_series head place (series_added most at s (slice_index_or head place d))
 
 -- one sample of a batch at a head, by the series that has its labels
 abbrev pub head_added_after : Limits → List HeadSeries → ℕ → Labels → ℤ × ℤ → Option HeadSeries

@@ -8,8 +8,8 @@ ghost use Rattle.std.specs.List.{list_all};
 ghost use Rattle.labels.specs.Labels.{Labels};
 ghost use Rattle.head.specs.declared.TheConstants.{MAX_SERIES};
 ghost use Rattle.head.specs.Heads.{HeadSeries};
-ghost use Rattle.head.specs.Taking.{head_added, head_added_each, series_added, new_added, grown};
-ghost use Rattle.head.specs.Taking.{place_from, with_series};
+ghost use Rattle.head.specs.Taking.{head_added, head_added_each, added_at_place, new_added, grown};
+ghost use Rattle.head.specs.Taking.{place_from};
 ghost use Rattle.head.specs.Orders.{sets_of, IsOrderOf, HasSet};
 ghost use Rattle.head.specs.Outcomes.{IsOutcome};
 ghost use Rattle.head.specs.Limits.{most};
@@ -206,17 +206,16 @@ fn add_known(
     sample: Sample,
 ) -> Result<u64, CommitError>
     requires { place < length draft.old }
-    ensures step { (d : HeadSeries) → IsOutcome result (with_series (series_in_each draft.old) place
-        (series_added most at sample (series_at_place draft.old place d)))
+    ensures step { (d : HeadSeries) → IsOutcome result
+        (added_at_place most (series_in_each draft.old) place at sample d)
         (series_in_each draft.new) }
     ensures few { IfOk result (λ copied. copied < 120) }
     ensures labels { OnOk result (sets_of (series_in_each draft.new)
         ≡ sets_of (series_in_each draft.old)) }
     ensures counted { IfOk result
         (λ copied. copied + 119 * owned draft.old ≤ 119 * owned draft.new) }
-    ensures owners { OnOk result ((p : Labels → Bool) (d : HeadSeries)
-        → T (p (series_at_place draft.old place d).labels)
-        → AllOwn p draft.old → AllOwn p draft.new) }
+    ensures owners { OnOk result ((d : HeadSeries)
+        → AddsNoOwnBut (series_at_place draft.old place d).labels draft.old draft.new) }
 {
     let series = draft.series(place);
     let newest = series.newest();

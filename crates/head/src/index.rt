@@ -8,8 +8,7 @@ ghost use Rattle.std.specs.Prelude.{T};
 ghost use Rattle.std.specs.FinMap.Entries.{is_sorted, find};
 ghost use Rattle.labels.specs.Labels.{pair_cmp};
 ghost use Rattle.labels.specs.LabelSets.{IsLabelSet};
-ghost use Rattle.labels.specs.Parts.{Part};
-ghost use Rattle.head.specs.Index.{listed_more, listed_each, values_under, IsIndexOf};
+ghost use Rattle.head.specs.Index.{listed_more, listed_each, values_under, IsIndexOf, AddsSeries};
 ghost use Rattle.head.specs.Places.{BeginsName, EndsName, IsRunOf};
 ghost use Rattle.pages.specs.Sorted.{entries_of, place_of, IsSpot};
 
@@ -246,8 +245,7 @@ impl Index {
         labels: &LabelSet,
         reference: SeriesRef,
     ) -> Result<(), AllocError>
-        ensures { OnOk result ((part : Part) (samples : List (ℤ × ℤ)) → IsIndexOf self.old part
-            → IsIndexOf self.new (part ++ (reference, (labels.now, samples)) ∷ [])) }
+        ensures { OnOk result (AddsSeries reference labels.now self.old self.new) }
     {
         self.add_pairs(alloc, labels, reference)
     }

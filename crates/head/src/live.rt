@@ -1,14 +1,14 @@
 //! The series with a sample in a range.
 
-ghost use Rattle.std.specs.Prelude.{◌≡◌, ℕ, ◌<◌, ◌≤◌, ◌+◌, true, false, T, All, List, length, map};
-ghost use Rattle.std.specs.Prelude.{max, slice_index_or};
-ghost use Rattle.std.specs.Arc.{arc_value};
+ghost use Rattle.std.specs.Prelude.{◌≡◌, ℕ, ◌<◌, ◌≤◌, ◌+◌, true, false, T, All, List, length};
+ghost use Rattle.std.specs.Prelude.{max};
 ghost use Rattle.std.specs.Ordering.{int_cmp};
 ghost use Rattle.std.specs.FinMap.Entries.{is_sorted};
 ghost use Rattle.labels.specs.Ascending.{first_of, rest_of, not_below};
-ghost use Rattle.labels.specs.Parts.{references, live_references, has_sample, IsPart};
+ghost use Rattle.labels.specs.Parts.{references, live_references, IsPart};
 ghost use Rattle.head.specs.Heads.{HeadSeries, head_part};
-ghost use Rattle.head.specs.HeadRows.{rows_from};
+ghost use Rattle.head.specs.Pointers.{values_in};
+ghost use Rattle.head.specs.HeadRows.{rows_from, has_sample_at};
 ghost use Rattle.labels.proofs.PartProps.{IsPart-prop};
 
 use crate::series::{Series, SeriesList};
@@ -18,14 +18,12 @@ use std::sync::Arc;
 
 /// How many series at the front of a leaf have no sample in the closed range.
 fn passed_in(leaf: &[Arc<Series>], from: i64, to: i64) -> usize
-    requires { All (λ h. T (is_sorted int_cmp h.samples)) (map (λ s. arc_value s) leaf.now) }
+    requires { All (λ h. T (is_sorted int_cmp h.samples)) (values_in leaf.now) }
     ensures inside { result ≤ length leaf.now }
     ensures passed { (k : ℕ) (d : HeadSeries) → k < result
-        → has_sample from to (slice_index_or (map (λ s. arc_value s) leaf.now) k d).samples
-        ≡ false }
+        → has_sample_at from to (values_in leaf.now) k d ≡ false }
     ensures stopped { (d : HeadSeries) → result < length leaf.now
-        → has_sample from to (slice_index_or (map (λ s. arc_value s) leaf.now) result d).samples
-        ≡ true }
+        → has_sample_at from to (values_in leaf.now) result d ≡ true }
 {
     let mut passed = 0;
     while passed < leaf.len() && !leaf[passed].has_sample_in(from, to) {

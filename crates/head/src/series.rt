@@ -8,6 +8,8 @@ ghost use Rattle.std.specs.Ordering.{int_cmp};
 ghost use Rattle.std.specs.FinMap.Entries.{is_sorted};
 ghost use Rattle.labels.specs.Contents.{in_range};
 ghost use Rattle.labels.specs.Parts.{has_sample, within};
+ghost use Rattle.head.specs.Pointers.{values_in};
+ghost use Rattle.head.specs.Chunks.{chunks_in};
 ghost use Rattle.head.specs.ChunkEnds.{ends_before};
 ghost use Rattle.head.specs.Taking.{grown};
 ghost use Rattle.head.specs.Removing.{outside, series_less};
@@ -74,8 +76,7 @@ fn has_sample_in(samples: &[Sample], from: i64, to: i64) -> bool
 pub(crate) type SeriesList = PagedList<Arc<Series>, 16>;
 
 fn share_chunks(alloc: Global, chunks: &[Arc<Chunk>]) -> Result<Vec<Arc<Chunk>>, AllocError>
-    ensures { IfOk result (λ v. map (λ c. arc_value c) v.items
-        ≡ map (λ c. arc_value c) chunks.now) }
+    ensures { IfOk result (λ v. values_in v.items ≡ values_in chunks.now) }
 {
     let mut copy = Vec::new(alloc);
     for chunk in chunks {
@@ -90,10 +91,8 @@ fn push_to(
     chunks: &mut Arc<Vec<Arc<Chunk>>>,
     chunk: Arc<Chunk>,
 ) -> Result<(), AllocError>
-    ensures ok { OnOk result (map (λ c. arc_value c) (arc_value chunks.new).items
-        ≡ map (λ c. arc_value c) (arc_value chunks.old).items ++ arc_value chunk ∷ []) }
-    ensures err { OnErr result (map (λ c. arc_value c) (arc_value chunks.new).items
-        ≡ map (λ c. arc_value c) (arc_value chunks.old).items) }
+    ensures ok { OnOk result (chunks_in chunks.new ≡ chunks_in chunks.old ++ arc_value chunk ∷ []) }
+    ensures err { OnErr result (chunks_in chunks.new ≡ chunks_in chunks.old) }
 {
     if let Some(own) = Arc::get_mut(chunks) {
         own.push(chunk)?;
@@ -112,14 +111,14 @@ struct Sealed {
 }
 
 impl Model for Sealed {
-    ghost use Rattle.std.specs.Prelude.{List, ℤ, [], None, Some, map};
-    ghost use Rattle.std.specs.Arc.{arc_value};
+    ghost use Rattle.std.specs.Prelude.{List, ℤ, [], None, Some};
+    ghost use Rattle.head.specs.Chunks.{chunks_in};
 
     ghost Value = { List (List (ℤ × ℤ)) };
 
     ghost view = { λ s. elim s.chunks [
       | None ↦ []
-      | Some chunks ↦ map (λ c. arc_value c) (arc_value chunks).items
+      | Some chunks ↦ chunks_in chunks
     ] };
 }
 
@@ -131,7 +130,7 @@ impl Sealed {
     }
 
     fn chunks(&self) -> &[Arc<Chunk>]
-        ensures { map (λ c. arc_value c) result.now ≡ self.now }
+        ensures { values_in result.now ≡ self.now }
     {
         match &self.chunks {
             Some(chunks) => chunks.as_slice(),

@@ -14,7 +14,8 @@ use Rattle.labels.proofs.ContentLaws.{over-last, is_sorted-over}
 use Rattle.labels.proofs.Restricting.{kept-++, kept-points_in, kept-points_of, kept-laid_over}
 use Rattle.matchers.specs.Satisfies.{satisfies_all}
 use Rattle.matchers.specs.Views.{QueryView}
-use Rattle.history.specs.Asking.{selected_by, part_within}
+use Rattle.matchers.specs.Queries.{selected_by}
+use Rattle.history.specs.Asking.{part_within}
 
 laid_over-++ : (xs ys c : Content) → laid_over (xs ++ ys) c ≡ laid_over xs (laid_over ys c)
 laid_over-++ [] ys c = refl

@@ -2,8 +2,8 @@
 -- buffer for each.
 use Rattle.std.specs.Prelude.{ℕ, ℤ, List, [], ◌∷◌, ◌++◌, Result, Ok, Err, nat_eq, nat_le, length, if◌then◌else◌}
 use Rattle.labels.specs.Labels.{Labels}
-use Rattle.labels.specs.Contents.{Content, selected, is_time}
-use Rattle.matchers.specs.Satisfies.{satisfies_all}
+use Rattle.labels.specs.Contents.{Content, is_time}
+use Rattle.matchers.specs.Queries.{selected_by}
 use Rattle.head.specs.declared.error.AppendError.{AppendError}
 use Rattle.head.specs.declared.error.AppendError.TheVariants.{Full, TimeRange}
 use Rattle.head.specs.Limits.{most}
@@ -54,8 +54,7 @@ machine_step m (append actor l s) = appended m actor l s
 machine_step m (commit actor) =
     settled m (with_buffer actor [] m.buffers) (stepped most m.world (batch (m.buffers actor)))
 machine_step m (change actor event) = settled m m.buffers (stepped most m.world event)
-machine_step m (query actor q) =
-    (found (selected (satisfies_all q.matchers) q.from q.to m.world.content), m)
+machine_step m (query actor q) = (found (selected_by q m.world.content), m)
 
 -- what each step comes to
 abbrev pub machine_replies : Machine → List Step → List Outcome

@@ -7,9 +7,10 @@ ghost use Rattle.labels.specs.Contents.{in_range};
 ghost use Rattle.labels.specs.Rows.{AreRows, points_in, points_of};
 ghost use Rattle.labels.specs.Parts.{content_of, laid_over, rows_in, within};
 ghost use Rattle.matchers.specs.Satisfies.{satisfies_all};
+ghost use Rattle.matchers.specs.Queries.{selected_by};
 ghost use Rattle.head.specs.Heads.{parts_of};
 ghost use Rattle.head.specs.Shown.{part_of};
-ghost use Rattle.history.specs.Asking.{selected_by, part_within};
+ghost use Rattle.history.specs.Asking.{part_within};
 ghost use Rattle.history.specs.Pushing.{pushed};
 
 use head::{HeadView, Snapshot};

@@ -1,4 +1,4 @@
-use Rattle.std.proofs.Common.{◌≡◌, true, false, List, ℕ, ℤ, ap, sym, ◌∙◌, subst}
+use Rattle.std.proofs.Common.{◌≡◌, List, ℕ, ℤ, ap, sym, ◌∙◌, subst}
 use Rattle.std.specs.Prelude.{Result, Ok, Err, if◌then◌else◌}
 use Rattle.labels.specs.Parts.{Part, rows_in}
 use Rattle.labels.specs.Rows.{Row, AreRows}
@@ -7,8 +7,6 @@ use Rattle.block_writer.specs.SpellRows.{SpellRows}
 use Rattle.block_writer.specs.Writing.{chunks_text}
 use Rattle.block_writer.specs.Written.{IsWrittenIndex}
 use Rattle.head.specs.Refusals.{limit}
-use Rattle.head.specs.Fits.{files_fit}
-use Rattle.head.specs.Cuts.{written_if_fit}
 use Rattle.head.proofs.Fitting.{written_fit, long_unfit}
 use Rattle.head.proofs.cut.block_of.Goals as goal
 

@@ -1,21 +1,20 @@
 use Rattle.std.proofs.Common.{◌≡◌, ◌≢◌, ◌≤◌, ◌<◌, ◌+◌, ℕ, ℤ, true, false, Bool, List, [], ◌∷◌, ◌++◌, map, length, refl, sym, ◌∙◌, ap, subst, arith, rules, inr, Some, None, to_z, of_z, w64}
-use Rattle.std.specs.Prelude.{◌==◌, ◌&&◌, Result, Ok, Err, int_lt, if◌then◌else◌, unwrap_or, Option, IfErr}
+use Rattle.std.specs.Prelude.{◌==◌, ◌&&◌, int_lt, if◌then◌else◌, unwrap_or}
 use Rattle.std.specs.Option.{IsSome}
 use Rattle.std.specs.Arc.{arc_value}
 use Rattle.std.proofs.lemmas.Bool.Decides.{nat_tests}
 use Rattle.std.proofs.lemmas.List.{length-map}
 use Rattle.labels.specs.Contents.{is_time}
 use Rattle.labels.specs.Rows.{Row, AreRows}
-use Rattle.block.specs.Ranges.{range_of, is_range}
+use Rattle.block.specs.Ranges.{range_of}
 use Rattle.block_writer.specs.PartRows.{are_part_rows, part_rows}
 use Rattle.block_writer.specs.SpellRows.{AreWithin}
 use Rattle.head.specs.Outcomes.{IsStepRefusal}
 use Rattle.head.specs.Blocks.{part_in}
-use Rattle.head.specs.Cuts.{leaving, AreLeaving, AreCutBlocks, HaveCutBlock, written_if_fit}
+use Rattle.head.specs.Cuts.{leaving, AreLeaving, written_if_fit}
 use Rattle.head.specs.Fits.{fits, files_fit}
 use Rattle.head.specs.Heads.{BlockPart, SnapshotParts, world_of}
 use Rattle.head.specs.Kept.{IsBlockOf}
-use Rattle.head.specs.Refusals.{too_many_parts}
 use Rattle.head.specs.Snapshots.{parts_in}
 use Rattle.head.specs.Worlds.{raised, cut_off}
 use Rattle.head.proofs.Applies.{answer_same}

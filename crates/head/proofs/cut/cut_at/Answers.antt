@@ -8,8 +8,7 @@ use Rattle.head.specs.Cuts.{AreCutBlocks}
 use Rattle.head.specs.Fits.{fits}
 use Rattle.head.specs.Heads.{BlockPart, SnapshotParts, IsSoundSnapshot, world_of}
 use Rattle.head.specs.Refusals.{cut_too_low}
-use Rattle.head.specs.Removing.{head_cut, snapshot_cut}
-use Rattle.head.specs.Shown.{series_of}
+use Rattle.head.specs.Removing.{head_cut}
 use Rattle.head.specs.Snapshots.{parts_in}
 use Rattle.head.specs.Worlds.{cut_at}
 use Rattle.head.proofs.CutSteps.{cut_low, cut_in, cut_accepted, cut_is_sound}

@@ -1,4 +1,4 @@
-use Rattle.std.proofs.Common.{◌≡◌, ◌≤◌, [], true, ℤ, List, length, sym, ◌∙◌, ap, subst, arith, refl, rules, to_z, of_z, w64}
+use Rattle.std.proofs.Common.{◌≡◌, ◌≤◌, true, ℤ, List, length, sym, ◌∙◌, ap, subst, arith, refl, rules, to_z, of_z, w64}
 use Rattle.std.specs.Prelude.{int_lt}
 use Rattle.labels.specs.Labels.{Labels}
 use Rattle.labels.specs.Parts.{IsPart}

@@ -1,6 +1,5 @@
-use Rattle.std.proofs.Common.{◌≡◌, ◌≤◌, ℤ, List, length, sym, ◌∙◌, ap, subst, rules, to_z, of_z, w64}
+use Rattle.std.proofs.Common.{◌≡◌, ◌≤◌, length, ◌∙◌, ap, subst, rules, to_z, of_z, w64}
 use Rattle.std.specs.Prelude.{pos, ◌-ℤ◌}
-use Rattle.labels.specs.Rows.{Row}
 use Rattle.head.specs.Heads.{SnapshotParts}
 use Rattle.head.specs.HeadRows.{rows_within}
 use Rattle.head.specs.Cuts.{AreLeaving}

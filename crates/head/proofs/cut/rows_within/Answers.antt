@@ -1,7 +1,6 @@
-use Rattle.std.proofs.Common.{◌≡◌, ◌+◌, ◌++◌, [], ℤ, ℕ, List, take, get_or, sym, ◌∙◌, ap, arith, rules, to_z, of_z, w64}
+use Rattle.std.proofs.Common.{◌≡◌, ◌++◌, [], ℕ, List, take, get_or, sym, ◌∙◌, ap, arith, rules, to_z, of_z, w64}
 use Rattle.std.specs.Arc.{arc_value}
 use Rattle.std.proofs.lemmas.List.{take_more, take_all}
-use Rattle.labels.specs.Labels.{Labels}
 use Rattle.labels.specs.Rows.{Row}
 use Rattle.labels.specs.Parts.{within}
 use Rattle.head.specs.Heads.{HeadSeries}

@@ -1,4 +1,4 @@
-use Rattle.std.proofs.Common.{◌≡◌, ◌+◌, ◌<◌, ◌≤◌, ◌∷◌, ◌++◌, [], true, false, ℕ, ℤ, List, length, take, get_or, map, sym, ap, subst, ◌∙◌, arith, rules, to_z, of_z, w64}
+use Rattle.std.proofs.Common.{◌≡◌, ◌<◌, ◌∷◌, ◌++◌, [], true, false, ℕ, ℤ, List, length, take, get_or, map, sym, ap, subst, ◌∙◌, arith, rules, to_z, of_z, w64}
 use Rattle.std.specs.Prelude.{int_lt, pos, ◌-ℤ◌}
 use Rattle.std.specs.Arc.{arc_value}
 use Rattle.std.proofs.lemmas.List.{take_more, take_all, map-append, length-take-le}

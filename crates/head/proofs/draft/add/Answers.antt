@@ -1,9 +1,9 @@
-use Rattle.std.specs.Prelude.{◌≡◌, ◌<◌, ℕ, pos, T, List, [], false, None, Some, int_lt, length, slice_index_or}
-use Rattle.std.proofs.Common.{rules, sym, ◌∙◌, ap, subst, arith}
+use Rattle.std.specs.Prelude.{◌≡◌, pos, T, List, [], false, None, Some, int_lt, slice_index_or}
+use Rattle.std.proofs.Common.{rules, sym, ◌∙◌, subst, arith}
 use Rattle.labels.specs.Labels.{Labels}
 use Rattle.head.specs.Outcomes.{IsStepRefusal}
 use Rattle.head.specs.Limits.{most}
-use Rattle.head.specs.Slots.{Slot, series_in_each}
+use Rattle.head.specs.Slots.{series_in_each}
 use Rattle.head.specs.Heads.{HeadSeries}
 use Rattle.head.specs.Taking.{head_added, place_from}
 use Rattle.head.proofs.Ordered.{ordered_alike, like_series}
@@ -48,7 +48,7 @@ returns-in-Some-clause-owners c =
     let is : place_from c.args.labels.now 0 head ≡ Some c.in-Some.place = sym c.place_of.ensures ∙ c.in-Some.is in
     let st = stands_at c.args.labels.now head c.in-Some.place is in
     let like : c.args.labels.now ≡ (slice_index_or head c.in-Some.place some).labels = like_series c.args.labels.now head (slice_index_or head c.in-Some.place some) (st.found some) in
-    on_ok c.add_known.result (λ own p h all. own p some (subst (λ (l : Labels). T (p l)) like h) all) c.add_known.ensures.owners
+    on_ok c.add_known.result (λ own p h all. own some p (subst (λ (l : Labels). T (p l)) like h) all) c.add_known.ensures.owners
 
 pub returns-in-Ok-clause-step : goal.returns-in-Ok-clause-step
 returns-in-Ok-clause-step c =

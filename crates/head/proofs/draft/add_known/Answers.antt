@@ -1,4 +1,4 @@
-use Rattle.std.specs.Prelude.{◌≡◌, T, List, Ok, slice_set, slice_index_or}
+use Rattle.std.specs.Prelude.{◌≡◌, List, Ok, slice_set, slice_index_or}
 use Rattle.std.proofs.Common.{sym, ◌∙◌, ap, subst, refl, rules}
 use Rattle.std.proofs.lemmas.List.{map-set}
 use Rattle.head.specs.Heads.{HeadSeries}
@@ -29,7 +29,7 @@ returns-in-Ok-clause-labels c =
     ∙ labels_stay slots c.args.place (grown c.args.sample (slice_index_or (series_in_each slots) c.args.place d)) d refl
 
 pub returns-in-Ok-clause-owners : goal.returns-in-Ok-clause-owners
-returns-in-Ok-clause-owners c = λ p d h all.
+returns-in-Ok-clause-owners c = λ d p h all.
     let slots : List Slot = c.args.draft.now in
     subst (λ (ss : List Slot). AllOwn p ss) (sym (c.in-Ok.ensures.grown d))
     (AllOwn-set p slots c.args.place (Own (grown c.args.sample (slice_index_or (series_in_each slots) c.args.place d))) h all)

@@ -1,7 +1,6 @@
-use Rattle.std.specs.Prelude.{◌≡◌, ◌≤◌, ◌++◌, T, List, [], ◌∷◌, Ok, None, length, nat_le, if◌then◌else◌}
-use Rattle.std.proofs.Common.{sym, ◌∙◌, ap, subst, arith, rules}
+use Rattle.std.specs.Prelude.{◌≤◌, ◌++◌, T, List, [], ◌∷◌, Ok}
+use Rattle.std.proofs.Common.{sym, ◌∙◌, ap, subst, arith}
 use Rattle.std.proofs.lemmas.List.{map-append}
-use Rattle.labels.specs.Labels.{Labels}
 use Rattle.head.specs.Heads.{HeadSeries}
 use Rattle.head.specs.Slots.{Slot, Own, series_in, series_in_each, owned, AllOwn}
 use Rattle.head.specs.Taking.{place_from}

@@ -1,4 +1,4 @@
-use Rattle.std.proofs.Common.{◌≡◌, ◌++◌, ◌∷◌, [], List, ℕ, length, ap, sym, ◌∙◌, subst}
+use Rattle.std.proofs.Common.{◌≡◌, ◌∷◌, [], List, ℕ, length, ap, sym, ◌∙◌, subst}
 use Rattle.std.specs.FinMap.Entries.{put}
 use Rattle.labels.specs.Labels.{Labels, labels_cmp}
 use Rattle.std.proofs.lemmas.List.{map-append}

@@ -1,7 +1,6 @@
 use Rattle.std.proofs.Common.{◌≡◌, ◌∙◌, ap}
 use Rattle.std.specs.Prelude.{slice_index_or}
 use Rattle.std.specs.Arc.{arc_value}
-use Rattle.head.specs.Heads.{HeadSeries}
 use Rattle.head.specs.Taking.{grown}
 use Rattle.head.proofs.SlotLaws.{same_inside}
 use Rattle.head.proofs.draft.grown_copy.Goals as goal

@@ -1,5 +1,4 @@
 use Rattle.std.specs.Prelude.{[], pos}
-use Rattle.std.proofs.Common.{sym, ◌∙◌, ap}
 use Rattle.head.specs.Heads.{HeadSeries}
 use Rattle.head.specs.Slots.{series_in_each}
 use Rattle.head.proofs.Ordered.{placed_at}

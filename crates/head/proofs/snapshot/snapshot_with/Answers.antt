@@ -1,7 +1,6 @@
 use Rattle.std.proofs.lemmas.Result.{err_from_is_err_and}
 use Rattle.std.specs.Prelude.{◌≡◌, ◌≤◌, ℕ, Ok, List, map, length}
 use Rattle.std.proofs.Common.{subst, sym, ◌∙◌, ap, rules, to_z, of_z, w64}
-use Rattle.std.specs.Arc.{arc_value}
 use Rattle.labels.specs.Labels.{Labels}
 use Rattle.labels.specs.Parts.{IsPart}
 use Rattle.head.specs.Orders.{sets_of, Extends, IsOrderOf}

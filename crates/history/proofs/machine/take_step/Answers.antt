@@ -3,7 +3,7 @@ use Rattle.std.proofs.lemmas.Result.{IfOk-weaker}
 use Rattle.labels.specs.Parts.{content_of}
 use Rattle.head.specs.Heads.{world_of, parts_of}
 use Rattle.history.specs.declared.reply.Reply.TheVariants.{Rows}
-use Rattle.history.specs.Asking.{selected_by}
+use Rattle.matchers.specs.Queries.{selected_by}
 use Rattle.history.specs.Replies.{IsStep, machine_at, world_after}
 use Rattle.history.specs.Shown.{step_of}
 use Rattle.history.specs.Steps.{Step}

@@ -4,7 +4,8 @@ use Rattle.block.specs.Blocks.{Shown}
 use Rattle.labels.specs.Rows.{points_of}
 use Rattle.labels.specs.Parts.{Part, rows_in, laid_over, content_of}
 use Rattle.head.specs.Heads.{BlockPart, HeadSeries, head_part}
-use Rattle.history.specs.Asking.{selected_by, part_within}
+use Rattle.matchers.specs.Queries.{selected_by}
+use Rattle.history.specs.Asking.{part_within}
 use Rattle.history.proofs.Laying.{selected-part, selected_within}
 use Rattle.history.proofs.Listing.{parts_in_blocks}
 use Rattle.history.proofs.walk.find_content.Goals as goal

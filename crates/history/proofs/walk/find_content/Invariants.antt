@@ -1,6 +1,6 @@
 use Rattle.std.proofs.Common.{◌≡◌, map, take}
 use Rattle.labels.specs.Parts.{content_of}
-use Rattle.history.specs.Asking.{selected_by}
+use Rattle.matchers.specs.Queries.{selected_by}
 use Rattle.history.proofs.walk.find_content.Given as goal
 
 abbrev pub invariant-loop-block : goal.invariant-loop-block

@@ -2,7 +2,7 @@ use Rattle.std.proofs.Common.{◌≡◌, true, false}
 use Rattle.labels.specs.Rows.{Row, points_of}
 use Rattle.labels.specs.Parts.{laid_over, rows_in}
 use Rattle.matchers.specs.Satisfies.{satisfies_all}
-use Rattle.history.specs.Asking.{selected_by}
+use Rattle.matchers.specs.Queries.{selected_by}
 use Rattle.history.proofs.Laying.{row_step, no_row_step}
 use Rattle.history.proofs.walk.lay_part.Goals as goal
 

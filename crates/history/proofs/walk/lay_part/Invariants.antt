@@ -1,7 +1,7 @@
 use Rattle.std.proofs.Common.{◌≡◌, vec_len}
 use Rattle.labels.specs.Rows.{points_of}
 use Rattle.labels.specs.Parts.{laid_over, rows_in}
-use Rattle.history.specs.Asking.{selected_by}
+use Rattle.matchers.specs.Queries.{selected_by}
 use Rattle.history.proofs.walk.lay_part.Given as goal
 
 abbrev pub invariant-loop-row : goal.invariant-loop-row

@@ -1,8 +1,7 @@
-use Rattle.std.proofs.Common.{◌≡◌, ◌<◌, ◌≤◌, ◌+◌, ℕ, List, Option, Some, None, length, arith, ap, sym, subst, ◌∙◌}
+use Rattle.std.proofs.Common.{◌≡◌, ◌<◌, ◌≤◌, ◌+◌, ℕ, List, Option, Some, None, length, arith, ap, sym, ◌∙◌}
 use Rattle.std.specs.Prelude.{◌-◌, ◌*◌, ℤ, slice_set, slice_index_or, IsSome, is_some}
 use Rattle.std.specs.Option.{option_copied_mut}
 use Rattle.std.specs.Ordering.{nat_cmp}
-use Rattle.std.specs.Arc.{arc_value}
 use Rattle.std.specs.BTreeMap.{BTreeMap, get}
 use Rattle.head.specs.Heads.{HeadSeries}
 use Rattle.head.specs.Slots.{Slot, Own, series_in, series_in_each, own_count, slot_at, slots_of, owned}

@@ -1,6 +1,6 @@
 use Rattle.std.proofs.Common.{◌≡◌, ap, sym, ◌∙◌, arith, rules}
 use Rattle.std.specs.Prelude.{slice_index_or, true}
-use Rattle.labels.specs.Labels.{Labels, same_labels}
+use Rattle.labels.specs.Labels.{same_labels}
 use Rattle.head.specs.Heads.{HeadSeries}
 use Rattle.head.specs.Slots.{series_in_each}
 use Rattle.head.proofs.HeadLaws.{same_path}

@@ -1,9 +1,8 @@
-use Rattle.std.proofs.Common.{◌≡◌, ◌++◌, ℕ, List, [], ◌∷◌, length, sym, ◌∙◌, ap, subst, arith, append-nil, append_assoc}
+use Rattle.std.proofs.Common.{◌≡◌, ◌++◌, List, [], length, sym, ◌∙◌, ap, arith, append-nil}
 use Rattle.std.specs.Vec.Iter.{into_iter_items}
 use Rattle.std.specs.Ordering.{nat_cmp}
 use Rattle.std.specs.BTreeMap.{get}
-use Rattle.head.specs.Heads.{HeadSeries}
-use Rattle.head.specs.Slots.{Slot, series_in_each, slots_from, slots_of}
+use Rattle.head.specs.Slots.{Slot, series_in_each}
 use Rattle.head.proofs.SlotLaws.{length-slots, series_of_slots, nothing_left}
 use Rattle.head.proofs.draft.Draft.into_list.Goals as goal
 

@@ -2,7 +2,7 @@ use Rattle.std.proofs.Common.{length, ap, arith, [], ◌∷◌}
 use Rattle.std.proofs.lemmas.List.{length-append}
 use Rattle.std.specs.Ordering.{nat_cmp}
 use Rattle.std.specs.BTreeMap.{get}
-use Rattle.head.proofs.SlotLaws.{length-slots, begun_more}
+use Rattle.head.proofs.SlotLaws.{length-slots}
 use Rattle.head.proofs.draft.Draft.push.Goals as goal
 
 pub invariant_of-self-2 : goal.invariant_of-self-2

@@ -1,4 +1,4 @@
-use Rattle.std.proofs.Common.{◌≡◌, ◌<◌, ◌≤◌, ◌+◌, ℕ, List, Some, None, length, sym, ◌∙◌, ap, arith}
+use Rattle.std.proofs.Common.{◌≡◌, ◌<◌, ◌≤◌, ◌+◌, List, Some, None, length, sym, ◌∙◌, ap, arith}
 use Rattle.std.specs.Prelude.{◌-◌, slice_index_or}
 use Rattle.std.specs.Option.{option_copied}
 use Rattle.std.specs.Arc.{arc_value}

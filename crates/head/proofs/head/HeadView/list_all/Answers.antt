@@ -1,5 +1,5 @@
-use Rattle.std.specs.Prelude.{◌≡◌, ◌<◌, ℕ, pos, List, [], ◌∷◌, ◌++◌, length}
-use Rattle.std.proofs.Common.{sym, ◌∙◌, arith, rules}
+use Rattle.std.specs.Prelude.{◌<◌, ℕ, pos, List, [], ◌∷◌, ◌++◌, length}
+use Rattle.std.proofs.Common.{sym, ◌∙◌, arith}
 use Rattle.head.specs.Heads.{HeadSeries}
 use Rattle.head.specs.Shown.{series_of}
 use Rattle.head.proofs.Indexing.{front_more}

@@ -1,6 +1,5 @@
 use Rattle.std.specs.Prelude.{◌≡◌, ◌-◌, length, slice_index_or}
 use Rattle.std.proofs.Common.{sym, ◌∙◌, ap, arith, inl, inr}
-use Rattle.std.specs.Arc.{arc_value}
 use Rattle.head.specs.Shown.{series_of}
 use Rattle.head.proofs.PartLaws.{row_at-none, row_at-place}
 use Rattle.head.proofs.head.HeadView.series_at.Goals as goal

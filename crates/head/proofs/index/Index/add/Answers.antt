@@ -1,13 +1,12 @@
-use Rattle.std.proofs.Common.{◌≡◌, ℕ, ℤ, List, [], ◌∷◌, ◌++◌, Result, Ok, Err, OnOk, subst, sym}
+use Rattle.std.proofs.Common.{◌≡◌, ℕ, [], ◌∷◌, ◌++◌, Result, Ok, Err, OnOk, subst, sym}
 use Rattle.labels.specs.Labels.{Labels}
 use Rattle.labels.specs.LabelSets.{IsLabelSet}
-use Rattle.labels.specs.Parts.{Part}
-use Rattle.head.specs.Index.{PairLists, listed_each, IsIndexOf}
+use Rattle.head.specs.Index.{PairLists, listed_each, IsIndexOf, AddsSeries}
 use Rattle.head.specs.IndexLaws.{IsIndexOf-last, proper_set}
 use Rattle.head.proofs.index.Index.add.Goals as goal
 
 kept_if : {A B : Type 0} (res : Result A B) (old new : PairLists) (labels : Labels) (r : ℕ) → OnOk res (new ≡ listed_each labels r old) → IsLabelSet labels
-    → OnOk res ((part : Part) (samples : List (ℤ × ℤ)) → IsIndexOf old part → IsIndexOf new (part ++ (r, (labels, samples)) ∷ []))
+    → OnOk res (AddsSeries r labels old new)
 kept_if (Ok a) old new labels r e h =
     λ part samples is. subst (λ (lists : PairLists). IsIndexOf lists (part ++ (r, (labels, samples)) ∷ [])) (sym e) (IsIndexOf-last old part r (labels, samples) (proper_set labels h) is)
 kept_if (Err b) old new labels r e h = tt

@@ -1,4 +1,4 @@
-use Rattle.std.proofs.Common.{◌∙◌, ℕ, sym, ap}
+use Rattle.std.proofs.Common.{◌∙◌, sym, ap}
 use Rattle.labels.specs.Labels.{Labels, labels_cmp}
 use Rattle.labels.specs.Laws.{labels_total}
 use Rattle.pages.specs.Sorted.{entries_of, place_of}

@@ -1,5 +1,3 @@
-use Rattle.std.proofs.Common.{◌∙◌, ℕ, ap}
-use Rattle.labels.specs.Labels.{Labels}
 use Rattle.labels.specs.Laws.{labels_total}
 use Rattle.pages.specs.Sorted.{entries_of, place_of}
 use Rattle.head.proofs.Keyed.{found_hit, found_none}

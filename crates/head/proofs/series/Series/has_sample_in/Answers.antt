@@ -1,4 +1,4 @@
-use Rattle.std.proofs.Common.{◌≡◌, length, map, sym, ap, subst, ◌∙◌, arith, rules, to_z, of_z, w64}
+use Rattle.std.proofs.Common.{◌≡◌, length, sym, ap, subst, ◌∙◌, arith, rules, to_z, of_z, w64}
 use Rattle.std.specs.Prelude.{T}
 use Rattle.std.specs.Arc.{arc_value}
 use Rattle.std.specs.Ordering.{int_cmp}

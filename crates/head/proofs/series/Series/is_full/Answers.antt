@@ -1,4 +1,4 @@
-use Rattle.std.proofs.Common.{◌≡◌, map, length, ap, sym, ◌∙◌, rules}
+use Rattle.std.proofs.Common.{◌≡◌, length, ap, sym, ◌∙◌, rules}
 use Rattle.std.proofs.lemmas.List.{length-map}
 use Rattle.std.specs.Arc.{arc_value}
 use Rattle.head.specs.Heads.{HeadSeries}
