@@ -1,11 +1,10 @@
 -- The answer of one part to a query.
 use Rattle.std.specs.Prelude.{◌≡◌, List, [], ◌∷◌, length}
 use Rattle.std.specs.List.{AllZip}
-use Rattle.labels.specs.Contents.{selected}
 use Rattle.labels.specs.Rows.{AreRows}
 use Rattle.labels.specs.Parts.{Part, IsPart, content_of}
 use Rattle.matchers.specs.Views.{QueryView}
-use Rattle.matchers.specs.Satisfies.{satisfies_all}
+use Rattle.matchers.specs.Queries.{selected_by}
 use Rattle.cover.specs.Certificates.{matches_of}
 use Rattle.cover.specs.Covers.{IsCoverOf}
 use Rattle.cover.specs.declared.part_cover.PartAnswer.{PartAnswer}
@@ -15,8 +14,7 @@ use Rattle.block_search.specs.Skipping.{AskedPart, searched_parts}
 -- The rows are those of the part's content restricted to the matchers and the range, as many as the
 -- certificate has matches; certificate, separators and moves are those of a cover of the part.
 pub record IsPartAnswer (query : QueryView) (part : Part) (answer : PartAnswer) : Type 0 where
-  pub rows : AreRows answer.rows.items
-      (selected (satisfies_all query.matchers) query.from query.to (content_of (part ∷ [])))
+  pub rows : AreRows answer.rows.items (selected_by query (content_of (part ∷ [])))
   pub as_many : length answer.rows.items ≡ length (matches_of answer.cover.certificate.items)
   pub cover : IsCoverOf part query answer.cover
 

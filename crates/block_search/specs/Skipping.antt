@@ -2,11 +2,10 @@
 use Rattle.std.specs.Prelude.{◌≡◌, ℕ, ℤ, ◌+◌, Bool, false, not, ◌||◌, List, [], ◌∷◌, ◌++◌, map}
 use Rattle.std.specs.Prelude.{filter, int_le, int_lt}
 use Rattle.std.specs.List.{AllByRecursion}
-use Rattle.labels.specs.Contents.{selected}
 use Rattle.labels.specs.Rows.{Row}
 use Rattle.labels.specs.Parts.{Part, content_of, has_sample}
 use Rattle.matchers.specs.Views.{QueryView}
-use Rattle.matchers.specs.Satisfies.{satisfies_all}
+use Rattle.matchers.specs.Queries.{selected_by}
 use Rattle.postings.specs.declared.part_name.PartName.{PartName}
 use Rattle.postings.specs.declared.part_name.PartName.TheVariants.{Block as BlockName, Head}
 use Rattle.head.specs.Heads.{BlockPart, SnapshotParts, head_part, parts_of}
@@ -49,6 +48,5 @@ HasNoSample from to part =
 -- what a query selects of the parts that it searches is what it selects of all parts
 abbrev pub LosesNothing : QueryView → SnapshotParts → Type 0
 LosesNothing query s =
-    selected (satisfies_all query.matchers) query.from query.to
-    (content_of (map (λ p. p.part) (searched_parts query s)))
-    ≡ selected (satisfies_all query.matchers) query.from query.to (content_of (parts_of s))
+    selected_by query (content_of (map (λ p. p.part) (searched_parts query s)))
+    ≡ selected_by query (content_of (parts_of s))

@@ -6,6 +6,7 @@ use mathlib.Core.List.{IsPrefix}
 use Rattle.labels.specs.Contents.{Content}
 use Rattle.labels.specs.Rows.{AreRows}
 use Rattle.matchers.specs.Views.{QueryView}
+use Rattle.matchers.specs.Queries.{selected_by}
 use Rattle.head.specs.Blocks.{opening_of}
 use Rattle.head.specs.Heads.{SnapshotParts, world_of}
 use Rattle.head.specs.Limits.{most}
@@ -14,7 +15,6 @@ use Rattle.snapshots.specs.declared.entry.Entry.{Entry}
 use Rattle.snapshots.specs.Replays.{events_in, EndsWith}
 use Rattle.snapshots.specs.Views.{Known}
 use Rattle.snapshots.proofs.Prefixes.{prefix_trans}
-use Rattle.query_http.specs.Audited.{selected_by}
 use Rattle.query_http.specs.Headline.{IsHeadline}
 use Rattle.query_http.specs.declared.audited.AuditedAnswer.{AuditedAnswer}
 use Rattle.query_http.proofs.Headlines.{world_content}

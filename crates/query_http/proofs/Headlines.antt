@@ -5,11 +5,12 @@ use Rattle.labels.specs.Contents.{Content}
 use Rattle.labels.specs.Rows.{AreRows}
 use Rattle.labels.specs.Parts.{content_of}
 use Rattle.matchers.specs.Views.{QueryView}
+use Rattle.matchers.specs.Queries.{selected_by}
 use Rattle.head.specs.Heads.{SnapshotParts, parts_of, world_of}
 use Rattle.block_search.specs.Skipping.{LosesNothing}
 use Rattle.snapshots.specs.Replays.{IsAfter}
 use Rattle.snapshots.specs.Views.{Known}
-use Rattle.query_http.specs.Audited.{AreAnsweredParts, selected_by, selected_in}
+use Rattle.query_http.specs.Audited.{AreAnsweredParts, selected_in}
 use Rattle.query_http.specs.Headline.{IsHeadline}
 use Rattle.query_http.specs.declared.audited.AuditedAnswer.{AuditedAnswer}
 

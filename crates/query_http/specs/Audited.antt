@@ -1,21 +1,17 @@
 -- Audited answers to a query.
 use Rattle.std.specs.Prelude.{◌≡◌, true, false, List}
 use Rattle.std.specs.List.{AllZip}
-use Rattle.labels.specs.Contents.{Content, selected}
+use Rattle.labels.specs.Contents.{Content}
 use Rattle.labels.specs.Rows.{AreRows}
 use Rattle.labels.specs.Parts.{content_of}
 use Rattle.matchers.specs.Views.{QueryView}
-use Rattle.matchers.specs.Satisfies.{satisfies_all}
+use Rattle.matchers.specs.Queries.{selected_by}
 use Rattle.head.specs.Heads.{SnapshotParts, parts_of}
 use Rattle.block_search.specs.Skipping.{AskedPart, asked_parts}
 use Rattle.block_search.specs.Answers.{IsAnswerOf}
 use Rattle.query_http.specs.declared.audited.AnsweredPart.{AnsweredPart}
 use Rattle.query_http.specs.declared.audited.AnsweredPart.TheVariants.{Searched, Skipped}
 use Rattle.query_http.specs.declared.audited.AuditedAnswer.{AuditedAnswer}
-
--- the samples that a query asks for: of label sets that satisfy all matchers, in the closed range
-abbrev pub selected_by : QueryView → Content → Content
-selected_by query content = selected (satisfies_all query.matchers) query.from query.to content
 
 -- the samples that a query asks of all parts of a snapshot
 abbrev pub selected_in : QueryView → SnapshotParts → Content

@@ -2,11 +2,12 @@
 use mathlib.Core.List.{IsPrefix}
 use Rattle.labels.specs.Rows.{AreRows}
 use Rattle.matchers.specs.Views.{QueryView}
+use Rattle.matchers.specs.Queries.{selected_by}
 use Rattle.head.specs.Heads.{SnapshotParts, world_of}
 use Rattle.block_search.specs.Skipping.{LosesNothing}
 use Rattle.snapshots.specs.Replays.{IsAfter}
 use Rattle.snapshots.specs.Views.{Known}
-use Rattle.query_http.specs.Audited.{AreAnsweredParts, selected_by}
+use Rattle.query_http.specs.Audited.{AreAnsweredParts}
 use Rattle.query_http.specs.declared.audited.AuditedAnswer.{AuditedAnswer}
 
 -- A pass asked a store that had opened with this snapshot. It knew `before` when it asked and
