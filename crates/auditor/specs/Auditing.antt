@@ -3,11 +3,11 @@ use Rattle.std.specs.Prelude.{◌≡◌, ◌⊎◌, ℕ, zero, suc, ◌<◌, Boo
 use Rattle.std.specs.Prelude.{None, Some, length, map, nat_lt}
 use Rattle.std.specs.List.{list_all, Contains}
 use Rattle.std.specs.List.Sorted.{IsStrictlyIncreasing}
-use Rattle.labels.specs.Contents.{Content, selected}
+use Rattle.labels.specs.Contents.{Content}
 use Rattle.labels.specs.Rows.{AreRows}
 use Rattle.labels.specs.Parts.{Part, content_of}
 use Rattle.matchers.specs.Views.{QueryView}
-use Rattle.matchers.specs.Satisfies.{satisfies_all}
+use Rattle.matchers.specs.Queries.{selected_by}
 use Rattle.cover.specs.declared.certificate.Interval.{Interval}
 use Rattle.cover.specs.declared.certificate.Verdict.{Verdict}
 use Rattle.cover.specs.declared.certificate.Verdict.TheVariants.{Match, NoSample, Rejected}
@@ -78,8 +78,7 @@ pub record IsFirstShared (a : Asked) (separators : List ℕ) (at : ℕ) : Type 0
 
 -- The part's content restricted to the matchers and the range of the query.
 abbrev pub selected_content : Part → QueryView → Content
-selected_content part query = selected (satisfies_all query.matchers) query.from query.to
-    (content_of (part ∷ []))
+selected_content part query = selected_by query (content_of (part ∷ []))
 
 -- A sound answer: no verdict names a missing matcher, the intervals are a valid certificate, the
 -- separators are separators and as many as the intervals, and the rows are those that the query
