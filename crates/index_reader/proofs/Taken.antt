@@ -260,7 +260,8 @@ all_series keys (s ∷ ss) lists =
     let more = each_all (lists_of_series keys) ss in
     ap (λ (r : Result Lists IndexError). r >>= λ t. in_turn (series_taken keys) t ss)
     (one_series keys s lists)
-    ∙ grouped (lists_of_series keys s) (λ cs. taken lists cs) (λ t. in_turn (series_taken keys) t ss)
+    ∙ grouped (lists_of_series keys s) (λ cs. taken lists cs)
+    (λ t. in_turn (series_taken keys) t ss)
     ∙ then_same (lists_of_series keys s) _ _ (λ first.
     then_same (taken lists first) _ _ (λ t. all_series keys ss t)
     ∙ swapped (taken lists first) more (λ t cs. taken t cs) (only_taken lists first)

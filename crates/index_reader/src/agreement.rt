@@ -56,8 +56,8 @@ impl<'a> Model for Rests<'a> {
     ghost Value = { walk.Rests };
 
     ghost view = { λ r. record {
-        keys = r.keys.pairs.items;
-        lists = references_in_each r.lists.items;
+      keys = r.keys.pairs.items;
+      lists = references_in_each r.lists.items;
     } };
 
     ghost invariant = { λ r. length r.lists.items ≡ length r.keys.pairs.items + 1 };
