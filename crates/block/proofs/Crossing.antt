@@ -12,6 +12,7 @@ use Rattle.index_reader.specs.contracts.series.Series as series
 use Rattle.index_reader.specs.contracts.lists.Lists as lists
 use Rattle.index_reader.specs.contracts.symbols.Symbols as symbols
 use Rattle.index_reader.specs.contracts.keys.Keys as keys
+use Rattle.index_reader.specs.contracts.pairs.Pairs as index_pairs
 use Rattle.index_reader.specs.contracts.index.Index as index
 use Rattle.block.specs.contracts.blocks.Files as files
 use Rattle.block.specs.contracts.blocks.Block as block
@@ -70,16 +71,22 @@ Keys-send = search (sendable, heap.Vec-send) depth 60 fits 20000
 pub Keys-sync : IsSync keys.the_field.row
 Keys-sync = search (sendable, heap.Vec-sync) depth 60 fits 20000
 
+pub IndexPairs-send : IsSend index_pairs.the_field.row
+IndexPairs-send = search (sendable, Symbols-send, Keys-send) depth 60 fits 20000
+
+pub IndexPairs-sync : IsSync index_pairs.the_field.row
+IndexPairs-sync = search (sendable, Symbols-sync, Keys-sync) depth 60 fits 20000
+
 pub Index-send : IsSend index.the_field.row
 Index-send =
     search
-    (sendable, heap.Vec-send, Symbols-send, Keys-send, Place-send, IndexSeries-send, Lists-send)
+    (sendable, heap.Vec-send, IndexPairs-send, Place-send, IndexSeries-send, Lists-send)
     depth 60 fits 20000
 
 pub Index-sync : IsSync index.the_field.row
 Index-sync =
     search
-    (sendable, heap.Vec-sync, Symbols-sync, Keys-sync, Place-sync, IndexSeries-sync, Lists-sync)
+    (sendable, heap.Vec-sync, IndexPairs-sync, Place-sync, IndexSeries-sync, Lists-sync)
     depth 60 fits 20000
 
 pub Files-send : IsSend files.the_field.row

@@ -221,6 +221,12 @@ held_series file c h =
     all_is (strings_of c.symbols.texts.items) c.bodies.labels.items c.bodies.chunks.items
     c.bodies.series.items (entries_seen c.layout.entries.items) h.referred
 
+pub keys_inside : (file : List ℕ) (c : Checked) → IsHeldIn file c → IsSoundRead (read_seen c)
+    → AreInTable (strings_of c.symbols.texts.items) c.keys.pairs.items
+keys_inside file c h i =
+    subst (λ (symbols : List (List ℕ)). AreInTable symbols c.keys.pairs.items) (sym h.symbols)
+    i.listing.inside
+
 pub whole_is : (file : List ℕ) (c : Checked) (labels : List Label) (chunks : List Chunk)
     (ss : List Series) → IsHeldIn file c → labels ≡ c.bodies.labels.items
     → chunks ≡ c.bodies.chunks.items

@@ -1,13 +1,14 @@
 -- Where the pair of a name and a value, and the pairs of a name, stand.
 use Rattle.std.proofs.Common.{◌≡◌, ℕ, zero, suc, ◌+◌, ◌-◌, ◌<◌, ◌≤◌, Bool, true, false, cond, ltb, List, [], ◌∷◌, length, get_or, take, drop, Option, Some, None, refl, sym, ap, ◌∙◌, inl, inr, arith}
 use Rattle.std.specs.Prelude.{slice_get, slice_range, map, IfSome, IfNone}
+use Rattle.std.specs.List.{Contains}
 use Rattle.std.specs.List.Sorted.{IsPartitionedBy}
 use Rattle.std.specs.Str.{bytes_eq}
 use Rattle.std.specs.Ordering.{nat_cmp, ordering_then, is_eq}
 use Rattle.std.specs.declared.cmp.Ordering.TheVariants.{Less, Greater}
 use Rattle.std.specs.Cmp.Lexicographic.{texts_ties}
 use Rattle.std.proofs.lemmas.Bool.{cases_lt, cases_eq}
-use Rattle.std.proofs.lemmas.List.{length-map, length-take, length-drop, get_or-take, get_or-drop}
+use Rattle.std.proofs.lemmas.List.{length-map, length-take, length-drop, get_or-map, get_or-take, get_or-drop}
 use Rattle.std.proofs.lemmas.List.Sorted.{IsPartitionedBy-ltb, IsNonDecreasingBy-from_default}
 use Rattle.labels.specs.Labels.{text_cmp}
 use Rattle.labels.proofs.Texts.{bytes_exact, bytes_self}
@@ -78,32 +79,62 @@ same_symbol symbols i j order a b e =
 
 -- ---- the pair of a name and a value
 
+-- the pair at a place, by its symbols
+pub listed_at : (symbols : List (List ℕ)) (keys : List Label) (i : ℕ) (p : List ℕ × List ℕ)
+    → slice_get (named symbols keys) i ≡ Some p
+    → (i < length keys) × (named_label symbols (get_or keys i (0, 0)) ≡ p)
+listed_at symbols [] i p g = absurd cc
+listed_at symbols (key ∷ keys) zero p g =
+    let e : named_label symbols key ≡ p = cc in (omega arith, e)
+listed_at symbols (key ∷ keys) (suc i) p g =
+    let r = listed_at symbols keys i p g in (omega (arith, r.0), r.1)
+
+-- no pair by its symbols, so none
+not_listed : (symbols : List (List ℕ)) (keys : List Label) (p : List ℕ × List ℕ)
+    → ((k : ℕ) → k < length keys → named_label symbols (get_or keys k (0, 0)) ≡ p → ⊥)
+    → Contains (named symbols keys) p → ⊥
+not_listed symbols keys p none c =
+    let lt : c.0 < length keys =
+    omega (arith, c.1, length-map keys (named_label symbols)) in
+    none c.0 lt (sym (get_or-map (named_label symbols) keys c.0 (0, 0) p lt) ∙ c.2)
+
+-- none, so none by its symbols
+pub none_listed : (symbols : List (List ℕ)) (keys : List Label) (p : List ℕ × List ℕ)
+    → (Contains (named symbols keys) p → ⊥) → (k : ℕ) → k < length keys
+    → named_label symbols (get_or keys k (0, 0)) ≡ p → ⊥
+none_listed symbols keys p none k lt e =
+    none (
+      k,
+      omega (arith, lt, length-map keys (named_label symbols)),
+      get_or-map (named_label symbols) keys k (0, 0) p lt ∙ e,
+    )
+
 pub no_name : (symbols : List (List ℕ)) (keys : List Label) (name value : List ℕ)
-    → AreInTable symbols keys → symbol_of symbols name ≡ None → (k : ℕ) → k < length keys
-    → named_label symbols (get_or keys k (0, 0)) ≡ (name, value) → ⊥
-no_name symbols keys name value inside h k lt e =
+    → AreInTable symbols keys → symbol_of symbols name ≡ None
+    → Contains (named symbols keys) (name, value) → ⊥
+no_name symbols keys name value inside h = not_listed symbols keys (name, value) (λ k lt e.
     no_symbol symbols name (get_or keys k (0, 0)).0 h (inside k (0, 0) lt).0
-    (ap (λ (p : List ℕ × List ℕ). p.0) e)
+    (ap (λ (p : List ℕ × List ℕ). p.0) e))
 
 pub no_value : (symbols : List (List ℕ)) (keys : List Label) (name value : List ℕ)
-    → AreInTable symbols keys → symbol_of symbols value ≡ None → (k : ℕ) → k < length keys
-    → named_label symbols (get_or keys k (0, 0)) ≡ (name, value) → ⊥
-no_value symbols keys name value inside h k lt e =
+    → AreInTable symbols keys → symbol_of symbols value ≡ None
+    → Contains (named symbols keys) (name, value) → ⊥
+no_value symbols keys name value inside h = not_listed symbols keys (name, value) (λ k lt e.
     no_symbol symbols value (get_or keys k (0, 0)).1 h (inside k (0, 0) lt).1
-    (ap (λ (p : List ℕ × List ℕ). p.1) e)
+    (ap (λ (p : List ℕ × List ℕ). p.1) e))
 
 pub pair_found : (symbols : List (List ℕ)) (keys : List Label) (name value : List ℕ) (n v : ℕ)
     (r : Option ℕ) → symbol_of symbols name ≡ Some n → symbol_of symbols value ≡ Some v
     → r ≡ place_of keys (n, v)
-    → IfSome r (λ i.
-    (i < length keys) × (named_label symbols (get_or keys i (0, 0)) ≡ (name, value)))
+    → IfSome r (λ i. slice_get (named symbols keys) i ≡ Some (name, value))
 pair_found symbols keys name value n v None a b e = tt
 pair_found symbols keys name value n v (Some i) a b e =
     let f = place_found keys (n, v) i (sym e) in
     let p = (symbol_found symbols name n a).1 in
     let q = (symbol_found symbols value v b).1 in
     let is : named_label symbols (n, v) ≡ (name, value) = λ j. (p j, q j) in
-    (f.0, ap (named_label symbols) f.1 ∙ is)
+    mapped_at (named_label symbols) keys i (get_or keys i (0, 0)) (stands_at keys i (0, 0) f.0)
+    ∙ ap (λ (l : List ℕ × List ℕ). Some l) (ap (named_label symbols) f.1 ∙ is)
 
 none_there : (symbols : List (List ℕ)) (keys : List Label) (name value : List ℕ) (n v : ℕ)
     → ascending symbols ≡ true → rises key_before keys ≡ true → AreInTable symbols keys
@@ -129,10 +160,10 @@ pub pair_absent : (symbols : List (List ℕ)) (keys : List Label) (name value : 
     (r : Option ℕ) → ascending symbols ≡ true → rises key_before keys ≡ true
     → AreInTable symbols keys → symbol_of symbols name ≡ Some n → symbol_of symbols value ≡ Some v
     → r ≡ place_of keys (n, v)
-    → IfNone r ((k : ℕ) → k < length keys
-    → named_label symbols (get_or keys k (0, 0)) ≡ (name, value) → ⊥)
+    → IfNone r (Contains (named symbols keys) (name, value) → ⊥)
 pair_absent symbols keys name value n v None order rising inside a b e =
-    none_there symbols keys name value n v order rising inside a b (sym e)
+    not_listed symbols keys (name, value)
+    (none_there symbols keys name value n v order rising inside a b (sym e))
 pair_absent symbols keys name value n v (Some i) order rising inside a b e = tt
 
 -- ---- names do not fall

@@ -3,7 +3,6 @@ use Rattle.std.specs.List.{All}
 use Rattle.std.specs.Prelude.{◌≡◌, ℕ, ◌≤◌, ◌<◌, ◌^◌, List, length}
 use Rattle.index_reader.specs.declared.checks.Checked.{Checked}
 use Rattle.index_reader.specs.declared.bodies.Bodies.{Bodies}
-use Rattle.index_reader.specs.declared.keys.Keys.{Keys}
 use Rattle.index_reader.specs.declared.layout.Layout.{Layout}
 use Rattle.index_reader.specs.declared.symbols.Symbols.{Symbols}
 use Rattle.index_reader.specs.Layout.{IsPlaced, Body}
@@ -11,7 +10,6 @@ use Rattle.index_reader.specs.AgreementChecks.{Carrier, carriers, entry_referenc
 use Rattle.index_reader.specs.Checks.{Read}
 use Rattle.index_reader.specs.FlatBodies.{bodies_in, label_sets_in, references_in_order}
 use Rattle.index_reader.specs.Grammar.{IsLayout}
-use Rattle.index_reader.specs.Indexes.{named}
 use Rattle.index_reader.specs.Seen.{bytes_of, entries_seen, strings_of}
 use Rattle.index_reader.specs.Layout as layout
 
@@ -27,10 +25,6 @@ layout_seen o = record {
 -- symbols as their bytes
 abbrev pub symbol_texts : Symbols → List (List ℕ)
 symbol_texts s = strings_of s.texts.items
-
--- pairs as their texts
-abbrev pub pair_texts : Symbols → Keys → List (List ℕ × List ℕ)
-pair_texts symbols keys = named (symbol_texts symbols) keys.pairs.items
 
 -- the bodies that stand in flat vectors
 abbrev pub bodies_seen : Bodies → List Body

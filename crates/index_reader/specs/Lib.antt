@@ -17,6 +17,7 @@ pub mod KeptLists
 pub mod Layout
 pub mod Lookups
 pub mod Outcome
+pub mod PairTexts
 pub mod PostingsChecks
 pub mod References
 pub mod Seen

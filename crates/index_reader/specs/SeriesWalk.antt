@@ -15,30 +15,45 @@ unfoldable pub in_turn : {S A : Type 0}
 in_turn step s [] = Ok s
 in_turn step s (a ∷ as') = step s a >>= λ t. in_turn step t as'
 
+-- the pairs of the table after the first, and what is left of each list: of that of all series, and
+-- after it of that of each pair
+pub record Rests : Type 0 where
+  pub keys : List Label
+  pub lists : List (List ℕ)
+
+-- the whole lists
+unfoldable pub rests_of : List (List ℕ) → List TableEntry → List (List ℕ) → Result Rests IndexError
+rests_of symbols table lists = do
+  keys ← keys_at symbols table
+  Ok (record { keys = keys; lists = map references_in lists })
+
+-- another rest of the list at a place
+abbrev pub with_rest : Rests → ℕ → List ℕ → Rests
+with_rest rests k rest = record { keys = rests.keys; lists = slice_set rests.lists k rest }
+
 -- a reference is taken from the front of the list at a place
-unfoldable pub take_reference : ℕ → List (List ℕ) → ℕ → Result (List (List ℕ)) IndexError
-take_reference r lists k =
-    if is_first r (get_or lists k []) then Ok (slice_set lists k (drop 1 (get_or lists k [])))
+unfoldable pub take_reference : ℕ → Rests → ℕ → Result Rests IndexError
+take_reference r rests k =
+    if is_first r (get_or rests.lists k [])
+    then Ok (with_rest rests k (drop 1 (get_or rests.lists k [])))
     else Err PostingsDisagree
 
 -- it is taken from the list of a label, which stands after the first
-unfoldable pub take_label : List Label → ℕ → List (List ℕ) → Label
-    → Result (List (List ℕ)) IndexError
-take_label keys r lists l = do
-  at ← or_disagree (place_of keys l)
-  take_reference r lists (at + 1)
+unfoldable pub take_label : ℕ → Rests → Label → Result Rests IndexError
+take_label r rests l = do
+  at ← or_disagree (place_of rests.keys l)
+  take_reference r rests (at + 1)
 
 -- the reference of a series is taken from the first list, and from that of each of its labels
-unfoldable pub take_series : List Label → List (List ℕ) → Carrier
-    → Result (List (List ℕ)) IndexError
-take_series keys lists s = do
-  rest ← take_reference s.0 lists 0
-  in_turn (take_label keys s.0) rest s.1
+unfoldable pub take_series : Rests → Carrier → Result Rests IndexError
+take_series rests s = do
+  others ← take_reference s.0 rests 0
+  in_turn (take_label s.0) others s.1
 
 -- the pairs of the table after the first, where the series in their order use up its lists
 unfoldable pub keys_used_up : List (List ℕ) → List TableEntry → List (List ℕ) → List Carrier
     → Result (List Label) IndexError
 keys_used_up symbols table lists series = do
-  keys ← keys_at symbols table
-  rests ← in_turn (take_series keys) (map references_in lists) series
-  if are_used lists && all_empty rests then Ok keys else Err PostingsDisagree
+  whole ← rests_of symbols table lists
+  rests ← in_turn take_series whole series
+  if are_used lists && all_empty rests.lists then Ok rests.keys else Err PostingsDisagree

@@ -1,24 +1,24 @@
 //! Whether the postings are those of the series.
 
 ghost use Rattle.std.specs.List.{list_all};
-ghost use Rattle.std.specs.Prelude.{◌≡◌, ◌+◌, ◌<◌, ◌^◌, length, nat_lt, All, IfOk, ◌==◌, [], MatchOption, true, ◌∷◌};
+ghost use Rattle.std.specs.Prelude.{◌≡◌, ◌+◌, ◌≤◌, ◌^◌, length, nat_lt, All, IfOk, ◌==◌, [], MatchOption, true, ◌∷◌};
 ghost use Rattle.index_reader.specs.AgreementChecks.{are_used, agreement_of};
 ghost use Rattle.index_reader.specs.CheckedFile.{carriers_seen, symbol_texts};
 ghost use Rattle.index_reader.specs.CarriedPairs.{all_empty};
 ghost use Rattle.index_reader.specs.Outcome.{Gives};
 ghost use Rattle.index_reader.specs.References.{references_in};
 ghost use Rattle.index_reader.specs.Seen.{bytes_of, table_seen, references_in_each};
-ghost use Rattle.index_reader.specs.SeriesWalk.{in_turn, take_reference, take_label, take_series, keys_used_up};
+ghost use Rattle.index_reader.specs.SeriesWalk.{in_turn, rests_of, take_reference, take_label, take_series, keys_used_up};
 
 use crate::bodies::{Bodies, label_set_at, reference_of};
 use crate::error::IndexError;
 use crate::keys::{Keys, guesses_of, key_in, place_near};
-use crate::offset_table::TableEntry;
 use crate::pairs::keys_of;
-use crate::postings::slice_at;
+use crate::postings::{PostingsTable, slice_at};
 use crate::symbols::Symbols;
 use byteorder::{BigEndian, ByteOrder};
 use std::alloc::{AllocError, Global};
+use std::marker::Model;
 
 #[tactic(auto, using(crate::proofs::Firsts::of_firsts))]
 fn first_reference(bytes: &[u8]) -> Option<(u32, &[u8])>
@@ -39,105 +39,129 @@ fn is_empty(bytes: &[u8]) -> bool
     first_reference(bytes).is_none()
 }
 
-// Takes the reference from the front of the list at a place, where it stands there.
-fn take_reference<'a>(
-    reference: u32,
-    lists: &mut Vec<&'a [u8]>,
-    place: usize,
-) -> Result<(), IndexError>
-    requires { place < length lists.old.items }
-    ensures exact { Gives (λ _. references_in_each lists.new.items) result
-        (take_reference reference (references_in_each lists.old.items) place) }
-    ensures counted { length lists.new.items ≡ length lists.old.items }
-{
-    let list = lists[place];
-    let Some((first, after)) = first_reference(list) else {
-        return Err(IndexError::PostingsDisagree);
-    };
-    if first != reference {
-        return Err(IndexError::PostingsDisagree);
+/// The pairs of the table, and what is left of each list: of that of all series, and after it of
+/// that of each pair.
+#[derive(Drop)]
+struct Rests<'a> {
+    keys: Keys,
+    guesses: Vec<usize>,
+    lists: Vec<&'a [u8]>,
+}
+
+impl<'a> Model for Rests<'a> {
+    ghost use Rattle.std.specs.Prelude.{◌≡◌, ◌+◌, length};
+    ghost use Rattle.index_reader.specs.Seen.{references_in_each};
+    ghost use Rattle.index_reader.specs.SeriesWalk as walk;
+
+    ghost Value = { walk.Rests };
+
+    ghost view = { λ r. record {
+      keys = r.keys.pairs.items;
+      lists = references_in_each r.lists.items;
+    } };
+
+    ghost invariant = { λ r. length r.lists.items ≡ length r.keys.pairs.items + 1 };
+}
+
+impl<'a> Rests<'a> {
+    // The whole lists.
+    #[tactic(auto, using(crate::proofs::Placing::lists_are), unfolding(crate::specs::SeriesWalk::rests_of))]
+    fn new(
+        alloc: Global,
+        symbols: &Symbols,
+        table: &PostingsTable<'a>,
+    ) -> Result<Rests<'a>, IndexError>
+        ensures { Gives (λ r. r) result (rests_of (symbol_texts symbols.now)
+            (table_seen table.now.entries.items) (bytes_of table.now.lists.items)) }
+    {
+        let keys = keys_of(alloc, symbols, &table.entries)?;
+        let guesses = guesses_of(alloc, symbols.texts.len(), &keys)?;
+        let lists = copy_slices(alloc, &table.lists)?;
+        Ok(Rests {
+            keys,
+            guesses,
+            lists,
+        })
     }
-    lists[place] = after;
-    Ok(())
-}
 
-// Takes it from the list of a label.
-#[tactic(auto, unfolding(crate::specs::SeriesWalk::take_label))]
-fn take_label<'a>(
-    keys: &Keys,
-    guesses: &[usize],
-    reference: u32,
-    lists: &mut Vec<&'a [u8]>,
-    label: (u32, u32),
-) -> Result<(), IndexError>
-    requires listed { length lists.old.items ≡ length keys.now.pairs.items + 1 }
-    ensures exact { Gives (λ _. references_in_each lists.new.items) result
-        (take_label keys.now.pairs.items reference (references_in_each lists.old.items) label) }
-    ensures counted { length lists.new.items ≡ length lists.old.items }
-{
-    let Some(at) = place_near(keys, guesses, label) else {
-        return Err(IndexError::PostingsDisagree);
-    };
-    take_reference(reference, lists, at + 1)
-}
-
-fn take_labels<'a>(
-    keys: &Keys,
-    guesses: &[usize],
-    reference: u32,
-    lists: &mut Vec<&'a [u8]>,
-    labels: &[(u32, u32)],
-) -> Result<(), IndexError>
-    requires listed { length lists.old.items ≡ length keys.now.pairs.items + 1 }
-    ensures exact { Gives (λ _. references_in_each lists.new.items) result
-        (in_turn (take_label keys.now.pairs.items reference)
-        (references_in_each lists.old.items) labels.now) }
-    ensures counted { length lists.new.items ≡ length lists.old.items }
-{
-    for at in 0..labels.len() {
-        let label = key_in(labels, at);
-        take_label(keys, guesses, reference, lists, label)?;
+    // Takes the reference from the front of the list at a place, where it stands there.
+    fn take_reference(&mut self, reference: u32, place: usize) -> Result<(), IndexError>
+        requires { place ≤ length self.old.keys }
+        ensures { Gives (λ _. self.new) result (take_reference reference self.old place) }
+    {
+        let list = self.lists[place];
+        let Some((first, after)) = first_reference(list) else {
+            return Err(IndexError::PostingsDisagree);
+        };
+        if first != reference {
+            return Err(IndexError::PostingsDisagree);
+        }
+        self.lists[place] = after;
+        Ok(())
     }
-    Ok(())
-}
 
-// Takes the reference of a series from the first list, and from that of each of its labels.
-#[tactic(auto, unfolding(crate::specs::SeriesWalk::take_series))]
-fn take_series<'a>(
-    keys: &Keys,
-    guesses: &[usize],
-    reference: u32,
-    lists: &mut Vec<&'a [u8]>,
-    labels: &[(u32, u32)],
-) -> Result<(), IndexError>
-    requires listed { length lists.old.items ≡ length keys.now.pairs.items + 1 }
-    ensures exact { Gives (λ _. references_in_each lists.new.items) result
-        (take_series keys.now.pairs.items (references_in_each lists.old.items)
-        (reference, labels.now)) }
-    ensures counted { length lists.new.items ≡ length lists.old.items }
-{
-    take_reference(reference, lists, 0)?;
-    take_labels(keys, guesses, reference, lists, labels)
-}
-
-// Takes the references of all series, in their order.
-fn take_all<'a>(
-    keys: &Keys,
-    guesses: &[usize],
-    bodies: &Bodies,
-    lists: &mut Vec<&'a [u8]>,
-) -> Result<(), IndexError>
-    requires listed { length lists.old.items ≡ length keys.now.pairs.items + 1 }
-    ensures { Gives (λ _. references_in_each lists.new.items) result
-        (in_turn (take_series keys.now.pairs.items) (references_in_each lists.old.items)
-        (carriers_seen bodies.now)) }
-{
-    for at in 0..bodies.series.len() {
-        let reference = reference_of(bodies, at);
-        let carried = label_set_at(bodies, at);
-        take_series(keys, guesses, reference, lists, carried)?;
+    // Takes it from the list of a label.
+    #[tactic(auto, unfolding(crate::specs::SeriesWalk::take_label))]
+    fn take_label(&mut self, reference: u32, label: (u32, u32)) -> Result<(), IndexError>
+        ensures { Gives (λ _. self.new) result (take_label reference self.old label) }
+    {
+        let Some(at) = place_near(&self.keys, &self.guesses, label) else {
+            return Err(IndexError::PostingsDisagree);
+        };
+        self.take_reference(reference, at + 1)
     }
-    Ok(())
+
+    fn take_labels(&mut self, reference: u32, labels: &[(u32, u32)]) -> Result<(), IndexError>
+        ensures { Gives (λ _. self.new) result
+            (in_turn (take_label reference) self.old labels.now) }
+    {
+        for at in 0..labels.len() {
+            let label = key_in(labels, at);
+            self.take_label(reference, label)?;
+        }
+        Ok(())
+    }
+
+    // Takes the reference of a series from the first list, and from that of each of its labels.
+    #[tactic(auto, unfolding(crate::specs::SeriesWalk::take_series))]
+    fn take_series(&mut self, reference: u32, labels: &[(u32, u32)]) -> Result<(), IndexError>
+        ensures { Gives (λ _. self.new) result (take_series self.old (reference, labels.now)) }
+    {
+        self.take_reference(reference, 0)?;
+        self.take_labels(reference, labels)
+    }
+
+    // Takes the references of all series, in their order.
+    fn take_all(&mut self, bodies: &Bodies) -> Result<(), IndexError>
+        ensures { Gives (λ _. self.new) result
+            (in_turn take_series self.old (carriers_seen bodies.now)) }
+    {
+        for at in 0..bodies.series.len() {
+            let reference = reference_of(bodies, at);
+            let carried = label_set_at(bodies, at);
+            self.take_series(reference, carried)?;
+        }
+        Ok(())
+    }
+
+    // Whether nothing is left.
+    fn is_empty(&self) -> bool
+        ensures { result ≡ all_empty self.now.lists }
+    {
+        all_empty(&self.lists)
+    }
+
+    // The pairs.
+    fn into_keys(self) -> Keys
+        ensures { result.pairs.items ≡ self.entry.keys }
+    {
+        let Rests {
+            keys,
+            guesses: _guesses,
+            lists: _lists,
+        } = self;
+        keys
+    }
 }
 
 fn all_empty(rests: &[&[u8]]) -> bool
@@ -183,29 +207,24 @@ fn are_used(lists: &[&[u8]]) -> bool
 
 // The series are walked once, in their order, each taking its reference from the lists of its
 // labels.
-#[tactic(auto, using(crate::proofs::Placing::lists_are), unfolding(crate::specs::SeriesWalk::keys_used_up))]
+#[tactic(auto, unfolding(crate::specs::SeriesWalk::keys_used_up))]
 fn use_up_lists(
     alloc: Global,
     symbols: &Symbols,
-    table: &[TableEntry<'_>],
-    lists: &[&[u8]],
+    table: &PostingsTable<'_>,
     bodies: &Bodies,
 ) -> Result<Keys, IndexError>
-    requires { length lists.now ≡ length table.now }
-    ensures exact { Gives (λ v. v.pairs.items) result
-        (keys_used_up (symbol_texts symbols.now) (table_seen table.now) (bytes_of lists.now)
-        (carriers_seen bodies.now)) }
-    ensures keyed { IfOk result (λ v. length v.pairs.items + 1 ≡ length table.now) }
+    ensures { Gives (λ v. v.pairs.items) result
+        (keys_used_up (symbol_texts symbols.now) (table_seen table.now.entries.items)
+        (bytes_of table.now.lists.items) (carriers_seen bodies.now)) }
 {
-    let keys = keys_of(alloc, symbols, table)?;
-    let guesses = guesses_of(alloc, symbols.texts.len(), &keys)?;
-    let mut rests = copy_slices(alloc, lists)?;
-    take_all(&keys, &guesses, bodies, &mut rests)?;
-    let whole = are_used(lists) & all_empty(&rests);
+    let mut rests = Rests::new(alloc, symbols, table)?;
+    rests.take_all(bodies)?;
+    let whole = are_used(&table.lists) & rests.is_empty();
     if !whole {
         return Err(IndexError::PostingsDisagree);
     }
-    Ok(keys)
+    Ok(rests.into_keys())
 }
 
 /// The pairs of the table after the empty one, where its lists are exactly the references of the
@@ -213,15 +232,12 @@ fn use_up_lists(
 pub fn check_agreement(
     alloc: Global,
     symbols: &Symbols,
-    table: &[TableEntry<'_>],
-    lists: &[&[u8]],
+    table: &PostingsTable<'_>,
     bodies: &Bodies,
 ) -> Result<Keys, IndexError>
-    requires { length lists.now ≡ length table.now }
-    ensures exact { Gives (λ v. v.pairs.items) result
-        (agreement_of (symbol_texts symbols.now) (table_seen table.now) (bytes_of lists.now)
-        (carriers_seen bodies.now)) }
-    ensures keyed { IfOk result (λ v. length v.pairs.items + 1 ≡ length table.now) }
+    ensures { Gives (λ v. v.pairs.items) result
+        (agreement_of (symbol_texts symbols.now) (table_seen table.now.entries.items)
+        (bytes_of table.now.lists.items) (carriers_seen bodies.now)) }
 {
-    use_up_lists(alloc, symbols, table, lists, bodies)
+    use_up_lists(alloc, symbols, table, bodies)
 }

@@ -15,8 +15,8 @@ use crate::bodies::{Bodies, are_small, bodies_of, is_rising};
 use crate::error::IndexError;
 use crate::keys::Keys;
 use crate::layout::{Layout, TableOfContents, read_layout, series_end};
-use crate::offset_table::{TableEntry, table_content_of, table_of};
-use crate::postings::lists_of;
+use crate::offset_table::{table_content_of, table_of};
+use crate::postings::{PostingsTable, lists_of};
 use crate::series_entries::gaps_are_zero;
 use crate::symbols::{Symbols, copy_symbols};
 use std::alloc::Global;
@@ -56,11 +56,10 @@ fn postings_of(
     alloc: Global,
     file: &[u8],
     t: TableOfContents,
-) -> Result<(Vec<TableEntry<'_>>, Vec<&[u8]>), IndexError>
+) -> Result<PostingsTable<'_>, IndexError>
     requires { IsPlaced t (length file.now) }
-    ensures exact { Gives (λ x. (table_seen x.0.items, bytes_of x.1.items)) result
+    ensures { Gives (λ x. (table_seen x.entries.items, bytes_of x.lists.items)) result
         (postings_of file.now t) }
-    ensures counted { IfOk result (λ x. length x.1.items ≡ length x.0.items) }
 {
     let content = table_content_of(file, t)?;
     let end = if t.label_offsets == 0 {
@@ -68,9 +67,9 @@ fn postings_of(
     } else {
         t.label_offsets
     };
-    let table = table_of(alloc, t.postings, end, content)?;
-    let lists = lists_of(alloc, file, end as usize, &table)?;
-    Ok((table, lists))
+    let entries = table_of(alloc, t.postings, end, content)?;
+    let lists = lists_of(alloc, file, end as usize, &entries)?;
+    Ok(PostingsTable { entries, lists })
 }
 
 /// All checks of an index, in their order.
@@ -81,15 +80,19 @@ pub fn check_all(alloc: Global, file: &[u8]) -> Result<Checked<'_>, IndexError>
 {
     let layout = read_layout(alloc, file)?;
     let bodies = check_bodies(alloc, file, &layout)?;
-    let (table, lists) = postings_of(alloc, file, layout.contents)?;
+    let table = postings_of(alloc, file, layout.contents)?;
     let symbols = copy_symbols(alloc, &layout.symbols)?;
-    let keys = check_agreement(alloc, &symbols, &table, &lists, &bodies)?;
+    let keys = check_agreement(alloc, &symbols, &table, &bodies)?;
     if bodies.series.len() > MAX_SERIES {
         return Err(IndexError::Limit);
     }
     if !are_small(&bodies) {
         return Err(IndexError::Limit);
     }
+    let PostingsTable {
+        entries: _entries,
+        lists,
+    } = table;
     Ok(Checked {
         layout,
         bodies,

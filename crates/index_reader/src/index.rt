@@ -11,12 +11,10 @@ use crate::bodies::flat_parts;
 use crate::checks::{Checked, check};
 use crate::chunk::Chunk;
 use crate::error::IndexError;
-use crate::keys::Keys;
 use crate::lists::{Lists, copy_lists};
-use crate::pairs::{place_of_pair, value_at, value_count};
+use crate::pairs::Pairs;
 use crate::postings::PostingsList;
 use crate::series::{Series, label_set_of};
-use crate::symbols::Symbols;
 use labels::{LabelSet, SeriesRef};
 use std::alloc::{AllocError, Global};
 use std::marker::Model;
@@ -25,8 +23,7 @@ use std::marker::Model;
 /// borrow of the file, and its lists of references as the bytes in which they were read.
 #[derive(Drop)]
 pub struct Index {
-    symbols: Symbols,
-    keys: Keys,
+    pairs: Pairs,
     labels: Vec<(u32, u32)>,
     chunks: Vec<Chunk>,
     series: Vec<Series>,
@@ -41,11 +38,11 @@ impl Model for Index {
     ghost use Rattle.index_reader.specs.Seen.{strings_of};
     ghost use Rattle.index_reader.specs.KeptIndex.{indexed_in, IsKeptIndex};
 
-    ghost view = { λ x. indexed_in (strings_of x.symbols.texts.items)
-        x.keys.pairs.items x.labels.items x.chunks.items x.series.items };
+    ghost view = { λ x. indexed_in (strings_of x.pairs.symbols.texts.items)
+        x.pairs.keys.pairs.items x.labels.items x.chunks.items x.series.items };
 
-    ghost invariant = { λ x. IsKeptIndex (strings_of x.symbols.texts.items)
-        x.keys.pairs.items x.labels.items x.chunks.items x.series.items x.lists };
+    ghost invariant = { λ x. IsKeptIndex (strings_of x.pairs.symbols.texts.items)
+        x.pairs.keys.pairs.items x.labels.items x.chunks.items x.series.items x.lists };
 }
 
 // The checks, and what they leave.
@@ -64,8 +61,7 @@ fn index_of(alloc: Global, file: &[u8]) -> Result<Index, IndexError>
     let lists = copy_lists(alloc, &lists)?;
     let (labels, chunks, series) = flat_parts(bodies);
     Ok(Index {
-        symbols,
-        keys,
+        pairs: Pairs { symbols, keys },
         labels,
         chunks,
         series,
@@ -126,7 +122,7 @@ impl Index {
         let series = self.series[i];
         label_set_of(
             alloc,
-            &self.symbols,
+            &self.pairs.symbols,
             &self.labels[series.labels_start..series.labels_end],
         )
     }
@@ -157,7 +153,7 @@ impl Index {
         ensures some { IfSome result
             (λ e. references_with name.now value.now self.now.series ≡ [] → ⊥) }
     {
-        let at = place_of_pair(&self.symbols, &self.keys, name, value)?;
+        let at = self.pairs.place_of(name, value)?;
         Some(self.lists.entries_at(at + 1))
     }
 
@@ -165,7 +161,7 @@ impl Index {
     pub fn value_count(&self, name: &str) -> usize
         ensures { result ≡ length (values_of name.now self.now.pairs) }
     {
-        value_count(&self.symbols, &self.keys, name)
+        self.pairs.value_count(name)
     }
 
     /// The value of a name at a place, in the order of their bytes.
@@ -173,6 +169,6 @@ impl Index {
         requires { i < length (values_of name.now self.now.pairs) }
         ensures { slice_get (values_of name.now self.now.pairs) i ≡ Some result.now }
     {
-        value_at(&self.symbols, &self.keys, name, i)
+        self.pairs.value_at(name, i)
     }
 }

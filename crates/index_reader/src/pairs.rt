@@ -1,12 +1,13 @@
 //! The pairs of the offset table: read by their symbols, and found by their texts.
 
-ghost use Rattle.std.specs.Prelude.{◌≡◌, ◌+◌, ◌<◌, ◌≤◌, length, slice_range, map, slice_get, Some, IfOk, ℕ, [], IfSome, IfNone, get_or};
+ghost use Rattle.std.specs.List.{Contains};
+ghost use Rattle.std.specs.Prelude.{◌≡◌, ◌+◌, ◌<◌, ◌≤◌, length, slice_get, Some, IfOk, IfSome, IfNone};
 ghost use Rattle.index_reader.specs.AgreementChecks.{key_at, keys_at};
-ghost use Rattle.index_reader.specs.CheckedFile.{symbol_texts, pair_texts};
-ghost use Rattle.index_reader.specs.Indexes.{values_of, named_label};
+ghost use Rattle.index_reader.specs.CheckedFile.{symbol_texts};
+ghost use Rattle.index_reader.specs.Indexes.{values_of};
 ghost use Rattle.index_reader.specs.KeptIndex.{AreInTable};
 ghost use Rattle.index_reader.specs.Outcome.{Gives};
-ghost use Rattle.index_reader.specs.Seen.{table_entry_seen, table_seen};
+ghost use Rattle.index_reader.specs.Seen.{strings_of, table_entry_seen, table_seen};
 ghost use Rattle.index_reader.specs.Steps.{each};
 
 use crate::error::IndexError;
@@ -76,54 +77,61 @@ pub fn keys_of(
     Ok(Keys { pairs })
 }
 
-/// Where the pair of a name and a value stands.
-pub fn place_of_pair(symbols: &Symbols, keys: &Keys, name: &str, value: &str) -> Option<usize>
-    requires inside { AreInTable (symbol_texts symbols.now) keys.now.pairs.items }
-    ensures found { IfSome result (λ i. (i < length keys.now.pairs.items)
-        × (named_label (symbol_texts symbols.now) (get_or keys.now.pairs.items i (0, 0))
-        ≡ (name.now, value.now))) }
-    ensures absent { IfNone result ((k : ℕ) → k < length keys.now.pairs.items
-        → named_label (symbol_texts symbols.now) (get_or keys.now.pairs.items k (0, 0))
-        ≡ (name.now, value.now) → ⊥) }
-{
-    let first = find_symbol(symbols, name.as_bytes())?;
-    let second = find_symbol(symbols, value.as_bytes())?;
-    place_of(keys, (first as u32, second as u32))
+/// The symbols of an index and the pairs that it lists, each of two of these symbols.
+#[derive(Drop)]
+pub struct Pairs {
+    pub symbols: Symbols,
+    pub keys: Keys,
+    ghost inside: { AreInTable (strings_of symbols.texts.items) keys.pairs.items },
 }
 
-/// From where to where the pairs of a name stand.
-fn span_of(symbols: &Symbols, keys: &Keys, name: &str) -> (usize, usize)
-    requires inside { AreInTable (symbol_texts symbols.now) keys.now.pairs.items }
-    ensures within { (result.0 ≤ result.1) × (result.1 ≤ length keys.now.pairs.items) }
-    ensures values { values_of name.now (pair_texts symbols.now keys.now)
-        ≡ map (λ k. get_or (symbol_texts symbols.now) k.1 [])
-        (slice_range keys.now.pairs.items result.0 result.1) }
-{
-    let Some(symbol) = find_symbol(symbols, name.as_bytes()) else {
-        return (0, 0);
-    };
-    let name = symbol as u64;
-    (count_below(keys, name), count_below(keys, name + 1))
-}
+impl Pairs {
+    ghost use Rattle.index_reader.specs.PairTexts.{pair_texts, values_between};
 
-/// How many values a name has among the pairs.
-pub fn value_count(symbols: &Symbols, keys: &Keys, name: &str) -> usize
-    requires inside { AreInTable (symbol_texts symbols.now) keys.now.pairs.items }
-    ensures { result ≡ length (values_of name.now (pair_texts symbols.now keys.now)) }
-{
-    let (start, end) = span_of(symbols, keys, name);
-    end - start
-}
+    /// Where the pair of a name and a value stands.
+    pub fn place_of(&self, name: &str, value: &str) -> Option<usize>
+        ensures found { IfSome result
+            (λ i. slice_get (pair_texts self.now) i ≡ Some (name.now, value.now)) }
+        ensures absent { IfNone result
+            (Contains (pair_texts self.now) (name.now, value.now) → ⊥) }
+    {
+        let first = find_symbol(&self.symbols, name.as_bytes())?;
+        let second = find_symbol(&self.symbols, value.as_bytes())?;
+        place_of(&self.keys, (first as u32, second as u32))
+    }
 
-/// The value at a place among those of a name.
-pub fn value_at<'a>(symbols: &'a Symbols, keys: &Keys, name: &str, i: usize) -> &'a str
-    requires inside { AreInTable (symbol_texts symbols.now) keys.now.pairs.items }
-    requires i_in { i < length (values_of name.now (pair_texts symbols.now keys.now)) }
-    ensures { slice_get (values_of name.now (pair_texts symbols.now keys.now)) i
-        ≡ Some result.now }
-{
-    let (start, _) = span_of(symbols, keys, name);
-    let place = start + i;
-    let key = pair_at(keys, place);
-    text_in(symbols, key.1 as usize)
+    /// From where to where the pairs of a name stand.
+    fn span_of(&self, name: &str) -> (usize, usize)
+        ensures within { (result.0 ≤ result.1) × (result.1 ≤ length self.now.keys.pairs.items) }
+        ensures values { values_of name.now (pair_texts self.now)
+            ≡ values_between self.now result.0 result.1 }
+    {
+        let Some(symbol) = find_symbol(&self.symbols, name.as_bytes()) else {
+            return (0, 0);
+        };
+        let name = symbol as u64;
+        (
+            count_below(&self.keys, name),
+            count_below(&self.keys, name + 1),
+        )
+    }
+
+    /// How many values a name has among the pairs.
+    pub fn value_count(&self, name: &str) -> usize
+        ensures { result ≡ length (values_of name.now (pair_texts self.now)) }
+    {
+        let (start, end) = self.span_of(name);
+        end - start
+    }
+
+    /// The value at a place among those of a name.
+    pub fn value_at(&self, name: &str, i: usize) -> &str
+        requires { i < length (values_of name.now (pair_texts self.now)) }
+        ensures { slice_get (values_of name.now (pair_texts self.now)) i ≡ Some result.now }
+    {
+        let (start, _) = self.span_of(name);
+        let place = start + i;
+        let key = pair_at(&self.keys, place);
+        text_in(&self.symbols, key.1 as usize)
+    }
 }

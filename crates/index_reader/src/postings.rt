@@ -171,6 +171,14 @@ fn references_of_each<'a>(alloc: Global, contents: &[&'a [u8]]) -> Result<Vec<&'
     Ok(lists)
 }
 
+/// The entries of the table of offsets, and the bytes of the references of each.
+#[derive(Drop)]
+pub struct PostingsTable<'a> {
+    pub entries: Vec<TableEntry<'a>>,
+    pub lists: Vec<&'a [u8]>,
+    ghost paired: { length lists.items ≡ length entries.items },
+}
+
 /// The bytes of the references of each entry of the table.
 #[tactic(auto, unfolding(crate::specs::PostingsChecks::lists_at))]
 pub fn lists_of<'a>(

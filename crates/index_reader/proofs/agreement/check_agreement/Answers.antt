@@ -5,9 +5,9 @@ use Rattle.index_reader.specs.CheckedFile.{carriers_seen}
 use Rattle.index_reader.proofs.Taken.{used_up_is}
 use Rattle.index_reader.proofs.agreement.check_agreement.Goals as goal
 
-pub returns-clause-exact : goal.returns-clause-exact
-returns-clause-exact c =
+pub returns : goal.returns
+returns c =
     subst (λ read. Gives (λ v. v.pairs.items) c.use_up_lists.result read)
-    (used_up_is (strings_of c.args.symbols.now.texts.items) (table_seen c.args.table.now)
-    (bytes_of c.args.lists.now) (carriers_seen c.args.bodies.now))
-    c.use_up_lists.ensures.exact
+    (used_up_is (strings_of c.args.symbols.now.texts.items)
+    (table_seen c.args.table.now.entries.items) (bytes_of c.args.table.now.lists.items)
+    (carriers_seen c.args.bodies.now)) c.use_up_lists.ensures

@@ -2,7 +2,7 @@ use Rattle.std.proofs.Common.{subst}
 use Rattle.std.proofs.lemmas.Result.{err_from_is_err_and}
 use Rattle.index_reader.specs.Indexes.{IsConsistent}
 use Rattle.index_reader.specs.Spelled.{IsIndex}
-use Rattle.index_reader.proofs.Held.{err_fails, exact_is, lists_whole, whole_is, is_kept}
+use Rattle.index_reader.proofs.Held.{err_fails, exact_is, keys_inside, lists_whole, whole_is, is_kept}
 use Rattle.index_reader.proofs.index.index_of.Goals as goal
 
 pub returns-in_err-_layout-clause-exact : goal.returns-in_err-_layout-clause-exact
@@ -42,6 +42,11 @@ returns-clause-consistent c =
 
 pub invariant_of-result : goal.invariant_of-result
 invariant_of-result c =
+    let k = c.in_ok-_layout in
+    record { inside = keys_inside c.args.file.now k.field-0 k.ensures.held k.ensures.read }
+
+pub invariant_of-result-2 : goal.invariant_of-result-2
+invariant_of-result-2 c =
     let k = c.in_ok-_layout in
     is_kept c.args.file.now k.field-0 c.flat_parts-labels.result.0.items
     c.flat_parts-labels.result.1.items c.flat_parts-labels.result.2.items c.in_ok-lists.lists

@@ -10,6 +10,7 @@ returns c =
     let x = c.self.inside in
     let s = c.index.result.now in
     mapped_at (λ (y : indexes.Series). y.reference) c.args.self.now.series c.args.i
-    (series_in (strings_of x.symbols.texts.items) x.labels.items x.chunks.items s)
-    (series_seen (strings_of x.symbols.texts.items) x.keys.pairs.items x.labels.items x.chunks.items
+    (series_in (strings_of x.pairs.symbols.texts.items) x.labels.items x.chunks.items s)
+    (series_seen (strings_of x.pairs.symbols.texts.items) x.pairs.keys.pairs.items
+    x.labels.items x.chunks.items
     x.series.items c.args.self.now c.args.i s c.self.view_is c.requires c.index.ensures)

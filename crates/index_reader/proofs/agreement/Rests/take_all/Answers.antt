@@ -1,49 +1,36 @@
-use Rattle.std.proofs.Common.{refl, ◌∙◌, arith}
+use Rattle.std.proofs.Common.{arith}
 use Rattle.std.proofs.lemmas.Result.{err_from_is_err_and}
 use Rattle.std.specs.Prelude.{slice_range}
 use Rattle.std.proofs.lemmas.List.{length-map}
 use Rattle.index_reader.specs.declared.series.Series.{Series}
-use Rattle.index_reader.specs.Seen.{references_in_each}
 use Rattle.index_reader.specs.CheckedFile.{carriers_seen}
 use Rattle.index_reader.specs.FlatBodies.{label_sets_in, references_in_order}
 use Rattle.index_reader.specs.SeriesWalk.{take_series}
 use Rattle.index_reader.proofs.Placing.{tied_at, length-tied}
 use Rattle.index_reader.proofs.Taken.{turn_on, turn_fails, turn_done}
-use Rattle.index_reader.proofs.agreement.take_all.Goals as goal
-
-pub loop-at-init : goal.loop-at-init
-loop-at-init c = record {
-  counted = refl;
-  so_far = refl;
-}
+use Rattle.index_reader.proofs.agreement.Rests.take_all.Goals as goal
 
 pub returns-in_err-take_series : goal.returns-in_err-take_series
 returns-in_err-take_series c =
     let p = err_from_is_err_and c.from_residual.result c.from_residual.ensures.1 in
-    rw (p.1, p.2) (turn_fails (take_series c.args.keys.now.pairs.items)
-    c.in_err-take_series.field-0.0 (references_in_each c.loop-at.lists.items)
+    rw (p.1, p.2) (turn_fails take_series c.in_err-take_series.field-0.0 c.loop-at.self
     (carriers_seen c.args.bodies.now) c.loop-at.at _ _ (tied_at _ _ _ _ _
     c.reference_of-reference.ensures c.label_set_at-carried.ensures)
-    c.in_err-take_series.ensures.exact c.loop-at.invariant.so_far)
+    c.in_err-take_series.ensures c.loop-at.invariant)
 
 pub loop-at-preserved : goal.loop-at-preserved
-loop-at-preserved c = record {
-  counted = c.in_ok-take_series.ensures.counted ∙ c.loop-at.invariant.counted;
-  so_far =
-      turn_on (take_series c.args.keys.now.pairs.items) (references_in_each c.loop-at.lists.items) _
-      (carriers_seen c.args.bodies.now) c.loop-at.at _ _
-      (tied_at _ _ _ _ _ c.reference_of-reference.ensures c.label_set_at-carried.ensures)
-      c.in_ok-take_series.ensures.exact c.loop-at.invariant.so_far;
-}
+loop-at-preserved c =
+    turn_on take_series c.loop-at.self _ (carriers_seen c.args.bodies.now) c.loop-at.at _ _
+    (tied_at _ _ _ _ _ c.reference_of-reference.ensures c.label_set_at-carried.ensures)
+    c.in_ok-take_series.ensures c.loop-at.invariant
 
 pub returns : goal.returns
 returns c =
     let b = c.args.bodies.now in
-    turn_done (take_series c.args.keys.now.pairs.items) (references_in_each c.loop-at.lists.items)
-    (carriers_seen b) c.loop-at.at _ (omega (
+    turn_done take_series c.loop-at.self (carriers_seen b) c.loop-at.at _ (omega (
       arith,
       length-tied (references_in_order b.series.items)
           (label_sets_in b.labels.items b.series.items),
       length-map b.series.items (λ (s : Series).
           slice_range b.labels.items s.labels_start s.labels_end),
-    )) c.loop-at.invariant.so_far
+    )) c.loop-at.invariant

@@ -1,9 +1,0 @@
-use Rattle.index_reader.specs.Seen.{strings_of}
-use Rattle.index_reader.proofs.Spans.{values_counted}
-use Rattle.index_reader.proofs.pairs.value_count.Goals as goal
-
-pub returns : goal.returns
-returns c =
-    values_counted (strings_of c.args.symbols.now.texts.items) c.args.name.now
-    c.args.keys.now.pairs.items _ _ c.span_of-start.ensures.within.0
-    c.span_of-start.ensures.within.1 c.span_of-start.ensures.values
