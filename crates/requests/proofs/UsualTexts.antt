@@ -10,7 +10,7 @@ use Rattle.serde_json.specs.Find.{as_array, as_i64}
 use Rattle.serde_json.specs.Read.{of_json, of_items, of_members, converted, number_of}
 use Rattle.labels.specs.Contents.{is_time}
 use Rattle.requests.specs.Json.{integer_in}
-use Rattle.requests.specs.Rows.{WrittenRow, pairs_in, sample_in, is_labelled, row_in, rows_in, rows_of}
+use Rattle.requests.specs.Rows.{WrittenRow, pairs_in, sample_in, is_labelled, row_in, rows_in, rows_in_body}
 use Rattle.requests.specs.Usual.{Comes, pairs_of_object, samples_of_list, rows_of_list}
 use Rattle.requests.proofs.Conversions.{converted_some, converted-array, converted-object, item_read, items_over, member_read, members_over, text_read}
 use Rattle.requests.proofs.JsonTexts.{json_when}
@@ -221,7 +221,7 @@ row_comes old a b c d e new pairs samples first named labels_come then_named sam
 
 -- ---- the whole text
 
-pub text_writes : (text : List ℕ) (written : List WrittenRow) → IsUtf8 text → Comes rows_of_list 4 (tokens text) written [] → rows_of text ≡ Some written
+pub text_writes : (text : List ℕ) (written : List WrittenRow) → IsUtf8 text → Comes rows_of_list 4 (tokens text) written [] → rows_in_body text ≡ Some written
 text_writes text written utf8 comes =
     let d = came rows_of_list 4 127 (tokens text) [] written comes (omega arith) in
     ap (λ o. option_and_then rows_in (option_and_then as_array o)) (sym (json_when text d.0 utf8 (text_read text d.0 d.1))) ∙ d.2

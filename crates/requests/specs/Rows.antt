@@ -82,8 +82,8 @@ rows_in (item d ds) =
     option_and_then (λ row. option_map (λ rows. row ∷ rows) (rows_in ds)) (row_in d)
 
 -- the rows that a body writes: a list of them
-abbrev pub rows_of : List ℕ → Option (List WrittenRow)
-rows_of body = option_and_then rows_in (option_and_then as_array (json_of body))
+abbrev pub rows_in_body : List ℕ → Option (List WrittenRow)
+rows_in_body body = option_and_then rows_in (option_and_then as_array (json_of body))
 
 -- the label set of the written pairs, and the written samples
 pub record IsRowOf (written : WrittenRow) (row : Row) : Type 0 where

@@ -4,17 +4,17 @@ use Rattle.labels.specs.Rows.{Row}
 use Rattle.requests.specs.declared.refusal.Refusal.TheVariants.{BadBody}
 use Rattle.requests.specs.declared.request.Request.TheVariants.{Write}
 use Rattle.requests.specs.Requests.{Meaning}
-use Rattle.requests.specs.Rows.{WrittenRow, rows_of, AreRowsOf, batch_of}
+use Rattle.requests.specs.Rows.{WrittenRow, rows_in_body, AreRowsOf, batch_of}
 
 -- the rows that a body writes
 pub record IsWritten (body : List ℕ) (rows : List Row) : Type 0 where
   pub written : List WrittenRow
-  pub spelled : rows_of body ≡ Some written
+  pub spelled : rows_in_body body ≡ Some written
   pub each : AreRowsOf written rows
 
 -- the rows that a body writes, or none where it writes none
 abbrev pub AreRowsInBody : List ℕ → Option (List Row) → Type 0
-AreRowsInBody body None = rows_of body ≡ None
+AreRowsInBody body None = rows_in_body body ≡ None
 AreRowsInBody body (Some rows) = IsWritten body rows
 
 -- rows of at most 4,096 samples ask a batch; another body is a bad one
@@ -24,6 +24,6 @@ WriteMeans body (Ok (Write batch)) =
     × (length (batch_of rows) ≤ 4096)
 WriteMeans body (Ok _) = ⊥
 WriteMeans body (Err BadBody) =
-    (rows_of body ≡ None)
+    (rows_in_body body ≡ None)
     ⊎ ((rows : List Row) × IsWritten body rows × (4096 < length (batch_of rows)))
 WriteMeans body (Err _) = ⊥

@@ -163,7 +163,7 @@ fn rows_by_tree(alloc: Global, body: &[u8]) -> Result<Option<Vec<Row>>, AllocErr
     }
 }
 
-fn rows_of(alloc: Global, body: &[u8]) -> Result<Option<Vec<Row>>, AllocError>
+fn rows_in_body(alloc: Global, body: &[u8]) -> Result<Option<Vec<Row>>, AllocError>
     ensures { IfOk result (λ o. AreRowsInBody body.now (option_map (λ v. v.items) o)) }
 {
     match usual_rows(alloc, body)? {
@@ -201,7 +201,7 @@ fn batch_of(alloc: Global, rows: &[Row]) -> Result<Vec<(LabelSet, Sample)>, Allo
 pub fn write(alloc: Global, body: &[u8]) -> Result<Request, ReadError>
     ensures { Told (WriteMeans body.now) result }
 {
-    let Some(rows) = rows_of(alloc, body)? else {
+    let Some(rows) = rows_in_body(alloc, body)? else {
         return Err(ReadError::Refused(Refusal::BadBody));
     };
     let batch = batch_of(alloc, rows.as_slice())?;
