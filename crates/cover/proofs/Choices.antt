@@ -16,7 +16,7 @@ use Rattle.postings.proofs.Choosing.{Entry, where_rises, in_rows, to_rows, rows_
 use Rattle.cover.specs.declared.certificate.Interval.{Interval}
 use Rattle.cover.specs.Certificates.{IsAsked, IsLeftmost, IsMatching, AreMatches}
 use Rattle.cover.specs.Asking.{labels_at, samples_at, satisfies_at, asked, matching_references}
-use Rattle.cover.specs.Walking.{accepted_by, alive, asked_by_lists, list_at, lists_of}
+use Rattle.cover.specs.Walking.{accepted_by, alive, asked_by_lists, list_at, matcher_lists}
 use Rattle.cover.proofs.Agreement.{asks, Agree, AgreeLive, leftmost_too}
 use Rattle.cover.proofs.Farthest.{length_map}
 
@@ -58,8 +58,8 @@ rows_sub t part r c =
     subst (λ (z : ℕ). Contains (references part) z) k.1.2 (map-has' part k.0 k.1.0)
 
 pub chosen_kept : (part : Part) (ms : List MatcherView) (j : ℕ) → IsPart part → j < length ms
-    → list_at (lists_of part ms) j
-    ≡ filter (λ (r : ℕ). has (list_at (lists_of part ms) j) r) (references part)
+    → list_at (matcher_lists part ms) j
+    ≡ filter (λ (r : ℕ). has (list_at (matcher_lists part ms) j) r) (references part)
 chosen_kept part [] j is l = absurd (omega (arith, l))
 chosen_kept part (m ∷ ms) zero is l =
     kept_by (references_where (λ labels. satisfies m labels) part) (references part)
@@ -136,22 +136,22 @@ live_has from to part is r c =
     ∙ ap (has_sample from to) (sym samples)
 
 agrees : (part : Part) (ms : List MatcherView) → IsPart part → Agree (references part) (length ms)
-    (λ j r. has (list_at (lists_of part ms) j) r) (λ j r. satisfies_at ms j (labels_at part r))
+    (λ j r. has (list_at (matcher_lists part ms) j) r) (λ j r. satisfies_at ms j (labels_at part r))
 agrees part [] is j r l c = absurd (omega (arith, l))
 agrees part (m ∷ ms) is zero r l c = where_has (λ labels. satisfies m labels) part r is.ascending c
 agrees part (m ∷ ms) is (suc j) r l c = agrees part ms is j r (omega (arith, l)) c
 
 pub leftmost_asked : (part : Part) (q : QueryView) (c : List Interval) → IsPart part
-    → IsLeftmost (asked_by_lists (references part) (lists_of part q.matchers)
+    → IsLeftmost (asked_by_lists (references part) (matcher_lists part q.matchers)
     (live_references q.from q.to part)) c → IsLeftmost (asked part q) c
 leftmost_asked part q c is l =
     leftmost_too (references part) (length q.matchers)
-    (λ j r. has (list_at (lists_of part q.matchers) j) r) (λ j r.
+    (λ j r. has (list_at (matcher_lists part q.matchers) j) r) (λ j r.
     satisfies_at q.matchers j (labels_at part r))
     (λ r. has (live_references q.from q.to part) r) (λ r. has_sample q.from q.to
     (samples_at part r)) c (agrees part q.matchers is) (live_has q.from q.to part is)
     (subst (λ (m : ℕ). IsLeftmost (asks (references part) m (λ j r. has
-    (list_at (lists_of part q.matchers) j) r) (λ r. has (live_references q.from q.to part) r)) c)
+    (list_at (matcher_lists part q.matchers) j) r) (λ r. has (live_references q.from q.to part) r)) c)
     (length_map (λ m. references_where (λ labels. satisfies m labels) part) q.matchers) l)
 
 -- the list of an element
@@ -162,7 +162,7 @@ list_at_map f (x ∷ xs) zero d l = refl
 list_at_map f (x ∷ xs) (suc j) d l = list_at_map f xs j d (omega (arith, l))
 
 kept_from : (part : Part) (ms : List MatcherView) (R : List ℕ) (Y : List (List ℕ)) (j : ℕ)
-    → IsPart part → references part ≡ R → lists_of part ms ≡ Y → j < length Y
+    → IsPart part → references part ≡ R → matcher_lists part ms ≡ Y → j < length Y
     → list_at Y j ≡ filter (λ (r : ℕ). has (list_at Y j) r) R
 kept_from part ms R Y j is er ey l =
     let short : j < length ms = omega (
@@ -176,7 +176,7 @@ kept_from part ms R Y j is er ey l =
     (references part)) ey (chosen_kept part ms j is short))
 
 pub accepted_from : {X : Type 0} (F : X → List ℕ) (xs : List X) (R L : List ℕ) (part : Part)
-    (ms : List MatcherView) → R ≡ references part → map F xs ≡ lists_of part ms → IsPart part
+    (ms : List MatcherView) → R ≡ references part → map F xs ≡ matcher_lists part ms → IsPart part
     → (j : ℕ) (d : X) → j < length xs → F (get_or xs j d) ≡ accepted_by (asked_by_lists R (map F xs) L) j
 accepted_from F xs R L part ms er ey is j d l =
     list_at_map F xs j d l
@@ -200,12 +200,12 @@ part_from part R Y L e is = record {
 }
 
 pub leftmost_from : (part : Part) (q : QueryView) (R : List ℕ) (Y : List (List ℕ)) (L : List ℕ)
-    (c : List Interval) → R ≡ references part → Y ≡ lists_of part q.matchers
+    (c : List Interval) → R ≡ references part → Y ≡ matcher_lists part q.matchers
     → L ≡ live_references q.from q.to part → IsPart part → IsLeftmost (asked_by_lists R Y L) c
     → IsLeftmost (asked part q) c
 leftmost_from part q R Y L c er ey el is l =
     leftmost_asked part q c is
-    (subst (λ (M : List ℕ). IsLeftmost (asked_by_lists (references part) (lists_of part q.matchers) M) c)
+    (subst (λ (M : List ℕ). IsLeftmost (asked_by_lists (references part) (matcher_lists part q.matchers) M) c)
     el
     (subst (λ (Z : List (List ℕ)). IsLeftmost (asked_by_lists (references part) Z L) c) ey
     (subst (λ (Q : List ℕ). IsLeftmost (asked_by_lists Q Y L) c) er l)))

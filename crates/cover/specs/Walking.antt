@@ -11,12 +11,12 @@ use Rattle.cover.specs.declared.certificate.Verdict.TheVariants.{Match, NoSample
 use Rattle.cover.specs.Certificates.{Asked}
 
 -- what remains of each list, which stands beside the count of its moves
-abbrev pub remaining_of : {P : Type 0} → (P → List ℕ) → List (P × ℕ) → List (List ℕ)
-remaining_of remaining lists = map (λ list. remaining list.0) lists
+abbrev pub remaining_of_each : {P : Type 0} → (P → List ℕ) → List (P × ℕ) → List (List ℕ)
+remaining_of_each remaining lists = map (λ list. remaining list.0) lists
 
 -- the list of each matcher: the references of the part whose label set satisfies it
-abbrev pub lists_of : Part → List MatcherView → List (List ℕ)
-lists_of part matchers = map (λ m. references_where (λ labels. satisfies m labels) part) matchers
+abbrev pub matcher_lists : Part → List MatcherView → List (List ℕ)
+matcher_lists part matchers = map (λ m. references_where (λ labels. satisfies m labels) part) matchers
 
 -- the references that matcher j accepts
 abbrev pub accepted_by : Asked → ℕ → List ℕ
@@ -47,11 +47,11 @@ asked_by_lists references lists live = record {
 abbrev pub asked_in_walk : {P Q L : Type 0} → (P → List ℕ) → (Q → List ℕ) → (L → List ℕ) → P × ℕ
     → List (Q × ℕ) → L × ℕ → Asked
 asked_in_walk of_all of_list of_live all lists live =
-    asked_by_lists (of_all all.0) (remaining_of of_list lists) (of_live live.0)
+    asked_by_lists (of_all all.0) (remaining_of_each of_list lists) (of_live live.0)
 
 -- what remains of each list are the references that the matcher of its number accepts
-abbrev pub AreAccepted : {P : Type 0} → (P → List ℕ) → Asked → List (P × ℕ) → Type 0
-AreAccepted {P} remaining a lists =
+abbrev pub AreAcceptedLists : {P : Type 0} → (P → List ℕ) → Asked → List (P × ℕ) → Type 0
+AreAcceptedLists {P} remaining a lists =
     (j : ℕ) (d : P × ℕ) → j < length lists
     → remaining (slice_index_or lists j d).0 ≡ accepted_by a j
 

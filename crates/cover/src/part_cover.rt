@@ -3,7 +3,7 @@
 ghost use Rattle.std.specs.Prelude.{◌≡◌, ℕ, ◌+◌, ◌-◌, ◌^◌, min, ◌*◌, ◌≤◌, length, IfOk};
 ghost use Rattle.cover.specs.Certificates.{IsLeftmost, begins_of};
 ghost use Rattle.cover.specs.Asking.{asked};
-ghost use Rattle.cover.specs.Walking.{AllFresh, AllMovedAtMost, lists_of, remaining_of};
+ghost use Rattle.cover.specs.Walking.{AllFresh, AllMovedAtMost, matcher_lists, remaining_of_each};
 ghost use Rattle.cover.specs.Covers.{IsCoverOf, MovesAtMost};
 
 use crate::certificate::Interval;
@@ -39,8 +39,9 @@ fn chosen_lists<S: Source>(
     source: &S,
     matchers: &[Matcher],
 ) -> Result<Vec<Counted<Chosen<S::List>>>, AllocError>
-    ensures lists { IfOk result (λ v. remaining_of ⟦<Chosen<S::List> as Postings>⟧.remaining v.items
-        ≡ lists_of (S.part source.now) matchers.now) }
+    ensures lists { IfOk result (λ v.
+        remaining_of_each ⟦<Chosen<S::List> as Postings>⟧.remaining v.items
+        ≡ matcher_lists (S.part source.now) matchers.now) }
     ensures fresh { IfOk result (λ v. AllFresh v.items) }
 {
     let mut lists = Vec::new(alloc);

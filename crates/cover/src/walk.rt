@@ -3,7 +3,7 @@
 ghost use Rattle.std.specs.Prelude.{◌≡◌, ◌+◌, ◌<◌, ◌≤◌, length, IfOk};
 ghost use Rattle.labels.specs.Ascending.{or_end};
 ghost use Rattle.cover.specs.Certificates.{IsAsked, IsLeftmost};
-ghost use Rattle.cover.specs.Walking.{asked_in_walk, alive, AreAccepted, AllFresh, AllMovedAtMost, AllMovedAtMostOnce, AllMovedTo, TellsFarthestIn, MovesOn};
+ghost use Rattle.cover.specs.Walking.{asked_in_walk, alive, AreAcceptedLists, AllFresh, AllMovedAtMost, AllMovedAtMostOnce, AllMovedTo, TellsFarthestIn, MovesOn};
 
 use crate::certificate::{Interval, Verdict};
 use labels::SeriesRef;
@@ -95,7 +95,7 @@ pub(crate) fn walk<P: Postings, Q: Postings, L: Postings>(
 ) -> Result<Vec<Interval>, AllocError>
     requires part { IsAsked
         (asked_in_walk P.remaining Q.remaining L.remaining all.old lists.old live.old) }
-    requires accepted { AreAccepted Q.remaining
+    requires accepted { AreAcceptedLists Q.remaining
         (asked_in_walk P.remaining Q.remaining L.remaining all.old lists.old live.old) lists.old }
     requires living { L.remaining live.old.0 ≡ alive
         (asked_in_walk P.remaining Q.remaining L.remaining all.old lists.old live.old) }

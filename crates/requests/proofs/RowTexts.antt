@@ -11,7 +11,7 @@ use Rattle.serde_json.specs.Events.{items_len}
 use Rattle.serde_json.specs.View.{view, items_view, members_view}
 use Rattle.serde_json.specs.declared.value.Value.{Value}
 use Rattle.requests.specs.Json.{has_members}
-use Rattle.requests.specs.Rows.{WrittenRow, pair_bytes, pair_of, pairs_in, labels_at, samples_at, sample_in, pair_in, is_labelled, row_in, rows_in, IsRowOf, AreRowsOf, batch_of}
+use Rattle.requests.specs.Rows.{WrittenRow, pair_bytes, text_pair, pairs_in, labels_at, samples_at, sample_in, pair_in, is_labelled, row_in, rows_in, IsRowOf, AreRowsOf, batch_of}
 
 pub sample_unless : (d : Data) (ds : Items) → Some ds ≡ as_array d → (items_len ds ≡ 2 → ⊥) → sample_in d ≡ None
 sample_unless d ds e n = rw (← e, ne_eqb (items_len ds) 2 n)
@@ -66,7 +66,7 @@ pairs_head (Some text) name pair left e = let same : pair ≡ (name, text) = cc 
 pub pairs_turn : (all : Members) (s t : List (String Global × Value)) (name : String Global) (value : Value) (pair : String Global × String Global)
     (done next : List (String Global × String Global)) → s ≡ (name, value) ∷ t
     → pairs_in all ≡ option_map (λ ps. pairs_of done ++ ps) (pairs_in (members_view s))
-    → Some (pair_bytes pair) ≡ pair_of (string_bytes name) (view value)
+    → Some (pair_bytes pair) ≡ text_pair (string_bytes name) (view value)
     → next ≡ done ++ pair ∷ []
     → pairs_in all ≡ option_map (λ ps. pairs_of next ++ ps) (pairs_in (members_view t))
 pairs_turn all s t name value pair done next first so_far one e =

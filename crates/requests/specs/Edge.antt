@@ -7,8 +7,8 @@ abbrev pub HasGrown : ℕ → ℕ → Type 0
 HasGrown old new = (old < new) ⊎ (new ≡ 2 ^ 64 - 1)
 
 -- bytes went from the front of the input to the end of the buffer
-abbrev pub HasMoved : Option (List ℕ) → Option (List ℕ) → List ℕ → List ℕ → Type 0
-HasMoved input rest before after =
+abbrev pub IsReadInto : Option (List ℕ) → Option (List ℕ) → List ℕ → List ℕ → Type 0
+IsReadInto input rest before after =
     (bytes : List ℕ) × (after ≡ before ++ bytes) × Consumes input rest bytes
 
 -- a failed call in a line, for people

@@ -27,6 +27,6 @@ EndsReading ends.Fault = ⊤
 EndsReading ends.Memory = ⊤
 EndsReading (ends.Refused refusal) = IsOfBytes refusal
 
--- the answer is `Fault` only where the count of failed reads has grown
+-- the answer is `Fault` only where the count of failed reads has grown, or is the greatest `u64`
 abbrev pub IsCountedFault : {A : Type 0} → Result A ReadError → ℕ → ℕ → Type 0
 IsCountedFault result old new = IsErrOf result ends.Fault → HasGrown old new

@@ -15,8 +15,8 @@ abbrev pub pair_bytes : {Z : Type 0} → String Z × String Z → List ℕ × Li
 pair_bytes pair = (string_bytes pair.0, string_bytes pair.1)
 
 -- the pair of a member's name and its text, if it is a text
-abbrev pub pair_of : List ℕ → Data → Option (List ℕ × List ℕ)
-pair_of name d = option_map (λ text. (name, text)) (as_str d)
+abbrev pub text_pair : List ℕ → Data → Option (List ℕ × List ℕ)
+text_pair name d = option_map (λ text. (name, text)) (as_str d)
 
 -- the pairs of names and texts, if each member is a text
 abbrev pub pairs_in : Members → Option (List (List ℕ × List ℕ))
@@ -81,7 +81,7 @@ rows_in no_items = Some []
 rows_in (item d ds) =
     option_and_then (λ row. option_map (λ rows. row ∷ rows) (rows_in ds)) (row_in d)
 
--- the rows that a body writes: a list of them
+-- what a body spells, if it is a list of rows: the pairs and the samples of each
 abbrev pub rows_in_body : List ℕ → Option (List WrittenRow)
 rows_in_body body = option_and_then rows_in (option_and_then as_array (json_of body))
 

@@ -3,7 +3,7 @@
 ghost use Rattle.std.specs.Prelude.{◌≡◌, ◌<◌, ◌≤◌, ◌⊎◌, ◌+◌, [], vec_len};
 ghost use Rattle.std.specs.Prelude.{IfOk, IfErr, IfSome, OnOk};
 ghost use Rattle.std.specs.Io.KnownBytes.{Consumes, IsAtEnd};
-ghost use Rattle.requests.specs.Edge.{HasMoved};
+ghost use Rattle.requests.specs.Edge.{IsReadInto};
 ghost use Rattle.requests.specs.Ending.{EndsReading, IsCountedFault};
 ghost use Rattle.requests.specs.Heads.{BeginsWithHead, EndsHead};
 ghost use Rattle.requests.specs.Looks.{Looks};
@@ -25,7 +25,7 @@ pub fn read_some<R: Inlet>(
     ensures count { IfOk result (λ n. n ≤ most) }
     ensures len { IfOk result (λ n. vec_len buf.new ≡ vec_len buf.old + n) }
     ensures bytes { OnOk result
-        (HasMoved (R.input reader.old) (R.input reader.new) buf.old.items buf.new.items) }
+        (IsReadInto (R.input reader.old) (R.input reader.new) buf.old.items buf.new.items) }
     ensures end { IfOk result (λ n. n ≡ 0 → IsAtEnd (R.input reader.new)) }
     ensures counted { OnOk result (R.failed_reads reader.new ≡ R.failed_reads reader.old) }
     ensures err { IfErr result (λ e. (e ≡ ReadError.Fault) ⊎ (e ≡ ReadError.Memory)) }

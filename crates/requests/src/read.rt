@@ -2,7 +2,7 @@
 
 ghost use Rattle.std.specs.Prelude.{◌≤◌, vec_len, IfOk, IfErr, IfSome, OnOk};
 ghost use Rattle.httparse.specs.Grammar.{RequestHead};
-ghost use Rattle.requests.specs.Edge.{HasMoved};
+ghost use Rattle.requests.specs.Edge.{IsReadInto};
 ghost use Rattle.requests.specs.Ending.{EndsReading, IsCountedFault};
 ghost use Rattle.requests.specs.Fields.{IsHeadIn};
 ghost use Rattle.requests.specs.Fitting.{IsFit};
@@ -24,7 +24,7 @@ use std::alloc::Global;
 fn read_body<R: Inlet>(reader: &mut R, buf: &mut Vec<u8>, end: usize) -> Result<(), ReadError>
     ensures whole { OnOk result (end ≤ vec_len buf.new) }
     ensures bytes { OnOk result
-        (HasMoved (R.input reader.old) (R.input reader.new) buf.old.items buf.new.items) }
+        (IsReadInto (R.input reader.old) (R.input reader.new) buf.old.items buf.new.items) }
     ensures err { IfErr result (λ e. IfSome (R.input reader.old)
         (λ more. EndsBody buf.old.items end e more)) }
     ensures refusal { IfErr result EndsReading }

@@ -3,7 +3,7 @@
 ghost use Rattle.std.specs.Prelude.{◌≡◌, ◌++◌, ℤ, map, option_map, string_bytes, IfOk, OnOk};
 ghost use Rattle.labels.specs.Pairs.{pairs_of};
 ghost use Rattle.serde_json.specs.View.{view, items_view, members_view};
-ghost use Rattle.requests.specs.Rows.{pair_bytes, pair_of, pairs_in, labels_at, time_item, integer_item, sample_in, samples_in, samples_at, batch_of, IsLabelSetOf, IsRowIn, AreRowsIn};
+ghost use Rattle.requests.specs.Rows.{pair_bytes, text_pair, pairs_in, labels_at, time_item, integer_item, sample_in, samples_in, samples_at, batch_of, IsLabelSetOf, IsRowIn, AreRowsIn};
 ghost use Rattle.requests.specs.Writing.{AreRowsInBody, WriteMeans};
 ghost use Rattle.requests.specs.Requests.{Told};
 
@@ -14,13 +14,13 @@ use labels::{LabelError, LabelSet, Row, Sample, is_time};
 use serde_json::{Map, Value};
 use std::alloc::{AllocError, Global};
 
-fn pair_of(
+fn text_pair(
     alloc: Global,
     name: &String,
     value: &Value,
 ) -> Result<Option<(String, String)>, AllocError>
     ensures { IfOk result (λ o. option_map pair_bytes o
-        ≡ pair_of (string_bytes name.now) (view value.now)) }
+        ≡ text_pair (string_bytes name.now) (view value.now)) }
 {
     let Some(text) = value.as_str() else {
         return Ok(None);
@@ -39,7 +39,7 @@ fn pairs_in(
 {
     let mut pairs = Vec::new(alloc);
     for (name, value) in members {
-        let Some(pair) = pair_of(alloc, name, value)? else {
+        let Some(pair) = text_pair(alloc, name, value)? else {
             return Ok(None);
         };
         pairs.push(pair)?;

@@ -93,8 +93,8 @@ fn may_send_more(stream: &TcpStream, status: Status) -> bool {
     }
 }
 
-/// Reads on what a client still sends, and drops it, until the client ends; at most for a second,
-/// and at most 2 MiB.
+/// Reads on what a client still sends, and drops it, until the client ends: at most 2 MiB, and no
+/// read begins after a second.
 fn drain(rt: &impl Clock, stream: &TcpStream) -> io::Result<()> {
     let mut waste = [0u8; 8192];
     let mut reader = stream;

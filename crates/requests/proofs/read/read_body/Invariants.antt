@@ -1,10 +1,10 @@
 use Rattle.std.proofs.Common.{◌≡◌, ◌-◌, vec_len}
-use Rattle.requests.specs.Edge.{HasMoved}
+use Rattle.requests.specs.Edge.{IsReadInto}
 use Rattle.requests.proofs.read.read_body.Given as goal
 
 abbrev pub invariant-loop-buf : goal.invariant-loop-buf
 invariant-loop-buf g l =
-    HasMoved (g.R.Inlet.input l.initial.reader) (g.R.Inlet.input l.reader) l.initial.buf.items l.buf.items
+    IsReadInto (g.R.Inlet.input l.initial.reader) (g.R.Inlet.input l.reader) l.initial.buf.items l.buf.items
     × (g.R.Inlet.failed_reads l.reader ≡ g.R.Inlet.failed_reads l.initial.reader)
 
 abbrev pub decreases-loop-buf : goal.decreases-loop-buf
