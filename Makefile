@@ -1,29 +1,52 @@
 # make help lists the targets.
 RT ?= rt
 PREFIX ?= /usr/local
-JOBS ?= $(shell nproc)
 # Checks that the gate runs side by side: the largest takes some 5.5 GB of a machine's 24, most half of that.
 GATE_JOBS ?= $(shell n=$$(nproc); echo $$((n < 4 ? n : 4)))
 CRATES := $(shell sed -e 's/\#.*//' -e 's/:.*//' -e '/^[[:space:]]*$$/d' crates.txt)
+# Which crate has the tests of which crates; a crate of tests has its own.
+TESTS_OF := selection_tests:labels,pages,matchers,postings,cover \
+	file_tests:wire,index_reader,chunk_reader,tombstones,block,block_writer \
+	store_tests:head,history,snapshots \
+	search_tests:block_search,series_merge \
+	request_tests:requests \
+	serving_tests:query_http,server \
+	command_tests:commands,querier \
+	auditing_tests:auditor,audit_command,audit_laws,auditor_program
+# The crate with the tests of a crate, or nothing.
+tests_of = $(if $(filter %_tests,$(1)),$(1),$(word 1,$(subst :, ,$(foreach it,$(TESTS_OF),$(if \
+	$(filter $(1),$(subst $(comma), ,$(word 2,$(subst :, ,$(it))))),$(it))))))
+comma := ,
+# Runs a command, and shows the end of what it told only if it failed.
+quiet = log=$$(mktemp) && if ( $(1) ) >$$log 2>&1; then rm -f $$log; else \
+	tail -n 20 $$log >&2; rm -f $$log; echo "failed: $(strip $(2))" >&2; exit 1; fi
 
-.PHONY: help try demo test gate-times allocations audits serving bench install $(addprefix check-,$(CRATES))
+.PHONY: help try demo test gate-times readme allocations audits serving bench install \
+	$(addprefix check-,$(CRATES)) $(addprefix test-,$(CRATES)) $(addprefix proved-,$(CRATES))
 
 help: ## lists the targets
 	@grep -hE '^[a-z-]+:.*## ' $(MAKEFILE_LIST) | sed -E 's/^([a-z-]+):.*## /\1\t/' | expand -t 16
 	@echo "check-CRATE     proves one crate; CRATE is one of: $(CRATES)"
+	@echo "test-CRATE      runs the tests of one crate, wherever they stand"
 
-try: ## runs `querier demo` with no proof, in about a minute
+try: ## runs `querier demo` with no proof
+	@echo "building without proofs: one minute, up to three on a slow or busy machine" >&2
 	@cd crates/querier && $(RT) try -- demo
 
-demo: ## proves every crate, as many side by side as there are processors, and runs `querier demo`
-	@$(RT) all check --jobs $(JOBS) >/dev/null
-	@cd crates/querier && $(RT) run -- demo
+demo: ## proves what `querier` stands on, with a line for each crate, and runs `querier demo`
+	@$(MAKE) --no-print-directory -j $(GATE_JOBS) proved-querier
+	@echo "building querier: one to three minutes" >&2
+	@$(call quiet,cd crates/querier && $(RT) run -- demo,the build of querier)
+	@crates/querier/out/querier demo
 
 test: ## the merge gate: every proof from nothing, must-fail edits, tests, programs
 	@RT_JOBS=$(GATE_JOBS) $(RT) ci
 
 gate-times: ## runs the gate and tells its minutes by crate, for proofs, proofs of tests and edits
 	@RT_JOBS=$(GATE_JOBS) tests/gate-times $(RT) ci
+
+readme: ## types each command of the README and compares what it prints; with PREFIX=.. it takes the programs in PREFIX/bin
+	@RT="$(RT)" tests/readme
 
 allocations: ## refuses each allocation in turn: of an opening, changes of a store, the demo, a selection, a search, connections and audits (needs a C compiler)
 	@RT="$(RT)" tests/allocations
@@ -37,12 +60,28 @@ serving: ## runs the server and asks it with curl: the session of the README, sl
 bench: ## measures speed (never part of the gate)
 	@RT="$(RT)" bench/run && RT="$(RT)" bench/check && RT="$(RT)" bench/select && RT="$(RT)" bench/audit && RT="$(RT)" bench/serve
 
-install: ## proves and builds querier and auditor, and copies them to PREFIX/bin
-	@$(RT) all check --jobs $(JOBS) >/dev/null
-	@cd crates/querier && $(RT) run -- demo >/dev/null
-	@cd crates/auditor_program && $(RT) run -- --selector up <stdin >/dev/null
+install: ## proves what querier and auditor stand on, with a line for each crate, builds both, and copies them to PREFIX/bin
+	@$(MAKE) --no-print-directory -j $(GATE_JOBS) proved-querier proved-auditor_program
+	@echo "building querier and auditor: two to five minutes" >&2
+	@$(call quiet,cd crates/querier && $(RT) run -- demo,the build of querier)
+	@$(call quiet,cd crates/auditor_program && $(RT) run -- --selector up <stdin,the build of auditor)
 	@install -D -m 755 crates/querier/out/querier "$(DESTDIR)$(PREFIX)/bin/querier"
 	@install -D -m 755 crates/auditor_program/out/auditor_program "$(DESTDIR)$(PREFIX)/bin/auditor"
 
 $(addprefix check-,$(CRATES)): check-%:
 	@cd crates/$* && $(RT) check
+
+$(addprefix test-,$(CRATES)): test-%:
+	@tests="$(call tests_of,$*)"; [ -n "$$tests" ] || { echo "$*: the Makefile's table TESTS_OF does not name its tests" >&2; exit 1; }; \
+	echo "the tests of $* stand in crates/$$tests" >&2; cd crates/$$tests && $(RT) test
+
+# proved-CRATE proves a crate once those that it stands on are proved, as crates.txt says, several side by side.
+$(addprefix proved-,$(CRATES)): proved-%:
+	@began=$$(date +%s); echo "proving $*" >&2; \
+	$(call quiet,cd crates/$* && $(RT) check,the proof of $*); \
+	echo "proved $* in $$(( $$(date +%s) - began )) s" >&2
+
+define stands_on
+proved-$(1): $(addprefix proved-,$(filter $(CRATES),$(2)))
+endef
+$(foreach name,$(CRATES),$(eval $(call stands_on,$(name),$(shell sed -nE 's/^$(name)( [^:]*)?://p' crates.txt))))
