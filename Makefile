@@ -57,6 +57,13 @@ audits: ## pipes querier's replies, as they are and changed, through auditor (ne
 serving: ## runs the server and asks it with curl: the session of the README, slow and silent clients
 	@RT="$(RT)" tests/serving
 
+.PHONY: package pages
+package: ## builds a Debian package of the programs, man pages, documents and the example (needs dpkg-deb and binutils)
+	@RT="$(RT)" packaging/make
+
+pages: ## compares the help texts, the man pages and the documents, and runs the examples of the man pages
+	@RT="$(RT)" tests/pages
+
 bench: ## measures speed (never part of the gate)
 	@RT="$(RT)" bench/run && RT="$(RT)" bench/check && RT="$(RT)" bench/select && RT="$(RT)" bench/audit && RT="$(RT)" bench/serve
 
