@@ -1,0 +1,20 @@
+//! Decimal texts, as OpenMetrics writes times and values, read as whole numbers of parts.
+//!
+//! [`decimal`] reads a text such as `1700000002.008` in parts of which a power of ten make one: in
+//! thousandths a time in seconds gives milliseconds. It is exact: no double stands between, nothing
+//! is rounded, and what a text says beyond the parts is refused ([`DecimalError`]).
+//!
+//! ```
+//! assert_eq!(rt; decimal(b"1700000002.008", 3), Ok(1_700_000_002_008));
+//! assert_eq!(rt; decimal(b"0.1000", 1), Ok(1));
+//! assert_eq!(rt; decimal(b"0.15", 1), Err(DecimalError::Finer));
+//! ```
+//!
+//! It stands on `wire`, for what an answer says against reading.
+#![tactic(auto)]
+
+mod error;
+mod number;
+
+pub use error::DecimalError;
+pub use number::decimal;
