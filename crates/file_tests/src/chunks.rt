@@ -195,7 +195,6 @@ fn a_file_begins_as_a_segment(rt: HostRuntime) {
 #[test]
 fn the_worked_file_gives_its_samples(rt: HostRuntime) {
     let alloc = rt.alloc();
-    assert!(rt; CHUNKS.len() == 152);
     let file = CHUNKS.to_vec(alloc).ok().expect(&rt, "there is memory");
     let chunks = Chunks::open(file).ok().expect(&rt, "it opens");
     for (reference, value) in WORKED {

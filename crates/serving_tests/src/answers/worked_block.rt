@@ -1,7 +1,7 @@
 //! The worked block of docs/FORMATS.md, spelled by hand: six series of one sample at time 10, at
 //! the references 4 to 9.
 
-use super::{Asked, NO_DELETIONS, Pieces, Row, SEGMENT, Spelled, is_answered, join_pieces};
+use super::{Asked, NO_DELETIONS, Pieces, Row, SEGMENT, Spelled, is_answered};
 
 /// Magic, version, symbols, and zeros up to byte 64.
 const SYMBOLS: Pieces = &[
@@ -89,14 +89,6 @@ const WITH_DELETION: Spelled = Spelled {
     chunks: CHUNKS_FILE,
     tombstones: ONE_DELETION,
 };
-
-#[test]
-fn the_files_have_the_worked_lengths(rt: HostRuntime) {
-    let index = join_pieces(rt.alloc(), INDEX_FILE).expect(&rt, "there is memory");
-    assert!(rt; index.len() == 442);
-    let chunks = join_pieces(rt.alloc(), CHUNKS_FILE).expect(&rt, "there is memory");
-    assert!(rt; chunks.len() == 152);
-}
 
 const UP_A: Asked = (r#"up{job="a"}"#, 0, 100);
 
