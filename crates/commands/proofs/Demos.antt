@@ -13,6 +13,7 @@ use Rattle.head.specs.Limits.{most}
 use Rattle.head.specs.Worlds.{Event, replayed}
 use Rattle.snapshots.specs.declared.entry.Entry.{Entry}
 use Rattle.snapshots.specs.Replays.{events_in, EndsWith}
+use Rattle.snapshots.specs.Seats.{SeatView}
 use Rattle.snapshots.specs.Views.{Known}
 use Rattle.snapshots.proofs.Prefixes.{prefix_trans}
 use Rattle.query_http.specs.Headline.{IsHeadline}
@@ -88,17 +89,17 @@ module _ (opening : SnapshotParts) (query : QueryView) (before after : Known)
       (prefix_trans first told after.seen p up) (prefix_trans second before.told
       after.seen r h.told))
 
-module _ (opening : SnapshotParts) (empty : opening_of [] ≡ opening) (event : Event) (fault : Fault)
-    (h : IsCommitFault opening event fault) where
+module _ (opening : SnapshotParts) (empty : opening_of [] ≡ opening) (seat : SeatView)
+    (event : Event) (fault : Fault) (h : IsCommitFault opening seat event fault) where
   pub first_refused : event ≡ first_event → IsDemoFault fault
   first_refused is =
-      by_commit event (0, lit< tt, sym is)
-      (subst (λ (s : SnapshotParts). IsCommitFault s event fault) (sym empty) h)
+      by_commit seat event (0, lit< tt, sym is)
+      (subst (λ (s : SnapshotParts). IsCommitFault s seat event fault) (sym empty) h)
 
   pub second_refused : event ≡ second_event → IsDemoFault fault
   second_refused is =
-      by_commit event (1, lit< tt, sym is)
-      (subst (λ (s : SnapshotParts). IsCommitFault s event fault) (sym empty) h)
+      by_commit seat event (1, lit< tt, sym is)
+      (subst (λ (s : SnapshotParts). IsCommitFault s seat event fault) (sym empty) h)
 
 -- two items more
 pub two_more : {A : Type 0} (xs ys zs : List A) (x y v w : A) → ys ≡ xs ++ x ∷ [] → x ≡ v → y ≡ w

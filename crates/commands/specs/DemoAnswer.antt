@@ -9,6 +9,7 @@ use Rattle.head.specs.Limits.{most}
 use Rattle.head.specs.Worlds.{Event, replayed}
 use Rattle.head.specs.declared.error.CommitError.{CommitError}
 use Rattle.snapshots.specs.Replays.{IsRefusedAfter}
+use Rattle.snapshots.specs.Seats.{SeatView}
 use Rattle.snapshots.specs.declared.error.OpenError.TheVariants as store
 use Rattle.snapshots.specs.declared.error.SnapshotError.TheVariants as snapshot
 use Rattle.query_http.specs.Audited.{IsAudited}
@@ -35,17 +36,17 @@ pub record WritesAnswerAfter (events : List Event) (query : QueryView)
   pub is : IsAnswerAfter events query answer
   pub written : Appends old new (line_text answer)
 
--- the store refused the event so, after events that it had accepted
-abbrev pub IsCommitFault : SnapshotParts → Event → Fault → Type 0
-IsCommitFault opening event fault =
-    (error : CommitError) × (fault ≡ commit_fault error) × IsRefusedAfter opening error event
+-- the event was refused so under the seat, by a refusal that the store could give
+abbrev pub IsCommitFault : SnapshotParts → SeatView → Event → Fault → Type 0
+IsCommitFault opening seat event fault =
+    (error : CommitError) × (fault ≡ commit_fault error) × IsRefusedAfter opening seat error event
 
 -- why the demo ends before it is done: memory or the writer failed, the store had no room for
--- another reader, it refused a batch after events that it had accepted, or it had no snapshot
+-- another reader, it refused a batch under a seat, or it had no snapshot
 pub data IsDemoFault (fault : Fault) : Type 0 where
   by_writing : IsWritingFault fault → IsDemoFault fault
   by_opening : fault ≡ Refused (Open store.Unavailable) → IsDemoFault fault
-  by_commit : (event : Event) → Contains demo_events event
-      → IsCommitFault (opening_of []) event fault
+  by_commit : (seat : SeatView) → (event : Event) → Contains demo_events event
+      → IsCommitFault (opening_of []) seat event fault
       → IsDemoFault fault
   by_snapshot : fault ≡ Refused (Snapshot snapshot.Unavailable) → IsDemoFault fault

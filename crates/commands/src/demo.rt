@@ -133,7 +133,8 @@ fn commit<J: Naming, R: Wait>(
     appender: Appender,
 ) -> Result<Receipt<J>, Fault>
     ensures ends { IfOk result (λ r. EndsWith (batch appender) seat.old.number r) }
-    ensures err { IfErr result (λ fault. IsCommitFault J.opening (batch appender) fault) }
+    ensures err { IfErr result (λ fault.
+        IsCommitFault J.opening seat.old (batch appender) fault) }
 {
     match committer.commit(rt, seat, appender) {
         Ok(receipt) => Ok(receipt),

@@ -8,8 +8,8 @@ use Rattle.head.specs.Worlds.{Event}
 use Rattle.head.specs.declared.error.CommitError.{CommitError}
 use Rattle.head.specs.declared.error.CommitError.TheVariants.{Memory}
 use Rattle.snapshots.specs.Replays.{IsRefusedAfter, IsOfSeatOrMemory}
+use Rattle.snapshots.specs.Seats.{SeatView}
 use Rattle.snapshots.specs.Views.{Known}
-use Rattle.snapshots.proofs.Replaying.{after-none}
 use Rattle.requests.specs.declared.refusal.Cause.{Cause}
 use Rattle.requests.specs.declared.refusal.Refusal.TheVariants.{Refused}
 use Rattle.requests.specs.declared.status.Status.{Status}
@@ -45,25 +45,23 @@ answer_replied opening query before after answer (Ok r) h number spelled =
     inl (record { answer = answer; headline = h; number = number; spelled = spelled })
 answer_replied opening query before after answer (Err e) h number spelled = tt
 
--- where a refusal is the seat's or memory's, and not memory's, it is that of the store's opening
--- too
-pub seat_refused : (opening : SnapshotParts) (event : Event) (error : CommitError)
-    → IsOfSeatOrMemory error → error ≢ Memory
-    → IsRefusedAfter opening error event
-seat_refused opening event error (inl e) other =
-    ([], opening, after-none opening, λ seat. absurd (seat e))
-seat_refused opening event error (inr e) other = absurd (other e)
+-- of a refusal that is the seat's or memory's no more is said
+pub seat_refused : (opening : SnapshotParts) (seat : SeatView) (event : Event) (error : CommitError)
+    → IsOfSeatOrMemory error
+    → IsRefusedAfter opening seat error event
+seat_refused opening seat event error (inl e) other no_memory = absurd (other e)
+seat_refused opening seat event error (inr e) other no_memory = absurd (no_memory e)
 
 pub conflict_replied : {E : Type 0} (opening : SnapshotParts) (event : Event)
     (before after : Worker) (error : CommitError) (result : Result Reply E)
-    → after ≡ before → (error ≢ Memory → IsRefusedAfter opening error event)
+    → after ≡ before → IsRefusedAfter opening before.seat error event
     → IfOk result (λ _. error ≢ Memory) → IfOk result (λ r. r.status ≡ Conflict)
     → IfOk result (λ r. text_of r ≡ reply_text Conflict (conflict_body error))
     → IfOk result (λ r. IsEventReply opening event before after r.status (text_of r))
 conflict_replied opening event before after error (Ok r) same found no_memory number spelled =
     inr (record {
       error = error;
-      found = found no_memory;
+      found = found;
       no_memory = no_memory;
       same = same;
       number = number;

@@ -80,8 +80,9 @@ abbrev pub conflict_body : CommitError → List ℕ
 conflict_body error = compact_text (cause_data (codes "H9") (commit_code error, refused_at error))
 
 -- The event was accepted, and this is the reply. The seat has published one event more, and the
--- pass has learnt a receipt. The list of the receipt ends with the event, under the seat's number;
--- each of its events was accepted; and it has as many of that number as the seat now counts.
+-- pass has learnt a receipt. The list of the receipt begins with that of the seat's last one and
+-- ends with the event, under the seat's number; each of its events was accepted; and it has as many
+-- of that number as the seat now counts.
 pub record IsAcceptedReply (opening : SnapshotParts) (event : Event) (before after : Worker)
     (status : Status) (text : List ℕ) : Type 0 where
   pub receipt : List Entry
@@ -94,12 +95,13 @@ pub record IsAcceptedReply (opening : SnapshotParts) (event : Event) (before aft
   pub number : status ≡ Done
   pub spelled : text ≡ done_text
 
--- The event was refused by its step on a snapshot of the store, or for the seat, and nothing
--- changed.
+-- The event was refused for the seat, or by its step after a list of accepted events that begins
+-- with the list of the seat's last receipt and has no event more under the seat's number; and
+-- nothing changed.
 pub record IsRefusedReply (opening : SnapshotParts) (event : Event) (before after : Worker)
     (status : Status) (text : List ℕ) : Type 0 where
   pub error : CommitError
-  pub found : IsRefusedAfter opening error event
+  pub found : IsRefusedAfter opening before.seat error event
   pub no_memory : error ≢ commit_error.Memory
   pub same : after ≡ before
   pub number : status ≡ Conflict

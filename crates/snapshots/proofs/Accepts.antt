@@ -77,6 +77,18 @@ covers_when xs ys zs p q true is =
     covers xs ys zs p q (grind (arith, nat_tests)) (nat_le (length xs) (length ys)) refl
 covers_when xs ys zs p q false is = tt
 
+-- of two beginnings of one log the one that is not longer begins the other
+pub begins_when : (xs ys zs : List Mark) → IsPrefix xs zs → IsPrefix ys zs → (b : Bool)
+    → nat_le (length xs) (length ys) ≡ b → MatchBool b (IsPrefix xs ys) (Unit {0})
+begins_when xs ys zs p q true is = prefix_shorter xs ys zs p q (grind (arith, nat_tests))
+begins_when xs ys zs p q false is = tt
+
+-- what a log accepts begins with what each of its beginnings accepts
+pub known : (xs ys : List Mark) (seen : List Entry) → accepted xs ≡ seen → IsPrefix xs ys
+    → IsPrefix seen (accepted ys)
+known xs ys seen is p =
+    subst (λ (z : List Entry). IsPrefix z (accepted ys)) is (accepted_prefix xs ys p)
+
 -- no more is accepted than there are marks
 pub accepted_short : (held : Option Entry) (xs : List Mark)
     → length (accepted_after held xs) ≤ length xs

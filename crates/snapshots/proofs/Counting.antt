@@ -3,8 +3,9 @@ use Rattle.std.proofs.Common.{◌≡◌, ◌≢◌, ℕ, ◌+◌, ◌<◌, ◌==
 use Rattle.std.proofs.Common.{refl, sym, ap, ◌∙◌, subst, arith, length-set}
 use Rattle.std.proofs.lemmas.List.{get_or-set_same, get_or-set_other}
 use Rattle.std.proofs.lemmas.Bool.Decides.{nat_tests}
+use mathlib.Core.List.{IsPrefix}
 use Rattle.snapshots.specs.declared.entry.Entry.{Entry}
-use Rattle.snapshots.specs.Seats.{SeatView, AreFresh, count_of, AreCounts}
+use Rattle.snapshots.specs.Seats.{SeatView, AreFresh, count_of, AreCounts, FitsSeat, IsMetBy}
 
 pub count_of-snoc : (k : ℕ) (es : List Entry) (e : Entry)
     → count_of k (es ++ e ∷ []) ≡ count_of k es + (if k == e.seat then 1 else 0)
@@ -66,8 +67,25 @@ counted_next counts es all e number n are is seat in_range more =
     rw (is, more, ← seat)
     (counts_own counts es e are (subst (λ (k : ℕ). k < length counts) (sym seat) in_range))
 
+-- the list of a book is one that a seat which fits the book may meet, if it begins with what the
+-- seat has seen
+pub met_by : (seat : SeatView) (counts : List ℕ) (es : List Entry) → AreCounts counts es
+    → FitsSeat seat counts → IsPrefix seat.seen es → IsMetBy seat es
+met_by seat counts es are fits begins = record {
+  begins = begins;
+  counted = sym (are seat.number fits.0) ∙ fits.1;
+}
+
+-- seats that differ in nothing but how their list is written
+pub same_seen : (number count : ℕ) (xs ys : List Entry) → xs ≡ ys
+    → ◌≡◌ {A = SeatView} (record { number = number; count = count; seen = xs })
+    (record { number = number; count = count; seen = ys })
+same_seen number count xs ys e =
+    λ i. record { number = number; count = count; seen = e i }
+
 pub fresh-snoc : (n m : ℕ) (ss : List SeatView) (s : SeatView)
-    → AreFresh n ss → length ss ≡ m → s.number ≡ n + m → s.count ≡ 0 → AreFresh n (ss ++ s ∷ [])
-fresh-snoc n m [] s h len is zero = (omega arith, zero, tt)
-fresh-snoc n m (t ∷ ss) s h len is zero =
-    (h.0, h.1, fresh-snoc (n + 1) (length ss) ss s h.2 refl (omega arith) zero)
+    → AreFresh n ss → length ss ≡ m → s.number ≡ n + m → s.count ≡ 0 → s.seen ≡ []
+    → AreFresh n (ss ++ s ∷ [])
+fresh-snoc n m [] s h len is zero none = (omega arith, zero, none, tt)
+fresh-snoc n m (t ∷ ss) s h len is zero none =
+    (h.0, h.1, h.2, fresh-snoc (n + 1) (length ss) ss s h.3 refl (omega arith) zero none)

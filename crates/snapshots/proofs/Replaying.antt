@@ -1,5 +1,5 @@
 -- One event more after a replay.
-use Rattle.std.proofs.Common.{◌≡◌, ℤ, List, [], ◌∷◌, ◌++◌, map, Result, Ok, Err, refl, sym, ap, ◌∙◌, subst, inl, inr}
+use Rattle.std.proofs.Common.{◌≡◌, ℤ, List, [], ◌∷◌, ◌++◌, map, Result, Ok, Err, IfErr, OnErr, refl, sym, ap, ◌∙◌, subst, inl, inr}
 use Rattle.std.proofs.lemmas.List.{map_push}
 use mathlib.Core.List.{IsPrefix}
 use Rattle.head.specs.Kept.{KeepsBlocks, frame_of}
@@ -16,7 +16,8 @@ use Rattle.snapshots.specs.declared.entry.Entry.{Entry}
 use Rattle.logbook.specs.Pages.{Book}
 use Rattle.snapshots.specs.Grows.{Shows}
 use Rattle.snapshots.specs.Replays.{events_in, IsAfter, Steps, Leads, KeepsFrames, IsEventRefusal, IsRefusedAfter, IsOfSeatOrMemory}
-use Rattle.snapshots.specs.Views.{Edition}
+use Rattle.snapshots.specs.Seats.{SeatView, IsMetBy}
+use Rattle.snapshots.specs.Views.{Edition, Ledger}
 use Rattle.snapshots.proofs.Prefixes.{prefix_self, prefix_trans}
 
 replayed_from-snoc : (r : Result World Refusal) (es : List Event) (e : Event) (v : World)
@@ -82,19 +83,38 @@ after_shown book opening x es e s t shows at step =
     after-snoc opening es e x.parts t here
     (subst (λ (z : SnapshotParts). Steps z e.event t) at step)
 
-module _ (s : SnapshotParts) (ms : List MatcherView) (from to : ℤ) where
-  by_seat_or_memory : (e : CommitError) → IsEventRefusal e s (deletion ms from to) → IsOfSeatOrMemory e
-  by_seat_or_memory Seat is = inl refl
-  by_seat_or_memory Memory is = inr refl
-  by_seat_or_memory (OutOfBounds at) is = absurd (cc (is (λ same. absurd (cc same))))
-  by_seat_or_memory (OutOfOrder at) is = absurd (cc (is (λ same. absurd (cc same))))
-  by_seat_or_memory (Duplicate at) is = absurd (cc (is (λ same. absurd (cc same))))
-  by_seat_or_memory Limit is = absurd (cc (is (λ same. absurd (cc same))))
-  by_seat_or_memory CutTooLow is = absurd (cc (is (λ same. absurd (cc same))))
-  by_seat_or_memory TooManyParts is = absurd (cc (is (λ same. absurd (cc same))))
+-- what refuses a step of a book refuses it after a list that the seat may meet
+pub refused_met : {A : Type 0} (opening : SnapshotParts) (seat seat_after : SeatView)
+    (event : Event) (old new : Ledger) (r : Result A (Event × CommitError))
+    → OnErr r ((new ≡ old) × (seat_after ≡ seat)) → IsAfter opening new.entries new.parts
+    → IfErr r (λ e. IsEventRefusal e.1 old.parts event)
+    → IfErr r (λ e. ¬ (e.1 ≡ Seat) → ¬ (e.1 ≡ Memory) → IsMetBy seat old.entries)
+    → IfErr r (λ e. IsRefusedAfter opening seat e.1 event)
+refused_met opening seat seat_after event old new (Ok x) kept after refused met = tt
+refused_met opening seat seat_after event old new (Err e) kept after refused met =
+    λ other no_memory. record {
+      before = old.entries;
+      snapshot = old.parts;
+      after = subst (λ (book : Ledger). IsAfter opening book.entries book.parts) kept.0 after;
+      met = met other no_memory;
+      step = refused other;
+    }
 
 -- the step of a deletion refuses nothing
-pub deletion_refused : (opening : SnapshotParts) (e : CommitError)
+pub deletion_refused : (opening : SnapshotParts) (seat : SeatView) (e : CommitError)
     (ms : List MatcherView) (from to : ℤ)
-    → IsRefusedAfter opening e (deletion ms from to) → IsOfSeatOrMemory e
-deletion_refused opening e ms from to refused = by_seat_or_memory refused.1 ms from to e refused.3
+    → IsRefusedAfter opening seat e (deletion ms from to) → IsOfSeatOrMemory e
+deletion_refused opening seat Seat ms from to refused = inl refl
+deletion_refused opening seat Memory ms from to refused = inr refl
+deletion_refused opening seat (OutOfBounds at) ms from to refused =
+    absurd (cc ((refused (λ same. absurd (cc same)) (λ same. absurd (cc same))).step))
+deletion_refused opening seat (OutOfOrder at) ms from to refused =
+    absurd (cc ((refused (λ same. absurd (cc same)) (λ same. absurd (cc same))).step))
+deletion_refused opening seat (Duplicate at) ms from to refused =
+    absurd (cc ((refused (λ same. absurd (cc same)) (λ same. absurd (cc same))).step))
+deletion_refused opening seat Limit ms from to refused =
+    absurd (cc ((refused (λ same. absurd (cc same)) (λ same. absurd (cc same))).step))
+deletion_refused opening seat CutTooLow ms from to refused =
+    absurd (cc ((refused (λ same. absurd (cc same)) (λ same. absurd (cc same))).step))
+deletion_refused opening seat TooManyParts ms from to refused =
+    absurd (cc ((refused (λ same. absurd (cc same)) (λ same. absurd (cc same))).step))

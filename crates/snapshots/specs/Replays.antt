@@ -1,6 +1,7 @@
 -- What a list of published events makes of the opening snapshot.
 use Rattle.std.specs.Prelude.{◌≡◌, ◌⊎◌, ℕ, List, [], ◌∷◌, ◌++◌, Ok, map}
 use mathlib.Core.List.{IsPrefix}
+use Rattle.head.specs.Batches.{CopiesFew}
 use Rattle.head.specs.Kept.{KeepsBlocks, frame_of}
 use Rattle.head.specs.Limits.{most}
 use Rattle.head.specs.Worlds.{Event, stepped, replayed}
@@ -9,16 +10,18 @@ use Rattle.head.specs.Outcomes.{IsStepRefusal}
 use Rattle.head.specs.declared.error.CommitError.{CommitError}
 use Rattle.head.specs.declared.error.CommitError.TheVariants.{Seat, Memory}
 use Rattle.snapshots.specs.declared.entry.Entry.{Entry}
+use Rattle.snapshots.specs.Seats.{SeatView, IsMetBy}
 
 -- the events of these entries
 abbrev pub events_in : List Entry → List Event
 events_in entries = map (λ e. e.event) entries
 
--- the event takes the snapshot to the other one: the world of that is the step's, and its blocks
--- are those that the event leaves
+-- the event takes the snapshot to the other one: the world of that is the step's, its blocks are
+-- those that the event leaves, and few samples were copied for it
 pub record Steps (s : SnapshotParts) (event : Event) (t : SnapshotParts) : Type 0 where
   pub world : stepped most (world_of s) event ≡ Ok (world_of t)
   pub kept : KeepsBlocks event s t.blocks
+  pub copied : CopiesFew event t.copied
 
 -- the events, one after another, take the snapshot to the other one
 abbrev pub Leads : SnapshotParts → List Event → SnapshotParts → Type 0
@@ -54,11 +57,20 @@ EndsWith event seat entries =
 abbrev pub AreAccepted : SnapshotParts → List Entry → Type 0
 AreAccepted opening entries = (s : SnapshotParts) × IsAfter opening entries s
 
--- the refusal is that of some snapshot of the store's
-abbrev pub IsRefusedAfter : SnapshotParts → CommitError → Event → Type 0
-IsRefusedAfter opening e event =
-    (before : List Entry) × (s : SnapshotParts)
-    × IsAfter opening before s × IsEventRefusal e s event
+-- the event's step is refused so after some list of accepted events that the seat may meet
+pub record IsRefusedOnceMet (opening : SnapshotParts) (seat : SeatView) (e : CommitError)
+    (event : Event) : Type 0 where
+  pub before : List Entry
+  pub snapshot : SnapshotParts
+  pub after : IsAfter opening before snapshot
+  pub met : IsMetBy seat before
+  pub step : IsStepRefusal e (stepped most (world_of snapshot) event)
+
+-- The refusal is one that a store can give, whatever others have published: the seat's or memory's,
+-- of which no more is said, or that of the event's step after a list that the seat may meet.
+abbrev pub IsRefusedAfter : SnapshotParts → SeatView → CommitError → Event → Type 0
+IsRefusedAfter opening seat e event =
+    ¬ (e ≡ Seat) → ¬ (e ≡ Memory) → IsRefusedOnceMet opening seat e event
 
 -- the refusal is the seat's, or memory's
 abbrev pub IsOfSeatOrMemory : CommitError → Type 0

@@ -10,7 +10,7 @@ ghost use Rattle.std.specs.Arc.{arc_value};
 ghost use Rattle.snapshots.specs.Marks.{accepted};
 ghost use Rattle.snapshots.specs.Grows.{Shows};
 ghost use Rattle.snapshots.specs.Replays.{IsAfter, Steps, IsEventRefusal};
-ghost use Rattle.snapshots.specs.Seats.{FitsSeat, AreCounts, HasOneMoreEvent};
+ghost use Rattle.snapshots.specs.Seats.{FitsSeat, AreCounts, IsMetBy, HasOneMoreEvent};
 
 use crate::entry::Entry;
 use crate::log::LogEnd;
@@ -116,7 +116,10 @@ impl<J: Naming, R: Wait + Drop> Book<J, R> {
     /// Publishes one event under a seat's number: one whole version, seen by each pass that enters
     /// from then on. `E7` where the number is none of this store's, or the seat's count is not the
     /// book's for it, or cannot grow; else the refusal of the event's step on the published
-    /// version. It waits for the readers of the version before.
+    /// version, whose list begins with that of the seat's last receipt and has as many events of
+    /// the seat's number as the seat counts. A list shorter than that of the seat's last receipt
+    /// would be a refusal of memory, and does not occur. It waits for the readers of the version
+    /// before.
     pub fn step(
         &mut self,
         seat: &mut Seat<J>,
@@ -127,6 +130,8 @@ impl<J: Naming, R: Wait + Drop> Book<J, R> {
             (e.1 ≡ CommitError.Seat) ↔ (¬ FitsSeat seat.old self.old.counts)) }
         ensures steps { OnOk result (Steps self.old.parts event self.new.parts) }
         ensures refused { IfErr result (λ e. IsEventRefusal e.1 self.old.parts event) }
+        ensures met { IfErr result (λ e. ¬ (e.1 ≡ CommitError.Seat) → ¬ (e.1 ≡ CommitError.Memory)
+            → IsMetBy seat.old self.old.entries) }
         ensures returned { IfErr result (λ e. e.0 ≡ event) }
         ensures kept { OnErr result ((self.new ≡ self.old) × (seat.new ≡ seat.old)) }
         ensures list { IfOk result (λ r.
@@ -143,6 +148,9 @@ impl<J: Naming, R: Wait + Drop> Book<J, R> {
             return Err((event, CommitError::Seat));
         }
         if self.log.len() > ROOM {
+            return Err((event, CommitError::Memory));
+        }
+        if !self.log.begins_with(seat.log()) {
             return Err((event, CommitError::Memory));
         }
         let snapshot = match snapshot_after(self.alloc, self.press.published().snapshot(), &event) {
@@ -168,7 +176,7 @@ impl<J: Naming, R: Wait + Drop> Book<J, R> {
         }
         self.counts[number] = seat.count() + 1;
         self.events = events;
-        seat.add_one();
+        seat.add_one(self.log.share());
         Ok(Receipt::of(self.log.share(), events))
     }
 }

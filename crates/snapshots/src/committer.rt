@@ -51,16 +51,18 @@ impl<J: Naming, R: Wait + Drop> Committer<J, R> {
         ensures accepted { IfOk result (λ r. AreAccepted J.opening r) }
         ensures counted { IfOk result (λ r. HasOneMoreEvent seat.old seat.new r) }
         ensures kept { IfErr result (λ e. (e.0 ≡ event) × (seat.new ≡ seat.old)) }
-        ensures refused { IfErr result (λ e. IsRefusedAfter J.opening e.1 event) }
+        ensures refused { IfErr result (λ e. IsRefusedAfter J.opening seat.old e.1 event) }
     {
         self.book.lock(rt).step(seat, event)
     }
 
     /// Publishes a batch under the seat's number, whole or not at all. The list of the receipt
-    /// ends with it, and each pass that learns the receipt sees it from then on. Its refusals are
-    /// `E7`, where the seat's count is not the store's, and those of the batch's step on the
-    /// version that was published then: `E1` to `E4`. A refusal gives the appender back and
-    /// leaves the seat. It waits for the committer's lock and for the readers of the version
+    /// begins with that of the seat's last receipt and ends with the batch, and each pass that
+    /// learns the receipt sees it from then on. Its refusals are memory's, `E7`, where the seat's
+    /// count is not the store's, and `E1` to `E4`. With each of those four the batch's step is
+    /// refused after some list of accepted events that begins with the list of the seat's last
+    /// receipt and has no event more under the seat's number. A refusal gives the appender back
+    /// and leaves the seat. It waits for the committer's lock and for the readers of the version
     /// before.
     pub fn commit(
         &self,
@@ -72,7 +74,8 @@ impl<J: Naming, R: Wait + Drop> Committer<J, R> {
         ensures accepted { IfOk result (λ r. AreAccepted J.opening r) }
         ensures counted { IfOk result (λ r. HasOneMoreEvent seat.old seat.new r) }
         ensures kept { IfErr result (λ e. (e.0 ≡ appender) × (seat.new ≡ seat.old)) }
-        ensures refused { IfErr result (λ e. IsRefusedAfter J.opening e.1 (batch appender)) }
+        ensures refused { IfErr result (λ e.
+            IsRefusedAfter J.opening seat.old e.1 (batch appender)) }
     {
         match self.step(rt, seat, appender.into_event()) {
             Ok(receipt) => Ok(receipt),
@@ -108,10 +111,10 @@ impl<J: Naming, R: Wait + Drop> Committer<J, R> {
 
     /// Publishes a cut at a time, in milliseconds, under the seat's number: the head's samples
     /// below it become a block, and from then on none below it is committed. Its refusals are
-    /// `E7`, and those of the cut's step on the version that was published then: `E5` where the
-    /// time is not above the floor, `E6` where there are 63 blocks, `E4` where a file of the
-    /// block would be too long. After a refusal the seat stays. It waits as [`Committer::commit`]
-    /// does.
+    /// memory's, `E7`, and three that hold after such a list as [`Committer::commit`] names: `E5`
+    /// where the time is not above the floor, `E6` where there are 63 blocks, `E4` where a file of
+    /// the block would be too long. After a refusal the seat stays. It waits as
+    /// [`Committer::commit`] does.
     pub fn cut(
         &self,
         rt: &impl Wait,
@@ -123,7 +126,7 @@ impl<J: Naming, R: Wait + Drop> Committer<J, R> {
         ensures accepted { IfOk result (λ r. AreAccepted J.opening r) }
         ensures counted { IfOk result (λ r. HasOneMoreEvent seat.old seat.new r) }
         ensures kept { OnErr result (seat.new ≡ seat.old) }
-        ensures refused { IfErr result (λ e. IsRefusedAfter J.opening e (cut at)) }
+        ensures refused { IfErr result (λ e. IsRefusedAfter J.opening seat.old e (cut at)) }
     {
         match self.step(rt, seat, Event::cut(at)) {
             Ok(receipt) => Ok(receipt),

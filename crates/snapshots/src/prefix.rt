@@ -81,6 +81,16 @@ impl<J: Naming> LogPrefix<J> {
         self.marks.saturating_sub(marks) <= 1
     }
 
+    /// Whether the other is not longer: then it is a prefix of this one.
+    pub fn begins_with(&self, other: &LogPrefix<J>) -> bool
+        ensures begins { MatchBool result (IsPrefix other.now self.now) (Unit {0}) }
+        ensures shorter { IsTrue result ↔ (length other.now ≤ length self.now) }
+    {
+        let mut both = self.seen.again();
+        both.learn(&other.seen);
+        other.marks <= self.marks
+    }
+
     /// The longer of two prefixes, of which the other is a prefix.
     pub fn longer(&self, other: &LogPrefix<J>) -> LogPrefix<J>
         ensures this { IsPrefix self.now result }

@@ -1,35 +1,41 @@
 //! Seats, under whose numbers events are published.
 
-ghost use Rattle.std.specs.Prelude.{◌≡◌, ◌+◌, ◌<◌};
+ghost use Rattle.std.specs.Prelude.{◌≡◌, ◌+◌, ◌<◌, []};
+ghost use Rattle.snapshots.specs.Marks.{accepted};
 
 use crate::naming::Naming;
-use std::marker::{Model, PhantomData};
+use crate::prefix::LogPrefix;
+use std::marker::Model;
 
-/// The right to publish events under a number, with the count of those that were published.
+/// The right to publish events under a number, with the count of those that were published. It
+/// keeps what its last receipt knows: contracts see that list beside the number and the count.
 #[derive(Drop)]
 pub struct Seat<J: Naming> {
     number: usize,
     count: u64,
-    of: PhantomData<J>,
+    log: LogPrefix<J>,
 }
 
 impl<J: Naming> Model for Seat<J> {
+    ghost use Rattle.snapshots.specs.Marks.{accepted};
     ghost use Rattle.snapshots.specs.Seats.{SeatView};
 
     ghost Value = { SeatView };
 
-    ghost view = { λ s. record { number = s.number; count = s.count } };
+    ghost view = { λ s.
+        record { number = s.number; count = s.count; seen = accepted s.log } };
 }
 
 impl<J: Naming> Seat<J> {
     /// A seat that has published nothing.
-    pub(crate) fn new(number: usize) -> Seat<J>
-        ensures { result ≡ record { number = number; count = 0 } }
+    pub(crate) fn new(number: usize, log: LogPrefix<J>) -> Seat<J>
+        requires { log ≡ [] }
+        ensures { result ≡ record { number = number; count = 0; seen = [] } }
     {
         Seat {
             number,
             count: 0,
-            of: PhantomData,
+            log,
         }
     }
 
@@ -47,11 +53,23 @@ impl<J: Naming> Seat<J> {
         self.count
     }
 
-    /// One event more was published under it.
-    pub(crate) fn add_one(&mut self)
+    /// What its last receipt knows of the log.
+    pub(crate) fn log(&self) -> &LogPrefix<J>
+        ensures { accepted result.now ≡ self.now.seen }
+    {
+        &self.log
+    }
+
+    /// One event more was published under it, and this was seen of the log.
+    pub(crate) fn add_one(&mut self, log: LogPrefix<J>)
         requires { self.old.count < 18446744073709551615 }
-        ensures { self.new ≡ record self.old { count = self.old.count + 1 } }
+        ensures { self.new ≡ record {
+          number = self.old.number;
+          count = self.old.count + 1;
+          seen = accepted log;
+        } }
     {
         self.count += 1;
+        self.log = log;
     }
 }

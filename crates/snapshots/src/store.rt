@@ -85,12 +85,17 @@ fn passes_of<J: Naming>(
     Ok(passes)
 }
 
-fn seats_of<J: Naming>(alloc: Global, count: usize) -> Result<Vec<Seat<J>>, AllocError>
+fn seats_of<J: Naming>(
+    alloc: Global,
+    log: &LogPrefix<J>,
+    count: usize,
+) -> Result<Vec<Seat<J>>, AllocError>
+    requires { log.now ≡ [] }
     ensures { IfOk result (λ v. (vec_len v ≡ count) × AreFresh 0 v.items) }
 {
     let mut seats = Vec::new(alloc);
     for number in 0..count {
-        seats.push(Seat::new(number))?;
+        seats.push(Seat::new(number, log.share()))?;
     }
     Ok(seats)
 }
@@ -143,7 +148,7 @@ impl Store {
         let told = log.share();
         let (Ok(counts), Ok(seat_list)) = (
             Vec::from_elem(alloc, 0u64, seats),
-            seats_of(alloc, seats),
+            seats_of(alloc, &told, seats),
         ) else {
             return Err(OpenError::Memory);
         };

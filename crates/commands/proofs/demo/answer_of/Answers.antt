@@ -8,7 +8,7 @@ returns-in_err-first-clause-err g c =
     let p =
     err_from_is_err_and c.from_residual-in_err-first.result
     c.from_residual-in_err-first.ensures.1 in
-    rw (p.1, p.2) (first_refused g.J.Naming.opening c.requires.opening _ _
+    rw (p.1, p.2) (first_refused g.J.Naming.opening c.requires.opening _ _ _
     c.in_err-first.ensures.err c.in_ok-first_batch.ensures.ok)
 
 pub returns-in_err-second-clause-err : goal.returns-in_err-second-clause-err
@@ -16,7 +16,7 @@ returns-in_err-second-clause-err g c =
     let p =
     err_from_is_err_and c.from_residual-in_err-second.result
     c.from_residual-in_err-second.ensures.1 in
-    rw (p.1, p.2) (second_refused g.J.Naming.opening c.requires.opening _ _
+    rw (p.1, p.2) (second_refused g.J.Naming.opening c.requires.opening _ _ _
     c.in_err-second.ensures.err c.in_ok-second_batch.ensures.ok)
 
 pub returns-then-events-eq2-2-clause-ok : goal.returns-then-events-eq2-2-clause-ok

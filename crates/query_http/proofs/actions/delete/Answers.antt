@@ -10,6 +10,6 @@ returns-in-Err-clause-reply g c =
     conflict_replied g.J.Naming.opening event (worker c.args.pass.now c.args.seat.now) _
     c.in-Err.error c.conflict_reply.result
     (ap (worker _) c.in-Err.ensures.kept.1)
-    (seat_refused g.J.Naming.opening event c.in-Err.error c.in-Err.ensures.refused)
+    (seat_refused g.J.Naming.opening c.args.seat.now event c.in-Err.error c.in-Err.ensures.refused)
     c.conflict_reply.ensures.no_memory c.conflict_reply.ensures.number
     c.conflict_reply.ensures.spelled

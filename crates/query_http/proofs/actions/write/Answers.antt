@@ -9,6 +9,6 @@ returns-in-Err-clause-reply g c =
     conflict_replied g.J.Naming.opening (batch c.args.samples.items)
     (worker c.args.pass.now c.args.seat.now) _ c.in-Err.error c.conflict_reply.result
     (ap (worker _) c.in-Err.ensures.kept.1)
-    (λ _. rw c.in_ok-appender.ensures at c.in-Err.ensures.refused)
+    (rw c.in_ok-appender.ensures at c.in-Err.ensures.refused)
     c.conflict_reply.ensures.no_memory c.conflict_reply.ensures.number
     c.conflict_reply.ensures.spelled

@@ -9,5 +9,6 @@ loop-number-preserved g c =
       rw c.in_ok-push.ensures.items
           (fresh-snoc 0 c.loop-number.number c.loop-number.seats.items _
           c.loop-number.invariant.1 len
-          (omega (arith, ap (λ z. z.number) c.new.ensures)) (ap (λ z. z.count) c.new.ensures)),
+          (omega (arith, ap (λ z. z.number) c.new.ensures)) (ap (λ z. z.count) c.new.ensures)
+          (ap (λ z. z.seen) c.new.ensures)),
     )

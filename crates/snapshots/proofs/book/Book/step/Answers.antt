@@ -1,8 +1,10 @@
-use Rattle.std.proofs.Common.{rules, [], ◌∷◌, refl, arith, None, length-append, ◌≡◌, ◌∙◌, ◌<◌, ◌+◌, ℕ, length, slice_index, sym, ap, subst}
+use Rattle.std.proofs.Common.{rules, [], ◌∷◌, refl, arith, None, List, length-append, ◌≡◌, ◌∙◌, ◌<◌, ◌+◌, ℕ, length, slice_index, sym, ap, subst}
 use Rattle.snapshots.specs.declared.entry.Entry.{Entry}
 use Rattle.snapshots.specs.Marks.{accepted}
-use Rattle.snapshots.proofs.Accepts.{accepted_short}
-use Rattle.snapshots.proofs.Counting.{counts_next, counted_next}
+use mathlib.Core.List.{IsPrefix}
+use Rattle.snapshots.proofs.Accepts.{accepted_short, known}
+use Rattle.snapshots.proofs.Prefixes.{prefix_more}
+use Rattle.snapshots.proofs.Counting.{counts_next, counted_next, met_by, same_seen}
 use Rattle.snapshots.proofs.Replaying.{after_shown}
 use Rattle.snapshots.proofs.book.Book.step.Goals as goal
 
@@ -56,14 +58,29 @@ returns-clause-counted g c =
     let entry : Entry = record { event = c.args.event; seat = c.number-number.result } in
     let in_range : c.args.seat.now.number < length counts = c.if-not-fits.ensures.0 in
     let same : slice_index counts c.args.seat.now.number ≡ c.args.seat.now.count =
-    c.if-not-fits.ensures.1 in (
-      c.add_one.ensures,
-      rw (c.of.ensures, c.share.ensures, c.add_one.ensures)
+    c.if-not-fits.ensures.1 in
+    let all : c.of.result ≡ accepted c.publish_entry-published.new.log =
+    c.of.ensures ∙ ap accepted c.share-2.ensures in
+    let kept : accepted c.share.result ≡ c.of.result =
+    ap accepted c.share.ensures ∙ sym all in (
+      c.add_one.ensures ∙ same_seen c.args.seat.now.number (c.args.seat.now.count + 1) _ _ kept,
+      rw all (prefix_more c.args.seat.now.seen log (accepted c.publish_entry-published.new.log)
+          entry (known c.log.result.now c.self.inside.log c.args.seat.now.seen c.log.ensures
+          c.if-not-begins_with.ensures.begins)
+          c.if-not-published.ensures.list),
+      rw (all, c.add_one.ensures)
           (counted_next counts log (accepted c.publish_entry-published.new.log) entry
           c.args.seat.now.number (c.args.seat.now.count + 1) c.self.invariant.0
           c.if-not-published.ensures.list c.number-number.ensures in_range
           (ap (λ (k : ℕ). k + 1) (sym same))),
     )
+
+pub returns-in-Err-clause-met : goal.returns-in-Err-clause-met
+returns-in-Err-clause-met g c other no_memory =
+    rw (← c.self.view_is) (met_by c.args.seat.now c.self.inside.counts.items
+    (accepted c.self.inside.log) c.self.invariant.0 c.if-not-fits.ensures
+    (known c.log.result.now c.self.inside.log c.args.seat.now.seen c.log.ensures
+    c.if-not-begins_with.ensures.begins))
 
 pub overflow_add-events : goal.overflow_add-events
 overflow_add-events g c =
