@@ -1,4 +1,5 @@
-//! make_block SERIES SAMPLES DIR: writes a block directory of so many series of so many samples, 15 s apart.
+//! make_block SERIES SAMPLES DIR [SHARE SHARES]: writes a block directory of so many series of so many samples,
+//! 15 s apart; with SHARE and SHARES, of those series whose `job` leaves SHARE if divided by SHARES (a divisor of 100).
 //! It shares no code with the crates, so what it writes comes from outside. std only: rustc -O make_block.rs
 use std::collections::{BTreeMap, BTreeSet};
 use std::path::Path;
@@ -165,8 +166,9 @@ fn files(series: &[(Labels, u64)], samples: i64) -> (Vec<u8>, Vec<u8>) {
     (index, chunks)
 }
 
-fn write(dir: &Path, count: u64, samples: i64) -> io::Result<()> {
-    let mut series: Vec<(Labels, u64)> = (0..count).map(|n| (labels(n), n)).collect();
+fn write(dir: &Path, count: u64, samples: i64, share: u64, shares: u64) -> io::Result<()> {
+    let kept = (0..count).filter(|n| n / 10 % shares == share);
+    let mut series: Vec<(Labels, u64)> = kept.map(|n| (labels(n), n)).collect();
     series.sort();
     let (index, chunks) = files(&series, samples);
     fs::create_dir_all(dir.join("chunks"))?;
@@ -179,11 +181,15 @@ fn write(dir: &Path, count: u64, samples: i64) -> io::Result<()> {
 
 fn main() -> io::Result<()> {
     let words: Vec<String> = env::args().skip(1).collect();
-    let [count, samples, dir] = words.as_slice() else {
-        return Err(io::Error::other("make_block SERIES SAMPLES DIR"));
+    let (Some(count), Some(samples), Some(dir)) = (words.first(), words.get(1), words.get(2)) else {
+        return Err(io::Error::other("make_block SERIES SAMPLES DIR [SHARE SHARES]"));
     };
-    let (Ok(count), Ok(samples)) = (count.parse(), samples.parse()) else {
-        return Err(io::Error::other("SERIES and SAMPLES are numbers"));
+    let one = ["0".to_string(), "1".to_string()];
+    let of = if words.len() == 5 { &words[3..] } else { &one[..] };
+    let (Ok(count), Ok(samples), Ok(share), Ok(shares)) =
+        (count.parse(), samples.parse(), of[0].parse(), of[1].parse())
+    else {
+        return Err(io::Error::other("SERIES, SAMPLES, SHARE and SHARES are numbers"));
     };
-    write(Path::new(dir), count, samples)
+    write(Path::new(dir), count, samples, share, shares)
 }
