@@ -65,6 +65,10 @@ package: ## builds a Debian package of the programs, man pages, documents and th
 pages: ## compares the help texts, the man pages and the documents, and runs the examples of the man pages
 	@RT="$(RT)" tests/pages
 
+.PHONY: scaling
+scaling: ## asks four queriers over the quarters of a block, and compares their rows with those of one (needs rustc and python3)
+	@RT="$(RT)" tests/scaling
+
 bench: ## measures speed (never part of the gate)
 	@RT="$(RT)" bench/run && RT="$(RT)" bench/check && RT="$(RT)" bench/select && RT="$(RT)" bench/audit && RT="$(RT)" bench/serve
 
