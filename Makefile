@@ -10,7 +10,7 @@ TESTS_OF := selection_tests:labels,pages,matchers,postings,cover \
 	store_tests:head,history,snapshots \
 	search_tests:block_search,series_merge \
 	request_tests:requests \
-	serving_tests:query_http,server \
+	serving_tests:answers,query_http,server \
 	command_tests:commands,querier \
 	auditing_tests:auditor,audit_command,audit_laws,auditor_program \
 	import_tests:xor_reader,doubles,decimal_text

@@ -1,5 +1,6 @@
 -- Answers that were found side by side stand in the order of their places.
-use Rattle.std.proofs.Common.{◌≡◌, ℕ, suc, ◌<◌, List, [], ◌∷◌, map, length, slice_index_or, slice_index, vec_len, IfOk, Ok, Err, Result, Vec, sym, ◌∙◌, arith}
+use Rattle.std.proofs.Common.{◌≡◌, ℕ, suc, ◌<◌, List, [], ◌∷◌, map, length, slice_index_or}
+use Rattle.std.proofs.Common.{slice_index, vec_len, IfOk, Ok, Err, Result, Vec, sym, ◌∙◌, arith}
 use Rattle.std.specs.List.{AllZip}
 use Rattle.std.specs.declared.alloc.AllocError.{AllocError}
 use Rattle.std.specs.declared.alloc.Global.{Global}

@@ -1,5 +1,6 @@
 -- The rows that a certificate's matches stand for are those that are found.
-use Rattle.std.proofs.Common.{◌≡◌, ℕ, ◌<◌, ℤ, Bool, true, false, cond, List, [], ◌∷◌, Option, None, Some, length, map, refl, sym, ◌∙◌, ap, subst, arith, inl, inr, eq-eqb}
+use Rattle.std.proofs.Common.{◌≡◌, ℕ, ◌<◌, ℤ, Bool, true, false, cond, List, [], ◌∷◌, Option, None}
+use Rattle.std.proofs.Common.{Some, length, map, refl, sym, ◌∙◌, ap, subst, arith, inl, inr, eq-eqb}
 use Rattle.std.specs.Prelude.{nat_eq, option_map, is_some}
 use Rattle.labels.proofs.Times.{true_not_false}
 use Rattle.std.specs.List.{filter, filter_map, cons_option, Contains}

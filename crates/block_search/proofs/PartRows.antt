@@ -1,5 +1,6 @@
 -- The rows with which a part answers are those of its content.
-use Rattle.std.proofs.Common.{◌≡◌, ℕ, ◌≤◌, ℤ, Bool, true, false, cond, T, List, [], ◌∷◌, ◌++◌, length, map, refl, sym, ◌∙◌, ap, subst, arith}
+use Rattle.std.proofs.Common.{◌≡◌, ℕ, ◌≤◌, ℤ, Bool, true, false, cond, T, List, [], ◌∷◌, ◌++◌}
+use Rattle.std.proofs.Common.{length, map, refl, sym, ◌∙◌, ap, subst, arith}
 use Rattle.std.specs.Prelude.{◌&&◌, ◌||◌, ◌≢◌}
 use Rattle.std.specs.List.{filter, Contains, All}
 use Rattle.std.specs.List.Sorted.{IsPermutation, IsSortedBy, IsStableBy}
@@ -10,7 +11,8 @@ use Rattle.std.proofs.lemmas.List.Elements.{All-cons, All-nil}
 use Rattle.labels.specs.Labels.{Labels, labels_cmp, same_labels}
 use Rattle.labels.specs.Contents.{Content, in_range, selected}
 use Rattle.labels.specs.Rows.{Row, points_in, points_of, IsFull, AreRows}
-use Rattle.labels.specs.Parts.{Part, AreDistinct, IsPart, has_sample, rows_in, laid_over, content_of, part_kept}
+use Rattle.labels.specs.Parts.{Part, AreDistinct, IsPart, has_sample, rows_in, laid_over}
+use Rattle.labels.specs.Parts.{content_of, part_kept}
 use Rattle.labels.proofs.Lists.{here, there}
 use Rattle.labels.proofs.OrderLaws.{labels_exact}
 use Rattle.labels.proofs.Times.{true_not_false}

@@ -1,5 +1,7 @@
 -- The parts at the places of the searched parts are the searched parts.
-use Rattle.std.proofs.Common.{◌≡◌, ℕ, suc, ◌+◌, ◌<◌, true, false, cond, List, [], ◌∷◌, ◌++◌, Some, map, length, get_or, drop, append_assoc, refl, sym, ◌∙◌, ap, subst, arith}
+use Rattle.std.proofs.Common.{◌≡◌, ℕ, suc, ◌+◌, ◌<◌, true, false, cond, List, [], ◌∷◌, ◌++◌, Some}
+use Rattle.std.proofs.Common.{map, length, get_or, drop, append_assoc, refl, sym, ◌∙◌, ap, subst}
+use Rattle.std.proofs.Common.{arith}
 use Rattle.std.specs.Prelude.{not, slice_get}
 use Rattle.std.specs.List.{filter}
 use Rattle.std.proofs.lemmas.List.{map-append}
@@ -11,7 +13,8 @@ use Rattle.postings.specs.declared.part_name.PartName.TheVariants.{Block as Bloc
 use Rattle.block.specs.Blocks.{Shown}
 use Rattle.head.specs.Blocks.{part_in}
 use Rattle.head.specs.Heads.{BlockPart, SnapshotParts}
-use Rattle.block_search.specs.Skipping.{AskedPart, is_skipped, asked_blocks, asked_head, searched_parts}
+use Rattle.block_search.specs.Skipping.{AskedPart, is_skipped, asked_blocks, asked_head}
+use Rattle.block_search.specs.Skipping.{searched_parts}
 use Rattle.block_search.specs.Places.{block_or_head, part_at, block_places, searched_places}
 
 from_zero : (k : ℕ) → 0 + k ≡ k

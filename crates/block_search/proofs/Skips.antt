@@ -1,5 +1,6 @@
 -- A block that is skipped has nothing that a query selects.
-use Rattle.std.proofs.Common.{◌≡◌, ℕ, ◌+◌, ℤ, Bool, true, false, cond, List, [], ◌∷◌, ◌++◌, map, refl, sym, ◌∙◌, ap, subst, arith}
+use Rattle.std.proofs.Common.{◌≡◌, ℕ, ◌+◌, ℤ, Bool, true, false, cond, List, [], ◌∷◌, ◌++◌, map}
+use Rattle.std.proofs.Common.{refl, sym, ◌∙◌, ap, subst, arith}
 use Rattle.std.specs.Prelude.{◌&&◌, ◌||◌, not, int_le, int_lt}
 use Rattle.std.specs.List.{filter, AllByRecursion, All}
 use Rattle.std.proofs.lemmas.Int.{ints}
@@ -16,7 +17,8 @@ use Rattle.block.specs.Blocks.{Shown, AreInside}
 use Rattle.block.specs.Ranges.{covers}
 use Rattle.head.specs.Blocks.{part_in}
 use Rattle.head.specs.Heads.{BlockPart, SnapshotParts, head_part, parts_of}
-use Rattle.block_search.specs.Skipping.{AskedPart, is_skipped, asked_blocks, asked_head, searched_parts, HasNoSample, LosesNothing}
+use Rattle.block_search.specs.Skipping.{AskedPart, is_skipped, asked_blocks, asked_head}
+use Rattle.block_search.specs.Skipping.{searched_parts, HasNoSample, LosesNothing}
 use Rattle.block_search.specs.Answering.{row_within}
 use Rattle.block_search.proofs.Found.{answers, rows_found}
 use Rattle.block_search.proofs.PartRows.{points_found}

@@ -6,8 +6,6 @@
 #![tactic(auto)]
 
 #[cfg(test)]
-mod answers;
-#[cfg(test)]
 mod checks;
 #[cfg(test)]
 mod directories;
@@ -23,3 +21,5 @@ mod rows;
 mod selections;
 #[cfg(test)]
 mod serving;
+#[cfg(test)]
+mod worked_answers;

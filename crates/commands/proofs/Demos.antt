@@ -16,9 +16,9 @@ use Rattle.snapshots.specs.Replays.{events_in, EndsWith}
 use Rattle.snapshots.specs.Seats.{SeatView}
 use Rattle.snapshots.specs.Views.{Known}
 use Rattle.snapshots.proofs.Prefixes.{prefix_trans}
-use Rattle.query_http.specs.Headline.{IsHeadline}
-use Rattle.query_http.specs.declared.audited.AuditedAnswer.{AuditedAnswer}
-use Rattle.query_http.proofs.Headlines.{world_content}
+use Rattle.answers.specs.Headline.{IsHeadline}
+use Rattle.answers.specs.declared.audited.AuditedAnswer.{AuditedAnswer}
+use Rattle.answers.proofs.Headlines.{world_content}
 use Rattle.commands.specs.Demo.{first_event, second_event, demo_events}
 use Rattle.commands.specs.DemoAnswer.{IsAnswerAfter, IsCommitFault, IsDemoFault, by_commit}
 use Rattle.commands.specs.declared.fault.Fault.{Fault}

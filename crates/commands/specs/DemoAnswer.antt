@@ -12,8 +12,8 @@ use Rattle.snapshots.specs.Replays.{IsRefusedAfter}
 use Rattle.snapshots.specs.Seats.{SeatView}
 use Rattle.snapshots.specs.declared.error.OpenError.TheVariants as store
 use Rattle.snapshots.specs.declared.error.SnapshotError.TheVariants as snapshot
-use Rattle.query_http.specs.Audited.{IsAudited}
-use Rattle.query_http.specs.declared.audited.AuditedAnswer.{AuditedAnswer}
+use Rattle.answers.specs.Audited.{IsAudited}
+use Rattle.answers.specs.declared.audited.AuditedAnswer.{AuditedAnswer}
 use Rattle.commands.specs.Demo.{demo_events}
 use Rattle.commands.specs.Faults.{commit_fault}
 use Rattle.commands.specs.Printed.{line_text}

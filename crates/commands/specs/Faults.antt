@@ -19,8 +19,8 @@ use Rattle.block.specs.declared.error.BlockError.TheVariants as block
 use Rattle.snapshots.specs.Refusals.{open_code, snapshot_code}
 use Rattle.snapshots.specs.declared.error.OpenError.{OpenError}
 use Rattle.snapshots.specs.declared.error.OpenError.TheVariants as store
-use Rattle.query_http.specs.declared.error.AskError.{AskError}
-use Rattle.query_http.specs.declared.error.AskError.TheVariants as ask
+use Rattle.answers.specs.declared.error.AskError.{AskError}
+use Rattle.answers.specs.declared.error.AskError.TheVariants as ask
 use Rattle.commands.specs.declared.fault.Fault.{Fault}
 use Rattle.commands.specs.declared.fault.Fault.TheVariants.{Words, Refused, CannotRead, CannotWrite}
 use Rattle.commands.specs.declared.fault.Fault.TheVariants.{CannotListen, Memory}

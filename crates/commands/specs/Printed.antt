@@ -1,7 +1,7 @@
 -- What is printed of an answer.
 use Rattle.std.specs.Prelude.{ℕ, List, ◌++◌, codes}
-use Rattle.query_http.specs.declared.audited.AuditedAnswer.{AuditedAnswer}
-use Rattle.query_http.specs.Reply.{body_text}
+use Rattle.answers.specs.declared.audited.AuditedAnswer.{AuditedAnswer}
+use Rattle.answers.specs.Body.{body_text}
 
 -- the text of an answer, and a line feed
 abbrev pub line_text : AuditedAnswer → List ℕ

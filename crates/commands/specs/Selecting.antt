@@ -6,11 +6,11 @@ use Rattle.matchers.specs.Selectors.{IsAccepted, IsTextRefusal}
 use Rattle.matchers.specs.Views.{MatcherView, QueryView}
 use Rattle.matchers.specs.declared.error.QueryError.TheVariants.{BadRange, TooManyMatchers}
 use Rattle.head.specs.Heads.{SnapshotParts}
-use Rattle.query_http.specs.Audited.{IsAudited}
+use Rattle.answers.specs.Audited.{IsAudited}
 use Rattle.commands.specs.Opening.{IsOpeningOf, IsOpeningFault}
 use Rattle.commands.specs.Printed.{line_text}
 use Rattle.commands.specs.Reading.{Host}
-use Rattle.query_http.specs.declared.audited.AuditedAnswer.{AuditedAnswer}
+use Rattle.answers.specs.declared.audited.AuditedAnswer.{AuditedAnswer}
 use Rattle.commands.specs.declared.command.Selection.{Selection}
 use Rattle.commands.specs.declared.fault.Fault.{Fault}
 use Rattle.commands.specs.declared.fault.Fault.TheVariants.{Words, Refused, CannotRead, CannotWrite}

@@ -14,9 +14,9 @@ ghost use Rattle.commands.specs.DemoAnswer.{IsAnswerAfter, IsCommitFault, IsDemo
 ghost use Rattle.commands.specs.Selecting.{IsOfMemory};
 
 use crate::fault::{Fault, Refusal};
+use answers::{AuditedAnswer, ask};
 use labels::{LabelSet, Sample};
 use matchers::{Matcher, Op, Query};
-use query_http::{AuditedAnswer, ask};
 use snapshots::{Appender, Committer, Naming, NotAppended, Receipt, Seat, SnapshotError, Store};
 use std::alloc::{AllocError, Global};
 use std::marker::Brand;

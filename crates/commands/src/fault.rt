@@ -4,11 +4,11 @@ ghost use Rattle.std.specs.Prelude.{◌≡◌, IfSome, OnOk};
 ghost use Rattle.std.specs.Io.KnownBytes.{Appends};
 ghost use Rattle.commands.specs.Faults.{refusal_code, refusal_place, status_of, line_of};
 
+use answers::AskError;
 use block::BlockError;
 use head::CommitError;
 use labels::LabelError;
 use matchers::{MatcherError, QueryError, SelectorError};
-use query_http::AskError;
 use snapshots::{OpenError, SnapshotError};
 use std::alloc::{AllocError, AllocFailed};
 use std::error::Error;

@@ -31,7 +31,7 @@
 //! assert_eq!(rt; err.as_slice(), b"refused M6\n".as_slice());
 //! ```
 //!
-//! It stands on `server` for workers, on `query_http` for answers and their text, on `snapshots`
+//! It stands on `server` for workers, on `answers` for answers and their text, on `snapshots`
 //! for the store of the demo, on `block` for what a block is, on `clap` for words, and on `labels`,
 //! `matchers`, `index_reader` and `head`. Certificates are the partition certificates of Barbay and
 //! Kenyon, SODA 2002.

@@ -1,5 +1,6 @@
 -- Replies, put together from what is known of their parts.
-use Rattle.std.proofs.Common.{◌≡◌, ◌≢◌, ℕ, List, [], Option, IfSome, Result, Ok, Err, IfOk, inl, inr, refl, ap, ◌∙◌, codes}
+use Rattle.std.proofs.Common.{◌≡◌, ◌≢◌, ℕ, List, [], Option, IfSome, Result, Ok, Err, IfOk, inl}
+use Rattle.std.proofs.Common.{inr, refl, ap, ◌∙◌, codes}
 use Rattle.serde_json.specs.Written.{compact_text}
 use Rattle.matchers.specs.Views.{QueryView}
 use Rattle.head.specs.Codes.{commit_code}
@@ -16,12 +17,13 @@ use Rattle.requests.specs.declared.status.Status.{Status}
 use Rattle.requests.specs.declared.status.Status.TheVariants.{Done, Conflict}
 use Rattle.requests.specs.Refusals.{told_cause}
 use Rattle.requests.specs.Replies.{cause_data, reply_text}
-use Rattle.query_http.specs.declared.made.Reply.{Reply}
-use Rattle.query_http.specs.declared.audited.AuditedAnswer.{AuditedAnswer}
-use Rattle.query_http.specs.Headline.{IsHeadline}
-use Rattle.query_http.specs.Made.{text_of}
-use Rattle.query_http.specs.Reply.{body_text}
-use Rattle.query_http.specs.Serving.{Worker, IsIdle, IsReplyOfRefusal, IsQueryReply, IsEventReply, IsSilent, Serves, refused_at, conflict_body}
+use Rattle.query_http.specs.declared.reply.Reply.{Reply}
+use Rattle.answers.specs.declared.audited.AuditedAnswer.{AuditedAnswer}
+use Rattle.answers.specs.Headline.{IsHeadline}
+use Rattle.query_http.specs.Reply.{text_of}
+use Rattle.answers.specs.Body.{body_text}
+use Rattle.query_http.specs.Serving.{Worker, IsIdle, IsReplyOfRefusal, IsQueryReply, IsEventReply}
+use Rattle.query_http.specs.Serving.{IsSilent, Serves, refused_at, conflict_body}
 use Rattle.query_http.specs.declared.engine.Served.{Served}
 use Rattle.query_http.specs.declared.engine.Served.TheVariants as served
 

@@ -1,5 +1,7 @@
 -- What several writes leave, put together.
-use Rattle.std.proofs.Common.{ℕ, ◌+◌, ◌-◌, ◌<◌, ◌≤◌, List, [], append-nil, length, take, drop, Option, None, Some, Result, Ok, Err, OnErr, sym, ◌∙◌, subst, take-append-drop, length-drop, arith}
+use Rattle.std.proofs.Common.{ℕ, ◌+◌, ◌-◌, ◌<◌, ◌≤◌, List, [], append-nil, length, take, drop}
+use Rattle.std.proofs.Common.{Option, None, Some, Result, Ok, Err, OnErr, sym, ◌∙◌, subst}
+use Rattle.std.proofs.Common.{take-append-drop, length-drop, arith}
 use Rattle.std.proofs.KnownBytes.{Appends-trans}
 use Rattle.std.proofs.Math.Seq.{take-add}
 use Rattle.std.proofs.lemmas.List.{take_rest, length-take-le}

@@ -1,10 +1,4 @@
-pub mod Reply
-pub mod Later
-pub mod Telling
-pub mod Audited
-pub mod Headline
-pub mod Refusals
 pub mod Writing
 pub mod Serving
-pub mod Made
+pub mod Reply
 pub mod Bounds

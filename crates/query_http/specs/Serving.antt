@@ -25,9 +25,9 @@ use Rattle.requests.specs.Fitting.{IsFit}
 use Rattle.requests.specs.Reading.{Means}
 use Rattle.requests.specs.Refusals.{status_of}
 use Rattle.requests.specs.Replies.{cause_data, reply_text, done_text, refusal_text}
-use Rattle.query_http.specs.declared.audited.AuditedAnswer.{AuditedAnswer}
-use Rattle.query_http.specs.Headline.{IsHeadline}
-use Rattle.query_http.specs.Reply.{body_text}
+use Rattle.answers.specs.declared.audited.AuditedAnswer.{AuditedAnswer}
+use Rattle.answers.specs.Headline.{IsHeadline}
+use Rattle.answers.specs.Body.{body_text}
 use Rattle.query_http.specs.Writing.{AppendsFront}
 use Rattle.query_http.specs.declared.engine.Served.{Served}
 use Rattle.query_http.specs.declared.engine.Served.TheVariants as served

@@ -9,18 +9,15 @@ ghost use Rattle.head.specs.declared.error.CommitError.TheVariants.{Memory};
 ghost use Rattle.requests.specs.Fitting.{IsFit};
 ghost use Rattle.requests.specs.Replies.{reply_text, done_text};
 ghost use Rattle.requests.specs.declared.status.Status.TheVariants.{Done, Conflict};
-ghost use Rattle.query_http.specs.Made.{text_of};
-ghost use Rattle.query_http.specs.Reply.{body_text};
+ghost use Rattle.query_http.specs.Reply.{text_of};
+ghost use Rattle.answers.specs.Body.{body_text};
 ghost use Rattle.query_http.specs.Serving.{worker, IsIdle, IsReplyOfRefusal, conflict_body};
 ghost use Rattle.query_http.specs.Serving.{IsQueryReply, IsEventReply, IsRequestReply};
 ghost use Rattle.query_http.specs.Serving.{refused_at as place_refused};
 
-use crate::audited::AuditedAnswer;
 use crate::buffers::Buffers;
-use crate::error::AskError;
-use crate::headline::ask;
-use crate::made::Reply;
-use crate::reply::body_after;
+use crate::reply::Reply;
+use answers::{AskError, AuditedAnswer, ask, body_after};
 use head::CommitError;
 use labels::{LabelSet, Sample};
 use matchers::{Matcher, Query};
@@ -58,7 +55,8 @@ fn answer_reply(
 {
     let parts = answer.parts.as_slice();
     let rows = answer.rows.as_slice();
-    let mut bytes = body_after(alloc, buffers, HEAD_ROOM, parts, rows)?;
+    let at_hand = buffers.take_reply(alloc);
+    let mut bytes = body_after(alloc, at_hand, &mut buffers.rows, HEAD_ROOM, parts, rows)?;
     let start = place_success_head(bytes.as_mut_slice(), HEAD_ROOM);
     Ok(Reply {
         status: Status::Done,

@@ -4,14 +4,14 @@ ghost use Rattle.std.specs.Prelude.{◌≡◌, [], IfOk, IfErr, IfSome, OnErr, I
 ghost use Rattle.requests.specs.Edge.{HasGrown};
 ghost use Rattle.requests.specs.Fitting.{IsFit};
 ghost use Rattle.query_http.specs.Bounds.{IsBounded};
-ghost use Rattle.query_http.specs.Made.{text_of};
+ghost use Rattle.query_http.specs.Reply.{text_of};
 ghost use Rattle.query_http.specs.Serving.{worker, IsIdle, IsReplyOfRefusal, IsSilent, Serves};
 ghost use Rattle.query_http.specs.Serving.{IsRequestReply, IsReply};
 
 use crate::actions::{act, refusal_reply};
 use crate::buffers::Buffers;
-use crate::made::Reply;
 use crate::outlet::{Outlet, write_whole};
+use crate::reply::Reply;
 use requests::{Inlet, ReadError, Refusal, Request, Status, read_request_into};
 use snapshots::{Committer, Naming, Pass, Seat};
 use std::alloc::Global;

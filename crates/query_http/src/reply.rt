@@ -1,85 +1,36 @@
-//! The text of an answer, written straight into one vector of bytes.
-//!
-//! Each item of a list is written with a comma before it; the first comma then becomes the opening
-//! bracket.
+//! A reply as it is made.
 
-ghost use Rattle.std.specs.Prelude.{◌≡◌, ◌≤◌, ◌++◌, OnOk, IfOk, drop, vec_len};
-ghost use Rattle.query_http.specs.Reply.{body_text};
+ghost use Rattle.std.specs.Prelude.{◌≡◌, ◌≤◌, drop, vec_len};
 
-use crate::audited::AnsweredPart;
-use crate::buffers::Buffers;
-use crate::parts::append_parts;
-use crate::row_text::{RowText, room_of_rows, write_rows};
-use cover::PartAnswer;
-use labels::Row;
-use std::alloc::{AllocError, Global};
+use requests::Status;
 
-/// Appends the text of an answer; that of its rows is written into a buffer first.
-fn append_body(
-    alloc: Global,
-    out: &mut Vec<u8>,
-    row_buf: &mut Vec<u8>,
-    parts: &[AnsweredPart],
-    rows: &[Row],
-) -> Result<(), AllocError>
-    ensures { OnOk result (out.new.items ≡ out.old.items ++ body_text parts.now rows.now) }
-{
-    write_rows(row_buf, rows)?;
-    let text = RowText::new(rows, row_buf.as_slice());
-    out.extend_from_slice(b"{\"parts\":")?;
-    append_parts(alloc, out, parts, &text)?;
-    out.extend_from_slice(b",\"rows\":")?;
-    text.append(out)?;
-    out.push(b'}')?;
-    Ok(())
+/// A reply: its status, and its whole text, with room before it.
+#[derive(Drop)]
+pub(crate) struct Reply {
+    pub(crate) status: Status,
+    pub(crate) bytes: Vec<u8>,
+    pub(crate) start: usize,
+    ghost within: { start ≤ vec_len bytes },
 }
 
-/// About as many bytes as an answer takes: an interval with its separator 80.
-fn room_of_answer(answer: &PartAnswer) -> usize {
-    let intervals = answer.cover.certificate.len().saturating_mul(80);
-    room_of_rows(answer.rows.as_slice()).saturating_add(intervals)
-}
-
-/// About as many bytes as all of it takes.
-fn room_of(parts: &[AnsweredPart], rows: &[Row]) -> usize {
-    let mut room = room_of_rows(rows);
-    for part in parts {
-        room = room.saturating_add(match part {
-            AnsweredPart::Searched(answer) => room_of_answer(answer),
-            AnsweredPart::Skipped(_) => 64,
-        });
+impl Reply {
+    /// A reply with no room before its text.
+    pub(crate) fn new(status: Status, text: Vec<u8>) -> Reply
+        ensures number { result.status ≡ status }
+        ensures spelled { drop result.start result.bytes.items ≡ text.items }
+    {
+        Reply {
+            status,
+            bytes: text,
+            start: 0,
+        }
     }
-    room
-}
 
-/// The text of the answer to a query after so many bytes of room, in the buffer of the reply,
-/// which is taken out.
-pub(crate) fn body_after(
-    alloc: Global,
-    buffers: &mut Buffers,
-    room: usize,
-    parts: &[AnsweredPart],
-    rows: &[Row],
-) -> Result<Vec<u8>, AllocError>
-    ensures room { IfOk result (λ bytes. room ≤ vec_len bytes) }
-    ensures text { IfOk result (λ bytes. drop room bytes.items ≡ body_text parts.now rows.now) }
-{
-    let all = room_of(parts, rows).saturating_add(room);
-    let mut out = buffers.take_reply(alloc);
-    out.clear();
-    out.reserve(all)?;
-    out.resize(room, 0)?;
-    append_body(alloc, &mut out, &mut buffers.rows, parts, rows)?;
-    Ok(out)
-}
-
-/// The text of the answer to a query: what is told of each part, and the rows of all, as compact
-/// JSON with the members in the order of their names. Rows that are those of one part are written
-/// once and copied. It takes time and memory as its length, and at most a few allocations beside
-/// one for each part.
-pub fn body(alloc: Global, parts: &[AnsweredPart], rows: &[Row]) -> Result<Vec<u8>, AllocError>
-    ensures { IfOk result (λ text. text.items ≡ body_text parts.now rows.now) }
-{
-    let mut buffers = Buffers::new(alloc);
-    body_after(alloc, &mut buffers, 0, parts, rows)
+    /// The whole text.
+    pub(crate) fn text(&self) -> &[u8]
+        ensures { result.now ≡ drop self.now.start self.now.bytes.items }
+    {
+        let (_room, text) = self.bytes.split_at(self.start);
+        text
+    }
 }

@@ -1,19 +1,25 @@
 -- A refusal that reading ends in is of what came.
-use Rattle.std.proofs.Common.{◌≡◌, ℕ, Bool, true, false, List, Option, None, Some, Result, Ok, Err, IfErr, nat_lt, codes}
+use Rattle.std.proofs.Common.{◌≡◌, ℕ, Bool, true, false, List, Option, None, Some, Result, Ok, Err}
+use Rattle.std.proofs.Common.{IfErr, nat_lt, codes}
 use Rattle.std.specs.Prelude.{◌≢◌, if◌then◌else◌}
 use Rattle.std.specs.Str.Parse.{digits_value}
 use Rattle.matchers.specs.Selectors.{IsTextRefusal}
 use Rattle.matchers.specs.declared.error.SelectorError.{SelectorError}
 use Rattle.matchers.specs.declared.error.SelectorError.TheVariants as selector
 use Rattle.requests.specs.declared.refusal.Refusal.{Refusal}
-use Rattle.requests.specs.declared.refusal.Refusal.TheVariants.{BadHead, HeadTooLong, NoSuchPath, Method, BadQuery, BadSelector, BadBody, BodyTooLong, Refused as RefusedEvent, Unavailable}
+use Rattle.requests.specs.declared.refusal.Refusal.TheVariants.{BadHead, HeadTooLong, NoSuchPath}
+use Rattle.requests.specs.declared.refusal.Refusal.TheVariants.{Method, BadQuery, BadSelector}
+use Rattle.requests.specs.declared.refusal.Refusal.TheVariants.{BadBody, BodyTooLong}
+use Rattle.requests.specs.declared.refusal.Refusal.TheVariants.{Refused as RefusedEvent}
+use Rattle.requests.specs.declared.refusal.Refusal.TheVariants.{Unavailable}
 use Rattle.requests.specs.declared.request.Request.{Request}
 use Rattle.requests.specs.declared.request.ReadError.{ReadError}
 use Rattle.requests.specs.declared.request.ReadError.TheVariants.{Closed, Fault, Memory, Refused}
 use Rattle.requests.specs.declared.target.Path.{Path}
 use Rattle.requests.specs.declared.target.Path.TheVariants as to_path
 use Rattle.requests.specs.Ending.{IsOfBytes, EndsReading}
-use Rattle.requests.specs.Fields.{is_decimal, allowed, length_alone, length_told, length_asked, field_values, has_field}
+use Rattle.requests.specs.Fields.{is_decimal, allowed, length_alone, length_told, length_asked}
+use Rattle.requests.specs.Fields.{field_values, has_field}
 use Rattle.requests.specs.QueryStrings.{only}
 use Rattle.requests.specs.Requests.{Meaning, Told}
 use Rattle.requests.specs.Selecting.{SelectMeans}

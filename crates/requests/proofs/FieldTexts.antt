@@ -1,5 +1,6 @@
 -- A value of decimal digits is one that `parse` reads, unless it is too great.
-use Rattle.std.proofs.Common.{◌≡◌, ◌<◌, ◌^◌, ℕ, List, true, length, Err, IsUtf8, arith, lt-ltb, nat_lt}
+use Rattle.std.proofs.Common.{◌≡◌, ◌<◌, ◌^◌, ℕ, List, true, length, Err, IsUtf8, arith, lt-ltb}
+use Rattle.std.proofs.Common.{nat_lt}
 use Rattle.std.specs.Str.Parse.{ParsesUnsigned, digits_value}
 use Rattle.std.proofs.lemmas.Bool.{and_parts, ltb-true}
 use Rattle.std.proofs.lemmas.Fmt.{IsAscii-from_digits}

@@ -1,5 +1,6 @@
 -- What a body asks is fit for a store.
-use Rattle.std.proofs.Common.{◌≡◌, ℕ, ℤ, Bool, true, false, List, [], ◌∷◌, ◌++◌, map, Option, None, Some, option_map, Result, Ok, Err, IfOk, refl, ap, codes, pos, negsuc}
+use Rattle.std.proofs.Common.{◌≡◌, ℕ, ℤ, Bool, true, false, List, [], ◌∷◌, ◌++◌, map, Option, None}
+use Rattle.std.proofs.Common.{Some, option_map, Result, Ok, Err, IfOk, refl, ap, codes, pos, negsuc}
 use Rattle.std.specs.Prelude.{option_and_then, if◌then◌else◌, int_lt, not, ◌==◌}
 use Rattle.std.specs.List.{list_all}
 use Rattle.std.proofs.lemmas.Bool.{and_parts}
@@ -19,7 +20,9 @@ use Rattle.requests.specs.Times.{if_time}
 use Rattle.requests.specs.Json.{json_of, has_members, integer_in, time_in, time_at, text_at}
 use Rattle.requests.specs.QueryStrings.{asked_between}
 use Rattle.requests.specs.Changes.{cut_in, cut_of, deletion_in, deletion_of}
-use Rattle.requests.specs.Rows.{WrittenRow, labels_at, samples_at, sample_in, samples_in, pair_in, time_item, integer_item, is_labelled, row_with, row_in, rows_in, AreRowsOf, batch_of}
+use Rattle.requests.specs.Rows.{WrittenRow, labels_at, samples_at, sample_in, samples_in, pair_in}
+use Rattle.requests.specs.Rows.{time_item, integer_item, is_labelled, row_with, row_in, rows_in}
+use Rattle.requests.specs.Rows.{AreRowsOf, batch_of}
 use Rattle.requests.specs.Requests.{Meaning, Told}
 use Rattle.requests.specs.Selecting.{SelectMeans}
 use Rattle.requests.specs.Writing.{IsWritten}

@@ -1,5 +1,8 @@
 -- What the parts of a connection give the whole.
-use Rattle.std.proofs.Common.{◌≡◌, ◌+◌, ◌-◌, ◌≤◌, ℕ, false, List, ◌++◌, length, take, drop, slice_range, Option, None, Some, IfSome, Result, Ok, Err, inl, inr, sym, ap, ◌∙◌, subst, arith, append_assoc, length-append, length-drop, true≢false}
+use Rattle.std.proofs.Common.{◌≡◌, ◌+◌, ◌-◌, ◌≤◌, ℕ, false, List, ◌++◌, length, take, drop}
+use Rattle.std.proofs.Common.{slice_range, Option, None, Some, IfSome, Result, Ok, Err, inl, inr}
+use Rattle.std.proofs.Common.{sym, ap, ◌∙◌, subst, arith, append_assoc, length-append, length-drop}
+use Rattle.std.proofs.Common.{true≢false}
 use lib.Seq.{drop-append-le}
 use Rattle.std.proofs.lemmas.List.{take-append-le}
 use Rattle.std.specs.Io.KnownBytes.{Consumes}
@@ -14,7 +17,8 @@ use Rattle.requests.specs.declared.target.Path.TheVariants.{Select, Write, Delet
 use Rattle.requests.specs.Fields.{IsHeadIn, fields_of, length_asked}
 use Rattle.requests.specs.Requests.{Meaning, Told}
 use Rattle.requests.specs.Targets.{path_asked, takes_query}
-use Rattle.requests.specs.Reading.{BodyMeans, PostMeans, PathMeans, HeadMeans, Means, Answers, AnswersAfter, AsksWith, AsksAfter}
+use Rattle.requests.specs.Reading.{BodyMeans, PostMeans, PathMeans, HeadMeans, Means, Answers}
+use Rattle.requests.specs.Reading.{AnswersAfter, AsksWith, AsksAfter}
 
 told_after : (P Q : Meaning → Type 0) → ((m : Meaning) → P m → Q m) → (r : Result Request ReadError) → Told P r → AnswersAfter Q r
 told_after P Q f (Ok request) p = f (Ok request) p

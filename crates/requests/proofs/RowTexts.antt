@@ -1,5 +1,7 @@
 -- What the parts of written rows give the whole.
-use Rattle.std.proofs.Common.{◌≡◌, ℕ, ℤ, ◌+◌, ◌<◌, add-one, List, [], ◌∷◌, ◌++◌, length, map, drop, drop-cons, get_or, true, Option, None, Some, option_map, refl, sym, ap, ◌∙◌, append_assoc, ne_eqb, String, Global, string_bytes}
+use Rattle.std.proofs.Common.{◌≡◌, ℕ, ℤ, ◌+◌, ◌<◌, add-one, List, [], ◌∷◌, ◌++◌, length, map, drop}
+use Rattle.std.proofs.Common.{drop-cons, get_or, true, Option, None, Some, option_map, refl, sym}
+use Rattle.std.proofs.Common.{ap, ◌∙◌, append_assoc, ne_eqb, String, Global, string_bytes}
 use Rattle.std.specs.Prelude.{option_and_then}
 use Rattle.std.proofs.lemmas.List.{map-append}
 use Rattle.labels.specs.Pairs.{pairs_of}
@@ -11,7 +13,9 @@ use Rattle.serde_json.specs.Events.{items_len}
 use Rattle.serde_json.specs.View.{view, items_view, members_view}
 use Rattle.serde_json.specs.declared.value.Value.{Value}
 use Rattle.requests.specs.Json.{has_members}
-use Rattle.requests.specs.Rows.{WrittenRow, pair_bytes, text_pair, pairs_in, labels_at, samples_at, sample_in, pair_in, is_labelled, row_in, rows_in, IsRowOf, AreRowsOf, batch_of}
+use Rattle.requests.specs.Rows.{WrittenRow, pair_bytes, text_pair, pairs_in, labels_at, samples_at}
+use Rattle.requests.specs.Rows.{sample_in, pair_in, is_labelled, row_in, rows_in, IsRowOf}
+use Rattle.requests.specs.Rows.{AreRowsOf, batch_of}
 
 pub sample_unless : (d : Data) (ds : Items) → Some ds ≡ as_array d → (items_len ds ≡ 2 → ⊥) → sample_in d ≡ None
 sample_unless d ds e n = rw (← e, ne_eqb (items_len ds) 2 n)

@@ -1,11 +1,16 @@
 -- What the parts of a query string give the whole.
-use Rattle.std.proofs.Common.{◌≡◌, ◌<◌, ◌≤◌, ℕ, ℤ, true, false, List, length, Some, Err, IsErrOf, refl, sym, ap, true≢false, arith, ◌∙◌}
+use Rattle.std.proofs.Common.{◌≡◌, ◌<◌, ◌≤◌, ℕ, ℤ, true, false, List, length, Some, Err, IsErrOf}
+use Rattle.std.proofs.Common.{refl, sym, ap, true≢false, arith, ◌∙◌}
 use Rattle.matchers.specs.Views.{MatcherView, QueryView}
 use Rattle.matchers.specs.Queries.{is_query_range}
 use Rattle.matchers.specs.Selectors.{IsAccepted}
 use Rattle.matchers.specs.declared.error.QueryError.{QueryError}
 use Rattle.matchers.specs.declared.error.QueryError.TheVariants.{BadRange, TooManyMatchers}
-use Rattle.requests.specs.declared.refusal.Refusal.TheVariants.{BadHead, HeadTooLong, NoSuchPath, Method, BadQuery, BadSelector, BadBody, BodyTooLong, Refused as RefusedEvent, Unavailable}
+use Rattle.requests.specs.declared.refusal.Refusal.TheVariants.{BadHead, HeadTooLong, NoSuchPath}
+use Rattle.requests.specs.declared.refusal.Refusal.TheVariants.{Method, BadQuery, BadSelector}
+use Rattle.requests.specs.declared.refusal.Refusal.TheVariants.{BadBody, BodyTooLong}
+use Rattle.requests.specs.declared.refusal.Refusal.TheVariants.{Refused as RefusedEvent}
+use Rattle.requests.specs.declared.refusal.Refusal.TheVariants.{Unavailable}
 use Rattle.requests.specs.declared.request.ReadError.{ReadError}
 use Rattle.requests.specs.declared.request.ReadError.TheVariants.{Closed, Fault, Memory, Refused}
 use Rattle.requests.specs.QueryStrings.{query_pairs, asked_in}

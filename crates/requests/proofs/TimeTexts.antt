@@ -1,11 +1,13 @@
 -- A text that writes a time is one that `parse` reads.
-use Rattle.std.proofs.Common.{◌≡◌, ℕ, ℤ, Bool, true, false, List, [], ◌∷◌, None, Some, arith, refl, sym, FitsSigned, w64, ◌≢◌, length, subst, true≢false, lit<}
+use Rattle.std.proofs.Common.{◌≡◌, ℕ, ℤ, Bool, true, false, List, [], ◌∷◌, None, Some, arith, refl}
+use Rattle.std.proofs.Common.{sym, FitsSigned, w64, ◌≢◌, length, subst, true≢false, lit<}
 use Rattle.std.specs.Prelude.{◌==◌, ◌&&◌, not, if◌then◌else◌}
 use Rattle.std.specs.List.{list_all}
 use Rattle.std.specs.Char.{is_ascii_digit}
 use Rattle.std.specs.Str.Parse.{IsNumeral, AllDigits, without_leading_sign, signed_digits_value}
 use Rattle.std.proofs.lemmas.Int.{ints}
-use Rattle.std.proofs.lemmas.Str.Parse.{tells_all_ascii_digits, numerals_by_value, without_leading_plus_none}
+use Rattle.std.proofs.lemmas.Str.Parse.{tells_all_ascii_digits, numerals_by_value}
+use Rattle.std.proofs.lemmas.Str.Parse.{without_leading_plus_none}
 use Rattle.std.proofs.lemmas.Bool.{and_parts, eqb-true}
 use Rattle.labels.specs.Contents.{is_time}
 use Rattle.requests.specs.Times.{is_counted, is_integer, time_of}

@@ -1,18 +1,24 @@
 -- What the tokens of a usual body give the whole.
-use Rattle.std.proofs.Common.{◌≡◌, ℕ, ℤ, ◌+◌, ◌-◌, ◌<◌, ◌≤◌, List, [], ◌∷◌, ◌++◌, length, true, Option, None, Some, option_map, refl, sym, ap, ◌∙◌, arith, append-nil, append_assoc, codes, IsUtf8}
+use Rattle.std.proofs.Common.{◌≡◌, ℕ, ℤ, ◌+◌, ◌-◌, ◌<◌, ◌≤◌, List, [], ◌∷◌, ◌++◌, length, true}
+use Rattle.std.proofs.Common.{Option, None, Some, option_map, refl, sym, ap, ◌∙◌, arith, append-nil}
+use Rattle.std.proofs.Common.{append_assoc, codes, IsUtf8}
 use Rattle.std.specs.Prelude.{option_and_then}
 use Rattle.json.specs.Token.{Token}
 use Rattle.json.specs.Json.{parse_map, after_end_array, read_key, items, members, value}
 use Rattle.json.specs.Lex.{tokens}
-use Rattle.json.proofs.Grammar.{left, value_is, value-begin_array, value-begin_object, read_key-shorter, skip_value-shorter}
-use Rattle.serde_json.specs.Data.{Num, Data, number, string, array, object, Items, no_items, item, Members, no_members, member, put}
+use Rattle.json.proofs.Grammar.{left, value_is, value-begin_array, value-begin_object}
+use Rattle.json.proofs.Grammar.{read_key-shorter, skip_value-shorter}
+use Rattle.serde_json.specs.Data.{Num, Data, number, string, array, object, Items, no_items, item}
+use Rattle.serde_json.specs.Data.{Members, no_members, member, put}
 use Rattle.serde_json.specs.Find.{as_array, as_i64}
 use Rattle.serde_json.specs.Read.{of_json, of_items, of_members, converted, number_of}
 use Rattle.labels.specs.Contents.{is_time}
 use Rattle.requests.specs.Json.{integer_in}
-use Rattle.requests.specs.Rows.{WrittenRow, pairs_in, sample_in, is_labelled, row_in, rows_in, rows_in_body}
+use Rattle.requests.specs.Rows.{WrittenRow, pairs_in, sample_in, is_labelled, row_in, rows_in}
+use Rattle.requests.specs.Rows.{rows_in_body}
 use Rattle.requests.specs.Usual.{Comes, pairs_of_object, samples_of_list, rows_of_list}
-use Rattle.requests.proofs.Conversions.{converted_some, converted-array, converted-object, item_read, items_over, member_read, members_over, text_read}
+use Rattle.requests.proofs.Conversions.{converted_some, converted-array, converted-object}
+use Rattle.requests.proofs.Conversions.{item_read, items_over, member_read, members_over, text_read}
 use Rattle.requests.proofs.JsonTexts.{json_when}
 use Rattle.requests.proofs.RowTexts.{row_when}
 use Rattle.requests.proofs.UsualLabels.{IsBehind}

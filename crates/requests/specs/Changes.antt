@@ -1,5 +1,6 @@
 -- What the bodies of `/delete` and `/cut` ask.
-use Rattle.std.specs.Prelude.{◌≡◌, ℕ, ℤ, List, Option, None, Some, Ok, Err, option_and_then, codes, if◌then◌else◌}
+use Rattle.std.specs.Prelude.{◌≡◌, ℕ, ℤ, List, Option, None, Some, Ok, Err, option_and_then, codes}
+use Rattle.std.specs.Prelude.{if◌then◌else◌}
 use Rattle.serde_json.specs.Data.{Data}
 use Rattle.matchers.specs.Selectors.{IsAccepted, IsTextRefusal}
 use Rattle.requests.specs.declared.refusal.Refusal.TheVariants.{BadSelector, BadBody}

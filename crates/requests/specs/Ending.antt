@@ -2,7 +2,10 @@
 use Rattle.std.specs.Prelude.{◌≢◌, ℕ, Result, IsErrOf, ⊤}
 use Rattle.matchers.specs.declared.error.SelectorError.TheVariants as selector
 use Rattle.requests.specs.declared.refusal.Refusal.{Refusal}
-use Rattle.requests.specs.declared.refusal.Refusal.TheVariants.{BadHead, HeadTooLong, NoSuchPath, Method, BadQuery, BadSelector, BadBody, BodyTooLong, Refused, Unavailable}
+use Rattle.requests.specs.declared.refusal.Refusal.TheVariants.{BadHead, HeadTooLong, NoSuchPath}
+use Rattle.requests.specs.declared.refusal.Refusal.TheVariants.{Method, BadQuery, BadSelector}
+use Rattle.requests.specs.declared.refusal.Refusal.TheVariants.{BadBody, BodyTooLong, Refused}
+use Rattle.requests.specs.declared.refusal.Refusal.TheVariants.{Unavailable}
 use Rattle.requests.specs.declared.request.ReadError.{ReadError}
 use Rattle.requests.specs.declared.request.ReadError.TheVariants as ends
 use Rattle.requests.specs.Edge.{HasGrown}

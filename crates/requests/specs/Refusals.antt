@@ -1,13 +1,18 @@
 -- The numbers of refusals, their statuses and the causes behind them.
 use Rattle.std.specs.Prelude.{ℕ, List, Option, None, Some, codes, ◌++◌}
 use Rattle.matchers.specs.declared.error.SelectorError.{SelectorError}
-use Rattle.matchers.specs.declared.error.SelectorError.TheVariants.{Syntax, Empty, TooMany, PatternTooLong, PatternRefused, Memory}
+use Rattle.matchers.specs.declared.error.SelectorError.TheVariants.{Syntax, Empty, TooMany}
+use Rattle.matchers.specs.declared.error.SelectorError.TheVariants.{PatternTooLong, PatternRefused}
+use Rattle.matchers.specs.declared.error.SelectorError.TheVariants.{Memory}
 use Rattle.matchers.specs.Errors.{selector_code, selector_text}
 use Rattle.requests.specs.declared.status.Status.{Status}
 use Rattle.requests.specs.declared.status.Status.TheVariants as status
 use Rattle.requests.specs.declared.refusal.Cause.{Cause}
 use Rattle.requests.specs.declared.refusal.Refusal.{Refusal}
-use Rattle.requests.specs.declared.refusal.Refusal.TheVariants.{BadHead, HeadTooLong, NoSuchPath, Method, BadQuery, BadSelector, BadBody, BodyTooLong, Refused, Unavailable}
+use Rattle.requests.specs.declared.refusal.Refusal.TheVariants.{BadHead, HeadTooLong, NoSuchPath}
+use Rattle.requests.specs.declared.refusal.Refusal.TheVariants.{Method, BadQuery, BadSelector}
+use Rattle.requests.specs.declared.refusal.Refusal.TheVariants.{BadBody, BodyTooLong, Refused}
+use Rattle.requests.specs.declared.refusal.Refusal.TheVariants.{Unavailable}
 
 -- the number of a refusal
 abbrev pub code_of : Refusal → List ℕ

@@ -1,6 +1,7 @@
 -- The bytes of replies.
 use Rattle.std.specs.Prelude.{ℕ, true, List, Option, None, Some, codes, ◌++◌, decimal, length}
-use Rattle.serde_json.specs.Data.{Data, object, string, number, boolean, unsigned, no_members, member}
+use Rattle.serde_json.specs.Data.{Data, object, string, number, boolean, unsigned, no_members}
+use Rattle.serde_json.specs.Data.{member}
 use Rattle.serde_json.specs.Written.{compact_text}
 use Rattle.requests.specs.declared.status.Status.{Status}
 use Rattle.requests.specs.declared.status.Status.TheVariants.{Done}

@@ -1,7 +1,10 @@
 -- The numbers and the reasons of statuses.
 use Rattle.std.specs.Prelude.{ℕ, List, codes}
 use Rattle.requests.specs.declared.status.Status.{Status}
-use Rattle.requests.specs.declared.status.Status.TheVariants.{Done, BadRequest, NotFound, MethodNotAllowed, Conflict, ContentTooLarge, HeadTooLarge, ServiceUnavailable}
+use Rattle.requests.specs.declared.status.Status.TheVariants.{Done, BadRequest, NotFound}
+use Rattle.requests.specs.declared.status.Status.TheVariants.{MethodNotAllowed, Conflict}
+use Rattle.requests.specs.declared.status.Status.TheVariants.{ContentTooLarge, HeadTooLarge}
+use Rattle.requests.specs.declared.status.Status.TheVariants.{ServiceUnavailable}
 
 abbrev pub status_number : Status → ℕ
 status_number Done = 200

@@ -1,5 +1,6 @@
 -- Paths, their methods, and query strings.
-use Rattle.std.specs.Prelude.{ℕ, Bool, true, false, not, ◌&&◌, ◌==◌, List, Option, None, Some, Result, Ok, Err, codes, position, is_some, if◌then◌else◌}
+use Rattle.std.specs.Prelude.{ℕ, Bool, true, false, not, ◌&&◌, ◌==◌, List, Option, None, Some}
+use Rattle.std.specs.Prelude.{Result, Ok, Err, codes, position, is_some, if◌then◌else◌}
 use Rattle.std.specs.List.{before_first, after_first}
 use Rattle.std.specs.Str.{bytes_eq}
 use Rattle.requests.specs.declared.refusal.Refusal.{Refusal}

@@ -6,7 +6,8 @@ use Rattle.serde_json.specs.Data.{Data}
 use Rattle.serde_json.specs.Find.{as_array, as_object}
 use Rattle.serde_json.specs.Read.{of_json, converted}
 use Rattle.labels.specs.Rows.{Row}
-use Rattle.requests.specs.Rows.{WrittenRow, pairs_in, samples_in, row_in, rows_in, IsLabelSetOf, IsRowOf, AreRowsOf}
+use Rattle.requests.specs.Rows.{WrittenRow, pairs_in, samples_in, row_in, rows_in, IsLabelSetOf}
+use Rattle.requests.specs.Rows.{IsRowOf, AreRowsOf}
 
 -- Where values may nest so deep, or deeper, the grammar takes a value from the front of the tokens
 -- `old`, this is what it means, and the tokens `new` follow it.

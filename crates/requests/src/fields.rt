@@ -1,9 +1,11 @@
 //! The fields of a head, and the length that they tell.
 
-ghost use Rattle.std.specs.Prelude.{◌≡◌, ◌≤◌, true, ℕ, List, map, length, drop, option_map, IfSome, IsSome, All};
+ghost use Rattle.std.specs.Prelude.{◌≡◌, ◌≤◌, true, ℕ, List, map, length, drop, option_map, IfSome};
+ghost use Rattle.std.specs.Prelude.{IsSome, All};
 ghost use Rattle.httparse.specs.Grammar.{RequestHead, ReadsRequest};
 ghost use Rattle.httparse.specs.Spans.{IsHeaderWithin, header_bytes};
-ghost use Rattle.requests.specs.Fields.{is_named, field_values, has_field, is_decimal, length_in, length_asked, IsHeadIn};
+ghost use Rattle.requests.specs.Fields.{is_named, field_values, has_field, is_decimal, length_in};
+ghost use Rattle.requests.specs.Fields.{length_asked, IsHeadIn};
 ghost use Rattle.requests.specs.QueryStrings.{only};
 ghost use Rattle.requests.specs.Heads.{BeginsWithHead};
 

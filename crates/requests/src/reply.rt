@@ -4,7 +4,8 @@ ghost use Rattle.std.specs.Prelude.{◌≡◌, ◌≤◌, ◌+◌, ◌++◌, IfO
 ghost use Rattle.serde_json.specs.View.{view};
 ghost use Rattle.serde_json.specs.Written.{compact_text};
 ghost use Rattle.requests.specs.Refusals.{told_cause, code_of, status_of, cause_of};
-ghost use Rattle.requests.specs.Replies.{refusal_data, cause_data, done_data, head_text, reply_text};
+ghost use Rattle.requests.specs.Replies.{refusal_data, cause_data, done_data, head_text};
+ghost use Rattle.requests.specs.Replies.{reply_text};
 ghost use Rattle.requests.specs.Replies.{refusal_body, refusal_text, done_text};
 
 use crate::{Cause, Refusal, Status};

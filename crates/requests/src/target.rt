@@ -2,7 +2,8 @@
 
 ghost use Rattle.std.specs.Prelude.{◌≡◌, IfErr};
 ghost use Rattle.requests.specs.Ending.{IsOfBytes};
-ghost use Rattle.requests.specs.Targets.{path_text, query_text, has_query, path_named, method_of, takes_query, path_asked};
+ghost use Rattle.requests.specs.Targets.{path_text, query_text, has_query, path_named, method_of};
+ghost use Rattle.requests.specs.Targets.{takes_query, path_asked};
 
 use crate::Refusal;
 

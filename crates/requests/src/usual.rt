@@ -2,7 +2,8 @@
 //! each an object of `labels`, in the order of their names, and then `samples`, whose times and
 //! values are integers. Most bodies are of this form, and it needs no tree of JSON values.
 
-ghost use Rattle.std.specs.Prelude.{◌≡◌, ◌<◌, ◌==◌, ◌∷◌, Some, true, false, length, slice_index, option_and_then, IfOk, IfSome, OnOk, IsTrue};
+ghost use Rattle.std.specs.Prelude.{◌≡◌, ◌<◌, ◌==◌, ◌∷◌, Some, true, false, length, slice_index};
+ghost use Rattle.std.specs.Prelude.{option_and_then, IfOk, IfSome, OnOk, IsTrue};
 ghost use Rattle.std.specs.Ordering.{nat_cmp};
 ghost use Rattle.std.specs.declared.cmp.Ordering.TheVariants.{Greater};
 ghost use Rattle.std.specs.Cmp.Lexicographic.{slice_cmp};
@@ -14,7 +15,8 @@ ghost use Rattle.serde_json.specs.Find.{as_i64};
 ghost use Rattle.serde_json.specs.Read.{number_from, number_of};
 ghost use Rattle.requests.specs.Json.{integer_in};
 ghost use Rattle.requests.specs.Rows.{sample_in};
-ghost use Rattle.requests.specs.Usual.{AreLabels, Comes, RowComes, RowsCome, pairs_of_object, samples_of_list};
+ghost use Rattle.requests.specs.Usual.{AreLabels, Comes, RowComes, RowsCome, pairs_of_object};
+ghost use Rattle.requests.specs.Usual.{samples_of_list};
 ghost use Rattle.requests.specs.Writing.{IsWritten};
 
 use fast_float::Numeral;

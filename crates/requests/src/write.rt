@@ -3,7 +3,9 @@
 ghost use Rattle.std.specs.Prelude.{◌≡◌, ◌++◌, ℤ, map, option_map, string_bytes, IfOk, OnOk};
 ghost use Rattle.labels.specs.Pairs.{pairs_of};
 ghost use Rattle.serde_json.specs.View.{view, items_view, members_view};
-ghost use Rattle.requests.specs.Rows.{pair_bytes, text_pair, pairs_in, labels_at, time_item, integer_item, sample_in, samples_in, samples_at, batch_of, IsLabelSetOf, IsRowIn, AreRowsIn};
+ghost use Rattle.requests.specs.Rows.{pair_bytes, text_pair, pairs_in, labels_at, time_item};
+ghost use Rattle.requests.specs.Rows.{integer_item, sample_in, samples_in, samples_at, batch_of};
+ghost use Rattle.requests.specs.Rows.{IsLabelSetOf, IsRowIn, AreRowsIn};
 ghost use Rattle.requests.specs.Writing.{AreRowsInBody, WriteMeans};
 ghost use Rattle.requests.specs.Requests.{Told};
 

@@ -3,13 +3,13 @@
 mod counting;
 mod first_pages;
 
+use answers::{AuditedAnswer, answer, answer_by_workers, body};
 use block_search::search_part;
 use counting::Counting;
 use head::{Event, Snapshot, apply};
 use labels::{LabelSet, Sample, is_time};
 use matchers::{Query, Selector};
 use postings::PartName;
-use query_http::{AuditedAnswer, answer, answer_by_workers, body};
 use std::alloc::{AllocError, Global};
 use std::cell::Cell;
 use std::thread::Threads;

@@ -8,7 +8,7 @@
 #![tactic(auto)]
 
 #[cfg(test)]
-mod answers;
+mod block_answers;
 #[cfg(test)]
 mod connections;
 #[cfg(test)]

@@ -1,12 +1,12 @@
-//! The examples of the first pages of `block_search`, `series_merge` and `query_http`.
+//! The examples of the first pages of `block_search`, `series_merge` and `answers`.
 
 use super::{ONE, blocks, query};
+use answers::{AuditedAnswer, answer, body};
 use block_search::search_one_by_one;
 use head::{Event, Snapshot, apply};
 use labels::{LabelSet, Sample};
 use matchers::{Query, Selector};
 use postings::PartName;
-use query_http::{AuditedAnswer, answer, body};
 use series_merge::merge;
 use std::alloc::{AllocError, Global};
 use std::process::Abort;
@@ -52,7 +52,7 @@ fn the_example_of_the_first_page_of_series_merge(rt: HostRuntime) -> Result<(), 
     merge_answers(&rt, alloc, &snapshot, &query)
 }
 
-/// What the example of `query_http` does.
+/// What the example of `answers` does.
 fn answer_one_sample(rt: &impl Abort, alloc: Global, snapshot: &Snapshot) -> Option<()> {
     let query = Query::new(Selector::parse(alloc, "up").ok()?, 0, 20).ok()?;
     let AuditedAnswer { parts, rows } = answer(alloc, snapshot, &query).ok()?;
@@ -64,7 +64,7 @@ fn answer_one_sample(rt: &impl Abort, alloc: Global, snapshot: &Snapshot) -> Opt
 }
 
 #[test]
-fn the_example_of_the_first_page_of_query_http(rt: HostRuntime) {
+fn the_example_of_the_first_page_of_answers(rt: HostRuntime) {
     let alloc = rt.alloc();
     let snapshot = search_one_sample(&rt, alloc).expect(&rt, "a head is searched");
     answer_one_sample(&rt, alloc, &snapshot).expect(&rt, "a head is answered");

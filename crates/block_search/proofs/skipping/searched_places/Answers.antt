@@ -1,4 +1,5 @@
-use Rattle.std.proofs.Common.{rules, ◌≡◌, ℕ, true, false, cond, List, [], ◌∷◌, ◌++◌, map, sym, subst, ap, ◌∙◌}
+use Rattle.std.proofs.Common.{rules, ◌≡◌, ℕ, true, false, cond, List, [], ◌∷◌, ◌++◌, map, sym}
+use Rattle.std.proofs.Common.{subst, ap, ◌∙◌}
 use Rattle.std.specs.List.{All}
 use Rattle.std.proofs.lemmas.List.{take_all}
 use Rattle.std.proofs.lemmas.List.Elements.{All-more}
@@ -9,7 +10,8 @@ use Rattle.block_search.specs.Places.{block_places}
 use Rattle.block_search.proofs.Skips.{IsSilent, none_outside, loses_nothing}
 use Rattle.block_search.proofs.PlaceLaws.{next_places}
 use Rattle.block_search.proofs.skipping.searched_places.Goals as goal
-use Rattle.block_search.proofs.skipping.searched_places.Goals.{then-not-is_skipped+in_ok-push, else-not-is_skipped}
+use Rattle.block_search.proofs.skipping.searched_places.Goals.{then-not-is_skipped+in_ok-push}
+use Rattle.block_search.proofs.skipping.searched_places.Goals.{else-not-is_skipped}
 
 pub loop-n-preserved : goal.loop-n-preserved
 loop-n-preserved c =

@@ -1,8 +1,8 @@
-use Rattle.std.proofs.Common.{◌≡◌, drop, length, ap, ap₂, ◌∙◌, sym, arith}
+use Rattle.std.proofs.Common.{◌≡◌, drop, length, ap, ap₂, ◌∙◌, arith}
 use Rattle.std.proofs.lemmas.List.{with_items_is}
 use Rattle.requests.specs.Replies.{reply_text}
 use Rattle.requests.specs.declared.status.Status.TheVariants.{Done}
-use Rattle.query_http.specs.Reply.{body_text}
+use Rattle.answers.specs.Body.{body_text}
 use Rattle.query_http.proofs.actions.answer_reply.Goals as goal
 
 pub returns-clause-spelled : goal.returns-clause-spelled

@@ -1,4 +1,5 @@
-use Rattle.std.proofs.Common.{◌≡◌, drop, get_or, true, false, ◌==◌, Some, IfSome, sym, ap, subst, ◌∙◌, arith, take_all, length-drop}
+use Rattle.std.proofs.Common.{◌≡◌, drop, get_or, true, false, ◌==◌, Some, IfSome, sym, ap, subst}
+use Rattle.std.proofs.Common.{◌∙◌, arith, take_all, length-drop}
 use Rattle.std.specs.Prelude.{option_and_then}
 use Rattle.fast_float.specs.Text.{scan}
 use Rattle.serde_json.specs.Find.{as_i64}

@@ -7,7 +7,8 @@ use Rattle.json.specs.Json.{read_key}
 use Rattle.labels.specs.LabelSets.{has_value}
 use Rattle.labels.specs.Names.{is_name}
 use Rattle.labels.specs.Pairs.{texts_of}
-use Rattle.requests.proofs.UsualLabels.{LabelsSoFar, one_label_more, are_labels, texts_pushed, length_texts}
+use Rattle.requests.proofs.UsualLabels.{LabelsSoFar, one_label_more, are_labels, texts_pushed}
+use Rattle.requests.proofs.UsualLabels.{length_texts}
 use Rattle.requests.proofs.UsualTexts.{PairsSoFar, pairs_turn, pairs_end}
 use Rattle.requests.proofs.usual.pairs.Goals as goal
 

@@ -2,7 +2,7 @@ use Rattle.std.proofs.Common.{List, map, subst}
 use Rattle.std.specs.List.{Contains}
 use Rattle.cover.specs.declared.part_cover.PartAnswer.{PartAnswer}
 use Rattle.block_search.specs.Skipping.{searched_parts}
-use Rattle.query_http.proofs.MergedAnswers.{each_row_list, each_answers}
+use Rattle.answers.proofs.MergedAnswers.{each_row_list, each_answers}
 use Rattle.search_tests.proofs.tests.first_pages.merge_answers.Goals as goal
 
 pub merge-requires : goal.merge-requires

@@ -1,0 +1,5 @@
+pub mod Lists
+pub mod Objects
+pub mod MergedAnswers
+pub mod Told
+pub mod Headlines

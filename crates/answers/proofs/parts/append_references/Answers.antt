@@ -1,0 +1,15 @@
+use Rattle.std.proofs.Common.{◌∙◌, arith}
+use Rattle.std.proofs.lemmas.Result.{on_ok_weaker}
+use Rattle.answers.specs.Body.{natural}
+use Rattle.answers.proofs.Lists.{listed}
+use Rattle.answers.proofs.parts.append_references.Goals as goal
+
+pub returns : goal.returns
+returns c =
+    on_ok_weaker c.close_list.result
+    (λ e. e
+    ∙ listed natural c.args.references.now c.args.out.now.items
+    c.append_references_after_commas.new.out.items c.len-start.result (omega (
+      arith,
+      c.len-start.ensures,
+    )) c.in_ok-append_references_after_commas.ensures) c.close_list.ensures

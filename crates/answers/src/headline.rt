@@ -1,0 +1,32 @@
+//! The headline: the audited answer of a store that others change all the while.
+
+ghost use Rattle.std.specs.Prelude.{◌≡◌, IfOk};
+ghost use mathlib.Core.List.{IsPrefix};
+ghost use Rattle.answers.specs.Headline.{IsHeadline};
+
+use crate::audited::{AuditedAnswer, answer};
+use crate::error::AskError;
+use matchers::Query;
+use snapshots::{Naming, Pass};
+use std::alloc::Global;
+
+/// The audited answer of the pass's next snapshot to a query.
+///
+/// The list of events that the pass has seen then begins with all that it had seen, and with the
+/// list of each receipt that it learnt. The rows are exactly those of what this list makes of the
+/// opening's content, restricted to the matchers and the range. Each part of that snapshot is told
+/// of, with the certificate that shows its rows to be all; its first blocks are those that the
+/// store opened with, each with its range, its references and its label sets. `S1` where there is
+/// no snapshot, and memory; then the pass knows no less than before. It waits for nobody.
+pub fn ask<J: Naming>(
+    alloc: Global,
+    pass: &mut Pass<J>,
+    query: &Query,
+) -> Result<AuditedAnswer, AskError>
+    ensures headline { IfOk result (IsHeadline J.opening query.now pass.old pass.new) }
+    ensures seen { IsPrefix pass.old.seen pass.new.seen }
+    ensures told { pass.new.told ≡ pass.old.told }
+{
+    let snapshot = pass.snapshot()?;
+    Ok(answer(alloc, &snapshot, query)?)
+}

@@ -1,0 +1,41 @@
+//! The audited answer to a query, and its text.
+//!
+//! An [`AuditedAnswer`] tells of each part of a snapshot ([`AnsweredPart`]) what it answers, or
+//! that the query skips it, and has the rows of all of them: exactly the rows of the snapshot's
+//! content restricted to the matchers and the range. [`answer`] gives it of a snapshot. [`ask`]
+//! puts a query to a store that others change meanwhile: its answer is that of the next snapshot of
+//! a pass, after all events that the pass had seen or been told of. [`body`] is the text of an
+//! answer, as compact JSON, byte for byte.
+//!
+//! Of a `snapshot` whose head has one sample, 1 at time 10, of the series `up`:
+//!
+//! ```
+//! let query = Query::new(Selector::parse(alloc, "up").ok()?, 0, 20).ok()?;
+//! let AuditedAnswer { parts, rows } = answer(alloc, snapshot, &query).ok()?;
+//! assert_eq!(rt; (parts.len(), rows.len()), (1, 1));
+//! let text = body(alloc, &parts, &rows).ok()?;
+//! let end = br#""rows":[{"labels":{"__name__":"up"},"samples":[[10,1]]}]}"#;
+//! assert!(rt; text.ends_with(end));
+//! ```
+//!
+//! It stands on `snapshots` for passes, on `block_search` and `series_merge`, on `serde_json` for
+//! what compact JSON is, and on `itoa` for digits.
+#![tactic(auto)]
+
+mod audited;
+mod body_text;
+mod brackets;
+mod error;
+mod headline;
+mod number;
+mod parts;
+mod plain;
+mod row_text;
+mod rows;
+mod samples;
+mod strings;
+
+pub use audited::{AnsweredPart, AuditedAnswer, answer, answer_by_workers};
+pub use body_text::{body, body_after};
+pub use error::AskError;
+pub use headline::ask;

@@ -1,0 +1,182 @@
+//! The text of what is told of each part: its certificate, its rows and its separators, or that it
+//! is skipped.
+
+ghost use Rattle.std.specs.Prelude.{◌≡◌, ◌++◌, OnOk, IfOk, string_bytes};
+ghost use Rattle.serde_json.specs.Written.{compact_text};
+ghost use Rattle.answers.specs.Body.{verdict_data, interval_data, json_list, natural};
+ghost use Rattle.answers.specs.Body.{name_text, part_data};
+ghost use Rattle.answers.specs.AfterCommas.{interval_after_comma, searched_after_comma};
+ghost use Rattle.answers.specs.AfterCommas.{skipped_after_comma, part_after_comma};
+ghost use Rattle.answers.specs.AfterCommas.{after_commas};
+
+use crate::audited::AnsweredPart;
+use crate::brackets::close_list;
+use crate::number::append_natural;
+use crate::row_text::RowText;
+use crate::strings::append_string;
+use cover::{Interval, PartAnswer, Verdict};
+use labels::SeriesRef;
+use postings::PartName;
+use std::alloc::{AllocError, Global};
+
+#[tactic(auto, unfolding(json::specs::Print::escape_byte))]
+fn append_verdict(out: &mut Vec<u8>, verdict: Verdict) -> Result<(), AllocError>
+    ensures { OnOk result (out.new.items ≡ out.old.items ++ compact_text (verdict_data verdict)) }
+{
+    match verdict {
+        Verdict::Match => out.extend_from_slice(b"\"match\""),
+        Verdict::NoSample => out.extend_from_slice(b"\"none\""),
+        Verdict::Rejected(matcher) => append_natural(out, matcher as u64),
+    }
+}
+
+/// Appends a comma and the interval.
+fn append_interval_after_comma(out: &mut Vec<u8>, interval: &Interval) -> Result<(), AllocError>
+    ensures { OnOk result (out.new.items ≡ out.old.items ++ interval_after_comma interval.now) }
+{
+    out.extend_from_slice(b",{\"from\":")?;
+    append_natural(out, interval.from.number() as u64)?;
+    out.extend_from_slice(b",\"until\":")?;
+    append_natural(out, interval.until)?;
+    out.extend_from_slice(b",\"verdict\":")?;
+    append_verdict(out, interval.verdict)?;
+    out.push(b'}')?;
+    Ok(())
+}
+
+/// Appends the intervals, each with a comma before it.
+fn append_intervals_after_commas(
+    out: &mut Vec<u8>,
+    intervals: &[Interval],
+) -> Result<(), AllocError>
+    ensures { OnOk result (out.new.items
+        ≡ out.old.items ++ after_commas interval_data intervals.now) }
+{
+    for interval in intervals {
+        append_interval_after_comma(out, interval)?;
+    }
+    Ok(())
+}
+
+/// Appends the intervals as a list.
+fn append_intervals(out: &mut Vec<u8>, intervals: &[Interval]) -> Result<(), AllocError>
+    ensures { OnOk result (out.new.items
+        ≡ out.old.items ++ json_list interval_data intervals.now) }
+{
+    let start = out.len();
+    append_intervals_after_commas(out, intervals)?;
+    close_list(out, start, b'[', b']')
+}
+
+/// Appends the references, each with a comma before it.
+fn append_references_after_commas(
+    out: &mut Vec<u8>,
+    references: &[SeriesRef],
+) -> Result<(), AllocError>
+    ensures { OnOk result (out.new.items ≡ out.old.items ++ after_commas natural references.now) }
+{
+    for reference in references {
+        out.push(b',')?;
+        append_natural(out, reference.number() as u64)?;
+    }
+    Ok(())
+}
+
+/// Appends the references as a list.
+fn append_references(out: &mut Vec<u8>, references: &[SeriesRef]) -> Result<(), AllocError>
+    ensures { OnOk result (out.new.items ≡ out.old.items ++ json_list natural references.now) }
+{
+    let start = out.len();
+    append_references_after_commas(out, references)?;
+    close_list(out, start, b'[', b']')
+}
+
+fn name_of(alloc: Global, part: PartName) -> Result<String, AllocError>
+    ensures { IfOk result (λ s. string_bytes s ≡ name_text part) }
+{
+    match part {
+        PartName::Block(n) => format!(in alloc; "block {n}"),
+        PartName::Head => String::from_str(alloc, "head"),
+    }
+}
+
+/// Appends a comma and the answer of a part.
+fn append_searched_after_comma(
+    alloc: Global,
+    out: &mut Vec<u8>,
+    answer: &PartAnswer,
+    rows: &RowText<'_>,
+) -> Result<(), AllocError>
+    ensures { OnOk result (out.new.items ≡ out.old.items ++ searched_after_comma answer.now) }
+{
+    let name = name_of(alloc, answer.part)?;
+    out.extend_from_slice(b",{\"intervals\":")?;
+    append_intervals(out, answer.cover.certificate.as_slice())?;
+    out.extend_from_slice(b",\"part\":")?;
+    append_string(out, name.as_str())?;
+    out.extend_from_slice(b",\"rows\":")?;
+    rows.append_part(out, answer.rows.as_slice())?;
+    out.extend_from_slice(b",\"separators\":")?;
+    append_references(out, answer.cover.separators.as_slice())?;
+    out.push(b'}')?;
+    Ok(())
+}
+
+/// Appends a comma and that a part is skipped.
+fn append_skipped_after_comma(
+    alloc: Global,
+    out: &mut Vec<u8>,
+    name: PartName,
+) -> Result<(), AllocError>
+    ensures { OnOk result (out.new.items ≡ out.old.items ++ skipped_after_comma name) }
+{
+    let name = name_of(alloc, name)?;
+    out.extend_from_slice(b",{\"part\":")?;
+    append_string(out, name.as_str())?;
+    out.extend_from_slice(b",\"skipped\":true}")?;
+    Ok(())
+}
+
+/// Appends a comma and what is told of a part.
+fn append_part_after_comma(
+    alloc: Global,
+    out: &mut Vec<u8>,
+    part: &AnsweredPart,
+    rows: &RowText<'_>,
+) -> Result<(), AllocError>
+    ensures { OnOk result (out.new.items ≡ out.old.items ++ part_after_comma part.now) }
+{
+    match part {
+        AnsweredPart::Searched(answer) => append_searched_after_comma(alloc, out, answer, rows),
+        AnsweredPart::Skipped(name) => append_skipped_after_comma(alloc, out, *name),
+    }
+}
+
+/// Appends what is told of each part, with a comma before it.
+fn append_parts_after_commas(
+    alloc: Global,
+    out: &mut Vec<u8>,
+    parts: &[AnsweredPart],
+    rows: &RowText<'_>,
+) -> Result<(), AllocError>
+    ensures { OnOk result (out.new.items ≡ out.old.items ++ after_commas part_data parts.now) }
+{
+    for part in parts {
+        append_part_after_comma(alloc, out, part, rows)?;
+    }
+    Ok(())
+}
+
+/// Appends what is told of each part as a list. The rows of all parts are known beside them.
+pub fn append_parts(
+    alloc: Global,
+    out: &mut Vec<u8>,
+    parts: &[AnsweredPart],
+    rows: &RowText<'_>,
+) -> Result<(), AllocError>
+    ensures { OnOk result (out.new.items ≡ out.old.items ++ json_list part_data parts.now) }
+{
+    let start = out.len();
+    append_parts_after_commas(alloc, out, parts, rows)?;
+    close_list(out, start, b'[', b']')
+}

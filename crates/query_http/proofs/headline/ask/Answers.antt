@@ -1,8 +1,0 @@
-use Rattle.query_http.proofs.Headlines.{headline}
-use Rattle.query_http.proofs.headline.ask.Goals as goal
-
-pub returns-clause-headline : goal.returns-clause-headline
-returns-clause-headline g c = headline g.J.Naming.opening c.args.query.now _ _ _ _
-    c.snapshot.ensures.seen c.in_ok-snapshot.ensures.told c.in_ok-snapshot.ensures.world
-    (rw c.deref.ensures at c.in_ok-answer.ensures.rows) (rw c.deref.ensures at
-    c.in_ok-answer.ensures.whole) (rw c.deref.ensures at c.in_ok-answer.ensures.each)
