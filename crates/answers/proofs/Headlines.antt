@@ -8,9 +8,10 @@ use Rattle.matchers.specs.Views.{QueryView}
 use Rattle.matchers.specs.Queries.{selected_by}
 use Rattle.head.specs.Heads.{SnapshotParts, parts_of, world_of}
 use Rattle.block_search.specs.Skipping.{LosesNothing}
+use Rattle.block_search.specs.Answered.{AreAnsweredParts}
 use Rattle.snapshots.specs.Replays.{IsAfter}
 use Rattle.snapshots.specs.Views.{Known}
-use Rattle.answers.specs.Audited.{AreAnsweredParts, selected_in}
+use Rattle.answers.specs.Audited.{selected_in}
 use Rattle.answers.specs.Headline.{IsHeadline}
 use Rattle.answers.specs.declared.audited.AuditedAnswer.{AuditedAnswer}
 

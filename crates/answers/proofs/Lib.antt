@@ -1,5 +1,4 @@
 pub mod Lists
 pub mod Objects
 pub mod MergedAnswers
-pub mod Told
 pub mod Headlines

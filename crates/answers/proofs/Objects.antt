@@ -14,7 +14,7 @@ use Rattle.labels.specs.Rows.{Row}
 use Rattle.cover.specs.declared.certificate.Interval.{Interval}
 use Rattle.cover.specs.declared.part_cover.PartAnswer.{PartAnswer}
 use Rattle.postings.specs.declared.part_name.PartName.{PartName}
-use Rattle.answers.specs.declared.audited.AnsweredPart.{AnsweredPart}
+use Rattle.block_search.specs.declared.answered.AnsweredPart.{AnsweredPart}
 use Rattle.answers.specs.Body.{label_members, row_data, list_data, sample_data, interval_data}
 use Rattle.answers.specs.Body.{verdict_data, searched_data, skipped_data, part_data, name_text}
 use Rattle.answers.specs.Body.{natural, body_text}

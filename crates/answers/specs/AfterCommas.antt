@@ -8,7 +8,7 @@ use Rattle.labels.specs.Rows.{Row}
 use Rattle.cover.specs.declared.certificate.Interval.{Interval}
 use Rattle.cover.specs.declared.part_cover.PartAnswer.{PartAnswer}
 use Rattle.postings.specs.declared.part_name.PartName.{PartName}
-use Rattle.answers.specs.declared.audited.AnsweredPart.{AnsweredPart}
+use Rattle.block_search.specs.declared.answered.AnsweredPart.{AnsweredPart}
 use Rattle.answers.specs.Body.{sample_data, row_data, interval_data, searched_data}
 use Rattle.answers.specs.Body.{skipped_data, part_data}
 

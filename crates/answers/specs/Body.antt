@@ -14,8 +14,8 @@ use Rattle.cover.specs.declared.certificate.Interval.{Interval}
 use Rattle.cover.specs.declared.certificate.Verdict.{Verdict}
 use Rattle.cover.specs.declared.certificate.Verdict.TheVariants.{Match, NoSample, Rejected}
 use Rattle.cover.specs.declared.part_cover.PartAnswer.{PartAnswer}
-use Rattle.answers.specs.declared.audited.AnsweredPart.{AnsweredPart}
-use Rattle.answers.specs.declared.audited.AnsweredPart.TheVariants.{Searched, Skipped}
+use Rattle.block_search.specs.declared.answered.AnsweredPart.{AnsweredPart}
+use Rattle.block_search.specs.declared.answered.AnsweredPart.TheVariants.{Searched, Skipped}
 
 abbrev pub natural : ℕ → Data
 natural n = number (unsigned n)

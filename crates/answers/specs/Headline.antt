@@ -5,9 +5,9 @@ use Rattle.matchers.specs.Views.{QueryView}
 use Rattle.matchers.specs.Queries.{selected_by}
 use Rattle.head.specs.Heads.{SnapshotParts, world_of}
 use Rattle.block_search.specs.Skipping.{LosesNothing}
+use Rattle.block_search.specs.Answered.{AreAnsweredParts}
 use Rattle.snapshots.specs.Replays.{IsAfter}
 use Rattle.snapshots.specs.Views.{Known}
-use Rattle.answers.specs.Audited.{AreAnsweredParts}
 use Rattle.answers.specs.declared.audited.AuditedAnswer.{AuditedAnswer}
 
 -- A pass asked a store that had opened with this snapshot. It knew `before` when it asked and

@@ -1,6 +1,5 @@
 pub mod Body
 pub mod AfterCommas
-pub mod Telling
 pub mod Audited
 pub mod Headline
 pub mod Refusals

@@ -1,79 +1,26 @@
 //! The answer of a snapshot to a query: what is told of each part, and the rows of all.
 
-ghost use Rattle.std.specs.Prelude.{◌≡◌, ◌++◌, IfOk, OnOk, reverse};
+ghost use Rattle.std.specs.Prelude.{IfOk, OnOk};
 ghost use Rattle.labels.specs.Rows.{AreRows};
 ghost use Rattle.block_search.specs.Skipping.{LosesNothing};
 ghost use Rattle.block_search.specs.Answers.{AreAnswers};
-ghost use Rattle.answers.specs.Audited.{AreAnsweredParts, selected_in};
-ghost use Rattle.answers.specs.Telling.{told_of_one, left_after};
+ghost use Rattle.block_search.specs.Answered.{AreAnsweredParts};
+ghost use Rattle.answers.specs.Audited.{selected_in};
 
-use block_search::{OpenGate, is_skipped, search, search_one_by_one};
+use block_search::{AnsweredPart, OpenGate, answered_parts, search, search_one_by_one};
 use cover::PartAnswer;
 use head::Snapshot;
 use labels::Row;
 use matchers::Query;
-use postings::PartName;
 use series_merge::merge;
 use std::alloc::{AllocError, Global};
 use std::thread::Threads;
-
-/// What is told of a part of a snapshot.
-#[derive(Drop)]
-pub enum AnsweredPart {
-    /// The answer of a part that was searched.
-    Searched(PartAnswer),
-    /// The name of a block that the query skips: its range has no time of the query's.
-    Skipped(PartName),
-}
 
 /// What is told of each part, in the order of the parts, and the rows of all of them.
 #[derive(Drop)]
 pub struct AuditedAnswer {
     pub parts: Vec<AnsweredPart>,
     pub rows: Vec<Row>,
-}
-
-/// Adds what is told of a part, which takes the next answer where it was searched. The next answer
-/// is the last of those that are left.
-fn push_part(
-    parts: &mut Vec<AnsweredPart>,
-    left: &mut Vec<PartAnswer>,
-    name: PartName,
-    skipped: bool,
-) -> Result<(), AllocError>
-    ensures told { OnOk result (parts.new.items
-        ≡ parts.old.items ++ told_of_one skipped name (reverse left.old.items)) }
-    ensures left { OnOk result (reverse left.new.items
-        ≡ left_after skipped (reverse left.old.items)) }
-{
-    if skipped {
-        parts.push(AnsweredPart::Skipped(name))?;
-    } else if let Some(answer) = left.pop() {
-        parts.push(AnsweredPart::Searched(answer))?;
-    }
-    Ok(())
-}
-
-/// What is told of each part of a snapshot, given the answers of those that are searched.
-fn answered_parts(
-    alloc: Global,
-    snapshot: &Snapshot,
-    query: &Query,
-    answers: Vec<PartAnswer>,
-) -> Result<Vec<AnsweredPart>, AllocError>
-    requires { AreAnswers query.now snapshot.now answers.items }
-    ensures { IfOk result (λ parts. AreAnsweredParts query.now snapshot.now parts.items) }
-{
-    let mut left = answers;
-    left.reverse();
-    let mut parts = Vec::new(alloc);
-    let blocks = snapshot.blocks();
-    for n in 0..blocks.len() {
-        let skipped = is_skipped(blocks[n].range(), query);
-        push_part(&mut parts, &mut left, PartName::Block(n), skipped)?;
-    }
-    push_part(&mut parts, &mut left, PartName::Head, false)?;
-    Ok(parts)
 }
 
 /// The audited answer of a snapshot, given the answers of the parts that are searched.
@@ -89,7 +36,7 @@ fn audited_answer(
     ensures rows { IfOk result (λ a. AreRows a.rows.items (selected_in query.now snapshot.now)) }
 {
     let rows = merge(alloc, answers.as_slice())?;
-    let parts = answered_parts(alloc, snapshot, query, answers)?;
+    let parts = answered_parts(alloc, snapshot, answers)?;
     Ok(AuditedAnswer { parts, rows })
 }
 

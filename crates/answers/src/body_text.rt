@@ -6,9 +6,9 @@
 ghost use Rattle.std.specs.Prelude.{◌≡◌, ◌≤◌, ◌++◌, OnOk, IfOk, drop, vec_len};
 ghost use Rattle.answers.specs.Body.{body_text};
 
-use crate::audited::AnsweredPart;
 use crate::parts::append_parts;
 use crate::row_text::{RowText, room_of_rows, write_rows};
+use block_search::AnsweredPart;
 use cover::PartAnswer;
 use labels::Row;
 use std::alloc::{AllocError, Global};

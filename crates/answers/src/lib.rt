@@ -35,7 +35,8 @@ mod rows;
 mod samples;
 mod strings;
 
-pub use audited::{AnsweredPart, AuditedAnswer, answer, answer_by_workers};
+pub use audited::{AuditedAnswer, answer, answer_by_workers};
+pub use block_search::AnsweredPart;
 pub use body_text::{body, body_after};
 pub use error::AskError;
 pub use headline::ask;

@@ -9,11 +9,11 @@ ghost use Rattle.answers.specs.AfterCommas.{interval_after_comma, searched_after
 ghost use Rattle.answers.specs.AfterCommas.{skipped_after_comma, part_after_comma};
 ghost use Rattle.answers.specs.AfterCommas.{after_commas};
 
-use crate::audited::AnsweredPart;
 use crate::brackets::close_list;
 use crate::number::append_natural;
 use crate::row_text::RowText;
 use crate::strings::append_string;
+use block_search::AnsweredPart;
 use cover::{Interval, PartAnswer, Verdict};
 use labels::SeriesRef;
 use postings::PartName;

@@ -9,3 +9,4 @@ pub mod PlaceLaws
 pub mod Agreement
 pub mod Answering
 pub mod Gathered
+pub mod Told

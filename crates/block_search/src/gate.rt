@@ -4,7 +4,7 @@
 pub trait Gate: Sync {
     /// Called with the place of the part that this thread searches next: the number of a block, or
     /// for the head that of all blocks.
-    fn enter(&self, part: usize);
+    fn reached(&self, part: usize);
 }
 
 /// A gate that holds nobody up.
@@ -12,5 +12,5 @@ pub trait Gate: Sync {
 pub struct OpenGate;
 
 impl Gate for OpenGate {
-    fn enter(&self, _part: usize) {}
+    fn reached(&self, _part: usize) {}
 }

@@ -8,7 +8,8 @@
 //! there, so nothing is lost. A part is a [`SearchedPart`]; [`search`] gives each part a worker,
 //! and the rows of a block's many matches several, with a [`Gate`] that learns of each part, and
 //! [`search_one_by_one`] goes through all in the calling thread: the two agree in all but the
-//! moves.
+//! moves. [`answered_parts`] makes of the answers what is told of each part: its answer, or that it
+//! is skipped.
 //!
 //! ```
 //! let labels = LabelSet::of_sorted_texts(alloc, &[("__name__", "up")]).ok()?;
@@ -26,6 +27,7 @@
 //! It stands on `labels`, `matchers`, `postings`, `cover`, `block` and `head`.
 #![tactic(auto)]
 
+mod answered;
 mod block_rows;
 mod gate;
 mod laws;
@@ -33,6 +35,7 @@ mod one_part;
 mod parts;
 mod skipping;
 
+pub use answered::{AnsweredPart, answered_parts};
 pub use gate::{Gate, OpenGate};
 pub use laws::searches_agree;
 pub use one_part::{SearchedPart, search_part};

@@ -78,7 +78,7 @@ fn search_through_gate<R: Threads + Sync, G: Gate>(
 ) -> Result<PartAnswer, AllocError>
     ensures { IfOk result (IsAnswerOf query.now (part_at query.now snapshot.now place)) }
 {
-    gate.enter(place);
+    gate.reached(place);
     search_place_by(rt, alloc, snapshot, query, place)
 }
 

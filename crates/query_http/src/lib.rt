@@ -5,7 +5,7 @@
 //! bytes that came, or to the query, answered as [`ask`](answers::ask) does, or to the one event
 //! that they spell, and nothing else; an accepted event is under the seat's number, and the pass
 //! has learnt its receipt, also where the writer fails (`specs/Serving.antt`). A connection is any
-//! [`Inlet`](requests::Inlet) and any [`Outlet`]. [`serve_one_with`] does the same with [`Buffers`]
+//! [`Inlet`] and any [`Outlet`]. [`serve_one_with`] does the same with [`Buffers`]
 //! that a worker keeps from connection to connection.
 //!
 //! It stands on `snapshots` for passes, seats and committers, on `requests` for what the bytes of
@@ -21,3 +21,4 @@ mod reply;
 pub use buffers::{Buffers, MOST_KEPT};
 pub use engine::{Served, serve_one, serve_one_with};
 pub use outlet::{Outlet, write_whole};
+pub use requests::{Fault, Inlet};

@@ -130,7 +130,7 @@ struct Meeting {
 const TURNS: u32 = 1_000_000;
 
 impl Gate for Meeting {
-    fn enter(&self, part: usize) {
+    fn reached(&self, part: usize) {
         if part > 0 {
             self.second.store(1, Ordering::SeqCst);
             return;
