@@ -36,6 +36,7 @@ fn append_labels_after_commas(out: &mut Vec<u8>, labels: &LabelSet) -> Result<()
 pub fn append_labels(out: &mut Vec<u8>, labels: &LabelSet) -> Result<(), AllocError>
     ensures { OnOk result (out.new.items ≡ out.old.items ++ json_labels labels.now) }
 {
+    // For the proof alone: the names of a label set rise.
     let _count = labels.len();
     let start = out.len();
     append_labels_after_commas(out, labels)?;

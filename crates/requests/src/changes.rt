@@ -40,7 +40,7 @@ pub fn cut(alloc: Global, body: &[u8]) -> Result<Request, ReadError>
     }
 }
 
-// The text of the selector, and the ends of the range.
+/// The text of the selector, and the ends of the range.
 fn deletion_in(value: &Value) -> Option<(&str, i64, i64)>
     ensures { option_map (λ a. (a.0.now, a.1, a.2)) result ≡ deletion_in (view value.now) }
 {

@@ -80,7 +80,7 @@ fn length_in(value: &[u8]) -> Result<usize, Refusal>
     }
 }
 
-// The length of the body: `H8`, then `H7`.
+/// The length of the body: `H8`, then `H7`.
 fn length_asked(buf: &[u8], headers: &[HeaderSpan]) -> Result<usize, Refusal>
     requires { All (IsHeaderWithin (length buf.now)) headers.now }
     ensures { result ≡ length_asked (map (header_bytes buf.now) headers.now) }

@@ -38,7 +38,7 @@ pub fn read_some<R: Inlet>(
     Ok(n)
 }
 
-// How bytes stand to a head.
+/// How bytes stand to a head.
 enum Look {
     Whole,
     More,

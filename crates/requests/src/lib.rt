@@ -84,5 +84,5 @@ pub use edge::{Fault, Inlet};
 pub use read::{read_request, read_request_into};
 pub use refusal::{Cause, Refusal};
 pub use reply::{HEAD_ROOM, done_reply, place_success_head};
-pub use request::{MAX_SAMPLES, ReadError, Request};
+pub use request::{MAX_BATCH, ReadError, Request};
 pub use status::Status;

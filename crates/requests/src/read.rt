@@ -20,7 +20,7 @@ use crate::write::write;
 use crate::{ReadError, Refusal, Request};
 use std::alloc::Global;
 
-// Reads until the buffer has so many bytes: `H7` where the input ends before.
+/// Reads until the buffer has so many bytes: `H7` where the input ends before.
 fn read_body<R: Inlet>(reader: &mut R, buf: &mut Vec<u8>, end: usize) -> Result<(), ReadError>
     ensures whole { OnOk result (end ≤ vec_len buf.new) }
     ensures bytes { OnOk result
@@ -39,7 +39,7 @@ fn read_body<R: Inlet>(reader: &mut R, buf: &mut Vec<u8>, end: usize) -> Result<
     Ok(())
 }
 
-// What a body asks of a path that takes one.
+/// What a body asks of a path that takes one.
 fn body_request(alloc: Global, path: Path, body: &[u8]) -> Result<Request, ReadError>
     ensures { Told (BodyMeans path body.now) result }
 {
@@ -58,7 +58,7 @@ fn head_of(buf: &[u8]) -> Head<'_>
     head_in(buf).unwrap()
 }
 
-// Reads what follows a head that has come, if its path takes a body, and says what is asked.
+/// Reads what follows a head that has come, if its path takes a body, and says what is asked.
 fn read_after<R: Inlet>(
     alloc: Global,
     reader: &mut R,

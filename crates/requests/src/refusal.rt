@@ -122,7 +122,7 @@ impl fmt::Display for Refusal {
 
 impl Error for Refusal {}
 
-// Where a selector ends to be one, if that is why it is refused.
+/// Where a selector ends to be one, if that is why it is refused.
 fn place_in(error: SelectorError) -> Option<usize>
     ensures { result ≡ place_of error }
 {

@@ -15,7 +15,7 @@ use std::fmt;
 pub enum Request {
     /// The rows that a query finds.
     Select(Query),
-    /// Samples that are to be committed as one batch, in this order: at most [`MAX_SAMPLES`].
+    /// Samples that are to be committed as one batch, in this order: at most [`MAX_BATCH`].
     Write(Vec<(LabelSet, Sample)>),
     /// The samples from one time to another, both in the range, of the label sets that satisfy the
     /// matchers, 1 to 16, are to be deleted.
@@ -29,7 +29,7 @@ pub enum Request {
 }
 
 /// The most samples of one batch.
-pub const MAX_SAMPLES: usize = 4096;
+pub const MAX_BATCH: usize = 4096;
 
 /// Why no request was read.
 #[derive(Clone, Copy, Debug, PartialEq, Eq, Drop)]

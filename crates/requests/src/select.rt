@@ -38,7 +38,7 @@ fn only_value<'p>(pairs: &'p [(String, String)], name: &str) -> Option<&'p str>
     found
 }
 
-// The text of the selector, and the ends of the range.
+/// The text of the selector, and the ends of the range.
 fn asked_in<'p>(pairs: &'p [(String, String)]) -> Option<(&'p str, i64, i64)>
     ensures value { option_map (λ a. (a.0.now, a.1, a.2)) result ≡ asked_in (pairs_of pairs.now) }
     ensures range { IfSome result (λ a. is_query_range a.1 a.2 ≡ true) }

@@ -25,15 +25,15 @@ use labels::{LabelSet, Row, Sample, is_name, is_time};
 use std::alloc::{AllocError, AllocFailed, Global};
 use std::cmp::Ordering;
 
-// The most labels of a label set.
+/// The most labels of a label set.
 const MAX_LABELS: usize = 64;
 
-// Why no rows were read.
+/// Why no rows were read.
 #[derive(Clone, Copy, Debug, PartialEq, Eq, Drop)]
 enum Stop {
-    // The body is spelled in another way, or is no batch.
+    /// The body is spelled in another way, or is no batch.
     Unusual,
-    // There is no memory left.
+    /// There is no memory left.
     Memory,
 }
 
@@ -118,14 +118,14 @@ fn number<'t>(reader: &mut Reader<'t>) -> Result<&'t str, Stop>
     }
 }
 
-// The integer of a numeral without a sign.
+/// The integer of a numeral without a sign.
 fn unsigned(numeral: &Numeral<'_>) -> Option<i64>
     ensures { IfSome result (λ z. option_and_then as_i64 (number_from false numeral.now) ≡ Some z) }
 {
     numeral.to_i64(false)
 }
 
-// The integer below 0 of a numeral after a minus: `-0` is none.
+/// The integer below 0 of a numeral after a minus: `-0` is none.
 fn negative(numeral: &Numeral<'_>) -> Option<i64>
     ensures { IfSome result (λ z. option_and_then as_i64 (number_from true numeral.now) ≡ Some z) }
 {
@@ -140,7 +140,7 @@ fn has_minus(bytes: &[u8]) -> bool
     !bytes.is_empty() && bytes[0] == b'-'
 }
 
-// The integer that the text of a number is, from -2^63 to 2^63 - 1.
+/// The integer that the text of a number is, from -2^63 to 2^63 - 1.
 fn integer_of(text: &str) -> Option<i64>
     ensures { IfSome result (λ z. option_and_then as_i64 (number_of text.now) ≡ Some z) }
 {
@@ -187,7 +187,7 @@ fn samples(alloc: Global, reader: &mut Reader<'_>) -> Result<Vec<Sample>, Stop>
     Ok(samples)
 }
 
-// Whether a pair may stand in a label set after the pair of the name `last`.
+/// Whether a pair may stand in a label set after the pair of the name `last`.
 fn may_follow(last: &str, name: &str, value: &str) -> bool
     ensures behind { IsTrue result → slice_cmp nat_cmp name.now last.now ≡ Greater }
     ensures named { IsTrue result → is_name name.now ≡ true }

@@ -11,7 +11,7 @@ ghost use Rattle.requests.specs.Requests.{Told};
 
 use crate::usual::usual_rows;
 use crate::values::{has_members, json_of};
-use crate::{MAX_SAMPLES, ReadError, Refusal, Request};
+use crate::{MAX_BATCH, ReadError, Refusal, Request};
 use labels::{LabelError, LabelSet, Row, Sample, is_time};
 use serde_json::{Map, Value};
 use std::alloc::{AllocError, Global};
@@ -110,7 +110,7 @@ fn samples_at(alloc: Global, value: &Value) -> Result<Option<Vec<Sample>>, Alloc
     }
 }
 
-// The label set of these pairs, if they make one.
+/// The label set of these pairs, if they make one.
 fn label_set(alloc: Global, pairs: Vec<(String, String)>) -> Result<Option<LabelSet>, AllocError>
     ensures { IfOk result (IsLabelSetOf (pairs_of pairs.items)) }
 {
@@ -152,7 +152,7 @@ fn rows_in(alloc: Global, items: &[Value]) -> Result<Option<Vec<Row>>, AllocErro
     Ok(Some(rows))
 }
 
-// The rows by way of a tree of JSON values.
+/// The rows by way of a tree of JSON values.
 fn rows_by_tree(alloc: Global, body: &[u8]) -> Result<Option<Vec<Row>>, AllocError>
     ensures { IfOk result (λ o. AreRowsInBody body.now (option_map (λ v. v.items) o)) }
 {
@@ -199,7 +199,7 @@ fn batch_of(alloc: Global, rows: &[Row]) -> Result<Vec<(LabelSet, Sample)>, Allo
 }
 
 /// The batch that a body asks: `H7` where it is not of the form, or has a label set that is
-/// refused, a time that is none, or more than [`MAX_SAMPLES`] samples.
+/// refused, a time that is none, or more than [`MAX_BATCH`] samples.
 pub fn write(alloc: Global, body: &[u8]) -> Result<Request, ReadError>
     ensures { Told (WriteMeans body.now) result }
 {
@@ -207,7 +207,7 @@ pub fn write(alloc: Global, body: &[u8]) -> Result<Request, ReadError>
         return Err(ReadError::Refused(Refusal::BadBody));
     };
     let batch = batch_of(alloc, rows.as_slice())?;
-    if batch.len() > MAX_SAMPLES {
+    if batch.len() > MAX_BATCH {
         return Err(ReadError::Refused(Refusal::BadBody));
     }
     Ok(Request::Write(batch))
