@@ -17,9 +17,6 @@
 //! let end = br#""rows":[{"labels":{"__name__":"up"},"samples":[[10,1]]}]}"#;
 //! assert!(rt; text.ends_with(end));
 //! ```
-//!
-//! It stands on `snapshots` for passes, on `block_search` and `series_merge`, on `serde_json` for
-//! what compact JSON is, and on `itoa` for digits.
 #![tactic(auto)]
 
 mod audited;

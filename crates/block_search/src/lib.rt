@@ -23,8 +23,6 @@
 //! let answer = answers.first()?;
 //! assert_eq!(rt; (answer.part, answer.rows.len()), (PartName::Head, 1));
 //! ```
-//!
-//! It stands on `labels`, `matchers`, `postings`, `cover`, `block` and `head`.
 #![tactic(auto)]
 
 mod answered;

@@ -7,9 +7,6 @@
 //! has learnt its receipt, also where the writer fails (`specs/Serving.antt`). A connection is any
 //! [`Inlet`] and any [`Outlet`]. [`serve_one_with`] does the same with [`Buffers`]
 //! that a worker keeps from connection to connection.
-//!
-//! It stands on `snapshots` for passes, seats and committers, on `requests` for what the bytes of
-//! a connection mean, and on `answers` for the answer to a query and its text.
 #![tactic(auto)]
 
 mod actions;

@@ -59,9 +59,7 @@
 //! {"refused":"H3"}
 //! ```
 //!
-//! It stands on `labels` and `matchers`, on `httparse` for heads, `form_urlencoded` for query
-//! strings, `serde_json` for bodies and `itoa` for digits; statuses are those of RFC 9110 and RFC
-//! 6585.
+//! Statuses are those of RFC 9110 and RFC 6585.
 #![tactic(auto)]
 
 mod changes;
