@@ -5,6 +5,7 @@ pub mod LabelSets
 pub mod Laws
 pub mod Places
 pub mod Pairs
+pub mod PairsLeft
 pub mod Ascending
 pub mod Sets
 pub mod Contents

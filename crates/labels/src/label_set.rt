@@ -4,12 +4,13 @@ ghost use Rattle.std.specs.Prelude.{◌≡◌, ◌<◌, ℕ, [], length, ◌↔�
 ghost use Rattle.std.specs.Cmp.{eq_by_cmp_equiv, partial_equiv_from_equiv, partial_order_from_agreeing_total};
 ghost use Rattle.std.specs.Ordering.{eq_by_cmp};
 ghost use Rattle.labels.specs.Pairs.{pairs_of, texts_of};
+ghost use Rattle.labels.specs.PairsLeft.{pairs_left};
 ghost use Rattle.labels.specs.Labels.{pair_cmp, labels_cmp, value_of, IsByName, IsNamedAt};
 ghost use Rattle.labels.specs.LabelSets.{IsLabelSet, IsMadeOf, refusal_of};
 ghost use Rattle.labels.specs.Laws.{labels_total};
 
-use crate::LabelError;
 use crate::making::check;
+use crate::{LabelError, LabelPairs};
 use crate::text::Pairs;
 use std::alloc::{AllocError, Global};
 use std::cmp::Ordering;
@@ -152,6 +153,13 @@ impl LabelSet {
     {
         let pairs = Arc::new(alloc, pack_texts(alloc, pairs)?)?;
         Ok(LabelSet { pairs })
+    }
+
+    /// The pairs, in the order of their names.
+    pub fn pairs(&self) -> LabelPairs<'_>
+        ensures { pairs_left result ≡ self.now }
+    {
+        LabelPairs::new(&self.pairs)
     }
 
     /// How many pairs there are, at most 64. Each has a label name and a value that is not empty.

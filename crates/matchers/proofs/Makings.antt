@@ -1,9 +1,10 @@
 -- The names of what a selector stands for, and lists of matchers that can be made.
-use Rattle.std.proofs.Common.{◌≡◌, List, [], ◌∷◌, ◌++◌, ap, sym, ◌∙◌, append_assoc, ℕ, true, refl, subst}
+use Rattle.std.proofs.Common.{◌≡◌, List, [], ◌∷◌, ◌++◌, ap, sym, ◌∙◌, append_assoc, ℕ, ◌<◌, ◌≤◌, length, true, refl, subst}
 use Rattle.labels.specs.Names.{is_name}
 use Rattle.matchers.specs.Grammar.{BeginsFurther, BeginsBraces, IsSelector, by_metric, by_braces, by_both}
 use Rattle.matchers.specs.Views.{MatcherView}
-use Rattle.matchers.specs.Selectors.{AreNamed, IsMade, AreMade, IsFaultOf, IsMakeError}
+use Rattle.matchers.specs.Selectors.{AreNamed, IsMade, AreMade, IsFaultOf, HasFault, OrMemory}
+use Rattle.matchers.specs.Selectors.{RefusedBy, IsTextRefusal, faulty}
 use Rattle.matchers.specs.declared.error.SelectorError.{SelectorError}
 use Rattle.matchers.specs.declared.error.SelectorError.TheVariants.{Syntax, Empty, TooMany, PatternTooLong, PatternRefused, Memory}
 
@@ -33,14 +34,34 @@ pub AreMade-push : (ms : List MatcherView) (m : MatcherView) → AreMade ms → 
 AreMade-push [] m a b = (b, tt)
 AreMade-push (n ∷ ms) m a b = (a.0, AreMade-push ms m a.1 b)
 
+-- a fault of the first matcher that can't be made, or want of memory
 pub fault_of : (ms front : List MatcherView) (first : MatcherView) (back : List MatcherView) (e : SelectorError) →
-    ms ≡ front ++ (first ∷ back) → AreMade front → IsFaultOf first e → IsMakeError ms e
-fault_of ms front first back (Syntax at) is made fault = fault
-fault_of ms front first back Empty is made fault = fault
-fault_of ms front first back TooMany is made fault = fault
+    ms ≡ front ++ (first ∷ back) → AreMade front → OrMemory (IsFaultOf first) e → OrMemory (HasFault ms) e
+fault_of ms front first back Memory is made fault = tt
+fault_of ms front first back (Syntax at) is made fault = record { front = front; first = first; back = back; is = is; made = made; fault = fault }
+fault_of ms front first back Empty is made fault = record { front = front; first = first; back = back; is = is; made = made; fault = fault }
+fault_of ms front first back TooMany is made fault = record { front = front; first = first; back = back; is = is; made = made; fault = fault }
 fault_of ms front first back PatternTooLong is made fault = record { front = front; first = first; back = back; is = is; made = made; fault = fault }
 fault_of ms front first back PatternRefused is made fault = record { front = front; first = first; back = back; is = is; made = made; fault = fault }
-fault_of ms front first back Memory is made fault = tt
+
+-- the text of the matchers is refused so
+pub refused_of : (text : List ℕ) (ms : List MatcherView) (e : SelectorError) → IsSelector text ms → 0 < length ms → length ms ≤ 16
+    → OrMemory (HasFault ms) e → RefusedBy text e
+refused_of text ms Memory selector some few fault = tt
+refused_of text ms (Syntax at) selector some few fault = faulty ms (Syntax at) selector some few fault
+refused_of text ms Empty selector some few fault = faulty ms Empty selector some few fault
+refused_of text ms TooMany selector some few fault = faulty ms TooMany selector some few fault
+refused_of text ms PatternTooLong selector some few fault = faulty ms PatternTooLong selector some few fault
+refused_of text ms PatternRefused selector some few fault = faulty ms PatternRefused selector some few fault
+
+-- what a text is refused for is no want of memory
+pub not_memory : (text : List ℕ) → IsTextRefusal text Memory → ⊥
+not_memory text (faulty ms e selector some few fault) = no_fault ms fault
+  where
+    no_fault_of : (m : MatcherView) → IsFaultOf m Memory → ⊥
+    no_fault_of m fault = elim fault [ ]
+    no_fault : (ms : List MatcherView) → HasFault ms Memory → ⊥
+    no_fault ms h = no_fault_of h.first h.fault
 
 -- one matcher more has been taken from those that are left
 pub one_more : (ms front left after : List MatcherView) (m : MatcherView) → ms ≡ front ++ left → left ≡ m ∷ after → ms ≡ (front ++ m ∷ []) ++ after

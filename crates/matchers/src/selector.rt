@@ -4,7 +4,8 @@ ghost use Rattle.std.specs.Prelude.{◌≡◌, true, ◌<◌, ◌≤◌, [], len
 ghost use Rattle.labels.specs.Names.{is_name};
 ghost use Rattle.matchers.specs.Grammar.{IsSelector, HasOneReading};
 ghost use Rattle.matchers.specs.Scanner.{nothing_read, closed, taken};
-ghost use Rattle.matchers.specs.Selectors.{AreNamed, IsMade, AreMade, IsFaultOf, IsMakeError, IsReadError, RefusedBy};
+ghost use Rattle.matchers.specs.Selectors.{AreNamed, IsMade, AreMade, IsFaultOf, HasFault};
+ghost use Rattle.matchers.specs.Selectors.{OrMemory, RefusedBy};
 
 use crate::scanner::{Mark, State, end_mark, step};
 use crate::{MAX_MATCHERS, Matcher, MatcherError, Op, SelectorError};
@@ -35,7 +36,7 @@ impl Part {
         requires { is_name self.name ≡ true }
         ensures ok { IfOk result (λ m. m ≡ self) }
         ensures made { OnOk result (IsMade self) }
-        ensures err { IfErr result (λ e. IsFaultOf self e) }
+        ensures err { IfErr result (OrMemory (IsFaultOf self)) }
     {
         match Matcher::new(alloc, self.name, self.op, self.text) {
             Ok(matcher) => Ok(matcher),
@@ -111,7 +112,7 @@ impl Reading {
 
 fn read(alloc: Global, text: &str) -> Result<Vec<Part>, SelectorError>
     ensures ok { IfOk result (λ parts. IsSelector text.now parts.items) }
-    ensures err { IfErr result (λ e. IsReadError text.now e) }
+    ensures err { IfErr result (RefusedBy text.now) }
 {
     let mut state = State::Start;
     let mut reading = Reading::new(alloc);
@@ -137,7 +138,7 @@ fn matchers(alloc: Global, parts: Vec<Part>) -> Result<Vec<Matcher>, SelectorErr
     requires { AreNamed parts.items }
     ensures ok { IfOk result (λ v. v.items ≡ parts.items) }
     ensures made { OnOk result (AreMade parts.items) }
-    ensures err { IfErr result (λ e. IsMakeError parts.items e) }
+    ensures err { IfErr result (OrMemory (HasFault parts.items)) }
 {
     let mut made = Vec::with_capacity(alloc, parts.len())?;
     for part in parts {
