@@ -39,3 +39,4 @@ mod walk;
 
 pub use certificate::{Interval, Verdict, certificate_laws};
 pub use part_cover::{Moves, PartAnswer, PartCover, cover, cover_with_moves};
+pub use postings::PartName;

@@ -7,7 +7,7 @@ use Rattle.std.specs.Ordering.{int_cmp, ordering_reverse, eq_by_cmp, is_eq, is_l
 use Rattle.std.specs.Cmp.{IsTotalOrder, tied_itself, Equal-is}
 use Rattle.std.specs.FinMap.{IsAntisymmetric, int_cmp-IsAntisymmetric}
 use Rattle.std.specs.FinMap.Entries.{find, is_sorted, below_all}
-use Rattle.std.proofs.Common.{◌⊎◌, inl, inr, sym, ◌∙◌, ap, subst}
+use Rattle.std.proofs.Common.{inl, inr, sym, ◌∙◌, ap, subst}
 use Rattle.std.proofs.lemmas.Cmp.{int_cmp_total}
 use Rattle.labels.specs.Labels.{Labels, Point, labels_cmp, point_cmp, same_labels}
 use Rattle.labels.specs.Contents.{Content}
@@ -17,7 +17,7 @@ use Rattle.labels.specs.LastParts.{HasSample, IsOfLast, AreParts}
 use Rattle.labels.proofs.ContentLaws.{or_else, or_else_none, find-laid_over, find-++, find-points_in, is_sorted-over}
 use Rattle.labels.proofs.Lists.{here, there, Contains-cases, none_in_nil}
 use Rattle.labels.proofs.OrderLaws.{labels_exact, point_total, point_exact, same_self, same_turn}
-use Rattle.labels.proofs.Times.{first_T, second_T, true_not_false}
+use Rattle.labels.proofs.Times.{first_T, second_T}
 
 -- ---- what is found is there, and what is there is found
 

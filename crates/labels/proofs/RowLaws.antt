@@ -5,7 +5,7 @@ use Rattle.std.specs.declared.cmp.Ordering.TheVariants.{Less, Equal, Greater}
 use Rattle.std.specs.Ordering.{is_lt, is_eq}
 use Rattle.std.specs.FinMap.Entries.{is_sorted, below_all}
 use Rattle.std.proofs.Common.{sym, ◌∙◌, ap}
-use Rattle.labels.specs.Labels.{Labels, labels_cmp, same_labels}
+use Rattle.labels.specs.Labels.{Labels, labels_cmp}
 use Rattle.labels.specs.Contents.{Content}
 use Rattle.labels.specs.Rows.{Row, points_in, points_of, add_front, rows_of, IsFull, AreFull}
 use Rattle.labels.specs.Rows.{AreRows}

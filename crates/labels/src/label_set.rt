@@ -10,8 +10,8 @@ ghost use Rattle.labels.specs.LabelSets.{IsLabelSet, IsMadeOf, refusal_of};
 ghost use Rattle.labels.specs.Laws.{labels_total};
 
 use crate::making::check;
-use crate::{LabelError, LabelPairs};
 use crate::text::Pairs;
+use crate::{LabelError, LabelPairs};
 use std::alloc::{AllocError, Global};
 use std::cmp::Ordering;
 use std::marker::Model;

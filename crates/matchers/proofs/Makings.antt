@@ -1,5 +1,5 @@
 -- The names of what a selector stands for, and lists of matchers that can be made.
-use Rattle.std.proofs.Common.{◌≡◌, List, [], ◌∷◌, ◌++◌, ap, sym, ◌∙◌, append_assoc, ℕ, ◌<◌, ◌≤◌, length, true, refl, subst}
+use Rattle.std.proofs.Common.{◌≡◌, ◌≢◌, List, [], ◌∷◌, ◌++◌, ap, sym, ◌∙◌, append_assoc, ℕ, ◌<◌, ◌≤◌, length, true, refl, subst}
 use Rattle.labels.specs.Names.{is_name}
 use Rattle.matchers.specs.Grammar.{BeginsFurther, BeginsBraces, IsSelector, by_metric, by_braces, by_both}
 use Rattle.matchers.specs.Views.{MatcherView}
@@ -54,14 +54,15 @@ refused_of text ms TooMany selector some few fault = faulty ms TooMany selector 
 refused_of text ms PatternTooLong selector some few fault = faulty ms PatternTooLong selector some few fault
 refused_of text ms PatternRefused selector some few fault = faulty ms PatternRefused selector some few fault
 
+no_fault : (m : MatcherView) → IsFaultOf m Memory → ⊥
+no_fault m fault = elim fault [ ]
+
 -- what a text is refused for is no want of memory
-pub not_memory : (text : List ℕ) → IsTextRefusal text Memory → ⊥
-not_memory text (faulty ms e selector some few fault) = no_fault ms fault
+pub not_memory : (text : List ℕ) (e : SelectorError) → IsTextRefusal text e → e ≢ Memory
+not_memory text e p same = no_refusal (subst (IsTextRefusal text) same p)
   where
-    no_fault_of : (m : MatcherView) → IsFaultOf m Memory → ⊥
-    no_fault_of m fault = elim fault [ ]
-    no_fault : (ms : List MatcherView) → HasFault ms Memory → ⊥
-    no_fault ms h = no_fault_of h.first h.fault
+    no_refusal : IsTextRefusal text Memory → ⊥
+    no_refusal (faulty ms e selector some few fault) = no_fault fault.first fault.fault
 
 -- one matcher more has been taken from those that are left
 pub one_more : (ms front left after : List MatcherView) (m : MatcherView) → ms ≡ front ++ left → left ≡ m ∷ after → ms ≡ (front ++ m ∷ []) ++ after

@@ -5,7 +5,7 @@ use Rattle.regex.specs.declared.string.regex.Regex.{Regex}
 use Rattle.regex_syntax.specs.Grammar.{read}
 use Rattle.regex.specs.Strings.{regex_source, regex_config, IsReadFromSource, IsDefaultFailure}
 use Rattle.regex.specs.declared.error.Error.{Error}
-use Rattle.regex.specs.declared.error.Error.TheVariants.{OutOfMemory}
+use Rattle.regex.specs.declared.error.Error.TheVariants.{Internal, OutOfMemory}
 
 -- the pattern between its anchors: ^(?s:pattern)$
 abbrev pub anchored : List ℕ → List ℕ
@@ -20,15 +20,19 @@ abbrev pub is_full_match : List ℕ → List ℕ → Bool
 is_full_match pattern value =
     is_some (option_and_then (λ tree. find_str tree value 0) (tree_of (anchored pattern)))
 
--- a pattern has at most 256 bytes, and `regex` reads it both alone and between its anchors
+-- `regex` reads the text both alone and between its anchors
+pub record IsRead (text : List ℕ) : Type 0 where
+  pub alone : is_some (tree_of text) ≡ true
+  pub anchored : is_some (tree_of (anchored text)) ≡ true
+
+-- a pattern: a text of at most 256 bytes that `regex` reads so
 pub record IsPattern (pattern : List ℕ) : Type 0 where
   pub short : length pattern ≤ 256
-  pub alone : is_some (tree_of pattern) ≡ true
-  pub anchored : is_some (tree_of (anchored pattern)) ≡ true
+  pub read : IsRead pattern
 
--- `regex` may refuse the text for another cause than memory
+-- `regex` may refuse the text for its syntax, or as too big a pattern
 abbrev pub IsRefused : List ℕ → Type 0
-IsRefused text = (e : Error) × IsDefaultFailure text e × (e ≢ OutOfMemory)
+IsRefused text = (e : Error) × IsDefaultFailure text e × (e ≢ OutOfMemory) × (e ≢ Internal)
 
 -- a search for this tree finds something exactly in the full matches of the pattern
 pub record FindsFullMatches (tree : Re) (pattern : List ℕ) : Type 0 where
@@ -41,8 +45,7 @@ pub record IsBuiltOf (regex : Regex) (text : List ℕ) : Type 0 where
   pub config : regex_config regex ≡ default_config
   pub read : IsReadFromSource regex
 
--- a pattern of at most 256 bytes that `regex` may refuse, alone or between its anchors, for
--- another cause than memory
+-- a pattern of at most 256 bytes that `regex` may refuse so, alone or between its anchors
 pub record IsRefusedPattern (pattern : List ℕ) : Type 0 where
   pub short : length pattern ≤ 256
   pub one : IsRefused pattern ⊎ IsRefused (anchored pattern)

@@ -1,8 +1,9 @@
 //! Patterns that accept whole values, as Rust's `regex` reads them.
 
-ghost use Rattle.std.specs.Prelude.{◌≡◌, ◌<◌, ◌≤◌, ◌↔◌, length, string_bytes, IfOk, OnOk, IsErrOf};
+ghost use Rattle.std.specs.Prelude.{◌≡◌, ◌<◌, ◌↔◌, ◌⊎◌, length, string_bytes, IfOk, OnOk, IsErrOf};
 ghost use Rattle.regex.specs.Strings.{regex_pattern, matcher_pattern};
-ghost use Rattle.matchers.specs.Patterns.{anchored, IsPattern, IsRefused, IsRefusedPattern, IsBuiltOf, FindsFullMatches};
+ghost use Rattle.matchers.specs.Patterns.{anchored, IsPattern, IsRead, IsRefused, IsRefusedPattern};
+ghost use Rattle.matchers.specs.Patterns.{IsBuiltOf, FindsFullMatches};
 
 use crate::MatcherError;
 use regex::Regex;
@@ -57,10 +58,10 @@ fn build(alloc: Global, text: &str) -> Result<Regex, MatcherError>
 
 /// The pattern between its anchors, once it was built alone.
 fn build_anchored(alloc: Global, text: &str) -> Result<Regex, MatcherError>
-    requires { length text.now ≤ 256 }
     ensures finds { IfOk result (λ r. FindsFullMatches (regex_pattern r) text.now) }
-    ensures read { OnOk result (IsPattern text.now) }
-    ensures refused { IsErrOf result MatcherError.PatternRefused → IsRefusedPattern text.now }
+    ensures read { OnOk result (IsRead text.now) }
+    ensures refused { IsErrOf result MatcherError.PatternRefused
+        → IsRefused text.now ⊎ IsRefused (anchored text.now) }
     ensures not_name { IsErrOf result MatcherError.BadName → ⊥ }
     ensures not_long { IsErrOf result MatcherError.PatternTooLong → ⊥ }
 {

@@ -1,11 +1,9 @@
 -- A refusal that reading ends in is of what came.
 use Rattle.std.proofs.Common.{◌≡◌, ℕ, Bool, true, false, List, Option, None, Some, Result, Ok, Err}
 use Rattle.std.proofs.Common.{IfErr, nat_lt, codes}
-use Rattle.std.specs.Prelude.{◌≢◌, if◌then◌else◌}
+use Rattle.std.specs.Prelude.{if◌then◌else◌}
 use Rattle.std.specs.Str.Parse.{digits_value}
-use Rattle.matchers.specs.Selectors.{IsTextRefusal}
-use Rattle.matchers.specs.declared.error.SelectorError.{SelectorError}
-use Rattle.matchers.specs.declared.error.SelectorError.TheVariants as selector
+use Rattle.matchers.proofs.Makings.{not_memory}
 use Rattle.requests.specs.declared.refusal.Refusal.{Refusal}
 use Rattle.requests.specs.declared.refusal.Refusal.TheVariants.{BadHead, HeadTooLong, NoSuchPath}
 use Rattle.requests.specs.declared.refusal.Refusal.TheVariants.{Method, BadQuery, BadSelector}
@@ -55,15 +53,6 @@ asked_length fields =
 
 pub length_ends : (fields : List (List ℕ × List ℕ)) (refusal : Refusal) → length_asked fields ≡ Err refusal → IsOfBytes refusal
 length_ends fields refusal e = rw e at (asked_length fields)
-
--- what a text is refused for is no want of memory
-not_memory : (text : List ℕ) (error : SelectorError) → IsTextRefusal text error → error ≢ selector.Memory
-not_memory text (selector.Syntax at) p e = cc
-not_memory text selector.Empty p e = cc
-not_memory text selector.TooMany p e = cc
-not_memory text selector.PatternTooLong p e = cc
-not_memory text selector.PatternRefused p e = cc
-not_memory text selector.Memory p e = absurd p
 
 pub select_ends : (query : List ℕ) (refusal : Refusal) → SelectMeans query (Err refusal) → IsOfBytes refusal
 select_ends query BadHead p = absurd p

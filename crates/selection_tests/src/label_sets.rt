@@ -105,8 +105,7 @@ const VALUES: &[(&str, &str)] = &[
 /// The pairs of a label set in their order.
 fn shown(alloc: Global, labels: &LabelSet) -> Result<String, AllocError> {
     let mut text = String::new(alloc);
-    for at in 0..labels.len() {
-        let (name, value) = labels.pair(at);
+    for (name, value) in labels.pairs() {
         write!(text, " {name}={value}")?;
     }
     Ok(text)

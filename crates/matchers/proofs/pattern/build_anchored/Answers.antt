@@ -7,7 +7,6 @@ returns-clause-finds c = finds_of_built (rw (c.as_str.ensures.value ∙ c.in_ok-
 
 pub returns-clause-read : goal.returns-clause-read
 returns-clause-read c = record {
-  short = c.requires;
   alone = is_read c.in_ok-_alone.ensures.ok;
   anchored = is_read (rw (c.as_str.ensures.value ∙ c.in_ok-whole.ensures) at c.in_ok-regex.ensures.ok);
 }

@@ -1,4 +1,4 @@
-use Rattle.std.proofs.Common.{rules, ◌≡◌, ◌<◌, ◌≤◌, [], length, arith, subst}
+use Rattle.std.proofs.Common.{rules, ◌≡◌, ◌<◌, ◌≤◌, [], length, subst}
 use Rattle.std.proofs.lemmas.Result.{IfErr-weaker}
 use Rattle.matchers.specs.Grammar.{IsSelector}
 use Rattle.matchers.specs.Selectors.{empty, many}
