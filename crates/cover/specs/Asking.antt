@@ -1,5 +1,6 @@
 -- What a query asks of a part.
-use Rattle.std.specs.Prelude.{ℕ, ℤ, zero, suc, Bool, false, cond, ◌&&◌, List, [], ◌∷◌, length, nat_eq}
+use Rattle.std.specs.Prelude.{ℕ, ℤ, zero, suc, Bool, false, cond, ◌&&◌, List, [], ◌∷◌, length}
+use Rattle.std.specs.Prelude.{nat_eq}
 use Rattle.labels.specs.Labels.{Labels}
 use Rattle.labels.specs.Parts.{Part, references, references_of, has_sample}
 use Rattle.matchers.specs.Satisfies.{satisfies, satisfies_all}

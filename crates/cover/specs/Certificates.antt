@@ -1,5 +1,6 @@
 -- Certificates of a part: of each run of its references, why it answers a query or does not.
-use Rattle.std.specs.Prelude.{◌≡◌, ℕ, ◌<◌, ◌≤◌, Bool, true, false, ◌&&◌, List, [], ◌∷◌, length, map, nat_le, nat_lt, Some}
+use Rattle.std.specs.Prelude.{◌≡◌, ℕ, ◌<◌, ◌≤◌, Bool, true, false, ◌&&◌, List, [], ◌∷◌, length, map}
+use Rattle.std.specs.Prelude.{nat_le, nat_lt, Some}
 use Rattle.std.specs.List.{filter, flat_map, Contains}
 use Rattle.std.specs.List.Sorted.{IsStrictlyIncreasing}
 use Rattle.labels.specs.Ascending.{first_of}

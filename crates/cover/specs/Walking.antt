@@ -1,5 +1,6 @@
 -- Where the lists of a walk stand, and how they go on.
-use Rattle.std.specs.Prelude.{◌≡◌, ℕ, zero, suc, ◌+◌, ◌<◌, ◌≤◌, List, [], ◌∷◌, length, map, slice_index, slice_index_or, Option, None}
+use Rattle.std.specs.Prelude.{◌≡◌, ℕ, zero, suc, ◌+◌, ◌<◌, ◌≤◌, List, [], ◌∷◌, length, map}
+use Rattle.std.specs.Prelude.{slice_index, slice_index_or, Option, None}
 use Rattle.std.specs.List.{filter}
 use Rattle.labels.specs.Ascending.{first_of, rest_of, first_or_end, not_below}
 use Rattle.labels.specs.Parts.{Part, references_where}
@@ -16,7 +17,8 @@ remaining_of_each remaining lists = map (λ list. remaining list.0) lists
 
 -- the list of each matcher: the references of the part whose label set satisfies it
 abbrev pub matcher_lists : Part → List MatcherView → List (List ℕ)
-matcher_lists part matchers = map (λ m. references_where (λ labels. satisfies m labels) part) matchers
+matcher_lists part matchers =
+    map (λ m. references_where (λ labels. satisfies m labels) part) matchers
 
 -- the references that matcher j accepts
 abbrev pub accepted_by : Asked → ℕ → List ℕ

@@ -1,7 +1,9 @@
 //! Certificates, and the laws that hold of them.
 
 ghost use Rattle.std.specs.Prelude.{◌≡◌, ℕ, ◌≤◌, List, length};
-ghost use Rattle.cover.specs.Certificates.{Asked, IsAsked, IsValidCertificate, IsLeast, AreSeparators, IsLeftmost, begins_of, AreMatches, matches_of};
+ghost use Rattle.cover.specs.Certificates.{Asked, IsAsked, IsValidCertificate, IsLeast};
+ghost use Rattle.cover.specs.Certificates.{AreSeparators, IsLeftmost, begins_of, AreMatches};
+ghost use Rattle.cover.specs.Certificates.{matches_of};
 
 use labels::SeriesRef;
 

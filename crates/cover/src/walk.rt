@@ -3,7 +3,9 @@
 ghost use Rattle.std.specs.Prelude.{◌≡◌, ◌+◌, ◌<◌, ◌≤◌, length, IfOk};
 ghost use Rattle.labels.specs.Ascending.{or_end};
 ghost use Rattle.cover.specs.Certificates.{IsAsked, IsLeftmost};
-ghost use Rattle.cover.specs.Walking.{asked_in_walk, alive, AreAcceptedLists, AllFresh, AllMovedAtMost, AllMovedAtMostOnce, AllMovedTo, TellsFarthestIn, MovesOn};
+ghost use Rattle.cover.specs.Walking.{asked_in_walk, alive, AreAcceptedLists, AllFresh};
+ghost use Rattle.cover.specs.Walking.{AllMovedAtMost, AllMovedAtMostOnce, AllMovedTo};
+ghost use Rattle.cover.specs.Walking.{TellsFarthestIn, MovesOn};
 
 use crate::certificate::{Interval, Verdict};
 use labels::SeriesRef;

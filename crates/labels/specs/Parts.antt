@@ -1,5 +1,6 @@
 -- Parts, what is asked of them, and the content of a list of them.
-use Rattle.std.specs.Prelude.{◌≡◌, ◌<◌, ℕ, ℤ, Bool, false, not, ◌&&◌, T, List, [], ◌∷◌, Option, None, Some, nat_eq, map, if◌then◌else◌}
+use Rattle.std.specs.Prelude.{◌≡◌, ◌<◌, ℕ, ℤ, Bool, false, not, ◌&&◌, T, List, [], ◌∷◌, Option}
+use Rattle.std.specs.Prelude.{None, Some, nat_eq, map, if◌then◌else◌}
 use Rattle.std.specs.List.{filter, list_any, Contains}
 use Rattle.std.specs.List.Sorted.{IsStrictlyIncreasing}
 use Rattle.std.specs.Ordering.{int_cmp}

@@ -1,7 +1,9 @@
 //! Label sets.
 
-ghost use Rattle.std.specs.Prelude.{◌≡◌, ◌<◌, ℕ, [], length, ◌↔◌, slice_get, Some, IsTrue, IfOk, IfSome, IfNone, MatchResult, refl};
-ghost use Rattle.std.specs.Cmp.{eq_by_cmp_equiv, partial_equiv_from_equiv, partial_order_from_agreeing_total};
+ghost use Rattle.std.specs.Prelude.{◌≡◌, ◌<◌, ℕ, [], length, ◌↔◌, slice_get, Some, IsTrue, IfOk};
+ghost use Rattle.std.specs.Prelude.{IfSome, IfNone, MatchResult, refl};
+ghost use Rattle.std.specs.Cmp.{eq_by_cmp_equiv, partial_equiv_from_equiv};
+ghost use Rattle.std.specs.Cmp.{partial_order_from_agreeing_total};
 ghost use Rattle.std.specs.Ordering.{eq_by_cmp};
 ghost use Rattle.labels.specs.Pairs.{pairs_of, texts_of};
 ghost use Rattle.labels.specs.PairsLeft.{pairs_left};

@@ -1,6 +1,7 @@
 //! Pairs of texts are checked, and put in order.
 
-ghost use Rattle.std.specs.Prelude.{◌≡◌, ◌+◌, ◌<◌, ℕ, List, length, IfSome, IfNone, IsOkAnd, IsSorted, IsPermutation, slice_index_or};
+ghost use Rattle.std.specs.Prelude.{◌≡◌, ◌+◌, ◌<◌, ℕ, List, length, IfSome, IfNone, IsOkAnd};
+ghost use Rattle.std.specs.Prelude.{IsSorted, IsPermutation, slice_index_or};
 ghost use Rattle.std.specs.Bool.{OnFalse};
 ghost use Rattle.labels.specs.Labels.{pair_cmp, IsByName};
 ghost use Rattle.labels.specs.LabelSets.{IsMadeOf, are_named, repeats, refusal_of, with_values};

@@ -1,7 +1,8 @@
 -- The numbers of refusals, and their texts.
 use Rattle.std.specs.Prelude.{ℕ, List, ◌++◌, codes, decimal}
 use Rattle.matchers.specs.declared.error.MatcherError.{MatcherError}
-use Rattle.matchers.specs.declared.error.MatcherError.TheVariants.{BadName, PatternTooLong, PatternRefused, Memory}
+use Rattle.matchers.specs.declared.error.MatcherError.TheVariants.{BadName, PatternTooLong}
+use Rattle.matchers.specs.declared.error.MatcherError.TheVariants.{PatternRefused, Memory}
 use Rattle.matchers.specs.declared.error.QueryError.{QueryError}
 use Rattle.matchers.specs.declared.error.QueryError.TheVariants.{BadRange, TooManyMatchers}
 use Rattle.matchers.specs.declared.error.SelectorError.{SelectorError}

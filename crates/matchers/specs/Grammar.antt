@@ -1,6 +1,7 @@
 -- The language of selectors, over bytes: which texts stand for which matchers.
 -- A piece is told by the text that begins with it and the rest that follows it there.
-use Rattle.std.specs.Prelude.{◌≡◌, ℕ, ◌<◌, ◌≤◌, Bool, true, false, ◌&&◌, ◌||◌, ◌==◌, List, [], ◌∷◌, ◌++◌, length, take, codes, if◌then◌else◌}
+use Rattle.std.specs.Prelude.{◌≡◌, ℕ, ◌<◌, ◌≤◌, Bool, true, false, ◌&&◌, ◌||◌, ◌==◌, List, [], ◌∷◌}
+use Rattle.std.specs.Prelude.{◌++◌, length, take, codes, if◌then◌else◌}
 use Rattle.std.specs.List.{list_all}
 use Rattle.labels.specs.Names.{starts_name, continues_name, is_name}
 use Rattle.matchers.specs.declared.matcher.Op.{Op}

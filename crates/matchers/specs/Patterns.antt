@@ -1,5 +1,6 @@
 -- What a pattern accepts: the values that it matches from the first byte to the last.
-use Rattle.std.specs.Prelude.{◌≡◌, ◌≢◌, ◌⊎◌, ℕ, ◌<◌, ◌≤◌, Bool, true, List, All, ◌++◌, length, Option, codes, is_some, option_map, option_and_then, chars}
+use Rattle.std.specs.Prelude.{◌≡◌, ◌≢◌, ◌⊎◌, ℕ, ◌<◌, ◌≤◌, Bool, true, List, All, ◌++◌, length}
+use Rattle.std.specs.Prelude.{Option, codes, is_some, option_map, option_and_then, chars}
 use Rattle.regex.specs.Patterns.{Re, find_str, default_config}
 use Rattle.regex.specs.declared.string.regex.Regex.{Regex}
 use Rattle.regex_syntax.specs.Grammar.{read}

@@ -1,10 +1,14 @@
 -- The machine that reads selectors byte by byte, and the matchers that it reads.
-use Rattle.std.specs.Prelude.{◌≡◌, ℕ, ◌||◌, ◌==◌, List, [], ◌∷◌, ◌++◌, length, Option, None, Some, option_map, codes, if◌then◌else◌}
+use Rattle.std.specs.Prelude.{◌≡◌, ℕ, ◌||◌, ◌==◌, List, [], ◌∷◌, ◌++◌, length, Option, None, Some}
+use Rattle.std.specs.Prelude.{option_map, codes, if◌then◌else◌}
 use Rattle.labels.specs.Names.{starts_name, continues_name}
 use Rattle.matchers.specs.declared.matcher.Op.{Op}
 use Rattle.matchers.specs.declared.matcher.Op.TheVariants as op
 use Rattle.matchers.specs.declared.scanner.State.{State}
-use Rattle.matchers.specs.declared.scanner.State.TheVariants.{Start, Metric, AfterMetric, Open, Comma, Label, AfterLabel, Equals, Bang, BeforeText, Text, Escape, AfterText, End}
+use Rattle.matchers.specs.declared.scanner.State.TheVariants.{Start, Metric, AfterMetric, Open}
+use Rattle.matchers.specs.declared.scanner.State.TheVariants.{Comma, Label, AfterLabel, Equals}
+use Rattle.matchers.specs.declared.scanner.State.TheVariants.{Bang, BeforeText, Text, Escape}
+use Rattle.matchers.specs.declared.scanner.State.TheVariants.{AfterText, End}
 use Rattle.matchers.specs.declared.scanner.Mark.{Mark}
 use Rattle.matchers.specs.declared.scanner.Mark.TheVariants as mark
 use Rattle.matchers.specs.Grammar.{is_space, starts_metric, continues_metric, metric_matcher}

@@ -2,7 +2,9 @@
 use Rattle.std.specs.Prelude.{◌≡◌, ℕ, ◌<◌, ◌≤◌, true, List, [], ◌∷◌, ◌++◌, length, ⊤}
 use Rattle.labels.specs.Names.{is_name}
 use Rattle.matchers.specs.declared.error.SelectorError.{SelectorError}
-use Rattle.matchers.specs.declared.error.SelectorError.TheVariants.{Syntax, Empty, TooMany, PatternTooLong, PatternRefused, Memory}
+use Rattle.matchers.specs.declared.error.SelectorError.TheVariants.{Syntax, Empty, TooMany}
+use Rattle.matchers.specs.declared.error.SelectorError.TheVariants.{PatternTooLong, PatternRefused}
+use Rattle.matchers.specs.declared.error.SelectorError.TheVariants.{Memory}
 use Rattle.matchers.specs.Grammar.{IsSelector, IsNoSelector}
 use Rattle.matchers.specs.Patterns.{IsPattern, IsRefusedPattern}
 use Rattle.matchers.specs.Satisfies.{takes_pattern}

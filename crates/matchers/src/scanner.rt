@@ -3,7 +3,10 @@
 ghost use Rattle.std.specs.Prelude.{◌≡◌, Some, None};
 ghost use Rattle.labels.specs.Names.{starts_name, continues_name};
 ghost use Rattle.matchers.specs.Grammar.{is_space, starts_metric, continues_metric};
-ghost use Rattle.matchers.specs.Scanner.{from_start, from_metric, from_after_metric, from_open, from_comma, from_label, from_after_label, from_equals, from_bang, from_before_text, from_text, from_escape, from_after_text, from_end, step, end_mark};
+ghost use Rattle.matchers.specs.Scanner.{from_start, from_metric, from_after_metric, from_open};
+ghost use Rattle.matchers.specs.Scanner.{from_comma, from_label, from_after_label, from_equals};
+ghost use Rattle.matchers.specs.Scanner.{from_bang, from_before_text, from_text, from_escape};
+ghost use Rattle.matchers.specs.Scanner.{from_after_text, from_end, step, end_mark};
 
 use crate::Op;
 

@@ -2,7 +2,9 @@
 //! copied first.
 
 ghost use Rattle.std.specs.Prelude.{◌≡◌, ◌<◌, length, OnOk};
-ghost use Rattle.pages.specs.Pages.{leaf_list, leaf_lists, leaves_list, branch_list, branch_parts, branch_lists, branches_list, top_list, IsLeafSize, IsPaged, IsBranch, AreBranches, IsTop, IsChanged, IsSetAt};
+ghost use Rattle.pages.specs.Pages.{leaf_list, leaf_lists, leaves_list, branch_list, branch_parts};
+ghost use Rattle.pages.specs.Pages.{branch_lists, branches_list, top_list, IsLeafSize, IsPaged};
+ghost use Rattle.pages.specs.Pages.{IsBranch, AreBranches, IsTop, IsChanged, IsSetAt};
 
 use crate::Entry;
 use crate::page::{Branch, FAN, Leaf, Top};

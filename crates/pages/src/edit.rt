@@ -1,9 +1,13 @@
 //! Writes to sorted pages: what another version holds of the pages on their way is copied first.
 
-ghost use Rattle.std.specs.Prelude.{◌≡◌, ℕ, ◌+◌, ◌<◌, ◌≤◌, [], ◌++◌, length, map, slice_index_or, slice_set, IfOk, OnOk, OnErr};
+ghost use Rattle.std.specs.Prelude.{◌≡◌, ℕ, ◌+◌, ◌<◌, ◌≤◌, [], ◌++◌, length, map, slice_index_or};
+ghost use Rattle.std.specs.Prelude.{slice_set, IfOk, OnOk, OnErr};
 ghost use Rattle.std.specs.List.{insert};
-ghost use Rattle.pages.specs.Pages.{leaf_list, leaf_lists, leaves_list, branch_list, branch_parts, groups_of, top_groups};
-ghost use Rattle.pages.specs.Sorted.{start_of, groups_list, top_entries, put_in, set_in, put_at, set_at, IsSpotIn, IsSpot, HasEntryIn, HasEntry, MakesPage, EachMakesPage, IsGroup, AreGroups};
+ghost use Rattle.pages.specs.Pages.{leaf_list, leaf_lists, leaves_list, branch_list, branch_parts};
+ghost use Rattle.pages.specs.Pages.{groups_of, top_groups};
+ghost use Rattle.pages.specs.Sorted.{start_of, groups_list, top_entries, put_in, set_in, put_at};
+ghost use Rattle.pages.specs.Sorted.{set_at, IsSpotIn, IsSpot, HasEntryIn, HasEntry, MakesPage};
+ghost use Rattle.pages.specs.Sorted.{EachMakesPage, IsGroup, AreGroups};
 
 use crate::page::{Branch, FAN, FULL, Leaf, Top, branch_of, set_in_leaf};
 use crate::{Entry, Spot};

@@ -1,6 +1,8 @@
 //! A list in pages that versions share.
 
-ghost use Rattle.std.specs.Prelude.{◌≡◌, ◌<◌, ◌≤◌, ◌++◌, [], ◌∷◌, length, drop, map, slice_get, slice_set, slice_index_or, Some, IfSome, IfNone, IfOk, OnOk, OnErr};
+ghost use Rattle.std.specs.Prelude.{◌≡◌, ◌<◌, ◌≤◌, ◌++◌, [], ◌∷◌, length, drop, map, slice_get};
+ghost use Rattle.std.specs.Prelude.{slice_set, slice_index_or, Some, IfSome, IfNone, IfOk, OnOk};
+ghost use Rattle.std.specs.Prelude.{OnErr};
 ghost use Rattle.pages.specs.Pages.{IsLeafSize, IsPrefix, IsChanged, IsSetAt};
 
 use crate::Entry;

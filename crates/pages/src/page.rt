@@ -1,7 +1,10 @@
 //! Pages, and pages of pages: a write copies those on its way that another version holds.
 
-ghost use Rattle.std.specs.Prelude.{◌≡◌, ◌+◌, ◌<◌, [], ◌∷◌, ◌++◌, length, map, drop, slice_set, IfOk, OnOk, OnErr};
-ghost use Rattle.pages.specs.Pages.{leaf_list, leaf_lists, leaves_list, branch_list, branch_parts, branch_lists, branches_list, top_list, IsLeafSize, IsPaged, IsBranch, AreBranches, IsTop, IsPrefix};
+ghost use Rattle.std.specs.Prelude.{◌≡◌, ◌+◌, ◌<◌, [], ◌∷◌, ◌++◌, length, map, drop, slice_set};
+ghost use Rattle.std.specs.Prelude.{IfOk, OnOk, OnErr};
+ghost use Rattle.pages.specs.Pages.{leaf_list, leaf_lists, leaves_list, branch_list, branch_parts};
+ghost use Rattle.pages.specs.Pages.{branch_lists, branches_list, top_list, IsLeafSize, IsPaged};
+ghost use Rattle.pages.specs.Pages.{IsBranch, AreBranches, IsTop, IsPrefix};
 
 use crate::Entry;
 use std::alloc::{AllocError, Global};

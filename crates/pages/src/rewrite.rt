@@ -2,8 +2,10 @@
 //! are copied first.
 
 ghost use Rattle.std.specs.Prelude.{◌≡◌, ◌<◌, length, OnOk, OnErr};
-ghost use Rattle.pages.specs.Pages.{leaf_list, leaf_lists, branch_parts, groups_of, top_groups, IsChanged};
-ghost use Rattle.pages.specs.Sorted.{IsChangedIn, IsChangedAt, HasEntryIn, HasEntry, IsGroup, AreGroups};
+ghost use Rattle.pages.specs.Pages.{leaf_list, leaf_lists, branch_parts, groups_of, top_groups};
+ghost use Rattle.pages.specs.Pages.{IsChanged};
+ghost use Rattle.pages.specs.Sorted.{IsChangedIn, IsChangedAt, HasEntryIn, HasEntry, IsGroup};
+ghost use Rattle.pages.specs.Sorted.{AreGroups};
 
 use crate::page::{Branch, Leaf, Top};
 use crate::{Entry, Spot};

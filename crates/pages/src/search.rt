@@ -1,10 +1,15 @@
 //! Searches among pages, and among groups of pages.
 
-ghost use Rattle.std.specs.Prelude.{◌≡◌, ℕ, ◌<◌, ◌≤◌, [], true, false, nat_lt, length, map, slice_index_or, slice_get, Some, MatchResult, IfOk, IfErr};
+ghost use Rattle.std.specs.Prelude.{◌≡◌, ℕ, ◌<◌, ◌≤◌, [], true, false, nat_lt, length, map};
+ghost use Rattle.std.specs.Prelude.{slice_index_or, slice_get, Some, MatchResult, IfOk, IfErr};
 ghost use Rattle.std.specs.Ordering.{ordering_index};
 ghost use Rattle.std.specs.List.Sorted.{IsNonDecreasingBy, IsSearchInRange};
-ghost use Rattle.pages.specs.Pages.{leaf_list, leaf_lists, leaves_list, branch_parts, groups_of, flattened};
-ghost use Rattle.pages.specs.Sorted.{page_of_spot, place_in_pages, place_in_groups, groups_list, IsSpotIn, IsSpot, HasEntryIn, HasEntry, EachMakesPage, AreGroups, IsRising, IsSplit, IsHit, IsHitIn, IsHitAt, IsGap, IsGapIn, IsGapAt, starts_low, StartLowUpTo};
+ghost use Rattle.pages.specs.Pages.{leaf_list, leaf_lists, leaves_list, branch_parts, groups_of};
+ghost use Rattle.pages.specs.Pages.{flattened};
+ghost use Rattle.pages.specs.Sorted.{page_of_spot, place_in_pages, place_in_groups, groups_list};
+ghost use Rattle.pages.specs.Sorted.{IsSpotIn, IsSpot, HasEntryIn, HasEntry, EachMakesPage};
+ghost use Rattle.pages.specs.Sorted.{AreGroups, IsRising, IsSplit, IsHit, IsHitIn, IsHitAt, IsGap};
+ghost use Rattle.pages.specs.Sorted.{IsGapIn, IsGapAt, starts_low, StartLowUpTo};
 
 use crate::page::{Branch, Leaf};
 use crate::{Entry, Probe, Spot};

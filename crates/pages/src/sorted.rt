@@ -1,6 +1,8 @@
 //! A list in an order, in pages that versions share.
 
-ghost use Rattle.std.specs.Prelude.{◌≡◌, ◌+◌, ◌<◌, ◌≤◌, [], length, map, drop, slice_index_or, slice_get, slice_set, Some, MatchResult, IfSome, IfNone, IfOk, IfErr, OnOk, OnErr};
+ghost use Rattle.std.specs.Prelude.{◌≡◌, ◌+◌, ◌<◌, ◌≤◌, [], length, map, drop, slice_index_or};
+ghost use Rattle.std.specs.Prelude.{slice_get, slice_set, Some, MatchResult, IfSome, IfNone, IfOk};
+ghost use Rattle.std.specs.Prelude.{IfErr, OnOk, OnErr};
 ghost use Rattle.std.specs.List.{insert};
 ghost use Rattle.pages.specs.Pages.{IsPrefix, IsChanged};
 ghost use Rattle.pages.specs.Sorted.{place_of, IsSpot, HasEntry, entries_of, IsSplit, IsHit, IsGap};

@@ -1,8 +1,10 @@
 //! A walk over sorted pages, page by page.
 
-ghost use Rattle.std.specs.Prelude.{◌≡◌, ◌+◌, ◌<◌, ◌≤◌, [], length, map, drop, slice_index_or, IfSome, IfNone};
+ghost use Rattle.std.specs.Prelude.{◌≡◌, ◌+◌, ◌<◌, ◌≤◌, [], length, map, drop, slice_index_or};
+ghost use Rattle.std.specs.Prelude.{IfSome, IfNone};
 ghost use Rattle.pages.specs.Pages.{leaf_list, leaf_lists, leaves_list, groups_of, IsPrefix};
-ghost use Rattle.pages.specs.Sorted.{page_of_spot, place_in_pages, place_in_groups, groups_list, IsSpotIn, IsSpot, HasEntryIn, HasEntry, IsGroup, AreGroups};
+ghost use Rattle.pages.specs.Sorted.{page_of_spot, place_in_pages, place_in_groups, groups_list};
+ghost use Rattle.pages.specs.Sorted.{IsSpotIn, IsSpot, HasEntryIn, HasEntry, IsGroup, AreGroups};
 
 use crate::page::{Branch, Leaf, leaf_from};
 use crate::{Entry, Spot};

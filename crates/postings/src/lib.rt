@@ -30,10 +30,12 @@ mod slice_list;
 mod union;
 mod without;
 
-ghost use Rattle.std.specs.Prelude.{◌≡◌, ℕ, ◌-◌, ◌<◌, List, [], length, max, slice_get, IfNone, IfSome, IfOk, Some};
+ghost use Rattle.std.specs.Prelude.{◌≡◌, ℕ, ◌-◌, ◌<◌, List, [], length, max, slice_get, IfNone};
+ghost use Rattle.std.specs.Prelude.{IfSome, IfOk, Some};
 ghost use Rattle.std.specs.List.Sorted.{IsStrictlyIncreasing};
 ghost use Rattle.labels.specs.Ascending.{first_of, rest_of, not_below};
-ghost use Rattle.labels.specs.Parts.{Part, references, references_where, live_references, carries, IsPart};
+ghost use Rattle.labels.specs.Parts.{Part, references, references_where, live_references, carries};
+ghost use Rattle.labels.specs.Parts.{IsPart};
 ghost use Rattle.postings.specs.Values.{AreValuesOf};
 
 pub use choice::choose;

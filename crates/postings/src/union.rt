@@ -2,7 +2,8 @@
 
 ghost use Rattle.std.specs.Prelude.{◌≡◌, ℕ, ◌<◌, ◌≤◌, map, suc, Some, IfOk, refl};
 ghost use Rattle.std.specs.BinaryHeap.{IsHeap, heap_items};
-ghost use Rattle.std.specs.Cmp.{eq_by_cmp_equiv, partial_equiv_from_equiv, partial_order_from_agreeing_total};
+ghost use Rattle.std.specs.Cmp.{eq_by_cmp_equiv, partial_equiv_from_equiv};
+ghost use Rattle.std.specs.Cmp.{partial_order_from_agreeing_total};
 ghost use Rattle.std.specs.Ordering.{eq_by_cmp};
 ghost use Rattle.labels.specs.Ascending.{first_of, rest_of, not_below, first_or_end, or_end};
 ghost use Rattle.labels.specs.Sets.{union_all};
