@@ -1,22 +1,21 @@
 -- The rows of several parts' answers, merged, are the selected rows of the parts together.
-use Rattle.std.proofs.Common.{◌≡◌, T, List, [], ◌∷◌, map, refl, sym, ◌∙◌, ap, subst, inl, inr}
+use Rattle.std.proofs.Common.{◌≡◌, T, List, [], ◌∷◌, map, refl, sym, ◌∙◌, ap}
 use Rattle.std.specs.Prelude.{◌&&◌}
-use Rattle.std.specs.List.{AllZip, Contains}
-use Rattle.std.specs.FinMap.Entries.{find, is_sorted, is_sorted-where_key}
+use Rattle.std.specs.List.{AllZip}
+use Rattle.std.specs.FinMap.Entries.{find, is_sorted}
 use Rattle.labels.specs.Labels.{point_cmp}
 use Rattle.labels.specs.Contents.{Content, in_range, selected}
 use Rattle.labels.specs.Rows.{points_of}
 use Rattle.labels.specs.Parts.{Part, rows_in, laid_over, over, content_of, part_kept}
-use Rattle.labels.proofs.Lists.{Contains-cases, none_in_nil}
 use Rattle.labels.proofs.ContentLaws.{or_else, or_else_none, find-laid_over, is_sorted-laid_over}
-use Rattle.labels.proofs.ContentLaws.{is_sorted-over, same_content}
+use Rattle.labels.proofs.ContentLaws.{same_content}
 use Rattle.labels.proofs.Restricting.{kept-over}
 use Rattle.matchers.specs.Views.{QueryView}
 use Rattle.matchers.specs.Satisfies.{satisfies_all}
 use Rattle.cover.specs.declared.part_cover.PartAnswer.{PartAnswer}
 use Rattle.block_search.specs.Skipping.{AskedPart}
 use Rattle.block_search.specs.Answers.{IsPartAnswer, IsAnswerOf}
-use Rattle.series_merge.specs.Merging.{IsRowList, laid_each, row_lists, merged_content}
+use Rattle.series_merge.specs.Merging.{laid_each, row_lists, merged_content}
 
 -- what is laid over nothing lies over a content as it does by itself
 laid_again : (es c : Content) → T (is_sorted point_cmp c)
@@ -64,27 +63,6 @@ module _ (query : QueryView) where
       merged parts answers are [] tt
       ∙ sym (kept-over (λ p. satisfies_all query.matchers p.0
       && in_range query.from query.to p.1) parts [] tt)
-
-  row_list : (part : Part) (answer : PartAnswer) → IsPartAnswer query part answer
-      → IsRowList answer.rows.items
-  row_list part answer is = record {
-    of_content = record { points = refl; ascending = is.rows.ascending; full = is.rows.full };
-    content = subst (λ (c : Content). T (is_sorted point_cmp c)) (sym is.rows.points)
-        (is_sorted-where_key point_cmp
-        (λ p. satisfies_all query.matchers p.0 && in_range query.from query.to p.1)
-        (content_of (part ∷ [])) (is_sorted-over (part ∷ []) [] tt));
-  }
-
-  pub each_row_list : (parts : List Part) (answers : List PartAnswer)
-      → AllZip (IsPartAnswer query) parts answers
-      → (answer : PartAnswer) → Contains answers answer → IsRowList answer.rows.items
-  each_row_list [] [] are answer h = absurd (none_in_nil answer h)
-  each_row_list [] (a ∷ rest) are answer h = absurd are
-  each_row_list (part ∷ parts) [] are answer h = absurd are
-  each_row_list (part ∷ parts) (a ∷ rest) are answer h = elim (Contains-cases a rest answer h) [
-    | inl same ↦ subst (λ (x : PartAnswer). IsRowList x.rows.items) same (row_list part a are.0)
-    | inr later ↦ each_row_list parts rest are.1 answer later
-  ]
 
   -- answers under their names are answers of the parts
   pub each_answers : (asked : List AskedPart) (answers : List PartAnswer)

@@ -1,5 +1,5 @@
 -- What answers list together, the last answer first, is what they list last.
-use Rattle.std.proofs.Common.{◌≡◌, ℤ, true, false, cond, T, List, [], ◌∷◌, ◌++◌, Option, None, Some, map, reverse, refl, sym, ◌∙◌, ap, subst, inl, inr}
+use Rattle.std.proofs.Common.{◌≡◌, ℤ, true, false, cond, T, List, [], ◌∷◌, ◌++◌, None, Some, reverse, refl, sym, ◌∙◌, ap, subst, inl, inr}
 use Rattle.std.specs.Prelude.{◌&&◌}
 use Rattle.std.specs.List.{AllZip, Contains}
 use Rattle.std.specs.declared.cmp.Ordering.{Ordering}
@@ -22,7 +22,7 @@ use Rattle.cover.specs.declared.part_cover.PartAnswer.{PartAnswer}
 use Rattle.head.specs.Heads.{SnapshotParts}
 use Rattle.block_search.specs.Skipping.{AskedPart, searched_parts}
 use Rattle.block_search.specs.Answers.{IsAnswerOf, AreAnswers}
-use Rattle.series_merge.specs.Merging.{IsRowList, laid_each, row_lists, merged_content}
+use Rattle.series_merge.specs.Merging.{laid_each, row_lists, merged_content}
 use Rattle.auditor.specs.Listing.{listed, with_each, last_listed}
 use Rattle.auditor.proofs.Merging.{find-with_each}
 
@@ -84,6 +84,11 @@ laid_with es c rising h =
     (λ q. find-laid_over q es c
     ∙ ap (λ o. or_else o (find point_cmp q c)) (sym (find-reverse q es rising))
     ∙ sym (find-with_each q es c))
+
+-- the rows of some content
+record IsRowList (rows : List Row) : Type 0 where
+  pub of_content : AreRows rows (points_of rows)
+  pub content : T (is_sorted point_cmp (points_of rows))
 
 laid_listed : (answers : List PartAnswer) (c : Content)
     → ((a : PartAnswer) → Contains answers a → IsRowList a.rows.items) → T (is_sorted point_cmp c)

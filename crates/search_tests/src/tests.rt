@@ -1,5 +1,6 @@
 //! A store of six series, and what is asked of it.
 
+mod any_rows;
 mod counting;
 mod first_pages;
 

@@ -167,7 +167,7 @@ laid_over-sorted found rows stable =
     ∙ sym (find-alike q.0 q.1 found))
     ∙ sym (find-laid_over q (points_of found) []))
 
-points_of-++ : (xs ys : List Row) → points_of (xs ++ ys) ≡ points_of xs ++ points_of ys
+pub points_of-++ : (xs ys : List Row) → points_of (xs ++ ys) ≡ points_of xs ++ points_of ys
 points_of-++ [] ys = refl
 points_of-++ (r ∷ rs) ys =
     ap (λ c. points_in r.0 r.1 ++ c) (points_of-++ rs ys)

@@ -10,7 +10,7 @@ use Rattle.labels.proofs.ContentLaws.{or_else, or_else_cond}
 use Rattle.labels.proofs.Times.{both_T, first_T, second_T, T_of}
 use Rattle.series_merge.specs.Merging.{laid_times}
 
-less_is : (o : Ordering) → T (is_lt o) → o ≡ Less
+pub less_is : (o : Ordering) → T (is_lt o) → o ≡ Less
 less_is Less h = refl
 less_is Equal h = absurd h
 less_is Greater h = absurd h
@@ -35,7 +35,7 @@ below_laid t (s ∷ ss) under a b =
     below_put t s.0 s.1 (laid_times ss under) (first_T _ _ a)
     (below_laid t ss under (second_T _ _ a) b)
 
-below_later : (t u : ℤ) (es : List (ℤ × ℤ)) → int_cmp t u ≡ Less → T (below_all int_cmp u es)
+pub below_later : (t u : ℤ) (es : List (ℤ × ℤ)) → int_cmp t u ≡ Less → T (below_all int_cmp u es)
     → T (below_all int_cmp t es)
 below_later t u [] less below = tt
 below_later t u (e ∷ es) less below =

@@ -1,4 +1,5 @@
 pub mod LaidTimes
 pub mod Joining
 pub mod JoinSteps
+pub mod Runs
 pub mod GatheredRows

@@ -1,13 +1,13 @@
 //! The rows of several answers as one list of rows.
 
 ghost use Rattle.std.specs.Prelude.{◌≡◌, ◌++◌, ◌+◌, ◌<◌, IfOk, OnOk, IfSome, IfNone, T, true, List};
-ghost use Rattle.std.specs.Prelude.{[], ◌∷◌, reverse, length};
-ghost use Rattle.std.specs.List.{All, Contains};
+ghost use Rattle.std.specs.Prelude.{[], ◌∷◌, ◌≤◌, reverse, length, take};
+ghost use Rattle.std.specs.List.{All};
 ghost use Rattle.std.specs.Bool.{OnTrue};
 ghost use Rattle.std.specs.Ordering.{int_cmp};
 ghost use Rattle.std.specs.FinMap.Entries.{is_sorted};
-ghost use Rattle.labels.specs.Rows.{AreRows, IsFull};
-ghost use Rattle.series_merge.specs.Merging.{IsRowList, row_lists, newest_first, merged_content};
+ghost use Rattle.labels.specs.Rows.{AreRows, points_in, points_of};
+ghost use Rattle.series_merge.specs.Merging.{AreRuns, row_lists, newest_first, merged_content};
 ghost use Rattle.series_merge.specs.Merging.{laid_times, join, joined_rows};
 
 use cover::PartAnswer;
@@ -202,26 +202,59 @@ fn join_rows(alloc: Global, rows: Vec<Row>) -> Result<Vec<Row>, AllocError>
     Ok(each)
 }
 
-fn copy_row(alloc: Global, row: &Row) -> Result<Row, AllocError>
-    ensures { IfOk result (λ copy. copy ≡ row.now) }
+/// How many samples come first whose times ascend.
+fn ascending_count(samples: &[Sample]) -> usize
+    requires { 0 < length samples.now }
+    ensures some { 0 < result }
+    ensures within { result ≤ length samples.now }
+    ensures rises { T (is_sorted int_cmp (take result samples.now)) }
 {
-    let samples = row.samples().iter().copied().collect(alloc)?;
-    Ok(Row::new(row.labels().try_clone()?, samples))
+    let mut at = 1;
+    while at < samples.len() {
+        match order_of_times(samples[at - 1], samples[at]) {
+            Ordering::Less => at += 1,
+            _ => return at,
+        }
+    }
+    at
 }
 
-/// Adds copies of the rows at the end.
-fn push_rows(alloc: Global, all: &mut Vec<Row>, rows: &[Row]) -> Result<(), AllocError>
-    ensures { OnOk result (all.new.items ≡ all.old.items ++ rows.now) }
+/// Adds a row at the end, as one row for each run of ascending times: as one row if all of its
+/// times ascend, and as none if it has no samples.
+fn push_runs(alloc: Global, all: &mut Vec<Row>, row: &Row) -> Result<(), AllocError>
+    requires { AreRuns all.old.items }
+    ensures points { OnOk result (points_of all.new.items
+        ≡ points_of all.old.items ++ points_in row.now.0 row.now.1) }
+    ensures runs { OnOk result (AreRuns all.new.items) }
 {
-    for row in rows {
-        all.push(copy_row(alloc, row)?)?;
+    let mut rest = row.samples();
+    while !rest.is_empty() {
+        let (run, after) = rest.split_at(ascending_count(rest));
+        let samples = run.iter().copied().collect(alloc)?;
+        all.push(Row::new(row.labels().try_clone()?, samples))?;
+        rest = after;
     }
     Ok(())
 }
 
-/// The rows of all answers, those of the last answer first.
+/// Adds the runs of the rows at the end.
+fn push_rows(alloc: Global, all: &mut Vec<Row>, rows: &[Row]) -> Result<(), AllocError>
+    requires { AreRuns all.old.items }
+    ensures points { OnOk result (points_of all.new.items
+        ≡ points_of all.old.items ++ points_of rows.now) }
+    ensures runs { OnOk result (AreRuns all.new.items) }
+{
+    for row in rows {
+        push_runs(alloc, all, row)?;
+    }
+    Ok(())
+}
+
+/// The runs of the rows of all answers, those of the last answer first.
 fn gather_rows(alloc: Global, answers: &[PartAnswer]) -> Result<Vec<Row>, AllocError>
-    ensures { IfOk result (λ rows. rows.items ≡ newest_first (row_lists answers.now)) }
+    ensures points { IfOk result (λ rows. points_of rows.items
+        ≡ points_of (newest_first (row_lists answers.now))) }
+    ensures runs { IfOk result (λ rows. AreRuns rows.items) }
 {
     let mut all = Vec::new(alloc);
     let mut left = answers.len();
@@ -233,12 +266,13 @@ fn gather_rows(alloc: Global, answers: &[PartAnswer]) -> Result<Vec<Row>, AllocE
 }
 
 /// The rows of several answers as one: in label order, one row for each label set, its samples in
-/// time order; of the samples at one time the last answer's stands. Each answer's rows are in
-/// label order, none of them empty, their times ascending (the caller's condition). It costs a sort
-/// of all rows, a copy of each, and of the rows of one label set that do not come one after the
-/// other in time as many copies more as they can be halved.
+/// time order; of the samples at one time the last answer's stands, and of several that one answer
+/// lists there the first. Nothing is asked of the answers' rows.
+///
+/// It costs a sort of all rows, a copy of each, and of the rows of one label set that do not come
+/// one after the other in time as many copies more as they can be halved. A row whose times do not
+/// ascend counts as one row for each run of ascending times.
 pub fn merge(alloc: Global, answers: &[PartAnswer]) -> Result<Vec<Row>, AllocError>
-    requires { (answer : PartAnswer) → Contains answers.now answer → IsRowList answer.rows.items }
     ensures { IfOk result (λ rows. AreRows rows.items (merged_content answers.now)) }
 {
     let mut rows = gather_rows(alloc, answers)?;

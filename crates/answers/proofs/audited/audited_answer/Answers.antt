@@ -1,20 +1,9 @@
-use Rattle.std.proofs.Common.{ap, ◌∙◌, subst, List, map}
-use Rattle.std.specs.List.{Contains}
+use Rattle.std.proofs.Common.{ap, ◌∙◌, subst, map}
 use Rattle.labels.specs.Rows.{AreRows}
 use Rattle.block_search.specs.Skipping.{searched_parts}
-use Rattle.cover.specs.declared.part_cover.PartAnswer.{PartAnswer}
 use Rattle.series_merge.specs.Merging.{merged_content}
-use Rattle.answers.proofs.MergedAnswers.{merged_is_selected, each_row_list, each_answers}
+use Rattle.answers.proofs.MergedAnswers.{merged_is_selected, each_answers}
 use Rattle.answers.proofs.audited.audited_answer.Goals as goal
-
-pub merge-requires : goal.merge-requires
-merge-requires c = λ a h.
-    let query = c.args.query.now in
-    let asked = searched_parts query c.args.snapshot.now in
-    let answers = c.args.answers.items in
-    each_row_list query (map (λ p. p.part) asked) answers
-    (each_answers query asked answers c.requires.each) a
-    (subst (λ (xs : List PartAnswer). Contains xs a) c.as_slice.ensures.value h)
 
 pub returns-clause-rows : goal.returns-clause-rows
 returns-clause-rows c =

@@ -1,10 +1,12 @@
 use Rattle.std.proofs.Common.{◌≡◌, ◌≤◌, drop, length}
-use Rattle.series_merge.specs.Merging.{newest_first, row_lists}
+use Rattle.labels.specs.Rows.{points_of}
+use Rattle.series_merge.specs.Merging.{AreRuns, newest_first, row_lists}
 use Rattle.series_merge.proofs.merging.gather_rows.Given as goal
 
 abbrev pub invariant-loop-left : goal.invariant-loop-left
 invariant-loop-left l = record {
-  same : l.all.items ≡ newest_first (row_lists (drop l.left l.answers));
+  same : points_of l.all.items ≡ points_of (newest_first (row_lists (drop l.left l.answers)));
+  runs : AreRuns l.all.items;
   within : l.left ≤ length l.answers;
 }
 

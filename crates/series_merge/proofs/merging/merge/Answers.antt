@@ -7,13 +7,14 @@ use Rattle.series_merge.proofs.merging.merge.Goals as goal
 
 pub join_rows-requires : goal.join_rows-requires
 join_rows-requires c =
-    times_sorted c.args.answers.now c.in_ok-rows.rows.items c.sort_rows.new.rows.items c.requires
-    c.in_ok-rows.ensures c.in_ok-sort_rows.ensures.moved
+    times_sorted c.in_ok-rows.rows.items c.sort_rows.new.rows.items c.in_ok-rows.ensures.runs
+    c.in_ok-sort_rows.ensures.moved
 
 pub returns : goal.returns
 returns c =
     let sort = c.in_ok-sort_rows.ensures in
     IfOk-weaker c.join_rows.result _ _ (λ rows e. subst
     (λ (xs : List Row). AreRows xs (merged_content c.args.answers.now)) (sym e)
-    (AreRows-merged c.args.answers.now c.in_ok-rows.rows.items c.sort_rows.new.rows.items c.requires
-    c.in_ok-rows.ensures sort.moved sort.sorted sort.stable)) c.join_rows.ensures
+    (AreRows-merged c.args.answers.now c.in_ok-rows.rows.items c.sort_rows.new.rows.items
+    c.in_ok-rows.ensures.runs c.in_ok-rows.ensures.points sort.moved sort.sorted sort.stable))
+    c.join_rows.ensures

@@ -1,5 +1,10 @@
 use Rattle.std.proofs.Common.{◌≡◌, ◌++◌, take}
+use Rattle.labels.specs.Rows.{points_of}
+use Rattle.series_merge.specs.Merging.{AreRuns}
 use Rattle.series_merge.proofs.merging.push_rows.Given as goal
 
 abbrev pub invariant-loop-row : goal.invariant-loop-row
-invariant-loop-row l = l.all.items ≡ l.initial.all.items ++ take l.row-index l.rows
+invariant-loop-row l = record {
+  same : points_of l.all.items ≡ points_of l.initial.all.items ++ points_of (take l.row-index l.rows);
+  runs : AreRuns l.all.items;
+}
