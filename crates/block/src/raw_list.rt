@@ -9,12 +9,13 @@ use labels::SeriesRef;
 use postings::Postings;
 
 /// A list over entries. It keeps the reference at its place, so that `current` reads none, and it
-/// tells how many it has read.
+/// tells how many the last move read.
 #[derive(Drop)]
 pub struct RawList<'a> {
     entries: PostingsList<'a>,
     at: usize,
     head: Option<SeriesRef>,
+    last_reads: u64,
     ghost placed: { IsAtPlace entries.0 at head },
 }
 
@@ -62,36 +63,39 @@ fn head_of(entries: &mut PostingsList, at: usize) -> Option<SeriesRef>
 }
 
 impl<'a> RawList<'a> {
-    ghost use Rattle.block.specs.RawLists.{reads_of, remaining_of};
+    ghost use Rattle.block.specs.RawLists.{last_reads_of, reads_of, remaining_of};
 
     /// The list of all these references. It reads the first.
     pub fn new(entries: PostingsList<'a>) -> RawList<'a>
         requires { IsStrictlyIncreasing entries.0 }
         ensures list { remaining_of result ≡ entries.entry.0 }
         ensures few { HasReadOne entries.entry.1 (reads_of result) }
+        ensures last { last_reads_of result ≡ reads_of result - entries.entry.1 }
     {
         let mut entries = entries;
+        let before = entries.reads();
         let head = head_of(&mut entries, 0);
+        let last_reads = entries.reads() - before;
         RawList {
             entries,
             at: 0,
             head,
+            last_reads,
         }
     }
 
-    /// How many references it and the entries that it was made of have read so far, up to the
-    /// greatest number.
-    pub fn reads(&self) -> u64
-        ensures { result ≡ reads_of self.now }
+    /// How many references the last move read, or the making where there was none.
+    pub fn last_reads(&self) -> u64
+        ensures { result ≡ last_reads_of self.now }
     {
-        self.entries.reads()
+        self.last_reads
     }
 }
 
 impl<'a> Postings for RawList<'a> {
     ghost use Rattle.labels.specs.Ascending.{first_or_end, rest_of, not_below};
     ghost use Rattle.labels.proofs.Lists.{not_below-twice, rising-drop};
-    ghost use Rattle.block.specs.RawLists.{reads_of, remaining_of};
+    ghost use Rattle.block.specs.RawLists.{last_reads_of, reads_of, remaining_of};
 
     ghost remaining = { λ list. remaining_of list };
 
@@ -103,10 +107,14 @@ impl<'a> Postings for RawList<'a> {
     fn advance(&mut self)
         ensures list { remaining_of self.new ≡ rest_of (remaining_of self.old) }
         ensures few { HasReadOne (reads_of self.old) (reads_of self.new) }
+        ensures last { last_reads_of self.new ≡ reads_of self.new - reads_of self.old }
     {
+        self.last_reads = 0;
         if self.at < self.entries.len() {
+            let before = self.entries.reads();
             self.at += 1;
             self.head = head_of(&mut self.entries, self.at);
+            self.last_reads = self.entries.reads() - before;
         }
     }
 
@@ -118,14 +126,18 @@ impl<'a> Postings for RawList<'a> {
             (reads_of self.new) }
         ensures still { target ≤ first_or_end (remaining_of self.old)
             → reads_of self.new ≡ reads_of self.old }
+        ensures last { last_reads_of self.new ≡ reads_of self.new - reads_of self.old }
     {
+        self.last_reads = 0;
         let Some(head) = self.head else {
             return;
         };
         if target.number() > head.number() {
+            let before = self.entries.reads();
             let (at, head) = place_of(&mut self.entries, self.at, target);
             self.at = at;
             self.head = head;
+            self.last_reads = self.entries.reads() - before;
         }
     }
 

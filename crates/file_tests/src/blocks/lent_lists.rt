@@ -78,14 +78,13 @@ fn a_seek_in_six_references_reads_four_at_most(rt: HostRuntime) {
     let block = block.expect(&rt, "it opens");
     let mut list = block.view().all();
     assert!(rt; is_at(&list, 4));
-    let before = list.reads();
+    assert!(rt; list.last_reads() == 1);
     list.seek(SeriesRef::new(9));
     assert!(rt; is_at(&list, 9));
-    let after = list.reads();
-    assert!(rt; after <= before.saturating_add(4));
+    assert!(rt; 0 < list.last_reads() && list.last_reads() <= 4);
     list.seek(SeriesRef::new(3));
     assert!(rt; is_at(&list, 9));
-    assert!(rt; list.reads() == after);
+    assert!(rt; list.last_reads() == 0);
     list.advance();
     assert!(rt; is_at(&list, 0));
 }
@@ -150,10 +149,9 @@ fn a_seek_in_a_thousand_references_reads_eleven_at_most(rt: HostRuntime) {
     for target in 300..1320 {
         let want = if target > 1313 { 0 } else { target.max(314) };
         let mut list = block.view().all();
-        let before = list.reads();
         list.seek(SeriesRef::new(target));
         assert!(rt; is_at(&list, want), "from {target}");
-        assert!(rt; list.reads() <= before.saturating_add(11), "from {target}");
+        assert!(rt; list.last_reads() <= 11, "from {target}");
     }
 }
 
