@@ -1,18 +1,17 @@
 //! A search and its audit in one call.
 
-ghost use Rattle.std.specs.Prelude.{◌≡◌, true, IfOk, IfErr};
+ghost use Rattle.std.specs.Prelude.{◌≡◌, [], IfOk, IfErr, OnOk};
 ghost use Rattle.std.specs.List.{All};
 ghost use Rattle.labels.specs.Rows.{AreRows};
 ghost use Rattle.head.specs.Shown.{part_of};
 ghost use Rattle.series_merge.specs.Merging.{merged_content};
-ghost use Rattle.block_search.specs.Skipping.{is_skipped};
 ghost use Rattle.block_search.specs.Answers.{AreAnswers};
-ghost use Rattle.auditor.specs.Auditing.{IsSoundAnswer};
-ghost use Rattle.auditor.specs.declared.flaw.AuditError.TheVariants.{Memory};
+ghost use Rattle.auditor.specs.Auditing.{IsSoundAnswer, IsAuditError, IsHiding, selected_content};
+ghost use Rattle.auditor.specs.declared.flaw.Flaw.TheVariants.{Memory};
 ghost use Rattle.audit_laws.specs.Told.{IsToldOf};
 
 use crate::tables::{table_of_block, table_of_head};
-use auditor::{AuditError, Table, audit, audit_merge, audit_skip};
+use auditor::{Flaw, Table, audit, audit_merge, audit_skip};
 use block::Block;
 use block_search::{OpenGate, is_skipped, search, search_one_by_one};
 use cover::PartAnswer;
@@ -32,31 +31,18 @@ pub struct SoundAnswers {
     pub rows: Vec<Row>,
 }
 
-/// Audits a sound answer.
-fn audit_sound(
-    alloc: Global,
-    table: &Table,
-    query: &Query,
-    answer: &PartAnswer,
-) -> Result<(), AuditError>
-    requires { IsSoundAnswer table.now query.now answer.now }
-    ensures { IfErr result (λ e. e ≡ Memory) }
-{
-    audit(alloc, table, query, answer)
-}
-
 /// Audits what is answered of a head.
 fn audit_head(
     alloc: Global,
     head: &HeadView,
     query: &Query,
     answer: &PartAnswer,
-) -> Result<(), AuditError>
-    requires { IsSoundAnswer (part_of head.now) query.now answer.now }
-    ensures { IfErr result (λ e. e ≡ Memory) }
+) -> Result<(), Flaw>
+    ensures sound { OnOk result (IsSoundAnswer (part_of head.now) query.now answer.now) }
+    ensures flawed { IfErr result (IsAuditError (part_of head.now) query.now answer.now) }
 {
     let table = table_of_head(alloc, head)?;
-    audit_sound(alloc, &table, query, answer)
+    audit(alloc, &table, query, answer)
 }
 
 /// Audits what is answered of a block.
@@ -65,21 +51,21 @@ fn audit_block(
     block: &Block,
     query: &Query,
     answer: &PartAnswer,
-) -> Result<(), AuditError>
-    requires { IsSoundAnswer block.now.part query.now answer.now }
-    ensures { IfErr result (λ e. e ≡ Memory) }
+) -> Result<(), Flaw>
+    ensures sound { OnOk result (IsSoundAnswer block.now.part query.now answer.now) }
+    ensures flawed { IfErr result (IsAuditError block.now.part query.now answer.now) }
 {
     let table = table_of_block(alloc, block)?;
-    audit_sound(alloc, &table, query, answer)
+    audit(alloc, &table, query, answer)
 }
 
-/// Audits what is answered under the name of a part.
+/// Audits what is answered under the name of a part: it is found sound.
 fn audit_named(
     alloc: Global,
     snapshot: &Snapshot,
     query: &Query,
     answer: &PartAnswer,
-) -> Result<(), AuditError>
+) -> Result<(), Flaw>
     requires { IsToldOf query.now snapshot.now answer.now }
     ensures { IfErr result (λ e. e ≡ Memory) }
 {
@@ -97,7 +83,7 @@ fn audit_each(
     snapshot: &Snapshot,
     query: &Query,
     answers: &[PartAnswer],
-) -> Result<(), AuditError>
+) -> Result<(), Flaw>
     requires { All (IsToldOf query.now snapshot.now) answers.now }
     ensures { IfErr result (λ e. e ≡ Memory) }
 {
@@ -107,17 +93,16 @@ fn audit_each(
     Ok(())
 }
 
-/// Audits a block that a query skips.
-fn audit_block_skip(alloc: Global, block: &Block, query: &Query) -> Result<(), AuditError>
-    requires { is_skipped query.now block.now.range ≡ true }
-    ensures { IfErr result (λ e. e ≡ Memory) }
+/// Audits a block of which nothing is answered.
+fn audit_block_skip(alloc: Global, block: &Block, query: &Query) -> Result<(), Flaw>
+    ensures silent { OnOk result (selected_content block.now.part query.now ≡ []) }
+    ensures hidden { IfErr result (IsHiding block.now.part query.now) }
 {
-    let _ = block.range();
     let table = table_of_block(alloc, block)?;
     audit_skip(alloc, &table, query)
 }
 
-fn audit_skips(alloc: Global, blocks: &[Block], query: &Query) -> Result<(), AuditError>
+fn audit_skips(alloc: Global, blocks: &[Block], query: &Query) -> Result<(), Flaw>
     ensures { IfErr result (λ e. e ≡ Memory) }
 {
     for block in blocks {
@@ -128,21 +113,6 @@ fn audit_skips(alloc: Global, blocks: &[Block], query: &Query) -> Result<(), Aud
     Ok(())
 }
 
-/// Audits rows that are those of all answers together.
-fn audit_rows(
-    alloc: Global,
-    snapshot: &Snapshot,
-    query: &Query,
-    answers: &[PartAnswer],
-    rows: &[Row],
-) -> Result<(), AuditError>
-    requires answers { AreAnswers query.now snapshot.now answers.now }
-    requires rows { AreRows rows.now (merged_content answers.now) }
-    ensures { IfErr result (λ e. e ≡ Memory) }
-{
-    audit_merge(alloc, answers, rows)
-}
-
 /// The rows of all that a search answered, after the audit of each answer, of each block that was
 /// skipped, and of the rows.
 fn audited_rows(
@@ -150,7 +120,7 @@ fn audited_rows(
     snapshot: &Snapshot,
     query: &Query,
     answers: &[PartAnswer],
-) -> Result<Vec<Row>, AuditError>
+) -> Result<Vec<Row>, Flaw>
     requires { AreAnswers query.now snapshot.now answers.now }
     ensures rows { IfOk result (λ rows. AreRows rows.items (merged_content answers.now)) }
     ensures flawless { IfErr result (λ e. e ≡ Memory) }
@@ -158,7 +128,7 @@ fn audited_rows(
     audit_each(alloc, snapshot, query, answers)?;
     audit_skips(alloc, snapshot.blocks(), query)?;
     let rows = merge(alloc, answers)?;
-    audit_rows(alloc, snapshot, query, answers, rows.as_slice())?;
+    audit_merge(alloc, answers, rows.as_slice())?;
     Ok(rows)
 }
 
@@ -171,7 +141,7 @@ pub fn search_and_audit(
     alloc: Global,
     snapshot: &Snapshot,
     query: &Query,
-) -> Result<SoundAnswers, AuditError>
+) -> Result<SoundAnswers, Flaw>
     ensures answers { IfOk result (λ a. AreAnswers query.now snapshot.now a.answers.items) }
     ensures rows { IfOk result (λ a. AreRows a.rows.items (merged_content a.answers.items)) }
     ensures flawless { IfErr result (λ e. e ≡ Memory) }
@@ -187,7 +157,7 @@ pub fn search_and_audit_by_workers<R: Threads + Sync>(
     alloc: Global,
     snapshot: &Snapshot,
     query: &Query,
-) -> Result<SoundAnswers, AuditError>
+) -> Result<SoundAnswers, Flaw>
     ensures answers { IfOk result (λ a. AreAnswers query.now snapshot.now a.answers.items) }
     ensures rows { IfOk result (λ a. AreRows a.rows.items (merged_content a.answers.items)) }
     ensures flawless { IfErr result (λ e. e ≡ Memory) }

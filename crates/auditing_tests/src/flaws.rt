@@ -5,7 +5,7 @@ use crate::answers::{
     answer, query,
 };
 use crate::worked_block::{ALL_BUT_ONE, CHUNKS, INDEX, TOMBSTONES, table_of_files};
-use auditor::{AuditError, Flaw, audit, audit_skip};
+use auditor::{Flaw, audit, audit_skip};
 use cover::Verdict;
 use std::alloc::Global;
 
@@ -299,7 +299,7 @@ fn told_of(
     tombstones: &[u8],
     from: i64,
     said: Option<&Said>,
-) -> Option<Result<(), AuditError>> {
+) -> Option<Result<(), Flaw>> {
     let table = table_of_files(alloc, INDEX, CHUNKS, tombstones).ok()?;
     let query = query(alloc, from)?;
     match said {
@@ -311,7 +311,7 @@ fn told_of(
     }
 }
 
-const CODES: [(Flaw, &str); 10] = [
+const CODES: [(Flaw, &str); 11] = [
     (Flaw::NotAPartition, "F1"),
     (Flaw::NotMatching, "F2"),
     (Flaw::NotRejected { matcher: 1 }, "F3"),
@@ -322,6 +322,7 @@ const CODES: [(Flaw, &str); 10] = [
     (Flaw::NotSilent, "F8"),
     (Flaw::Hidden, "F9"),
     (Flaw::WrongMerge, "F10"),
+    (Flaw::Memory, "memory"),
 ];
 
 #[test]
@@ -332,7 +333,7 @@ fn each_flaw_has_its_code_and_the_first_of_two_is_told(rt: HostRuntime) {
     assert!(rt; told_of(rt.alloc(), TOMBSTONES, 0, Some(&SOUND)) == Some(Ok(())));
     for rows in FLAWS {
         for (said, flaw) in rows {
-            let want = Some(Err(AuditError::Flaw(*flaw)));
+            let want = Some(Err(*flaw));
             assert!(rt; told_of(rt.alloc(), TOMBSTONES, 0, Some(said)) == want);
         }
     }
@@ -352,9 +353,9 @@ const REST_SILENT: Said = (&[(4, 6, BY_NAME), (6, END, SILENT)], &[4, 6], NONE);
 #[test]
 fn one_sample_in_the_range_is_no_silence_and_no_skip(rt: HostRuntime) {
     let alloc = rt.alloc();
-    let silent = Some(Err(AuditError::Flaw(Flaw::NotSilent)));
-    let unmatched = Some(Err(AuditError::Flaw(Flaw::NotMatching)));
-    let hidden = Some(Err(AuditError::Flaw(Flaw::Hidden)));
+    let silent = Some(Err(Flaw::NotSilent));
+    let unmatched = Some(Err(Flaw::NotMatching));
+    let hidden = Some(Err(Flaw::Hidden));
     assert!(rt; told_of(alloc, ALL_BUT_ONE, 0, Some(&ALL_SILENT)) == silent);
     assert!(rt; told_of(alloc, ALL_BUT_ONE, 0, Some(&MATCHED_SILENT)) == unmatched);
     assert!(rt; told_of(alloc, ALL_BUT_ONE, 0, Some(&REST_SILENT)) == Some(Ok(())));

@@ -3,24 +3,24 @@
 
 use crate::answers::{FOUND, SOUND, answer, query, rows_at};
 use crate::worked_block::{CHUNKS, INDEX, TOMBSTONES, table_of_files, walk_outcome};
-use auditor::{AuditError, Flaw, Table, audit, audit_merge, audit_skip};
+use auditor::{Flaw, Table, audit, audit_merge, audit_skip};
 use cover::PartAnswer;
 use labels::Row;
 use matchers::Query;
 use std::alloc::Global;
 
-type Audited = Result<(), AuditError>;
+type Audited = Result<(), Flaw>;
 
 fn skip_again(alloc: Global, table: &Table, query: &Query) -> Audited {
     match audit_skip(alloc, table, query) {
-        Err(AuditError::Memory) => audit_skip(alloc, table, query),
+        Err(Flaw::Memory) => audit_skip(alloc, table, query),
         told => told,
     }
 }
 
 fn merge_again(alloc: Global, answers: &[PartAnswer], rows: &[Row]) -> Audited {
     match audit_merge(alloc, answers, rows) {
-        Err(AuditError::Memory) => audit_merge(alloc, answers, rows),
+        Err(Flaw::Memory) => audit_merge(alloc, answers, rows),
         told => told,
     }
 }
@@ -29,9 +29,9 @@ fn merge_again(alloc: Global, answers: &[PartAnswer], rows: &[Row]) -> Audited {
 fn are_judged(alloc: Global, table: &Table, answer: &PartAnswer) -> Option<bool> {
     let early = query(alloc, 0)?;
     let late = query(alloc, 20)?;
-    let hidden = Err(AuditError::Flaw(Flaw::Hidden));
+    let hidden = Err(Flaw::Hidden);
     let audited = match audit(alloc, table, &early, answer) {
-        Err(AuditError::Memory) => audit(alloc, table, &early, answer),
+        Err(Flaw::Memory) => audit(alloc, table, &early, answer),
         told => told,
     };
     Some(
@@ -48,7 +48,7 @@ fn is_told(alloc: Global) -> Option<bool> {
     let answers = [answer(alloc, &table, &SOUND)?];
     let rows = rows_at(alloc, &table, FOUND)?;
     let judged = are_judged(alloc, &table, &answers[0])?;
-    let wrong = Err(AuditError::Flaw(Flaw::WrongMerge));
+    let wrong = Err(Flaw::WrongMerge);
     Some(
         judged
             && merge_again(alloc, &answers, rows.as_slice()).is_ok()

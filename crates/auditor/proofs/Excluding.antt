@@ -13,7 +13,7 @@ use Rattle.cover.specs.declared.part_cover.PartAnswer.{PartAnswer}
 use Rattle.cover.specs.Asking.{asked}
 use Rattle.cover.specs.Certificates.{Asked, IsFittingRun}
 use Rattle.auditor.specs.declared.flaw.Flaw.{Flaw}
-use Rattle.auditor.specs.declared.flaw.Flaw.TheVariants.{NotAPartition, NotMatching, NotRejected, SeparatorCount, SeparatorsFit, WrongRows, UnknownMatcher, NotSilent, Hidden, WrongMerge}
+use Rattle.auditor.specs.declared.flaw.Flaw.TheVariants.{NotAPartition, NotMatching, NotRejected, SeparatorCount, SeparatorsFit, WrongRows, UnknownMatcher, NotSilent, Hidden, WrongMerge, Memory}
 use Rattle.auditor.specs.Auditing.{AllFit, IsFirstMisfit, ShareAt, IsSoundAnswer, IsFlaw}
 
 misfits_not : (a : Asked) (c : List Interval) (v : Verdict) → IsFirstMisfit a c v → AllFit a c → ⊥
@@ -66,3 +66,4 @@ sound_not part q answer (SeparatorsFit at) sound h =
 sound_not part q answer WrongRows sound h = h.4 sound.rows
 sound_not part q answer Hidden sound h = h
 sound_not part q answer WrongMerge sound h = h
+sound_not part q answer Memory sound h = h

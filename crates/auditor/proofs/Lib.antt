@@ -16,3 +16,4 @@ pub mod Labelled
 pub mod Lines
 pub mod Naming
 pub mod LongFiles
+pub mod Told

@@ -19,9 +19,8 @@ use Rattle.auditor.specs.declared.flaw.Flaw.{Flaw}
 use Rattle.auditor.specs.declared.flaw.Flaw.TheVariants.{NotAPartition, NotMatching, NotRejected}
 use Rattle.auditor.specs.declared.flaw.Flaw.TheVariants.{SeparatorCount, SeparatorsFit, WrongRows}
 use Rattle.auditor.specs.declared.flaw.Flaw.TheVariants.{UnknownMatcher, NotSilent, Hidden}
-use Rattle.auditor.specs.declared.flaw.Flaw.TheVariants.{WrongMerge}
-use Rattle.auditor.specs.declared.flaw.AuditError.{AuditError}
-use Rattle.auditor.specs.declared.flaw.AuditError.TheVariants as errors
+use Rattle.auditor.specs.declared.flaw.Flaw.TheVariants.{WrongMerge, Memory}
+use Rattle.auditor.specs.Errors.{OrMemory}
 
 -- Whether a verdict names a matcher that is there, if it names one.
 abbrev pub names_known : ℕ → Verdict → Bool
@@ -131,6 +130,7 @@ IsFlaw part query answer WrongRows =
     × (AreRows answer.rows.items (selected_content part query) → ⊥)
 IsFlaw part query answer Hidden = ⊥
 IsFlaw part query answer WrongMerge = ⊥
+IsFlaw part query answer Memory = ⊥
 
 -- What is said of an answer: nothing where it is sound, or else its first flaw.
 abbrev pub IsJudgement : Part → QueryView → PartAnswer → Option Flaw → Type 0
@@ -144,11 +144,10 @@ misfit_flaw NoSample = NotSilent
 misfit_flaw (Rejected matcher) = NotRejected matcher
 
 -- Why an audit does not say yes: the first flaw of the answer, or no memory.
-abbrev pub IsAuditError : Part → QueryView → PartAnswer → AuditError → Type 0
-IsAuditError part query answer (errors.Flaw flaw) = IsFlaw part query answer flaw
-IsAuditError part query answer errors.Memory = Unit {0}
+abbrev pub IsAuditError : Part → QueryView → PartAnswer → Flaw → Type 0
+IsAuditError part query answer flaw = OrMemory (IsFlaw part query answer) flaw
 
 -- Why a skip is not allowed: the query selects something of the part, or no memory.
-abbrev pub IsHiding : Part → QueryView → AuditError → Type 0
-IsHiding part query (errors.Flaw flaw) = (flaw ≡ Hidden) × (selected_content part query ≡ [] → ⊥)
-IsHiding part query errors.Memory = Unit {0}
+abbrev pub IsHiding : Part → QueryView → Flaw → Type 0
+IsHiding part query flaw =
+    OrMemory (λ f. (f ≡ Hidden) × (selected_content part query ≡ [] → ⊥)) flaw

@@ -4,9 +4,9 @@ use Rattle.auditor.specs.declared.flaw.Flaw.{Flaw}
 use Rattle.auditor.specs.declared.flaw.Flaw.TheVariants.{NotAPartition, NotMatching, NotRejected}
 use Rattle.auditor.specs.declared.flaw.Flaw.TheVariants.{SeparatorCount, SeparatorsFit, WrongRows}
 use Rattle.auditor.specs.declared.flaw.Flaw.TheVariants.{UnknownMatcher, NotSilent, Hidden}
-use Rattle.auditor.specs.declared.flaw.Flaw.TheVariants.{WrongMerge}
-use Rattle.auditor.specs.declared.flaw.AuditError.{AuditError}
-use Rattle.auditor.specs.declared.flaw.AuditError.TheVariants as errors
+use Rattle.auditor.specs.declared.flaw.Flaw.TheVariants.{WrongMerge, Memory}
+use Rattle.auditor.specs.declared.reply.ReplyError.{ReplyError}
+use Rattle.auditor.specs.declared.reply.ReplyError.TheVariants as reply
 
 -- the number of a flaw, as text
 abbrev pub code_of : Flaw → List ℕ
@@ -20,6 +20,7 @@ code_of UnknownMatcher = codes "F7"
 code_of NotSilent = codes "F8"
 code_of Hidden = codes "F9"
 code_of WrongMerge = codes "F10"
+code_of Memory = codes "memory"
 
 -- a flaw in a line, for people
 abbrev pub flaw_text : Flaw → List ℕ
@@ -36,8 +37,14 @@ flaw_text UnknownMatcher = codes "F7: a verdict names a matcher that is not ther
 flaw_text NotSilent = codes "F8: a series that is said to have no sample in the range has one"
 flaw_text Hidden = codes "F9: a skipped part has rows to show"
 flaw_text WrongMerge = codes "F10: the rows are not those that the parts list"
+flaw_text Memory = codes "no memory"
 
--- why an audit does not say yes, in a line
-abbrev pub error_text : AuditError → List ℕ
-error_text (errors.Flaw flaw) = flaw_text flaw
-error_text errors.Memory = codes "no memory"
+-- memory may run out at any time
+abbrev pub OrMemory : (Flaw → Type 0) → Flaw → Type 0
+OrMemory cause Memory = Unit {0}
+OrMemory cause flaw = cause flaw
+
+-- why a text is not read as a reply, in a line
+abbrev pub reply_error_text : ReplyError → List ℕ
+reply_error_text reply.BadReply = codes "bad reply"
+reply_error_text reply.Memory = codes "no memory"

@@ -12,7 +12,7 @@ use Rattle.auditor.specs.declared.flaw.Flaw.{Flaw}
 use Rattle.auditor.specs.declared.flaw.Flaw.TheVariants.{NotAPartition, NotMatching, NotRejected}
 use Rattle.auditor.specs.declared.flaw.Flaw.TheVariants.{SeparatorCount, SeparatorsFit, WrongRows}
 use Rattle.auditor.specs.declared.flaw.Flaw.TheVariants.{UnknownMatcher, NotSilent, Hidden}
-use Rattle.auditor.specs.declared.flaw.Flaw.TheVariants.{WrongMerge}
+use Rattle.auditor.specs.declared.flaw.Flaw.TheVariants.{WrongMerge, Memory}
 use Rattle.auditor.specs.declared.reply.ToldPart.{ToldPart}
 use Rattle.auditor.specs.declared.reply.ToldPart.TheVariants as parts
 use Rattle.auditor.specs.declared.reply.Reply.{Reply}
@@ -39,6 +39,7 @@ place_of UnknownMatcher = None
 place_of NotSilent = None
 place_of Hidden = None
 place_of WrongMerge = None
+place_of Memory = None
 
 -- `F4`, or `F5 at 1`
 abbrev pub placed : List ℕ → Option ℕ → List ℕ

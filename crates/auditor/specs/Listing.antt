@@ -6,9 +6,9 @@ use Rattle.labels.specs.Labels.{Point, point_cmp}
 use Rattle.labels.specs.Contents.{Content}
 use Rattle.labels.specs.Rows.{Row, points_of, AreRows}
 use Rattle.cover.specs.declared.part_cover.PartAnswer.{PartAnswer}
-use Rattle.auditor.specs.declared.flaw.AuditError.{AuditError}
-use Rattle.auditor.specs.declared.flaw.AuditError.TheVariants as errors
+use Rattle.auditor.specs.declared.flaw.Flaw.{Flaw}
 use Rattle.auditor.specs.declared.flaw.Flaw.TheVariants.{WrongMerge}
+use Rattle.auditor.specs.Errors.{OrMemory}
 
 -- The samples that the rows of the answers list, in the order in which they are listed.
 abbrev pub listed : List PartAnswer → List (Point × ℤ)
@@ -26,10 +26,9 @@ abbrev pub last_listed : List PartAnswer → Content
 last_listed answers = with_each (listed answers) []
 
 -- Why rows are refused: they are not those of what the answers list, or no memory.
-abbrev pub IsUnmerged : List PartAnswer → List Row → AuditError → Type 0
-IsUnmerged answers rows (errors.Flaw flaw) = (flaw ≡ WrongMerge)
-    × (AreRows rows (last_listed answers) → ⊥)
-IsUnmerged answers rows errors.Memory = Unit {0}
+abbrev pub IsUnmerged : List PartAnswer → List Row → Flaw → Type 0
+IsUnmerged answers rows flaw =
+    OrMemory (λ f. (f ≡ WrongMerge) × (AreRows rows (last_listed answers) → ⊥)) flaw
 
 -- Whether a sample stands before another, by label set and then by time.
 abbrev pub point_before : Point × ℤ → Point × ℤ → Bool

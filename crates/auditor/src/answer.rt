@@ -9,7 +9,7 @@ ghost use Rattle.auditor.specs.Auditing.{IsSoundAnswer, IsFlaw, IsJudgement, IsA
 ghost use Rattle.auditor.specs.Auditing.{misfit_flaw, all_known};
 ghost use Rattle.auditor.specs.Looking.{cuts};
 
-use crate::flaw::{AuditError, Flaw};
+use crate::flaw::Flaw;
 use crate::intervals::{all_known, are_cut, first_misfit};
 use crate::looks::Looks;
 use crate::rows::{same_rows, selected_rows};
@@ -102,12 +102,12 @@ pub fn audit(
     table: &Table,
     query: &Query,
     answer: &PartAnswer,
-) -> Result<(), AuditError>
+) -> Result<(), Flaw>
     ensures sound { OnOk result (IsSoundAnswer table.now query.now answer.now) }
     ensures flawed { IfErr result (λ e. IsAuditError table.now query.now answer.now e) }
 {
     match first_flaw(alloc, table, query, answer)? {
-        Some(flaw) => Err(AuditError::Flaw(flaw)),
+        Some(flaw) => Err(flaw),
         None => Ok(()),
     }
 }

@@ -1,14 +1,14 @@
 //! What may be wrong with an answer.
 
 ghost use Rattle.std.specs.Prelude.{◌≡◌};
-ghost use Rattle.auditor.specs.declared.flaw.AuditError.TheVariants.{Memory};
+ghost use Rattle.auditor.specs.declared.flaw.Flaw.TheVariants.{Memory};
 ghost use Rattle.auditor.specs.Errors.{code_of};
 
 use std::alloc::AllocError;
 use std::error::Error;
 use std::fmt;
 
-/// What is wrong with an answer.
+/// Why an audit does not say yes: what is wrong with an answer, or that memory ran out.
 #[derive(Clone, Copy, Debug, PartialEq, Eq, Drop)]
 pub enum Flaw {
     /// `F1`: the intervals are not a partition of the part.
@@ -34,10 +34,12 @@ pub enum Flaw {
     Hidden,
     /// `F10`: the rows are not those of all that the answers list.
     WrongMerge,
+    /// No memory: nothing is said of the answer.
+    Memory,
 }
 
 impl Flaw {
-    /// The number of the flaw.
+    /// The number of the flaw, or `memory`.
     pub fn code(self) -> &'static str
         ensures { result.now ≡ code_of self }
     {
@@ -52,6 +54,7 @@ impl Flaw {
             Flaw::NotSilent => "F8",
             Flaw::Hidden => "F9",
             Flaw::WrongMerge => "F10",
+            Flaw::Memory => "memory",
         }
     }
 }
@@ -85,41 +88,17 @@ impl fmt::Display for Flaw {
             ),
             Flaw::Hidden => write!(f, "F9: a skipped part has rows to show"),
             Flaw::WrongMerge => write!(f, "F10: the rows are not those that the parts list"),
+            Flaw::Memory => write!(f, "no memory"),
         }
     }
 }
 
 impl Error for Flaw {}
 
-/// Why an audit does not say yes.
-#[derive(Clone, Copy, Debug, PartialEq, Eq, Drop)]
-pub enum AuditError {
-    /// The answer has this flaw, the first in the order of the checks.
-    Flaw(Flaw),
-    /// No memory: nothing is said of the answer.
-    Memory,
-}
+impl From<AllocError> for Flaw {
+    ghost from_gives = { λ _ flaw. flaw ≡ Memory };
 
-impl From<AllocError> for AuditError {
-    ghost from_gives = { λ _ e. e ≡ Memory };
-
-    fn from(_error: AllocError) -> AuditError {
-        AuditError::Memory
+    fn from(_error: AllocError) -> Flaw {
+        Flaw::Memory
     }
 }
-
-impl fmt::Display for AuditError {
-    ghost use Rattle.std.specs.Prelude.{Some};
-    ghost use Rattle.auditor.specs.Errors.{error_text};
-
-    ghost output = { λ error. Some (error_text error) };
-
-    fn fmt<W: fmt::Write>(&self, f: &mut fmt::Formatter<W>) -> fmt::Result {
-        match self {
-            AuditError::Flaw(flaw) => write!(f, "{flaw}"),
-            AuditError::Memory => write!(f, "no memory"),
-        }
-    }
-}
-
-impl Error for AuditError {}

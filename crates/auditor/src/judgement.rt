@@ -61,6 +61,7 @@ impl Flaw {
             Flaw::NotSilent => None,
             Flaw::Hidden => None,
             Flaw::WrongMerge => None,
+            Flaw::Memory => None,
         }
     }
 }

@@ -47,7 +47,7 @@ mod table;
 mod walk;
 
 pub use answer::{audit, audit_laws};
-pub use flaw::{AuditError, Flaw};
+pub use flaw::Flaw;
 pub use judgement::{BlockTable, Judgement, Line, Subject};
 pub use merged::audit_merge;
 pub use reading::name_law;

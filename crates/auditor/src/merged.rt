@@ -10,7 +10,7 @@ ghost use Rattle.labels.specs.Labels.{labels_cmp, point_cmp};
 ghost use Rattle.labels.specs.Rows.{points_in, points_of, AreRows};
 ghost use Rattle.auditor.specs.Listing.{listed, last_listed, point_before, same_point, IsUnmerged};
 
-use crate::flaw::{AuditError, Flaw};
+use crate::flaw::Flaw;
 use crate::rows::{same_labels, same_sample};
 use cover::PartAnswer;
 use labels::{LabelSet, Row, Sample};
@@ -168,18 +168,18 @@ fn same_listed(a: &[Listed], b: &[Listed]) -> bool
 /// the content that maps each listed label set and time to the value listed last, else `F10`.
 /// Nothing is asked of the answers' rows. It sorts what is listed, and takes memory for a list of
 /// it and for one of the rows' samples.
-pub fn audit_merge(alloc: Global, answers: &[PartAnswer], rows: &[Row]) -> Result<(), AuditError>
+pub fn audit_merge(alloc: Global, answers: &[PartAnswer], rows: &[Row]) -> Result<(), Flaw>
     ensures merged { OnOk result (AreRows rows.now (last_listed answers.now)) }
     ensures unmerged { IfErr result (λ e. IsUnmerged answers.now rows.now e) }
 {
     if !are_in_order(rows) || !are_full(rows) {
-        return Err(AuditError::Flaw(Flaw::WrongMerge));
+        return Err(Flaw::WrongMerge);
     }
     let last = last_listed(alloc, answers)?;
     let mut told = Vec::new(alloc);
     list_rows(alloc, &mut told, rows)?;
     if !same_listed(told.as_slice(), last.as_slice()) {
-        return Err(AuditError::Flaw(Flaw::WrongMerge));
+        return Err(Flaw::WrongMerge);
     }
     Ok(())
 }

@@ -51,6 +51,11 @@ impl<T: Drop> From<AllocFailed<T>> for ReplyError {
 }
 
 impl fmt::Display for ReplyError {
+    ghost use Rattle.std.specs.Prelude.{Some};
+    ghost use Rattle.auditor.specs.Errors.{reply_error_text};
+
+    ghost output = { λ error. Some (reply_error_text error) };
+
     fn fmt<W: fmt::Write>(&self, f: &mut fmt::Formatter<W>) -> fmt::Result {
         match self {
             ReplyError::BadReply => write!(f, "bad reply"),

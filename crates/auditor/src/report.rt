@@ -8,7 +8,7 @@ ghost use Rattle.auditor.specs.Judgements.{AreLeftLines, is_of_block, is_named, 
 ghost use Rattle.auditor.specs.Judgements.{AreLines, lines_text};
 
 use crate::answer::audit;
-use crate::flaw::AuditError;
+use crate::flaw::Flaw;
 use crate::judgement::{BlockTable, Judgement, Line, Subject};
 use crate::merged::audit_merge;
 use crate::reply::{Reply, ToldPart};
@@ -52,8 +52,8 @@ fn judge_answer(
     };
     match audit(alloc, table, query, answer) {
         Ok(()) => Ok(Judgement::Valid),
-        Err(AuditError::Flaw(flaw)) => Ok(Judgement::Flawed(flaw)),
-        Err(AuditError::Memory) => Err(AllocError),
+        Err(Flaw::Memory) => Err(AllocError),
+        Err(flaw) => Ok(Judgement::Flawed(flaw)),
     }
 }
 
@@ -71,8 +71,8 @@ fn judge_skip(
     };
     match audit_skip(alloc, table, query) {
         Ok(()) => Ok(Judgement::Skipped),
-        Err(AuditError::Flaw(flaw)) => Ok(Judgement::Flawed(flaw)),
-        Err(AuditError::Memory) => Err(AllocError),
+        Err(Flaw::Memory) => Err(AllocError),
+        Err(flaw) => Ok(Judgement::Flawed(flaw)),
     }
 }
 
@@ -81,8 +81,8 @@ fn judge_rows(alloc: Global, answers: &[PartAnswer], rows: &[Row]) -> Result<Jud
 {
     match audit_merge(alloc, answers, rows) {
         Ok(()) => Ok(Judgement::Valid),
-        Err(AuditError::Flaw(flaw)) => Ok(Judgement::Flawed(flaw)),
-        Err(AuditError::Memory) => Err(AllocError),
+        Err(Flaw::Memory) => Err(AllocError),
+        Err(flaw) => Ok(Judgement::Flawed(flaw)),
     }
 }
 

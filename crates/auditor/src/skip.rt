@@ -3,7 +3,7 @@
 ghost use Rattle.std.specs.Prelude.{◌≡◌, [], Err, OnOk, IfErr};
 ghost use Rattle.auditor.specs.Auditing.{selected_content, IsHiding};
 
-use crate::flaw::{AuditError, Flaw};
+use crate::flaw::Flaw;
 use crate::looks::Looks;
 use crate::table::Table;
 use matchers::Query;
@@ -12,7 +12,7 @@ use std::alloc::Global;
 /// Whether a part that was skipped has nothing to show: `Ok` exactly where the query selects no
 /// rows of it, else `F9`. It looks at each series until one answers, and takes memory for the
 /// searches of patterns alone.
-pub fn audit_skip(alloc: Global, table: &Table, query: &Query) -> Result<(), AuditError>
+pub fn audit_skip(alloc: Global, table: &Table, query: &Query) -> Result<(), Flaw>
     ensures empty { OnOk result (selected_content table.now query.now ≡ []) }
     ensures hidden { IfErr result (λ e. IsHiding table.now query.now e) }
 {
@@ -20,7 +20,7 @@ pub fn audit_skip(alloc: Global, table: &Table, query: &Query) -> Result<(), Aud
     let series = table.series();
     for entry in series {
         if looks.answers(entry) {
-            return Err(AuditError::Flaw(Flaw::Hidden));
+            return Err(Flaw::Hidden);
         }
     }
     Ok(())

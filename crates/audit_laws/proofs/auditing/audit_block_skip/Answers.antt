@@ -1,15 +1,15 @@
-use Rattle.std.proofs.Common.{subst, IfErr}
+use Rattle.std.proofs.Common.{◌≡◌, [], subst, IfErr}
+use Rattle.std.specs.Prelude.{OnOk}
 use Rattle.labels.specs.Parts.{Part}
-use Rattle.auditor.specs.Auditing.{IsHiding}
-use Rattle.audit_laws.proofs.Answered.{skipped_silent}
-use Rattle.audit_laws.proofs.Flawless.{silent_passes}
+use Rattle.auditor.specs.Auditing.{IsHiding, selected_content}
 use Rattle.audit_laws.proofs.auditing.audit_block_skip.Goals as goal
 
-pub returns : goal.returns
-returns c =
-    let block = c.args.block.now in
-    let query = c.args.query.now in
-    silent_passes block.part query c.audit_skip.result
-    (skipped_silent query block c.range.ensures.inside c.requires)
-    (subst (λ (part : Part). IfErr c.audit_skip.result (IsHiding part query)) c.in_ok-table.ensures
-    c.audit_skip.ensures.hidden)
+pub returns-clause-silent : goal.returns-clause-silent
+returns-clause-silent c =
+    subst (λ (part : Part). OnOk c.audit_skip.result (selected_content part c.args.query.now ≡ []))
+    c.in_ok-table.ensures c.audit_skip.ensures.empty
+
+pub returns-clause-hidden : goal.returns-clause-hidden
+returns-clause-hidden c =
+    subst (λ (part : Part). IfErr c.audit_skip.result (IsHiding part c.args.query.now))
+    c.in_ok-table.ensures c.audit_skip.ensures.hidden
