@@ -11,14 +11,6 @@ use Rattle.cover.specs.declared.part_cover.PartAnswer.{PartAnswer}
 use Rattle.series_merge.specs.Merging.{AreRuns, row_lists, newest_first, merged_content, joined_rows}
 use Rattle.series_merge.proofs.Joining.{AreRows-joined_rows, laid_over-sorted, laid_over-newest_first, points_of-++}
 
--- the runs of further rows, which stand behind those before them
-pub gathered : (all new rows front : List Row) (later : List (List Row))
-    → points_of all ≡ points_of (newest_first later)
-    → points_of new ≡ points_of all ++ points_of rows
-    → points_of new ≡ points_of (newest_first (rows ∷ later))
-gathered all new rows front later inv put =
-    put ∙ ap (λ c. c ++ points_of rows) inv ∙ sym (points_of-++ (newest_first later) rows)
-
 -- the times of runs ascend, in whatever order the runs stand
 pub times_sorted : (found sorted : List Row) → AreRuns found → IsPermutation found sorted
     → All (λ (r : Row). T (is_sorted int_cmp r.1)) sorted

@@ -11,7 +11,7 @@ ghost use Rattle.series_merge.specs.Merging.{AreRuns, row_lists, newest_first, m
 ghost use Rattle.series_merge.specs.Merging.{laid_times, join, joined_rows};
 
 use cover::PartAnswer;
-use labels::{Row, Sample, sort_rows};
+use labels::{LabelSet, Row, Sample, sort_rows};
 use std::alloc::{AllocError, Global};
 use std::cmp::Ordering;
 
@@ -219,6 +219,13 @@ fn ascending_count(samples: &[Sample]) -> usize
     at
 }
 
+fn copy_run(alloc: Global, labels: &LabelSet, run: &[Sample]) -> Result<Row, AllocError>
+    ensures { IfOk result (λ row. row ≡ (labels.now, run.now)) }
+{
+    let samples = run.iter().copied().collect(alloc)?;
+    Ok(Row::new(labels.try_clone()?, samples))
+}
+
 /// Adds a row at the end, as one row for each run of ascending times: as one row if all of its
 /// times ascend, and as none if it has no samples.
 fn push_runs(alloc: Global, all: &mut Vec<Row>, row: &Row) -> Result<(), AllocError>
@@ -230,8 +237,7 @@ fn push_runs(alloc: Global, all: &mut Vec<Row>, row: &Row) -> Result<(), AllocEr
     let mut rest = row.samples();
     while !rest.is_empty() {
         let (run, after) = rest.split_at(ascending_count(rest));
-        let samples = run.iter().copied().collect(alloc)?;
-        all.push(Row::new(row.labels().try_clone()?, samples))?;
+        all.push(copy_run(alloc, row.labels(), run)?)?;
         rest = after;
     }
     Ok(())
