@@ -14,7 +14,7 @@ use Rattle.labels.specs.Parts.{carries}
 use Rattle.index_reader.specs.declared.layout.TableOfContents.{TableOfContents}
 use Rattle.index_reader.specs.Layout.{IsPlaced, SeriesEntry, Layout, ascending, rounded, series_end, Label, Body, TableEntry, rises, postings_end}
 use Rattle.index_reader.specs.Checks.{layout_of, labels_of_each, bodies_of, postings_of, is_small, Read, read_of, indexed, indexed_of}
-use Rattle.index_reader.specs.Grammar.{frame, entry, IsWalk}
+use Rattle.index_reader.specs.Grammar.{frame, entry, IsWalk, IsLayout}
 use Rattle.index_reader.specs.PostingsChecks.{section_at, references_at, lists_at}
 use Rattle.index_reader.specs.TableChecks.{table_content_at, table_at}
 use Rattle.index_reader.specs.Steps.{each}
@@ -25,14 +25,15 @@ use Rattle.index_reader.specs.AgreementChecks.{carriers, agreement_of}
 use Rattle.index_reader.specs.AgreementChecks as agreement
 use Rattle.index_reader.specs.Indexes.{Series, Indexed, references, references_with, named, series_of, IsConsistent}
 use Rattle.index_reader.specs.Indexes as indexes
+use Rattle.index_reader.specs.Refusals.{AreInOrder, AreSmall}
 use Rattle.index_reader.proofs.Walks.{done}
 use Rattle.index_reader.proofs.Whole.{parts_again}
-use Rattle.index_reader.proofs.Gaps.{gaps_of}
+use Rattle.index_reader.proofs.Gaps.{gaps_in}
 use Rattle.index_reader.proofs.Sound.{few_symbols}
 use Rattle.index_reader.proofs.Orders.{InTable, label_sets_cmp}
 use Rattle.index_reader.proofs.Facts.{in_table, set_at, sets_are, series_length}
 use Rattle.index_reader.proofs.BodyAgain.{bodies_again}
-use Rattle.index_reader.proofs.TableAgain.{AreSmall, tabled_again, sections_again}
+use Rattle.index_reader.proofs.TableAgain.{tabled_again, sections_again}
 use Rattle.index_reader.proofs.AgreementAgain.{agreement_again}
 
 bodies_count : (symbols : List (List ℕ)) (ps : List SeriesEntry) (bs : List Body)
@@ -52,7 +53,7 @@ bodies_labelled symbols (p ∷ ps) (b ∷ bs) h zero d lt = h.0.labels
 bodies_labelled symbols (p ∷ ps) (b ∷ bs) h (suc j) d lt =
     bodies_labelled symbols ps bs h.1 j d (omega arith)
 
-walk_sizes : (ps : List SeriesEntry) (file : List ℕ) (end at : ℕ) → length file < 2 ^ 32
+pub walk_sizes : (ps : List SeriesEntry) (file : List ℕ) (end at : ℕ) → length file < 2 ^ 32
     → IsWalk file end at ps → AllByRecursion (λ p. length p.body < 2 ^ 32) ps
 walk_sizes [] file end at small w = tt
 walk_sizes (p ∷ ps) file end at small w =
@@ -101,7 +102,7 @@ small_sets (b ∷ bs) h = rw (
   small_sets bs (λ k d lt. h (suc k) d (omega arith)),
 ) refl
 
-end_small : (t : TableOfContents) (len : ℕ) → IsPlaced t len → postings_end t ≤ len
+pub end_small : (t : TableOfContents) (len : ℕ) → IsPlaced t len → postings_end t ≤ len
 end_small t len p = go (eqb t.label_offsets 0) refl
   where
     below : t.label_offsets ≤ len
@@ -171,6 +172,27 @@ indexed_read : (file : List ℕ) (r : Read) (x : Indexed) → read_of file ≡ O
 unfolding indexed_of
 indexed_read file r x h e = rw h (ap (λ (y : Indexed). done y) e)
 
+-- series in order have bodies in order
+pub order_again : (file : List ℕ) (p : Layout) (bs : List Body) (ss : List Series) → IsLayout file p
+    → AreBodies p.symbols p.entries bs → ss ≡ series_of p.symbols p.entries bs → AreInOrder ss
+    → rises labels_before (labels_of_each bs) ≡ true
+order_again file p bs ss layout spelled series_are in_order =
+    let symbols = p.symbols in
+    let order : ascending symbols ≡ true = layout.symbols.2.order in
+    let count = bodies_count symbols p.entries bs spelled in
+    let labelled = bodies_labelled symbols p.entries bs spelled in
+    let sets =
+    ap (λ (xs : List Series). indexes.label_sets xs) series_are
+    ∙ sets_are symbols p.entries bs count in
+    let length_is : length ss ≡ length bs =
+    ap (λ (xs : List Series). length xs) series_are ∙ series_length symbols p.entries bs count in
+    let n = length-map bs (λ (b : Body). b.labels) in
+    sets_again symbols (labels_of_each bs) order
+    (λ j d lj. let o = set_at bs j d lj in subst (InTable symbols) (sym o.1)
+    (in_table symbols 0 (get_or bs j o.0).labels (labelled j o.0 o.2)))
+    (λ k lt. subst (λ (xs : List (List (List ℕ × List ℕ))). labels_cmp (get_or xs k [])
+    (get_or xs (k + 1) []) ≡ Less) sets (in_order k (omega (arith, lt, n, length_is))))
+
 abbrev of_both : List Series → List (List ℕ × List ℕ) → Indexed
 of_both ss ps = record { series = ss; pairs = ps }
 
@@ -188,30 +210,12 @@ index_again file x fits i =
     let labelled = bodies_labelled symbols p.entries bs i.spelled in
     let a =
     bodies_again symbols p.entries bs few (walk_sizes p.entries file (series_end t)
-    (rounded t.series) small i.layout.entries) i.few_labels i.spelled in
-    let sets =
-    ap (λ (ss : List Series). indexes.label_sets ss) i.series
-    ∙ sets_are symbols p.entries bs count in
+    (rounded t.series) small i.layout.entries) i.spelled in
     let length_is : length x.series ≡ length bs =
     ap (λ (ss : List Series). length ss) i.series ∙ series_length symbols p.entries bs count in
-    let n = length-map bs (λ (b : Body). b.labels) in
-    let rising = sets_again symbols (labels_of_each bs) order
-    (λ j d lj. let o = set_at bs j d lj in subst (InTable symbols) (sym o.1)
-    (in_table symbols 0 (get_or bs j o.0).labels (labelled j o.0 o.2)))
-    (λ k lt. subst (λ (ss : List (List (List ℕ × List ℕ))). labels_cmp (get_or ss k []) (get_or ss
-    (k + 1) []) ≡ Less) sets (i.consistent.in_order k (omega (arith, lt, n, length_is)))) in
-    let stands = i.layout.symbols.1 in
-    let front : p.symbols_end ≤ rounded t.series = omega (
-      arith,
-      i.layout.symbols.3,
-      i.layout.placed.series,
-      ap length stands.1,
-      length-append (frame i.layout.symbols.0) stands.0,
-      length-take (t.series - 5) (drop 5 file),
-    ) in
-    let gaps =
-    gaps_of p.entries file (series_end t) (rounded t.series) p.symbols_end
-    i.layout.entries front i.gaps in
+    let rising =
+    order_again file p bs x.series i.layout i.spelled i.series i.consistent.in_order in
+    let gaps = gaps_in file p i.layout i.gaps in
     let b = bodies_read file p bs a gaps rising in
     let end_is : postings_end t ≤ 2 ^ 64 =
     omega (arith, end_small t (length file) i.layout.placed, small) in

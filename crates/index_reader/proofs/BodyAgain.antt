@@ -58,8 +58,21 @@ labels_again symbols low (l ∷ ls) rest few h =
           ∙ rw (label_again symbols low l (flat_map label_text ls ++ rest) few h.0, more.1) refl,
     )
 
+labels_long : (ls : List Label) → length ls ≤ length (flat_map label_text ls)
+labels_long [] = omega arith
+labels_long (l ∷ ls) =
+    let e = ap (λ (x : List ℕ). length x) (flat_map-cons label_text l ls) in
+    omega (
+      arith,
+      labels_long ls,
+      e,
+      length-append (label_text l) (flat_map label_text ls),
+      length-append (uvarint l.0) (uvarint l.1),
+      uvarint_long l.0,
+    )
+
 all_labels_again : (symbols : List (List ℕ)) (ls : List Label) (rest : List ℕ)
-    → length symbols < 2 ^ 32 → length ls ≤ 64 → AreLabels symbols 0 ls
+    → length symbols < 2 ^ 32 → length ls < 2 ^ 64 → AreLabels symbols 0 ls
     → (end : ℕ) × (labels_at symbols ((uvarint (length ls) ++ flat_map label_text ls) ++ rest)
     ≡ Ok (ls, (end, rest)))
 unfolding labels_at
@@ -70,10 +83,7 @@ all_labels_again symbols ls rest few small h =
     append_assoc (uvarint (length ls)) (flat_map label_text ls) rest in (
       more.0,
       ap (labels_at symbols) grouped
-          ∙ rw (
-            uvarint_again (length ls) (flat_map label_text ls ++ rest) (omega (arith, small)),
-            more.1,
-          ) refl,
+          ∙ rw (uvarint_again (length ls) (flat_map label_text ls ++ rest) small, more.1) refl,
     )
 
 later_all_again : (before : Chunk) (cs : List Chunk) (text rest : List ℕ) → AreLater before cs text
@@ -142,30 +152,32 @@ chunks_again (c ∷ cs) text small h =
         absurd (omega (arith, eqb-true (n + 1) 0 h)))
 
 body_again : (symbols : List (List ℕ)) (b : Body) (text : List ℕ) → length symbols < 2 ^ 32
-    → length text < 2 ^ 32 → length b.labels ≤ 64 → IsBody symbols b text
-    → body_at symbols text ≡ Ok b
+    → length text < 2 ^ 32 → IsBody symbols b text → body_at symbols text ≡ Ok b
 unfolding body_at
-body_again symbols b text few small labels h =
+body_again symbols b text few small h =
     let a = ap (λ (x : List ℕ). length x) h.spelled in
-    let ls = all_labels_again symbols b.labels h.chunks_text few labels h.labels in
-    let cs = chunks_again b.chunks h.chunks_text (omega (
+    let n =
+    length-append (uvarint (length b.labels) ++ flat_map label_text b.labels) h.chunks_text in
+    let count : length b.labels < 2 ^ 64 = omega (
       arith,
       small,
       a,
-      length-append (uvarint (length b.labels) ++ flat_map label_text b.labels) h.chunks_text,
-    )) h.chunks in
+      n,
+      length-append (uvarint (length b.labels)) (flat_map label_text b.labels),
+      labels_long b.labels,
+    ) in
+    let ls = all_labels_again symbols b.labels h.chunks_text few count h.labels in
+    let cs = chunks_again b.chunks h.chunks_text (omega (arith, small, a, n)) h.chunks in
     ap (body_at symbols) h.spelled ∙ rw (ls.1, cs.1) refl
 
 pub bodies_again : (symbols : List (List ℕ)) (ps : List SeriesEntry) (bs : List Body)
     → length symbols < 2 ^ 32 → AllByRecursion (λ p. length p.body < 2 ^ 32) ps
-    → ((k : ℕ) (d : Body) → k < length bs → length (get_or bs k d).labels ≤ 64)
     → AreBodies symbols ps bs → each (body_of_entry symbols) ps ≡ Ok bs
 unfolding each
-bodies_again symbols [] [] few small labels h = refl
-bodies_again symbols [] (b ∷ bs) few small labels h = absurd h
-bodies_again symbols (p ∷ ps) [] few small labels h = absurd h
-bodies_again symbols (p ∷ ps) (b ∷ bs) few small labels h =
-    let one = body_again symbols b p.body few small.0 (labels 0 b (omega arith)) h.0 in
-    let more =
-    bodies_again symbols ps bs few small.1 (λ k d lt. labels (suc k) d (omega arith)) h.1 in
+bodies_again symbols [] [] few small h = refl
+bodies_again symbols [] (b ∷ bs) few small h = absurd h
+bodies_again symbols (p ∷ ps) [] few small h = absurd h
+bodies_again symbols (p ∷ ps) (b ∷ bs) few small h =
+    let one = body_again symbols b p.body few small.0 h.0 in
+    let more = bodies_again symbols ps bs few small.1 h.1 in
     rw (one, more) refl

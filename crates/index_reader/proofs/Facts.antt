@@ -35,6 +35,7 @@ use Rattle.index_reader.specs.AgreementChecks as agreement
 use Rattle.index_reader.specs.Indexes.{references, references_with, named_label, named, series_at, series_of, IsConsistent}
 use Rattle.index_reader.specs.Indexes as indexes
 use Rattle.index_reader.specs.KeptIndex.{IsListing}
+use Rattle.index_reader.specs.Refusals.{AreInOrder}
 use Rattle.index_reader.proofs.WalkLoops.{guard_ended}
 use Rattle.wire.proofs.Steps.{bind_ok}
 use Rattle.index_reader.proofs.Walks.{ok_is}
@@ -498,6 +499,22 @@ set_at [] k d lt = absurd (omega arith)
 set_at (b ∷ bs) zero d lt = (b, refl, omega arith)
 set_at (b ∷ bs) (suc k) d lt = let r = set_at bs k d (omega arith) in (r.0, r.1, omega (arith, r.2))
 
+-- bodies that were read are in the order of their label sets
+pub in_order_so : (file : List ℕ) (p : Layout) (bs : List Body) → IsLayout file p
+    → AreBodies file p bs → AreInOrder (series_of p.symbols p.entries bs)
+in_order_so file p bs layout r =
+    let symbols = p.symbols in
+    let order : ascending symbols ≡ true = layout.symbols.2.order in
+    let labelled = bodies_take symbols p.entries bs r.read in
+    let size = each_length (body_of_entry symbols) p.entries bs r.read in
+    let sets = sets_are symbols p.entries bs size in
+    let count = series_length symbols p.entries bs size in
+    λ k lt. subst (λ (ss : List (List (List ℕ × List ℕ))).
+    labels_cmp (get_or ss k []) (get_or ss (k + 1) []) ≡ Less) (sym sets)
+    (sets_rise symbols (labels_of_each bs) order (λ j d lj. let o = set_at bs j d lj in subst
+    (InTable symbols) (sym o.1) (in_table symbols 0 (get_or bs j o.0).labels (labelled j o.0 o.2)))
+    r.rising k (omega (arith, lt, count, length-map bs (λ (b : Body). b.labels))))
+
 pub counted_lists : (file : List ℕ) (to : ℕ) (table : List TableEntry) (lists : List (List ℕ))
     → lists_at file to table ≡ Ok lists → (length lists ≡ length table)
     × ((k : ℕ) (d : List ℕ) → k < length lists → IsList (get_or lists k d))
@@ -526,7 +543,6 @@ read_is file r p h =
     labelled lists.0 agreed in
     let size = each_length (body_of_entry symbols) r.parts.entries r.bodies c.bodies.read in
     let refs = refs_are symbols r.parts.entries r.bodies size in
-    let sets = sets_are symbols r.parts.entries r.bodies size in
     let count = series_length symbols r.parts.entries r.bodies size in
     record {
       listing = l;
@@ -549,13 +565,7 @@ read_is file r p h =
               end_inside r.parts.contents (length file) p.placed,
             )) k (omega (arith, lt, count, size)));
         few = omega (arith, count, c.few);
-        in_order =
-            λ k lt. subst (λ (ss : List (List (List ℕ × List ℕ))).
-            labels_cmp (get_or ss k []) (get_or ss (k + 1) []) ≡ Less) (sym sets)
-            (sets_rise symbols (labels_of_each r.bodies) order
-            (λ j d lj. let o = set_at r.bodies j d lj in subst (InTable symbols) (sym o.1) (in_table
-            symbols 0 (get_or r.bodies j o.0).labels (labelled j o.0 o.2))) c.bodies.rising k
-            (omega (arith, lt, count, length-map r.bodies (λ (b : Body). b.labels))));
+        in_order = in_order_so file r.parts r.bodies p c.bodies;
         pairs_in_order =
             λ k lt. pairs_rise symbols r.keys order l.inside l.rising k
             (omega (arith, lt, length-map r.keys (named_label symbols)));

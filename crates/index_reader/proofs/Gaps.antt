@@ -1,12 +1,12 @@
 -- The bytes between the entries.
-use Rattle.std.proofs.Common.{◌≡◌, ℕ, zero, suc, Some, ◌+◌, ◌-◌, ◌<◌, ◌≤◌, Bool, true, false, ◌&&◌, eqb, List, [], ◌∷◌, length, get_or, drop, refl, sym, ap, ◌∙◌, inl, inr, arith}
+use Rattle.std.proofs.Common.{◌≡◌, ℕ, zero, suc, Some, ◌+◌, ◌-◌, ◌<◌, ◌≤◌, Bool, true, false, ◌&&◌, eqb, List, [], ◌∷◌, length, get_or, drop, ◌++◌, refl, sym, ap, ◌∙◌, inl, inr, arith}
 use Rattle.std.specs.Prelude.{◌==◌, slice_get, slice_index, slice_range}
 use Rattle.std.specs.List.{list_all, Contains}
 use Rattle.std.proofs.lemmas.Bool.{cases_lt, eqb-true}
-use Rattle.std.proofs.lemmas.List.{drop_all, get_or-drop, get_or-take, length-take}
+use Rattle.std.proofs.lemmas.List.{drop_all, get_or-drop, get_or-take, length-take, length-append}
 use Rattle.labels.proofs.Lists.{here, there, Contains-cases, none_in_nil}
-use Rattle.index_reader.specs.Layout.{SeriesEntry, rounded}
-use Rattle.index_reader.specs.Grammar.{entry, IsWalk}
+use Rattle.index_reader.specs.Layout.{SeriesEntry, Layout, rounded, series_end}
+use Rattle.index_reader.specs.Grammar.{frame, entry, IsWalk, IsLayout}
 use Rattle.index_reader.proofs.Eaches.{drop_at_place}
 use Rattle.index_reader.specs.EntryChecks.{zero_between, gaps_zero}
 use Rattle.index_reader.specs.Spelled.{AreZero}
@@ -113,3 +113,20 @@ gaps_of (p ∷ ps) file end at from w le h =
       | inr m ↦ none q m l
     ])) in
     rw (one, more) refl
+
+-- the same of a layout, from the end of its symbols up to the end of its entries
+pub gaps_in : (file : List ℕ) (p : Layout) → IsLayout file p
+    → AreZero file p.symbols_end (series_end p.contents) p.entries
+    → gaps_zero file (series_end p.contents) p.symbols_end p.entries ≡ true
+gaps_in file p i zeros =
+    let t = p.contents in
+    let stands = i.symbols.1 in
+    let front : p.symbols_end ≤ rounded t.series = omega (
+      arith,
+      i.symbols.3,
+      i.placed.series,
+      ap length stands.1,
+      length-append (frame i.symbols.0) stands.0,
+      length-take (t.series - 5) (drop 5 file),
+    ) in
+    gaps_of p.entries file (series_end t) (rounded t.series) p.symbols_end i.entries front zeros

@@ -36,4 +36,8 @@ mod BodyAgain
 mod TableAgain
 mod AgreementAgain
 pub mod Again
+mod OnlyErr
+mod HeadFirst
+mod SeriesFirst
+mod PostingsFirst
 mod LastChecks

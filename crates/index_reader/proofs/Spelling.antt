@@ -6,6 +6,7 @@ use Rattle.std.proofs.lemmas.Bool.{eqb-true}
 use Rattle.std.proofs.lemmas.List.{append-nil, length-drop, nil_from_length, take-append-drop}
 use Rattle.std.proofs.lemmas.List.Concat.{flat_map-cons}
 use Rattle.byteorder.specs.Endian.{big_number, big_bytes}
+use Rattle.byteorder.specs.Numbers.{big_from-lt}
 use Rattle.wire.specs.Spelling.{IsBytes, uvarint}
 use Rattle.wire.specs.Checksum.{crc32c}
 use Rattle.wire.specs.Reading.{byte_at, number_at, bytes_at, uvarint_at}
@@ -26,6 +27,7 @@ use Rattle.index_reader.specs.FlatBodies.{body_of_entry}
 use Rattle.index_reader.specs.References.{words, references_in, IsList}
 use Rattle.index_reader.specs.TableChecks.{text_at, table_entry_at, table_at, label_offsets_at, table_content_at}
 use Rattle.index_reader.specs.PostingsChecks.{section_at, references_at}
+use Rattle.index_reader.specs.Refusals.{AreSmall, HasFrame}
 use Rattle.index_reader.specs.Spelled.{AreLabels, label_text, IsLater, AreLater, AreChunks, IsBody, AreBodies, listed_text, table_text, IsTable, list_text, AreSections}
 use Rattle.index_reader.proofs.WalkLoops.{guard_ended}
 use Rattle.wire.proofs.Steps.{bind_ok, refused_ok}
@@ -422,6 +424,57 @@ section_spelled file to l content fits h =
     (f.0.0 ++ big_bytes 4 (crc32c f.0.0)) (IsBytes-front (frame f.0.0) f.0.1
     (subst IsBytes took.parts (range_fits file l.offset to fits)))) in
     subst (λ (z : List ℕ). StandsAt file l.offset to (frame z) × IsBytes z) e (stands, inside)
+
+-- frames that were read stand where the entries of the table say
+pub frames_spelled : (file : List ℕ) (to : ℕ) (table : List TableEntry) (contents : List (List ℕ))
+    → IsBytes file → each (section_at file to) table ≡ Ok contents
+    → AllByRecursion (HasFrame file to) table
+frames_spelled file to [] contents fits h = tt
+frames_spelled file to (l ∷ table) contents fits h =
+    let x = each_cons (section_at file to) l table contents h in
+    let s = section_spelled file to l x.0 fits x.2 in
+    ((x.0, s.0), frames_spelled file to table x.1 fits x.3)
+
+words_small : (n : ℕ) (bytes : List ℕ) → IsBytes bytes → AreSmall (words n bytes)
+unfolding words
+words_small zero bytes fits = tt
+words_small (suc n) bytes fits = (
+  big_from-lt 0 4 bytes fits,
+  words_small n (drop 4 bytes) (IsBytes-drop 4 bytes fits),
+)
+
+list_small : (content list : List ℕ) → IsBytes content → references_at content ≡ Ok list
+    → AreSmall (references_in list)
+unfolding references_at
+list_small content list fits h =
+    let n = bind_ok (or_refused Postings (number_at 4 content)) _ list h in
+    let g = guard_ended _ Postings n.0.1 list n.2 in
+    let ta =
+    number_takes_4 content n.0.0 n.0.1 fits (refused_ok Postings (number_at 4 content) n.0 n.1) in
+    let t0 = takes content (big_bytes 4 n.0.0) n.0.1 fits ta.0 in
+    subst (λ (z : List ℕ). AreSmall (references_in z)) g.1
+    (words_small (length n.0.1 / 4) n.0.1 t0.rest_fits)
+
+-- references that were read have four bytes
+pub sections_small : (file : List ℕ) (to : ℕ) (table : List TableEntry)
+    (contents lists : List (List ℕ)) → IsBytes file → each (section_at file to) table ≡ Ok contents
+    → each references_at contents ≡ Ok lists → AllByRecursion AreSmall (map references_in lists)
+sections_small file to [] contents lists fits h g =
+    let e = each_nil (section_at file to) contents h in
+    let f =
+    each_nil references_at lists
+    (subst (λ (z : List (List ℕ)). each references_at z ≡ Ok lists) (sym e) g) in
+    subst (λ (z : List (List ℕ)). AllByRecursion AreSmall (map references_in z)) f tt
+sections_small file to (l ∷ table) contents lists fits h g =
+    let x = each_cons (section_at file to) l table contents h in
+    let g' : each references_at (x.0 ∷ x.1) ≡ Ok lists =
+    subst (λ (z : List (List ℕ)). each references_at z ≡ Ok lists) (sym x.4) g in
+    let y = each_cons references_at x.0 x.1 lists g' in
+    let s = section_spelled file to l x.0 fits x.2 in
+    subst (λ (z : List (List ℕ)). AllByRecursion AreSmall (map references_in z)) y.4 (
+      list_small x.0 y.0 s.1 y.2,
+      sections_small file to table x.1 y.1 fits x.3 y.3,
+    )
 
 pub sections_spelled : (file : List ℕ) (to : ℕ) (table : List TableEntry)
     (contents lists : List (List ℕ)) → IsBytes file → each (section_at file to) table ≡ Ok contents

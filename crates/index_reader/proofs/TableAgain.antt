@@ -27,6 +27,7 @@ use Rattle.index_reader.specs.References.{words, references_in}
 use Rattle.index_reader.specs.TableChecks.{table_entry_at, table_at, label_offsets_at, table_content_at}
 use Rattle.index_reader.specs.PostingsChecks.{section_at, references_at}
 use Rattle.index_reader.specs.Spelled.{listed_text, table_text, IsTable, list_text, AreSections}
+use Rattle.index_reader.specs.Refusals.{AreSmall, HasFrame}
 use Rattle.index_reader.proofs.Fields.{eqb_same, frame_again}
 
 symbol_group : (s rest : List ℕ) → symbol s ++ rest ≡ uvarint (length s) ++ (s ++ rest)
@@ -222,9 +223,6 @@ number_parts n rest lt =
           (ap (λ (x : ℕ × List ℕ). x.0) p, ap (λ (x : ℕ × List ℕ). x.1) p)
     ]
 
-abbrev pub AreSmall : List ℕ → Type 0
-AreSmall refs = AllByRecursion (λ r. r < 2 ^ 32) refs
-
 flat_size : (refs : List ℕ) → length (flat_map (big_bytes 4) refs) ≡ 4 * length refs
 flat_size [] = refl
 flat_size (r ∷ rs) =
@@ -284,6 +282,17 @@ stands_size file at end content small s =
       length-append (big_bytes 4 (length content)) (content ++ big_bytes 4 (crc32c content)),
       length-append content (big_bytes 4 (crc32c content)),
     )
+
+-- frames that stand where the entries of a table say are read
+pub frames_again : (file : List ℕ) (to : ℕ) (table : List TableEntry) → IsBytes file
+    → length file < 2 ^ 32 → AllByRecursion (HasFrame file to) table
+    → (contents : List (List ℕ)) × (each (section_at file to) table ≡ Ok contents)
+unfolding each
+frames_again file to [] fits small h = ([], refl)
+frames_again file to (l ∷ table) fits small h =
+    let more = frames_again file to table fits small h.1 in
+    let one = section_again file to l h.0.0 fits small h.0.1 in
+    (h.0.0 ∷ more.0, rw (one, more.1) refl)
 
 pub sections_again : (file : List ℕ) (to : ℕ) (table : List TableEntry) (lists : List (List ℕ))
     → IsBytes file → length file < 2 ^ 32 → AllByRecursion AreSmall lists

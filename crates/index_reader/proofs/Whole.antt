@@ -57,7 +57,7 @@ cell_4 : (bytes : List ℕ) → IsBytes bytes → length bytes ≡ 4
     → big_bytes 4 (big_number 4 bytes) ≡ bytes
 cell_4 bytes fits len = big_bytes_4 bytes fits (omega arith) ∙ take_all 4 bytes (omega arith)
 
-contents_takes : (table : List ℕ) (t : TableOfContents) → IsBytes table → length table ≡ 52
+pub contents_takes : (table : List ℕ) (t : TableOfContents) → IsBytes table → length table ≡ 52
     → contents_of table ≡ Ok t → table ≡ checked (contents_text t)
 unfolding contents_of
 contents_takes table t fits len e =
@@ -128,7 +128,7 @@ both : (p q : Bool) → (p && q) ≡ true → (p ≡ true) × (q ≡ true)
 both true q h = (refl, h)
 both false q h = absurd cc
 
-starts : (xs : List ℕ) → 5 ≤ length xs → has_magic xs ≡ true → eqb (slice_index xs 4) 2 ≡ true
+pub starts : (xs : List ℕ) → 5 ≤ length xs → has_magic xs ≡ true → eqb (slice_index xs 4) 2 ≡ true
     → take 5 xs ≡ 0xBA ∷ 0xAA ∷ 0xD7 ∷ 0 ∷ 2 ∷ []
 starts xs le m v =
     let a3 = both _ _ m in

@@ -20,6 +20,7 @@ pub mod Outcome
 pub mod PairTexts
 pub mod PostingsChecks
 pub mod References
+pub mod Refusals
 pub mod Seen
 pub mod SeriesWalk
 pub mod Spelled

@@ -1,11 +1,12 @@
 //! An index that was checked.
 
-ghost use Rattle.std.specs.Prelude.{◌≡◌, ◌<◌, ℕ, ◌==◌, [], length, slice_get, Some, Ok, IfOk, IfSome, IfNone};
+ghost use Rattle.std.specs.Prelude.{◌≡◌, ◌<◌, ℕ, ◌==◌, [], length, slice_get, Some, Ok, IfOk, IfErr};
+ghost use Rattle.std.specs.Prelude.{IfSome, IfNone};
 ghost use Rattle.index_reader.specs.Outcome.{Gives};
 ghost use Rattle.index_reader.specs.Indexes.{Indexed, IsConsistent, references, label_sets, chunk_lists, references_with, values_of};
 ghost use Rattle.index_reader.specs.Checks.{indexed_of};
 ghost use Rattle.index_reader.specs.Spelled.{IsIndex};
-ghost use Rattle.index_reader.specs.Stated.{stated_of, AreLastChecks};
+ghost use Rattle.index_reader.specs.Refusals.{IsRefused};
 
 use crate::bodies::flat_parts;
 use crate::checks::{Checked, check};
@@ -76,8 +77,8 @@ impl Index {
     /// offsets lists; it copies the texts, the chunks' places and the lists, and keeps no borrow of
     /// the file.
     pub fn open(alloc: Global, file: &[u8]) -> Result<Index, IndexError>
-        // The first check that fails is answered; where none does, what was read is given.
-        ensures exact { Gives (λ x. x) result (indexed_of file.now) }
+        // The first check that fails is answered, unless memory runs out.
+        ensures refused { IfErr result (IsRefused file.now) }
         // What is given is what the bytes spell: series, their chunks, and lists that are exactly
         // those of the series.
         ensures found { IfOk result (IsIndex file.now) }
@@ -85,9 +86,8 @@ impl Index {
         ensures only { (x : Indexed) → IsIndex file.now x → Gives (λ i. i) result (Ok x) }
         // References and label sets ascend, and the lists are those of the series.
         ensures consistent { IfOk result IsConsistent }
-        // `I14` is answered where the postings are not those of the series, and else `I15` for too
-        // many.
-        ensures last { AreLastChecks (stated_of file.now) (indexed_of file.now) }
+        // The same as reading tells it.
+        ensures exact { Gives (λ x. x) result (indexed_of file.now) }
     {
         index_of(alloc, file)
     }

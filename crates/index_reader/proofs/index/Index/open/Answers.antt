@@ -1,7 +1,7 @@
 use Rattle.std.proofs.Common.{subst, arith}
 use Rattle.index_reader.specs.Outcome.{Gives}
 use Rattle.index_reader.proofs.Again.{index_again}
-use Rattle.index_reader.proofs.LastChecks.{last_checks}
+use Rattle.index_reader.proofs.LastChecks.{is_refused}
 use Rattle.index_reader.proofs.index.Index.open.Goals as goal
 
 pub returns-clause-only : goal.returns-clause-only
@@ -12,5 +12,7 @@ returns-clause-only c =
       c.type_inv.file i,
     )) p) c.index_of.ensures.exact
 
-pub returns-clause-last : goal.returns-clause-last
-returns-clause-last c = last_checks c.args.file.now (λ i. omega (arith, c.type_inv.file i))
+pub returns-clause-refused : goal.returns-clause-refused
+returns-clause-refused c =
+    is_refused c.args.file.now c.index_of.result (λ i. omega (arith, c.type_inv.file i))
+    c.index_of.ensures.exact
