@@ -21,6 +21,7 @@ pub mod RowContent
 pub mod RowLaws
 pub mod RowSeries
 pub mod Shown
+pub mod Sizes
 pub mod Small
 pub mod Spelled
 pub mod Storable

@@ -3,6 +3,7 @@ pub mod EntryBodies
 pub mod InUse
 pub mod IndexText
 pub mod PartRows
+pub mod Sizes
 pub mod SpellRows
 pub mod Typed
 pub mod Writing

@@ -10,6 +10,7 @@ ghost use Rattle.block_writer.specs.Writing.{piece_text, series_text};
 ghost use Rattle.block_writer.specs.Written.{limit};
 
 use crate::chunks::first_piece;
+use crate::file_length::chunk_len;
 use crate::symbols::number_of;
 use index_reader::Chunk;
 use labels::{LabelSet, Row, Sample};
@@ -69,7 +70,7 @@ fn chunks_of(
     while !rest.is_empty() {
         let (piece, after) = first_piece(rest);
         chunks.push(chunk_of(piece, place))?;
-        place += chunk_len(piece);
+        place += piece_len(piece);
         rest = after;
     }
     Ok((chunks, place))
@@ -86,14 +87,12 @@ fn chunk_of(samples: &[Sample], at: usize) -> Chunk
     }
 }
 
-// How many bytes a chunk has.
-fn chunk_len(samples: &[Sample]) -> usize
+// How many bytes the chunk of samples has.
+fn piece_len(samples: &[Sample]) -> usize
     requires { length samples.now ≤ 120 }
     ensures { result ≡ length (piece_text samples.now) }
 {
-    let body = 2 + 16 * samples.len();
-    let head = if body < 128 { 1 } else { 2 };
-    head + 1 + body + 4
+    chunk_len(samples.len())
 }
 
 fn put_chunks(out: &mut Vec<u8>, chunks: &[Chunk]) -> Result<(), AllocError>

@@ -13,7 +13,8 @@ use wire::put_bytes;
 
 const HEAD: [u8; 8] = [0x85, 0xBD, 0x40, 0xDD, 0x01, 0x00, 0x00, 0x00];
 
-const PIECE: usize = 120;
+/// How many samples a chunk has, where it is not the last of its series.
+pub(crate) const PIECE: usize = 120;
 
 /// The bytes of the chunks file: the chunks of the rows in their order, 120 samples a chunk, the
 /// last of a row with what is left, nothing between them. It takes time and memory in proportion to

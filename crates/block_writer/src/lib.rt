@@ -5,9 +5,10 @@
 //! of a block with these rows: the index, whose symbols and pairs are exactly those in use, each
 //! once, ascending (`IsWrittenIndex`); the chunks file, 120 samples a chunk, nothing between
 //! (`chunks_text`); and the tombstones of a block of which nothing is deleted. It refuses rows
-//! (`N1`) only where one of the two files would be longer than 1 GiB. What it gives is a block with
-//! exactly these rows, in each range that has their times (`SpellRowsAnywhere`), so `Block::open`
-//! refuses it for want of memory alone.
+//! (`N1`) only where one of the two files would be longer than 1 GiB; how long the chunks file will
+//! be is told before, of rows by `PartRows::chunks_len`, and of one series by [`series_len`]. What
+//! it gives is a block with exactly these rows, in each range that has their times
+//! (`SpellRowsAnywhere`), so `Block::open` refuses it for want of memory alone.
 //!
 //! ```
 //! let pairs = [("__name__", "up"), ("job", "a")];
@@ -36,6 +37,7 @@ mod chunk;
 mod chunks;
 mod entries;
 mod error;
+mod file_length;
 mod files;
 mod index_file;
 mod limits;
@@ -45,5 +47,7 @@ mod symbols;
 mod tombstones_file;
 
 pub use error::WriteError;
+pub use file_length::series_len;
 pub use files::{BlockBytes, write};
+pub use limits::MAX_LEN;
 pub use part_rows::PartRows;

@@ -118,7 +118,7 @@ end_small t len p = go (eqb t.label_offsets 0) refl
 
 -- ---- references of 32 bits
 
-small_from : (refs : List ℕ)
+pub small_from : (refs : List ℕ)
     → ((k : ℕ) → k < length refs → get_or refs k 0 < 2 ^ 32) → AreSmall refs
 small_from [] h = tt
 small_from (r ∷ refs) h = (h 0 (omega arith), small_from refs (λ k lt. h (suc k) (omega arith)))
@@ -135,7 +135,7 @@ small_with name value (s ∷ ss) h =
     small_kept (carries name value s.labels) s
     (filter (λ (x : Series). carries name value x.labels) ss) h.0 (small_with name value ss h.1)
 
-small_lists : (pairs : List (List ℕ × List ℕ)) (ss : List Series) → AreSmall (references ss)
+pub small_lists : (pairs : List (List ℕ × List ℕ)) (ss : List Series) → AreSmall (references ss)
     → AllByRecursion AreSmall (lists_for pairs ss)
 small_lists [] ss h = tt
 small_lists (p ∷ pairs) ss h = (small_with p.0 p.1 ss h, small_lists pairs ss h)

@@ -318,7 +318,7 @@ module _ (file : List ℕ) (p : Layout) (bs : List Body) (table : List TableEntr
 -- ---- all of it
 
 -- where sections stand, their frames do
-frames_in : (file : List ℕ) (to : ℕ) (table : List TableEntry) (lists : List (List ℕ))
+pub frames_in : (file : List ℕ) (to : ℕ) (table : List TableEntry) (lists : List (List ℕ))
     → AreSections file to table lists → AllByRecursion (HasFrame file to) table
 frames_in file to [] lists h = tt
 frames_in file to (l ∷ table) [] h = absurd h
@@ -339,7 +339,7 @@ lists_pass file e rest p table lists h more =
       ),
     )
 
-first_failing : (file : List ℕ) (e : IndexError) → IsBytes file → read_of file ≡ Err e
+pub first_failing : (file : List ℕ) (e : IndexError) → IsBytes file → read_of file ≡ Err e
     → FirstFailing checks file e
 unfolding read_of
 first_failing file e fits h =
@@ -368,7 +368,7 @@ first_failing file e fits h =
           ]
     ]
 
-read_refused : (file : List ℕ) (e : IndexError) → indexed_of file ≡ Err e → read_of file ≡ Err e
+pub read_refused : (file : List ℕ) (e : IndexError) → indexed_of file ≡ Err e → read_of file ≡ Err e
 unfolding indexed_of
 read_refused file e h =
     elim (bind_err (read_of file) _ e h) [ inl a ↦ a | inr a ↦ absurd (ok_not _ _ a.2) ]

@@ -41,3 +41,4 @@ mod HeadFirst
 mod SeriesFirst
 mod PostingsFirst
 mod LastChecks
+pub mod Pinned

@@ -10,7 +10,7 @@ overflow_add-place c =
     let fits =
     place_fits l.chunks.items _ l.place _ l.rest.now c.first_piece.result.0.now some
     c.first_piece.ensures.front l.invariant in
-    omega (arith, fits, c.chunk_len-place.ensures)
+    omega (arith, fits, c.piece_len-place.ensures)
 
 pub loop-rest-init : goal.loop-rest-init
 loop-rest-init c =
@@ -28,7 +28,7 @@ loop-rest-preserved c =
     let some : 0 < length l.rest.now = grind arith in
     place_on l.chunks.items c.push.new.self.items _ l.place _ _ l.rest.now
     c.first_piece.result.0.now c.first_piece.result.1.now some c.first_piece.ensures.front
-    c.first_piece.ensures.back (grind arith) (ap (λ n. l.place + n) c.chunk_len-place.ensures)
+    c.first_piece.ensures.back (grind arith) (ap (λ n. l.place + n) c.piece_len-place.ensures)
     l.invariant
 
 pub returns-clause-chunks : goal.returns-clause-chunks
