@@ -5,8 +5,8 @@ use Rattle.std.proofs.lemmas.List.{length-take, take_all}
 use Rattle.byteorder.specs.Endian.{big_number}
 use Rattle.labels.specs.Parts.{Part}
 use Rattle.index_reader.specs.declared.error.IndexError.TheVariants as index_error
-use Rattle.index_reader.specs.Checks.{layout_of, read_of, indexed_of}
-use Rattle.index_reader.specs.HeadChecks.{head_of}
+use Rattle.index_reader.specs.Reading.Whole.{layout_of, read_of, indexed_of}
+use Rattle.index_reader.specs.Reading.Head.{head_of}
 use Rattle.chunk_reader.specs.declared.error.ChunkError.TheVariants as chunk_error
 use Rattle.chunk_reader.specs.Reading.{opened}
 use Rattle.tombstones.specs.declared.error.TombstoneError.{TombstoneError}

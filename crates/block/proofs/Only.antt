@@ -8,7 +8,7 @@ use Rattle.labels.specs.Parts.{Part}
 use Rattle.labels.specs.Rows.{Row}
 use Rattle.index_reader.specs.declared.chunk.Chunk.{Chunk}
 use Rattle.index_reader.specs.Indexes.{Series, references}
-use Rattle.index_reader.specs.Checks.{indexed_of}
+use Rattle.index_reader.specs.Reading.Whole.{indexed_of}
 use Rattle.index_reader.proofs.Again.{index_again}
 use Rattle.chunk_reader.specs.Grammar.{IsChunk}
 use Rattle.chunk_reader.specs.Reading.{opened}

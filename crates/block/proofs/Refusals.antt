@@ -9,7 +9,7 @@ use Rattle.index_reader.specs.declared.error.IndexError.TheVariants as index
 use Rattle.index_reader.specs.declared.chunk.Chunk.{Chunk}
 use Rattle.index_reader.specs.Outcome as index_outcome
 use Rattle.index_reader.specs.Indexes.{Series, Indexed, references, chunk_lists}
-use Rattle.index_reader.specs.Checks.{indexed_of}
+use Rattle.index_reader.specs.Reading.Whole.{indexed_of}
 use Rattle.chunk_reader.specs.declared.error.ChunkError.{ChunkError}
 use Rattle.chunk_reader.specs.declared.error.ChunkError.TheVariants as chunk
 use Rattle.chunk_reader.specs.Reading as chunk_reading

@@ -6,7 +6,7 @@ use Rattle.index_reader.specs.declared.error.IndexError.{IndexError}
 use Rattle.index_reader.specs.declared.error.IndexError.TheVariants.{Limit}
 use Rattle.index_reader.specs.declared.chunk.Chunk.{Chunk}
 use Rattle.index_reader.specs.Indexes.{Series}
-use Rattle.index_reader.specs.Checks.{indexed_of}
+use Rattle.index_reader.specs.Reading.Whole.{indexed_of}
 use Rattle.chunk_reader.specs.declared.error.ChunkError.{ChunkError}
 use Rattle.chunk_reader.specs.Reading.{opened}
 use Rattle.tombstones.specs.declared.deletion.Deletion.{Deletion}

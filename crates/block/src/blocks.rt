@@ -1,10 +1,9 @@
 //! A block that was checked.
 
-ghost use Rattle.std.specs.Prelude.{◌≡◌, length, IfOk, Ok};
+ghost use Rattle.std.specs.Prelude.{◌≡◌, length, IfOk, IfErr, Ok};
 ghost use Rattle.labels.specs.Parts.{IsPart, Part};
 ghost use Rattle.index_reader.specs.Indexes.{IsConsistent};
-ghost use Rattle.index_reader.specs.Checks.{indexed_of};
-ghost use Rattle.index_reader.specs.Outcome as index_outcome;
+ghost use Rattle.index_reader.specs.Checks.{IsRefused};
 ghost use Rattle.index_reader.specs.Spelled.{IsIndex};
 ghost use Rattle.block.specs.Blocks.{AreInside, sample_count};
 ghost use Rattle.block.specs.Fewer.{part_without};
@@ -70,7 +69,7 @@ fn open_with_checker<C: Checker>(
     tombstones: &[u8],
 ) -> Result<Block, BlockError>
     requires ready { C.is_ready checker.now }
-    requires read { index_outcome.Gives (λ x. x) read (indexed_of index.now) }
+    requires refused { IfErr read (IsRefused index.now) }
     requires spelled { IfOk read (IsIndex index.now) }
     requires consistent { IfOk read IsConsistent }
     ensures exact { Gives (λ b. b) result (block_of range index.now chunks.items tombstones.now) }
@@ -163,7 +162,7 @@ impl Block {
         chunks: Vec<u8>,
         tombstones: &[u8],
     ) -> Result<Block, BlockError>
-        requires read { index_outcome.Gives (λ x. x) read (indexed_of index.now) }
+        requires refused { IfErr read (IsRefused index.now) }
         requires spelled { IfOk read (IsIndex index.now) }
         requires consistent { IfOk read IsConsistent }
         ensures exact { Gives (λ b. b) result

@@ -4,7 +4,7 @@ ghost use Rattle.std.specs.Prelude.{◌≡◌, ℕ, ◌+◌, ◌-◌, ◌<◌, �
 ghost use Rattle.std.specs.List.Sorted.{IsStrictlyIncreasing};
 ghost use Rattle.block.specs.Remaining.{IsAtPlace, HasReadOne, HasReadWithinDigits};
 
-use index_reader::PostingsList;
+use index_reader::Entries;
 use labels::SeriesRef;
 use postings::Postings;
 
@@ -12,7 +12,7 @@ use postings::Postings;
 /// tells how many the last move read.
 #[derive(Drop)]
 pub struct RawList<'a> {
-    entries: PostingsList<'a>,
+    entries: Entries<'a>,
     at: usize,
     head: Option<SeriesRef>,
     last_reads: u64,
@@ -22,7 +22,7 @@ pub struct RawList<'a> {
 /// The first place, from a place on, of a reference that is not below the target, and that
 /// reference.
 fn place_of(
-    entries: &mut PostingsList,
+    entries: &mut Entries,
     from: usize,
     target: SeriesRef,
 ) -> (usize, Option<SeriesRef>)
@@ -51,7 +51,7 @@ fn place_of(
     (high, head)
 }
 
-fn head_of(entries: &mut PostingsList, at: usize) -> Option<SeriesRef>
+fn head_of(entries: &mut Entries, at: usize) -> Option<SeriesRef>
     ensures same { entries.new.0 ≡ entries.old.0 }
     ensures few { HasReadOne entries.old.1 entries.new.1 }
     ensures head { result ≡ slice_get entries.old.0 at }
@@ -66,7 +66,7 @@ impl<'a> RawList<'a> {
     ghost use Rattle.block.specs.RawLists.{last_reads_of, reads_of, remaining_of};
 
     /// The list of all these references. It reads the first.
-    pub fn new(entries: PostingsList<'a>) -> RawList<'a>
+    pub fn new(entries: Entries<'a>) -> RawList<'a>
         requires { IsStrictlyIncreasing entries.0 }
         ensures list { remaining_of result ≡ entries.entry.0 }
         ensures few { HasReadOne entries.entry.1 (reads_of result) }

@@ -8,7 +8,7 @@ ghost use Rattle.index_reader.specs.Indexes.{values_of};
 use crate::blocks::Block;
 use crate::samples::{Times, Wanted, is_any_wanted, push_each};
 use crate::series_places::{place_from, place_of};
-use index_reader::PostingsList;
+use index_reader::Entries;
 use labels::{LabelSet, Sample, SeriesRef};
 use std::alloc::{AllocError, Global};
 
@@ -121,7 +121,7 @@ impl Block {
     }
 
     /// The references of all series. None of it is read yet.
-    pub(crate) fn all(&self) -> PostingsList<'_>
+    pub(crate) fn all(&self) -> Entries<'_>
         ensures { result ≡ (references self.now.part, 0) }
     {
         self.files.index.all()
@@ -129,7 +129,7 @@ impl Block {
 
     /// The references of the series with this value of a name, `None` where there is none. None of
     /// it is read yet.
-    pub(crate) fn list(&self, name: &str, value: &str) -> Option<PostingsList<'_>>
+    pub(crate) fn list(&self, name: &str, value: &str) -> Option<Entries<'_>>
         ensures none { IfNone result
             (references_where (carries name.now value.now) self.now.part ≡ []) }
         ensures listed { IfSome result (λ entries.
@@ -137,7 +137,7 @@ impl Block {
         ensures some { IfSome result (λ entries.
             references_where (carries name.now value.now) self.now.part ≡ [] → ⊥) }
     {
-        self.files.index.postings(name, value)
+        self.files.index.entries(name, value)
     }
 
     pub(crate) fn value_count(&self, name: &str) -> usize

@@ -11,7 +11,7 @@ use Rattle.wire.proofs.Laws.{uvarint_long}
 use Rattle.index_reader.specs.Layout.{ascending, rounded}
 use Rattle.wire.specs.Checksum.{checked}
 use Rattle.index_reader.specs.Grammar.{frame, entry, contents_text, IsWalk, IsLayout}
-use Rattle.index_reader.specs.EntryChecks.{zero_between, gaps_zero}
+use Rattle.index_reader.specs.Reading.Entries.{zero_between, gaps_zero}
 use Rattle.labels.specs.Labels.{text_cmp}
 use Rattle.block_writer.specs.IndexText.{padded, symbols_text, start_text, with_entries, contents_of}
 use Rattle.block_writer.proofs.WrittenAs.{places_from}

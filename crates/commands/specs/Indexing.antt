@@ -2,8 +2,7 @@
 use Rattle.std.specs.Prelude.{ℕ, List, Result, IfOk, IfErr, Vec}
 use Rattle.std.proofs.Common.{Global}
 use Rattle.index_reader.specs.Indexes.{Indexed, IsConsistent}
-use Rattle.index_reader.specs.Checks.{indexed_of}
-use Rattle.index_reader.specs.Outcome.{Gives}
+use Rattle.index_reader.specs.Checks.{IsRefused}
 use Rattle.index_reader.specs.Spelled.{IsIndex}
 use Rattle.index_reader.specs.declared.error.IndexError.{IndexError}
 use Rattle.commands.specs.Reading.{Host, IsRead, IsFileFault}
@@ -12,7 +11,7 @@ use Rattle.commands.specs.declared.files.FileName.TheVariants.{Index}
 
 -- the first check of these bytes that fails, or the index that they spell
 pub record IsOpened (bytes : List ℕ) (opened : Result Indexed IndexError) : Type 0 where
-  pub exact : Gives (λ x. x) opened (indexed_of bytes)
+  pub refused : IfErr opened (IsRefused bytes)
   pub spelled : IfOk opened (IsIndex bytes)
   pub consistent : IfOk opened IsConsistent
 

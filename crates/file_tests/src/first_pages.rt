@@ -37,7 +37,7 @@ fn the_example_of_the_first_page_of_index_reader(rt: HostRuntime) -> Result<(), 
     assert_eq!(rt; index.len(), 1);
     assert_eq!(rt; index.reference_at(0), SeriesRef::new(2));
     assert_eq!(rt; index.labels_at(alloc, 0)?.value("__name__"), "up");
-    assert!(rt; index.postings("job", "a").is_none());
+    assert!(rt; index.entries("job", "a").is_none());
     let refused = Index::open(alloc, b"no index").err();
     assert_eq!(rt; refused, Some(IndexError::TooShort));
     Ok(())

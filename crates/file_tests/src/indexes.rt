@@ -5,7 +5,7 @@ mod lies;
 mod limits;
 
 use crate::files::{EMPTY_INDEX, INDEX, is_text, put_labels};
-use index_reader::{Index, IndexError, PostingsList};
+use index_reader::{Index, IndexError, Entries};
 use std::alloc::{AllocError, Global};
 
 /// The code that the file is refused with, or `ok`.
@@ -50,7 +50,7 @@ const SHOWN: &str =
     "4 __name__=down job=a 10..10@8\n5 __name__=down job=b 10..10@32\n6 __name__=up job=a 10..10@56\n7 __name__=up job=a zone=x 10..10@80\n8 __name__=up job=b 10..10@104\n9 __name__=up job=b zone=x 10..10@128\n";
 
 /// Each reference of a list, a space before it.
-fn put_list(text: &mut String, mut list: PostingsList<'_>) -> Result<(), AllocError> {
+fn put_list(text: &mut String, mut list: Entries<'_>) -> Result<(), AllocError> {
     for i in 0..list.len() {
         if i < list.len() {
             write!(text, " {}", list.get(i).number())?;
@@ -64,7 +64,7 @@ fn lists_of(alloc: Global, index: &Index, pairs: &[(&str, &str)]) -> Result<Stri
     let mut text = String::new(alloc);
     for (name, value) in pairs {
         write!(text, "{name}={value}")?;
-        if let Some(list) = index.postings(name, value) {
+        if let Some(list) = index.entries(name, value) {
             text.push_str(" [")?;
             put_list(&mut text, list)?;
             text.push_str(" ]")?;

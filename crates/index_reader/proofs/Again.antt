@@ -13,19 +13,19 @@ use Rattle.labels.specs.Labels.{labels_cmp}
 use Rattle.labels.specs.Parts.{carries}
 use Rattle.index_reader.specs.declared.layout.TableOfContents.{TableOfContents}
 use Rattle.index_reader.specs.Layout.{IsPlaced, SeriesEntry, Layout, ascending, rounded, series_end, Label, Body, TableEntry, rises, postings_end}
-use Rattle.index_reader.specs.Checks.{layout_of, labels_of_each, bodies_of, postings_of, is_small, Read, read_of, indexed, indexed_of}
+use Rattle.index_reader.specs.Reading.Whole.{layout_of, labels_of_each, bodies_of, postings_of, is_small, Read, read_of, indexed, indexed_of}
 use Rattle.index_reader.specs.Grammar.{frame, entry, IsWalk, IsLayout}
-use Rattle.index_reader.specs.PostingsChecks.{section_at, references_at, lists_at}
-use Rattle.index_reader.specs.TableChecks.{table_content_at, table_at}
-use Rattle.index_reader.specs.Steps.{each}
-use Rattle.index_reader.specs.FlatBodies.{body_of_entry, labels_before}
-use Rattle.index_reader.specs.EntryChecks.{gaps_zero}
+use Rattle.index_reader.specs.Reading.Postings.{section_at, references_at, lists_at}
+use Rattle.index_reader.specs.Reading.Table.{table_content_at, table_at}
+use Rattle.index_reader.specs.Reading.Steps.{each}
+use Rattle.index_reader.specs.Reading.Flat.{body_of_entry, labels_before}
+use Rattle.index_reader.specs.Reading.Entries.{gaps_zero}
 use Rattle.index_reader.specs.Spelled.{AreLabels, table_text, AreBodies, lists_for, IsIndex}
-use Rattle.index_reader.specs.AgreementChecks.{carriers, agreement_of}
-use Rattle.index_reader.specs.AgreementChecks as agreement
+use Rattle.index_reader.specs.Reading.Agreement.{carriers, agreement_of}
+use Rattle.index_reader.specs.Reading.Agreement as agreement
 use Rattle.index_reader.specs.Indexes.{Series, Indexed, references, references_with, named, series_of, IsConsistent}
 use Rattle.index_reader.specs.Indexes as indexes
-use Rattle.index_reader.specs.Refusals.{AreInOrder, AreSmall}
+use Rattle.index_reader.specs.Checks.{AreInOrder, AreSmall}
 use Rattle.index_reader.proofs.Walks.{done}
 use Rattle.index_reader.proofs.Whole.{parts_again}
 use Rattle.index_reader.proofs.Gaps.{gaps_in}

@@ -14,14 +14,14 @@ use Rattle.labels.specs.Parts.{carries}
 use Rattle.labels.proofs.Lists.{here, there}
 use Rattle.labels.proofs.Texts.{bytes_exact, bytes_self}
 use Rattle.index_reader.specs.Layout.{SeriesEntry, ascending, Label, Body, TableEntry, rises}
-use Rattle.index_reader.specs.Steps.{each}
+use Rattle.index_reader.specs.Reading.Steps.{each}
 use Rattle.index_reader.specs.References.{words, references_in}
 use Rattle.index_reader.specs.Spelled.{AreLabels, pairs_of, lists_for}
-use Rattle.index_reader.specs.CarriedPairs.{Carried, references_carrying, ListsAgree}
+use Rattle.index_reader.specs.Reading.Carried.{Carried, references_carrying, ListsAgree}
 use Rattle.index_reader.specs.Lookups.{symbol_of, key_before, place_of}
-use Rattle.index_reader.specs.AgreementChecks.{key_at, keys_at, list_of_label, lists_of_series, each_all, Carrier, carriers, are_used, agreement_of}
-use Rattle.index_reader.specs.AgreementChecks as agreement
-use Rattle.index_reader.specs.Checks as checks
+use Rattle.index_reader.specs.Reading.Agreement.{key_at, keys_at, list_of_label, lists_of_series, each_all, Carrier, carriers, are_used, agreement_of}
+use Rattle.index_reader.specs.Reading.Agreement as agreement
+use Rattle.index_reader.specs.Reading.Whole as checks
 use Rattle.index_reader.specs.Indexes.{Series, Indexed, references, references_with, named_label, named, series_at, series_of}
 use Rattle.index_reader.proofs.Searching.{strict_from_rises, ascending_is, search_found}
 use Rattle.index_reader.proofs.Orders.{pairs_cmp}

@@ -8,9 +8,9 @@ use Rattle.wire.specs.Spelling.{uvarint, varint}
 use Rattle.wire.proofs.Laws.{uvarint_again, uvarint_long}
 use Rattle.index_reader.specs.declared.chunk.Chunk.{Chunk}
 use Rattle.index_reader.specs.Layout.{SeriesEntry, Label, Body}
-use Rattle.index_reader.specs.Steps.{steps, each}
-use Rattle.index_reader.specs.BodyChecks.{is_label, label_at, labels_at, chunk_at, chunks_at, body_at}
-use Rattle.index_reader.specs.FlatBodies.{body_of_entry}
+use Rattle.index_reader.specs.Reading.Steps.{steps, each}
+use Rattle.index_reader.specs.Reading.Bodies.{is_label, label_at, labels_at, chunk_at, chunks_at, body_at}
+use Rattle.index_reader.specs.Reading.Flat.{body_of_entry}
 use Rattle.index_reader.specs.Spelled.{IsLabel, AreLabels, label_text, AreLater, AreChunks, IsBody, AreBodies}
 use Rattle.index_reader.proofs.ChunkAgain.{first_again, later_again}
 

@@ -6,9 +6,9 @@ use Rattle.index_reader.specs.declared.error.IndexError.{IndexError}
 use Rattle.index_reader.specs.declared.error.IndexError.TheVariants.{Memory, Series}
 use Rattle.index_reader.specs.Outcome.{Fails}
 use Rattle.index_reader.specs.declared.chunk.Chunk.{Chunk}
-use Rattle.index_reader.specs.Steps.{with_front}
+use Rattle.index_reader.specs.Reading.Steps.{with_front}
 use Rattle.index_reader.specs.Layout.{Label}
-use Rattle.index_reader.specs.BodyChecks.{labels_at, chunks_at, body_at, behind_both}
+use Rattle.index_reader.specs.Reading.Bodies.{labels_at, chunks_at, body_at, behind_both}
 use Rattle.index_reader.proofs.Stepping.{front_ok, front_fails}
 
 abbrev both : List Label → List Chunk → Result (List Label × List Chunk) IndexError

@@ -11,7 +11,7 @@ use Rattle.index_reader.specs.declared.chunk.Chunk.{Chunk}
 use Rattle.labels.specs.Contents.{is_time}
 use Rattle.labels.specs.declared.sample.TheConstants.{MIN_TIME, MAX_TIME}
 use Rattle.labels.proofs.Times.{first_T, second_T, T_of}
-use Rattle.index_reader.specs.ChunkChecks.{is_reference, natural, time_after, reference_after, first_at, later_at}
+use Rattle.index_reader.specs.Reading.Chunks.{is_reference, natural, time_after, reference_after, first_at, later_at}
 use Rattle.index_reader.specs.Spelled.{IsFirst, IsLater}
 
 time_again : (z : ℤ) (n : ℕ) (t : ℤ) → t ≡ z +ℤ pos n → is_time t ≡ true → time_after z n ≡ Some t

@@ -9,7 +9,7 @@ use Rattle.wire.proofs.Laws.{uvarint_takes}
 use Rattle.wire.proofs.Signed.{varint_takes}
 use Rattle.index_reader.specs.declared.chunk.Chunk.{Chunk}
 use Rattle.labels.specs.Contents.{is_time}
-use Rattle.index_reader.specs.ChunkChecks.{is_reference, natural, time_after, reference_after, ◌>>=◌, read, first_at, later_at}
+use Rattle.index_reader.specs.Reading.Chunks.{is_reference, natural, time_after, reference_after, ◌>>=◌, read, first_at, later_at}
 use Rattle.index_reader.specs.Spelled.{IsFirst, IsLater}
 use Rattle.index_reader.proofs.Fields.{Takes, takes, Takes-then}
 

@@ -6,7 +6,7 @@ use Rattle.std.proofs.lemmas.List.{get_or-set_same, get_or-set_other, length-set
 use Rattle.std.specs.Borrow.{Bor}
 use Rattle.std.proofs.Math.Seq.{drop-cons}
 use Rattle.index_reader.specs.References.{references_in}
-use Rattle.index_reader.specs.CarriedPairs.{Carried, references_carrying, ListsAgree, is_first, all_empty, are_used_up}
+use Rattle.index_reader.specs.Reading.Carried.{Carried, references_carrying, ListsAgree, is_first, all_empty, are_used_up}
 use Rattle.index_reader.specs.Seen.{references_in_each}
 
 abbrev pub InRange : ℕ → List Carried → Type 0

@@ -5,7 +5,7 @@ use Rattle.std.proofs.lemmas.List.{append-nil, drop_all}
 use Rattle.index_reader.specs.declared.error.IndexError.{IndexError}
 use Rattle.index_reader.specs.declared.error.IndexError.TheVariants.{Memory}
 use Rattle.index_reader.specs.Outcome.{Fails}
-use Rattle.index_reader.specs.Steps.{each, behind_items}
+use Rattle.index_reader.specs.Reading.Steps.{each, behind_items}
 use Rattle.wire.specs.Outcome.{◌>>=◌}
 
 grouped : {X : Type 0} (front : List X) (x : X) (read : Result (List X) IndexError)

@@ -20,22 +20,22 @@ use Rattle.index_reader.specs.declared.layout.TableOfContents.{TableOfContents}
 use Rattle.index_reader.specs.declared.error.IndexError.{IndexError}
 use Rattle.index_reader.specs.declared.error.IndexError.TheVariants.{Series, SeriesOrder, Limit, PostingsDisagree}
 use Rattle.index_reader.specs.Layout.{SeriesEntry, Layout, ascending, rounded, series_end, Label, Body, TableEntry, rises, postings_end}
-use Rattle.index_reader.specs.Checks.{layout_of, labels_of_each, bodies_of, postings_of, is_small, Read, read_of, IsSoundRead}
+use Rattle.index_reader.specs.Reading.Whole.{layout_of, labels_of_each, bodies_of, postings_of, is_small, Read, read_of, IsSoundRead}
 use Rattle.index_reader.specs.Grammar.{entry, IsWalk, IsLayout}
-use Rattle.index_reader.specs.TableChecks.{table_content_at, table_at}
-use Rattle.index_reader.specs.PostingsChecks.{lists_at, section_at, references_at}
+use Rattle.index_reader.specs.Reading.Table.{table_content_at, table_at}
+use Rattle.index_reader.specs.Reading.Postings.{lists_at, section_at, references_at}
 use Rattle.index_reader.specs.References.{references_in, IsList}
-use Rattle.index_reader.specs.Steps.{each}
-use Rattle.index_reader.specs.FlatBodies.{body_of_entry, labels_before}
-use Rattle.index_reader.specs.EntryChecks.{gaps_zero}
-use Rattle.index_reader.specs.CarriedPairs.{Carried, are_used_up}
+use Rattle.index_reader.specs.Reading.Steps.{each}
+use Rattle.index_reader.specs.Reading.Flat.{body_of_entry, labels_before}
+use Rattle.index_reader.specs.Reading.Entries.{gaps_zero}
+use Rattle.index_reader.specs.Reading.Carried.{Carried, are_used_up}
 use Rattle.index_reader.specs.Lookups.{symbol_of, key_before}
-use Rattle.index_reader.specs.AgreementChecks.{Carrier, or_disagree, key_at, keys_at, lists_of_series, each_all, carriers, are_used, agreement_of}
-use Rattle.index_reader.specs.AgreementChecks as agreement
+use Rattle.index_reader.specs.Reading.Agreement.{Carrier, or_disagree, key_at, keys_at, lists_of_series, each_all, carriers, are_used, agreement_of}
+use Rattle.index_reader.specs.Reading.Agreement as agreement
 use Rattle.index_reader.specs.Indexes.{references, references_with, named_label, named, series_at, series_of, IsConsistent}
 use Rattle.index_reader.specs.Indexes as indexes
 use Rattle.index_reader.specs.KeptIndex.{IsListing}
-use Rattle.index_reader.specs.Refusals.{AreInOrder}
+use Rattle.index_reader.specs.Checks.{AreInOrder}
 use Rattle.index_reader.proofs.WalkLoops.{guard_ended}
 use Rattle.wire.proofs.Steps.{bind_ok}
 use Rattle.index_reader.proofs.Walks.{ok_is}

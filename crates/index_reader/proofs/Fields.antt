@@ -12,8 +12,8 @@ use Rattle.wire.proofs.Laws.{uvarint_takes, uvarint_again}
 use Rattle.index_reader.specs.declared.error.IndexError.{IndexError}
 use Rattle.index_reader.specs.declared.error.IndexError.TheVariants.{SeriesCrc}
 use Rattle.wire.specs.Outcome.{or_refused}
-use Rattle.index_reader.specs.Frames.{checked_at, frame_at}
-use Rattle.index_reader.specs.EntryChecks.{entry_at}
+use Rattle.index_reader.specs.Reading.Frames.{checked_at, frame_at}
+use Rattle.index_reader.specs.Reading.Entries.{entry_at}
 use Rattle.index_reader.specs.Grammar.{frame, entry}
 use Rattle.index_reader.proofs.WalkLoops.{guard_ended}
 use Rattle.wire.proofs.Steps.{bind_ok, refused_ok}

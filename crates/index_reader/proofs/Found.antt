@@ -5,12 +5,12 @@ use Rattle.std.proofs.lemmas.List.{length-map, nil_from_length}
 use Rattle.wire.specs.Spelling.{IsBytes}
 use Rattle.index_reader.specs.Layout.{rounded, series_end, Label, TableEntry, postings_end}
 use Rattle.index_reader.specs.Grammar.{IsLayout}
-use Rattle.index_reader.specs.PostingsChecks.{section_at, lists_at}
+use Rattle.index_reader.specs.Reading.Postings.{section_at, lists_at}
 use Rattle.index_reader.specs.References.{references_in, IsList}
-use Rattle.index_reader.specs.Steps.{each}
+use Rattle.index_reader.specs.Reading.Steps.{each}
 use Rattle.index_reader.specs.Lookups.{symbol_of}
-use Rattle.index_reader.specs.AgreementChecks.{or_disagree, key_at}
-use Rattle.index_reader.specs.Checks.{Read, read_of, indexed}
+use Rattle.index_reader.specs.Reading.Agreement.{or_disagree, key_at}
+use Rattle.index_reader.specs.Reading.Whole.{Read, read_of, indexed}
 use Rattle.index_reader.specs.Indexes.{Series, references, references_with, named_label, named, series_of}
 use Rattle.index_reader.specs.KeptIndex.{IsListing}
 use Rattle.index_reader.specs.Spelled.{pairs_of, lists_for, AreSections, IsIndex}

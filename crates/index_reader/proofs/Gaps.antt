@@ -8,7 +8,7 @@ use Rattle.labels.proofs.Lists.{here, there, Contains-cases, none_in_nil}
 use Rattle.index_reader.specs.Layout.{SeriesEntry, Layout, rounded, series_end}
 use Rattle.index_reader.specs.Grammar.{frame, entry, IsWalk, IsLayout}
 use Rattle.index_reader.proofs.Eaches.{drop_at_place}
-use Rattle.index_reader.specs.EntryChecks.{zero_between, gaps_zero}
+use Rattle.index_reader.specs.Reading.Entries.{zero_between, gaps_zero}
 use Rattle.index_reader.specs.Spelled.{AreZero}
 
 pub nothing_between : (file : List ℕ) (from to : ℕ) → to ≤ from → zero_between file from to ≡ true

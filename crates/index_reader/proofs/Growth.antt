@@ -8,9 +8,9 @@ use Rattle.index_reader.specs.declared.error.IndexError.TheVariants.{Memory}
 use Rattle.index_reader.specs.Outcome.{Fails}
 use Rattle.index_reader.specs.declared.chunk.Chunk.{Chunk}
 use Rattle.index_reader.specs.Layout.{Label, Body}
-use Rattle.index_reader.specs.BodyChecks.{behind_both}
+use Rattle.index_reader.specs.Reading.Bodies.{behind_both}
 use Rattle.index_reader.specs.declared.series.Series.{Series}
-use Rattle.index_reader.specs.FlatBodies.{body_in, bodies_in, IsIn, AllIn}
+use Rattle.index_reader.specs.Reading.Flat.{body_in, bodies_in, IsIn, AllIn}
 
 pub range_grown : {X : Type 0} (xs more : List X) (a b : ℕ) → a ≤ b → b ≤ length xs
     → slice_range (xs ++ more) a b ≡ slice_range xs a b

@@ -6,7 +6,7 @@ use Rattle.wire.proofs.KnownReads.{chosen}
 use Rattle.index_reader.specs.declared.layout.TableOfContents.{TableOfContents}
 use Rattle.index_reader.specs.declared.error.IndexError.TheVariants.{ContentsOrder}
 use Rattle.index_reader.specs.Layout.{IsPlaced}
-use Rattle.index_reader.specs.HeadChecks.{in_order, has_magic, contents_of, head_of}
+use Rattle.index_reader.specs.Reading.Head.{in_order, has_magic, contents_of, head_of}
 use Rattle.index_reader.proofs.WalkLoops.{guard_ended}
 use Rattle.wire.proofs.Steps.{bind_ok}
 

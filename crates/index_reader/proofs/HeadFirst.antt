@@ -19,13 +19,13 @@ use Rattle.index_reader.specs.declared.error.IndexError.TheVariants.{TooShort, M
 use Rattle.index_reader.specs.declared.error.IndexError.TheVariants.{ContentsCrc, ContentsOrder}
 use Rattle.index_reader.specs.declared.error.IndexError.TheVariants.{SymbolsCrc, Limit}
 use Rattle.index_reader.specs.Layout.{IsPlaced, rounded, series_end}
-use Rattle.index_reader.specs.HeadChecks.{in_order, has_magic, contents_of, head_of}
-use Rattle.index_reader.specs.Frames.{frame_at}
-use Rattle.index_reader.specs.SymbolChecks.{symbols_of}
-use Rattle.index_reader.specs.EntryChecks.{entries_from}
-use Rattle.index_reader.specs.Checks.{layout_of}
+use Rattle.index_reader.specs.Reading.Head.{in_order, has_magic, contents_of, head_of}
+use Rattle.index_reader.specs.Reading.Frames.{frame_at}
+use Rattle.index_reader.specs.Reading.Symbols.{symbols_of}
+use Rattle.index_reader.specs.Reading.Entries.{entries_from}
+use Rattle.index_reader.specs.Reading.Whole.{layout_of}
 use Rattle.index_reader.specs.Grammar.{frame, contents_text}
-use Rattle.index_reader.specs.Refusals.{Check, FirstFailing, HasContents, HasSymbols}
+use Rattle.index_reader.specs.Checks.{Check, FirstFailing, HasContents, HasSymbols}
 use Rattle.index_reader.proofs.Fields.{eqb_same, frame_takes, frame_again}
 use Rattle.index_reader.proofs.Head.{head_placed}
 use Rattle.index_reader.proofs.Walks.{ok_is, table_takes, table_again}

@@ -13,14 +13,14 @@ use Rattle.index_reader.specs.declared.series.Series.{Series}
 use Rattle.index_reader.specs.declared.checks.Checked.{Checked}
 use Rattle.index_reader.specs.Outcome.{is_memory, Gives, Fails}
 use Rattle.index_reader.specs.Layout.{SeriesEntry, Label, Body}
-use Rattle.index_reader.specs.FlatBodies.{body_in, bodies_in, references_in_order}
+use Rattle.index_reader.specs.Reading.Flat.{body_in, bodies_in, references_in_order}
 use Rattle.index_reader.specs.References.{references_in, IsList}
 use Rattle.index_reader.specs.Seen.{bytes_of, entries_seen, strings_of}
-use Rattle.index_reader.specs.AgreementChecks as agreement
+use Rattle.index_reader.specs.Reading.Agreement as agreement
 use Rattle.index_reader.specs.Indexes.{named_label, named, series_at, series_of, references, references_with}
 use Rattle.index_reader.specs.Indexes as indexes
 use Rattle.index_reader.specs.KeptIndex.{series_in, all_in, indexed_in, AreSeriesIn, AreInTable, IsListing, IsKeptIndex}
-use Rattle.index_reader.specs.Checks.{read_of, indexed, indexed_of, IsSoundRead}
+use Rattle.index_reader.specs.Reading.Whole.{read_of, indexed, indexed_of, IsSoundRead}
 use Rattle.index_reader.specs.Spelled.{IsIndex}
 use Rattle.index_reader.specs.CheckedFile.{read_seen, IsHeldIn}
 use Rattle.wire.proofs.Steps.{fails_on}

@@ -17,22 +17,22 @@ use Rattle.index_reader.specs.declared.error.IndexError.TheVariants.{Memory, Lim
 use Rattle.index_reader.specs.Outcome.{Gives, Fails}
 use Rattle.index_reader.specs.Layout.{SeriesEntry, Layout, Label, Body, TableEntry, is_before}
 use Rattle.index_reader.specs.Layout.{rises, postings_end}
-use Rattle.index_reader.specs.Checks.{layout_of, labels_of_each, bodies_of, postings_of, is_small}
-use Rattle.index_reader.specs.Checks.{Read, read_of, indexed_of}
+use Rattle.index_reader.specs.Reading.Whole.{layout_of, labels_of_each, bodies_of, postings_of, is_small}
+use Rattle.index_reader.specs.Reading.Whole.{Read, read_of, indexed_of}
 use Rattle.index_reader.specs.Grammar.{IsLayout}
 use Rattle.index_reader.specs.References.{references_in}
-use Rattle.index_reader.specs.Steps.{each}
-use Rattle.index_reader.specs.PostingsChecks.{section_at, references_at, lists_at}
-use Rattle.index_reader.specs.FlatBodies.{body_of_entry}
-use Rattle.index_reader.specs.CarriedPairs.{are_used_up}
-use Rattle.index_reader.specs.AgreementChecks.{Carrier, keys_at, lists_of_series, each_all, carriers}
-use Rattle.index_reader.specs.AgreementChecks.{are_used, agreement_of}
-use Rattle.index_reader.specs.AgreementChecks as agreement
+use Rattle.index_reader.specs.Reading.Steps.{each}
+use Rattle.index_reader.specs.Reading.Postings.{section_at, references_at, lists_at}
+use Rattle.index_reader.specs.Reading.Flat.{body_of_entry}
+use Rattle.index_reader.specs.Reading.Carried.{are_used_up}
+use Rattle.index_reader.specs.Reading.Agreement.{Carrier, keys_at, lists_of_series, each_all, carriers}
+use Rattle.index_reader.specs.Reading.Agreement.{are_used, agreement_of}
+use Rattle.index_reader.specs.Reading.Agreement as agreement
 use Rattle.index_reader.specs.Indexes.{Series, Indexed, named_label, named, series_of}
 use Rattle.index_reader.specs.Spelled.{pairs_of, list_text, AreSections}
 use Rattle.index_reader.specs.Stated.{Stated, Agrees}
-use Rattle.index_reader.specs.Refusals.{Check, FirstFailing, HasTable, HasFrame, HasLists, States}
-use Rattle.index_reader.specs.Refusals.{AreSmall, checks, IsRefused}
+use Rattle.index_reader.specs.Checks.{Check, FirstFailing, HasTable, HasFrame, HasLists, States}
+use Rattle.index_reader.specs.Checks.{AreSmall, checks, IsRefused}
 use Rattle.index_reader.proofs.Walks.{done}
 use Rattle.index_reader.proofs.Whole.{parts_take}
 use Rattle.index_reader.proofs.Sound.{each_length, few_symbols}

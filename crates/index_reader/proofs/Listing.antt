@@ -6,13 +6,13 @@ use Rattle.std.proofs.lemmas.Bool.{cases_eq}
 use Rattle.labels.specs.Parts.{carries}
 use Rattle.labels.proofs.Texts.{bytes_exact, bytes_self}
 use Rattle.index_reader.specs.Layout.{SeriesEntry, ascending, Label, Body, rises}
-use Rattle.index_reader.specs.Steps.{each}
-use Rattle.index_reader.specs.CarriedPairs.{Carried, references_carrying}
+use Rattle.index_reader.specs.Reading.Steps.{each}
+use Rattle.index_reader.specs.Reading.Carried.{Carried, references_carrying}
 use Rattle.index_reader.specs.Lookups.{key_before, place_of}
-use Rattle.index_reader.specs.AgreementChecks.{list_of_label, Carrier, lists_of_series, each_all, carriers}
-use Rattle.index_reader.specs.AgreementChecks as agreement
+use Rattle.index_reader.specs.Reading.Agreement.{list_of_label, Carrier, lists_of_series, each_all, carriers}
+use Rattle.index_reader.specs.Reading.Agreement as agreement
 use Rattle.index_reader.specs.Indexes.{Series, references, references_with, named_label, named, series_at, series_of}
-use Rattle.index_reader.specs.Checks as checks
+use Rattle.index_reader.specs.Reading.Whole as checks
 use Rattle.wire.proofs.Steps.{bind_ok}
 use Rattle.index_reader.proofs.Walks.{ok_is}
 use Rattle.index_reader.specs.Spelled.{AreLabels}

@@ -7,12 +7,12 @@ use Rattle.wire.specs.Reading.{uvarint_at}
 use Rattle.labels.specs.Names.{is_name}
 use Rattle.labels.specs.LabelSets.{IsLabelSet}
 use Rattle.index_reader.specs.declared.error.IndexError.TheVariants.{Series}
-use Rattle.index_reader.specs.Steps.{steps, each}
+use Rattle.index_reader.specs.Reading.Steps.{steps, each}
 use Rattle.wire.specs.Outcome.{or_refused}
 use Rattle.index_reader.specs.Layout.{SeriesEntry, ascending, Label, Body}
 use Rattle.index_reader.specs.Spelled.{IsLabel, AreLabels}
-use Rattle.index_reader.specs.BodyChecks.{is_label, label_at, labels_at, chunks_at, body_at}
-use Rattle.index_reader.specs.FlatBodies.{body_of_entry}
+use Rattle.index_reader.specs.Reading.Bodies.{is_label, label_at, labels_at, chunks_at, body_at}
+use Rattle.index_reader.specs.Reading.Flat.{body_of_entry}
 use Rattle.index_reader.specs.Indexes.{named_label, named}
 use Rattle.index_reader.proofs.WalkLoops.{guard_ended}
 use Rattle.wire.proofs.Steps.{bind_ok}

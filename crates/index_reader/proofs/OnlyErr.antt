@@ -12,17 +12,17 @@ use Rattle.index_reader.specs.declared.error.IndexError.{IndexError}
 use Rattle.index_reader.specs.declared.error.IndexError.TheVariants.{Symbols, SeriesCrc, Series}
 use Rattle.index_reader.specs.declared.error.IndexError.TheVariants.{Offsets, PostingsCrc, Postings}
 use Rattle.index_reader.specs.Layout.{SeriesEntry, TableEntry}
-use Rattle.index_reader.specs.Frames.{checked_at, frame_at}
-use Rattle.index_reader.specs.SymbolChecks.{symbol_at, symbols_from, symbols_of}
-use Rattle.index_reader.specs.EntryChecks.{entry_at, entries_from}
-use Rattle.index_reader.specs.Steps.{steps, each}
-use Rattle.index_reader.specs.BodyChecks.{label_at, labels_at, or_series, chunk_at, behind}
-use Rattle.index_reader.specs.BodyChecks.{chunks_at, body_at}
-use Rattle.index_reader.specs.ChunkChecks.{first_at, later_at}
-use Rattle.index_reader.specs.FlatBodies.{body_of_entry}
-use Rattle.index_reader.specs.TableChecks.{text_at, table_entry_at, table_at, label_offsets_at}
-use Rattle.index_reader.specs.TableChecks.{table_content_at}
-use Rattle.index_reader.specs.PostingsChecks.{section_at, references_at}
+use Rattle.index_reader.specs.Reading.Frames.{checked_at, frame_at}
+use Rattle.index_reader.specs.Reading.Symbols.{symbol_at, symbols_from, symbols_of}
+use Rattle.index_reader.specs.Reading.Entries.{entry_at, entries_from}
+use Rattle.index_reader.specs.Reading.Steps.{steps, each}
+use Rattle.index_reader.specs.Reading.Bodies.{label_at, labels_at, or_series, chunk_at, behind}
+use Rattle.index_reader.specs.Reading.Bodies.{chunks_at, body_at}
+use Rattle.index_reader.specs.Reading.Chunks.{first_at, later_at}
+use Rattle.index_reader.specs.Reading.Flat.{body_of_entry}
+use Rattle.index_reader.specs.Reading.Table.{text_at, table_entry_at, table_at, label_offsets_at}
+use Rattle.index_reader.specs.Reading.Table.{table_content_at}
+use Rattle.index_reader.specs.Reading.Postings.{section_at, references_at}
 
 -- a refusal
 abbrev pub refused : (A : Type 0) → IndexError → Result A IndexError

@@ -9,13 +9,13 @@ use Rattle.wire.proofs.Steps.{bind_ok}
 use Rattle.index_reader.specs.declared.error.IndexError.{IndexError}
 use Rattle.index_reader.specs.declared.error.IndexError.TheVariants.{Memory}
 use Rattle.index_reader.specs.Outcome.{Gives, Fails}
-use Rattle.index_reader.specs.Layout.{SeriesEntry, Body}
-use Rattle.index_reader.specs.Checks.{read_of, indexed, indexed_of}
+use Rattle.index_reader.specs.Layout.{SeriesEntry, Body, postings_end}
+use Rattle.index_reader.specs.Reading.Whole.{read_of, indexed, indexed_of}
 use Rattle.index_reader.specs.Indexes.{Series, Indexed, references, named_label, series_of}
 use Rattle.index_reader.specs.Spelled.{pairs_of, lists_for, IsIndex}
 use Rattle.index_reader.specs.Stated.{Stated, Agrees, AreFew}
-use Rattle.index_reader.specs.Refusals.{Check, Holds, FirstFailing, HasSymbols, HasBodies, HasTable}
-use Rattle.index_reader.specs.Refusals.{HasLists, States, checks, IsRefused}
+use Rattle.index_reader.specs.Checks.{Check, Holds, FirstFailing, HasSymbols, HasBodies, HasTable}
+use Rattle.index_reader.specs.Checks.{HasLists, States, checks, IsRefused}
 use Rattle.index_reader.proofs.Walks.{ok_is}
 use Rattle.index_reader.proofs.Whole.{parts_take}
 use Rattle.index_reader.proofs.Facts.{chain}
@@ -37,76 +37,97 @@ few_in symbols (p ∷ ps) (b ∷ bs) h = (
   few_in symbols ps bs (λ k d lt. h (suc k) d (omega arith)),
 )
 
-past : (file : List ℕ) (e : IndexError) (c : Check) (cs : List Check) → Holds c file
-    → FirstFailing (c ∷ cs) file e → FirstFailing cs file e
-past file e c cs h (inl a) = absurd (a.0 h)
-past file e c cs h (inr a) = a.1
+module _ (file : List ℕ) (x : Indexed) (i : IsIndex file x) where
+  framed : HasSymbols file i.layout.symbols.0
+  framed = record {
+    start = i.layout.start;
+    t = i.parts.contents;
+    contents = i.layout.contents;
+    placed = i.layout.placed;
+    stands = i.layout.symbols.1;
+  }
 
-none_fails : (file : List ℕ) (x : Indexed) → IsIndex file x → (e : IndexError)
-    → FirstFailing checks file e → ⊥
-none_fails file x i e f =
-    let p = i.parts in
-    let t = p.contents in
-    let framed : HasSymbols file i.layout.symbols.0 = record {
-      start = i.layout.start;
-      t = t;
-      contents = i.layout.contents;
-      placed = i.layout.placed;
-      stands = i.layout.symbols.1;
-    } in
-    let bodied : HasBodies file p x.series = record {
-      layout = i.layout;
-      bodies = i.bodies;
-      spelled = i.spelled;
-      gaps = i.gaps;
-      series_are = i.series;
-    } in
-    let tabled : HasTable file p i.table = record { layout = i.layout; tabled = i.tabled } in
-    let all = references x.series ∷ lists_for x.pairs x.series in
-    let small =
-    small_from (references x.series) (λ k lt. i.consistent.small k
-    (omega (arith, lt, length-map x.series (λ (s : Series). s.reference)))) in
-    let listed : HasLists file p i.table all = record {
-      table_is = tabled;
-      stand = i.sections;
-      small = (small, small_lists x.pairs x.series small);
-    } in
-    let s : Stated = record { series = x.series; pairs = pairs_of i.table; lists = all } in
-    let states : States file s = record {
-      parts = p;
-      bodies_are = bodied;
-      table = i.table;
-      pairs_are = refl;
-      lists_are = listed;
-    } in
-    let agrees : Agrees s = record {
-      others = x.pairs;
-      pairs = i.listed;
-      lists = refl;
-      carried = i.consistent.carried;
-      listed = i.consistent.listed;
-    } in
-    let few_labels : AllByRecursion (λ (y : Series). length y.labels ≤ 64) x.series =
-    subst (λ (ss : List Series). AllByRecursion (λ (y : Series). length y.labels ≤ 64) ss)
-    (sym i.series) (few_in p.symbols p.entries i.bodies i.few_labels) in
-    let few : AreFew s.series = record { few = i.consistent.few; few_labels = few_labels } in
-    let frames = frames_in file _ i.table all i.sections in
-    past file e Check.counts _ (s, states, few)
-    (past file e Check.agreement _ (s, states, agrees)
-    (past file e Check.lists _ (p, i.table, all, listed)
-    (past file e Check.list_frames _ (p, i.table, tabled, frames)
-    (past file e Check.offset_table _ (p, i.table, tabled)
-    (past file e Check.series_order _ (p, x.series, bodied, i.consistent.in_order)
-    (past file e Check.bodies _ (p, x.series, bodied)
-    (past file e Check.entries _ (p, i.layout)
-    (past file e Check.symbols _ (i.layout.symbols.0, p.symbols, framed, i.layout.symbols.2)
-    (past file e Check.symbols_frame _ (i.layout.symbols.0, framed)
-    (past file e Check.contents_order _ (t, i.layout.contents, i.layout.placed)
-    (past file e Check.contents_sum _ (t, i.layout.contents)
-    (past file e Check.version _ i.layout.start
-    (past file e Check.magic _ (four_of file i.layout.start)
-    (past file e Check.head_room _ i.layout.placed.long
-    (past file e Check.file_size _ i.layout.placed.short f)))))))))))))))
+  bodied : HasBodies file i.parts x.series
+  bodied = record {
+    layout = i.layout;
+    bodies = i.bodies;
+    spelled = i.spelled;
+    gaps = i.gaps;
+    series_are = i.series;
+  }
+
+  tabled : HasTable file i.parts i.table
+  tabled = record { layout = i.layout; tabled = i.tabled }
+
+  abbrev all : List (List ℕ)
+  all = references x.series ∷ lists_for x.pairs x.series
+
+  listed : HasLists file i.parts i.table all
+  listed =
+      let small =
+      small_from (references x.series) (λ k lt. i.consistent.small k
+      (omega (arith, lt, length-map x.series (λ (s : Series). s.reference)))) in
+      record {
+        table_is = tabled;
+        stand = i.sections;
+        small = (small, small_lists x.pairs x.series small);
+      }
+
+  abbrev stated : Stated
+  stated = record { series = x.series; pairs = pairs_of i.table; lists = all }
+
+  states : States file stated
+  states = record {
+    parts = i.parts;
+    bodies_are = bodied;
+    table = i.table;
+    pairs_are = refl;
+    lists_are = listed;
+  }
+
+  agrees : Agrees stated
+  agrees = record {
+    others = x.pairs;
+    pairs = i.listed;
+    lists = refl;
+    carried = i.consistent.carried;
+    listed = i.consistent.listed;
+  }
+
+  few : AreFew x.series
+  few =
+      let few_labels : AllByRecursion (λ (y : Series). length y.labels ≤ 64) x.series =
+      subst (λ (ss : List Series). AllByRecursion (λ (y : Series). length y.labels ≤ 64) ss)
+      (sym i.series) (few_in i.parts.symbols i.parts.entries i.bodies i.few_labels) in
+      record { few = i.consistent.few; few_labels = few_labels }
+
+  holds : (c : Check) → Holds c file
+  holds Check.file_size = i.layout.placed.short
+  holds Check.head_room = i.layout.placed.long
+  holds Check.magic = four_of file i.layout.start
+  holds Check.version = i.layout.start
+  holds Check.contents_sum = (i.parts.contents, i.layout.contents)
+  holds Check.contents_order = (i.parts.contents, i.layout.contents, i.layout.placed)
+  holds Check.symbols_frame = (i.layout.symbols.0, framed)
+  holds Check.symbols = (i.layout.symbols.0, i.parts.symbols, framed, i.layout.symbols.2)
+  holds Check.entries = (i.parts, i.layout)
+  holds Check.bodies = (i.parts, x.series, bodied)
+  holds Check.series_order = (i.parts, x.series, bodied, i.consistent.in_order)
+  holds Check.offset_table = (i.parts, i.table, tabled)
+  holds Check.list_frames = (
+    i.parts,
+    i.table,
+    tabled,
+    frames_in file (postings_end i.parts.contents) i.table all i.sections,
+  )
+  holds Check.lists = (i.parts, i.table, all, listed)
+  holds Check.agreement = (stated, states, agrees)
+  holds Check.counts = (stated, states, few)
+
+  none_fails : (cs : List Check) (e : IndexError) → FirstFailing cs file e → ⊥
+  none_fails [] e f = f
+  none_fails (c ∷ cs) e (inl a) = a.0 (holds c)
+  none_fails (c ∷ cs) e (inr a) = none_fails cs e a.1
 
 -- ---- no two refusals
 
@@ -132,7 +153,7 @@ refused_so : (file : List ℕ) (e : IndexError) → IsBytes file → FirstFailin
 refused_so file e fits f = go (indexed_of file) refl
   where
     go : (r : Result Indexed IndexError) → indexed_of file ≡ r → indexed_of file ≡ Err e
-    go (Ok x) h = absurd (none_fails file x (index_found file x fits h) e f)
+    go (Ok x) h = absurd (none_fails file x (index_found file x fits h) checks e f)
     go (Err d) h =
         let first = first_failing file d fits (read_refused file d h) in
         h ∙ ap (λ (c : IndexError). Err c) (one_refusal checks file d e first f)

@@ -7,14 +7,14 @@ use Rattle.std.proofs.lemmas.List.{append-nil, drop_all}
 use Rattle.index_reader.specs.declared.error.IndexError.{IndexError}
 use Rattle.index_reader.specs.declared.error.IndexError.TheVariants.{Memory}
 use Rattle.index_reader.specs.Outcome.{Fails}
-use Rattle.index_reader.specs.Steps.{each, behind_items}
+use Rattle.index_reader.specs.Reading.Steps.{each, behind_items}
 use Rattle.wire.specs.Outcome.{◌>>=◌}
 use Rattle.index_reader.specs.Layout.{Label}
 use Rattle.index_reader.specs.References.{references_in}
-use Rattle.index_reader.specs.CarriedPairs.{Carried}
+use Rattle.index_reader.specs.Reading.Carried.{Carried}
 use Rattle.index_reader.specs.Seen.{references_in_each, bytes_of}
 use Rattle.index_reader.specs.Lookups.{index_of, next, place_of}
-use Rattle.index_reader.specs.AgreementChecks.{are_used, or_disagree, list_of_label, Carrier, lists_of_series, each_all, carriers}
+use Rattle.index_reader.specs.Reading.Agreement.{are_used, or_disagree, list_of_label, Carrier, lists_of_series, each_all, carriers}
 use Rattle.index_reader.proofs.Eaches.{drop_at_place}
 use Rattle.wire.proofs.Steps.{bind_ok}
 use Rattle.index_reader.proofs.Walks.{ok_is}

@@ -6,12 +6,12 @@ use Rattle.wire.specs.Spelling.{IsBytes}
 use Rattle.index_reader.specs.declared.error.IndexError.{IndexError}
 use Rattle.index_reader.specs.Layout.{Layout, TableEntry, postings_end}
 use Rattle.index_reader.specs.Grammar.{IsLayout}
-use Rattle.index_reader.specs.Steps.{each}
-use Rattle.index_reader.specs.Checks.{layout_of, postings_of}
-use Rattle.index_reader.specs.PostingsChecks.{section_at, references_at, lists_at}
-use Rattle.index_reader.specs.TableChecks.{table_content_at, table_at}
+use Rattle.index_reader.specs.Reading.Steps.{each}
+use Rattle.index_reader.specs.Reading.Whole.{layout_of, postings_of}
+use Rattle.index_reader.specs.Reading.Postings.{section_at, references_at, lists_at}
+use Rattle.index_reader.specs.Reading.Table.{table_content_at, table_at}
 use Rattle.index_reader.specs.Spelled.{table_text, AreSections}
-use Rattle.index_reader.specs.Refusals.{Check, FirstFailing, HasTable, HasFrame}
+use Rattle.index_reader.specs.Checks.{Check, FirstFailing, HasTable, HasFrame}
 use Rattle.index_reader.proofs.Whole.{parts_take, parts_again}
 use Rattle.index_reader.proofs.Spelling.{is_tabled, frames_spelled}
 use Rattle.index_reader.proofs.Again.{end_small}

@@ -8,11 +8,11 @@ use Rattle.std.proofs.lemmas.Bool.{ltb-true, eqb-true}
 use Rattle.wire.specs.Reading.{number_at}
 use Rattle.index_reader.specs.declared.error.IndexError.TheVariants.{Postings}
 use Rattle.index_reader.specs.declared.offset_table.TableEntry.{TableEntry}
-use Rattle.index_reader.specs.Steps.{each}
+use Rattle.index_reader.specs.Reading.Steps.{each}
 use Rattle.wire.specs.Outcome.{or_refused}
 use Rattle.index_reader.specs.References.{references_in, IsList}
 use Rattle.index_reader.specs.Layout.{rises}
-use Rattle.index_reader.specs.PostingsChecks.{references_at, section_at, lists_at}
+use Rattle.index_reader.specs.Reading.Postings.{references_at, section_at, lists_at}
 use Rattle.index_reader.specs.Seen.{bytes_of, table_seen}
 use Rattle.index_reader.proofs.WalkLoops.{guard_ended}
 use Rattle.wire.proofs.Steps.{bind_ok}

@@ -7,12 +7,12 @@ use Rattle.index_reader.specs.declared.error.IndexError.{IndexError}
 use Rattle.index_reader.specs.declared.error.IndexError.TheVariants.{Series, SeriesOrder}
 use Rattle.index_reader.specs.Layout.{Layout, rounded, series_end, Body, rises}
 use Rattle.index_reader.specs.Grammar.{IsLayout}
-use Rattle.index_reader.specs.Steps.{each}
-use Rattle.index_reader.specs.EntryChecks.{gaps_zero}
-use Rattle.index_reader.specs.FlatBodies.{body_of_entry, labels_before}
-use Rattle.index_reader.specs.Checks.{layout_of, labels_of_each, bodies_of}
+use Rattle.index_reader.specs.Reading.Steps.{each}
+use Rattle.index_reader.specs.Reading.Entries.{gaps_zero}
+use Rattle.index_reader.specs.Reading.Flat.{body_of_entry, labels_before}
+use Rattle.index_reader.specs.Reading.Whole.{layout_of, labels_of_each, bodies_of}
 use Rattle.index_reader.specs.Indexes as indexes
-use Rattle.index_reader.specs.Refusals.{Check, FirstFailing, HasSymbols, HasBodies, AreInOrder}
+use Rattle.index_reader.specs.Checks.{Check, FirstFailing, HasSymbols, HasBodies, AreInOrder}
 use Rattle.index_reader.proofs.Whole.{parts_take, parts_again}
 use Rattle.index_reader.proofs.Sound.{few_symbols}
 use Rattle.index_reader.proofs.Gaps.{zeros_of, gaps_in}

@@ -15,11 +15,11 @@ use Rattle.index_reader.specs.Layout.{rounded, series_end, Label}
 use Rattle.index_reader.specs.Layout as layout
 use Rattle.index_reader.specs.Grammar.{entry, symbol, IsWalk, IsLayout}
 use Rattle.index_reader.specs.Seen.{entries_seen, bytes_of, table_seen, table_entry_seen}
-use Rattle.index_reader.specs.Steps.{each}
-use Rattle.index_reader.specs.FlatBodies.{body_in, bodies_in, label_sets_in}
-use Rattle.index_reader.specs.PostingsChecks.{section_at, references_at, lists_at}
-use Rattle.index_reader.specs.Checks.{labels_of_each}
-use Rattle.index_reader.specs.SymbolChecks.{symbol_at, symbols_from}
+use Rattle.index_reader.specs.Reading.Steps.{each}
+use Rattle.index_reader.specs.Reading.Flat.{body_in, bodies_in, label_sets_in}
+use Rattle.index_reader.specs.Reading.Postings.{section_at, references_at, lists_at}
+use Rattle.index_reader.specs.Reading.Whole.{labels_of_each}
+use Rattle.index_reader.specs.Reading.Symbols.{symbol_at, symbols_from}
 use Rattle.index_reader.specs.CheckedFile.{IsSoundLayout, layout_seen}
 use Rattle.wire.proofs.Steps.{bind_ok}
 use Rattle.index_reader.proofs.Walks.{flat_long, ok_is}

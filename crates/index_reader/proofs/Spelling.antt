@@ -16,18 +16,18 @@ use Rattle.index_reader.specs.declared.chunk.Chunk.{Chunk}
 use Rattle.index_reader.specs.declared.layout.TableOfContents.{TableOfContents}
 use Rattle.index_reader.specs.declared.error.IndexError.{IndexError}
 use Rattle.index_reader.specs.declared.error.IndexError.TheVariants.{Series, Offsets, Postings, PostingsCrc}
-use Rattle.index_reader.specs.Steps.{steps, each}
+use Rattle.index_reader.specs.Reading.Steps.{steps, each}
 use Rattle.wire.specs.Outcome.{◌>>=◌, or_refused}
-use Rattle.index_reader.specs.Frames.{frame_at}
+use Rattle.index_reader.specs.Reading.Frames.{frame_at}
 use Rattle.index_reader.specs.Layout.{SeriesEntry, rounded, rises, Label, Body, TableEntry, is_before, is_within, postings_end}
 use Rattle.index_reader.specs.Grammar.{frame, entry, symbol, StandsAt, IsWalk}
-use Rattle.index_reader.specs.BodyChecks.{is_label, label_at, labels_at, or_series, chunk_at, chunks_at, behind, body_at}
-use Rattle.index_reader.specs.ChunkChecks.{first_at, later_at}
-use Rattle.index_reader.specs.FlatBodies.{body_of_entry}
+use Rattle.index_reader.specs.Reading.Bodies.{is_label, label_at, labels_at, or_series, chunk_at, chunks_at, behind, body_at}
+use Rattle.index_reader.specs.Reading.Chunks.{first_at, later_at}
+use Rattle.index_reader.specs.Reading.Flat.{body_of_entry}
 use Rattle.index_reader.specs.References.{words, references_in, IsList}
-use Rattle.index_reader.specs.TableChecks.{text_at, table_entry_at, table_at, label_offsets_at, table_content_at}
-use Rattle.index_reader.specs.PostingsChecks.{section_at, references_at}
-use Rattle.index_reader.specs.Refusals.{AreSmall, HasFrame}
+use Rattle.index_reader.specs.Reading.Table.{text_at, table_entry_at, table_at, label_offsets_at, table_content_at}
+use Rattle.index_reader.specs.Reading.Postings.{section_at, references_at}
+use Rattle.index_reader.specs.Checks.{AreSmall, HasFrame}
 use Rattle.index_reader.specs.Spelled.{AreLabels, label_text, IsLater, AreLater, AreChunks, IsBody, AreBodies, listed_text, table_text, IsTable, list_text, AreSections}
 use Rattle.index_reader.proofs.WalkLoops.{guard_ended}
 use Rattle.wire.proofs.Steps.{bind_ok, refused_ok}

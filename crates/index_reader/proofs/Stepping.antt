@@ -4,10 +4,10 @@ use Rattle.std.proofs.lemmas.List.{append-nil}
 use Rattle.index_reader.specs.declared.error.IndexError.{IndexError}
 use Rattle.index_reader.specs.declared.error.IndexError.TheVariants.{Memory}
 use Rattle.index_reader.specs.Outcome.{Fails}
-use Rattle.index_reader.specs.Steps.{steps, with_front}
+use Rattle.index_reader.specs.Reading.Steps.{steps, with_front}
 use Rattle.wire.specs.Outcome.{◌>>=◌}
 use Rattle.index_reader.specs.declared.chunk.Chunk.{Chunk}
-use Rattle.index_reader.specs.BodyChecks.{behind}
+use Rattle.index_reader.specs.Reading.Bodies.{behind}
 
 abbrev ok : {A : Type 0} → A → Result A IndexError
 ok x = Ok x

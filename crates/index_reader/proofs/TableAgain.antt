@@ -19,15 +19,15 @@ use Rattle.labels.proofs.Lists.{rising-tail}
 use Rattle.index_reader.specs.declared.layout.TableOfContents.{TableOfContents}
 use Rattle.index_reader.specs.declared.error.IndexError.{IndexError}
 use Rattle.index_reader.specs.declared.error.IndexError.TheVariants.{Offsets, PostingsCrc}
-use Rattle.index_reader.specs.Frames.{frame_at}
+use Rattle.index_reader.specs.Reading.Frames.{frame_at}
 use Rattle.index_reader.specs.Grammar.{frame, symbol, StandsAt}
-use Rattle.index_reader.specs.Steps.{steps, each}
+use Rattle.index_reader.specs.Reading.Steps.{steps, each}
 use Rattle.index_reader.specs.Layout.{rises, TableEntry, is_before, is_within, postings_end}
 use Rattle.index_reader.specs.References.{words, references_in}
-use Rattle.index_reader.specs.TableChecks.{table_entry_at, table_at, label_offsets_at, table_content_at}
-use Rattle.index_reader.specs.PostingsChecks.{section_at, references_at}
+use Rattle.index_reader.specs.Reading.Table.{table_entry_at, table_at, label_offsets_at, table_content_at}
+use Rattle.index_reader.specs.Reading.Postings.{section_at, references_at}
 use Rattle.index_reader.specs.Spelled.{listed_text, table_text, IsTable, list_text, AreSections}
-use Rattle.index_reader.specs.Refusals.{AreSmall, HasFrame}
+use Rattle.index_reader.specs.Checks.{AreSmall, HasFrame}
 use Rattle.index_reader.proofs.Fields.{eqb_same, frame_again}
 
 symbol_group : (s rest : List ℕ) → symbol s ++ rest ≡ uvarint (length s) ++ (s ++ rest)

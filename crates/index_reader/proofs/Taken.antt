@@ -6,14 +6,14 @@ use Rattle.std.proofs.lemmas.List.{drop_all}
 use Rattle.index_reader.specs.declared.error.IndexError.{IndexError}
 use Rattle.index_reader.specs.declared.error.IndexError.TheVariants.{Memory, PostingsDisagree}
 use Rattle.index_reader.specs.Outcome.{Fails}
-use Rattle.index_reader.specs.Steps.{each}
+use Rattle.index_reader.specs.Reading.Steps.{each}
 use Rattle.wire.specs.Outcome.{◌>>=◌}
 use Rattle.index_reader.specs.Layout.{Label, TableEntry}
 use Rattle.index_reader.specs.References.{references_in}
-use Rattle.index_reader.specs.CarriedPairs.{Carried, is_first, all_empty, are_used_up}
+use Rattle.index_reader.specs.Reading.Carried.{Carried, is_first, all_empty, are_used_up}
 use Rattle.index_reader.specs.Lookups.{place_of}
-use Rattle.index_reader.specs.AgreementChecks.{Carrier, or_disagree, keys_at, list_of_label, lists_of_series, each_all, are_used, agreement_of}
-use Rattle.index_reader.specs.SeriesWalk.{Rests, in_turn, rests_of, with_rest, take_reference, take_label, take_series, keys_used_up}
+use Rattle.index_reader.specs.Reading.Agreement.{Carrier, or_disagree, keys_at, list_of_label, lists_of_series, each_all, are_used, agreement_of}
+use Rattle.index_reader.specs.Reading.Walk.{Rests, in_turn, rests_of, with_rest, take_reference, take_label, take_series, keys_used_up}
 use Rattle.index_reader.proofs.Eaches.{drop_at_place}
 use Rattle.index_reader.proofs.OnlyDisagrees.{OnlyDisagrees, only_ok, only_then, only_refused, only_each, only_each_all, only_place, only_placed}
 

@@ -11,10 +11,10 @@ use Rattle.std.proofs.lemmas.Map.Lookups.{exact_pairs}
 use Rattle.labels.specs.Parts.{carries}
 use Rattle.index_reader.specs.declared.error.IndexError.{IndexError}
 use Rattle.index_reader.specs.Layout.{ascending, Label, rises}
-use Rattle.index_reader.specs.Steps.{each}
-use Rattle.index_reader.specs.CarriedPairs.{Carried}
+use Rattle.index_reader.specs.Reading.Steps.{each}
+use Rattle.index_reader.specs.Reading.Carried.{Carried}
 use Rattle.index_reader.specs.Lookups.{next, index_of, key_cmp, key_before, place_of}
-use Rattle.index_reader.specs.AgreementChecks.{or_disagree, list_of_label}
+use Rattle.index_reader.specs.Reading.Agreement.{or_disagree, list_of_label}
 use Rattle.index_reader.proofs.Orders.{symbols_cmp, number_less, number_greater}
 use Rattle.index_reader.proofs.Searching.{keys_total, strict_from_rises, search_found}
 use Rattle.wire.proofs.Steps.{bind_ok}

@@ -14,10 +14,10 @@ use Rattle.index_reader.specs.declared.error.IndexError.{IndexError}
 use Rattle.index_reader.specs.declared.error.IndexError.TheVariants.{SeriesCrc}
 use Rattle.index_reader.specs.Outcome.{is_memory, Fails}
 use Rattle.wire.specs.Outcome.{◌>>=◌, or_refused}
-use Rattle.index_reader.specs.Frames.{checked_at}
+use Rattle.index_reader.specs.Reading.Frames.{checked_at}
 use Rattle.index_reader.specs.Layout.{SeriesEntry, rounded, ascending, is_less}
-use Rattle.index_reader.specs.SymbolChecks.{symbol_at, symbols_from}
-use Rattle.index_reader.specs.EntryChecks.{entry_at, entries_from}
+use Rattle.index_reader.specs.Reading.Symbols.{symbol_at, symbols_from}
+use Rattle.index_reader.specs.Reading.Entries.{entry_at, entries_from}
 use Rattle.std.proofs.Math.Seq.{drop-cons}
 
 -- a test that did not fail

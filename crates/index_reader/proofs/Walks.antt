@@ -18,9 +18,9 @@ use Rattle.wire.proofs.Laws.{uvarint_takes, uvarint_again, uvarint_long}
 use Rattle.index_reader.specs.declared.error.IndexError.{IndexError}
 use Rattle.index_reader.specs.declared.error.IndexError.TheVariants.{Symbols}
 use Rattle.wire.specs.Outcome.{◌>>=◌, or_refused}
-use Rattle.index_reader.specs.SymbolChecks.{symbol_at, symbols_from, symbols_of}
+use Rattle.index_reader.specs.Reading.Symbols.{symbol_at, symbols_from, symbols_of}
 use Rattle.index_reader.specs.Layout.{ascending, SeriesEntry, rounded}
-use Rattle.index_reader.specs.EntryChecks.{entry_at, entries_from}
+use Rattle.index_reader.specs.Reading.Entries.{entry_at, entries_from}
 use Rattle.index_reader.specs.Grammar.{entry, symbol, IsSymbolTable, IsWalk}
 use Rattle.index_reader.proofs.WalkLoops.{guard_ended, entry_shorter}
 use Rattle.wire.proofs.Steps.{bind_ok, refused_ok}

@@ -14,11 +14,11 @@ use Rattle.index_reader.specs.declared.layout.TableOfContents.{TableOfContents}
 use Rattle.index_reader.specs.declared.error.IndexError.{IndexError}
 use Rattle.index_reader.specs.declared.error.IndexError.TheVariants.{ContentsCrc, ContentsOrder, SymbolsCrc}
 use Rattle.index_reader.specs.Layout.{IsPlaced, rounded, series_end, Layout}
-use Rattle.index_reader.specs.HeadChecks.{in_order, has_magic, contents_at, contents_of, head_of}
-use Rattle.index_reader.specs.Frames.{frame_at}
-use Rattle.index_reader.specs.SymbolChecks.{symbols_of}
-use Rattle.index_reader.specs.EntryChecks.{entries_from}
-use Rattle.index_reader.specs.Checks.{layout_of}
+use Rattle.index_reader.specs.Reading.Head.{in_order, has_magic, contents_at, contents_of, head_of}
+use Rattle.index_reader.specs.Reading.Frames.{frame_at}
+use Rattle.index_reader.specs.Reading.Symbols.{symbols_of}
+use Rattle.index_reader.specs.Reading.Entries.{entries_from}
+use Rattle.index_reader.specs.Reading.Whole.{layout_of}
 use Rattle.index_reader.specs.Grammar.{frame, contents_text, IsLayout}
 use Rattle.index_reader.specs.Outcome.{Gives}
 use Rattle.index_reader.proofs.WalkLoops.{guard_ended}

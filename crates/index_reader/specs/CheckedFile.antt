@@ -6,9 +6,9 @@ use Rattle.index_reader.specs.declared.bodies.Bodies.{Bodies}
 use Rattle.index_reader.specs.declared.layout.Layout.{Layout}
 use Rattle.index_reader.specs.declared.symbols.Symbols.{Symbols}
 use Rattle.index_reader.specs.Layout.{IsPlaced, Body}
-use Rattle.index_reader.specs.AgreementChecks.{Carrier, carriers, entry_references}
-use Rattle.index_reader.specs.Checks.{Read}
-use Rattle.index_reader.specs.FlatBodies.{bodies_in, label_sets_in, references_in_order}
+use Rattle.index_reader.specs.Reading.Agreement.{Carrier, carriers, entry_references}
+use Rattle.index_reader.specs.Reading.Whole.{Read}
+use Rattle.index_reader.specs.Reading.Flat.{bodies_in, label_sets_in, references_in_order}
 use Rattle.index_reader.specs.Grammar.{IsLayout}
 use Rattle.index_reader.specs.Seen.{bytes_of, entries_seen, strings_of}
 use Rattle.index_reader.specs.Layout as layout

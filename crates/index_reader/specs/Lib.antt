@@ -1,16 +1,8 @@
 -- The words of the index reader, and what its contracts say by them.
-pub mod AgreementChecks
-pub mod BodyChecks
-pub mod CarriedPairs
 pub mod CheckedFile
 pub mod Checks
-pub mod ChunkChecks
 pub mod Codes
-pub mod EntryChecks
-pub mod FlatBodies
-pub mod Frames
 pub mod Grammar
-pub mod HeadChecks
 pub mod Indexes
 pub mod KeptIndex
 pub mod KeptLists
@@ -18,13 +10,8 @@ pub mod Layout
 pub mod Lookups
 pub mod Outcome
 pub mod PairTexts
-pub mod PostingsChecks
+pub mod Reading
 pub mod References
-pub mod Refusals
 pub mod Seen
-pub mod SeriesWalk
 pub mod Spelled
 pub mod Stated
-pub mod Steps
-pub mod SymbolChecks
-pub mod TableChecks

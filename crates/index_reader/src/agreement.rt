@@ -2,13 +2,13 @@
 
 ghost use Rattle.std.specs.List.{list_all};
 ghost use Rattle.std.specs.Prelude.{◌≡◌, ◌+◌, ◌≤◌, ◌^◌, length, nat_lt, All, IfOk, ◌==◌, [], MatchOption, true, ◌∷◌};
-ghost use Rattle.index_reader.specs.AgreementChecks.{are_used, agreement_of};
+ghost use Rattle.index_reader.specs.Reading.Agreement.{are_used, agreement_of};
 ghost use Rattle.index_reader.specs.CheckedFile.{carriers_seen, symbol_texts};
-ghost use Rattle.index_reader.specs.CarriedPairs.{all_empty};
+ghost use Rattle.index_reader.specs.Reading.Carried.{all_empty};
 ghost use Rattle.index_reader.specs.Outcome.{Gives};
 ghost use Rattle.index_reader.specs.References.{references_in};
 ghost use Rattle.index_reader.specs.Seen.{bytes_of, table_seen, references_in_each};
-ghost use Rattle.index_reader.specs.SeriesWalk.{in_turn, rests_of, take_reference, take_label, take_series, keys_used_up};
+ghost use Rattle.index_reader.specs.Reading.Walk.{in_turn, rests_of, take_reference, take_label, take_series, keys_used_up};
 
 use crate::bodies::{Bodies, label_set_at, reference_of};
 use crate::error::IndexError;
@@ -51,7 +51,7 @@ struct Rests<'a> {
 impl<'a> Model for Rests<'a> {
     ghost use Rattle.std.specs.Prelude.{◌≡◌, ◌+◌, length};
     ghost use Rattle.index_reader.specs.Seen.{references_in_each};
-    ghost use Rattle.index_reader.specs.SeriesWalk as walk;
+    ghost use Rattle.index_reader.specs.Reading.Walk as walk;
 
     ghost Value = { walk.Rests };
 
@@ -65,7 +65,7 @@ impl<'a> Model for Rests<'a> {
 
 impl<'a> Rests<'a> {
     // The whole lists.
-    #[tactic(auto, using(crate::proofs::Placing::lists_are), unfolding(crate::specs::SeriesWalk::rests_of))]
+    #[tactic(auto, using(crate::proofs::Placing::lists_are), unfolding(crate::specs::Reading::Walk::rests_of))]
     fn new(
         alloc: Global,
         symbols: &Symbols,
@@ -101,7 +101,7 @@ impl<'a> Rests<'a> {
     }
 
     // Takes it from the list of a label.
-    #[tactic(auto, unfolding(crate::specs::SeriesWalk::take_label))]
+    #[tactic(auto, unfolding(crate::specs::Reading::Walk::take_label))]
     fn take_label(&mut self, reference: u32, label: (u32, u32)) -> Result<(), IndexError>
         ensures { Gives (λ _. self.new) result (take_label reference self.old label) }
     {
@@ -123,7 +123,7 @@ impl<'a> Rests<'a> {
     }
 
     // Takes the reference of a series from the first list, and from that of each of its labels.
-    #[tactic(auto, unfolding(crate::specs::SeriesWalk::take_series))]
+    #[tactic(auto, unfolding(crate::specs::Reading::Walk::take_series))]
     fn take_series(&mut self, reference: u32, labels: &[(u32, u32)]) -> Result<(), IndexError>
         ensures { Gives (λ _. self.new) result (take_series self.old (reference, labels.now)) }
     {
@@ -207,7 +207,7 @@ fn are_used(lists: &[&[u8]]) -> bool
 
 // The series are walked once, in their order, each taking its reference from the lists of its
 // labels.
-#[tactic(auto, unfolding(crate::specs::SeriesWalk::keys_used_up))]
+#[tactic(auto, unfolding(crate::specs::Reading::Walk::keys_used_up))]
 fn use_up_lists(
     alloc: Global,
     symbols: &Symbols,

@@ -2,13 +2,13 @@
 
 ghost use Rattle.std.specs.List.{list_all};
 ghost use Rattle.std.specs.Prelude.{◌≡◌, ◌<◌, ◌^◌, length, slice_get, Some, All, IfOk};
-ghost use Rattle.index_reader.specs.AgreementChecks.{entry_references};
-ghost use Rattle.index_reader.specs.Checks.{is_small};
-ghost use Rattle.index_reader.specs.FlatBodies.{AllIn, bodies_in, body_of_entry, label_sets_in, labels_before, references_in_order};
+ghost use Rattle.index_reader.specs.Reading.Agreement.{entry_references};
+ghost use Rattle.index_reader.specs.Reading.Whole.{is_small};
+ghost use Rattle.index_reader.specs.Reading.Flat.{AllIn, bodies_in, body_of_entry, label_sets_in, labels_before, references_in_order};
 ghost use Rattle.index_reader.specs.Layout.{rises};
 ghost use Rattle.index_reader.specs.Outcome.{Gives};
 ghost use Rattle.index_reader.specs.Seen.{bytes_of, entries_seen};
-ghost use Rattle.index_reader.specs.Steps.{each};
+ghost use Rattle.index_reader.specs.Reading.Steps.{each};
 
 use crate::body::body_into;
 use crate::chunk::Chunk;

@@ -4,8 +4,8 @@ ghost use Rattle.std.specs.Prelude.{◌≡◌, ◌+◌, ◌<◌, ◌≤◌, ◌^
 ghost use Rattle.index_reader.specs.Outcome.{Gives};
 ghost use Rattle.index_reader.specs.Seen.{bytes_of};
 ghost use Rattle.labels.specs.Contents.{is_time};
-ghost use Rattle.index_reader.specs.Steps.{steps, with_front};
-ghost use Rattle.index_reader.specs.BodyChecks.{is_label, label_at, labels_at, chunk_at, chunks_at, body_at, behind_both};
+ghost use Rattle.index_reader.specs.Reading.Steps.{steps, with_front};
+ghost use Rattle.index_reader.specs.Reading.Bodies.{is_label, label_at, labels_at, chunk_at, chunks_at, body_at, behind_both};
 
 use crate::chunk::{Chunk, read_first, read_later};
 use crate::error::IndexError;
@@ -13,7 +13,7 @@ use crate::symbols::SymbolTable;
 use labels::is_name;
 use wire::Cut;
 
-#[tactic(auto, unfolding(crate::specs::BodyChecks::is_label))]
+#[tactic(auto, unfolding(crate::specs::Reading::Bodies::is_label))]
 fn is_label(symbols: &SymbolTable<'_>, low: u64, name: u64, value: u64) -> bool
     ensures exact { result ≡ is_label (bytes_of symbols.now.texts.items) low name value }
     ensures within { IsTrue result → (name < length symbols.now.texts.items)
@@ -27,7 +27,7 @@ fn is_label(symbols: &SymbolTable<'_>, low: u64, name: u64, value: u64) -> bool
     is_name(symbols.texts[name as usize]) & !symbols.texts[value as usize].is_empty()
 }
 
-#[tactic(auto, unfolding(crate::specs::BodyChecks::label_at))]
+#[tactic(auto, unfolding(crate::specs::Reading::Bodies::label_at))]
 fn read_label(
     symbols: &SymbolTable<'_>,
     low: u64,
@@ -64,7 +64,7 @@ fn more_labels(
 }
 
 /// Adds the labels of a body, and gives the least symbol that a further name may have.
-#[tactic(auto, unfolding(crate::specs::BodyChecks::labels_at))]
+#[tactic(auto, unfolding(crate::specs::Reading::Bodies::labels_at))]
 pub fn labels_into(
     symbols: &SymbolTable<'_>,
     cut: &mut Cut<'_>,
@@ -77,7 +77,7 @@ pub fn labels_into(
     more_labels(symbols, count, cut, labels)
 }
 
-#[tactic(auto, unfolding(crate::specs::BodyChecks::chunk_at))]
+#[tactic(auto, unfolding(crate::specs::Reading::Bodies::chunk_at))]
 fn read_chunk(before: Chunk, cut: &mut Cut<'_>) -> Result<Chunk, IndexError>
     requires { is_time before.maxt ≡ true }
     ensures exact { Gives (λ c. (c, (c, cut.new))) result (chunk_at (before, cut.old)) }
@@ -106,7 +106,7 @@ fn more_chunks(
 }
 
 /// Adds the chunks of a body, and gives the last.
-#[tactic(auto, using(crate::proofs::Stepping::behind_front), unfolding(crate::specs::BodyChecks::chunks_at))]
+#[tactic(auto, using(crate::proofs::Stepping::behind_front), unfolding(crate::specs::Reading::Bodies::chunks_at))]
 pub fn chunks_into(cut: &mut Cut<'_>, chunks: &mut Vec<Chunk>) -> Result<Chunk, IndexError>
     ensures { Gives (λ c. (chunks.new.items, (c, cut.new))) result
         (with_front chunks.old.items (chunks_at cut.old)) }

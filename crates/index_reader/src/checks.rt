@@ -1,10 +1,10 @@
 //! All checks of an index, in their order.
 
 ghost use Rattle.std.specs.Prelude.{◌≡◌, length, IfOk};
-ghost use Rattle.index_reader.specs.AgreementChecks.{entry_references};
+ghost use Rattle.index_reader.specs.Reading.Agreement.{entry_references};
 ghost use Rattle.index_reader.specs.CheckedFile.{bodies_seen, read_seen, IsHeldIn, IsSoundLayout, layout_seen};
-ghost use Rattle.index_reader.specs.Checks.{bodies_of, postings_of, read_of, indexed, IsSoundRead};
-ghost use Rattle.index_reader.specs.FlatBodies.{references_in_order};
+ghost use Rattle.index_reader.specs.Reading.Whole.{bodies_of, postings_of, read_of, indexed, IsSoundRead};
+ghost use Rattle.index_reader.specs.Reading.Flat.{references_in_order};
 ghost use Rattle.index_reader.specs.Layout.{IsPlaced};
 ghost use Rattle.index_reader.specs.Outcome.{Gives};
 ghost use Rattle.index_reader.specs.Seen.{bytes_of, entries_seen, table_seen};
@@ -33,7 +33,7 @@ pub struct Checked<'a> {
     pub lists: Vec<&'a [u8]>,
 }
 
-#[tactic(auto, using(crate::proofs::Sound::sets_are), unfolding(crate::specs::Checks::bodies_of))]
+#[tactic(auto, using(crate::proofs::Sound::sets_are), unfolding(crate::specs::Reading::Whole::bodies_of))]
 fn check_bodies(alloc: Global, file: &[u8], layout: &Layout<'_>) -> Result<Bodies, IndexError>
     requires { IsSoundLayout file.now layout.now }
     ensures exact { Gives bodies_seen result (bodies_of file.now (layout_seen layout.now)) }
@@ -51,7 +51,7 @@ fn check_bodies(alloc: Global, file: &[u8], layout: &Layout<'_>) -> Result<Bodie
     Ok(bodies)
 }
 
-#[tactic(auto, unfolding(crate::specs::Checks::postings_of))]
+#[tactic(auto, unfolding(crate::specs::Reading::Whole::postings_of))]
 fn postings_of(
     alloc: Global,
     file: &[u8],
@@ -73,7 +73,7 @@ fn postings_of(
 }
 
 /// All checks of an index, in their order.
-#[tactic(auto, using(crate::proofs::Sound::sets_are, crate::proofs::Sound::count_is), unfolding(crate::specs::Checks::read_of))]
+#[tactic(auto, using(crate::proofs::Sound::sets_are, crate::proofs::Sound::count_is), unfolding(crate::specs::Reading::Whole::read_of))]
 pub fn check_all(alloc: Global, file: &[u8]) -> Result<Checked<'_>, IndexError>
     ensures exact { Gives read_seen result (read_of file.now) }
     ensures held { IfOk result (IsHeldIn file.now) }

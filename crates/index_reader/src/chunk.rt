@@ -2,7 +2,7 @@
 
 ghost use Rattle.std.specs.Prelude.{◌≡◌, ◌<◌, IsTrue, true, IfSome, MatchOption, Some, None};
 ghost use Rattle.labels.specs.Contents.{is_time};
-ghost use Rattle.index_reader.specs.ChunkChecks.{time_after, reference_after, first_at, later_at};
+ghost use Rattle.index_reader.specs.Reading.Chunks.{time_after, reference_after, first_at, later_at};
 
 use labels::{MAX_TIME, is_time};
 use wire::Cut;
@@ -15,7 +15,7 @@ pub struct Chunk {
     pub reference: u64,
 }
 
-#[tactic(auto, unfolding(crate::specs::ChunkChecks::time_after))]
+#[tactic(auto, unfolding(crate::specs::Reading::Chunks::time_after))]
 fn time_after(before: i64, gap: u64) -> Option<i64>
     requires { is_time before ≡ true }
     ensures exact { result ≡ time_after before gap }
@@ -38,7 +38,7 @@ fn reference_after(before: u64, step: i64) -> Option<u64>
     Some(reference as u64)
 }
 
-#[tactic(auto, unfolding(crate::specs::ChunkChecks::first_at))]
+#[tactic(auto, unfolding(crate::specs::Reading::Chunks::first_at))]
 pub fn read_first(cut: &mut Cut<'_>) -> Option<Chunk>
     ensures exact { MatchOption result (first_at cut.old ≡ None)
         (λ c. first_at cut.old ≡ Some (c, cut.new)) }
@@ -58,7 +58,7 @@ pub fn read_first(cut: &mut Cut<'_>) -> Option<Chunk>
     })
 }
 
-#[tactic(auto, unfolding(crate::specs::ChunkChecks::later_at))]
+#[tactic(auto, unfolding(crate::specs::Reading::Chunks::later_at))]
 pub fn read_later(before: Chunk, cut: &mut Cut<'_>) -> Option<Chunk>
     requires { is_time before.maxt ≡ true }
     ensures exact { MatchOption result (later_at before cut.old ≡ None)

@@ -4,9 +4,9 @@ ghost use Rattle.std.specs.Prelude.{◌≡◌, ◌<◌, ℕ, ◌==◌, [], lengt
 ghost use Rattle.std.specs.Prelude.{IfSome, IfNone};
 ghost use Rattle.index_reader.specs.Outcome.{Gives};
 ghost use Rattle.index_reader.specs.Indexes.{Indexed, IsConsistent, references, label_sets, chunk_lists, references_with, values_of};
-ghost use Rattle.index_reader.specs.Checks.{indexed_of};
+ghost use Rattle.index_reader.specs.Reading.Whole.{indexed_of};
 ghost use Rattle.index_reader.specs.Spelled.{IsIndex};
-ghost use Rattle.index_reader.specs.Refusals.{IsRefused};
+ghost use Rattle.index_reader.specs.Checks.{IsRefused};
 
 use crate::bodies::flat_parts;
 use crate::checks::{Checked, check};
@@ -14,7 +14,7 @@ use crate::chunk::Chunk;
 use crate::error::IndexError;
 use crate::lists::{Lists, copy_lists};
 use crate::pairs::Pairs;
-use crate::postings::PostingsList;
+use crate::postings::Entries;
 use crate::series::{Series, label_set_of};
 use labels::{LabelSet, SeriesRef};
 use std::alloc::{AllocError, Global};
@@ -86,8 +86,6 @@ impl Index {
         ensures only { (x : Indexed) → IsIndex file.now x → Gives (λ i. i) result (Ok x) }
         // References and label sets ascend, and the lists are those of the series.
         ensures consistent { IfOk result IsConsistent }
-        // The same as reading tells it.
-        ensures exact { Gives (λ x. x) result (indexed_of file.now) }
     {
         index_of(alloc, file)
     }
@@ -137,7 +135,7 @@ impl Index {
     }
 
     /// The references of all series. None of it is read yet.
-    pub fn all(&self) -> PostingsList<'_>
+    pub fn all(&self) -> Entries<'_>
         ensures { result ≡ (references self.now.series, 0) }
     {
         self.lists.entries_at(0)
@@ -146,7 +144,7 @@ impl Index {
     /// The references of the series with this value of a name, `None` where there is none. None of
     /// it is read yet. It takes time in proportion to the logarithms of the counts of symbols and
     /// of pairs, and no memory.
-    pub fn postings(&self, name: &str, value: &str) -> Option<PostingsList<'_>>
+    pub fn entries(&self, name: &str, value: &str) -> Option<Entries<'_>>
         ensures none { IfNone result (references_with name.now value.now self.now.series ≡ []) }
         ensures listed { IfSome result
             (λ e. e ≡ (references_with name.now value.now self.now.series, 0)) }

@@ -4,11 +4,11 @@
 ghost use Rattle.std.specs.Prelude.{◌≡◌, ◌+◌, ◌≤◌, length, IfOk, ◌==◌, Ok, drop, take};
 ghost use Rattle.byteorder.specs.Endian.{big_number};
 ghost use Rattle.wire.specs.Checksum.{crc32c};
-ghost use Rattle.index_reader.specs.Checks.{layout_of};
+ghost use Rattle.index_reader.specs.Reading.Whole.{layout_of};
 ghost use Rattle.index_reader.specs.CheckedFile.{IsSoundLayout, layout_seen};
-ghost use Rattle.index_reader.specs.Frames.{checked_at, frame_at};
+ghost use Rattle.index_reader.specs.Reading.Frames.{checked_at, frame_at};
 ghost use Rattle.index_reader.specs.Grammar.{IsLayout};
-ghost use Rattle.index_reader.specs.HeadChecks.{contents_at, contents_of, in_order, head_of};
+ghost use Rattle.index_reader.specs.Reading.Head.{contents_at, contents_of, in_order, head_of};
 ghost use Rattle.index_reader.specs.Layout.{series_end, IsPlaced};
 ghost use Rattle.index_reader.specs.Outcome.{Gives};
 ghost use Rattle.index_reader.specs.Layout as layout;
@@ -73,7 +73,7 @@ fn contents_at(table: &[u8]) -> TableOfContents
     }
 }
 
-#[tactic(auto, unfolding(crate::specs::HeadChecks::contents_of))]
+#[tactic(auto, unfolding(crate::specs::Reading::Head::contents_of))]
 fn contents_of(table: &[u8]) -> Result<TableOfContents, IndexError>
     requires { length table.now ≡ 52 }
     ensures { Gives (λ t. t) result (contents_of table.now) }
@@ -98,7 +98,7 @@ fn is_in_order(t: TableOfContents, end: u64) -> bool
             | ((t.postings <= t.label_offsets) & (t.label_offsets <= t.postings_offsets)))
 }
 
-#[tactic(auto, unfolding(crate::specs::HeadChecks::head_of))]
+#[tactic(auto, unfolding(crate::specs::Reading::Head::head_of))]
 fn head_of(file: &[u8]) -> Result<TableOfContents, IndexError>
     ensures { Gives (λ t. t) result (head_of file.now) }
 {
@@ -132,7 +132,7 @@ fn check_head(file: &[u8]) -> Result<TableOfContents, IndexError>
 }
 
 /// Content of this length with its checksum after it, and what stands after both.
-#[tactic(auto, unfolding(crate::specs::Frames::checked_at))]
+#[tactic(auto, unfolding(crate::specs::Reading::Frames::checked_at))]
 pub fn checked_of(len: u64, bytes: &[u8], fault: IndexError) -> Result<(&[u8], &[u8]), IndexError>
     ensures { Gives (λ x. (x.0.now, x.1.now)) result (checked_at fault (len, bytes.now)) }
 {
@@ -146,7 +146,7 @@ pub fn checked_of(len: u64, bytes: &[u8], fault: IndexError) -> Result<(&[u8], &
 }
 
 /// Four bytes of length, the content, its checksum; and what stands after them.
-#[tactic(auto, unfolding(crate::specs::Frames::frame_at))]
+#[tactic(auto, unfolding(crate::specs::Reading::Frames::frame_at))]
 pub fn frame_of(bytes: &[u8], fault: IndexError) -> Result<(&[u8], &[u8]), IndexError>
     ensures { Gives (λ x. (x.0.now, x.1.now)) result (frame_at fault bytes.now) }
 {
@@ -166,7 +166,7 @@ pub fn series_end(t: TableOfContents) -> u64
     }
 }
 
-#[tactic(auto, unfolding(crate::specs::Checks::layout_of))]
+#[tactic(auto, unfolding(crate::specs::Reading::Whole::layout_of))]
 fn layout_of(alloc: Global, file: &[u8]) -> Result<Layout<'_>, IndexError>
     ensures { Gives layout_seen result (layout_of file.now) }
 {

@@ -2,9 +2,9 @@
 //!
 //! [`Index::open`] reads a whole index, each check over the whole file before the next, and gives
 //! what the file holds exactly where all checks pass; else it names the first that fails, `I1` to
-//! `I15` in the order of the format. What is accepted is also stated without reading, by the bytes
-//! that spell an index (`IsIndex`): a file is opened exactly where it spells one, and gives what it
-//! spells. Postings are not trusted: the pairs that are listed must be exactly those that series
+//! `I15` in the order of the format. Both are stated without reading: a file is opened exactly where
+//! its bytes spell an index (`IsIndex`), and gives what they spell; what each check asks of the
+//! bytes, and which comes first, is a table (`IsRefused`). Postings are not trusted: the pairs that are listed must be exactly those that series
 //! carry, and each list the references of the series that carry its pair. Numbers of a file are
 //! compared before anything is reserved for them.
 //!
@@ -21,7 +21,7 @@
 //! assert_eq!(rt; index.len(), 1);
 //! assert_eq!(rt; index.reference_at(0), SeriesRef::new(2));
 //! assert_eq!(rt; index.labels_at(alloc, 0)?.value("__name__"), "up");
-//! assert!(rt; index.postings("job", "a").is_none());
+//! assert!(rt; index.entries("job", "a").is_none());
 //! let refused = Index::open(alloc, b"no index").err();
 //! assert_eq!(rt; refused, Some(IndexError::TooShort));
 //! ```
@@ -56,4 +56,4 @@ mod symbols;
 pub use chunk::Chunk;
 pub use error::IndexError;
 pub use index::Index;
-pub use postings::PostingsList;
+pub use postings::Entries;

@@ -5,7 +5,7 @@ ghost use Rattle.std.specs.Prelude.{◌≡◌, ◌<◌, length, map, slice_get, 
 ghost use Rattle.index_reader.specs.References.{references_in, IsList};
 ghost use Rattle.index_reader.specs.Seen.{bytes_of};
 
-use crate::postings::{PostingsList, slice_at};
+use crate::postings::{Entries, slice_at};
 use std::alloc::{AllocError, Global};
 use std::marker::Model;
 
@@ -61,14 +61,14 @@ impl Lists {
     }
 
     /// The list at a place. None of it is read yet.
-    pub fn entries_at(&self, i: usize) -> PostingsList<'_>
+    pub fn entries_at(&self, i: usize) -> Entries<'_>
         requires { i < length self.now }
         ensures list { slice_get self.now i ≡ Some result.0 }
         ensures unread { result.1 ≡ 0 }
         ensures increasing { IsStrictlyIncreasing result.0 }
     {
         let span = self.spans[i];
-        PostingsList::new(&self.bytes[span.start..span.end])
+        Entries::new(&self.bytes[span.start..span.end])
     }
 }
 

@@ -5,8 +5,8 @@ ghost use Rattle.std.specs.Prelude.{◌≡◌, ◌<◌, ◌≤◌, length, nat_l
 ghost use Rattle.index_reader.specs.Layout.{rises, IsPlaced, is_before, is_within};
 ghost use Rattle.index_reader.specs.Outcome.{Gives};
 ghost use Rattle.index_reader.specs.Seen.{table_entry_seen, table_seen};
-ghost use Rattle.index_reader.specs.Steps.{steps};
-ghost use Rattle.index_reader.specs.TableChecks.{text_at, table_entry_at, table_at, label_offsets_at, table_content_at};
+ghost use Rattle.index_reader.specs.Reading.Steps.{steps};
+ghost use Rattle.index_reader.specs.Reading.Table.{text_at, table_entry_at, table_at, label_offsets_at, table_content_at};
 
 use crate::error::IndexError;
 use crate::layout::{TableOfContents, frame_of};
@@ -22,7 +22,7 @@ pub struct TableEntry<'a> {
     pub offset: u64,
 }
 
-#[tactic(auto, unfolding(crate::specs::TableChecks::text_at))]
+#[tactic(auto, unfolding(crate::specs::Reading::Table::text_at))]
 fn read_text<'a>(cut: &mut Cut<'a>) -> Result<&'a [u8], IndexError>
     ensures { Gives (λ x. (x.now, cut.new)) result (text_at cut.old) }
 {
@@ -30,7 +30,7 @@ fn read_text<'a>(cut: &mut Cut<'a>) -> Result<&'a [u8], IndexError>
     cut.bytes(len as usize).or(Err(IndexError::Offsets))
 }
 
-#[tactic(auto, unfolding(crate::specs::TableChecks::table_entry_at))]
+#[tactic(auto, unfolding(crate::specs::Reading::Table::table_entry_at))]
 fn read_entry<'a>(cut: &mut Cut<'a>) -> Result<TableEntry<'a>, IndexError>
     ensures { Gives (λ x. (table_entry_seen x, cut.new)) result (table_entry_at cut.old) }
 {
@@ -103,7 +103,7 @@ fn are_within(table: &[TableEntry<'_>], from: u64, to: u64) -> bool
 }
 
 /// The entries of the table.
-#[tactic(auto, unfolding(crate::specs::TableChecks::table_at))]
+#[tactic(auto, unfolding(crate::specs::Reading::Table::table_at))]
 pub fn table_of(
     alloc: Global,
     from: u64,
@@ -138,7 +138,7 @@ fn label_offsets_of(file: &[u8], t: TableOfContents) -> Result<&[u8], IndexError
 }
 
 /// The content of the table.
-#[tactic(auto, unfolding(crate::specs::TableChecks::table_content_at))]
+#[tactic(auto, unfolding(crate::specs::Reading::Table::table_content_at))]
 pub fn table_content_of(file: &[u8], t: TableOfContents) -> Result<&[u8], IndexError>
     requires { IsPlaced t (length file.now) }
     ensures { Gives (λ x. x.now) result (table_content_at file.now t) }

@@ -2,13 +2,13 @@
 
 ghost use Rattle.std.specs.List.{Contains};
 ghost use Rattle.std.specs.Prelude.{◌≡◌, ◌+◌, ◌<◌, ◌≤◌, length, slice_get, Some, IfOk, IfSome, IfNone};
-ghost use Rattle.index_reader.specs.AgreementChecks.{key_at, keys_at};
+ghost use Rattle.index_reader.specs.Reading.Agreement.{key_at, keys_at};
 ghost use Rattle.index_reader.specs.CheckedFile.{symbol_texts};
 ghost use Rattle.index_reader.specs.Indexes.{values_of};
 ghost use Rattle.index_reader.specs.KeptIndex.{AreInTable};
 ghost use Rattle.index_reader.specs.Outcome.{Gives};
 ghost use Rattle.index_reader.specs.Seen.{strings_of, table_entry_seen, table_seen};
-ghost use Rattle.index_reader.specs.Steps.{each};
+ghost use Rattle.index_reader.specs.Reading.Steps.{each};
 
 use crate::error::IndexError;
 use crate::keys::{Keys, count_below, is_rising, pair_at, place_of};
@@ -16,7 +16,7 @@ use crate::offset_table::{TableEntry, table_entry_at};
 use crate::symbols::{Symbols, find_symbol, find_symbol_near, text_in};
 use std::alloc::Global;
 
-#[tactic(auto, unfolding(crate::specs::AgreementChecks::key_at))]
+#[tactic(auto, unfolding(crate::specs::Reading::Agreement::key_at))]
 fn key_of(
     symbols: &Symbols,
     guess: (usize, usize),
@@ -53,7 +53,7 @@ fn keys_of_entries(
 }
 
 /// The pairs of the table after the empty one.
-#[tactic(auto, unfolding(crate::specs::AgreementChecks::keys_at))]
+#[tactic(auto, unfolding(crate::specs::Reading::Agreement::keys_at))]
 pub fn keys_of(
     alloc: Global,
     symbols: &Symbols,

@@ -3,10 +3,10 @@
 ghost use Rattle.std.specs.Prelude.{◌≡◌, ◌+◌, ◌-◌, ◌<◌, ◌≤◌, ◌^◌, length, nat_lt, slice_get, Some, All, ◌%◌, ◌/◌, min};
 ghost use Rattle.index_reader.specs.Layout.{rises};
 ghost use Rattle.index_reader.specs.Outcome.{Gives};
-ghost use Rattle.index_reader.specs.PostingsChecks.{section_at, references_at, lists_at};
+ghost use Rattle.index_reader.specs.Reading.Postings.{section_at, references_at, lists_at};
 ghost use Rattle.index_reader.specs.References.{references_in};
 ghost use Rattle.index_reader.specs.Seen.{bytes_of, table_entry_seen, table_seen};
-ghost use Rattle.index_reader.specs.Steps.{each};
+ghost use Rattle.index_reader.specs.Reading.Steps.{each};
 
 use crate::error::IndexError;
 use crate::layout::frame_of;
@@ -20,12 +20,12 @@ use wire::Cut;
 /// References of four bytes each, and how many of them were read. They are seen as the references
 /// and the count.
 #[derive(Drop)]
-pub struct PostingsList<'a> {
+pub struct Entries<'a> {
     bytes: &'a [u8],
     reads: u64,
 }
 
-impl<'a> Model for PostingsList<'a> {
+impl<'a> Model for Entries<'a> {
     ghost use Rattle.std.specs.Prelude.{◌≡◌, ◌%◌, ℕ, List, length};
 
     ghost Value = { List ℕ × ℕ };
@@ -46,13 +46,13 @@ pub fn word_at(bytes: &[u8], i: usize) -> u32
     BigEndian::read_u32(rest)
 }
 
-impl<'a> PostingsList<'a> {
+impl<'a> Entries<'a> {
     /// The references that these bytes hold, none of them read yet.
-    pub(crate) fn new(bytes: &'a [u8]) -> PostingsList<'a>
+    pub(crate) fn new(bytes: &'a [u8]) -> Entries<'a>
         requires { length bytes.now % 4 ≡ 0 }
         ensures { result ≡ (references_in bytes.now, 0) }
     {
-        PostingsList { bytes, reads: 0 }
+        Entries { bytes, reads: 0 }
     }
 
     /// How many references there are. It reads none.
@@ -84,7 +84,7 @@ impl<'a> PostingsList<'a> {
     }
 }
 
-#[tactic(auto, unfolding(crate::specs::PostingsChecks::section_at))]
+#[tactic(auto, unfolding(crate::specs::Reading::Postings::section_at))]
 fn section_of<'a>(
     file: &'a [u8],
     to: usize,
@@ -118,7 +118,7 @@ fn is_rising(bytes: &[u8]) -> bool
     true
 }
 
-#[tactic(auto, unfolding(crate::specs::PostingsChecks::references_at))]
+#[tactic(auto, unfolding(crate::specs::Reading::Postings::references_at))]
 fn references_of(content: &[u8]) -> Result<&[u8], IndexError>
     ensures { Gives (λ x. x.now) result (references_at content.now) }
 {
@@ -180,7 +180,7 @@ pub struct PostingsTable<'a> {
 }
 
 /// The bytes of the references of each entry of the table.
-#[tactic(auto, unfolding(crate::specs::PostingsChecks::lists_at))]
+#[tactic(auto, unfolding(crate::specs::Reading::Postings::lists_at))]
 pub fn lists_of<'a>(
     alloc: Global,
     file: &'a [u8],

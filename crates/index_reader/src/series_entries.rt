@@ -2,8 +2,8 @@
 
 ghost use Rattle.std.specs.List.{list_all};
 ghost use Rattle.std.specs.Prelude.{◌≡◌, ◌<◌, ◌≤◌, ◌^◌, length, slice_get, Some, All, ◌==◌};
-ghost use Rattle.index_reader.specs.AgreementChecks.{entry_references};
-ghost use Rattle.index_reader.specs.EntryChecks.{zero_between, gaps_zero, entry_at, entries_from};
+ghost use Rattle.index_reader.specs.Reading.Agreement.{entry_references};
+ghost use Rattle.index_reader.specs.Reading.Entries.{zero_between, gaps_zero, entry_at, entries_from};
 ghost use Rattle.index_reader.specs.Outcome.{Gives};
 ghost use Rattle.index_reader.specs.Seen.{entry_seen, entries_seen};
 
@@ -20,7 +20,7 @@ pub struct SeriesEntry<'a> {
     pub end: usize,
 }
 
-#[tactic(auto, unfolding(crate::specs::EntryChecks::entry_at))]
+#[tactic(auto, unfolding(crate::specs::Reading::Entries::entry_at))]
 fn entry_of(bytes: &[u8]) -> Result<(&[u8], &[u8]), IndexError>
     ensures { Gives (λ x. (x.0.now, x.1.now)) result (entry_at bytes.now) }
 {

@@ -6,7 +6,7 @@ ghost use Rattle.index_reader.specs.Layout.{is_less, ascending};
 ghost use Rattle.index_reader.specs.Lookups.{symbol_of};
 ghost use Rattle.index_reader.specs.Outcome.{Gives};
 ghost use Rattle.index_reader.specs.Seen.{bytes_of, strings_of};
-ghost use Rattle.index_reader.specs.SymbolChecks.{symbol_at, symbols_from, symbols_of};
+ghost use Rattle.index_reader.specs.Reading.Symbols.{symbol_at, symbols_from, symbols_of};
 
 use crate::error::IndexError;
 use std::alloc::{AllocError, Global};
@@ -36,7 +36,7 @@ fn utf8_text(bytes: &[u8]) -> Option<&str>
     str::from_utf8(bytes).ok()
 }
 
-#[tactic(auto, unfolding(crate::specs::SymbolChecks::symbol_at))]
+#[tactic(auto, unfolding(crate::specs::Reading::Symbols::symbol_at))]
 fn read_symbol<'a>(cut: &mut Cut<'a>) -> Result<&'a str, IndexError>
     ensures { Gives (λ x. (x.now, cut.new)) result (symbol_at cut.old) }
 {
@@ -73,7 +73,7 @@ fn is_rising(symbols: &[&str]) -> bool
 }
 
 /// The symbols of the content of a symbol table.
-#[tactic(auto, unfolding(crate::specs::SymbolChecks::symbols_of))]
+#[tactic(auto, unfolding(crate::specs::Reading::Symbols::symbols_of))]
 pub fn symbols_of(alloc: Global, content: &[u8]) -> Result<SymbolTable<'_>, IndexError>
     ensures { Gives (λ t. bytes_of t.texts.items) result (symbols_of content.now) }
 {

@@ -9,9 +9,10 @@ use Rattle.block.proofs.Chunked.{sound_of}
 use Rattle.block.proofs.Found.{block_spelled}
 use Rattle.block.proofs.Refusals.{block_fails_index, block_fails_chunks, block_fails_stored, block_fails_deleted, block_outside, block_opens}
 use Rattle.index_reader.specs.Indexes.{IsConsistent}
-use Rattle.index_reader.specs.Checks.{indexed_of}
+use Rattle.index_reader.specs.Reading.Whole.{indexed_of}
 use Rattle.index_reader.specs.Outcome as index_outcome
 use Rattle.index_reader.specs.Spelled.{IsIndex}
+use Rattle.index_reader.proofs.Pinned.{given}
 use Rattle.block.proofs.blocks.open_with_checker.Goals as goal
 
 pub returns-in_err-index-clause-exact : goal.returns-in_err-index-clause-exact
@@ -19,7 +20,8 @@ returns-in_err-index-clause-exact g c =
     let p = err_from_is_err_and c.from_residual.result c.from_residual.ensures.1 in
     rw (p.1, p.2) (block_fails_index c.args.range c.args.index.now c.args.chunks.items
     c.args.tombstones.now c.in_err-index.field-0.0 (subst (λ r. index_outcome.Gives (λ x. x) r
-    (indexed_of c.args.index.now)) c.in_err-index.was c.requires.read))
+    (indexed_of c.args.index.now)) c.in_err-index.was (given c.args.index.now c.args.read
+    (λ i. omega (arith, c.type_inv.index i)) c.requires.spelled c.requires.refused)))
 
 pub returns-in_err-chunks-clause-exact : goal.returns-in_err-chunks-clause-exact
 returns-in_err-chunks-clause-exact g c =
@@ -29,7 +31,8 @@ returns-in_err-chunks-clause-exact g c =
     rw (p.1, p.2) (block_fails_chunks c.args.range c.args.index.now c.args.chunks.items
     c.args.tombstones.now c.in_ok-index.index c.in_err-chunks.field-0.0
     (subst (λ r. index_outcome.Gives (λ x. x) r (indexed_of c.args.index.now)) c.in_ok-index.was
-    c.requires.read) c.in_err-chunks.ensures.exact)
+    (given c.args.index.now c.args.read
+    (λ i. omega (arith, c.type_inv.index i)) c.requires.spelled c.requires.refused)) c.in_err-chunks.ensures.exact)
 
 pub returns-in_err-check_stored-clause-exact : goal.returns-in_err-check_stored-clause-exact
 returns-in_err-check_stored-clause-exact g c =
@@ -39,7 +42,8 @@ returns-in_err-check_stored-clause-exact g c =
     rw (p.1, p.2) (block_fails_stored c.args.range c.args.index.now c.args.chunks.items
     c.args.tombstones.now c.in_ok-index.index c.in_ok-chunks.chunks c.in_err-check_stored.field-0.0
     (subst (λ r. index_outcome.Gives (λ x. x) r (indexed_of c.args.index.now)) c.in_ok-index.was
-    c.requires.read) c.in_ok-chunks.ensures.exact
+    (given c.args.index.now c.args.read
+    (λ i. omega (arith, c.type_inv.index i)) c.requires.spelled c.requires.refused)) c.in_ok-chunks.ensures.exact
     c.in_err-check_stored.ensures.exact)
 
 pub returns-in_err-deletions-clause-exact : goal.returns-in_err-deletions-clause-exact
@@ -50,7 +54,8 @@ returns-in_err-deletions-clause-exact g c =
     rw (p.1, p.2) (block_fails_deleted c.args.range c.args.index.now c.args.chunks.items
     c.args.tombstones.now c.in_ok-index.index c.in_ok-chunks.chunks c.in_err-deletions.field-0.0
     (subst (λ r. index_outcome.Gives (λ x. x) r (indexed_of c.args.index.now)) c.in_ok-index.was
-    c.requires.read) c.in_ok-chunks.ensures.exact
+    (given c.args.index.now c.args.read
+    (λ i. omega (arith, c.type_inv.index i)) c.requires.spelled c.requires.refused)) c.in_ok-chunks.ensures.exact
     c.in_ok-check_stored.ensures.exact c.in_err-deletions.ensures)
 
 pub returns-then-not-are_inside-clause-exact : goal.returns-then-not-are_inside-clause-exact
@@ -59,7 +64,8 @@ returns-then-not-are_inside-clause-exact g c =
     block_outside c.args.range c.args.index.now c.args.chunks.items c.args.tombstones.now
     c.in_ok-index.index c.in_ok-chunks.chunks x.0
     (subst (λ r. index_outcome.Gives (λ x. x) r (indexed_of c.args.index.now)) c.in_ok-index.was
-    c.requires.read) c.in_ok-chunks.ensures.exact
+    (given c.args.index.now c.args.read
+    (λ i. omega (arith, c.type_inv.index i)) c.requires.spelled c.requires.refused)) c.in_ok-chunks.ensures.exact
     c.in_ok-check_stored.ensures.exact x.1 (sym c.are_inside.ensures ∙ c.if-not-are_inside.true)
 
 pub invariant_of-result : goal.invariant_of-result
@@ -78,7 +84,8 @@ returns-clause-exact g c =
     let e = block_opens c.args.range c.args.index.now c.args.chunks.items c.args.tombstones.now
     c.in_ok-index.index c.in_ok-chunks.chunks x.0 c.in_ok-deletions.deletions
     (subst (λ r. index_outcome.Gives (λ x. x) r (indexed_of c.args.index.now)) c.in_ok-index.was
-    c.requires.read) c.in_ok-chunks.ensures.exact
+    (given c.args.index.now c.args.read
+    (λ i. omega (arith, c.type_inv.index i)) c.requires.spelled c.requires.refused)) c.in_ok-chunks.ensures.exact
     c.in_ok-check_stored.ensures.exact x.1 x.2 (sym c.are_inside.ensures
     ∙ c.if-not-are_inside.false) in
     e

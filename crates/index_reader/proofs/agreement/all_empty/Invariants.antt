@@ -1,5 +1,5 @@
 use Rattle.std.proofs.Common.{◌≡◌, drop}
-use Rattle.index_reader.specs.CarriedPairs.{all_empty}
+use Rattle.index_reader.specs.Reading.Carried.{all_empty}
 use Rattle.index_reader.specs.Seen.{references_in_each}
 use Rattle.index_reader.proofs.agreement.all_empty.Given as goal
 

@@ -2,8 +2,8 @@ use Rattle.std.proofs.Common.{sym, arith}
 use Rattle.std.specs.Prelude.{slice_range}
 use Rattle.std.proofs.lemmas.List.{length-map}
 use Rattle.index_reader.specs.declared.series.Series.{Series}
-use Rattle.index_reader.specs.FlatBodies.{label_sets_in}
-use Rattle.index_reader.specs.Checks.{is_small}
+use Rattle.index_reader.specs.Reading.Flat.{label_sets_in}
+use Rattle.index_reader.specs.Reading.Whole.{is_small}
 use Rattle.index_reader.proofs.Sound.{all_step, all_end}
 use Rattle.index_reader.proofs.bodies.are_small.Goals as goal
 

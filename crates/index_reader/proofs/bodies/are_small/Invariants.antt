@@ -1,7 +1,7 @@
 use Rattle.std.proofs.Common.{◌≡◌, drop}
 use Rattle.std.specs.List.{list_all}
-use Rattle.index_reader.specs.FlatBodies.{label_sets_in}
-use Rattle.index_reader.specs.Checks.{is_small}
+use Rattle.index_reader.specs.Reading.Flat.{label_sets_in}
+use Rattle.index_reader.specs.Reading.Whole.{is_small}
 use Rattle.index_reader.proofs.bodies.are_small.Given as goal
 
 abbrev pub invariant-loop-at : goal.invariant-loop-at

@@ -6,12 +6,12 @@ use Rattle.index_reader.specs.declared.error.IndexError.{IndexError}
 use Rattle.index_reader.specs.Layout.{SeriesEntry, Label, Body}
 use Rattle.index_reader.specs.Seen.{bytes_of, entry_seen, entries_seen}
 use Rattle.index_reader.specs.declared.chunk.Chunk.{Chunk}
-use Rattle.index_reader.specs.BodyChecks.{body_at, behind_both}
-use Rattle.index_reader.specs.Steps.{each, behind_items}
+use Rattle.index_reader.specs.Reading.Bodies.{body_at, behind_both}
+use Rattle.index_reader.specs.Reading.Steps.{each, behind_items}
 use Rattle.index_reader.proofs.Eaches.{each_on, each_fails, each_done}
 use Rattle.index_reader.specs.declared.series.Series.{Series}
-use Rattle.index_reader.specs.FlatBodies.{bodies_in, AllIn, body_of_entry, references_in_order}
-use Rattle.index_reader.specs.AgreementChecks.{entry_references}
+use Rattle.index_reader.specs.Reading.Flat.{bodies_in, AllIn, body_of_entry, references_in_order}
+use Rattle.index_reader.specs.Reading.Agreement.{entry_references}
 use Rattle.index_reader.proofs.Held.{moved_on, ended_so}
 use Rattle.index_reader.proofs.Growth.{both_ok, both_fails, bodies_added, all_added}
 use Rattle.index_reader.proofs.bodies.bodies_of.Goals as goal

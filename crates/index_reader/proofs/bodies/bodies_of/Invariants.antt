@@ -1,8 +1,8 @@
 use Rattle.std.proofs.Common.{◌≡◌, ◌++◌, drop}
 use Rattle.index_reader.specs.Seen.{bytes_of, entries_seen}
-use Rattle.index_reader.specs.Steps.{each, behind_items}
-use Rattle.index_reader.specs.FlatBodies.{bodies_in, AllIn, body_of_entry, references_in_order}
-use Rattle.index_reader.specs.AgreementChecks.{entry_references}
+use Rattle.index_reader.specs.Reading.Steps.{each, behind_items}
+use Rattle.index_reader.specs.Reading.Flat.{bodies_in, AllIn, body_of_entry, references_in_order}
+use Rattle.index_reader.specs.Reading.Agreement.{entry_references}
 use Rattle.index_reader.proofs.bodies.bodies_of.Given as goal
 
 abbrev pub invariant-loop-at : goal.invariant-loop-at

@@ -3,7 +3,7 @@ use Rattle.std.specs.Prelude.{slice_range}
 use Rattle.std.proofs.lemmas.List.{length-map}
 use Rattle.index_reader.proofs.Rising.{next, at_end}
 use Rattle.index_reader.specs.declared.series.Series.{Series}
-use Rattle.index_reader.specs.FlatBodies.{labels_before, label_sets_in}
+use Rattle.index_reader.specs.Reading.Flat.{labels_before, label_sets_in}
 use Rattle.index_reader.proofs.bodies.is_rising.Goals as goal
 
 pub returns-then-not-is_before : goal.returns-then-not-is_before

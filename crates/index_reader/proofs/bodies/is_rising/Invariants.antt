@@ -1,6 +1,6 @@
 use Rattle.std.proofs.Common.{◌≡◌, ◌<◌, ◌-◌, drop, length}
 use Rattle.index_reader.specs.Layout.{rises}
-use Rattle.index_reader.specs.FlatBodies.{labels_before, label_sets_in}
+use Rattle.index_reader.specs.Reading.Flat.{labels_before, label_sets_in}
 use Rattle.index_reader.proofs.bodies.is_rising.Given as goal
 
 abbrev pub invariant-loop-at : goal.invariant-loop-at

@@ -1,5 +1,5 @@
 use Rattle.std.proofs.lemmas.Result.{err_from_is_err_and}
-use Rattle.index_reader.specs.BodyChecks.{chunk_at}
+use Rattle.index_reader.specs.Reading.Bodies.{chunk_at}
 use Rattle.index_reader.proofs.Stepping.{goes_on, ends, is_done}
 use Rattle.index_reader.proofs.body.more_chunks.Goals as goal
 

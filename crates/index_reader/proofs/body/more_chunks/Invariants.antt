@@ -1,7 +1,7 @@
 use Rattle.std.proofs.Common.{◌≡◌, ◌-◌, true}
 use Rattle.labels.specs.Contents.{is_time}
-use Rattle.index_reader.specs.Steps.{steps, with_front}
-use Rattle.index_reader.specs.BodyChecks.{chunk_at}
+use Rattle.index_reader.specs.Reading.Steps.{steps, with_front}
+use Rattle.index_reader.specs.Reading.Bodies.{chunk_at}
 use Rattle.index_reader.proofs.body.more_chunks.Given as goal
 
 abbrev pub invariant-loop : goal.invariant-loop

@@ -1,7 +1,7 @@
 use Rattle.std.proofs.Common.{◌≡◌, ◌+◌, arith}
 use Rattle.std.proofs.lemmas.Result.{err_from_is_err_and}
 use Rattle.index_reader.specs.Seen.{bytes_of}
-use Rattle.index_reader.specs.BodyChecks.{label_at}
+use Rattle.index_reader.specs.Reading.Bodies.{label_at}
 use Rattle.index_reader.proofs.Stepping.{goes_on, ends, is_done}
 use Rattle.index_reader.proofs.body.more_labels.Goals as goal
 

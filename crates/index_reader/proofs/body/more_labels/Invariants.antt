@@ -1,7 +1,7 @@
 use Rattle.std.proofs.Common.{◌≡◌, ◌-◌}
 use Rattle.index_reader.specs.Seen.{bytes_of}
-use Rattle.index_reader.specs.Steps.{steps, with_front}
-use Rattle.index_reader.specs.BodyChecks.{label_at}
+use Rattle.index_reader.specs.Reading.Steps.{steps, with_front}
+use Rattle.index_reader.specs.Reading.Bodies.{label_at}
 use Rattle.index_reader.proofs.body.more_labels.Given as goal
 
 abbrev pub invariant-loop : goal.invariant-loop

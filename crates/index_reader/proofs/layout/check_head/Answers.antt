@@ -4,7 +4,7 @@ use Rattle.index_reader.specs.declared.layout.TableOfContents.{TableOfContents}
 use Rattle.index_reader.specs.declared.error.IndexError.{IndexError}
 use Rattle.index_reader.specs.Outcome.{Gives}
 use Rattle.index_reader.specs.Layout.{IsPlaced}
-use Rattle.index_reader.specs.HeadChecks.{head_of}
+use Rattle.index_reader.specs.Reading.Head.{head_of}
 use Rattle.index_reader.proofs.Head.{head_placed}
 use Rattle.index_reader.proofs.layout.check_head.Goals as goal
 

@@ -1,7 +1,7 @@
 use Rattle.std.proofs.Common.{◌≡◌, ◌-◌, ◌++◌, ◌∷◌, [], arith}
 use Rattle.std.proofs.lemmas.Result.{err_from_is_err_and}
 use Rattle.std.proofs.lemmas.List.{map_push}
-use Rattle.index_reader.specs.TableChecks.{table_entry_at}
+use Rattle.index_reader.specs.Reading.Table.{table_entry_at}
 use Rattle.index_reader.specs.Seen.{table_entry_seen, table_seen}
 use Rattle.index_reader.proofs.Stepping.{goes_on, ends, is_done, with_nil}
 use Rattle.index_reader.proofs.offset_table.read_entries.Goals as goal

@@ -1,6 +1,6 @@
 use Rattle.std.proofs.Common.{◌≡◌, ◌-◌}
-use Rattle.index_reader.specs.Steps.{steps, with_front}
-use Rattle.index_reader.specs.TableChecks.{table_entry_at}
+use Rattle.index_reader.specs.Reading.Steps.{steps, with_front}
+use Rattle.index_reader.specs.Reading.Table.{table_entry_at}
 use Rattle.index_reader.specs.Seen.{table_seen}
 use Rattle.index_reader.proofs.offset_table.read_entries.Given as goal
 

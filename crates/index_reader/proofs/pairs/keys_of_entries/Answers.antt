@@ -2,7 +2,7 @@ use Rattle.std.proofs.Common.{refl, arith}
 use Rattle.std.proofs.lemmas.Result.{err_from_is_err_and}
 use Rattle.std.proofs.lemmas.List.{length-map, length_push}
 use Rattle.index_reader.specs.Seen.{strings_of, table_entry_seen, table_seen}
-use Rattle.index_reader.specs.AgreementChecks.{key_at}
+use Rattle.index_reader.specs.Reading.Agreement.{key_at}
 use Rattle.index_reader.proofs.Eaches.{items_nil, each_on, each_fails, each_done}
 use Rattle.index_reader.proofs.pairs.keys_of_entries.Goals as goal
 

@@ -1,7 +1,7 @@
 use Rattle.std.proofs.Common.{◌≡◌, drop, length}
-use Rattle.index_reader.specs.Steps.{each, behind_items}
+use Rattle.index_reader.specs.Reading.Steps.{each, behind_items}
 use Rattle.index_reader.specs.Seen.{strings_of, table_seen}
-use Rattle.index_reader.specs.AgreementChecks.{key_at}
+use Rattle.index_reader.specs.Reading.Agreement.{key_at}
 use Rattle.index_reader.proofs.pairs.keys_of_entries.Given as goal
 
 abbrev pub invariant-loop-at : goal.invariant-loop-at

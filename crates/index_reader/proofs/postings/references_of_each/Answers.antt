@@ -2,7 +2,7 @@ use Rattle.std.proofs.Common.{◌≡◌, ℕ, List, ◌++◌, ◌∷◌, [], ari
 use Rattle.std.specs.Borrow.{Bor}
 use Rattle.std.proofs.lemmas.Result.{err_from_is_err_and}
 use Rattle.std.proofs.lemmas.List.{map_push, length-map}
-use Rattle.index_reader.specs.PostingsChecks.{references_at}
+use Rattle.index_reader.specs.Reading.Postings.{references_at}
 use Rattle.index_reader.specs.Seen.{bytes_of}
 use Rattle.index_reader.proofs.Eaches.{items_nil, each_on, each_fails, each_done}
 use Rattle.index_reader.proofs.postings.references_of_each.Goals as goal

@@ -1,6 +1,6 @@
 use Rattle.std.proofs.Common.{◌≡◌, drop}
-use Rattle.index_reader.specs.Steps.{each, behind_items}
-use Rattle.index_reader.specs.PostingsChecks.{references_at}
+use Rattle.index_reader.specs.Reading.Steps.{each, behind_items}
+use Rattle.index_reader.specs.Reading.Postings.{references_at}
 use Rattle.index_reader.specs.Seen.{bytes_of}
 use Rattle.index_reader.proofs.postings.references_of_each.Given as goal
 

@@ -6,7 +6,7 @@ use Rattle.std.proofs.lemmas.Option.{get_or_from_slice_get}
 use Rattle.index_reader.specs.declared.offset_table.TableEntry.{TableEntry}
 use Rattle.std.proofs.lemmas.Result.{err_from_is_err_and}
 use Rattle.std.proofs.lemmas.List.{map_push, length-map}
-use Rattle.index_reader.specs.PostingsChecks.{section_at}
+use Rattle.index_reader.specs.Reading.Postings.{section_at}
 use Rattle.index_reader.specs.Seen.{table_entry_seen, table_seen, bytes_of}
 use Rattle.index_reader.proofs.Eaches.{items_nil, each_on, each_fails, each_done}
 use Rattle.index_reader.proofs.postings.sections_of.Goals as goal

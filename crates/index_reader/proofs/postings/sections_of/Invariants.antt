@@ -1,6 +1,6 @@
 use Rattle.std.proofs.Common.{◌≡◌, drop}
-use Rattle.index_reader.specs.Steps.{each, behind_items}
-use Rattle.index_reader.specs.PostingsChecks.{section_at}
+use Rattle.index_reader.specs.Reading.Steps.{each, behind_items}
+use Rattle.index_reader.specs.Reading.Postings.{section_at}
 use Rattle.index_reader.specs.Seen.{table_seen, bytes_of}
 use Rattle.index_reader.proofs.postings.sections_of.Given as goal
 

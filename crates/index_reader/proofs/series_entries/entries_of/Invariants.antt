@@ -1,5 +1,5 @@
 use Rattle.std.proofs.Common.{◌≡◌, ◌-◌, ◌≤◌, length, ℕ}
-use Rattle.index_reader.specs.EntryChecks.{entries_from}
+use Rattle.index_reader.specs.Reading.Entries.{entries_from}
 use Rattle.index_reader.specs.Seen.{entries_seen}
 use Rattle.index_reader.proofs.WalkLoops.{with_places}
 use Rattle.index_reader.proofs.series_entries.entries_of.Given as goal

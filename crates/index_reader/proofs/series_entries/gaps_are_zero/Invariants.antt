@@ -1,5 +1,5 @@
 use Rattle.std.proofs.Common.{◌≡◌, drop}
-use Rattle.index_reader.specs.EntryChecks.{gaps_zero}
+use Rattle.index_reader.specs.Reading.Entries.{gaps_zero}
 use Rattle.index_reader.specs.Seen.{entries_seen}
 use Rattle.index_reader.proofs.series_entries.gaps_are_zero.Given as goal
 

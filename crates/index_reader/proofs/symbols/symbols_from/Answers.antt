@@ -2,7 +2,7 @@ use Rattle.std.proofs.Common.{◌≡◌, ◌++◌, ◌∷◌, []}
 use Rattle.std.proofs.lemmas.Result.{err_from_is_err_and}
 use Rattle.std.proofs.lemmas.List.{map_push}
 use Rattle.index_reader.specs.Seen.{bytes_of}
-use Rattle.index_reader.specs.SymbolChecks.{symbols_from}
+use Rattle.index_reader.specs.Reading.Symbols.{symbols_from}
 use Rattle.index_reader.proofs.WalkLoops.{goes_on, ends, is_done}
 use Rattle.index_reader.proofs.Sound.{symbols_counted}
 use Rattle.index_reader.proofs.symbols.symbols_from.Goals as goal

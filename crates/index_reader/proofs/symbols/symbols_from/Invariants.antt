@@ -1,5 +1,5 @@
 use Rattle.std.proofs.Common.{◌≡◌, ◌-◌}
-use Rattle.index_reader.specs.SymbolChecks.{symbols_from}
+use Rattle.index_reader.specs.Reading.Symbols.{symbols_from}
 use Rattle.index_reader.specs.Seen.{bytes_of}
 use Rattle.index_reader.proofs.WalkLoops.{with_front}
 use Rattle.index_reader.proofs.symbols.symbols_from.Given as goal

@@ -4,8 +4,8 @@ use Rattle.std.specs.Prelude.{slice_range}
 use Rattle.std.proofs.lemmas.List.{length-map}
 use Rattle.index_reader.specs.declared.series.Series.{Series}
 use Rattle.index_reader.specs.CheckedFile.{carriers_seen}
-use Rattle.index_reader.specs.FlatBodies.{label_sets_in, references_in_order}
-use Rattle.index_reader.specs.SeriesWalk.{take_series}
+use Rattle.index_reader.specs.Reading.Flat.{label_sets_in, references_in_order}
+use Rattle.index_reader.specs.Reading.Walk.{take_series}
 use Rattle.index_reader.proofs.Placing.{tied_at, length-tied}
 use Rattle.index_reader.proofs.Taken.{turn_on, turn_fails, turn_done}
 use Rattle.index_reader.proofs.agreement.Rests.take_all.Goals as goal

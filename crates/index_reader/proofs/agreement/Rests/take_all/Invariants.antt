@@ -1,6 +1,6 @@
 use Rattle.std.proofs.Common.{◌≡◌, drop}
 use Rattle.index_reader.specs.CheckedFile.{carriers_seen}
-use Rattle.index_reader.specs.SeriesWalk.{in_turn, take_series}
+use Rattle.index_reader.specs.Reading.Walk.{in_turn, take_series}
 use Rattle.index_reader.proofs.agreement.Rests.take_all.Given as goal
 
 abbrev pub invariant-loop-at : goal.invariant-loop-at

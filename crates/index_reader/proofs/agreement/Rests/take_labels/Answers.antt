@@ -1,6 +1,6 @@
 use Rattle.std.proofs.Common.{arith}
 use Rattle.std.proofs.lemmas.Result.{err_from_is_err_and}
-use Rattle.index_reader.specs.SeriesWalk.{take_label}
+use Rattle.index_reader.specs.Reading.Walk.{take_label}
 use Rattle.index_reader.proofs.Taken.{turn_on, turn_fails, turn_done}
 use Rattle.index_reader.proofs.agreement.Rests.take_labels.Goals as goal
 

@@ -1,5 +1,5 @@
 use Rattle.std.proofs.Common.{◌≡◌, drop}
-use Rattle.index_reader.specs.SeriesWalk.{in_turn, take_label}
+use Rattle.index_reader.specs.Reading.Walk.{in_turn, take_label}
 use Rattle.index_reader.proofs.agreement.Rests.take_labels.Given as goal
 
 abbrev pub invariant-loop-at : goal.invariant-loop-at

@@ -4,7 +4,7 @@ use Rattle.std.proofs.lemmas.List.{map-set}
 use Rattle.index_reader.specs.declared.error.IndexError.TheVariants.{PostingsDisagree}
 use Rattle.index_reader.specs.References.{references_in}
 use Rattle.index_reader.specs.Seen.{references_in_each}
-use Rattle.index_reader.specs.SeriesWalk.{Rests, take_reference}
+use Rattle.index_reader.specs.Reading.Walk.{Rests, take_reference}
 use Rattle.index_reader.proofs.Draining.{rest_at}
 use Rattle.index_reader.proofs.Taken.{beside, walked, taken_none, taken_other, taken_first}
 use Rattle.index_reader.proofs.agreement.Rests.take_reference.Goals as goal

@@ -4,7 +4,7 @@ use Rattle.std.specs.Prelude.{ℕ, List, [], ◌∷◌, length, Result, Ok, Bool
 use Rattle.wire.specs.Reading.{uvarint_at}
 use Rattle.index_reader.specs.declared.error.IndexError.{IndexError}
 use Rattle.index_reader.specs.declared.error.IndexError.TheVariants.{SeriesCrc}
-use Rattle.index_reader.specs.Frames.{checked_at}
+use Rattle.index_reader.specs.Reading.Frames.{checked_at}
 use Rattle.index_reader.specs.Layout.{SeriesEntry, rounded}
 use Rattle.wire.specs.Outcome.{◌>>=◌, or_refused}
 

@@ -5,7 +5,7 @@ use Rattle.index_reader.specs.Indexes as indexes
 use Rattle.index_reader.specs.KeptIndex.{all_in}
 use Rattle.index_reader.proofs.Held.{listed_entry}
 use Rattle.index_reader.proofs.Spans.{if_none, listed_at, none_listed}
-use Rattle.index_reader.proofs.index.Index.postings.Goals as goal
+use Rattle.index_reader.proofs.index.Index.entries.Goals as goal
 
 pub returns-in_err-at-clause-none : goal.returns-in_err-at-clause-none
 returns-in_err-at-clause-none c =

@@ -3,10 +3,10 @@ use Rattle.std.specs.Prelude.{ℕ, List, length, Result, Ok, Err, ◌&&◌, nat_
 use Rattle.wire.specs.Reading.{number_at}
 use Rattle.index_reader.specs.declared.error.IndexError.{IndexError}
 use Rattle.index_reader.specs.declared.error.IndexError.TheVariants.{PostingsCrc, Postings}
-use Rattle.index_reader.specs.Frames.{frame_at}
+use Rattle.index_reader.specs.Reading.Frames.{frame_at}
 use Rattle.index_reader.specs.Layout.{rises, TableEntry}
 use Rattle.index_reader.specs.References.{references_in}
-use Rattle.index_reader.specs.Steps.{each}
+use Rattle.index_reader.specs.Reading.Steps.{each}
 use Rattle.wire.specs.Outcome.{◌>>=◌, or_refused}
 
 -- the content of the section of an entry, below this place

@@ -3,11 +3,11 @@ use Rattle.std.specs.List.{list_all}
 use Rattle.std.specs.Prelude.{ℕ, ◌+◌, List, [], ◌∷◌, length, ◌++◌, Result, Ok, Err, Bool, ◌&&◌, map, nat_lt, ◌==◌, if◌then◌else◌, ◌/◌, drop, Option, Some, None}
 use Rattle.index_reader.specs.declared.error.IndexError.{IndexError}
 use Rattle.index_reader.specs.declared.error.IndexError.TheVariants.{PostingsDisagree}
-use Rattle.index_reader.specs.CarriedPairs.{Carried, are_used_up}
+use Rattle.index_reader.specs.Reading.Carried.{Carried, are_used_up}
 use Rattle.index_reader.specs.Layout.{rises, SeriesEntry, TableEntry, Label}
 use Rattle.index_reader.specs.Lookups.{key_before, symbol_of, place_of}
 use Rattle.index_reader.specs.References.{references_in}
-use Rattle.index_reader.specs.Steps.{each}
+use Rattle.index_reader.specs.Reading.Steps.{each}
 use Rattle.wire.specs.Outcome.{◌>>=◌}
 
 -- what was found, or the refusal of postings that are not those of the series

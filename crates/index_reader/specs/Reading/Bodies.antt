@@ -5,9 +5,9 @@ use Rattle.labels.specs.Names.{is_name}
 use Rattle.index_reader.specs.declared.chunk.Chunk.{Chunk}
 use Rattle.index_reader.specs.declared.error.IndexError.{IndexError}
 use Rattle.index_reader.specs.declared.error.IndexError.TheVariants.{Series}
-use Rattle.index_reader.specs.ChunkChecks.{first_at, later_at}
+use Rattle.index_reader.specs.Reading.Chunks.{first_at, later_at}
 use Rattle.index_reader.specs.Layout.{Label, Body}
-use Rattle.index_reader.specs.Steps.{steps}
+use Rattle.index_reader.specs.Reading.Steps.{steps}
 use Rattle.wire.specs.Outcome.{◌>>=◌, or_refused}
 
 -- a name from this symbol on, and a value that is not empty

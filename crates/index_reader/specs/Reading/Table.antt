@@ -5,9 +5,9 @@ use Rattle.wire.specs.Reading.{number_at, bytes_at, uvarint_at, byte_at}
 use Rattle.index_reader.specs.declared.error.IndexError.{IndexError}
 use Rattle.index_reader.specs.declared.error.IndexError.TheVariants.{Offsets}
 use Rattle.index_reader.specs.declared.layout.TableOfContents.{TableOfContents}
-use Rattle.index_reader.specs.Frames.{frame_at}
+use Rattle.index_reader.specs.Reading.Frames.{frame_at}
 use Rattle.index_reader.specs.Layout.{rises, TableEntry, is_before, is_within}
-use Rattle.index_reader.specs.Steps.{steps}
+use Rattle.index_reader.specs.Reading.Steps.{steps}
 use Rattle.wire.specs.Outcome.{◌>>=◌, or_refused}
 
 -- a text with its length before it

@@ -2,8 +2,8 @@
 use Rattle.std.specs.Prelude.{ℕ, ◌+◌, List, [], ◌∷◌, get_or, Result, Ok, Err, ◌&&◌, map, if◌then◌else◌, drop, slice_set}
 use Rattle.index_reader.specs.declared.error.IndexError.{IndexError}
 use Rattle.index_reader.specs.declared.error.IndexError.TheVariants.{PostingsDisagree}
-use Rattle.index_reader.specs.AgreementChecks.{or_disagree, keys_at, Carrier, are_used}
-use Rattle.index_reader.specs.CarriedPairs.{is_first, all_empty}
+use Rattle.index_reader.specs.Reading.Agreement.{or_disagree, keys_at, Carrier, are_used}
+use Rattle.index_reader.specs.Reading.Carried.{is_first, all_empty}
 use Rattle.index_reader.specs.Layout.{TableEntry, Label}
 use Rattle.index_reader.specs.Lookups.{place_of}
 use Rattle.index_reader.specs.References.{references_in}

@@ -6,7 +6,7 @@ use Rattle.std.specs.Prelude.{ℕ, ◌≤◌, List, length, Result, Bool, map, s
 use Rattle.index_reader.specs.declared.series.Series.{Series}
 use Rattle.index_reader.specs.declared.chunk.Chunk.{Chunk}
 use Rattle.index_reader.specs.declared.error.IndexError.{IndexError}
-use Rattle.index_reader.specs.BodyChecks.{body_at}
+use Rattle.index_reader.specs.Reading.Bodies.{body_at}
 use Rattle.index_reader.specs.Layout.{SeriesEntry, Label, Body}
 use Rattle.index_reader.specs.Lookups.{key_cmp}
 

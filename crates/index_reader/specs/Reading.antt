@@ -1,0 +1,14 @@
+pub mod Agreement
+pub mod Bodies
+pub mod Carried
+pub mod Chunks
+pub mod Entries
+pub mod Flat
+pub mod Frames
+pub mod Head
+pub mod Postings
+pub mod Steps
+pub mod Symbols
+pub mod Table
+pub mod Walk
+pub mod Whole
