@@ -1,5 +1,6 @@
 -- What is read of a block's files is what they spell.
-use Rattle.std.proofs.Common.{◌≡◌, ℕ, ◌≤◌, true, ltb, eqb, List, [], ◌∷◌, length, Ok, refl, sym, subst, ◌∙◌}
+use Rattle.std.proofs.Common.{◌≡◌, ℕ, ◌≤◌, true, ltb, eqb, List, [], ◌∷◌, length, Ok, refl, sym}
+use Rattle.std.proofs.Common.{subst, ◌∙◌}
 use Rattle.std.specs.Prelude.{ℤ}
 use Rattle.std.specs.List.{AllByRecursion, Contains, list_all}
 use Rattle.std.specs.List.Sorted.{IsPermutation}

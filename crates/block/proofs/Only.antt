@@ -1,5 +1,6 @@
 -- What the files of a block spell is read.
-use Rattle.std.proofs.Common.{◌≡◌, ℕ, ◌≤◌, true, List, [], ◌∷◌, ◌++◌, length, Ok, refl, sym, ap, subst, ◌∙◌}
+use Rattle.std.proofs.Common.{◌≡◌, ℕ, ◌≤◌, true, List, [], ◌∷◌, ◌++◌, length, Ok, refl, sym, ap}
+use Rattle.std.proofs.Common.{subst, ◌∙◌}
 use Rattle.std.specs.Prelude.{ℤ}
 use Rattle.std.specs.List.{AllByRecursion, Contains, list_all}
 use Rattle.std.proofs.lemmas.Bool.{le-leb}
@@ -20,7 +21,8 @@ use Rattle.tombstones.proofs.Whole.{tombstones_again}
 use Rattle.block.specs.Samples.{or_none, chunk_read, chunk_samples, samples_in, undeleted}
 use Rattle.block.specs.Blocks.{Shown, series_row, part_of_series, shown_of}
 use Rattle.block.specs.Sound.{lies_in, IsHeldChunk}
-use Rattle.block.specs.Opening.{each, chunk_check, series_check, is_few, is_known, is_inside, stored_of, deleted_of, block_of}
+use Rattle.block.specs.Opening.{each, chunk_check, series_check, is_few, is_known, is_inside}
+use Rattle.block.specs.Opening.{stored_of, deleted_of, block_of}
 use Rattle.block.specs.Grammar.{AreSpelled, AreRowsOfSeries, IsBlock}
 use Rattle.block.proofs.Checks.{pass_all, pass_each, weaken, in_known}
 use Rattle.block.proofs.Found.{AreHeld, AreKnown}

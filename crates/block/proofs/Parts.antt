@@ -1,5 +1,6 @@
 -- A sound block is a part, and its samples lie in its range.
-use Rattle.std.proofs.Common.{◌≡◌, ℕ, suc, ◌+◌, ◌<◌, inl, inr, Bool, true, false, ◌&&◌, List, [], ◌∷◌, length, get_or, refl, sym, ap, subst, arith}
+use Rattle.std.proofs.Common.{◌≡◌, ℕ, suc, ◌+◌, ◌<◌, inl, inr, Bool, true, false, ◌&&◌, List, []}
+use Rattle.std.proofs.Common.{◌∷◌, length, get_or, refl, sym, ap, subst, arith}
 use Rattle.std.specs.Prelude.{ℤ, int_lt, int_le, T, not}
 use Rattle.std.specs.Int.Signed.{◌<ℤ◌, ◌≤ℤ◌}
 use Rattle.std.specs.List.{AllByRecursion, Contains}
@@ -24,7 +25,8 @@ use Rattle.block.specs.Ranges.{covers}
 use Rattle.block.specs.Samples.{chunk_samples, samples_in, undeleted}
 use Rattle.block.specs.Blocks.{series_row, part_of_series, AreInside}
 use Rattle.block.specs.Sound.{lies_in, IsHeldChunk, IsStored, IsSoundBlock}
-use Rattle.block.proofs.Turns.{weaker, all_append, all_filter, is_below, is_upto, below, upto, span_of, sorted_in}
+use Rattle.block.proofs.Turns.{weaker, all_append, all_filter, is_below, is_upto, below, upto}
+use Rattle.block.proofs.Turns.{span_of, sorted_in}
 
 -- references
 

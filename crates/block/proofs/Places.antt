@@ -1,5 +1,6 @@
 -- What remains, by its place.
-use Rattle.std.proofs.Common.{◌≡◌, ℕ, zero, suc, ◌+◌, ◌-◌, ◌*◌, ◌^◌, ◌/◌, ◌<◌, ◌≤◌, inl, inr, List, [], ◌∷◌, length, get_or, drop, refl, sym, ap, ◌∙◌, arith}
+use Rattle.std.proofs.Common.{◌≡◌, ℕ, zero, suc, ◌+◌, ◌-◌, ◌*◌, ◌^◌, ◌/◌, ◌<◌, ◌≤◌, inl, inr, List}
+use Rattle.std.proofs.Common.{[], ◌∷◌, length, get_or, drop, refl, sym, ap, ◌∙◌, arith}
 use Rattle.std.specs.Prelude.{slice_get, nat_le, Some, None}
 use Rattle.std.proofs.lemmas.Option.{get_or_from_slice_get, slice_get-get_or}
 use Rattle.std.proofs.lemmas.List.{length-drop, drop-drop, get_or-drop}
@@ -9,7 +10,8 @@ use Rattle.std.proofs.lemmas.Bool.{cases_lt}
 use Rattle.std.proofs.Math.Nat.{pow-suc}
 use Rattle.std.proofs.lemmas.Bool.Decides.{nat_tests}
 use Rattle.labels.specs.Ascending.{first_of, rest_of, not_below, first_or_end}
-use Rattle.labels.proofs.Lists.{first-drop, rest-drop, drop-not_below, rising-drop, rising-head, filter-all, Contains-cases}
+use Rattle.labels.proofs.Lists.{first-drop, rest-drop, drop-not_below, rising-drop, rising-head}
+use Rattle.labels.proofs.Lists.{filter-all, Contains-cases}
 
 pub first_at : (xs : List ℕ) (i : ℕ) → first_of (drop i xs) ≡ slice_get xs i
 first_at xs zero = first-drop xs

@@ -1,5 +1,6 @@
 -- The checks of a block, one after the other.
-use Rattle.std.proofs.Common.{◌≡◌, ℕ, Bool, true, false, ◌&&◌, List, [], ◌∷◌, Option, Some, None, Result, Ok, Err, refl, sym, ap, subst, ◌∙◌}
+use Rattle.std.proofs.Common.{◌≡◌, ℕ, Bool, true, false, ◌&&◌, List, [], ◌∷◌, Option, Some, None}
+use Rattle.std.proofs.Common.{Result, Ok, Err, refl, sym, ap, subst, ◌∙◌}
 use Rattle.std.specs.Prelude.{ℤ, slice_get, IfSome, IfNone, is_some}
 use Rattle.std.specs.List.{AllByRecursion, Contains, list_all}
 use Rattle.std.specs.List.Sorted.{IsPermutation}
@@ -21,11 +22,14 @@ use Rattle.tombstones.specs.Reading.{deletions_of}
 use Rattle.block.proofs.AnyOrder.{known_any_order, shown_any_order}
 use Rattle.block.proofs.Checks.{known_in, in_known}
 use Rattle.block.specs.declared.error.BlockError.{BlockError}
-use Rattle.block.specs.declared.error.BlockError.TheVariants.{Memory, Index, UnknownSeries, OutsideRange}
+use Rattle.block.specs.declared.error.BlockError.TheVariants.{Memory, Index, UnknownSeries}
+use Rattle.block.specs.declared.error.BlockError.TheVariants.{OutsideRange}
 use Rattle.block.specs.Outcome.{Fails, of_index, of_chunk, of_tombstone}
 use Rattle.block.specs.Blocks.{Shown, shown_of}
 use Rattle.block.specs.Sound.{lies_in}
-use Rattle.block.specs.Opening.{or_index, or_chunks, or_tombstones, each, chunk_check, series_check, have_few, is_few, is_known, is_inside, stored_of, deleted_of, block_of}
+use Rattle.block.specs.Opening.{or_index, or_chunks, or_tombstones, each, chunk_check, series_check}
+use Rattle.block.specs.Opening.{have_few, is_few, is_known, is_inside, stored_of, deleted_of}
+use Rattle.block.specs.Opening.{block_of}
 use Rattle.wire.specs.Outcome.{◌>>=◌}
 
 -- a refusal ends what follows it

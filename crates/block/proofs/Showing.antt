@@ -1,5 +1,7 @@
 -- What a block shows of the series of its index.
-use Rattle.std.proofs.Common.{◌≡◌, ℕ, zero, suc, ◌<◌, ℤ, Bool, true, false, cond, not, ◌&&◌, ◌||◌, List, [], ◌∷◌, length, map, Option, Some, None, Result, Ok, Err, refl, sym, ap, subst, ◌∙◌, arith}
+use Rattle.std.proofs.Common.{◌≡◌, ℕ, zero, suc, ◌<◌, ℤ, Bool, true, false, cond, not, ◌&&◌, ◌||◌}
+use Rattle.std.proofs.Common.{List, [], ◌∷◌, length, map, Option, Some, None, Result, Ok, Err, refl}
+use Rattle.std.proofs.Common.{sym, ap, subst, ◌∙◌, arith}
 use Rattle.std.specs.Prelude.{slice_get, nat_eq, IfNone, IfOk}
 use Rattle.std.specs.Arc.{arc_value}
 use Rattle.std.specs.Option.{option_map}
@@ -11,10 +13,12 @@ use Rattle.std.proofs.lemmas.Bool.Decides.{nat_tests}
 use Rattle.labels.specs.Labels.{Labels}
 use Rattle.labels.specs.Contents.{in_range}
 use Rattle.labels.specs.Rows.{Row}
-use Rattle.labels.specs.Parts.{Part, carries, has_sample, labels_in, references, references_where, row_at, within}
+use Rattle.labels.specs.Parts.{Part, carries, has_sample, labels_in, references, references_where}
+use Rattle.labels.specs.Parts.{row_at, within}
 use Rattle.labels.proofs.Lists.{here, there, rising-head, rising-tail, filter-filter}
 use Rattle.index_reader.specs.declared.chunk.Chunk.{Chunk}
-use Rattle.index_reader.specs.Indexes.{Series, Indexed, IsConsistent, label_sets, chunk_lists, references_with}
+use Rattle.index_reader.specs.Indexes.{Series, Indexed, IsConsistent, label_sets, chunk_lists}
+use Rattle.index_reader.specs.Indexes.{references_with}
 use Rattle.index_reader.specs.Indexes as indexes
 use Rattle.tombstones.specs.declared.deletion.Deletion.{Deletion}
 use Rattle.tombstones.specs.Covering.{covered}

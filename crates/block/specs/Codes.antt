@@ -4,7 +4,9 @@ use Rattle.index_reader.specs.Codes as index
 use Rattle.chunk_reader.specs.Codes as chunk
 use Rattle.tombstones.specs.Codes as tombstone
 use Rattle.block.specs.declared.error.BlockError.{BlockError}
-use Rattle.block.specs.declared.error.BlockError.TheVariants.{Memory, Meta, Index, Chunks, Tombstones, UnknownSeries, OutsideRange}
+use Rattle.block.specs.declared.error.BlockError.TheVariants.{Memory, Meta, Index, Chunks}
+use Rattle.block.specs.declared.error.BlockError.TheVariants.{Tombstones, UnknownSeries}
+use Rattle.block.specs.declared.error.BlockError.TheVariants.{OutsideRange}
 
 abbrev pub code_of : BlockError → List ℕ
 code_of Memory = codes "memory"

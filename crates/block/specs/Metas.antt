@@ -1,5 +1,6 @@
 -- What a meta.json says.
-use Rattle.std.specs.Prelude.{ℕ, ℤ, pos, List, length, Option, Some, None, Result, Ok, Err, option_and_then, codes, if◌then◌else◌, nat_lt}
+use Rattle.std.specs.Prelude.{ℕ, ℤ, pos, List, length, Option, Some, None, Result, Ok, Err}
+use Rattle.std.specs.Prelude.{option_and_then, codes, if◌then◌else◌, nat_lt}
 use Rattle.std.specs.Ordering.{int_eq}
 use Rattle.std.specs.Str.{is_utf8}
 use Rattle.serde_json.specs.Data.{Data}

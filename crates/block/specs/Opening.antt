@@ -1,5 +1,6 @@
 -- All checks of a block, in their order.
-use Rattle.std.specs.Prelude.{ℕ, ℤ, Bool, List, [], ◌∷◌, length, Result, Ok, Err, nat_le, ◌==◌, if◌then◌else◌}
+use Rattle.std.specs.Prelude.{ℕ, ℤ, Bool, List, [], ◌∷◌, length, Result, Ok, Err, nat_le, ◌==◌}
+use Rattle.std.specs.Prelude.{if◌then◌else◌}
 use Rattle.std.specs.List.{list_all, list_any}
 use Rattle.wire.specs.Outcome.{◌>>=◌}
 use Rattle.index_reader.specs.declared.error.IndexError.{IndexError}

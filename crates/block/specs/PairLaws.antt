@@ -1,5 +1,6 @@
 -- Laws of the pairs that a part's series carry: the values of a name among them.
-use Rattle.std.proofs.Common.{◌≡◌, ℕ, zero, suc, ◌+◌, Bool, true, false, cond, ◌&&◌, ◌||◌, inl, inr, List, [], ◌∷◌, map, get_or, refl, sym, ◌∙◌, ap, subst, arith}
+use Rattle.std.proofs.Common.{◌≡◌, ℕ, zero, suc, ◌+◌, Bool, true, false, cond, ◌&&◌, ◌||◌, inl, inr}
+use Rattle.std.proofs.Common.{List, [], ◌∷◌, map, get_or, refl, sym, ◌∙◌, ap, subst, arith}
 use Rattle.std.specs.Prelude.{filter}
 use Rattle.std.specs.List.{Contains, AllByRecursion, list_any}
 use Rattle.std.specs.Str.{bytes_eq}

@@ -1,5 +1,6 @@
 -- Ranges of times.
-use Rattle.std.specs.Prelude.{◌≡◌, ℤ, Bool, true, ◌&&◌, Option, Some, None, if◌then◌else◌, int_lt, int_le}
+use Rattle.std.specs.Prelude.{◌≡◌, ℤ, Bool, true, ◌&&◌, Option, Some, None, if◌then◌else◌, int_lt}
+use Rattle.std.specs.Prelude.{int_le}
 use Rattle.labels.specs.Contents.{is_time}
 
 -- a range that a block may cover: its first time is below its end, and both are times

@@ -1,5 +1,6 @@
 -- What holds of each block that was opened.
-use Rattle.std.specs.Prelude.{◌≡◌, ℕ, ◌≤◌, ℤ, Bool, true, ◌&&◌, List, [], ◌∷◌, length, Ok, int_le, int_lt}
+use Rattle.std.specs.Prelude.{◌≡◌, ℕ, ◌≤◌, ℤ, Bool, true, ◌&&◌, List, [], ◌∷◌, length, Ok, int_le}
+use Rattle.std.specs.Prelude.{int_lt}
 use Rattle.std.specs.Int.Signed.{◌≤ℤ◌, ◌<ℤ◌}
 use Rattle.std.specs.List.{AllByRecursion}
 use Rattle.chunk_reader.specs.Grammar.{IsChunk}

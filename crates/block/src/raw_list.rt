@@ -21,11 +21,7 @@ pub struct RawList<'a> {
 
 /// The first place, from a place on, of a reference that is not below the target, and that
 /// reference.
-fn place_of(
-    entries: &mut Entries,
-    from: usize,
-    target: SeriesRef,
-) -> (usize, Option<SeriesRef>)
+fn place_of(entries: &mut Entries, from: usize, target: SeriesRef) -> (usize, Option<SeriesRef>)
     requires within { from ≤ length entries.old.0 }
     requires increasing { IsStrictlyIncreasing entries.old.0 }
     ensures same { entries.new.0 ≡ entries.old.0 }

@@ -1,8 +1,10 @@
 //! What a block tells of its series, and the lists that it lends.
 
-ghost use Rattle.std.specs.Prelude.{◌≡◌, ℕ, ℤ, ◌<◌, ◌≤◌, [], List, length, get_or, slice_get, Some, IfNone, IfSome, IfOk};
+ghost use Rattle.std.specs.Prelude.{◌≡◌, ℕ, ℤ, ◌<◌, ◌≤◌, [], List, length, get_or, slice_get, Some};
+ghost use Rattle.std.specs.Prelude.{IfNone, IfSome, IfOk};
 ghost use Rattle.labels.specs.Rows.{Row};
-ghost use Rattle.labels.specs.Parts.{carries, has_sample, labels_in, references, references_where, row_at, samples_within, within};
+ghost use Rattle.labels.specs.Parts.{carries, has_sample, labels_in, references, references_where};
+ghost use Rattle.labels.specs.Parts.{row_at, samples_within, within};
 ghost use Rattle.index_reader.specs.Indexes.{values_of};
 
 use crate::blocks::Block;

@@ -1,6 +1,7 @@
 //! A block as a source of lists.
 
-ghost use Rattle.std.specs.Prelude.{◌≡◌, ℕ, ◌<◌, List, [], length, slice_get, Some, IfNone, IfSome, IfOk};
+ghost use Rattle.std.specs.Prelude.{◌≡◌, ℕ, ◌<◌, List, [], length, slice_get, Some, IfNone, IfSome};
+ghost use Rattle.std.specs.Prelude.{IfOk};
 ghost use Rattle.labels.specs.Parts.{IsPart, labels_in, row_at, samples_within};
 ghost use Rattle.labels.proofs.PartProps.{IsPart-prop};
 ghost use Rattle.block.specs.CarriedPairs.{AreCarriedPairs};

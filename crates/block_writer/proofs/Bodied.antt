@@ -1,5 +1,7 @@
 -- The bodies of a written index: each spells its labels and its chunks.
-use Rattle.std.proofs.Common.{◌≡◌, ◌≢◌, ℕ, zero, suc, ◌+◌, ◌-◌, ◌^◌, ◌<◌, ◌≤◌, Bool, true, false, not, List, [], ◌∷◌, ◌++◌, length, get_or, take, drop, map, pos, negsuc, ◌+ℤ◌, ◌-ℤ◌, refl, sym, ap, subst, ◌∙◌, length-append, arith}
+use Rattle.std.proofs.Common.{◌≡◌, ◌≢◌, ℕ, zero, suc, ◌+◌, ◌-◌, ◌^◌, ◌<◌, ◌≤◌, Bool, true, false}
+use Rattle.std.proofs.Common.{not, List, [], ◌∷◌, ◌++◌, length, get_or, take, drop, map, pos}
+use Rattle.std.proofs.Common.{negsuc, ◌+ℤ◌, ◌-ℤ◌, refl, sym, ap, subst, ◌∙◌, length-append, arith}
 use Rattle.std.specs.Prelude.{ℤ, T, int_lt, if◌then◌else◌}
 use Rattle.std.specs.Int.Signed.{◌<ℤ◌, ◌≤ℤ◌, lt_z_no}
 use Rattle.std.specs.Int.RustNames.{unsigned_abs}
@@ -13,7 +15,8 @@ use Rattle.std.specs.Cmp.{IsTotalOrder, tied_itself}
 use Rattle.std.specs.FinMap.Entries.{is_sorted, below_all}
 use Rattle.std.proofs.lemmas.Int.{ints}
 use Rattle.std.proofs.lemmas.List.{length-map, length-take, take-append-drop}
-use Rattle.std.proofs.lemmas.List.Elements.{All-head, All-tail, Contains-append_left, Contains-append_right}
+use Rattle.std.proofs.lemmas.List.Elements.{All-head, All-tail, Contains-append_left}
+use Rattle.std.proofs.lemmas.List.Elements.{Contains-append_right}
 use Rattle.std.proofs.lemmas.List.Folds.{flat_map-map}
 use Rattle.labels.specs.Contents.{in_range}
 use Rattle.labels.specs.declared.sample.TheConstants.{MIN_TIME, MAX_TIME}
@@ -28,11 +31,15 @@ use Rattle.index_reader.specs.declared.chunk.Chunk.{Chunk}
 use Rattle.labels.specs.Contents.{is_time}
 use Rattle.index_reader.specs.Layout.{rounded}
 use Rattle.index_reader.specs.Grammar.{entry}
-use Rattle.index_reader.specs.Spelled.{AreLabels, label_text, IsFirst, IsLater, AreLater, AreChunks, IsBody, AreBodies}
+use Rattle.index_reader.specs.Spelled.{AreLabels, label_text, IsFirst, IsLater, AreLater, AreChunks}
+use Rattle.index_reader.specs.Spelled.{IsBody, AreBodies}
 use Rattle.block.proofs.Turns.{below}
 use Rattle.labels.proofs.Texts.{text_total}
 use Rattle.block_writer.specs.InUse.{texts_in, label_texts, HoldsEachOnce}
-use Rattle.block_writer.specs.EntryBodies.{place_among, number_of, numbers_of, chunk_of, chunks_from, chunks_of, apart, first_text, later_text, later_texts, labels_text, places_text, body_of, bodies_of}
+use Rattle.block_writer.specs.EntryBodies.{place_among, number_of, numbers_of, chunk_of}
+use Rattle.block_writer.specs.EntryBodies.{chunks_from, chunks_of, apart, first_text, later_text}
+use Rattle.block_writer.specs.EntryBodies.{later_texts, labels_text, places_text, body_of}
+use Rattle.block_writer.specs.EntryBodies.{bodies_of}
 use Rattle.block_writer.specs.PartRows.{has_some, is_series, are_part_rows}
 use Rattle.block_writer.specs.Writing.{pieces, piece_text, series_text, chunks_text}
 use Rattle.block_writer.proofs.WrittenAs.{places_from, entries_of}

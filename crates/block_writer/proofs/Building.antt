@@ -1,5 +1,7 @@
 -- The texts of an index, as they grow.
-use Rattle.std.proofs.Common.{◌≡◌, ℕ, zero, suc, ◌+◌, ◌-◌, ◌/◌, ◌<◌, ◌≤◌, ℤ, pos, List, [], ◌∷◌, ◌++◌, length, get_or, drop, refl, sym, ap, subst, ◌∙◌, append_assoc, length-append, arith}
+use Rattle.std.proofs.Common.{◌≡◌, ℕ, zero, suc, ◌+◌, ◌-◌, ◌/◌, ◌<◌, ◌≤◌, ℤ, pos, List, [], ◌∷◌}
+use Rattle.std.proofs.Common.{◌++◌, length, get_or, drop, refl, sym, ap, subst, ◌∙◌, append_assoc}
+use Rattle.std.proofs.Common.{length-append, arith}
 use Rattle.std.specs.Prelude.{replicate, ◌-ℤ◌}
 use Rattle.std.specs.Borrow.{Bor}
 use Rattle.std.specs.List.{flat_map}
@@ -16,7 +18,9 @@ use Rattle.index_reader.specs.Spelled.{listed_text, table_text}
 use Rattle.block_writer.specs.declared.error.WriteError.{WriteError}
 use Rattle.block_writer.specs.Writing.{series_text}
 use Rattle.block_writer.specs.EntryBodies.{body_of, bodies_of, apart, later_text, later_texts}
-use Rattle.block_writer.specs.IndexText.{padded, start_text, with_entries, references_from, section_text, listed_from, contents_of, postings_text, lists_of, index_text}
+use Rattle.block_writer.specs.IndexText.{padded, start_text, with_entries, references_from}
+use Rattle.block_writer.specs.IndexText.{section_text, listed_from, contents_of, postings_text}
+use Rattle.block_writer.specs.IndexText.{lists_of, index_text}
 use Rattle.block_writer.specs.Written.{limit, IsReason}
 use Rattle.block_writer.proofs.Lengths.{longer, front_long, back_long}
 use Rattle.block_writer.proofs.Walking.{regrouped, four}

@@ -1,5 +1,6 @@
 -- What a written index holds is consistent.
-use Rattle.std.proofs.Common.{◌≡◌, ℕ, ◌+◌, ◌<◌, ◌≤◌, ◌^◌, List, [], ◌∷◌, length, get_or, refl, sym, subst, arith}
+use Rattle.std.proofs.Common.{◌≡◌, ℕ, ◌+◌, ◌<◌, ◌≤◌, ◌^◌, List, [], ◌∷◌, length, get_or, refl, sym}
+use Rattle.std.proofs.Common.{subst, arith}
 use Rattle.std.specs.Prelude.{T}
 use Rattle.std.specs.List.{AllByRecursion}
 use Rattle.std.specs.List.Sorted.{IsStrictlyIncreasing}
@@ -17,7 +18,8 @@ use Rattle.block_writer.proofs.WrittenAs.{series_from, references_in, front_text
 use Rattle.block_writer.proofs.Building.{references_many}
 use Rattle.block_writer.proofs.Carried.{pairs_carried, pairs_listed}
 use Rattle.block_writer.proofs.InOrder.{each_below_next, sets_rise}
-use Rattle.block_writer.proofs.RowSeries.{references_are, sets_are, references_rise, references_small}
+use Rattle.block_writer.proofs.RowSeries.{references_are, sets_are, references_rise}
+use Rattle.block_writer.proofs.RowSeries.{references_small}
 
 pub many_references : (symbols : List (List ℕ)) (rows : List Row)
     → length (references_in symbols rows) ≡ length rows

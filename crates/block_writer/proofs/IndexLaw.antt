@@ -1,5 +1,6 @@
 -- A written index is an index of its rows.
-use Rattle.std.proofs.Common.{◌≡◌, ℕ, suc, ◌+◌, ◌≤◌, List, [], ◌∷◌, ◌++◌, length, refl, sym, ap, subst, length-append, arith}
+use Rattle.std.proofs.Common.{◌≡◌, ℕ, suc, ◌+◌, ◌≤◌, List, [], ◌∷◌, ◌++◌, length, refl, sym, ap}
+use Rattle.std.proofs.Common.{subst, length-append, arith}
 use Rattle.std.specs.Prelude.{ℤ, T}
 use Rattle.std.specs.Bool.{IsTrue}
 use Rattle.std.specs.List.{flat_map, list_all, AllByRecursion}
@@ -21,7 +22,8 @@ use Rattle.block_writer.specs.PartRows.{is_series, are_part_rows}
 use Rattle.block_writer.proofs.Storable.{IsStorable}
 use Rattle.block_writer.specs.Writing.{chunks_text}
 use Rattle.block_writer.specs.Written.{IsWrittenIndex}
-use Rattle.block_writer.proofs.WrittenAs.{places_from, entries_of, references_in, front_text, all_lists, table_of, contents_in, parts_in, indexed_from}
+use Rattle.block_writer.proofs.WrittenAs.{places_from, entries_of, references_in, front_text}
+use Rattle.block_writer.proofs.WrittenAs.{all_lists, table_of, contents_in, parts_in, indexed_from}
 use Rattle.block_writer.proofs.Bodied.{AreInTime, written_bodies}
 use Rattle.block_writer.proofs.Consistent.{references_as, written_consistent}
 use Rattle.block_writer.proofs.InUseLaws.{symbols_utf8, symbols_held, pairs_ascend}
@@ -29,7 +31,8 @@ use Rattle.block_writer.proofs.ListsRise.{lists_rise}
 use Rattle.block_writer.proofs.RowSeries.{lists_are, series_are, references_rise}
 use Rattle.block_writer.proofs.Small.{few_labels}
 use Rattle.block_writer.proofs.Tabled.{pairs_are, sections_are, table_is}
-use Rattle.block_writer.proofs.WrittenParts.{behind_entries, spelled_as, written_parts, written_gaps}
+use Rattle.block_writer.proofs.WrittenParts.{behind_entries, spelled_as, written_parts}
+use Rattle.block_writer.proofs.WrittenParts.{written_gaps}
 
 -- a list for each pair, and one for the empty pair
 many_lists : (symbols : List (List ℕ)) (pairs : List (List ℕ × List ℕ)) (rows : List Row)

@@ -1,5 +1,7 @@
 -- The layout of a written index.
-use Rattle.std.proofs.Common.{◌≡◌, ℕ, zero, suc, ◌+◌, ◌-◌, ◌<◌, ◌≤◌, true, eqb, inl, List, [], ◌∷◌, ◌++◌, length, take, drop, replicate, refl, sym, ap, subst, ◌∙◌, append_assoc, length-append, arith}
+use Rattle.std.proofs.Common.{◌≡◌, ℕ, zero, suc, ◌+◌, ◌-◌, ◌<◌, ◌≤◌, true, eqb, inl, List, [], ◌∷◌}
+use Rattle.std.proofs.Common.{◌++◌, length, take, drop, replicate, refl, sym, ap, subst, ◌∙◌}
+use Rattle.std.proofs.Common.{append_assoc, length-append, arith}
 use Rattle.std.specs.Prelude.{slice_range}
 use Rattle.std.specs.List.{list_all, AllByRecursion}
 use Rattle.std.specs.List.Sorted.{IsStrictlySortedBy}
@@ -13,7 +15,8 @@ use Rattle.wire.specs.Checksum.{checked}
 use Rattle.index_reader.specs.Grammar.{frame, entry, contents_text, IsWalk, IsLayout}
 use Rattle.index_reader.specs.Reading.Entries.{zero_between, gaps_zero}
 use Rattle.labels.specs.Labels.{text_cmp}
-use Rattle.block_writer.specs.IndexText.{padded, symbols_text, start_text, with_entries, contents_of}
+use Rattle.block_writer.specs.IndexText.{padded, symbols_text, start_text, with_entries}
+use Rattle.block_writer.specs.IndexText.{contents_of}
 use Rattle.block_writer.proofs.WrittenAs.{places_from}
 use Rattle.block_writer.proofs.Building.{grows, padded_long}
 use Rattle.block_writer.proofs.Lengths.{frame_long}

@@ -1,5 +1,6 @@
 -- A piece of a row stands in the file as a chunk, and the chunks of a row have its samples.
-use Rattle.std.proofs.Common.{◌≡◌, ℕ, zero, suc, ◌+◌, ◌-◌, ◌<◌, ◌≤◌, Bool, true, false, ◌&&◌, List, [], ◌∷◌, ◌++◌, length, take, drop, pos, refl, sym, ap, subst, arith}
+use Rattle.std.proofs.Common.{◌≡◌, ℕ, zero, suc, ◌+◌, ◌-◌, ◌<◌, ◌≤◌, Bool, true, false, ◌&&◌, List}
+use Rattle.std.proofs.Common.{[], ◌∷◌, ◌++◌, length, take, drop, pos, refl, sym, ap, subst, arith}
 use Rattle.std.specs.Prelude.{ℤ, T, int_le, int_lt}
 use Rattle.std.specs.List.{AllByRecursion}
 use Rattle.std.specs.Int.{w64}
@@ -19,7 +20,8 @@ use Rattle.block.specs.Sound.{lies_in}
 use Rattle.block_writer.specs.EntryBodies.{chunk_of, chunks_from}
 use Rattle.block_writer.proofs.Storable.{AreStorable}
 use Rattle.block_writer.specs.Writing.{pieces, piece_text}
-use Rattle.block_writer.proofs.Parted.{sorted_front, sorted_back, pass_front, pass_back, each_front, each_back, one_of}
+use Rattle.block_writer.proofs.Parted.{sorted_front, sorted_back, pass_front, pass_back, each_front}
+use Rattle.block_writer.proofs.Parted.{each_back, one_of}
 
 -- samples in the order of their times, that a block of a range may have
 pub record AreReady (range : ℤ × ℤ) (samples : List (ℤ × ℤ)) : Type 0 where

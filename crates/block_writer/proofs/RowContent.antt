@@ -10,7 +10,8 @@ use Rattle.labels.specs.Labels.{labels_cmp, point_cmp}
 use Rattle.labels.specs.Contents.{Content}
 use Rattle.labels.specs.Rows.{Row, points_of}
 use Rattle.labels.specs.Parts.{Part, rows_in, laid_over, content_of}
-use Rattle.labels.proofs.ContentLaws.{find-laid_over, is_sorted-laid_over, or_else_none, same_content}
+use Rattle.labels.proofs.ContentLaws.{find-laid_over, is_sorted-laid_over, or_else_none}
+use Rattle.labels.proofs.ContentLaws.{same_content}
 use Rattle.labels.proofs.SortedRows.{is_sorted-points_of}
 use Rattle.labels.proofs.Times.{first_T, second_T, T_of}
 use Rattle.block_writer.specs.PartRows.{has_some, is_series, are_part_rows}

@@ -1,5 +1,6 @@
 -- The rows of a written index as the series that it holds.
-use Rattle.std.proofs.Common.{◌≡◌, ℕ, zero, suc, ◌+◌, ◌/◌, ◌<◌, ◌≤◌, true, false, List, [], ◌∷◌, ◌++◌, length, get_or, refl, sym, ap, subst, length-append, arith}
+use Rattle.std.proofs.Common.{◌≡◌, ℕ, zero, suc, ◌+◌, ◌/◌, ◌<◌, ◌≤◌, true, false, List, [], ◌∷◌}
+use Rattle.std.proofs.Common.{◌++◌, length, get_or, refl, sym, ap, subst, length-append, arith}
 use Rattle.std.specs.Prelude.{map, filter, slice_index, if◌then◌else◌}
 use Rattle.std.specs.List.{Contains}
 use Rattle.std.specs.List.Sorted.{IsStrictlySortedBy, IsStrictlyIncreasing}
@@ -8,7 +9,8 @@ use Rattle.labels.specs.Parts.{carries}
 use Rattle.labels.specs.Rows.{Row}
 use Rattle.index_reader.specs.Layout.{rounded}
 use Rattle.index_reader.specs.Grammar.{entry}
-use Rattle.index_reader.specs.Indexes.{Series, references, references_with, label_sets, named, series_of}
+use Rattle.index_reader.specs.Indexes.{Series, references, references_with, label_sets, named}
+use Rattle.index_reader.specs.Indexes.{series_of}
 use Rattle.index_reader.specs.Spelled.{lists_for}
 use Rattle.labels.proofs.Texts.{text_total}
 use Rattle.block_writer.specs.EntryBodies.{numbers_of, number_of, chunks_of, body_of, bodies_of}

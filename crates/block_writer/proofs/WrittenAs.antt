@@ -7,7 +7,8 @@ use Rattle.index_reader.specs.Layout.{SeriesEntry, Layout, rounded, Body, TableE
 use Rattle.index_reader.specs.Grammar.{frame, entry}
 use Rattle.index_reader.specs.Indexes.{Series, Indexed}
 use Rattle.block_writer.specs.EntryBodies.{numbers_of, chunks_of, bodies_of}
-use Rattle.block_writer.specs.IndexText.{symbols_text, start_text, with_entries, references_from, lists_of, section_text, listed_from, contents_of}
+use Rattle.block_writer.specs.IndexText.{symbols_text, start_text, with_entries, references_from}
+use Rattle.block_writer.specs.IndexText.{lists_of, section_text, listed_from, contents_of}
 use Rattle.block_writer.specs.Writing.{series_text}
 
 -- where entries stand behind a place

@@ -1,5 +1,6 @@
 -- The bytes of an index that is written.
-use Rattle.std.specs.Prelude.{◌≡◌, ℕ, ◌+◌, ◌-◌, ◌/◌, ◌<◌, List, Vec, [], ◌∷◌, ◌++◌, length, map, get_or, slice_set, slice_index_or, replicate, if◌then◌else◌}
+use Rattle.std.specs.Prelude.{◌≡◌, ℕ, ◌+◌, ◌-◌, ◌/◌, ◌<◌, List, Vec, [], ◌∷◌, ◌++◌, length, map}
+use Rattle.std.specs.Prelude.{get_or, slice_set, slice_index_or, replicate, if◌then◌else◌}
 use Rattle.std.proofs.Common.{Global}
 use Rattle.std.specs.List.{flat_map}
 use Rattle.byteorder.specs.Endian.{big_bytes}

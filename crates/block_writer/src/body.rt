@@ -5,7 +5,8 @@ ghost use Rattle.std.specs.List.{All};
 ghost use Rattle.std.specs.List.Sorted.{IsStrictlySortedBy};
 ghost use Rattle.index_reader.specs.Seen.{bytes_of};
 ghost use Rattle.labels.specs.Labels.{text_cmp};
-ghost use Rattle.block_writer.specs.EntryBodies.{apart, body_of, chunk_of, chunks_of, first_text, labels_text, later_text, places_text};
+ghost use Rattle.block_writer.specs.EntryBodies.{apart, body_of, chunk_of, chunks_of, first_text};
+ghost use Rattle.block_writer.specs.EntryBodies.{labels_text, later_text, places_text};
 ghost use Rattle.block_writer.specs.Writing.{piece_text, series_text};
 ghost use Rattle.block_writer.specs.Written.{limit};
 

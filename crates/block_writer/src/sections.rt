@@ -1,14 +1,16 @@
 //! What stands after the series: the postings sections, the table of their offsets, the table of
 //! contents.
 
-ghost use Rattle.std.specs.Prelude.{◌≡◌, ◌≤◌, ◌++◌, ◌∷◌, length, drop, string_bytes, OnOk, IfOk, IfErr};
+ghost use Rattle.std.specs.Prelude.{◌≡◌, ◌≤◌, ◌++◌, ◌∷◌, length, drop, string_bytes, OnOk, IfOk};
+ghost use Rattle.std.specs.Prelude.{IfErr};
 ghost use Rattle.std.specs.List.{flat_map};
 ghost use Rattle.byteorder.specs.Endian.{big_bytes};
 ghost use Rattle.labels.specs.Pairs.{texts_of};
 ghost use Rattle.wire.specs.Checksum.{checked, crc32c};
 ghost use Rattle.index_reader.specs.Grammar.{frame, contents_text, symbol};
 ghost use Rattle.index_reader.specs.Spelled.{list_text, listed_text, table_text};
-ghost use Rattle.block_writer.specs.IndexText.{contents_of, listed_from, listed_pairs, lists_in, postings_text, section_text};
+ghost use Rattle.block_writer.specs.IndexText.{contents_of, listed_from, listed_pairs, lists_in};
+ghost use Rattle.block_writer.specs.IndexText.{postings_text, section_text};
 ghost use Rattle.block_writer.specs.Written.{IsReason};
 
 use crate::error::WriteError;

@@ -1,11 +1,14 @@
 -- A body that is read is the one spelled, and a spelled body is read.
-use Rattle.std.proofs.Common.{◌≡◌, ℕ, ◌+◌, ◌*◌, ◌/◌, ◌^◌, ◌<◌, Bool, true, false, ◌&&◌, not, eqb, ltb, List, [], ◌∷◌, ◌++◌, length, take, drop, Ok, pos, negsuc, ◌-ℤ◌, refl, sym, ap, subst, ◌∙◌, arith}
+use Rattle.std.proofs.Common.{◌≡◌, ℕ, ◌+◌, ◌*◌, ◌/◌, ◌^◌, ◌<◌, Bool, true, false, ◌&&◌, not, eqb}
+use Rattle.std.proofs.Common.{ltb, List, [], ◌∷◌, ◌++◌, length, take, drop, Ok, pos, negsuc, ◌-ℤ◌}
+use Rattle.std.proofs.Common.{refl, sym, ap, subst, ◌∙◌, arith}
 use Rattle.std.specs.Prelude.{ℤ, T, int_lt}
 use Rattle.std.specs.List.{flat_map, list_all, AllByRecursion}
 use Rattle.std.specs.Int.{w64}
 use Rattle.std.specs.Int.RustNames.{FitsSigned}
 use Rattle.std.specs.Int.Signed.{◌≤ℤ◌, lt_z_no}
-use Rattle.std.proofs.lemmas.Bool.{ltb-true, lt-ltb, le-ltb, eqb-true, eqb-false, true_from_ne_false}
+use Rattle.std.proofs.lemmas.Bool.{ltb-true, lt-ltb, le-ltb, eqb-true, eqb-false}
+use Rattle.std.proofs.lemmas.Bool.{true_from_ne_false}
 use Rattle.std.proofs.lemmas.Int.{ints}
 use Rattle.std.proofs.lemmas.List.{length-drop, length-append, take-append-drop, drop_at}
 use Rattle.byteorder.specs.Endian.{big_number, big_bytes}
@@ -20,7 +23,8 @@ use Rattle.chunk_reader.specs.Grammar.{sample_text, batch_text, IsBatch}
 use Rattle.chunk_reader.specs.Reading.{samples_from, samples_in, rises, batch_in}
 use Rattle.chunk_reader.proofs.Places.{length-samples_in}
 use Rattle.chunk_reader.proofs.Rising.{and_true, rises-is_sorted, rises-times, rises_from_times}
-use Rattle.chunk_reader.proofs.SampleTexts.{Fit, samples_take, samples_fit, samples_again, length-texts, big_bytes_2}
+use Rattle.chunk_reader.proofs.SampleTexts.{Fit, samples_take, samples_fit, samples_again}
+use Rattle.chunk_reader.proofs.SampleTexts.{length-texts, big_bytes_2}
 use Rattle.wire.proofs.Steps.{not_failed, passed, value, same_value}
 
 values_of : (samples : List (ℤ × ℤ)) → AllByRecursion Fit samples

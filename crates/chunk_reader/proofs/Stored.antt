@@ -1,5 +1,6 @@
 -- What stands behind the length, the encoding's byte and the count of a chunk is its samples.
-use Rattle.std.proofs.Common.{◌≡◌, ℕ, ◌-◌, ◌%◌, ◌^◌, ◌<◌, List, ◌∷◌, ◌++◌, length, drop, Result, Ok, Err, sym, ap, subst, ◌∙◌, arith}
+use Rattle.std.proofs.Common.{◌≡◌, ℕ, ◌-◌, ◌%◌, ◌^◌, ◌<◌, List, ◌∷◌, ◌++◌, length, drop, Result, Ok}
+use Rattle.std.proofs.Common.{Err, sym, ap, subst, ◌∙◌, arith}
 use Rattle.std.specs.Prelude.{ℤ}
 use Rattle.std.specs.List.{flat_map}
 use Rattle.byteorder.specs.Endian.{big_bytes}

@@ -1,5 +1,7 @@
 -- What is read of a file is what stands there, and what stands there is read.
-use Rattle.std.proofs.Common.{◌≡◌, ℕ, zero, suc, ◌+◌, ◌-◌, ◌/◌, ◌^◌, ◌<◌, Bool, true, false, ◌||◌, not, eqb, ltb, List, [], ◌∷◌, ◌++◌, length, drop, Result, Ok, Err, refl, sym, ap, subst, ◌∙◌, append_assoc, arith}
+use Rattle.std.proofs.Common.{◌≡◌, ℕ, zero, suc, ◌+◌, ◌-◌, ◌/◌, ◌^◌, ◌<◌, Bool, true, false, ◌||◌}
+use Rattle.std.proofs.Common.{not, eqb, ltb, List, [], ◌∷◌, ◌++◌, length, drop, Result, Ok, Err}
+use Rattle.std.proofs.Common.{refl, sym, ap, subst, ◌∙◌, append_assoc, arith}
 use Rattle.std.specs.Prelude.{ℤ, ◌==◌, slice_index, IfOk, OnOk, IsOk, nat_le}
 use Rattle.std.specs.Ordering.{int_eq}
 use Rattle.std.proofs.lemmas.Bool.{ltb-false, lt-leb, le-ltb, eqb-true}
@@ -13,14 +15,20 @@ use Rattle.wire.specs.Spelling.{uvarint, IsBytes}
 use Rattle.wire.specs.Reading.{number_at, bytes_at, uvarint_at}
 use Rattle.wire.specs.Checksum.{checked, crc32c}
 use Rattle.wire.proofs.ChecksumBound.{crc32c_below}
-use Rattle.wire.proofs.Fields.{IsBytes-drop, IsBytes-front, IsBytes-back, number_takes_4, number_again_4, bytes_takes, bytes_again}
+use Rattle.wire.proofs.Fields.{IsBytes-drop, IsBytes-front, IsBytes-back, number_takes_4}
+use Rattle.wire.proofs.Fields.{number_again_4, bytes_takes, bytes_again}
 use Rattle.wire.proofs.Laws.{uvarint_takes, uvarint_again, uvarint_long}
 use Rattle.chunk_reader.specs.declared.error.ChunkError.{ChunkError}
-use Rattle.chunk_reader.specs.declared.error.ChunkError.TheVariants.{Magic, Version, Reference, Crc, XorEncoding, OtherEncoding, Shape, TimesDisagree}
-use Rattle.chunk_reader.specs.Grammar.{chunk_text, batch_text, sample_text, signed_text, plain, segment_of, time_at, IsChunk, IsSegment}
+use Rattle.chunk_reader.specs.declared.error.ChunkError.TheVariants.{Magic, Version, Reference, Crc}
+use Rattle.chunk_reader.specs.declared.error.ChunkError.TheVariants.{XorEncoding, OtherEncoding}
+use Rattle.chunk_reader.specs.declared.error.ChunkError.TheVariants.{Shape, TimesDisagree}
+use Rattle.chunk_reader.specs.Grammar.{chunk_text, batch_text, sample_text, signed_text, plain}
+use Rattle.chunk_reader.specs.Grammar.{segment_of, time_at, IsChunk, IsSegment}
 use Rattle.wire.specs.Outcome.{Answers, or_refused}
-use Rattle.chunk_reader.specs.Reading.{opened, content_at, decode, batch_in, is_outside, spans, samples_of}
-use Rattle.chunk_reader.proofs.Batches.{IsBody, batch_takes, batch_again, length-batch_text, eqb_same}
+use Rattle.chunk_reader.specs.Reading.{opened, content_at, decode, batch_in, is_outside, spans}
+use Rattle.chunk_reader.specs.Reading.{samples_of}
+use Rattle.chunk_reader.proofs.Batches.{IsBody, batch_takes, batch_again, length-batch_text}
+use Rattle.chunk_reader.proofs.Batches.{eqb_same}
 use Rattle.chunk_reader.proofs.Rising.{and_true}
 use Rattle.chunk_reader.proofs.Spans.{int_eq-true, int_eq_same}
 use Rattle.wire.proofs.Steps.{bind_ok, refused_ok, not_failed, passed, same_value, rest_fits}

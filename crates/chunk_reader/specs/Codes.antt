@@ -1,7 +1,10 @@
 -- How the refusals are numbered.
 use Rattle.std.specs.Prelude.{ℕ, List, codes}
 use Rattle.chunk_reader.specs.declared.error.ChunkError.{ChunkError}
-use Rattle.chunk_reader.specs.declared.error.ChunkError.TheVariants.{Memory, Magic, Version, Reference, Crc, XorEncoding, OtherEncoding, Shape, TimesDisagree}
+use Rattle.chunk_reader.specs.declared.error.ChunkError.TheVariants.{Memory, Magic, Version}
+use Rattle.chunk_reader.specs.declared.error.ChunkError.TheVariants.{Reference, Crc, XorEncoding}
+use Rattle.chunk_reader.specs.declared.error.ChunkError.TheVariants.{OtherEncoding, Shape}
+use Rattle.chunk_reader.specs.declared.error.ChunkError.TheVariants.{TimesDisagree}
 
 abbrev pub code_of : ChunkError → List ℕ
 code_of Memory = codes "memory"

@@ -1,5 +1,6 @@
 -- The bytes of a chunks file, by what they spell.
-use Rattle.std.specs.Prelude.{◌≡◌, ℕ, ℤ, pos, ◌-◌, ◌/◌, ◌^◌, ◌≤◌, ◌<◌, T, List, ◌∷◌, ◌++◌, length, drop, get_or}
+use Rattle.std.specs.Prelude.{◌≡◌, ℕ, ℤ, pos, ◌-◌, ◌/◌, ◌^◌, ◌≤◌, ◌<◌, T, List, ◌∷◌, ◌++◌, length}
+use Rattle.std.specs.Prelude.{drop, get_or}
 use Rattle.std.specs.List.{flat_map, list_all, AllByRecursion}
 use Rattle.std.specs.Ordering.{int_cmp}
 use Rattle.std.specs.FinMap.Entries.{is_sorted}

@@ -1,5 +1,7 @@
 -- Reading a chunk from a file. Each check has its refusal, and the first that fails is answered.
-use Rattle.std.specs.Prelude.{ℕ, zero, suc, ◌+◌, ◌-◌, ◌*◌, ◌/◌, ℤ, pos, ◌-ℤ◌, List, [], ◌∷◌, length, drop, slice_index, Result, Ok, Err, Bool, true, nat_lt, nat_le, int_lt, int_le, ◌==◌, ◌&&◌, ◌||◌, not, if◌then◌else◌}
+use Rattle.std.specs.Prelude.{ℕ, zero, suc, ◌+◌, ◌-◌, ◌*◌, ◌/◌, ℤ, pos, ◌-ℤ◌, List, [], ◌∷◌, length}
+use Rattle.std.specs.Prelude.{drop, slice_index, Result, Ok, Err, Bool, true, nat_lt, nat_le}
+use Rattle.std.specs.Prelude.{int_lt, int_le, ◌==◌, ◌&&◌, ◌||◌, not, if◌then◌else◌}
 use Rattle.std.specs.Ordering.{int_eq}
 use Rattle.std.specs.Int.{w64, cast_signed}
 use Rattle.byteorder.specs.Endian.{big_number}
@@ -8,7 +10,9 @@ use Rattle.wire.specs.Reading.{number_at, bytes_at, uvarint_at}
 use Rattle.wire.specs.Checksum.{crc32c}
 use Rattle.wire.specs.Outcome.{◌>>=◌, or_refused}
 use Rattle.chunk_reader.specs.declared.error.ChunkError.{ChunkError}
-use Rattle.chunk_reader.specs.declared.error.ChunkError.TheVariants.{Magic, Version, Reference, Crc, XorEncoding, OtherEncoding, Shape, TimesDisagree}
+use Rattle.chunk_reader.specs.declared.error.ChunkError.TheVariants.{Magic, Version, Reference, Crc}
+use Rattle.chunk_reader.specs.declared.error.ChunkError.TheVariants.{XorEncoding, OtherEncoding}
+use Rattle.chunk_reader.specs.declared.error.ChunkError.TheVariants.{Shape, TimesDisagree}
 use Rattle.chunk_reader.specs.Grammar.{plain, segment_of, time_at}
 
 -- a file that begins as it must

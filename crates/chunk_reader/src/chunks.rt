@@ -5,7 +5,8 @@ ghost use Rattle.std.specs.List.{flat_map};
 ghost use Rattle.chunk_reader.specs.Grammar.{IsChunk, IsSegment, sample_text};
 ghost use Rattle.chunk_reader.specs.Outcome.{Gives};
 ghost use Rattle.wire.specs.Outcome.{Answers};
-ghost use Rattle.chunk_reader.specs.Reading.{batch_in, content_at, decode, is_outside, opened, samples_of, spans};
+ghost use Rattle.chunk_reader.specs.Reading.{batch_in, content_at, decode, is_outside, opened};
+ghost use Rattle.chunk_reader.specs.Reading.{samples_of, spans};
 
 use crate::error::ChunkError;
 use crate::samples::{Samples, are_rising};

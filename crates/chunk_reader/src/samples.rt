@@ -1,6 +1,7 @@
 //! Samples in the bytes in which they stand.
 
-ghost use Rattle.std.specs.Prelude.{◌≡◌, ◌+◌, ◌-◌, ◌*◌, ◌/◌, ◌%◌, ◌<◌, ◌≤◌, ◌↔◌, [], ℤ, List, pos, ◌-ℤ◌, length, drop, slice_get, IsTrue, IfOk, Some};
+ghost use Rattle.std.specs.Prelude.{◌≡◌, ◌+◌, ◌-◌, ◌*◌, ◌/◌, ◌%◌, ◌<◌, ◌≤◌, ◌↔◌, [], ℤ, List, pos};
+ghost use Rattle.std.specs.Prelude.{◌-ℤ◌, length, drop, slice_get, IsTrue, IfOk, Some};
 ghost use Rattle.chunk_reader.specs.Reading.{samples_in, rises};
 
 use byteorder::{BigEndian, ByteOrder};

@@ -1,5 +1,7 @@
 -- An index that is spelled so is read, and gives what is spelled.
-use Rattle.std.proofs.Common.{◌≡◌, ℕ, zero, suc, ◌+◌, ◌-◌, ◌^◌, ◌<◌, ◌≤◌, Bool, true, false, cond, eqb, List, [], ◌∷◌, ◌++◌, length, get_or, drop, Ok, refl, sym, ap, subst, ◌∙◌, inl, inr, arith}
+use Rattle.std.proofs.Common.{◌≡◌, ℕ, zero, suc, ◌+◌, ◌-◌, ◌^◌, ◌<◌, ◌≤◌, Bool, true, false, cond}
+use Rattle.std.proofs.Common.{eqb, List, [], ◌∷◌, ◌++◌, length, get_or, drop, Ok, refl, sym, ap}
+use Rattle.std.proofs.Common.{subst, ◌∙◌, inl, inr, arith}
 use Rattle.std.specs.Prelude.{map, filter, nat_lt}
 use Rattle.std.specs.List.{AllByRecursion, list_all}
 use Rattle.std.specs.Ordering.{is_lt}
@@ -12,8 +14,10 @@ use Rattle.wire.specs.Checksum.{crc32c}
 use Rattle.labels.specs.Labels.{labels_cmp}
 use Rattle.labels.specs.Parts.{carries}
 use Rattle.index_reader.specs.declared.layout.TableOfContents.{TableOfContents}
-use Rattle.index_reader.specs.Layout.{IsPlaced, SeriesEntry, Layout, ascending, rounded, series_end, Label, Body, TableEntry, rises, postings_end}
-use Rattle.index_reader.specs.Reading.Whole.{layout_of, labels_of_each, bodies_of, postings_of, is_small, Read, read_of, indexed, indexed_of}
+use Rattle.index_reader.specs.Layout.{IsPlaced, SeriesEntry, Layout, ascending, rounded, series_end}
+use Rattle.index_reader.specs.Layout.{Label, Body, TableEntry, rises, postings_end}
+use Rattle.index_reader.specs.Reading.Whole.{layout_of, labels_of_each, bodies_of, postings_of}
+use Rattle.index_reader.specs.Reading.Whole.{is_small, Read, read_of, indexed, indexed_of}
 use Rattle.index_reader.specs.Grammar.{frame, entry, IsWalk, IsLayout}
 use Rattle.index_reader.specs.Reading.Postings.{section_at, references_at, lists_at}
 use Rattle.index_reader.specs.Reading.Table.{table_content_at, table_at}
@@ -23,7 +27,8 @@ use Rattle.index_reader.specs.Reading.Entries.{gaps_zero}
 use Rattle.index_reader.specs.Spelled.{AreLabels, table_text, AreBodies, lists_for, IsIndex}
 use Rattle.index_reader.specs.Reading.Agreement.{carriers, agreement_of}
 use Rattle.index_reader.specs.Reading.Agreement as agreement
-use Rattle.index_reader.specs.Indexes.{Series, Indexed, references, references_with, named, series_of, IsConsistent}
+use Rattle.index_reader.specs.Indexes.{Series, Indexed, references, references_with, named}
+use Rattle.index_reader.specs.Indexes.{series_of, IsConsistent}
 use Rattle.index_reader.specs.Indexes as indexes
 use Rattle.index_reader.specs.Checks.{AreInOrder, AreSmall}
 use Rattle.index_reader.proofs.Walks.{done}

@@ -1,5 +1,7 @@
 -- Lists that are those of the series agree by symbols.
-use Rattle.std.proofs.Common.{◌≡◌, ℕ, zero, suc, ◌+◌, ◌/◌, ◌<◌, Bool, true, false, ◌&&◌, cond, not, List, [], ◌∷◌, ◌++◌, length, get_or, drop, Some, Ok, refl, sym, ap, subst, ◌∙◌, arith}
+use Rattle.std.proofs.Common.{◌≡◌, ℕ, zero, suc, ◌+◌, ◌/◌, ◌<◌, Bool, true, false, ◌&&◌, cond, not}
+use Rattle.std.proofs.Common.{List, [], ◌∷◌, ◌++◌, length, get_or, drop, Some, Ok, refl, sym, ap}
+use Rattle.std.proofs.Common.{subst, ◌∙◌, arith}
 use Rattle.std.specs.Prelude.{map, filter, nat_lt}
 use Rattle.std.specs.List.{All, AllByRecursion, list_all, Contains}
 use Rattle.std.specs.Str.{bytes_eq}
@@ -19,16 +21,20 @@ use Rattle.index_reader.specs.References.{words, references_in}
 use Rattle.index_reader.specs.Spelled.{AreLabels, pairs_of, lists_for}
 use Rattle.index_reader.specs.Reading.Carried.{Carried, references_carrying, ListsAgree}
 use Rattle.index_reader.specs.Lookups.{symbol_of, key_before, place_of}
-use Rattle.index_reader.specs.Reading.Agreement.{key_at, keys_at, list_of_label, lists_of_series, each_all, Carrier, carriers, are_used, agreement_of}
+use Rattle.index_reader.specs.Reading.Agreement.{key_at, keys_at, list_of_label, lists_of_series}
+use Rattle.index_reader.specs.Reading.Agreement.{each_all, Carrier, carriers, are_used}
+use Rattle.index_reader.specs.Reading.Agreement.{agreement_of}
 use Rattle.index_reader.specs.Reading.Agreement as agreement
 use Rattle.index_reader.specs.Reading.Whole as checks
-use Rattle.index_reader.specs.Indexes.{Series, Indexed, references, references_with, named_label, named, series_at, series_of}
+use Rattle.index_reader.specs.Indexes.{Series, Indexed, references, references_with, named_label}
+use Rattle.index_reader.specs.Indexes.{named, series_at, series_of}
 use Rattle.index_reader.proofs.Searching.{strict_from_rises, ascending_is, search_found}
 use Rattle.index_reader.proofs.Orders.{pairs_cmp}
 use Rattle.index_reader.proofs.Naming.{first_below}
 use Rattle.index_reader.proofs.Draining.{drained_again}
 use Rattle.index_reader.proofs.Placing.{placed_inside}
-use Rattle.index_reader.proofs.Texts.{stands_at, bytes_other, bytes_full, carries_none, carries_same, carries_other, place_is}
+use Rattle.index_reader.proofs.Texts.{stands_at, bytes_other, bytes_full, carries_none}
+use Rattle.index_reader.proofs.Texts.{carries_same, carries_other, place_is}
 use Rattle.index_reader.proofs.Spans.{same_symbol}
 use Rattle.index_reader.proofs.Listing.{of_all, of_pair}
 use Rattle.index_reader.proofs.Facts.{IsInside, in_named}

@@ -1,5 +1,6 @@
 -- A body that is spelled so is read.
-use Rattle.std.proofs.Common.{◌≡◌, ℕ, suc, ◌+◌, ◌-◌, ◌^◌, ◌<◌, ◌≤◌, true, false, eqb, List, [], ◌∷◌, ◌++◌, length, get_or, Ok, refl, sym, ap, ◌∙◌, append_assoc, arith}
+use Rattle.std.proofs.Common.{◌≡◌, ℕ, suc, ◌+◌, ◌-◌, ◌^◌, ◌<◌, ◌≤◌, true, false, eqb, List, [], ◌∷◌}
+use Rattle.std.proofs.Common.{◌++◌, length, get_or, Ok, refl, sym, ap, ◌∙◌, append_assoc, arith}
 use Rattle.std.specs.List.{flat_map, AllByRecursion}
 use Rattle.std.proofs.lemmas.Bool.{lt-ltb, le-leb, eqb-true, false_from_ne_true}
 use Rattle.std.proofs.lemmas.List.{append-nil, length-append}
@@ -9,9 +10,11 @@ use Rattle.wire.proofs.Laws.{uvarint_again, uvarint_long}
 use Rattle.index_reader.specs.declared.chunk.Chunk.{Chunk}
 use Rattle.index_reader.specs.Layout.{SeriesEntry, Label, Body}
 use Rattle.index_reader.specs.Reading.Steps.{steps, each}
-use Rattle.index_reader.specs.Reading.Bodies.{is_label, label_at, labels_at, chunk_at, chunks_at, body_at}
+use Rattle.index_reader.specs.Reading.Bodies.{is_label, label_at, labels_at, chunk_at, chunks_at}
+use Rattle.index_reader.specs.Reading.Bodies.{body_at}
 use Rattle.index_reader.specs.Reading.Flat.{body_of_entry}
-use Rattle.index_reader.specs.Spelled.{IsLabel, AreLabels, label_text, AreLater, AreChunks, IsBody, AreBodies}
+use Rattle.index_reader.specs.Spelled.{IsLabel, AreLabels, label_text, AreLater, AreChunks, IsBody}
+use Rattle.index_reader.specs.Spelled.{AreBodies}
 use Rattle.index_reader.proofs.ChunkAgain.{first_again, later_again}
 
 is_true : (symbols : List (List ℕ)) (low : ℕ) (l : Label) → IsLabel symbols low l

@@ -1,5 +1,6 @@
 -- A chunk that is spelled so is read.
-use Rattle.std.proofs.Common.{◌≡◌, ℕ, ◌*◌, ◌+◌, ◌^◌, ◌<◌, true, false, not, cond, eqb, List, ◌++◌, Some, None, refl, ap, subst, ◌∙◌, append_assoc, arith}
+use Rattle.std.proofs.Common.{◌≡◌, ℕ, ◌*◌, ◌+◌, ◌^◌, ◌<◌, true, false, not, cond, eqb, List, ◌++◌}
+use Rattle.std.proofs.Common.{Some, None, refl, ap, subst, ◌∙◌, append_assoc, arith}
 use Rattle.std.specs.Prelude.{ℤ, pos, negsuc, int_lt, ◌+ℤ◌}
 use Rattle.std.specs.Int.Signed.{◌≤ℤ◌, lt_z_no}
 use Rattle.std.proofs.lemmas.Int.{ints}
@@ -11,7 +12,8 @@ use Rattle.index_reader.specs.declared.chunk.Chunk.{Chunk}
 use Rattle.labels.specs.Contents.{is_time}
 use Rattle.labels.specs.declared.sample.TheConstants.{MIN_TIME, MAX_TIME}
 use Rattle.labels.proofs.Times.{first_T, second_T, T_of}
-use Rattle.index_reader.specs.Reading.Chunks.{is_reference, natural, time_after, reference_after, first_at, later_at}
+use Rattle.index_reader.specs.Reading.Chunks.{is_reference, natural, time_after, reference_after}
+use Rattle.index_reader.specs.Reading.Chunks.{first_at, later_at}
 use Rattle.index_reader.specs.Spelled.{IsFirst, IsLater}
 
 time_again : (z : ℤ) (n : ℕ) (t : ℤ) → t ≡ z +ℤ pos n → is_time t ≡ true → time_after z n ≡ Some t

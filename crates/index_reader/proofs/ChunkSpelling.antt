@@ -1,5 +1,6 @@
 -- A chunk that is read is spelled so.
-use Rattle.std.proofs.Common.{◌≡◌, ℕ, zero, suc, ◌^◌, ◌<◌, Bool, true, false, cond, eqb, List, ◌++◌, Option, Some, None, Result, Ok, Err, refl, sym, ap, subst, arith}
+use Rattle.std.proofs.Common.{◌≡◌, ℕ, zero, suc, ◌^◌, ◌<◌, Bool, true, false, cond, eqb, List, ◌++◌}
+use Rattle.std.proofs.Common.{Option, Some, None, Result, Ok, Err, refl, sym, ap, subst, arith}
 use Rattle.std.specs.Prelude.{ℤ, pos, negsuc, ◌+ℤ◌, nat_lt}
 use Rattle.std.proofs.lemmas.Bool.{ltb-true}
 use Rattle.wire.specs.declared.error.WireError.{WireError}
@@ -9,7 +10,8 @@ use Rattle.wire.proofs.Laws.{uvarint_takes}
 use Rattle.wire.proofs.Signed.{varint_takes}
 use Rattle.index_reader.specs.declared.chunk.Chunk.{Chunk}
 use Rattle.labels.specs.Contents.{is_time}
-use Rattle.index_reader.specs.Reading.Chunks.{is_reference, natural, time_after, reference_after, ◌>>=◌, read, first_at, later_at}
+use Rattle.index_reader.specs.Reading.Chunks.{is_reference, natural, time_after, reference_after}
+use Rattle.index_reader.specs.Reading.Chunks.{◌>>=◌, read, first_at, later_at}
 use Rattle.index_reader.specs.Spelled.{IsFirst, IsLater}
 use Rattle.index_reader.proofs.Fields.{Takes, takes, Takes-then}
 

@@ -1,12 +1,17 @@
 -- The test of the lists is what it is meant to be.
-use Rattle.std.proofs.Common.{◌≡◌, ℕ, zero, suc, ◌+◌, ◌<◌, ◌≤◌, Bool, true, false, ◌&&◌, eqb, List, [], ◌∷◌, length, get_or, set, drop, refl, sym, ap, ◌∙◌, inl, inr, arith}
+use Rattle.std.proofs.Common.{◌≡◌, ℕ, zero, suc, ◌+◌, ◌<◌, ◌≤◌, Bool, true, false, ◌&&◌, eqb, List}
+use Rattle.std.proofs.Common.{[], ◌∷◌, length, get_or, set, drop, refl, sym, ap, ◌∙◌, inl, inr}
+use Rattle.std.proofs.Common.{arith}
 use Rattle.std.specs.List.{AllByRecursion}
-use Rattle.std.proofs.lemmas.Bool.{cases_eq, eqb-true, eqb-false, true_from_ne_false, false_from_ne_true}
-use Rattle.std.proofs.lemmas.List.{get_or-set_same, get_or-set_other, length-set, drop_all, get_or-map}
+use Rattle.std.proofs.lemmas.Bool.{cases_eq, eqb-true, eqb-false, true_from_ne_false}
+use Rattle.std.proofs.lemmas.Bool.{false_from_ne_true}
+use Rattle.std.proofs.lemmas.List.{get_or-set_same, get_or-set_other, length-set, drop_all}
+use Rattle.std.proofs.lemmas.List.{get_or-map}
 use Rattle.std.specs.Borrow.{Bor}
 use Rattle.std.proofs.Math.Seq.{drop-cons}
 use Rattle.index_reader.specs.References.{references_in}
-use Rattle.index_reader.specs.Reading.Carried.{Carried, references_carrying, ListsAgree, is_first, all_empty, are_used_up}
+use Rattle.index_reader.specs.Reading.Carried.{Carried, references_carrying, ListsAgree, is_first}
+use Rattle.index_reader.specs.Reading.Carried.{all_empty, are_used_up}
 use Rattle.index_reader.specs.Seen.{references_in_each}
 
 abbrev pub InRange : ℕ → List Carried → Type 0

@@ -1,5 +1,8 @@
 -- What the checks leave, in the words of labels and texts.
-use Rattle.std.proofs.Common.{◌≡◌, ℕ, zero, suc, ◌+◌, ◌/◌, ◌%◌, ◌^◌, ◌<◌, ◌≤◌, Bool, true, false, ◌&&◌, cond, eqb, List, [], ◌∷◌, ◌++◌, length, get_or, Option, Some, None, Result, Ok, Err, refl, sym, ap, subst, ◌∙◌, ◌⊎◌, inl, inr, arith}
+use Rattle.std.proofs.Common.{◌≡◌, ℕ, zero, suc, ◌+◌, ◌/◌, ◌%◌, ◌^◌, ◌<◌, ◌≤◌, Bool, true, false}
+use Rattle.std.proofs.Common.{◌&&◌, cond, eqb, List, [], ◌∷◌, ◌++◌, length, get_or, Option, Some}
+use Rattle.std.proofs.Common.{None, Result, Ok, Err, refl, sym, ap, subst, ◌∙◌, ◌⊎◌, inl, inr}
+use Rattle.std.proofs.Common.{arith}
 use Rattle.std.specs.Prelude.{map, nat_lt}
 use Rattle.std.specs.List.{All, AllByRecursion, list_all, Contains}
 use Rattle.std.specs.List.Sorted.{IsStrictlyIncreasing}
@@ -18,9 +21,12 @@ use Rattle.labels.proofs.Lists.{here, there, Contains-cases, none_in_nil}
 use Rattle.labels.proofs.Texts.{bytes_exact, bytes_self}
 use Rattle.index_reader.specs.declared.layout.TableOfContents.{TableOfContents}
 use Rattle.index_reader.specs.declared.error.IndexError.{IndexError}
-use Rattle.index_reader.specs.declared.error.IndexError.TheVariants.{Series, SeriesOrder, Limit, PostingsDisagree}
-use Rattle.index_reader.specs.Layout.{SeriesEntry, Layout, ascending, rounded, series_end, Label, Body, TableEntry, rises, postings_end}
-use Rattle.index_reader.specs.Reading.Whole.{layout_of, labels_of_each, bodies_of, postings_of, is_small, Read, read_of, IsSoundRead}
+use Rattle.index_reader.specs.declared.error.IndexError.TheVariants.{Series, SeriesOrder, Limit}
+use Rattle.index_reader.specs.declared.error.IndexError.TheVariants.{PostingsDisagree}
+use Rattle.index_reader.specs.Layout.{SeriesEntry, Layout, ascending, rounded, series_end, Label}
+use Rattle.index_reader.specs.Layout.{Body, TableEntry, rises, postings_end}
+use Rattle.index_reader.specs.Reading.Whole.{layout_of, labels_of_each, bodies_of, postings_of}
+use Rattle.index_reader.specs.Reading.Whole.{is_small, Read, read_of, IsSoundRead}
 use Rattle.index_reader.specs.Grammar.{entry, IsWalk, IsLayout}
 use Rattle.index_reader.specs.Reading.Table.{table_content_at, table_at}
 use Rattle.index_reader.specs.Reading.Postings.{lists_at, section_at, references_at}
@@ -30,9 +36,12 @@ use Rattle.index_reader.specs.Reading.Flat.{body_of_entry, labels_before}
 use Rattle.index_reader.specs.Reading.Entries.{gaps_zero}
 use Rattle.index_reader.specs.Reading.Carried.{Carried, are_used_up}
 use Rattle.index_reader.specs.Lookups.{symbol_of, key_before}
-use Rattle.index_reader.specs.Reading.Agreement.{Carrier, or_disagree, key_at, keys_at, lists_of_series, each_all, carriers, are_used, agreement_of}
+use Rattle.index_reader.specs.Reading.Agreement.{Carrier, or_disagree, key_at, keys_at}
+use Rattle.index_reader.specs.Reading.Agreement.{lists_of_series, each_all, carriers, are_used}
+use Rattle.index_reader.specs.Reading.Agreement.{agreement_of}
 use Rattle.index_reader.specs.Reading.Agreement as agreement
-use Rattle.index_reader.specs.Indexes.{references, references_with, named_label, named, series_at, series_of, IsConsistent}
+use Rattle.index_reader.specs.Indexes.{references, references_with, named_label, named, series_at}
+use Rattle.index_reader.specs.Indexes.{series_of, IsConsistent}
 use Rattle.index_reader.specs.Indexes as indexes
 use Rattle.index_reader.specs.KeptIndex.{IsListing}
 use Rattle.index_reader.specs.Checks.{AreInOrder}

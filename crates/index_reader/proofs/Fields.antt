@@ -1,5 +1,6 @@
 -- What is read of a part is what stands there, and what stands there is read.
-use Rattle.std.proofs.Common.{◌≡◌, ℕ, ◌^◌, ◌<◌, true, eqb, List, ◌++◌, length, Ok, refl, sym, ap, subst, ◌∙◌, append_assoc}
+use Rattle.std.proofs.Common.{◌≡◌, ℕ, ◌^◌, ◌<◌, true, eqb, List, ◌++◌, length, Ok, refl, sym, ap}
+use Rattle.std.proofs.Common.{subst, ◌∙◌, append_assoc}
 use Rattle.std.proofs.lemmas.Bool.{eqb-true, eqb-false, true_from_ne_false}
 use Rattle.byteorder.specs.Endian.{big_bytes}
 use Rattle.wire.specs.Checksum.{checked, crc32c}
@@ -7,7 +8,8 @@ use Rattle.wire.proofs.ChecksumBound.{crc32c_below}
 use Rattle.wire.specs.Spelling.{uvarint}
 use Rattle.wire.specs.Reading.{number_at, bytes_at, uvarint_at}
 use Rattle.wire.specs.Spelling.{IsBytes}
-use Rattle.wire.proofs.Fields.{IsBytes-back, number_takes_4, number_again_4, bytes_takes, bytes_again}
+use Rattle.wire.proofs.Fields.{IsBytes-back, number_takes_4, number_again_4, bytes_takes}
+use Rattle.wire.proofs.Fields.{bytes_again}
 use Rattle.wire.proofs.Laws.{uvarint_takes, uvarint_again}
 use Rattle.index_reader.specs.declared.error.IndexError.{IndexError}
 use Rattle.index_reader.specs.declared.error.IndexError.TheVariants.{SeriesCrc}

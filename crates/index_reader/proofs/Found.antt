@@ -1,5 +1,6 @@
 -- What is read of an index is what its bytes spell.
-use Rattle.std.proofs.Common.{◌≡◌, ℕ, zero, suc, ◌+◌, ◌<◌, List, [], ◌∷◌, length, get_or, Option, Some, None, Ok, refl, sym, ap, subst, ◌∙◌, arith}
+use Rattle.std.proofs.Common.{◌≡◌, ℕ, zero, suc, ◌+◌, ◌<◌, List, [], ◌∷◌, length, get_or, Option}
+use Rattle.std.proofs.Common.{Some, None, Ok, refl, sym, ap, subst, ◌∙◌, arith}
 use Rattle.std.specs.Prelude.{map}
 use Rattle.std.proofs.lemmas.List.{length-map, nil_from_length}
 use Rattle.wire.specs.Spelling.{IsBytes}
@@ -11,7 +12,8 @@ use Rattle.index_reader.specs.Reading.Steps.{each}
 use Rattle.index_reader.specs.Lookups.{symbol_of}
 use Rattle.index_reader.specs.Reading.Agreement.{or_disagree, key_at}
 use Rattle.index_reader.specs.Reading.Whole.{Read, read_of, indexed}
-use Rattle.index_reader.specs.Indexes.{Series, references, references_with, named_label, named, series_of}
+use Rattle.index_reader.specs.Indexes.{Series, references, references_with, named_label, named}
+use Rattle.index_reader.specs.Indexes.{series_of}
 use Rattle.index_reader.specs.KeptIndex.{IsListing}
 use Rattle.index_reader.specs.Spelled.{pairs_of, lists_for, AreSections, IsIndex}
 use Rattle.index_reader.proofs.Gaps.{zeros_of}

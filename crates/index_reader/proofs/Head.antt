@@ -1,5 +1,6 @@
 -- What the checks of the head leave.
-use Rattle.std.proofs.Common.{◌≡◌, ℕ, ◌-◌, ◌≤◌, Bool, true, false, ◌&&◌, ◌||◌, cond, ltb, eqb, List, length, drop, Ok, Err, refl, ◌⊎◌, inl, inr, arith}
+use Rattle.std.proofs.Common.{◌≡◌, ℕ, ◌-◌, ◌≤◌, Bool, true, false, ◌&&◌, ◌||◌, cond, ltb, eqb, List}
+use Rattle.std.proofs.Common.{length, drop, Ok, Err, refl, ◌⊎◌, inl, inr, arith}
 use Rattle.std.specs.Prelude.{slice_index, nat_le}
 use Rattle.std.proofs.lemmas.Bool.{leb-true, ltb-true, ltb-false, eqb-true}
 use Rattle.wire.proofs.KnownReads.{chosen}

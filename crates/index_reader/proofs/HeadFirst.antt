@@ -51,8 +51,8 @@ same_value (Ok z) x y a b = ok_is x y (sym a ∙ b)
 same_value (Err d) x y a b = absurd cc
 
 -- a reading that was refused: its first step was, or what follows
-pub bind_err : {A B : Type 0} (r : Result A IndexError) (f : A → Result B IndexError) (e : IndexError)
-    → (r >>= f) ≡ Err e → (r ≡ Err e) ⊎ ((x : A) × (r ≡ Ok x) × (f x ≡ Err e))
+pub bind_err : {A B : Type 0} (r : Result A IndexError) (f : A → Result B IndexError)
+    (e : IndexError) → (r >>= f) ≡ Err e → (r ≡ Err e) ⊎ ((x : A) × (r ≡ Ok x) × (f x ≡ Err e))
 bind_err (Ok x) f e h = inr (x, refl, h)
 bind_err {A} {B} (Err d) f e h =
     inl (ap (λ (c : IndexError). refused A c) (sym (is_refusal B d e h)))
@@ -121,8 +121,8 @@ sum_right t fits =
     big_number-reads_back 4 sum [] (crc32c_below (contents_text t) fits) in
     rw back (eqb_same sum)
 
-contents_fit : (table : List ℕ) (t : TableOfContents) → IsBytes table → table ≡ checked (contents_text t)
-    → IsBytes (contents_text t)
+contents_fit : (table : List ℕ) (t : TableOfContents) → IsBytes table
+    → table ≡ checked (contents_text t) → IsBytes (contents_text t)
 contents_fit table t fits e =
     IsBytes-front (contents_text t) (big_bytes 4 (crc32c (contents_text t))) (subst IsBytes e fits)
 
@@ -134,7 +134,7 @@ contents_first : (file : List ℕ) (e : IndexError) (rest : List Check) → IsBy
     → FirstFailing (Check.contents_sum ∷ Check.contents_order ∷ rest) file e
 unfolding contents_of
 contents_first file e rest fits long start whole h =
-        let table = drop (length file - 52) file in
+    let table = drop (length file - 52) file in
     let table_fits = IsBytes-drop (length file - 52) file fits in
     elim (bind_err (contents_of table)
     (λ t. cond (in_order t (length file - 52)) (Ok t) (Err ContentsOrder)) e h) [
@@ -177,7 +177,7 @@ pub head_first : (file : List ℕ) (e : IndexError) (rest : List Check) → IsBy
     ∷ Check.contents_sum ∷ Check.contents_order ∷ rest) file e
 unfolding head_of
 head_first file e rest fits h =
-        elim (chosen (ltb 0x4000_0000 (length file)) _ _ _ h) [
+    elim (chosen (ltb 0x4000_0000 (length file)) _ _ _ h) [
       | inl a ↦
           let lt = ltb-true 0x4000_0000 (length file) a.0 in
           inl (λ le. omega (arith, lt, le), is_refusal TableOfContents Limit e a.1)
@@ -272,14 +272,15 @@ pub parts_first : (file : List ℕ) (e : IndexError) (rest : List Check) → IsB
     ∷ Check.entries ∷ rest) file e
 unfolding layout_of
 parts_first file e rest fits h =
-        elim (bind_err (head_of file) _ e h) [
-      | inl a ↦ head_first file e (Check.symbols_frame ∷ Check.symbols ∷ Check.entries ∷ rest) fits a
+    let last = Check.symbols_frame ∷ Check.symbols ∷ Check.entries ∷ rest in
+    elim (bind_err (head_of file) _ e h) [
+      | inl a ↦ head_first file e last fits a
       | inr a ↦
           let t = a.0 in
           let head = head_takes file t fits a.1 in
           let placed = head_placed file t a.1 in
           let bytes = slice_range file 5 t.series in
-          head_passes file e (Check.symbols_frame ∷ Check.symbols ∷ Check.entries ∷ rest) t head.start
+          head_passes file e last t head.start
           head.contents placed (elim (bind_err (frame_at SymbolsCrc bytes) _ e a.2) [
             | inl b ↦ inl (
               λ o. let r = frame_read file o.0 t fits a.1 o.1 in

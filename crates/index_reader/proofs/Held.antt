@@ -1,5 +1,7 @@
 -- What is kept of a file that was read.
-use Rattle.std.proofs.Common.{◌≡◌, ℕ, zero, suc, ◌+◌, ◌/◌, ◌<◌, ◌≤◌, List, [], ◌∷◌, ◌++◌, length, get_or, drop, Some, Result, Ok, Err, refl, sym, ap, subst, ◌∙◌, append_assoc, arith}
+use Rattle.std.proofs.Common.{◌≡◌, ℕ, zero, suc, ◌+◌, ◌/◌, ◌<◌, ◌≤◌, List, [], ◌∷◌, ◌++◌, length}
+use Rattle.std.proofs.Common.{get_or, drop, Some, Result, Ok, Err, refl, sym, ap, subst, ◌∙◌}
+use Rattle.std.proofs.Common.{append_assoc, arith}
 use Rattle.std.specs.Prelude.{slice_get, slice_range, map, IfOk}
 use Rattle.std.specs.List.{All}
 use Rattle.std.specs.Borrow.{Bor}
@@ -17,9 +19,11 @@ use Rattle.index_reader.specs.Reading.Flat.{body_in, bodies_in, references_in_or
 use Rattle.index_reader.specs.References.{references_in, IsList}
 use Rattle.index_reader.specs.Seen.{bytes_of, entries_seen, strings_of}
 use Rattle.index_reader.specs.Reading.Agreement as agreement
-use Rattle.index_reader.specs.Indexes.{named_label, named, series_at, series_of, references, references_with}
+use Rattle.index_reader.specs.Indexes.{named_label, named, series_at, series_of, references}
+use Rattle.index_reader.specs.Indexes.{references_with}
 use Rattle.index_reader.specs.Indexes as indexes
-use Rattle.index_reader.specs.KeptIndex.{series_in, all_in, indexed_in, AreSeriesIn, AreInTable, IsListing, IsKeptIndex}
+use Rattle.index_reader.specs.KeptIndex.{series_in, all_in, indexed_in, AreSeriesIn, AreInTable}
+use Rattle.index_reader.specs.KeptIndex.{IsListing, IsKeptIndex}
 use Rattle.index_reader.specs.Reading.Whole.{read_of, indexed, indexed_of, IsSoundRead}
 use Rattle.index_reader.specs.Spelled.{IsIndex}
 use Rattle.index_reader.specs.CheckedFile.{read_seen, IsHeldIn}

@@ -1,8 +1,10 @@
 -- Bytes that grow keep their lists.
-use Rattle.std.proofs.Common.{◌≡◌, ℕ, suc, ◌-◌, ◌%◌, List, [], ◌∷◌, ◌++◌, length, get_or, refl, sym, ap, subst, ◌∙◌, inl, inr, arith}
+use Rattle.std.proofs.Common.{◌≡◌, ℕ, suc, ◌-◌, ◌%◌, List, [], ◌∷◌, ◌++◌, length, get_or, refl, sym}
+use Rattle.std.proofs.Common.{ap, subst, ◌∙◌, inl, inr, arith}
 use Rattle.std.specs.List.Sorted.{IsStrictlyIncreasing}
 use Rattle.std.proofs.lemmas.Bool.{cases_lt}
-use Rattle.std.proofs.lemmas.List.{length-append, get_or_append_left, map_push, get_or_at, length_push}
+use Rattle.std.proofs.lemmas.List.{length-append, get_or_append_left, map_push, get_or_at}
+use Rattle.std.proofs.lemmas.List.{length_push}
 use Rattle.index_reader.specs.declared.lists.ListSpan.{ListSpan}
 use Rattle.index_reader.specs.References.{references_in}
 use Rattle.index_reader.specs.KeptLists.{kept_list_at, kept_lists_at, IsListAt, AreListsAt}

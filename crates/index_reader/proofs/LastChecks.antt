@@ -17,7 +17,8 @@ use Rattle.index_reader.specs.declared.error.IndexError.TheVariants.{Memory, Lim
 use Rattle.index_reader.specs.Outcome.{Gives, Fails}
 use Rattle.index_reader.specs.Layout.{SeriesEntry, Layout, Label, Body, TableEntry, is_before}
 use Rattle.index_reader.specs.Layout.{rises, postings_end}
-use Rattle.index_reader.specs.Reading.Whole.{layout_of, labels_of_each, bodies_of, postings_of, is_small}
+use Rattle.index_reader.specs.Reading.Whole.{layout_of, labels_of_each, bodies_of, postings_of}
+use Rattle.index_reader.specs.Reading.Whole.{is_small}
 use Rattle.index_reader.specs.Reading.Whole.{Read, read_of, indexed_of}
 use Rattle.index_reader.specs.Grammar.{IsLayout}
 use Rattle.index_reader.specs.References.{references_in}
@@ -25,7 +26,8 @@ use Rattle.index_reader.specs.Reading.Steps.{each}
 use Rattle.index_reader.specs.Reading.Postings.{section_at, references_at, lists_at}
 use Rattle.index_reader.specs.Reading.Flat.{body_of_entry}
 use Rattle.index_reader.specs.Reading.Carried.{are_used_up}
-use Rattle.index_reader.specs.Reading.Agreement.{Carrier, keys_at, lists_of_series, each_all, carriers}
+use Rattle.index_reader.specs.Reading.Agreement.{Carrier, keys_at, lists_of_series, each_all}
+use Rattle.index_reader.specs.Reading.Agreement.{carriers}
 use Rattle.index_reader.specs.Reading.Agreement.{are_used, agreement_of}
 use Rattle.index_reader.specs.Reading.Agreement as agreement
 use Rattle.index_reader.specs.Indexes.{Series, Indexed, named_label, named, series_of}
@@ -363,7 +365,8 @@ first_failing file e fits h =
                   | inl c ↦ postings_first file p fits a.1 e last c
                   | inr c ↦
                       lists_pass file e last p c.0.0 (map references_in c.0.1)
-                      (lists_held file p b.0 c.0.0 c.0.1 a.1 b.1 c.1 fits) (agreement_first file p b.0 c.0.0 c.0.1 a.1 b.1 c.1 fits e _ c.2)
+                      (lists_held file p b.0 c.0.0 c.0.1 a.1 b.1 c.1 fits)
+                      (agreement_first file p b.0 c.0.0 c.0.1 a.1 b.1 c.1 fits e _ c.2)
                 ])
           ]
     ]

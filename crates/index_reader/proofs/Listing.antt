@@ -1,5 +1,7 @@
 -- Lists that agree by symbols are the lists of the series by texts.
-use Rattle.std.proofs.Common.{◌≡◌, ℕ, suc, ◌+◌, ◌/◌, ◌<◌, ◌≤◌, Bool, true, false, ◌&&◌, cond, not, eqb, List, [], ◌∷◌, ◌++◌, length, get_or, Some, Ok, refl, sym, ap, subst, ◌∙◌, inl, inr, arith}
+use Rattle.std.proofs.Common.{◌≡◌, ℕ, suc, ◌+◌, ◌/◌, ◌<◌, ◌≤◌, Bool, true, false, ◌&&◌, cond, not}
+use Rattle.std.proofs.Common.{eqb, List, [], ◌∷◌, ◌++◌, length, get_or, Some, Ok, refl, sym, ap}
+use Rattle.std.proofs.Common.{subst, ◌∙◌, inl, inr, arith}
 use Rattle.std.specs.Prelude.{filter}
 use Rattle.std.specs.Str.{bytes_eq}
 use Rattle.std.proofs.lemmas.Bool.{cases_eq}
@@ -9,15 +11,19 @@ use Rattle.index_reader.specs.Layout.{SeriesEntry, ascending, Label, Body, rises
 use Rattle.index_reader.specs.Reading.Steps.{each}
 use Rattle.index_reader.specs.Reading.Carried.{Carried, references_carrying}
 use Rattle.index_reader.specs.Lookups.{key_before, place_of}
-use Rattle.index_reader.specs.Reading.Agreement.{list_of_label, Carrier, lists_of_series, each_all, carriers}
+use Rattle.index_reader.specs.Reading.Agreement.{list_of_label, Carrier, lists_of_series, each_all}
+use Rattle.index_reader.specs.Reading.Agreement.{carriers}
 use Rattle.index_reader.specs.Reading.Agreement as agreement
-use Rattle.index_reader.specs.Indexes.{Series, references, references_with, named_label, named, series_at, series_of}
+use Rattle.index_reader.specs.Indexes.{Series, references, references_with, named_label, named}
+use Rattle.index_reader.specs.Indexes.{series_at, series_of}
 use Rattle.index_reader.specs.Reading.Whole as checks
 use Rattle.wire.proofs.Steps.{bind_ok}
 use Rattle.index_reader.proofs.Walks.{ok_is}
 use Rattle.index_reader.specs.Spelled.{AreLabels}
 use Rattle.index_reader.proofs.Draining.{with_same, with_other}
-use Rattle.index_reader.proofs.Texts.{bytes_other, bytes_full, carries_none, carries_same, carries_other, and_false, place_found, place_is, placed_is, each_cons, each_nil}
+use Rattle.index_reader.proofs.Texts.{bytes_other, bytes_full, carries_none, carries_same}
+use Rattle.index_reader.proofs.Texts.{carries_other, and_false, place_found, place_is, placed_is}
+use Rattle.index_reader.proofs.Texts.{each_cons, each_nil}
 
 -- this reference, where the test holds
 abbrev pub if_so : Bool → ℕ → List ℕ

@@ -1,12 +1,14 @@
 -- The one refusal of postings that are not those of the series.
-use Rattle.std.proofs.Common.{◌≡◌, ℕ, Bool, true, false, cond, List, [], ◌∷◌, Option, Some, None, Result, Ok, Err, refl, sym, ◌∙◌}
+use Rattle.std.proofs.Common.{◌≡◌, ℕ, Bool, true, false, cond, List, [], ◌∷◌, Option, Some, None}
+use Rattle.std.proofs.Common.{Result, Ok, Err, refl, sym, ◌∙◌}
 use Rattle.index_reader.specs.declared.error.IndexError.{IndexError}
 use Rattle.index_reader.specs.declared.error.IndexError.TheVariants.{PostingsDisagree}
 use Rattle.index_reader.specs.Reading.Steps.{each}
 use Rattle.wire.specs.Outcome.{◌>>=◌}
 use Rattle.index_reader.specs.Layout.{Label, TableEntry, rises}
 use Rattle.index_reader.specs.Lookups.{symbol_of, place_of, key_before}
-use Rattle.index_reader.specs.Reading.Agreement.{Carrier, or_disagree, key_at, keys_at, list_of_label, lists_of_series, each_all}
+use Rattle.index_reader.specs.Reading.Agreement.{Carrier, or_disagree, key_at, keys_at}
+use Rattle.index_reader.specs.Reading.Agreement.{list_of_label, lists_of_series, each_all}
 use Rattle.index_reader.proofs.Walks.{done}
 
 abbrev pub OnlyDisagrees : {A : Type 0} → Result A IndexError → Type 0

@@ -1,5 +1,6 @@
 -- Which refusals a reading can answer.
-use Rattle.std.proofs.Common.{◌≡◌, ℕ, zero, suc, ◌-◌, Bool, true, false, cond, ltb, List, [], ◌∷◌, length}
+use Rattle.std.proofs.Common.{◌≡◌, ℕ, zero, suc, ◌-◌, Bool, true, false, cond, ltb, List, [], ◌∷◌}
+use Rattle.std.proofs.Common.{length}
 use Rattle.std.proofs.Common.{Option, Some, None, Result, Ok, Err, refl, ◌∙◌, inl, inr, eqb}
 use Rattle.std.specs.Prelude.{slice_range}
 use Rattle.wire.specs.declared.error.WireError.{WireError}

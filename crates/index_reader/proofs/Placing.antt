@@ -1,5 +1,7 @@
 -- Where the labels of the series stand, one series after another.
-use Rattle.std.proofs.Common.{◌≡◌, ℕ, zero, suc, ◌+◌, ◌<◌, ◌≤◌, Bool, true, false, cond, List, [], ◌∷◌, ◌++◌, length, drop, Option, Some, None, Result, Ok, Err, refl, sym, ap, ◌∙◌, append_assoc, arith}
+use Rattle.std.proofs.Common.{◌≡◌, ℕ, zero, suc, ◌+◌, ◌<◌, ◌≤◌, Bool, true, false, cond, List, []}
+use Rattle.std.proofs.Common.{◌∷◌, ◌++◌, length, drop, Option, Some, None, Result, Ok, Err, refl}
+use Rattle.std.proofs.Common.{sym, ap, ◌∙◌, append_assoc, arith}
 use Rattle.std.specs.Prelude.{slice_get, map, nat_lt}
 use Rattle.std.specs.List.{AllByRecursion, list_all}
 use Rattle.std.specs.Borrow.{Bor}
@@ -14,7 +16,8 @@ use Rattle.index_reader.specs.References.{references_in}
 use Rattle.index_reader.specs.Reading.Carried.{Carried}
 use Rattle.index_reader.specs.Seen.{references_in_each, bytes_of}
 use Rattle.index_reader.specs.Lookups.{index_of, next, place_of}
-use Rattle.index_reader.specs.Reading.Agreement.{are_used, or_disagree, list_of_label, Carrier, lists_of_series, each_all, carriers}
+use Rattle.index_reader.specs.Reading.Agreement.{are_used, or_disagree, list_of_label, Carrier}
+use Rattle.index_reader.specs.Reading.Agreement.{lists_of_series, each_all, carriers}
 use Rattle.index_reader.proofs.Eaches.{drop_at_place}
 use Rattle.wire.proofs.Steps.{bind_ok}
 use Rattle.index_reader.proofs.Walks.{ok_is}

@@ -1,5 +1,8 @@
 -- An index that is read is spelled so.
-use Rattle.std.proofs.Common.{◌≡◌, ℕ, zero, suc, ◌+◌, ◌-◌, ◌*◌, ◌/◌, ◌<◌, Bool, true, false, ◌&&◌, cond, eqb, List, [], ◌∷◌, ◌++◌, length, get_or, drop, Option, Some, None, Result, Ok, Err, refl, sym, ap, subst, ◌∙◌, ◌⊎◌, inl, inr, arith}
+use Rattle.std.proofs.Common.{◌≡◌, ℕ, zero, suc, ◌+◌, ◌-◌, ◌*◌, ◌/◌, ◌<◌, Bool, true, false, ◌&&◌}
+use Rattle.std.proofs.Common.{cond, eqb, List, [], ◌∷◌, ◌++◌, length, get_or, drop, Option, Some}
+use Rattle.std.proofs.Common.{None, Result, Ok, Err, refl, sym, ap, subst, ◌∙◌, ◌⊎◌, inl, inr}
+use Rattle.std.proofs.Common.{arith}
 use Rattle.std.specs.Prelude.{map, slice_range}
 use Rattle.std.specs.List.{flat_map, AllByRecursion, list_all}
 use Rattle.std.proofs.lemmas.Bool.{eqb-true}
@@ -10,25 +13,32 @@ use Rattle.byteorder.specs.Numbers.{big_from-lt}
 use Rattle.wire.specs.Spelling.{IsBytes, uvarint}
 use Rattle.wire.specs.Checksum.{crc32c}
 use Rattle.wire.specs.Reading.{byte_at, number_at, bytes_at, uvarint_at}
-use Rattle.wire.proofs.Fields.{IsBytes-front, IsBytes-back, IsBytes-take, IsBytes-drop, number_takes_4, bytes_takes, big_bytes_4}
+use Rattle.wire.proofs.Fields.{IsBytes-front, IsBytes-back, IsBytes-take, IsBytes-drop}
+use Rattle.wire.proofs.Fields.{number_takes_4, bytes_takes, big_bytes_4}
 use Rattle.wire.proofs.Laws.{uvarint_takes}
 use Rattle.index_reader.specs.declared.chunk.Chunk.{Chunk}
 use Rattle.index_reader.specs.declared.layout.TableOfContents.{TableOfContents}
 use Rattle.index_reader.specs.declared.error.IndexError.{IndexError}
-use Rattle.index_reader.specs.declared.error.IndexError.TheVariants.{Series, Offsets, Postings, PostingsCrc}
+use Rattle.index_reader.specs.declared.error.IndexError.TheVariants.{Series, Offsets, Postings}
+use Rattle.index_reader.specs.declared.error.IndexError.TheVariants.{PostingsCrc}
 use Rattle.index_reader.specs.Reading.Steps.{steps, each}
 use Rattle.wire.specs.Outcome.{◌>>=◌, or_refused}
 use Rattle.index_reader.specs.Reading.Frames.{frame_at}
-use Rattle.index_reader.specs.Layout.{SeriesEntry, rounded, rises, Label, Body, TableEntry, is_before, is_within, postings_end}
+use Rattle.index_reader.specs.Layout.{SeriesEntry, rounded, rises, Label, Body, TableEntry}
+use Rattle.index_reader.specs.Layout.{is_before, is_within, postings_end}
 use Rattle.index_reader.specs.Grammar.{frame, entry, symbol, StandsAt, IsWalk}
-use Rattle.index_reader.specs.Reading.Bodies.{is_label, label_at, labels_at, or_series, chunk_at, chunks_at, behind, body_at}
+use Rattle.index_reader.specs.Reading.Bodies.{is_label, label_at, labels_at, or_series, chunk_at}
+use Rattle.index_reader.specs.Reading.Bodies.{chunks_at, behind, body_at}
 use Rattle.index_reader.specs.Reading.Chunks.{first_at, later_at}
 use Rattle.index_reader.specs.Reading.Flat.{body_of_entry}
 use Rattle.index_reader.specs.References.{words, references_in, IsList}
-use Rattle.index_reader.specs.Reading.Table.{text_at, table_entry_at, table_at, label_offsets_at, table_content_at}
+use Rattle.index_reader.specs.Reading.Table.{text_at, table_entry_at, table_at, label_offsets_at}
+use Rattle.index_reader.specs.Reading.Table.{table_content_at}
 use Rattle.index_reader.specs.Reading.Postings.{section_at, references_at}
 use Rattle.index_reader.specs.Checks.{AreSmall, HasFrame}
-use Rattle.index_reader.specs.Spelled.{AreLabels, label_text, IsLater, AreLater, AreChunks, IsBody, AreBodies, listed_text, table_text, IsTable, list_text, AreSections}
+use Rattle.index_reader.specs.Spelled.{AreLabels, label_text, IsLater, AreLater, AreChunks, IsBody}
+use Rattle.index_reader.specs.Spelled.{AreBodies, listed_text, table_text, IsTable, list_text}
+use Rattle.index_reader.specs.Spelled.{AreSections}
 use Rattle.index_reader.proofs.WalkLoops.{guard_ended}
 use Rattle.wire.proofs.Steps.{bind_ok, refused_ok}
 use Rattle.index_reader.proofs.Walks.{ok_is}

@@ -1,5 +1,7 @@
 -- A table and its sections that are spelled so are read.
-use Rattle.std.proofs.Common.{◌≡◌, ℕ, suc, ◌+◌, ◌-◌, ◌*◌, ◌/◌, ◌^◌, ◌<◌, ◌≤◌, Bool, true, false, ◌&&◌, eqb, ltb, List, [], ◌∷◌, ◌++◌, length, drop, Result, Ok, Err, refl, sym, ap, subst, ◌∙◌, ◌⊎◌, inl, inr, append_assoc, arith}
+use Rattle.std.proofs.Common.{◌≡◌, ℕ, suc, ◌+◌, ◌-◌, ◌*◌, ◌/◌, ◌^◌, ◌<◌, ◌≤◌, Bool, true, false}
+use Rattle.std.proofs.Common.{◌&&◌, eqb, ltb, List, [], ◌∷◌, ◌++◌, length, drop, Result, Ok, Err}
+use Rattle.std.proofs.Common.{refl, sym, ap, subst, ◌∙◌, ◌⊎◌, inl, inr, append_assoc, arith}
 use Rattle.std.specs.Prelude.{map, slice_range, nat_lt}
 use Rattle.std.specs.List.{flat_map, AllByRecursion, list_all}
 use Rattle.std.specs.List.Sorted.{IsStrictlyIncreasing}
@@ -12,7 +14,8 @@ use Rattle.wire.specs.declared.error.WireError.TheVariants.{Short}
 use Rattle.wire.specs.Spelling.{IsBytes, uvarint}
 use Rattle.wire.specs.Checksum.{crc32c}
 use Rattle.wire.specs.Reading.{number_at}
-use Rattle.wire.proofs.Fields.{IsBytes-front, IsBytes-back, IsBytes-take, IsBytes-drop, number_again_4, bytes_again}
+use Rattle.wire.proofs.Fields.{IsBytes-front, IsBytes-back, IsBytes-take, IsBytes-drop}
+use Rattle.wire.proofs.Fields.{number_again_4, bytes_again}
 use Rattle.wire.proofs.KnownReads.{chosen}
 use Rattle.wire.proofs.Laws.{uvarint_again, uvarint_long}
 use Rattle.labels.proofs.Lists.{rising-tail}
@@ -24,7 +27,8 @@ use Rattle.index_reader.specs.Grammar.{frame, symbol, StandsAt}
 use Rattle.index_reader.specs.Reading.Steps.{steps, each}
 use Rattle.index_reader.specs.Layout.{rises, TableEntry, is_before, is_within, postings_end}
 use Rattle.index_reader.specs.References.{words, references_in}
-use Rattle.index_reader.specs.Reading.Table.{table_entry_at, table_at, label_offsets_at, table_content_at}
+use Rattle.index_reader.specs.Reading.Table.{table_entry_at, table_at, label_offsets_at}
+use Rattle.index_reader.specs.Reading.Table.{table_content_at}
 use Rattle.index_reader.specs.Reading.Postings.{section_at, references_at}
 use Rattle.index_reader.specs.Spelled.{listed_text, table_text, IsTable, list_text, AreSections}
 use Rattle.index_reader.specs.Checks.{AreSmall, HasFrame}

@@ -1,5 +1,7 @@
 -- Lists that the series use up agree with them.
-use Rattle.std.proofs.Common.{◌≡◌, ℕ, suc, ◌+◌, ◌≤◌, Bool, true, false, ◌&&◌, cond, eqb, List, [], ◌∷◌, ◌++◌, length, get_or, set, drop, Option, Some, None, Result, Ok, Err, refl, sym, ap, ◌∙◌, arith}
+use Rattle.std.proofs.Common.{◌≡◌, ℕ, suc, ◌+◌, ◌≤◌, Bool, true, false, ◌&&◌, cond, eqb, List, []}
+use Rattle.std.proofs.Common.{◌∷◌, ◌++◌, length, get_or, set, drop, Option, Some, None, Result, Ok}
+use Rattle.std.proofs.Common.{Err, refl, sym, ap, ◌∙◌, arith}
 use Rattle.std.specs.Prelude.{map, slice_get}
 use Rattle.std.proofs.lemmas.Bool.{eqb-true, false_from_ne_true, true_from_ne_false, eqb-false}
 use Rattle.std.proofs.lemmas.List.{drop_all}
@@ -12,10 +14,13 @@ use Rattle.index_reader.specs.Layout.{Label, TableEntry}
 use Rattle.index_reader.specs.References.{references_in}
 use Rattle.index_reader.specs.Reading.Carried.{Carried, is_first, all_empty, are_used_up}
 use Rattle.index_reader.specs.Lookups.{place_of}
-use Rattle.index_reader.specs.Reading.Agreement.{Carrier, or_disagree, keys_at, list_of_label, lists_of_series, each_all, are_used, agreement_of}
-use Rattle.index_reader.specs.Reading.Walk.{Rests, in_turn, rests_of, with_rest, take_reference, take_label, take_series, keys_used_up}
+use Rattle.index_reader.specs.Reading.Agreement.{Carrier, or_disagree, keys_at, list_of_label}
+use Rattle.index_reader.specs.Reading.Agreement.{lists_of_series, each_all, are_used, agreement_of}
+use Rattle.index_reader.specs.Reading.Walk.{Rests, in_turn, rests_of, with_rest, take_reference}
+use Rattle.index_reader.specs.Reading.Walk.{take_label, take_series, keys_used_up}
 use Rattle.index_reader.proofs.Eaches.{drop_at_place}
-use Rattle.index_reader.proofs.OnlyDisagrees.{OnlyDisagrees, only_ok, only_then, only_refused, only_each, only_each_all, only_place, only_placed}
+use Rattle.index_reader.proofs.OnlyDisagrees.{OnlyDisagrees, only_ok, only_then, only_refused}
+use Rattle.index_reader.proofs.OnlyDisagrees.{only_each, only_each_all, only_place, only_placed}
 
 abbrev Lists : Type 0
 Lists = List (List ℕ)

@@ -1,18 +1,23 @@
 -- The two laws of the whole: what is read is so laid out, and what is so laid out is read.
-use Rattle.std.proofs.Common.{◌≡◌, ℕ, ◌+◌, ◌-◌, ◌^◌, ◌≤◌, ◌<◌, Bool, true, false, ◌&&◌, ◌||◌, cond, ltb, eqb, List, [], ◌∷◌, ◌++◌, length, get_or, take, drop, Result, Ok, Err, refl, sym, ap, subst, ◌∙◌, ◌⊎◌, inl, inr, arith}
+use Rattle.std.proofs.Common.{◌≡◌, ℕ, ◌+◌, ◌-◌, ◌^◌, ◌≤◌, ◌<◌, Bool, true, false, ◌&&◌, ◌||◌, cond}
+use Rattle.std.proofs.Common.{ltb, eqb, List, [], ◌∷◌, ◌++◌, length, get_or, take, drop, Result, Ok}
+use Rattle.std.proofs.Common.{Err, refl, sym, ap, subst, ◌∙◌, ◌⊎◌, inl, inr, arith}
 use Rattle.std.specs.Prelude.{slice_range, slice_index, nat_le, IfOk}
 use Rattle.std.proofs.lemmas.Bool.{lt-ltb, le-ltb, le-leb, ltb-false, eqb-true}
-use Rattle.std.proofs.lemmas.List.{length-append, length-drop, length-take, take-append-drop, drop-drop, get_or-take, take_all}
+use Rattle.std.proofs.lemmas.List.{length-append, length-drop, length-take, take-append-drop}
+use Rattle.std.proofs.lemmas.List.{drop-drop, get_or-take, take_all}
 use Rattle.byteorder.specs.Endian.{big_number, big_bytes}
 use Rattle.byteorder.specs.Numbers.{big_number-reads_back}
 use Rattle.wire.specs.Checksum.{checked, crc32c}
 use Rattle.wire.proofs.ChecksumBound.{crc32c_below}
 use Rattle.wire.specs.Spelling.{IsBytes}
-use Rattle.wire.proofs.Fields.{IsBytes-take, IsBytes-drop, IsBytes-front, IsBytes-back, big_bytes_4, big_bytes_8}
+use Rattle.wire.proofs.Fields.{IsBytes-take, IsBytes-drop, IsBytes-front, IsBytes-back, big_bytes_4}
+use Rattle.wire.proofs.Fields.{big_bytes_8}
 use Rattle.wire.proofs.KnownReads.{chosen}
 use Rattle.index_reader.specs.declared.layout.TableOfContents.{TableOfContents}
 use Rattle.index_reader.specs.declared.error.IndexError.{IndexError}
-use Rattle.index_reader.specs.declared.error.IndexError.TheVariants.{ContentsCrc, ContentsOrder, SymbolsCrc}
+use Rattle.index_reader.specs.declared.error.IndexError.TheVariants.{ContentsCrc, ContentsOrder}
+use Rattle.index_reader.specs.declared.error.IndexError.TheVariants.{SymbolsCrc}
 use Rattle.index_reader.specs.Layout.{IsPlaced, rounded, series_end, Layout}
 use Rattle.index_reader.specs.Reading.Head.{in_order, has_magic, contents_at, contents_of, head_of}
 use Rattle.index_reader.specs.Reading.Frames.{frame_at}

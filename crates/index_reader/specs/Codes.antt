@@ -1,7 +1,13 @@
 -- How the refusals are numbered.
 use Rattle.std.specs.Prelude.{ℕ, List, codes}
 use Rattle.index_reader.specs.declared.error.IndexError.{IndexError}
-use Rattle.index_reader.specs.declared.error.IndexError.TheVariants.{Memory, TooShort, Magic, Version, ContentsCrc, ContentsOrder, SymbolsCrc, Symbols, SeriesCrc, Series, SeriesOrder, PostingsCrc, Postings, Offsets, PostingsDisagree, Limit}
+use Rattle.index_reader.specs.declared.error.IndexError.TheVariants.{Memory, TooShort, Magic}
+use Rattle.index_reader.specs.declared.error.IndexError.TheVariants.{Version, ContentsCrc}
+use Rattle.index_reader.specs.declared.error.IndexError.TheVariants.{ContentsOrder, SymbolsCrc}
+use Rattle.index_reader.specs.declared.error.IndexError.TheVariants.{Symbols, SeriesCrc, Series}
+use Rattle.index_reader.specs.declared.error.IndexError.TheVariants.{SeriesOrder, PostingsCrc}
+use Rattle.index_reader.specs.declared.error.IndexError.TheVariants.{Postings, Offsets}
+use Rattle.index_reader.specs.declared.error.IndexError.TheVariants.{PostingsDisagree, Limit}
 
 -- the number of a refusal, as text
 abbrev pub code_of : IndexError → List ℕ

@@ -1,7 +1,8 @@
 -- Where the parts of an index stand: the words that its grammar and its reader share.
 use Rattle.std.specs.Cmp.Lexicographic.{slice_cmp}
 use Rattle.std.specs.Ordering.{is_lt, nat_cmp, ordering_then}
-use Rattle.std.specs.Prelude.{◌≡◌, ℕ, ◌+◌, ◌<◌, ◌≤◌, true, List, [], ◌∷◌, Bool, ◌&&◌, nat_lt, nat_le, ◌==◌, if◌then◌else◌, ◌⊎◌, ◌*◌, ◌/◌}
+use Rattle.std.specs.Prelude.{◌≡◌, ℕ, ◌+◌, ◌<◌, ◌≤◌, true, List, [], ◌∷◌, Bool, ◌&&◌, nat_lt}
+use Rattle.std.specs.Prelude.{nat_le, ◌==◌, if◌then◌else◌, ◌⊎◌, ◌*◌, ◌/◌}
 use Rattle.index_reader.specs.declared.chunk.Chunk.{Chunk}
 use Rattle.index_reader.specs.declared.layout.TableOfContents.{TableOfContents}
 

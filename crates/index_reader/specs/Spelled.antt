@@ -1,5 +1,6 @@
 -- A whole index, by the bytes that spell it.
-use Rattle.std.specs.Prelude.{◌≡◌, ℕ, ◌+◌, ◌-◌, ◌^◌, ◌<◌, ◌≤◌, ◌⊎◌, ℤ, pos, ◌+ℤ◌, true, List, [], ◌∷◌, ◌++◌, length, get_or, map, slice_index, slice_range}
+use Rattle.std.specs.Prelude.{◌≡◌, ℕ, ◌+◌, ◌-◌, ◌^◌, ◌<◌, ◌≤◌, ◌⊎◌, ℤ, pos, ◌+ℤ◌, true, List, []}
+use Rattle.std.specs.Prelude.{◌∷◌, ◌++◌, length, get_or, map, slice_index, slice_range}
 use Rattle.std.specs.List.{flat_map, list_all, Contains}
 use Rattle.std.specs.List.Sorted.{IsStrictlyIncreasing}
 use Rattle.byteorder.specs.Endian.{big_bytes}
@@ -8,9 +9,11 @@ use Rattle.wire.specs.Spelling.{uvarint, varint, zigzag}
 use Rattle.index_reader.specs.declared.layout.TableOfContents.{TableOfContents}
 use Rattle.index_reader.specs.declared.chunk.Chunk.{Chunk}
 use Rattle.labels.specs.Contents.{is_time}
-use Rattle.index_reader.specs.Layout.{SeriesEntry, Layout, series_end, Label, Body, TableEntry, is_before, is_within, rises, postings_end}
+use Rattle.index_reader.specs.Layout.{SeriesEntry, Layout, series_end, Label, Body, TableEntry}
+use Rattle.index_reader.specs.Layout.{is_before, is_within, rises, postings_end}
 use Rattle.index_reader.specs.Grammar.{frame, symbol, StandsAt, IsLayout}
-use Rattle.index_reader.specs.Indexes.{Series, Indexed, references, references_with, series_of, IsConsistent}
+use Rattle.index_reader.specs.Indexes.{Series, Indexed, references, references_with, series_of}
+use Rattle.index_reader.specs.Indexes.{IsConsistent}
 
 -- ---- labels, by the numbers of their symbols
 

@@ -1,14 +1,16 @@
 //! Whether the postings are those of the series.
 
 ghost use Rattle.std.specs.List.{list_all};
-ghost use Rattle.std.specs.Prelude.{◌≡◌, ◌+◌, ◌≤◌, ◌^◌, length, nat_lt, All, IfOk, ◌==◌, [], MatchOption, true, ◌∷◌};
+ghost use Rattle.std.specs.Prelude.{◌≡◌, ◌+◌, ◌≤◌, ◌^◌, length, nat_lt, All, IfOk, ◌==◌, []};
+ghost use Rattle.std.specs.Prelude.{MatchOption, true, ◌∷◌};
 ghost use Rattle.index_reader.specs.Reading.Agreement.{are_used, agreement_of};
 ghost use Rattle.index_reader.specs.CheckedFile.{carriers_seen, symbol_texts};
 ghost use Rattle.index_reader.specs.Reading.Carried.{all_empty};
 ghost use Rattle.index_reader.specs.Outcome.{Gives};
 ghost use Rattle.index_reader.specs.References.{references_in};
 ghost use Rattle.index_reader.specs.Seen.{bytes_of, table_seen, references_in_each};
-ghost use Rattle.index_reader.specs.Reading.Walk.{in_turn, rests_of, take_reference, take_label, take_series, keys_used_up};
+ghost use Rattle.index_reader.specs.Reading.Walk.{in_turn, rests_of, take_reference, take_label};
+ghost use Rattle.index_reader.specs.Reading.Walk.{take_series, keys_used_up};
 
 use crate::bodies::{Bodies, label_set_at, reference_of};
 use crate::error::IndexError;

@@ -1,11 +1,13 @@
 //! A body into flat vectors.
 
-ghost use Rattle.std.specs.Prelude.{◌≡◌, ◌+◌, ◌<◌, ◌≤◌, ◌^◌, length, get_or, slice_get, Ok, true, nat_le, IsTrue, IfOk};
+ghost use Rattle.std.specs.Prelude.{◌≡◌, ◌+◌, ◌<◌, ◌≤◌, ◌^◌, length, get_or, slice_get, Ok, true};
+ghost use Rattle.std.specs.Prelude.{nat_le, IsTrue, IfOk};
 ghost use Rattle.index_reader.specs.Outcome.{Gives};
 ghost use Rattle.index_reader.specs.Seen.{bytes_of};
 ghost use Rattle.labels.specs.Contents.{is_time};
 ghost use Rattle.index_reader.specs.Reading.Steps.{steps, with_front};
-ghost use Rattle.index_reader.specs.Reading.Bodies.{is_label, label_at, labels_at, chunk_at, chunks_at, body_at, behind_both};
+ghost use Rattle.index_reader.specs.Reading.Bodies.{is_label, label_at, labels_at, chunk_at};
+ghost use Rattle.index_reader.specs.Reading.Bodies.{chunks_at, body_at, behind_both};
 
 use crate::chunk::{Chunk, read_first, read_later};
 use crate::error::IndexError;

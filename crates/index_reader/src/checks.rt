@@ -2,8 +2,10 @@
 
 ghost use Rattle.std.specs.Prelude.{◌≡◌, length, IfOk};
 ghost use Rattle.index_reader.specs.Reading.Agreement.{entry_references};
-ghost use Rattle.index_reader.specs.CheckedFile.{bodies_seen, read_seen, IsHeldIn, IsSoundLayout, layout_seen};
-ghost use Rattle.index_reader.specs.Reading.Whole.{bodies_of, postings_of, read_of, indexed, IsSoundRead};
+ghost use Rattle.index_reader.specs.CheckedFile.{bodies_seen, read_seen, IsHeldIn, IsSoundLayout};
+ghost use Rattle.index_reader.specs.CheckedFile.{layout_seen};
+ghost use Rattle.index_reader.specs.Reading.Whole.{bodies_of, postings_of, read_of, indexed};
+ghost use Rattle.index_reader.specs.Reading.Whole.{IsSoundRead};
 ghost use Rattle.index_reader.specs.Reading.Flat.{references_in_order};
 ghost use Rattle.index_reader.specs.Layout.{IsPlaced};
 ghost use Rattle.index_reader.specs.Outcome.{Gives};

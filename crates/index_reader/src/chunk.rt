@@ -2,7 +2,8 @@
 
 ghost use Rattle.std.specs.Prelude.{◌≡◌, ◌<◌, IsTrue, true, IfSome, MatchOption, Some, None};
 ghost use Rattle.labels.specs.Contents.{is_time};
-ghost use Rattle.index_reader.specs.Reading.Chunks.{time_after, reference_after, first_at, later_at};
+ghost use Rattle.index_reader.specs.Reading.Chunks.{time_after, reference_after, first_at};
+ghost use Rattle.index_reader.specs.Reading.Chunks.{later_at};
 
 use labels::{MAX_TIME, is_time};
 use wire::Cut;

@@ -1,9 +1,11 @@
 //! An index that was checked.
 
-ghost use Rattle.std.specs.Prelude.{◌≡◌, ◌<◌, ℕ, ◌==◌, [], length, slice_get, Some, Ok, IfOk, IfErr};
+ghost use Rattle.std.specs.Prelude.{◌≡◌, ◌<◌, ℕ, ◌==◌, [], length, slice_get, Some, Ok, IfOk};
+ghost use Rattle.std.specs.Prelude.{IfErr};
 ghost use Rattle.std.specs.Prelude.{IfSome, IfNone};
 ghost use Rattle.index_reader.specs.Outcome.{Gives};
-ghost use Rattle.index_reader.specs.Indexes.{Indexed, IsConsistent, references, label_sets, chunk_lists, references_with, values_of};
+ghost use Rattle.index_reader.specs.Indexes.{Indexed, IsConsistent, references, label_sets};
+ghost use Rattle.index_reader.specs.Indexes.{chunk_lists, references_with, values_of};
 ghost use Rattle.index_reader.specs.Reading.Whole.{indexed_of};
 ghost use Rattle.index_reader.specs.Spelled.{IsIndex};
 ghost use Rattle.index_reader.specs.Checks.{IsRefused};

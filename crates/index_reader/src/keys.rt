@@ -1,6 +1,7 @@
 //! Pairs by the symbols of their names and values, and where they stand.
 
-ghost use Rattle.std.specs.Prelude.{◌≡◌, ◌<◌, ◌≤◌, length, slice_get, Some, ℕ, IfSome, get_or, true};
+ghost use Rattle.std.specs.Prelude.{◌≡◌, ◌<◌, ◌≤◌, length, slice_get, Some, ℕ, IfSome, get_or};
+ghost use Rattle.std.specs.Prelude.{true};
 ghost use Rattle.index_reader.specs.Layout.{rises};
 ghost use Rattle.index_reader.specs.Lookups.{key_cmp, key_before, place_of};
 

@@ -1,7 +1,8 @@
 //! Lists of references, kept as the bytes in which they were read.
 
 ghost use Rattle.std.specs.List.Sorted.{IsStrictlyIncreasing};
-ghost use Rattle.std.specs.Prelude.{◌≡◌, ◌<◌, length, map, slice_get, Some, All, IfOk, [], ◌++◌, ◌∷◌, ◌%◌, OnOk, OnErr};
+ghost use Rattle.std.specs.Prelude.{◌≡◌, ◌<◌, length, map, slice_get, Some, All, IfOk, [], ◌++◌};
+ghost use Rattle.std.specs.Prelude.{◌∷◌, ◌%◌, OnOk, OnErr};
 ghost use Rattle.index_reader.specs.References.{references_in, IsList};
 ghost use Rattle.index_reader.specs.Seen.{bytes_of};
 

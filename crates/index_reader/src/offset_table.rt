@@ -1,12 +1,14 @@
 //! The offset table: for each pair where the section of its list stands.
 
 ghost use Rattle.std.specs.List.{list_all};
-ghost use Rattle.std.specs.Prelude.{◌≡◌, ◌<◌, ◌≤◌, length, nat_lt, slice_get, Some, All, IsTrue, IfOk, nat_le, ◌&&◌};
+ghost use Rattle.std.specs.Prelude.{◌≡◌, ◌<◌, ◌≤◌, length, nat_lt, slice_get, Some, All, IsTrue};
+ghost use Rattle.std.specs.Prelude.{IfOk, nat_le, ◌&&◌};
 ghost use Rattle.index_reader.specs.Layout.{rises, IsPlaced, is_before, is_within};
 ghost use Rattle.index_reader.specs.Outcome.{Gives};
 ghost use Rattle.index_reader.specs.Seen.{table_entry_seen, table_seen};
 ghost use Rattle.index_reader.specs.Reading.Steps.{steps};
-ghost use Rattle.index_reader.specs.Reading.Table.{text_at, table_entry_at, table_at, label_offsets_at, table_content_at};
+ghost use Rattle.index_reader.specs.Reading.Table.{text_at, table_entry_at, table_at};
+ghost use Rattle.index_reader.specs.Reading.Table.{label_offsets_at, table_content_at};
 
 use crate::error::IndexError;
 use crate::layout::{TableOfContents, frame_of};

@@ -1,7 +1,8 @@
 //! The pairs of the offset table: read by their symbols, and found by their texts.
 
 ghost use Rattle.std.specs.List.{Contains};
-ghost use Rattle.std.specs.Prelude.{◌≡◌, ◌+◌, ◌<◌, ◌≤◌, length, slice_get, Some, IfOk, IfSome, IfNone};
+ghost use Rattle.std.specs.Prelude.{◌≡◌, ◌+◌, ◌<◌, ◌≤◌, length, slice_get, Some, IfOk, IfSome};
+ghost use Rattle.std.specs.Prelude.{IfNone};
 ghost use Rattle.index_reader.specs.Reading.Agreement.{key_at, keys_at};
 ghost use Rattle.index_reader.specs.CheckedFile.{symbol_texts};
 ghost use Rattle.index_reader.specs.Indexes.{values_of};

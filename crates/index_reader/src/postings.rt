@@ -1,6 +1,7 @@
 //! The lists of references, checked in their sections and read one reference at a time.
 
-ghost use Rattle.std.specs.Prelude.{◌≡◌, ◌+◌, ◌-◌, ◌<◌, ◌≤◌, ◌^◌, length, nat_lt, slice_get, Some, All, ◌%◌, ◌/◌, min};
+ghost use Rattle.std.specs.Prelude.{◌≡◌, ◌+◌, ◌-◌, ◌<◌, ◌≤◌, ◌^◌, length, nat_lt, slice_get, Some};
+ghost use Rattle.std.specs.Prelude.{All, ◌%◌, ◌/◌, min};
 ghost use Rattle.index_reader.specs.Layout.{rises};
 ghost use Rattle.index_reader.specs.Outcome.{Gives};
 ghost use Rattle.index_reader.specs.Reading.Postings.{section_at, references_at, lists_at};

@@ -3,7 +3,8 @@
 ghost use Rattle.std.specs.List.{list_all};
 ghost use Rattle.std.specs.Prelude.{◌≡◌, ◌<◌, ◌≤◌, ◌^◌, length, slice_get, Some, All, ◌==◌};
 ghost use Rattle.index_reader.specs.Reading.Agreement.{entry_references};
-ghost use Rattle.index_reader.specs.Reading.Entries.{zero_between, gaps_zero, entry_at, entries_from};
+ghost use Rattle.index_reader.specs.Reading.Entries.{zero_between, gaps_zero, entry_at};
+ghost use Rattle.index_reader.specs.Reading.Entries.{entries_from};
 ghost use Rattle.index_reader.specs.Outcome.{Gives};
 ghost use Rattle.index_reader.specs.Seen.{entry_seen, entries_seen};
 

@@ -1,6 +1,7 @@
 //! The symbols of an index: the texts that its series and its pairs name by their numbers.
 
-ghost use Rattle.std.specs.Prelude.{◌≡◌, ◌<◌, ◌^◌, length, slice_get, Some, IfOk, IfSome, MatchOption, true, false};
+ghost use Rattle.std.specs.Prelude.{◌≡◌, ◌<◌, ◌^◌, length, slice_get, Some, IfOk, IfSome};
+ghost use Rattle.std.specs.Prelude.{MatchOption, true, false};
 ghost use Rattle.std.specs.Str.{is_utf8};
 ghost use Rattle.index_reader.specs.Layout.{is_less, ascending};
 ghost use Rattle.index_reader.specs.Lookups.{symbol_of};

@@ -1,5 +1,7 @@
 -- The deletions that are read are the ones spelled, and spelled deletions are read.
-use Rattle.std.proofs.Common.{◌≡◌, ℕ, zero, suc, ◌+◌, ◌-◌, ◌^◌, ◌<◌, ◌≤◌, Bool, true, false, ◌&&◌, not, eqb, ltb, List, [], ◌∷◌, ◌++◌, length, Result, Ok, Err, pos, negsuc, refl, sym, ap, subst, ◌∙◌, append_assoc, arith}
+use Rattle.std.proofs.Common.{◌≡◌, ℕ, zero, suc, ◌+◌, ◌-◌, ◌^◌, ◌<◌, ◌≤◌, Bool, true, false, ◌&&◌}
+use Rattle.std.proofs.Common.{not, eqb, ltb, List, [], ◌∷◌, ◌++◌, length, Result, Ok, Err, pos}
+use Rattle.std.proofs.Common.{negsuc, refl, sym, ap, subst, ◌∙◌, append_assoc, arith}
 use Rattle.std.specs.Prelude.{ℤ, int_le, int_lt, IfOk}
 use Rattle.std.specs.Int.Signed.{◌≤ℤ◌, lt_z_no}
 use Rattle.std.specs.List.{AllByRecursion}
@@ -16,14 +18,16 @@ use Rattle.wire.specs.Spelling.{uvarint, varint, zigzag, IsBytes}
 use Rattle.wire.specs.Reading.{byte_at, bytes_at, number_at, uvarint_at, varint_at}
 use Rattle.wire.specs.Checksum.{crc32c}
 use Rattle.wire.proofs.ChecksumBound.{crc32c_below}
-use Rattle.wire.proofs.Fields.{IsBytes-front, IsBytes-back, number_takes_4, number_again_4, bytes_takes, bytes_again}
+use Rattle.wire.proofs.Fields.{IsBytes-front, IsBytes-back, number_takes_4, number_again_4}
+use Rattle.wire.proofs.Fields.{bytes_takes, bytes_again}
 use Rattle.wire.proofs.Laws.{uvarint_takes, uvarint_again, uvarint_long}
 use Rattle.wire.proofs.Signed.{varint_takes, varint_again}
 use Rattle.wire.specs.Outcome.{◌>>=◌, or_refused}
 use Rattle.tombstones.specs.declared.deletion.Deletion.{Deletion}
 use Rattle.tombstones.specs.declared.error.TombstoneError.{TombstoneError}
 use Rattle.tombstones.specs.declared.error.TombstoneError.TheVariants.{Magic, Version, Crc, Shape}
-use Rattle.tombstones.specs.Grammar.{entry_text, entries_text, is_interval, IsDeletion, IsTombstones}
+use Rattle.tombstones.specs.Grammar.{entry_text, entries_text, is_interval, IsDeletion}
+use Rattle.tombstones.specs.Grammar.{IsTombstones}
 use Rattle.tombstones.specs.Outcome.{GivesAll}
 use Rattle.tombstones.specs.Reading.{checked_at, entries_of, entry_at, deletions_from, deletions_of}
 use Rattle.wire.proofs.Steps.{bind_ok, refused_ok, not_failed, passed, same_value, rest_fits}

@@ -1,7 +1,8 @@
 -- The numbers of refusals, and their texts.
 use Rattle.std.specs.Prelude.{ℕ, List, codes}
 use Rattle.tombstones.specs.declared.error.TombstoneError.{TombstoneError}
-use Rattle.tombstones.specs.declared.error.TombstoneError.TheVariants.{Memory, Magic, Version, Crc, Shape}
+use Rattle.tombstones.specs.declared.error.TombstoneError.TheVariants.{Memory, Magic, Version, Crc}
+use Rattle.tombstones.specs.declared.error.TombstoneError.TheVariants.{Shape}
 
 -- the number of a refusal, as text
 abbrev pub code_of : TombstoneError → List ℕ

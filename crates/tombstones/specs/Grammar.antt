@@ -1,5 +1,6 @@
 -- The bytes of a file of deletions, by what they spell.
-use Rattle.std.specs.Prelude.{◌≡◌, ℕ, ℤ, ◌≤◌, ◌<◌, ◌^◌, Bool, true, ◌&&◌, List, ◌∷◌, ◌++◌, length, int_le}
+use Rattle.std.specs.Prelude.{◌≡◌, ℕ, ℤ, ◌≤◌, ◌<◌, ◌^◌, Bool, true, ◌&&◌, List, ◌∷◌, ◌++◌, length}
+use Rattle.std.specs.Prelude.{int_le}
 use Rattle.std.specs.List.{flat_map, AllByRecursion}
 use Rattle.std.specs.List.Sorted.{IsPermutation}
 use Rattle.byteorder.specs.Endian.{big_bytes}

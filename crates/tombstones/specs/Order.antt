@@ -1,5 +1,6 @@
 -- How deletions stand, so that one is found by halving.
-use Rattle.std.specs.Prelude.{◌≡◌, ℕ, ℤ, pos, ◌+◌, ◌<◌, Bool, ◌||◌, ◌&&◌, ◌==◌, nat_lt, int_le, List, length, take, slice_index_or, true}
+use Rattle.std.specs.Prelude.{◌≡◌, ℕ, ℤ, pos, ◌+◌, ◌<◌, Bool, ◌||◌, ◌&&◌, ◌==◌, nat_lt, int_le}
+use Rattle.std.specs.Prelude.{List, length, take, slice_index_or, true}
 use Rattle.std.specs.List.Sorted.{IsSortedByKey}
 use Rattle.std.specs.Ordering.{ordering_then, nat_cmp, int_cmp}
 use Rattle.std.specs.declared.cmp.Ordering.{Ordering}

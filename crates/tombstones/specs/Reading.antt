@@ -1,5 +1,6 @@
 -- Reading deletions from a file. Each check has its refusal, and the first that fails is answered.
-use Rattle.std.specs.Prelude.{ℕ, zero, suc, ◌-◌, List, [], ◌∷◌, length, Result, Ok, Err, nat_lt, ◌==◌, if◌then◌else◌}
+use Rattle.std.specs.Prelude.{ℕ, zero, suc, ◌-◌, List, [], ◌∷◌, length, Result, Ok, Err, nat_lt}
+use Rattle.std.specs.Prelude.{◌==◌, if◌then◌else◌}
 use Rattle.wire.specs.Reading.{byte_at, bytes_at, number_at, uvarint_at, varint_at}
 use Rattle.wire.specs.Checksum.{crc32c}
 use Rattle.wire.specs.Outcome.{◌>>=◌, or_refused}

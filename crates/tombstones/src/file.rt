@@ -3,7 +3,8 @@
 ghost use Rattle.std.specs.Prelude.{◌≡◌, ◌≤◌, ◌<◌, List, length};
 ghost use Rattle.tombstones.specs.Outcome.{Gives};
 ghost use Rattle.tombstones.specs.Grammar.{is_interval};
-ghost use Rattle.tombstones.specs.Reading.{checked_at, deletions_from, deletions_of, entries_of, entry_at};
+ghost use Rattle.tombstones.specs.Reading.{checked_at, deletions_from, deletions_of, entries_of};
+ghost use Rattle.tombstones.specs.Reading.{entry_at};
 
 use crate::deletion::Deletion;
 use crate::error::TombstoneError;

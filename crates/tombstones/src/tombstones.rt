@@ -1,8 +1,10 @@
 //! Deletions, and whether one of them deletes a time.
 
-ghost use Rattle.std.specs.Prelude.{◌≡◌, map, ◌<◌, ◌≤◌, ◌++◌, ◌∷◌, ◌||◌, [], true, false, ℕ, ℤ, List, length, slice_index_or, IfOk, OnErr, OnOk};
+ghost use Rattle.std.specs.Prelude.{◌≡◌, map, ◌<◌, ◌≤◌, ◌++◌, ◌∷◌, ◌||◌, [], true, false, ℕ, ℤ};
+ghost use Rattle.std.specs.Prelude.{List, length, slice_index_or, IfOk, OnErr, OnOk};
 ghost use Rattle.std.specs.List.Sorted.{IsPermutation};
-ghost use Rattle.tombstones.specs.Covering.{are_covered, covered, deletes, has_deletion, interval, CoversAlso};
+ghost use Rattle.tombstones.specs.Covering.{are_covered, covered, deletes, has_deletion, interval};
+ghost use Rattle.tombstones.specs.Covering.{CoversAlso};
 ghost use Rattle.tombstones.specs.Grammar.{IsTombstones, SpellsAll};
 ghost use Rattle.tombstones.specs.Order.{AreInOrder, AreReaches, IsOrdered, IsReach, begins_by};
 ghost use Rattle.tombstones.specs.Outcome.{GivesAll};

@@ -1,5 +1,6 @@
 -- The checksum of bytes is a number of 32 bits.
-use Rattle.std.proofs.Common.{ℕ, zero, suc, ◌/◌, ◌%◌, ◌^◌, ◌<◌, Bool, true, false, cond, eqb, List, [], ◌∷◌, arith, bit_xor}
+use Rattle.std.proofs.Common.{ℕ, zero, suc, ◌/◌, ◌%◌, ◌^◌, ◌<◌, Bool, true, false, cond, eqb, List}
+use Rattle.std.proofs.Common.{[], ◌∷◌, arith, bit_xor}
 use Rattle.std.proofs.lemmas.Nat.{xor_lt}
 use Rattle.wire.specs.Spelling.{IsBytes}
 use Rattle.wire.specs.Checksum.{shifted_once, shifted, register, crc32c}

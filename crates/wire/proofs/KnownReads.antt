@@ -1,5 +1,6 @@
 -- Reads that are known.
-use Rattle.std.proofs.Common.{◌≡◌, ℕ, Bool, true, false, cond, List, Result, Ok, Err, refl, ap, ◌⊎◌, inl, inr}
+use Rattle.std.proofs.Common.{◌≡◌, ℕ, Bool, true, false, cond, List, Result, Ok, Err, refl, ap, ◌⊎◌}
+use Rattle.std.proofs.Common.{inl, inr}
 use Rattle.wire.specs.declared.error.WireError.{WireError}
 
 -- which way a test went

@@ -1,5 +1,7 @@
 -- The loops that read and write a number, seven bits at a time.
-use Rattle.std.proofs.Common.{◌≡◌, ℕ, ◌+◌, ◌-◌, ◌*◌, ◌%◌, ◌^◌, ◌<◌, ◌≤◌, List, [], ◌∷◌, Result, Ok, Err, true, false, eqb, ltb, ◌&&◌, add-one, refl, ap, ◌∙◌, arith, inl, inr}
+use Rattle.std.proofs.Common.{◌≡◌, ℕ, ◌+◌, ◌-◌, ◌*◌, ◌%◌, ◌^◌, ◌<◌, ◌≤◌, List, [], ◌∷◌, Result, Ok}
+use Rattle.std.proofs.Common.{Err, true, false, eqb, ltb, ◌&&◌, add-one, refl, ap, ◌∙◌, arith, inl}
+use Rattle.std.proofs.Common.{inr}
 use Rattle.std.proofs.lemmas.Bool.{cases_eq, ltb-false, lt-ltb, le-ltb}
 use Rattle.wire.specs.declared.error.WireError.TheVariants.{Short, LongForm, TooBig}
 use Rattle.std.proofs.Math.Nat.{mul-add, mul_assoc, mul_comm, pow-le-pow_right}

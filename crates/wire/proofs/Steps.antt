@@ -1,5 +1,6 @@
 -- Steps of a reading that did not fail, over any error.
-use Rattle.std.proofs.Common.{◌≡◌, Bool, true, false, cond, List, ℕ, ◌++◌, Result, Ok, Err, refl, subst}
+use Rattle.std.proofs.Common.{◌≡◌, Bool, true, false, cond, List, ℕ, ◌++◌, Result, Ok, Err, refl}
+use Rattle.std.proofs.Common.{subst}
 use Rattle.std.specs.Prelude.{⊤, MatchBool}
 use Rattle.wire.specs.Spelling.{IsBytes}
 use Rattle.wire.specs.Outcome.{◌>>=◌, or_refused, Fails}

@@ -1,8 +1,10 @@
 -- Each table is held against the definition at each of its 256 places, by computing.
-use Rattle.std.proofs.Common.{◌≡◌, ℕ, zero, suc, ◌+◌, ◌<◌, Bool, true, false, ◌&&◌, eqb, get_or, length, List, [], ◌∷◌, refl, sym, ap, ◌∙◌, arith}
+use Rattle.std.proofs.Common.{◌≡◌, ℕ, zero, suc, ◌+◌, ◌<◌, Bool, true, false, ◌&&◌, eqb, get_or}
+use Rattle.std.proofs.Common.{length, List, [], ◌∷◌, refl, sym, ap, ◌∙◌, arith}
 use Rattle.std.proofs.lemmas.Bool.{eqb-true}
 use Rattle.wire.specs.Checksum.{shifted_once, shifted}
-use Rattle.wire.specs.declared.tables.TheConstants.{TABLE_1, TABLE_2, TABLE_3, TABLE_4, TABLE_5, TABLE_6, TABLE_7, TABLE_8}
+use Rattle.wire.specs.declared.tables.TheConstants.{TABLE_1, TABLE_2, TABLE_3, TABLE_4, TABLE_5}
+use Rattle.wire.specs.declared.tables.TheConstants.{TABLE_6, TABLE_7, TABLE_8}
 use Rattle.wire.proofs.Shifts.{shifted-add}
 
 both_of : (x y : Bool) → (x && y) ≡ true → (x ≡ true) × (y ≡ true)

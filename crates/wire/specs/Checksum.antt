@@ -1,5 +1,6 @@
 -- The checksum CRC-32C (Castagnoli), bit by bit.
-use Rattle.std.specs.Prelude.{ℕ, zero, suc, ◌/◌, ◌%◌, ◌==◌, if◌then◌else◌, bit_xor, List, [], ◌∷◌, ◌++◌}
+use Rattle.std.specs.Prelude.{ℕ, zero, suc, ◌/◌, ◌%◌, ◌==◌, if◌then◌else◌, bit_xor, List, [], ◌∷◌}
+use Rattle.std.specs.Prelude.{◌++◌}
 use Rattle.byteorder.specs.Endian.{big_bytes}
 
 -- The register without its lowest bit. Where that bit is 1, the reflected polynomial is added.

@@ -1,5 +1,6 @@
 -- The one spelling of each number.
-use Rattle.std.specs.Prelude.{◌≡◌, ℕ, zero, suc, ◌+◌, ◌*◌, ◌/◌, ◌%◌, List, [], ◌∷◌, ◌++◌, ◌<◌, get_or, nat_lt, if◌then◌else◌, ℤ, pos, negsuc}
+use Rattle.std.specs.Prelude.{◌≡◌, ℕ, zero, suc, ◌+◌, ◌*◌, ◌/◌, ◌%◌, List, [], ◌∷◌, ◌++◌, ◌<◌}
+use Rattle.std.specs.Prelude.{get_or, nat_lt, if◌then◌else◌, ℤ, pos, negsuc}
 
 -- numbers that a byte can hold
 abbrev pub IsBytes : List ℕ → Type 0

@@ -1,6 +1,7 @@
 //! Reading from the front of a slice.
 
-ghost use Rattle.std.specs.Prelude.{◌≡◌, ◌<◌, ◌≤◌, ◌^◌, ◌++◌, ◌∷◌, ◌↔◌, [], ℕ, ℤ, List, length, IfOk, IsOk, IsTrue, Ok};
+ghost use Rattle.std.specs.Prelude.{◌≡◌, ◌<◌, ◌≤◌, ◌^◌, ◌++◌, ◌∷◌, ◌↔◌, [], ℕ, ℤ, List, length};
+ghost use Rattle.std.specs.Prelude.{IfOk, IsOk, IsTrue, Ok};
 ghost use Rattle.byteorder.specs.Endian.{big_bytes};
 ghost use Rattle.wire.specs.Outcome.{Answers, Reads, ReadsEach, Takes};
 ghost use Rattle.wire.specs.Reading.{byte_at, bytes_at, number_at, unzigzag, uvarint_at, varint_at};

@@ -1,6 +1,7 @@
 -- Whether the postings say of the series what the series say.
 use Rattle.std.specs.List.{list_all}
-use Rattle.std.specs.Prelude.{ℕ, ◌+◌, List, [], ◌∷◌, length, ◌++◌, Result, Ok, Err, Bool, ◌&&◌, map, nat_lt, ◌==◌, if◌then◌else◌, ◌/◌, drop, Option, Some, None}
+use Rattle.std.specs.Prelude.{ℕ, ◌+◌, List, [], ◌∷◌, length, ◌++◌, Result, Ok, Err, Bool, ◌&&◌, map}
+use Rattle.std.specs.Prelude.{nat_lt, ◌==◌, if◌then◌else◌, ◌/◌, drop, Option, Some, None}
 use Rattle.index_reader.specs.declared.error.IndexError.{IndexError}
 use Rattle.index_reader.specs.declared.error.IndexError.TheVariants.{PostingsDisagree}
 use Rattle.index_reader.specs.Reading.Carried.{Carried, are_used_up}

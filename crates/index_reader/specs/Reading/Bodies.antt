@@ -1,5 +1,6 @@
 -- The checks of the body of a series entry, by the numbers of its symbols.
-use Rattle.std.specs.Prelude.{ℕ, ◌+◌, List, [], ◌∷◌, length, get_or, ◌++◌, Result, Ok, Err, Bool, ◌&&◌, nat_lt, nat_le, ◌==◌, if◌then◌else◌, ◌-◌, Option, Some, None}
+use Rattle.std.specs.Prelude.{ℕ, ◌+◌, List, [], ◌∷◌, length, get_or, ◌++◌, Result, Ok, Err, Bool}
+use Rattle.std.specs.Prelude.{◌&&◌, nat_lt, nat_le, ◌==◌, if◌then◌else◌, ◌-◌, Option, Some, None}
 use Rattle.wire.specs.Reading.{uvarint_at}
 use Rattle.labels.specs.Names.{is_name}
 use Rattle.index_reader.specs.declared.chunk.Chunk.{Chunk}

@@ -1,5 +1,6 @@
 -- Which references a list has to have: those of the series that carry its pair.
-use Rattle.std.specs.Prelude.{◌≡◌, ℕ, ◌<◌, true, List, [], ◌∷◌, length, get_or, Bool, ◌&&◌, ◌==◌, if◌then◌else◌, drop, slice_set, false}
+use Rattle.std.specs.Prelude.{◌≡◌, ℕ, ◌<◌, true, List, [], ◌∷◌, length, get_or, Bool, ◌&&◌, ◌==◌}
+use Rattle.std.specs.Prelude.{if◌then◌else◌, drop, slice_set, false}
 
 -- a series carries a pair: the number of the pair in the table, and the series' reference
 abbrev pub Carried : Type 0

@@ -1,5 +1,6 @@
 -- The checks of the chunks of a series body.
-use Rattle.std.specs.Prelude.{ℕ, List, length, Result, Ok, Err, Bool, ◌^◌, nat_lt, ◌==◌, if◌then◌else◌, ℤ, pos, negsuc, ◌+ℤ◌, Option, Some, None}
+use Rattle.std.specs.Prelude.{ℕ, List, length, Result, Ok, Err, Bool, ◌^◌, nat_lt, ◌==◌}
+use Rattle.std.specs.Prelude.{if◌then◌else◌, ℤ, pos, negsuc, ◌+ℤ◌, Option, Some, None}
 use Rattle.wire.specs.Reading.{uvarint_at, varint_at}
 use Rattle.wire.specs.declared.error.WireError.{WireError}
 use Rattle.index_reader.specs.declared.chunk.Chunk.{Chunk}

@@ -1,6 +1,7 @@
 -- The walk over the series entries, and the bytes between them.
 use Rattle.std.specs.List.{list_all}
-use Rattle.std.specs.Prelude.{ℕ, List, [], ◌∷◌, length, Result, Ok, Bool, ◌&&◌, nat_lt, ◌==◌, if◌then◌else◌, ◌-◌, slice_range, zero, suc}
+use Rattle.std.specs.Prelude.{ℕ, List, [], ◌∷◌, length, Result, Ok, Bool, ◌&&◌, nat_lt, ◌==◌}
+use Rattle.std.specs.Prelude.{if◌then◌else◌, ◌-◌, slice_range, zero, suc}
 use Rattle.wire.specs.Reading.{uvarint_at}
 use Rattle.index_reader.specs.declared.error.IndexError.{IndexError}
 use Rattle.index_reader.specs.declared.error.IndexError.TheVariants.{SeriesCrc}

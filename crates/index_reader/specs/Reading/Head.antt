@@ -1,9 +1,12 @@
 -- The checks of the length of a file, of its first five bytes and of its table of contents.
-use Rattle.std.specs.Prelude.{ℕ, List, length, Result, Ok, Err, Bool, ◌&&◌, nat_lt, nat_le, ◌==◌, if◌then◌else◌, ◌-◌, take, drop, slice_index, ◌||◌}
+use Rattle.std.specs.Prelude.{ℕ, List, length, Result, Ok, Err, Bool, ◌&&◌, nat_lt, nat_le, ◌==◌}
+use Rattle.std.specs.Prelude.{if◌then◌else◌, ◌-◌, take, drop, slice_index, ◌||◌}
 use Rattle.byteorder.specs.Endian.{big_number}
 use Rattle.wire.specs.Checksum.{crc32c}
 use Rattle.index_reader.specs.declared.error.IndexError.{IndexError}
-use Rattle.index_reader.specs.declared.error.IndexError.TheVariants.{Limit, TooShort, Magic, Version, ContentsCrc, ContentsOrder}
+use Rattle.index_reader.specs.declared.error.IndexError.TheVariants.{Limit, TooShort, Magic}
+use Rattle.index_reader.specs.declared.error.IndexError.TheVariants.{Version, ContentsCrc}
+use Rattle.index_reader.specs.declared.error.IndexError.TheVariants.{ContentsOrder}
 use Rattle.index_reader.specs.declared.layout.TableOfContents.{TableOfContents}
 use Rattle.wire.specs.Outcome.{◌>>=◌}
 

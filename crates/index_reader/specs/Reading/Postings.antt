@@ -1,5 +1,6 @@
 -- The checks of the postings sections that the offset table names.
-use Rattle.std.specs.Prelude.{ℕ, List, length, Result, Ok, Err, ◌&&◌, nat_lt, ◌==◌, if◌then◌else◌, slice_range, ◌*◌}
+use Rattle.std.specs.Prelude.{ℕ, List, length, Result, Ok, Err, ◌&&◌, nat_lt, ◌==◌, if◌then◌else◌}
+use Rattle.std.specs.Prelude.{slice_range, ◌*◌}
 use Rattle.wire.specs.Reading.{number_at}
 use Rattle.index_reader.specs.declared.error.IndexError.{IndexError}
 use Rattle.index_reader.specs.declared.error.IndexError.TheVariants.{PostingsCrc, Postings}

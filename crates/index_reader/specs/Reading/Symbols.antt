@@ -1,5 +1,6 @@
 -- The checks of the symbol table.
-use Rattle.std.specs.Prelude.{ℕ, List, [], ◌∷◌, length, Result, Ok, Err, ◌&&◌, ◌==◌, if◌then◌else◌, zero, suc}
+use Rattle.std.specs.Prelude.{ℕ, List, [], ◌∷◌, length, Result, Ok, Err, ◌&&◌, ◌==◌, if◌then◌else◌}
+use Rattle.std.specs.Prelude.{zero, suc}
 use Rattle.std.specs.Str.{is_utf8}
 use Rattle.wire.specs.Reading.{number_at, bytes_at, uvarint_at}
 use Rattle.index_reader.specs.declared.error.IndexError.{IndexError}

@@ -1,6 +1,7 @@
 -- The checks of the offset table.
 use Rattle.std.specs.List.{list_all}
-use Rattle.std.specs.Prelude.{ℕ, List, [], length, Result, Ok, Err, ◌&&◌, ◌==◌, if◌then◌else◌, ◌-◌, slice_range}
+use Rattle.std.specs.Prelude.{ℕ, List, [], length, Result, Ok, Err, ◌&&◌, ◌==◌, if◌then◌else◌, ◌-◌}
+use Rattle.std.specs.Prelude.{slice_range}
 use Rattle.wire.specs.Reading.{number_at, bytes_at, uvarint_at, byte_at}
 use Rattle.index_reader.specs.declared.error.IndexError.{IndexError}
 use Rattle.index_reader.specs.declared.error.IndexError.TheVariants.{Offsets}

@@ -1,5 +1,6 @@
 -- The walk over the series that uses up the lists, one series after another.
-use Rattle.std.specs.Prelude.{ℕ, ◌+◌, List, [], ◌∷◌, get_or, Result, Ok, Err, ◌&&◌, map, if◌then◌else◌, drop, slice_set}
+use Rattle.std.specs.Prelude.{ℕ, ◌+◌, List, [], ◌∷◌, get_or, Result, Ok, Err, ◌&&◌, map}
+use Rattle.std.specs.Prelude.{if◌then◌else◌, drop, slice_set}
 use Rattle.index_reader.specs.declared.error.IndexError.{IndexError}
 use Rattle.index_reader.specs.declared.error.IndexError.TheVariants.{PostingsDisagree}
 use Rattle.index_reader.specs.Reading.Agreement.{or_disagree, keys_at, Carrier, are_used}

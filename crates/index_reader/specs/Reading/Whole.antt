@@ -1,9 +1,11 @@
 -- All checks in their order: the first that fails, or what they read.
 use Rattle.std.specs.List.{list_all}
-use Rattle.std.specs.Prelude.{ℕ, ◌+◌, ◌<◌, List, length, get_or, Result, Ok, Err, Bool, map, nat_lt, nat_le, if◌then◌else◌, slice_range}
+use Rattle.std.specs.Prelude.{ℕ, ◌+◌, ◌<◌, List, length, get_or, Result, Ok, Err, Bool, map, nat_lt}
+use Rattle.std.specs.Prelude.{nat_le, if◌then◌else◌, slice_range}
 use Rattle.labels.specs.LabelSets.{IsLabelSet}
 use Rattle.index_reader.specs.declared.error.IndexError.{IndexError}
-use Rattle.index_reader.specs.declared.error.IndexError.TheVariants.{Limit, Series, SeriesOrder, SymbolsCrc}
+use Rattle.index_reader.specs.declared.error.IndexError.TheVariants.{Limit, Series, SeriesOrder}
+use Rattle.index_reader.specs.declared.error.IndexError.TheVariants.{SymbolsCrc}
 use Rattle.index_reader.specs.declared.layout.TableOfContents.{TableOfContents}
 use Rattle.index_reader.specs.Reading.Agreement.{Carrier, entry_references, carriers, agreement_of}
 use Rattle.index_reader.specs.Reading.Entries.{gaps_zero, entries_from}
@@ -13,7 +15,8 @@ use Rattle.index_reader.specs.Reading.Head.{head_of}
 use Rattle.index_reader.specs.Indexes.{Indexed, IsConsistent, named, series_of}
 use Rattle.index_reader.specs.Indexes as indexes
 use Rattle.index_reader.specs.KeptIndex.{AreInTable, IsListing}
-use Rattle.index_reader.specs.Layout.{rises, postings_end, series_end, rounded, Layout, TableEntry, Label, Body}
+use Rattle.index_reader.specs.Layout.{rises, postings_end, series_end, rounded, Layout, TableEntry}
+use Rattle.index_reader.specs.Layout.{Label, Body}
 use Rattle.index_reader.specs.Reading.Postings.{lists_at}
 use Rattle.index_reader.specs.References.{references_in, IsList}
 use Rattle.index_reader.specs.Reading.Steps.{each}

@@ -7,7 +7,8 @@ use Rattle.block.specs.Grammar.{IsBlock}
 use Rattle.block.specs.Sound.{IsSoundBlock}
 use Rattle.block.proofs.Chunked.{sound_of}
 use Rattle.block.proofs.Found.{block_spelled}
-use Rattle.block.proofs.Refusals.{block_fails_index, block_fails_chunks, block_fails_stored, block_fails_deleted, block_outside, block_opens}
+use Rattle.block.proofs.Refusals.{block_fails_index, block_fails_chunks, block_fails_stored}
+use Rattle.block.proofs.Refusals.{block_fails_deleted, block_outside, block_opens}
 use Rattle.index_reader.specs.Indexes.{IsConsistent}
 use Rattle.index_reader.specs.Reading.Whole.{indexed_of}
 use Rattle.index_reader.specs.Outcome as index_outcome
@@ -32,7 +33,8 @@ returns-in_err-chunks-clause-exact g c =
     c.args.tombstones.now c.in_ok-index.index c.in_err-chunks.field-0.0
     (subst (λ r. index_outcome.Gives (λ x. x) r (indexed_of c.args.index.now)) c.in_ok-index.was
     (given c.args.index.now c.args.read
-    (λ i. omega (arith, c.type_inv.index i)) c.requires.spelled c.requires.refused)) c.in_err-chunks.ensures.exact)
+    (λ i. omega (arith, c.type_inv.index i)) c.requires.spelled c.requires.refused))
+    c.in_err-chunks.ensures.exact)
 
 pub returns-in_err-check_stored-clause-exact : goal.returns-in_err-check_stored-clause-exact
 returns-in_err-check_stored-clause-exact g c =
@@ -43,7 +45,8 @@ returns-in_err-check_stored-clause-exact g c =
     c.args.tombstones.now c.in_ok-index.index c.in_ok-chunks.chunks c.in_err-check_stored.field-0.0
     (subst (λ r. index_outcome.Gives (λ x. x) r (indexed_of c.args.index.now)) c.in_ok-index.was
     (given c.args.index.now c.args.read
-    (λ i. omega (arith, c.type_inv.index i)) c.requires.spelled c.requires.refused)) c.in_ok-chunks.ensures.exact
+    (λ i. omega (arith, c.type_inv.index i)) c.requires.spelled c.requires.refused))
+    c.in_ok-chunks.ensures.exact
     c.in_err-check_stored.ensures.exact)
 
 pub returns-in_err-deletions-clause-exact : goal.returns-in_err-deletions-clause-exact
@@ -55,7 +58,8 @@ returns-in_err-deletions-clause-exact g c =
     c.args.tombstones.now c.in_ok-index.index c.in_ok-chunks.chunks c.in_err-deletions.field-0.0
     (subst (λ r. index_outcome.Gives (λ x. x) r (indexed_of c.args.index.now)) c.in_ok-index.was
     (given c.args.index.now c.args.read
-    (λ i. omega (arith, c.type_inv.index i)) c.requires.spelled c.requires.refused)) c.in_ok-chunks.ensures.exact
+    (λ i. omega (arith, c.type_inv.index i)) c.requires.spelled c.requires.refused))
+    c.in_ok-chunks.ensures.exact
     c.in_ok-check_stored.ensures.exact c.in_err-deletions.ensures)
 
 pub returns-then-not-are_inside-clause-exact : goal.returns-then-not-are_inside-clause-exact
@@ -65,7 +69,8 @@ returns-then-not-are_inside-clause-exact g c =
     c.in_ok-index.index c.in_ok-chunks.chunks x.0
     (subst (λ r. index_outcome.Gives (λ x. x) r (indexed_of c.args.index.now)) c.in_ok-index.was
     (given c.args.index.now c.args.read
-    (λ i. omega (arith, c.type_inv.index i)) c.requires.spelled c.requires.refused)) c.in_ok-chunks.ensures.exact
+    (λ i. omega (arith, c.type_inv.index i)) c.requires.spelled c.requires.refused))
+    c.in_ok-chunks.ensures.exact
     c.in_ok-check_stored.ensures.exact x.1 (sym c.are_inside.ensures ∙ c.if-not-are_inside.true)
 
 pub invariant_of-result : goal.invariant_of-result
@@ -85,7 +90,8 @@ returns-clause-exact g c =
     c.in_ok-index.index c.in_ok-chunks.chunks x.0 c.in_ok-deletions.deletions
     (subst (λ r. index_outcome.Gives (λ x. x) r (indexed_of c.args.index.now)) c.in_ok-index.was
     (given c.args.index.now c.args.read
-    (λ i. omega (arith, c.type_inv.index i)) c.requires.spelled c.requires.refused)) c.in_ok-chunks.ensures.exact
+    (λ i. omega (arith, c.type_inv.index i)) c.requires.spelled c.requires.refused))
+    c.in_ok-chunks.ensures.exact
     c.in_ok-check_stored.ensures.exact x.1 x.2 (sym c.are_inside.ensures
     ∙ c.if-not-are_inside.false) in
     e

@@ -4,7 +4,8 @@ use Rattle.std.proofs.lemmas.Result.{err_from_is_err_and}
 use Rattle.block.specs.Opening.{each, chunk_check, have_few}
 use Rattle.block.specs.Shared.{lists_between}
 use Rattle.block.specs.Sound.{IsHeldChunk}
-use Rattle.block.proofs.Steps.{each_next, each_stops, each_ends, facts_next, facts_end, all_next_test, take_whole}
+use Rattle.block.proofs.Steps.{each_next, each_stops, each_ends, facts_next, facts_end}
+use Rattle.block.proofs.Steps.{all_next_test, take_whole}
 use Rattle.block.proofs.Shared.{between_at, between_length}
 use Rattle.block.proofs.checking.few_between.Goals as goal
 

@@ -3,7 +3,8 @@ use Rattle.std.proofs.lemmas.List.{length-map}
 use Rattle.std.proofs.lemmas.Option.{get_or_from_slice_get}
 use Rattle.index_reader.specs.Indexes.{Series, references}
 use Rattle.block.proofs.Places.{nowhere_at}
-use Rattle.block.proofs.series_places.place_of.Goals.{else-at-len-via-then-at-len+else-number, else-at-len-via-else-at-len}
+use Rattle.block.proofs.series_places.place_of.Goals.{else-at-len-via-then-at-len+else-number}
+use Rattle.block.proofs.series_places.place_of.Goals.{else-at-len-via-else-at-len}
 use Rattle.block.proofs.series_places.place_of.Goals as goal
 
 pub returns-clause-none : goal.returns-clause-none

@@ -3,7 +3,8 @@ use Rattle.index_reader.specs.Grammar.{entry}
 use Rattle.index_reader.specs.Seen.{bytes_of}
 use Rattle.block_writer.specs.EntryBodies.{body_of}
 use Rattle.block_writer.proofs.Neighbours.{from_read}
-use Rattle.block_writer.proofs.Building.{too_far, entry_on, reference_on, room_on, entries_done, references_done}
+use Rattle.block_writer.proofs.Building.{too_far, entry_on, reference_on, room_on, entries_done}
+use Rattle.block_writer.proofs.Building.{references_done}
 use Rattle.block_writer.proofs.entries.put_entries.Goals as goal
 
 pub returns-then-len-gt-MAX_LEN-clause-reason : goal.returns-then-len-gt-MAX_LEN-clause-reason

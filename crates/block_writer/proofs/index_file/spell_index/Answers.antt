@@ -5,7 +5,8 @@ use Rattle.labels.specs.Pairs.{texts_of}
 use Rattle.index_reader.specs.Seen.{bytes_of}
 use Rattle.block_writer.specs.IndexText.{lists_of, postings_text}
 use Rattle.block_writer.specs.Written.{IsReason}
-use Rattle.block_writer.proofs.Building.{start_reason, entries_reason, postings_reason, index_is, references_many}
+use Rattle.block_writer.proofs.Building.{start_reason, entries_reason, postings_reason, index_is}
+use Rattle.block_writer.proofs.Building.{references_many}
 use Rattle.block_writer.proofs.index_file.spell_index.Goals as goal
 
 pub returns-in_err-file-clause-reason : goal.returns-in_err-file-clause-reason

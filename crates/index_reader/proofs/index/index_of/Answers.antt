@@ -2,7 +2,8 @@ use Rattle.std.proofs.Common.{subst}
 use Rattle.std.proofs.lemmas.Result.{err_from_is_err_and}
 use Rattle.index_reader.specs.Indexes.{IsConsistent}
 use Rattle.index_reader.specs.Spelled.{IsIndex}
-use Rattle.index_reader.proofs.Held.{err_fails, exact_is, keys_inside, lists_whole, whole_is, is_kept}
+use Rattle.index_reader.proofs.Held.{err_fails, exact_is, keys_inside, lists_whole, whole_is}
+use Rattle.index_reader.proofs.Held.{is_kept}
 use Rattle.index_reader.proofs.index.index_of.Goals as goal
 
 pub returns-in_err-_layout-clause-exact : goal.returns-in_err-_layout-clause-exact

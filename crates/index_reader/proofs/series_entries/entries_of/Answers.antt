@@ -3,7 +3,8 @@ use Rattle.std.proofs.lemmas.Result.{err_from_is_err_and}
 use Rattle.std.proofs.lemmas.List.{map_push}
 use Rattle.index_reader.specs.Seen.{entry_seen, entries_seen}
 use Rattle.index_reader.specs.Layout.{SeriesEntry}
-use Rattle.index_reader.proofs.WalkLoops.{walk_on, walk_fails, walk_done, after_entry, with_places_nil}
+use Rattle.index_reader.proofs.WalkLoops.{walk_on, walk_fails, walk_done, after_entry}
+use Rattle.index_reader.proofs.WalkLoops.{with_places_nil}
 use Rattle.index_reader.proofs.series_entries.entries_of.Goals as goal
 
 pub loop-at-init : goal.loop-at-init

@@ -3,7 +3,8 @@ use Rattle.std.specs.Prelude.{int_le}
 use Rattle.std.specs.Int.{int_max}
 use Rattle.tombstones.specs.Order.{deletion_at}
 use Rattle.tombstones.proofs.Reaches.{first_reach, next_reach}
-use Rattle.tombstones.proofs.tombstones.reach_at.Goals.{else-at-gt0-via-then-at-gt0+else-deletions-at, else-at-gt0-via-else-at-gt0}
+use Rattle.tombstones.proofs.tombstones.reach_at.Goals.{else-at-gt0-via-then-at-gt0+else-deletions-at}
+use Rattle.tombstones.proofs.tombstones.reach_at.Goals.{else-at-gt0-via-else-at-gt0}
 use Rattle.tombstones.proofs.tombstones.reach_at.Goals as goal
 
 pub returns-then-deletions-at : goal.returns-then-deletions-at

@@ -1,9 +1,12 @@
-use Rattle.std.proofs.Common.{◌≡◌, ℕ, ◌+◌, ◌-◌, ◌*◌, ◌^◌, ◌%◌, ◌<◌, ◌≤◌, false, eqb, ltb, ◌&&◌, Result, List, [], sym, ap, ◌∙◌, arith}
+use Rattle.std.proofs.Common.{◌≡◌, ℕ, ◌+◌, ◌-◌, ◌*◌, ◌^◌, ◌%◌, ◌<◌, ◌≤◌, false, eqb, ltb, ◌&&◌}
+use Rattle.std.proofs.Common.{Result, List, [], sym, ap, ◌∙◌, arith}
 use Rattle.std.proofs.lemmas.List.{nil_from_length}
 use Rattle.wire.specs.declared.error.WireError.{WireError}
 use Rattle.wire.specs.Reading.{uvarint_at, groups_at}
 use Rattle.std.proofs.Math.Nat.{mul_comm}
-use Rattle.wire.proofs.Loops.{with_low_one, with_low, with_low-below, next_weight, empty_is, too_big_is, long_form_is, last_is, goes_on, group_at_place, place_below, group_whole, group_fits, group_fits_64}
+use Rattle.wire.proofs.Loops.{with_low_one, with_low, with_low-below, next_weight, empty_is}
+use Rattle.wire.proofs.Loops.{too_big_is, long_form_is, last_is, goes_on, group_at_place}
+use Rattle.wire.proofs.Loops.{place_below, group_whole, group_fits, group_fits_64}
 use Rattle.wire.proofs.cut.sevens.Goals as goal
 
 -- how the invariant answers, by what stands next
