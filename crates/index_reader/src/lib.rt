@@ -1,8 +1,8 @@
 //! The index of a block, version 2: its symbols, its series with their chunks, and its postings.
 //!
 //! [`Index::open`] reads a whole index, each check over the whole file before the next, and gives
-//! what the file holds exactly if all checks pass; else it names the first that fails, `I1` to `I15`
-//! in the order of the format. Both are stated without reading: a file is opened exactly if its
+//! what the file holds exactly if all checks pass; else it names the first that fails, `I1` to
+//! `I15` in the order of the format. Both are stated without reading: a file is opened exactly if its
 //! bytes spell an index (`IsIndex`), and gives what they spell; what each check asks of the bytes,
 //! and which comes first, is a table (`IsRefused`). Postings are not trusted: the pairs that are
 //! listed must be exactly those that series carry, and each list the references of the series that
