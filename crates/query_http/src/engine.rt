@@ -100,10 +100,9 @@ fn reply_to<J: Naming, C: Wait + Drop, R: Inlet>(
 /// Serves one connection: one request is read, done and replied to.
 ///
 /// The whole reply is made before its first byte is written, and the reply to a change before the
-/// change is published. The pass learns the receipt of a change before the reply is written. The
-/// reader is read no further than 8,192 bytes past the request's head. It waits as
-/// [`Committer::commit`] does. What the buffers held before plays no part, and of each at most
-/// [`MOST_KEPT`](crate::MOST_KEPT) bytes are kept.
+/// change is published. The pass learns the receipt of a change before the reply is written. It
+/// reads as [`read_request_into`] does, and waits as [`Committer::commit`] does. What the buffers
+/// held before plays no part, and of each at most [`MOST_KEPT`](crate::MOST_KEPT) bytes are kept.
 #[tactic(auto, using(crate::proofs::Replying::silent_served))]
 pub fn serve_one_with<J: Naming, C: Wait + Drop, R: Inlet, W: Outlet>(
     rt: &impl Wait,

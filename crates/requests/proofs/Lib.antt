@@ -12,3 +12,4 @@ pub mod FieldTexts
 pub mod ReadTexts
 pub mod FitTexts
 pub mod Endings
+pub mod TakenTexts

@@ -5,6 +5,7 @@ use Rattle.httparse.specs.Grammar.{RequestHead, ReadsRequest, print_request}
 use Rattle.requests.specs.declared.refusal.Refusal.{Refusal}
 use Rattle.requests.specs.declared.refusal.Refusal.TheVariants.{BadHead, HeadTooLong, BadBody}
 use Rattle.requests.specs.declared.request.Request.{Request}
+use Rattle.requests.specs.declared.request.Request.TheVariants as asks
 use Rattle.requests.specs.declared.request.ReadError.{ReadError}
 use Rattle.requests.specs.declared.request.ReadError.TheVariants.{Closed, Fault, Memory, Refused}
 use Rattle.requests.specs.declared.target.Path.{Path}
@@ -95,3 +96,11 @@ EndsBody come end Fault more = ⊤
 EndsBody come end Memory more = ⊤
 EndsBody come end (Refused BadBody) more = length (come ++ more) < end
 EndsBody come end (Refused _) more = ⊥
+
+-- The most bytes that are taken for a request: 8,192 for one without a body, and 1,048,576 more for
+-- one with a body.
+abbrev pub most_taken : Request → ℕ
+most_taken (asks.Select query) = 8192
+most_taken (asks.Write batch) = 1056768
+most_taken (asks.Delete matchers from to) = 1056768
+most_taken (asks.Cut t) = 1056768

@@ -1,14 +1,14 @@
 //! A request, read from its first byte to its last.
 
-ghost use Rattle.std.specs.Prelude.{◌≤◌, vec_len, IfOk, IfErr, IfSome, OnOk};
+ghost use Rattle.std.specs.Prelude.{◌≤◌, ◌-◌, ◌⊎◌, vec_len, IfOk, IfErr, IfSome, OnOk};
 ghost use Rattle.httparse.specs.Grammar.{RequestHead};
-ghost use Rattle.requests.specs.Edge.{IsReadInto};
+ghost use Rattle.requests.specs.Edge.{IsReadInto, TakesAtMost};
 ghost use Rattle.requests.specs.Ending.{EndsReading, IsCountedFault};
 ghost use Rattle.requests.specs.Fields.{IsHeadIn};
 ghost use Rattle.requests.specs.Fitting.{IsFit};
 ghost use Rattle.requests.specs.Heads.{BeginsWithHead};
 ghost use Rattle.requests.specs.Requests.{Told};
-ghost use Rattle.requests.specs.Reading.{EndsBody, BodyMeans, Answers};
+ghost use Rattle.requests.specs.Reading.{EndsBody, BodyMeans, Answers, most_taken};
 
 use crate::changes::{cut, delete};
 use crate::edge::Inlet;
@@ -23,6 +23,8 @@ use std::alloc::Global;
 /// Reads until the buffer has so many bytes: `H7` where the input ends before.
 fn read_body<R: Inlet>(reader: &mut R, buf: &mut Vec<u8>, end: usize) -> Result<(), ReadError>
     ensures whole { OnOk result (end ≤ vec_len buf.new) }
+    ensures few { OnOk result
+        ((vec_len buf.new ≤ vec_len buf.old) ⊎ (vec_len buf.new ≤ end)) }
     ensures bytes { OnOk result
         (IsReadInto (R.input reader.old) (R.input reader.new) buf.old.items buf.new.items) }
     ensures err { IfErr result (λ e. IfSome (R.input reader.old)
@@ -67,6 +69,8 @@ fn read_after<R: Inlet>(
     requires begins { BeginsWithHead buf.old.items }
     requires short { vec_len buf.old ≤ 8192 }
     ensures means { AsksAfter buf.old.items (R.input reader.old) result }
+    ensures few { IfOk result (λ request. TakesAtMost (most_taken request - vec_len buf.old)
+        (R.input reader.old) (R.input reader.new)) }
     ensures fits { IfOk result IsFit }
     ensures refusal { IfErr result EndsReading }
     ensures failed { IsCountedFault result (R.failed_reads reader.old) (R.failed_reads reader.new) }
@@ -96,8 +100,8 @@ ghost use Rattle.requests.specs.Reading.{AsksAfter};
 /// The answer is the request that the bytes mean, or the first refusal that they meet, `H1` to
 /// `H8`, however they were cut into pieces; `Closed` where the input ends before its first byte.
 /// `Fault` comes only where a read failed. The bytes of the request are read into the buffer, whose
-/// content is dropped first and plays no part in the answer; they are at most 8,192 of the head and
-/// 1,048,576 of the body. Beside that it takes memory for the values of the request, and time
+/// content is dropped first and plays no part in the answer. At most 8,192 bytes are taken from the
+/// input for a request without a body, and at most 1,048,576 more for one with a body. Beside that it takes memory for the values of the request, and time
 /// linear in the number of its bytes.
 pub fn read_request_into<R: Inlet>(
     alloc: Global,
@@ -105,6 +109,8 @@ pub fn read_request_into<R: Inlet>(
     buf: &mut Vec<u8>,
 ) -> Result<Request, ReadError>
     ensures means { IfSome (R.input reader.old) (Answers result) }
+    ensures few { IfOk result (λ request. TakesAtMost (most_taken request)
+        (R.input reader.old) (R.input reader.new)) }
     ensures fits { IfOk result IsFit }
     ensures refusal { IfErr result EndsReading }
     ensures failed { IsCountedFault result (R.failed_reads reader.old) (R.failed_reads reader.new) }
@@ -117,6 +123,8 @@ pub fn read_request_into<R: Inlet>(
 /// Reads one request as [`read_request_into`] does, into a buffer of its own.
 pub fn read_request<R: Inlet>(alloc: Global, reader: &mut R) -> Result<Request, ReadError>
     ensures means { IfSome (R.input reader.old) (Answers result) }
+    ensures few { IfOk result (λ request. TakesAtMost (most_taken request)
+        (R.input reader.old) (R.input reader.new)) }
     ensures fits { IfOk result IsFit }
     ensures refusal { IfErr result EndsReading }
     ensures failed { IsCountedFault result (R.failed_reads reader.old) (R.failed_reads reader.new) }

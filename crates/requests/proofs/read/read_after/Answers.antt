@@ -1,9 +1,12 @@
-use Rattle.std.proofs.Common.{◌≡◌, ◌+◌, ◌≤◌, false, length, rules, ap, slice_range}
+use Rattle.std.proofs.Common.{◌≡◌, ◌+◌, ◌≤◌, false, length, vec_len, rules, sym, ap, ◌∙◌}
+use Rattle.std.proofs.Common.{slice_range, arith}
+use Rattle.requests.specs.Fields.{fields_of}
 use Rattle.requests.specs.Targets.{takes_query}
 use Rattle.requests.specs.Reading.{BodyMeans}
 use Rattle.requests.proofs.FitTexts.{told_fit, body_fit}
 use Rattle.requests.proofs.Endings.{told_ends, body_ends}
 use Rattle.requests.proofs.ReadTexts.{asked_body}
+use Rattle.requests.proofs.TakenTexts.{takes_none, takes_body, takes_read, length_few}
 use Rattle.requests.proofs.read.read_after.Goals as goal
 
 pub returns-clause-means : goal.returns-clause-means
@@ -28,3 +31,26 @@ pub returns-clause-refusal : goal.returns-clause-refusal
 returns-clause-refusal g c =
     let body = slice_range c.deref.result.now c.head_of-head.result.end (c.head_of-head.result.end + c.in-Ok-length.length) in
     told_ends (BodyMeans c.in-Ok.path body) (body_ends c.in-Ok.path body) c.body_request.result c.body_request.ensures
+
+pub returns-then-takes_query-clause-few : goal.returns-then-takes_query-clause-few
+returns-then-takes_query-clause-few g c =
+    takes_none (vec_len c.args.buf.now) (g.R.Inlet.input c.args.reader.now) c.select.result
+
+pub returns-clause-few : goal.returns-clause-few
+returns-clause-few g c =
+    let head = c.head_of-head.ensures in
+    let post : takes_query c.in-Ok.path ≡ false = search rules in
+    let length : c.in-Ok-length.length ≤ 1048576 =
+    length_few (fields_of head.0) c.in-Ok-length.length
+    (sym head.1.length_is ∙ c.in-Ok-length.is) in
+    let start : c.head_of-head.result.end ≤ 8192 = grind arith in
+    takes_body c.in-Ok.path _ c.body_request.result (vec_len c.args.buf.now)
+    (g.R.Inlet.input c.args.reader.now) (g.R.Inlet.input c.read_body.new.reader) post
+    c.body_request.ensures
+    (takes_read c.args.buf.now.items c.read_body.new.buf.items (vec_len c.args.buf.now)
+    (vec_len c.read_body.new.buf) (g.R.Inlet.input c.args.reader.now)
+    (g.R.Inlet.input c.read_body.new.reader)
+    (c.head_of-head.result.end + c.in-Ok-length.length) 1056768
+    c.args.buf.now.ok.0 c.read_body.new.buf.ok.0 c.in_ok-read_body.ensures.bytes
+    c.in_ok-read_body.ensures.few (omega (arith, length, start))
+    (omega (arith, c.requires.short)))
