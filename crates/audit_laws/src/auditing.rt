@@ -46,12 +46,7 @@ fn audit_head(
 }
 
 /// Audits what is answered of a block.
-fn audit_block(
-    alloc: Global,
-    block: &Block,
-    query: &Query,
-    answer: &PartAnswer,
-) -> Result<(), Flaw>
+fn audit_block(alloc: Global, block: &Block, query: &Query, answer: &PartAnswer) -> Result<(), Flaw>
     ensures sound { OnOk result (IsSoundAnswer block.now.part query.now answer.now) }
     ensures flawed { IfErr result (IsAuditError block.now.part query.now answer.now) }
 {

@@ -1,37 +1,13 @@
--- What is told of a flaw, or that memory ran out.
+-- If no flaw can be told, memory ran out.
 use Rattle.std.proofs.Common.{◌≡◌, refl}
-use Rattle.std.specs.Prelude.{◌≢◌}
 use Rattle.auditor.specs.declared.flaw.Flaw.{Flaw}
-use Rattle.auditor.specs.declared.flaw.Flaw.TheVariants.{NotAPartition, NotMatching, NotRejected, SeparatorCount, SeparatorsFit, WrongRows, UnknownMatcher, NotSilent, Hidden, WrongMerge, Memory}
+use Rattle.auditor.specs.declared.flaw.Flaw.TheVariants.{NotAPartition, NotMatching, NotRejected}
+use Rattle.auditor.specs.declared.flaw.Flaw.TheVariants.{SeparatorCount, SeparatorsFit, WrongRows}
+use Rattle.auditor.specs.declared.flaw.Flaw.TheVariants.{UnknownMatcher, NotSilent, Hidden}
+use Rattle.auditor.specs.declared.flaw.Flaw.TheVariants.{WrongMerge, Memory}
 use Rattle.auditor.specs.Errors.{OrMemory}
 
 module _ (cause : Flaw → Type 0) where
-  pub or_memory : (flaw : Flaw) → cause flaw → OrMemory cause flaw
-  or_memory NotAPartition h = h
-  or_memory NotMatching h = h
-  or_memory (NotRejected matcher) h = h
-  or_memory SeparatorCount h = h
-  or_memory (SeparatorsFit at) h = h
-  or_memory WrongRows h = h
-  or_memory UnknownMatcher h = h
-  or_memory NotSilent h = h
-  or_memory Hidden h = h
-  or_memory WrongMerge h = h
-  or_memory Memory h = tt
-
-  pub cause_of : (flaw : Flaw) → flaw ≢ Memory → OrMemory cause flaw → cause flaw
-  cause_of NotAPartition other h = h
-  cause_of NotMatching other h = h
-  cause_of (NotRejected matcher) other h = h
-  cause_of SeparatorCount other h = h
-  cause_of (SeparatorsFit at) other h = h
-  cause_of WrongRows other h = h
-  cause_of UnknownMatcher other h = h
-  cause_of NotSilent other h = h
-  cause_of Hidden other h = h
-  cause_of WrongMerge other h = h
-  cause_of Memory other h = absurd (other refl)
-
   pub memory_alone : ((flaw : Flaw) → cause flaw → ⊥) → (flaw : Flaw) → OrMemory cause flaw
       → flaw ≡ Memory
   memory_alone none NotAPartition h = absurd (none NotAPartition h)

@@ -19,7 +19,6 @@ use Rattle.series_merge.specs.Merging.{AreRuns, newest_first, row_lists}
 use Rattle.series_merge.proofs.Joining.{points_of-++}
 use Rattle.series_merge.proofs.LaidTimes.{below_later, less_is}
 
-
 -- a further sample after those that ascend
 more_rise : (n : ℕ) (xs : List (ℤ × ℤ)) (d : ℤ × ℤ) → suc n < length xs
     → T (is_sorted int_cmp (take (suc n) xs))
