@@ -1,0 +1,13 @@
+pub mod Ends
+pub mod Files
+pub mod Fronts
+pub mod Headers
+pub mod Keeping
+pub mod Lengths
+pub mod Loops
+pub mod Moments
+pub mod OneRecord
+pub mod PastCalls
+pub mod Scans
+pub mod Stops
+pub mod Writes

@@ -1,0 +1,10 @@
+pub mod Codes
+pub mod Contents
+pub mod FileMedium
+pub mod Media
+pub mod MemoryMedium
+pub mod Outcome
+pub mod Past
+pub mod Reading
+pub mod Records
+pub mod Writing
