@@ -184,7 +184,7 @@ impl Block {
         ensures inside { AreInside self.now.range self.now.part }
         ensures is_part { IsPart self.now.part }
     {
-        // What holds of a range is known where one of its ends is asked for.
+        // For the proof alone: the call says that the range begins below its end.
         let _ = self.range.min();
         self.range
     }

@@ -113,8 +113,8 @@ impl Matcher {
     ///
     /// `M1` where the name is not of the form `[a-zA-Z_][a-zA-Z0-9_]*`. For `=~` and `!~` then
     /// `M3` where the pattern has more than 256 bytes, and `M2` where `regex` refuses the pattern
-    /// or `^(?s:pattern)$` for another cause than memory. What is too big for `regex` is its own
-    /// word, so `M2` is not told beforehand.
+    /// or `^(?s:pattern)$` for another cause than memory. Only `regex` says which pattern is too
+    /// big for it, so no clause tells when a pattern is not refused.
     pub fn new(alloc: Global, name: String, op: Op, text: String) -> Result<Matcher, MatcherError>
         ensures ok { IfOk result (λ m.
             m ≡ record { name = string_bytes name; op = op; text = string_bytes text }) }

@@ -118,10 +118,11 @@ fn lay_row(alloc: Global, over: Row, under: Row) -> Result<Row, AllocError>
     Ok(Row::new(labels, samples))
 }
 
-/// Puts a row before those that come after it in label order, which stand in reverse. Where the
-/// first of them has its label set, it is joined to that row, unless that takes a copy of samples
-/// that were copied in this round: then it stays apart, and the answer is `false`. `fresh` says
-/// that the first row's samples were not copied in this round; `all` that this doesn't matter.
+/// Puts a row before those that come after it in label order; these are kept in reverse. If the
+/// first of them has the same label set, the row is joined to it. That copies the first row's
+/// samples, so it is not done if they were copied in this round: then the row is put beside it,
+/// and the answer is `false`. `fresh` says that they were not copied in this round, and `all` that
+/// they may be copied again.
 fn join_row(
     alloc: Global,
     later: &mut Vec<Row>,
