@@ -97,12 +97,7 @@ fn first_flaw(
 ///
 /// An audit takes memory for the searches of patterns, and for the selected rows, which it puts in
 /// label order.
-pub fn audit(
-    alloc: Global,
-    table: &Table,
-    query: &Query,
-    answer: &PartAnswer,
-) -> Result<(), Flaw>
+pub fn audit(alloc: Global, table: &Table, query: &Query, answer: &PartAnswer) -> Result<(), Flaw>
     ensures sound { OnOk result (IsSoundAnswer table.now query.now answer.now) }
     ensures flawed { IfErr result (λ e. IsAuditError table.now query.now answer.now e) }
 {
