@@ -51,9 +51,9 @@ fn room_of(parts: &[AnsweredPart], rows: &[Row]) -> usize {
     room
 }
 
-/// The text of the answer to a query as [`body`] gives it, after so many zero bytes of room, in a
-/// vector that the caller has at hand, whose bytes are dropped. The text of the rows is written
-/// into `row_buf` on the way; what that held is dropped too.
+/// The text of the answer to a query as [`body`] gives it, after so many bytes of room, in a vector
+/// that the caller has at hand, whose bytes are dropped. The text of the rows is written into
+/// `row_buf` on the way; what that held is dropped too.
 pub fn body_after(
     alloc: Global,
     at_hand: Vec<u8>,
