@@ -15,9 +15,10 @@ ghost use Rattle.commands.specs.Selecting.{IsOfMemory};
 
 use crate::fault::{Fault, Refusal};
 use answers::{AuditedAnswer, ask};
+use head::AppendError;
 use labels::{LabelSet, Sample};
 use matchers::{Matcher, Op, Query};
-use snapshots::{Appender, Committer, Naming, NotAppended, Receipt, Seat, SnapshotError, Store};
+use snapshots::{Appender, Committer, Naming, Receipt, Seat, SnapshotError, Store};
 use std::alloc::{AllocError, Global};
 use std::marker::Brand;
 use std::sync::Wait;
@@ -64,8 +65,8 @@ fn add(appender: &mut Appender, labels: LabelSet, sample: Sample) -> Result<(), 
 {
     match appender.append(labels, sample) {
         Ok(()) => Ok(()),
-        Err((_labels, NotAppended::Memory)) => Err(Fault::Memory),
-        Err((_labels, NotAppended::Refused(_))) => unreachable!(),
+        Err((_labels, AppendError::Memory)) => Err(Fault::Memory),
+        Err((_labels, AppendError::Full | AppendError::TimeRange)) => unreachable!(),
     }
 }
 
