@@ -111,14 +111,7 @@ pub fn run<
     F: ReadFiles,
     W: Write,
     E: Write,
->(
-    rt: &Q,
-    alloc: Global,
-    files: &F,
-    words: &[String],
-    out: &mut W,
-    err: &mut E,
-) -> Ending
+>(rt: &Q, alloc: Global, files: &F, words: &[String], out: &mut W, err: &mut E) -> Ending
     ensures ended { HasEnded (F.may_read files.now) (texts_of words.now) (W.contents out.old)
         (W.contents out.new) (E.contents err.old) (E.contents err.new) result }
     ensures few { result.status ≤ 4 }
