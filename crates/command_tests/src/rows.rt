@@ -4,7 +4,7 @@ use crate::directories::DIRECTORIES;
 use commands::ReadFiles;
 use commands::run::{Ending, run};
 use std::alloc::Global;
-use std::io::{self, Write};
+use std::io::Write;
 use std::net::{Net, TcpListener, TcpStream};
 use std::process::Abort;
 use std::str;
@@ -47,8 +47,7 @@ pub fn ending_of<
     for word in words {
         given.push(String::from_str(alloc, word).ok()?).ok()?;
     }
-    let input = &mut io::empty();
-    Some(run(rt, alloc, files, given.as_slice(), input, out, err))
+    Some(run(rt, alloc, files, given.as_slice(), out, err))
 }
 
 /// What a run gives: how it ends, and what it writes to both writers.

@@ -13,8 +13,8 @@ use Rattle.commands.specs.Selecting.{KeepsAt}
 use Rattle.commands.specs.declared.fault.Fault.{Fault}
 use Rattle.commands.specs.declared.fault.Fault.TheVariants as fault
 use Rattle.commands.specs.declared.judgement.Judgement.{Judgement}
-use Rattle.commands.specs.declared.report.Outcome.{Outcome}
-use Rattle.commands.specs.declared.report.Outcome.TheVariants.{Done, Refused}
+use Rattle.commands.specs.declared.check.Outcome.{Outcome}
+use Rattle.commands.specs.declared.check.Outcome.TheVariants.{Done, Refused}
 
 -- what is appended after what was appended
 pub appends_on : (old mid new : Option (List ℕ)) (first next : List ℕ) → Appends old mid first
@@ -175,6 +175,10 @@ stopped reads texts i d old mid new outcome fault.CannotWrite h before unread ke
 stopped reads texts i d old mid new outcome (fault.Words error) h before unread kept cut =
     absurd unread
 stopped reads texts i d old mid new outcome (fault.CannotListen port) h before unread kept cut =
+    absurd unread
+stopped reads texts i d old mid new outcome fault.NoListener h before unread kept cut =
+    absurd unread
+stopped reads texts i d old mid new outcome fault.NoThread h before unread kept cut =
     absurd unread
 stopped reads texts i d old mid new outcome (fault.Refused refusal) h before unread kept cut =
     absurd unread

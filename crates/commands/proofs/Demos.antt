@@ -9,7 +9,6 @@ use Rattle.matchers.specs.Views.{QueryView}
 use Rattle.matchers.specs.Queries.{selected_by}
 use Rattle.head.specs.Blocks.{opening_of}
 use Rattle.head.specs.Heads.{SnapshotParts, world_of}
-use Rattle.head.specs.Limits.{most}
 use Rattle.head.specs.Worlds.{Event, replayed}
 use Rattle.snapshots.specs.declared.entry.Entry.{Entry}
 use Rattle.snapshots.specs.Replays.{events_in, EndsWith}
@@ -67,8 +66,8 @@ module _ (opening : SnapshotParts) (query : QueryView) (before after : Known)
       → IsAnswerAfter demo_events query answer
   answer_after empty h events = record {
     snapshot = h.snapshot;
-    replayed = ap (λ (s : SnapshotParts). replayed most (world_of s) demo_events) empty
-        ∙ (ap (replayed most (world_of opening)) (sym events) ∙ h.replay.replay);
+    replayed = ap (λ (s : SnapshotParts). replayed (world_of s) demo_events) empty
+        ∙ (ap (replayed (world_of opening)) (sym events) ∙ h.replay.replay);
     audited = record {
       each = h.parts;
       rows = subst (λ (c : Content). AreRows answer.rows.items (selected_by query c))

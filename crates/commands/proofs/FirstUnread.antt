@@ -3,7 +3,7 @@ use Rattle.std.proofs.Common.{◌≡◌, ℕ, List, ◌∷◌, ◌++◌}
 use Rattle.std.specs.List.{AllByRecursion}
 use Rattle.commands.specs.Reading.{Host, IsRead, IsFound, IsFileFault, IsReadingFault, IsDirectoryFault, reading_order}
 use Rattle.commands.specs.declared.fault.Fault.{Fault}
-use Rattle.commands.specs.declared.fault.Fault.TheVariants.{Words, Refused, CannotRead, CannotWrite, CannotListen, Memory}
+use Rattle.commands.specs.declared.fault.Fault.TheVariants.{Words, Refused, CannotRead, CannotWrite, CannotListen, NoListener, NoThread, Memory}
 use Rattle.commands.specs.declared.files.FileName.{FileName}
 
 -- a file that was read can be read
@@ -22,6 +22,8 @@ fault_after reads directory before name after order each (CannotRead path) h =
 fault_after reads directory before name after order each Memory h = tt
 fault_after reads directory before name after order each CannotWrite h = h
 fault_after reads directory before name after order each (CannotListen port) h = h
+fault_after reads directory before name after order each NoListener h = h
+fault_after reads directory before name after order each NoThread h = h
 fault_after reads directory before name after order each (Words error) h = h
 fault_after reads directory before name after order each (Refused refusal) h = h
 
@@ -32,5 +34,7 @@ unwritten reads directory (CannotRead path) h = h
 unwritten reads directory Memory h = h
 unwritten reads directory CannotWrite h = absurd h
 unwritten reads directory (CannotListen port) h = h
+unwritten reads directory NoListener h = h
+unwritten reads directory NoThread h = h
 unwritten reads directory (Words error) h = h
 unwritten reads directory (Refused refusal) h = h

@@ -14,8 +14,8 @@ use Rattle.commands.specs.declared.command.Line.{Line}
 use Rattle.commands.specs.declared.command.Line.TheVariants.{Demo, Select, Check, Serve}
 use Rattle.commands.specs.declared.fault.Fault.{Fault}
 use Rattle.commands.specs.declared.fault.Fault.TheVariants as fault
-use Rattle.commands.specs.declared.report.Outcome.{Outcome}
-use Rattle.commands.specs.declared.report.Outcome.TheVariants.{Done, Refused}
+use Rattle.commands.specs.declared.check.Outcome.{Outcome}
+use Rattle.commands.specs.declared.check.Outcome.TheVariants.{Done, Refused}
 use Rattle.commands.proofs.Checks.{none_checked}
 
 keeps_itself : (old : Option (List ℕ)) → Keeps old old
@@ -29,6 +29,8 @@ unused (fault.Refused refusal) old = keeps_itself old
 unused (fault.CannotRead path) old = keeps_itself old
 unused fault.CannotWrite old = tt
 unused (fault.CannotListen port) old = keeps_itself old
+unused fault.NoListener old = keeps_itself old
+unused fault.NoThread old = keeps_itself old
 unused fault.Memory old = keeps_itself old
 
 -- no line of any directory was written
@@ -93,4 +95,6 @@ written_at_status words old new (Err (fault.CannotRead path)) status is (inr kep
 written_at_status words old new (Err fault.CannotWrite) status is (inr kept) = inr (inl is)
 written_at_status words old new (Err (fault.CannotListen port)) status is (inr kept) =
     inr (inr (inr kept))
+written_at_status words old new (Err fault.NoListener) status is (inr kept) = inr (inl is)
+written_at_status words old new (Err fault.NoThread) status is (inr kept) = inr (inl is)
 written_at_status words old new (Err fault.Memory) status is (inr kept) = inr (inr (inr kept))

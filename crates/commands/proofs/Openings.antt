@@ -18,7 +18,7 @@ use Rattle.commands.specs.Judging.{block_in, bytes_of, IsSpelledAs}
 use Rattle.commands.specs.Opening.{IsBlockAt, AreBlocksAt, IsBlockFault, IsFirstFault, IsOpeningFault}
 use Rattle.commands.specs.Reading.{Host, AreRead, IsReadingFault, paths_of}
 use Rattle.commands.specs.declared.fault.Fault.{Fault}
-use Rattle.commands.specs.declared.fault.Fault.TheVariants.{Words, Refused, CannotRead, CannotWrite, CannotListen, Memory}
+use Rattle.commands.specs.declared.fault.Fault.TheVariants.{Words, Refused, CannotRead, CannotWrite, CannotListen, NoListener, NoThread, Memory}
 use Rattle.commands.specs.declared.fault.Refusal.TheVariants.{Labels, Matcher, Selector, Query, Commit, Block, Open, Snapshot}
 use Rattle.commands.specs.declared.files.BlockFiles.{BlockFiles}
 use Rattle.commands.specs.declared.judgement.Judgement.TheVariants as judgement
@@ -58,6 +58,8 @@ unopened reads directory (CannotRead path) h = h
 unopened reads directory Memory h = h
 unopened reads directory CannotWrite h = h
 unopened reads directory (CannotListen port) h = h
+unopened reads directory NoListener h = h
+unopened reads directory NoThread h = h
 unopened reads directory (Words error) h = h
 unopened reads directory (Refused refusal) h = absurd h
 
@@ -202,4 +204,6 @@ first_is_opening reads directories (Refused (Commit error)) h = h.at
 first_is_opening reads directories (Words error) h = h.at
 first_is_opening reads directories CannotWrite h = h.at
 first_is_opening reads directories (CannotListen port) h = h.at
+first_is_opening reads directories NoListener h = h.at
+first_is_opening reads directories NoThread h = h.at
 first_is_opening reads directories Memory h = tt

@@ -3,8 +3,10 @@ use Rattle.std.proofs.Common.{◌≡◌, refl, sym, subst}
 use Rattle.snapshots.specs.Seats.{IsRoom}
 use Rattle.snapshots.specs.declared.error.OpenError.{OpenError}
 use Rattle.snapshots.specs.declared.error.OpenError.TheVariants as store
-use Rattle.commands.specs.Faults.{open_fault}
-use Rattle.commands.specs.ServingRuns.{IsStoreFault}
+use Rattle.server.specs.declared.error.ServeError.{ServeError}
+use Rattle.server.specs.declared.error.ServeError.TheVariants as late
+use Rattle.commands.specs.Faults.{open_fault, serve_fault}
+use Rattle.commands.specs.ServingRuns.{IsStoreFault, IsLateFault}
 use Rattle.commands.specs.declared.command.Serving.{Serving}
 use Rattle.commands.specs.declared.fault.Fault.{Fault}
 use Rattle.commands.specs.declared.fault.Fault.TheVariants.{CannotListen}
@@ -22,3 +24,9 @@ not_opened serving store.Memory few many = tt
 pub not_listened : (serving : Serving) (fault : Fault) → fault ≡ CannotListen serving.port
     → IsStoreFault serving fault
 not_listened serving fault e = subst (IsStoreFault serving) (sym e) refl
+
+-- a server that ends too early
+pub ended_early : (e : ServeError) → IsLateFault (serve_fault e)
+ended_early late.NoListener = tt
+ended_early late.NoThread = tt
+ended_early late.Memory = tt

@@ -7,12 +7,11 @@ use Rattle.commands.specs.Judging.{IsJudged}
 use Rattle.commands.specs.Reading.{Host, Files, AreFilesAt, IsUnread}
 use Rattle.commands.specs.Sending.{AppendsPrefix}
 use Rattle.commands.specs.declared.fault.Fault.{Fault}
-use Rattle.commands.specs.declared.fault.Fault.TheVariants.{Words, Refused, CannotRead, CannotWrite}
-use Rattle.commands.specs.declared.fault.Fault.TheVariants.{CannotListen, Memory}
+use Rattle.commands.specs.declared.fault.Fault.TheVariants.{CannotRead, CannotWrite, Memory}
 use Rattle.commands.specs.declared.judgement.Judgement.{Judgement}
 use Rattle.commands.specs.declared.judgement.Judgement.TheVariants as judgement
-use Rattle.commands.specs.declared.report.Outcome.{Outcome}
-use Rattle.commands.specs.declared.report.Outcome.TheVariants as outcome
+use Rattle.commands.specs.declared.check.Outcome.{Outcome}
+use Rattle.commands.specs.declared.check.Outcome.TheVariants as outcome
 use Rattle.block.specs.Codes.{code_of}
 
 -- what a line says of a judgement
@@ -96,6 +95,4 @@ IsCheckFault reads directories old new (CannotRead path) =
     IsUnreadCheck reads directories old new (string_bytes path)
 IsCheckFault reads directories old new Memory = IsBegun reads directories old new
 IsCheckFault reads directories old new CannotWrite = IsCutShort reads directories old new
-IsCheckFault reads directories old new (CannotListen port) = ⊥
-IsCheckFault reads directories old new (Words error) = ⊥
-IsCheckFault reads directories old new (Refused refusal) = ⊥
+IsCheckFault reads directories old new other = ⊥

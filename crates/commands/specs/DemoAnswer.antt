@@ -5,7 +5,6 @@ use Rattle.std.specs.Io.KnownBytes.{Appends}
 use Rattle.matchers.specs.Views.{QueryView}
 use Rattle.head.specs.Blocks.{opening_of}
 use Rattle.head.specs.Heads.{SnapshotParts, world_of}
-use Rattle.head.specs.Limits.{most}
 use Rattle.head.specs.Worlds.{Event, replayed}
 use Rattle.head.specs.declared.error.CommitError.{CommitError}
 use Rattle.snapshots.specs.Replays.{IsRefusedAfter}
@@ -26,7 +25,7 @@ use Rattle.commands.specs.declared.fault.Refusal.TheVariants.{Open, Snapshot}
 pub record IsAnswerAfter (events : List Event) (query : QueryView)
     (answer : AuditedAnswer) : Type 0 where
   pub snapshot : SnapshotParts
-  pub replayed : replayed most (world_of (opening_of [])) events ≡ Ok (world_of snapshot)
+  pub replayed : replayed (world_of (opening_of [])) events ≡ Ok (world_of snapshot)
   pub audited : IsAudited query snapshot answer
 
 -- such an answer was written, and a line feed

@@ -21,9 +21,12 @@ use Rattle.snapshots.specs.declared.error.OpenError.{OpenError}
 use Rattle.snapshots.specs.declared.error.OpenError.TheVariants as store
 use Rattle.answers.specs.declared.error.AskError.{AskError}
 use Rattle.answers.specs.declared.error.AskError.TheVariants as ask
+use Rattle.server.specs.declared.error.ServeError.{ServeError}
+use Rattle.server.specs.declared.error.ServeError.TheVariants as serve
 use Rattle.commands.specs.declared.fault.Fault.{Fault}
 use Rattle.commands.specs.declared.fault.Fault.TheVariants.{Words, Refused, CannotRead, CannotWrite}
 use Rattle.commands.specs.declared.fault.Fault.TheVariants.{CannotListen, Memory}
+use Rattle.commands.specs.declared.fault.Fault.TheVariants.{NoListener, NoThread}
 use Rattle.commands.specs.declared.fault.Refusal.{Refusal}
 use Rattle.commands.specs.declared.fault.Refusal.TheVariants.{Labels, Matcher, Selector, Query}
 use Rattle.commands.specs.declared.fault.Refusal.TheVariants.{Commit, Block, Open, Snapshot}
@@ -88,6 +91,8 @@ status_of (Words error) = 2
 status_of (CannotRead path) = 3
 status_of CannotWrite = 3
 status_of (CannotListen port) = 3
+status_of NoListener = 3
+status_of NoThread = 3
 status_of Memory = 4
 
 -- what is told of the fault, for people; the text of the words is `clap`'s own
@@ -97,6 +102,8 @@ fault_text (Refused refusal) = Some (codes "refused " ++ refusal_text refusal)
 fault_text (CannotRead path) = Some (codes "cannot read " ++ string_bytes path)
 fault_text CannotWrite = Some (codes "cannot write")
 fault_text (CannotListen port) = Some (codes "cannot listen on 127.0.0.1:" ++ decimal port)
+fault_text NoListener = Some (codes "there is no listener any more")
+fault_text NoThread = Some (codes "cannot make a thread")
 fault_text Memory = Some (codes "no memory")
 
 -- the line that tells the fault: its text, and a line feed
@@ -163,3 +170,9 @@ open_fault store.Memory = Memory
 abbrev pub ask_fault : AskError → Fault
 ask_fault (ask.Snapshot error) = Refused (Snapshot error)
 ask_fault ask.Memory = Memory
+
+-- the fault that a server makes which ends too early
+abbrev pub serve_fault : ServeError → Fault
+serve_fault serve.NoListener = NoListener
+serve_fault serve.NoThread = NoThread
+serve_fault serve.Memory = Memory

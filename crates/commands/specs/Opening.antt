@@ -11,10 +11,8 @@ use Rattle.commands.specs.Checking.{IsJudgedAt}
 use Rattle.commands.specs.Judging.{IsSpelledAs}
 use Rattle.commands.specs.Reading.{Host, Files, AreFilesAt, IsUnread}
 use Rattle.commands.specs.declared.fault.Fault.{Fault}
-use Rattle.commands.specs.declared.fault.Fault.TheVariants.{Words, Refused, CannotRead, CannotWrite}
-use Rattle.commands.specs.declared.fault.Fault.TheVariants.{CannotListen, Memory}
-use Rattle.commands.specs.declared.fault.Refusal.TheVariants.{Labels, Matcher, Selector, Query}
-use Rattle.commands.specs.declared.fault.Refusal.TheVariants.{Commit, Block, Open, Snapshot}
+use Rattle.commands.specs.declared.fault.Fault.TheVariants.{Refused, CannotRead, Memory}
+use Rattle.commands.specs.declared.fault.Refusal.TheVariants.{Block, Open}
 use Rattle.commands.specs.declared.judgement.Judgement.TheVariants as judgement
 
 -- the block that a directory holds: the bytes of its files spell its range and its part
@@ -33,17 +31,8 @@ abbrev pub IsBlockFault : Host → List ℕ → Fault → Type 0
 IsBlockFault reads directory (CannotRead path) = IsUnread reads directory (string_bytes path)
 IsBlockFault reads directory (Refused (Block error)) =
     IsJudgedAt reads directory (judgement.Refused error)
-IsBlockFault reads directory (Refused (Open error)) = ⊥
-IsBlockFault reads directory (Refused (Snapshot error)) = ⊥
-IsBlockFault reads directory (Refused (Selector error)) = ⊥
-IsBlockFault reads directory (Refused (Query error)) = ⊥
-IsBlockFault reads directory (Refused (Labels error)) = ⊥
-IsBlockFault reads directory (Refused (Matcher error)) = ⊥
-IsBlockFault reads directory (Refused (Commit error)) = ⊥
-IsBlockFault reads directory (Words error) = ⊥
-IsBlockFault reads directory CannotWrite = ⊥
-IsBlockFault reads directory (CannotListen port) = ⊥
 IsBlockFault reads directory Memory = Unit {0}
+IsBlockFault reads directory other = ⊥
 
 -- the directories before one hold blocks, and that one is at fault
 pub record IsFirstFault (reads : Host) (directories : List (List ℕ)) (fault : Fault) : Type 0 where
@@ -74,19 +63,8 @@ IsOpeningFault reads directories (CannotRead path) =
 IsOpeningFault reads directories (Refused (Block error)) =
     IsFirstFault reads directories (Refused (Block error))
 IsOpeningFault reads directories (Refused (Open store.Limit)) = AreTooMany reads directories
-IsOpeningFault reads directories (Refused (Open store.BadPasses)) = ⊥
-IsOpeningFault reads directories (Refused (Open store.Unavailable)) = ⊥
-IsOpeningFault reads directories (Refused (Open store.Memory)) = ⊥
-IsOpeningFault reads directories (Refused (Snapshot error)) = ⊥
-IsOpeningFault reads directories (Refused (Selector error)) = ⊥
-IsOpeningFault reads directories (Refused (Query error)) = ⊥
-IsOpeningFault reads directories (Refused (Labels error)) = ⊥
-IsOpeningFault reads directories (Refused (Matcher error)) = ⊥
-IsOpeningFault reads directories (Refused (Commit error)) = ⊥
-IsOpeningFault reads directories (Words error) = ⊥
-IsOpeningFault reads directories CannotWrite = ⊥
-IsOpeningFault reads directories (CannotListen port) = ⊥
 IsOpeningFault reads directories Memory = Unit {0}
+IsOpeningFault reads directories other = ⊥
 
 -- the snapshot of the blocks that the directories hold, in their order, and of an empty head
 pub record IsOpeningOf (reads : Host) (directories : List (List ℕ))

@@ -5,8 +5,7 @@ use Rattle.std.specs.Borrow.{Bor}
 use Rattle.std.specs.List.{AllByRecursion}
 use Rattle.std.proofs.Common.{Global}
 use Rattle.commands.specs.declared.fault.Fault.{Fault}
-use Rattle.commands.specs.declared.fault.Fault.TheVariants.{Words, Refused, CannotRead, CannotWrite}
-use Rattle.commands.specs.declared.fault.Fault.TheVariants.{CannotListen, Memory}
+use Rattle.commands.specs.declared.fault.Fault.TheVariants.{CannotRead, CannotWrite, Memory}
 use Rattle.commands.specs.declared.files.BlockFiles.{BlockFiles}
 use Rattle.commands.specs.declared.files.FileName.{FileName}
 use Rattle.commands.specs.declared.files.FileName.TheVariants.{Meta, Index, Chunks, Tombstones}
@@ -95,10 +94,7 @@ abbrev pub IsFileFault : Host → List ℕ → FileName → Fault → Type 0
 IsFileFault reads directory name (CannotRead path) =
     IsUnreadAt reads directory name (string_bytes path)
 IsFileFault reads directory name Memory = Unit {0}
-IsFileFault reads directory name CannotWrite = ⊥
-IsFileFault reads directory name (CannotListen port) = ⊥
-IsFileFault reads directory name (Words error) = ⊥
-IsFileFault reads directory name (Refused refusal) = ⊥
+IsFileFault reads directory name other = ⊥
 
 -- what came of reading a file of a directory: its bytes, or why it is not read
 abbrev pub IsFileOutcome : Host → List ℕ → FileName → Result (Vec ℕ Global) Fault → Type 0
@@ -123,16 +119,11 @@ pub record IsUnread (reads : Host) (directory path : List ℕ) : Type 0 where
 abbrev pub IsReadingFault : Host → List ℕ → Fault → Type 0
 IsReadingFault reads directory (CannotRead path) = IsUnread reads directory (string_bytes path)
 IsReadingFault reads directory Memory = Unit {0}
-IsReadingFault reads directory CannotWrite = ⊥
-IsReadingFault reads directory (CannotListen port) = ⊥
-IsReadingFault reads directory (Words error) = ⊥
-IsReadingFault reads directory (Refused refusal) = ⊥
+IsReadingFault reads directory other = ⊥
 
 -- why a directory is not judged, or its line not written
 abbrev pub IsDirectoryFault : Host → List ℕ → Fault → Type 0
 IsDirectoryFault reads directory (CannotRead path) = IsUnread reads directory (string_bytes path)
 IsDirectoryFault reads directory Memory = Unit {0}
 IsDirectoryFault reads directory CannotWrite = Unit {0}
-IsDirectoryFault reads directory (CannotListen port) = ⊥
-IsDirectoryFault reads directory (Words error) = ⊥
-IsDirectoryFault reads directory (Refused refusal) = ⊥
+IsDirectoryFault reads directory other = ⊥

@@ -14,8 +14,8 @@ use Rattle.commands.specs.declared.command.Line.{Line}
 use Rattle.commands.specs.declared.command.Line.TheVariants.{Demo, Select, Check, Serve}
 use Rattle.commands.specs.declared.fault.Fault.{Fault}
 use Rattle.commands.specs.declared.fault.Fault.TheVariants as fault
-use Rattle.commands.specs.declared.report.Outcome.{Outcome}
-use Rattle.commands.specs.declared.report.Outcome.TheVariants.{Done, Refused}
+use Rattle.commands.specs.declared.check.Outcome.{Outcome}
+use Rattle.commands.specs.declared.check.Outcome.TheVariants.{Done, Refused}
 use Rattle.commands.specs.declared.run.Ending.{Ending}
 
 -- `clap` takes the words, and they are a line
@@ -28,12 +28,10 @@ pub record IsTaken (words : List Text) : Type 0 where
 abbrev pub IsDone : Host → Line → Option (List ℕ) → Option (List ℕ) → Outcome → Type 0
 IsDone reads Demo old new Done =
     WritesAnswerAfter demo_events (demo_query (pos 0) (pos 100)) old new
-IsDone reads Demo old new Refused = ⊥
 IsDone reads (Select s texts) old new Done = WritesSelection reads (paths_of texts.items) s old new
-IsDone reads (Select s texts) old new Refused = ⊥
 IsDone reads (Check texts) old new outcome = IsChecked reads (paths_of texts.items) old new outcome
 IsDone reads (Serve serving texts) old new Done = IsListening reads (paths_of texts.items) old new
-IsDone reads (Serve serving texts) old new Refused = ⊥
+IsDone reads line old new other = ⊥
 
 -- why a line ends before it is done, and what was written by then
 abbrev pub IsLineFault : Host → Line → Option (List ℕ) → Option (List ℕ) → Fault → Type 0
@@ -68,23 +66,16 @@ status_at (Err fault) = status_of fault
 -- or memory or the writer failed
 abbrev pub IsNoLine : Result Outcome Fault → Type 0
 IsNoLine (Ok Done) = Unit {0}
-IsNoLine (Ok Refused) = ⊥
 IsNoLine (Err (fault.Words error)) = Unit {0}
 IsNoLine (Err fault.CannotWrite) = Unit {0}
-IsNoLine (Err (fault.CannotListen port)) = ⊥
 IsNoLine (Err fault.Memory) = Unit {0}
-IsNoLine (Err (fault.Refused refusal)) = ⊥
-IsNoLine (Err (fault.CannotRead path)) = ⊥
+IsNoLine other = ⊥
 
 -- how words that `clap` takes end where they are no line: the words are at fault, or memory failed
 abbrev pub IsWordsFault : Result Outcome Fault → Type 0
-IsWordsFault (Ok outcome) = ⊥
 IsWordsFault (Err (fault.Words error)) = Unit {0}
-IsWordsFault (Err fault.CannotWrite) = ⊥
-IsWordsFault (Err (fault.CannotListen port)) = ⊥
 IsWordsFault (Err fault.Memory) = Unit {0}
-IsWordsFault (Err (fault.Refused refusal)) = ⊥
-IsWordsFault (Err (fault.CannotRead path)) = ⊥
+IsWordsFault other = ⊥
 
 -- the line of a fault was written, or the writer failed; of an end without a fault nothing was
 abbrev pub IsTold : {E : Type 0} → Result Outcome Fault → Result (Unit {0}) E → Option (List ℕ)
@@ -105,10 +96,9 @@ pub record HasEnded (reads : Host) (words : List Text)
 
 -- the line is one of `check` or `serve`
 abbrev pub TellsEarly : Line → Type 0
-TellsEarly Demo = ⊥
-TellsEarly (Select s texts) = ⊥
 TellsEarly (Check texts) = Unit {0}
 TellsEarly (Serve serving texts) = Unit {0}
+TellsEarly other = ⊥
 
 -- the words are a line of `check` or `serve`, which alone may write before they end otherwise than
 -- done

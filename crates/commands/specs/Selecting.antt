@@ -4,7 +4,7 @@ use Rattle.std.specs.Io.KnownBytes.{Appends, Keeps}
 use Rattle.matchers.specs.Queries.{is_query_range}
 use Rattle.matchers.specs.Selectors.{IsAccepted, IsTextRefusal}
 use Rattle.matchers.specs.Views.{MatcherView, QueryView}
-use Rattle.matchers.specs.declared.error.QueryError.TheVariants.{BadRange, TooManyMatchers}
+use Rattle.matchers.specs.declared.error.QueryError.TheVariants.{BadRange}
 use Rattle.head.specs.Heads.{SnapshotParts}
 use Rattle.answers.specs.Audited.{IsAudited}
 use Rattle.commands.specs.Opening.{IsOpeningOf, IsOpeningFault}
@@ -13,11 +13,9 @@ use Rattle.commands.specs.Reading.{Host}
 use Rattle.answers.specs.declared.audited.AuditedAnswer.{AuditedAnswer}
 use Rattle.commands.specs.declared.command.Selection.{Selection}
 use Rattle.commands.specs.declared.fault.Fault.{Fault}
-use Rattle.commands.specs.declared.fault.Fault.TheVariants.{Words, Refused, CannotRead, CannotWrite}
-use Rattle.commands.specs.declared.fault.Fault.TheVariants.{CannotListen, Memory}
+use Rattle.commands.specs.declared.fault.Fault.TheVariants.{Refused, CannotWrite, Memory}
 use Rattle.commands.specs.declared.fault.Refusal.{Refusal}
-use Rattle.commands.specs.declared.fault.Refusal.TheVariants.{Labels, Matcher, Selector, Query}
-use Rattle.commands.specs.declared.fault.Refusal.TheVariants.{Commit, Block, Open, Snapshot}
+use Rattle.commands.specs.declared.fault.Refusal.TheVariants.{Selector, Query}
 
 -- the text of a selection is accepted as a selector of the query's matchers, and the ranges are one
 pub record IsQueryOf (asked : Selection) (query : QueryView) : Type 0 where
@@ -36,22 +34,13 @@ pub record HasBadRange (asked : Selection) : Type 0 where
 abbrev pub IsSelectionRefusal : Selection → Refusal → Type 0
 IsSelectionRefusal asked (Selector error) = IsTextRefusal asked.selector.now error
 IsSelectionRefusal asked (Query BadRange) = HasBadRange asked
-IsSelectionRefusal asked (Query TooManyMatchers) = ⊥
-IsSelectionRefusal asked (Labels error) = ⊥
-IsSelectionRefusal asked (Matcher error) = ⊥
-IsSelectionRefusal asked (Commit error) = ⊥
-IsSelectionRefusal asked (Block error) = ⊥
-IsSelectionRefusal asked (Open error) = ⊥
-IsSelectionRefusal asked (Snapshot error) = ⊥
+IsSelectionRefusal asked other = ⊥
 
 -- the selection is refused so, or memory failed
 abbrev pub IsSelectionFault : Selection → Fault → Type 0
 IsSelectionFault asked (Refused refusal) = IsSelectionRefusal asked refusal
-IsSelectionFault asked (Words error) = ⊥
-IsSelectionFault asked (CannotRead path) = ⊥
-IsSelectionFault asked CannotWrite = ⊥
-IsSelectionFault asked (CannotListen port) = ⊥
 IsSelectionFault asked Memory = Unit {0}
+IsSelectionFault asked other = ⊥
 
 -- an audited answer of the snapshot to the query was written, and a line feed
 pub record WritesAnswer (query : QueryView) (snapshot : SnapshotParts)
@@ -73,20 +62,13 @@ pub record WritesSelection (reads : Host) (directories : List (List ℕ)) (asked
 -- the writer holds what it held, unless it failed
 abbrev pub KeepsAt : Fault → Option (List ℕ) → Option (List ℕ) → Type 0
 KeepsAt CannotWrite old new = Unit {0}
-KeepsAt (CannotListen port) old new = Keeps old new
-KeepsAt (Words error) old new = Keeps old new
-KeepsAt (CannotRead path) old new = Keeps old new
-KeepsAt (Refused refusal) old new = Keeps old new
-KeepsAt Memory old new = Keeps old new
+KeepsAt other old new = Keeps old new
 
 -- memory or the writer failed
 abbrev pub IsWritingFault : Fault → Type 0
 IsWritingFault CannotWrite = Unit {0}
-IsWritingFault (CannotListen port) = ⊥
 IsWritingFault Memory = Unit {0}
-IsWritingFault (Words error) = ⊥
-IsWritingFault (CannotRead path) = ⊥
-IsWritingFault (Refused refusal) = ⊥
+IsWritingFault other = ⊥
 
 -- the selection is accepted, its text and its range
 pub record IsAllowed (asked : Selection) : Type 0 where
@@ -111,8 +93,4 @@ pub data IsSelectFault (reads : Host) (directories : List (List ℕ)) (asked : S
 -- memory alone failed
 abbrev pub IsOfMemory : Fault → Type 0
 IsOfMemory Memory = Unit {0}
-IsOfMemory (Words error) = ⊥
-IsOfMemory (CannotRead path) = ⊥
-IsOfMemory (Refused refusal) = ⊥
-IsOfMemory CannotWrite = ⊥
-IsOfMemory (CannotListen port) = ⊥
+IsOfMemory other = ⊥

@@ -6,13 +6,12 @@ use Rattle.snapshots.specs.Seats.{IsRoom}
 use Rattle.snapshots.specs.declared.error.OpenError.TheVariants as store
 use Rattle.commands.specs.Opening.{AreBlocksAt, IsOpeningFault}
 use Rattle.commands.specs.Reading.{Host}
-use Rattle.commands.specs.Selecting.{IsOfMemory, KeepsAt}
+use Rattle.commands.specs.Selecting.{KeepsAt}
 use Rattle.commands.specs.declared.command.Serving.{Serving}
 use Rattle.commands.specs.declared.fault.Fault.{Fault}
-use Rattle.commands.specs.declared.fault.Fault.TheVariants.{Words, Refused, CannotRead, CannotWrite}
-use Rattle.commands.specs.declared.fault.Fault.TheVariants.{CannotListen, Memory}
-use Rattle.commands.specs.declared.fault.Refusal.TheVariants.{Labels, Matcher, Selector, Query}
-use Rattle.commands.specs.declared.fault.Refusal.TheVariants.{Commit, Block, Open, Snapshot}
+use Rattle.commands.specs.declared.fault.Fault.TheVariants.{Refused, CannotWrite, CannotListen}
+use Rattle.commands.specs.declared.fault.Fault.TheVariants.{NoListener, NoThread, Memory}
+use Rattle.commands.specs.declared.fault.Refusal.TheVariants.{Open}
 
 -- the line of a port
 abbrev pub listening_line : ℕ → List ℕ
@@ -40,30 +39,28 @@ pub record IsListening (reads : Host) (directories : List (List ℕ))
 abbrev pub IsStoreFault : Serving → Fault → Type 0
 IsStoreFault serving (Refused (Open store.BadPasses)) = ¬ IsRoom serving.workers serving.workers
 IsStoreFault serving (Refused (Open store.Unavailable)) = Unit {0}
-IsStoreFault serving (Refused (Open store.Limit)) = ⊥
-IsStoreFault serving (Refused (Open store.Memory)) = ⊥
-IsStoreFault serving (Refused (Block error)) = ⊥
-IsStoreFault serving (Refused (Snapshot error)) = ⊥
-IsStoreFault serving (Refused (Selector error)) = ⊥
-IsStoreFault serving (Refused (Query error)) = ⊥
-IsStoreFault serving (Refused (Labels error)) = ⊥
-IsStoreFault serving (Refused (Matcher error)) = ⊥
-IsStoreFault serving (Refused (Commit error)) = ⊥
 IsStoreFault serving (CannotListen port) = port ≡ serving.port
 IsStoreFault serving CannotWrite = Unit {0}
 IsStoreFault serving Memory = Unit {0}
-IsStoreFault serving (Words error) = ⊥
-IsStoreFault serving (CannotRead path) = ⊥
+IsStoreFault serving other = ⊥
+
+-- why a store is not served any more before each worker has served its connections: there is no
+-- listener any more, a thread cannot be made, or memory failed
+abbrev pub IsLateFault : Fault → Type 0
+IsLateFault NoListener = Unit {0}
+IsLateFault NoThread = Unit {0}
+IsLateFault Memory = Unit {0}
+IsLateFault other = ⊥
 
 -- why a store over blocks is not served, or not until each worker has ended, and what was written
 -- by then
 abbrev pub IsServingFault : Serving → Option (List ℕ) → Option (List ℕ) → Fault → Type 0
 IsServingFault serving old new fault =
-    (IsStoreFault serving fault × KeepsAt fault old new) ⊎ (TellsPort old new × IsOfMemory fault)
+    (IsStoreFault serving fault × KeepsAt fault old new) ⊎ (TellsPort old new × IsLateFault fault)
 
 -- Why a line of `serve` ends before each worker has: by the directories; or, where they hold
--- blocks, by the store, the port or the writer, or by want of memory once the port was told. Before
--- that the writer holds what it held, unless it failed.
+-- blocks, by the store, the port or the writer, or once the port was told by the listener, a thread
+-- or want of memory. Before that the writer holds what it held, unless it failed.
 pub data IsServeFault (reads : Host) (directories : List (List ℕ)) (serving : Serving)
     (old new : Option (List ℕ)) (fault : Fault) : Type 0 where
   by_directories : IsOpeningFault reads directories fault → KeepsAt fault old new

@@ -133,8 +133,8 @@ client that gives no byte, or takes none, for the idle seconds is dropped. docs/
 project tells each reply and refusal.
 
 Exit status: 0 each worker has ended; 1 the directories are refused, as by `select`; 2 a fault of
-the words; 3 a file cannot be read, the port cannot be listened on, or its line cannot be written;
-4 no memory"#;
+the words; 3 a file cannot be read, the port cannot be listened on, its line cannot be written, a
+thread cannot be made, or the listener is gone; 4 no memory"#;
 
 /// An option `--NAME N` with a signed number of 64 bits.
 fn time<'a>(alloc: Global, name: &'a str, help: &'a str) -> Arg<'a>

@@ -1,4 +1,5 @@
-//! The store that `querier demo` asks: two seats commit six series to it, in two batches.
+//! The line of `demo`, and the store that it asks: two seats commit six series to it, in two
+//! batches.
 
 ghost use Rattle.std.specs.Prelude.{◌≡◌, ◌<◌, ◌≤◌, true, [], ◌++◌, ◌∷◌, length, string_bytes};
 ghost use Rattle.std.specs.Prelude.{pos, IsTrue, IfOk, IfErr, OnOk};
@@ -11,14 +12,19 @@ ghost use Rattle.snapshots.specs.Replays.{EndsWith};
 ghost use Rattle.commands.specs.Demo.{equal_to, demo_query, series_of, zoned_series, sampled};
 ghost use Rattle.commands.specs.Demo.{first_event, second_event, demo_events};
 ghost use Rattle.commands.specs.DemoAnswer.{IsAnswerAfter, IsCommitFault, IsDemoFault};
-ghost use Rattle.commands.specs.Selecting.{IsOfMemory};
+ghost use Rattle.commands.specs.DemoAnswer.{WritesAnswerAfter};
+ghost use Rattle.commands.specs.Selecting.{IsOfMemory, KeepsAt};
 
 use crate::fault::{Fault, Refusal};
+use crate::sending::send;
+use crate::writing::line_of;
 use answers::{AuditedAnswer, ask};
+use head::AppendError;
 use labels::{LabelSet, Sample};
 use matchers::{Matcher, Op, Query};
-use snapshots::{Appender, Committer, Naming, NotAppended, Receipt, Seat, SnapshotError, Store};
+use snapshots::{Appender, Committer, Naming, Receipt, Seat, SnapshotError, Store};
 use std::alloc::{AllocError, Global};
+use std::io::Write;
 use std::marker::Brand;
 use std::sync::Wait;
 
@@ -64,8 +70,8 @@ fn add(appender: &mut Appender, labels: LabelSet, sample: Sample) -> Result<(), 
 {
     match appender.append(labels, sample) {
         Ok(()) => Ok(()),
-        Err((_labels, NotAppended::Memory)) => Err(Fault::Memory),
-        Err((_labels, NotAppended::Refused(_))) => unreachable!(),
+        Err((_labels, AppendError::Memory)) => Err(Fault::Memory),
+        Err((_labels, AppendError::Full | AppendError::TimeRange)) => unreachable!(),
     }
 }
 
@@ -185,4 +191,17 @@ pub fn demo_answer<R: Wait>(rt: &R, alloc: Global) -> Result<AuditedAnswer, Faul
 {
     let query = query(alloc, 0, 100)?;
     answer_of::<Brand, R>(rt, alloc, Store::new(), &query)
+}
+
+/// Writes the audited answer to `up{job="a"}` from 0 to 100 over the store of the two batches.
+pub fn demo<R: Wait, W: Write>(rt: &R, alloc: Global, out: &mut W) -> Result<(), Fault>
+    ensures ok { OnOk result (WritesAnswerAfter demo_events (demo_query (pos 0) (pos 100))
+        (W.contents out.old) (W.contents out.new)) }
+    ensures faults { IfErr result (λ fault. IsDemoFault fault) }
+    ensures kept { IfErr result (λ fault. KeepsAt fault (W.contents out.old) (W.contents out.new)) }
+{
+    let answer = demo_answer(rt, alloc)?;
+    let line = line_of(alloc, &answer)?;
+    send(out, line.as_slice())?;
+    Ok(())
 }

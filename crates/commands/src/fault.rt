@@ -9,6 +9,7 @@ use block::BlockError;
 use head::CommitError;
 use labels::LabelError;
 use matchers::{MatcherError, QueryError, SelectorError};
+use server::ServeError;
 use snapshots::{OpenError, SnapshotError};
 use std::alloc::{AllocError, AllocFailed};
 use std::error::Error;
@@ -98,20 +99,25 @@ pub enum Fault {
     CannotWrite,
     /// This port of 127.0.0.1 cannot be listened on.
     CannotListen(u64),
+    /// The listener of a server is gone.
+    NoListener,
+    /// A thread of a server cannot be made.
+    NoThread,
     /// A growth was refused.
     Memory,
 }
 
 impl Fault {
-    /// The exit status: 1 for a refusal, 2 for a fault of the words, 3 for a file that cannot be
-    /// read, a writer that refused or a port that cannot be listened on, 4 for no memory.
+    /// The exit status: 1 for a refusal, 2 for a fault of the words, 4 for no memory, and 3 for all
+    /// that the system refuses: a file, a writer, a port, the listener or a thread of a server.
     pub fn status(&self) -> u8
         ensures { result ≡ status_of self.now }
     {
         match self {
             Fault::Refused(_) => 1,
             Fault::Words(_) => 2,
-            Fault::CannotRead(_) | Fault::CannotWrite | Fault::CannotListen(_) => 3,
+            Fault::CannotRead(_) | Fault::CannotWrite => 3,
+            Fault::CannotListen(_) | Fault::NoListener | Fault::NoThread => 3,
             Fault::Memory => 4,
         }
     }
@@ -141,6 +147,8 @@ impl fmt::Display for Fault {
             Fault::CannotRead(path) => write!(f, "cannot read {path}"),
             Fault::CannotWrite => write!(f, "cannot write"),
             Fault::CannotListen(port) => write!(f, "cannot listen on 127.0.0.1:{port}"),
+            Fault::NoListener => write!(f, "there is no listener any more"),
+            Fault::NoThread => write!(f, "cannot make a thread"),
             Fault::Memory => write!(f, "no memory"),
         }
     }
@@ -287,6 +295,21 @@ impl From<AskError> for Fault {
         match error {
             AskError::Memory => Fault::Memory,
             AskError::Snapshot(refusal) => Fault::Refused(Refusal::Snapshot(refusal)),
+        }
+    }
+}
+
+impl From<ServeError> for Fault {
+    ghost use Rattle.std.specs.Prelude.{◌≡◌};
+    ghost use Rattle.commands.specs.Faults.{serve_fault};
+
+    ghost from_gives = { λ error fault. fault ≡ serve_fault error };
+
+    fn from(error: ServeError) -> Fault {
+        match error {
+            ServeError::NoListener => Fault::NoListener,
+            ServeError::NoThread => Fault::NoThread,
+            ServeError::Memory => Fault::Memory,
         }
     }
 }

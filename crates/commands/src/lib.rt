@@ -7,7 +7,7 @@
 //! any selector the same of the blocks in directories, which `opening` opens. What is written is
 //! the text of an audited answer, byte for byte, and a line feed (`demo`, `write_answer`,
 //! `select`). `check` verifies blocks completely and writes a line for each: `files` says what is
-//! read of a directory, `judgement` what that is judged to be, and `report` which lines are
+//! read of a directory, `judgement` what that is judged to be, and `check` which lines are
 //! written. What is refused, and with which status a line ends, is said by `fault` and `run`.
 //! `serve` serves the blocks in directories, under an empty head, to HTTP clients.
 //!
@@ -18,15 +18,7 @@
 //! ];
 //! let mut out: Vec<u8> = Vec::new(alloc);
 //! let mut err: Vec<u8> = Vec::new(alloc);
-//! let ending = run(
-//!     &rt,
-//!     alloc,
-//!     &rt,
-//!     &words,
-//!     &mut io::empty(),
-//!     &mut out,
-//!     &mut err,
-//! );
+//! let ending = run(&rt, alloc, &rt, &words, &mut out, &mut err);
 //! assert_eq!(rt; (ending.status, out.len()), (1, 0));
 //! assert_eq!(rt; err.as_slice(), b"refused M6\n".as_slice());
 //! ```
@@ -37,23 +29,24 @@
 //! Kenyon, SODA 2002.
 #![tactic(auto)]
 
+pub mod check;
 mod command;
 mod demo;
 mod fault;
 mod files;
 mod judgement;
 mod opening;
-mod report;
 pub mod run;
 pub mod select;
 mod sending;
 pub mod serve;
+mod writing;
 
+pub use check::Outcome;
 pub use command::{Line, Selection, Serving, read_line};
 pub use demo::{demo_answer, first_batch, query, second_batch};
 pub use fault::{Fault, Refusal};
 pub use files::{BlockFiles, FileName, ReadError, ReadFiles, read_block};
 pub use judgement::{Judgement, judge, open};
 pub use opening::{open_blocks, open_store};
-pub use report::{Outcome, check};
 pub use sending::send;

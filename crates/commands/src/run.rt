@@ -1,75 +1,25 @@
 //! What the program does.
 
-ghost use Rattle.std.specs.Prelude.{◌≡◌, ◌≤◌, ◌⊎◌, pos, IfOk, IfErr, OnOk};
-ghost use Rattle.std.specs.Io.KnownBytes.{Appends, Keeps};
-ghost use Rattle.commands.specs.Printed.{line_text};
-ghost use Rattle.commands.specs.Demo.{demo_events, demo_query};
+ghost use Rattle.std.specs.Prelude.{◌≡◌, ◌≤◌, ◌⊎◌};
+ghost use Rattle.std.specs.Io.KnownBytes.{Keeps};
 ghost use Rattle.commands.specs.Lines.{texts_of, AreNoCommandLine, AreTakenByClap};
 ghost use Rattle.commands.specs.Running.{IsTaken, IsLineEnd, IsEnd, IsNoLine, IsWordsFault};
 ghost use Rattle.commands.specs.Running.{IsEarlyLine, IsTold, HasEnded, KeepsAtEnd, status_at};
-ghost use Rattle.commands.specs.DemoAnswer.{IsDemoFault, WritesAnswerAfter};
-ghost use Rattle.commands.specs.Selecting.{IsWritingFault, KeepsAt, WritesAnswer};
 
+use crate::check::{Outcome, check};
 use crate::command::{Line, read_line};
-use crate::demo::demo_answer;
+use crate::demo::demo;
 use crate::fault::Fault;
 use crate::files::ReadFiles;
-use crate::report::{Outcome, check};
 use crate::select::select;
-use crate::sending::send;
 use crate::serve::serve;
-use answers::{AuditedAnswer, answer_by_workers, body};
 use clap::error::ErrorKind;
-use head::Snapshot;
-use matchers::Query;
-use std::alloc::{AllocError, Global};
-use std::io::{self, Read, Write};
+use std::alloc::Global;
+use std::io::{self, Write};
 use std::net::{Net, TcpListener, TcpStream};
 use std::sync::Wait;
 use std::thread::Threads;
 use std::time::Clock;
-
-/// The text of an answer, and a line feed.
-fn line_of(alloc: Global, answer: &AuditedAnswer) -> Result<Vec<u8>, AllocError>
-    ensures { IfOk result (λ line. line.items ≡ line_text answer.now) }
-{
-    let mut line = body(alloc, answer.parts.as_slice(), answer.rows.as_slice())?;
-    line.push(b'\n')?;
-    Ok(line)
-}
-
-/// Writes the audited answer to a query as one line, and nothing else. Each part is searched by a
-/// worker of its own.
-pub fn write_answer<T: Threads + Sync, W: Write>(
-    rt: &T,
-    alloc: Global,
-    snapshot: &Snapshot,
-    query: &Query,
-    out: &mut W,
-) -> Result<(), Fault>
-    ensures ok { OnOk result
-        (WritesAnswer query.now snapshot.now (W.contents out.old) (W.contents out.new)) }
-    ensures faults { IfErr result (λ fault. IsWritingFault fault) }
-    ensures kept { IfErr result (λ fault. KeepsAt fault (W.contents out.old) (W.contents out.new)) }
-{
-    let answer = answer_by_workers(rt, alloc, snapshot, query)?;
-    let line = line_of(alloc, &answer)?;
-    send(out, line.as_slice())?;
-    Ok(())
-}
-
-/// Writes the audited answer to `up{job="a"}` from 0 to 100 over the store of the two batches.
-fn demo<R: Wait, W: Write>(rt: &R, alloc: Global, out: &mut W) -> Result<(), Fault>
-    ensures ok { OnOk result (WritesAnswerAfter demo_events (demo_query (pos 0) (pos 100))
-        (W.contents out.old) (W.contents out.new)) }
-    ensures faults { IfErr result (λ fault. IsDemoFault fault) }
-    ensures kept { IfErr result (λ fault. KeepsAt fault (W.contents out.old) (W.contents out.new)) }
-{
-    let answer = demo_answer(rt, alloc)?;
-    let line = line_of(alloc, &answer)?;
-    send(out, line.as_slice())?;
-    Ok(())
-}
 
 /// Does what a line asks for.
 fn answer_line<
@@ -152,24 +102,16 @@ fn tell<E: Write>(end: &Result<Outcome, Fault>, to: &mut E) -> io::Result<()>
 ///
 /// 0 where it is done; 1 for a refusal, with its code on the second writer, or in the lines of a
 /// check; 2 for a fault of the words, with the usage on the second writer; 3 where a file cannot be
-/// read or a port not be listened on, which is named there, or the first writer fails; 4 where
-/// memory does. The store of the demo waits for nobody else's threads; a server waits for clients,
-/// and tells what becomes of them on the host's own standard error.
+/// read or a port not be listened on, which is named there, the first writer fails, or a server
+/// loses its listener or cannot make a thread; 4 where memory fails. The store of the demo waits
+/// for nobody else's threads; a server waits for clients, and tells what becomes of them on the
+/// host's own standard error.
 pub fn run<
     Q: Wait + Threads + Net<Listener = TcpListener, Stream = TcpStream> + Clock + Eprint + Sync,
     F: ReadFiles,
-    R: Read,
     W: Write,
     E: Write,
->(
-    rt: &Q,
-    alloc: Global,
-    files: &F,
-    words: &[String],
-    _input: &mut R,
-    out: &mut W,
-    err: &mut E,
-) -> Ending
+>(rt: &Q, alloc: Global, files: &F, words: &[String], out: &mut W, err: &mut E) -> Ending
     ensures ended { HasEnded (F.may_read files.now) (texts_of words.now) (W.contents out.old)
         (W.contents out.new) (E.contents err.old) (E.contents err.new) result }
     ensures few { result.status ≤ 4 }

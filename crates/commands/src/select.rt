@@ -9,7 +9,7 @@ use crate::command::Selection;
 use crate::fault::Fault;
 use crate::files::ReadFiles;
 use crate::opening::open_store;
-use crate::run::write_answer;
+use crate::writing::write_answer;
 use matchers::{Query, Selector};
 use std::alloc::Global;
 use std::io::Write;

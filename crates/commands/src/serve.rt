@@ -1,6 +1,9 @@
 //! The server: a store over the blocks in directories, and its workers.
 
-ghost use Rattle.std.specs.Prelude.{◌≡◌, ◌≤◌, length, map, string_bytes, IfOk, IfErr, OnOk};
+ghost use Rattle.std.specs.Prelude.{◌≡◌, ◌≤◌, length, map, string_bytes, vec_len};
+ghost use Rattle.std.specs.Prelude.{◌*◌, IfOk, IfErr, IfSome, IfNone, OnOk};
+ghost use Rattle.std.specs.Duration.{as_nanos};
+ghost use Rattle.std.specs.List.{All};
 ghost use Rattle.head.specs.Blocks.{part_in, opening_of};
 ghost use Rattle.commands.specs.Reading.{paths_of};
 ghost use Rattle.commands.specs.Selecting.{KeepsAt};
@@ -65,7 +68,11 @@ fn tell_port<W: Write>(
     Ok(())
 }
 
-fn terms_of(serving: Serving) -> Terms {
+fn terms_of(serving: Serving) -> Terms
+    ensures requests { result.requests ≡ serving.requests }
+    ensures never { IfNone result.idle (serving.idle_seconds ≡ 0) }
+    ensures limit { IfSome result.idle (λ d. as_nanos d ≡ serving.idle_seconds * 1000000000) }
+{
     let idle = match serving.idle_seconds {
         0 => None,
         seconds => Some(Duration::from_secs(seconds)),
@@ -76,7 +83,7 @@ fn terms_of(serving: Serving) -> Terms {
     }
 }
 
-/// Serves a store over these blocks until each worker has ended.
+/// Serves a store over these blocks until each worker has ended: how many connections each served.
 fn serve_blocks<
     J: Naming + Send + Sync,
     R: Wait + Threads + Net<Listener = TcpListener, Stream = TcpStream> + Clock + Eprint + Sync,
@@ -88,11 +95,13 @@ fn serve_blocks<
     blocks: Vec<Block>,
     serving: Serving,
     out: &mut W,
-) -> Result<(), Fault>
+) -> Result<Vec<u64>, Fault>
     requires book { store.seen.book ≡ J.book }
     requires opening { opening_of (map part_in blocks.items) ≡ J.opening }
     requires few { length blocks.items ≤ 63 }
     ensures ok { OnOk result (TellsPort (W.contents out.old) (W.contents out.new)) }
+    ensures workers { IfOk result (λ counts. vec_len counts ≡ serving.workers) }
+    ensures served { IfOk result (λ counts. All (λ n. n ≡ serving.requests) counts.items) }
     ensures err { IfErr result (λ fault.
         IsServingFault serving (W.contents out.old) (W.contents out.new) fault) }
 {
@@ -100,12 +109,12 @@ fn serve_blocks<
     let workers = Workers::<J, &R>::open(rt, alloc, store, blocks, count)?;
     let listener = listen(rt, serving.port)?;
     tell_port(alloc, &listener, serving, out)?;
-    server::serve(rt, alloc, workers, &listener, terms_of(serving))?;
-    Ok(())
+    let counts = server::serve(rt, alloc, workers, &listener, terms_of(serving))?;
+    Ok(counts)
 }
 
 /// Serves a store over the blocks in these directories, and over them an empty head, until each
-/// worker has ended.
+/// worker has ended: how many connections each served, as many as were asked for.
 ///
 /// The directories are opened as by `select`; then the store is opened, the port listened on, and
 /// `listening P` written.
@@ -120,9 +129,11 @@ pub fn serve<
     serving: Serving,
     directories: &[&str],
     out: &mut W,
-) -> Result<(), Fault>
+) -> Result<Vec<u64>, Fault>
     ensures ok { OnOk result (IsListening (F.may_read files.now) (paths_of directories.now)
         (W.contents out.old) (W.contents out.new)) }
+    ensures workers { IfOk result (λ counts. vec_len counts ≡ serving.workers) }
+    ensures served { IfOk result (λ counts. All (λ n. n ≡ serving.requests) counts.items) }
     ensures err { IfErr result (λ fault. IsServeFault (F.may_read files.now)
         (paths_of directories.now) serving (W.contents out.old) (W.contents out.new) fault) }
 {

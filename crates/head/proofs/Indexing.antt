@@ -5,7 +5,7 @@ use Rattle.std.proofs.Common.{sym, ◌∙◌, ap, subst, arith, append_assoc, ap
 use Rattle.std.proofs.lemmas.List.{take_more, length-map}
 use Rattle.labels.specs.Labels.{Labels, same_labels}
 use Rattle.head.specs.Refusals.{Refusal, out_of_bounds, out_of_order, duplicate, limit}
-use Rattle.head.specs.Limits.{Limits}
+use Rattle.head.specs.Limits.{max_series, max_samples}
 use Rattle.head.specs.Heads.{HeadSeries, numbered, head_part, series_at}
 use Rattle.head.specs.Taking.{extended, grown, head_added, head_added_after, head_added_each}
 use Rattle.head.specs.Orders.{sets_of, Extends}
@@ -43,29 +43,29 @@ repeat_or sets true true x y r p q h = p
 repeat_or sets true false x y r p q h = q
 repeat_or sets false b x y r p q h = h
 
-after_extends : (most : Limits) (head : List HeadSeries) (at : ℕ) (l : Labels) (s : ℤ × ℤ) (o : Option HeadSeries) → ExtendsIn (sets_of head) (head_added_after most head at l s o)
-after_extends most head at l s None = refused_or (sets_of head) (nat_le most.series (length head)) limit (Ok (extended l s head)) (extended_extends l s head)
-after_extends most head at l s (Some h) =
+after_extends : (head : List HeadSeries) (at : ℕ) (l : Labels) (s : ℤ × ℤ) (o : Option HeadSeries) → ExtendsIn (sets_of head) (head_added_after head at l s o)
+after_extends head at l s None = refused_or (sets_of head) (nat_le max_series (length head)) limit (Ok (extended l s head)) (extended_extends l s head)
+after_extends head at l s (Some h) =
     refused_or (sets_of head) (int_lt s.0 h.newest.0) (out_of_order at) _
     (repeat_or (sets_of head) (int_eq s.0 h.newest.0) (int_eq s.1 h.newest.1) (Ok head) (Err (duplicate at)) _ (same_extends (sets_of head)) tt
-    (refused_or (sets_of head) (nat_le most.samples (length h.samples)) limit (Ok (extended l s head)) (extended_extends l s head)))
+    (refused_or (sets_of head) (nat_le max_samples (length h.samples)) limit (Ok (extended l s head)) (extended_extends l s head)))
 
-step_extends : (most : Limits) (floor : ℤ) (head : List HeadSeries) (at : ℕ) (x : Labels × (ℤ × ℤ)) → ExtendsIn (sets_of head) (head_added most floor head at x)
+step_extends : (floor : ℤ) (head : List HeadSeries) (at : ℕ) (x : Labels × (ℤ × ℤ)) → ExtendsIn (sets_of head) (head_added floor head at x)
 unfolding head_added
-step_extends most floor head at x = refused_or (sets_of head) (int_lt x.1.0 floor) (out_of_bounds at) _ (after_extends most head at x.0 x.1 (series_at x.0 head))
+step_extends floor head at x = refused_or (sets_of head) (int_lt x.1.0 floor) (out_of_bounds at) _ (after_extends head at x.0 x.1 (series_at x.0 head))
 
-each_extends : (most : Limits) (floor : ℤ) (sets : List Labels) (xs : List (Labels × (ℤ × ℤ))) (r : Result (List HeadSeries) Refusal) (at : ℕ) → ExtendsIn sets r → ExtendsIn sets (head_added_each most floor r at xs)
-each_extends most floor sets [] r at h = h
-each_extends most floor sets (x ∷ xs) (Err e) at h = tt
-each_extends most floor sets (x ∷ xs) (Ok head) at h = each_extends most floor sets xs (head_added most floor head at x) (at + 1) (further (head_added most floor head at x) (step_extends most floor head at x))
+each_extends : (floor : ℤ) (sets : List Labels) (xs : List (Labels × (ℤ × ℤ))) (r : Result (List HeadSeries) Refusal) (at : ℕ) → ExtendsIn sets r → ExtendsIn sets (head_added_each floor r at xs)
+each_extends floor sets [] r at h = h
+each_extends floor sets (x ∷ xs) (Err e) at h = tt
+each_extends floor sets (x ∷ xs) (Ok head) at h = each_extends floor sets xs (head_added floor head at x) (at + 1) (further (head_added floor head at x) (step_extends floor head at x))
   where
     further : (r : Result (List HeadSeries) Refusal) → ExtendsIn (sets_of head) r → ExtendsIn sets r
     further (Ok new) g = extends_through sets (sets_of head) (sets_of new) h g
     further (Err e) g = tt
 
 -- a batch leaves the label sets where they are
-pub batch_extends : (most : Limits) (floor : ℤ) (head : List HeadSeries) (xs : List (Labels × (ℤ × ℤ))) (new : List HeadSeries) → head_added_each most floor (Ok head) 0 xs ≡ Ok new → Extends (sets_of head) (sets_of new)
-batch_extends most floor head xs new is = subst (ExtendsIn (sets_of head)) is (each_extends most floor (sets_of head) xs (Ok head) 0 (same_extends (sets_of head)))
+pub batch_extends : (floor : ℤ) (head : List HeadSeries) (xs : List (Labels × (ℤ × ℤ))) (new : List HeadSeries) → head_added_each floor (Ok head) 0 xs ≡ Ok new → Extends (sets_of head) (sets_of new)
+batch_extends floor head xs new is = subst (ExtendsIn (sets_of head)) is (each_extends floor (sets_of head) xs (Ok head) 0 (same_extends (sets_of head)))
 
 -- heads of the same label sets are labelled alike
 labelled_alike : (n : ℕ) (a b : List HeadSeries) → sets_of a ≡ sets_of b → labelled (numbered n a) ≡ labelled (numbered n b)

@@ -11,7 +11,7 @@ use Rattle.labels.specs.Rows.{Row}
 use Rattle.labels.specs.Parts.{references, AreDistinct, IsPart, row_at}
 use Rattle.labels.proofs.Times.{true_not_false}
 use Rattle.head.specs.Refusals.{Refusal, out_of_bounds, out_of_order, duplicate, limit}
-use Rattle.head.specs.Limits.{Limits}
+use Rattle.head.specs.Limits.{max_series, max_samples}
 use Rattle.head.specs.Heads.{HeadSeries, numbered, head_part, series_at, IsSoundHead}
 use Rattle.head.specs.Taking.{extended, grown, head_added, head_added_after, head_added_each}
 
@@ -94,37 +94,37 @@ length-extended l s [] = refl
 length-extended l s (h ∷ hs) = cond_length (same_labels l h.labels) l s h hs (length-extended l s hs)
 
 -- no more series than the limit
-abbrev pub IsFew : Limits → Result (List HeadSeries) Refusal → Type 0
-IsFew most (Ok head) = length head ≤ most.series
-IsFew most (Err e) = Unit {0}
+abbrev pub IsFew : Result (List HeadSeries) Refusal → Type 0
+IsFew (Ok head) = length head ≤ max_series
+IsFew (Err e) = Unit {0}
 
-few_if : (most : Limits) (b : Bool) (e : Refusal) (r : Result (List HeadSeries) Refusal) → (b ≡ false → IsFew most r) → IsFew most (if b then Err e else r)
-few_if most true e r h = tt
-few_if most false e r h = h refl
+few_if : (b : Bool) (e : Refusal) (r : Result (List HeadSeries) Refusal) → (b ≡ false → IsFew r) → IsFew (if b then Err e else r)
+few_if true e r h = tt
+few_if false e r h = h refl
 
-few_after : (most : Limits) (head : List HeadSeries) (at : ℕ) (l : Labels) (s : ℤ × ℤ) (o : Option HeadSeries) → series_at l head ≡ o → length head ≤ most.series → IsFew most (head_added_after most head at l s o)
-few_after most head at l s None is few =
-    few_if most (nat_le most.series (length head)) limit (Ok (extended l s head))
-    (λ e. let below = leb-false most.series (length head) e in let more = length-extended l s head in let by = ap more_by is in omega arith)
-few_after most head at l s (Some h) is few =
-    few_if most (int_lt s.0 h.newest.0) (out_of_order at) _ (λ _.
-    elim (int_eq s.0 h.newest.0) as (λ b. IsFew most (if b then (if int_eq s.1 h.newest.1 then Ok head else Err (duplicate at)) else if nat_le most.samples (length h.samples) then Err limit else Ok (extended l s head))) [
-      | true ↦ elim (int_eq s.1 h.newest.1) as (λ b. IsFew most (if b then Ok head else Err (duplicate at))) [ true ↦ few | false ↦ tt ]
-      | false ↦ few_if most (nat_le most.samples (length h.samples)) limit (Ok (extended l s head)) (λ _. let more = length-extended l s head in let by = ap more_by is in omega arith)
+few_after : (head : List HeadSeries) (at : ℕ) (l : Labels) (s : ℤ × ℤ) (o : Option HeadSeries) → series_at l head ≡ o → length head ≤ max_series → IsFew (head_added_after head at l s o)
+few_after head at l s None is few =
+    few_if (nat_le max_series (length head)) limit (Ok (extended l s head))
+    (λ e. let below = leb-false max_series (length head) e in let more = length-extended l s head in let by = ap more_by is in omega arith)
+few_after head at l s (Some h) is few =
+    few_if (int_lt s.0 h.newest.0) (out_of_order at) _ (λ _.
+    elim (int_eq s.0 h.newest.0) as (λ b. IsFew (if b then (if int_eq s.1 h.newest.1 then Ok head else Err (duplicate at)) else if nat_le max_samples (length h.samples) then Err limit else Ok (extended l s head))) [
+      | true ↦ elim (int_eq s.1 h.newest.1) as (λ b. IsFew (if b then Ok head else Err (duplicate at))) [ true ↦ few | false ↦ tt ]
+      | false ↦ few_if (nat_le max_samples (length h.samples)) limit (Ok (extended l s head)) (λ _. let more = length-extended l s head in let by = ap more_by is in omega arith)
     ])
 
-few_added : (most : Limits) (floor : ℤ) (head : List HeadSeries) (at : ℕ) (x : Labels × (ℤ × ℤ)) → length head ≤ most.series → IsFew most (head_added most floor head at x)
+few_added : (floor : ℤ) (head : List HeadSeries) (at : ℕ) (x : Labels × (ℤ × ℤ)) → length head ≤ max_series → IsFew (head_added floor head at x)
 unfolding head_added
-few_added most floor head at x few = few_if most (int_lt x.1.0 floor) (out_of_bounds at) _ (λ _. few_after most head at x.0 x.1 (series_at x.0 head) refl few)
+few_added floor head at x few = few_if (int_lt x.1.0 floor) (out_of_bounds at) _ (λ _. few_after head at x.0 x.1 (series_at x.0 head) refl few)
 
-pub few_each : (most : Limits) (floor : ℤ) (r : Result (List HeadSeries) Refusal) (at : ℕ) (xs : List (Labels × (ℤ × ℤ))) → IsFew most r → IsFew most (head_added_each most floor r at xs)
-few_each most floor r at [] few = few
-few_each most floor (Err e) at (x ∷ xs) few = tt
-few_each most floor (Ok head) at (x ∷ xs) few = few_each most floor (head_added most floor head at x) (at + 1) xs (few_added most floor head at x few)
+pub few_each : (floor : ℤ) (r : Result (List HeadSeries) Refusal) (at : ℕ) (xs : List (Labels × (ℤ × ℤ))) → IsFew r → IsFew (head_added_each floor r at xs)
+few_each floor r at [] few = few
+few_each floor (Err e) at (x ∷ xs) few = tt
+few_each floor (Ok head) at (x ∷ xs) few = few_each floor (head_added floor head at x) (at + 1) xs (few_added floor head at x few)
 
 -- a batch leaves no more series than the limit
-pub few_after_batch : (most : Limits) (floor : ℤ) (head : List HeadSeries) (at : ℕ) (xs : List (Labels × (ℤ × ℤ))) (new : List HeadSeries) → length head ≤ most.series → head_added_each most floor (Ok head) at xs ≡ Ok new → length new ≤ most.series
-few_after_batch most floor head at xs new few is = subst (IsFew most) is (few_each most floor (Ok head) at xs few)
+pub few_after_batch : (floor : ℤ) (head : List HeadSeries) (at : ℕ) (xs : List (Labels × (ℤ × ℤ))) (new : List HeadSeries) → length head ≤ max_series → head_added_each floor (Ok head) at xs ≡ Ok new → length new ≤ max_series
+few_after_batch floor head at xs new few is = subst IsFew is (few_each floor (Ok head) at xs few)
 
 -- a reference below the first
 row_at-below : (r n : ℕ) (hs : List HeadSeries) → r < n → row_at r (numbered n hs) ≡ None

@@ -8,7 +8,7 @@ use Rattle.head.specs.declared.error.CommitError.TheVariants.{OutOfBounds, OutOf
 use Rattle.head.specs.Outcomes.{IsStepRefusal}
 use Rattle.labels.specs.Labels.{Labels, same_labels}
 use Rattle.head.specs.Refusals.{Refusal, out_of_bounds, out_of_order, duplicate, limit}
-use Rattle.head.specs.Limits.{Limits, most}
+use Rattle.head.specs.Limits.{max_series, max_samples}
 use Rattle.head.specs.Heads.{HeadSeries, series_at}
 use Rattle.head.specs.Taking.{grown, extended, place_from, series_added, new_added, head_added, head_added_after, with_series}
 use Rattle.labels.proofs.Times.{true_not_false}
@@ -67,33 +67,33 @@ same_place i k e = omega arith
 pub stands_at : (l : Labels) (head : List HeadSeries) (i : ℕ) → place_from l 0 head ≡ Some i → Stands l head i
 stands_at l head i e = let r = stands l 0 head i e in subst (Stands l head) (same_place i r.0 r.1) r.2
 
-pub head_added-series_added : (most : Limits) (head : List HeadSeries) (at : ℕ) (l : Labels) (s : ℤ × ℤ) (k : ℕ) (d : HeadSeries) → Stands l head k →
-    head_added_after most head at l s (series_at l head) ≡ with_series head k (series_added most at s (slice_index_or head k d))
-head_added-series_added most head at l s k d st =
+pub head_added-series_added : (head : List HeadSeries) (at : ℕ) (l : Labels) (s : ℤ × ℤ) (k : ℕ) (d : HeadSeries) → Stands l head k →
+    head_added_after head at l s (series_at l head) ≡ with_series head k (series_added at s (slice_index_or head k d))
+head_added-series_added head at l s k d st =
     let h = slice_index_or head k d in
-    ap (head_added_after most head at l s) (st.found d)
-    ∙ elim (int_lt s.0 h.newest.0) as (λ a. (if a then Err (out_of_order at) else if int_eq s.0 h.newest.0 then (if int_eq s.1 h.newest.1 then Ok head else Err (duplicate at)) else if nat_le most.samples (length h.samples) then Err limit else Ok (extended l s head))
-    ≡ with_series head k (if a then Err (out_of_order at) else if int_eq s.0 h.newest.0 then (if int_eq s.1 h.newest.1 then Ok h else Err (duplicate at)) else if nat_le most.samples (length h.samples) then Err limit else Ok (grown s h))) [
+    ap (head_added_after head at l s) (st.found d)
+    ∙ elim (int_lt s.0 h.newest.0) as (λ a. (if a then Err (out_of_order at) else if int_eq s.0 h.newest.0 then (if int_eq s.1 h.newest.1 then Ok head else Err (duplicate at)) else if nat_le max_samples (length h.samples) then Err limit else Ok (extended l s head))
+    ≡ with_series head k (if a then Err (out_of_order at) else if int_eq s.0 h.newest.0 then (if int_eq s.1 h.newest.1 then Ok h else Err (duplicate at)) else if nat_le max_samples (length h.samples) then Err limit else Ok (grown s h))) [
       | true ↦ refl
-      | false ↦ elim (int_eq s.0 h.newest.0) as (λ a. (if a then (if int_eq s.1 h.newest.1 then Ok head else Err (duplicate at)) else if nat_le most.samples (length h.samples) then Err limit else Ok (extended l s head))
-          ≡ with_series head k (if a then (if int_eq s.1 h.newest.1 then Ok h else Err (duplicate at)) else if nat_le most.samples (length h.samples) then Err limit else Ok (grown s h))) [
+      | false ↦ elim (int_eq s.0 h.newest.0) as (λ a. (if a then (if int_eq s.1 h.newest.1 then Ok head else Err (duplicate at)) else if nat_le max_samples (length h.samples) then Err limit else Ok (extended l s head))
+          ≡ with_series head k (if a then (if int_eq s.1 h.newest.1 then Ok h else Err (duplicate at)) else if nat_le max_samples (length h.samples) then Err limit else Ok (grown s h))) [
             | true ↦ elim (int_eq s.1 h.newest.1) as (λ a. (if a then Ok head else Err (duplicate at)) ≡ with_series head k (if a then Ok h else Err (duplicate at))) [
               | true ↦ ap Ok (sym (st.keeps d))
               | false ↦ refl
             ]
-            | false ↦ elim (nat_le most.samples (length h.samples)) as (λ a. (if a then Err limit else Ok (extended l s head)) ≡ with_series head k (if a then Err limit else Ok (grown s h))) [
+            | false ↦ elim (nat_le max_samples (length h.samples)) as (λ a. (if a then Err limit else Ok (extended l s head)) ≡ with_series head k (if a then Err limit else Ok (grown s h))) [
               | true ↦ refl
               | false ↦ ap Ok (sym (st.sets d s))
             ]
           ]
     ]
 
-pub head_added-new_added : (most : Limits) (head : List HeadSeries) (at : ℕ) (l : Labels) (s : ℤ × ℤ) → place_from l 0 head ≡ None →
-    head_added_after most head at l s (series_at l head) ≡ new_added most l s head
-head_added-new_added most head at l s e =
+pub head_added-new_added : (head : List HeadSeries) (at : ℕ) (l : Labels) (s : ℤ × ℤ) → place_from l 0 head ≡ None →
+    head_added_after head at l s (series_at l head) ≡ new_added l s head
+head_added-new_added head at l s e =
     let is = missing_place l 0 head 0 e s in
-    ap (head_added_after most head at l s) is.0
-    ∙ ap (λ (ts : List HeadSeries). if nat_le most.series (length head) then Err limit else Ok ts) is.1
+    ap (head_added_after head at l s) is.0
+    ∙ ap (λ (ts : List HeadSeries). if nat_le max_series (length head) then Err limit else Ok ts) is.1
 
 answer_with : (e : CommitError) (head : List HeadSeries) (k : ℕ) (r : Result HeadSeries Refusal) → IsStepRefusal e r → IsStepRefusal e (with_series head k r)
 answer_with (OutOfBounds n) head k r is = ap (with_series head k) is
@@ -117,20 +117,20 @@ pub same_outcome : {V : Type 0} (res : Result V CommitError) (new : List HeadSer
 same_outcome res new r q e is = subst (λ k. MatchResult res (λ _. k ≡ Ok new) (λ f. IsStepRefusal f k)) (sym e) is
 
 -- a time that is not below the floor
-pub head_added-inside : (most : Limits) (floor : ℤ) (head : List HeadSeries) (at : ℕ) (l : Labels) (s : ℤ × ℤ) → int_lt s.0 floor ≡ false →
-    head_added most floor head at (l, s) ≡ head_added_after most head at l s (series_at l head)
+pub head_added-inside : (floor : ℤ) (head : List HeadSeries) (at : ℕ) (l : Labels) (s : ℤ × ℤ) → int_lt s.0 floor ≡ false →
+    head_added floor head at (l, s) ≡ head_added_after head at l s (series_at l head)
 unfolding head_added
-head_added-inside most floor head at l s e = ap (λ b. if b then Err (out_of_bounds at) else head_added_after most head at l s (series_at l head)) e
+head_added-inside floor head at l s e = ap (λ b. if b then Err (out_of_bounds at) else head_added_after head at l s (series_at l head)) e
 
 -- a label set that the head has not, where there is no room for one more series, and where there is
-pub new_full : (l : Labels) (s : ℤ × ℤ) (head : List HeadSeries) → most.series ≤ length head → new_added most l s head ≡ Err limit
-new_full l s head full = ap (λ b. if b then Err limit else Ok (head ++ record { labels = l; samples = s ∷ []; newest = s } ∷ [])) (at_most most.series (length head) full)
+pub new_full : (l : Labels) (s : ℤ × ℤ) (head : List HeadSeries) → max_series ≤ length head → new_added l s head ≡ Err limit
+new_full l s head full = ap (λ b. if b then Err limit else Ok (head ++ record { labels = l; samples = s ∷ []; newest = s } ∷ [])) (at_most max_series (length head) full)
   where
     at_most : (a b : ℕ) → a ≤ b → nat_le a b ≡ true
     at_most a b h = grind (arith, nat_tests)
 
-pub new_taken : (l : Labels) (s : ℤ × ℤ) (head : List HeadSeries) → length head < most.series → new_added most l s head ≡ Ok (head ++ record { labels = l; samples = s ∷ []; newest = s } ∷ [])
-new_taken l s head room = ap (λ b. if b then Err limit else Ok (head ++ record { labels = l; samples = s ∷ []; newest = s } ∷ [])) (above most.series (length head) room)
+pub new_taken : (l : Labels) (s : ℤ × ℤ) (head : List HeadSeries) → length head < max_series → new_added l s head ≡ Ok (head ++ record { labels = l; samples = s ∷ []; newest = s } ∷ [])
+new_taken l s head room = ap (λ b. if b then Err limit else Ok (head ++ record { labels = l; samples = s ∷ []; newest = s } ∷ [])) (above max_series (length head) room)
   where
     above : (a b : ℕ) → b < a → nat_le a b ≡ false
     above a b h = grind (arith, nat_tests)

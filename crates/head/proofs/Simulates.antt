@@ -10,8 +10,8 @@ use Rattle.std.proofs.lemmas.Cmp.{int_cmp_total}
 use Rattle.labels.specs.Labels.{Labels, Point, labels_cmp, point_cmp, same_labels}
 use Rattle.labels.specs.Contents.{Content, held_from}
 use Rattle.head.specs.Refusals.{Refusal, out_of_bounds, out_of_order, duplicate, limit}
-use Rattle.head.specs.Limits.{Limits}
-use Rattle.head.specs.Worlds.{World, with_sample, with_sample_in_room, added_after, added, added_each, committed}
+use Rattle.head.specs.Limits.{max_series, max_samples}
+use Rattle.head.specs.Worlds.{World, with_sample, is_earlier, is_repeated, is_level, is_full, added, added_each, committed}
 use Rattle.labels.specs.Rows.{points_in}
 use Rattle.labels.specs.Parts.{laid_over, over}
 use Rattle.head.specs.Heads.{HeadSeries, newest_in, head_part, SnapshotParts, world_of, series_at, IsSoundSeries, IsSoundHead, IsSoundSnapshot}
@@ -174,53 +174,62 @@ or_false : (a b : Bool) → b ≡ false → (a || b) ≡ a
 or_false true b e = refl
 or_false false b e = e
 
-follows_after : (most : Limits) (s : SnapshotParts) (at : ℕ) (l : Labels) (x : ℤ × ℤ) → IsSoundSnapshot s → nat_le most.samples 0 ≡ false → most.samples ≤ 1048576 → int_lt x.0 s.floor ≡ false →
-    (o : Option HeadSeries) → series_at l s.head ≡ o → Follows s (added_after most (world_of s) at l x (known_of o)) (head_added_after most s.head at l x o)
+-- a sample that is not below the floor
+abbrev added_after : World → ℕ → Labels → ℤ × ℤ → Option (ℤ × ℤ) → Result World Refusal
+added_after w at l x newest =
+    if is_earlier x newest then Err (out_of_order at)
+    else if is_repeated x newest then Ok w
+    else if is_level x newest then Err (duplicate at)
+    else if is_full w l newest then Err limit
+    else Ok (with_sample w l x)
+
+follows_after : (s : SnapshotParts) (at : ℕ) (l : Labels) (x : ℤ × ℤ) → IsSoundSnapshot s → int_lt x.0 s.floor ≡ false →
+    (o : Option HeadSeries) → series_at l s.head ≡ o → Follows s (added_after (world_of s) at l x (known_of o)) (head_added_after s.head at l x o)
 unfolding world_of
-follows_after most s at l x sound room size above None is = joins s l x _ _
-    (ap (λ n. nat_le most.series (length (newest_in s.head)) || nat_le most.samples n) (held_from-world_of s l sound ∙ ap (λ o. length (samples_or o)) is)
-    ∙ or_false (nat_le most.series (length (newest_in s.head))) _ room
-    ∙ ap (nat_le most.series) (length-newest_in s.head))
+follows_after s at l x sound above None is = joins s l x _ _
+    (ap (λ n. nat_le max_series (length (newest_in s.head)) || nat_le max_samples n) (held_from-world_of s l sound ∙ ap (λ o. length (samples_or o)) is)
+    ∙ or_false (nat_le max_series (length (newest_in s.head))) _ refl
+    ∙ ap (nat_le max_series) (length-newest_in s.head))
     sound above (λ _. subst (IfSeries (IsNext x)) (sym is) tt)
-follows_after most s at l x sound room size above (Some h) is =
+follows_after s at l x sound above (Some h) is =
     elim (int_lt x.0 h.newest.0) as (λ a. int_lt x.0 h.newest.0 ≡ a → Follows s
-    (if a then Err (out_of_order at) else if int_eq x.0 h.newest.0 then (if int_eq x.1 h.newest.1 then Ok (world_of s) else Err (duplicate at)) else with_sample_in_room most (world_of s) l x (Some h.newest))
-    (if a then Err (out_of_order at) else if int_eq x.0 h.newest.0 then (if int_eq x.1 h.newest.1 then Ok s.head else Err (duplicate at)) else if nat_le most.samples (length h.samples) then Err limit else Ok (extended l x s.head))) [
+    (if a then Err (out_of_order at) else if int_eq x.0 h.newest.0 && int_eq x.1 h.newest.1 then Ok (world_of s) else if int_eq x.0 h.newest.0 then Err (duplicate at) else if is_full (world_of s) l (Some h.newest) then Err limit else Ok (with_sample (world_of s) l x))
+    (if a then Err (out_of_order at) else if int_eq x.0 h.newest.0 then (if int_eq x.1 h.newest.1 then Ok s.head else Err (duplicate at)) else if nat_le max_samples (length h.samples) then Err limit else Ok (extended l x s.head))) [
       | true ↦ λ p. (refl, tt)
       | false ↦ λ p. elim (int_eq x.0 h.newest.0) as (λ b. int_eq x.0 h.newest.0 ≡ b → Follows s
-          (if b then (if int_eq x.1 h.newest.1 then Ok (world_of s) else Err (duplicate at)) else with_sample_in_room most (world_of s) l x (Some h.newest))
-          (if b then (if int_eq x.1 h.newest.1 then Ok s.head else Err (duplicate at)) else if nat_le most.samples (length h.samples) then Err limit else Ok (extended l x s.head))) [
+          (if b && int_eq x.1 h.newest.1 then Ok (world_of s) else if b then Err (duplicate at) else if is_full (world_of s) l (Some h.newest) then Err limit else Ok (with_sample (world_of s) l x))
+          (if b then (if int_eq x.1 h.newest.1 then Ok s.head else Err (duplicate at)) else if nat_le max_samples (length h.samples) then Err limit else Ok (extended l x s.head))) [
             | true ↦ λ q. elim (int_eq x.1 h.newest.1) as (λ c. Follows s (if c then Ok (world_of s) else Err (duplicate at)) (if c then Ok s.head else Err (duplicate at))) [
               | true ↦ (refl, sound)
               | false ↦ (refl, tt)
             ]
-            | false ↦ λ q. joins s l x _ _ (ap (nat_le most.samples) (held_from-world_of s l sound ∙ ap (λ o. length (samples_or o)) is))
+            | false ↦ λ q. joins s l x _ _ (ap (nat_le max_samples) (held_from-world_of s l sound ∙ ap (λ o. length (samples_or o)) is))
                 sound above (λ left. subst (IfSeries (IsNext x)) (sym is)
-                (later x.0 h.newest.0 p q, let below = leb-false most.samples (length h.samples) left in omega (arith, below, size)))
+                (later x.0 h.newest.0 p q, let below = leb-false max_samples (length h.samples) left in omega (arith, below)))
           ] refl
     ] refl
 
 -- the step at a head is the step of its world
-pub follows : (most : Limits) (s : SnapshotParts) (at : ℕ) (x : Labels × (ℤ × ℤ)) → IsSoundSnapshot s → nat_le most.samples 0 ≡ false → most.samples ≤ 1048576 → Follows s (added most (world_of s) at x) (head_added most s.floor s.head at x)
+pub follows : (s : SnapshotParts) (at : ℕ) (x : Labels × (ℤ × ℤ)) → IsSoundSnapshot s → Follows s (added (world_of s) at x) (head_added s.floor s.head at x)
 unfolding world_of head_added
-follows most s at x sound room size =
+follows s at x sound =
     elim (int_lt x.1.0 s.floor) as (λ b. int_lt x.1.0 s.floor ≡ b → Follows s
-    (if b then Err (out_of_bounds at) else added_after most (world_of s) at x.0 x.1 (find labels_cmp x.0 (newest_in s.head)))
-    (if b then Err (out_of_bounds at) else head_added_after most s.head at x.0 x.1 (series_at x.0 s.head))) [
+    (if b then Err (out_of_bounds at) else added_after (world_of s) at x.0 x.1 (find labels_cmp x.0 (newest_in s.head)))
+    (if b then Err (out_of_bounds at) else head_added_after s.head at x.0 x.1 (series_at x.0 s.head))) [
       | true ↦ λ p. (refl, tt)
-      | false ↦ λ p. subst (λ k. Follows s (added_after most (world_of s) at x.0 x.1 k) (head_added_after most s.head at x.0 x.1 (series_at x.0 s.head)))
+      | false ↦ λ p. subst (λ k. Follows s (added_after (world_of s) at x.0 x.1 k) (head_added_after s.head at x.0 x.1 (series_at x.0 s.head)))
           (sym (find-newest_in x.0 s.head))
-          (follows_after most s at x.0 x.1 sound room size p (series_at x.0 s.head) refl)
+          (follows_after s at x.0 x.1 sound p (series_at x.0 s.head) refl)
     ] refl
 
 -- the steps of a batch
-pub follows_each : (most : Limits) (s : SnapshotParts) (at : ℕ) (xs : List (Labels × (ℤ × ℤ))) (r : Result World Refusal) (q : Result (List HeadSeries) Refusal) → nat_le most.samples 0 ≡ false → most.samples ≤ 1048576 →
-    Follows s r q → Follows s (added_each most r at xs) (head_added_each most s.floor q at xs)
-follows_each most s at [] r q room size f = f
-follows_each most s at (x ∷ xs) r (Err e) room size f = (ap (λ k. added_each most k at (x ∷ xs)) f.0, tt)
-follows_each most s at (x ∷ xs) r (Ok head) room size f =
-    let rest = follows_each most s (at + 1) xs (added most (world_of (record s { head = head })) at x) (head_added most s.floor head at x) room size (follows most (record s { head = head }) at x f.1 room size) in
-    (ap (λ k. added_each most k at (x ∷ xs)) f.0 ∙ rest.0, rest.1)
+pub follows_each : (s : SnapshotParts) (at : ℕ) (xs : List (Labels × (ℤ × ℤ))) (r : Result World Refusal) (q : Result (List HeadSeries) Refusal) →
+    Follows s r q → Follows s (added_each r at xs) (head_added_each s.floor q at xs)
+follows_each s at [] r q f = f
+follows_each s at (x ∷ xs) r (Err e) f = (ap (λ k. added_each k at (x ∷ xs)) f.0, tt)
+follows_each s at (x ∷ xs) r (Ok head) f =
+    let rest = follows_each s (at + 1) xs (added (world_of (record s { head = head })) at x) (head_added s.floor head at x) (follows (record s { head = head }) at x f.1) in
+    (ap (λ k. added_each k at (x ∷ xs)) f.0 ∙ rest.0, rest.1)
 
-pub follows_batch : (most : Limits) (s : SnapshotParts) (xs : List (Labels × (ℤ × ℤ))) → nat_le most.samples 0 ≡ false → most.samples ≤ 1048576 → IsSoundSnapshot s → Follows s (committed most (world_of s) xs) (head_added_each most s.floor (Ok s.head) 0 xs)
-follows_batch most s xs room size sound = follows_each most s 0 xs (Ok (world_of s)) (Ok s.head) room size (refl, sound)
+pub follows_batch : (s : SnapshotParts) (xs : List (Labels × (ℤ × ℤ))) → IsSoundSnapshot s → Follows s (committed (world_of s) xs) (head_added_each s.floor (Ok s.head) 0 xs)
+follows_batch s xs sound = follows_each s 0 xs (Ok (world_of s)) (Ok s.head) (refl, sound)

@@ -1,10 +1,9 @@
 -- Rows worked by hand, by computation: six series with a sample of their number at 10 and at 20, and what comes after. Names and
--- texts are shortened to one byte, and the limits are 100.
+-- texts are shortened to one byte.
 use Rattle.std.specs.Prelude.{◌≡◌, ℕ, zero, suc, ℤ, pos, Bool, true, List, [], ◌∷◌, ◌++◌, Result, Ok, Err, map, refl}
 use Rattle.labels.specs.Labels.{Labels, labels_cmp, same_labels}
 use Rattle.labels.specs.Contents.{Content, selected}
 use Rattle.labels.specs.Rows.{points_of}
-use Rattle.head.specs.Limits.{Limits}
 use Rattle.head.specs.Refusals.{Refusal, out_of_bounds, duplicate, cut_too_low}
 use Rattle.head.specs.Worlds.{World, Batch, Event, batch, replayed, committed, deleted, cut_at}
 
@@ -35,14 +34,11 @@ all = pair_of 1 ++ (pair_of 2 ++ (pair_of 3 ++ (pair_of 4 ++ (pair_of 5 ++ pair_
 abbrev opening : World
 opening = record { content = []; newest = []; floor = pos 0; blocks = 0 }
 
-abbrev most : Limits
-most = record { series = 100; samples = 100 }
-
 abbrev fits : Content → Bool
 fits c = true
 
 abbrev after : List Event → Result World Refusal
-after events = replayed most opening (batch all ∷ events)
+after events = replayed opening (batch all ∷ events)
 
 abbrev next : Result World Refusal → (World → Result World Refusal) → Result World Refusal
 next (Ok w) step = step w
@@ -71,15 +67,15 @@ second_is_refused : after (batch ((series 1, (pos 30, pos 7)) ∷ (series 2, (po
 unfolding labels_cmp
 second_is_refused = refl
 
-later_is_stored : selected is_a (pos 0) (pos 100) (content_or (next (next (after []) (λ w. Ok (deleted w is_a (pos 0) (pos 1000)))) (λ w. committed most w ((series 1, (pos 30, pos 5)) ∷ [])))) ≡ ((series 1, pos 30), pos 5) ∷ []
+later_is_stored : selected is_a (pos 0) (pos 100) (content_or (next (next (after []) (λ w. Ok (deleted w is_a (pos 0) (pos 1000)))) (λ w. committed w ((series 1, (pos 30, pos 5)) ∷ [])))) ≡ ((series 1, pos 30), pos 5) ∷ []
 unfolding labels_cmp
 later_is_stored = refl
 
-repeat_stays_deleted : selected is_a (pos 0) (pos 100) (content_or (next (next (after []) (λ w. Ok (deleted w is_a (pos 0) (pos 1000)))) (λ w. committed most w ((series 1, (pos 20, pos 1)) ∷ [])))) ≡ []
+repeat_stays_deleted : selected is_a (pos 0) (pos 100) (content_or (next (next (after []) (λ w. Ok (deleted w is_a (pos 0) (pos 1000)))) (λ w. committed w ((series 1, (pos 20, pos 1)) ∷ [])))) ≡ []
 unfolding labels_cmp
 repeat_stays_deleted = refl
 
-below_the_floor : next (next (after []) (λ w. cut_at fits w (pos 20))) (λ w. committed most w ((up, (pos 15, pos 1)) ∷ [])) ≡ Err (out_of_bounds 0)
+below_the_floor : next (next (after []) (λ w. cut_at fits w (pos 20))) (λ w. committed w ((up, (pos 15, pos 1)) ∷ [])) ≡ Err (out_of_bounds 0)
 unfolding labels_cmp
 below_the_floor = refl
 
@@ -87,7 +83,7 @@ cut_keeps_content : content_or (next (after []) (λ w. cut_at fits w (pos 20))) 
 unfolding labels_cmp
 cut_keeps_content = refl
 
-cut_keeps_newest : next (next (after []) (λ w. cut_at fits w (pos 20))) (λ w. committed most w ((series 1, (pos 20, pos 9)) ∷ [])) ≡ Err (duplicate 0)
+cut_keeps_newest : next (next (after []) (λ w. cut_at fits w (pos 20))) (λ w. committed w ((series 1, (pos 20, pos 9)) ∷ [])) ≡ Err (duplicate 0)
 unfolding labels_cmp
 cut_keeps_newest = refl
 

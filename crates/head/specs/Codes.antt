@@ -1,7 +1,7 @@
 -- The numbers of refusals, and their texts.
 use Rattle.std.specs.Prelude.{ℕ, List, ◌++◌, codes, decimal}
 use Rattle.head.specs.declared.error.AppendError.{AppendError}
-use Rattle.head.specs.declared.error.AppendError.TheVariants.{Full, TimeRange}
+use Rattle.head.specs.declared.error.AppendError.TheVariants.{Full, TimeRange, Memory as NoRoom}
 use Rattle.head.specs.declared.error.CommitError.{CommitError}
 use Rattle.head.specs.declared.error.CommitError.TheVariants.{OutOfBounds, OutOfOrder, Duplicate, Limit, CutTooLow, TooManyParts, Seat, Memory}
 
@@ -9,11 +9,13 @@ use Rattle.head.specs.declared.error.CommitError.TheVariants.{OutOfBounds, OutOf
 abbrev pub append_code : AppendError → List ℕ
 append_code Full = codes "A1"
 append_code TimeRange = codes "A2"
+append_code NoRoom = codes "memory"
 
 -- a refusal in a line, for people
 abbrev pub append_text : AppendError → List ℕ
 append_text Full = codes "A1: a batch has at most 4096 samples"
 append_text TimeRange = codes "A2: a time is from -2^62 to 2^62 - 1"
+append_text NoRoom = codes "no memory"
 
 -- the number of a refusal, as text
 abbrev pub commit_code : CommitError → List ℕ

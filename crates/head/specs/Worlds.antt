@@ -1,5 +1,5 @@
 -- The world, and the steps of events.
-use Rattle.std.specs.Prelude.{ℕ, ℤ, ◌+◌, Bool, not, ◌&&◌, ◌||◌, List, [], ◌∷◌, Option, None, Some, Result, Ok, Err, nat_le, int_lt, length, filter, if◌then◌else◌, is_none}
+use Rattle.std.specs.Prelude.{ℕ, ℤ, ◌+◌, Bool, false, not, ◌&&◌, ◌||◌, List, [], ◌∷◌, Option, None, Some, Result, Ok, Err, nat_le, int_lt, length, filter, if◌then◌else◌, is_none}
 use Rattle.std.specs.Ordering.{int_eq}
 use Rattle.std.specs.FinMap.Entries.{find, put}
 use Rattle.labels.specs.Labels.{Labels, point_cmp, labels_cmp, same_labels}
@@ -7,7 +7,7 @@ use Rattle.labels.specs.Contents.{Content, without, held_from, between}
 use Rattle.matchers.specs.Views.{MatcherView}
 use Rattle.matchers.specs.Satisfies.{satisfies_all}
 use Rattle.head.specs.Fits.{fits}
-use Rattle.head.specs.Limits.{Limits}
+use Rattle.head.specs.Limits.{max_series, max_samples}
 use Rattle.head.specs.Refusals.{Refusal, out_of_bounds, out_of_order, duplicate, limit, cut_too_low, too_many_parts}
 
 -- label sets, each with its newest committed sample, in order of creation
@@ -33,42 +33,53 @@ with_sample w l s =
       newest = with_newest l s w.newest;
     }
 
--- there is no room for one more sample of a label set, of which `known` is the newest
-abbrev pub is_full : Limits → World → Labels → Option (ℤ × ℤ) → Bool
-is_full most w l known =
-    (is_none known && nat_le most.series (length w.newest))
-    || nat_le most.samples (held_from w.floor l w.content)
+-- the sample is earlier than the newest one, if there is one; it is at its time; it is that sample
+abbrev pub is_earlier : ℤ × ℤ → Option (ℤ × ℤ) → Bool
+is_earlier s None = false
+is_earlier s (Some newest) = int_lt s.0 newest.0
 
--- the sample joins where there is room
-abbrev pub with_sample_in_room :
-    Limits → World → Labels → ℤ × ℤ → Option (ℤ × ℤ) → Result World Refusal
-with_sample_in_room most w l s known =
-    if is_full most w l known then Err limit else Ok (with_sample w l s)
+abbrev pub is_level : ℤ × ℤ → Option (ℤ × ℤ) → Bool
+is_level s None = false
+is_level s (Some newest) = int_eq s.0 newest.0
 
--- by the newest sample of its label set
-abbrev pub added_after : Limits → World → ℕ → Labels → ℤ × ℤ → Option (ℤ × ℤ) → Result World Refusal
-added_after most w at l s None = with_sample_in_room most w l s None
-added_after most w at l s (Some known) =
-    if int_lt s.0 known.0 then Err (out_of_order at)
-    else if int_eq s.0 known.0 then (if int_eq s.1 known.1 then Ok w else Err (duplicate at))
-    else with_sample_in_room most w l s (Some known)
+abbrev pub is_repeated : ℤ × ℤ → Option (ℤ × ℤ) → Bool
+is_repeated s None = false
+is_repeated s (Some newest) = int_eq s.0 newest.0 && int_eq s.1 newest.1
+
+-- there is no room for one more sample of a label set with this newest one: the label set is new
+-- and one too many, or it has as many samples from the floor on as it may have
+abbrev pub is_full : World → Labels → Option (ℤ × ℤ) → Bool
+is_full w l newest =
+    (is_none newest && nat_le max_series (length w.newest))
+    || nat_le max_samples (held_from w.floor l w.content)
+
+-- A sample of a label set with this newest one, at its place in a batch. It is refused if it is
+-- below the floor (E1), or earlier than the newest one (E2). It changes nothing if it is the newest
+-- one. It is refused if it is at that one's time with another value (E3), or there is no room for
+-- it (E4). Else it joins.
+abbrev pub added_to : World → ℕ → Labels → ℤ × ℤ → Option (ℤ × ℤ) → Result World Refusal
+added_to w at l s newest =
+    if int_lt s.0 w.floor then Err (out_of_bounds at)
+    else if is_earlier s newest then Err (out_of_order at)
+    else if is_repeated s newest then Ok w
+    else if is_level s newest then Err (duplicate at)
+    else if is_full w l newest then Err limit
+    else Ok (with_sample w l s)
 
 -- one sample of a batch, which stands at this place
-abbrev pub added : Limits → World → ℕ → Labels × (ℤ × ℤ) → Result World Refusal
-added most w at x =
-    if int_lt x.1.0 w.floor then Err (out_of_bounds at)
-    else added_after most w at x.0 x.1 (find labels_cmp x.0 w.newest)
+abbrev pub added : World → ℕ → Labels × (ℤ × ℤ) → Result World Refusal
+added w at x = added_to w at x.0 x.1 (find labels_cmp x.0 w.newest)
 
 -- the samples in order, of which the first stands at this place; the first refused one refuses all
-abbrev pub added_each : Limits → Result World Refusal → ℕ → List (Labels × (ℤ × ℤ))
+abbrev pub added_each : Result World Refusal → ℕ → List (Labels × (ℤ × ℤ))
     → Result World Refusal
-added_each most r at [] = r
-added_each most (Err e) at (x ∷ xs) = Err e
-added_each most (Ok w) at (x ∷ xs) = added_each most (added most w at x) (at + 1) xs
+added_each r at [] = r
+added_each (Err e) at (x ∷ xs) = Err e
+added_each (Ok w) at (x ∷ xs) = added_each (added w at x) (at + 1) xs
 
 -- the step of a commit
-abbrev pub committed : Limits → World → List (Labels × (ℤ × ℤ)) → Result World Refusal
-committed most w batch = added_each most (Ok w) 0 batch
+abbrev pub committed : World → List (Labels × (ℤ × ℤ)) → Result World Refusal
+committed w batch = added_each (Ok w) 0 batch
 
 -- the step of a deletion
 abbrev pub deleted : World → (Labels → Bool) → ℤ → ℤ → World
@@ -115,17 +126,17 @@ matchers_of (deletion ms a b) = Some ms
 matchers_of (cut t) = None
 
 -- the step of an event
-abbrev pub stepped : Limits → World → Event → Result World Refusal
-stepped most w (batch xs) = committed most w xs
-stepped most w (deletion ms a b) = Ok (deleted w (satisfies_all ms) a b)
-stepped most w (cut t) = cut_at fits w t
+abbrev pub stepped : World → Event → Result World Refusal
+stepped w (batch xs) = committed w xs
+stepped w (deletion ms a b) = Ok (deleted w (satisfies_all ms) a b)
+stepped w (cut t) = cut_at fits w t
 
 -- events in order after a world; the first refused one refuses all
-abbrev pub replayed_from : Limits → Result World Refusal → List Event → Result World Refusal
-replayed_from most r [] = r
-replayed_from most (Err e) (x ∷ xs) = Err e
-replayed_from most (Ok w) (x ∷ xs) = replayed_from most (stepped most w x) xs
+abbrev pub replayed_from : Result World Refusal → List Event → Result World Refusal
+replayed_from r [] = r
+replayed_from (Err e) (x ∷ xs) = Err e
+replayed_from (Ok w) (x ∷ xs) = replayed_from (stepped w x) xs
 
 -- the world after events, each accepted
-abbrev pub replayed : Limits → World → List Event → Result World Refusal
-replayed most w events = replayed_from most (Ok w) events
+abbrev pub replayed : World → List Event → Result World Refusal
+replayed w events = replayed_from (Ok w) events

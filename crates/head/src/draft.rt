@@ -12,7 +12,6 @@ ghost use Rattle.head.specs.Taking.{head_added, head_added_each, added_at_place,
 ghost use Rattle.head.specs.Taking.{place_from};
 ghost use Rattle.head.specs.Orders.{sets_of, IsOrderOf, HasSet};
 ghost use Rattle.head.specs.Outcomes.{IsOutcome};
-ghost use Rattle.head.specs.Limits.{most};
 ghost use Rattle.head.specs.Slots.{Shared, Own, series_in, series_in_each, own_count, owned};
 ghost use Rattle.head.specs.Slots.{AllOwn, AddsNoOwnBut, series_at_place, slot_at, slots_from};
 ghost use Rattle.std.specs.Ordering.{nat_cmp};
@@ -207,7 +206,7 @@ fn add_known(
 ) -> Result<u64, CommitError>
     requires { place < length draft.old }
     ensures step { (d : HeadSeries) → IsOutcome result
-        (added_at_place most (series_in_each draft.old) place at sample d)
+        (added_at_place (series_in_each draft.old) place at sample d)
         (series_in_each draft.new) }
     ensures few { IfOk result (λ copied. copied < 120) }
     ensures labels { OnOk result (sets_of (series_in_each draft.new)
@@ -265,7 +264,7 @@ fn add_new(
     requires ordered { IsOrderOf order.old (series_in_each draft.old) }
     requires absent { place_from labels.now 0 (series_in_each draft.old) ≡ None }
     ensures step { IsOutcome result
-        (new_added most labels.now sample (series_in_each draft.old)) (series_in_each draft.new) }
+        (new_added labels.now sample (series_in_each draft.old)) (series_in_each draft.new) }
     ensures ordered { OnOk result (IsOrderOf order.new (series_in_each draft.new)) }
     ensures counted { OnOk result (owned draft.old ≤ owned draft.new) }
     ensures owners { OnOk result (AddsNoOwnBut labels.now draft.old draft.new) }
@@ -319,7 +318,7 @@ fn add(
 ) -> Result<u64, CommitError>
     requires { IsOrderOf order.old (series_in_each draft.old) }
     ensures step { IsOutcome result
-        (head_added most floor (series_in_each draft.old) at (labels.now, sample))
+        (head_added floor (series_in_each draft.old) at (labels.now, sample))
         (series_in_each draft.new) }
     ensures few { IfOk result (λ copied. copied < 120) }
     ensures ordered { OnOk result (IsOrderOf order.new (series_in_each draft.new)) }
@@ -353,7 +352,7 @@ pub(crate) fn add_each(
     requires ordered { IsOrderOf order.old (series_in_each draft.old) }
     requires few { length batch.now ≤ 4096 }
     ensures step { IsOutcome result
-        (head_added_each most floor (Ok (series_in_each draft.old)) 0 batch.now)
+        (head_added_each floor (Ok (series_in_each draft.old)) 0 batch.now)
         (series_in_each draft.new) }
     ensures ordered { OnOk result (IsOrderOf order.new (series_in_each draft.new)) }
     ensures counted { IfOk result

@@ -15,16 +15,19 @@ pub enum AppendError {
     Full,
     /// A2: the time is below -2^62 or above 2^62 - 1.
     TimeRange,
+    /// No memory.
+    Memory,
 }
 
 impl AppendError {
-    /// The number of the refusal.
+    /// The number of the refusal, or `memory`.
     pub fn code(self) -> &'static str
         ensures { result.now ≡ append_code self }
     {
         match self {
             AppendError::Full => "A1",
             AppendError::TimeRange => "A2",
+            AppendError::Memory => "memory",
         }
     }
 }
@@ -79,6 +82,7 @@ impl fmt::Display for AppendError {
         let text = match self {
             AppendError::Full => "A1: a batch has at most 4096 samples",
             AppendError::TimeRange => "A2: a time is from -2^62 to 2^62 - 1",
+            AppendError::Memory => "no memory",
         };
         write!(f, "{text}")
     }

@@ -8,7 +8,6 @@ ghost use Rattle.head.specs.Batches.{is_batch, set_count, CopiesFew};
 ghost use Rattle.head.specs.Kept.{KeepsBlocks};
 ghost use Rattle.head.specs.Worlds.{stepped, committed};
 ghost use Rattle.head.specs.Outcomes.{IsStepRefusal};
-ghost use Rattle.head.specs.Limits.{most};
 
 use crate::cut::cut_at;
 use crate::deletion::snapshot_without;
@@ -130,9 +129,9 @@ fn snapshot_with(
     batch: &[(LabelSet, Sample)],
 ) -> Result<Snapshot, CommitError>
     requires { IsTrue (is_batch batch.now) }
-    ensures ok { IfOk result (λ s. committed most (world_of at.now) batch.now ≡ Ok (world_of s)) }
+    ensures ok { IfOk result (λ s. committed (world_of at.now) batch.now ≡ Ok (world_of s)) }
     ensures refused { IfErr result (λ e.
-        IsStepRefusal e (committed most (world_of at.now) batch.now)) }
+        IsStepRefusal e (committed (world_of at.now) batch.now)) }
     ensures kept { IfOk result (λ s. s.blocks ≡ at.now.blocks) }
     ensures copied { IfOk result (λ s. s.copied ≤ 119 * set_count batch.now) }
 {
@@ -154,9 +153,9 @@ fn snapshot_with(
 /// reports at most 119 copied samples for each of its label sets and keeps the blocks; a cut keeps
 /// the blocks too, and adds at most one. A refusal leaves no trace.
 pub fn apply(alloc: Global, at: &Snapshot, event: &Event) -> Result<Snapshot, CommitError>
-    ensures ok { IfOk result (λ s. stepped most (world_of at.now) event.now ≡ Ok (world_of s)) }
+    ensures ok { IfOk result (λ s. stepped (world_of at.now) event.now ≡ Ok (world_of s)) }
     ensures refused { IfErr result (λ e.
-        IsStepRefusal e (stepped most (world_of at.now) event.now)) }
+        IsStepRefusal e (stepped (world_of at.now) event.now)) }
     ensures kept { IfOk result (λ s. KeepsBlocks event.now at.now s.blocks) }
     ensures copied { IfOk result (λ s. CopiesFew event.now s.copied) }
 {

@@ -8,7 +8,6 @@ use Rattle.labels.specs.Labels.{Labels}
 use Rattle.labels.specs.Contents.{is_time}
 use Rattle.head.specs.declared.error.AppendError.TheVariants.{Full, TimeRange}
 use Rattle.head.specs.declared.error.CommitError.{CommitError}
-use Rattle.head.specs.Limits.{most}
 use Rattle.head.specs.Worlds.{World, Batch, Event, batch, batch_of, stepped}
 use Rattle.history.specs.declared.reply.Reply.{Reply}
 use Rattle.history.specs.declared.reply.Reply.TheVariants.{Done, NotAppended, Refused}
@@ -102,7 +101,7 @@ module _ (w : World) (old left new : Buffers) (actor : ℕ)
 
   -- a batch that was refused is the buffer again
   pub refused_step : (own samples : Batch) (event : Event) (error : CommitError) → own ≡ old actor
-      → event ≡ batch own → IsSettled (stepped most w event) (Err error)
+      → event ≡ batch own → IsSettled (stepped w event) (Err error)
       → batch_of event ≡ Some samples → new ≡ with_buffer actor samples left → IsStep (record {
         world = w;
         buffers = old;
@@ -113,8 +112,8 @@ module _ (w : World) (old left new : Buffers) (actor : ℕ)
       let samples_is : samples ≡ own = cc in
       is_step m (record { world = w; buffers = new }) (commit actor) (Refused error)
       (refused settles.0, m)
-      (ap (settled m (with_buffer actor [] old)) (ap (λ xs. stepped most w (batch xs)) (sym own_is)
-      ∙ ap (stepped most w) (sym is)
+      (ap (settled m (with_buffer actor [] old)) (ap (λ xs. stepped w (batch xs)) (sym own_is)
+      ∙ ap (stepped w) (sym is)
       ∙ settles.1))
       (settles.0, refl, settles.2)
       (ap (λ (b : Buffers). record { world = w; buffers = b })

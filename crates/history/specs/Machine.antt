@@ -6,7 +6,6 @@ use Rattle.labels.specs.Contents.{Content, is_time}
 use Rattle.matchers.specs.Queries.{selected_by}
 use Rattle.head.specs.declared.error.AppendError.{AppendError}
 use Rattle.head.specs.declared.error.AppendError.TheVariants.{Full, TimeRange}
-use Rattle.head.specs.Limits.{most}
 use Rattle.head.specs.Refusals.{Refusal}
 use Rattle.head.specs.Worlds.{World, Batch, batch, stepped}
 use Rattle.history.specs.Steps.{Step, append, commit, change, query}
@@ -52,8 +51,8 @@ settled m buffers (Err e) = (refused e, m)
 abbrev pub machine_step : Machine → Step → Outcome × Machine
 machine_step m (append actor l s) = appended m actor l s
 machine_step m (commit actor) =
-    settled m (with_buffer actor [] m.buffers) (stepped most m.world (batch (m.buffers actor)))
-machine_step m (change actor event) = settled m m.buffers (stepped most m.world event)
+    settled m (with_buffer actor [] m.buffers) (stepped m.world (batch (m.buffers actor)))
+machine_step m (change actor event) = settled m m.buffers (stepped m.world event)
 machine_step m (query actor q) = (found (selected_by q m.world.content), m)
 
 -- what each step comes to

@@ -3,7 +3,6 @@
 ghost use Rattle.std.specs.Prelude.{◌≡◌, ℕ, IfOk};
 ghost use Rattle.std.specs.List.{AllZip};
 ghost use Rattle.head.specs.Heads.{world_of};
-ghost use Rattle.head.specs.Limits.{most};
 ghost use Rattle.head.specs.Worlds.{World, stepped};
 ghost use Rattle.history.specs.Machine.{started, machine_replies};
 ghost use Rattle.history.specs.Replies.{TellsOutcome, IsSettled, IsStep, machine_at, world_after};
@@ -23,7 +22,7 @@ fn take_event(
     at: &Snapshot,
     event: &Event,
 ) -> Result<Result<Snapshot, CommitError>, AllocError>
-    ensures { IfOk result (IsSettled (stepped most (world_of at.now) event.now)) }
+    ensures { IfOk result (IsSettled (stepped (world_of at.now) event.now)) }
 {
     match apply(alloc, at, event) {
         Ok(next) => Ok(Ok(next)),

@@ -8,7 +8,7 @@ use labels::Row;
 pub enum Reply {
     /// The sample is in the actor's buffer, or the event was accepted.
     Done,
-    /// The sample is not taken, and the buffer is as it was.
+    /// The sample is not taken, and the buffer is as it was. It is never [`AppendError::Memory`].
     NotAppended(AppendError),
     /// The event is refused, and nothing has changed. It is never [`CommitError::Memory`].
     Refused(CommitError),

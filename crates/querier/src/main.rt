@@ -14,18 +14,9 @@ fn main(rt: HostRuntime) -> io::Result<ExitCode> {
     if !words.is_empty() {
         let _program = words.remove(0);
     }
-    let mut input = rt.reader();
     let (stdout, stderr) = (rt.stdout(), rt.stderr());
     let mut out = io::writer(&stdout);
     let mut err = io::writer(&stderr);
-    let ending = run(
-        &rt,
-        alloc,
-        &rt,
-        words.as_slice(),
-        &mut input,
-        &mut out,
-        &mut err,
-    );
+    let ending = run(&rt, alloc, &rt, words.as_slice(), &mut out, &mut err);
     Ok(ExitCode::from(ending.status))
 }

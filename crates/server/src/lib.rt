@@ -21,12 +21,14 @@
 #![tactic(auto)]
 
 mod connections;
+mod error;
 mod pool;
 mod socket;
 mod sockets;
 mod worker;
 
 pub use connections::Connections;
+pub use error::ServeError;
 pub use pool::{Terms, Workers, serve};
 pub use socket::{SocketReader, SocketWriter};
 pub use sockets::Sockets;

@@ -6,6 +6,7 @@ ghost use Rattle.head.specs.Blocks.{part_in, opening_of};
 ghost use Rattle.snapshots.specs.Seats.{IsRoom};
 ghost use Rattle.snapshots.specs.declared.error.OpenError.TheVariants.{BadPasses, Limit};
 
+use crate::error::ServeError;
 use crate::sockets::Sockets;
 use crate::worker::work;
 use block::Block;
@@ -13,8 +14,8 @@ use snapshots::{Committer, Naming, OpenError, Pass, Seat, Store};
 use std::alloc::{AllocError, Global};
 use std::marker::Model;
 use std::net::TcpListener;
-use std::sync::Wait;
-use std::thread::{Threads, map_vec};
+use std::sync::{Mutex, Wait};
+use std::thread::{self, Threads, map_vec};
 use std::time::{Clock, Duration};
 
 /// What is one worker's own.
@@ -117,9 +118,44 @@ fn work_at<J: Naming, C: Wait + Drop, R: Wait + Clock + Eprint>(
     )
 }
 
-/// Serves the connections of a listener until each worker has ended: how many each served.
+/// The counts of workers, if each has served as many connections as were asked for: a worker that
+/// served fewer has lost its listener.
+fn all_served(counts: Vec<u64>, requests: u64) -> Result<Vec<u64>, ServeError>
+    ensures same { IfOk result (λ all. all.items ≡ counts.items) }
+    ensures each { IfOk result (λ all. All (λ n. n ≡ requests) all.items) }
+{
+    if counts.iter().all(|count| *count == requests) {
+        Ok(counts)
+    } else {
+        Err(ServeError::NoListener)
+    }
+}
+
+/// Waits until the gate is open.
+fn wait_at(rt: &impl Wait, gate: &Mutex<()>) {
+    drop(gate.lock(rt));
+}
+
+/// Whether so many threads can be made, all at one time. They end before it does.
+fn can_make<R: Threads + Wait + Sync>(rt: &R, count: usize) -> bool {
+    let closed = Mutex::new(());
+    let gate = &closed;
+    thread::scope(thread::scope_env(), rt, |scope| {
+        let _held = gate.lock(rt);
+        for _ in 0..count {
+            if scope.spawn(move || wait_at(rt, gate)).is_err() {
+                return false;
+            }
+        }
+        true
+    })
+}
+
+/// Serves the connections of a listener until each worker has ended, each in a thread of its own:
+/// how many each served, which is as many as the terms ask for.
 ///
-/// Each worker has a thread of its own where one can be made; where none can, workers take turns.
+/// `NoThread` is answered before any connection is accepted, where so many threads cannot be made;
+/// `NoListener` where a worker has ended because there is no listener any more.
 pub fn serve<
     J: Naming + Send + Sync,
     C: Wait + Drop + Send + Sync,
@@ -130,17 +166,21 @@ pub fn serve<
     workers: Workers<J, C>,
     listener: &TcpListener,
     terms: Terms,
-) -> Result<Vec<u64>, AllocError>
+) -> Result<Vec<u64>, ServeError>
     ensures all { IfOk result (λ counts. vec_len counts ≡ workers) }
-    ensures few { IfOk result (λ counts. All (λ n. n ≤ terms.requests) counts.items) }
+    ensures each { IfOk result (λ counts. All (λ n. n ≡ terms.requests) counts.items) }
 {
     let Workers { committer, places } = workers;
+    if !can_make(rt, places.len()) {
+        return Err(ServeError::NoThread);
+    }
     let shared = &committer;
-    map_vec(
+    let counts = map_vec(
         rt,
         places,
         &|place: Place<J>| -> u64
             ensures { result ≤ terms.requests }
         { work_at(rt, alloc, listener, shared, place, terms) },
-    )
+    )?;
+    all_served(counts, terms.requests)
 }

@@ -170,10 +170,7 @@ impl<R: Clock + Eprint> Connections for Sockets<'_, R> {
             match self.try_accept() {
                 Ok(Some(connection)) => return Some(connection),
                 Ok(None) => {}
-                Err(_) => {
-                    self.tell("there is no listener any more");
-                    return None;
-                }
+                Err(_) => return None,
             }
         }
         None

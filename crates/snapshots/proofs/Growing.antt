@@ -10,12 +10,12 @@ use Rattle.head.specs.Heads.{SnapshotParts}
 use Rattle.snapshots.specs.declared.entry.Entry.{Entry}
 use Rattle.snapshots.specs.Marks.{list_of}
 use Rattle.snapshots.specs.Views.{Edition}
-use Rattle.snapshots.specs.Grows.{IsOf, Keeps, SeesList}
+use Rattle.snapshots.specs.Grows.{Shows, Keeps, SeesList}
 use Rattle.snapshots.proofs.Prefixes.{prefix_self, prefix_trans}
 
 module _ (book : Book) (opening : SnapshotParts) where
   pub rises : (seat : ℕ) (v : List Entry) (x y : Edition)
-      → IsPrefix (list_of x.marks) (list_of y.marks) → IsOf book opening y
+      → IsPrefix (list_of x.marks) (list_of y.marks) → Shows book opening y (list_of y.marks)
       → TurnsAt (Keeps book opening) seat v x y (SeesList book opening)
   rises seat v x y up of views h at = (
     list_of y.marks,
@@ -29,7 +29,7 @@ module _ (book : Book) (opening : SnapshotParts) where
           prefix_trans u (list_of x.marks) (list_of y.marks) (h.1 j u t.1) up)
           (at_set views seat j (list_of y.marks) u e)),
     ),
-    (prefix_trans v (list_of x.marks) (list_of y.marks) (h.1 seat v at) up, refl, of),
+    (of, prefix_trans v (list_of x.marks) (list_of y.marks) (h.1 seat v at) up),
   )
 
   pub enters : (seat : ℕ) (v : List Entry)
@@ -45,7 +45,8 @@ module _ (book : Book) (opening : SnapshotParts) where
         (at_snoc views [] v seat at),
   )
 
-  pub starts : (x : Edition) → IsOf book opening x → Keeps book opening x ([] ∷ [])
+  pub starts : (x : Edition) → Shows book opening x (list_of x.marks)
+      → Keeps book opening x ([] ∷ [])
   starts x of = (
     of,
     λ seat v at. ⊎_elim

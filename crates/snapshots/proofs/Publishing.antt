@@ -8,7 +8,7 @@ use Rattle.snapshots.specs.declared.entry.Mark.TheVariants.{Try, Done}
 use Rattle.snapshots.specs.Marks.{accepted, list_of}
 use Rattle.snapshots.specs.Replays.{IsAfter}
 use Rattle.snapshots.specs.Views.{Edition}
-use Rattle.snapshots.specs.Grows.{IsOf, Shows, MayFollow}
+use Rattle.snapshots.specs.Grows.{Shows, MayFollow}
 use Rattle.snapshots.proofs.Accepts.{accepted_done, accepted_try}
 
 abbrev pub edition : Book → List Mark → SnapshotParts → Edition
@@ -22,16 +22,21 @@ module _ (book : Book) (opening : SnapshotParts) (log tried : List Mark) (e : En
   list_y =
       ap (λ (z : Edition). list_of z.marks) y_is ∙ (ap list_of is_tried ∙ accepted_done None log e)
 
-  of_y : IsOf book opening y
-  of_y = (
+  -- the version shows this list, by whatever name
+  shows_y : (entries : List Entry) → accepted log ++ e ∷ [] ≡ entries → Shows book opening y entries
+  shows_y entries same = (
     ap (λ (z : Edition). z.book) y_is,
-    subst (λ (z : List Entry). IsAfter opening z y.parts) (sym list_y)
+    list_y ∙ same,
+    subst (λ (z : List Entry). IsAfter opening z y.parts) same
         (subst (λ (z : SnapshotParts). IsAfter opening (accepted log ++ e ∷ []) z)
         (sym (ap (λ (z : Edition). z.parts) y_is)) next),
   )
 
   pub may_publish : MayFollow book opening x y
-  may_publish = ((e ∷ [], ap (λ z. z ++ e ∷ []) shows.1 ∙ sym list_y), of_y)
+  may_publish = (
+    shows_y (list_of y.marks) (sym list_y),
+    (e ∷ [], ap (λ z. z ++ e ∷ []) shows.1 ∙ sym list_y),
+  )
 
   pub list_done : (done : List Mark) → done ≡ tried ++ Done ∷ []
       → accepted done ≡ accepted log ++ e ∷ []
@@ -40,13 +45,13 @@ module _ (book : Book) (opening : SnapshotParts) (log tried : List Mark) (e : En
 
   pub shows_done : (done : List Mark) → done ≡ tried ++ Done ∷ []
       → Shows book opening y (accepted done)
-  shows_done done is = (of_y, list_y ∙ sym (list_done done is))
+  shows_done done is = shows_y (accepted done) (sym (list_done done is))
 
   pub list_failed : accepted tried ≡ accepted log
   list_failed = ap accepted is_tried ∙ accepted_try None log e
 
   pub shows_failed : Shows book opening x (accepted tried)
-  shows_failed = (shows.0, shows.1 ∙ sym list_failed)
+  shows_failed = subst (λ z. Shows book opening x z) (sym list_failed) shows
 
 pub length_tried : (log tried : List Mark) (e : Entry) (n : ℕ)
     → tried ≡ log ++ Try e ∷ [] → n ≡ length (accepted log) + 1 → n ≡ length (list_of tried)

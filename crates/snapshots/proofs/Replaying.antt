@@ -5,7 +5,6 @@ use mathlib.Core.List.{IsPrefix}
 use Rattle.head.specs.Kept.{KeepsBlocks, frame_of}
 use Rattle.head.specs.Removing.{survives}
 use Rattle.head.proofs.Deleting.{frames_kept}
-use Rattle.head.specs.Limits.{most}
 use Rattle.head.specs.Refusals.{Refusal}
 use Rattle.head.specs.Worlds.{World, Event, batch, deletion, cut, stepped, replayed_from, replayed}
 use Rattle.head.specs.Heads.{BlockPart, SnapshotParts, world_of}
@@ -21,10 +20,10 @@ use Rattle.snapshots.specs.Views.{Edition, Ledger}
 use Rattle.snapshots.proofs.Prefixes.{prefix_self, prefix_trans}
 
 replayed_from-snoc : (r : Result World Refusal) (es : List Event) (e : Event) (v : World)
-    → replayed_from most r es ≡ Ok v → replayed_from most r (es ++ e ∷ []) ≡ stepped most v e
-replayed_from-snoc r [] e v is = ap (λ (s : Result World Refusal). replayed_from most s (e ∷ [])) is
+    → replayed_from r es ≡ Ok v → replayed_from r (es ++ e ∷ []) ≡ stepped v e
+replayed_from-snoc r [] e v is = ap (λ (s : Result World Refusal). replayed_from s (e ∷ [])) is
 replayed_from-snoc (Err x) (f ∷ es) e v is = absurd (cc is)
-replayed_from-snoc (Ok w) (f ∷ es) e v is = replayed_from-snoc (stepped most w f) es e v is
+replayed_from-snoc (Ok w) (f ∷ es) e v is = replayed_from-snoc (stepped w f) es e v is
 
 -- an event leaves the blocks that there were first, each with its frame
 keeps_frames : (event : Event) (s t : SnapshotParts)
@@ -62,7 +61,7 @@ after-snoc opening es e s t after step =
     let events : events_in (es ++ e ∷ []) ≡ events_in es ++ e.event ∷ [] =
     map_push (λ (x : Entry). x.event) es e in
     record {
-      replay = ap (replayed most (world_of opening)) events
+      replay = ap (replayed (world_of opening)) events
           ∙ (replayed_from-snoc (Ok (world_of opening)) (events_in es) e.event (world_of s)
           after.replay
           ∙ step.world);
@@ -78,9 +77,7 @@ pub after_shown : (book : Book) (opening : SnapshotParts) (x : Edition) (es : Li
     (e : Entry) (s t : SnapshotParts)
     → Shows book opening x es → s ≡ x.parts → Steps s e.event t → IsAfter opening (es ++ e ∷ []) t
 after_shown book opening x es e s t shows at step =
-    let here : IsAfter opening es x.parts =
-    subst (λ (z : List Entry). IsAfter opening z x.parts) shows.1 shows.0.1 in
-    after-snoc opening es e x.parts t here
+    after-snoc opening es e x.parts t shows.2
     (subst (λ (z : SnapshotParts). Steps z e.event t) at step)
 
 -- what refuses a step of a book refuses it after a list that the seat may meet

@@ -10,28 +10,23 @@ use Rattle.snapshots.specs.Marks.{list_of}
 use Rattle.snapshots.specs.Replays.{IsAfter}
 use Rattle.snapshots.specs.Views.{Edition}
 
--- the version is of this store, and its snapshot is what its list makes of the opening one
-abbrev pub IsOf : Book → SnapshotParts → Edition → Type 0
-IsOf book opening x = (x.book ≡ book) × IsAfter opening (list_of x.marks) x.parts
-
--- what each handle has seen is a prefix of the list of the published version
-abbrev pub AllBegin : Edition → List (List Entry) → Type 0
-AllBegin x views =
-    (seat : ℕ) (v : List Entry) → get_elem? views seat ≡ some v → IsPrefix v (list_of x.marks)
-
--- what every published version keeps
-abbrev pub Keeps : Book → SnapshotParts → Edition → List (List Entry) → Type 0
-Keeps book opening x views = IsOf book opening x × AllBegin x views
-
--- what is seen afterwards is the list of the version y, of which what was seen is a prefix
-abbrev pub SeesList : Book → SnapshotParts → List Entry → Edition → Edition → List Entry → Type 0
-SeesList book opening v x y w = IsPrefix v w × (w ≡ list_of y.marks) × IsOf book opening y
-
--- the version is of this store, and has this list
+-- the version is of this store, has this list, and its snapshot is what the list makes of the
+-- opening one
 abbrev pub Shows : Book → SnapshotParts → Edition → List Entry → Type 0
-Shows book opening x entries = IsOf book opening x × (list_of x.marks ≡ entries)
+Shows book opening x entries =
+    (x.book ≡ book) × (list_of x.marks ≡ entries) × IsAfter opening entries x.parts
 
--- the second version may follow the first: it is of this store, and the first one's list is a
--- prefix of its own
+-- every published version shows its list, and what each handle has seen is a prefix of that
+abbrev pub Keeps : Book → SnapshotParts → Edition → List (List Entry) → Type 0
+Keeps book opening x views =
+    Shows book opening x (list_of x.marks)
+    × ((seat : ℕ) (v : List Entry) → get_elem? views seat ≡ some v → IsPrefix v (list_of x.marks))
+
+-- the version y may follow x: it shows its list, of which that of x is a prefix
 abbrev pub MayFollow : Book → SnapshotParts → Edition → Edition → Type 0
-MayFollow book opening x y = IsPrefix (list_of x.marks) (list_of y.marks) × IsOf book opening y
+MayFollow book opening x y =
+    Shows book opening y (list_of y.marks) × IsPrefix (list_of x.marks) (list_of y.marks)
+
+-- a handle that had seen v has seen w, the list that the version y shows, of which v is a prefix
+abbrev pub SeesList : Book → SnapshotParts → List Entry → Edition → Edition → List Entry → Type 0
+SeesList book opening v x y w = Shows book opening y w × IsPrefix v w

@@ -1,21 +1,9 @@
 -- The numbers of refusals, and their texts.
 use Rattle.std.specs.Prelude.{ℕ, List, codes}
-use Rattle.head.specs.Codes.{append_code, append_text}
-use Rattle.head.specs.declared.error.AppendError.TheVariants.{Full, TimeRange}
-use Rattle.snapshots.specs.declared.error.NotAppended.{NotAppended}
-use Rattle.snapshots.specs.declared.error.NotAppended.TheVariants.{Refused, Memory as NoRoom}
 use Rattle.snapshots.specs.declared.error.OpenError.{OpenError}
 use Rattle.snapshots.specs.declared.error.OpenError.TheVariants.{BadPasses, Limit, Unavailable, Memory}
 use Rattle.snapshots.specs.declared.error.SnapshotError.{SnapshotError}
 use Rattle.snapshots.specs.declared.error.SnapshotError.TheVariants.{Unavailable as Unentered}
-
-abbrev pub not_appended_code : NotAppended → List ℕ
-not_appended_code (Refused error) = append_code error
-not_appended_code NoRoom = codes "memory"
-
-abbrev pub not_appended_text : NotAppended → List ℕ
-not_appended_text (Refused error) = append_text error
-not_appended_text NoRoom = codes "no memory"
 
 abbrev pub open_code : OpenError → List ℕ
 open_code BadPasses = codes "O2"
@@ -34,11 +22,3 @@ snapshot_code Unentered = codes "S1"
 
 abbrev pub snapshot_text : SnapshotError → List ℕ
 snapshot_text Unentered = codes "S1: the published version is not available"
-
--- the appender has as many samples as a batch may have
-abbrev pub full : NotAppended
-full = Refused Full
-
--- the sample is at no time
-abbrev pub untimed : NotAppended
-untimed = Refused TimeRange

@@ -3,7 +3,6 @@ use Rattle.std.specs.Prelude.{◌≡◌, ◌⊎◌, ℕ, List, [], ◌∷◌, �
 use mathlib.Core.List.{IsPrefix}
 use Rattle.head.specs.Batches.{CopiesFew}
 use Rattle.head.specs.Kept.{KeepsBlocks, frame_of}
-use Rattle.head.specs.Limits.{most}
 use Rattle.head.specs.Worlds.{Event, stepped, replayed}
 use Rattle.head.specs.Heads.{SnapshotParts, world_of}
 use Rattle.head.specs.Outcomes.{IsStepRefusal}
@@ -19,7 +18,7 @@ events_in entries = map (λ e. e.event) entries
 -- the event takes the snapshot to the other one: the world of that is the step's, its blocks are
 -- those that the event leaves, and few samples were copied for it
 pub record Steps (s : SnapshotParts) (event : Event) (t : SnapshotParts) : Type 0 where
-  pub world : stepped most (world_of s) event ≡ Ok (world_of t)
+  pub world : stepped (world_of s) event ≡ Ok (world_of t)
   pub kept : KeepsBlocks event s t.blocks
   pub copied : CopiesFew event t.copied
 
@@ -40,13 +39,13 @@ KeepsFrames s t = IsPrefix (map frame_of s.blocks) (map frame_of t.blocks)
 -- reached event by event, so before the first event it is the opening itself.
 pub record IsAfter (opening : SnapshotParts) (entries : List Entry)
     (s : SnapshotParts) : Type 0 where
-  pub replay : replayed most (world_of opening) (events_in entries) ≡ Ok (world_of s)
+  pub replay : replayed (world_of opening) (events_in entries) ≡ Ok (world_of s)
   pub blocks : KeepsFrames opening s
   pub reached : Leads opening (events_in entries) s
 
 -- the refusal is the seat's, or memory's, or exactly the one of the event's step on the snapshot
 abbrev pub IsEventRefusal : CommitError → SnapshotParts → Event → Type 0
-IsEventRefusal e s event = ¬ (e ≡ Seat) → IsStepRefusal e (stepped most (world_of s) event)
+IsEventRefusal e s event = ¬ (e ≡ Seat) → IsStepRefusal e (stepped (world_of s) event)
 
 -- the list ends with this event, under this number of a seat
 abbrev pub EndsWith : Event → ℕ → List Entry → Type 0
@@ -64,7 +63,7 @@ pub record IsRefusedOnceMet (opening : SnapshotParts) (seat : SeatView) (e : Com
   pub snapshot : SnapshotParts
   pub after : IsAfter opening before snapshot
   pub met : IsMetBy seat before
-  pub step : IsStepRefusal e (stepped most (world_of snapshot) event)
+  pub step : IsStepRefusal e (stepped (world_of snapshot) event)
 
 -- The refusal is one that a store can give, whatever others have published: the seat's or memory's,
 -- of which no more is said, or that of the event's step after a list that the seat may meet.

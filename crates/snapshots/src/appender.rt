@@ -4,9 +4,7 @@ ghost use Rattle.std.specs.Prelude.{◌≡◌, ◌<◌, ◌≤◌, ◌++◌, ◌
 ghost use Rattle.std.specs.Prelude.{IsTrue, IfErr, OnOk, OnErr, MatchResult};
 ghost use Rattle.labels.specs.Contents.{is_time};
 ghost use Rattle.head.specs.Worlds.{batch, batch_of};
-ghost use Rattle.snapshots.specs.Refusals.{full, untimed};
 
-use crate::error::NotAppended;
 use head::{AppendError, Event, MAX_BATCH};
 use labels::{LabelSet, Sample, is_time};
 use std::alloc::Global;
@@ -61,24 +59,25 @@ impl Appender {
         &mut self,
         labels: LabelSet,
         sample: Sample,
-    ) -> Result<(), (LabelSet, NotAppended)>
+    ) -> Result<(), (LabelSet, AppendError)>
         ensures added { OnOk result (self.new ≡ self.old ++ (labels, sample) ∷ []) }
         ensures kept { OnErr result (self.new ≡ self.old) }
         ensures returned { IfErr result (λ e. e.0 ≡ labels) }
         ensures full { MatchResult result (λ _. length self.old < 4096) (λ e.
-            (e.1 ≡ full) ↔ (4096 ≤ length self.old)) }
+            (e.1 ≡ AppendError.Full) ↔ (4096 ≤ length self.old)) }
         ensures time { MatchResult result (λ _. IsTrue (is_time sample.0)) (λ e.
-            (e.1 ≡ untimed) ↔ ((length self.old < 4096) × (is_time sample.0 ≡ false))) }
+            (e.1 ≡ AppendError.TimeRange)
+            ↔ ((length self.old < 4096) × (is_time sample.0 ≡ false))) }
     {
         if self.samples.len() >= MAX_BATCH {
-            return Err((labels, NotAppended::Refused(AppendError::Full)));
+            return Err((labels, AppendError::Full));
         }
         if !is_time(sample.t()) {
-            return Err((labels, NotAppended::Refused(AppendError::TimeRange)));
+            return Err((labels, AppendError::TimeRange));
         }
         match self.samples.push((labels, sample)) {
             Ok(()) => Ok(()),
-            Err(refused) => Err((refused.value.0, NotAppended::Memory)),
+            Err(refused) => Err((refused.value.0, AppendError::Memory)),
         }
     }
 

@@ -4,7 +4,6 @@ ghost use Rattle.std.specs.Prelude.{◌≡◌, ◌+◌, ◌++◌, ◌∷◌, ◌
 ghost use Rattle.std.specs.Prelude.{IfOk, IfErr, OnOk, OnErr, MatchBool};
 ghost use Rattle.head.specs.Outcomes.{IsStepRefusal};
 ghost use Rattle.head.specs.Heads.{world_of};
-ghost use Rattle.head.specs.Limits.{most};
 ghost use Rattle.head.specs.Worlds.{stepped};
 ghost use Rattle.std.specs.Arc.{arc_value};
 ghost use Rattle.snapshots.specs.Marks.{accepted};
@@ -42,7 +41,7 @@ fn fits<J: Naming>(counts: &Vec<u64>, seat: &Seat<J>) -> bool
 fn snapshot_after(alloc: Global, at: &Snapshot, event: &Event) -> Result<Arc<Snapshot>, CommitError>
     ensures ok { IfOk result (λ s. Steps at.now event.now (arc_value s)) }
     ensures refused { IfErr result (λ e.
-        IsStepRefusal e (stepped most (world_of at.now) event.now)) }
+        IsStepRefusal e (stepped (world_of at.now) event.now)) }
 {
     let snapshot = apply(alloc, at, event)?;
     match Arc::new(alloc, snapshot) {

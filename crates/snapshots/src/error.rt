@@ -1,48 +1,10 @@
-//! Why a sample is not appended, a store is not opened, or a snapshot is not had.
+//! Why a store is not opened, or a snapshot is not had.
 
 ghost use Rattle.std.specs.Prelude.{◌≡◌};
-ghost use Rattle.snapshots.specs.Refusals.{not_appended_code, open_code, snapshot_code};
+ghost use Rattle.snapshots.specs.Refusals.{open_code, snapshot_code};
 
-use head::AppendError;
 use std::error::Error;
 use std::fmt;
-
-/// Why an appender does not take a sample.
-#[derive(Clone, Copy, Debug, PartialEq, Eq, Drop)]
-pub enum NotAppended {
-    /// `A1` or `A2`.
-    Refused(AppendError),
-    /// No memory.
-    Memory,
-}
-
-impl NotAppended {
-    /// The number of the refusal, or `memory`.
-    pub fn code(self) -> &'static str
-        ensures { result.now ≡ not_appended_code self }
-    {
-        match self {
-            NotAppended::Refused(error) => error.code(),
-            NotAppended::Memory => "memory",
-        }
-    }
-}
-
-impl fmt::Display for NotAppended {
-    ghost use Rattle.std.specs.Prelude.{Some};
-    ghost use Rattle.snapshots.specs.Refusals.{not_appended_text};
-
-    ghost output = { λ error. Some (not_appended_text error) };
-
-    fn fmt<W: fmt::Write>(&self, f: &mut fmt::Formatter<W>) -> fmt::Result {
-        match self {
-            NotAppended::Refused(error) => write!(f, "{error}"),
-            NotAppended::Memory => write!(f, "no memory"),
-        }
-    }
-}
-
-impl Error for NotAppended {}
 
 /// Why a store is not opened.
 #[derive(Clone, Copy, Debug, PartialEq, Eq, Drop)]

@@ -52,7 +52,7 @@ pub use appender::Appender;
 pub use book::Book;
 pub use committer::Committer;
 pub use entry::{Entry, Mark};
-pub use error::{NotAppended, OpenError, SnapshotError};
+pub use error::{OpenError, SnapshotError};
 pub use naming::Naming;
 pub use pass::Pass;
 pub use receipt::Receipt;

@@ -76,6 +76,7 @@ impl<J: Naming> LogPrefix<J> {
             (IsPrefix (accepted self.now) (list_of seen.now.log)) (Unit {0}) }
         ensures near { IsTrue result ↔ (length self.now ≤ marks + 1) }
     {
+        // For the proof alone: both are prefixes of one log.
         let mut both = self.seen.again();
         both.learn(seen);
         self.marks.saturating_sub(marks) <= 1
@@ -86,6 +87,7 @@ impl<J: Naming> LogPrefix<J> {
         ensures begins { MatchBool result (IsPrefix other.now self.now) (Unit {0}) }
         ensures shorter { IsTrue result ↔ (length other.now ≤ length self.now) }
     {
+        // For the proof alone: both are prefixes of one log.
         let mut both = self.seen.again();
         both.learn(&other.seen);
         other.marks <= self.marks
@@ -96,6 +98,7 @@ impl<J: Naming> LogPrefix<J> {
         ensures this { IsPrefix self.now result }
         ensures that { IsPrefix other.now result }
     {
+        // For the proof alone: both are prefixes of one log.
         let mut both = self.seen.again();
         both.learn(&other.seen);
         if self.marks < other.marks {

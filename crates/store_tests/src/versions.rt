@@ -10,7 +10,7 @@ use crate::rows::{AFTER_BOTH, AFTER_FIRST, FIRST, SECOND, Wanted, is_text, set_o
 use head::AppendError;
 use labels::{LabelSet, MAX_TIME, MIN_TIME, Sample};
 use snapshots::{
-    Appender, Committer, Naming, NotAppended, OpenError, Pass, Receipt, Seat, SnapshotError, Store,
+    Appender, Committer, Naming, OpenError, Pass, Receipt, Seat, SnapshotError, Store,
 };
 use std::alloc::Global;
 use std::fmt::Display;
@@ -221,7 +221,7 @@ fn a_refused_batch_changes_nothing(rt: HostRuntime) {
 }
 
 /// The code of what is answered to a sample of this label set, which a refusal gives back.
-fn code_of(set: &LabelSet, answer: Result<(), (LabelSet, NotAppended)>) -> &'static str {
+fn code_of(set: &LabelSet, answer: Result<(), (LabelSet, AppendError)>) -> &'static str {
     match answer {
         Ok(()) => "ok",
         Err((labels, refusal)) if labels == *set => refusal.code(),
@@ -263,6 +263,6 @@ fn refusals_are_told(rt: HostRuntime) {
     assert_eq!(rt; SnapshotError::Unavailable.code(), "S1");
     let limit = "O3: a store is opened with at most 63 blocks";
     assert!(rt; is_told(alloc, &OpenError::Limit, limit));
-    let full = NotAppended::Refused(AppendError::Full);
-    assert!(rt; is_told(alloc, &full, "A1: a batch has at most 4096 samples"));
+    let full = "A1: a batch has at most 4096 samples";
+    assert!(rt; is_told(alloc, &AppendError::Full, full));
 }

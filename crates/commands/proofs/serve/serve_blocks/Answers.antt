@@ -1,7 +1,7 @@
 use Rattle.std.proofs.Common.{inl, inr, arith}
 use Rattle.std.proofs.lemmas.Result.{err_from_is_err_and}
 use Rattle.commands.proofs.LineEnds.{unused}
-use Rattle.commands.proofs.Servings.{not_opened, not_listened}
+use Rattle.commands.proofs.Servings.{not_opened, not_listened, ended_early}
 use Rattle.commands.proofs.serve.serve_blocks.Goals as goal
 
 pub returns-in_err-workers-clause-err : goal.returns-in_err-workers-clause-err
@@ -30,9 +30,9 @@ returns-in_err-tell_port-clause-err g c =
     c.from_residual-in_err-tell_port.ensures.1 in
     rw (p.1, p.2) (inl (c.in_err-tell_port.ensures.faults, c.in_err-tell_port.ensures.kept))
 
-pub returns-in_err-serve-clause-err : goal.returns-in_err-serve-clause-err
-returns-in_err-serve-clause-err g c =
+pub returns-in_err-counts-clause-err : goal.returns-in_err-counts-clause-err
+returns-in_err-counts-clause-err g c =
     let p =
-    err_from_is_err_and c.from_residual-in_err-serve.result
-    c.from_residual-in_err-serve.ensures.1 in
-    rw (p.1, p.2) (inr (c.in_ok-tell_port.ensures.ok, tt))
+    err_from_is_err_and c.from_residual-in_err-counts.result
+    c.from_residual-in_err-counts.ensures.1 in
+    rw (p.1, p.2) (inr (c.in_ok-tell_port.ensures.ok, ended_early _))

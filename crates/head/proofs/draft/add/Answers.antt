@@ -2,7 +2,6 @@ use Rattle.std.specs.Prelude.{◌≡◌, pos, T, List, [], false, None, Some, in
 use Rattle.std.proofs.Common.{rules, sym, ◌∙◌, subst, arith}
 use Rattle.labels.specs.Labels.{Labels}
 use Rattle.head.specs.Outcomes.{IsStepRefusal}
-use Rattle.head.specs.Limits.{most}
 use Rattle.head.specs.Slots.{series_in_each}
 use Rattle.head.specs.Heads.{HeadSeries}
 use Rattle.head.specs.Taking.{head_added, place_from}
@@ -32,8 +31,8 @@ returns-in-Some-clause-step c =
     let is : place_from c.args.labels.now 0 head ≡ Some c.in-Some.place = sym c.place_of.ensures ∙ c.in-Some.is in
     let st = stands_at c.args.labels.now head c.in-Some.place is in
     same_outcome c.add_known.result (series_in_each c.add_known.new.draft) _ _
-    (head_added-inside most c.args.floor head c.args.at c.args.labels.now c.args.sample inside
-    ∙ head_added-series_added most head c.args.at c.args.labels.now c.args.sample c.in-Some.place some st)
+    (head_added-inside c.args.floor head c.args.at c.args.labels.now c.args.sample inside
+    ∙ head_added-series_added head c.args.at c.args.labels.now c.args.sample c.in-Some.place some st)
     (c.add_known.ensures.step some)
 
 pub returns-in-Some-clause-ordered : goal.returns-in-Some-clause-ordered
@@ -55,8 +54,8 @@ returns-in-Ok-clause-step c =
     let head : List HeadSeries = series_in_each c.args.draft.now in
     let inside : int_lt c.args.sample.0 c.args.floor ≡ false = search rules in
     let is : place_from c.args.labels.now 0 head ≡ None = sym c.place_of.ensures ∙ c.in-None.is in
-    head_added-inside most c.args.floor head c.args.at c.args.labels.now c.args.sample inside
-    ∙ head_added-new_added most head c.args.at c.args.labels.now c.args.sample is
+    head_added-inside c.args.floor head c.args.at c.args.labels.now c.args.sample inside
+    ∙ head_added-new_added head c.args.at c.args.labels.now c.args.sample is
     ∙ c.in-Ok.ensures.step
 
 pub returns-in-Err-clause-step : goal.returns-in-Err-clause-step
@@ -65,6 +64,6 @@ returns-in-Err-clause-step c =
     let inside : int_lt c.args.sample.0 c.args.floor ≡ false = search rules in
     let is : place_from c.args.labels.now 0 head ≡ None = sym c.place_of.ensures ∙ c.in-None.is in
     subst (IsStepRefusal c.in-Err.refusal)
-    (sym (head_added-inside most c.args.floor head c.args.at c.args.labels.now c.args.sample inside
-    ∙ head_added-new_added most head c.args.at c.args.labels.now c.args.sample is))
+    (sym (head_added-inside c.args.floor head c.args.at c.args.labels.now c.args.sample inside
+    ∙ head_added-new_added head c.args.at c.args.labels.now c.args.sample is))
     c.in-Err.ensures.step

@@ -2,7 +2,6 @@ use Rattle.std.specs.Prelude.{◌≡◌, List, Ok, slice_set, slice_index_or}
 use Rattle.std.proofs.Common.{sym, ◌∙◌, ap, subst, refl, rules}
 use Rattle.std.proofs.lemmas.List.{map-set}
 use Rattle.head.specs.Heads.{HeadSeries}
-use Rattle.head.specs.Limits.{most}
 use Rattle.head.specs.Orders.{sets_of}
 use Rattle.head.specs.Slots.{Slot, Own, series_in, series_in_each, AllOwn}
 use Rattle.head.specs.Taking.{series_added, grown, with_series}
@@ -16,8 +15,8 @@ returns-in-Ok-clause-step c = λ d.
     let k = c.args.place in
     let h : HeadSeries = c.series-series.result.now in
     let is : h ≡ slice_index_or head k d = c.series-series.ensures d in
-    let step : series_added most c.args.at c.args.sample h ≡ Ok (grown c.args.sample h) = search rules in
-    ap (λ (x : HeadSeries). with_series head k (series_added most c.args.at c.args.sample x)) (sym is)
+    let step : series_added c.args.at c.args.sample h ≡ Ok (grown c.args.sample h) = search rules in
+    ap (λ (x : HeadSeries). with_series head k (series_added c.args.at c.args.sample x)) (sym is)
     ∙ ap (with_series head k) step
     ∙ ap Ok (ap (λ (x : HeadSeries). slice_set head k (grown c.args.sample x)) is ∙ sym (ap (λ (ss : List Slot). series_in_each ss) (c.in-Ok.ensures.grown d) ∙ map-set series_in slots k (Own (grown c.args.sample (slice_index_or head k d)))))
 

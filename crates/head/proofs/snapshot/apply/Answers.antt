@@ -2,7 +2,6 @@ use Rattle.std.proofs.Common.{◌≡◌, Ok, sym, ◌∙◌, ap, subst, rules, t
 use Rattle.head.specs.Heads.{SnapshotParts, world_of}
 use Rattle.head.specs.Kept.{KeepsBlocks}
 use Rattle.head.specs.Kinds.{change_of}
-use Rattle.head.specs.Limits.{most}
 use Rattle.head.specs.Removing.{snapshot_less, survives}
 use Rattle.head.specs.Worlds.{Event, deletion, stepped}
 use Rattle.head.proofs.Deleting.{deleted-world_of}
@@ -16,7 +15,7 @@ returns-in_ok-snapshot_without-in-Deletion-clause-ok c =
     let event_is : c.args.event.now ≡ deletion ms c.in-Deletion.from c.in-Deletion.to = sym c.kind.ensures.shown ∙ ap change_of c.in-Deletion.is in
     let made : c.in_ok-snapshot_without-in-Deletion.field-0 ≡ snapshot_less (survives ms c.in-Deletion.from c.in-Deletion.to) c.args.at.now =
     c.in_ok-snapshot_without-in-Deletion.ensures ∙ (λ i. snapshot_less (survives (c.as_slice-in-Deletion.ensures.value i) (from_is i) (to_is i)) c.args.at.now) in
-    ap (stepped most (world_of c.args.at.now)) event_is
+    ap (stepped (world_of c.args.at.now)) event_is
     ∙ ap Ok (sym (ap world_of made ∙ deleted-world_of ms c.in-Deletion.from c.in-Deletion.to c.args.at.now))
 
 pub returns-in_ok-snapshot_without-in-Deletion-clause-kept : goal.returns-in_ok-snapshot_without-in-Deletion-clause-kept

@@ -6,7 +6,7 @@ use Rattle.labels.specs.Parts.{IsPart}
 use Rattle.head.specs.Orders.{sets_of, Extends, IsOrderOf}
 use Rattle.head.proofs.Indexing.{batch_extends}
 use Rattle.head.specs.Outcomes.{IsStepRefusal}
-use Rattle.head.specs.Limits.{most}
+use Rattle.head.specs.Limits.{max_series}
 use Rattle.head.specs.Slots.{Slot, series_in_each, owned, AllOwn}
 use Rattle.head.specs.Snapshots.{parts_in}
 use Rattle.head.specs.Blocks.{part_in}
@@ -39,9 +39,9 @@ returns-in_err-copied-clause-refused c =
     let head_is : series_in_each c.new-draft.result ≡ s.head = ap (λ (ss : List Slot). series_in_each ss) c.new-draft.ensures ∙ series_shared c.in_ok-last.last ∙ last_is in
     let p = err_from_is_err_and c.from_residual-in_err-copied.result c.from_residual-in_err-copied.ensures.1 in
     rw (p.1, p.2)
-    (subst (λ (v : SnapshotParts). IsStepRefusal c.in_err-copied.field-0.0 (committed most (world_of v) c.args.batch.now)) c.at.view_is
+    (subst (λ (v : SnapshotParts). IsStepRefusal c.in_err-copied.field-0.0 (committed (world_of v) c.args.batch.now)) c.at.view_is
     (refused s c.args.batch.now c.in_err-copied.field-0.0 c.at.invariant
-    (subst (IsStepRefusal c.in_err-copied.field-0.0) (λ i. head_added_each most (floor_is i) (Ok (head_is i)) 0 c.args.batch.now) c.in_err-copied.ensures.step)))
+    (subst (IsStepRefusal c.in_err-copied.field-0.0) (λ i. head_added_each (floor_is i) (Ok (head_is i)) 0 c.args.batch.now) c.in_err-copied.ensures.step)))
 
 pub index_of-requires : goal.index_of-requires
 index_of-requires c =
@@ -49,13 +49,13 @@ index_of-requires c =
     let floor_is : to_z w64 (of_z w64 c.at.inside.floor) ≡ c.at.inside.floor = search rules in
     let last_is : c.in_ok-last.last ≡ s.head = c.in_ok-last.ensures ∙ c.series.ensures in
     let head_is : series_in_each c.new-draft.result ≡ s.head = ap (λ (ss : List Slot). series_in_each ss) c.new-draft.ensures ∙ series_shared c.in_ok-last.last ∙ last_is in
-    let is : head_added_each most s.floor (Ok s.head) 0 c.args.batch.now ≡ Ok (series_in_each c.add_each.new.draft) =
-    (λ i. head_added_each most (sym floor_is i) (Ok (sym head_is i)) 0 c.args.batch.now) ∙ c.in_ok-copied.ensures.step in
-    let after : length (series_in_each c.add_each.new.draft) ≤ most.series = few_after_batch most s.floor s.head 0 c.args.batch.now (series_in_each c.add_each.new.draft) c.at.inside.head.few is in
+    let is : head_added_each s.floor (Ok s.head) 0 c.args.batch.now ≡ Ok (series_in_each c.add_each.new.draft) =
+    (λ i. head_added_each (sym floor_is i) (Ok (sym head_is i)) 0 c.args.batch.now) ∙ c.in_ok-copied.ensures.step in
+    let after : length (series_in_each c.add_each.new.draft) ≤ max_series = few_after_batch s.floor s.head 0 c.args.batch.now (series_in_each c.add_each.new.draft) c.at.inside.head.few is in
     let made : c.in_ok-series.series ≡ series_in_each c.add_each.new.draft = c.in_ok-series.ensures.series in
     record {
-      few = subst (λ (hs : List HeadSeries). length hs ≤ most.series) (sym made) after;
-      extended = subst (λ (hs : List HeadSeries). Extends (sets_of s.head) (sets_of hs)) (sym made) (batch_extends most s.floor s.head c.args.batch.now (series_in_each c.add_each.new.draft) is);
+      few = subst (λ (hs : List HeadSeries). length hs ≤ max_series) (sym made) after;
+      extended = subst (λ (hs : List HeadSeries). Extends (sets_of s.head) (sets_of hs)) (sym made) (batch_extends s.floor s.head c.args.batch.now (series_in_each c.add_each.new.draft) is);
     }
 
 pub of-requires : goal.of-requires
@@ -64,12 +64,12 @@ of-requires c =
     let floor_is : to_z w64 (of_z w64 c.at.inside.floor) ≡ c.at.inside.floor = search rules in
     let last_is : c.in_ok-last.last ≡ s.head = c.in_ok-last.ensures ∙ c.series.ensures in
     let head_is : series_in_each c.new-draft.result ≡ s.head = ap (λ (ss : List Slot). series_in_each ss) c.new-draft.ensures ∙ series_shared c.in_ok-last.last ∙ last_is in
-    let is : head_added_each most s.floor (Ok s.head) 0 c.args.batch.now ≡ Ok (series_in_each c.add_each.new.draft) =
-    (λ i. head_added_each most (sym floor_is i) (Ok (sym head_is i)) 0 c.args.batch.now) ∙ c.in_ok-copied.ensures.step in
-    let after : length (series_in_each c.add_each.new.draft) ≤ most.series = few_after_batch most s.floor s.head 0 c.args.batch.now (series_in_each c.add_each.new.draft) c.at.inside.head.few is in
+    let is : head_added_each s.floor (Ok s.head) 0 c.args.batch.now ≡ Ok (series_in_each c.add_each.new.draft) =
+    (λ i. head_added_each (sym floor_is i) (Ok (sym head_is i)) 0 c.args.batch.now) ∙ c.in_ok-copied.ensures.step in
+    let after : length (series_in_each c.add_each.new.draft) ≤ max_series = few_after_batch s.floor s.head 0 c.args.batch.now (series_in_each c.add_each.new.draft) c.at.inside.head.few is in
     let made : c.in_ok-series.series ≡ series_in_each c.add_each.new.draft = c.in_ok-series.ensures.series in
     record {
-      few = subst (λ (hs : List HeadSeries). length hs ≤ most.series) (sym made) after;
+      few = subst (λ (hs : List HeadSeries). length hs ≤ max_series) (sym made) after;
       ordered = subst (λ (hs : List HeadSeries). IsOrderOf c.add_each.new.order hs) (sym made) c.in_ok-copied.ensures.ordered;
       indexed = c.in_ok-index.ensures;
       is_part = subst (λ (hs : List HeadSeries). IsPart (head_part hs)) (sym made)
@@ -82,8 +82,8 @@ invariant_of-result c =
     let floor_is : to_z w64 (of_z w64 c.at.inside.floor) ≡ c.at.inside.floor = search rules in
     let last_is : c.in_ok-last.last ≡ s.head = c.in_ok-last.ensures ∙ c.series.ensures in
     let head_is : series_in_each c.new-draft.result ≡ s.head = ap (λ (ss : List Slot). series_in_each ss) c.new-draft.ensures ∙ series_shared c.in_ok-last.last ∙ last_is in
-    let is : head_added_each most s.floor (Ok s.head) 0 c.args.batch.now ≡ Ok (series_in_each c.add_each.new.draft) =
-    (λ i. head_added_each most (sym floor_is i) (Ok (sym head_is i)) 0 c.args.batch.now) ∙ c.in_ok-copied.ensures.step in
+    let is : head_added_each s.floor (Ok s.head) 0 c.args.batch.now ≡ Ok (series_in_each c.add_each.new.draft) =
+    (λ i. head_added_each (sym floor_is i) (Ok (sym head_is i)) 0 c.args.batch.now) ∙ c.in_ok-copied.ensures.step in
     let made = c.of.ensures.series ∙ c.in_ok-series.ensures.series in
     let sound = (accepted s c.args.batch.now (series_in_each c.add_each.new.draft) c.at.invariant is).1 in
     subst IsSoundSnapshot (λ i. record { blocks = map part_in (sym c.in_ok-blocks.ensures i).items; head = sym made i; floor = sym floor_is i; copied = c.of.result.copied })
@@ -95,10 +95,10 @@ returns-clause-ok c =
     let floor_is : to_z w64 (of_z w64 c.at.inside.floor) ≡ c.at.inside.floor = search rules in
     let last_is : c.in_ok-last.last ≡ s.head = c.in_ok-last.ensures ∙ c.series.ensures in
     let head_is : series_in_each c.new-draft.result ≡ s.head = ap (λ (ss : List Slot). series_in_each ss) c.new-draft.ensures ∙ series_shared c.in_ok-last.last ∙ last_is in
-    let is : head_added_each most s.floor (Ok s.head) 0 c.args.batch.now ≡ Ok (series_in_each c.add_each.new.draft) =
-    (λ i. head_added_each most (sym floor_is i) (Ok (sym head_is i)) 0 c.args.batch.now) ∙ c.in_ok-copied.ensures.step in
+    let is : head_added_each s.floor (Ok s.head) 0 c.args.batch.now ≡ Ok (series_in_each c.add_each.new.draft) =
+    (λ i. head_added_each (sym floor_is i) (Ok (sym head_is i)) 0 c.args.batch.now) ∙ c.in_ok-copied.ensures.step in
     let made = c.of.ensures.series ∙ c.in_ok-series.ensures.series in
-    ap (λ (v : SnapshotParts). committed most (world_of v) c.args.batch.now) (sym c.at.view_is)
+    ap (λ (v : SnapshotParts). committed (world_of v) c.args.batch.now) (sym c.at.view_is)
     ∙ (accepted s c.args.batch.now (series_in_each c.add_each.new.draft) c.at.invariant is).0
     ∙ ap Ok (same_world (record s { head = series_in_each c.add_each.new.draft }) c.of.result.copied)
     ∙ (λ i. Ok (world_of (record { blocks = map part_in (sym c.in_ok-blocks.ensures i).items; head = sym made i; floor = sym floor_is i; copied = c.of.result.copied })))
@@ -109,8 +109,8 @@ returns-clause-copied c =
     let floor_is : to_z w64 (of_z w64 c.at.inside.floor) ≡ c.at.inside.floor = search rules in
     let last_is : c.in_ok-last.last ≡ s.head = c.in_ok-last.ensures ∙ c.series.ensures in
     let head_is : series_in_each c.new-draft.result ≡ s.head = ap (λ (ss : List Slot). series_in_each ss) c.new-draft.ensures ∙ series_shared c.in_ok-last.last ∙ last_is in
-    let is : head_added_each most s.floor (Ok s.head) 0 c.args.batch.now ≡ Ok (series_in_each c.add_each.new.draft) =
-    (λ i. head_added_each most (sym floor_is i) (Ok (sym head_is i)) 0 c.args.batch.now) ∙ c.in_ok-copied.ensures.step in
+    let is : head_added_each s.floor (Ok s.head) 0 c.args.batch.now ≡ Ok (series_in_each c.add_each.new.draft) =
+    (λ i. head_added_each (sym floor_is i) (Ok (sym head_is i)) 0 c.args.batch.now) ∙ c.in_ok-copied.ensures.step in
     let sound = (accepted s c.args.batch.now (series_in_each c.add_each.new.draft) c.at.invariant is).1.head in
     let fresh = c.new-draft.ensures in
     let before = subst (λ (ss : List Slot). AllOwn (has_set c.args.batch.now) ss) (sym fresh) (AllOwn-shared (has_set c.args.batch.now) c.in_ok-last.last) in

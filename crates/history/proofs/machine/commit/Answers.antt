@@ -1,6 +1,5 @@
 use Rattle.std.proofs.Common.{ap, sym, subst, ◌∙◌}
 use Rattle.head.specs.Heads.{world_of}
-use Rattle.head.specs.Limits.{most}
 use Rattle.head.specs.Worlds.{Batch, Event, batch_of, stepped}
 use Rattle.history.specs.Held.{buffers_of}
 use Rattle.history.specs.Replies.{IsSettled}
@@ -20,7 +19,7 @@ returns-after-into_batch c =
           (buffers_of c.match-into_batch.held) c.args.actor c.take.ensures.left
           own x.in-Some.samples.items event c.in-Err.refusal c.take.ensures.taken
           c.batch-event.ensures
-          (subst (IsSettled (stepped most w event)) c.in-Err.is c.in_ok-next.ensures)
+          (subst (IsSettled (stepped w event)) c.in-Err.is c.in_ok-next.ensures)
           x.in-Some.ensures.given_back (ap buffers_of x.held-is ∙ x.in_ok-put-in-Err.ensures)
       | in_default x ↦
           absurd (no_some own (sym x.in_default.ensures.given_back

@@ -5,4 +5,4 @@ pub publish_as-press-requires : goal.publish_as-press-requires
 publish_as-press-requires g c next is =
     let e = overtaken _ next c.args.next _ _ is c.in-Ok.ensures.pending in
     rw (e, c.in-Ok.ensures.desk) (rises g.J.Naming.book g.J.Naming.opening _ _
-    c.args.press.desk.shown.value c.args.next c.requires.0 c.requires.1)
+    c.args.press.desk.shown.value c.args.next c.requires.1 c.requires.0)

@@ -25,7 +25,7 @@ pub enum Outcome {
 }
 
 impl Outcome {
-    ghost use Rattle.commands.specs.declared.report.Outcome.TheVariants.{Refused};
+    ghost use Rattle.commands.specs.declared.check.Outcome.TheVariants.{Refused};
     ghost use Rattle.commands.specs.Checking.{is_refused};
 
     /// The outcome, after a judgement more.

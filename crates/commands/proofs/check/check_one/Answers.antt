@@ -2,7 +2,7 @@ use Rattle.std.proofs.Common.{ℕ, List, subst, ◌∙◌}
 use Rattle.std.specs.Io.KnownBytes.{Appends}
 use Rattle.std.proofs.lemmas.Result.{err_from_is_err_and}
 use Rattle.commands.specs.Sending.{AppendsPrefix}
-use Rattle.commands.proofs.report.check_one.Goals as goal
+use Rattle.commands.proofs.check.check_one.Goals as goal
 
 pub returns-clause-told : goal.returns-clause-told
 returns-clause-told g c =

@@ -1,5 +1,5 @@
 use Rattle.commands.proofs.WholeFiles.{whole_of, whole_found, whole_judged}
-use Rattle.commands.proofs.report.judge_at.Goals as goal
+use Rattle.commands.proofs.check.judge_at.Goals as goal
 
 pub returns-clause-judged : goal.returns-clause-judged
 returns-clause-judged g c = record {

@@ -1,6 +1,6 @@
 use Rattle.std.proofs.lemmas.Result.{err_from_is_err_and}
 use Rattle.commands.proofs.Checks.{next_checked, stopped}
-use Rattle.commands.proofs.report.check.Goals as goal
+use Rattle.commands.proofs.check.check.Goals as goal
 
 pub loop-directory-preserved : goal.loop-directory-preserved
 loop-directory-preserved g c =

@@ -1,7 +1,7 @@
 use Rattle.std.proofs.Common.{take}
 use Rattle.commands.specs.Checking.{IsChecked}
 use Rattle.commands.specs.Reading.{paths_of}
-use Rattle.commands.proofs.report.check.Given as goal
+use Rattle.commands.proofs.check.check.Given as goal
 
 abbrev pub invariant-loop-directory : goal.invariant-loop-directory
 invariant-loop-directory g l =
