@@ -1,9 +1,10 @@
 -- How the program ends.
-use Rattle.std.specs.Prelude.{◌≡◌, ℕ, List, Option, Result, Ok, Err, IsOk, OnOk, IfSome}
+use Rattle.std.specs.Prelude.{◌≡◌, ◌⊎◌, ℕ, List, Option, Result, Ok, Err, IsOk, OnOk, IfSome}
 use Rattle.std.specs.Prelude.{string_bytes}
 use Rattle.std.specs.Io.KnownBytes.{Appends, Keeps}
-use Rattle.clap.specs.Words.{Text}
-use Rattle.audit_command.specs.Asking.{AreTaken, IsAskedBy}
+use Rattle.clap.specs.Words.{IsAmong, Text, fault_of, kind_of}
+use Rattle.clap.specs.declared.error.kind.ErrorKind.TheVariants.{DisplayHelp, DisplayVersion}
+use Rattle.audit_command.specs.Asking.{AreTaken, IsAskedBy, auditor_app}
 use Rattle.audit_command.specs.Auditing.{IsReport, IsAuditFault}
 use Rattle.audit_command.specs.Faults.{status_of, line_of}
 use Rattle.audit_command.specs.Reading.{Host}
@@ -48,18 +49,20 @@ pub data IsEnd (reads : Host) (input : Option (List ℕ)) (words : List Text)
       → IsEnd reads input words old new end
   by_memory : end ≡ Err fault.Memory → Keeps old new → IsEnd reads input words old new end
 
--- how words that `clap` does not take may end: help or the version was written, or the words are at
--- fault, or memory or the writer failed
-abbrev pub IsNoAudit : Result Outcome Fault → Type 0
-IsNoAudit (Ok Done) = Unit {0}
-IsNoAudit (Ok Flawed) = ⊥
-IsNoAudit (Err (fault.Words error)) = Unit {0}
-IsNoAudit (Err fault.CannotWrite) = Unit {0}
-IsNoAudit (Err fault.Memory) = Unit {0}
-IsNoAudit (Err (fault.Refused refusal)) = ⊥
-IsNoAudit (Err fault.CannotReadInput) = ⊥
-IsNoAudit (Err fault.BadReply) = ⊥
-IsNoAudit (Err (fault.CannotRead path)) = ⊥
+-- the words ask for help or for the version
+abbrev pub AskForText : List Text → Type 0
+AskForText words = IsAmong DisplayHelp (fault_of auditor_app words)
+    ⊎ IsAmong DisplayVersion (fault_of auditor_app words)
+
+-- how words that `clap` does not take may end: what they ask for was written, or the writer failed
+-- at it; or they are at fault, in a way that `clap` finds in them; or memory failed
+abbrev pub IsNoAudit : List Text → Result Outcome Fault → Type 0
+IsNoAudit words (Ok Done) = AskForText words
+IsNoAudit words (Ok Flawed) = ⊥
+IsNoAudit words (Err fault.CannotWrite) = AskForText words
+IsNoAudit words (Err (fault.Words error)) = IsAmong (kind_of error) (fault_of auditor_app words)
+IsNoAudit words (Err fault.Memory) = Unit {0}
+IsNoAudit words (Err _) = ⊥
 
 -- the exit status of an end
 abbrev pub status_at : Result Outcome Fault → ℕ
@@ -79,6 +82,6 @@ pub record HasEnded (reads : Host) (input : Option (List ℕ)) (words : List Tex
     (old new told_old told_new : Option (List ℕ)) (ending : Ending) : Type 0 where
   pub end : Result Outcome Fault
   pub audit : AreTaken words → IsEnd reads input words old new end
-  pub no_audit : (AreTaken words → ⊥) → IsNoAudit end
+  pub no_audit : (AreTaken words → ⊥) → IsNoAudit words end
   pub status : ending.status ≡ status_at end
   pub told : IsTold end ending.told told_old told_new

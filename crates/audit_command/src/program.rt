@@ -48,16 +48,18 @@ fn execute<F: ReadFiles, R: Read, W: Write>(
     ensures ends { AreTaken (texts_of words.now)
         → IsEnd (F.may_read files.now) (R.remaining input.old) (texts_of words.now)
         (W.contents out.old) (W.contents out.new) result }
-    ensures no_audit { (AreTaken (texts_of words.now) → ⊥) → IsNoAudit result }
+    ensures no_audit { (AreTaken (texts_of words.now) → ⊥) → IsNoAudit (texts_of words.now) result }
 {
     match read_words(alloc, words) {
         Ok(asked) => write_audit(alloc, files, &asked, input, out),
-        Err(error) if matches!(error.kind(), ErrorKind::OutOfMemory) => Err(Fault::Memory),
-        Err(error) if error.use_stderr() => Err(Fault::Words(error)),
-        Err(help) => {
-            write!(out, "{help}")?;
-            Ok(Outcome::Done)
-        }
+        Err(error) => match error.kind() {
+            ErrorKind::OutOfMemory => Err(Fault::Memory),
+            ErrorKind::DisplayHelp | ErrorKind::DisplayVersion => {
+                write!(out, "{error}")?;
+                Ok(Outcome::Done)
+            }
+            _ => Err(Fault::Words(error)),
+        },
     }
 }
 

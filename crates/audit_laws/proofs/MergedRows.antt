@@ -85,51 +85,43 @@ laid_with es c rising h =
     ∙ ap (λ o. or_else o (find point_cmp q c)) (sym (find-reverse q es rising))
     ∙ sym (find-with_each q es c))
 
--- the rows of some content
-record IsRowList (rows : List Row) : Type 0 where
-  pub of_content : AreRows rows (points_of rows)
-  pub content : T (is_sorted point_cmp (points_of rows))
+-- what an answer lists is in order
+abbrev pub IsInOrder : PartAnswer → Type 0
+IsInOrder a = T (is_sorted point_cmp (points_of a.rows.items))
 
 laid_listed : (answers : List PartAnswer) (c : Content)
-    → ((a : PartAnswer) → Contains answers a → IsRowList a.rows.items) → T (is_sorted point_cmp c)
+    → ((a : PartAnswer) → Contains answers a → IsInOrder a) → T (is_sorted point_cmp c)
     → laid_each c (row_lists answers) ≡ with_each (listed answers) c
 laid_listed [] c are h = refl
 laid_listed (a ∷ rest) c are h =
     let points = points_of a.rows.items in
-    ap (λ d. laid_each d (row_lists rest)) (laid_with points c (are a (here a rest)).content h)
+    ap (λ d. laid_each d (row_lists rest)) (laid_with points c (are a (here a rest)) h)
     ∙ laid_listed rest (with_each points c) (λ b k. are b (there a b rest k))
     (is_sorted-with_each points c h)
     ∙ sym (with_each-++ points (listed rest) c)
 
--- the rows of an answer are those of some content
+-- what the answers of a search list is in order
 module _ (query : QueryView) where
-  row_list : (p : AskedPart) (answer : PartAnswer) → IsAnswerOf query p answer
-      → IsRowList answer.rows.items
-  row_list p answer is = record {
-    of_content = record {
-      points = refl;
-      ascending = is.answers.rows.ascending;
-      full = is.answers.rows.full;
-    };
-    content = subst (λ (c : Content). T (is_sorted point_cmp c)) (sym is.answers.rows.points)
-        (is_sorted-where_key point_cmp
-        (λ q. satisfies_all query.matchers q.0 && in_range query.from query.to q.1)
-        (content_of (p.part ∷ [])) (is_sorted-over (p.part ∷ []) [] tt));
-  }
+  row_list : (p : AskedPart) (answer : PartAnswer) → IsAnswerOf query p answer → IsInOrder answer
+  row_list p answer is =
+      subst (λ (c : Content). T (is_sorted point_cmp c)) (sym is.answers.rows.points)
+      (is_sorted-where_key point_cmp
+      (λ q. satisfies_all query.matchers q.0 && in_range query.from query.to q.1)
+      (content_of (p.part ∷ [])) (is_sorted-over (p.part ∷ []) [] tt))
 
   each_row_list : (parts : List AskedPart) (answers : List PartAnswer)
       → AllZip (IsAnswerOf query) parts answers
-      → (answer : PartAnswer) → Contains answers answer → IsRowList answer.rows.items
+      → (answer : PartAnswer) → Contains answers answer → IsInOrder answer
   each_row_list [] [] are answer h = absurd (none_in_nil answer h)
   each_row_list [] (a ∷ rest) are answer h = absurd are
   each_row_list (p ∷ ps) [] are answer h = absurd are
   each_row_list (p ∷ ps) (a ∷ rest) are answer h = elim (Contains-cases a rest answer h) [
-    | inl same ↦ subst (λ (x : PartAnswer). IsRowList x.rows.items) same (row_list p a are.0)
+    | inl same ↦ subst (λ (x : PartAnswer). IsInOrder x) same (row_list p a are.0)
     | inr later ↦ each_row_list ps rest are.1 answer later
   ]
 
   pub row_lists_of : (s : SnapshotParts) (answers : List PartAnswer) → AreAnswers query s answers
-      → (answer : PartAnswer) → Contains answers answer → IsRowList answer.rows.items
+      → (answer : PartAnswer) → Contains answers answer → IsInOrder answer
   row_lists_of s answers are = each_row_list (searched_parts query s) answers are
 
   pub merged_last : (s : SnapshotParts) (answers : List PartAnswer) (rows : List Row)

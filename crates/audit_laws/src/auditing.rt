@@ -1,10 +1,11 @@
 //! A search and its audit in one call.
 
-ghost use Rattle.std.specs.Prelude.{◌≡◌, [], IfOk, IfErr, OnOk};
+ghost use Rattle.std.specs.Prelude.{◌≡◌, true, [], IfOk, IfErr, OnOk};
 ghost use Rattle.std.specs.List.{All};
 ghost use Rattle.labels.specs.Rows.{AreRows};
 ghost use Rattle.head.specs.Shown.{part_of};
 ghost use Rattle.series_merge.specs.Merging.{merged_content};
+ghost use Rattle.block_search.specs.Skipping.{is_skipped};
 ghost use Rattle.block_search.specs.Answers.{AreAnswers};
 ghost use Rattle.auditor.specs.Auditing.{IsSoundAnswer, IsAuditError, IsHiding, selected_content};
 ghost use Rattle.auditor.specs.declared.flaw.Flaw.TheVariants.{Memory};
@@ -97,15 +98,39 @@ fn audit_block_skip(alloc: Global, block: &Block, query: &Query) -> Result<(), F
     audit_skip(alloc, &table, query)
 }
 
+/// Audits a block that a query skips: nothing is found in it.
+fn audit_skipped(alloc: Global, block: &Block, query: &Query) -> Result<(), Flaw>
+    requires { is_skipped query.now block.now.range ≡ true }
+    ensures { IfErr result (λ e. e ≡ Memory) }
+{
+    let _ = block.range();
+    audit_block_skip(alloc, block, query)
+}
+
 fn audit_skips(alloc: Global, blocks: &[Block], query: &Query) -> Result<(), Flaw>
     ensures { IfErr result (λ e. e ≡ Memory) }
 {
     for block in blocks {
         if is_skipped(block.range(), query) {
-            audit_block_skip(alloc, block, query)?;
+            audit_skipped(alloc, block, query)?;
         }
     }
     Ok(())
+}
+
+/// Audits rows that are those of all answers together.
+fn audit_rows(
+    alloc: Global,
+    snapshot: &Snapshot,
+    query: &Query,
+    answers: &[PartAnswer],
+    rows: &[Row],
+) -> Result<(), Flaw>
+    requires answers { AreAnswers query.now snapshot.now answers.now }
+    requires rows { AreRows rows.now (merged_content answers.now) }
+    ensures { IfErr result (λ e. e ≡ Memory) }
+{
+    audit_merge(alloc, answers, rows)
 }
 
 /// The rows of all that a search answered, after the audit of each answer, of each block that was
@@ -123,7 +148,7 @@ fn audited_rows(
     audit_each(alloc, snapshot, query, answers)?;
     audit_skips(alloc, snapshot.blocks(), query)?;
     let rows = merge(alloc, answers)?;
-    audit_merge(alloc, answers, rows.as_slice())?;
+    audit_rows(alloc, snapshot, query, answers, rows.as_slice())?;
     Ok(rows)
 }
 

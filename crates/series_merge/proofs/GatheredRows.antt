@@ -1,5 +1,5 @@
 -- The rows of several answers, sorted and joined, are the rows of what the answers list together.
-use Rattle.std.proofs.Common.{◌≡◌, T, List, [], ◌∷◌, ◌++◌, sym, ◌∙◌, ap, subst, append_assoc}
+use Rattle.std.proofs.Common.{◌≡◌, T, List, [], ◌∙◌, ap, subst}
 use Rattle.std.specs.List.{All}
 use Rattle.std.specs.List.Sorted.{IsPermutation, IsSortedBy, IsStableBy}
 use Rattle.std.specs.Ordering.{int_cmp}
@@ -9,7 +9,7 @@ use Rattle.labels.specs.Rows.{Row, points_of, row_before, IsFull, AreRows}
 use Rattle.labels.specs.Parts.{laid_over}
 use Rattle.cover.specs.declared.part_cover.PartAnswer.{PartAnswer}
 use Rattle.series_merge.specs.Merging.{AreRuns, row_lists, newest_first, merged_content, joined_rows}
-use Rattle.series_merge.proofs.Joining.{AreRows-joined_rows, laid_over-sorted, laid_over-newest_first, points_of-++}
+use Rattle.series_merge.proofs.Joining.{AreRows-joined_rows, laid_over-sorted, laid_over-newest_first}
 
 -- the times of runs ascend, in whatever order the runs stand
 pub times_sorted : (found sorted : List Row) → AreRuns found → IsPermutation found sorted

@@ -3,7 +3,7 @@ use Rattle.std.specs.Prelude.{ℤ, T, List, [], ◌∷◌, ◌++◌, map, if◌t
 use Rattle.std.specs.List.{All}
 use Rattle.std.specs.Ordering.{int_cmp}
 use Rattle.std.specs.FinMap.Entries.{put, is_sorted}
-use Rattle.labels.specs.Labels.{point_cmp, same_labels}
+use Rattle.labels.specs.Labels.{same_labels}
 use Rattle.labels.specs.Contents.{Content}
 use Rattle.labels.specs.Rows.{Row, points_of, IsFull}
 use Rattle.labels.specs.Parts.{laid_over}

@@ -17,8 +17,8 @@ returns-in-Head c =
     (head_sound query c.args.snapshot.now answer c.requires c.in-Head.is))
     c.audit_head.ensures.flawed
 
-pub returns-in-Block : goal.returns-in-Block
-returns-in-Block c =
+pub returns-in-Some : goal.returns-in-Some
+returns-in-Some c =
     let query = c.args.query.now in
     let answer = c.args.answer.now in
     let part = (part_in c.in-Some.block.now).part in

@@ -4,7 +4,8 @@ use Rattle.requests.specs.Fields.{fields_of}
 use Rattle.requests.specs.Targets.{takes_query}
 use Rattle.requests.specs.Reading.{BodyMeans}
 use Rattle.requests.proofs.FitTexts.{told_fit, body_fit}
-use Rattle.requests.proofs.Endings.{told_ends, body_ends}
+use Rattle.requests.specs.Selecting.{SelectMeans}
+use Rattle.requests.proofs.Endings.{told_ends, body_ends, select_ends}
 use Rattle.requests.proofs.ReadTexts.{asked_body}
 use Rattle.requests.proofs.TakenTexts.{takes_none, takes_body, takes_read, length_few}
 use Rattle.requests.proofs.read.read_after.Goals as goal
@@ -54,3 +55,8 @@ returns-clause-few g c =
     c.args.buf.now.ok.0 c.read_body.new.buf.ok.0 c.in_ok-read_body.ensures.bytes
     c.in_ok-read_body.ensures.few (omega (arith, length, start))
     (omega (arith, c.requires.short)))
+
+pub returns-then-takes_query-clause-refusal : goal.returns-then-takes_query-clause-refusal
+returns-then-takes_query-clause-refusal g c =
+    let query = c.query_text.result.now in
+    told_ends (SelectMeans query) (select_ends query) c.select.result c.select.ensures
