@@ -1,4 +1,5 @@
 pub mod Batches
+pub mod Framing
 pub mod Places
 pub mod Rising
 pub mod SampleTexts

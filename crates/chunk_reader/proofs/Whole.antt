@@ -159,11 +159,11 @@ decoded_again samples body h = h
 
 -- a chunk by its place
 
-neither : (a b : Bool) → (a || b) ≡ false → (a ≡ false) × (b ≡ false)
+pub neither : (a b : Bool) → (a || b) ≡ false → (a ≡ false) × (b ≡ false)
 neither true b h = absurd cc
 neither false b h = (refl, h)
 
-un_not : (b : Bool) → not b ≡ false → b ≡ true
+pub un_not : (b : Bool) → not b ≡ false → b ≡ true
 un_not true h = refl
 un_not false h = absurd cc
 
@@ -202,10 +202,10 @@ chunk_takes file reference mint maxt samples fits h =
       last = int_eq-true _ _ ends.1;
     })
 
-not_le : (m n : ℕ) → n < m → nat_le m n ≡ false
+pub not_le : (m n : ℕ) → n < m → nat_le m n ≡ false
 not_le m n lt = lt-leb m n lt
 
-inside : (file : List ℕ) (reference : ℕ) (text rest : List ℕ) → drop reference file ≡ text ++ rest
+pub inside : (file : List ℕ) (reference : ℕ) (text rest : List ℕ) → drop reference file ≡ text ++ rest
     → 0 < length text → reference < length file
 inside file reference text rest e some =
     omega (arith, length-drop reference file, ap length e, length-append text rest, some)

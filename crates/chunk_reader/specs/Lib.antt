@@ -1,4 +1,5 @@
 pub mod Codes
+pub mod Frames
 pub mod Grammar
 pub mod Outcome
 pub mod Reading

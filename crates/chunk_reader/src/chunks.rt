@@ -1,7 +1,8 @@
 //! The file, and the checks of a chunk in their order.
 
-ghost use Rattle.std.specs.Prelude.{◌≡◌, ◌<◌, ◌≤◌, ℤ, List, length, IfOk, IsOk, OnOk, Ok};
+ghost use Rattle.std.specs.Prelude.{◌≡◌, ◌<◌, ◌≤◌, ℕ, ℤ, List, length, IfOk, IsOk, OnOk, Ok};
 ghost use Rattle.std.specs.List.{flat_map};
+ghost use Rattle.chunk_reader.specs.Frames.{framed_at, AnswersFrame, IsFramed};
 ghost use Rattle.chunk_reader.specs.Grammar.{IsChunk, IsSegment, sample_text};
 ghost use Rattle.chunk_reader.specs.Outcome.{Gives};
 ghost use Rattle.wire.specs.Outcome.{Answers};
@@ -9,6 +10,7 @@ ghost use Rattle.chunk_reader.specs.Reading.{batch_in, content_at, decode, is_ou
 ghost use Rattle.chunk_reader.specs.Reading.{samples_of, spans};
 
 use crate::error::ChunkError;
+use crate::frame::{Frame, frame_of};
 use crate::samples::{Samples, are_rising};
 use byteorder::{BigEndian, ByteOrder};
 use labels::Sample;
@@ -83,6 +85,19 @@ impl Chunks {
         chunk_at(self.file.as_slice(), reference, mint, maxt)
     }
 
+    /// What stands in the frame of the chunk at `reference`, in place, whichever its encoding is.
+    /// `C3` and `C4` as [`Chunks::find`] says them. It takes time in proportion to the chunk, and
+    /// no memory.
+    pub fn frame_at(&self, reference: u64) -> Result<Frame<'_>, ChunkError>
+        ensures exact { Answers (λ f. (f.encoding, f.body.now)) result
+            (framed_at self.now reference) }
+        ensures found { IfOk result (λ f. IsFramed self.now reference f.encoding f.body.now) }
+        ensures only { (encoding : ℕ) (body : List ℕ) → IsFramed self.now reference encoding body
+            → AnswersFrame (λ f. (f.encoding, f.body.now)) result encoding body }
+    {
+        frame_of(self.file.as_slice(), reference)
+    }
+
     /// The samples of a chunk that [`Chunks::find`] is known to accept, in place, with none of its
     /// checks made again. It takes a time that does not grow with the chunk, and no memory.
     pub fn stored(&self, reference: u64, mint: i64, maxt: i64) -> Samples<'_>
@@ -147,7 +162,7 @@ fn chunk_at(file: &[u8], reference: u64, mint: i64, maxt: i64) -> Result<Samples
     samples_of(file, reference, mint, maxt)
 }
 
-fn is_outside(file: &[u8], reference: u64) -> bool
+pub(crate) fn is_outside(file: &[u8], reference: u64) -> bool
     ensures { result ≡ is_outside file.now reference }
 {
     (reference / SEGMENT != 0) | (reference < HEAD) | (file.len() as u64 <= reference)
@@ -170,7 +185,7 @@ fn samples_of(file: &[u8], reference: u64, mint: i64, maxt: i64) -> Result<Sampl
 }
 
 #[tactic(auto, unfolding(crate::specs::Reading::content_at))]
-fn content_of(bytes: &[u8]) -> Result<(u8, &[u8]), ChunkError>
+pub(crate) fn content_of(bytes: &[u8]) -> Result<(u8, &[u8]), ChunkError>
     ensures { Answers (λ x. (x.0, x.1.now)) result (content_at bytes.now) }
 {
     let mut cut = Cut::new(bytes);

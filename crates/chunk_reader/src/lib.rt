@@ -25,8 +25,10 @@
 
 mod chunks;
 mod error;
+mod frame;
 mod samples;
 
 pub use chunks::Chunks;
 pub use error::ChunkError;
+pub use frame::Frame;
 pub use samples::Samples;

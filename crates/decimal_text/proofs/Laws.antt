@@ -1,6 +1,9 @@
 -- What is read of a decimal text is what it says, and what it says is read.
-use Rattle.std.proofs.Common.{◌≡◌, ℕ, zero, suc, ◌+◌, ◌-◌, ◌*◌, ◌^◌, ◌<◌, ◌≤◌, true, false, eqb, ltb, leb, ◌&&◌, List, [], ◌∷◌, ◌++◌, length, take, drop, Result, Ok, Err, refl, sym, ap, subst, ◌∙◌, inl, inr, arith}
-use Rattle.std.proofs.lemmas.Bool.{lt-ltb, eqb-true, eqb-false, eq-eqb, ne_eqb, and_parts, cases_Bool, leb-true}
+use Rattle.std.proofs.Common.{◌≡◌, ℕ, zero, suc, ◌+◌, ◌-◌, ◌*◌, ◌^◌, ◌<◌, ◌≤◌, true, false, eqb}
+use Rattle.std.proofs.Common.{ltb, leb, ◌&&◌, List, [], ◌∷◌, ◌++◌, length, take, drop, Result, Ok}
+use Rattle.std.proofs.Common.{Err, refl, sym, ap, subst, ◌∙◌, inl, inr, arith}
+use Rattle.std.proofs.lemmas.Bool.{lt-ltb, eqb-true, eqb-false, eq-eqb, ne_eqb, and_parts}
+use Rattle.std.proofs.lemmas.Bool.{cases_Bool, leb-true}
 use Rattle.std.proofs.Math.Nat.{pow-suc, one-le-pow, mul_assoc, le_of_mul-le-mul_right}
 use Rattle.std.proofs.lemmas.Nat.{mul-le, same_from_place}
 use Rattle.std.proofs.lemmas.List.{take-append-drop}
@@ -11,7 +14,8 @@ use Rattle.wire.proofs.Steps.{bind_ok, passed, not_failed, same_value}
 use Rattle.decimal_text.specs.declared.error.DecimalError.{DecimalError}
 use Rattle.decimal_text.specs.declared.error.DecimalError.TheVariants.{Form, Finer, Large}
 use Rattle.decimal_text.specs.Decimals.{is_digit, AreDigits, value_from, fraction_text, IsDecimal}
-use Rattle.decimal_text.specs.Reading.{digits_in_front, fraction_at, with_digit, whole_at, parts_at, decimal_at}
+use Rattle.decimal_text.specs.Reading.{digits_in_front, fraction_at, with_digit, whole_at, parts_at}
+use Rattle.decimal_text.specs.Reading.{decimal_at}
 
 -- a power of ten
 ten : (k : ℕ) → 10 ^ suc k ≡ 10 ^ k * 10

@@ -1,9 +1,11 @@
 //! A number, read from the front of its text to its end.
 
-ghost use Rattle.std.specs.Prelude.{◌≡◌, ◌<◌, ◌≤◌, ◌+◌, ◌-◌, ◌*◌, ◌^◌, [], ℕ, length, IfOk, IsTrue, Ok};
+ghost use Rattle.std.specs.Prelude.{◌≡◌, ◌<◌, ◌≤◌, ◌+◌, ◌-◌, ◌*◌, ◌^◌, [], ℕ, length, IfOk, IsTrue};
+ghost use Rattle.std.specs.Prelude.{Ok};
 ghost use Rattle.wire.specs.Outcome.{Answers};
 ghost use Rattle.decimal_text.specs.Decimals.{is_digit, IsDecimal};
-ghost use Rattle.decimal_text.specs.Reading.{digits_in_front, fraction_at, with_digit, whole_at, part_at, parts_at, decimal_at};
+ghost use Rattle.decimal_text.specs.Reading.{digits_in_front, fraction_at, with_digit, whole_at};
+ghost use Rattle.decimal_text.specs.Reading.{part_at, parts_at, decimal_at};
 
 use crate::error::DecimalError;
 

@@ -1,6 +1,7 @@
 //! Doubles as decimals with a number of digits after the point.
 
-ghost use Rattle.std.specs.Prelude.{◌≡◌, ◌<◌, ◌≤◌, ◌+◌, ◌*◌, ◌%◌, ◌^◌, ◌==◌, ◌&&◌, ◌||◌, nat_lt, ℕ, ℤ, Some, IfSome, unsigned_abs};
+ghost use Rattle.std.specs.Prelude.{◌≡◌, ◌<◌, ◌≤◌, ◌+◌, ◌*◌, ◌%◌, ◌^◌, ◌==◌, ◌&&◌, ◌||◌, nat_lt, ℕ};
+ghost use Rattle.std.specs.Prelude.{ℤ, Some, IfSome, unsigned_abs};
 ghost use Rattle.doubles.specs.Double.{IsFinite, scale, significand};
 ghost use Rattle.doubles.specs.Decimal.{IsDecimal, IsNearest, Near, gap_below};
 
@@ -25,8 +26,8 @@ pub fn decimal(bits: u64, digits: u32) -> Option<i64>
     Some(value)
 }
 
-// 10^digits.
-fn power(digits: u32) -> u64
+/// 10^digits.
+pub fn power(digits: u32) -> u64
     requires { digits ≤ 9 }
     ensures is { result ≡ 10 ^ digits }
     ensures some { (1 ≤ result) × (result ≤ 1000000000) }

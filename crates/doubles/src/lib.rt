@@ -23,6 +23,6 @@ mod decimals;
 mod stale;
 mod whole_numbers;
 
-pub use decimals::decimal;
+pub use decimals::{decimal, power};
 pub use stale::is_stale;
 pub use whole_numbers::whole;

@@ -11,3 +11,7 @@ mod decimal_texts;
 mod doubles_of_ieee;
 #[cfg(test)]
 mod promtool_chunks;
+#[cfg(test)]
+mod promtool_segments;
+#[cfg(test)]
+mod values_kept;

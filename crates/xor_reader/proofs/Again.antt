@@ -1,5 +1,7 @@
 -- What is spelled is read.
-use Rattle.std.proofs.Common.{◌≡◌, ℕ, zero, suc, ◌+◌, ◌-◌, ◌*◌, ◌/◌, ◌%◌, ◌^◌, ◌<◌, ◌≤◌, Bool, true, false, eqb, ltb, cond, List, [], ◌∷◌, ◌++◌, length, replicate, Option, Some, Result, Ok, refl, ap, ◌∙◌, inl, inr, arith, append_assoc}
+use Rattle.std.proofs.Common.{◌≡◌, ℕ, zero, suc, ◌+◌, ◌-◌, ◌*◌, ◌/◌, ◌%◌, ◌^◌, ◌<◌, ◌≤◌, Bool, true}
+use Rattle.std.proofs.Common.{false, eqb, ltb, cond, List, [], ◌∷◌, ◌++◌, length, replicate, Option}
+use Rattle.std.proofs.Common.{Some, Result, Ok, refl, ap, ◌∙◌, inl, inr, arith, append_assoc}
 use Rattle.std.specs.Prelude.{ℤ, pos, negsuc, ◌+ℤ◌}
 use Rattle.std.proofs.lemmas.Bool.{le-ltb, le-leb, ne_eqb, cases_lt}
 use Rattle.std.proofs.lemmas.List.{length-replicate}
@@ -18,8 +20,16 @@ use Rattle.xor_reader.specs.declared.step.Form.TheVariants.{Bits14, Bits17, Bits
 use Rattle.xor_reader.specs.declared.step.Window.{Window}
 use Rattle.xor_reader.specs.declared.step.State.{State}
 use Rattle.xor_reader.specs.Bits.{field, bits_of, number, is_padding}
-use Rattle.xor_reader.specs.Grammar.{Sample, width, prefix, signed, Change, Stays, Changes, change_text, change_of, FitsChange, Difference, Repeats, Within, Anew, difference_text, window_after, value_after, IsWindow, FitsDifference, IsNext, IsTime, next_state, sample_of, Steps, after, steps_text, samples_after, FitSteps, Later, Alone, Followed, later_count, later_samples, FitsLater, SpellsLater, IsPadding, first_state, IsXorChunk}
-use Rattle.xor_reader.specs.Reading.{form_at, change_at, change_in_form_at, window_at, scope_at, difference_at, next_time, value_at, step_at, steps_at, with_front, later_at, head_at, samples_at}
+use Rattle.xor_reader.specs.Grammar.{Sample, width, prefix, signed, Change, Stays, Changes}
+use Rattle.xor_reader.specs.Grammar.{change_text, change_of, FitsChange, Difference, Repeats}
+use Rattle.xor_reader.specs.Grammar.{Within, Anew, difference_text, window_after, value_after}
+use Rattle.xor_reader.specs.Grammar.{IsWindow, FitsDifference, IsNext, IsTime, next_state}
+use Rattle.xor_reader.specs.Grammar.{sample_of, Steps, after, steps_text, samples_after, FitSteps}
+use Rattle.xor_reader.specs.Grammar.{Later, Alone, Followed, later_count, later_samples, FitsLater}
+use Rattle.xor_reader.specs.Grammar.{SpellsLater, IsPadding, first_state, IsXorChunk}
+use Rattle.xor_reader.specs.Reading.{form_at, change_at, change_in_form_at, window_at, scope_at}
+use Rattle.xor_reader.specs.Reading.{difference_at, next_time, value_at, step_at, steps_at}
+use Rattle.xor_reader.specs.Reading.{with_front, later_at, head_at, samples_at}
 use Rattle.xor_reader.proofs.Fields.{bits_of_field}
 
 form_again : (form : Form) (rest : List Bool) → form_at (prefix form ++ rest) ≡ Ok (Some form, rest)

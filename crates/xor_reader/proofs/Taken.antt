@@ -1,5 +1,8 @@
 -- What is read is what is spelled.
-use Rattle.std.proofs.Common.{◌≡◌, ℕ, zero, suc, ◌+◌, ◌-◌, ◌*◌, ◌/◌, ◌%◌, ◌^◌, ◌<◌, Bool, true, false, eqb, ltb, leb, cond, List, [], ◌∷◌, ◌++◌, length, take, drop, replicate, Option, Some, None, Result, Ok, Err, refl, sym, ap, subst, ◌∙◌, inl, inr, arith, append_assoc, length-take}
+use Rattle.std.proofs.Common.{◌≡◌, ℕ, zero, suc, ◌+◌, ◌-◌, ◌*◌, ◌/◌, ◌%◌, ◌^◌, ◌<◌, Bool, true}
+use Rattle.std.proofs.Common.{false, eqb, ltb, leb, cond, List, [], ◌∷◌, ◌++◌, length, take, drop}
+use Rattle.std.proofs.Common.{replicate, Option, Some, None, Result, Ok, Err, refl, sym, ap, subst}
+use Rattle.std.proofs.Common.{◌∙◌, inl, inr, arith, append_assoc, length-take}
 use Rattle.std.specs.Prelude.{ℤ, pos, ◌+ℤ◌, int_lt, int_le, not}
 use Rattle.std.proofs.lemmas.Bool.{ltb-false, leb-true, eqb-true, eqb-false, and_parts, not-false}
 use Rattle.std.proofs.lemmas.Nat.{shr_high, mod_low, pow_pos}
@@ -17,7 +20,9 @@ use Rattle.wire.proofs.Laws.{uvarint_takes}
 use Rattle.wire.proofs.Signed.{varint_takes}
 use Rattle.wire.proofs.Fields.{number_takes_8}
 use Rattle.xor_reader.specs.declared.error.XorError.{XorError}
-use Rattle.xor_reader.specs.declared.error.XorError.TheVariants.{Short, Empty, NotAscending, OutOfRange, Window as BadWindow, Trailing}
+use Rattle.xor_reader.specs.declared.error.XorError.TheVariants.{Short, Empty, NotAscending}
+use Rattle.xor_reader.specs.declared.error.XorError.TheVariants.{OutOfRange, Window as BadWindow}
+use Rattle.xor_reader.specs.declared.error.XorError.TheVariants.{Trailing}
 use Rattle.xor_reader.specs.declared.step.Form.{Form}
 use Rattle.xor_reader.specs.declared.step.Form.TheVariants.{Bits14, Bits17, Bits20, Bits64}
 use Rattle.xor_reader.specs.declared.step.Window.{Window}
@@ -25,8 +30,17 @@ use Rattle.xor_reader.specs.declared.step.State.{State}
 use Rattle.std.specs.Prelude.{IfOk}
 use Rattle.xor_reader.specs.Outcome.{or_number, Gives}
 use Rattle.xor_reader.specs.Bits.{field, bits_of, bits_at, number, is_padding}
-use Rattle.xor_reader.specs.Grammar.{Sample, width, prefix, signed, Change, Stays, Changes, change_text, change_of, FitsChange, Difference, Repeats, Within, Anew, difference_text, window_after, value_after, with_difference, IsWindow, FitsDifference, IsNext, IsTime, next_state, sample_of, Steps, after, steps_text, samples_after, FitSteps, Later, Alone, Followed, later_count, later_samples, FitsLater, SpellsLater, IsPadding, first_state, IsXorChunk}
-use Rattle.xor_reader.specs.Reading.{form_at, change_at, change_in_form_at, window_at, scope_at, difference_at, next_time, value_at, step_at, steps_at, with_front, later_at, head_at, samples_at, padding_at, to_the_end}
+use Rattle.xor_reader.specs.Grammar.{Sample, width, prefix, signed, Change, Stays, Changes}
+use Rattle.xor_reader.specs.Grammar.{change_text, change_of, FitsChange, Difference, Repeats}
+use Rattle.xor_reader.specs.Grammar.{Within, Anew, difference_text, window_after, value_after}
+use Rattle.xor_reader.specs.Grammar.{with_difference, IsWindow, FitsDifference, IsNext, IsTime}
+use Rattle.xor_reader.specs.Grammar.{next_state, sample_of, Steps, after, steps_text, samples_after}
+use Rattle.xor_reader.specs.Grammar.{FitSteps, Later, Alone, Followed, later_count, later_samples}
+use Rattle.xor_reader.specs.Grammar.{FitsLater, SpellsLater, IsPadding, first_state, IsXorChunk}
+use Rattle.xor_reader.specs.Reading.{form_at, change_at, change_in_form_at, window_at, scope_at}
+use Rattle.xor_reader.specs.Reading.{difference_at, next_time, value_at, step_at, steps_at}
+use Rattle.xor_reader.specs.Reading.{with_front, later_at, head_at, samples_at, padding_at}
+use Rattle.xor_reader.specs.Reading.{to_the_end}
 use Rattle.xor_reader.proofs.Fields.{field_mod}
 use Rattle.xor_reader.proofs.Takes.{number_lt, bits_lt}
 

@@ -1,7 +1,9 @@
 -- The numbers of refusals, and their texts.
 use Rattle.std.specs.Prelude.{ℕ, List, codes}
 use Rattle.xor_reader.specs.declared.error.XorError.{XorError}
-use Rattle.xor_reader.specs.declared.error.XorError.TheVariants.{Memory, Short, Empty, Number, NotAscending, OutOfRange, Window, Trailing}
+use Rattle.xor_reader.specs.declared.error.XorError.TheVariants.{Memory, Short, Empty, Number}
+use Rattle.xor_reader.specs.declared.error.XorError.TheVariants.{NotAscending, OutOfRange, Window}
+use Rattle.xor_reader.specs.declared.error.XorError.TheVariants.{Trailing}
 
 -- the number of a refusal, as text
 abbrev pub code_of : XorError → List ℕ

@@ -1,18 +1,22 @@
 -- Reading the bits of a chunk from the front. Each check has its refusal, and the first that fails
 -- is answered.
-use Rattle.std.specs.Prelude.{ℕ, zero, suc, ◌+◌, ◌-◌, ◌*◌, ◌==◌, ℤ, pos, ◌+ℤ◌, nat_lt, int_lt, int_le, if◌then◌else◌, Bool, not, Option, Some, None, List, [], ◌∷◌, ◌++◌, Result, Ok, Err}
+use Rattle.std.specs.Prelude.{ℕ, zero, suc, ◌+◌, ◌-◌, ◌*◌, ◌==◌, ℤ, pos, ◌+ℤ◌, nat_lt, int_lt}
+use Rattle.std.specs.Prelude.{int_le, if◌then◌else◌, Bool, not, Option, Some, None, List, [], ◌∷◌}
+use Rattle.std.specs.Prelude.{◌++◌, Result, Ok, Err}
 use Rattle.labels.specs.declared.sample.TheConstants.{MAX_TIME}
 use Rattle.labels.specs.Contents.{is_time}
 use Rattle.wire.specs.Outcome.{◌>>=◌}
 use Rattle.wire.specs.Reading.{byte_at, number_at, uvarint_at, varint_at}
 use Rattle.xor_reader.specs.declared.error.XorError.{XorError}
-use Rattle.xor_reader.specs.declared.error.XorError.TheVariants.{Empty, NotAscending, OutOfRange, Window as BadWindow, Trailing}
+use Rattle.xor_reader.specs.declared.error.XorError.TheVariants.{Empty, NotAscending, OutOfRange}
+use Rattle.xor_reader.specs.declared.error.XorError.TheVariants.{Window as BadWindow, Trailing}
 use Rattle.xor_reader.specs.declared.step.Form.{Form}
 use Rattle.xor_reader.specs.declared.step.Form.TheVariants.{Bits14, Bits17, Bits20, Bits64}
 use Rattle.xor_reader.specs.declared.step.Window.{Window}
 use Rattle.xor_reader.specs.declared.step.State.{State}
 use Rattle.xor_reader.specs.Bits.{bit_at, bits_at, bits_of, is_padding}
-use Rattle.xor_reader.specs.Grammar.{Sample, width, signed, with_difference, whole_window, sample_of}
+use Rattle.xor_reader.specs.Grammar.{Sample, width, signed, with_difference, whole_window}
+use Rattle.xor_reader.specs.Grammar.{sample_of}
 use Rattle.xor_reader.specs.Outcome.{or_number}
 
 -- how the step changes, None where it stays

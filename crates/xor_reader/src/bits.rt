@@ -1,6 +1,7 @@
 //! Reading bits from the front of a slice, the highest of each byte first.
 
-ghost use Rattle.std.specs.Prelude.{◌≡◌, ◌<◌, ◌≤◌, ◌-◌, ◌+◌, ◌*◌, ◌/◌, ◌%◌, ◌^◌, ◌++◌, Bool, [], length, IfOk, ◌⊎◌};
+ghost use Rattle.std.specs.Prelude.{◌≡◌, ◌<◌, ◌≤◌, ◌-◌, ◌+◌, ◌*◌, ◌/◌, ◌%◌, ◌^◌, ◌++◌, Bool, []};
+ghost use Rattle.std.specs.Prelude.{length, IfOk, ◌⊎◌};
 ghost use Rattle.wire.specs.Outcome.{Answers};
 ghost use Rattle.xor_reader.specs.Bits.{field, bits_of, bit_at, bits_at, is_padding};
 ghost use Rattle.xor_reader.specs.Outcome.{ReadsFront};

@@ -5,7 +5,8 @@ ghost use Rattle.wire.specs.Outcome.{Answers};
 ghost use Rattle.xor_reader.specs.Bits.{bits_of, is_padding};
 ghost use Rattle.xor_reader.specs.Grammar.{IsState, IsXorChunk, Sample, sample_of};
 ghost use Rattle.xor_reader.specs.Outcome.{Gives, ReadsFront};
-ghost use Rattle.xor_reader.specs.Reading.{head_at, later_at, samples_at, steps_at, with_front, after_samples, padding_at};
+ghost use Rattle.xor_reader.specs.Reading.{head_at, later_at, samples_at, steps_at, with_front};
+ghost use Rattle.xor_reader.specs.Reading.{after_samples, padding_at};
 
 use crate::bits::Bits;
 use crate::error::XorError;

@@ -1,9 +1,11 @@
 //! One sample after another: a change of the step between times, and a difference of values.
 
 ghost use Rattle.std.specs.Prelude.{◌≡◌, ◌<◌, ◌≤◌, ◌+◌, ◌^◌, ◌+ℤ◌, ◌≤ℤ◌, ◌<ℤ◌, pos, IfOk};
-ghost use Rattle.xor_reader.specs.Grammar.{width, greatest, signed, with_difference, IsWindow, IsTime, IsState};
+ghost use Rattle.xor_reader.specs.Grammar.{width, greatest, signed, with_difference, IsWindow};
+ghost use Rattle.xor_reader.specs.Grammar.{IsTime, IsState};
 ghost use Rattle.xor_reader.specs.Outcome.{ReadsFront};
-ghost use Rattle.xor_reader.specs.Reading.{form_at, change_at, window_at, scope_at, difference_at, next_time, value_at, step_at};
+ghost use Rattle.xor_reader.specs.Reading.{form_at, change_at, window_at, scope_at, difference_at};
+ghost use Rattle.xor_reader.specs.Reading.{next_time, value_at, step_at};
 ghost use Rattle.wire.specs.Outcome.{Answers};
 
 use crate::bits::Bits;

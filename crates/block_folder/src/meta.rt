@@ -1,0 +1,28 @@
+//! The text of a block's `meta.json`.
+
+ghost use Rattle.std.specs.Prelude.{◌≡◌, string_bytes, IfOk, IfSome, Some};
+ghost use Rattle.block.specs.Metas.{range_said};
+
+use block::Range;
+use std::alloc::{AllocError, Global};
+
+/// The text of a `meta.json` that says a range, how many series and samples there are, and how many
+/// digits after the point its values have. `None` where it would not be read as this range.
+pub fn meta_text(
+    alloc: Global,
+    range: Range,
+    series: usize,
+    samples: u64,
+    digits: u32,
+) -> Result<Option<String>, AllocError> {
+    let (min, max) = (range.min(), range.max());
+    let text = format!(in alloc;
+        "{{\"minTime\":{min},\"maxTime\":{max},\"version\":1,\
+         \"stats\":{{\"numSeries\":{series},\"numSamples\":{samples}}},\
+         \"decimals\":{digits}}}\n"
+    )?;
+    match Range::read_meta(alloc, text.as_bytes()) {
+        Ok(read) if read == range => Ok(Some(text)),
+        _ => Ok(None),
+    }
+}

@@ -1,0 +1,4 @@
+pub mod Chained
+pub mod Fates
+pub mod Opened
+pub mod RowAfter

@@ -1,0 +1,139 @@
+-- What is kept of samples, and how each of them is counted.
+use Rattle.std.specs.Prelude.{◌≡◌, ◌⊎◌, ℕ, ℤ, ◌+◌, min, Bool, true, false, List, [], ◌∷◌, ◌++◌}
+use Rattle.labels.specs.Contents.{in_range}
+use Rattle.tombstones.specs.Covering.{covered}
+use Rattle.imported_values.specs.Values.{IsVerdict}
+use Rattle.imported_values.specs.declared.policy.Reason.{Reason}
+use Rattle.imported_values.specs.declared.policy.Reason.TheVariants as reason
+use Rattle.imported_values.specs.declared.policy.Verdict.{Verdict}
+use Rattle.imported_values.specs.declared.policy.Verdict.TheVariants.{Kept, Left, Refused}
+use Rattle.xor_reader.specs.Grammar.{Sample}
+use Rattle.prometheus_block.specs.declared.keeping.Asked.{Asked}
+use Rattle.prometheus_block.specs.declared.keeping.Fate.{Fate}
+use Rattle.prometheus_block.specs.declared.keeping.Fate.TheVariants.{Outside, Deleted, Judged}
+use Rattle.prometheus_block.specs.declared.keeping.KeepError.{KeepError}
+use Rattle.prometheus_block.specs.declared.keeping.KeepError.TheVariants.{Memory, Value}
+use Rattle.prometheus_block.specs.declared.keeping.Tally.{Tally}
+use Rattle.std.specs.List.{AllByRecursion}
+
+-- whether a time is asked for
+abbrev pub is_asked : Asked → ℤ → Bool
+is_asked asked t = in_range asked.times.from asked.times.to t
+
+-- whether a deletion deletes a time of the series
+abbrev pub is_deleted : Asked → ℤ → Bool
+is_deleted asked t = covered asked.tombstones.now asked.reference t
+
+-- what becomes of a sample: it is outside the range, or else deleted, or else its value is judged
+abbrev pub IsFate : Asked → Sample → Fate → Type 0
+IsFate asked s Outside = is_asked asked s.0 ≡ false
+IsFate asked s Deleted = (is_asked asked s.0 ≡ true) × (is_deleted asked s.0 ≡ true)
+IsFate asked s (Judged verdict) = (is_asked asked s.0 ≡ true) × (is_deleted asked s.0 ≡ false)
+    × IsVerdict asked.policy s.1 verdict
+
+-- a fate for each of some samples
+abbrev pub AreFates : Asked → List Sample → List Fate → Type 0
+AreFates asked [] [] = Unit {0}
+AreFates asked [] (f ∷ fates) = ⊥
+AreFates asked (s ∷ samples) [] = ⊥
+AreFates asked (s ∷ samples) (f ∷ fates) = IsFate asked s f × AreFates asked samples fates
+
+-- the sample that is kept of one with this time and this fate
+abbrev pub kept_one : ℤ → Fate → List (ℤ × ℤ)
+kept_one t (Judged (Kept v)) = (t, v) ∷ []
+kept_one t (Judged (Left reason)) = []
+kept_one t (Judged (Refused reason)) = []
+kept_one t Outside = []
+kept_one t Deleted = []
+
+-- the samples that are kept of some
+abbrev pub kept_of : List Sample → List Fate → List (ℤ × ℤ)
+kept_of [] fates = []
+kept_of (s ∷ samples) [] = []
+kept_of (s ∷ samples) (f ∷ fates) = kept_one s.0 f ++ kept_of samples fates
+
+-- one more, up to the greatest number
+abbrev pub one_more : ℕ → ℕ
+one_more n = min (n + 1) 0xffff_ffff_ffff_ffff
+
+-- counts with one sample more: it is told in one of them, unless it is refused
+abbrev pub told : Tally → Fate → Tally
+told tally Outside = record {
+  kept = tally.kept;
+  stale = tally.stale;
+  rest = tally.rest;
+  deleted = tally.deleted;
+  outside = one_more tally.outside;
+}
+told tally Deleted = record {
+  kept = tally.kept;
+  stale = tally.stale;
+  rest = tally.rest;
+  deleted = one_more tally.deleted;
+  outside = tally.outside;
+}
+told tally (Judged (Kept v)) = record {
+  kept = one_more tally.kept;
+  stale = tally.stale;
+  rest = tally.rest;
+  deleted = tally.deleted;
+  outside = tally.outside;
+}
+told tally (Judged (Left reason.Stale)) = record {
+  kept = tally.kept;
+  stale = one_more tally.stale;
+  rest = tally.rest;
+  deleted = tally.deleted;
+  outside = tally.outside;
+}
+told tally (Judged (Left reason.Rest)) = record {
+  kept = tally.kept;
+  stale = tally.stale;
+  rest = one_more tally.rest;
+  deleted = tally.deleted;
+  outside = tally.outside;
+}
+told tally (Judged (Refused reason)) = tally
+
+-- counts with samples more
+abbrev pub told_all : Tally → List Fate → Tally
+told_all tally [] = tally
+told_all tally (f ∷ fates) = told_all (told tally f) fates
+
+-- the value of the sample is refused
+abbrev pub IsRefused : Fate → Type 0
+IsRefused (Judged (Refused reason)) = Unit {0}
+IsRefused (Judged (Kept v)) = ⊥
+IsRefused (Judged (Left reason)) = ⊥
+IsRefused Outside = ⊥
+IsRefused Deleted = ⊥
+
+-- why a sample of this fate is not kept: its value is refused, with its time and its bits, or
+-- memory ran out
+abbrev pub IsRefusalOf : Sample → Fate → KeepError → Type 0
+IsRefusalOf s fate Memory = Unit {0}
+IsRefusalOf s fate (Value reason t bits) =
+    (fate ≡ Judged (Refused reason)) × (t ≡ s.0) × (bits ≡ s.1)
+
+-- the samples that are kept stand after those from before, and each sample is counted by what
+-- became of it; none is refused
+pub record Keeps (asked : Asked) (samples : List Sample) (old new : List (ℤ × ℤ))
+    (counts counted : Tally) : Type 0 where
+  pub fates : List Fate
+  pub each : AreFates asked samples fates
+  pub none_refused : AllByRecursion (λ (f : Fate). IsRefused f → ⊥) fates
+  pub kept : new ≡ old ++ kept_of samples fates
+  pub told : counted ≡ told_all counts fates
+
+-- the refusal is that of the first of the samples whose value is refused
+pub record IsFirstRefusal (asked : Asked) (samples : List Sample) (e : KeepError) : Type 0 where
+  pub before : List Sample
+  pub sample : Sample
+  pub after : List Sample
+  pub order : samples ≡ before ++ sample ∷ after
+  pub fates : List Fate
+  pub each : AreFates asked before fates
+  pub none_refused : AllByRecursion (λ (f : Fate). IsRefused f → ⊥) fates
+  pub fate : Fate
+  pub is : IsFate asked sample fate
+  pub refusal : IsRefusalOf sample fate e

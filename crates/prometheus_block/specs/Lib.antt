@@ -1,0 +1,6 @@
+pub mod Codes
+pub mod Keeping
+pub mod Outcome
+pub mod Reading
+pub mod Rows
+pub mod Series

@@ -1,0 +1,41 @@
+-- The rows of a block, by what its files hold.
+use Rattle.std.specs.Prelude.{◌≡◌, ℕ, ℤ, List, [], ◌∷◌, ◌++◌}
+use Rattle.labels.specs.Labels.{Labels}
+use Rattle.labels.specs.Rows.{Row}
+use Rattle.index_reader.specs.Indexes.{Series}
+use Rattle.xor_reader.specs.Grammar.{Sample}
+use Rattle.prometheus_block.specs.declared.keeping.Asked.{Asked}
+use Rattle.prometheus_block.specs.declared.keeping.Tally.{Tally}
+use Rattle.prometheus_block.specs.declared.rows.Wanted.{Wanted}
+use Rattle.prometheus_block.specs.Keeping.{Keeps}
+use Rattle.prometheus_block.specs.Series.{Segments, AreSamplesIn}
+
+-- what is asked of the samples of a series is what is wanted of its block
+pub record IsAskedOf (wanted : Wanted) (s : Series) (asked : Asked) : Type 0 where
+  pub policy : asked.policy ≡ wanted.policy
+  pub times : asked.times ≡ wanted.times
+  pub deletions : asked.tombstones.now ≡ wanted.tombstones.now
+  pub reference : asked.reference ≡ s.reference
+
+-- the row of samples, if there is one
+abbrev pub row_if : Labels → List (ℤ × ℤ) → List Row
+row_if labels [] = []
+row_if labels (x ∷ samples) = (labels, x ∷ samples) ∷ []
+
+-- after some rows stands that of a series: what is kept of the samples that its chunks hold
+pub record IsRowAfter (reads : Segments) (wanted : Wanted) (s : Series) (old new : List Row)
+    (counts counted : Tally) : Type 0 where
+  pub samples : List Sample
+  pub held : AreSamplesIn reads wanted.times s.chunks samples
+  pub asked : Asked
+  pub of : IsAskedOf wanted s asked
+  pub kept : List (ℤ × ℤ)
+  pub keeps : Keeps asked samples [] kept counts counted
+  pub row : new ≡ old ++ row_if s.labels kept
+
+-- the rows of series, one after the other
+abbrev pub AreRowsOf : Segments → Wanted → List Series → List Row → Tally → Tally → Type 0
+AreRowsOf reads wanted [] rows counts counted = (rows ≡ []) × (counted ≡ counts)
+AreRowsOf reads wanted (s ∷ ss) rows counts counted =
+    (first rest : List Row) × (mid : Tally) × (rows ≡ first ++ rest)
+    × IsRowAfter reads wanted s [] first counts mid × AreRowsOf reads wanted ss rest mid counted
