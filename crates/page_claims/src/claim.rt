@@ -8,7 +8,7 @@ ghost use Rattle.page_claims.specs.Claiming.{is_valid, is_of, is_judged, are_jud
 
 use crate::checks::is_checked;
 use crate::told::Told;
-use auditor::{AuditError, Judgement, Line, Subject, audit_merge};
+use auditor::{Flaw, Judgement, Line, Subject, audit_merge};
 use cover::PartAnswer;
 use labels::Row;
 use postings::PartName;
@@ -52,8 +52,8 @@ fn is_merged(alloc: Global, answers: &[PartAnswer], rows: &[Row]) -> Result<bool
 {
     match audit_merge(alloc, answers, rows) {
         Ok(()) => Ok(true),
-        Err(AuditError::Flaw(_)) => Ok(false),
-        Err(AuditError::Memory) => Err(AllocError),
+        Err(Flaw::WrongMerge) => Ok(false),
+        Err(_) => Err(AllocError),
     }
 }
 
