@@ -1,0 +1,5 @@
+pub mod Asking
+pub mod Checking
+pub mod Claiming
+pub mod Counting
+pub mod Figuring

@@ -1,0 +1,32 @@
+//! What a reply shows by itself: the checks that need no series, the claim that rests on them, the
+//! counts of a certificate, the figures of a row, and what matchers say of a label set.
+//!
+//! [`find_claim`] says that no series is missing exactly where the intervals of each part are a
+//! chain without a hole, each verdict names a matcher that is there, there are as many rows as
+//! matches, the separators lie one in each interval, the rows of all are the merged rows of the
+//! parts, and the auditor, if it was asked, named no flaw (`IsShown`). None of this shows that a
+//! reason is true of the series: that is the auditor's.
+//!
+//! ```
+//! let told = Told::of(alloc, Reply::read(alloc, text)?)?;
+//! let claim = find_claim(alloc, query.matchers().len(), &told, None)?;
+//! assert!(rt; claim.is_shown);
+//! ```
+//!
+//! It stands on the auditor for what a reply is, for merged rows and for judgements, and on the
+//! types of `labels`, `matchers`, `postings` and `cover`.
+#![tactic(auto)]
+
+mod about;
+mod checks;
+mod claim;
+mod counts;
+mod figures;
+mod told;
+
+pub use about::{rejecting, row_with};
+pub use checks::{Checks, checks_of};
+pub use claim::{Claim, find_claim};
+pub use counts::{SLOTS, count_in, counts_law, shown_of, slot_of};
+pub use figures::{Figures, figures_of};
+pub use told::{Place, Told};

@@ -1,0 +1,4 @@
+pub mod Escaping
+pub mod Markup
+pub mod Nesting
+pub mod Printing

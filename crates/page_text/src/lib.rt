@@ -1,0 +1,34 @@
+//! Pages as trees: elements with attributes, numbers, and texts from outside, which stand only as
+//! leaves; and their print as HTML.
+//!
+//! A [`Tree`] grows by elements that are opened and closed. What it has grown to is a list of
+//! [`Piece`]s in which each element that is opened is closed in turn (`IsTree`). [`print`] writes
+//! it: names and constants, numbers in decimal, and of a text each character, `& < > " '` as
+//! entities, and a character that cannot be seen as a box with its code (`U+202E`). So a text
+//! changes what is read, and never an element or an attribute.
+//!
+//! ```
+//! let mut tree = Tree::new(alloc);
+//! tree.open(Tag::Code, Vec::new(alloc))?;
+//! tree.text("a<b")?;
+//! let pieces = tree.finish()?;
+//! assert_eq!(rt; print(alloc, pieces.as_slice())?.as_str(), "<code>a&lt;b</code>");
+//! ```
+//!
+//! It stands on nothing but std.
+#![tactic(auto)]
+
+mod attribute;
+mod escape;
+mod numbers;
+mod piece;
+mod printing;
+mod tag;
+mod tree;
+
+pub use attribute::{Attribute, Key, Move};
+pub use escape::is_invisible;
+pub use piece::Piece;
+pub use printing::print;
+pub use tag::Tag;
+pub use tree::Tree;
