@@ -3,7 +3,7 @@
 ghost use Rattle.std.specs.Prelude.{◌≡◌, IfOk};
 ghost use Rattle.labels.specs.Parts.{IsPart};
 
-use auditor::{AuditError, Flaw, Table, audit};
+use auditor::{Flaw, Table, audit};
 use block::Block;
 use cover::PartAnswer;
 use head::{HeadView, Snapshot};
@@ -64,7 +64,7 @@ pub fn finds_spoiled(
         let table = table_of(alloc, snapshot, answer.part)?;
         if answer.rows.pop().is_some() {
             match audit(alloc, &table, query, &answer) {
-                Err(AuditError::Flaw(Flaw::WrongRows)) => found = found.saturating_add(1),
+                Err(Flaw::WrongRows) => found = found.saturating_add(1),
                 _ => return Some(false),
             }
         }
