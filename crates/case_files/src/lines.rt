@@ -13,13 +13,14 @@ use std::{io, str};
 
 /// What a command line gives, or is to give.
 #[derive(Drop)]
-struct Told {
+pub struct Told {
     status: u8,
     out: Vec<u8>,
     err: Vec<u8>,
 }
 
-fn told_by<
+/// What `querier` gives for these words over these files.
+pub fn told_by<
     Q: Wait + Threads + Net<Listener = TcpListener, Stream = TcpStream> + Clock + Eprint + Sync,
 >(rt: &Q, alloc: Global, files: &Directories, words: &[String]) -> Told {
     let mut out = Vec::new(alloc);
@@ -74,65 +75,68 @@ fn fits(came: &[u8], wanted: &[u8], whole: bool) -> bool {
     }
 }
 
-/// Tries a command line.
-pub fn try_line<
-    Q: Wait + Threads + Net<Listener = TcpListener, Stream = TcpStream> + Clock + Eprint + Sync,
->(
-    rt: &Q,
-    alloc: Global,
-    files: &Directories,
-    report: &mut Report,
-    line: &str,
-    lines: &[&str],
-) -> Option<()> {
-    let words = words_of(alloc, line)?;
-    let (wanted, whole) = wanted_by(alloc, lines)?;
-    let came = told_by(rt, alloc, files, &words);
-    report.count(
-        fits(&came.out, &wanted.out, whole)
-            && fits(&came.err, &wanted.err, whole)
-            && came.status == wanted.status,
-        line,
-        &wanted.out,
-        &came.out,
-    );
-    Some(())
+/// A command line, the files that it is tried over, if they are its own, and what it is to give.
+#[derive(Drop)]
+pub struct Line<'a> {
+    text: &'a str,
+    own: Option<Directories>,
+    pub words: Vec<String>,
+    wanted: Told,
+    whole: bool,
 }
 
-/// Tries what `check` says of a directory after the changes of a line.
-fn try_check<
-    Q: Wait + Threads + Net<Listener = TcpListener, Stream = TcpStream> + Clock + Eprint + Sync,
->(
-    rt: &Q,
-    alloc: Global,
-    files: &Directories,
-    report: &mut Report,
-    directory: &str,
-    line: &str,
-) -> Option<()> {
-    let (changes, verdict) = line.split_once(" = ")?;
-    let words = words_of(alloc, changes)?;
-    let it = files.with_changes(alloc, directory, &words)?;
-    let words = words_of(alloc, "check it")?;
-    let came = told_by(rt, alloc, &it, &words);
-    let wanted = format!(in alloc; "it: {verdict}\n").ok()?;
-    let passed = came.out.as_slice() == wanted.as_bytes();
-    report.count(passed, line, wanted.as_bytes(), &came.out);
-    Some(())
-}
-
-pub fn try_checks<
-    Q: Wait + Threads + Net<Listener = TcpListener, Stream = TcpStream> + Clock + Eprint + Sync,
->(
-    rt: &Q,
-    alloc: Global,
-    files: &Directories,
-    report: &mut Report,
-    directory: &str,
-    lines: &[&str],
-) -> Option<()> {
-    for line in lines.iter().skip(1) {
-        try_check(rt, alloc, files, report, directory, line)?;
+impl Line<'_> {
+    /// The files that it is tried over: its own, or else these.
+    pub fn files<'b>(&'b self, shared: &'b Directories) -> &'b Directories {
+        match &self.own {
+            Some(own) => own,
+            None => shared,
+        }
     }
-    Some(())
+
+    /// Counts it: whether what it gave is what is wanted.
+    pub fn judge(&self, report: &mut Report, came: &Told) {
+        let passed = fits(&came.out, &self.wanted.out, self.whole)
+            && fits(&came.err, &self.wanted.err, self.whole)
+            && came.status == self.wanted.status;
+        report.count(passed, self.text, &self.wanted.out, &came.out);
+    }
+}
+
+/// The command line that these lines tell, and what it is to give.
+pub fn line_of<'a>(alloc: Global, text: &'a str, lines: &[&'a str]) -> Option<Line<'a>> {
+    let words = words_of(alloc, text)?;
+    let (wanted, whole) = wanted_by(alloc, lines)?;
+    Some(Line {
+        text,
+        own: None,
+        words,
+        wanted,
+        whole,
+    })
+}
+
+/// The check of a directory after the changes of a line, and what it is to say.
+pub fn check_of<'a>(
+    alloc: Global,
+    files: &Directories,
+    directory: &str,
+    line: &'a str,
+) -> Option<Line<'a>> {
+    let (changes, verdict) = line.split_once(" = ")?;
+    let changes = words_of(alloc, changes)?;
+    let own = files.with_changes(alloc, directory, &changes)?;
+    let said = format!(in alloc; "it: {verdict}\n").ok()?;
+    let wanted = Told {
+        status: if verdict.starts_with("ok ") { 0 } else { 1 },
+        out: said.into_bytes(),
+        err: Vec::new(alloc),
+    };
+    Some(Line {
+        text: line,
+        own: Some(own),
+        words: words_of(alloc, "check it")?,
+        wanted,
+        whole: true,
+    })
 }

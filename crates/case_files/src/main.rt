@@ -30,86 +30,19 @@
 mod directories;
 mod edges;
 mod lines;
+mod paragraphs;
 mod report;
 mod sessions;
 mod spelling;
 mod steps;
 
 use crate::directories::Directories;
+use crate::lines::told_by;
+use crate::paragraphs::{Case, cases_of};
 use crate::report::Report;
-use std::alloc::Global;
-use std::net::{Net, TcpListener, TcpStream};
+use crate::sessions::try_session;
 use std::process::ExitCode;
-use std::sync::Wait;
-use std::thread::Threads;
-use std::time::Clock;
 use std::{fs, io};
-
-/// The lines of a paragraph that are no comments.
-fn lines_of(alloc: Global, paragraph: &str) -> Option<Vec<&str>> {
-    let mut lines = Vec::new(alloc);
-    let mut rest = paragraph;
-    for _ in 0..=paragraph.len() {
-        let (line, tail) = rest.split_once('\n').unwrap_or((rest, ""));
-        if !line.is_empty() && !line.starts_with('#') {
-            lines.push(line).ok()?;
-        }
-        rest = tail;
-    }
-    Some(lines)
-}
-
-/// Does what a paragraph asks; nothing where it is not understood.
-fn try_paragraph<
-    Q: Wait + Threads + Net<Listener = TcpListener, Stream = TcpStream> + Clock + Eprint + Sync,
->(
-    rt: &Q,
-    alloc: Global,
-    directories: &mut Directories,
-    report: &mut Report,
-    paragraph: &str,
-) -> Option<()> {
-    let lines = lines_of(alloc, paragraph)?;
-    let Some(first) = lines.first() else {
-        return Some(());
-    };
-    let first: &str = first;
-    if first.starts_with("file ") {
-        return directories.define(alloc, &lines);
-    }
-    if let Some(words) = first.strip_prefix("$ ") {
-        return lines::try_line(rt, alloc, directories, report, words, &lines);
-    }
-    if let Some(directory) = first.strip_prefix("check ") {
-        return lines::try_checks(rt, alloc, directories, report, directory, &lines);
-    }
-    let blocks = first.strip_prefix("store")?;
-    sessions::try_session(rt, alloc, directories, report, blocks, &lines)
-}
-
-/// Does what each paragraph of a file asks.
-fn try_file<
-    Q: Wait + Threads + Net<Listener = TcpListener, Stream = TcpStream> + Clock + Eprint + Sync,
->(
-    rt: &Q,
-    alloc: Global,
-    directories: &mut Directories,
-    report: &mut Report,
-    text: &str,
-) -> Option<()> {
-    let mut rest = text;
-    for _ in 0..=text.len() {
-        let (paragraph, tail) = rest.split_once("\n\n").unwrap_or((rest, ""));
-        if try_paragraph(rt, alloc, directories, report, paragraph).is_none() {
-            report.misread(paragraph);
-        }
-        if tail.is_empty() {
-            return Some(());
-        }
-        rest = tail;
-    }
-    None
-}
 
 fn main(rt: HostRuntime) -> io::Result<ExitCode> {
     let alloc = rt.alloc();
@@ -119,8 +52,19 @@ fn main(rt: HostRuntime) -> io::Result<ExitCode> {
     for name in names.iter().skip(1) {
         let text = fs::read_to_string(&rt, name.as_str())?;
         let mut report = Report::new(alloc);
-        let read = try_file(&rt, alloc, &mut directories, &mut report, text.as_str());
-        if read.is_none() || report.failed > 0 {
+        let cases = cases_of(alloc, &mut directories, &mut report, text.as_str());
+        for case in &cases {
+            match case {
+                Case::Line(line) => {
+                    let told = told_by(&rt, alloc, line.files(&directories), &line.words);
+                    line.judge(&mut report, &told);
+                }
+                Case::Session(session) => {
+                    try_session(&rt, alloc, &directories, &mut report, session);
+                }
+            }
+        }
+        if report.failed > 0 {
             status = 1;
         }
         let (told, passed) = (report.text.as_str(), report.passed);

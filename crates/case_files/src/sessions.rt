@@ -6,7 +6,7 @@ ghost use Rattle.head.specs.Blocks.{part_in, opening_of};
 use crate::directories::Directories;
 use crate::edges::{Script, Sink};
 use crate::report::Report;
-use crate::steps::{Step, Way, steps_of};
+use crate::steps::{Step, Way};
 use block::Block;
 use commands::open_blocks;
 use query_http::{Served, serve_one};
@@ -155,30 +155,46 @@ fn hold<J: Naming, R: Wait>(
     Some(())
 }
 
-/// The blocks in these directories.
-fn blocks_of(
-    rt: &(impl Threads + Sync),
-    alloc: Global,
-    directories: &Directories,
-    names: &str,
-) -> Option<Vec<Block>> {
-    let names: Vec<&str> = names.split_whitespace().collect(alloc).ok()?;
-    open_blocks(rt, alloc, directories, &names).ok()
+/// Connections to a store over the blocks in these directories.
+#[derive(Drop)]
+pub struct Session<'a> {
+    pub names: &'a str,
+    pub steps: Vec<Step<'a>>,
 }
 
-/// Tries a session over the blocks in these directories, in pieces of each size.
+/// Opens the blocks of a session, and makes its connections in pieces of one size.
+fn hold_over<R: Wait + Threads + Sync>(
+    rt: &R,
+    alloc: Global,
+    directories: &Directories,
+    report: &mut Report,
+    session: &Session<'_>,
+    at_most: usize,
+) -> Option<()> {
+    let names: Vec<&str> = session.names.split_whitespace().collect(alloc).ok()?;
+    let blocks = open_blocks(rt, alloc, directories, &names).ok()?;
+    hold::<Brand, R>(
+        rt,
+        alloc,
+        Store::new(),
+        blocks,
+        report,
+        &session.steps,
+        at_most,
+    )
+}
+
+/// Tries a session in pieces of each size.
 pub fn try_session<R: Wait + Threads + Sync>(
     rt: &R,
     alloc: Global,
     directories: &Directories,
     report: &mut Report,
-    names: &str,
-    lines: &[&str],
-) -> Option<()> {
-    let steps = steps_of(alloc, lines)?;
+    session: &Session<'_>,
+) {
     for at_most in PIECES {
-        let blocks = blocks_of(rt, alloc, directories, names)?;
-        hold::<Brand, R>(rt, alloc, Store::new(), blocks, report, &steps, at_most)?;
+        if hold_over(rt, alloc, directories, report, session, at_most).is_none() {
+            report.misread(session.names);
+        }
     }
-    Some(())
 }

@@ -1,6 +1,6 @@
 use Rattle.std.specs.Prelude.{map}
 use Rattle.head.specs.Blocks.{part_in, opening_of}
-use Rattle.case_files.proofs.sessions.try_session.Given as goal
+use Rattle.case_files.proofs.sessions.hold_over.Given as goal
 
 -- the store that was just made, over the blocks that were opened
 abbrev pub ghosts-hold : goal.ghosts-hold
