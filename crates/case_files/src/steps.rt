@@ -2,6 +2,7 @@
 
 use crate::spelling::spell;
 use std::alloc::{AllocError, Global};
+use std::mem;
 
 /// How the connections of a step go, which bring one text and are to get another.
 #[derive(Clone, Copy, PartialEq, Eq)]
@@ -101,29 +102,28 @@ fn wanted_by(alloc: Global, line: &str) -> Option<(Way, Vec<u8>)> {
 /// The steps of a session.
 pub fn steps_of<'a>(alloc: Global, lines: &[&'a str]) -> Option<Vec<Step<'a>>> {
     let mut steps = Vec::new(alloc);
-    let mut asked = "";
+    let mut asked: &'a str = "";
+    let mut input = Vec::new(alloc);
     for line in lines.iter().skip(1) {
         let line: &'a str = line;
         if let Some(text) = line.strip_prefix("x> ") {
-            let input = request_of(alloc, text)?;
-            let text = Vec::new(alloc);
-            let way = Way::Unread;
             steps
                 .push(Step {
                     line,
-                    input,
-                    way,
-                    text,
+                    input: request_of(alloc, text)?,
+                    way: Way::Unread,
+                    text: Vec::new(alloc),
                 })
                 .ok()?;
-        } else if line.starts_with('>') {
+        } else if let Some(text) = line.strip_prefix(">> ") {
             asked = line;
+            input = spell(alloc, text)?;
+        } else if let Some(text) = line.strip_prefix("> ") {
+            asked = line;
+            input = request_of(alloc, text)?;
         } else {
-            let input = match asked.strip_prefix(">> ") {
-                Some(text) => spell(alloc, text)?,
-                None => request_of(alloc, asked.strip_prefix("> ")?)?,
-            };
             let (way, text) = wanted_by(alloc, line)?;
+            let input = mem::replace(&mut input, Vec::new(alloc));
             steps
                 .push(Step {
                     line: asked,
