@@ -5,12 +5,10 @@ PREFIX ?= /usr/local
 GATE_JOBS ?= $(shell n=$$(nproc); echo $$((n < 4 ? n : 4)))
 CRATES := $(shell sed -e 's/\#.*//' -e 's/:.*//' -e '/^[[:space:]]*$$/d' crates.txt)
 # Which crate has the tests of which crates; a crate of tests has its own.
-TESTS_OF := selection_tests:labels,pages,matchers,postings,cover \
+TESTS_OF := selection_tests:labels,pages,matchers,postings \
 	file_tests:wire,index_reader,chunk_reader,tombstones,block,block_writer \
 	store_tests:head,history,snapshots \
-	search_tests:block_search,series_merge \
-	request_tests:requests \
-	serving_tests:answers,query_http,server \
+	serving_tests:cover,block_search,series_merge,answers,requests,query_http,server \
 	command_tests:commands,querier \
 	auditing_tests:auditor,audit_command,audit_laws,auditor_program \
 	import_tests:xor_reader,doubles,decimal_text,imported_values,time_cuts,block_folder,prometheus_block \
@@ -43,6 +41,10 @@ demo: ## proves what `querier` stands on, with a line for each crate, and runs `
 
 test: ## the merge gate: every proof from nothing, must-fail edits, tests, programs
 	@RT_JOBS=$(GATE_JOBS) $(RT) ci
+
+.PHONY: cases
+cases: ## runs the cases of crates/case_files/data with no proof: two minutes, most of them a build
+	@cd crates/case_files && $(RT) try $$(ls data | sed 's,.*,--data &=data/&,') -- $$(cat args)
 
 gate-times: ## runs the gate and tells its minutes by crate, for proofs, proofs of tests and edits
 	@RT_JOBS=$(GATE_JOBS) tests/gate-times $(RT) ci

@@ -24,4 +24,6 @@ mod replies;
 #[cfg(test)]
 mod runs;
 #[cfg(test)]
+mod tables;
+#[cfg(test)]
 mod worked_block;

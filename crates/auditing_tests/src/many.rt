@@ -1,11 +1,14 @@
-//! Many threads at once: eight commit, one cuts, one deletes and four ask. Each answer is audited,
-//! and what was accepted is replayed.
+//! Many threads at once: eight commit, one cuts, one deletes and four ask. Each refusal is looked
+//! at, each answer is audited, and what was accepted is replayed.
 
 ghost use Rattle.std.specs.Prelude.{◌≡◌, []};
 ghost use Rattle.head.specs.Blocks.{opening_of};
 
-use audit_laws::{search_and_audit, search_and_audit_by_workers};
-use head::{Event, Snapshot};
+use crate::tables::{audit_parts, finds_spoiled};
+use audit_laws::{SoundAnswers, search_and_audit};
+use block_search::{OpenGate, search};
+use cover::PartAnswer;
+use head::{CommitError, Event, Snapshot};
 use history::{Reply, Step, run};
 use labels::{LabelSet, Row, Sample, is_time};
 use matchers::{Query, Selector};
@@ -40,7 +43,11 @@ type Done = (u64, usize, i64);
 
 const JOBS: [&str; 8] = ["0", "1", "2", "3", "4", "5", "6", "7"];
 
-const ZONES: [&str; 4] = ["a", "b", "c", "d"];
+/// The zones of the two series of a job: each has two of the four samples of a batch.
+const ZONES: [&str; 4] = ["a", "b", "a", "b"];
+
+/// The time of the last cut: no batch from there on is refused.
+const LAST_CUT: i64 = 1_520;
 
 /// What is asked: a selector, and the range.
 type Asked = (&'static str, i64, i64);
@@ -51,16 +58,16 @@ const ASKED: [Asked; 4] = [
     EVERYTHING,
     ("up{job=~\"0|3|5\",zone!=\"b\"}", 0, 900),
     ("{zone=\"a\"}", 400, 1_200),
-    ("{job!=\"2\",zone=~\"a|c\"}", 800, 2_000),
+    ("{job!=\"2\",zone=~\"b|c\"}", 800, 2_000),
 ];
 
-/// What threads share: the next time, how many of them still change the store, and the receipt of
-/// an event.
+/// What threads share: the next time, how many of them still change the store, and the receipts of
+/// all events so far.
 #[derive(Drop)]
 struct Board<J: Naming> {
     clock: AtomicU64,
     at_work: AtomicU64,
-    receipt: Mutex<Option<Receipt<J>>>,
+    receipts: Mutex<Vec<Receipt<J>>>,
 }
 
 /// Who takes part in it, with a seat or a pass.
@@ -87,12 +94,18 @@ impl<J: Naming> Board<J> {
         i64::try_from(due.saturating_sub(LAG)).unwrap_or(0)
     }
 
-    /// Lets a pass learn the receipt.
+    /// Lets a pass learn each receipt.
     fn tell(&self, rt: &impl Wait, pass: &mut Pass<J>) {
-        let told = self.receipt.lock(rt);
-        if let Some(receipt) = &*told {
+        let told = self.receipts.lock(rt);
+        for receipt in told.as_slice() {
             pass.learn(receipt);
         }
+    }
+
+    /// Keeps a receipt.
+    fn keep(&self, rt: &impl Wait, receipt: Receipt<J>) -> Option<()> {
+        let mut told = self.receipts.lock(rt);
+        told.push(receipt).ok()
     }
 }
 
@@ -110,7 +123,7 @@ fn labels_of(alloc: Global, job: &str, zone: &str) -> Option<LabelSet> {
     LabelSet::new(alloc, pairs).ok()
 }
 
-/// The four samples of a batch: one in each zone, at times that follow one another.
+/// The four samples of a batch: two of each series, at times that follow one another.
 fn batch_of(alloc: Global, seat: usize, at: i64) -> Option<Vec<(LabelSet, Sample)>> {
     let job = JOBS.get(seat)?;
     let mut batch = Vec::new(alloc);
@@ -129,16 +142,37 @@ fn query_of(alloc: Global, asked: Asked) -> Option<Query> {
 }
 
 /// What a deletion asks for.
-const DELETED: &str = "{zone=~\"b|c\"}";
+const DELETED: &str = "{zone=\"b\"}";
 
-/// The receipt of a seat's event; none where it is refused.
+/// The receipt of a batch, and none where a cut has passed it; nothing where it is refused by
+/// anything else.
+fn commit<J: Naming, C: Wait + Drop>(
+    rt: &impl Wait,
+    alloc: Global,
+    committer: &Committer<J, C>,
+    seat: &mut Seat<J>,
+    at: i64,
+) -> Option<Option<Receipt<J>>> {
+    let mut appender = Appender::new(alloc);
+    for (labels, sample) in batch_of(alloc, seat.number(), at)? {
+        appender.append(labels, sample).ok()?;
+    }
+    match committer.commit(rt, seat, appender) {
+        Ok(receipt) => Some(Some(receipt)),
+        Err((_, CommitError::OutOfBounds { at: _ })) if at < LAST_CUT => Some(None),
+        Err(_) => None,
+    }
+}
+
+/// The receipt of a seat's event; none where a cut has passed it, and nothing where it is refused
+/// by anything else.
 fn change<J: Naming, C: Wait + Drop>(
     rt: &impl Wait,
     alloc: Global,
     committer: &Committer<J, C>,
     seat: &mut Seat<J>,
     at: i64,
-) -> Option<Receipt<J>> {
+) -> Option<Option<Receipt<J>>> {
     let number = seat.number();
     if number == DELETER {
         let matchers = Selector::parse(alloc, DELETED).ok()?;
@@ -146,23 +180,20 @@ fn change<J: Naming, C: Wait + Drop>(
         if !Event::is_deletion(&matchers, at, to) {
             return None;
         }
-        return committer.delete(rt, seat, matchers, at, to).ok();
+        return Some(Some(committer.delete(rt, seat, matchers, at, to).ok()?));
     }
     if number == CUTTER {
         return if is_time(at) {
-            committer.cut(rt, seat, at).ok()
+            Some(Some(committer.cut(rt, seat, at).ok()?))
         } else {
             None
         };
     }
-    let mut appender = Appender::new(alloc);
-    for (labels, sample) in batch_of(alloc, number, at)? {
-        appender.append(labels, sample).ok()?;
-    }
-    committer.commit(rt, seat, appender).ok()
+    commit(rt, alloc, committer, seat, at)
 }
 
-/// So many events of a seat's, and which of them were accepted.
+/// So many events of a seat's, and which of them were accepted; nothing where one was refused that
+/// should not have been.
 fn change_often<J: Naming, C: Wait + Drop>(
     rt: &impl Wait,
     alloc: Global,
@@ -174,9 +205,9 @@ fn change_often<J: Naming, C: Wait + Drop>(
     let mut done = Vec::new(alloc);
     for round in 0..rounds {
         let at = board.time_of(rt, seat.number(), round);
-        if let Some(receipt) = change(rt, alloc, committer, seat, at) {
+        if let Some(receipt) = change(rt, alloc, committer, seat, at)? {
             done.push((receipt.events(), seat.number(), at)).ok()?;
-            *board.receipt.lock(rt) = Some(receipt);
+            board.keep(rt, receipt)?;
         }
     }
     Some(done)
@@ -194,7 +225,8 @@ fn ask_often<J: Naming, R: Threads + Wait + Sync>(
         let is_over = board.at_work.load(Ordering::SeqCst) == 0;
         board.tell(rt, pass);
         let snapshot = pass.snapshot().ok()?;
-        search_and_audit_by_workers(rt, alloc, &snapshot, query).ok()?;
+        let answers = search(rt, alloc, &snapshot, query, &OpenGate).ok()?;
+        audit_parts(alloc, &snapshot, query, &answers)?;
         if is_over {
             break;
         }
@@ -292,11 +324,31 @@ fn same_rows(a: &[Row], b: &[Row]) -> bool {
     true
 }
 
-/// All rows of a snapshot, after an audit.
-fn rows_of(alloc: Global, snapshot: &Snapshot) -> Option<Vec<Row>> {
+/// Whether two parts have the same rows, and one certificate.
+fn same_part(a: &PartAnswer, b: &PartAnswer) -> bool {
+    a.part == b.part
+        && a.cover.certificate.as_slice() == b.cover.certificate.as_slice()
+        && a.cover.separators.as_slice() == b.cover.separators.as_slice()
+        && same_rows(a.rows.as_slice(), b.rows.as_slice())
+}
+
+/// Whether two answers are the same: each part, its certificate, and the rows of all.
+fn same_answers(a: &SoundAnswers, b: &SoundAnswers) -> bool {
+    if a.answers.len() != b.answers.len() {
+        return false;
+    }
+    for (x, y) in a.answers.iter().zip(&b.answers) {
+        if !same_part(x, y) {
+            return false;
+        }
+    }
+    same_rows(a.rows.as_slice(), b.rows.as_slice())
+}
+
+/// All that a snapshot answers, after an audit.
+fn answered_by(alloc: Global, snapshot: &Snapshot) -> Option<SoundAnswers> {
     let query = query_of(alloc, EVERYTHING)?;
-    let found = search_and_audit(alloc, snapshot, &query).ok()?;
-    Some(found.rows)
+    search_and_audit(alloc, snapshot, &query).ok()
 }
 
 /// Adds the steps of an accepted event.
@@ -353,20 +405,21 @@ fn are_replayed(alloc: Global, done: &[Done], rows: &[Row]) -> Option<bool> {
     }
 }
 
-/// Whether a pass shows the replay of these events, as many as there are, and a snapshot that was
-/// held shows the rows that it showed.
+/// Whether a pass shows the replay of these events, as many as there are, a spoiled answer is
+/// found, and a snapshot that was held answers what it answered.
 fn is_kept<J: Naming>(
     alloc: Global,
     pass: &mut Pass<J>,
     done: &[Done],
     held: &Snapshot,
-    shown: &[Row],
+    shown: &SoundAnswers,
 ) -> Option<bool> {
     let last = pass.snapshot().ok()?;
-    let rows = rows_of(alloc, &last)?;
-    let again = rows_of(alloc, held)?;
-    let replayed = are_replayed(alloc, done, rows.as_slice())?;
-    Some(replayed && are_numbered(done, pass.events()) && same_rows(again.as_slice(), shown))
+    let found = answered_by(alloc, &last)?;
+    let again = answered_by(alloc, held)?;
+    let replayed = are_replayed(alloc, done, found.rows.as_slice())?;
+    let spoiled = finds_spoiled(alloc, &last, &query_of(alloc, EVERYTHING)?, found.answers)?;
+    Some(replayed && spoiled && are_numbered(done, pass.events()) && same_answers(&again, shown))
 }
 
 /// How many events of a store are accepted, where all that is to hold does.
@@ -380,17 +433,17 @@ fn count_accepted<J: Naming + Send + Sync, C: Wait + Drop + Send + Sync, R: Thre
     let board = Board {
         clock: AtomicU64::new(0),
         at_work: AtomicU64::new(10),
-        receipt: Mutex::new(None),
+        receipts: Mutex::new(Vec::new(alloc)),
     };
     let mut pass = passes.pop()?;
     let before = change_often(rt, alloc, committer, &board, seats.first_mut()?, 1)?;
     board.tell(rt, &mut pass);
     let held = pass.snapshot().ok()?;
-    let shown = rows_of(alloc, &held)?;
+    let shown = answered_by(alloc, &held)?;
     let actors = actors_of(alloc, seats, passes)?;
     let done = act_at_once(rt, alloc, committer, &board, before, actors)?;
     board.tell(rt, &mut pass);
-    let kept = is_kept(alloc, &mut pass, &done, &held, shown.as_slice())?;
+    let kept = is_kept(alloc, &mut pass, &done, &held, &shown)?;
     if kept { Some(done.len()) } else { None }
 }
 

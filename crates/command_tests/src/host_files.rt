@@ -1,7 +1,7 @@
 //! Files of the host.
 
-use crate::directories::{CHUNKS, INDEX, META, NOTHING_DELETED, Pieces, join_pieces};
-use crate::rows::{Extent, is_given};
+use crate::directories::{A_CHUNKS, A_INDEX, META, NOTHING_DELETED, Pieces, join_pieces};
+use crate::rows::is_given;
 use commands::ReadFiles;
 use std::{env, fs};
 
@@ -20,8 +20,8 @@ fn new_folder(rt: &HostRuntime) -> Option<String> {
 /// The files of a block, by where they stand in its directory.
 const FILES: &[(&str, Pieces)] = &[
     ("meta.json", META),
-    ("index", INDEX),
-    ("chunks/000001", CHUNKS),
+    ("index", A_INDEX),
+    ("chunks/000001", A_CHUNKS),
     ("tombstones", NOTHING_DELETED),
 ];
 
@@ -54,10 +54,10 @@ fn files_of_the_host_are_read(rt: HostRuntime) {
     assert!(rt; env::set_current_dir(&rt, folder).is_ok());
     assert!(rt; write_files(&rt).is_some());
     let words = ["check", folder];
-    let line = format!(in rt.alloc(); "{folder}: ok 6 series 6 samples\n").ok();
+    let line = format!(in rt.alloc(); "{folder}: ok 1 series 2 samples\n").ok();
     let line = line.expect(&rt, "there is memory");
     let whole = (words.as_slice(), 0, line.as_str(), "");
-    assert!(rt; is_given(&rt, rt.alloc(), &rt, &whole, &Extent::Whole));
+    assert!(rt; is_given(&rt, rt.alloc(), &rt, &whole));
     for (most, length) in LENGTHS {
         assert!(rt; has_length(&rt, *most, *length), "{most}");
     }
@@ -65,6 +65,6 @@ fn files_of_the_host_are_read(rt: HostRuntime) {
     let line = format!(in rt.alloc(); "cannot read {folder}/tombstones\n").ok();
     let line = line.expect(&rt, "there is memory");
     let torn = (words.as_slice(), 3, "", line.as_str());
-    assert!(rt; is_given(&rt, rt.alloc(), &rt, &torn, &Extent::Whole));
+    assert!(rt; is_given(&rt, rt.alloc(), &rt, &torn));
     assert!(rt; fs::remove_dir_all(&rt, folder).is_ok());
 }

@@ -1,40 +1,16 @@
-//! Rows of runs: words, and what the program gives for them.
+//! Runs of the program: words, and what it gives for them.
 
-use crate::directories::DIRECTORIES;
 use commands::ReadFiles;
 use commands::run::{Ending, run};
 use std::alloc::Global;
 use std::io::Write;
 use std::net::{Net, TcpListener, TcpStream};
-use std::process::Abort;
-use std::str;
 use std::sync::Wait;
 use std::thread::Threads;
 use std::time::Clock;
 
 /// Words, the exit status, and what goes to the first and to the second writer.
 pub type Row<'a> = (&'a [&'a str], u8, &'a str, &'a str);
-
-/// How much of what goes to a writer a row has.
-pub enum Extent {
-    /// All of it.
-    Whole,
-    /// A piece of it; nothing goes where the piece is empty.
-    Piece,
-}
-
-/// Whether bytes are what a row has: a text in which a piece stands, and none for the empty piece.
-fn fits(bytes: &[u8], text: &str, extent: &Extent) -> bool {
-    match str::from_utf8(bytes) {
-        Ok(told) => {
-            match extent {
-                Extent::Whole => told == text,
-                Extent::Piece => told.contains(text) && told.is_empty() == text.is_empty(),
-            }
-        }
-        Err(_) => false,
-    }
-}
 
 /// How a run ends, which writes to these writers.
 pub fn ending_of<
@@ -72,32 +48,13 @@ pub fn told_by<
 pub fn is_given<
     Q: Wait + Threads + Net<Listener = TcpListener, Stream = TcpStream> + Clock + Eprint + Sync,
     F: ReadFiles,
->(rt: &Q, alloc: Global, files: &F, row: &Row<'_>, extent: &Extent) -> bool {
+>(rt: &Q, alloc: Global, files: &F, row: &Row<'_>) -> bool {
     match told_by(rt, alloc, files, row.0) {
         Some(told) => {
             told.status == row.1
-                && fits(told.out.as_slice(), row.2, extent)
-                && fits(told.err.as_slice(), row.3, extent)
+                && told.out.as_slice() == row.2.as_bytes()
+                && told.err.as_slice() == row.3.as_bytes()
         }
         None => false,
-    }
-}
-
-/// Asserts that each row is what the program gives over the directories of the tests.
-pub fn assert_given<
-    Q: Abort
-        + Wait
-        + Threads
-        + Net<Listener = TcpListener, Stream = TcpStream>
-        + Clock
-        + Eprint
-        + Sync,
->(rt: &Q, alloc: Global, rows: &[Row<'_>], extent: &Extent) {
-    for row in rows {
-        assert!(rt;
-            is_given(rt, alloc, &DIRECTORIES, row, extent),
-            "{:?}",
-            row.0
-        );
     }
 }

@@ -1,58 +1,106 @@
-//! Lines of `serve`.
+//! The line of a server, and its replies.
 
 use crate::directories::DIRECTORIES;
-use crate::rows::{Extent, Row, assert_given, is_given};
-use std::net::TcpListener;
+use crate::rows::{is_given, told_by};
+use std::alloc::Global;
+use std::io::{Read, Write};
+use std::net::{Net, TcpListener, TcpStream};
+use std::sync::Wait;
+use std::thread::{Threads, join, sleep};
+use std::time::{Clock, Duration};
 
-/// The words that are at fault, a directory that cannot be read, and what is told where all is
-/// well.
-const SERVED: &[Row<'_>] = &[
-    (&["serve"], 2, "", "--port <P>"),
-    (&["serve", "--port=65536"], 2, "", "65536"),
-    (&["serve", "--port=-1"], 2, "", "-1"),
-    (&["serve", "--port=0", "--workers=0"], 2, "", "--workers"),
-    (&["serve", "--port=0", "--workers=65"], 2, "", "--workers"),
-    (&["serve", "--port=0", "--requests=x"], 2, "", "--requests"),
-    (&["serve", "--port=0", "--port=0"], 2, "", "--port"),
-    (
-        &["serve", "--port=0", "nowhere"],
-        3,
-        "",
-        "cannot read nowhere/meta.json",
-    ),
-    (&["serve", "--port=0", "--requests=0"], 0, "listening ", ""),
-    (
-        &[
-            "serve",
-            "--port=0",
-            "--workers=64",
-            "--requests=0",
-            "--idle-seconds=0",
-        ],
-        0,
-        "listening ",
-        "",
-    ),
-    (&["serve", "--help"], 0, "POST /cut", ""),
-];
+/// How often a client looks for the server, and how many milliseconds it waits in between.
+const LOOKS: u32 = 1000;
 
-/// It tells a port that is in use too.
+const PAUSE: u64 = 10;
+
+/// A connection to a server that may not listen yet.
+fn connect<R: Clock + Net<Stream = TcpStream>>(rt: &R, port: u16) -> Option<TcpStream> {
+    for _ in 0..LOOKS {
+        if let Ok(stream) = TcpStream::connect(rt, ("127.0.0.1", port)) {
+            return Some(stream);
+        }
+        sleep(rt, Duration::from_millis(PAUSE));
+    }
+    None
+}
+
+/// All replies to these requests, asked one after another.
+fn ask_all<R: Clock + Net<Stream = TcpStream>>(
+    rt: &R,
+    alloc: Global,
+    port: u16,
+    requests: &[&[u8]],
+) -> Option<Vec<u8>> {
+    let mut replies = Vec::new(alloc);
+    for request in requests {
+        let mut stream = connect(rt, port)?;
+        stream.write_all(request).ok()?;
+        let _count = stream.read_to_end(&mut replies).ok()?;
+    }
+    Some(replies)
+}
+
+/// A port that is free.
+fn free_port<R: Net<Listener = TcpListener, Stream = TcpStream>>(rt: &R) -> Option<u16> {
+    let listener = TcpListener::bind(rt, "127.0.0.1:0").ok()?;
+    Some(listener.local_addr().ok()?.port())
+}
+
+const WRITE: &[u8] =
+    b"POST /write HTTP/1.1\r\nContent-Length: 59\r\n\r\n[{\"labels\":{\"__name__\":\"up\",\"job\":\"a\"},\"samples\":[[30,5]]}]";
+
+const SELECT: &[u8] = b"GET /select?selector=up&from=30&to=100 HTTP/1.1\r\n\r\n";
+
+/// Their replies over the directories `a` and `b`, which end at 20.
+const REPLIES: &[u8] =
+    b"HTTP/1.1 200 OK\r\nContent-Type: application/json\r\nContent-Length: 11\r\nConnection: close\r\n\r\n{\"ok\":true}HTTP/1.1 200 OK\r\nContent-Type: application/json\r\nContent-Length: 308\r\nConnection: close\r\n\r\n{\"parts\":[{\"part\":\"block 0\",\"skipped\":true},{\"part\":\"block 1\",\"skipped\":true},{\"intervals\":[{\"from\":1,\"until\":4294967296,\"verdict\":\"match\"}],\"part\":\"head\",\"rows\":[{\"labels\":{\"__name__\":\"up\",\"job\":\"a\"},\"samples\":[[30,5]]}],\"separators\":[1]}],\"rows\":[{\"labels\":{\"__name__\":\"up\",\"job\":\"a\"},\"samples\":[[30,5]]}]}";
+
+/// Whether a server of one worker that ends after two connections tells its port and nothing else,
+/// and these are its replies to a client beside it.
+fn is_served<
+    Q: Wait + Threads + Net<Listener = TcpListener, Stream = TcpStream> + Clock + Eprint + Sync,
+>(rt: &Q, alloc: Global, port: u16) -> Option<bool> {
+    let word = format!(in alloc; "--port={port}").ok()?;
+    let line = format!(in alloc; "listening {port}\n").ok()?;
+    let words = [
+        "serve",
+        word.as_str(),
+        "--workers=1",
+        "--requests=2",
+        "a",
+        "b",
+    ];
+    let (told, replies) = join(
+        rt,
+        || told_by(rt, alloc, &DIRECTORIES, &words),
+        || ask_all(rt, alloc, port, &[WRITE, SELECT]),
+    );
+    let (told, replies) = told.zip(replies)?;
+    let tells = told.status == 0 && told.out.as_slice() == line.as_bytes() && told.err.is_empty();
+    Some(tells && replies.as_slice() == REPLIES)
+}
+
 #[test]
-fn a_server_tells_its_port_or_why_it_does_not_serve(rt: HostRuntime) {
-    assert_given(&rt, rt.alloc(), SERVED, &Extent::Piece);
-    let listener = TcpListener::bind(&rt, "127.0.0.1:0").ok();
-    let listener = listener.expect(&rt, "a port is free");
-    let port = listener
-        .local_addr()
-        .ok()
-        .expect(&rt, "it has an address")
-        .port();
-    let word = format!(in rt.alloc(); "--port={port}")
-        .ok()
-        .expect(&rt, "there is memory");
-    let line = format!(in rt.alloc(); "cannot listen on 127.0.0.1:{port}\n").ok();
-    let line = line.expect(&rt, "there is memory");
+fn a_server_ends_after_as_many_connections_as_its_line_says(rt: HostRuntime) {
+    let port = free_port(&rt).expect(&rt, "a port is free");
+    assert!(rt; is_served(&rt, rt.alloc(), port) == Some(true));
+}
+
+/// Whether a port that is in use is told.
+fn is_refused<
+    Q: Wait + Threads + Net<Listener = TcpListener, Stream = TcpStream> + Clock + Eprint + Sync,
+>(rt: &Q, alloc: Global) -> Option<bool> {
+    let listener = TcpListener::bind(rt, "127.0.0.1:0").ok()?;
+    let port = listener.local_addr().ok()?.port();
+    let word = format!(in alloc; "--port={port}").ok()?;
+    let line = format!(in alloc; "cannot listen on 127.0.0.1:{port}\n").ok()?;
     let words = ["serve", word.as_str()];
     let row = (words.as_slice(), 3, "", line.as_str());
-    assert!(rt; is_given(&rt, rt.alloc(), &DIRECTORIES, &row, &Extent::Whole));
+    Some(is_given(rt, alloc, &DIRECTORIES, &row))
+}
+
+#[test]
+fn a_port_that_is_in_use_is_told(rt: HostRuntime) {
+    assert!(rt; is_refused(&rt, rt.alloc()) == Some(true));
 }

@@ -1,4 +1,5 @@
-//! Ranges and texts of `meta.json`; below, blocks and their files.
+//! Ranges, and blocks that are made by a rule; below, what blocks lend. What is refused of their
+//! files stands in `case_files`.
 
 mod lent_lists;
 mod opened_blocks;
@@ -102,8 +103,6 @@ fn counted(
     }
 }
 
-const WORKED: &str = r#"{"minTime":0,"maxTime":20,"version":1}"#;
-
 /// The ends of a range, and whether they are accepted.
 const RANGES: &[(i64, i64, bool)] = &[
     (0, 20, true),
@@ -124,112 +123,9 @@ fn a_range_goes_up_to_its_end(rt: HostRuntime) {
         };
         assert!(rt; found == *accepted, "{min} to {max}");
     }
+    assert!(rt; BlockError::Memory.code() == "memory");
     let range = Range::new(0, 20).expect(&rt, "it is a range");
     for (t, want) in [(-1, false), (0, true), (19, true), (20, false)] {
         assert!(rt; range.covers(t) == want, "at {t}");
     }
-}
-
-/// The code that a text is refused with, or `ok` where it says this range.
-fn said(alloc: Global, text: &[u8], min: i64, max: i64) -> &'static str {
-    match Range::read_meta(alloc, text) {
-        Ok(range) if range.min() == min && range.max() == max => "ok",
-        Ok(_) => "another range",
-        Err(error) => error.code(),
-    }
-}
-
-/// Texts, each with the ends of its range.
-const SAID: &[(&str, i64, i64)] = &[
-    (WORKED, 0, 20),
-    (
-        r#" { "version" : 1 , "maxTime" : 20 , "minTime" : -20 } "#,
-        -20,
-        20,
-    ),
-    (
-        r#"{"ulid":"01","minTime":0,"maxTime":20,"stats":{"version":7},"version":1}"#,
-        0,
-        20,
-    ),
-    (
-        r#"{"minTime":"x","minTime":0,"maxTime":20,"version":2,"version":1}"#,
-        0,
-        20,
-    ),
-    (
-        r#"{"minTime":-4611686018427387904,"maxTime":4611686018427387903,"version":1}"#,
-        MIN_TIME,
-        MAX_TIME,
-    ),
-];
-
-#[test]
-fn a_meta_says_a_range(rt: HostRuntime) {
-    let alloc = rt.alloc();
-    for (text, min, max) in SAID {
-        assert!(rt;
-            said(alloc, text.as_bytes(), *min, *max) == "ok",
-            "of {text}"
-        );
-    }
-}
-
-const REFUSED: &[&str] = &[
-    r#"{"minTime":0,"maxTime":20,"version":2}"#,
-    r#"{"minTime":0,"maxTime":20,"version":1.0}"#,
-    r#"{"minTime":0,"maxTime":20,"version":"1"}"#,
-    r#"{"minTime":20,"maxTime":20,"version":1}"#,
-    r#"{"minTime":20,"maxTime":0,"version":1}"#,
-    r#"{"minTime":-0,"maxTime":20,"version":1}"#,
-    r#"{"minTime":1.0,"maxTime":20,"version":1}"#,
-    r#"{"minTime":0,"maxTime":1e2,"version":1}"#,
-    r#"{"minTime":null,"maxTime":20,"version":1}"#,
-    r#"{"minTime":-4611686018427387905,"maxTime":20,"version":1}"#,
-    r#"{"minTime":0,"maxTime":4611686018427387904,"version":1}"#,
-    r#"{"minTime":0,"maxTime":9223372036854775808,"version":1}"#,
-    r#"{"minTime":0,"maxTime":18446744073709551617,"version":1}"#,
-    r#"{"minTime":0,"minTime":"x","maxTime":20,"version":1}"#,
-    r#"{"minTime":0,"maxTime":20,"version":1,"version":2}"#,
-    r#"{"maxTime":20,"version":1}"#,
-    r#"{"minTime":0,"version":1}"#,
-    r#"{"minTime":0,"maxTime":20}"#,
-    r#"{"mintime":0,"maxTime":20,"version":1}"#,
-    r#"{"minTime":0,"maxTime":20,"version":1,"stats":1e999}"#,
-    r#"{"minTime":0,"maxTime":20,"version":1,"ulid":"\ud800"}"#,
-    r#"{"minTime":0,"maxTime":20,"version":1}}"#,
-    r#"{"minTime":0,"maxTime":20,"version":1"#,
-    r#"[{"minTime":0,"maxTime":20,"version":1}]"#,
-    "[0,20,1]",
-    "20",
-    "",
-];
-
-#[test]
-fn another_text_is_refused(rt: HostRuntime) {
-    let alloc = rt.alloc();
-    for text in REFUSED {
-        assert!(rt; said(alloc, text.as_bytes(), 0, 20) == "B2", "of {text}");
-    }
-    let no_text = b"{\"minTime\":0,\"maxTime\":20,\"version\":1,\"\xFF\":0}";
-    assert!(rt; said(alloc, no_text, 0, 20) == "B2");
-    assert!(rt; BlockError::Memory.code() == "memory");
-}
-
-/// The worked text, with spaces up to this length.
-fn padded(alloc: Global, length: usize) -> Option<Vec<u8>> {
-    let mut text = WORKED.as_bytes().to_vec(alloc).ok()?;
-    for _ in text.len()..length {
-        text.push(b' ').ok()?;
-    }
-    Some(text)
-}
-
-#[test]
-fn a_meta_has_a_mebibyte_at_most(rt: HostRuntime) {
-    let alloc = rt.alloc();
-    let mut text = padded(alloc, 1_048_576).expect(&rt, "there is memory");
-    assert!(rt; said(alloc, &text, 0, 20) == "ok");
-    text.push(b' ').ok().expect(&rt, "there is memory");
-    assert!(rt; said(alloc, &text, 0, 20) == "B2");
 }

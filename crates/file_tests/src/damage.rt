@@ -87,8 +87,8 @@ fn damage_gives(alloc: Global, format: &Format, file: &mut [u8], place: usize, w
     all
 }
 
-/// The place up to which any other byte of a file is refused as it is to be, or 0 where the file as it
-/// is is refused.
+/// The place up to which any other byte of a file is refused as it is to be, or 0 where the file as
+/// it is is refused.
 fn refused_until(alloc: Global, row: &Codes) -> usize {
     let (format, bytes, codes) = row;
     let Ok(mut file) = bytes.to_vec(alloc) else {

@@ -1,5 +1,5 @@
-//! Files that spell deletions, each refusal of a file that is spoiled in one place, and what
-//! deletions cover.
+//! What deletions cover, and entries of any byte. What is refused of a file of deletions stands in
+//! `case_files`.
 
 use crate::files::{NO_DELETIONS, deletions_of};
 use labels::SeriesRef;
@@ -79,32 +79,6 @@ const THREE: &[u8] = &[0x07, 0x0A, 0x0C, 0x06, 0x14, 0x28, 0x06, 0x00, 0xC8, 0x0
 
 /// The entries of a file, what is added, and what is then deleted.
 const FOUND: &[(&[u8], &[Added], &[Asked])] = &[
-    (&[], &[], &[(6, 0, false)]),
-    (
-        &[0x06, 0x03, 0x28],
-        &[],
-        &[
-            (6, -3, false),
-            (6, -2, true),
-            (6, 0, true),
-            (6, 20, true),
-            (6, 21, false),
-            (5, 0, false),
-            (7, 0, false),
-        ],
-    ),
-    (
-        OVERLAP,
-        &[],
-        &[
-            (6, 0, true),
-            (6, 11, true),
-            (6, 20, true),
-            (6, 21, false),
-            (4, 1, true),
-            (4, 2, false),
-        ],
-    ),
     (OVERLAP, &[(4, 2, 3)], &[(4, 2, true)]),
     (
         &[],
@@ -130,7 +104,7 @@ fn deletes(tombstones: &Tombstones, asked: &[Asked]) -> bool {
 }
 
 #[test]
-fn deletions_are_closed_and_overlap_in_any_order(rt: HostRuntime) {
+fn added_deletions_are_closed_and_overlap_in_any_order(rt: HostRuntime) {
     let alloc = rt.alloc();
     for (entries, added, asked) in FOUND {
         let tombstones = with_added(alloc, entries, added).expect(&rt, "it opens");
@@ -141,6 +115,9 @@ fn deletions_are_closed_and_overlap_in_any_order(rt: HostRuntime) {
         );
     }
 }
+
+/// Which series have a deletion, where the series 6 and 3 have one.
+const HAVE: &[(u32, bool)] = &[(2, false), (3, true), (4, false), (6, true), (7, false)];
 
 /// The deletions of files, those of a series beside each other in the order of time.
 const LISTED: &[(&[u8], &[Added])] = &[(&[], &[]), (THREE, &[LONG, SHORT, OTHER])];
@@ -155,7 +132,7 @@ fn are_deletions(found: &[Deletion], want: &[Added]) -> bool {
 }
 
 #[test]
-fn deletions_stand_in_order(rt: HostRuntime) {
+fn deletions_stand_in_order_and_are_found_by_their_series(rt: HostRuntime) {
     let alloc = rt.alloc();
     for (entries, want) in LISTED {
         let tombstones = with_added(alloc, entries, &[]).expect(&rt, "it opens");
@@ -164,17 +141,9 @@ fn deletions_stand_in_order(rt: HostRuntime) {
     let four = with_added(alloc, OVERLAP, &[(4, 2, 3)]).expect(&rt, "it opens");
     assert!(rt; four.deletions().len() == 4);
     assert!(rt; code_of(alloc, NO_DELETIONS) == "ok");
-}
-
-/// Which series have a deletion, where the series 6 and 3 have one.
-const HAVE: &[(u32, bool)] = &[(2, false), (3, true), (4, false), (6, true), (7, false)];
-
-#[test]
-fn added_deletions_are_found(rt: HostRuntime) {
-    let tombstones = with_added(rt.alloc(), &[], &[(6, 1, 2), (3, 5, 5)]);
-    let tombstones = tombstones.expect(&rt, "it opens");
+    let two = with_added(alloc, &[], &[(6, 1, 2), (3, 5, 5)]).expect(&rt, "it opens");
     for (reference, want) in HAVE {
-        let found = tombstones.has_deletion_of(SeriesRef::new(*reference));
+        let found = two.has_deletion_of(SeriesRef::new(*reference));
         assert!(rt; found == *want, "{reference}");
     }
     let deletion = Deletion {
@@ -228,41 +197,11 @@ fn an_interval_of_several_series_is_joined(rt: HostRuntime) {
     assert!(rt; deletes(&long, OF_THREE));
 }
 
-/// Files, each with the code of its first fault.
-const REFUSED: &[(&[u8], &str)] = &[
-    (&[0x01, 0x30, 0xBA], "T1"),
-    (&[0x01, 0x30, 0xBA, 0x31, 0x01, 0, 0, 0, 0], "T1"),
-    (&[0x01, 0x30, 0xBA, 0x30], "T2"),
-    (&[0x01, 0x30, 0xBA, 0x30, 0x02, 0, 0, 0, 0], "T2"),
-    (&[0x01, 0x30, 0xBA, 0x30, 0x01, 0, 0, 0], "T4"),
-    (&[0x01, 0x30, 0xBA, 0x30, 0x01, 0, 0, 0, 1], "T3"),
-    (&[0x01, 0x30, 0xBA, 0x30, 0x01, 6, 0, 0, 0, 0], "T3"),
-];
-
-/// What is no list of entries, under a checksum that is right.
-const NO_ENTRIES: &[&[u8]] = &[
-    &[0x06, 0x03],
-    &[0x06, 0x02, 0x01],
-    &[0x80, 0x80, 0x80, 0x80, 0x10, 0x00, 0x00],
-    &[0x86, 0x00, 0x00, 0x00],
-];
-
 /// The code of a file of these entries.
 fn code_of_entries(alloc: Global, entries: &[u8]) -> &'static str {
     match deletions_of(alloc, entries) {
         Some(file) => code_of(alloc, &file),
         None => "no memory",
-    }
-}
-
-#[test]
-fn the_first_failing_check_is_answered(rt: HostRuntime) {
-    let alloc = rt.alloc();
-    for (file, want) in REFUSED {
-        assert!(rt; code_of(alloc, file) == *want, "of {file:?}");
-    }
-    for entries in NO_ENTRIES {
-        assert!(rt; code_of_entries(alloc, entries) == "T4", "of {entries:?}");
     }
 }
 

@@ -1,11 +1,10 @@
-//! The worked index of the format, spelled by hand; below, other indexes and what is refused.
+//! What the worked index of the format lends, and an index of more labels than a series may have.
+//! What is refused of an index stands in `case_files`.
 
-mod accepted;
-mod lies;
 mod limits;
 
-use crate::files::{EMPTY_INDEX, INDEX, is_text, put_labels};
-use index_reader::{Index, IndexError, Entries};
+use crate::files::{INDEX, is_text, put_labels};
+use index_reader::{Entries, Index, IndexError};
 use std::alloc::{AllocError, Global};
 
 /// The code that the file is refused with, or `ok`.
@@ -22,12 +21,6 @@ fn code_of_made(alloc: Global, made: Option<Vec<u8>>) -> &'static str {
         Some(file) => code_of(alloc, &file),
         None => "no file",
     }
-}
-
-/// The index of a file that is to be made first.
-fn index_of(alloc: Global, made: Option<Vec<u8>>) -> Option<Index> {
-    let file = made?;
-    Index::open(alloc, &file).ok()
 }
 
 /// A line for each series: its reference, its label set, and of each chunk the least time, the
@@ -91,21 +84,6 @@ const PAIRS: &[(&str, &str)] = &[
 const LISTS: &str =
     "=\n__name__=down [ 4 5 ]\n__name__=up [ 6 7 8 9 ]\njob=a [ 4 6 7 ]\njob=b [ 5 8 9 ]\njob=z\nup=a\nzone=x [ 7 9 ]\n 4 5 6 7 8 9";
 
-#[test]
-fn the_worked_index_is_accepted(rt: HostRuntime) {
-    let alloc = rt.alloc();
-    let index = Index::open(alloc, INDEX).ok().expect(&rt, "it opens");
-    assert!(rt; index.len() == 6 && !index.is_empty());
-    assert!(rt; is_text(shown(alloc, &index), SHOWN));
-}
-
-#[test]
-fn lists_are_those_of_the_worked_index(rt: HostRuntime) {
-    let alloc = rt.alloc();
-    let index = Index::open(alloc, INDEX).ok().expect(&rt, "it opens");
-    assert!(rt; is_text(lists_of(alloc, &index, PAIRS), LISTS));
-}
-
 /// How many values each of these names has, and the values.
 fn values_of(alloc: Global, index: &Index, names: &[&str]) -> Result<String, AllocError> {
     let mut text = String::new(alloc);
@@ -119,45 +97,30 @@ fn values_of(alloc: Global, index: &Index, names: &[&str]) -> Result<String, All
     Ok(text)
 }
 
-#[test]
-fn values_ascend(rt: HostRuntime) {
-    let alloc = rt.alloc();
-    let index = Index::open(alloc, INDEX).ok().expect(&rt, "it opens");
-    let values = values_of(alloc, &index, &["__name__", "job", "zone", "", "up"]);
-    assert!(rt;
-        is_text(
-            values,
-            "__name__: 2 down up\njob: 2 a b\nzone: 1 x\n: 0\nup: 0\n"
-        )
-    );
-}
+/// The values of names, some of which no series has.
+const VALUES: &str = "__name__: 2 down up\njob: 2 a b\nzone: 1 x\n: 0\nup: 0\n";
 
-#[test]
-fn reads_are_counted(rt: HostRuntime) {
-    let index = Index::open(rt.alloc(), INDEX).ok().expect(&rt, "it opens");
-    let mut list = index.all();
-    assert!(rt; list.reads() == 0);
+/// How often a list is read, of which each entry is asked for.
+fn reads_of(mut list: Entries<'_>) -> u64 {
     for i in 0..list.len() {
         if i < list.len() {
             list.get(i);
         }
     }
-    assert!(rt; list.reads() == 6);
+    list.reads()
 }
 
 #[test]
-fn an_index_without_series_is_accepted(rt: HostRuntime) {
-    let index = Index::open(rt.alloc(), EMPTY_INDEX).ok();
-    let index = index.expect(&rt, "it opens");
-    assert!(rt; index.is_empty());
-    assert!(rt; index.all().len() == 0);
-    assert!(rt; index.value_count("job") == 0);
-}
-
-#[test]
-fn a_short_file_is_refused(rt: HostRuntime) {
-    assert!(rt; code_of(rt.alloc(), &[0xBA; 56]) == "I1");
-    assert!(rt; code_of(rt.alloc(), &[0xBA; 57]) == "I2");
+fn the_worked_index_lends_its_series_its_lists_and_its_values(rt: HostRuntime) {
+    let alloc = rt.alloc();
+    let index = Index::open(alloc, INDEX).ok().expect(&rt, "it opens");
+    assert!(rt; index.len() == 6 && !index.is_empty());
+    assert!(rt; is_text(shown(alloc, &index), SHOWN));
+    assert!(rt; is_text(lists_of(alloc, &index, PAIRS), LISTS));
+    let values = values_of(alloc, &index, &["__name__", "job", "zone", "", "up"]);
+    assert!(rt; is_text(values, VALUES));
+    assert!(rt; index.all().reads() == 0);
+    assert!(rt; reads_of(index.all()) == 6);
 }
 
 /// The worked index, opened again where it was refused memory.

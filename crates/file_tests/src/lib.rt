@@ -1,5 +1,6 @@
-//! Tests of the files of a block, from outside: what their readers accept, what they refuse, and
-//! what the writer writes.
+//! Tests of the files of a block from outside, of what needs types: what their readers lend, files
+//! that are made by a rule or changed in each byte, and what the writer writes. Files with bytes
+//! changed, and what is said of each, stand in `case_files`.
 //!
 //! They stand in a crate of their own, so that the gate proves each reader once and not a second
 //! time with its tests.

@@ -27,16 +27,6 @@ const NUMBERS: &[(&[u8], Result<u64, WireError>, usize)] = &[
     ),
 ];
 
-#[test]
-fn numbers_are_read_from_their_one_spelling(rt: HostRuntime) {
-    for (bytes, want, left) in NUMBERS {
-        let mut cut = Cut::new(bytes);
-        assert!(rt; cut.uvarint() == *want, "of {bytes:?}");
-        assert!(rt; cut.len() == *left, "after {bytes:?}");
-        assert!(rt; cut.is_empty() == (*left == 0), "after {bytes:?}");
-    }
-}
-
 /// Bytes, and the number that they are with its sign.
 const SIGNED: &[(&[u8], Result<i64, WireError>)] = &[
     (&[0], Ok(0)),
@@ -52,7 +42,13 @@ const SIGNED: &[(&[u8], Result<i64, WireError>)] = &[
 ];
 
 #[test]
-fn signed_numbers_zigzag(rt: HostRuntime) {
+fn numbers_are_read_from_their_one_spelling_and_signed_ones_zigzag(rt: HostRuntime) {
+    for (bytes, want, left) in NUMBERS {
+        let mut cut = Cut::new(bytes);
+        assert!(rt; cut.uvarint() == *want, "of {bytes:?}");
+        assert!(rt; cut.len() == *left, "after {bytes:?}");
+        assert!(rt; cut.is_empty() == (*left == 0), "after {bytes:?}");
+    }
     for (bytes, want) in SIGNED {
         assert!(rt; Cut::new(bytes).varint() == *want, "of {bytes:?}");
     }
@@ -100,23 +96,22 @@ fn put_each(out: &mut Vec<u8>) -> Result<(), AllocError> {
     put_bytes(out, &[9, 8])
 }
 
+/// Bytes, and their checksum as it is published.
+const SUMS: &[(&[u8], u32)] = &[
+    (b"", 0),
+    (b"123456789", 0xE306_9283),
+    (&[0; 32], 0x8A91_36AA),
+    (&[0xFF; 32], 0x62A8_AB43),
+];
+
 #[test]
-fn each_put_appends_its_spelling(rt: HostRuntime) {
+fn each_put_appends_its_spelling_and_checksums_are_those_of_public_vectors(rt: HostRuntime) {
     let mut out = Vec::new(rt.alloc());
     assert!(rt; put_each(&mut out).is_ok());
     assert!(rt; out.as_slice() == PUT);
-}
-
-#[test]
-fn the_checksum_of_public_vectors(rt: HostRuntime) {
-    assert!(rt; crc32c(b"") == 0);
-    assert!(rt; crc32c(b"123456789") == 0xE306_9283);
-    assert!(rt; crc32c(&[0; 32]) == 0x8A91_36AA);
-    assert!(rt; crc32c(&[0xFF; 32]) == 0x62A8_AB43);
-}
-
-#[test]
-fn refusals_have_their_numbers(rt: HostRuntime) {
+    for (bytes, sum) in SUMS {
+        assert!(rt; crc32c(bytes) == *sum, "of {bytes:?}");
+    }
     assert!(rt; WireError::Short.code() == "W1");
     assert!(rt; WireError::LongForm.code() == "W2");
     assert!(rt; WireError::TooBig.code() == "W3");

@@ -25,7 +25,7 @@ fn set_of(alloc: Global, pairs: Pairs) -> Option<LabelSet> {
 }
 
 /// Whether this text was made.
-pub fn is_text(made: Result<String, AllocError>, want: &str) -> bool {
+fn is_text(made: Result<String, AllocError>, want: &str) -> bool {
     match made {
         Ok(text) => text.as_str() == want,
         Err(_) => false,
@@ -43,13 +43,6 @@ const NAMES: &[(&str, bool)] = &[
     ("a:b", false),
     ("é", false),
 ];
-
-#[test]
-fn names_have_letters_digits_and_underscores(rt: HostRuntime) {
-    for (text, want) in NAMES {
-        assert!(rt; is_name(text) == *want, "{text}");
-    }
-}
 
 /// The code of what pairs are refused with.
 fn code_of(alloc: Global, pairs: Result<Vec<(String, String)>, AllocError>) -> &'static str {
@@ -152,29 +145,29 @@ fn label_sets_are_in_order(rt: HostRuntime) {
     }
 }
 
-/// A copy of `{job="a",zone="x"}` that is equal to it; the label set itself is gone.
+/// A copy of `{job="a",zone="x"}` that is equal to it, and to the set of the same borrowed pairs;
+/// the label set itself is gone.
 fn copied(alloc: Global) -> Option<LabelSet> {
     let labels = set_of(alloc, &[("job", "a"), ("zone", "x")])?;
+    let same = LabelSet::of_sorted_texts(alloc, &[("job", "a"), ("zone", "x")]).ok()?;
     let copy = labels.try_clone().ok()?;
-    if copy == labels { Some(copy) } else { None }
+    if copy == labels && same == labels {
+        Some(copy)
+    } else {
+        None
+    }
 }
 
 #[test]
-fn a_copy_is_equal(rt: HostRuntime) {
-    let copy = copied(rt.alloc()).expect(&rt, "it is equal");
-    assert!(rt; copy.value("zone") == "x");
-}
-
-#[test]
-fn a_row_gives_back_its_parts(rt: HostRuntime) {
-    let labels = set_of(rt.alloc(), &[("job", "a")]);
-    let labels = labels.expect(&rt, "it is a label set");
+fn a_copy_is_equal_and_a_row_gives_back_its_parts(rt: HostRuntime) {
+    let labels = copied(rt.alloc()).expect(&rt, "it is equal");
+    assert!(rt; labels.value("zone") == "x");
     let samples = Vec::from_array(rt.alloc(), [Sample::new(10, -1)]).ok();
     let row = Row::new(labels, samples.expect(&rt, "there is memory"));
     assert!(rt; row.labels().value("job") == "a");
     assert!(rt; row.samples().len() == 1);
     let (labels, samples) = row.into_parts();
-    assert!(rt; labels.len() == 1);
+    assert!(rt; labels.len() == 2);
     assert!(rt; samples.as_slice() == [Sample::new(10, -1)].as_slice());
 }
 
@@ -188,7 +181,10 @@ const TIMES: &[(i64, bool)] = &[
 ];
 
 #[test]
-fn times_and_references(rt: HostRuntime) {
+fn names_times_and_references(rt: HostRuntime) {
+    for (text, want) in NAMES {
+        assert!(rt; is_name(text) == *want, "{text}");
+    }
     for (t, want) in TIMES {
         assert!(rt; is_time(*t) == *want, "{t}");
     }
@@ -203,14 +199,4 @@ fn the_example_of_the_first_page(rt: HostRuntime) -> Result<(), AllocError> {
     assert_eq!(rt; labels.value("job"), "a");
     assert_eq!(rt; labels.value("zone"), "");
     Ok(())
-}
-
-#[test]
-fn borrowed_pairs_make_the_same_set(rt: HostRuntime) {
-    let alloc = rt.alloc();
-    let pairs = [("__name__", "up"), ("job", "a")];
-    let made = LabelSet::of_sorted_texts(alloc, &pairs).ok();
-    let made = made.expect(&rt, "there is memory");
-    let same = set_of(alloc, &[("__name__", "up"), ("job", "a")]);
-    assert!(rt; made == same.expect(&rt, "it is a label set"));
 }

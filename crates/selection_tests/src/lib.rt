@@ -1,13 +1,11 @@
-//! Tests of what a selection is made of, from outside: label sets and their order, matchers and the
-//! text of selectors, lists of references, certificates, and lists in pages.
+//! Tests of what a selection is made of from outside, of what needs types: label sets and their
+//! order, matchers and queries, lists of references, and lists in pages. Selectors and certificates
+//! stand in `case_files`.
 //!
 //! They stand in a crate of their own, so that the gate proves each of those crates once and not a
-//! second time with its tests. `specs/` has the parts that some of them stand on, with the proofs
-//! that they are parts.
+//! second time with its tests.
 #![tactic(auto)]
 
-#[cfg(test)]
-mod certificates;
 #[cfg(test)]
 mod label_sets;
 #[cfg(test)]

@@ -1,11 +1,7 @@
-//! Lists by worked rows, over a part of three series.
+//! Lists by worked rows.
 
-mod three_series;
-
-use self::three_series::ThreeSeries;
 use labels::SeriesRef;
-use matchers::Selector;
-use postings::{Counted, Postings, SliceList, Union, Without, choose};
+use postings::{Counted, Postings, SliceList, Union, Without};
 use std::alloc::Global;
 
 fn references(alloc: Global, numbers: &[u32]) -> Option<Vec<SeriesRef>> {
@@ -177,34 +173,4 @@ fn each_move_is_counted(rt: HostRuntime) {
     list.advance();
     assert!(rt; list.current() == None);
     assert!(rt; list.moves() == 5);
-}
-
-/// Selectors of one matcher, and the references that each chooses of the three series.
-const CHOSEN: &[(&str, &[u32])] = &[
-    ("{job=\"a\"}", &[1]),
-    ("{job!=\"a\"}", &[2, 3]),
-    ("{job=\"\"}", &[3]),
-    ("{job!=\"\"}", &[1, 2]),
-    ("{job=\"z\"}", &[]),
-    ("{job!=\"z\"}", &[1, 2, 3]),
-    ("{zone=\"\"}", &[1, 2, 3]),
-    ("{zone!=\"\"}", &[]),
-    ("{job=~\"b|z\"}", &[2]),
-    ("{job=~\"a?\"}", &[1, 3]),
-    ("{job!~\"a|b\"}", &[3]),
-    ("{job!~\"b*\"}", &[1]),
-];
-
-fn chooses(alloc: Global, text: &str, numbers: &[u32]) -> Option<bool> {
-    let series = ThreeSeries::new();
-    let matchers = Selector::parse(alloc, text).ok()?;
-    let chosen = choose(alloc, &&series, matchers.first()?).ok()?;
-    Some(leaves(chosen, &[], numbers))
-}
-
-#[test]
-fn a_matcher_chooses_by_the_value_of_its_name(rt: HostRuntime) {
-    for (text, numbers) in CHOSEN {
-        assert!(rt; chooses(rt.alloc(), text, numbers) == Some(true), "{text}");
-    }
 }

@@ -1,8 +1,8 @@
-//! Matchers, queries and selectors by worked rows, each with what is to be told of it.
+//! Matchers and queries by worked rows, each with what is to be told of it. Texts of selectors
+//! stand in `case_files`.
 
-use crate::label_sets::is_text;
 use matchers::{Matcher, MatcherError, Op, Query, Selector, SelectorError};
-use std::alloc::{AllocError, Global};
+use std::alloc::Global;
 
 const MIN: i64 = -4_611_686_018_427_387_904;
 
@@ -12,18 +12,6 @@ fn matcher(alloc: Global, name: &str, op: Op, text: &str) -> Result<Matcher, Mat
     let name = String::from_str(alloc, name)?;
     let text = String::from_str(alloc, text)?;
     Matcher::new(alloc, name, op, text)
-}
-
-/// A text: what it begins with, a piece and how often it follows, and what it ends with.
-type Long = (&'static str, &'static str, usize, &'static str);
-
-fn text_of(alloc: Global, long: &Long) -> Result<String, AllocError> {
-    let mut text = String::from_str(alloc, long.0)?;
-    for _ in 0..long.2 {
-        text.push_str(long.1)?;
-    }
-    text.push_str(long.3)?;
-    Ok(text)
 }
 
 #[test]
@@ -38,36 +26,30 @@ fn the_example_of_the_first_page(rt: HostRuntime) -> Result<(), SelectorError> {
     Ok(())
 }
 
-/// Matchers by name, operator and text, each with the code of its refusal.
-const MATCHERS: &[(&str, Op, Long, &str)] = &[
-    ("job", Op::Like, ("x|", "", 0, ""), "ok"),
-    ("_9", Op::Equal, ("(", "", 0, ""), "ok"),
-    ("job", Op::Like, ("(?x)a#", "", 0, ""), "M2"),
-    ("job", Op::NotLike, ("a)(b", "", 0, ""), "M2"),
-    ("job", Op::NotLike, ("(", "", 0, ""), "M2"),
-    ("", Op::Equal, ("", "", 0, ""), "M1"),
-    ("9a", Op::Like, ("(", "", 0, ""), "M1"),
-    ("a:b", Op::NotEqual, ("", "", 0, ""), "M1"),
-    ("job", Op::Like, ("", "a", 256, ""), "ok"),
-    ("job", Op::NotLike, ("", "a", 257, ""), "M3"),
-    ("job", Op::Equal, ("", "a", 257, ""), "ok"),
+/// Matchers by name, operator and text, each with the code of its refusal. The name is asked first.
+const MATCHERS: &[(&str, Op, &str, &str)] = &[
+    ("job", Op::Like, "x|", "ok"),
+    ("_9", Op::Equal, "(", "ok"),
+    ("job", Op::Like, "(?x)a#", "M2"),
+    ("job", Op::NotLike, "a)(b", "M2"),
+    ("job", Op::NotLike, "(", "M2"),
+    ("", Op::Equal, "", "M1"),
+    ("9a", Op::Like, "(", "M1"),
+    ("a:b", Op::NotEqual, "", "M1"),
 ];
 
-fn code(alloc: Global, name: &str, op: Op, long: &Long) -> &'static str {
-    let Ok(text) = text_of(alloc, long) else {
-        return "no memory";
-    };
-    match matcher(alloc, name, op, text.as_str()) {
+fn code(alloc: Global, name: &str, op: Op, text: &str) -> &'static str {
+    match matcher(alloc, name, op, text) {
         Ok(_) => "ok",
         Err(refusal) => refusal.code(),
     }
 }
 
 #[test]
-fn a_matcher_is_refused_by_its_first_fault_and_a_pattern_has_at_most_256_bytes(rt: HostRuntime) {
-    for (name, op, long, want) in MATCHERS {
-        let code = code(rt.alloc(), name, *op, long);
-        assert!(rt; code == *want, "{name} {} {}", long.0, long.2);
+fn a_matcher_is_refused_by_its_first_fault(rt: HostRuntime) {
+    for (name, op, text, want) in MATCHERS {
+        let code = code(rt.alloc(), name, *op, text);
+        assert!(rt; code == *want, "{name} {text}");
     }
 }
 
@@ -167,168 +149,5 @@ fn a_query_is_refused_by_its_first_fault(rt: HostRuntime) {
             asked.1,
             asked.2
         );
-    }
-}
-
-/// A selector, its code, and how many matchers it has or where its fault is.
-const SELECTORS: &[(&str, &str, usize)] = &[
-    ("up", "ok", 1),
-    ("up{job=\"a\"}", "ok", 2),
-    ("up {job=\"a\"}", "ok", 2),
-    ("\t\r\n up \n{\tjob\n= \"a\" , job !~\r\"b\"\n}\n", "ok", 3),
-    ("a:b{c=\"d\"}", "ok", 2),
-    (":{a=\"b\"}", "ok", 2),
-    ("up{}", "ok", 1),
-    ("{a=\"\\\\\\\"\\n\"}", "ok", 1),
-    ("{a=\"é\"}", "ok", 1),
-    ("{a=\"\0\"}", "ok", 1),
-    ("{a=\"\"}", "ok", 1),
-    ("{}", "M6", 0),
-    ("{ }", "M6", 0),
-    ("", "M4", 0),
-    ("1up", "M4", 0),
-    ("é", "M4", 0),
-    ("\0", "M4", 0),
-    ("up é", "M4", 3),
-    ("up{job=a}", "M4", 7),
-    ("up{job=\"a\"", "M4", 10),
-    ("up{job=\"a\",}", "M4", 11),
-    ("up{job=\"a\",,", "M4", 11),
-    ("up{,", "M4", 3),
-    ("{a:b=\"c\"}", "M4", 2),
-    ("{a==\"c\"}", "M4", 3),
-    ("{a!\"c\"}", "M4", 3),
-    ("{a=\"x\ny\"}", "M4", 5),
-    ("{a=\"\\x\"}", "M4", 5),
-    ("{a=\"\\", "M4", 5),
-    ("up{} up", "M4", 5),
-    ("up up", "M4", 3),
-    (" ", "M4", 1),
-    ("up}", "M4", 2),
-    ("up\u{b}", "M4", 2),
-    ("up\u{a0}", "M4", 2),
-    ("\u{feff}up", "M4", 0),
-    ("{{", "M4", 1),
-    ("{a}", "M4", 2),
-    ("{a=~~\"b\"}", "M4", 4),
-    ("{a= =", "M4", 4),
-    ("{a='b'}", "M4", 3),
-    ("{a=\"b\"c=\"d\"}", "M4", 6),
-    ("{a=\"b\" c=\"d\"}", "M4", 7),
-    ("{a=\"\u{e9}", "M4", 6),
-    ("{1a=\"b\"}", "M4", 1),
-    ("{job=~\"(\"", "M4", 9),
-    ("{job=~\"a)(b\"}", "M2", 0),
-    ("{job=~\"(?x)a#\"}", "M2", 0),
-    ("{job!~\"(\",job=~\"b\"}", "M2", 0),
-    ("{job=\"(\"}", "ok", 1),
-];
-
-fn outcome(alloc: Global, text: &str) -> (&'static str, usize) {
-    match Selector::parse(alloc, text) {
-        Ok(matchers) => ("ok", matchers.len()),
-        Err(SelectorError::Syntax { at }) => ("M4", at),
-        Err(refusal) => (refusal.code(), 0),
-    }
-}
-
-#[test]
-fn a_selector_is_refused_by_its_first_fault(rt: HostRuntime) {
-    for (text, code, at) in SELECTORS {
-        let found = outcome(rt.alloc(), text);
-        assert!(rt; found.0 == *code && found.1 == *at, "{text}");
-    }
-}
-
-/// Selectors of many matchers, and of long patterns and texts.
-const LONG: &[(Long, (&str, usize))] = &[
-    (("{", "a=\"\",", 15, "a=\"\"}"), ("ok", 16)),
-    (("{", "a=\"\",", 16, "a=\"\"}"), ("M5", 0)),
-    (("{", "a=\"\",", 16, "a=~\"(\"}"), ("M5", 0)),
-    (("{", "a=\"\",", 15, "a=~\"(\"}"), ("M2", 0)),
-    (("{", "a=\"\",", 16, "a=\"\",}"), ("M4", 86)),
-    (("{a=\"\",b=~\"", "a", 256, "\"}"), ("ok", 2)),
-    (("{a=\"\",b=~\"", "a", 257, "\"}"), ("M3", 0)),
-    (("{a=\"\",b=~\"", "a", 256, "\",c!~\"(\"}"), ("M2", 0)),
-    (("{a=\"\",b=~\"", "a", 257, "\",c!~\"(\"}"), ("M3", 0)),
-    (("{c=~\"(\",b=~\"", "a", 256, "\"}"), ("M2", 0)),
-    (("{c=~\"(\",b=~\"", "a", 257, "\"}"), ("M2", 0)),
-    (("{b=\"", "a", 256, "\"}"), ("ok", 1)),
-    (("{b=\"", "a", 257, "\"}"), ("ok", 1)),
-];
-
-fn outcome_of(alloc: Global, long: &Long) -> (&'static str, usize) {
-    match text_of(alloc, long) {
-        Ok(text) => outcome(alloc, text.as_str()),
-        Err(_) => ("no memory", 0),
-    }
-}
-
-#[test]
-fn a_selector_has_at_most_16_matchers_and_256_bytes_of_a_pattern(rt: HostRuntime) {
-    for (long, want) in LONG {
-        let found = outcome_of(rt.alloc(), long);
-        assert!(rt;
-            found.0 == want.0 && found.1 == want.1,
-            "{} of {}",
-            want.0,
-            long.2
-        );
-    }
-}
-
-/// Selectors, each with its matchers between angles.
-const SHOWN: &[(&str, &str)] = &[
-    ("up", "<__name__ = up>"),
-    ("up{}", "<__name__ = up>"),
-    ("a:b{c=\"d\"}", "<__name__ = a:b><c = d>"),
-    ("{b=\"1\",a!=\"2\",b=\"1\"}", "<b = 1><a != 2><b = 1>"),
-    (
-        "\tup\r\n{ job\t=~\n\" a|b \" , zone!~\"\" }\n",
-        "<__name__ = up><job =~  a|b ><zone !~ >",
-    ),
-    ("{__name__=~\"u.*\",_9=\"x\"}", "<__name__ =~ u.*><_9 = x>"),
-    ("{a=\"\\\\ \\\" \\n\"}", "<a = \\ \" \n>"),
-    ("{a=\"\\\\n\"}", "<a = \\n>"),
-    (
-        "{a=\"h\u{e9} \u{20ac} \u{1f600}\"}",
-        "<a = h\u{e9} \u{20ac} \u{1f600}>",
-    ),
-    ("{a=\"\0\t\r,}{\"}", "<a = \0\t\r,}{>"),
-];
-
-fn sign(op: Op) -> &'static str {
-    match op {
-        Op::Equal => " = ",
-        Op::NotEqual => " != ",
-        Op::Like => " =~ ",
-        Op::NotLike => " !~ ",
-    }
-}
-
-fn show(shown: &mut String, matcher: &Matcher) -> Result<(), AllocError> {
-    shown.push('<')?;
-    shown.push_str(matcher.name())?;
-    shown.push_str(sign(matcher.op()))?;
-    shown.push_str(matcher.text())?;
-    shown.push('>')
-}
-
-/// Matchers, each between angles, with one space on either side of its operator.
-fn shown(alloc: Global, matchers: &[Matcher]) -> Result<String, AllocError> {
-    let mut shown = String::new(alloc);
-    for matcher in matchers {
-        show(&mut shown, matcher)?;
-    }
-    Ok(shown)
-}
-
-#[test]
-fn a_selector_gives_its_matchers(rt: HostRuntime) {
-    let alloc = rt.alloc();
-    for (text, want) in SHOWN {
-        let matchers = Selector::parse(alloc, text).ok();
-        let matchers = matchers.expect(&rt, "it is a selector");
-        assert!(rt; is_text(shown(alloc, &matchers), want), "{text}");
     }
 }

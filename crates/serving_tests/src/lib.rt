@@ -1,16 +1,23 @@
-//! Tests of serving from outside: what is answered over blocks and a head, and what a connection
-//! gets; the loop of one worker over connections in memory, a server and its clients as threads of
-//! one process, and rows that are written and asked again. What requests are read as is tested in
-//! `request_tests`.
+//! Tests of searches and of serving from outside, of what needs types: which lists a search and a
+//! certificate walk, what workers answer beside one thread, connections that are refused memory,
+//! the loop of one worker over connections in memory, a server and its clients as threads of one
+//! process, two threads that commit, and rows that are made by a rule and asked again. Requests and
+//! their replies stand in `case_files`.
 //!
-//! They stand in a crate of their own, so that the gate proves each crate of serving once and not a
-//! second time with its tests.
+//! They stand in a crate of their own, so that the gate proves each crate that they test once and
+//! not a second time with its tests.
 #![tactic(auto)]
 
 #[cfg(test)]
-mod block_answers;
+mod any_rows;
+#[cfg(test)]
+mod certificates;
 #[cfg(test)]
 mod connections;
+#[cfg(test)]
+mod counting;
+#[cfg(test)]
+mod first_pages;
 #[cfg(test)]
 mod generated;
 #[cfg(test)]
@@ -18,6 +25,10 @@ mod memory;
 #[cfg(test)]
 mod script;
 #[cfg(test)]
+mod searches;
+#[cfg(test)]
 mod store;
 #[cfg(test)]
 mod system;
+#[cfg(test)]
+mod two_threads;

@@ -1,17 +1,14 @@
-//! Batches, and what the heads after them show.
+//! What a head numbers, and what commits to it copy. Batches, deletions and cuts with what is then
+//! answered stand in `case_files`.
 
-mod copies;
-mod cuts;
-mod deletions;
-mod refusals;
+mod events;
 
 use crate::rows::{
-    AFTER_BOTH, AFTER_BOTH_TURNED, FIRST, SECOND, after, after_both, counted, empty, holds,
-    is_text, put_labels, samples_in, shown, six_series, with_samples,
+    AFTER_BOTH, Wanted, after, counted, empty, holds, is_text, put_labels, samples_in, shown,
+    six_series, with_samples,
 };
 use head::{HeadView, PartName, Snapshot};
 use labels::{Sample, SeriesRef};
-use postings::{Postings, Source};
 use std::alloc::{AllocError, Global};
 
 /// The label set and the samples of each number, in the order of creation; some are of no series.
@@ -39,13 +36,6 @@ fn has_series(alloc: Global, snapshot: &Snapshot, row: &(u32, &str, &str)) -> bo
     is_text(labels_of(alloc, snapshot.head(), row.0), row.1) && holds(alloc, snapshot, row.0, row.2)
 }
 
-/// The samples of the series 1 in a closed range.
-const RANGES: &[(i64, i64, &str)] = &[(10, 10, " 10:1"), (11, 20, " 20:1"), (11, 19, "")];
-
-fn has_in_range(alloc: Global, snapshot: &Snapshot, row: &(i64, i64, &str)) -> bool {
-    is_text(samples_in(alloc, snapshot.head(), 1, (row.0, row.1)), row.2)
-}
-
 #[test]
 fn series_are_numbered_in_order_of_creation(rt: HostRuntime) {
     let alloc = rt.alloc();
@@ -54,133 +44,6 @@ fn series_are_numbered_in_order_of_creation(rt: HostRuntime) {
         assert!(rt; has_series(alloc, &six, row), "series {}", row.0);
     }
     assert!(rt; is_text(shown(alloc, &six), AFTER_BOTH));
-    for row in RANGES {
-        assert!(rt;
-            has_in_range(alloc, &six, row),
-            "from {} to {}",
-            row.0,
-            row.1
-        );
-    }
-}
-
-fn put_references<P: Postings + Drop>(text: &mut String, mut list: P) -> Result<(), AllocError> {
-    for _ in 0..10 {
-        if let Some(reference) = list.current() {
-            write!(text, " {}", reference.number())?;
-        }
-        list.advance();
-    }
-    Ok(())
-}
-
-/// The numbers of the references of a list, ten at most.
-fn references<P: Postings + Drop>(alloc: Global, list: P) -> Result<String, AllocError> {
-    let mut text = String::new(alloc);
-    put_references(&mut text, list)?;
-    Ok(text)
-}
-
-/// The references of the series that have a pair.
-const LISTS: &[(&str, &str, &str)] = &[
-    ("__name__", "up", " 1 2 3 6"),
-    ("job", "a", " 1 4 6"),
-    ("zone", "x", " 3 6"),
-    ("zone", "y", ""),
-    ("zone", "", ""),
-    ("", "", ""),
-];
-
-fn has_list(alloc: Global, head: &HeadView, row: &(&str, &str, &str)) -> bool {
-    match head.list(row.0, row.1) {
-        Some(list) => is_text(references(alloc, list), row.2),
-        None => row.2.is_empty(),
-    }
-}
-
-/// The values of each name, ascending.
-const VALUES: &[(&str, &str)] = &[
-    ("__name__", "down up "),
-    ("job", "a b "),
-    ("zone", "x "),
-    ("none", ""),
-];
-
-fn values_of(alloc: Global, head: &HeadView, name: &str) -> Result<String, AllocError> {
-    let mut found = String::new(alloc);
-    for i in 0..head.value_count(name) {
-        found.push_str(head.value_at(name, i))?;
-        found.push(' ')?;
-    }
-    Ok(found)
-}
-
-fn has_values(alloc: Global, head: &HeadView, row: &(&str, &str)) -> bool {
-    is_text(values_of(alloc, head, row.0), row.1)
-}
-
-#[test]
-fn a_head_lends_the_lists_of_its_pairs(rt: HostRuntime) {
-    let alloc = rt.alloc();
-    let six = six_series(alloc).expect(&rt, "both batches are accepted");
-    assert!(rt; is_text(references(alloc, six.head().all()), " 1 2 3 4 5 6"));
-    for row in LISTS {
-        assert!(rt; has_list(alloc, six.head(), row), "{}={}", row.0, row.1);
-    }
-    for row in VALUES {
-        assert!(rt; has_values(alloc, six.head(), row), "{}", row.0);
-    }
-}
-
-/// The references of the series that have a sample in a closed range.
-const LIVE: &[(i64, i64, &str)] = &[
-    (0, 100, " 1 2 3 4 5 6"),
-    (25, 40, " 2 5"),
-    (31, 39, ""),
-    (40, 40, " 5"),
-];
-
-fn live(alloc: Global, head: &HeadView, from: i64, to: i64) -> Result<String, AllocError> {
-    references(alloc, head.live(alloc, from, to)?)
-}
-
-/// The six series, two of which have a later sample.
-fn of_two_times(alloc: Global) -> Option<Snapshot> {
-    let six = six_series(alloc)?;
-    after(alloc, &six, &[(2, 30, 1), (5, 40, 1)]).ok()
-}
-
-#[test]
-fn live_series_have_a_sample_in_range(rt: HostRuntime) {
-    let alloc = rt.alloc();
-    let more = of_two_times(alloc).expect(&rt, "the batch is accepted");
-    for (from, to, want) in LIVE {
-        assert!(rt;
-            is_text(live(alloc, more.head(), *from, *to), want),
-            "from {from} to {to}"
-        );
-    }
-}
-
-#[test]
-fn the_order_of_batches_is_that_of_references(rt: HostRuntime) {
-    let alloc = rt.alloc();
-    let turned = after_both(alloc, SECOND, FIRST).expect(&rt, "both batches are accepted");
-    assert!(rt; is_text(shown(alloc, &turned), AFTER_BOTH_TURNED));
-}
-
-/// The six series, after a batch that repeats the newest sample of one.
-fn repeated(alloc: Global) -> Option<Snapshot> {
-    let six = six_series(alloc)?;
-    after(alloc, &six, &[(1, 20, 1)]).ok()
-}
-
-#[test]
-fn a_repeat_of_the_newest_sample_changes_nothing(rt: HostRuntime) {
-    let alloc = rt.alloc();
-    let again = repeated(alloc).expect(&rt, "the batch is accepted");
-    assert!(rt; holds(alloc, &again, 1, " 10:1 20:1"));
-    assert_eq!(rt; again.head().copied(), 0);
 }
 
 /// Whether these are samples at the times from 0, so many of them.
@@ -240,26 +103,47 @@ fn of_two_thousand(alloc: Global) -> Option<Snapshot> {
     after(alloc, &one, &samples).ok()
 }
 
-fn count_of_second(alloc: Global, snapshot: &Snapshot) -> Option<usize> {
-    match snapshot
-        .head()
-        .samples_of(alloc, SeriesRef::new(2), 0, 3_000)
-    {
+/// How many samples a series has at the times from 0 to 3,000.
+fn count_of(alloc: Global, snapshot: &Snapshot, number: u32) -> Option<usize> {
+    let series = SeriesRef::new(number);
+    match snapshot.head().samples_of(alloc, series, 0, 3_000) {
         Ok(found) => Some(found.len()),
         Err(_) => None,
     }
 }
 
+/// Batches to two series of 1,000 samples, each with two open chunks of 40, and how many samples
+/// these copy and the two series then have.
+const TO_BOTH: &[(&[Wanted], u64, usize, usize)] = &[
+    (&[(1, 2_000, 1), (2, 2_000, 1)], 80, 1_001, 1_001),
+    (
+        &[(1, 2_000, 1), (2, 2_000, 1), (1, 2_001, 1)],
+        80,
+        1_002,
+        1_001,
+    ),
+    (&[(2, 2_000, 1)], 40, 1_000, 1_001),
+];
+
+fn copies(alloc: Global, before: &Snapshot, row: &(&[Wanted], u64, usize, usize)) -> Option<bool> {
+    let next = after(alloc, before, row.0).ok()?;
+    Some(
+        next.head().copied() == row.1
+            && count_of(alloc, &next, 1)? == row.2
+            && count_of(alloc, &next, 2)? == row.3
+            && count_of(alloc, before, 1)? == 1_000
+            && count_of(alloc, before, 2)? == 1_000,
+    )
+}
+
 #[test]
-fn a_commit_copies_open_chunks_alone(rt: HostRuntime) {
+fn a_commit_copies_the_open_chunks_of_its_series_alone(rt: HostRuntime) {
     let alloc = rt.alloc();
     let two = of_two_thousand(alloc).expect(&rt, "both batches are accepted");
     assert_eq!(rt; two.head().copied(), 0);
-    let three = after(alloc, &two, &[(1, 2000, 1), (2, 2000, 1), (1, 2001, 1)]).ok();
-    let three = three.expect(&rt, "the batch is accepted");
-    assert_eq!(rt; three.head().copied(), 80);
-    assert_eq!(rt; count_of_second(alloc, &two), Some(1_000));
-    assert_eq!(rt; count_of_second(alloc, &three), Some(1_001));
+    for row in TO_BOTH {
+        assert!(rt; copies(alloc, &two, row) == Some(true), "{}", row.1);
+    }
 }
 
 fn has_head_alone(alloc: Global, snapshot: &Snapshot) -> bool {

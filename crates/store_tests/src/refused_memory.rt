@@ -5,11 +5,11 @@
 ghost use Rattle.std.specs.Prelude.{◌≡◌, []};
 ghost use Rattle.head.specs.Blocks.{opening_of};
 
-use crate::rows::{Wanted, job_a, put_labels, put_samples, set_of};
+use crate::rows::{Wanted, job_a, put_labels, put_samples, samples_of, set_of};
 use block::Block;
 use head::{CommitError, Event, Snapshot};
 use labels::{Row, Sample, is_time};
-use matchers::Matcher;
+use matchers::{Matcher, Op};
 use snapshots::{Appender, Committer, Naming, Pass, Seat, Store};
 use std::alloc::{AllocError, Global};
 use std::marker::Brand;
@@ -122,12 +122,40 @@ fn asked_again(alloc: Global, step: Step) -> Option<Asked> {
     }
 }
 
-/// How many samples or matchers a call is made with.
-fn count_of(asked: &Asked) -> usize {
-    match asked {
-        Asked::Commit(appender) => appender.len(),
-        Asked::Delete(matchers, _, _) => matchers.len(),
-        Asked::Cut(_) => 0,
+/// A batch that came back, gathered again; nothing where it is another.
+fn same_batch(alloc: Global, appender: Appender, wanted: &[Wanted]) -> Option<Asked> {
+    let samples = appender.into_event().into_batch()?;
+    if samples.as_slice() != samples_of(alloc, wanted)?.as_slice() {
+        return None;
+    }
+    let mut again = Appender::new(alloc);
+    for (labels, sample) in samples {
+        again.append(labels, sample).ok()?;
+    }
+    Some(Asked::Commit(again))
+}
+
+/// Whether these are the one matcher of job `a`.
+fn are_job_a(matchers: &[Matcher]) -> bool {
+    match matchers {
+        [one] => one.name() == "job" && one.op() == Op::Equal && one.text() == "a",
+        _ => false,
+    }
+}
+
+/// What came back of a step, to be asked again; nothing where it is another thing.
+fn same(alloc: Global, asked: Asked, step: Step) -> Option<Asked> {
+    let is_whole = match (&asked, step) {
+        (Asked::Delete(matchers, from, to), Step::Delete(first, last)) => {
+            are_job_a(matchers.as_slice()) && *from == first && *to == last
+        }
+        (Asked::Cut(at), Step::Cut(time)) => *at == time,
+        _ => false,
+    };
+    match (asked, step) {
+        (Asked::Commit(appender), Step::Commit(wanted)) => same_batch(alloc, appender, wanted),
+        (asked, _) if is_whole => Some(asked),
+        _ => None,
     }
 }
 
@@ -244,23 +272,38 @@ fn is_left<J: Naming, R: Wait + Drop>(
     store.seat.count() == events && shows(alloc, &mut store.pass, before)
 }
 
+/// Whether what came back is what was asked, the store is left as it was, and the call is then made.
+fn is_made_again<J: Naming, R: Wait + Drop>(
+    rt: &impl Wait,
+    alloc: Global,
+    store: &mut OneStore<J, R>,
+    back: (Asked, Step),
+    before: &str,
+) -> bool {
+    let events = store.seat.count();
+    match same(alloc, back.0, back.1) {
+        Some(asked) => {
+            is_left(alloc, store, events, before)
+                && number_of(ask(rt, store, asked)) == Ok(events.saturating_add(1))
+        }
+        None => false,
+    }
+}
+
 /// Whether a call is made. Where it was refused memory, all that it was made with comes back, the
 /// store is left as it was, and the call is made again.
 fn is_made<J: Naming, R: Wait + Drop>(
     rt: &impl Wait,
     alloc: Global,
     store: &mut OneStore<J, R>,
-    asked: Asked,
+    asked: (Asked, Step),
     before: &str,
 ) -> bool {
-    let count = count_of(&asked);
-    let events = store.seat.count();
-    let next = Ok(events.saturating_add(1));
+    let (asked, step) = asked;
+    let next = Ok(store.seat.count().saturating_add(1));
     match ask(rt, store, asked) {
         Err((asked, CommitError::Memory)) => {
-            count_of(&asked) == count
-                && is_left(alloc, store, events, before)
-                && number_of(ask(rt, store, asked)) == next
+            is_made_again(rt, alloc, store, (asked, step), before)
         }
         made => number_of(made) == next,
     }
@@ -286,7 +329,9 @@ fn count_made<J: Naming, R: Wait + Drop>(
         let Some(asked) = asked_again(alloc, *step) else {
             return count;
         };
-        if !is_made(rt, alloc, store, asked, before) || !shows(alloc, &mut store.pass, after) {
+        if !is_made(rt, alloc, store, (asked, *step), before)
+            || !shows(alloc, &mut store.pass, after)
+        {
             return count;
         }
         before = *after;

@@ -68,7 +68,7 @@ pub fn set_of(alloc: Global, number: usize) -> Option<LabelSet> {
     LabelSet::new(alloc, pairs).ok()
 }
 
-fn samples_of(alloc: Global, wanted: &[Wanted]) -> Option<Vec<(LabelSet, Sample)>> {
+pub fn samples_of(alloc: Global, wanted: &[Wanted]) -> Option<Vec<(LabelSet, Sample)>> {
     let mut samples = Vec::new(alloc);
     for (number, t, v) in wanted {
         let sample = (set_of(alloc, *number)?, Sample::new(*t, *v));
@@ -95,29 +95,6 @@ pub fn after(alloc: Global, at: &Snapshot, wanted: &[Wanted]) -> Result<Snapshot
         Ok(batch) => apply(alloc, at, &batch),
         Err(refusal) => Err(refusal),
     }
-}
-
-/// Whether a sample more is refused so.
-pub fn refuses(alloc: Global, at: &Snapshot, sample: Wanted, refusal: CommitError) -> bool {
-    is_refused(after(alloc, at, &[sample]), refusal)
-}
-
-/// Whether an event was refused so.
-pub fn is_refused(made: Result<Snapshot, CommitError>, refusal: CommitError) -> bool {
-    match made {
-        Ok(_) => false,
-        Err(other) => other == refusal,
-    }
-}
-
-/// Whether the blocks have so many samples each, and no block is left.
-pub fn counts(at: &Snapshot, want: &[u64]) -> bool {
-    for (block, count) in at.blocks().iter().zip(want) {
-        if block.sample_count() != *count {
-            return false;
-        }
-    }
-    at.blocks().len() == want.len()
 }
 
 /// A store without blocks and series.
@@ -221,12 +198,4 @@ pub fn holds(alloc: Global, snapshot: &Snapshot, number: u32, want: &str) -> boo
         samples_in(alloc, snapshot.head(), number, (0, 100_000)),
         want,
     )
-}
-
-/// The same, or that there is no memory to look.
-pub fn holds_if_seen(alloc: Global, snapshot: &Snapshot, number: u32, want: &str) -> bool {
-    match samples_in(alloc, snapshot.head(), number, (0, 100_000)) {
-        Ok(found) => found.as_str() == want,
-        Err(_) => true,
-    }
 }

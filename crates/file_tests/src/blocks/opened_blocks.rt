@@ -1,15 +1,9 @@
-//! The worked block, what is refused of it, and blocks of one series.
+//! The worked block without some samples, and blocks of one series whose chunks are made by a rule.
 
-use super::{counted, opened, worked};
-use crate::files::{CHUNKS, EMPTY_INDEX, INDEX, SEGMENT, deletions_of};
-use block::{Block, Range};
+use super::{counted, worked};
+use block::Block;
 use labels::SeriesRef;
 use std::alloc::Global;
-
-/// The code that a block was refused with, or `ok`.
-fn code_of(made: Result<Block, &'static str>) -> &'static str {
-    made.err().unwrap_or("ok")
-}
 
 /// Whether a block has these ends, and so many series and samples.
 fn has(block: &Block, range: (i64, i64), series: usize, samples: u64) -> bool {
@@ -17,110 +11,6 @@ fn has(block: &Block, range: (i64, i64), series: usize, samples: u64) -> bool {
         && block.range().max() == range.1
         && block.series_count() == series
         && block.sample_count() == samples
-}
-
-/// Deletions, and how many samples the worked block then has.
-const LEFT: &[(&[u8], u64)] = &[
-    (&[], 6),
-    (&[0x06, 0x03, 0x28], 5),
-    (&[0x06, 0x16, 0x28], 6),
-    (&[0x06, 0x03, 0x12], 6),
-    (&[0x06, 0x14, 0x14], 5),
-    (&[0x09, 0x03, 0x28, 0x04, 0x14, 0x28, 0x09, 0x14, 0x14], 4),
-];
-
-#[test]
-fn the_worked_block_opens_and_does_not_count_a_deleted_sample(rt: HostRuntime) {
-    let alloc = rt.alloc();
-    for (entries, want) in LEFT {
-        let block = worked(alloc, (0, 20), entries).ok();
-        let block = block.expect(&rt, "it opens");
-        assert!(rt; has(&block, (0, 20), 6, *want), "with {entries:?}");
-    }
-}
-
-/// A range, deletions, and the code of the worked block.
-const TOLD: &[(i64, i64, &[u8], &str)] = &[
-    (0, 20, &[], "ok"),
-    (10, 11, &[], "ok"),
-    (-20, 11, &[], "ok"),
-    (10, 20, &[], "ok"),
-    (0, 10, &[], "B1"),
-    (11, 20, &[], "B1"),
-    (-20, -10, &[], "B1"),
-    // A deletion of an unknown series is refused first.
-    (0, 20, &[0x0A, 0x03, 0x28], "T5"),
-    (0, 10, &[0x0A, 0x03, 0x28], "T5"),
-    (0, 20, &[0x03, 0x03, 0x28], "T5"),
-    (0, 10, &[0x06, 0x03, 0x28], "B1"),
-];
-
-#[test]
-fn times_lie_in_the_range_and_a_deletion_is_of_a_series(rt: HostRuntime) {
-    let alloc = rt.alloc();
-    for (min, max, entries, want) in TOLD {
-        let code = code_of(worked(alloc, (*min, *max), entries));
-        assert!(rt; code == *want, "{min} to {max} with {entries:?}");
-    }
-}
-
-/// A file with another byte at a place.
-fn spoiled(alloc: Global, file: &[u8], at: Option<usize>) -> Option<Vec<u8>> {
-    let mut copy = file.to_vec(alloc).ok()?;
-    if let Some(at) = at {
-        *copy.get_mut(at)? ^= 1;
-    }
-    Some(copy)
-}
-
-/// Where a byte of the index, of the chunks file and of the deletions is another, and the code.
-type Spoiled = (Option<usize>, Option<usize>, Option<usize>, &'static str);
-
-const SPOILED: &[Spoiled] = &[
-    (Some(0), Some(0), Some(0), "I2"),
-    (Some(66), Some(0), Some(0), "I8"),
-    (None, Some(0), Some(0), "C1"),
-    (None, Some(4), Some(0), "C2"),
-    (None, Some(8), Some(0), "C4"),
-    (None, Some(151), Some(0), "C4"),
-    (None, None, Some(0), "T1"),
-    (None, None, Some(4), "T2"),
-    (None, None, Some(11), "T3"),
-    (None, None, None, "T5"),
-];
-
-/// The block of the spoiled files from 0 up to 10, with a deletion of an unknown series.
-fn opens_spoiled(alloc: Global, row: &Spoiled) -> Option<Result<Block, &'static str>> {
-    let index = spoiled(alloc, INDEX, row.0)?;
-    let chunks = spoiled(alloc, CHUNKS, row.1)?;
-    let unknown = deletions_of(alloc, &[0x0A, 0x03, 0x28])?;
-    let deletions = spoiled(alloc, &unknown, row.2)?;
-    let range = Range::new(0, 10)?;
-    match Block::open(alloc, range, &index, chunks, &deletions) {
-        Ok(block) => Some(Ok(block)),
-        Err(error) => Some(Err(error.code())),
-    }
-}
-
-#[test]
-fn the_first_failing_check_is_answered(rt: HostRuntime) {
-    for row in SPOILED {
-        let made = opens_spoiled(rt.alloc(), row).expect(&rt, "the files are made");
-        assert!(rt; code_of(made) == row.3, "{}", row.3);
-    }
-}
-
-#[test]
-fn a_block_without_series_opens(rt: HostRuntime) {
-    let alloc = rt.alloc();
-    let chunks = SEGMENT.to_vec(alloc).ok().expect(&rt, "there is memory");
-    let block = opened(alloc, (0, 20), EMPTY_INDEX, chunks, &[]).ok();
-    let block = block.expect(&rt, "it opens");
-    assert!(rt; has(&block, (0, 20), 0, 0));
-    let chunks = SEGMENT.to_vec(alloc).ok().expect(&rt, "there is memory");
-    let entries = [0x06, 0x03, 0x28];
-    let refused = opened(alloc, (0, 20), EMPTY_INDEX, chunks, &entries);
-    assert!(rt; code_of(refused) == "T5");
 }
 
 /// Series, a closed range, and how many samples the worked block, of which the sample of the series 4

@@ -1,4 +1,4 @@
-//! Limits and numbers near them, in files whose checksums are right.
+//! As many labels as a series may have, and one more.
 
 use super::code_of_made;
 use crate::draft::Draft;
@@ -45,69 +45,5 @@ fn a_series_has_at_most_64_labels(rt: HostRuntime) {
     for (count, listed, want) in WIDE {
         let code = code_of_made(alloc, wide(alloc, *count, *listed));
         assert!(rt; code == *want, "{listed} of {count}");
-    }
-}
-
-/// An index of the series `{a="a"}`, whose body is spelled by these numbers. Of its symbols the
-/// first is empty, the next is no name, and `a` is the third.
-fn one_series(alloc: Global, numbers: &[u64]) -> Option<Vec<u8>> {
-    let mut draft = Draft::new(alloc, &["", "9", "a"]).ok()?;
-    let reference = draft.series(alloc, numbers).ok()?;
-    draft.list(alloc, &[("", "")], &[reference]).ok()?;
-    draft.list(alloc, &[("a", "a")], &[reference]).ok()?;
-    draft.whole(alloc).ok()
-}
-
-const TOP: u64 = u64::MAX;
-
-/// 2^63: the first time that is none, 2^62, as zigzag spells it.
-const HALF: u64 = 1 << 63;
-
-const ACCEPTED: &[&[u64]] = &[
-    &[1, 2, 2, 1, 20, 0, 8],
-    &[1, 2, 2, 1, HALF - 2, 0, TOP],
-    &[1, 2, 2, 1, HALF - 1, HALF - 1, 0],
-    &[1, 2, 2, 2, HALF - 1, 0, 0, HALF - 1, 0, TOP - 1],
-    &[1, 2, 2, 3, 0, 0, TOP, 1, 0, TOP, 1, 0, TOP - 2],
-];
-
-const REFUSED: &[&[u64]] = &[
-    &[TOP, 2, 2, 1, 20, 0, 8],
-    &[2, 2, 2, 1, 20, 0, 8],
-    &[0, 2, 2, 1, 20, 0, 8],
-    &[1, TOP, 2, 1, 20, 0, 8],
-    &[1, 2, TOP, 1, 20, 0, 8],
-    &[1, 3, 2, 1, 20, 0, 8],
-    &[1, 2, 3, 1, 20, 0, 8],
-    &[1, 0, 2, 1, 20, 0, 8],
-    &[1, 1, 2, 1, 20, 0, 8],
-    &[1, 2, 0, 1, 20, 0, 8],
-    &[1, 2, 2, TOP, 20, 0, 8],
-    &[1, 2, 2, 0, 20, 0, 8],
-    &[1, 2, 2, 0],
-    &[1, 2, 2, 1, 20, 0, 8, 0],
-    &[1, 2, 2, 1, HALF, 0, 8],
-    &[1, 2, 2, 1, HALF + 1, 0, 8],
-    &[1, 2, 2, 1, HALF - 2, 1, 8],
-    &[1, 2, 2, 1, HALF - 1, HALF, 8],
-    &[1, 2, 2, 1, 20, TOP, 8],
-    &[1, 2, 2, 2, 20, 0, 8, 0, 0, 0],
-    &[1, 2, 2, 2, 20, 0, 8, TOP, TOP, 0],
-    &[1, 2, 2, 2, 20, 0, TOP, 1, 0, 2],
-    &[1, 2, 2, 2, 20, 0, 0, 1, 0, 1],
-    &[1, 2, 2, 3, 0, 0, TOP, 1, 0, TOP, 1, 0, TOP],
-];
-
-/// The bodies by the code of an index of them.
-const BODIES: &[(&str, &[&[u64]])] = &[("ok", ACCEPTED), ("I9", REFUSED)];
-
-#[test]
-fn numbers_of_a_body_are_compared(rt: HostRuntime) {
-    let alloc = rt.alloc();
-    for (want, bodies) in BODIES {
-        for body in *bodies {
-            let code = code_of_made(alloc, one_series(alloc, body));
-            assert!(rt; code == *want, "{body:?}");
-        }
     }
 }

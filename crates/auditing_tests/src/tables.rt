@@ -1,0 +1,73 @@
+//! Audits of the parts of a snapshot against tables of their series.
+
+ghost use Rattle.std.specs.Prelude.{◌≡◌, IfOk};
+ghost use Rattle.labels.specs.Parts.{IsPart};
+
+use auditor::{Flaw, Table, audit};
+use block::Block;
+use cover::PartAnswer;
+use head::{HeadView, Snapshot};
+use matchers::Query;
+use postings::{PartName, Source};
+use std::alloc::Global;
+
+/// The law of what a source lends lists of: it is a part.
+fn lends_a_part<S: Source>(source: &S)
+    ensures { IsPart (S.part source.now) }
+{}
+
+/// The table of what a head lists.
+fn table_of_head(alloc: Global, head: &HeadView) -> Option<Table> {
+    lends_a_part(&head);
+    Some(Table::of_series(head.list_all(alloc).ok()?))
+}
+
+/// The table of what a block lists.
+fn table_of_block(alloc: Global, block: &Block) -> Option<Table> {
+    // What holds of a block's part is known where its range is asked for.
+    let _ = block.range();
+    Some(Table::of_series(block.list_all(alloc).ok()?))
+}
+
+/// The table of a part.
+fn table_of(alloc: Global, snapshot: &Snapshot, part: PartName) -> Option<Table> {
+    match part {
+        PartName::Head => table_of_head(alloc, snapshot.head()),
+        PartName::Block(n) => table_of_block(alloc, snapshot.block(n)?),
+    }
+}
+
+/// Audits each of these answers; nothing where one has a flaw.
+pub fn audit_parts(
+    alloc: Global,
+    snapshot: &Snapshot,
+    query: &Query,
+    answers: &[PartAnswer],
+) -> Option<()> {
+    for answer in answers {
+        let table = table_of(alloc, snapshot, answer.part)?;
+        audit(alloc, &table, query, answer).ok()?;
+    }
+    Some(())
+}
+
+/// Whether a row that is left out is found, in each of these answers that has rows, and one of them
+/// has.
+pub fn finds_spoiled(
+    alloc: Global,
+    snapshot: &Snapshot,
+    query: &Query,
+    answers: Vec<PartAnswer>,
+) -> Option<bool> {
+    let mut found = 0u64;
+    for mut answer in answers {
+        let table = table_of(alloc, snapshot, answer.part)?;
+        if answer.rows.pop().is_some() {
+            match audit(alloc, &table, query, &answer) {
+                Err(Flaw::WrongRows) => found = found.saturating_add(1),
+                _ => return Some(false),
+            }
+        }
+    }
+    Some(found > 0)
+}

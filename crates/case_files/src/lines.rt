@@ -1,0 +1,142 @@
+//! Command lines over files in memory, and checks of changed directories.
+
+use crate::directories::Directories;
+use crate::report::Report;
+use crate::spelling::{spell, words_of};
+use commands::run::run;
+use std::alloc::Global;
+use std::net::{Net, TcpListener, TcpStream};
+use std::sync::Wait;
+use std::thread::Threads;
+use std::time::Clock;
+use std::{io, str};
+
+/// What a command line gives, or is to give.
+#[derive(Drop)]
+pub struct Told {
+    status: u8,
+    out: Vec<u8>,
+    err: Vec<u8>,
+}
+
+/// What `querier` gives for these words over these files.
+pub fn told_by<
+    Q: Wait + Threads + Net<Listener = TcpListener, Stream = TcpStream> + Clock + Eprint + Sync,
+>(rt: &Q, alloc: Global, files: &Directories, words: &[String]) -> Told {
+    let mut out = Vec::new(alloc);
+    let mut err = Vec::new(alloc);
+    let ending = run(
+        rt,
+        alloc,
+        files,
+        words,
+        &mut io::empty(),
+        &mut out,
+        &mut err,
+    );
+    Told {
+        status: ending.status,
+        out,
+        err,
+    }
+}
+
+/// What the lines of a case want, and whether they tell all of it.
+fn wanted_by(alloc: Global, lines: &[&str]) -> Option<(Told, bool)> {
+    let mut told = Told {
+        status: 0,
+        out: Vec::new(alloc),
+        err: Vec::new(alloc),
+    };
+    let mut whole = true;
+    for line in lines.iter().skip(1) {
+        let (mark, text) = line.split_once(' ')?;
+        let text = spell(alloc, text)?;
+        match mark {
+            "|" | "|~" => told.out.extend_from_slice(&text).ok()?,
+            "!" | "!~" => told.err.extend_from_slice(&text).ok()?,
+            _ => told.status = str::from_utf8(&text).ok()?.parse().ok()?,
+        }
+        match mark {
+            "|" => told.out.push(b'\n').ok()?,
+            "!" => told.err.push(b'\n').ok()?,
+            "?" => {}
+            _ => whole = false,
+        }
+    }
+    Some((told, whole))
+}
+
+/// Whether bytes are what is wanted, or have it somewhere; where nothing is wanted, there is none.
+fn fits(came: &[u8], wanted: &[u8], whole: bool) -> bool {
+    match (str::from_utf8(came), str::from_utf8(wanted)) {
+        (Ok(came), Ok(wanted)) if !whole && !wanted.is_empty() => came.contains(wanted),
+        _ => came == wanted,
+    }
+}
+
+/// A command line, the files that it is tried over, if they are its own, and what it is to give.
+#[derive(Drop)]
+pub struct Line<'a> {
+    text: &'a str,
+    own: Option<Directories>,
+    pub words: Vec<String>,
+    wanted: Told,
+    whole: bool,
+}
+
+impl Line<'_> {
+    /// The files that it is tried over: its own, or else these.
+    pub fn files<'b>(&'b self, shared: &'b Directories) -> &'b Directories {
+        match &self.own {
+            Some(own) => own,
+            None => shared,
+        }
+    }
+
+    /// Counts it: whether what it gave is what is wanted.
+    pub fn judge(&self, report: &mut Report, came: &Told) {
+        let passed = fits(&came.out, &self.wanted.out, self.whole)
+            && fits(&came.err, &self.wanted.err, self.whole)
+            && came.status == self.wanted.status;
+        report.count(passed, self.text, &self.wanted.out, &came.out);
+    }
+}
+
+/// The command line that these lines tell, and what it is to give.
+pub fn line_of<'a>(alloc: Global, text: &'a str, lines: &[&'a str]) -> Option<Line<'a>> {
+    let words = words_of(alloc, text)?;
+    let (wanted, whole) = wanted_by(alloc, lines)?;
+    Some(Line {
+        text,
+        own: None,
+        words,
+        wanted,
+        whole,
+    })
+}
+
+/// The check of a directory after the changes of a line, and what it is to say.
+pub fn check_of<'a>(
+    alloc: Global,
+    files: &Directories,
+    directory: &str,
+    line: &'a str,
+) -> Option<Line<'a>> {
+    let (changes, verdict) = line.split_once(" = ")?;
+    let changes = words_of(alloc, changes)?;
+    let own = files.with_changes(alloc, directory, &changes)?;
+    let said = format!(in alloc; "it: {verdict}\n").ok()?;
+    let wanted = Told {
+        status: if verdict.starts_with("ok ") { 0 } else { 1 },
+        out: said.into_bytes(),
+        err: Vec::new(alloc),
+    };
+    Some(Line {
+        text: line,
+        own: Some(own),
+        words: words_of(alloc, "check it")?,
+        wanted,
+        whole: true,
+    })
+}

@@ -1,2 +1,0 @@
-pub mod FixtureThreeSeries
-pub mod FixtureSixSeries
