@@ -5,7 +5,8 @@ ghost use Rattle.std.specs.Prelude.{IfOk, IfErr, IfSome};
 ghost use Rattle.std.specs.Thread.{IsSync};
 ghost use Rattle.commands.specs.Indexing.{IsIndexOutcome, IsOpened};
 ghost use Rattle.commands.specs.declared.files.FileName.TheVariants as file_name;
-ghost use Rattle.commands.specs.Reading.{limit_of, path_of, text_of, AreFirstBytes, AreRead, IsRead};
+ghost use Rattle.commands.specs.Reading.{limit_of, path_of, text_of, AreFirstBytes, AreRead};
+ghost use Rattle.commands.specs.Reading.{IsRead};
 ghost use Rattle.commands.specs.Reading.{IsReadFailure, IsFileOutcome, IsFileFault, IsReadingFault};
 
 use crate::fault::Fault;

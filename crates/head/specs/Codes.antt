@@ -3,7 +3,9 @@ use Rattle.std.specs.Prelude.{ℕ, List, ◌++◌, codes, decimal}
 use Rattle.head.specs.declared.error.AppendError.{AppendError}
 use Rattle.head.specs.declared.error.AppendError.TheVariants.{Full, TimeRange, Memory as NoRoom}
 use Rattle.head.specs.declared.error.CommitError.{CommitError}
-use Rattle.head.specs.declared.error.CommitError.TheVariants.{OutOfBounds, OutOfOrder, Duplicate, Limit, CutTooLow, TooManyParts, Seat, Memory}
+use Rattle.head.specs.declared.error.CommitError.TheVariants.{OutOfBounds, OutOfOrder, Duplicate}
+use Rattle.head.specs.declared.error.CommitError.TheVariants.{Limit, CutTooLow, TooManyParts, Seat}
+use Rattle.head.specs.declared.error.CommitError.TheVariants.{Memory}
 
 -- the number of a refusal, as text
 abbrev pub append_code : AppendError → List ℕ

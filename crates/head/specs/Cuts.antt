@@ -1,6 +1,7 @@
 -- What a cut leaves of the blocks.
 use Rattle.std.specs.Prelude.{IsTrue}
-use Rattle.std.specs.Prelude.{◌≡◌, ◌≢◌, ◌<◌, ◌⊎◌, ℤ, true, List, [], ◌∷◌, ◌++◌, length, Result, Ok, Err, if◌then◌else◌}
+use Rattle.std.specs.Prelude.{◌≡◌, ◌≢◌, ◌<◌, ◌⊎◌, ℤ, true, List, [], ◌∷◌, ◌++◌, length, Result, Ok}
+use Rattle.std.specs.Prelude.{Err, if◌then◌else◌}
 use Rattle.labels.specs.Contents.{Content, between}
 use Rattle.labels.specs.Rows.{Row, AreRows}
 use Rattle.block_writer.specs.PartRows.{are_part_rows}

@@ -1,6 +1,7 @@
 -- The postings index of a part: from each pair of a name and a value to the references of the
 -- series that carry it.
-use Rattle.std.specs.Prelude.{◌≡◌, ◌≢◌, ℕ, ℤ, T, List, [], ◌∷◌, ◌++◌, Some, map, filter, unwrap_or, not}
+use Rattle.std.specs.Prelude.{◌≡◌, ◌≢◌, ℕ, ℤ, T, List, [], ◌∷◌, ◌++◌, Some, map, filter, unwrap_or}
+use Rattle.std.specs.Prelude.{not}
 use Rattle.std.specs.List.{list_all}
 use Rattle.std.specs.Ordering.{nat_cmp}
 use Rattle.std.specs.Cmp.Lexicographic.{slice_cmp}

@@ -1,5 +1,7 @@
 -- An index goes along with its part.
-use Rattle.std.specs.Prelude.{◌≡◌, ◌≢◌, ℕ, zero, suc, ◌<◌, ◌+◌, Bool, true, false, cond, not, ◌&&◌, ◌||◌, T, List, [], ◌∷◌, ◌++◌, Option, Some, map, filter, unwrap_or, refl, length, get_or}
+use Rattle.std.specs.Prelude.{◌≡◌, ◌≢◌, ℕ, zero, suc, ◌<◌, ◌+◌, Bool, true, false, cond, not, ◌&&◌}
+use Rattle.std.specs.Prelude.{◌||◌, T, List, [], ◌∷◌, ◌++◌, Option, Some, map, filter, unwrap_or}
+use Rattle.std.specs.Prelude.{refl, length, get_or}
 use Rattle.std.proofs.Common.{sym, ◌∙◌, ap, subst, arith}
 use Rattle.std.specs.Str.{bytes_eq}
 use Rattle.std.specs.declared.cmp.Ordering.{Ordering}

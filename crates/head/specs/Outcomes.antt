@@ -1,8 +1,11 @@
 -- What a refusal of the code says of a step.
 use Rattle.std.specs.Prelude.{◌≡◌, Result, Ok, Err, MatchResult}
 use Rattle.head.specs.declared.error.CommitError.{CommitError}
-use Rattle.head.specs.declared.error.CommitError.TheVariants.{OutOfBounds, OutOfOrder, Duplicate, Limit, CutTooLow, TooManyParts, Seat, Memory}
-use Rattle.head.specs.Refusals.{Refusal, out_of_bounds, out_of_order, duplicate, limit, cut_too_low, too_many_parts}
+use Rattle.head.specs.declared.error.CommitError.TheVariants.{OutOfBounds, OutOfOrder, Duplicate}
+use Rattle.head.specs.declared.error.CommitError.TheVariants.{Limit, CutTooLow, TooManyParts, Seat}
+use Rattle.head.specs.declared.error.CommitError.TheVariants.{Memory}
+use Rattle.head.specs.Refusals.{Refusal, out_of_bounds, out_of_order, duplicate, limit, cut_too_low}
+use Rattle.head.specs.Refusals.{too_many_parts}
 
 -- the refusal is the step's, or memory's
 abbrev pub IsStepRefusal : {W : Type 0} → CommitError → Result W Refusal → Type 0

@@ -1,5 +1,6 @@
 -- Where a pair, or a name, stands among ascending pairs.
-use Rattle.std.specs.Prelude.{◌≡◌, ◌<◌, ◌≤◌, ◌-◌, ℕ, Bool, true, false, List, length, map, take, drop, slice_index_or}
+use Rattle.std.specs.Prelude.{◌≡◌, ◌<◌, ◌≤◌, ◌-◌, ℕ, Bool, true, false, List, length, map, take}
+use Rattle.std.specs.Prelude.{drop, slice_index_or}
 use Rattle.std.specs.Ordering.{is_le, is_lt, nat_cmp}
 use Rattle.std.specs.Cmp.Lexicographic.{slice_cmp}
 use Rattle.std.specs.declared.cmp.Ordering.{Ordering}

@@ -1,5 +1,6 @@
 -- A snapshot less some of its samples.
-use Rattle.std.specs.Prelude.{ℕ, ℤ, ◌+◌, Bool, not, ◌&&◌, List, [], ◌∷◌, map, filter, int_lt, if◌then◌else◌}
+use Rattle.std.specs.Prelude.{ℕ, ℤ, ◌+◌, Bool, not, ◌&&◌, List, [], ◌∷◌, map, filter, int_lt}
+use Rattle.std.specs.Prelude.{if◌then◌else◌}
 use Rattle.labels.specs.Labels.{Point}
 use Rattle.labels.specs.Contents.{in_range}
 use Rattle.labels.specs.Parts.{part_kept, has_sample}

@@ -1,5 +1,6 @@
 -- The series of a version in the making.
-use Rattle.std.specs.Prelude.{ℕ, ◌+◌, Bool, true, false, not, ◌||◌, T, List, [], ◌∷◌, ◌++◌, Option, None, Some, map, slice_index_or}
+use Rattle.std.specs.Prelude.{ℕ, ◌+◌, Bool, true, false, not, ◌||◌, T, List, [], ◌∷◌, ◌++◌, Option}
+use Rattle.std.specs.Prelude.{None, Some, map, slice_index_or}
 use Rattle.std.specs.List.{list_all, sum_by}
 use Rattle.labels.specs.Labels.{Labels}
 use Rattle.head.specs.Heads.{HeadSeries}

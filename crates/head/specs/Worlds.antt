@@ -1,5 +1,7 @@
 -- The world, and the steps of events.
-use Rattle.std.specs.Prelude.{ℕ, ℤ, ◌+◌, Bool, false, not, ◌&&◌, ◌||◌, List, [], ◌∷◌, Option, None, Some, Result, Ok, Err, nat_le, int_lt, length, filter, if◌then◌else◌, is_none}
+use Rattle.std.specs.Prelude.{ℕ, ℤ, ◌+◌, Bool, false, not, ◌&&◌, ◌||◌, List, [], ◌∷◌, Option, None}
+use Rattle.std.specs.Prelude.{Some, Result, Ok, Err, nat_le, int_lt, length, filter, if◌then◌else◌}
+use Rattle.std.specs.Prelude.{is_none}
 use Rattle.std.specs.Ordering.{int_eq}
 use Rattle.std.specs.FinMap.Entries.{find, put}
 use Rattle.labels.specs.Labels.{Labels, point_cmp, labels_cmp, same_labels}
@@ -8,7 +10,8 @@ use Rattle.matchers.specs.Views.{MatcherView}
 use Rattle.matchers.specs.Satisfies.{satisfies_all}
 use Rattle.head.specs.Fits.{fits}
 use Rattle.head.specs.Limits.{max_series, max_samples}
-use Rattle.head.specs.Refusals.{Refusal, out_of_bounds, out_of_order, duplicate, limit, cut_too_low, too_many_parts}
+use Rattle.head.specs.Refusals.{Refusal, out_of_bounds, out_of_order, duplicate, limit, cut_too_low}
+use Rattle.head.specs.Refusals.{too_many_parts}
 
 -- label sets, each with its newest committed sample, in order of creation
 abbrev pub Newest : Type 0

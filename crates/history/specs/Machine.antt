@@ -1,6 +1,7 @@
 -- The machine of which every interleaving is a list of steps: a world that all actors share, and a
 -- buffer for each.
-use Rattle.std.specs.Prelude.{ℕ, ℤ, List, [], ◌∷◌, ◌++◌, Result, Ok, Err, nat_eq, nat_le, length, if◌then◌else◌}
+use Rattle.std.specs.Prelude.{ℕ, ℤ, List, [], ◌∷◌, ◌++◌, Result, Ok, Err, nat_eq, nat_le, length}
+use Rattle.std.specs.Prelude.{if◌then◌else◌}
 use Rattle.labels.specs.Labels.{Labels}
 use Rattle.labels.specs.Contents.{Content, is_time}
 use Rattle.matchers.specs.Queries.{selected_by}

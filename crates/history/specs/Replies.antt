@@ -13,7 +13,8 @@ use Rattle.history.specs.declared.reply.Reply.TheVariants.{Done, NotAppended, Re
 use Rattle.history.specs.declared.buffers.Held.{Held}
 use Rattle.history.specs.Held.{buffers_of}
 use Rattle.history.specs.Steps.{Step}
-use Rattle.history.specs.Machine.{Machine, machine_step, Outcome, done, not_appended, refused, found}
+use Rattle.history.specs.Machine.{Machine, machine_step, Outcome, done, not_appended, refused}
+use Rattle.history.specs.Machine.{found}
 
 -- the error tells the step's refusal; it is never that memory ran out
 pub record TellsRefusal (error : CommitError) (refusal : Refusal) : Type 0 where

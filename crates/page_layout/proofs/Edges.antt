@@ -145,7 +145,7 @@ partition n k some fits = record {
   first = (let e : 0 * k / n ≤ 0 = div-le_of_le-mul n (omega arith) in omega arith);
   last = mul-div_cancel_left k some;
   placed = λ i h.
-    let w = placed_in n k i n (rw (mul-div_cancel_left k some) h) in (w.0, (w.1, w.2, w.3));
+      let w = placed_in n k i n (rw (mul-div_cancel_left k some) h) in (w.0, (w.1, w.2, w.3));
   once = λ i a b p q. same n k i a b some p q;
   least = λ c. rw (add-mul c 1 k, one-mul k) (quotients_least (c * k) k n some);
   most = λ c. rw (add-mul c 1 k, one-mul k) (quotients_most (c * k) k n some);

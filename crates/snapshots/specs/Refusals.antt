@@ -1,7 +1,8 @@
 -- The numbers of refusals, and their texts.
 use Rattle.std.specs.Prelude.{ℕ, List, codes}
 use Rattle.snapshots.specs.declared.error.OpenError.{OpenError}
-use Rattle.snapshots.specs.declared.error.OpenError.TheVariants.{BadPasses, Limit, Unavailable, Memory}
+use Rattle.snapshots.specs.declared.error.OpenError.TheVariants.{BadPasses, Limit, Unavailable}
+use Rattle.snapshots.specs.declared.error.OpenError.TheVariants.{Memory}
 use Rattle.snapshots.specs.declared.error.SnapshotError.{SnapshotError}
 use Rattle.snapshots.specs.declared.error.SnapshotError.TheVariants.{Unavailable as Unentered}
 

@@ -1,6 +1,7 @@
 //! Appenders, which gather a batch.
 
-ghost use Rattle.std.specs.Prelude.{◌≡◌, ◌<◌, ◌≤◌, ◌++◌, ◌∷◌, ◌↔◌, [], false, length, Some, None, is_none};
+ghost use Rattle.std.specs.Prelude.{◌≡◌, ◌<◌, ◌≤◌, ◌++◌, ◌∷◌, ◌↔◌, [], false, length, Some, None};
+ghost use Rattle.std.specs.Prelude.{is_none};
 ghost use Rattle.std.specs.Prelude.{IsTrue, IfErr, OnOk, OnErr, MatchResult};
 ghost use Rattle.labels.specs.Contents.{is_time};
 ghost use Rattle.head.specs.Worlds.{batch, batch_of};
