@@ -6,5 +6,5 @@ use Rattle.audit_command.proofs.program.execute.Goals as goal
 pub returns-in-Ok-clause-ends : goal.returns-in-Ok-clause-ends
 returns-in-Ok-clause-ends g c = λ taken. by_audit c.in-Ok.asked c.in-Ok.ensures.ok c.write_audit.ensures
 
-pub returns-in-Err-clause-ends : goal.returns-in-Err-clause-ends
-returns-in-Err-clause-ends g c = λ taken. by_memory refl (keeps_itself _)
+pub returns-in-OutOfMemory-clause-ends : goal.returns-in-OutOfMemory-clause-ends
+returns-in-OutOfMemory-clause-ends g c = λ taken. by_memory refl (keeps_itself _)
