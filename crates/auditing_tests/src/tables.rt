@@ -1,6 +1,5 @@
 //! Audits of the parts of a snapshot against tables of their series.
 
-ghost use Rattle.std.specs.Prelude.{◌≡◌, IfOk};
 ghost use Rattle.labels.specs.Parts.{IsPart};
 
 use auditor::{Flaw, Table, audit};

@@ -6,10 +6,10 @@ use crate::spelling::{spell, words_of};
 use commands::run::run;
 use std::alloc::Global;
 use std::net::{Net, TcpListener, TcpStream};
+use std::str;
 use std::sync::Wait;
 use std::thread::Threads;
 use std::time::Clock;
-use std::{io, str};
 
 /// What a command line gives, or is to give.
 #[derive(Drop)]
@@ -25,15 +25,7 @@ pub fn told_by<
 >(rt: &Q, alloc: Global, files: &Directories, words: &[String]) -> Told {
     let mut out = Vec::new(alloc);
     let mut err = Vec::new(alloc);
-    let ending = run(
-        rt,
-        alloc,
-        files,
-        words,
-        &mut io::empty(),
-        &mut out,
-        &mut err,
-    );
+    let ending = run(rt, alloc, files, words, &mut out, &mut err);
     Told {
         status: ending.status,
         out,

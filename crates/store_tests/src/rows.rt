@@ -97,6 +97,16 @@ pub fn after(alloc: Global, at: &Snapshot, wanted: &[Wanted]) -> Result<Snapshot
     }
 }
 
+/// Whether the blocks have so many samples each, and no block is left.
+pub fn counts(at: &Snapshot, want: &[u64]) -> bool {
+    for (block, count) in at.blocks().iter().zip(want) {
+        if block.sample_count() != *count {
+            return false;
+        }
+    }
+    at.blocks().len() == want.len()
+}
+
 /// A store without blocks and series.
 pub fn empty(alloc: Global) -> Result<Snapshot, AllocError> {
     Snapshot::opening(alloc, Vec::new(alloc))
