@@ -41,14 +41,23 @@ fn chunk_at(reference: u64, maxt: i64) -> Chunk {
 #[test]
 fn chunks_are_read_where_they_stand(rt: HostRuntime) {
     let alloc = rt.alloc();
-    let segment = Chunks::open(SEGMENT.to_vec(alloc).unwrap(&rt)).unwrap(&rt);
-    let first = read_chunk(alloc, &segment, chunk_at(8, LAST)).unwrap(&rt);
+    let Ok(bytes) = SEGMENT.to_vec(alloc) else {
+        panic!(rt; "no memory");
+    };
+    let Ok(segment) = Chunks::open(bytes) else {
+        panic!(rt; "the segment is refused");
+    };
+    let Ok(first) = read_chunk(alloc, &segment, chunk_at(8, LAST)) else {
+        panic!(rt; "the first chunk is refused");
+    };
     assert_eq!(rt; first.floats.len(), 3);
     assert_eq!(rt;
         first.floats[1],
         FloatSample::new(1_700_006_413_008, 0x3ff8_0000_0000_0000)
     );
-    let second = read_chunk(alloc, &segment, chunk_at(33, LAST)).unwrap(&rt);
+    let Ok(second) = read_chunk(alloc, &segment, chunk_at(33, LAST)) else {
+        panic!(rt; "the second chunk is refused");
+    };
     assert_eq!(rt;
         second.floats[2],
         FloatSample::new(LAST, 0x7ff8_0000_0000_0001)
@@ -58,7 +67,12 @@ fn chunks_are_read_where_they_stand(rt: HostRuntime) {
 #[test]
 fn other_times_and_places_are_refused(rt: HostRuntime) {
     let alloc = rt.alloc();
-    let segment = Chunks::open(SEGMENT.to_vec(alloc).unwrap(&rt)).unwrap(&rt);
+    let Ok(bytes) = SEGMENT.to_vec(alloc) else {
+        panic!(rt; "no memory");
+    };
+    let Ok(segment) = Chunks::open(bytes) else {
+        panic!(rt; "the segment is refused");
+    };
     let late = read_chunk(alloc, &segment, chunk_at(8, LAST + 1)).err();
     assert_eq!(rt; late, Some(SourceError::Chunk(ChunkError::TimesDisagree)));
     let between = read_chunk(alloc, &segment, chunk_at(9, LAST)).err();

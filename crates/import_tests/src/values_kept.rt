@@ -13,7 +13,9 @@ fn policy(digits: u32, rest: Rest, stale: Stale) -> Option<Policy> {
 
 #[test]
 fn values_are_kept_in_parts(rt: HostRuntime) {
-    let policy = policy(3, Rest::Refuse, Stale::Drop).unwrap(&rt);
+    let Some(policy) = policy(3, Rest::Refuse, Stale::Drop) else {
+        panic!(rt; "three digits are refused");
+    };
     // 23, -2, -0, 2.5 and 0.1.
     assert_eq!(rt; judge(policy, 0x4037_0000_0000_0000), Verdict::Kept(23_000));
     assert_eq!(rt; judge(policy, 0xc000_0000_0000_0000), Verdict::Kept(-2_000));
@@ -29,7 +31,9 @@ fn values_are_kept_in_parts(rt: HostRuntime) {
 
 #[test]
 fn others_are_left_or_refused(rt: HostRuntime) {
-    let dropping = policy(0, Rest::Drop, Stale::Refuse).unwrap(&rt);
+    let Some(dropping) = policy(0, Rest::Drop, Stale::Refuse) else {
+        panic!(rt; "no digits are refused");
+    };
     let stale = 0x7ff0_0000_0000_0002;
     assert_eq!(rt; judge(dropping, stale), Verdict::Refused(Reason::Stale));
     assert_eq!(rt;
