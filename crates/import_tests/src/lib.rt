@@ -13,5 +13,3 @@ mod doubles_of_ieee;
 mod promtool_chunks;
 #[cfg(test)]
 mod promtool_segments;
-#[cfg(test)]
-mod values_kept;

@@ -30,6 +30,14 @@ const FIRST: i64 = 1_700_006_400_000;
 
 const LAST: i64 = 1_700_006_426_016;
 
+fn samples_of(bits: u64) -> [FloatSample; 3] {
+    [
+        FloatSample::new(FIRST, bits),
+        FloatSample::new(1_700_006_413_008, bits),
+        FloatSample::new(LAST, bits),
+    ]
+}
+
 fn chunk_at(reference: u64, maxt: i64) -> Chunk {
     Chunk {
         mint: FIRST,
@@ -50,18 +58,13 @@ fn chunks_are_read_where_they_stand(rt: HostRuntime) {
     let Ok(first) = read_chunk(alloc, &segment, chunk_at(8, LAST)) else {
         panic!(rt; "the first chunk is refused");
     };
-    assert_eq!(rt; first.floats.len(), 3);
-    assert_eq!(rt;
-        first.floats[1],
-        FloatSample::new(1_700_006_413_008, 0x3ff8_0000_0000_0000)
-    );
+    let want = samples_of(0x3ff8_0000_0000_0000);
+    assert_eq!(rt; first.floats.as_slice(), want.as_slice());
     let Ok(second) = read_chunk(alloc, &segment, chunk_at(33, LAST)) else {
         panic!(rt; "the second chunk is refused");
     };
-    assert_eq!(rt;
-        second.floats[2],
-        FloatSample::new(LAST, 0x7ff8_0000_0000_0001)
-    );
+    let want = samples_of(0x7ff8_0000_0000_0001);
+    assert_eq!(rt; second.floats.as_slice(), want.as_slice());
 }
 
 #[test]
