@@ -13,7 +13,7 @@ TESTS_OF := selection_tests:labels,pages,matchers,postings,cover \
 	serving_tests:answers,query_http,server \
 	command_tests:commands,querier \
 	auditing_tests:auditor,audit_command,audit_laws,auditor_program \
-	import_tests:xor_reader,doubles,decimal_text,imported_values,time_cuts,block_folder,prometheus_block \
+	import_tests:xor_reader,doubles,decimal_text,imported_values,time_cuts,block_folder,prometheus_block,blocktool_command,blocktool \
 	journal_tests:journal
 # The crate with the tests of a crate, or nothing.
 tests_of = $(if $(filter %_tests,$(1)),$(1),$(word 1,$(subst :, ,$(foreach it,$(TESTS_OF),$(if \
