@@ -30,5 +30,7 @@ mod program;
 mod report;
 mod tables;
 
+pub use fault::{Fault, Refusal};
 pub use files::{ReadError, ReadFiles};
 pub use program::{Ending, run};
+pub use tables::tables_at;
