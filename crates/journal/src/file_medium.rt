@@ -11,7 +11,8 @@ use std::alloc::Global;
 use std::fs::File;
 use std::io::Write;
 
-/// A file of the system. It tells neither its bytes nor what a crash leaves.
+/// A file of the system. It tells neither its bytes nor what a crash leaves: that a write is
+/// `write_all`, a sync `sync_data`, and a cut `set_len` and `sync_all`, has to be read here.
 #[derive(Drop)]
 pub struct FileMedium {
     file: File,
@@ -83,7 +84,7 @@ impl Medium for FileMedium {
     }
 
     fn cut(&mut self, len: usize) -> Result<(), MediumError> {
-        if self.file.set_len(len as u64).is_err() || self.file.sync_data().is_err() {
+        if self.file.set_len(len as u64).is_err() || self.file.sync_all().is_err() {
             self.lost = true;
             self.failed = true;
             return Err(MediumError);

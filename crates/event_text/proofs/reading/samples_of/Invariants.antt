@@ -1,0 +1,9 @@
+use Rattle.std.proofs.Common.{◌≡◌, ◌-◌}
+use Rattle.event_text.specs.Reading.{sample_at, each_at}
+use Rattle.event_text.proofs.Loops.{with_front}
+use Rattle.event_text.proofs.reading.samples_of.Given as goal
+
+abbrev pub invariant-loop-counter : goal.invariant-loop-counter
+invariant-loop-counter l =
+    with_front l.samples.items (each_at sample_at (l.count - l.counter) l.rest)
+    ≡ each_at sample_at l.count l.bytes

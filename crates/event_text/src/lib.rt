@@ -1,0 +1,31 @@
+//! Events of a store as bytes, each in one spelling.
+//!
+//! [`put_batch`], [`put_deletion`] and [`put_cut`] append the text of an event; [`read_event`]
+//! gives the event of which all of the bytes are the text, or the first fault, `J8` to `J13`
+//! ([`TextError`]). A batch is spelled by runs: each label set once, with the samples of it that
+//! follow each other, so that a text is about as long as the request that it came from.
+//!
+//! A matcher is built anew when it is read. `regex` promises nowhere that it builds a pattern that
+//! it has built before, so a deletion may be refused then: `J14` ([`EventError`]).
+//!
+//! ```
+//! let mut text = Vec::new(rt.alloc());
+//! put_cut(&mut text, 300)?;
+//! assert_eq!(rt; text.as_slice(), [3, 0xD8, 0x04].as_slice());
+//! assert!(rt; read_event(rt.alloc(), &text).is_ok());
+//! ```
+//!
+//! It stands on `wire` for numbers, and on `head` for what an event is. The form is this project's
+//! own, and is in docs/FORMATS.md.
+#![tactic(auto)]
+
+mod error;
+mod label_check;
+mod parts;
+mod reading;
+mod runs;
+mod writing;
+
+pub use error::{EventError, TextError};
+pub use reading::read_event;
+pub use writing::{one_spelling, put_batch, put_cut, put_deletion};

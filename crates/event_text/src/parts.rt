@@ -1,0 +1,27 @@
+//! What bytes spell, before matchers are built.
+
+use labels::{LabelSet, Sample};
+use matchers::Op;
+
+/// Samples of one label set that follow each other.
+#[derive(Drop)]
+pub(crate) struct RunParts {
+    pub(crate) labels: LabelSet,
+    pub(crate) samples: Vec<Sample>,
+}
+
+/// A matcher that is not built yet.
+#[derive(Drop)]
+pub(crate) struct MatcherParts<'a> {
+    pub(crate) name: &'a str,
+    pub(crate) op: Op,
+    pub(crate) text: &'a str,
+}
+
+/// An event, of whose matchers none is built yet.
+#[derive(Drop)]
+pub(crate) enum EventParts<'a> {
+    Batch(Vec<(LabelSet, Sample)>),
+    Deletion(Vec<MatcherParts<'a>>, i64, i64),
+    Cut(i64),
+}
