@@ -27,6 +27,17 @@ pub struct Event {
     kind: Kind,
 }
 
+/// An event, lent.
+#[derive(Drop)]
+pub enum EventView<'a> {
+    /// The samples of a batch, in its order.
+    Batch(&'a [(LabelSet, Sample)]),
+    /// The matchers of a deletion, and its first and last time.
+    Deletion(&'a [Matcher], i64, i64),
+    /// The time of a cut.
+    Cut(i64),
+}
+
 impl Model for Event {
     ghost use Rattle.head.specs.Worlds.{Event as Change};
 
@@ -47,7 +58,7 @@ fn are_timed(samples: &[(LabelSet, Sample)]) -> bool
 }
 
 impl Event {
-    ghost use Rattle.head.specs.Kinds.{change_of};
+    ghost use Rattle.head.specs.Kinds.{change_of, change_seen};
     ghost use Rattle.head.specs.Batches.{IsEvent};
 
     /// Whether there are at most 4,096 samples, all at times: what a batch is made of.
@@ -117,6 +128,20 @@ impl Event {
         match self.kind {
             Kind::Deletion(matchers, _, _) => Some(matchers),
             Kind::Batch(_) | Kind::Cut(_) => None,
+        }
+    }
+
+    /// What it is made of, lent. It takes no memory.
+    pub fn view(&self) -> EventView<'_>
+        ensures shown { change_seen result ≡ self.now }
+        ensures kept { IsEvent self.now }
+    {
+        match &self.kind {
+            Kind::Batch(samples) => EventView::Batch(samples.as_slice()),
+            Kind::Deletion(matchers, from, to) => {
+                EventView::Deletion(matchers.as_slice(), *from, *to)
+            }
+            Kind::Cut(at) => EventView::Cut(*at),
         }
     }
 

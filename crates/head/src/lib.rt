@@ -57,7 +57,7 @@ mod source;
 mod span;
 
 pub use error::{AppendError, CommitError};
-pub use event::{Event, MAX_BATCH};
+pub use event::{Event, EventView, MAX_BATCH};
 pub use head::HeadView;
 pub use list::HeadList;
 pub use live::LiveList;
