@@ -6,9 +6,9 @@ ghost use Rattle.labels.specs.Parts.{references};
 ghost use Rattle.auditor.specs.Auditing.{names_known, all_known};
 ghost use Rattle.auditor.specs.Looking.{cuts, first_misfit};
 
-use crate::looks::{END, Looks, first_or_end, split_at_bound};
+use crate::looks::{Looks, first_or_end, split_at_bound};
 use cover::{Interval, Verdict};
-use labels::{Row, SeriesRef};
+use labels::{END, Row, SeriesRef};
 
 fn names_known(verdict: Verdict, matchers: usize) -> bool
     ensures { result ≡ names_known matchers verdict }

@@ -13,13 +13,10 @@ ghost use Rattle.auditor.specs.Looking.{share_verdict};
 ghost use Rattle.auditor.specs.Auditing.{names_known};
 
 use cover::Verdict;
-use labels::{LabelSet, Row, Sample, SeriesRef};
+use labels::{END, LabelSet, Row, Sample, SeriesRef};
 use matchers::{Matcher, Query, Tester};
 use std::alloc::{AllocError, Global};
 use std::marker::Model;
-
-/// The end of all references.
-pub(crate) const END: u64 = 4_294_967_296;
 
 pub(crate) fn is_below(entry: &(SeriesRef, Row), bound: u64) -> bool
     ensures { result ≡ nat_lt entry.now.0 bound }

@@ -13,4 +13,5 @@ answers sat from to row = sat row.1.0 && has_sample from to row.1.1
 
 -- the rows of the series of a part that answer, in the order of their references
 abbrev pub rows_found : (Labels → Bool) → ℤ → ℤ → Part → List Row
-rows_found sat from to part = map (λ row. row_within from to row.1) (filter (answers sat from to) part)
+rows_found sat from to part = map (λ row. row_within from to row.1) (filter (answers sat from to)
+    part)

@@ -12,22 +12,30 @@ Found = Result PartAnswer AllocError
 
 module _ (Is : ℕ → PartAnswer → Type 0) where
   by_place : (places : List ℕ) (found : List Found) → length found ≡ length places
-      → ((i : ℕ) (d : Found) → i < length places → IfOk (slice_index_or found i d) (Is (slice_index places i)))
+      → ((i : ℕ) (d : Found) → i < length places → IfOk (slice_index_or found i d)
+      (Is (slice_index places i)))
       → AllZip (λ p r. IfOk r (Is p)) places found
   by_place [] [] e h = tt
   by_place [] (r ∷ rs) e h = absurd cc
   by_place (p ∷ ps) [] e h = absurd cc
-  by_place (p ∷ ps) (r ∷ rs) e h = (h 0 r (omega arith), by_place ps rs (omega (arith, e)) (λ i d lt. h (suc i) d (omega (arith, lt))))
+  by_place (p ∷ ps) (r ∷ rs) e h = (
+    h 0 r (omega arith),
+    by_place ps rs (omega (arith, e))
+        (λ i d lt. h (suc i) d (omega (arith, lt))),
+  )
 
   -- what each call gave stands at its place
-  pub all_found : (places : List ℕ) (r : Result (Vec Found Global) AllocError) → IfOk r (λ v. vec_len v ≡ length places)
-      → IfOk r (λ v. (i : ℕ) (d : Found) → i < length places → IfOk (slice_index_or v.items i d) (Is (slice_index places i)))
+  pub all_found : (places : List ℕ) (r : Result (Vec Found Global) AllocError)
+      → IfOk r (λ v. vec_len v ≡ length places)
+      → IfOk r (λ v. (i : ℕ) (d : Found) → i < length places → IfOk (slice_index_or v.items i d)
+      (Is (slice_index places i)))
       → IfOk r (λ v. AllZip (λ p r. IfOk r (Is p)) places v.items)
   all_found places (Ok v) e h = by_place places v.items (sym v.ok.0 ∙ e) h
   all_found places (Err e) len h = tt
 
   -- where none is missing, these are the answers
-  pub none_missing : (places : List ℕ) (answers : List PartAnswer) → AllZip (λ (p : ℕ) (r : Found). IfOk r (Is p)) places (map Ok answers) → AllZip Is places answers
+  pub none_missing : (places : List ℕ) (answers : List PartAnswer) → AllZip
+      (λ (p : ℕ) (r : Found). IfOk r (Is p)) places (map Ok answers) → AllZip Is places answers
   none_missing [] [] h = tt
   none_missing [] (a ∷ more) h = absurd h
   none_missing (p ∷ ps) [] h = absurd h

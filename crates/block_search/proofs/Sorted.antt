@@ -16,19 +16,28 @@ use Rattle.block_search.proofs.Found.{rows_found}
 use Rattle.block_search.proofs.Lookups.{rows_matched, length-found}
 use Rattle.block_search.proofs.PartRows.{AreRows-found}
 
-module _ (query : QueryView) (part : Part) (is : IsPart part) (certificate : List Interval) (matches : matches_of certificate ≡ matching_references part query) where
-  found : filter_map (row_of_interval query.from query.to part) certificate ≡ rows_found (satisfies_all query.matchers) query.from query.to part
-  found = rows_matched (satisfies_all query.matchers) query.from query.to part certificate is.ascending matches
+module _ (query : QueryView) (part : Part) (is : IsPart part) (certificate : List Interval)
+    (matches : matches_of certificate ≡ matching_references part query) where
+  found : filter_map (row_of_interval query.from query.to part) certificate
+      ≡ rows_found (satisfies_all query.matchers) query.from query.to part
+  found = rows_matched (satisfies_all query.matchers) query.from query.to part certificate
+      is.ascending matches
 
-  pub sorted_rows : (rows sorted : List Row) → rows ≡ filter_map (row_of_interval query.from query.to part) certificate → IsPermutation rows sorted
-      → IsSortedBy row_before sorted → IsStableBy row_before rows sorted → AreRows sorted (selected (satisfies_all query.matchers) query.from query.to (content_of (part ∷ [])))
+  pub sorted_rows : (rows sorted : List Row) → rows
+      ≡ filter_map (row_of_interval query.from query.to part) certificate
+      → IsPermutation rows sorted
+      → IsSortedBy row_before sorted → IsStableBy row_before rows sorted
+      → AreRows sorted (selected (satisfies_all query.matchers) query.from query.to
+      (content_of (part ∷ [])))
   sorted_rows rows sorted e moved up stable =
       AreRows-found (satisfies_all query.matchers) query.from query.to part is sorted
       (subst (λ (xs : List Row). IsPermutation xs sorted) (e ∙ found) moved)
       up
       (subst (λ (xs : List Row). IsStableBy row_before xs sorted) (e ∙ found) stable)
 
-  pub sorted_length : (rows sorted : List Row) → rows ≡ filter_map (row_of_interval query.from query.to part) certificate → IsPermutation rows sorted
+  pub sorted_length : (rows sorted : List Row) → rows
+      ≡ filter_map (row_of_interval query.from query.to part) certificate
+      → IsPermutation rows sorted
       → length sorted ≡ length (matches_of certificate)
   sorted_length rows sorted e moved =
       length_permutation rows sorted moved

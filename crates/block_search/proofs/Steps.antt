@@ -11,17 +11,22 @@ cons_nothing None = refl
 cons_nothing (Some y) = refl
 
 -- what h gives of one item more, if anything
-pub filter_map_step : {X Y : Type 0} (h : X → Option Y) (xs : List X) (i : ℕ) (x : X) (o : Option Y) (old new : List Y) → i < length xs → x ≡ get_or xs i x
-    → o ≡ h x → old ≡ filter_map h (take i xs) → new ≡ old ++ option_to_list o → new ≡ filter_map h (take (i + 1) xs)
+pub filter_map_step : {X Y : Type 0} (h : X → Option Y) (xs : List X) (i : ℕ) (x : X) (o : Option Y)
+    (old new : List Y) → i < length xs → x ≡ get_or xs i x
+    → o ≡ h x → old ≡ filter_map h (take i xs) → new ≡ old ++ option_to_list o → new
+    ≡ filter_map h (take (i + 1) xs)
 filter_map_step h xs i x o old new lt is e inv moved =
     moved
     ∙ ap (λ ys. ys ++ option_to_list o) inv
-    ∙ ap (λ zs. filter_map h (take i xs) ++ zs) (sym (ap (λ p. cons_option p []) (sym e) ∙ cons_nothing o))
+    ∙ ap (λ zs. filter_map h (take i xs) ++ zs)
+    (sym (ap (λ p. cons_option p []) (sym e) ∙ cons_nothing o))
     ∙ sym (filter_map-append h (take i xs) (x ∷ []))
     ∙ ap (filter_map h) (ap (λ y. take i xs ++ y ∷ []) is ∙ sym (take_more xs i x lt))
 
 -- what h gives of both parts of a list, one after the other
-pub filter_map_halves : {X Y : Type 0} (h : X → Option Y) (xs front back : List X) (n : ℕ) (ys zs : List Y) → front ≡ take n xs → back ≡ drop n xs
+pub filter_map_halves : {X Y : Type 0} (h : X → Option Y) (xs front back : List X) (n : ℕ)
+    (ys zs : List Y) → front ≡ take n xs → back ≡ drop n xs
     → ys ≡ filter_map h front → zs ≡ filter_map h back → ys ++ zs ≡ filter_map h xs
 filter_map_halves h xs front back n ys zs early late e f =
-    (λ i. e i ++ f i) ∙ sym (filter_map-append h front back) ∙ ap (filter_map h) ((λ i. early i ++ late i) ∙ take-append-drop n xs)
+    (λ i. e i ++ f i) ∙ sym (filter_map-append h front back) ∙ ap (filter_map h)
+    ((λ i. early i ++ late i) ∙ take-append-drop n xs)

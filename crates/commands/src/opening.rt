@@ -11,8 +11,8 @@ use crate::fault::{Fault, Refusal};
 use crate::files::{ReadFiles, read_block};
 use crate::judgement::open;
 use block::Block;
-use head::Snapshot;
-use snapshots::{MAX_BLOCKS, OpenError};
+use head::{MAX_BLOCKS, Snapshot};
+use snapshots::OpenError;
 use std::alloc::Global;
 use std::thread::{Threads, join};
 

@@ -8,12 +8,9 @@ ghost use Rattle.cover.specs.Walking.{AllMovedAtMost, AllMovedAtMostOnce, AllMov
 ghost use Rattle.cover.specs.Walking.{TellsFarthestIn, MovesOn};
 
 use crate::certificate::{Interval, Verdict};
-use labels::SeriesRef;
+use labels::{END, SeriesRef};
 use postings::{Counted, Postings};
 use std::alloc::{AllocError, Global};
-
-/// One past the greatest number of a reference.
-const END: u64 = 4_294_967_296;
 
 /// The number of a reference, or the end of all.
 fn number_or_end(next: Option<SeriesRef>) -> u64

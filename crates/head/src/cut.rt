@@ -34,8 +34,8 @@ use pages::PagedList;
 use std::alloc::{AllocError, Global};
 use std::sync::Arc;
 
-/// The greatest number of blocks in a snapshot.
-const MAX_BLOCKS: usize = 63;
+/// The greatest number of blocks of a store.
+pub const MAX_BLOCKS: usize = 63;
 
 /// Adds a row where it has a sample.
 fn push_row(rows: &mut Vec<Row>, row: Row) -> Result<(), AllocError>

@@ -56,6 +56,7 @@ mod snapshot;
 mod source;
 mod span;
 
+pub use cut::MAX_BLOCKS;
 pub use error::{AppendError, CommitError};
 pub use event::{Event, MAX_BATCH};
 pub use head::HeadView;

@@ -10,8 +10,8 @@ ghost use Rattle.labels.specs.Pairs.{pairs_of};
 use crate::LabelError;
 use crate::name::is_name;
 
-/// The greatest number of labels.
-const MAX_LABELS: usize = 64;
+/// The greatest number of labels of a label set.
+pub const MAX_LABELS: usize = 64;
 
 fn are_named(pairs: &[(String, String)]) -> bool
     ensures { result ≡ are_named (pairs_of pairs.now) }

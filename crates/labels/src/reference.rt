@@ -4,6 +4,9 @@ ghost use Rattle.std.specs.Prelude.{◌≡◌};
 
 use std::marker::Model;
 
+/// One past the greatest number of a reference, where the intervals of a certificate end.
+pub const END: u64 = 4_294_967_296;
+
 /// The number of a series in its part.
 #[derive(Clone, Copy, Debug, PartialEq, Eq, PartialOrd, Ord, Drop)]
 pub struct SeriesRef(u32);

@@ -5,7 +5,7 @@ ghost use Rattle.page_claims.specs.Checking.{next_from, is_chain, is_named, are_
 ghost use Rattle.page_claims.specs.Checking.{matches_in, are_separated, is_checked};
 
 use cover::{Interval, PartAnswer, Verdict};
-use labels::SeriesRef;
+use labels::{END, SeriesRef};
 
 /// Which checks an answer passes.
 #[derive(Clone, Copy, Debug, PartialEq, Eq, Drop)]
@@ -26,7 +26,7 @@ fn next_from(later: &[Interval]) -> u64
 {
     match later.first() {
         Some(next) => u64::from(next.from.number()),
-        None => 4_294_967_296,
+        None => END,
     }
 }
 

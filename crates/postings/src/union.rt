@@ -11,14 +11,11 @@ ghost use Rattle.postings.specs.Laws.{earlier_total};
 ghost use Rattle.postings.specs.Standing.{earlier, united, Begins, HasMoved};
 
 use crate::Postings;
-use labels::SeriesRef;
+use labels::{END, SeriesRef};
 use std::alloc::{AllocError, Global};
 use std::cmp::Ordering;
 use std::collections::BinaryHeap;
 use std::marker::Model;
-
-/// One past the greatest number of a reference.
-const END: u64 = 4_294_967_296;
 
 /// The number of a reference, or the end of all.
 pub(crate) fn number_or_end(next: Option<SeriesRef>) -> u64

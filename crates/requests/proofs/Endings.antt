@@ -41,20 +41,24 @@ told_length : (value : Option (List ℕ)) → IsLength (length_told value)
 told_length None = tt
 told_length (Some value) = in_at (digits_value 10 value) (is_decimal value)
 
-alone_length : (encoded : Bool) (told : Result ℕ Refusal) → IsLength told → IsLength (length_alone encoded told)
+alone_length : (encoded : Bool) (told : Result ℕ Refusal) → IsLength told
+    → IsLength (length_alone encoded told)
 alone_length encoded (Err refusal) p = p
 alone_length true (Ok n) p = tt
 alone_length false (Ok n) p = tt
 
 asked_length : (fields : List (List ℕ × List ℕ)) → IsLength (length_asked fields)
 asked_length fields =
-    alone_length (has_field (codes "transfer-encoding") fields) (length_told (only (field_values (codes "content-length") fields)))
+    alone_length (has_field (codes "transfer-encoding") fields) (length_told
+    (only (field_values (codes "content-length") fields)))
     (told_length (only (field_values (codes "content-length") fields)))
 
-pub length_ends : (fields : List (List ℕ × List ℕ)) (refusal : Refusal) → length_asked fields ≡ Err refusal → IsOfBytes refusal
+pub length_ends : (fields : List (List ℕ × List ℕ)) (refusal : Refusal) → length_asked fields
+    ≡ Err refusal → IsOfBytes refusal
 length_ends fields refusal e = rw e at (asked_length fields)
 
-pub select_ends : (query : List ℕ) (refusal : Refusal) → SelectMeans query (Err refusal) → IsOfBytes refusal
+pub select_ends : (query : List ℕ) (refusal : Refusal) → SelectMeans query (Err refusal)
+    → IsOfBytes refusal
 select_ends query BadHead p = absurd p
 select_ends query HeadTooLong p = absurd p
 select_ends query NoSuchPath p = absurd p
@@ -66,7 +70,8 @@ select_ends query BodyTooLong p = absurd p
 select_ends query (RefusedEvent cause) p = absurd p
 select_ends query Unavailable p = absurd p
 
-delete_ends : (body : List ℕ) (refusal : Refusal) → DeleteMeans body (Err refusal) → IsOfBytes refusal
+delete_ends : (body : List ℕ) (refusal : Refusal) → DeleteMeans body (Err refusal)
+    → IsOfBytes refusal
 delete_ends body BadHead p = absurd p
 delete_ends body HeadTooLong p = absurd p
 delete_ends body NoSuchPath p = absurd p
@@ -102,7 +107,8 @@ write_ends body BodyTooLong p = absurd p
 write_ends body (RefusedEvent cause) p = absurd p
 write_ends body Unavailable p = absurd p
 
-pub body_ends : (path : Path) (body : List ℕ) (refusal : Refusal) → BodyMeans path body (Err refusal) → IsOfBytes refusal
+pub body_ends : (path : Path) (body : List ℕ) (refusal : Refusal) → BodyMeans path body
+    (Err refusal) → IsOfBytes refusal
 body_ends to_path.Select body refusal p = let same : BadBody ≡ refusal = cc in rw (← same) tt
 body_ends to_path.Write body refusal p = write_ends body refusal p
 body_ends to_path.Delete body refusal p = delete_ends body refusal p

@@ -12,14 +12,17 @@ use Rattle.requests.specs.Fields.{is_decimal, length_in}
 pub decimal_is_text : (value : List ℕ) → is_decimal value ≡ true → IsUtf8 value
 decimal_is_text value e =
     IsUtf8-from_ascii value (IsAscii-from_digits value
-    ((numerals_by_value _ tells_all_ascii_digits).to value (and_parts (nat_lt 0 (length value)) _ e).1))
+    ((numerals_by_value _ tells_all_ascii_digits).to value (and_parts (nat_lt 0 (length value)) _
+    e).1))
 
 past_limit : (n : ℕ) → (n < 2 ^ 64 → ⊥) → nat_lt 1048576 n ≡ true
 past_limit n past = lt-ltb 1048576 n (omega (arith, past))
 
-pub length_past : (E : Type 0) (value : List ℕ) (error : E) → is_decimal value ≡ true → ParsesUnsigned 64 10 value (Err error)
+pub length_past : (E : Type 0) (value : List ℕ) (error : E) → is_decimal value ≡ true
+    → ParsesUnsigned 64 10 value (Err error)
     → length_in value ≡ Err BodyTooLong
 length_past E value error e p =
     let parts = and_parts (nat_lt 0 (length value)) _ e in
-    let read = parse_digits (numerals_by_value _ tells_all_ascii_digits) 64 value (Err error) p parts.1 in
+    let read = parse_digits (numerals_by_value _ tells_all_ascii_digits) 64 value (Err error) p
+    parts.1 in
     rw (e, past_limit (digits_value 10 value) (λ lt. read (ltb-true 0 (length value) parts.0, lt)))

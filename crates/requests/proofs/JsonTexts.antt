@@ -22,17 +22,20 @@ use Rattle.requests.specs.Selecting.{IsSelectorError}
 pub json_when : (b : List ℕ) (d : Data) → IsUtf8 b → read b ≡ Some d → Some d ≡ json_of b
 json_when b d u e = rw (is_utf8-from_IsUtf8 b u, e)
 
-unless_at : (b : List ℕ) (t : Bool) → is_utf8 b ≡ t → (IsUtf8 b → read b ≡ None) → None ≡ (if t then read b else None)
+unless_at : (b : List ℕ) (t : Bool) → is_utf8 b ≡ t → (IsUtf8 b → read b ≡ None) → None
+    ≡ (if t then read b else None)
 unless_at b true e none = sym (none (IsUtf8-from_is_utf8 b e))
 unless_at b false e none = refl
 
 pub json_unless : (b : List ℕ) → (IsUtf8 b → read b ≡ None) → None ≡ json_of b
 json_unless b none = unless_at b (is_utf8 b) refl none
 
-pub many_when : (count n : ℕ) (o : Option Members) (ms : Members) → Some ms ≡ o → n ≡ members_len ms → nat_eq n count ≡ are_many count o
+pub many_when : (count n : ℕ) (o : Option Members) (ms : Members) → Some ms ≡ o → n ≡ members_len ms
+    → nat_eq n count ≡ are_many count o
 many_when count n o ms e same = rw (← e, same)
 
-pub deletion_when : (body : List ℕ) (d : Data) (form : List ℕ × ℤ × ℤ) → Some d ≡ json_of body → Some form ≡ deletion_in d
+pub deletion_when : (body : List ℕ) (d : Data) (form : List ℕ × ℤ × ℤ) → Some d ≡ json_of body
+    → Some form ≡ deletion_in d
     → deletion_of body ≡ Some form
 deletion_when body d form e f = rw (← e, ← f)
 

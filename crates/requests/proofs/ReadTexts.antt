@@ -20,7 +20,8 @@ use Rattle.requests.specs.Targets.{path_asked, takes_query}
 use Rattle.requests.specs.Reading.{BodyMeans, PostMeans, PathMeans, HeadMeans, Means, Answers}
 use Rattle.requests.specs.Reading.{AnswersAfter, AsksWith, AsksAfter}
 
-told_after : (P Q : Meaning → Type 0) → ((m : Meaning) → P m → Q m) → (r : Result Request ReadError) → Told P r → AnswersAfter Q r
+told_after : (P Q : Meaning → Type 0) → ((m : Meaning) → P m → Q m) → (r : Result Request ReadError)
+    → Told P r → AnswersAfter Q r
 told_after P Q f (Ok request) p = f (Ok request) p
 told_after P Q f (Err Closed) p = absurd p
 told_after P Q f (Err Fault) p = tt
@@ -39,26 +40,35 @@ path_of_head : (come : List ℕ) (head : Head) (h : RequestHead) → IsHeadIn co
 path_of_head come head h is = rw (is.method, is.target)
 
 -- the bytes of a body, where the head's end, what came and what was left are known
-body_is : (come bs y body : List ℕ) (end n : ℕ) → end ≤ length come → end + n ≤ length (come ++ bs) → body ≡ slice_range (come ++ bs) end (end + n)
+body_is : (come bs y body : List ℕ) (end n : ℕ) → end ≤ length come → end + n ≤ length (come ++ bs)
+    → body ≡ slice_range (come ++ bs) end (end + n)
     → (n ≤ length (drop end come ++ (bs ++ y))) × (body ≡ take n (drop end come ++ (bs ++ y)))
 body_is come bs y body end n within whole is =
     let parts : drop end (come ++ bs) ≡ drop end come ++ bs = drop-append-le end come bs within in
     let size : length (come ++ bs) ≡ length come + length bs = length-append come bs in
-    let room : n ≤ length (drop end come ++ bs) = rw (length-append, length-drop) (omega (arith, whole, size, within)) in
+    let room : n ≤ length (drop end come ++ bs) = rw (length-append, length-drop)
+    (omega (arith, whole, size, within)) in
     let same : end + n - end ≡ n = omega arith in
-    let grown : drop end come ++ (bs ++ y) ≡ (drop end come ++ bs) ++ y = sym (append_assoc (drop end come) bs y) in (
+    let grown : drop end come ++ (bs ++ y) ≡ (drop end come ++ bs) ++ y = sym
+    (append_assoc (drop end come) bs y) in (
       rw (grown, length-append (drop end come ++ bs) y) (omega (arith, room)),
       is ∙ ap (λ k. take k (drop end (come ++ bs))) same ∙ ap (take n) parts
           ∙ sym (take-append-le n (drop end come ++ bs) y room) ∙ ap (take n) (sym grown),
     )
 
-pub asked_body : (come all bs body : List ℕ) (a b : Option (List ℕ)) (head : Head) (h : RequestHead) (path : Path) (n : ℕ) (result : Result Request ReadError)
-    → IsHeadIn come head h → Ok path ≡ path_asked head.method.now head.target.now → takes_query path ≡ false → head.length ≡ Ok n
-    → all ≡ come ++ bs → Consumes a b bs → head.end + n ≤ length all → body ≡ slice_range all head.end (head.end + n)
+pub asked_body : (come all bs body : List ℕ) (a b : Option (List ℕ)) (head : Head) (h : RequestHead)
+    (path : Path) (n : ℕ) (result : Result Request ReadError)
+    → IsHeadIn come head h → Ok path ≡ path_asked head.method.now head.target.now → takes_query path
+    ≡ false → head.length ≡ Ok n
+    → all ≡ come ++ bs → Consumes a b bs → head.end + n ≤ length all → body
+    ≡ slice_range all head.end (head.end + n)
     → Told (BodyMeans path body) result → AsksAfter come a result
-asked_body come all bs body None b head h path n result is asked post long grown taken whole cut told = tt
-asked_body come all bs body (Some x) None head h path n result is asked post long grown taken whole cut told = absurd taken
-asked_body come all bs body (Some x) (Some y) head h path n result is asked post long grown taken whole cut told =
+asked_body come all bs body None b head h path n result is asked post long grown taken whole cut
+    told = tt
+asked_body come all bs body (Some x) None head h path n result is asked post long grown taken whole
+    cut told = absurd taken
+asked_body come all bs body (Some x) (Some y) head h path n result is asked post long grown taken
+    whole cut told =
     let found = body_is come bs y body head.end n is.within (rw grown at whole) (rw grown at cut) in
     let path_is : Ok path ≡ path_asked h.method h.target = asked ∙ path_of_head come head h is in
     let length_is : Ok n ≡ length_asked (fields_of h) = sym long ∙ is.length_is in
@@ -67,13 +77,16 @@ asked_body come all bs body (Some x) (Some y) head h path n result is asked post
       rest = drop head.end come;
       reads = is.reads;
       few = is.few;
-      asks = rw taken (told_after (BodyMeans path body) (HeadMeans h (drop head.end come ++ (bs ++ y)))
+      asks = rw taken (told_after (BodyMeans path body)
+          (HeadMeans h (drop head.end come ++ (bs ++ y)))
           (λ m p. subst (λ asked. PathMeans asked h (drop head.end come ++ (bs ++ y)) m) path_is
-          (post_path path h _ m post (subst (λ told. PostMeans path told (drop head.end come ++ (bs ++ y)) m) length_is
+          (post_path path h _ m post (subst (λ told. PostMeans path told
+          (drop head.end come ++ (bs ++ y)) m) length_is
           (inr (found.0, subst (λ bytes. BodyMeans path bytes m) found.1 p))))) result told);
     }
 
-by_head : (come x y : List ℕ) (result : Result Request ReadError) (p : AsksWith come y result) → x ≡ come ++ y → length come ≤ 8192
+by_head : (come x y : List ℕ) (result : Result Request ReadError) (p : AsksWith come y result) → x
+    ≡ come ++ y → length come ≤ 8192
     → (m : Meaning) → HeadMeans p.h (p.rest ++ y) m → Means x m
 by_head come x y result p e short m asks = inl (record {
   h = p.h;
@@ -84,11 +97,13 @@ by_head come x y result p e short m asks = inl (record {
   asks = asks;
 })
 
-pub answered : (a b : Option (List ℕ)) (come : List ℕ) (result : Result Request ReadError) → Consumes a b come → length come ≤ 8192
+pub answered : (a b : Option (List ℕ)) (come : List ℕ) (result : Result Request ReadError)
+    → Consumes a b come → length come ≤ 8192
     → AsksAfter come b result → IfSome a (Answers result)
 answered None b come result taken short p = tt
 answered (Some x) None come result taken short p = absurd taken
-answered (Some x) (Some y) come (Ok request) taken short p = by_head come x y (Ok request) p taken short (Ok request) p.asks
+answered (Some x) (Some y) come (Ok request) taken short p = by_head come x y (Ok request) p taken
+    short (Ok request) p.asks
 answered (Some x) (Some y) come (Err Closed) taken short p = absurd p.asks
 answered (Some x) (Some y) come (Err Fault) taken short p = tt
 answered (Some x) (Some y) come (Err Memory) taken short p = tt

@@ -17,17 +17,21 @@ use Rattle.requests.specs.Rows.{WrittenRow, pair_bytes, text_pair, pairs_in, lab
 use Rattle.requests.specs.Rows.{sample_in, pair_in, is_labelled, row_in, rows_in, IsRowOf}
 use Rattle.requests.specs.Rows.{AreRowsOf, batch_of}
 
-pub sample_unless : (d : Data) (ds : Items) → Some ds ≡ as_array d → (items_len ds ≡ 2 → ⊥) → sample_in d ≡ None
+pub sample_unless : (d : Data) (ds : Items) → Some ds ≡ as_array d → (items_len ds ≡ 2 → ⊥)
+    → sample_in d ≡ None
 sample_unless d ds e n = rw (← e, ne_eqb (items_len ds) 2 n)
 
-pub sample_when : (d : Data) (ds : Items) → Some ds ≡ as_array d → items_len ds ≡ 2 → sample_in d ≡ pair_in d
+pub sample_when : (d : Data) (ds : Items) → Some ds ≡ as_array d → items_len ds ≡ 2 → sample_in d
+    ≡ pair_in d
 sample_when d ds e n = rw (← e, n)
 
-pub row_when : (d : Data) (pairs : List (List ℕ × List ℕ)) (samples : List (ℤ × ℤ)) → has_members 2 d ≡ true → Some pairs ≡ labels_at d
+pub row_when : (d : Data) (pairs : List (List ℕ × List ℕ)) (samples : List (ℤ × ℤ))
+    → has_members 2 d ≡ true → Some pairs ≡ labels_at d
     → is_labelled pairs ≡ true → Some samples ≡ samples_at d → row_in d ≡ Some (pairs, samples)
 row_when d pairs samples two labels labelled e = rw (two, ← labels, labelled, ← e)
 
-pub zip_more : (written : List WrittenRow) (rows : List Row) (one : WrittenRow) (row : Row) → AreRowsOf written rows → IsRowOf one row
+pub zip_more : (written : List WrittenRow) (rows : List Row) (one : WrittenRow) (row : Row)
+    → AreRowsOf written rows → IsRowOf one row
     → AreRowsOf (written ++ one ∷ []) (rows ++ row ∷ [])
 zip_more [] [] one row p q = (q, tt)
 zip_more [] (y ∷ ys) one row p q = absurd p
@@ -35,46 +39,64 @@ zip_more (x ∷ xs) [] one row p q = absurd p
 zip_more (x ∷ xs) (y ∷ ys) one row p q = (p.0, zip_more xs ys one row p.1 q)
 
 after_one : {A : Type 0} (done : List A) (one : A) (left : Option (List A))
-    → option_map (λ rs. done ++ rs) (option_map (λ rs. one ∷ rs) left) ≡ option_map (λ rs. (done ++ one ∷ []) ++ rs) left
+    → option_map (λ rs. done ++ rs) (option_map (λ rs. one ∷ rs) left) ≡ option_map
+    (λ rs. (done ++ one ∷ []) ++ rs) left
 after_one done one None = refl
 after_one done one (Some rs) = ap Some (sym (append_assoc done (one ∷ []) rs))
 
 -- one more row
-pub rows_turn : (values : List Value) (i : ℕ) (value : Value) (written : List WrittenRow) (rows next : List Row) (one : WrittenRow) (row : Row)
+pub rows_turn : (values : List Value) (i : ℕ) (value : Value) (written : List WrittenRow)
+    (rows next : List Row) (one : WrittenRow) (row : Row)
     → i < length values → value ≡ get_or values i value → AreRowsOf written rows
-    → rows_in (items_view values) ≡ option_map (λ rs. written ++ rs) (rows_in (items_view (drop i values)))
+    → rows_in (items_view values) ≡ option_map (λ rs. written ++ rs) (rows_in
+    (items_view (drop i values)))
     → row_in (view value) ≡ Some one → IsRowOf one row → next ≡ rows ++ row ∷ []
-    → (w : List WrittenRow) × AreRowsOf w next × (rows_in (items_view values) ≡ option_map (λ rs. w ++ rs) (rows_in (items_view (drop (i + 1) values))))
+    → (w : List WrittenRow) × AreRowsOf w next × (rows_in (items_view values)
+    ≡ option_map (λ rs. w ++ rs) (rows_in (items_view (drop (i + 1) values))))
 rows_turn values i value written rows next one row lt at each so_far is made e =
-    let here : rows_in (items_view (drop i values)) ≡ option_map (λ rs. one ∷ rs) (rows_in (items_view (drop (i + 1) values))) =
-    rw (drop-cons values i value lt, add-one, ← at, is) in
-    (written ++ one ∷ [], rw e (zip_more written rows one row each made), so_far ∙ ap (option_map (λ rs. written ++ rs)) here ∙ after_one written one _)
+    let here : rows_in (items_view (drop i values)) ≡ option_map (λ rs. one ∷ rs)
+    (rows_in (items_view (drop (i + 1) values))) =
+    rw (drop-cons values i value lt, add-one, ← at, is) in (
+      written ++ one ∷ [],
+      rw e (zip_more written rows one row each made),
+      so_far
+          ∙ ap (option_map (λ rs. written ++ rs)) here ∙ after_one written one _,
+    )
 
 -- one more row of the batch
-pub batch_turn : (rows : List Row) (i : ℕ) (row : Row) (labels : Labels) (samples : List (ℤ × ℤ)) (done next : List (Labels × (ℤ × ℤ)))
+pub batch_turn : (rows : List Row) (i : ℕ) (row : Row) (labels : Labels) (samples : List (ℤ × ℤ))
+    (done next : List (Labels × (ℤ × ℤ)))
     → i < length rows → row ≡ get_or rows i row → labels ≡ row.0 → samples ≡ row.1
-    → batch_of rows ≡ done ++ batch_of (drop i rows) → next ≡ done ++ map (λ (s : ℤ × ℤ). (labels, s)) samples
+    → batch_of rows ≡ done ++ batch_of (drop i rows) → next ≡ done ++ map
+    (λ (s : ℤ × ℤ). (labels, s)) samples
     → batch_of rows ≡ next ++ batch_of (drop (i + 1) rows)
 batch_turn rows i row labels samples done next lt at l s so_far e =
-    let here : batch_of (drop i rows) ≡ map (λ (s : ℤ × ℤ). (labels, s)) samples ++ batch_of (drop (i + 1) rows) =
+    let here : batch_of (drop i rows) ≡ map (λ (s : ℤ × ℤ). (labels, s)) samples
+    ++ batch_of (drop (i + 1) rows) =
     rw (drop-cons rows i row lt, add-one, ← at, l, s) in
-    so_far ∙ ap (λ b. done ++ b) here ∙ sym (append_assoc done _ _) ∙ ap (λ b. b ++ batch_of (drop (i + 1) rows)) (sym e)
+    so_far ∙ ap (λ b. done ++ b) here ∙ sym (append_assoc done _ _) ∙ ap
+    (λ b. b ++ batch_of (drop (i + 1) rows)) (sym e)
 
-pairs_head : (o : Option (List ℕ)) (name : List ℕ) (pair : List ℕ × List ℕ) (left : Option (List (List ℕ × List ℕ)))
+pairs_head : (o : Option (List ℕ)) (name : List ℕ) (pair : List ℕ × List ℕ)
+    (left : Option (List (List ℕ × List ℕ)))
     → Some pair ≡ option_map {U = List ℕ × List ℕ} (λ text. (name, text)) o
-    → option_and_then (λ text. option_map (λ ps. (name, text) ∷ ps) left) o ≡ option_map (λ ps. pair ∷ ps) left
+    → option_and_then (λ text. option_map (λ ps. (name, text) ∷ ps) left) o
+    ≡ option_map (λ ps. pair ∷ ps) left
 pairs_head None name pair left e = cc
 pairs_head (Some text) name pair left e = let same : pair ≡ (name, text) = cc in rw same
 
 -- one more pair
-pub pairs_turn : (all : Members) (s t : List (String Global × Value)) (name : String Global) (value : Value) (pair : String Global × String Global)
+pub pairs_turn : (all : Members) (s t : List (String Global × Value)) (name : String Global)
+    (value : Value) (pair : String Global × String Global)
     (done next : List (String Global × String Global)) → s ≡ (name, value) ∷ t
     → pairs_in all ≡ option_map (λ ps. pairs_of done ++ ps) (pairs_in (members_view s))
     → Some (pair_bytes pair) ≡ text_pair (string_bytes name) (view value)
     → next ≡ done ++ pair ∷ []
     → pairs_in all ≡ option_map (λ ps. pairs_of next ++ ps) (pairs_in (members_view t))
 pairs_turn all s t name value pair done next first so_far one e =
-    let here = pairs_head (as_str (view value)) (string_bytes name) (pair_bytes pair) (pairs_in (members_view t)) one in
+    let here = pairs_head (as_str (view value)) (string_bytes name) (pair_bytes pair)
+    (pairs_in (members_view t)) one in
     let grown : pairs_of next ≡ pairs_of done ++ pair_bytes pair ∷ [] = rw (e, map-append) in
-    rw grown (so_far ∙ ap (λ l. option_map (λ ps. pairs_of done ++ ps) (pairs_in (members_view l))) first
+    rw grown (so_far ∙ ap (λ l. option_map (λ ps. pairs_of done ++ ps) (pairs_in (members_view l)))
+    first
     ∙ ap (option_map (λ ps. pairs_of done ++ ps)) here ∙ after_one (pairs_of done) _ _)

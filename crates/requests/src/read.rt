@@ -101,8 +101,8 @@ ghost use Rattle.requests.specs.Reading.{AsksAfter};
 /// `H8`, however they were cut into pieces; `Closed` where the input ends before its first byte.
 /// `Fault` comes only where a read failed. The bytes of the request are read into the buffer, whose
 /// content is dropped first and plays no part in the answer. At most 8,192 bytes are taken from the
-/// input for a request without a body, and at most 1,048,576 more for one with a body. Beside that it takes memory for the values of the request, and time
-/// linear in the number of its bytes.
+/// input for a request without a body, and at most 1,048,576 more for one with a body. Beside that
+/// it takes memory for the values of the request, and time linear in the number of its bytes.
 pub fn read_request_into<R: Inlet>(
     alloc: Global,
     reader: &mut R,

@@ -21,12 +21,9 @@ ghost use Rattle.requests.specs.Writing.{IsWritten};
 
 use fast_float::Numeral;
 use json::{Invalid, Reader, Scratch, Token};
-use labels::{LabelSet, Row, Sample, is_name, is_time};
+use labels::{LabelSet, MAX_LABELS, Row, Sample, is_name, is_time};
 use std::alloc::{AllocError, AllocFailed, Global};
 use std::cmp::Ordering;
-
-/// The most labels of a label set.
-const MAX_LABELS: usize = 64;
 
 /// Why no rows were read.
 #[derive(Clone, Copy, Debug, PartialEq, Eq, Drop)]

@@ -57,4 +57,4 @@ pub use naming::Naming;
 pub use pass::Pass;
 pub use receipt::Receipt;
 pub use seat::Seat;
-pub use store::{MAX_BLOCKS, MAX_HANDLES, Store};
+pub use store::{MAX_HANDLES, Store};

@@ -21,7 +21,7 @@ use crate::press::Press;
 use crate::seat::Seat;
 use crate::version::{Grows, Version};
 use block::Block;
-use head::Snapshot;
+use head::{MAX_BLOCKS, Snapshot};
 use left_right::reader::Factory;
 use logbook::{Seen, Start, Word};
 use std::alloc::{AllocError, Global};
@@ -30,9 +30,6 @@ use std::sync::{Arc, Wait};
 
 /// The greatest number of passes, and of seats.
 pub const MAX_HANDLES: usize = 64;
-
-/// The greatest number of blocks that a store is opened with.
-pub const MAX_BLOCKS: usize = 63;
 
 /// A store that is not open yet.
 #[derive(Drop)]

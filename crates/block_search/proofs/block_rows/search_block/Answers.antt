@@ -16,10 +16,15 @@ returns-clause-answers g c =
     let rows = c.in_ok-rows.rows.items in
     let sorted = c.sort_rows.new.rows.items in
     let found : rows ≡ filter_map (row_of_interval query.from query.to part) certificate =
-    c.in_ok-rows.ensures ∙ (λ i. filter_map (row_of_interval query.from query.to (sym c.view.ensures i)) (c.as_slice-certificate.ensures.value i)) in
-    subst (λ (p : Part). IsPartAnswer query p (record { part = c.args.part; rows = c.sort_rows.new.rows; cover = c.in_ok-cover.cover })) c.view.ensures
+    c.in_ok-rows.ensures ∙ (λ i. filter_map (row_of_interval query.from query.to
+    (sym c.view.ensures i)) (c.as_slice-certificate.ensures.value i)) in
+    subst (λ (p : Part). IsPartAnswer query p
+    (record { part = c.args.part; rows = c.sort_rows.new.rows; cover = c.in_ok-cover.cover }))
+    c.view.ensures
     (record {
-      rows = sorted_rows query part c.view.result.is_part certificate said.matches rows sorted found sort.moved sort.sorted sort.stable;
-      as_many = sorted_length query part c.view.result.is_part certificate said.matches rows sorted found sort.moved;
+      rows = sorted_rows query part c.view.result.is_part certificate said.matches rows sorted found
+          sort.moved sort.sorted sort.stable;
+      as_many = sorted_length query part c.view.result.is_part certificate said.matches rows sorted
+          found sort.moved;
       cover = said;
     })

@@ -14,10 +14,13 @@ returns-clause-answers g c =
     let certificate = c.in_ok-cover.cover.certificate.items in
     let rows = c.in_ok-rows.rows.items in
     let sorted = c.sort_rows.new.rows.items in
-    let found = c.in_ok-rows.ensures ∙ ap (filter_map (row_of_interval query.from query.to part)) c.as_slice.ensures.value in
+    let found = c.in_ok-rows.ensures ∙ ap (filter_map (row_of_interval query.from query.to part))
+    c.as_slice.ensures.value in
     record {
-      rows = sorted_rows query part is_part certificate said.matches rows sorted found sort.moved sort.sorted sort.stable;
-      as_many = sorted_length query part is_part certificate said.matches rows sorted found sort.moved;
+      rows = sorted_rows query part is_part certificate said.matches rows sorted found sort.moved
+          sort.sorted sort.stable;
+      as_many = sorted_length query part is_part certificate said.matches rows sorted found
+          sort.moved;
       cover = said;
     }
 

@@ -20,8 +20,10 @@ returns-clause-each g c =
     IfOk-weaker c.all_of.result _ _
     (λ answers e.
     subst (λ (parts : List AskedPart). AllZip (IsAnswerOf query) parts answers.items)
-    (ap (map (part_at query snapshot)) (c.as_slice.ensures.value ∙ c.in_ok-places.ensures.places) ∙ parts_at_places query snapshot)
+    (ap (map (part_at query snapshot)) (c.as_slice.ensures.value ∙ c.in_ok-places.ensures.places)
+    ∙ parts_at_places query snapshot)
     (AllZip-map (IsAnswerOf query) (part_at query snapshot) places answers.items
     (none_missing Is places answers.items
-    (subst (λ (found : List (Result PartAnswer AllocError)). AllZip (λ p r. IfOk r (Is p)) places found) (sym e) c.in_ok-found.ensures))))
+    (subst (λ (found : List (Result PartAnswer AllocError)). AllZip (λ p r. IfOk r (Is p)) places
+    found) (sym e) c.in_ok-found.ensures))))
     c.all_of.ensures

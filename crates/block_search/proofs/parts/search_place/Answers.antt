@@ -19,10 +19,16 @@ returns-in-Some c =
     let place = c.args.place in
     let block : Shown = c.in-Some.block.now in
     let said = c.search_part.ensures in
-    let asked : Part → AskedPart = λ part. record { name = BlockName place; part = part; skipped = is_skipped query block.range } in
+    let asked : Part → AskedPart = λ part. record {
+      name = BlockName place;
+      part = part;
+      skipped =
+          is_skipped query block.range;
+    } in
     subst (λ (p : AskedPart). IfOk c.search_part.result (IsAnswerOf query p))
     (ap asked c.view.ensures ∙ ap (block_or_head query snapshot place) (sym c.in-Some.ensures.some))
-    (named_answer query (asked c.view.result.block.now.part) c.search_part.result said.is_part said.part said.answers)
+    (named_answer query (asked c.view.result.block.now.part) c.search_part.result said.is_part
+    said.part said.answers)
 
 pub returns-in-None : goal.returns-in-None
 returns-in-None c =
@@ -30,7 +36,13 @@ returns-in-None c =
     let snapshot = c.args.snapshot.now in
     let place = c.args.place in
     let said = c.search_part-in-None.ensures in
-    let asked : List HeadSeries → AskedPart = λ head. record { name = Head; part = head_part head; skipped = false } in
+    let asked : List HeadSeries → AskedPart = λ head. record {
+      name = Head;
+      part = head_part head;
+      skipped = false;
+    } in
     subst (λ (p : AskedPart). IfOk c.search_part-in-None.result (IsAnswerOf query p))
-    (ap asked c.head.ensures.series ∙ ap (block_or_head query snapshot place) (sym (slice_get_past snapshot.blocks place c.in-None.ensures.none)))
-    (named_answer query (asked (series_of c.head.result.now)) c.search_part-in-None.result said.is_part said.part said.answers)
+    (ap asked c.head.ensures.series ∙ ap (block_or_head query snapshot place)
+    (sym (slice_get_past snapshot.blocks place c.in-None.ensures.none)))
+    (named_answer query (asked (series_of c.head.result.now)) c.search_part-in-None.result
+    said.is_part said.part said.answers)

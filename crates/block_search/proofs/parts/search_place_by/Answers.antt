@@ -15,6 +15,12 @@ returns-in-Some g c =
     let place = c.args.place in
     let block : Shown = c.in-Some.block.now in
     let said = c.search_block.ensures in
-    let asked : AskedPart = record { name = BlockName place; part = block.part; skipped = is_skipped query block.range } in
-    subst (λ (p : AskedPart). IfOk c.search_block.result (IsAnswerOf query p)) (ap (block_or_head query snapshot place) (sym c.in-Some.ensures.some))
+    let asked : AskedPart = record {
+      name = BlockName place;
+      part = block.part;
+      skipped = is_skipped
+          query block.range;
+    } in
+    subst (λ (p : AskedPart). IfOk c.search_block.result (IsAnswerOf query p))
+    (ap (block_or_head query snapshot place) (sym c.in-Some.ensures.some))
     (named_answer query asked c.search_block.result said.is_part said.part said.answers)

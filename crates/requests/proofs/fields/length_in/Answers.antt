@@ -11,4 +11,5 @@ returns-in_default c =
 pub returns-in-Err : goal.returns-in-Err
 returns-in-Err c =
     let decimal : is_decimal c.args.value.now ≡ true = search rules in
-    sym (length_past _ c.args.value.now c.in-Err.field-0 decimal (rw c.in-Ok.ensures.cases.0 at c.in-Err.ensures.value.0))
+    sym (length_past _ c.args.value.now c.in-Err.field-0 decimal (rw c.in-Ok.ensures.cases.0
+    at c.in-Err.ensures.value.0))

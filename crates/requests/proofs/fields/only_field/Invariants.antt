@@ -7,4 +7,5 @@ use Rattle.requests.proofs.fields.only_field.Given as goal
 abbrev pub invariant-loop-header : goal.invariant-loop-header
 invariant-loop-header l =
     field_values l.name (map (header_bytes l.buf) l.headers)
-    ≡ found_list l.found ++ field_values l.name (map (header_bytes l.buf) (drop l.header-index l.headers))
+    ≡ found_list l.found ++ field_values l.name (map (header_bytes l.buf)
+    (drop l.header-index l.headers))

@@ -15,23 +15,31 @@ returns-clause-means g c =
     let head = c.head_of-head.ensures in
     let more = c.in_ok-read_body.ensures.bytes in
     let post : takes_query c.in-Ok.path ≡ false = search rules in
-    let whole : c.head_of-head.result.end + c.in-Ok-length.length ≤ length c.read_body.new.buf.items =
+    let whole : c.head_of-head.result.end + c.in-Ok-length.length ≤ length c.read_body.new.buf.items
+    =
     rw c.read_body.new.buf.ok.0 at c.in_ok-read_body.ensures.whole in
-    asked_body c.args.buf.now.items c.read_body.new.buf.items more.0 _ (g.R.Inlet.input c.args.reader.now) (g.R.Inlet.input c.read_body.new.reader)
+    asked_body c.args.buf.now.items c.read_body.new.buf.items more.0 _ (g.R.Inlet.input
+    c.args.reader.now) (g.R.Inlet.input c.read_body.new.reader)
     c.head_of-head.result head.0 c.in-Ok.path c.in-Ok-length.length c.body_request.result
-    (rw c.as_slice.ensures.value at head.1) c.in-Ok.ensures.value post c.in-Ok-length.is more.1 more.2 whole
-    (ap (λ l. slice_range l c.head_of-head.result.end (c.head_of-head.result.end + c.in-Ok-length.length)) c.deref.ensures.value)
+    (rw c.as_slice.ensures.value at head.1) c.in-Ok.ensures.value post c.in-Ok-length.is more.1
+    more.2 whole
+    (ap (λ l. slice_range l c.head_of-head.result.end (c.head_of-head.result.end
+    + c.in-Ok-length.length)) c.deref.ensures.value)
     c.body_request.ensures
 
 pub returns-clause-fits : goal.returns-clause-fits
 returns-clause-fits g c =
-    let body = slice_range c.deref.result.now c.head_of-head.result.end (c.head_of-head.result.end + c.in-Ok-length.length) in
-    told_fit (BodyMeans c.in-Ok.path body) (body_fit c.in-Ok.path body) c.body_request.result c.body_request.ensures
+    let body = slice_range c.deref.result.now c.head_of-head.result.end
+    (c.head_of-head.result.end + c.in-Ok-length.length) in
+    told_fit (BodyMeans c.in-Ok.path body) (body_fit c.in-Ok.path body) c.body_request.result
+    c.body_request.ensures
 
 pub returns-clause-refusal : goal.returns-clause-refusal
 returns-clause-refusal g c =
-    let body = slice_range c.deref.result.now c.head_of-head.result.end (c.head_of-head.result.end + c.in-Ok-length.length) in
-    told_ends (BodyMeans c.in-Ok.path body) (body_ends c.in-Ok.path body) c.body_request.result c.body_request.ensures
+    let body = slice_range c.deref.result.now c.head_of-head.result.end
+    (c.head_of-head.result.end + c.in-Ok-length.length) in
+    told_ends (BodyMeans c.in-Ok.path body) (body_ends c.in-Ok.path body) c.body_request.result
+    c.body_request.ensures
 
 pub returns-then-takes_query-clause-few : goal.returns-then-takes_query-clause-few
 returns-then-takes_query-clause-few g c =

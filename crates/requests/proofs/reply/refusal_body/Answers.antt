@@ -7,4 +7,5 @@ use Rattle.requests.proofs.reply.refusal_body.Goals as goal
 pub returns : goal.returns
 returns c =
     let made = c.in_ok-refusal_value.ensures in
-    IfOk-weaker c.to_vec.result _ _ (λ b h. h (ap has_float made ∙ no_float_in_refusal _ _) ∙ ap compact_text made) c.to_vec.ensures.text
+    IfOk-weaker c.to_vec.result _ _ (λ b h. h (ap has_float made ∙ no_float_in_refusal _ _)
+    ∙ ap compact_text made) c.to_vec.ensures.text

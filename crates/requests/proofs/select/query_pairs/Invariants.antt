@@ -6,4 +6,5 @@ use Rattle.requests.proofs.select.query_pairs.Given as goal
 
 abbrev pub invariant-loop-pair : goal.invariant-loop-pair
 invariant-loop-pair l =
-    pairs_of l.pairs.items ++ map (λ p. (decoded_text p.0, decoded_text p.1)) (owned_pairs_left l.pair-iterator) ≡ query_pairs l.query
+    pairs_of l.pairs.items ++ map (λ p. (decoded_text p.0, decoded_text p.1))
+    (owned_pairs_left l.pair-iterator) ≡ query_pairs l.query

@@ -6,4 +6,5 @@ use Rattle.requests.proofs.usual.integer.Goals as goal
 pub returns-in-Some : goal.returns-in-Some
 returns-in-Some c =
     let fits : SFits w64 c.in-Some.value = search rules in
-    rw (to_z-of_z w64 _ fits) (integer_comes c.args.reader.now c.number.new.reader c.in_ok-text.text.now c.in-Some.value c.in_ok-text.ensures c.in-Some.ensures)
+    rw (to_z-of_z w64 _ fits) (integer_comes c.args.reader.now c.number.new.reader
+    c.in_ok-text.text.now c.in-Some.value c.in_ok-text.ensures c.in-Some.ensures)

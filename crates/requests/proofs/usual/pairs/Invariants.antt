@@ -8,7 +8,8 @@ use Rattle.requests.proofs.usual.pairs.Given as goal
 
 abbrev pub invariant-pairs : goal.invariant-pairs
 invariant-pairs l =
-    shadow (Utf8 l.last) × PairsSoFar l.initial.reader (texts_of l.pairs.items) l.reader × LabelsSoFar l.last (texts_of l.pairs.items)
+    shadow (Utf8 l.last) × PairsSoFar l.initial.reader (texts_of l.pairs.items) l.reader
+    × LabelsSoFar l.last (texts_of l.pairs.items)
 
 abbrev pub decreases-pairs : goal.decreases-pairs
 decreases-pairs l = length l.reader

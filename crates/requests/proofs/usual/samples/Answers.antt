@@ -8,19 +8,25 @@ use Rattle.requests.proofs.usual.samples.Goals as goal
 pub samples-smaller : goal.samples-smaller
 samples-smaller c =
     let stays : c.take_end_array.new.self ≡ c.samples.reader = grind arith in
-    comes_shorter sample_in 1 c.samples.reader c.sample.new.reader c.in_ok-sample.field-0 (subst (λ r. Comes sample_in 1 r c.in_ok-sample.field-0 c.sample.new.reader) stays c.in_ok-sample.ensures)
+    comes_shorter sample_in 1 c.samples.reader c.sample.new.reader c.in_ok-sample.field-0
+    (subst (λ r. Comes sample_in 1 r c.in_ok-sample.field-0 c.sample.new.reader) stays
+    c.in_ok-sample.ensures)
 
 pub samples-preserved : goal.samples-preserved
 samples-preserved c =
     let going : after_end_array c.samples.reader ≡ None = grind arith in
     let stays : c.take_end_array.new.self ≡ c.samples.reader = grind arith in
-    let one = subst (λ r. Comes sample_in 1 r c.in_ok-sample.field-0 c.sample.new.reader) stays c.in_ok-sample.ensures in
-    subst (λ xs. ItemsSoFar samples_in 1 c.begin_array.new.reader xs c.sample.new.reader) (sym c.in_ok-push.ensures.items)
-    (items_turn (ℤ × ℤ) sample_in samples_in refl (λ d ds. refl) 1 c.begin_array.new.reader c.samples.reader c.sample.new.reader c.samples.samples.items c.in_ok-sample.field-0
+    let one = subst (λ r. Comes sample_in 1 r c.in_ok-sample.field-0 c.sample.new.reader) stays
+    c.in_ok-sample.ensures in
+    subst (λ xs. ItemsSoFar samples_in 1 c.begin_array.new.reader xs c.sample.new.reader)
+    (sym c.in_ok-push.ensures.items)
+    (items_turn (ℤ × ℤ) sample_in samples_in refl (λ d ds. refl) 1 c.begin_array.new.reader
+    c.samples.reader c.sample.new.reader c.samples.samples.items c.in_ok-sample.field-0
     c.samples.invariant going one)
 
 pub returns : goal.returns
 returns c =
     let over : after_end_array c.samples.reader ≡ Some c.take_end_array.new.self = grind arith in
-    items_end (ℤ × ℤ) sample_in samples_in refl (λ d ds. refl) 1 c.args.reader.now c.begin_array.new.reader c.samples.reader c.take_end_array.new.self c.samples.samples.items
+    items_end (ℤ × ℤ) sample_in samples_in refl (λ d ds. refl) 1 c.args.reader.now
+    c.begin_array.new.reader c.samples.reader c.take_end_array.new.self c.samples.samples.items
     c.in_ok-begin_array.ensures c.samples.invariant over

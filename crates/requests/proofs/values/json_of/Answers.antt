@@ -7,4 +7,5 @@ returns-in-Ok c = json_when _ _ c.in-Ok.ensures.ok.0 c.in-Ok.ensures.ok.1
 
 pub returns-else-is_memory : goal.returns-else-is_memory
 returns-else-is_memory c =
-    json_unless _ (c.in-Err.ensures.err (λ m. true≢false (sym (c.is_memory.ensures.1 m) ∙ c.if-is_memory.false)))
+    json_unless _ (c.in-Err.ensures.err (λ m. true≢false (sym (c.is_memory.ensures.1 m)
+    ∙ c.if-is_memory.false)))

@@ -5,4 +5,5 @@ use Rattle.requests.proofs.write.samples_in.Given as goal
 
 abbrev pub invariant-loop-item : goal.invariant-loop-item
 invariant-loop-item l =
-    samples_in (items_view l.items) ≡ option_map (λ ss. l.samples.items ++ ss) (samples_in (items_view (drop l.item-index l.items)))
+    samples_in (items_view l.items) ≡ option_map (λ ss. l.samples.items ++ ss)
+    (samples_in (items_view (drop l.item-index l.items)))
