@@ -1,0 +1,4 @@
+pub mod Asking
+pub mod Cells
+pub mod Pages
+pub mod Saying

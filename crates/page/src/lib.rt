@@ -1,0 +1,44 @@
+//! Pages that show an audited answer: one HTML file made of a question, the reply to it, and what
+//! the auditor said of it.
+//!
+//! [`write_page`] makes the page as the pieces of a tree, in which texts from outside (the selector,
+//! label names and values, the auditor's lines) are texts alone, and prints it between a constant
+//! head and end, and [`write_text`] writes the same for a terminal. The claim at the top is
+//! `page_claims::find_claim`'s, and what is said of a label set is [`ask`]'s.
+//!
+//! ```
+//! let (tables, lines, about) = (&[], &[], None);
+//! let shown = Shown { selector, query: &query, told: &told, tables, lines, about, length, digest };
+//! let page = write_page(alloc, &shown)?;
+//! ```
+//!
+//! It stands on `page_claims`, `page_layout`, `page_style` and `page_text`, and on the types of the
+//! crates below them.
+#![tactic(auto)]
+
+mod asked;
+mod claim_text;
+mod groups;
+mod header;
+mod help;
+mod judgements;
+mod key;
+mod map;
+mod parts;
+mod rows;
+mod sayings;
+mod shapes;
+mod shown;
+mod spark;
+mod strip;
+mod terminal;
+mod time;
+mod times;
+mod verdicts;
+mod words;
+mod write;
+
+pub use asked::{Asked, ask};
+pub use claim_text::Saying;
+pub use shown::Shown;
+pub use write::{Page, write_page, write_text};
