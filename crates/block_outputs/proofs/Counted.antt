@@ -16,5 +16,5 @@ pub samples_in-take : (rows : List Row) (n : ℕ) (row : Row) → n < length row
     → samples_in (take (n + 1) rows) ≡ samples_in (take n rows) + length row.1
 samples_in-take rows n row lt at =
     ap samples_in
-        ((take_at_read rows n row lt).1 ∙ ap (λ (x : Row). take n rows ++ x ∷ []) (sym at))
+    ((take_at_read rows n row lt).1 ∙ ap (λ (x : Row). take n rows ++ x ∷ []) (sym at))
     ∙ samples_in-last (take n rows) row

@@ -20,15 +20,15 @@ pub block_written : {D : Type 0} (did : D → List Did → Type 0) (into : List 
     → SpellRows range index chunks tombstones rows → WritesBlock did into rows old new
 block_written did into rows old new place files range meta index chunks tombstones done parent is m
     i c t said spelled = record {
-  place = place;
-  parent = parent;
-  range = range;
-  is_range = is;
-  files = files;
-  said = ap range_said m ∙ said;
-  spelled =
-      subst (λ (x : List ℕ). SpellRows range x files.chunks.now files.tombstones.now rows) (sym i)
-      (subst (λ (x : List ℕ). SpellRows range index x files.tombstones.now rows) (sym c)
-      (subst (λ (x : List ℕ). SpellRows range index chunks x rows) (sym t) spelled));
-  called = done;
-}
+      place = place;
+      parent = parent;
+      range = range;
+      is_range = is;
+      files = files;
+      said = ap range_said m ∙ said;
+      spelled =
+          subst (λ (x : List ℕ). SpellRows range x files.chunks.now files.tombstones.now rows) (sym i)
+          (subst (λ (x : List ℕ). SpellRows range index x files.tombstones.now rows) (sym c)
+          (subst (λ (x : List ℕ). SpellRows range index chunks x rows) (sym t) spelled));
+      called = done;
+    }

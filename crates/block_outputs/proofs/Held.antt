@@ -93,7 +93,7 @@ latest_restricted q s [] (c ∷ cs) o h = absurd h
 latest_restricted q s (rows ∷ lists) [] o h = absurd h
 latest_restricted q s (rows ∷ lists) (c ∷ cs) o h =
     ap (λ x. latest q (points lists) (or_else x (only (in_range s.from s.to q.1) o)))
-        (held_at q s rows c h.0)
+    (held_at q s rows c h.0)
     ∙ ap (latest q (points lists)) (both_only (in_range s.from s.to q.1) (find point_cmp q c) o)
     ∙ latest_restricted q s lists cs (or_else (find point_cmp q c) o) h.1
 
@@ -116,14 +116,14 @@ outputs_at q cs from to [] (rows ∷ outputs) o tiles h = absurd h
 outputs_at q cs from to (s ∷ ss) [] o tiles h = absurd h
 outputs_at q cs from to (s ∷ ss) (rows ∷ outputs) o tiles h =
     let first : in_range s.from s.to q.1 ≡ in_range from s.to q.1 = ap (λ f. in_range f s.to q.1)
-        tiles.0 in
+    tiles.0 in
     ap (λ x. latest q (points outputs) (or_else x o))
-        (output_at q s h.0.0 cs rows h.0.1 h.0.2 ∙ ap (λ b. only b (latest q cs None)) first)
+    (output_at q s h.0.0 cs rows h.0.1 h.0.2 ∙ ap (λ b. only b (latest q cs None)) first)
     ∙ outputs_at q cs (s.to +ℤ pos 1) to ss outputs
-        (or_else (only (in_range from s.to q.1) (latest q cs None)) o) tiles.3 h.1
+    (or_else (only (in_range from s.to q.1) (latest q cs None)) o) tiles.3 h.1
     ∙ either (in_range from s.to q.1) (in_range (s.to +ℤ pos 1) to q.1) (latest q cs None) o
     ∙ ap (λ b. or_else (only b (latest q cs None)) o)
-        (sym (cut_once from to s.to q.1 tiles.1 tiles.2))
+    (sym (cut_once from to s.to q.1 tiles.1 tiles.2))
 
 -- the outputs of the tiles of a range hold what the contents have in the range
 pub outputs_hold : (cs : List Content) (from to : ℤ) (tiles : List Stretch)
@@ -131,9 +131,9 @@ pub outputs_hold : (cs : List Content) (from to : ℤ) (tiles : List Stretch)
     → HoldAll cs from to outputs
 outputs_hold cs from to tiles outputs t h =
     same_content (laid_each [] outputs) (restricted from to (laid_all [] cs))
-        (sorted-laid_each [] outputs tt)
+    (sorted-laid_each [] outputs tt)
     (is_sorted-where_key point_cmp (λ p. in_range from to p.1) (laid_all [] cs) (sorted-laid_all []
-        cs tt))
+    cs tt))
     (λ q. find-laid_each q [] outputs ∙ outputs_at q cs from to tiles outputs None t h
     ∙ or_else_none (only (in_range from to q.1) (latest q cs None))
     ∙ ap (only (in_range from to q.1)) (sym (find-laid_all q [] cs))

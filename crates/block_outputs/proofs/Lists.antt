@@ -33,11 +33,11 @@ pub one_more_answer : (whole : List (List Row)) (lists rest : List (Vec Row Glob
 one_more_answer whole lists rest rows answers new answer e f g h =
     ap (λ (xs : List PartAnswer). lists_in rest ++ row_lists (reverse xs)) f
     ∙ ap (λ (xs : List PartAnswer). lists_in rest ++ row_lists xs)
-        (reverse-append answers (answer ∷ []))
+    (reverse-append answers (answer ∷ []))
     ∙ ap (λ (v : Vec Row Global). lists_in rest ++ (v.items ∷ row_lists (reverse answers))) g
     ∙ sym (append_assoc (lists_in rest) (rows.items ∷ []) (row_lists (reverse answers)))
     ∙ ap (λ ls. ls ++ row_lists (reverse answers))
-        (sym (map-append (λ (l : Vec Row Global). l.items) rest (rows ∷ [])))
+    (sym (map-append (λ (l : Vec Row Global). l.items) rest (rows ∷ [])))
     ∙ ap (λ (ls : List (Vec Row Global)). lists_in ls ++ row_lists (reverse answers)) (sym e)
     ∙ h
 
@@ -84,5 +84,5 @@ pub the_only : (lists rest : List (Vec Row Global)) (rows : Vec Row Global)
 the_only lists [] rows e one = sym (ap (λ (ls : List (Vec Row Global)). lists_in ls) e)
 the_only lists (x ∷ rest) rows e one =
     let two : length lists ≡ suc (length rest + 1) = ap length e
-        ∙ ap suc (length-append rest (rows ∷ [])) in
+    ∙ ap suc (length-append rest (rows ∷ [])) in
     absurd (omega (arith, two, one))

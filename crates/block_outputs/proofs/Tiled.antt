@@ -29,8 +29,8 @@ pub cut_once : (from to m t : ℤ) → from ≤ℤ m → m ≤ℤ to
     → in_range from to t ≡ (in_range from m t || in_range (m +ℤ pos 1) to t)
 cut_once from to m t low high =
     elim (int_lt m t) as
-        (λ b. int_lt m t ≡ b → in_range from to t ≡ ((not (int_lt t from) && not (int_lt m t)) ||
-        (not (int_lt t (m +ℤ pos 1)) && not (int_lt to t)))) [
+    (λ b. int_lt m t ≡ b → in_range from to t ≡ ((not (int_lt t from) && not (int_lt m t)) ||
+    (not (int_lt t (m +ℤ pos 1)) && not (int_lt to t)))) [
       | true ↦ λ e. after (int_lt t from) (int_lt to t) (int_lt m t) (int_lt t (m +ℤ pos 1)) e
           (grind (arith, ints)) (grind (arith, ints))
       | false ↦ λ e. before (int_lt t from) (int_lt to t) (int_lt m t) (int_lt t (m +ℤ pos 1)) e
@@ -43,8 +43,12 @@ pub one_more : (begin from to : ℤ) (tiles new : List Stretch) (s : Stretch) �
     → AreTilesUpTo begin (s.to +ℤ pos 1) to new
 one_more begin from to tiles new s e f low high h rest r =
     subst (λ (ns : List Stretch). AreTiles begin to (ns ++ rest)) (sym e)
-    (subst (AreTiles begin to) (sym (append_assoc tiles (s ∷ []) rest)) (h (s ∷ rest) (f, low, high,
-        r)))
+    (subst (AreTiles begin to) (sym (append_assoc tiles (s ∷ []) rest)) (h (s ∷ rest) (
+      f,
+      low,
+      high,
+      r,
+    )))
 
 -- the last tile
 pub last_tile : (begin from to : ℤ) (tiles new : List Stretch) (s : Stretch) → new ≡ tiles ++ s ∷ []

@@ -49,8 +49,8 @@ fn push_tile(tiles: &mut Vec<Stretch>, left: Stretch, end: i64) -> Result<Stretc
 }
 
 /// A range of times in tiles: each begins where the one before it ended, and they end at these
-/// times, as far as these ascend and lie in the range, and at the end of the range. None for a range
-/// that ends before it begins.
+/// times, as far as these ascend and lie in the range, and at the end of the range. None for a
+/// range that ends before it begins.
 pub fn tile(alloc: Global, whole: Stretch, ends: &[i64]) -> Result<Vec<Stretch>, AllocError>
     ensures { IfOk result (λ tiles. AreTiles whole.from whole.to tiles.items) }
 {
