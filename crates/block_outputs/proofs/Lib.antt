@@ -1,0 +1,6 @@
+pub mod Counted
+pub mod Files
+pub mod Held
+pub mod Lists
+pub mod Tiled
+pub mod Within
