@@ -1,0 +1,10 @@
+use Rattle.std.proofs.Common.{rules, ap, ap₂, ◌≡◌, ◌∙◌}
+use Rattle.std.proofs.lemmas.Result.{IfOk-weaker}
+use Rattle.clap.specs.Words.{app_of, with_rule}
+use Rattle.audit_command.specs.Asking.{with_arguments}
+use Rattle.explain_command.proofs.command.program.Goals as goal
+
+pub returns : goal.returns
+returns c =
+    IfOk-weaker c.arg.result _ _ (λ command h. h.shape c.about.ensures.global
+    ∙ ap₂ with_rule (c.in_ok-with_arguments.ensures ∙ ap with_arguments c.in_ok-explain.ensures) c.about.ensures.rule) c.arg.ensures

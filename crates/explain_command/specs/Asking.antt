@@ -1,0 +1,36 @@
+-- The command line: what `clap` reads from the words, and what that asks for.
+use Rattle.std.specs.Prelude.{◌≡◌, true, List, [], Some, codes, option_map}
+use Rattle.clap.specs.Words.{App, Row, Rule, Text, new_app, new_rule, with_rule, first_of}
+use Rattle.clap.specs.Words.{matches_of, fault_of}
+use Rattle.audit_command.specs.Asking as audit
+use Rattle.explain_command.specs.declared.command.Asked.{Asked}
+
+-- the series that somebody asks about
+abbrev pub about_rule : Rule
+about_rule = record (new_rule (codes "about")) {
+  long = Some (codes "about");
+  value_names = 1;
+}
+
+-- the program's name, which the words do not begin with
+abbrev pub named_app : App
+named_app =
+    let app = new_app (codes "explain") in
+    record app { top = record app.top { has_version = true; no_binary_name = true } }
+
+-- --selector S [--from N] [--to N] [DIR]... [--about SERIES]
+abbrev pub explain_app : App
+explain_app = with_rule (audit.with_arguments named_app) about_rule
+
+-- `clap` takes the words: it finds no fault in them
+abbrev pub AreTaken : List Text → Type 0
+AreTaken words = fault_of explain_app words ≡ []
+
+-- what the arguments give
+pub record IsAskedIn (rows : List Row) (asked : Asked) : Type 0 where
+  pub audit : audit.IsAskedIn rows asked.audit
+  pub about : option_map (λ text. text.now) asked.about ≡ first_of (codes "about") rows
+
+-- what the words ask for, as `clap` reads them
+abbrev pub IsAskedBy : List Text → Asked → Type 0
+IsAskedBy words asked = IsAskedIn (matches_of explain_app words) asked

@@ -1,0 +1,111 @@
+//! What a page shows.
+
+use auditor::{BlockTable, Line};
+use labels::{LabelSet, Sample};
+use matchers::{Matcher, Query};
+use page_claims::{Claim, Told};
+use std::alloc::Global;
+
+/// What a page shows: a question, the reply to it, what the auditor said of it, and a label set
+/// that somebody asks about.
+#[derive(Drop)]
+pub struct Shown<'a> {
+    /// The selector, as it was written.
+    pub selector: &'a str,
+    /// What it asks for.
+    pub query: &'a Query,
+    /// The reply.
+    pub told: &'a Told,
+    /// What the auditor knows of the blocks, in their order: those that were judged.
+    pub tables: &'a [BlockTable],
+    /// The auditor's lines, of each part first; none, if it was not asked.
+    pub lines: &'a [Line],
+    /// The label set that somebody asks about.
+    pub about: Option<&'a LabelSet>,
+    /// How many bytes the reply has, and the SHA-256 of them.
+    pub length: u64,
+    pub digest: [u8; 32],
+}
+
+/// What all sections of a page need.
+#[derive(Drop)]
+pub(crate) struct View<'a> {
+    pub(crate) alloc: Global,
+    pub(crate) shown: &'a Shown<'a>,
+    pub(crate) claim: Claim,
+    /// How many intervals all parts have.
+    pub(crate) intervals: u64,
+    /// How many samples the rows have.
+    pub(crate) samples: u64,
+    /// Whether at most eight parts were searched.
+    pub(crate) few: bool,
+    /// The times of all figures of time.
+    pub(crate) axis: Option<(i64, i64)>,
+}
+
+impl<'a> View<'a> {
+    pub(crate) fn matchers(&self) -> &'a [Matcher] {
+        self.shown.query.matchers()
+    }
+
+    /// How many intervals have a verdict of a slot.
+    pub(crate) fn count(&self, slot: usize) -> u64 {
+        let mut count = 0u64;
+        for answer in self.shown.told.answers.as_slice() {
+            let intervals = answer.cover.certificate.as_slice();
+            count = count.saturating_add(page_claims::count_in(intervals, slot) as u64);
+        }
+        count
+    }
+}
+
+/// The first and the last time of samples, over those of others.
+fn over(times: Option<(i64, i64)>, samples: &[Sample]) -> Option<(i64, i64)> {
+    let (first, last) = (samples.first()?.t(), samples.last()?.t());
+    match times {
+        Some((from, to)) => Some((from.min(first), to.max(last))),
+        None => Some((first, last)),
+    }
+}
+
+/// The first and the last time of all that rows have.
+pub(crate) fn times_of(rows: &[labels::Row]) -> Option<(i64, i64)> {
+    let mut times = None;
+    for row in rows {
+        if let Some(wider) = over(times, row.samples()) {
+            times = Some(wider);
+        }
+    }
+    times
+}
+
+/// How many samples rows have.
+pub(crate) fn samples_in(rows: &[labels::Row]) -> u64 {
+    let mut count = 0u64;
+    for row in rows {
+        count = count.saturating_add(row.samples().len() as u64);
+    }
+    count
+}
+
+/// The axis of all figures of time: the range of the query if it is at most sixteen times as long
+/// as that of the samples, else that of the samples.
+pub(crate) fn axis_of(query: &Query, told: &Told) -> Option<(i64, i64)> {
+    let mut times: Option<(i64, i64)> = None;
+    for answer in told.answers.as_slice() {
+        if let Some((first, last)) = times_of(answer.rows.as_slice()) {
+            times = match times {
+                Some((from, to)) => Some((from.min(first), to.max(last))),
+                None => Some((first, last)),
+            };
+        }
+    }
+    let (first, last) = times?;
+    let (from, to) = (query.from(), query.to());
+    let span = last.abs_diff(first).max(1);
+    if to.abs_diff(from) <= span.saturating_mul(16) {
+        Some((from, to))
+    } else {
+        Some((first, last))
+    }
+}

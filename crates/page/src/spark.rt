@@ -1,0 +1,142 @@
+//! Sparklines.
+
+use crate::time::column_of;
+use labels::Sample;
+use page_claims::Figures;
+use page_layout::share;
+use page_text::{Attribute, Key, Move, Tag, Tree};
+use std::alloc::{AllocError, Global};
+
+/// How many columns a sparkline has.
+const COLUMNS: u64 = 180;
+
+/// What a column of a sparkline shows of its samples.
+#[derive(Clone, Copy, Debug, PartialEq, Eq, Drop)]
+struct Bar {
+    column: u64,
+    highest: u64,
+    lowest: u64,
+    first: u64,
+    last: u64,
+    from: i64,
+    to: i64,
+}
+
+/// How far below the top a value stands.
+fn height_of(value: i64, figures: Figures) -> u64 {
+    let span = figures.greatest.abs_diff(figures.least);
+    if span == 0 {
+        return 14;
+    }
+    26u64.saturating_sub(share(value.abs_diff(figures.least), span, 24))
+}
+
+fn bars_of(
+    alloc: Global,
+    axis: (i64, i64),
+    samples: &[Sample],
+    figures: Figures,
+) -> Result<Vec<Bar>, AllocError> {
+    let mut bars: Vec<Bar> = Vec::new(alloc);
+    for sample in samples {
+        let Some(column) = column_of(axis, sample.t(), COLUMNS) else {
+            continue;
+        };
+        let y = height_of(sample.v(), figures);
+        match bars.last_mut() {
+            Some(bar) if bar.column == column => {
+                bar.highest = bar.highest.min(y);
+                bar.lowest = bar.lowest.max(y);
+                bar.last = y;
+                bar.to = sample.t();
+            }
+            _ => bars.push(Bar {
+                column,
+                highest: y,
+                lowest: y,
+                first: y,
+                last: y,
+                from: sample.t(),
+                to: sample.t(),
+            })?,
+        }
+    }
+    Ok(bars)
+}
+
+/// Whether two neighbours are joined: they are at most three mean steps apart.
+fn are_joined(before: &Bar, after: &Bar, samples: &[Sample]) -> bool {
+    let (Some(first), Some(last)) = (samples.first(), samples.last()) else {
+        return false;
+    };
+    let span = last.t().abs_diff(first.t());
+    let steps = (samples.len() as u64).saturating_sub(1).max(1);
+    let gap = after.from.abs_diff(before.to);
+    gap <= span.saturating_mul(3) / steps
+}
+
+fn lines_of(alloc: Global, bars: &[Bar], samples: &[Sample]) -> Result<Vec<Move>, AllocError> {
+    let mut moves = Vec::new(alloc);
+    let mut before: Option<&Bar> = None;
+    for bar in bars {
+        let joined = match before {
+            Some(earlier) => are_joined(earlier, bar, samples),
+            None => false,
+        };
+        if joined {
+            moves.push(Move::Line(bar.column, bar.first))?;
+        } else {
+            moves.push(Move::To(bar.column, bar.first))?;
+        }
+        if bar.highest < bar.lowest {
+            moves.push(Move::Down(bar.highest))?;
+            moves.push(Move::Down(bar.lowest))?;
+            moves.push(Move::Down(bar.last))?;
+        }
+        before = Some(bar);
+    }
+    Ok(moves)
+}
+
+fn dots_of(alloc: Global, bars: &[Bar]) -> Result<Vec<Move>, AllocError> {
+    let mut moves = Vec::new(alloc);
+    if bars.len() > 12 {
+        return Ok(moves);
+    }
+    for bar in bars {
+        moves.push(Move::To(bar.column, bar.last))?;
+        moves.push(Move::Dot)?;
+    }
+    Ok(moves)
+}
+
+fn path(tree: &mut Tree, class: &'static str, moves: Vec<Move>) -> Result<(), AllocError> {
+    let alloc = tree.alloc();
+    if moves.is_empty() {
+        return Ok(());
+    }
+    let attributes = vec![in alloc; Attribute::Word(Key::Class, class), Attribute::Path(moves)]?;
+    tree.leaf(Tag::Path, attributes)
+}
+
+/// The samples of a row over an axis, from its own least value to its own greatest.
+pub(crate) fn spark(
+    tree: &mut Tree,
+    axis: (i64, i64),
+    samples: &[Sample],
+    figures: Figures,
+) -> Result<(), AllocError> {
+    let alloc = tree.alloc();
+    let bars = bars_of(alloc, axis, samples, figures)?;
+    let frame = vec![in alloc;
+        Attribute::Number(Key::Width, 180),
+        Attribute::Number(Key::Height, 32),
+        Attribute::Word(Key::ViewBox, "-2 -2 184 32"),
+        Attribute::Word(Key::PreserveAspectRatio, "none"),
+        Attribute::Word(Key::AriaHidden, "true"),
+    ]?;
+    tree.open(Tag::Svg, frame)?;
+    path(tree, "ln", lines_of(alloc, bars.as_slice(), samples)?)?;
+    path(tree, "dt", dots_of(alloc, bars.as_slice())?)?;
+    tree.close()
+}

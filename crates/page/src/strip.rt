@@ -1,0 +1,390 @@
+//! The strip of a part: a box for each interval, or a column for several.
+
+ghost use Rattle.std.specs.Prelude.{◌<◌};
+
+use crate::shapes::{Area, line, open_text, rect};
+use crate::verdicts::{fill, letter, letter_class, said};
+use crate::words::{begin, plain};
+use cover::Interval;
+use labels::SeriesRef;
+use page_claims::{SLOTS, count_in, slot_of};
+use page_layout::{edge, heights, range_of};
+use page_text::{Attribute, Key, Tag, Tree};
+use std::alloc::{AllocError, Global};
+
+/// The width of a strip.
+pub(crate) const FULL: usize = 10_000;
+
+/// The end of all references.
+pub(crate) const END: u64 = 4_294_967_296;
+
+/// A strip: its intervals, in how many columns, from where and how high.
+#[derive(Drop)]
+pub(crate) struct Strip<'a> {
+    pub(crate) intervals: &'a [Interval],
+    pub(crate) separators: &'a [SeriesRef],
+    pub(crate) columns: usize,
+    pub(crate) top: u64,
+    pub(crate) height: u64,
+}
+
+/// Some intervals of a strip and where they stand.
+#[derive(Clone, Copy)]
+struct Column<'a> {
+    at: usize,
+    from: usize,
+    intervals: &'a [Interval],
+    // Where the next column's first interval begins.
+    next: u64,
+    x: u64,
+    width: u64,
+}
+
+impl<'a> Strip<'a> {
+    /// Whether a column has several intervals.
+    pub(crate) fn is_aggregated(&self) -> bool {
+        self.columns < self.intervals.len()
+    }
+
+    // Where the interval at a place begins, or the end of all references.
+    fn from_at(&self, at: usize) -> u64 {
+        match self.intervals.get(at) {
+            Some(interval) => u64::from(interval.from.number()),
+            None => END,
+        }
+    }
+
+    fn column(&self, at: usize) -> Column<'a>
+        requires { at < self.now.columns }
+    {
+        let (from, until) = range_of(at, self.columns, self.intervals.len());
+        let (x, end) = range_of(at, self.columns, FULL);
+        Column {
+            at,
+            from,
+            intervals: &self.intervals[from..until],
+            next: self.from_at(until),
+            x: x as u64,
+            width: (end - x) as u64,
+        }
+    }
+}
+
+/// How many intervals have each verdict that occurs, in the order of the layers.
+pub(crate) fn layers_of(
+    alloc: Global,
+    intervals: &[Interval],
+) -> Result<Vec<(usize, u32)>, AllocError> {
+    let mut layers = Vec::new(alloc);
+    for slot in 0..SLOTS {
+        let count = count_in(intervals, slot);
+        if count > 0 {
+            layers.push((slot, u32::try_from(count).unwrap_or(u32::MAX)))?;
+        }
+    }
+    Ok(layers)
+}
+
+/// How many intervals have each verdict, in words.
+pub(crate) fn summary(tree: &mut Tree, intervals: &[Interval]) -> Result<(), AllocError> {
+    let layers = layers_of(tree.alloc(), intervals)?;
+    let mut first = true;
+    for layer in layers.as_slice() {
+        let (slot, count) = *layer;
+        if !first {
+            tree.word(", ")?;
+        }
+        first = false;
+        tree.counted(u64::from(count))?;
+        tree.word(" ")?;
+        said(tree, slot)?;
+    }
+    Ok(())
+}
+
+/// An interval, as `[2, 4)`.
+pub(crate) fn bounds(tree: &mut Tree, from: SeriesRef, until: u64) -> Result<(), AllocError> {
+    tree.word("[")?;
+    tree.number(u64::from(from.number()))?;
+    tree.word(", ")?;
+    tree.number(until)?;
+    tree.word(")")
+}
+
+fn hover(tree: &mut Tree, column: &Column<'_>) -> Result<(), AllocError> {
+    plain(tree, Tag::Title)?;
+    if let (Some(first), Some(last)) = (column.intervals.first(), column.intervals.last()) {
+        if column.intervals.len() == 1 {
+            bounds(tree, first.from, first.until)?;
+            tree.word(" ")?;
+            said(tree, slot_of(first.verdict))?;
+        } else {
+            tree.word("intervals ")?;
+            tree.counted((column.from as u64).saturating_add(1))?;
+            tree.word(" to ")?;
+            tree.counted((column.from as u64).saturating_add(column.intervals.len() as u64))?;
+            tree.word(", ")?;
+            bounds(tree, first.from, last.until)?;
+            tree.word(": ")?;
+            summary(tree, column.intervals)?;
+        }
+    }
+    tree.close()
+}
+
+/// Whether a hole or an overlap is in a column or behind it.
+fn is_broken(column: &Column<'_>) -> bool {
+    let mut rest = column.intervals;
+    while let Some((first, later)) = rest.split_first() {
+        let next = match later.first() {
+            Some(interval) => u64::from(interval.from.number()),
+            None => column.next,
+        };
+        if first.until != next {
+            return true;
+        }
+        rest = later;
+    }
+    false
+}
+
+fn gap(tree: &mut Tree, strip: &Strip<'_>, column: &Column<'_>) -> Result<(), AllocError> {
+    let (mut x, mut width) = (column.x, column.width);
+    if let [only] = column.intervals {
+        if only.until >= column.next {
+            return Ok(());
+        }
+        width = (column.width / 3).min(150);
+        x = column.x.saturating_add(column.width.saturating_sub(width));
+    }
+    let area = Area {
+        x,
+        y: strip.top,
+        width,
+        height: strip.height,
+    };
+    rect(tree, Attribute::Word(Key::Class, "gap"), area)
+}
+
+fn middle(column: &Column<'_>) -> u64 {
+    column.x.saturating_add(column.width / 2)
+}
+
+/// Whether a column's layers bear their letters.
+fn is_lettered(strip: &Strip<'_>, at: usize, height: u64) -> bool {
+    if !strip.is_aggregated() {
+        return strip.columns <= 64;
+    }
+    let every = strip.columns / 4;
+    height >= 14 && every > 0 && at % every == strip.columns / 8
+}
+
+fn layer_letter(tree: &mut Tree, slot: usize, x: u64, y: u64) -> Result<(), AllocError> {
+    open_text(tree, letter_class(slot), x, y, "middle")?;
+    letter(tree, slot)?;
+    tree.close()
+}
+
+fn layers(tree: &mut Tree, strip: &Strip<'_>, column: &Column<'_>) -> Result<(), AllocError> {
+    let alloc = tree.alloc();
+    let layers = layers_of(alloc, column.intervals)?;
+    let mut counts = Vec::new(alloc);
+    for layer in layers.as_slice() {
+        counts.push(layer.1)?;
+    }
+    if counts.len() as u64 > strip.height || strip.height > 1000 {
+        return Ok(());
+    }
+    let heights = heights(alloc, counts.as_slice(), strip.height)?;
+    let mut y = strip.top.saturating_add(strip.height);
+    for (at, height) in heights.iter().enumerate() {
+        let Some(layer) = layers.get(at) else {
+            return Ok(());
+        };
+        y = y.saturating_sub(*height);
+        let area = Area {
+            x: column.x,
+            y,
+            width: column.width,
+            height: *height,
+        };
+        rect(tree, fill(layer.0), area)?;
+        if is_lettered(strip, column.at, *height) {
+            let below = y.saturating_add(*height / 2).saturating_add(5);
+            layer_letter(tree, layer.0, middle(column), below)?;
+        }
+    }
+    Ok(())
+}
+
+fn draw(tree: &mut Tree, strip: &Strip<'_>, column: &Column<'_>) -> Result<(), AllocError> {
+    plain(tree, Tag::G)?;
+    hover(tree, column)?;
+    layers(tree, strip, column)?;
+    if is_broken(column) {
+        gap(tree, strip, column)?;
+    }
+    tree.close()?;
+    tree.line()
+}
+
+fn cuts(tree: &mut Tree, strip: &Strip<'_>) -> Result<(), AllocError> {
+    let few = strip.columns <= 32;
+    begin(tree, Tag::G, if few { "cut" } else { "cut fine" })?;
+    for at in 1..strip.columns {
+        let x = edge(at, strip.columns, FULL) as u64;
+        line(
+            tree,
+            (x, strip.top),
+            (x, strip.top.saturating_add(strip.height)),
+        )?;
+    }
+    tree.close()?;
+    tree.line()
+}
+
+/// A tick at a place below the strip.
+fn tick(tree: &mut Tree, x: u64, y: u64) -> Result<(), AllocError> {
+    let alloc = tree.alloc();
+    let attributes = vec![in alloc;
+        Attribute::Share(Key::X, x),
+        Attribute::Number(Key::Y, y),
+        Attribute::Word(Key::Width, "1.5"),
+        Attribute::Number(Key::Height, 7),
+    ]?;
+    tree.leaf(Tag::Rect, attributes)
+}
+
+/// How many separators lie in a column's intervals.
+fn separators_in(strip: &Strip<'_>, column: &Column<'_>) -> u64 {
+    let (Some(first), Some(last)) = (column.intervals.first(), column.intervals.last()) else {
+        return 0;
+    };
+    let mut count = 0u64;
+    for separator in strip.separators {
+        let number = u64::from(separator.number());
+        if u64::from(first.from.number()) <= number && number < last.until {
+            count = count.saturating_add(1);
+        }
+    }
+    count
+}
+
+/// The ticks of the separators: one where a column has as many as intervals, else a red bar.
+fn ticks(tree: &mut Tree, strip: &Strip<'_>) -> Result<(), AllocError> {
+    let y = strip.top.saturating_add(strip.height).saturating_add(2);
+    begin(
+        tree,
+        Tag::G,
+        if strip.is_aggregated() {
+            "sep many"
+        } else {
+            "sep"
+        },
+    )?;
+    for at in 0..strip.columns {
+        let column = strip.column(at);
+        if separators_in(strip, &column) == column.intervals.len() as u64 {
+            tick(tree, column.x, y)?;
+        } else {
+            let area = Area {
+                x: column.x,
+                y,
+                width: column.width,
+                height: 7,
+            };
+            rect(tree, Attribute::Word(Key::Class, "gap"), area)?;
+        }
+    }
+    tree.close()?;
+    tree.line()
+}
+
+/// How many digits a number has.
+fn digits(n: u64) -> u64 {
+    let (mut rest, mut count) = (n / 10, 1u64);
+    while rest > 0 {
+        rest /= 10;
+        count = count.saturating_add(1);
+    }
+    count
+}
+
+/// Where columns begin, wherever there is room for the number.
+fn numbers(tree: &mut Tree, strip: &Strip<'_>) -> Result<(), AllocError> {
+    let y = strip.top.saturating_add(strip.height).saturating_add(26);
+    let mut free = 0u64;
+    begin(tree, Tag::G, "num")?;
+    for at in 0..strip.columns {
+        let column = strip.column(at);
+        let Some(first) = column.intervals.first() else {
+            continue;
+        };
+        let number = u64::from(first.from.number());
+        let width = digits(number).saturating_mul(130).saturating_add(130);
+        let half = if at == 0 { 0 } else { width / 2 };
+        if column.x < free.saturating_add(half) || column.x.saturating_add(width / 2) > 9200 {
+            continue;
+        }
+        let anchor = if at == 0 { "start" } else { "middle" };
+        open_text(
+            tree,
+            Attribute::Word(Key::Class, "no-i"),
+            column.x,
+            y,
+            anchor,
+        )?;
+        tree.number(number)?;
+        tree.close()?;
+        free = column
+            .x
+            .saturating_add(width.saturating_sub(half))
+            .saturating_add(60);
+    }
+    open_text(tree, Attribute::Word(Key::Class, "no-i"), 10_000, y, "end")?;
+    match strip.intervals.last() {
+        Some(last) if last.until != END => tree.number(last.until)?,
+        _ => tree.word("end")?,
+    }
+    tree.close()?;
+    tree.close()
+}
+
+/// The boxes or columns of a strip, the lines between them, the ticks and the numbers.
+pub(crate) fn draw_strip(tree: &mut Tree, strip: &Strip<'_>) -> Result<(), AllocError> {
+    let area = Area {
+        x: 0,
+        y: strip.top,
+        width: 10_000,
+        height: strip.height,
+    };
+    rect(tree, Attribute::Word(Key::Class, "hole"), area)?;
+    tree.line()?;
+    for at in 0..strip.columns {
+        draw(tree, strip, &strip.column(at))?;
+    }
+    if strip.columns <= 120 {
+        cuts(tree, strip)?;
+    }
+    ticks(tree, strip)?;
+    numbers(tree, strip)
+}
+
+/// A caption of a figure.
+pub(crate) fn caption(tree: &mut Tree, strip: &Strip<'_>) -> Result<(), AllocError> {
+    open_text(tree, Attribute::Word(Key::Class, "cap"), 0, 11, "start")?;
+    if strip.is_aggregated() && strip.columns > 0 {
+        let each = strip.intervals.len() / strip.columns;
+        tree.word("each column: ")?;
+        tree.counted(each as u64)?;
+        if strip.intervals.len() % strip.columns > 0 {
+            tree.word(" or ")?;
+            tree.counted((each as u64).saturating_add(1))?;
+        }
+        tree.word(" intervals, in order; heights: how many of each verdict")?;
+    } else {
+        tree.word("a box for ")?;
+        tree.word("each interval")?;
+    }
+    tree.close()
+}
