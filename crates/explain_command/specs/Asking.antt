@@ -1,7 +1,8 @@
 -- The command line: what `clap` reads from the words, and what that asks for.
-use Rattle.std.specs.Prelude.{◌≡◌, true, List, [], Some, codes, option_map}
+use Rattle.std.specs.Prelude.{◌≡◌, true, false, List, [], Some, codes, option_map}
 use Rattle.clap.specs.Words.{App, Row, Rule, Text, new_app, new_rule, with_rule, first_of}
-use Rattle.clap.specs.Words.{matches_of, fault_of}
+use Rattle.clap.specs.Words.{one_of, matches_of, fault_of}
+use Rattle.clap.specs.declared.builder.action.ArgAction.TheVariants.{SetTrue}
 use Rattle.audit_command.specs.Asking as audit
 use Rattle.explain_command.specs.declared.command.Asked.{Asked}
 
@@ -12,15 +13,22 @@ about_rule = record (new_rule (codes "about")) {
   value_names = 1;
 }
 
+-- the flag of a text for a terminal
+abbrev pub text_rule : Rule
+text_rule = record (new_rule (codes "text")) {
+  long = Some (codes "text");
+  action = Some SetTrue;
+}
+
 -- the program's name, which the words do not begin with
 abbrev pub named_app : App
 named_app =
     let app = new_app (codes "explain") in
     record app { top = record app.top { has_version = true; no_binary_name = true } }
 
--- --selector S [--from N] [--to N] [DIR]... [--about SERIES]
+-- --selector S [--from N] [--to N] [DIR]... [--about SERIES] [--text]
 abbrev pub explain_app : App
-explain_app = with_rule (audit.with_arguments named_app) about_rule
+explain_app = with_rule (with_rule (audit.with_arguments named_app) about_rule) text_rule
 
 -- `clap` takes the words: it finds no fault in them
 abbrev pub AreTaken : List Text → Type 0
@@ -30,6 +38,8 @@ AreTaken words = fault_of explain_app words ≡ []
 pub record IsAskedIn (rows : List Row) (asked : Asked) : Type 0 where
   pub audit : audit.IsAskedIn rows asked.audit
   pub about : option_map (λ text. text.now) asked.about ≡ first_of (codes "about") rows
+  pub text : one_of (codes "text") rows ≡ Some (codes "true") → asked.text ≡ true
+  pub page : one_of (codes "text") rows ≡ Some (codes "false") → asked.text ≡ false
 
 -- what the words ask for, as `clap` reads them
 abbrev pub IsAskedBy : List Text → Asked → Type 0

@@ -1,5 +1,6 @@
 -- What a page shows, and why there is none.
-use Rattle.std.specs.Prelude.{◌≡◌, ℕ, List, [], ◌∷◌, Option, None, Some, length, option_map}
+use Rattle.std.specs.Prelude.{◌≡◌, ℕ, Bool, true, false, List, [], ◌∷◌, Option, None, Some, length}
+use Rattle.std.specs.Prelude.{option_map}
 use Rattle.std.specs.List.{flat_map}
 use Rattle.labels.specs.Labels.{Labels}
 use Rattle.matchers.specs.Views.{QueryView}
@@ -10,7 +11,7 @@ use Rattle.auditor.specs.declared.judgement.Line.{Line}
 use Rattle.auditor.specs.declared.reply.Reply.{Reply}
 use Rattle.sha2.specs.Sha256.{sha256}
 use Rattle.page_claims.specs.declared.told.Told.{Told}
-use Rattle.page.specs.Pages.{IsPageOf}
+use Rattle.page.specs.Pages.{IsPageOf, IsTextOf}
 use Rattle.page.specs.declared.shown.Shown.{Shown}
 use Rattle.page.specs.declared.write.Page.{Page}
 use Rattle.audit_command.specs.Asking.{directories_of}
@@ -104,6 +105,11 @@ pub record Shows (asked : Asked) (found : Found) (shown : Shown) : Type 0 where
   pub length_is : shown.length ≡ length found.text
   pub digest_is : shown.digest ≡ sha256 found.text
 
+-- the page is HTML, or a text for a terminal
+abbrev pub IsShownAs : Bool → Shown → Page → Type 0
+IsShownAs true shown page = IsTextOf shown page
+IsShownAs false shown page = IsPageOf shown page
+
 -- the page shows what was read
 pub record IsAnswer (reads : Host) (input : Option (List ℕ)) (asked : Asked) (page : Page)
     : Type 0 where
@@ -111,7 +117,7 @@ pub record IsAnswer (reads : Host) (input : Option (List ℕ)) (asked : Asked) (
   pub has_read : HasRead reads input asked found
   pub shown : Shown
   pub shows : Shows asked found shown
-  pub page_is : IsPageOf shown page
+  pub page_is : IsShownAs asked.text shown page
 
 -- a fault of the audit's own
 abbrev pub IsAuditFault : (AuditFault → Type 0) → Fault → Type 0

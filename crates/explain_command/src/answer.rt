@@ -4,7 +4,7 @@ ghost use Rattle.std.specs.Prelude.{◌≡◌, length, Some, IfOk, IfErr};
 ghost use Rattle.auditor.specs.Replies.{text_said, told_of};
 ghost use Rattle.explain_command.specs.Showing.{IsAbout, IsAboutFault, IsTextFault, IsToldIn};
 ghost use Rattle.explain_command.specs.Showing.{AreLinesOf, IsAnswer, IsAnswerFault, HasRead};
-ghost use Rattle.explain_command.specs.Showing.{Shows};
+ghost use Rattle.explain_command.specs.Showing.{Shows, IsShownAs};
 
 use crate::command::Asked;
 use crate::fault::Fault;
@@ -13,10 +13,10 @@ use audit_command::{Fault as AuditFault, ReadFiles, all_of, query_of, tables_at}
 use auditor::{BlockTable, Line, Reply, ReplyError, judge};
 use labels::LabelSet;
 use matchers::Query;
-use page::{Page, Shown, write_page};
+use page::{Page, Shown, write_page, write_text};
 use page_claims::Told;
 use sha2::{Digest, Sha256};
-use std::alloc::Global;
+use std::alloc::{AllocError, Global};
 use std::io::Read;
 
 /// The series that somebody asks about, if there is one.
@@ -67,6 +67,17 @@ fn lines_of(
     Ok(judge(alloc, tables, query, reply)?)
 }
 
+/// The page, as HTML or as a text.
+fn write_shown(alloc: Global, text: bool, shown: &Shown<'_>) -> Result<Page, AllocError>
+    ensures { IfOk result (λ page. IsShownAs text shown.now page) }
+{
+    if text {
+        write_text(alloc, shown)
+    } else {
+        write_page(alloc, shown)
+    }
+}
+
 /// The page of the reply that a reader gives.
 ///
 /// The selector is checked, then the range, then the series that is asked about; then the reply is
@@ -99,5 +110,5 @@ pub fn answer<F: ReadFiles, R: Read>(
         length: text.len() as u64,
         digest: Sha256::digest(text.as_slice()),
     };
-    Ok(write_page(alloc, &shown)?)
+    Ok(write_shown(alloc, asked.text, &shown)?)
 }

@@ -5,11 +5,11 @@ ghost use Rattle.clap.specs.Matches.{found_of};
 ghost use Rattle.clap.specs.Words.{app_of, rule_of, rows_of, first_of, matches_of, fault_of};
 ghost use Rattle.clap.specs.Words.{FailsBy};
 ghost use Rattle.audit_command.specs.Asking.{texts_of};
-ghost use Rattle.explain_command.specs.Asking.{about_rule, named_app, explain_app, IsAskedIn};
-ghost use Rattle.explain_command.specs.Asking.{IsAskedBy};
+ghost use Rattle.explain_command.specs.Asking.{about_rule, text_rule, named_app};
+ghost use Rattle.explain_command.specs.Asking.{explain_app, IsAskedIn, IsAskedBy};
 
 use audit_command::{Asked as AuditAsked, asked_in as audit_in, with_arguments};
-use clap::{Arg, ArgMatches, Command, Error};
+use clap::{Arg, ArgAction, ArgMatches, Command, Error};
 use std::alloc::{AllocError, Global};
 
 /// What the words ask for, as it was written: nothing is checked.
@@ -19,6 +19,8 @@ pub struct Asked<'a> {
     pub audit: AuditAsked<'a>,
     /// The series that somebody asks about.
     pub about: Option<&'a str>,
+    /// Whether the page is to be a text for a terminal.
+    pub text: bool,
 }
 
 const LINES: &str =
@@ -30,7 +32,8 @@ reply is judged first, as auditor does: they are its blocks, "block 0", "block 1
 order given. The page then carries each judgement, and names series that each interval rejects.
 
 --about 'up{job="b"}' has the page say why that series is in the answer, or not. It is written as a
-selector is, with = alone.
+selector is, with = alone. --text writes the claim, the key, a strip of letters for each part and
+that sentence.
 
 Exit status: 0 the page says that no series is missing; 1 it does not, or the selector, the range or
 the series is refused; 2 a fault of the words; 3 a file or standard input cannot be read, or it
@@ -47,6 +50,17 @@ fn about<'a>(alloc: Global) -> Arg<'a>
         .help("A series to be told of, as up{job=\"b\"}")
 }
 
+/// The flag `--text`.
+fn text<'a>(alloc: Global) -> Arg<'a>
+    ensures rule { rule_of result ≡ text_rule }
+    ensures global { result.global ≡ false }
+{
+    Arg::new(alloc, "text")
+        .long("text")
+        .action(ArgAction::SetTrue)
+        .help("Writes a text of 80 columns for a terminal, and no HTML")
+}
+
 /// The program, without its arguments.
 fn explain<'a>(alloc: Global) -> Result<Command<'a>, AllocError>
     ensures { IfOk result (λ command. app_of command ≡ named_app) }
@@ -60,11 +74,13 @@ fn explain<'a>(alloc: Global) -> Result<Command<'a>, AllocError>
     Ok(command)
 }
 
-/// The program: `--selector S [--from N] [--to N] [--about SERIES] [DIR]...`.
+/// The program: `--selector S [--from N] [--to N] [--about SERIES] [--text] [DIR]...`.
 fn program<'a>(alloc: Global) -> Result<Command<'a>, AllocError>
     ensures { IfOk result (λ command. app_of command ≡ explain_app) }
 {
-    with_arguments(alloc, explain(alloc)?)?.arg(about(alloc))
+    with_arguments(alloc, explain(alloc)?)?
+        .arg(about(alloc))?
+        .arg(text(alloc))
 }
 
 fn about_in<'a>(found: &ArgMatches<'a>) -> Option<&'a str>
@@ -79,7 +95,8 @@ fn asked_in<'a>(alloc: Global, found: &ArgMatches<'a>) -> Result<Asked<'a>, Allo
 {
     let audit = audit_in(alloc, found)?;
     let about = about_in(found);
-    Ok(Asked { audit, about })
+    let text = found.get_flag("text");
+    Ok(Asked { audit, about, text })
 }
 
 fn matches_in<'a>(alloc: Global, words: &'a [String]) -> Result<ArgMatches<'a>, Error>

@@ -5,6 +5,7 @@ use Rattle.page_claims.specs.Claiming.{IsShown}
 use Rattle.page_claims.specs.declared.claim.Claim.{Claim}
 use Rattle.page_style.specs.declared.front.TheConstants.{FRONT}
 use Rattle.page_text.specs.Nesting.{IsTree}
+use Rattle.page_text.specs.Plain.{plain_text}
 use Rattle.page_text.specs.Printing.{page_text}
 use Rattle.page_text.specs.declared.piece.Piece.{Piece}
 use Rattle.page.specs.declared.shown.Shown.{Shown}
@@ -23,4 +24,11 @@ pub record IsPageOf (shown : Shown) (page : Page) : Type 0 where
   pub tree : IsTree pieces
   pub bytes : page.bytes.items
       ≡ flat_map (λ t. t.now) FRONT ++ page_text pieces ++ codes "</body>\n</html>\n"
+  pub claim : IsClaimOf shown page.claim
+
+-- the texts and numbers of a tree alone
+pub record IsTextOf (shown : Shown) (page : Page) : Type 0 where
+  pub pieces : List Piece
+  pub tree : IsTree pieces
+  pub bytes : page.bytes.items ≡ plain_text pieces
   pub claim : IsClaimOf shown page.claim

@@ -2,6 +2,7 @@
 
 use crate::header::{part_name, sayings};
 use crate::judged::{judgement, names};
+use crate::map::draw_map;
 use crate::shown::View;
 use crate::strip::{END, Strip, caption, draw_strip, layers_of, summary};
 use crate::verdicts::{chip, row_class, slot_name, why};
@@ -31,7 +32,7 @@ fn strip_of<'a>(answer: &'a PartAnswer, few: bool) -> Strip<'a> {
         intervals,
         separators: answer.cover.separators.as_slice(),
         columns,
-        top: 18,
+        top: if few && columns == intervals.len() { 62 } else { 18 },
         height: if columns < intervals.len() { 96 } else { 44 },
     }
 }
@@ -41,7 +42,7 @@ fn figure(tree: &mut Tree, shown: &Strip<'_>, name: PartName) -> Result<(), Allo
     let attributes = vec![in alloc;
         Attribute::Word(Key::Class, "fig"),
         Attribute::Word(Key::Width, "100%"),
-        Attribute::Number(Key::Height, shown.height.saturating_add(52)),
+        Attribute::Number(Key::Height, shown.top.saturating_add(shown.height).saturating_add(34)),
         Attribute::Word(Key::Role, "img"),
     ]?;
     tree.open(Tag::Svg, attributes)?;
@@ -60,8 +61,12 @@ fn figure(tree: &mut Tree, shown: &Strip<'_>, name: PartName) -> Result<(), Allo
     tree.word(". The table below has the same.")?;
     tree.close()?;
     tree.line()?;
-    caption(tree, shown)?;
-    tree.line()?;
+    if shown.top > 18 {
+        draw_map(tree, shown)?;
+    } else {
+        caption(tree, shown)?;
+        tree.line()?;
+    }
     draw_strip(tree, shown)?;
     tree.close()?;
     tree.line()

@@ -2,7 +2,7 @@
 
 ghost use Rattle.std.specs.Prelude.{IfOk};
 ghost use Rattle.page_text.specs.Nesting.{IsTree};
-ghost use Rattle.page.specs.Pages.{IsPageOf, IsClaimOf};
+ghost use Rattle.page.specs.Pages.{IsPageOf, IsTextOf, IsClaimOf};
 
 use crate::header::header;
 use crate::help::help;
@@ -10,11 +10,12 @@ use crate::key::key;
 use crate::parts::certificates;
 use crate::rows::rows;
 use crate::shown::{Shown, View, axis_of, samples_in};
+use crate::terminal::terminal;
 use crate::time::time;
 use crate::words::plain;
 use page_claims::{Claim, find_claim};
 use page_style::{append_back, append_front};
-use page_text::{Piece, Tag, Tree, print};
+use page_text::{Piece, Tag, Tree, print, print_plain};
 use std::alloc::{AllocError, Global};
 
 /// What all sections need.
@@ -72,4 +73,22 @@ pub fn write_page(alloc: Global, shown: &Shown<'_>) -> Result<Page, AllocError>
     print(&mut bytes, pieces.as_slice())?;
     append_back(&mut bytes)?;
     Ok(Page { bytes, claim })
+}
+
+/// The same for a terminal: the claim, the key, a letter for each interval of each part, and the
+/// sentence about a series. Lines are at most 80 characters wide, names and values of more than 24
+/// characters aside.
+pub fn write_text(alloc: Global, shown: &Shown<'_>) -> Result<Page, AllocError>
+    ensures { IfOk result (λ page. IsTextOf shown.now page) }
+{
+    let view = view_of(alloc, shown)?;
+    let mut tree = Tree::new(alloc);
+    terminal(&mut tree, &view)?;
+    let pieces = tree.finish()?;
+    let mut bytes = Vec::new(alloc);
+    print_plain(&mut bytes, pieces.as_slice())?;
+    Ok(Page {
+        bytes,
+        claim: view.claim,
+    })
 }

@@ -65,7 +65,7 @@ fn append_digit(out: &mut Vec<u8>, digit: u32) -> Result<(), AllocError>
 }
 
 #[tactic(auto, unfolding(crate::specs::Escaping::high_digits))]
-fn append_high_digits(out: &mut Vec<u8>, c: u32) -> Result<(), AllocError>
+pub(crate) fn append_high_digits(out: &mut Vec<u8>, c: u32) -> Result<(), AllocError>
     ensures { OnOk result (out.new.items ≡ out.old.items ++ high_digits c) }
 {
     if c >= 1_048_576 {
@@ -78,7 +78,7 @@ fn append_high_digits(out: &mut Vec<u8>, c: u32) -> Result<(), AllocError>
 }
 
 #[tactic(auto, unfolding(crate::specs::Escaping::low_digits))]
-fn append_low_digits(out: &mut Vec<u8>, c: u32) -> Result<(), AllocError>
+pub(crate) fn append_low_digits(out: &mut Vec<u8>, c: u32) -> Result<(), AllocError>
     ensures { OnOk result (out.new.items ≡ out.old.items ++ low_digits c) }
 {
     append_digit(out, c / 4096)?;

@@ -1,4 +1,4 @@
-use Rattle.std.proofs.Common.{rules, ap, ap₂, ◌≡◌, ◌∙◌}
+use Rattle.std.proofs.Common.{ap, ap₂, ◌≡◌, ◌∙◌}
 use Rattle.std.proofs.lemmas.Result.{IfOk-weaker}
 use Rattle.clap.specs.Words.{app_of, with_rule}
 use Rattle.audit_command.specs.Asking.{with_arguments}
@@ -6,5 +6,6 @@ use Rattle.explain_command.proofs.command.program.Goals as goal
 
 pub returns : goal.returns
 returns c =
-    IfOk-weaker c.arg.result _ _ (λ command h. h.shape c.about.ensures.global
-    ∙ ap₂ with_rule (c.in_ok-with_arguments.ensures ∙ ap with_arguments c.in_ok-explain.ensures) c.about.ensures.rule) c.arg.ensures
+    IfOk-weaker c.arg-2.result _ _ (λ command h. h.shape c.text.ensures.global
+    ∙ ap₂ with_rule (c.in_ok-arg.ensures.shape c.about.ensures.global
+    ∙ ap₂ with_rule (c.in_ok-with_arguments.ensures ∙ ap with_arguments c.in_ok-explain.ensures) c.about.ensures.rule) c.text.ensures.rule) c.arg-2.ensures

@@ -1,0 +1,200 @@
+//! The map of a part: its references to scale, and the lines from it to the boxes.
+
+use crate::shapes::{Area, line, open_text, rect};
+use crate::strip::{FULL, Strip};
+use crate::verdicts::{MATCH, fill, slot};
+use crate::words::begin;
+use cover::Interval;
+use page_claims::SLOTS;
+use page_layout::{edge, share};
+use page_text::{Attribute, Key, Tag, Tree};
+use std::alloc::{AllocError, Global};
+
+/// How many columns a map has.
+const COLUMNS: u64 = 480;
+
+/// Where its open end begins, which is not to scale.
+const CLOSED: u64 = 9400;
+
+/// What meets a column of a map: a match, and the first other verdict.
+#[derive(Clone, Copy, Debug, PartialEq, Eq, Drop)]
+struct Spot {
+    has_match: bool,
+    other: Option<usize>,
+}
+
+/// The references of a map: from the first interval to the last.
+#[derive(Clone, Copy, Debug, PartialEq, Eq, Drop)]
+struct Scale {
+    from: u64,
+    span: u64,
+    closed: u64,
+}
+
+fn scale_of(intervals: &[Interval]) -> Option<Scale> {
+    let from = u64::from(intervals.first()?.from.number());
+    let last = u64::from(intervals.last()?.from.number());
+    let span = last.saturating_sub(from);
+    Some(Scale {
+        from,
+        span,
+        closed: if span > 0 { CLOSED } else { 0 },
+    })
+}
+
+impl Scale {
+    fn place(self, reference: u64) -> u64 {
+        share(reference.saturating_sub(self.from), self.span, self.closed)
+    }
+}
+
+fn meet(spots: &mut Vec<Spot>, scale: Scale, interval: &Interval) {
+    if scale.span == 0 {
+        return;
+    }
+    let from = u64::from(interval.from.number()).saturating_sub(scale.from);
+    let until = interval.until.saturating_sub(scale.from);
+    let first = share(from, scale.span, COLUMNS);
+    let last = until.saturating_mul(COLUMNS).saturating_sub(1) / scale.span;
+    let its = slot(interval.verdict);
+    for at in first..last.min(COLUMNS - 1).saturating_add(1) {
+        if let Some(spot) = spots.get_mut(at as usize) {
+            if its == MATCH {
+                spot.has_match = true;
+            } else if spot.other.is_none() {
+                spot.other = Some(its);
+            }
+        }
+    }
+}
+
+fn spots_of(alloc: Global, scale: Scale, intervals: &[Interval]) -> Result<Vec<Spot>, AllocError> {
+    let empty = Spot {
+        has_match: false,
+        other: None,
+    };
+    let mut spots = vec![in alloc; empty; COLUMNS as usize]?;
+    if let Some((_, earlier)) = intervals.split_last() {
+        for interval in earlier {
+            meet(&mut spots, scale, interval);
+        }
+    }
+    Ok(spots)
+}
+
+/// What fills a column: the first other verdict, or match; `SLOTS` if nothing does.
+fn whole_of(spot: &Spot) -> usize {
+    match spot.other {
+        Some(other) => other,
+        None => if spot.has_match { MATCH } else { SLOTS },
+    }
+}
+
+/// What fills the upper half of a column: a match that another verdict hides.
+fn half_of(spot: &Spot) -> usize {
+    if spot.has_match && spot.other.is_some() { MATCH } else { SLOTS }
+}
+
+fn run(
+    tree: &mut Tree,
+    scale: Scale,
+    its: usize,
+    columns: (u64, u64),
+    height: u64,
+) -> Result<(), AllocError> {
+    if its >= SLOTS {
+        return Ok(());
+    }
+    let x = share(columns.0, COLUMNS, scale.closed);
+    let end = share(columns.1, COLUMNS, scale.closed);
+    let area = Area {
+        x,
+        y: 17,
+        width: end.saturating_sub(x),
+        height,
+    };
+    rect(tree, fill(its), area)
+}
+
+/// Equal neighbours as one rectangle.
+fn runs(
+    tree: &mut Tree,
+    scale: Scale,
+    spots: &[Spot],
+    halves: bool,
+) -> Result<(), AllocError> {
+    let height = if halves { 7 } else { 13 };
+    let (mut its, mut start) = (SLOTS, 0u64);
+    for (at, spot) in spots.iter().enumerate() {
+        let next = if halves { half_of(spot) } else { whole_of(spot) };
+        if next != its {
+            run(tree, scale, its, (start, at as u64), height)?;
+            its = next;
+            start = at as u64;
+        }
+    }
+    run(tree, scale, its, (start, spots.len() as u64), height)
+}
+
+fn map_strip(tree: &mut Tree, strip: &Strip<'_>, scale: Scale) -> Result<(), AllocError> {
+    open_text(tree, Attribute::Word(Key::Class, "cap"), 0, 11, "start")?;
+    if scale.closed > 0 {
+        tree.word("to scale: references ")?;
+        tree.number(scale.from)?;
+        tree.word(" to ")?;
+        tree.number(scale.from.saturating_add(scale.span))?;
+        tree.word(", then the open end")?;
+    } else {
+        tree.word("references: one interval")?;
+    }
+    tree.close()?;
+    open_text(tree, Attribute::Word(Key::Class, "cap"), FULL as u64, 11, "end")?;
+    tree.word("below: a box for each interval")?;
+    tree.close()?;
+    let hole = Area {
+        x: 0,
+        y: 17,
+        width: FULL as u64,
+        height: 13,
+    };
+    begin(tree, Tag::G, "map")?;
+    rect(tree, Attribute::Word(Key::Class, "hole"), hole)?;
+    let spots = spots_of(tree.alloc(), scale, strip.intervals)?;
+    runs(tree, scale, spots.as_slice(), false)?;
+    runs(tree, scale, spots.as_slice(), true)?;
+    if let Some(last) = strip.intervals.last() {
+        let open = Area {
+            x: scale.closed,
+            y: 17,
+            width: (FULL as u64).saturating_sub(scale.closed),
+            height: 13,
+        };
+        rect(tree, fill(slot(last.verdict)), open)?;
+    }
+    tree.close()?;
+    tree.line()
+}
+
+/// The lines from the map to the boxes: to each if they are at most 64, else at both ends.
+fn fan(tree: &mut Tree, strip: &Strip<'_>, scale: Scale) -> Result<(), AllocError> {
+    begin(tree, Tag::G, if strip.columns <= 32 { "fan" } else { "fan fine" })?;
+    for (at, interval) in strip.intervals.iter().enumerate() {
+        if at < strip.columns && (at == 0 || strip.columns <= 64) {
+            let from = scale.place(u64::from(interval.from.number()));
+            let to = edge(at, strip.columns, FULL) as u64;
+            line(tree, (from, 30), (to, strip.top))?;
+        }
+    }
+    line(tree, (FULL as u64, 30), (FULL as u64, strip.top))?;
+    tree.close()?;
+    tree.line()
+}
+
+/// The map and its lines.
+pub(crate) fn draw_map(tree: &mut Tree, strip: &Strip<'_>) -> Result<(), AllocError> {
+    let Some(scale) = scale_of(strip.intervals) else {
+        return Ok(());
+    };
+    map_strip(tree, strip, scale)?;
+    fan(tree, strip, scale)
+}

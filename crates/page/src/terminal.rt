@@ -1,0 +1,229 @@
+//! The same for a terminal of 80 columns.
+
+use crate::header::part_name;
+use crate::shown::View;
+use crate::strip::END;
+use crate::verdicts::{MATCH, NONE, UNKNOWN, slot_name};
+use crate::words::{long_text, plural};
+use cover::{Interval, PartAnswer};
+use labels::LabelSet;
+use matchers::{Matcher, Op};
+use page_claims::{Place, SLOTS, checks_of, rejecting, row_with, slot_of};
+use page_layout::range_of;
+use page_text::Tree;
+use postings::PartName;
+use std::alloc::AllocError;
+
+/// Most letters of a line.
+const WIDTH: usize = 76;
+
+fn claim(tree: &mut Tree, view: &View<'_>) -> Result<(), AllocError> {
+    if !view.claim.is_shown {
+        tree.word("✗ This reply does not show that no series is missing.")?;
+        return tree.line();
+    }
+    tree.word("✓ No series is missing")?;
+    tree.word(if view.claim.is_judged && !view.shown.lines.is_empty() {
+        ". The auditor found no flaw."
+    } else {
+        ", by the certificates below."
+    })?;
+    tree.line()
+}
+
+fn matcher_text(tree: &mut Tree, matcher: &Matcher) -> Result<(), AllocError> {
+    long_text(tree, matcher.name(), 24)?;
+    tree.word(match matcher.op() {
+        Op::Equal => "=",
+        Op::NotEqual => "!=",
+        Op::Like => "=~",
+        Op::NotLike => "!~",
+    })?;
+    tree.word("\"")?;
+    long_text(tree, matcher.text(), 24)?;
+    tree.word("\"")
+}
+
+/// The letter of a slot: one character for each.
+fn letter(tree: &mut Tree, slot: usize) -> Result<(), AllocError> {
+    match slot {
+        MATCH => tree.word("✓"),
+        NONE => tree.word("."),
+        UNKNOWN => tree.word("?"),
+        11 => tree.word("a"),
+        12 => tree.word("b"),
+        13 => tree.word("c"),
+        14 => tree.word("d"),
+        15 => tree.word("e"),
+        16 => tree.word("f"),
+        _ => tree.number(slot.saturating_sub(1) as u64),
+    }
+}
+
+fn key_line(tree: &mut Tree, view: &View<'_>, slot: usize, n: u64) -> Result<(), AllocError> {
+    tree.word("  ")?;
+    letter(tree, slot)?;
+    tree.word("  ")?;
+    plural(tree, n, " interval  ", " intervals  ")?;
+    slot_name(tree, slot)?;
+    if slot != MATCH && slot != NONE {
+        if let Some(failed) = view.matchers().get(slot.saturating_sub(1)) {
+            tree.word(": ")?;
+            matcher_text(tree, failed)?;
+        }
+    }
+    tree.line()
+}
+
+fn key(tree: &mut Tree, view: &View<'_>) -> Result<(), AllocError> {
+    for slot in 0..SLOTS {
+        let n = view.count(slot);
+        if slot == MATCH || slot == NONE || slot <= view.matchers().len() || n > 0 {
+            key_line(tree, view, slot, n)?;
+        }
+    }
+    Ok(())
+}
+
+/// The slot that stands for a column: match if it has one, else its first.
+fn slot_for(intervals: &[Interval]) -> usize {
+    let mut slot = UNKNOWN;
+    let mut first = true;
+    for interval in intervals {
+        let its = slot_of(interval.verdict);
+        if first || its == MATCH {
+            slot = its;
+        }
+        first = false;
+    }
+    slot
+}
+
+/// A letter for each interval, or for each of some columns of them.
+fn letters(tree: &mut Tree, intervals: &[Interval]) -> Result<(), AllocError> {
+    let columns = intervals.len().min(WIDTH);
+    tree.word("  ")?;
+    for at in 0..columns {
+        let (from, until) = range_of(at, columns, intervals.len());
+        letter(tree, slot_for(&intervals[from..until]))?;
+    }
+    tree.line()?;
+    if columns < intervals.len() {
+        tree.word("  a letter for several intervals: ✓ if one of them is a match, else their first")?;
+        tree.line()?;
+    }
+    Ok(())
+}
+
+fn flaws(tree: &mut Tree, view: &View<'_>, answer: &PartAnswer) -> Result<(), AllocError> {
+    let checks = checks_of(answer, view.matchers().len());
+    let told = [
+        (checks.chain, "  ✗ the intervals are no chain without a hole"),
+        (checks.names, "  ✗ a verdict names a matcher that is not there"),
+        (checks.rows, "  ✗ there are not as many rows as matches"),
+        (checks.separators, "  ✗ the separators do not lie one in each interval"),
+    ];
+    for (holds, text) in told {
+        if !holds {
+            tree.word(text)?;
+            tree.line()?;
+        }
+    }
+    Ok(())
+}
+
+fn part(tree: &mut Tree, view: &View<'_>, answer: &PartAnswer) -> Result<(), AllocError> {
+    let intervals = answer.cover.certificate.as_slice();
+    part_name(tree, answer.part)?;
+    tree.word(": ")?;
+    plural(tree, intervals.len() as u64, " interval", " intervals")?;
+    if let (Some(first), Some(last)) = (intervals.first(), intervals.last()) {
+        tree.word(" from ")?;
+        tree.number(u64::from(first.from.number()))?;
+        tree.word(" to ")?;
+        if last.until == END {
+            tree.word("the end")?;
+        } else {
+            tree.number(last.until)?;
+        }
+    }
+    tree.line()?;
+    letters(tree, intervals)?;
+    flaws(tree, view, answer)
+}
+
+fn parts(tree: &mut Tree, view: &View<'_>) -> Result<(), AllocError> {
+    let mut answers = view.shown.told.answers.as_slice();
+    for place in view.shown.told.places.as_slice() {
+        match *place {
+            Place::Skipped(number) => {
+                part_name(tree, PartName::Block(number))?;
+                tree.word(": skipped, outside the range")?;
+                tree.line()?;
+            }
+            Place::Searched => {
+                if let Some((answer, later)) = answers.split_first() {
+                    answers = later;
+                    part(tree, view, answer)?;
+                }
+            }
+        }
+    }
+    Ok(())
+}
+
+fn about(tree: &mut Tree, view: &View<'_>, labels: &LabelSet) -> Result<(), AllocError> {
+    if let Some(at) = row_with(view.shown.told.rows.as_slice(), labels) {
+        tree.word("The series is in the answer, as row ")?;
+        tree.counted((at as u64).saturating_add(1))?;
+        tree.word(".")?;
+        return tree.line();
+    }
+    let places = rejecting(view.alloc, view.matchers(), labels)?;
+    if places.is_empty() {
+        tree.word("Every matcher accepts these labels, and they are no row: if the certificate")?;
+        tree.line()?;
+        tree.word("is right, no part holds a sample of them in the range.")?;
+        return tree.line();
+    }
+    tree.word("The series is not in the answer: these reject it, whatever the store holds.")?;
+    tree.line()?;
+    for at in places.as_slice() {
+        if let Some(failed) = view.matchers().get(*at) {
+            tree.word("  ")?;
+            letter(tree, at.saturating_add(1).min(UNKNOWN))?;
+            tree.word("  ")?;
+            matcher_text(tree, failed)?;
+            tree.line()?;
+        }
+    }
+    Ok(())
+}
+
+/// The claim, the key, a strip of letters for each part, and the sentence about a series.
+pub(crate) fn terminal(tree: &mut Tree, view: &View<'_>) -> Result<(), AllocError> {
+    long_text(tree, view.shown.selector, 160)?;
+    tree.line()?;
+    claim(tree, view)?;
+    if !view.claim.is_merged {
+        tree.word("  ✗ the rows of the answer are not the merged rows of the parts")?;
+        tree.line()?;
+    }
+    for line in view.shown.lines {
+        if line.judgement.is_fault() {
+            tree.word("  ✗ the auditor found a flaw: ")?;
+            let alloc = tree.alloc();
+            crate::header::auditor_text(tree, format!(in alloc; "{line}")?.as_str())?;
+            tree.line()?;
+        }
+    }
+    tree.line()?;
+    key(tree, view)?;
+    tree.line()?;
+    parts(tree, view)?;
+    if let Some(labels) = view.shown.about {
+        tree.line()?;
+        about(tree, view, labels)?;
+    }
+    Ok(())
+}
