@@ -1,34 +1,73 @@
--- What a page is.
-use Rattle.std.specs.Prelude.{◌≡◌, ◌++◌, ◌↔◌, ℕ, List, length, codes, IsTrue}
+-- What a page is: what it claims, what it says of a label set that somebody asks about, and what it
+-- prints.
+use Rattle.std.specs.Prelude.{◌≡◌, ◌==◌, ◌++◌, ◌↔◌, ◌&&◌, ℕ, Bool, not, nat_lt, List}
+use Rattle.std.specs.Prelude.{Option, None, IsTrue, IsSomeAnd, MatchOption, length, codes}
+use Rattle.std.specs.Prelude.{if◌then◌else◌}
 use Rattle.std.specs.List.{flat_map}
-use Rattle.page_claims.specs.Claiming.{IsShown}
+use Rattle.labels.specs.Rows.{AreRows}
+use Rattle.auditor.specs.Listing.{last_listed}
+use Rattle.page_claims.specs.Claiming.{IsShown, are_judged}
 use Rattle.page_claims.specs.declared.claim.Claim.{Claim}
 use Rattle.page_style.specs.declared.front.TheConstants.{FRONT}
-use Rattle.page_text.specs.Nesting.{IsTree}
+use Rattle.page_text.specs.Nesting.{IsContent}
 use Rattle.page_text.specs.Plain.{plain_text}
 use Rattle.page_text.specs.Printing.{page_text}
 use Rattle.page_text.specs.declared.piece.Piece.{Piece}
+use Rattle.page.specs.declared.asked.Asked.{Asked}
+use Rattle.page.specs.declared.claim_text.Saying.{Saying}
+use Rattle.page.specs.declared.claim_text.Saying.TheVariants.{Judged, Certified, NotShown}
 use Rattle.page.specs.declared.shown.Shown.{Shown}
 use Rattle.page.specs.declared.write.Page.{Page}
+use Rattle.page.specs.Asking.{IsSaid}
+use Rattle.page.specs.Saying.{claim_text, plain_claim}
 
--- what is claimed of what is shown: that no series is missing exactly if the checks and the
--- auditor's lines allow it
-abbrev pub IsClaimOf : Shown → Claim → Type 0
-IsClaimOf shown claim =
-    IsTrue claim.is_shown ↔ IsShown (length shown.query.now.matchers)
-    shown.told.now.answers.items shown.told.now.rows.items shown.lines.now
+-- that no series is missing is claimed exactly if the checks and the auditor's lines allow it
+pub record IsClaimOf (s : Shown) (claim : Claim) : Type 0 where
+  pub complete : IsTrue claim.is_shown
+      ↔ IsShown (length s.query.now.matchers) s.told.now.answers.items s.told.now.rows.items
+      s.lines.now
+  pub merged : IsTrue claim.is_merged
+      ↔ AreRows s.told.now.rows.items (last_listed s.told.now.answers.items)
+  pub judged : claim.is_judged ≡ are_judged s.lines.now s.told.now.answers.items
 
--- the print of a tree, between a constant front and a constant end
-pub record IsPageOf (shown : Shown) (page : Page) : Type 0 where
-  pub pieces : List Piece
-  pub tree : IsTree pieces
+-- whether the auditor was asked
+abbrev pub is_asked : Shown → Bool
+is_asked s = not (length s.lines.now == 0)
+
+-- what a claim says: "by the certificate" unless the auditor judged each part that has series
+abbrev pub saying_of : Shown → Claim → Saying
+saying_of s claim =
+    if not claim.is_shown then NotShown
+    else if claim.is_judged && is_asked s then Judged
+    else Certified (nat_lt 1 (length s.told.now.answers.items)) (is_asked s)
+
+-- what is said of the label set that somebody asks about, if there is one
+abbrev pub IsSaidOf : Shown → Option Asked → Type 0
+IsSaidOf s said =
+    MatchOption s.about (said ≡ None) (λ labels. IsSomeAnd said
+    (λ asked. IsSaid s.query.now.matchers s.told.now.rows.items labels.now asked))
+
+-- a constant front, the heading, the claim with its details, the sections, and a constant end
+unfoldable pub page_bytes : Saying → List Piece → List Piece → List Piece → List ℕ
+page_bytes saying heading details sections =
+    flat_map (λ t. t.now) FRONT ++ page_text heading ++ claim_text saying ++ page_text details
+    ++ codes "</div>\n" ++ page_text sections ++ codes "</body>\n</html>\n"
+
+-- the print of trees, and the claim between them
+pub record IsPageOf (s : Shown) (page : Page) : Type 0 where
+  pub heading : IsContent page.heading.items
+  pub details : IsContent page.details.items
+  pub sections : IsContent page.sections.items
+  pub claim : IsClaimOf s page.claim
+  pub asked : IsSaidOf s page.asked
   pub bytes : page.bytes.items
-      ≡ flat_map (λ t. t.now) FRONT ++ page_text pieces ++ codes "</body>\n</html>\n"
-  pub claim : IsClaimOf shown page.claim
+      ≡ page_bytes (saying_of s page.claim) page.heading.items page.details.items
+      page.sections.items
 
--- the texts and numbers of a tree alone
-pub record IsTextOf (shown : Shown) (page : Page) : Type 0 where
-  pub pieces : List Piece
-  pub tree : IsTree pieces
-  pub bytes : page.bytes.items ≡ plain_text pieces
-  pub claim : IsClaimOf shown page.claim
+-- the claim, and the texts and numbers of a tree
+pub record IsTextOf (s : Shown) (page : Page) : Type 0 where
+  pub sections : IsContent page.sections.items
+  pub claim : IsClaimOf s page.claim
+  pub asked : IsSaidOf s page.asked
+  pub bytes : page.bytes.items
+      ≡ plain_claim (saying_of s page.claim) ++ plain_text page.sections.items

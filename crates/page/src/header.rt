@@ -1,11 +1,16 @@
 //! The head of a page: the question, the claim, what somebody asks about, and counts.
 
+use crate::asked::Asked;
+use crate::judgements::judgement_of;
+use crate::sayings::{sayings, seen, text_of};
 use crate::shown::View;
 use crate::times::range;
-use crate::verdicts::{MATCH, chip, matcher, series};
+use crate::verdicts::{MATCH, UNKNOWN, chip, matcher, series};
 use crate::words::{begin, classed, long_text, plain, plural, word};
+use auditor::Line;
+use cover::PartAnswer;
 use labels::LabelSet;
-use page_claims::{Checks, checks_of, rejecting, row_with};
+use page_claims::{Place, checks_of};
 use page_text::{Attribute, Key, Tag, Tree};
 use postings::PartName;
 use std::alloc::AllocError;
@@ -32,73 +37,68 @@ pub(crate) fn part_link(tree: &mut Tree, at: usize, name: PartName) -> Result<()
     tree.close()
 }
 
-/// What each check says, and whether it holds.
-pub(crate) fn sayings(checks: Checks) -> [(&'static str, bool); 4] {
-    [
-        (
-            "The intervals form a chain without a hole: each ends where the next begins, and the \
-             last ends at the end of all references.",
-            checks.chain,
-        ),
-        (
-            "Each verdict names a matcher that the selector has, a match, or no sample.",
-            checks.names,
-        ),
-        ("There are as many rows as matches.", checks.rows),
-        (
-            "There are as many separators as intervals, one in each.",
-            checks.separators,
-        ),
-    ]
+/// What the intervals say.
+fn intervals_say(tree: &mut Tree, view: &View<'_>) -> Result<(), AllocError> {
+    let searched = view.shown.told.answers.len() as u64;
+    let matches = view.count(MATCH);
+    let reasons = view.intervals.saturating_sub(matches);
+    if searched == 1 {
+        tree.word("All series of the searched part lie in ")?;
+    } else {
+        tree.word("All series of the ")?;
+        tree.counted(searched)?;
+        tree.word(" searched parts lie in ")?;
+    }
+    plural(tree, view.intervals, " interval", " intervals")?;
+    tree.word(", without a hole. ")?;
+    plain(tree, Tag::B)?;
+    plural(tree, matches, " is", " are")?;
+    tree.close()?;
+    matches_say(tree, view, matches)?;
+    plain(tree, Tag::B)?;
+    plural(tree, reasons, " gives", " give")?;
+    tree.close()?;
+    tree.word(if reasons == 1 {
+        " the reason why none of its series is a row. "
+    } else {
+        " the reason why none of their series is a row. "
+    })
+}
+
+/// What becomes of the matches.
+fn matches_say(tree: &mut Tree, view: &View<'_>, matches: u64) -> Result<(), AllocError> {
+    let told = view.shown.told;
+    tree.word(if matches == 1 {
+        " one matching series"
+    } else {
+        " one matching series each"
+    })?;
+    if told.answers.len() == 1 {
+        return tree.word(if matches == 1 {
+            ": the row. "
+        } else {
+            ": the rows. "
+        });
+    }
+    tree.word(": they merge into the ")?;
+    plural(tree, told.rows.len() as u64, " row. ", " rows. ")
 }
 
 fn counts(tree: &mut Tree, view: &View<'_>) -> Result<(), AllocError> {
     let told = view.shown.told;
     let searched = told.answers.len() as u64;
-    let skipped = (told.places.len() as u64).saturating_sub(searched);
-    let matches = view.count(MATCH);
     plain(tree, Tag::P)?;
     if searched == 0 {
         tree.word("No part was searched. ")?;
     } else if view.intervals == 0 {
         tree.word("The searched parts have no series. ")?;
     } else {
-        tree.word("All series of the ")?;
-        if searched > 1 {
-            tree.counted(searched)?;
-            tree.word(" ")?;
-        }
-        tree.word(if searched == 1 {
-            "searched part lie in "
-        } else {
-            "searched parts lie in "
-        })?;
-        plural(tree, view.intervals, " interval", " intervals")?;
-        tree.word(", without a hole. ")?;
-        plain(tree, Tag::B)?;
-        plural(tree, matches, " is", " are")?;
-        tree.close()?;
-        tree.word(if matches == 1 {
-            " one matching series"
-        } else {
-            " one matching series each"
-        })?;
-        tree.word(": they merge into ")?;
-        plural(tree, told.rows.len() as u64, " row. ", " rows. ")?;
-        plain(tree, Tag::B)?;
-        plural(
-            tree,
-            view.intervals.saturating_sub(matches),
-            " gives",
-            " give",
-        )?;
-        tree.close()?;
-        tree.word(" the reason why none of their series is a row. ")?;
+        intervals_say(tree, view)?;
     }
-    match skipped {
+    match (told.places.len() as u64).saturating_sub(searched) {
         0 => tree.word("No part was skipped.")?,
         1 => tree.word("1 part was skipped: its times do not meet the range.")?,
-        _ => {
+        skipped => {
             tree.counted(skipped)?;
             tree.word(" parts were skipped: their times do not meet the range.")?;
         }
@@ -106,49 +106,44 @@ fn counts(tree: &mut Tree, view: &View<'_>) -> Result<(), AllocError> {
     tree.close()
 }
 
-fn good(tree: &mut Tree, view: &View<'_>) -> Result<(), AllocError> {
-    let several = view.shown.told.answers.len() > 1;
-    begin(tree, Tag::Div, "say ok")?;
-    begin(tree, Tag::P, "big")?;
-    classed(tree, Tag::Span, "mark", "✓")?;
-    tree.word(" No series is missing")?;
-    if view.claim.is_judged && !view.shown.lines.is_empty() {
-        tree.word(". The auditor found no flaw.")?;
-    } else {
-        tree.word(if several {
-            ", by the certificates below."
-        } else {
-            ", by the certificate below."
-        })?;
-        if !view.shown.lines.is_empty() {
-            tree.word(" The auditor found no flaw in what it judged.")?;
+/// The checks that an answer does not pass, each with the first place.
+fn failing(
+    tree: &mut Tree,
+    view: &View<'_>,
+    at: usize,
+    answer: &PartAnswer,
+) -> Result<(), AllocError> {
+    let matchers = view.matchers().len();
+    for (check, holds) in sayings(checks_of(answer, matchers)) {
+        if !holds {
+            plain(tree, Tag::Item)?;
+            part_link(tree, at, answer.part)?;
+            tree.word(": not so: “")?;
+            tree.word(text_of(check))?;
+            tree.word("” But ")?;
+            seen(tree, check, answer, matchers)?;
+            tree.word(".")?;
+            tree.close()?;
         }
     }
-    tree.close()?;
-    counts(tree, view)?;
-    tree.close()?;
-    tree.line()
+    Ok(())
 }
 
-fn bad(tree: &mut Tree, view: &View<'_>) -> Result<(), AllocError> {
-    begin(tree, Tag::Div, "say bad")?;
-    begin(tree, Tag::P, "big")?;
-    classed(tree, Tag::Span, "mark", "✗")?;
-    tree.word(" This reply does not show that no series is missing.")?;
-    tree.close()?;
-    plain(tree, Tag::Ul)?;
-    for answer in view.shown.told.answers.as_slice() {
-        for (saying, holds) in sayings(checks_of(answer, view.matchers().len())) {
-            if !holds {
-                plain(tree, Tag::Item)?;
-                part_name(tree, answer.part)?;
-                tree.word(": not so: “")?;
-                tree.word(saying)?;
-                tree.word("”")?;
-                tree.close()?;
+fn all_failing(tree: &mut Tree, view: &View<'_>) -> Result<(), AllocError> {
+    let mut answers = view.shown.told.answers.as_slice();
+    for (at, place) in view.shown.told.places.iter().enumerate() {
+        if let Place::Searched = *place {
+            if let Some((answer, later)) = answers.split_first() {
+                answers = later;
+                failing(tree, view, at, answer)?;
             }
         }
     }
+    Ok(())
+}
+
+/// The lines of the auditor that name a flaw or a refusal.
+fn faults(tree: &mut Tree, view: &View<'_>) -> Result<(), AllocError> {
     for line in view.shown.lines {
         if line.judgement.is_fault() {
             plain(tree, Tag::Item)?;
@@ -157,6 +152,14 @@ fn bad(tree: &mut Tree, view: &View<'_>) -> Result<(), AllocError> {
             tree.close()?;
         }
     }
+    Ok(())
+}
+
+/// What does not hold, each with the first place.
+fn failures(tree: &mut Tree, view: &View<'_>) -> Result<(), AllocError> {
+    plain(tree, Tag::Ul)?;
+    all_failing(tree, view)?;
+    faults(tree, view)?;
     if !view.claim.is_merged {
         word(
             tree,
@@ -164,23 +167,42 @@ fn bad(tree: &mut Tree, view: &View<'_>) -> Result<(), AllocError> {
             "The rows of the answer are not the merged rows of the parts.",
         )?;
     }
-    tree.close()?;
-    tree.close()?;
-    tree.line()
+    tree.close()
 }
 
-/// What the auditor says.
-pub(crate) fn auditor_text(tree: &mut Tree, text: &str) -> Result<(), AllocError> {
-    let chars: Vec<char> = text.chars().collect(tree.alloc())?;
-    tree.text(chars)
+/// What stands below the claim: counts, or what does not hold.
+pub(crate) fn details(tree: &mut Tree, view: &View<'_>) -> Result<(), AllocError> {
+    if view.claim.is_shown {
+        counts(tree, view)
+    } else {
+        failures(tree, view)
+    }
 }
 
 /// A line of the auditor, as it prints it.
-fn auditor_line(tree: &mut Tree, line: &auditor::Line) -> Result<(), AllocError> {
+pub(crate) fn auditor_text(tree: &mut Tree, line: &Line) -> Result<(), AllocError> {
     let alloc = tree.alloc();
+    let text = format!(in alloc; "{line}")?;
+    long_text(tree, text.as_str(), 120)
+}
+
+fn auditor_line(tree: &mut Tree, line: &Line) -> Result<(), AllocError> {
     plain(tree, Tag::Code)?;
-    auditor_text(tree, format!(in alloc; "{line}")?.as_str())?;
+    auditor_text(tree, line)?;
     tree.close()
+}
+
+/// The searched parts that the auditor did not judge.
+fn unjudged(tree: &mut Tree, view: &View<'_>) -> Result<(), AllocError> {
+    let mut named = false;
+    for answer in view.shown.told.answers.as_slice() {
+        if judgement_of(view.shown.lines, answer.part).is_none() {
+            tree.word(if named { ", " } else { " Not judged: " })?;
+            part_name(tree, answer.part)?;
+            named = true;
+        }
+    }
+    if named { tree.word(".") } else { Ok(()) }
 }
 
 fn judged(tree: &mut Tree, view: &View<'_>) -> Result<(), AllocError> {
@@ -189,30 +211,31 @@ fn judged(tree: &mut Tree, view: &View<'_>) -> Result<(), AllocError> {
     }
     begin(tree, Tag::P, "audit")?;
     word(tree, Tag::B, "The auditor said:")?;
+    let mut first = true;
     for line in view.shown.lines {
-        tree.word(" ")?;
+        tree.word(if first { " " } else { " · " })?;
+        first = false;
         auditor_line(tree, line)?;
     }
+    tree.word(".")?;
+    begin(tree, Tag::Span, "mute")?;
+    unjudged(tree, view)?;
+    tree.close()?;
     tree.close()?;
     tree.line()
 }
 
-fn rejected(tree: &mut Tree, view: &View<'_>, labels: &LabelSet) -> Result<(), AllocError> {
-    let places = rejecting(view.alloc, view.matchers(), labels)?;
-    if places.is_empty() {
-        return tree.word(
-            "Every matcher accepts these labels, and it is not a row. So, if the certificate is \
-             right, no part holds a sample of it in the range: nothing was written under exactly \
-             these labels then, or it was deleted.",
-        );
-    }
-    tree.word("It is not in the answer, since ")?;
-    for at in 0..places.len() {
-        if at > 0 {
-            tree.word(" and ")?;
-        }
-        chip(tree, places[at].saturating_add(1).min(17))?;
-        if let Some(failed) = view.matchers().get(places[at]) {
+fn rejected(tree: &mut Tree, view: &View<'_>, places: &[usize]) -> Result<(), AllocError> {
+    let mut first = true;
+    for at in places {
+        tree.word(if first {
+            "It is not in the answer, since "
+        } else {
+            " and "
+        })?;
+        first = false;
+        chip(tree, at.saturating_add(1).min(UNKNOWN))?;
+        if let Some(failed) = view.matchers().get(*at) {
             tree.word(" ")?;
             matcher(tree, failed)?;
         }
@@ -225,7 +248,29 @@ fn rejected(tree: &mut Tree, view: &View<'_>, labels: &LabelSet) -> Result<(), A
     tree.word(" these labels, whatever the store holds.")
 }
 
-fn about(tree: &mut Tree, view: &View<'_>, labels: &LabelSet) -> Result<(), AllocError> {
+/// What is said of the label set that somebody asks about.
+fn said(tree: &mut Tree, view: &View<'_>, asked: &Asked) -> Result<(), AllocError> {
+    match asked {
+        Asked::Row(at) => {
+            tree.word("It is in the answer, as row ")?;
+            tree.counted((*at as u64).saturating_add(1))?;
+            tree.word(".")
+        }
+        Asked::Rejected(places) => rejected(tree, view, places.as_slice()),
+        Asked::Accepted => tree.word(
+            "Every matcher accepts these labels, and it is not a row. So, if the certificate is \
+             right, no part holds a sample of it in the range: nothing was written under exactly \
+             these labels then, or it was deleted.",
+        ),
+    }
+}
+
+fn about(
+    tree: &mut Tree,
+    view: &View<'_>,
+    labels: &LabelSet,
+    asked: &Asked,
+) -> Result<(), AllocError> {
     begin(tree, Tag::Div, "about")?;
     plain(tree, Tag::P)?;
     word(tree, Tag::B, "Asked about")?;
@@ -233,17 +278,26 @@ fn about(tree: &mut Tree, view: &View<'_>, labels: &LabelSet) -> Result<(), Allo
     series(tree, labels)?;
     tree.close()?;
     plain(tree, Tag::P)?;
-    match row_with(view.shown.told.rows.as_slice(), labels) {
-        Some(at) => {
-            tree.word("It is in the answer, as row ")?;
-            tree.counted((at as u64).saturating_add(1))?;
-            tree.word(".")?;
-        }
-        None => rejected(tree, view, labels)?,
-    }
+    said(tree, view, asked)?;
     tree.close()?;
     tree.close()?;
     tree.line()
+}
+
+fn open_number(tree: &mut Tree, href: &'static str) -> Result<(), AllocError> {
+    let alloc = tree.alloc();
+    plain(tree, Tag::Div)?;
+    plain(tree, Tag::Term)?;
+    tree.open(Tag::A, vec![in alloc; Attribute::Word(Key::Href, href)]?)
+}
+
+fn close_number(tree: &mut Tree, n: u64) -> Result<(), AllocError> {
+    tree.close()?;
+    tree.close()?;
+    plain(tree, Tag::DescriptionText)?;
+    tree.counted(n)?;
+    tree.close()?;
+    tree.close()
 }
 
 fn number(
@@ -252,17 +306,18 @@ fn number(
     href: &'static str,
     what: &'static str,
 ) -> Result<(), AllocError> {
-    let alloc = tree.alloc();
-    plain(tree, Tag::Div)?;
-    plain(tree, Tag::Term)?;
-    tree.open(Tag::A, vec![in alloc; Attribute::Word(Key::Href, href)]?)?;
+    open_number(tree, href)?;
     tree.word(what)?;
-    tree.close()?;
-    tree.close()?;
-    plain(tree, Tag::DescriptionText)?;
-    tree.counted(n)?;
-    tree.close()?;
-    tree.close()
+    close_number(tree, n)
+}
+
+fn searched_number(tree: &mut Tree, view: &View<'_>) -> Result<(), AllocError> {
+    let told = view.shown.told;
+    open_number(tree, "#time")?;
+    tree.word("of ")?;
+    plural(tree, told.places.len() as u64, " part", " parts")?;
+    tree.word(" searched")?;
+    close_number(tree, told.answers.len() as u64)
 }
 
 fn numbers(tree: &mut Tree, view: &View<'_>) -> Result<(), AllocError> {
@@ -274,15 +329,15 @@ fn numbers(tree: &mut Tree, view: &View<'_>) -> Result<(), AllocError> {
     begin(tree, Tag::DescriptionList, "nums")?;
     number(tree, told.rows.len() as u64, "#rows", "series")?;
     number(tree, view.samples, "#rows", "samples")?;
-    number(tree, told.answers.len() as u64, "#time", "parts searched")?;
+    searched_number(tree, view)?;
     number(tree, view.intervals, "#cert", "intervals")?;
     number(tree, separators, "#cert", "separators")?;
     tree.close()?;
     tree.line()
 }
 
-/// The head of a page.
-pub(crate) fn header(tree: &mut Tree, view: &View<'_>) -> Result<(), AllocError> {
+/// The head of a page: what was asked.
+pub(crate) fn heading(tree: &mut Tree, view: &View<'_>) -> Result<(), AllocError> {
     plain(tree, Tag::Header)?;
     classed(tree, Tag::P, "kicker", "Audited answer")?;
     plain(tree, Tag::H1)?;
@@ -292,16 +347,19 @@ pub(crate) fn header(tree: &mut Tree, view: &View<'_>) -> Result<(), AllocError>
     tree.close()?;
     tree.line()?;
     range(tree, view.shown.query.from(), view.shown.query.to())?;
-    if view.claim.is_shown {
-        good(tree, view)?;
-    } else {
-        bad(tree, view)?;
-    }
-    judged(tree, view)?;
-    if let Some(labels) = view.shown.about {
-        about(tree, view, labels)?;
-    }
-    numbers(tree, view)?;
     tree.close()?;
     tree.line()
+}
+
+/// What the auditor said, what is said of a label set, and counts.
+pub(crate) fn summary(
+    tree: &mut Tree,
+    view: &View<'_>,
+    asked: Option<&Asked>,
+) -> Result<(), AllocError> {
+    judged(tree, view)?;
+    if let (Some(labels), Some(asked)) = (view.shown.about, asked) {
+        about(tree, view, labels, asked)?;
+    }
+    numbers(tree, view)
 }

@@ -1,6 +1,6 @@
 //! What a page shows, and what it does not.
 
-use crate::header::sayings;
+use crate::sayings::{sayings, text_of};
 use crate::shown::View;
 use crate::words::{begin, classed, plain, word};
 use page_claims::{Checks, checks_of};
@@ -30,18 +30,6 @@ const REASONS: [&str; 3] = [
     "There is no third case, if the certificates are right: a series that passes and has a sample \
      would be a box of its own, marked ✓, and a row.",
 ];
-
-const NOT_CHECKED: (&str, &str) = (
-    "Not checked here",
-    "That each reason is true of the series. The reply has no labels of a series that is not a \
-     row. Who holds the blocks can check it, without trust in the store:",
-);
-
-const JUDGED: (&str, &str) = (
-    "Checked by the auditor",
-    "That each reason is true of the series, for each part that a directory stands for: the part \
-     says what was found. Who holds the blocks can check it again, without trust in the store:",
-);
 
 fn titled(tree: &mut Tree, title: &'static str, text: &'static str) -> Result<(), AllocError> {
     word(tree, Tag::H3, title)?;
@@ -97,18 +85,18 @@ fn right(tree: &mut Tree, view: &View<'_>) -> Result<(), AllocError> {
     plain(tree, Tag::Div)?;
     word(tree, Tag::H3, "Checked while this page was made")?;
     begin(tree, Tag::Ul, "checks")?;
-    for (saying, holds) in sayings(all_checks(view)) {
-        check(tree, saying, holds)?;
+    for (one, holds) in sayings(all_checks(view)) {
+        check(tree, text_of(one), holds)?;
     }
     let merged = "The rows of the answer are the merged rows of the parts.";
     check(tree, merged, view.claim.is_merged)?;
     tree.close()?;
-    let (title, text) = if view.shown.lines.is_empty() {
-        NOT_CHECKED
-    } else {
-        JUDGED
-    };
-    titled(tree, title, text)?;
+    titled(
+        tree,
+        "Not checked here",
+        "That each reason is true of the series. The reply has no labels of a series that is not a \
+         row. Who holds the blocks can check it, without trust in the store:",
+    )?;
     plain(tree, Tag::Pre)?;
     word(
         tree,

@@ -1,13 +1,14 @@
 //! Pages that show an audited answer: one HTML file made of a question, the reply to it, and what
 //! the auditor said of it.
 //!
-//! [`content`] makes the page as the pieces of a tree, in which texts from outside (the selector,
-//! label names and values, the auditor's lines) are texts alone; [`write_page`] prints it between a
-//! constant head and end. The claim at its top is `page_claims::find_claim`'s.
+//! [`write_page`] makes the page as the pieces of a tree, in which texts from outside (the selector,
+//! label names and values, the auditor's lines) are texts alone, and prints it between a constant
+//! head and end, and [`write_text`] writes the same for a terminal. The claim at the top is
+//! `page_claims::find_claim`'s, and what is said of a label set is [`ask`]'s.
 //!
 //! ```
-//! let (lines, about) = (&[], None);
-//! let shown = Shown { selector, query: &query, told: &told, lines, about, length, digest };
+//! let (tables, lines, about) = (&[], &[], None);
+//! let shown = Shown { selector, query: &query, told: &told, tables, lines, about, length, digest };
 //! let page = write_page(alloc, &shown)?;
 //! ```
 //!
@@ -15,13 +16,17 @@
 //! crates below them.
 #![tactic(auto)]
 
+mod asked;
+mod claim_text;
+mod groups;
 mod header;
 mod help;
-mod judged;
+mod judgements;
 mod key;
 mod map;
 mod parts;
 mod rows;
+mod sayings;
 mod shapes;
 mod shown;
 mod spark;
@@ -33,5 +38,7 @@ mod verdicts;
 mod words;
 mod write;
 
+pub use asked::{Asked, ask};
+pub use claim_text::Saying;
 pub use shown::Shown;
-pub use write::{Page, content, write_page, write_text};
+pub use write::{Page, write_page, write_text};

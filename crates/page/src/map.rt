@@ -1,11 +1,11 @@
 //! The map of a part: its references to scale, and the lines from it to the boxes.
 
-use crate::shapes::{Area, line, open_text, rect};
+use crate::shapes::{Area, class_line, line, open_text, rect};
 use crate::strip::{FULL, Strip};
-use crate::verdicts::{MATCH, fill, slot};
+use crate::verdicts::{MATCH, fill};
 use crate::words::begin;
 use cover::Interval;
-use page_claims::SLOTS;
+use page_claims::{SLOTS, slot_of};
 use page_layout::{edge, share};
 use page_text::{Attribute, Key, Tag, Tree};
 use std::alloc::{AllocError, Global};
@@ -56,7 +56,7 @@ fn meet(spots: &mut Vec<Spot>, scale: Scale, interval: &Interval) {
     let until = interval.until.saturating_sub(scale.from);
     let first = share(from, scale.span, COLUMNS);
     let last = until.saturating_mul(COLUMNS).saturating_sub(1) / scale.span;
-    let its = slot(interval.verdict);
+    let its = slot_of(interval.verdict);
     for at in first..last.min(COLUMNS - 1).saturating_add(1) {
         if let Some(spot) = spots.get_mut(at as usize) {
             if its == MATCH {
@@ -92,7 +92,11 @@ fn whole_of(spot: &Spot) -> usize {
 
 /// What fills the upper half of a column: a match that another verdict hides.
 fn half_of(spot: &Spot) -> usize {
-    if spot.has_match && spot.other.is_some() { MATCH } else { SLOTS }
+    if spot.has_match && spot.other.is_some() {
+        MATCH
+    } else {
+        SLOTS
+    }
 }
 
 fn run(
@@ -117,16 +121,15 @@ fn run(
 }
 
 /// Equal neighbours as one rectangle.
-fn runs(
-    tree: &mut Tree,
-    scale: Scale,
-    spots: &[Spot],
-    halves: bool,
-) -> Result<(), AllocError> {
+fn runs(tree: &mut Tree, scale: Scale, spots: &[Spot], halves: bool) -> Result<(), AllocError> {
     let height = if halves { 7 } else { 13 };
     let (mut its, mut start) = (SLOTS, 0u64);
     for (at, spot) in spots.iter().enumerate() {
-        let next = if halves { half_of(spot) } else { whole_of(spot) };
+        let next = if halves {
+            half_of(spot)
+        } else {
+            whole_of(spot)
+        };
         if next != its {
             run(tree, scale, its, (start, at as u64), height)?;
             its = next;
@@ -148,7 +151,13 @@ fn map_strip(tree: &mut Tree, strip: &Strip<'_>, scale: Scale) -> Result<(), All
         tree.word("references: one interval")?;
     }
     tree.close()?;
-    open_text(tree, Attribute::Word(Key::Class, "cap"), FULL as u64, 11, "end")?;
+    open_text(
+        tree,
+        Attribute::Word(Key::Class, "cap"),
+        FULL as u64,
+        11,
+        "end",
+    )?;
     tree.word("below: a box for each interval")?;
     tree.close()?;
     let hole = Area {
@@ -169,7 +178,10 @@ fn map_strip(tree: &mut Tree, strip: &Strip<'_>, scale: Scale) -> Result<(), All
             width: (FULL as u64).saturating_sub(scale.closed),
             height: 13,
         };
-        rect(tree, fill(slot(last.verdict)), open)?;
+        rect(tree, fill(slot_of(last.verdict)), open)?;
+    }
+    if scale.closed > 0 {
+        class_line(tree, "brk", (scale.closed, 14), (scale.closed, 33))?;
     }
     tree.close()?;
     tree.line()
@@ -177,7 +189,15 @@ fn map_strip(tree: &mut Tree, strip: &Strip<'_>, scale: Scale) -> Result<(), All
 
 /// The lines from the map to the boxes: to each if they are at most 64, else at both ends.
 fn fan(tree: &mut Tree, strip: &Strip<'_>, scale: Scale) -> Result<(), AllocError> {
-    begin(tree, Tag::G, if strip.columns <= 32 { "fan" } else { "fan fine" })?;
+    begin(
+        tree,
+        Tag::G,
+        if strip.columns <= 32 {
+            "fan"
+        } else {
+            "fan fine"
+        },
+    )?;
     for (at, interval) in strip.intervals.iter().enumerate() {
         if at < strip.columns && (at == 0 || strip.columns <= 64) {
             let from = scale.place(u64::from(interval.from.number()));

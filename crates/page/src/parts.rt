@@ -1,13 +1,15 @@
 //! The certificates: an article for each searched part.
 
-use crate::header::{part_name, sayings};
-use crate::judged::{judgement, names};
+use crate::groups::groups;
+use crate::header::part_name;
+use crate::judgements::{first_series, judgement, table_of};
 use crate::map::draw_map;
+use crate::sayings::{sayings, seen, text_of};
 use crate::shown::View;
 use crate::strip::{END, Strip, caption, draw_strip, layers_of, summary};
 use crate::verdicts::{chip, row_class, slot_name, why};
 use crate::words::{begin, classed, counted_cell, head_cell, number_cell, plain, plural, word};
-use cover::{Interval, PartAnswer};
+use cover::{Interval, PartAnswer, Verdict};
 use labels::SeriesRef;
 use page_claims::{Checks, Place, checks_of, shown_of, slot_of};
 use page_text::{Attribute, Key, Tag, Tree};
@@ -32,7 +34,11 @@ fn strip_of<'a>(answer: &'a PartAnswer, few: bool) -> Strip<'a> {
         intervals,
         separators: answer.cover.separators.as_slice(),
         columns,
-        top: if few && columns == intervals.len() { 62 } else { 18 },
+        top: if few && columns == intervals.len() {
+            62
+        } else {
+            18
+        },
         height: if columns < intervals.len() { 96 } else { 44 },
     }
 }
@@ -42,7 +48,10 @@ fn figure(tree: &mut Tree, shown: &Strip<'_>, name: PartName) -> Result<(), Allo
     let attributes = vec![in alloc;
         Attribute::Word(Key::Class, "fig"),
         Attribute::Word(Key::Width, "100%"),
-        Attribute::Number(Key::Height, shown.top.saturating_add(shown.height).saturating_add(34)),
+        Attribute::Number(
+            Key::Height,
+            shown.top.saturating_add(shown.height).saturating_add(34)
+        ),
         Attribute::Word(Key::Role, "img"),
     ]?;
     tree.open(Tag::Svg, attributes)?;
@@ -91,13 +100,16 @@ fn head(tree: &mut Tree, answer: &PartAnswer) -> Result<(), AllocError> {
     tree.line()
 }
 
-fn flaws(tree: &mut Tree, checks: Checks) -> Result<(), AllocError> {
-    for (saying, holds) in sayings(checks) {
+fn flaws(tree: &mut Tree, answer: &PartAnswer, matchers: usize) -> Result<(), AllocError> {
+    for (check, holds) in sayings(checks_of(answer, matchers)) {
         if !holds {
             begin(tree, Tag::P, "flaw")?;
             word(tree, Tag::B, "✗ Not so:")?;
             tree.word(" ")?;
-            tree.word(saying)?;
+            tree.word(text_of(check))?;
+            tree.word(" But ")?;
+            seen(tree, check, answer, matchers)?;
+            tree.word(".")?;
             tree.close()?;
             tree.line()?;
         }
@@ -105,8 +117,28 @@ fn flaws(tree: &mut Tree, checks: Checks) -> Result<(), AllocError> {
     Ok(())
 }
 
+/// What a tick of a separator looks like.
+fn tick_key(tree: &mut Tree, few: bool) -> Result<(), AllocError> {
+    let alloc = tree.alloc();
+    let frame = vec![in alloc;
+        Attribute::Word(Key::Class, "tickkey"),
+        Attribute::Number(Key::Width, 14),
+        Attribute::Number(Key::Height, 12),
+        Attribute::Word(Key::AriaHidden, "true"),
+    ]?;
+    tree.open(Tag::Svg, frame)?;
+    let path = vec![in alloc;
+        Attribute::Word(Key::Class, "sep"),
+        Attribute::Word(Key::D, if few { "M7 1l5 9H2z" } else { "M6 1h2v9h-2z" }),
+    ]?;
+    tree.leaf(Tag::Path, path)?;
+    tree.close()?;
+    tree.word(" ")
+}
+
 fn least(tree: &mut Tree, answer: &PartAnswer, checks: Checks) -> Result<(), AllocError> {
     begin(tree, Tag::P, "least")?;
+    tick_key(tree, answer.cover.certificate.len() <= 32)?;
     plural(
         tree,
         answer.cover.separators.len() as u64,
@@ -181,6 +213,20 @@ fn hole(tree: &mut Tree, before: u64, from: u64) -> Result<(), AllocError> {
     tree.line()
 }
 
+/// The first series of an interval that is no match, if the auditor knows them.
+fn examples(
+    tree: &mut Tree,
+    view: &View<'_>,
+    answer: &PartAnswer,
+    interval: &Interval,
+) -> Result<(), AllocError> {
+    match (table_of(view.shown.tables, answer.part), interval.verdict) {
+        (Some(table), Verdict::Rejected(_)) => first_series(tree, table, interval),
+        (Some(table), Verdict::NoSample) => first_series(tree, table, interval),
+        _ => Ok(()),
+    }
+}
+
 fn interval_row(
     tree: &mut Tree,
     view: &View<'_>,
@@ -215,6 +261,7 @@ fn interval_row(
     tree.close()?;
     plain(tree, Tag::Td)?;
     why(tree, interval.verdict, view.matchers())?;
+    examples(tree, view, answer, interval)?;
     tree.close()?;
     tree.close()?;
     tree.line()
@@ -284,7 +331,6 @@ fn table(tree: &mut Tree, view: &View<'_>, answer: &PartAnswer) -> Result<(), Al
         }
         before = Some(interval.until);
         interval_row(tree, view, answer, at, interval)?;
-        names(tree, view, answer.part, interval)?;
     }
     tree.close()?;
     tree.close()?;
@@ -308,8 +354,8 @@ fn article(
     ]?;
     tree.open(Tag::Article, attributes)?;
     head(tree, answer)?;
-    judgement(tree, view, at, answer.part)?;
-    flaws(tree, checks)?;
+    flaws(tree, answer, view.matchers().len())?;
+    judgement(tree, view, answer.part)?;
     if answer.cover.certificate.is_empty() {
         word(
             tree,
@@ -319,44 +365,94 @@ fn article(
     } else {
         figure(tree, &strip_of(answer, view.few), answer.part)?;
         least(tree, answer, checks)?;
+        if answer.cover.certificate.len() > 240 {
+            groups(tree, answer.cover.certificate.as_slice())?;
+        }
         table(tree, view, answer)?;
     }
     tree.close()?;
     tree.line()
 }
 
-fn skipped(
-    tree: &mut Tree,
-    view: &View<'_>,
-    at: usize,
-    number: usize,
-) -> Result<(), AllocError> {
+/// Whether the auditor was given the block of a part that was skipped.
+fn is_known(view: &View<'_>, number: usize) -> bool {
+    !view.shown.lines.is_empty() && number < view.shown.tables.len()
+}
+
+/// The names of the parts that were skipped.
+fn skipped_names(tree: &mut Tree, view: &View<'_>) -> Result<(), AllocError> {
     let alloc = tree.alloc();
-    let attributes = vec![in alloc;
-        Attribute::Word(Key::Class, "part skip"),
-        Attribute::Named(Key::Id, "p", at as u64),
-    ]?;
-    tree.open(Tag::Article, attributes)?;
+    let mut first = true;
+    for (at, place) in view.shown.told.places.iter().enumerate() {
+        if let Place::Skipped(number) = *place {
+            tree.word(if first { "Skipped: " } else { ", " })?;
+            first = false;
+            let id = vec![in alloc; Attribute::Named(Key::Id, "p", at as u64)]?;
+            tree.open(Tag::Span, id)?;
+            part_name(tree, PartName::Block(number))?;
+            tree.close()?;
+        }
+    }
+    Ok(())
+}
+
+/// Which skips the auditor judged, and which it could not.
+fn skips_judged(tree: &mut Tree, view: &View<'_>) -> Result<(), AllocError> {
+    if view.shown.lines.is_empty() {
+        return tree.word(
+            " The reply has no certificate for it; the auditor checks the skip against the block.",
+        );
+    }
+    for place in view.shown.told.places.as_slice() {
+        if let Place::Skipped(number) = *place {
+            tree.word(" ")?;
+            part_name(tree, PartName::Block(number))?;
+            tree.word(if is_known(view, number) {
+                ": the auditor judged the skip against the block."
+            } else {
+                ": not judged, as the auditor was given no block for it."
+            })?;
+        }
+    }
+    Ok(())
+}
+
+/// The parts that were skipped.
+fn skipped(tree: &mut Tree, view: &View<'_>) -> Result<(), AllocError> {
+    if view.shown.told.places.len() == view.shown.told.answers.len() {
+        return Ok(());
+    }
+    begin(tree, Tag::Article, "part skip")?;
     plain(tree, Tag::H3)?;
-    tree.word("Skipped: ")?;
-    part_name(tree, PartName::Block(number))?;
+    skipped_names(tree, view)?;
     tree.close()?;
-    word(
-        tree,
-        Tag::P,
-        "Not searched: the times of this block do not meet the range of the query, so no sample of \
-         it can be an answer. The reply has no certificate for it; the auditor checks the skip \
-         against the block.",
+    plain(tree, Tag::P)?;
+    tree.word(
+        "Not searched: the times of the block do not meet the range of the query, so no sample of \
+         it can be an answer.",
     )?;
-    judgement(tree, view, at, PartName::Block(number))?;
+    skips_judged(tree, view)?;
+    tree.close()?;
     tree.close()?;
     tree.line()
+}
+
+fn articles(tree: &mut Tree, view: &View<'_>) -> Result<(), AllocError> {
+    let mut answers = view.shown.told.answers.as_slice();
+    for (at, place) in view.shown.told.places.iter().enumerate() {
+        if let Place::Searched = *place {
+            if let Some((answer, later)) = answers.split_first() {
+                answers = later;
+                article(tree, view, at, answer)?;
+            }
+        }
+    }
+    Ok(())
 }
 
 /// The certificates.
 pub(crate) fn certificates(tree: &mut Tree, view: &View<'_>) -> Result<(), AllocError> {
     let alloc = tree.alloc();
-    let mut answers = view.shown.told.answers.as_slice();
     tree.open(
         Tag::Section,
         vec![in alloc; Attribute::Word(Key::Id, "cert")]?,
@@ -370,17 +466,8 @@ pub(crate) fn certificates(tree: &mut Tree, view: &View<'_>) -> Result<(), Alloc
          it is a row (✓) or not. Point at a box for its numbers.",
     )?;
     tree.line()?;
-    for (at, place) in view.shown.told.places.iter().enumerate() {
-        match *place {
-            Place::Skipped(number) => skipped(tree, view, at, number)?,
-            Place::Searched => {
-                if let Some((answer, later)) = answers.split_first() {
-                    answers = later;
-                    article(tree, view, at, answer)?;
-                }
-            }
-        }
-    }
+    articles(tree, view)?;
+    skipped(tree, view)?;
     tree.close()?;
     tree.line()
 }

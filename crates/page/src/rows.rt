@@ -1,5 +1,10 @@
 //! The rows of the answer.
 
+ghost use Rattle.std.specs.Prelude.{◌≡◌, ◌++◌, ◌∷◌, OnOk};
+ghost use Rattle.page_text.specs.Growing.{printed, open_tags};
+ghost use Rattle.page_text.specs.declared.tag.Tag.TheVariants.{Td};
+ghost use Rattle.page.specs.Cells.{labelled_front, value_text};
+
 use crate::header::part_name;
 use crate::shown::{View, samples_in};
 use crate::spark::spark;
@@ -9,6 +14,7 @@ use crate::words::{begin, classed, counted_cell, head_cell, plain, plural, word}
 use labels::{LabelSet, Row};
 use page_claims::{figures_of, row_with, shown_of};
 use page_text::{Attribute, Key, Tag, Tree};
+use postings::PartName;
 use std::alloc::AllocError;
 
 /// Most rows that are shown.
@@ -17,7 +23,13 @@ const MOST_ROWS: usize = 50;
 /// Most parts of a row that are named.
 const MOST_PARTS: u64 = 6;
 
-fn labelled(tree: &mut Tree, class: &'static str, label: &'static str) -> Result<(), AllocError> {
+/// Begins a cell of a class, with a label for tables that show no head.
+#[tactic(auto, unfolding(crate::specs::Cells::labelled_front, page_text::specs::Printing::head_text, page_text::specs::Printing::attribute_text, page_text::specs::Printing::open_attribute))]
+fn labelled(tree: &mut Tree, class: &'static str, label: &'static str) -> Result<(), AllocError>
+    ensures printed { OnOk result
+        (printed tree.new ≡ printed tree.old ++ labelled_front class.now label.now) }
+    ensures inside { OnOk result (open_tags tree.new ≡ Td ∷ open_tags tree.old) }
+{
     let alloc = tree.alloc();
     let attributes = vec![in alloc;
         Attribute::Word(Key::Class, class),
@@ -26,10 +38,23 @@ fn labelled(tree: &mut Tree, class: &'static str, label: &'static str) -> Result
     tree.open(Tag::Td, attributes)
 }
 
-fn value(tree: &mut Tree, label: &'static str, n: i64) -> Result<(), AllocError> {
+/// A cell with a value of the reply.
+#[tactic(auto, unfolding(crate::specs::Cells::value_text))]
+fn value(tree: &mut Tree, label: &'static str, n: i64) -> Result<(), AllocError>
+    ensures printed { OnOk result (printed tree.new ≡ printed tree.old ++ value_text label.now n) }
+    ensures inside { OnOk result (open_tags tree.new ≡ open_tags tree.old) }
+{
     labelled(tree, "n", label)?;
     tree.integer(n)?;
     tree.close()
+}
+
+/// The name of a part; behind another name, of a block its number alone.
+fn later_name(tree: &mut Tree, name: PartName, later: bool) -> Result<(), AllocError> {
+    match name {
+        PartName::Block(number) if later => tree.number(number as u64),
+        _ => part_name(tree, name),
+    }
 }
 
 /// The parts that list a row.
@@ -42,7 +67,7 @@ fn parts(tree: &mut Tree, view: &View<'_>, labels: &LabelSet) -> Result<(), Allo
                 tree.word(", ")?;
             }
             if named < MOST_PARTS {
-                part_name(tree, answer.part)?;
+                later_name(tree, answer.part, named > 0)?;
             }
             named = named.saturating_add(1);
         }

@@ -38,6 +38,24 @@ pub(crate) fn line(tree: &mut Tree, from: (u64, u64), to: (u64, u64)) -> Result<
     tree.leaf(Tag::Line, attributes)
 }
 
+/// A line of a class from one place to another.
+pub(crate) fn class_line(
+    tree: &mut Tree,
+    class: &'static str,
+    from: (u64, u64),
+    to: (u64, u64),
+) -> Result<(), AllocError> {
+    let alloc = tree.alloc();
+    let attributes = vec![in alloc;
+        Attribute::Word(Key::Class, class),
+        Attribute::Share(Key::X1, from.0),
+        Attribute::Number(Key::Y1, from.1),
+        Attribute::Share(Key::X2, to.0),
+        Attribute::Number(Key::Y2, to.1),
+    ]?;
+    tree.leaf(Tag::Line, attributes)
+}
+
 /// Begins a text of a figure, of a class, at a place.
 pub(crate) fn open_text(
     tree: &mut Tree,

@@ -6,8 +6,8 @@ use matchers::{Matcher, Query};
 use page_claims::{Claim, Told};
 use std::alloc::Global;
 
-/// What a page shows: a question, the reply to it, what the auditor said of it, and a label set
-/// that somebody asks about.
+/// What a page shows: a question, the reply to it, what the auditor knows and said of it, and
+/// a label set that somebody asks about.
 #[derive(Drop)]
 pub struct Shown<'a> {
     /// The selector, as it was written.
@@ -16,9 +16,9 @@ pub struct Shown<'a> {
     pub query: &'a Query,
     /// The reply.
     pub told: &'a Told,
-    /// What the auditor knows of the blocks, in their order: those that were judged.
+    /// What is known of the blocks, block 0 first; nothing, if the auditor was not asked.
     pub tables: &'a [BlockTable],
-    /// The auditor's lines, of each part first; none, if it was not asked.
+    /// The auditor's lines; none, if it was not asked.
     pub lines: &'a [Line],
     /// The label set that somebody asks about.
     pub about: Option<&'a LabelSet>,

@@ -98,14 +98,30 @@ fn lines_of(alloc: Global, bars: &[Bar], samples: &[Sample]) -> Result<Vec<Move>
     Ok(moves)
 }
 
-fn dots_of(alloc: Global, bars: &[Bar]) -> Result<Vec<Move>, AllocError> {
+/// Whether a bar stands alone: it is joined to no neighbour.
+fn is_alone(bars: &[Bar], at: usize, samples: &[Sample]) -> bool {
+    let Some(bar) = bars.get(at) else {
+        return false;
+    };
+    let before = match bars.get(at.wrapping_sub(1)) {
+        Some(earlier) => at > 0 && are_joined(earlier, bar, samples),
+        None => false,
+    };
+    let after = match bars.get(at.saturating_add(1)) {
+        Some(later) => are_joined(bar, later, samples),
+        None => false,
+    };
+    !before && !after && bar.highest == bar.lowest
+}
+
+/// A dot for each bar that is joined to none, and for each if there are few.
+fn dots_of(alloc: Global, bars: &[Bar], samples: &[Sample]) -> Result<Vec<Move>, AllocError> {
     let mut moves = Vec::new(alloc);
-    if bars.len() > 12 {
-        return Ok(moves);
-    }
-    for bar in bars {
-        moves.push(Move::To(bar.column, bar.last))?;
-        moves.push(Move::Dot)?;
+    for at in 0..bars.len() {
+        if bars.len() <= 12 || is_alone(bars, at, samples) {
+            moves.push(Move::To(bars[at].column, bars[at].last))?;
+            moves.push(Move::Dot)?;
+        }
     }
     Ok(moves)
 }
@@ -137,6 +153,6 @@ pub(crate) fn spark(
     ]?;
     tree.open(Tag::Svg, frame)?;
     path(tree, "ln", lines_of(alloc, bars.as_slice(), samples)?)?;
-    path(tree, "dt", dots_of(alloc, bars.as_slice())?)?;
+    path(tree, "dt", dots_of(alloc, bars.as_slice(), samples)?)?;
     tree.close()
 }

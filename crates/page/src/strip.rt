@@ -1,14 +1,16 @@
 //! The strip of a part: a box for each interval, or a column for several.
 
-ghost use Rattle.std.specs.Prelude.{◌<◌};
+ghost use Rattle.std.specs.Prelude.{◌≡◌, ◌++◌, ◌<◌, OnOk};
+ghost use Rattle.page_text.specs.Growing.{printed, open_tags};
+ghost use Rattle.page.specs.Cells.{bounds_text};
 
-use crate::shapes::{Area, line, open_text, rect};
-use crate::verdicts::{fill, letter, letter_class, said};
+use crate::shapes::{Area, class_line, line, open_text, rect};
+use crate::verdicts::{fill, letter, letter_class, said, wide_letter_class};
 use crate::words::{begin, plain};
 use cover::Interval;
 use labels::SeriesRef;
 use page_claims::{SLOTS, count_in, slot_of};
-use page_layout::{edge, heights, range_of};
+use page_layout::{edge, heights, range_of, share};
 use page_text::{Attribute, Key, Tag, Tree};
 use std::alloc::{AllocError, Global};
 
@@ -103,7 +105,11 @@ pub(crate) fn summary(tree: &mut Tree, intervals: &[Interval]) -> Result<(), All
 }
 
 /// An interval, as `[2, 4)`.
-pub(crate) fn bounds(tree: &mut Tree, from: SeriesRef, until: u64) -> Result<(), AllocError> {
+#[tactic(auto, unfolding(crate::specs::Cells::bounds_text))]
+pub(crate) fn bounds(tree: &mut Tree, from: SeriesRef, until: u64) -> Result<(), AllocError>
+    ensures printed { OnOk result (printed tree.new ≡ printed tree.old ++ bounds_text from until) }
+    ensures inside { OnOk result (open_tags tree.new ≡ open_tags tree.old) }
+{
     tree.word("[")?;
     tree.number(u64::from(from.number()))?;
     tree.word(", ")?;
@@ -134,23 +140,24 @@ fn hover(tree: &mut Tree, column: &Column<'_>) -> Result<(), AllocError> {
 
 /// Whether a hole or an overlap is in a column or behind it.
 fn is_broken(column: &Column<'_>) -> bool {
-    let mut rest = column.intervals;
-    while let Some((first, later)) = rest.split_first() {
-        let next = match later.first() {
-            Some(interval) => u64::from(interval.from.number()),
-            None => column.next,
-        };
-        if first.until != next {
-            return true;
+    let mut before: Option<u64> = None;
+    for interval in column.intervals {
+        if let Some(until) = before {
+            if until != u64::from(interval.from.number()) {
+                return true;
+            }
         }
-        rest = later;
+        before = Some(interval.until);
     }
-    false
+    match before {
+        Some(until) => until != column.next,
+        None => false,
+    }
 }
 
 fn gap(tree: &mut Tree, strip: &Strip<'_>, column: &Column<'_>) -> Result<(), AllocError> {
     let (mut x, mut width) = (column.x, column.width);
-    if let [only] = column.intervals {
+    if let (Some(only), false) = (column.intervals.first(), strip.is_aggregated()) {
         if only.until >= column.next {
             return Ok(());
         }
@@ -170,51 +177,118 @@ fn middle(column: &Column<'_>) -> u64 {
     column.x.saturating_add(column.width / 2)
 }
 
-/// Whether a column's layers bear their letters.
-fn is_lettered(strip: &Strip<'_>, at: usize, height: u64) -> bool {
-    if !strip.is_aggregated() {
-        return strip.columns <= 64;
-    }
+/// Whether the layers of a column of several intervals bear their letters, if they are high.
+fn is_lettered(strip: &Strip<'_>, at: usize) -> bool {
     let every = strip.columns / 4;
-    height >= 14 && every > 0 && at % every == strip.columns / 8
+    strip.is_aggregated() && every > 0 && at % every == strip.columns / 8
 }
 
-fn layer_letter(tree: &mut Tree, slot: usize, x: u64, y: u64) -> Result<(), AllocError> {
-    open_text(tree, letter_class(slot), x, y, "middle")?;
+fn layer_letter(
+    tree: &mut Tree,
+    strip: &Strip<'_>,
+    slot: usize,
+    place: (u64, u64),
+) -> Result<(), AllocError> {
+    let class = if strip.is_aggregated() || strip.columns <= 32 {
+        letter_class(slot)
+    } else {
+        wide_letter_class(slot)
+    };
+    open_text(tree, class, place.0, place.1, "middle")?;
     letter(tree, slot)?;
     tree.close()
 }
 
-fn layers(tree: &mut Tree, strip: &Strip<'_>, column: &Column<'_>) -> Result<(), AllocError> {
-    let alloc = tree.alloc();
+/// The letter of a box that holds one interval.
+fn box_letter(tree: &mut Tree, strip: &Strip<'_>, column: &Column<'_>) -> Result<(), AllocError> {
+    match column.intervals.first() {
+        Some(only) if strip.columns <= 64 && !strip.is_aggregated() => {
+            let y = strip.top.saturating_add(strip.height / 2).saturating_add(6);
+            layer_letter(tree, strip, slot_of(only.verdict), (middle(column), y))
+        }
+        _ => Ok(()),
+    }
+}
+
+/// A layer of a column: its slot, where it stands below the top, and how high it is.
+#[derive(Clone, Copy, Debug, PartialEq, Eq, Drop)]
+struct Layer {
+    slot: usize,
+    y: u64,
+    height: u64,
+}
+
+/// The layers of a column, from the bottom.
+fn stack_of(
+    alloc: Global,
+    strip: &Strip<'_>,
+    column: &Column<'_>,
+) -> Result<Vec<Layer>, AllocError> {
     let layers = layers_of(alloc, column.intervals)?;
+    let mut stack = Vec::new(alloc);
     let mut counts = Vec::new(alloc);
     for layer in layers.as_slice() {
         counts.push(layer.1)?;
     }
     if counts.len() as u64 > strip.height || strip.height > 1000 {
-        return Ok(());
+        return Ok(stack);
     }
     let heights = heights(alloc, counts.as_slice(), strip.height)?;
     let mut y = strip.top.saturating_add(strip.height);
-    for (at, height) in heights.iter().enumerate() {
-        let Some(layer) = layers.get(at) else {
-            return Ok(());
-        };
+    for (layer, height) in layers.iter().zip(heights.iter()) {
         y = y.saturating_sub(*height);
+        stack.push(Layer {
+            slot: layer.0,
+            y,
+            height: *height,
+        })?;
+    }
+    Ok(stack)
+}
+
+fn layers(tree: &mut Tree, strip: &Strip<'_>, column: &Column<'_>) -> Result<(), AllocError> {
+    let stack = stack_of(tree.alloc(), strip, column)?;
+    for layer in stack.as_slice() {
         let area = Area {
             x: column.x,
-            y,
+            y: layer.y,
             width: column.width,
-            height: *height,
+            height: layer.height,
         };
-        rect(tree, fill(layer.0), area)?;
-        if is_lettered(strip, column.at, *height) {
-            let below = y.saturating_add(*height / 2).saturating_add(5);
-            layer_letter(tree, layer.0, middle(column), below)?;
+        rect(tree, fill(layer.slot), area)?;
+    }
+    Ok(())
+}
+
+/// The letters of the high layers of a column of several intervals.
+fn layer_letters(
+    tree: &mut Tree,
+    strip: &Strip<'_>,
+    column: &Column<'_>,
+) -> Result<(), AllocError> {
+    let stack = stack_of(tree.alloc(), strip, column)?;
+    for layer in stack.as_slice() {
+        if layer.height >= 14 {
+            let y = layer.y.saturating_add(layer.height / 2).saturating_add(5);
+            layer_letter(tree, strip, layer.slot, (middle(column), y))?;
         }
     }
     Ok(())
+}
+
+/// What stands over the columns of several intervals: letters, and a line at half the height.
+fn over_columns(tree: &mut Tree, strip: &Strip<'_>) -> Result<(), AllocError> {
+    if !strip.is_aggregated() {
+        return Ok(());
+    }
+    for at in 0..strip.columns {
+        if is_lettered(strip, at) {
+            layer_letters(tree, strip, &strip.column(at))?;
+        }
+    }
+    let y = strip.top.saturating_add(strip.height / 2);
+    class_line(tree, "half", (0, y), (FULL as u64, y))?;
+    tree.line()
 }
 
 fn draw(tree: &mut Tree, strip: &Strip<'_>, column: &Column<'_>) -> Result<(), AllocError> {
@@ -224,6 +298,7 @@ fn draw(tree: &mut Tree, strip: &Strip<'_>, column: &Column<'_>) -> Result<(), A
     if is_broken(column) {
         gap(tree, strip, column)?;
     }
+    box_letter(tree, strip, column)?;
     tree.close()?;
     tree.line()
 }
@@ -243,9 +318,23 @@ fn cuts(tree: &mut Tree, strip: &Strip<'_>) -> Result<(), AllocError> {
     tree.line()
 }
 
-/// A tick at a place below the strip.
-fn tick(tree: &mut Tree, x: u64, y: u64) -> Result<(), AllocError> {
+/// A tick at a place below the strip: a triangle if there are few.
+fn tick(tree: &mut Tree, strip: &Strip<'_>, x: u64) -> Result<(), AllocError> {
     let alloc = tree.alloc();
+    let y = below(strip);
+    if strip.columns <= 32 && !strip.is_aggregated() {
+        let attributes = vec![in alloc;
+            Attribute::Share(Key::X, x),
+            Attribute::Number(Key::Y, y),
+            Attribute::Number(Key::Width, 12),
+            Attribute::Number(Key::Height, 10),
+            Attribute::Word(Key::Overflow, "visible"),
+        ]?;
+        tree.open(Tag::Svg, attributes)?;
+        let triangle = vec![in alloc; Attribute::Word(Key::D, "M0 0l5 9H-5z")]?;
+        tree.leaf(Tag::Path, triangle)?;
+        return tree.close();
+    }
     let attributes = vec![in alloc;
         Attribute::Share(Key::X, x),
         Attribute::Number(Key::Y, y),
@@ -253,6 +342,33 @@ fn tick(tree: &mut Tree, x: u64, y: u64) -> Result<(), AllocError> {
         Attribute::Number(Key::Height, 7),
     ]?;
     tree.leaf(Tag::Rect, attributes)
+}
+
+/// Where ticks stand.
+fn below(strip: &Strip<'_>) -> u64 {
+    strip.top.saturating_add(strip.height).saturating_add(2)
+}
+
+/// Most ticks of a box.
+const MOST_TICKS: u64 = 4;
+
+/// The ticks of the separators that lie in the interval of a box.
+fn box_ticks(tree: &mut Tree, strip: &Strip<'_>, column: &Column<'_>) -> Result<(), AllocError> {
+    let Some(only) = column.intervals.first() else {
+        return Ok(());
+    };
+    let from = u64::from(only.from.number());
+    let span = only.until.saturating_sub(from);
+    let mut drawn = 0u64;
+    for separator in strip.separators {
+        let number = u64::from(separator.number());
+        if from <= number && number < only.until && drawn < MOST_TICKS {
+            drawn += 1;
+            let across = share(number.saturating_sub(from), span, column.width);
+            tick(tree, strip, column.x.saturating_add(across))?;
+        }
+    }
+    Ok(())
 }
 
 /// How many separators lie in a column's intervals.
@@ -270,9 +386,22 @@ fn separators_in(strip: &Strip<'_>, column: &Column<'_>) -> u64 {
     count
 }
 
-/// The ticks of the separators: one where a column has as many as intervals, else a red bar.
+/// One tick where a column has as many separators as intervals, else a red bar.
+fn column_tick(tree: &mut Tree, strip: &Strip<'_>, column: &Column<'_>) -> Result<(), AllocError> {
+    if separators_in(strip, column) == column.intervals.len() as u64 {
+        return tick(tree, strip, column.x);
+    }
+    let area = Area {
+        x: column.x,
+        y: below(strip),
+        width: column.width,
+        height: 7,
+    };
+    rect(tree, Attribute::Word(Key::Class, "gap"), area)
+}
+
+/// The ticks of the separators.
 fn ticks(tree: &mut Tree, strip: &Strip<'_>) -> Result<(), AllocError> {
-    let y = strip.top.saturating_add(strip.height).saturating_add(2);
     begin(
         tree,
         Tag::G,
@@ -284,16 +413,10 @@ fn ticks(tree: &mut Tree, strip: &Strip<'_>) -> Result<(), AllocError> {
     )?;
     for at in 0..strip.columns {
         let column = strip.column(at);
-        if separators_in(strip, &column) == column.intervals.len() as u64 {
-            tick(tree, column.x, y)?;
+        if strip.is_aggregated() {
+            column_tick(tree, strip, &column)?;
         } else {
-            let area = Area {
-                x: column.x,
-                y,
-                width: column.width,
-                height: 7,
-            };
-            rect(tree, Attribute::Word(Key::Class, "gap"), area)?;
+            box_ticks(tree, strip, &column)?;
         }
     }
     tree.close()?;
@@ -302,10 +425,13 @@ fn ticks(tree: &mut Tree, strip: &Strip<'_>) -> Result<(), AllocError> {
 
 /// How many digits a number has.
 fn digits(n: u64) -> u64 {
-    let (mut rest, mut count) = (n / 10, 1u64);
-    while rest > 0 {
+    let (mut rest, mut count) = (n, 0u64);
+    for _ in 0..20 {
         rest /= 10;
         count = count.saturating_add(1);
+        if rest == 0 {
+            return count;
+        }
     }
     count
 }
@@ -363,6 +489,7 @@ pub(crate) fn draw_strip(tree: &mut Tree, strip: &Strip<'_>) -> Result<(), Alloc
     for at in 0..strip.columns {
         draw(tree, strip, &strip.column(at))?;
     }
+    over_columns(tree, strip)?;
     if strip.columns <= 120 {
         cuts(tree, strip)?;
     }
@@ -383,8 +510,7 @@ pub(crate) fn caption(tree: &mut Tree, strip: &Strip<'_>) -> Result<(), AllocErr
         }
         tree.word(" intervals, in order; heights: how many of each verdict")?;
     } else {
-        tree.word("a box for ")?;
-        tree.word("each interval")?;
+        tree.word("a box for each interval")?;
     }
     tree.close()
 }

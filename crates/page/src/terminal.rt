@@ -1,14 +1,15 @@
 //! The same for a terminal of 80 columns.
 
-use crate::header::part_name;
+use crate::asked::Asked;
+use crate::header::{auditor_text, part_name};
+use crate::sayings::{Check, sayings, seen};
 use crate::shown::View;
 use crate::strip::END;
 use crate::verdicts::{MATCH, NONE, UNKNOWN, slot_name};
 use crate::words::{long_text, plural};
 use cover::{Interval, PartAnswer};
-use labels::LabelSet;
 use matchers::{Matcher, Op};
-use page_claims::{Place, SLOTS, checks_of, rejecting, row_with, slot_of};
+use page_claims::{Place, SLOTS, checks_of, slot_of};
 use page_layout::range_of;
 use page_text::Tree;
 use postings::PartName;
@@ -16,20 +17,6 @@ use std::alloc::AllocError;
 
 /// Most letters of a line.
 const WIDTH: usize = 76;
-
-fn claim(tree: &mut Tree, view: &View<'_>) -> Result<(), AllocError> {
-    if !view.claim.is_shown {
-        tree.word("✗ This reply does not show that no series is missing.")?;
-        return tree.line();
-    }
-    tree.word("✓ No series is missing")?;
-    tree.word(if view.claim.is_judged && !view.shown.lines.is_empty() {
-        ". The auditor found no flaw."
-    } else {
-        ", by the certificates below."
-    })?;
-    tree.line()
-}
 
 fn matcher_text(tree: &mut Tree, matcher: &Matcher) -> Result<(), AllocError> {
     long_text(tree, matcher.name(), 24)?;
@@ -109,23 +96,32 @@ fn letters(tree: &mut Tree, intervals: &[Interval]) -> Result<(), AllocError> {
     }
     tree.line()?;
     if columns < intervals.len() {
-        tree.word("  a letter for several intervals: ✓ if one of them is a match, else their first")?;
+        tree.word(
+            "  a letter for several intervals: ✓ if one of them is a match, else their first",
+        )?;
         tree.line()?;
     }
     Ok(())
 }
 
+/// What a check that does not hold would have said, in few words.
+fn short_text(check: Check) -> &'static str {
+    match check {
+        Check::Chain => "  ✗ the intervals are no chain without a hole: ",
+        Check::Names => "  ✗ a verdict names a matcher that is not there: ",
+        Check::Rows => "  ✗ there are not as many rows as matches: ",
+        Check::Separators => "  ✗ the separators do not lie one in each: ",
+    }
+}
+
 fn flaws(tree: &mut Tree, view: &View<'_>, answer: &PartAnswer) -> Result<(), AllocError> {
-    let checks = checks_of(answer, view.matchers().len());
-    let told = [
-        (checks.chain, "  ✗ the intervals are no chain without a hole"),
-        (checks.names, "  ✗ a verdict names a matcher that is not there"),
-        (checks.rows, "  ✗ there are not as many rows as matches"),
-        (checks.separators, "  ✗ the separators do not lie one in each interval"),
-    ];
-    for (holds, text) in told {
+    let matchers = view.matchers().len();
+    for (check, holds) in sayings(checks_of(answer, matchers)) {
         if !holds {
-            tree.word(text)?;
+            tree.word(short_text(check))?;
+            tree.line()?;
+            tree.word("    ")?;
+            seen(tree, check, answer, matchers)?;
             tree.line()?;
         }
     }
@@ -172,23 +168,11 @@ fn parts(tree: &mut Tree, view: &View<'_>) -> Result<(), AllocError> {
     Ok(())
 }
 
-fn about(tree: &mut Tree, view: &View<'_>, labels: &LabelSet) -> Result<(), AllocError> {
-    if let Some(at) = row_with(view.shown.told.rows.as_slice(), labels) {
-        tree.word("The series is in the answer, as row ")?;
-        tree.counted((at as u64).saturating_add(1))?;
-        tree.word(".")?;
-        return tree.line();
-    }
-    let places = rejecting(view.alloc, view.matchers(), labels)?;
-    if places.is_empty() {
-        tree.word("Every matcher accepts these labels, and they are no row: if the certificate")?;
-        tree.line()?;
-        tree.word("is right, no part holds a sample of them in the range.")?;
-        return tree.line();
-    }
+/// The matchers that do not accept the label set that somebody asks about.
+fn rejecting(tree: &mut Tree, view: &View<'_>, places: &[usize]) -> Result<(), AllocError> {
     tree.word("The series is not in the answer: these reject it, whatever the store holds.")?;
     tree.line()?;
-    for at in places.as_slice() {
+    for at in places {
         if let Some(failed) = view.matchers().get(*at) {
             tree.word("  ")?;
             letter(tree, at.saturating_add(1).min(UNKNOWN))?;
@@ -200,11 +184,26 @@ fn about(tree: &mut Tree, view: &View<'_>, labels: &LabelSet) -> Result<(), Allo
     Ok(())
 }
 
-/// The claim, the key, a strip of letters for each part, and the sentence about a series.
-pub(crate) fn terminal(tree: &mut Tree, view: &View<'_>) -> Result<(), AllocError> {
-    long_text(tree, view.shown.selector, 160)?;
-    tree.line()?;
-    claim(tree, view)?;
+fn about(tree: &mut Tree, view: &View<'_>, asked: &Asked) -> Result<(), AllocError> {
+    match asked {
+        Asked::Row(at) => {
+            tree.word("The series is in the answer, as row ")?;
+            tree.counted((*at as u64).saturating_add(1))?;
+            tree.word(".")?;
+            tree.line()
+        }
+        Asked::Rejected(places) => rejecting(tree, view, places.as_slice()),
+        Asked::Accepted => {
+            tree.word("Every matcher accepts these labels, and they are no row: if the")?;
+            tree.line()?;
+            tree.word("certificate is right, no part holds a sample of them in the range.")?;
+            tree.line()
+        }
+    }
+}
+
+/// What is wrong with the rows of all, and what the auditor found.
+fn faults(tree: &mut Tree, view: &View<'_>) -> Result<(), AllocError> {
     if !view.claim.is_merged {
         tree.word("  ✗ the rows of the answer are not the merged rows of the parts")?;
         tree.line()?;
@@ -212,18 +211,29 @@ pub(crate) fn terminal(tree: &mut Tree, view: &View<'_>) -> Result<(), AllocErro
     for line in view.shown.lines {
         if line.judgement.is_fault() {
             tree.word("  ✗ the auditor found a flaw: ")?;
-            let alloc = tree.alloc();
-            crate::header::auditor_text(tree, format!(in alloc; "{line}")?.as_str())?;
+            auditor_text(tree, line)?;
             tree.line()?;
         }
     }
+    Ok(())
+}
+
+/// The question, the key, a strip of letters for each part, and the sentence about a series.
+pub(crate) fn terminal(
+    tree: &mut Tree,
+    view: &View<'_>,
+    asked: Option<&Asked>,
+) -> Result<(), AllocError> {
+    long_text(tree, view.shown.selector, 160)?;
+    tree.line()?;
+    faults(tree, view)?;
     tree.line()?;
     key(tree, view)?;
     tree.line()?;
     parts(tree, view)?;
-    if let Some(labels) = view.shown.about {
+    if let Some(asked) = asked {
         tree.line()?;
-        about(tree, view, labels)?;
+        about(tree, view, asked)?;
     }
     Ok(())
 }

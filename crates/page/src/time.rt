@@ -1,7 +1,7 @@
 //! Which part has samples of the answer, and when.
 
 use crate::header::part_link;
-use crate::shapes::{line, open_text};
+use crate::shapes::{class_line, open_text};
 use crate::shown::{View, samples_in, times_of};
 use crate::times::{civil_of, ends, tick, when};
 use crate::words::{begin, classed, counted_cell, head_cell, plain, plural, word};
@@ -177,19 +177,46 @@ pub(crate) fn axis_text(tree: &mut Tree, axis: (i64, i64), all: bool) -> Result<
     tree.close()
 }
 
-/// The moves that draw bars of columns.
+/// How high a bar of so many rows is, rounded up, where the most has 22 units.
+fn height_of(count: u64, most: u64) -> u64 {
+    let height = share(count, most, 22);
+    if share(height, 22, most) < count {
+        height.saturating_add(1).min(22)
+    } else {
+        height
+    }
+}
+
+/// Draws one bar over columns of equally many rows.
+fn push_bar(
+    moves: &mut Vec<Move>,
+    columns: (u64, u64),
+    count: u64,
+    most: u64,
+) -> Result<(), AllocError> {
+    if count == 0 {
+        return Ok(());
+    }
+    moves.push(Move::To(columns.0, 22u64.saturating_sub(height_of(count, most))))?;
+    moves.push(Move::Across(columns.1))?;
+    moves.push(Move::Down(22))?;
+    moves.push(Move::Across(columns.0))?;
+    Ok(moves.push(Move::Back)?)
+}
+
+/// The moves that draw bars of columns, equal neighbours as one.
 fn moves_of(alloc: Global, columns: &[u64], most: u64) -> Result<Vec<Move>, AllocError> {
     let mut moves = Vec::new(alloc);
-    for (at, count) in columns.iter().enumerate() {
-        if *count > 0 {
-            let height = share(*count, most, 22).max(1);
-            moves.push(Move::To(at as u64, 22u64.saturating_sub(height)))?;
-            moves.push(Move::Across((at as u64).saturating_add(1)))?;
-            moves.push(Move::Down(22))?;
-            moves.push(Move::Across(at as u64))?;
-            moves.push(Move::Back)?;
+    let (mut begun, mut held, mut at) = (0u64, 0u64, 0u64);
+    for count in columns {
+        if *count != held {
+            push_bar(&mut moves, (begun, at), held, most)?;
+            begun = at;
+            held = *count;
         }
+        at = at.saturating_add(1);
     }
+    push_bar(&mut moves, (begun, at), held, most)?;
     Ok(moves)
 }
 
@@ -202,13 +229,12 @@ fn bars(tree: &mut Tree, axis: (i64, i64), rows: &[Row], most: u64) -> Result<()
         Attribute::Word(Key::AriaHidden, "true"),
     ]?;
     tree.open(Tag::Svg, frame)?;
-    begin(tree, Tag::G, "grid")?;
     let ticks = ticks_of(alloc, axis)?;
     for t in ticks.as_slice() {
         let x = place_of(axis, *t);
-        line(tree, (x, 0), (x, 30))?;
+        class_line(tree, "grid", (x, 0), (x, 30))?;
     }
-    tree.close()?;
+    class_line(tree, "base", (0, 26), (10_000, 26))?;
     let inner = vec![in alloc;
         Attribute::Number(Key::Y, 4),
         Attribute::Word(Key::Width, "100%"),

@@ -4,7 +4,6 @@ use crate::words::{begin, name, plain, quoted};
 use cover::Verdict;
 use labels::LabelSet;
 use matchers::{Matcher, Op};
-use page_claims::slot_of;
 use page_text::{Attribute, Key, Tag, Tree};
 use std::alloc::AllocError;
 
@@ -44,6 +43,16 @@ pub(crate) fn letter_class(slot: usize) -> Attribute {
         NONE => Attribute::Word(Key::Class, "l wn"),
         UNKNOWN => Attribute::Word(Key::Class, "l no"),
         _ => Attribute::Named(Key::Class, "l w", slot.saturating_sub(1) as u64),
+    }
+}
+
+/// The class of a slot's letter that is seen on wide screens alone.
+pub(crate) fn wide_letter_class(slot: usize) -> Attribute {
+    match slot {
+        MATCH => Attribute::Word(Key::Class, "l lw wm"),
+        NONE => Attribute::Word(Key::Class, "l lw wn"),
+        UNKNOWN => Attribute::Word(Key::Class, "l lw no"),
+        _ => Attribute::Named(Key::Class, "l lw w", slot.saturating_sub(1) as u64),
     }
 }
 
@@ -228,9 +237,4 @@ pub(crate) fn series(tree: &mut Tree, labels: &LabelSet) -> Result<(), AllocErro
         pairs(tree, labels, named)?;
     }
     tree.close()
-}
-
-/// The slot of an interval's verdict.
-pub(crate) fn slot(verdict: Verdict) -> usize {
-    slot_of(verdict)
 }

@@ -1,16 +1,30 @@
 //! Short ways to grow a tree.
 
+ghost use Rattle.std.specs.Prelude.{◌≡◌, ◌++◌, ◌∷◌, [], codes, OnOk};
+ghost use Rattle.page_text.specs.Growing.{printed, open_tags};
+ghost use Rattle.page_text.specs.Printing.{head_text};
+ghost use Rattle.page.specs.Cells.{class_front, number_text, counted_text};
+
 use page_text::{Attribute, Key, Tag, Tree, is_invisible};
 use std::alloc::{AllocError, Global};
 
 /// Begins an element with no attribute.
-pub(crate) fn plain(tree: &mut Tree, tag: Tag) -> Result<(), AllocError> {
+pub(crate) fn plain(tree: &mut Tree, tag: Tag) -> Result<(), AllocError>
+    ensures printed { OnOk result (printed tree.new ≡ printed tree.old
+        ++ head_text tag [] (codes ">")) }
+    ensures inside { OnOk result (open_tags tree.new ≡ tag ∷ open_tags tree.old) }
+{
     let alloc = tree.alloc();
     tree.open(tag, Vec::new(alloc))
 }
 
 /// Begins an element of a class.
-pub(crate) fn begin(tree: &mut Tree, tag: Tag, class: &'static str) -> Result<(), AllocError> {
+#[tactic(auto, unfolding(crate::specs::Cells::class_front, page_text::specs::Printing::head_text, page_text::specs::Printing::attribute_text, page_text::specs::Printing::open_attribute))]
+pub(crate) fn begin(tree: &mut Tree, tag: Tag, class: &'static str) -> Result<(), AllocError>
+    ensures printed { OnOk result
+        (printed tree.new ≡ printed tree.old ++ class_front tag class.now) }
+    ensures inside { OnOk result (open_tags tree.new ≡ tag ∷ open_tags tree.old) }
+{
     let alloc = tree.alloc();
     tree.open(tag, vec![in alloc; Attribute::Word(Key::Class, class)]?)
 }
@@ -35,14 +49,22 @@ pub(crate) fn classed(
 }
 
 /// The cell of a table that holds a number with commas.
-pub(crate) fn counted_cell(tree: &mut Tree, n: u64) -> Result<(), AllocError> {
+#[tactic(auto, unfolding(crate::specs::Cells::counted_text))]
+pub(crate) fn counted_cell(tree: &mut Tree, n: u64) -> Result<(), AllocError>
+    ensures printed { OnOk result (printed tree.new ≡ printed tree.old ++ counted_text n) }
+    ensures inside { OnOk result (open_tags tree.new ≡ open_tags tree.old) }
+{
     begin(tree, Tag::Td, "n")?;
     tree.counted(n)?;
     tree.close()
 }
 
 /// The cell of a table that holds a number of the reply.
-pub(crate) fn number_cell(tree: &mut Tree, n: u64) -> Result<(), AllocError> {
+#[tactic(auto, unfolding(crate::specs::Cells::number_text))]
+pub(crate) fn number_cell(tree: &mut Tree, n: u64) -> Result<(), AllocError>
+    ensures printed { OnOk result (printed tree.new ≡ printed tree.old ++ number_text n) }
+    ensures inside { OnOk result (open_tags tree.new ≡ open_tags tree.old) }
+{
     begin(tree, Tag::Td, "n")?;
     tree.number(n)?;
     tree.close()

@@ -1,10 +1,14 @@
 //! Pages.
 
-ghost use Rattle.std.specs.Prelude.{IfOk};
-ghost use Rattle.page_text.specs.Nesting.{IsTree};
-ghost use Rattle.page.specs.Pages.{IsPageOf, IsTextOf, IsClaimOf};
+ghost use Rattle.std.specs.Prelude.{◌≡◌, ◌++◌, IfOk};
+ghost use Rattle.page_text.specs.Nesting.{IsContent};
+ghost use Rattle.page_text.specs.Plain.{plain_text};
+ghost use Rattle.page.specs.Pages.{IsClaimOf, IsSaidOf, IsPageOf, IsTextOf, page_bytes};
+ghost use Rattle.page.specs.Saying.{plain_claim};
 
-use crate::header::header;
+use crate::asked::{Asked, ask};
+use crate::claim_text::{Saying, append_claim, append_claim_end, append_plain_claim, saying_of};
+use crate::header::{details, heading, summary};
 use crate::help::help;
 use crate::key::key;
 use crate::parts::certificates;
@@ -19,7 +23,9 @@ use page_text::{Piece, Tag, Tree, print, print_plain};
 use std::alloc::{AllocError, Global};
 
 /// What all sections need.
-fn view_of<'a>(alloc: Global, shown: &'a Shown<'a>) -> Result<View<'a>, AllocError> {
+fn view_of<'a>(alloc: Global, shown: &'a Shown<'a>) -> Result<View<'a>, AllocError>
+    ensures { IfOk result (λ view. IsClaimOf shown.now view.claim) }
+{
     let matchers = shown.query.matchers().len();
     let claim = find_claim(alloc, matchers, shown.told, shown.lines)?;
     let mut intervals = 0u64;
@@ -37,58 +43,160 @@ fn view_of<'a>(alloc: Global, shown: &'a Shown<'a>) -> Result<View<'a>, AllocErr
     })
 }
 
-/// A page, and what it claims.
-#[derive(Drop)]
-pub struct Page {
-    pub bytes: Vec<u8>,
-    pub claim: Claim,
+/// What is said of the label set that somebody asks about.
+fn asked_of(alloc: Global, shown: &Shown<'_>) -> Result<Option<Asked>, AllocError>
+    ensures { IfOk result (λ asked. IsSaidOf shown.now asked) }
+{
+    let Some(labels) = shown.about else {
+        return Ok(None);
+    };
+    let rows = shown.told.rows.as_slice();
+    let asked = ask(alloc, shown.query.matchers(), rows, labels)?;
+    Ok(Some(asked))
 }
 
-/// The content of a page, as the pieces of a tree, and what it claims. Texts from outside stand in
-/// it as texts alone.
-pub fn content(alloc: Global, shown: &Shown<'_>) -> Result<(Vec<Piece>, Claim), AllocError>
-    ensures { IfOk result (λ c. IsTree c.0.items) }
+/// What stands above the claim.
+fn heading_of(alloc: Global, view: &View<'_>) -> Result<Vec<Piece>, AllocError>
+    ensures { IfOk result (λ pieces. IsContent pieces.items) }
 {
-    let view = view_of(alloc, shown)?;
     let mut tree = Tree::new(alloc);
-    header(&mut tree, &view)?;
+    heading(&mut tree, view)?;
+    tree.finish()
+}
+
+/// What stands with the claim.
+fn details_of(alloc: Global, view: &View<'_>) -> Result<Vec<Piece>, AllocError>
+    ensures { IfOk result (λ pieces. IsContent pieces.items) }
+{
+    let mut tree = Tree::new(alloc);
+    details(&mut tree, view)?;
+    tree.finish()
+}
+
+/// What stands below the claim.
+fn sections_of(
+    alloc: Global,
+    view: &View<'_>,
+    asked: Option<&Asked>,
+) -> Result<Vec<Piece>, AllocError>
+    ensures { IfOk result (λ pieces. IsContent pieces.items) }
+{
+    let mut tree = Tree::new(alloc);
+    summary(&mut tree, view, asked)?;
     plain(&mut tree, Tag::Main)?;
     tree.line()?;
-    key(&mut tree, &view)?;
-    certificates(&mut tree, &view)?;
-    time(&mut tree, &view)?;
-    rows(&mut tree, &view)?;
-    help(&mut tree, &view)?;
-    Ok((tree.finish()?, view.claim))
+    key(&mut tree, view)?;
+    certificates(&mut tree, view)?;
+    time(&mut tree, view)?;
+    rows(&mut tree, view)?;
+    help(&mut tree, view)?;
+    tree.finish()
+}
+
+/// A page: what it claims; what it says of the label set that somebody asks about; and its bytes.
+/// Above the claim, with it and below it stand pieces that are trees, in which texts from outside
+/// are texts alone; a text for a terminal has those below it alone.
+#[derive(Drop)]
+pub struct Page {
+    pub heading: Vec<Piece>,
+    pub claim: Claim,
+    pub details: Vec<Piece>,
+    pub asked: Option<Asked>,
+    pub sections: Vec<Piece>,
+    pub bytes: Vec<u8>,
+}
+
+/// The print of a page, between what begins and what ends each page.
+#[tactic(auto, unfolding(crate::specs::Pages::page_bytes))]
+fn bytes_of(
+    alloc: Global,
+    saying: Saying,
+    heading: &[Piece],
+    details: &[Piece],
+    sections: &[Piece],
+) -> Result<Vec<u8>, AllocError>
+    ensures { IfOk result (λ bytes. bytes.items
+        ≡ page_bytes saying heading.now details.now sections.now) }
+{
+    let mut bytes = Vec::new(alloc);
+    append_front(&mut bytes)?;
+    print(&mut bytes, heading)?;
+    append_claim(&mut bytes, saying)?;
+    print(&mut bytes, details)?;
+    append_claim_end(&mut bytes)?;
+    print(&mut bytes, sections)?;
+    append_back(&mut bytes)?;
+    Ok(bytes)
 }
 
 /// A page: one file of HTML without a script, that fetches nothing. The same bytes for the same
-/// question, reply and lines.
+/// question, reply, tables and lines.
+///
+/// It claims that no series is missing exactly if each part passes the checks that need no series,
+/// the rows are the merged rows of the parts, and no line of the auditor names a flaw. It takes time
+/// in proportion to the reply, and memory for at most 4,000,000 pieces above the claim, with it and
+/// below it: however many intervals, rows and samples there are, only so many are drawn.
 pub fn write_page(alloc: Global, shown: &Shown<'_>) -> Result<Page, AllocError>
     ensures { IfOk result (λ page. IsPageOf shown.now page) }
 {
-    let (pieces, claim) = content(alloc, shown)?;
-    let mut bytes = Vec::new(alloc);
-    append_front(&mut bytes)?;
-    print(&mut bytes, pieces.as_slice())?;
-    append_back(&mut bytes)?;
-    Ok(Page { bytes, claim })
+    let view = view_of(alloc, shown)?;
+    let asked = asked_of(alloc, shown)?;
+    let heading = heading_of(alloc, &view)?;
+    let details = details_of(alloc, &view)?;
+    let sections = sections_of(alloc, &view, asked.as_ref())?;
+    let saying = saying_of(shown, view.claim);
+    let bytes = bytes_of(
+        alloc,
+        saying,
+        heading.as_slice(),
+        details.as_slice(),
+        sections.as_slice(),
+    )?;
+    Ok(Page {
+        heading,
+        claim: view.claim,
+        details,
+        asked,
+        sections,
+        bytes,
+    })
 }
 
-/// The same for a terminal: the claim, the key, a letter for each interval of each part, and the
-/// sentence about a series. Lines are at most 80 characters wide, names and values of more than 24
-/// characters aside.
+/// What stands on the lines.
+fn lines_of(alloc: Global, view: &View<'_>, asked: Option<&Asked>) -> Result<Vec<Piece>, AllocError>
+    ensures { IfOk result (λ pieces. IsContent pieces.items) }
+{
+    let mut tree = Tree::new(alloc);
+    terminal(&mut tree, view, asked)?;
+    tree.finish()
+}
+
+/// The claim, and the texts and numbers of the lines.
+fn plain_of(alloc: Global, saying: Saying, lines: &[Piece]) -> Result<Vec<u8>, AllocError>
+    ensures { IfOk result (λ bytes. bytes.items ≡ plain_claim saying ++ plain_text lines.now) }
+{
+    let mut bytes = Vec::new(alloc);
+    append_plain_claim(&mut bytes, saying)?;
+    print_plain(&mut bytes, lines)?;
+    Ok(bytes)
+}
+
+/// The same for a terminal: the claim, the question, the key, a letter for each interval of each
+/// part, and the sentence about a series. Lines are at most 80 characters wide, names and values of
+/// more than 24 characters aside.
 pub fn write_text(alloc: Global, shown: &Shown<'_>) -> Result<Page, AllocError>
     ensures { IfOk result (λ page. IsTextOf shown.now page) }
 {
     let view = view_of(alloc, shown)?;
-    let mut tree = Tree::new(alloc);
-    terminal(&mut tree, &view)?;
-    let pieces = tree.finish()?;
-    let mut bytes = Vec::new(alloc);
-    print_plain(&mut bytes, pieces.as_slice())?;
+    let asked = asked_of(alloc, shown)?;
+    let lines = lines_of(alloc, &view, asked.as_ref())?;
+    let bytes = plain_of(alloc, saying_of(shown, view.claim), lines.as_slice())?;
     Ok(Page {
-        bytes,
+        heading: Vec::new(alloc),
         claim: view.claim,
+        details: Vec::new(alloc),
+        asked,
+        sections: lines,
+        bytes,
     })
 }

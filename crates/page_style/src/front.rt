@@ -1,5 +1,8 @@
 //! What stands before the content of a page, and behind it.
 
+ghost use Rattle.std.specs.Prelude.{◌≡◌, ◌++◌, codes, OnOk};
+ghost use Rattle.std.specs.List.{flat_map};
+
 use crate::patterns::{PATTERNS_0, PATTERNS_1};
 use crate::style::{STYLE_0, STYLE_1, STYLE_2, STYLE_3, STYLE_4, STYLE_5};
 use std::alloc::AllocError;
@@ -21,18 +24,32 @@ const BODY: &str = r#"</style>
 <body>
 "#;
 
-/// Appends the head of a page, with its policy and its style, and the patterns of verdicts.
-pub fn append_front(out: &mut Vec<u8>) -> Result<(), AllocError> {
-    let pieces = [
-        HEAD, STYLE_0, STYLE_1, STYLE_2, STYLE_3, STYLE_4, STYLE_5, BODY, PATTERNS_0, PATTERNS_1,
-    ];
-    for piece in pieces {
-        out.extend_from_slice(piece.as_bytes())?;
+/// What stands before the content of each page: its policy and its style, and the patterns of
+/// verdicts.
+pub const FRONT: [&str; 10] = [
+    HEAD, STYLE_0, STYLE_1, STYLE_2, STYLE_3, STYLE_4, STYLE_5, BODY, PATTERNS_0, PATTERNS_1,
+];
+
+/// Appends what stands before the content of each page.
+pub fn append_front(out: &mut Vec<u8>) -> Result<(), AllocError>
+    ensures { OnOk result (out.new.items ≡ out.old.items ++ flat_map (λ t. t.now) FRONT) }
+{
+    append_texts(out, &FRONT)
+}
+
+/// Appends texts, one after another.
+fn append_texts(out: &mut Vec<u8>, texts: &[&str]) -> Result<(), AllocError>
+    ensures { OnOk result (out.new.items ≡ out.old.items ++ flat_map (λ t. t.now) texts.now) }
+{
+    for text in texts {
+        out.extend_from_slice(text.as_bytes())?;
     }
     Ok(())
 }
 
-/// Appends the end of a page.
-pub fn append_back(out: &mut Vec<u8>) -> Result<(), AllocError> {
+/// Appends what ends each page.
+pub fn append_back(out: &mut Vec<u8>) -> Result<(), AllocError>
+    ensures { OnOk result (out.new.items ≡ out.old.items ++ codes "</body>\n</html>\n") }
+{
     out.extend_from_slice(b"</body>\n</html>\n")
 }

@@ -1,4 +1,5 @@
 pub mod Escaping
+pub mod Growing
 pub mod Markup
 pub mod Nesting
 pub mod Plain

@@ -1,5 +1,6 @@
 -- Which pieces are a tree: each element that is opened is closed, the last opened first.
-use Rattle.std.specs.Prelude.{◌≡◌, ℕ, List, [], ◌∷◌, Option, Some, None, if◌then◌else◌}
+use Rattle.std.specs.Prelude.{◌≡◌, ◌≤◌, ℕ, List, [], ◌∷◌, Option, Some, None, if◌then◌else◌}
+use Rattle.std.specs.Prelude.{length}
 use Rattle.std.specs.List.{fold}
 use Rattle.std.specs.Str.{bytes_eq}
 use Rattle.page_text.specs.declared.piece.Piece.{Piece}
@@ -33,3 +34,8 @@ left_open pieces = fold open_after (Some []) pieces
 -- whether pieces are a tree
 abbrev pub IsTree : List Piece → Type 0
 IsTree pieces = left_open pieces ≡ Some []
+
+-- a tree of no more pieces than a tree may have
+pub record IsContent (pieces : List Piece) : Type 0 where
+  pub tree : IsTree pieces
+  pub few : length pieces ≤ 4000000

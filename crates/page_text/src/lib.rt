@@ -5,7 +5,8 @@
 //! [`Piece`]s in which each element that is opened is closed in turn (`IsTree`). [`print`] writes
 //! it: names and constants, numbers in decimal, and of a text each character, `& < > " '` as
 //! entities, and a character that cannot be seen as a box with its code (`U+202E`). So a text
-//! changes what is read, and never an element or an attribute.
+//! changes what is read, and never an element or an attribute. [`print_plain`] writes its texts and
+//! numbers alone, for a terminal.
 //!
 //! ```
 //! let mut tree = Tree::new(alloc);
@@ -33,4 +34,4 @@ pub use piece::Piece;
 pub use plain::print_plain;
 pub use printing::print;
 pub use tag::Tag;
-pub use tree::Tree;
+pub use tree::{MOST_PIECES, Tree};

@@ -1,0 +1,93 @@
+//! What the auditor said of a part, and which series it knows.
+
+use crate::shown::View;
+use crate::verdicts::series;
+use crate::words::{begin, plural};
+use auditor::{BlockTable, Judgement, Line, Subject, Table};
+use cover::Interval;
+use labels::{Row, SeriesRef};
+use page_claims::shown_of;
+use page_text::{Tag, Tree};
+use postings::PartName;
+use std::alloc::AllocError;
+
+fn is_of(subject: Subject, name: PartName) -> bool {
+    match (subject, name) {
+        (Subject::Part(PartName::Block(m)), PartName::Block(n)) => m == n,
+        (Subject::Part(PartName::Head), PartName::Head) => true,
+        _ => false,
+    }
+}
+
+/// What the auditor said of a part, if it judged it: a part that it passed over was not judged.
+pub(crate) fn judgement_of(lines: &[Line], name: PartName) -> Option<Judgement> {
+    for line in lines {
+        if is_of(line.subject, name) && !matches!(line.judgement, Judgement::Skipped) {
+            return Some(line.judgement);
+        }
+    }
+    None
+}
+
+/// The block of a part, if the auditor knows its series.
+pub(crate) fn table_of<'a>(tables: &'a [BlockTable], name: PartName) -> Option<&'a Table> {
+    let PartName::Block(number) = name else {
+        return None;
+    };
+    match tables.get(number)? {
+        BlockTable::Walked(table) => Some(table),
+        BlockTable::Refused(_) => None,
+    }
+}
+
+/// The judgement of a searched part.
+pub(crate) fn judgement(
+    tree: &mut Tree,
+    view: &View<'_>,
+    name: PartName,
+) -> Result<(), AllocError> {
+    if view.shown.lines.is_empty() {
+        return Ok(());
+    }
+    begin(tree, Tag::P, "note")?;
+    match judgement_of(view.shown.lines, name) {
+        None => tree.word("The auditor did not judge this part: it was given no block for it.")?,
+        Some(Judgement::Valid) => tree.word("The auditor judged this part: it is valid.")?,
+        Some(_) => tree.word("The auditor names a flaw of this part: see above.")?,
+    }
+    tree.close()?;
+    tree.line()
+}
+
+/// Most series of an interval that are named.
+const MOST_SERIES: usize = 3;
+
+/// The series of a table whose references lie in an interval.
+fn series_in<'a>(table: &'a Table, interval: &Interval) -> &'a [(SeriesRef, Row)] {
+    let all = table.series();
+    let from = interval.from.number();
+    let start = all.partition_point(|one| one.0.number() < from);
+    let later = &all[start..];
+    let end = later.partition_point(|one| u64::from(one.0.number()) < interval.until);
+    &later[..end]
+}
+
+/// The first series of an interval, by the auditor's table of the block.
+pub(crate) fn first_series(
+    tree: &mut Tree,
+    table: &Table,
+    interval: &Interval,
+) -> Result<(), AllocError> {
+    let (shown, rest) = shown_of(series_in(table, interval), MOST_SERIES);
+    let mut first = true;
+    for one in shown {
+        tree.word(if first { ": " } else { ", " })?;
+        first = false;
+        series(tree, one.1.labels())?;
+    }
+    if !rest.is_empty() {
+        tree.word(" and ")?;
+        plural(tree, rest.len() as u64, " more", " more")?;
+    }
+    Ok(())
+}

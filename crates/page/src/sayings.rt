@@ -1,0 +1,130 @@
+//! What the checks of a part say, and the first place where one does not hold.
+
+use crate::strip::bounds;
+use crate::verdicts::MATCH;
+use crate::words::plural;
+use cover::{Interval, PartAnswer, Verdict};
+use labels::SeriesRef;
+use page_claims::{Checks, count_in};
+use page_text::Tree;
+use std::alloc::AllocError;
+
+/// A check that a reply alone allows.
+#[derive(Clone, Copy, Debug, PartialEq, Eq, Drop)]
+pub(crate) enum Check {
+    Chain,
+    Names,
+    Rows,
+    Separators,
+}
+
+/// Each check, and whether it holds.
+pub(crate) fn sayings(checks: Checks) -> [(Check, bool); 4] {
+    [
+        (Check::Chain, checks.chain),
+        (Check::Names, checks.names),
+        (Check::Rows, checks.rows),
+        (Check::Separators, checks.separators),
+    ]
+}
+
+/// What a check says.
+pub(crate) fn text_of(check: Check) -> &'static str {
+    match check {
+        Check::Chain =>
+            "The intervals form a chain without a hole: each ends where the next begins, and the \
+             last ends at the end of all references.",
+        Check::Names =>
+            "Each verdict names a matcher that the selector has, a match, or no sample.",
+        Check::Rows => "There are as many rows as matches.",
+        Check::Separators => "There are as many separators as intervals, one in each.",
+    }
+}
+
+/// Where the chain breaks first.
+fn chain_seen(tree: &mut Tree, intervals: &[Interval]) -> Result<(), AllocError> {
+    let mut before: Option<&Interval> = None;
+    for interval in intervals {
+        if let Some(earlier) = before {
+            let from = u64::from(interval.from.number());
+            if earlier.until != from || u64::from(earlier.from.number()) >= earlier.until {
+                bounds(tree, earlier.from, earlier.until)?;
+                tree.word(" is followed by ")?;
+                return bounds(tree, interval.from, interval.until);
+            }
+        }
+        before = Some(interval);
+    }
+    if let Some(last) = before {
+        tree.word("the last interval is ")?;
+        bounds(tree, last.from, last.until)?;
+    }
+    Ok(())
+}
+
+/// The first verdict that names no matcher.
+fn names_seen(tree: &mut Tree, intervals: &[Interval], matchers: usize) -> Result<(), AllocError> {
+    for interval in intervals {
+        if let Verdict::Rejected(named) = interval.verdict {
+            if named >= matchers {
+                bounds(tree, interval.from, interval.until)?;
+                tree.word(" names matcher ")?;
+                return tree.number(named as u64);
+            }
+        }
+    }
+    Ok(())
+}
+
+fn rows_seen(tree: &mut Tree, answer: &PartAnswer) -> Result<(), AllocError> {
+    let matches = count_in(answer.cover.certificate.as_slice(), MATCH);
+    tree.word("there are ")?;
+    plural(tree, matches as u64, " match", " matches")?;
+    tree.word(" and ")?;
+    plural(tree, answer.rows.len() as u64, " row", " rows")
+}
+
+fn is_outside(interval: &Interval, separator: SeriesRef) -> bool {
+    separator.number() < interval.from.number() || u64::from(separator.number()) >= interval.until
+}
+
+/// The first separator that is not in its interval, or how many there are.
+fn separators_seen(tree: &mut Tree, answer: &PartAnswer) -> Result<(), AllocError> {
+    let intervals = answer.cover.certificate.as_slice();
+    let separators = answer.cover.separators.as_slice();
+    if intervals.len() != separators.len() {
+        tree.word("there are ")?;
+        plural(tree, separators.len() as u64, " separator", " separators")?;
+        tree.word(" and ")?;
+        return plural(tree, intervals.len() as u64, " interval", " intervals");
+    }
+    for at in 0..intervals.len() {
+        if let (Some(interval), Some(separator)) = (intervals.get(at), separators.get(at)) {
+            if is_outside(interval, *separator) {
+                tree.word("separator ")?;
+                tree.number(u64::from(separator.number()))?;
+                tree.word(", number ")?;
+                tree.counted((at as u64).saturating_add(1))?;
+                tree.word(", is not in interval ")?;
+                return bounds(tree, interval.from, interval.until);
+            }
+        }
+    }
+    Ok(())
+}
+
+/// What is seen where a check does not hold.
+pub(crate) fn seen(
+    tree: &mut Tree,
+    check: Check,
+    answer: &PartAnswer,
+    matchers: usize,
+) -> Result<(), AllocError> {
+    let intervals = answer.cover.certificate.as_slice();
+    match check {
+        Check::Chain => chain_seen(tree, intervals),
+        Check::Names => names_seen(tree, intervals, matchers),
+        Check::Rows => rows_seen(tree, answer),
+        Check::Separators => separators_seen(tree, answer),
+    }
+}
