@@ -1,5 +1,5 @@
 -- The command line: what `clap` reads from the words, and what that asks for.
-use Rattle.std.specs.Prelude.{◌≡◌, true, false, List, [], Some, codes, option_map}
+use Rattle.std.specs.Prelude.{◌≡◌, Bool, true, false, List, [], Option, Some, codes, option_map}
 use Rattle.clap.specs.Words.{App, Row, Rule, Text, new_app, new_rule, with_rule, first_of}
 use Rattle.clap.specs.Words.{one_of, matches_of, fault_of}
 use Rattle.clap.specs.declared.builder.action.ArgAction.TheVariants.{SetTrue}
@@ -34,12 +34,16 @@ explain_app = with_rule (with_rule (audit.with_arguments named_app) about_rule) 
 abbrev pub AreTaken : List Text → Type 0
 AreTaken words = fault_of explain_app words ≡ []
 
+-- whether a flag was used, which `clap` tells by a text
+pub record IsFlagIn (given : Option Text) (flag : Bool) : Type 0 where
+  pub used : given ≡ Some (codes "true") → flag ≡ true
+  pub unused : given ≡ Some (codes "false") → flag ≡ false
+
 -- what the arguments give
 pub record IsAskedIn (rows : List Row) (asked : Asked) : Type 0 where
   pub audit : audit.IsAskedIn rows asked.audit
   pub about : option_map (λ text. text.now) asked.about ≡ first_of (codes "about") rows
-  pub text : one_of (codes "text") rows ≡ Some (codes "true") → asked.text ≡ true
-  pub page : one_of (codes "text") rows ≡ Some (codes "false") → asked.text ≡ false
+  pub text : IsFlagIn (one_of (codes "text") rows) asked.text
 
 -- what the words ask for, as `clap` reads them
 abbrev pub IsAskedBy : List Text → Asked → Type 0

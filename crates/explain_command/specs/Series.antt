@@ -24,17 +24,17 @@ abbrev pub are_equal : List MatcherView → Bool
 are_equal matchers = list_all (λ (m : MatcherView). is_equal m.op) matchers
 
 -- the names and the texts of matchers
-abbrev pub pairs_of : List MatcherView → List (List ℕ × List ℕ)
-pairs_of matchers = map (λ (m : MatcherView). (m.name, m.text)) matchers
+abbrev pub named_texts : List MatcherView → List (List ℕ × List ℕ)
+named_texts matchers = map (λ (m : MatcherView). (m.name, m.text)) matchers
 
 -- the label set that has the texts of matchers at their names
 abbrev pub AreLabels : List MatcherView → Labels → Type 0
-AreLabels matchers labels = IsMadeOf labels (pairs_of matchers)
+AreLabels matchers labels = IsMadeOf labels (named_texts matchers)
 
 -- the names and the texts of matchers break a rule of label sets
 pub record BreakRule (matchers : List MatcherView) : Type 0 where
   pub error : LabelError
-  pub is : refusal_of (pairs_of matchers) ≡ Some error
+  pub is : refusal_of (named_texts matchers) ≡ Some error
 
 -- why they are no label set: by a rule that they break, or memory failed
 abbrev pub IsLabelsFault : List MatcherView → Fault → Type 0

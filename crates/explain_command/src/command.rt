@@ -2,11 +2,11 @@
 
 ghost use Rattle.std.specs.Prelude.{◌≡◌, false, codes, option_map, IfOk};
 ghost use Rattle.clap.specs.Matches.{found_of};
-ghost use Rattle.clap.specs.Words.{app_of, rule_of, rows_of, first_of, matches_of, fault_of};
-ghost use Rattle.clap.specs.Words.{FailsBy};
+ghost use Rattle.clap.specs.Words.{app_of, rule_of, rows_of, first_of, one_of, matches_of};
+ghost use Rattle.clap.specs.Words.{fault_of, FailsBy};
 ghost use Rattle.audit_command.specs.Asking.{texts_of};
 ghost use Rattle.explain_command.specs.Asking.{about_rule, text_rule, named_app};
-ghost use Rattle.explain_command.specs.Asking.{explain_app, IsAskedIn, IsAskedBy};
+ghost use Rattle.explain_command.specs.Asking.{explain_app, IsFlagIn, IsAskedIn, IsAskedBy};
 
 use audit_command::{Asked as AuditAsked, asked_in as audit_in, with_arguments};
 use clap::{Arg, ArgAction, ArgMatches, Command, Error};
@@ -90,12 +90,18 @@ fn about_in<'a>(found: &ArgMatches<'a>) -> Option<&'a str>
     found.get_str("about")
 }
 
+fn text_in(found: &ArgMatches<'_>) -> bool
+    ensures { IsFlagIn (one_of (codes "text") (rows_of (found_of found.now))) result }
+{
+    found.get_flag("text")
+}
+
 fn asked_in<'a>(alloc: Global, found: &ArgMatches<'a>) -> Result<Asked<'a>, AllocError>
     ensures { IfOk result (λ asked. IsAskedIn (rows_of (found_of found.now)) asked) }
 {
     let audit = audit_in(alloc, found)?;
     let about = about_in(found);
-    let text = found.get_flag("text");
+    let text = text_in(found);
     Ok(Asked { audit, about, text })
 }
 

@@ -1,7 +1,8 @@
 //! The series that somebody asks about.
 
-ghost use Rattle.std.specs.Prelude.{◌≡◌, map, string_bytes, IfOk, IfErr};
-ghost use Rattle.explain_command.specs.Series.{is_equal, are_equal, pairs_of, IsSeries};
+ghost use Rattle.std.specs.Prelude.{◌≡◌, IfOk, IfErr};
+ghost use Rattle.labels.specs.Pairs.{pairs_of};
+ghost use Rattle.explain_command.specs.Series.{is_equal, are_equal, named_texts, IsSeries};
 ghost use Rattle.explain_command.specs.Series.{AreLabels, IsLabelsFault, IsSeriesFault};
 
 use crate::fault::Fault;
@@ -32,9 +33,8 @@ fn are_equal(matchers: &[Matcher]) -> bool
 }
 
 /// The names and the texts of matchers.
-fn pairs_of(alloc: Global, matchers: &[Matcher]) -> Result<Vec<(String, String)>, AllocError>
-    ensures { IfOk result (λ pairs. map (λ p. (string_bytes p.0, string_bytes p.1)) pairs.items
-        ≡ pairs_of matchers.now) }
+fn named_texts(alloc: Global, matchers: &[Matcher]) -> Result<Vec<(String, String)>, AllocError>
+    ensures { IfOk result (λ pairs. pairs_of pairs.items ≡ named_texts matchers.now) }
 {
     let mut pairs = Vec::new(alloc);
     for matcher in matchers {
@@ -50,7 +50,7 @@ fn labels_of(alloc: Global, matchers: &[Matcher]) -> Result<LabelSet, Fault>
     ensures ok { IfOk result (λ labels. AreLabels matchers.now labels) }
     ensures err { IfErr result (λ fault. IsLabelsFault matchers.now fault) }
 {
-    match LabelSet::new(alloc, pairs_of(alloc, matchers)?) {
+    match LabelSet::new(alloc, named_texts(alloc, matchers)?) {
         Ok(labels) => Ok(labels),
         Err(LabelError::Memory) => Err(Fault::Audit(AuditFault::Memory)),
         Err(_) => Err(Fault::NoSeries),
