@@ -3,7 +3,7 @@ use Rattle.std.specs.Prelude.{◌≡◌, Bool, true, false, List, [], Option, So
 use Rattle.clap.specs.Words.{App, Row, Rule, Text, new_app, new_rule, with_rule, first_of}
 use Rattle.clap.specs.Words.{one_of, matches_of, fault_of}
 use Rattle.clap.specs.declared.builder.action.ArgAction.TheVariants.{SetTrue}
-use Rattle.audit_command.specs.Asking as audit
+use Rattle.audit_command.specs.Asking as audits
 use Rattle.explain_command.specs.declared.command.Asked.{Asked}
 
 -- the series that somebody asks about
@@ -28,7 +28,7 @@ named_app =
 
 -- --selector S [--from N] [--to N] [DIR]... [--about SERIES] [--text]
 abbrev pub explain_app : App
-explain_app = with_rule (with_rule (audit.with_arguments named_app) about_rule) text_rule
+explain_app = with_rule (with_rule (audits.with_arguments named_app) about_rule) text_rule
 
 -- `clap` takes the words: it finds no fault in them
 abbrev pub AreTaken : List Text → Type 0
@@ -41,7 +41,7 @@ pub record IsFlagIn (given : Option Text) (flag : Bool) : Type 0 where
 
 -- what the arguments give
 pub record IsAskedIn (rows : List Row) (asked : Asked) : Type 0 where
-  pub audit : audit.IsAskedIn rows asked.audit
+  pub audit : audits.IsAskedIn rows asked.audit
   pub about : option_map (λ text. text.now) asked.about ≡ first_of (codes "about") rows
   pub text : IsFlagIn (one_of (codes "text") rows) asked.text
 

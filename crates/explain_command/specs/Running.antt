@@ -7,7 +7,7 @@ use Rattle.clap.specs.declared.error.kind.ErrorKind.TheVariants.{DisplayHelp, Di
 use Rattle.page.specs.declared.write.Page.{Page}
 use Rattle.audit_command.specs.Reading.{Host}
 use Rattle.audit_command.specs.Running as audits
-use Rattle.audit_command.specs.declared.fault.Fault.TheVariants as audit
+use Rattle.audit_command.specs.declared.fault.Fault.TheVariants as faults
 use Rattle.explain_command.specs.Asking.{AreTaken, IsAskedBy, explain_app}
 use Rattle.explain_command.specs.Faults.{status_of, line_of}
 use Rattle.explain_command.specs.Showing.{IsAnswer, IsAnswerFault}
@@ -42,7 +42,7 @@ pub data IsEnd (reads : Host) (input : Option (List ℕ)) (words : List Text)
     (old new : Option (List ℕ)) (end : Result Bool Fault) : Type 0 where
   by_page : (asked : Asked) → IsAskedBy words asked → IsPageEnd reads input asked old new end
       → IsEnd reads input words old new end
-  by_memory : end ≡ Err (Audit audit.Memory) → Keeps old new → IsEnd reads input words old new end
+  by_memory : end ≡ Err (Audit faults.Memory) → Keeps old new → IsEnd reads input words old new end
 
 -- the words ask for help or for the version
 abbrev pub AskForText : List Text → Type 0
@@ -54,10 +54,10 @@ AskForText words = IsAmong DisplayHelp (fault_of explain_app words)
 abbrev pub IsNoPage : List Text → Result Bool Fault → Type 0
 IsNoPage words (Ok true) = AskForText words
 IsNoPage words (Ok false) = ⊥
-IsNoPage words (Err (Audit audit.CannotWrite)) = AskForText words
-IsNoPage words (Err (Audit (audit.Words error))) =
+IsNoPage words (Err (Audit faults.CannotWrite)) = AskForText words
+IsNoPage words (Err (Audit (faults.Words error))) =
     IsAmong (kind_of error) (fault_of explain_app words)
-IsNoPage words (Err (Audit audit.Memory)) = Unit {0}
+IsNoPage words (Err (Audit faults.Memory)) = Unit {0}
 IsNoPage words (Err _) = ⊥
 
 -- the exit status of an end

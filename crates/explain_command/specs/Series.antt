@@ -9,7 +9,7 @@ use Rattle.matchers.specs.Views.{MatcherView}
 use Rattle.matchers.specs.declared.error.SelectorError.{SelectorError}
 use Rattle.matchers.specs.declared.matcher.Op.{Op}
 use Rattle.matchers.specs.declared.matcher.Op.TheVariants.{Equal, NotEqual, Like, NotLike}
-use Rattle.audit_command.specs.declared.fault.Fault.TheVariants as audit
+use Rattle.audit_command.specs.declared.fault.Fault.TheVariants as faults
 use Rattle.explain_command.specs.declared.fault.Fault.{Fault}
 use Rattle.explain_command.specs.declared.fault.Fault.TheVariants.{Audit, NoSeries}
 
@@ -39,7 +39,7 @@ pub record BreakRule (matchers : List MatcherView) : Type 0 where
 -- why they are no label set: by a rule that they break, or memory failed
 abbrev pub IsLabelsFault : List MatcherView → Fault → Type 0
 IsLabelsFault matchers NoSeries = BreakRule matchers
-IsLabelsFault matchers (Audit audit.Memory) = Unit {0}
+IsLabelsFault matchers (Audit faults.Memory) = Unit {0}
 IsLabelsFault matchers (Audit _) = ⊥
 
 -- the text is a selector with = alone, and the label set has its texts at its names
@@ -61,5 +61,5 @@ pub data IsNoSeries (text : List ℕ) : Type 0 where
 -- why no series is read: the text is none, or memory failed
 abbrev pub IsSeriesFault : List ℕ → Fault → Type 0
 IsSeriesFault text NoSeries = IsNoSeries text
-IsSeriesFault text (Audit audit.Memory) = Unit {0}
+IsSeriesFault text (Audit faults.Memory) = Unit {0}
 IsSeriesFault text (Audit _) = ⊥

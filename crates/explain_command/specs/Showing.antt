@@ -20,8 +20,9 @@ use Rattle.audit_command.specs.Auditing.{IsReplyFault, IsWritingFault}
 use Rattle.audit_command.specs.Reading.{Host}
 use Rattle.audit_command.specs.Walking.{AreTablesAt, IsFirstFault}
 use Rattle.audit_command.specs.declared.fault.Fault.{Fault as AuditFault}
-use Rattle.audit_command.specs.declared.fault.Fault.TheVariants as audit
+use Rattle.audit_command.specs.declared.fault.Fault.TheVariants as faults
 use Rattle.explain_command.specs.Series.{IsSeries, IsSeriesFault}
+use Rattle.explain_command.specs.declared.answer.Found.{Found}
 use Rattle.explain_command.specs.declared.command.Asked.{Asked}
 use Rattle.explain_command.specs.declared.fault.Fault.{Fault}
 use Rattle.explain_command.specs.declared.fault.Fault.TheVariants.{Audit, NoSeries}
@@ -51,8 +52,8 @@ IsAboutFault asked fault = IsAboutTextFault (about_text asked) fault
 
 -- why no reply is read of a text: it is none, or memory failed
 abbrev pub IsTextFault : List ℕ → Fault → Type 0
-IsTextFault text (Audit audit.BadReply) = text_said text ≡ None
-IsTextFault text (Audit audit.Memory) = Unit {0}
+IsTextFault text (Audit faults.BadReply) = text_said text ≡ None
+IsTextFault text (Audit faults.Memory) = Unit {0}
 IsTextFault text (Audit _) = ⊥
 IsTextFault text NoSeries = ⊥
 
@@ -75,49 +76,44 @@ abbrev pub AreLinesOf : List BlockTable → QueryView → List ℕ → List Line
 AreLinesOf [] query text lines = lines ≡ []
 AreLinesOf (table ∷ tables) query text lines = AreJudged (table ∷ tables) query text lines
 
--- what was read
-pub record Found : Type 0 where
-  pub query : QueryView
-  pub about : Option Labels
-  pub text : List ℕ
-  pub told : Told
-  pub tables : List BlockTable
-  pub lines : List Line
-
--- what is asked and what the reader and the directories hold
+-- what is asked, and what the reader and the directories hold
 pub record HasRead (reads : Host) (input : Option (List ℕ)) (asked : Asked) (found : Found)
     : Type 0 where
   pub is_query : IsQueryOf asked.audit found.query
   pub is_about : IsAbout asked found.about
-  pub all : IsAllOf input found.text
-  pub is_told : IsToldIn found.text found.told
-  pub are_tables : AreTablesAt reads (directories_of asked.audit) found.tables
-  pub are_lines : AreLinesOf found.tables found.query found.text found.lines
+  pub all : IsAllOf input found.text.items
+  pub is_told : IsToldIn found.text.items found.told
+  pub are_tables : AreTablesAt reads (directories_of asked.audit) found.tables.items
+  pub are_lines : AreLinesOf found.tables.items found.query found.text.items found.lines.items
 
 -- what is shown is what was read, with the length and the SHA-256 of the reply
 pub record Shows (asked : Asked) (found : Found) (shown : Shown) : Type 0 where
   pub selector : shown.selector ≡ asked.audit.selector
   pub query : shown.query.now ≡ found.query
   pub told : shown.told.now ≡ found.told
-  pub tables : shown.tables.now ≡ found.tables
-  pub lines : shown.lines.now ≡ found.lines
+  pub tables : shown.tables.now ≡ found.tables.items
+  pub lines : shown.lines.now ≡ found.lines.items
   pub about : option_map (λ labels. labels.now) shown.about ≡ found.about
-  pub length_is : shown.length ≡ length found.text
-  pub digest_is : shown.digest ≡ sha256 found.text
+  pub length_is : shown.length ≡ length found.text.items
+  pub digest_is : shown.digest ≡ sha256 found.text.items
 
 -- the page is HTML, or a text for a terminal
 abbrev pub IsShownAs : Bool → Shown → Page → Type 0
 IsShownAs true shown page = IsTextOf shown page
 IsShownAs false shown page = IsPageOf shown page
 
+-- the page is that of what is shown, which was found
+pub record IsPageOfFound (asked : Asked) (found : Found) (page : Page) : Type 0 where
+  pub shown : Shown
+  pub shows : Shows asked found shown
+  pub page_is : IsShownAs asked.text shown page
+
 -- the page shows what was read
 pub record IsAnswer (reads : Host) (input : Option (List ℕ)) (asked : Asked) (page : Page)
     : Type 0 where
   pub found : Found
   pub has_read : HasRead reads input asked found
-  pub shown : Shown
-  pub shows : Shows asked found shown
-  pub page_is : IsShownAs asked.text shown page
+  pub page_of_found : IsPageOfFound asked found page
 
 -- a fault of the audit's own
 abbrev pub IsAuditFault : (AuditFault → Type 0) → Fault → Type 0

@@ -1,10 +1,10 @@
 //! The page of a reply.
 
-ghost use Rattle.std.specs.Prelude.{◌≡◌, length, Some, IfOk, IfErr};
+ghost use Rattle.std.specs.Prelude.{◌≡◌, Some, IfOk, IfErr};
 ghost use Rattle.auditor.specs.Replies.{text_said, told_of};
 ghost use Rattle.explain_command.specs.Showing.{IsAbout, IsAboutFault, IsTextFault, IsToldIn};
-ghost use Rattle.explain_command.specs.Showing.{AreLinesOf, IsAnswer, IsAnswerFault, HasRead};
-ghost use Rattle.explain_command.specs.Showing.{Shows, IsShownAs};
+ghost use Rattle.explain_command.specs.Showing.{AreLinesOf, IsShownAs, HasRead, IsPageOfFound};
+ghost use Rattle.explain_command.specs.Showing.{IsAnswer, IsAnswerFault};
 
 use crate::command::Asked;
 use crate::fault::Fault;
@@ -78,6 +78,63 @@ fn write_shown(alloc: Global, text: bool, shown: &Shown<'_>) -> Result<Page, All
     }
 }
 
+/// What was read: the query, the series that somebody asks about, the text of the reply and what it
+/// says, what is known of the blocks, and what the auditor says of the reply.
+#[derive(Drop)]
+pub struct Found {
+    pub query: Query,
+    pub about: Option<LabelSet>,
+    pub text: Vec<u8>,
+    pub told: Told,
+    pub tables: Vec<BlockTable>,
+    pub lines: Vec<Line>,
+}
+
+/// Reads what is asked, the reply and the files in the directories.
+fn read_all<F: ReadFiles, R: Read>(
+    alloc: Global,
+    files: &F,
+    asked: &Asked<'_>,
+    input: &mut R,
+) -> Result<Found, Fault>
+    ensures ok { IfOk result
+        (λ found. HasRead (F.may_read files.now) (R.remaining input.old) asked.now found) }
+    ensures err { IfErr result
+        (λ fault. IsAnswerFault (F.may_read files.now) (R.remaining input.old) asked.now fault) }
+{
+    let query = query_of(alloc, &asked.audit)?;
+    let about = about_of(alloc, asked)?;
+    let text = all_of(alloc, input)?;
+    let told = told_in(alloc, text.as_slice())?;
+    let tables = tables_at(alloc, files, asked.audit.directories.as_slice())?;
+    let lines = lines_of(alloc, tables.as_slice(), &query, text.as_slice())?;
+    Ok(Found {
+        query,
+        about,
+        text,
+        told,
+        tables,
+        lines,
+    })
+}
+
+/// The page of what was read, with the length and the SHA-256 of the reply.
+fn page_of(alloc: Global, asked: &Asked<'_>, found: &Found) -> Result<Page, AllocError>
+    ensures { IfOk result (λ page. IsPageOfFound asked.now found.now page) }
+{
+    let shown = Shown {
+        selector: asked.audit.selector,
+        query: &found.query,
+        told: &found.told,
+        tables: found.tables.as_slice(),
+        lines: found.lines.as_slice(),
+        about: found.about.as_ref(),
+        length: found.text.len() as u64,
+        digest: Sha256::digest(found.text.as_slice()),
+    };
+    write_shown(alloc, asked.text, &shown)
+}
+
 /// The page of the reply that a reader gives.
 ///
 /// The selector is checked, then the range, then the series that is asked about; then the reply is
@@ -94,21 +151,6 @@ pub fn answer<F: ReadFiles, R: Read>(
     ensures err { IfErr result
         (λ fault. IsAnswerFault (F.may_read files.now) (R.remaining input.old) asked.now fault) }
 {
-    let query = query_of(alloc, &asked.audit)?;
-    let about = about_of(alloc, asked)?;
-    let text = all_of(alloc, input)?;
-    let told = told_in(alloc, text.as_slice())?;
-    let tables = tables_at(alloc, files, asked.audit.directories.as_slice())?;
-    let lines = lines_of(alloc, tables.as_slice(), &query, text.as_slice())?;
-    let shown = Shown {
-        selector: asked.audit.selector,
-        query: &query,
-        told: &told,
-        tables: tables.as_slice(),
-        lines: lines.as_slice(),
-        about: about.as_ref(),
-        length: text.len() as u64,
-        digest: Sha256::digest(text.as_slice()),
-    };
-    Ok(write_shown(alloc, asked.text, &shown)?)
+    let found = read_all(alloc, files, asked, input)?;
+    Ok(page_of(alloc, asked, &found)?)
 }
