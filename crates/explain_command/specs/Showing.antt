@@ -2,6 +2,7 @@
 use Rattle.std.specs.Prelude.{◌≡◌, ℕ, Bool, true, false, List, [], ◌∷◌, Option, None, Some, length}
 use Rattle.std.specs.Prelude.{option_map}
 use Rattle.std.specs.List.{flat_map}
+use Rattle.std.specs.Option.{option_copied}
 use Rattle.labels.specs.Labels.{Labels}
 use Rattle.matchers.specs.Views.{QueryView}
 use Rattle.auditor.specs.Judgements.{AreLines, answers_of}
@@ -93,7 +94,7 @@ pub record Shows (asked : Asked) (found : Found) (shown : Shown) : Type 0 where
   pub told : shown.told.now ≡ found.told
   pub tables : shown.tables.now ≡ found.tables.items
   pub lines : shown.lines.now ≡ found.lines.items
-  pub about : option_map (λ labels. labels.now) shown.about ≡ found.about
+  pub about : option_copied shown.about ≡ found.about
   pub length_is : shown.length ≡ length found.text.items
   pub digest_is : shown.digest ≡ sha256 found.text.items
 
