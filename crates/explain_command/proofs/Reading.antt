@@ -1,7 +1,6 @@
 -- What is read says which page is shown, and why there is none.
 use Rattle.std.proofs.Common.{◌≡◌, ℕ, List, [], ◌∷◌, Option, refl}
 use Rattle.matchers.specs.Views.{QueryView}
-use Rattle.auditor.specs.Replies.{text_said}
 use Rattle.auditor.specs.declared.judgement.BlockTable.{BlockTable}
 use Rattle.auditor.specs.declared.judgement.Line.{Line}
 use Rattle.audit_command.specs.Auditing.{IsAllOf, IsInputFault, IsReplyFault}

@@ -4,9 +4,14 @@ use Rattle.std.specs.List.{list_all}
 use Rattle.labels.specs.Labels.{Labels}
 use Rattle.labels.specs.LabelSets.{IsMadeOf, refusal_of}
 use Rattle.labels.specs.declared.error.LabelError.{LabelError}
+use Rattle.labels.specs.declared.error.LabelError.TheVariants.{BadName, Repeated, Limit}
+use Rattle.labels.specs.declared.error.LabelError.TheVariants as label
 use Rattle.matchers.specs.Selectors.{IsAccepted, IsTextRefusal}
 use Rattle.matchers.specs.Views.{MatcherView}
 use Rattle.matchers.specs.declared.error.SelectorError.{SelectorError}
+use Rattle.matchers.specs.declared.error.SelectorError.TheVariants.{Syntax, Empty, TooMany}
+use Rattle.matchers.specs.declared.error.SelectorError.TheVariants.{PatternTooLong, PatternRefused}
+use Rattle.matchers.specs.declared.error.SelectorError.TheVariants as selector
 use Rattle.matchers.specs.declared.matcher.Op.{Op}
 use Rattle.matchers.specs.declared.matcher.Op.TheVariants.{Equal, NotEqual, Like, NotLike}
 use Rattle.audit_command.specs.declared.fault.Fault.TheVariants as faults
@@ -41,6 +46,22 @@ abbrev pub IsLabelsFault : List MatcherView → Fault → Type 0
 IsLabelsFault matchers NoSeries = BreakRule matchers
 IsLabelsFault matchers (Audit faults.Memory) = Unit {0}
 IsLabelsFault matchers (Audit _) = ⊥
+
+-- the fault that pairs make which are no label set
+abbrev pub labels_fault : LabelError → Fault
+labels_fault BadName = NoSeries
+labels_fault Repeated = NoSeries
+labels_fault Limit = NoSeries
+labels_fault label.Memory = Audit faults.Memory
+
+-- the fault that a text makes which is no selector
+abbrev pub selector_fault : SelectorError → Fault
+selector_fault (Syntax at) = NoSeries
+selector_fault Empty = NoSeries
+selector_fault TooMany = NoSeries
+selector_fault PatternTooLong = NoSeries
+selector_fault PatternRefused = NoSeries
+selector_fault selector.Memory = Audit faults.Memory
 
 -- the text is a selector with = alone, and the label set has its texts at its names
 pub record IsSeries (text : List ℕ) (labels : Labels) : Type 0 where

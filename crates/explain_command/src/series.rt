@@ -4,6 +4,8 @@ ghost use Rattle.std.specs.Prelude.{◌≡◌, IfOk, IfErr};
 ghost use Rattle.labels.specs.Pairs.{pairs_of};
 ghost use Rattle.explain_command.specs.Series.{is_equal, are_equal, named_texts, IsSeries};
 ghost use Rattle.explain_command.specs.Series.{AreLabels, IsLabelsFault, IsSeriesFault};
+ghost use Rattle.explain_command.specs.Series.{labels_fault, selector_fault};
+ghost use Rattle.matchers.specs.Selectors.{IsAccepted};
 
 use crate::fault::Fault;
 use audit_command::Fault as AuditFault;
@@ -45,15 +47,43 @@ fn named_texts(alloc: Global, matchers: &[Matcher]) -> Result<Vec<(String, Strin
     Ok(pairs)
 }
 
+fn labels_fault(error: LabelError) -> Fault
+    ensures { result ≡ labels_fault error }
+{
+    match error {
+        LabelError::Memory => Fault::Audit(AuditFault::Memory),
+        LabelError::BadName | LabelError::Repeated | LabelError::Limit => Fault::NoSeries,
+    }
+}
+
 /// The label set of some matchers that compare by `=`.
 fn labels_of(alloc: Global, matchers: &[Matcher]) -> Result<LabelSet, Fault>
     ensures ok { IfOk result (λ labels. AreLabels matchers.now labels) }
     ensures err { IfErr result (λ fault. IsLabelsFault matchers.now fault) }
 {
-    match LabelSet::new(alloc, named_texts(alloc, matchers)?) {
+    let pairs = named_texts(alloc, matchers)?;
+    match LabelSet::new(alloc, pairs) {
         Ok(labels) => Ok(labels),
-        Err(LabelError::Memory) => Err(Fault::Audit(AuditFault::Memory)),
-        Err(_) => Err(Fault::NoSeries),
+        Err(error) => Err(labels_fault(error)),
+    }
+}
+
+fn selector_fault(error: SelectorError) -> Fault
+    ensures { result ≡ selector_fault error }
+{
+    match error {
+        SelectorError::Memory => Fault::Audit(AuditFault::Memory),
+        _ => Fault::NoSeries,
+    }
+}
+
+fn matchers_in(alloc: Global, text: &str) -> Result<Vec<Matcher>, Fault>
+    ensures ok { IfOk result (λ matchers. IsAccepted text.now matchers.items) }
+    ensures err { IfErr result (λ fault. IsSeriesFault text.now fault) }
+{
+    match Selector::parse(alloc, text) {
+        Ok(matchers) => Ok(matchers),
+        Err(error) => Err(selector_fault(error)),
     }
 }
 
@@ -65,13 +95,10 @@ pub fn series_of(alloc: Global, text: &str) -> Result<LabelSet, Fault>
     ensures ok { IfOk result (λ labels. IsSeries text.now labels) }
     ensures err { IfErr result (λ fault. IsSeriesFault text.now fault) }
 {
-    let matchers = match Selector::parse(alloc, text) {
-        Ok(matchers) => matchers,
-        Err(SelectorError::Memory) => return Err(Fault::Audit(AuditFault::Memory)),
-        Err(_) => return Err(Fault::NoSeries),
-    };
+    let matchers = matchers_in(alloc, text)?;
     if !are_equal(matchers.as_slice()) {
         return Err(Fault::NoSeries);
     }
-    labels_of(alloc, matchers.as_slice())
+    let labels = labels_of(alloc, matchers.as_slice())?;
+    Ok(labels)
 }
