@@ -87,7 +87,7 @@ fn directories<'a>(alloc: Global) -> Arg<'a>
 /// Adds what an audit is asked by to a command: `--selector S`, which must be given, `--from N`,
 /// `--to N` and directories.
 pub fn with_arguments<'a>(alloc: Global, command: Command<'a>) -> Result<Command<'a>, AllocError>
-    ensures { IfOk result (λ added. app_of added ≡ with_arguments (app_of command)) }
+    ensures { IfOk result (λ added. app_of added ≡ with_arguments (app_of command.entry)) }
 {
     command
         .arg(selector(alloc))?
