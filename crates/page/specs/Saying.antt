@@ -4,23 +4,23 @@ use Rattle.page.specs.declared.claim_text.Saying.{Saying}
 use Rattle.page.specs.declared.claim_text.Saying.TheVariants.{Judged, Certified, NotShown}
 
 -- a green box for a claim that is made, a red one for a claim that is not
-abbrev pub claim_front : Saying → List ℕ
+unfoldable pub claim_front : Saying → List ℕ
 claim_front Judged = codes "<div class=\"say ok\">"
 claim_front (Certified several asked) = codes "<div class=\"say ok\">"
 claim_front NotShown = codes "<div class=\"say bad\">"
 
-abbrev pub claim_mark : Saying → List ℕ
+unfoldable pub claim_mark : Saying → List ℕ
 claim_mark Judged = codes "&#10003;</span> "
 claim_mark (Certified several asked) = codes "&#10003;</span> "
 claim_mark NotShown = codes "&#10007;</span> "
 
-abbrev pub claim_words : Saying → List ℕ
+unfoldable pub claim_words : Saying → List ℕ
 claim_words Judged = codes "No series is missing. The auditor found no flaw."
 claim_words (Certified false asked) = codes "No series is missing, by the certificate below."
 claim_words (Certified true asked) = codes "No series is missing, by the certificates below."
 claim_words NotShown = codes "This reply does not show that no series is missing."
 
-abbrev pub claim_more : Saying → List ℕ
+unfoldable pub claim_more : Saying → List ℕ
 claim_more Judged = []
 claim_more (Certified several false) = []
 claim_more (Certified several true) = codes " The auditor found no flaw in what it judged."

@@ -38,6 +38,7 @@ pub(crate) fn saying_of(shown: &Shown<'_>, claim: Claim) -> Saying
 }
 
 /// What begins the box of a claim: green for one that is made, red for one that is not.
+#[tactic(auto, unfolding(crate::specs::Saying::claim_front))]
 fn front(saying: Saying) -> &'static [u8]
     ensures { result.now ≡ claim_front saying }
 {
@@ -48,6 +49,7 @@ fn front(saying: Saying) -> &'static [u8]
 }
 
 /// The mark of a claim.
+#[tactic(auto, unfolding(crate::specs::Saying::claim_mark))]
 fn mark(saying: Saying) -> &'static [u8]
     ensures { result.now ≡ claim_mark saying }
 {
@@ -58,6 +60,7 @@ fn mark(saying: Saying) -> &'static [u8]
 }
 
 /// The claim in words, and on what it rests.
+#[tactic(auto, unfolding(crate::specs::Saying::claim_words))]
 fn words(saying: Saying) -> &'static [u8]
     ensures { result.now ≡ claim_words saying }
 {
@@ -72,6 +75,7 @@ fn words(saying: Saying) -> &'static [u8]
 }
 
 /// What the auditor adds to a claim that rests on certificates.
+#[tactic(auto, unfolding(crate::specs::Saying::claim_more))]
 fn more_words(saying: Saying) -> &'static [u8]
     ensures { result.now ≡ claim_more saying }
 {

@@ -22,6 +22,14 @@ const SPANS: &str =
      commas was counted for this page; one without is copied from the reply. A code in a box \
      stands for a character that cannot be seen.";
 
+const UNCHECKED: &str =
+    "That each reason is true of the series. The reply has no labels of a series that is not a row. \
+     Who holds the blocks can check it, without trust in the store:";
+
+const CHECKED: &str =
+    "That each reason is true of the series, for each part that the auditor judged. Who holds the \
+     blocks can check it again, without trust in the store:";
+
 const REASONS: [&str; 3] = [
     "Hold its labels against the matchers above. The first that it fails is the reason, whatever \
      the store holds. A label that it does not have counts as the empty text.",
@@ -81,6 +89,15 @@ fn check(tree: &mut Tree, saying: &'static str, holds: bool) -> Result<(), Alloc
     tree.close()
 }
 
+/// Who checks that reasons are true.
+fn reasons(tree: &mut Tree, view: &View<'_>) -> Result<(), AllocError> {
+    if view.shown.lines.is_empty() {
+        titled(tree, "Not checked here", UNCHECKED)
+    } else {
+        titled(tree, "Checked by the auditor", CHECKED)
+    }
+}
+
 fn right(tree: &mut Tree, view: &View<'_>) -> Result<(), AllocError> {
     plain(tree, Tag::Div)?;
     word(tree, Tag::H3, "Checked while this page was made")?;
@@ -91,12 +108,7 @@ fn right(tree: &mut Tree, view: &View<'_>) -> Result<(), AllocError> {
     let merged = "The rows of the answer are the merged rows of the parts.";
     check(tree, merged, view.claim.is_merged)?;
     tree.close()?;
-    titled(
-        tree,
-        "Not checked here",
-        "That each reason is true of the series. The reply has no labels of a series that is not a \
-         row. Who holds the blocks can check it, without trust in the store:",
-    )?;
+    reasons(tree, view)?;
     plain(tree, Tag::Pre)?;
     word(
         tree,

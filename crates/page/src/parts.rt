@@ -160,15 +160,15 @@ fn least(tree: &mut Tree, answer: &PartAnswer, checks: Checks) -> Result<(), All
     tree.line()
 }
 
-/// The separators that lie in an interval, at most four of them; and none is red.
-fn separators(
+/// The separators that lie from one reference to before another, at most four of them, and how many
+/// more there are; and whether there is one.
+fn some_separators(
     tree: &mut Tree,
     separators: &[SeriesRef],
     from: u64,
     until: u64,
-) -> Result<(), AllocError> {
+) -> Result<bool, AllocError> {
     let mut found = 0u64;
-    begin(tree, Tag::Td, "n")?;
     for separator in separators {
         let number = u64::from(separator.number());
         if from <= number && number < until {
@@ -181,18 +181,29 @@ fn separators(
             found = found.saturating_add(1);
         }
     }
-    if found == 0 {
-        classed(tree, Tag::B, "no", "none")?;
-    }
     if found > 4 {
         tree.word(" +")?;
         tree.counted(found.saturating_sub(4))?;
     }
+    Ok(found > 0)
+}
+
+/// The cell of the separators of an interval; none is red.
+fn separators(
+    tree: &mut Tree,
+    separators: &[SeriesRef],
+    from: u64,
+    until: u64,
+) -> Result<(), AllocError> {
+    begin(tree, Tag::Td, "n")?;
+    if !some_separators(tree, separators, from, until)? {
+        classed(tree, Tag::B, "no", "none")?;
+    }
     tree.close()
 }
 
-/// The row of a hole or an overlap before an interval.
-fn hole(tree: &mut Tree, before: u64, from: u64) -> Result<(), AllocError> {
+/// The row of a hole or an overlap before an interval, with the separators that lie in the hole.
+fn hole(tree: &mut Tree, answer: &PartAnswer, before: u64, from: u64) -> Result<(), AllocError> {
     let alloc = tree.alloc();
     if before == from {
         return Ok(());
@@ -201,13 +212,17 @@ fn hole(tree: &mut Tree, before: u64, from: u64) -> Result<(), AllocError> {
     word(tree, Tag::Td, "")?;
     number_cell(tree, before)?;
     number_cell(tree, from)?;
-    tree.open(Tag::Td, vec![in alloc; Attribute::Number(Key::Colspan, 4)]?)?;
-    let says = if before < from {
+    begin(tree, Tag::Td, "n x")?;
+    tree.close()?;
+    begin(tree, Tag::Td, "n")?;
+    some_separators(tree, answer.cover.separators.as_slice(), before, from)?;
+    tree.close()?;
+    tree.open(Tag::Td, vec![in alloc; Attribute::Number(Key::Colspan, 2)]?)?;
+    tree.word(if before < from {
         "a hole: in no interval"
     } else {
         "an overlap: out of order"
-    };
-    tree.word(says)?;
+    })?;
     tree.close()?;
     tree.close()?;
     tree.line()
@@ -327,7 +342,7 @@ fn table(tree: &mut Tree, view: &View<'_>, answer: &PartAnswer) -> Result<(), Al
     let mut before = None;
     for (at, interval) in shown.iter().enumerate() {
         if let Some(until) = before {
-            hole(tree, until, u64::from(interval.from.number()))?;
+            hole(tree, answer, until, u64::from(interval.from.number()))?;
         }
         before = Some(interval.until);
         interval_row(tree, view, answer, at, interval)?;

@@ -6,7 +6,7 @@ use crate::sayings::{Check, sayings, seen};
 use crate::shown::View;
 use crate::strip::END;
 use crate::verdicts::{MATCH, NONE, UNKNOWN, slot_name};
-use crate::words::{long_text, plural};
+use crate::words::{left_box, long_text, plural};
 use cover::{Interval, PartAnswer};
 use matchers::{Matcher, Op};
 use page_claims::{Place, SLOTS, checks_of, slot_of};
@@ -17,6 +17,9 @@ use std::alloc::AllocError;
 
 /// Most letters of a line.
 const WIDTH: usize = 76;
+
+/// Most lines of a selector.
+const MOST_LINES: u64 = 54;
 
 fn matcher_text(tree: &mut Tree, matcher: &Matcher) -> Result<(), AllocError> {
     long_text(tree, matcher.name(), 24)?;
@@ -89,6 +92,9 @@ fn slot_for(intervals: &[Interval]) -> usize {
 /// A letter for each interval, or for each of some columns of them.
 fn letters(tree: &mut Tree, intervals: &[Interval]) -> Result<(), AllocError> {
     let columns = intervals.len().min(WIDTH);
+    if columns == 0 {
+        return Ok(());
+    }
     tree.word("  ")?;
     for at in 0..columns {
         let (from, until) = range_of(at, columns, intervals.len());
@@ -218,14 +224,36 @@ fn faults(tree: &mut Tree, view: &View<'_>) -> Result<(), AllocError> {
     Ok(())
 }
 
+/// A text from outside, broken into lines.
+fn broken_text(tree: &mut Tree, text: &str) -> Result<(), AllocError> {
+    let alloc = tree.alloc();
+    let mut chars = Vec::new(alloc);
+    let (mut lines, mut left) = (0u64, 0u64);
+    for c in text.chars() {
+        if chars.len() == WIDTH && lines < MOST_LINES {
+            tree.text(chars)?;
+            tree.line()?;
+            chars = Vec::new(alloc);
+            lines = lines.saturating_add(1);
+        }
+        if chars.len() < WIDTH {
+            chars.push(c)?;
+        } else {
+            left = left.saturating_add(1);
+        }
+    }
+    tree.text(chars)?;
+    left_box(tree, left, " character", " characters")?;
+    tree.line()
+}
+
 /// The question, the key, a strip of letters for each part, and the sentence about a series.
 pub(crate) fn terminal(
     tree: &mut Tree,
     view: &View<'_>,
     asked: Option<&Asked>,
 ) -> Result<(), AllocError> {
-    long_text(tree, view.shown.selector, 160)?;
-    tree.line()?;
+    broken_text(tree, view.shown.selector)?;
     faults(tree, view)?;
     tree.line()?;
     key(tree, view)?;

@@ -4,7 +4,6 @@ ghost use Rattle.std.specs.Prelude.{◌≡◌, ◌+◌, ◌≤◌, ◌++◌, ◌
 ghost use Rattle.std.specs.Prelude.{reverse, IfOk, OnOk};
 ghost use Rattle.std.specs.Fmt.{signed_decimal};
 ghost use Rattle.page_text.specs.Escaping.{word_text, leaf_text};
-ghost use Rattle.page_text.specs.Growing.{printed, open_tags, ending, outer};
 ghost use Rattle.page_text.specs.Printing.{counted, head_text};
 ghost use Rattle.page_text.specs.Nesting.{left_open, IsContent};
 
@@ -28,6 +27,8 @@ pub struct Tree {
 }
 
 impl Tree {
+    ghost use Rattle.page_text.specs.Growing.{printed, open_tags, ending, outer};
+
     /// Nothing yet.
     pub fn new(alloc: Global) -> Tree {
         Tree {
