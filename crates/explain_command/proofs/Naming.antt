@@ -1,6 +1,6 @@
 -- Which texts are series, and why others are none.
-use Rattle.std.proofs.Common.{◌≡◌, ℕ, List, Option, None, Some, Err, sym, subst, ◌∙◌}
-use Rattle.std.specs.Prelude.{Result, Ok, IfSome, IfNone, MatchResult}
+use Rattle.std.proofs.Common.{◌≡◌, ℕ, List, Option, None, Some, Err}
+use Rattle.std.specs.Prelude.{Result, Ok, IfSome, IfNone}
 use Rattle.labels.specs.LabelSets.{IsMadeOf, refusal_of}
 use Rattle.labels.specs.Labels.{Labels}
 use Rattle.labels.specs.declared.error.LabelError.{LabelError}
@@ -20,9 +20,12 @@ use Rattle.explain_command.specs.Series.{selector_fault, IsSeriesFault, by_selec
 use Rattle.explain_command.specs.declared.fault.Fault.{Fault}
 use Rattle.explain_command.specs.declared.fault.Fault.TheVariants.{Audit, NoSeries}
 
+abbrev ok_of : Labels → Result Labels LabelError
+ok_of labels = Ok labels
+
 -- pairs that break no rule make the label set
 pub made : (pairs : List (List ℕ × List ℕ)) (labels : Labels) (o : Option LabelError)
-    → IfSome o (λ e. Ok {E = LabelError} labels ≡ Err e) → IfNone o (IsMadeOf labels pairs)
+    → IfSome o (λ e. ok_of labels ≡ Err e) → IfNone o (IsMadeOf labels pairs)
     → IsMadeOf labels pairs
 made pairs labels None refused is = is
 made pairs labels (Some e) refused is = cc
@@ -30,8 +33,8 @@ made pairs labels (Some e) refused is = cc
 broken : (matchers : List MatcherView) (o : Option LabelError)
     → refusal_of (named_texts matchers) ≡ o → (error : LabelError)
     → (error ≡ label.Memory → ⊥) → IfNone o (error ≡ label.Memory) → BreakRule matchers
-broken matchers None is error no memory = absurd (no memory)
-broken matchers (Some e) is error no memory = record { error = e; is = is }
+broken matchers None is error other memory = absurd (other memory)
+broken matchers (Some e) is error other memory = record { error = e; is = is }
 
 -- pairs that are refused break a rule, or memory failed
 pub why_no_labels : (matchers : List MatcherView) (o : Option LabelError)

@@ -4,7 +4,7 @@ ghost use Rattle.std.specs.Prelude.{◌≡◌, Some, IfOk, IfErr};
 ghost use Rattle.auditor.specs.Replies.{text_said, told_of};
 ghost use Rattle.explain_command.specs.Showing.{IsAbout, IsAboutFault, IsTextFault, IsToldIn};
 ghost use Rattle.explain_command.specs.Showing.{AreLinesOf, IsShownAs, HasRead, IsPageOfFound};
-ghost use Rattle.explain_command.specs.Showing.{IsAnswer, IsAnswerFault};
+ghost use Rattle.explain_command.specs.Showing.{Shows, IsAnswer, IsAnswerFault};
 
 use crate::command::Asked;
 use crate::fault::Fault;
@@ -118,6 +118,19 @@ fn read_all<F: ReadFiles, R: Read>(
     })
 }
 
+/// The page of what is shown, which was read.
+fn write_found(
+    alloc: Global,
+    asked: &Asked<'_>,
+    _found: &Found,
+    shown: &Shown<'_>,
+) -> Result<Page, AllocError>
+    requires { Shows asked.now _found.now shown.now }
+    ensures { IfOk result (λ page. IsPageOfFound asked.now _found.now page) }
+{
+    write_shown(alloc, asked.text, shown)
+}
+
 /// The page of what was read, with the length and the SHA-256 of the reply.
 fn page_of(alloc: Global, asked: &Asked<'_>, found: &Found) -> Result<Page, AllocError>
     ensures { IfOk result (λ page. IsPageOfFound asked.now found.now page) }
@@ -132,7 +145,7 @@ fn page_of(alloc: Global, asked: &Asked<'_>, found: &Found) -> Result<Page, Allo
         length: found.text.len() as u64,
         digest: Sha256::digest(found.text.as_slice()),
     };
-    write_shown(alloc, asked.text, &shown)
+    write_found(alloc, asked, found, &shown)
 }
 
 /// The page of the reply that a reader gives.
