@@ -47,11 +47,21 @@ IsSaidOf s said =
     MatchOption s.about (said ≡ None) (λ labels. IsSomeAnd said
     (λ asked. IsSaid s.query.now.matchers s.told.now.rows.items labels.now asked))
 
--- a constant front, the heading, the claim with its details, the sections, and a constant end
+-- what begins each page
+unfoldable pub page_front : List ℕ
+page_front = flat_map (λ t. t.now) FRONT
+
+-- the constant front, the heading, and the claim in a box that is open still
+unfoldable pub page_top : Saying → List Piece → List ℕ
+page_top saying heading = page_front ++ page_text heading ++ claim_text saying
+
+-- the details, the end of the box, the sections, and a constant end
+unfoldable pub page_rest : List Piece → List Piece → List ℕ
+page_rest details sections =
+    page_text details ++ codes "</div>\n" ++ page_text sections ++ codes "</body>\n</html>\n"
+
 unfoldable pub page_bytes : Saying → List Piece → List Piece → List Piece → List ℕ
-page_bytes saying heading details sections =
-    flat_map (λ t. t.now) FRONT ++ page_text heading ++ claim_text saying ++ page_text details
-    ++ codes "</div>\n" ++ page_text sections ++ codes "</body>\n</html>\n"
+page_bytes saying heading details sections = page_top saying heading ++ page_rest details sections
 
 -- the print of trees, and the claim between them
 pub record IsPageOf (s : Shown) (page : Page) : Type 0 where

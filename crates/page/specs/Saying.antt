@@ -26,12 +26,22 @@ claim_more (Certified several false) = []
 claim_more (Certified several true) = codes " The auditor found no flaw in what it judged."
 claim_more NotShown = []
 
+-- what stands before the mark of a claim
+unfoldable pub mark_front : List ℕ
+mark_front = codes "<p class=\"big\"><span class=\"mark\" aria-hidden=\"true\">"
+
+-- a box that is open still, with the mark of the claim
+unfoldable pub claim_box : Saying → List ℕ
+claim_box saying = claim_front saying ++ mark_front ++ claim_mark saying
+
+-- the claim, and on what it rests
+unfoldable pub claim_sentence : Saying → List ℕ
+claim_sentence saying = claim_words saying ++ claim_more saying
+
 -- the claim, in a box that is open still
 unfoldable pub claim_text : Saying → List ℕ
-claim_text saying =
-    claim_front saying ++ codes "<p class=\"big\"><span class=\"mark\" aria-hidden=\"true\">"
-    ++ claim_mark saying ++ claim_words saying ++ claim_more saying ++ codes "</p>\n"
+claim_text saying = claim_box saying ++ claim_sentence saying ++ codes "</p>\n"
 
 -- the claim on lines of its own
 unfoldable pub plain_claim : Saying → List ℕ
-plain_claim saying = claim_words saying ++ claim_more saying ++ codes "\n"
+plain_claim saying = claim_sentence saying ++ codes "\n"

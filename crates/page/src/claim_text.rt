@@ -2,7 +2,7 @@
 
 ghost use Rattle.std.specs.Prelude.{◌≡◌, ◌++◌, codes, OnOk};
 ghost use Rattle.page.specs.Saying.{claim_text, claim_front, claim_mark, claim_words, claim_more};
-ghost use Rattle.page.specs.Saying.{plain_claim};
+ghost use Rattle.page.specs.Saying.{mark_front, claim_box, claim_sentence, plain_claim};
 ghost use Rattle.page.specs.Pages.{saying_of};
 
 use crate::shown::Shown;
@@ -85,16 +85,40 @@ fn more_words(saying: Saying) -> &'static [u8]
     }
 }
 
+/// Appends what stands before the mark of a claim.
+#[tactic(auto, unfolding(crate::specs::Saying::mark_front))]
+fn append_mark_front(out: &mut Vec<u8>) -> Result<(), AllocError>
+    ensures { OnOk result (out.new.items ≡ out.old.items ++ mark_front) }
+{
+    out.extend_from_slice(b"<p class=\"big\"><span class=\"mark\" aria-hidden=\"true\">")
+}
+
+/// Appends what begins the box of a claim, and its mark.
+#[tactic(auto, unfolding(crate::specs::Saying::claim_box))]
+fn append_box(out: &mut Vec<u8>, saying: Saying) -> Result<(), AllocError>
+    ensures { OnOk result (out.new.items ≡ out.old.items ++ claim_box saying) }
+{
+    out.extend_from_slice(front(saying))?;
+    append_mark_front(out)?;
+    out.extend_from_slice(mark(saying))
+}
+
+/// Appends the claim in words, and on what it rests.
+#[tactic(auto, unfolding(crate::specs::Saying::claim_sentence))]
+fn append_sentence(out: &mut Vec<u8>, saying: Saying) -> Result<(), AllocError>
+    ensures { OnOk result (out.new.items ≡ out.old.items ++ claim_sentence saying) }
+{
+    out.extend_from_slice(words(saying))?;
+    out.extend_from_slice(more_words(saying))
+}
+
 /// Appends the claim, in a box that is open still.
 #[tactic(auto, unfolding(crate::specs::Saying::claim_text))]
 pub(crate) fn append_claim(out: &mut Vec<u8>, saying: Saying) -> Result<(), AllocError>
     ensures { OnOk result (out.new.items ≡ out.old.items ++ claim_text saying) }
 {
-    out.extend_from_slice(front(saying))?;
-    out.extend_from_slice(b"<p class=\"big\"><span class=\"mark\" aria-hidden=\"true\">")?;
-    out.extend_from_slice(mark(saying))?;
-    out.extend_from_slice(words(saying))?;
-    out.extend_from_slice(more_words(saying))?;
+    append_box(out, saying)?;
+    append_sentence(out, saying)?;
     out.extend_from_slice(b"</p>\n")
 }
 
@@ -110,7 +134,6 @@ pub(crate) fn append_claim_end(out: &mut Vec<u8>) -> Result<(), AllocError>
 pub(crate) fn append_plain_claim(out: &mut Vec<u8>, saying: Saying) -> Result<(), AllocError>
     ensures { OnOk result (out.new.items ≡ out.old.items ++ plain_claim saying) }
 {
-    out.extend_from_slice(words(saying))?;
-    out.extend_from_slice(more_words(saying))?;
+    append_sentence(out, saying)?;
     out.extend_from_slice(b"\n")
 }

@@ -1,9 +1,10 @@
 //! Pages.
 
-ghost use Rattle.std.specs.Prelude.{◌≡◌, ◌++◌, IfOk};
+ghost use Rattle.std.specs.Prelude.{◌≡◌, ◌++◌, IfOk, OnOk};
 ghost use Rattle.page_text.specs.Nesting.{IsContent};
 ghost use Rattle.page_text.specs.Plain.{plain_text};
-ghost use Rattle.page.specs.Pages.{IsClaimOf, IsSaidOf, IsPageOf, IsTextOf, page_bytes};
+ghost use Rattle.page.specs.Pages.{IsClaimOf, IsSaidOf, IsPageOf, IsTextOf};
+ghost use Rattle.page.specs.Pages.{page_front, page_top, page_rest, page_bytes};
 ghost use Rattle.page.specs.Saying.{plain_claim};
 
 use crate::asked::{Asked, ask};
@@ -106,7 +107,36 @@ pub struct Page {
     pub bytes: Vec<u8>,
 }
 
-/// The print of a page, between what begins and what ends each page.
+/// Appends what begins each page.
+#[tactic(auto, unfolding(crate::specs::Pages::page_front))]
+fn append_page_front(out: &mut Vec<u8>) -> Result<(), AllocError>
+    ensures { OnOk result (out.new.items ≡ out.old.items ++ page_front) }
+{
+    append_front(out)
+}
+
+/// Appends what begins each page, the heading and the claim.
+#[tactic(auto, unfolding(crate::specs::Pages::page_top))]
+fn append_top(out: &mut Vec<u8>, saying: Saying, heading: &[Piece]) -> Result<(), AllocError>
+    ensures { OnOk result (out.new.items ≡ out.old.items ++ page_top saying heading.now) }
+{
+    append_page_front(out)?;
+    print(out, heading)?;
+    append_claim(out, saying)
+}
+
+/// Appends what stands with the claim and below it, and what ends each page.
+#[tactic(auto, unfolding(crate::specs::Pages::page_rest))]
+fn append_rest(out: &mut Vec<u8>, details: &[Piece], sections: &[Piece]) -> Result<(), AllocError>
+    ensures { OnOk result (out.new.items ≡ out.old.items ++ page_rest details.now sections.now) }
+{
+    print(out, details)?;
+    append_claim_end(out)?;
+    print(out, sections)?;
+    append_back(out)
+}
+
+/// The print of a page.
 #[tactic(auto, unfolding(crate::specs::Pages::page_bytes))]
 fn bytes_of(
     alloc: Global,
@@ -119,13 +149,8 @@ fn bytes_of(
         ≡ page_bytes saying heading.now details.now sections.now) }
 {
     let mut bytes = Vec::new(alloc);
-    append_front(&mut bytes)?;
-    print(&mut bytes, heading)?;
-    append_claim(&mut bytes, saying)?;
-    print(&mut bytes, details)?;
-    append_claim_end(&mut bytes)?;
-    print(&mut bytes, sections)?;
-    append_back(&mut bytes)?;
+    append_top(&mut bytes, saying, heading)?;
+    append_rest(&mut bytes, details, sections)?;
     Ok(bytes)
 }
 
