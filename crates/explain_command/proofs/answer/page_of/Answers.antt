@@ -11,6 +11,6 @@ write_found-requires c = record {
   tables = c.as_slice.ensures.value;
   lines = c.as_slice-2.ensures.value;
   about = c.as_ref.ensures.value;
-  length_is = first_of (c.len.ensures, omega arith, search rules, grind (arith, common_steps));
+  length_is = first_of (search rules, omega arith, grind (arith, common_steps));
   digest_is = c.digest.ensures ∙ ap sha256 c.as_slice-3.ensures.value;
 }
