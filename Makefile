@@ -72,6 +72,10 @@ package: ## builds a Debian package of the programs, man pages, documents and th
 pages: ## compares the help texts, the man pages and the documents, and runs the examples of the man pages
 	@RT="$(RT)" tests/pages
 
+.PHONY: pages-html
+pages-html: ## has the program `explain` show replies of any kind, and checks the pages (needs python3)
+	@RT="$(RT)" tests/pages-html
+
 .PHONY: scaling
 scaling: ## asks four queriers over the quarters of a block, and compares their rows with those of one (needs rustc and python3)
 	@RT="$(RT)" tests/scaling
@@ -79,13 +83,15 @@ scaling: ## asks four queriers over the quarters of a block, and compares their 
 bench: ## measures speed (never part of the gate)
 	@RT="$(RT)" bench/run && RT="$(RT)" bench/check && RT="$(RT)" bench/select && RT="$(RT)" bench/audit && RT="$(RT)" bench/serve
 
-install: ## proves what querier and auditor stand on, with a line for each crate, builds both, and copies them to PREFIX/bin
-	@$(MAKE) --no-print-directory -j $(GATE_JOBS) proved-querier proved-auditor_program
-	@echo "building querier and auditor: two to five minutes" >&2
+install: ## proves what querier, auditor and explain stand on, with a line for each crate, builds them, and copies them to PREFIX/bin
+	@$(MAKE) --no-print-directory -j $(GATE_JOBS) proved-querier proved-auditor_program proved-explain
+	@echo "building querier, auditor and explain: three to eight minutes" >&2
 	@$(call quiet,cd crates/querier && $(RT) run -- demo,the build of querier)
 	@$(call quiet,cd crates/auditor_program && $(RT) run -- --selector up <stdin,the build of auditor)
+	@$(call quiet,cd crates/explain && $(RT) run -- --version <stdin,the build of explain)
 	@install -D -m 755 crates/querier/out/querier "$(DESTDIR)$(PREFIX)/bin/querier"
 	@install -D -m 755 crates/auditor_program/out/auditor_program "$(DESTDIR)$(PREFIX)/bin/auditor"
+	@install -D -m 755 crates/explain/out/explain "$(DESTDIR)$(PREFIX)/bin/explain"
 
 $(addprefix check-,$(CRATES)): check-%:
 	@cd crates/$* && $(RT) check

@@ -44,11 +44,15 @@ named_app =
     let app = new_app (codes "auditor") in
     record app { top = record app.top { has_version = true; no_binary_name = true } }
 
+-- what an audit is asked by, added to an app: --selector S [--from N] [--to N] [DIR]...
+abbrev pub with_arguments : App → App
+with_arguments app =
+    with_rule (with_rule (with_rule (with_rule app selector_rule) (time_rule (codes "from")))
+    (time_rule (codes "to"))) directories_rule
+
 -- --selector S [--from N] [--to N] [DIR]...
 abbrev pub auditor_app : App
-auditor_app =
-    with_rule (with_rule (with_rule (with_rule named_app selector_rule) (time_rule (codes "from")))
-    (time_rule (codes "to"))) directories_rule
+auditor_app = with_arguments named_app
 
 -- `clap` takes the words: it finds no fault in them
 abbrev pub AreTaken : List Text → Type 0

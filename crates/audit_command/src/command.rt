@@ -5,8 +5,8 @@ ghost use Rattle.clap.specs.Matches.{found_of};
 ghost use Rattle.clap.specs.Words.{app_of, rule_of, rows_of, one_of, first_of, all_of, matches_of};
 ghost use Rattle.clap.specs.Words.{fault_of, FailsBy};
 ghost use Rattle.audit_command.specs.Asking.{selector_rule, time_rule, directories_rule};
-ghost use Rattle.audit_command.specs.Asking.{auditor_app, texts_of, IsTimeIn, IsAskedIn};
-ghost use Rattle.audit_command.specs.Asking.{IsAskedBy};
+ghost use Rattle.audit_command.specs.Asking.{named_app, with_arguments, auditor_app, texts_of};
+ghost use Rattle.audit_command.specs.Asking.{IsTimeIn, IsAskedIn, IsAskedBy};
 
 use clap::{Arg, ArgMatches, Command, Error, value_parser};
 use labels::{MAX_TIME, MIN_TIME};
@@ -84,19 +84,36 @@ fn directories<'a>(alloc: Global) -> Arg<'a>
         .help("A directory with a block")
 }
 
-fn auditor<'a>(alloc: Global) -> Result<Command<'a>, AllocError>
-    ensures { IfOk result (λ command. app_of command ≡ auditor_app) }
+/// Adds what an audit is asked by to a command: `--selector S`, which must be given, `--from N`,
+/// `--to N` and directories.
+pub fn with_arguments<'a>(alloc: Global, command: Command<'a>) -> Result<Command<'a>, AllocError>
+    ensures { IfOk result (λ added. app_of added ≡ with_arguments (app_of command.entry)) }
 {
-    Command::new(alloc, "auditor")
-        .bin_name("auditor")?
-        .about("Audits a reply to a selector, without the store's index reader, search or merge")
-        .after_help(LINES)
-        .version("0.1.0")
-        .no_binary_name(true)
+    command
         .arg(selector(alloc))?
         .arg(time(alloc, "from", FROM))?
         .arg(time(alloc, "to", TO))?
         .arg(directories(alloc))
+}
+
+/// The program, without its arguments.
+fn auditor<'a>(alloc: Global) -> Result<Command<'a>, AllocError>
+    ensures { IfOk result (λ command. app_of command ≡ named_app) }
+{
+    let command = Command::new(alloc, "auditor")
+        .bin_name("auditor")?
+        .about("Audits a reply to a selector, without the store's index reader, search or merge")
+        .after_help(LINES)
+        .version("0.1.0")
+        .no_binary_name(true);
+    Ok(command)
+}
+
+/// The program: `--selector S [--from N] [--to N] [DIR]...`.
+fn program<'a>(alloc: Global) -> Result<Command<'a>, AllocError>
+    ensures { IfOk result (λ command. app_of command ≡ auditor_app) }
+{
+    with_arguments(alloc, auditor(alloc)?)
 }
 
 /// The time that an option gives, or another where it is not used.
@@ -128,7 +145,8 @@ fn directories_in<'a>(alloc: Global, found: &ArgMatches<'a>) -> Result<Vec<&'a s
     }
 }
 
-fn asked_in<'a>(alloc: Global, found: &ArgMatches<'a>) -> Result<Asked<'a>, AllocError>
+/// What the arguments give; they are those of [`with_arguments`], and maybe others.
+pub fn asked_in<'a>(alloc: Global, found: &ArgMatches<'a>) -> Result<Asked<'a>, AllocError>
     ensures { IfOk result (λ asked. IsAskedIn (rows_of (found_of found.now)) asked) }
 {
     let directories = directories_in(alloc, found)?;
@@ -148,7 +166,7 @@ fn matches_in<'a>(alloc: Global, words: &'a [String]) -> Result<ArgMatches<'a>, 
         ≡ matches_of auditor_app (texts_of words.entry.now)) }
     ensures fails { FailsBy (fault_of auditor_app (texts_of words.entry.now)) result }
 {
-    auditor(alloc)?.try_get_matches_from(words)
+    program(alloc)?.try_get_matches_from(words)
 }
 
 /// What the words after the program's name ask for, or what to print in place of it: help, the

@@ -8,8 +8,8 @@ use auditor::{Reply, ReplyError};
 use std::alloc::Global;
 use std::io::{ErrorKind, Read};
 
-/// All that a reader gives.
-fn all_of<R: Read>(alloc: Global, input: &mut R) -> Result<Vec<u8>, Fault>
+/// All that a reader gives. It fails as the reader does, or if memory runs out.
+pub fn all_of<R: Read>(alloc: Global, input: &mut R) -> Result<Vec<u8>, Fault>
     ensures ok { IfOk result (λ text. IfSome (R.remaining input.old) (λ all. text.items ≡ all)) }
     ensures err { IfErr result (λ fault. IsInputFault fault) }
 {

@@ -18,6 +18,9 @@
 //! assert_eq!(rt; out.as_slice(), b"rows: valid\n".as_slice());
 //! ```
 //!
+//! Programs that ask the same of a reply take their words, their query and the blocks from here:
+//! [`with_arguments`] and [`asked_in`], [`query_of`], [`all_of`] and [`tables_at`].
+//!
 //! It stands on `auditor`, on `labels` and `matchers` for times and queries, and on `clap` for
 //! words.
 #![tactic(auto)]
@@ -30,5 +33,10 @@ mod program;
 mod report;
 mod tables;
 
+pub use command::{Asked, asked_in, with_arguments};
+pub use fault::{Fault, Refusal};
 pub use files::{ReadError, ReadFiles};
+pub use input::all_of;
 pub use program::{Ending, run};
+pub use report::query_of;
+pub use tables::tables_at;

@@ -30,8 +30,9 @@ pub struct Report {
     pub outcome: Outcome,
 }
 
-/// The query that was asked: the selector is checked, and then the range.
-fn query_of(alloc: Global, asked: &Asked<'_>) -> Result<Query, Fault>
+/// The query that was asked: the selector is checked, and then the range. The faults are refusals,
+/// `M2` to `M6` and `Q1`, and no memory.
+pub fn query_of(alloc: Global, asked: &Asked<'_>) -> Result<Query, Fault>
     ensures ok { IfOk result (λ q. IsQueryOf asked.now q) }
     ensures err { IfErr result (λ fault. IsSelectionFault asked.now fault) }
 {

@@ -8,12 +8,12 @@ use Rattle.audit_command.proofs.command.matches_in.Goals as goal
 pub returns-clause-ok : goal.returns-clause-ok
 returns-clause-ok c =
     let texts = texts_of c.args.words.now in
-    let is : app_of c.in_ok-auditor.field-0 ≡ auditor_app = c.in_ok-auditor.ensures in
+    let is : app_of c.in_ok-program.field-0 ≡ auditor_app = c.in_ok-program.ensures in
     let matched = subst (λ a. IfOk c.try_get_matches_from.result (HasMatchesOf a texts)) is c.try_get_matches_from.ensures.matches in
     IfOk-weaker c.try_get_matches_from.result (HasMatchesOf auditor_app texts) (λ m. rows_of (found_of m) ≡ matches_of auditor_app texts) (λ m h. (h refl).0) matched
 
 pub returns-clause-fails : goal.returns-clause-fails
 returns-clause-fails c =
-    let is : app_of c.in_ok-auditor.field-0 ≡ auditor_app = c.in_ok-auditor.ensures in
+    let is : app_of c.in_ok-program.field-0 ≡ auditor_app = c.in_ok-program.ensures in
     subst (λ kinds. FailsBy kinds c.try_get_matches_from.result) (ap (λ a. fault_of a (texts_of c.args.words.now)) is)
     (c.try_get_matches_from.ensures.kinds (ap is_simple_and_free is))

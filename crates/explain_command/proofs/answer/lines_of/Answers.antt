@@ -1,0 +1,11 @@
+use Rattle.std.proofs.Common.{◌≡◌, [], ap, length, arith, rules}
+use Rattle.std.proofs.lemmas.Grind.{common_steps}
+use Rattle.explain_command.proofs.Reading.{judged}
+use Rattle.explain_command.proofs.answer.lines_of.Goals as goal
+
+pub returns-clause-ok : goal.returns-clause-ok
+returns-clause-ok c =
+    judged _ _ _ _
+    (λ (none : c.args.tables.now ≡ []). let nothing : length c.args.tables.now ≡ 0 = ap length none in
+    first_of (omega arith, search rules, grind (arith, common_steps)))
+    (record { reply = c.in_ok-reply.reply; says = c.in_ok-reply.ensures.ok; are_lines = c.in_ok-judge.ensures })
