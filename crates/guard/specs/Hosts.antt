@@ -1,0 +1,35 @@
+-- Where a request comes from.
+use Rattle.std.specs.Prelude.{ℕ, Bool, true, false, not, List, [], ◌∷◌, length, drop, codes}
+use Rattle.std.specs.Prelude.{Option, None, Some, ◌&&◌, ◌||◌, ◌==◌, Bor}
+use Rattle.std.specs.List.{list_all}
+use Rattle.std.specs.Char.{is_ascii_digit}
+use Rattle.guard.specs.declared.claims.Claims.{Claims}
+use Rattle.guard.specs.Tokens.{begins}
+
+-- nothing, or a colon and digits
+abbrev pub ends_as_port : List ℕ → Bool
+ends_as_port [] = true
+ends_as_port (first ∷ digits) = first == 58 && list_all is_ascii_digit digits
+
+-- whether the value of `Host` is this name, with a port or without
+abbrev pub is_host : List ℕ → List ℕ → Bool
+is_host name host = begins name host && ends_as_port (drop (length name) host)
+
+-- whether the value of `Host` names this machine
+abbrev pub is_own_host : List ℕ → Bool
+is_own_host host =
+    is_host (codes "127.0.0.1") host || is_host (codes "localhost") host
+    || is_host (codes "[::1]") host
+
+-- the value of a field, if there is one
+abbrev pub bytes_of : Option (Bor (List ℕ)) → Option (List ℕ)
+bytes_of None = None
+bytes_of (Some value) = Some value.now
+
+abbrev pub is_own : Option (List ℕ) → Bool
+is_own None = false
+is_own (Some host) = is_own_host host
+
+-- whether a request comes from no page, and names this machine
+abbrev pub is_local : Claims → Bool
+is_local claims = not claims.has_origin && is_own (bytes_of claims.host)

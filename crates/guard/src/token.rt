@@ -1,0 +1,63 @@
+//! The token of a guard, and how a request bears it.
+
+ghost use Rattle.std.specs.Prelude.{◌≡◌, ◌↔◌, ◌&&◌, true, IsSome, IfSome, IsTrue};
+ghost use Rattle.guard.specs.Tokens.{is_token, is_visible, begins, bears};
+ghost use Rattle.std.specs.Str.{bytes_eq};
+
+/// A secret that a client has to name: one or more visible characters of ASCII.
+#[derive(Drop)]
+pub struct Token {
+    pub(crate) bytes: Vec<u8>,
+}
+
+fn is_visible(byte: u8) -> bool
+    ensures { result ≡ is_visible byte }
+{
+    (33 <= byte) & (byte <= 126)
+}
+
+impl Token {
+    /// The token that these bytes spell; none where they are empty, or one is no visible character
+    /// of ASCII: such bytes stand in no field of a head.
+    pub fn new(bytes: Vec<u8>) -> Option<Token>
+        ensures token { IsSome result ↔ IsTrue (is_token bytes.items) }
+        ensures same { IfSome result (λ token. token.bytes.items ≡ bytes.items) }
+    {
+        if bytes.is_empty() || !bytes.iter().all(|byte| is_visible(*byte)) {
+            return None;
+        }
+        Some(Token { bytes })
+    }
+}
+
+/// Whether two texts are the same, in a time that depends on their lengths alone: each byte is
+/// compared, wherever they differ.
+fn is_same(one: &[u8], other: &[u8]) -> bool
+    ensures { result ≡ bytes_eq one.now other.now }
+{
+    if one.len() != other.len() {
+        return false;
+    }
+    let mut same = true;
+    for i in 0..one.len() {
+        same = same & (one[i] == other[i]);
+    }
+    same
+}
+
+/// Whether a text begins with a name, in any case of its letters.
+pub(crate) fn begins(name: &[u8], text: &[u8]) -> bool
+    ensures { result ≡ begins name.now text.now }
+{
+    if text.len() < name.len() {
+        return false;
+    }
+    text[..name.len()].eq_ignore_ascii_case(name)
+}
+
+/// Whether the value of `Authorization` is the scheme `Bearer`, in any case, and the token.
+pub(crate) fn bears(token: &Token, value: &[u8]) -> bool
+    ensures { result ≡ bears token.now.bytes.items value.now }
+{
+    begins(b"bearer ", value) && is_same(&value[7..], token.bytes.as_slice())
+}

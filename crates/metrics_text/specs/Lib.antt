@@ -1,0 +1,4 @@
+pub mod Bounds
+pub mod Families
+pub mod Numbers
+pub mod Rows
