@@ -26,10 +26,25 @@ abbrev pub bytes_of : Option (Bor (List ℕ)) → Option (List ℕ)
 bytes_of None = None
 bytes_of (Some value) = Some value.now
 
+-- claims as values, wherever they lie
+pub record Claimed : Type 0 where
+  pub posts : Bool
+  pub has_origin : Bool
+  pub host : Option (List ℕ)
+  pub authorization : Option (List ℕ)
+
+abbrev pub claimed : Claims → Claimed
+claimed claims = record {
+  posts = claims.posts;
+  has_origin = claims.has_origin;
+  host = bytes_of claims.host;
+  authorization = bytes_of claims.authorization;
+}
+
 abbrev pub is_own : Option (List ℕ) → Bool
 is_own None = false
 is_own (Some host) = is_own_host host
 
 -- whether a request comes from no page, and names this machine
-abbrev pub is_local : Claims → Bool
-is_local claims = not claims.has_origin && is_own (bytes_of claims.host)
+abbrev pub is_local : Claimed → Bool
+is_local claims = not claims.has_origin && is_own claims.host

@@ -1,12 +1,11 @@
 -- Which requests may reach a store.
 use Rattle.std.specs.Prelude.{ℕ, Bool, true, false, not, List, Option, None, Some, ◌&&◌, is_some}
 use Rattle.std.specs.Prelude.{Result, Ok, Err, Unit, tt, if◌then◌else◌}
-use Rattle.guard.specs.declared.claims.Claims.{Claims}
 use Rattle.guard.specs.declared.rules.Denial.{Denial}
 use Rattle.guard.specs.declared.rules.Denial.TheVariants.{ReadOnly, Guarded}
 use Rattle.guard.specs.declared.rules.Rules.{Rules}
 use Rattle.guard.specs.declared.token.Token.{Token}
-use Rattle.guard.specs.Hosts.{bytes_of, is_local}
+use Rattle.guard.specs.Hosts.{Claimed, is_local}
 use Rattle.guard.specs.Tokens.{bears}
 
 -- whether the token is borne, if one is asked for
@@ -16,10 +15,14 @@ has_token (Some token) None = false
 has_token (Some token) (Some value) = bears token.bytes.items value
 
 -- whether a request is admitted, or the first reason why not
-abbrev pub judgement : Rules → Claims → Result Unit Denial
+abbrev pub judgement : Rules → Claimed → Result Unit Denial
 judgement rules claims =
     if is_some rules.token && not (is_local claims) then Err Guarded
     else if rules.read_only && claims.posts then Err ReadOnly
-    else if claims.posts && not (has_token rules.token (bytes_of claims.authorization))
+    else if claims.posts && not (has_token rules.token claims.authorization)
         then Err Guarded
     else Ok tt
+
+-- no rules
+abbrev pub no_rules : Rules
+no_rules = record { read_only = false; token = None }

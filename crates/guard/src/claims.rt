@@ -1,7 +1,7 @@
 //! What the head of a request says that rules ask about.
 
 ghost use Rattle.std.specs.Prelude.{◌≡◌};
-ghost use Rattle.guard.specs.Hosts.{ends_as_port, is_host, is_own_host, is_local};
+ghost use Rattle.guard.specs.Hosts.{ends_as_port, is_host, is_own_host, is_local, claimed};
 
 use crate::token::begins;
 
@@ -45,7 +45,7 @@ fn is_own_host(host: &[u8]) -> bool
 
 /// Whether the request comes from no page, and names this machine.
 pub(crate) fn is_local(claims: &Claims<'_>) -> bool
-    ensures { result ≡ is_local claims.now }
+    ensures { result ≡ is_local (claimed claims.now) }
 {
     match claims.host {
         Some(host) => !claims.has_origin && is_own_host(host),

@@ -1,8 +1,8 @@
 //! What is asked of a request beyond its form.
 
-ghost use Rattle.std.specs.Prelude.{◌≡◌, false, None, Ok, tt};
-ghost use Rattle.guard.specs.Judging.{has_token, judgement};
-ghost use Rattle.guard.specs.declared.claims.Claims.{Claims as the_claims};
+ghost use Rattle.std.specs.Prelude.{◌≡◌};
+ghost use Rattle.guard.specs.Hosts.{bytes_of, claimed};
+ghost use Rattle.guard.specs.Judging.{has_token, judgement, no_rules};
 
 use crate::claims::{Claims, is_local};
 use crate::token::{Token, bears};
@@ -36,12 +36,10 @@ fn has_token(token: &Option<Token>, authorization: Option<&[u8]>) -> bool
     }
 }
 
-ghost use Rattle.guard.specs.Hosts.{bytes_of};
-
 impl Rules {
     /// No rules: each request is admitted.
     pub fn none() -> Rules
-        ensures open { judgement result ≡ λ _. Ok tt }
+        ensures { result ≡ no_rules }
     {
         Rules {
             read_only: false,
@@ -52,7 +50,7 @@ impl Rules {
     /// Whether a request may reach the store, or the first reason why not: where it comes from,
     /// then that there is no `POST`, then that it bears no token.
     pub fn judge(&self, claims: &Claims<'_>) -> Result<(), Denial>
-        ensures { result ≡ judgement self.now claims.now }
+        ensures { result ≡ judgement self.now (claimed claims.now) }
     {
         if self.token.is_some() && !is_local(claims) {
             return Err(Denial::Guarded);
