@@ -16,6 +16,7 @@ use std::error::Error;
 use std::fmt;
 use std::fs::{File, OpenFile};
 use std::io::{self, ErrorKind, Read};
+use std::os::unix::fs::PermissionsExt;
 use std::thread::{Threads, join};
 
 /// Why a file is not read.
@@ -53,6 +54,15 @@ pub trait ReadFiles: Sync {
         ensures ok { IfOk result (λ bytes.
             AreFirstBytes (may_read self.now) path.now most bytes.items) }
         ensures err { IfErr result (λ error. IsReadFailure (may_read self.now) path.now error) };
+
+    /// The same of a file that its owner alone may read; files in memory have no other readers.
+    fn read_secret(&self, alloc: Global, path: &str, most: usize) -> Result<Vec<u8>, ReadError>
+        ensures ok { IfOk result (λ bytes.
+            AreFirstBytes (may_read self.now) path.now most bytes.items) }
+        ensures err { IfErr result (λ error. IsReadFailure (may_read self.now) path.now error) }
+    {
+        self.read_file(alloc, path, most)
+    }
 }
 
 /// The first bytes that a reader gives, at most so many, in a list that is made with this room.
@@ -81,6 +91,28 @@ fn first_of_file(alloc: Global, rt: &HostRuntime, path: &str, most: usize) -> io
     first_of(alloc, file, room as usize, most)
 }
 
+/// The same of a file that its owner alone may read.
+fn first_of_secret(alloc: Global, rt: &HostRuntime, path: &str, most: usize) -> io::Result<Vec<u8>>
+    ensures { IfOk result (λ bytes. length bytes.items ≤ most) }
+{
+    let file = File::open(rt, path)?;
+    if file.metadata()?.permissions().mode() & 0o077 != 0 {
+        return Err(io::Error::from(ErrorKind::PermissionDenied));
+    }
+    first_of(alloc, file, 0, most)
+}
+
+/// What came of reading a file of the host.
+fn read_of(read: io::Result<Vec<u8>>) -> Result<Vec<u8>, ReadError>
+    ensures { IfOk result (λ bytes. IfOk read (λ all. bytes.items ≡ all.items)) }
+{
+    match read {
+        Ok(bytes) => Ok(bytes),
+        Err(error) if error.kind() == ErrorKind::OutOfMemory => Err(ReadError::Memory),
+        Err(_) => Err(ReadError::Unreadable),
+    }
+}
+
 /// What the host's files hold, no clause can say.
 impl ReadFiles for HostRuntime {
     ghost use Rattle.std.specs.Prelude.{⊤};
@@ -88,11 +120,11 @@ impl ReadFiles for HostRuntime {
     ghost may_read = { λ _ _ _. ⊤ };
 
     fn read_file(&self, alloc: Global, path: &str, most: usize) -> Result<Vec<u8>, ReadError> {
-        match first_of_file(alloc, self, path, most) {
-            Ok(bytes) => Ok(bytes),
-            Err(error) if error.kind() == ErrorKind::OutOfMemory => Err(ReadError::Memory),
-            Err(_) => Err(ReadError::Unreadable),
-        }
+        read_of(first_of_file(alloc, self, path, most))
+    }
+
+    fn read_secret(&self, alloc: Global, path: &str, most: usize) -> Result<Vec<u8>, ReadError> {
+        read_of(first_of_secret(alloc, self, path, most))
     }
 }
 

@@ -15,8 +15,10 @@ use crate::command::Serving;
 use crate::fault::Fault;
 use crate::files::ReadFiles;
 use crate::opening::open_blocks;
+use crate::rules::rules_of;
 use crate::sending::send;
 use block::Block;
+use guard::Rules;
 use server::{Terms, Workers};
 use snapshots::{Naming, Store};
 use std::alloc::{AllocError, Global};
@@ -53,7 +55,7 @@ fn line_of(alloc: Global, port: u16) -> Result<String, AllocError>
 fn tell_port<W: Write>(
     alloc: Global,
     listener: &TcpListener,
-    serving: Serving,
+    serving: Serving<'_>,
     out: &mut W,
 ) -> Result<(), Fault>
     ensures ok { OnOk result (TellsPort (W.contents out.old) (W.contents out.new)) }
@@ -68,7 +70,7 @@ fn tell_port<W: Write>(
     Ok(())
 }
 
-fn terms_of(serving: Serving) -> Terms
+fn terms_of(serving: Serving<'_>) -> Terms
     ensures requests { result.requests ≡ serving.requests }
     ensures never { IfNone result.idle (serving.idle_seconds ≡ 0) }
     ensures limit { IfSome result.idle (λ d. as_nanos d ≡ serving.idle_seconds * 1000000000) }
@@ -93,7 +95,8 @@ fn serve_blocks<
     alloc: Global,
     store: Store,
     blocks: Vec<Block>,
-    serving: Serving,
+    rules: &Rules,
+    serving: Serving<'_>,
     out: &mut W,
 ) -> Result<Vec<u64>, Fault>
     requires book { store.seen.book ≡ J.book }
@@ -109,15 +112,15 @@ fn serve_blocks<
     let workers = Workers::<J, &R>::open(rt, alloc, store, blocks, count)?;
     let listener = listen(rt, serving.port)?;
     tell_port(alloc, &listener, serving, out)?;
-    let counts = server::serve(rt, alloc, workers, &listener, terms_of(serving))?;
+    let counts = server::serve(rt, alloc, workers, &listener, rules, terms_of(serving))?;
     Ok(counts)
 }
 
 /// Serves a store over the blocks in these directories, and over them an empty head, until each
 /// worker has ended: how many connections each served, as many as were asked for.
 ///
-/// The directories are opened as by `select`; then the store is opened, the port listened on, and
-/// `listening P` written.
+/// The rules are read; the directories are opened as by `select`; then the store is opened, the port
+/// listened on, and `listening P` written.
 pub fn serve<
     R: Wait + Threads + Net<Listener = TcpListener, Stream = TcpStream> + Clock + Eprint + Sync,
     F: ReadFiles,
@@ -126,7 +129,7 @@ pub fn serve<
     rt: &R,
     alloc: Global,
     files: &F,
-    serving: Serving,
+    serving: Serving<'_>,
     directories: &[&str],
     out: &mut W,
 ) -> Result<Vec<u64>, Fault>
@@ -137,6 +140,7 @@ pub fn serve<
     ensures err { IfErr result (λ fault. IsServeFault (F.may_read files.now)
         (paths_of directories.now) serving (W.contents out.old) (W.contents out.new) fault) }
 {
+    let rules = rules_of(alloc, files, serving)?;
     let blocks = open_blocks(rt, alloc, files, directories)?;
-    serve_blocks::<Brand, R, W>(rt, alloc, Store::new(), blocks, serving, out)
+    serve_blocks::<Brand, R, W>(rt, alloc, Store::new(), blocks, &rules, serving, out)
 }

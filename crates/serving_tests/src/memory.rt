@@ -5,6 +5,7 @@ ghost use Rattle.head.specs.Blocks.{opening_of};
 
 use crate::script::{Script, Sink};
 use crate::store::{EmptyStore, open_empty};
+use guard::{Rules, Token};
 use query_http::Served;
 use server::{Connections, work};
 use snapshots::{Naming, Store};
@@ -82,6 +83,7 @@ fn work_alone<J: Naming, R: Wait>(
     rt: &R,
     alloc: Global,
     store: Store,
+    rules: &Rules,
     texts: &mut Texts<'_>,
     most: u64,
 ) -> Option<u64>
@@ -93,14 +95,27 @@ fn work_alone<J: Naming, R: Wait>(
         mut pass,
         mut seat,
     } = open_empty::<J, &R>(rt, alloc, store)?;
-    Some(work(rt, alloc, texts, &mut pass, &mut seat, &committer, most))
+    Some(work(
+        rt, alloc, rules, texts, &mut pass, &mut seat, &committer, most,
+    ))
 }
 
-/// How many of these connections one worker of an empty store serves, with room for so many, and
-/// all that it writes.
+/// How many of these connections one worker of an empty store serves under no rules, with room for
+/// so many, and all that it writes.
 pub fn serve_texts<R: Wait>(
     rt: &R,
     alloc: Global,
+    connections: &[&[u8]],
+    most: u64,
+) -> Option<(u64, Vec<u8>)> {
+    serve_under(rt, alloc, &Rules::none(), connections, most)
+}
+
+/// The same under rules.
+fn serve_under<R: Wait>(
+    rt: &R,
+    alloc: Global,
+    rules: &Rules,
     connections: &[&[u8]],
     most: u64,
 ) -> Option<(u64, Vec<u8>)> {
@@ -111,7 +126,7 @@ pub fn serve_texts<R: Wait>(
         past: Vec::new(alloc),
         kept_all: true,
     };
-    let count = work_alone::<Brand, R>(rt, alloc, Store::new(), &mut texts, most)?;
+    let count = work_alone::<Brand, R>(rt, alloc, Store::new(), rules, &mut texts, most)?;
     let mut all = Vec::new(alloc);
     for ended in &texts.past {
         all.extend_from_slice(&ended.written).ok()?;
@@ -146,6 +161,79 @@ fn a_worker_serves_one_connection_after_another(rt: HostRuntime) {
     assert!(rt; serves(&rt, rt.alloc(), 1, 1, &REPLIES[..101]));
 }
 
+/// A batch of a page of a browser, one of another name of this machine, one without the token, one
+/// with another, and a query.
+const STRANGERS: &[&[u8]] = &[
+    b"POST /write HTTP/1.1\r\nHost: 127.0.0.1\r\nOrigin: http://a.example\r\nAuthorization: Bearer s3cret\r\nContent-Length: 40\r\n\r\n[{\"labels\":{\"a\":\"b\"},\"samples\":[[1,1]]}]",
+    b"POST /write HTTP/1.1\r\nHost: a.example\r\nAuthorization: Bearer s3cret\r\nContent-Length: 40\r\n\r\n[{\"labels\":{\"a\":\"b\"},\"samples\":[[1,1]]}]",
+    b"POST /write HTTP/1.1\r\nHost: 127.0.0.1\r\nContent-Length: 40\r\n\r\n[{\"labels\":{\"a\":\"b\"},\"samples\":[[1,1]]}]",
+    b"POST /write HTTP/1.1\r\nHost: 127.0.0.1\r\nAuthorization: Bearer s3cres\r\nContent-Length: 40\r\n\r\n[{\"labels\":{\"a\":\"b\"},\"samples\":[[1,1]]}]",
+    b"GET /select?selector=%7Ba%3D%22b%22%7D&from=0&to=9 HTTP/1.1\r\nHost: localhost:9\r\n\r\n",
+];
+
+/// What each of the four is answered.
+const NOT_ADMITTED: &[u8] =
+    b"HTTP/1.1 403 Forbidden\r\nContent-Type: application/json\r\nContent-Length: 17\r\nConnection: close\r\n\r\n{\"refused\":\"H12\"}";
+
+/// The answer of a store without series.
+const NOTHING: &[u8] =
+    b"HTTP/1.1 200 OK\r\nContent-Type: application/json\r\nContent-Length: 78\r\nConnection: close\r\n\r\n{\"parts\":[{\"intervals\":[],\"part\":\"head\",\"rows\":[],\"separators\":[]}],\"rows\":[]}";
+
+/// Rules with the token `s3cret`.
+fn guarded(alloc: Global, read_only: bool) -> Option<Rules> {
+    let token = Token::new(Vec::from_slice(alloc, b"s3cret").ok()?)?;
+    Some(Rules {
+        read_only,
+        token: Some(token),
+    })
+}
+
+/// Whether these connections are answered so under rules.
+fn answers_under<R: Wait>(
+    rt: &R,
+    alloc: Global,
+    rules: &Rules,
+    connections: &[&[u8]],
+    want: &[&[u8]],
+) -> Option<bool> {
+    let (count, text) = serve_under(rt, alloc, rules, connections, 99)?;
+    let mut all = Vec::new(alloc);
+    for reply in want {
+        all.extend_from_slice(reply).ok()?;
+    }
+    Some(count == connections.len() as u64 && text.as_slice() == all.as_slice())
+}
+
+#[test]
+fn without_the_token_nothing_changes(rt: HostRuntime) {
+    let alloc = rt.alloc();
+    let rules = guarded(alloc, false);
+    let want: &[&[u8]] = &[NOT_ADMITTED, NOT_ADMITTED, NOT_ADMITTED, NOT_ADMITTED, NOTHING];
+    let same = rules.and_then(|rules| answers_under(&rt, alloc, &rules, STRANGERS, want));
+    assert_eq!(rt; same, Some(true));
+}
+
+/// A batch with the token, in whose field the scheme stands in small letters.
+const WITH_TOKEN: &[u8] =
+    b"POST /write HTTP/1.1\r\nhost: [::1]:80\r\nauthorization: bearer s3cret\r\nContent-Length: 40\r\n\r\n[{\"labels\":{\"a\":\"b\"},\"samples\":[[1,1]]}]";
+
+const DONE: &[u8] =
+    b"HTTP/1.1 200 OK\r\nContent-Type: application/json\r\nContent-Length: 11\r\nConnection: close\r\n\r\n{\"ok\":true}";
+
+const NO_PATH: &[u8] =
+    b"HTTP/1.1 404 Not Found\r\nContent-Type: application/json\r\nContent-Length: 16\r\nConnection: close\r\n\r\n{\"refused\":\"H3\"}";
+
+#[test]
+fn with_the_token_it_changes_and_not_where_there_is_no_post(rt: HostRuntime) {
+    let alloc = rt.alloc();
+    let open = guarded(alloc, false);
+    let same = open.and_then(|rules| answers_under(&rt, alloc, &rules, &[WITH_TOKEN], &[DONE]));
+    assert_eq!(rt; same, Some(true));
+    let closed = guarded(alloc, true);
+    let same = closed.and_then(|rules| answers_under(&rt, alloc, &rules, &[WITH_TOKEN], &[NO_PATH]));
+    assert_eq!(rt; same, Some(true));
+}
+
 /// What the example of `server` does, with the worker of an empty store.
 fn work_on_two<J: Naming, R: Wait + Abort>(
     rt: &R,
@@ -161,7 +249,8 @@ fn work_on_two<J: Naming, R: Wait + Abort>(
         mut pass,
         mut seat,
     } = open_empty::<J, &R>(rt, alloc, store)?;
-    let count = work(rt, alloc, connections, &mut pass, &mut seat, &committer, 9);
+    let rules = Rules::none();
+    let count = work(rt, alloc, &rules, connections, &mut pass, &mut seat, &committer, 9);
     assert_eq!(rt; count, 2);
     Some(())
 }
