@@ -20,7 +20,7 @@ judgement rules claims =
     if is_some rules.token && not (is_local claims) then Err Guarded
     else if rules.read_only && claims.posts then Err ReadOnly
     else if claims.posts && not (has_token rules.token claims.authorization)
-        then Err Guarded
+    then Err Guarded
     else Ok tt
 
 -- no rules

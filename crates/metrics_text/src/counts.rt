@@ -91,5 +91,8 @@ pub fn place_in(microseconds: u64) -> usize
     ensures place { result ≡ count_by (λ bound. nat_lt bound microseconds) bounds }
     ensures within { result < 11 }
 {
-    bounds().iter().filter(|bound| **bound < microseconds).count()
+    bounds()
+        .iter()
+        .filter(|bound| **bound < microseconds)
+        .count()
 }

@@ -13,8 +13,10 @@ ghost use Rattle.metrics_text.specs.Families.{metrics_text};
 
 use crate::counts::{Counts, PathCounts, State, Times, bounds, refusal_numbers, statuses};
 use crate::numbers::append_integer;
-use crate::rows::{Kind, append, append_buckets, append_counts, append_head, append_path};
-use crate::rows::{append_path_time, append_plain, append_word, front_of, total};
+use crate::rows::{
+    Kind, append, append_buckets, append_counts, append_head, append_path, append_path_time,
+    append_plain, append_word, front_of, total,
+};
 use std::alloc::{AllocError, Global};
 
 /// Appends a counter without labels.
@@ -147,7 +149,12 @@ fn append_path_buckets(
     ensures { OnOk result
         (out.new.items ≡ out.old.items ++ buckets_of path.now times.now) }
 {
-    let front = front_of(alloc, "fuzzledge_request_duration_seconds_bucket", path, "le")?;
+    let front = front_of(
+        alloc,
+        "fuzzledge_request_duration_seconds_bucket",
+        path,
+        "le",
+    )?;
     append_buckets(out, front.as_slice(), bounds(), &times.counts)?;
     append_word(out, front.as_slice(), "+Inf", total(&times.counts))
 }
@@ -179,11 +186,7 @@ fn append_times(
 }
 
 #[tactic(auto, unfolding(crate::specs::Families::changes_times_text))]
-fn append_changes_times(
-    out: &mut Vec<u8>,
-    alloc: Global,
-    counts: &Counts,
-) -> Result<(), AllocError>
+fn append_changes_times(out: &mut Vec<u8>, alloc: Global, counts: &Counts) -> Result<(), AllocError>
     ensures { OnOk result
         (out.new.items ≡ out.old.items ++ changes_times_text counts.now) }
 {

@@ -208,7 +208,13 @@ fn answers_under<R: Wait>(
 fn without_the_token_nothing_changes(rt: HostRuntime) {
     let alloc = rt.alloc();
     let rules = guarded(alloc, false);
-    let want: &[&[u8]] = &[NOT_ADMITTED, NOT_ADMITTED, NOT_ADMITTED, NOT_ADMITTED, NOTHING];
+    let want: &[&[u8]] = &[
+        NOT_ADMITTED,
+        NOT_ADMITTED,
+        NOT_ADMITTED,
+        NOT_ADMITTED,
+        NOTHING,
+    ];
     let same = rules.and_then(|rules| answers_under(&rt, alloc, &rules, STRANGERS, want));
     assert_eq!(rt; same, Some(true));
 }
@@ -230,7 +236,13 @@ fn with_the_token_it_changes_and_not_where_there_is_no_post(rt: HostRuntime) {
     let same = open.and_then(|rules| answers_under(&rt, alloc, &rules, &[WITH_TOKEN], &[DONE]));
     assert_eq!(rt; same, Some(true));
     let closed = guarded(alloc, true);
-    let same = closed.and_then(|rules| answers_under(&rt, alloc, &rules, &[WITH_TOKEN], &[NO_PATH]));
+    let same = closed.and_then(|rules| answers_under(
+        &rt,
+        alloc,
+        &rules,
+        &[WITH_TOKEN],
+        &[NO_PATH],
+    ));
     assert_eq!(rt; same, Some(true));
 }
 
@@ -250,7 +262,16 @@ fn work_on_two<J: Naming, R: Wait + Abort>(
         mut seat,
     } = open_empty::<J, &R>(rt, alloc, store)?;
     let rules = Rules::none();
-    let count = work(rt, alloc, &rules, connections, &mut pass, &mut seat, &committer, 9);
+    let count = work(
+        rt,
+        alloc,
+        &rules,
+        connections,
+        &mut pass,
+        &mut seat,
+        &committer,
+        9,
+    );
     assert_eq!(rt; count, 2);
     Some(())
 }
