@@ -1,6 +1,6 @@
 -- Which requests may reach a store.
 use Rattle.std.specs.Prelude.{ℕ, Bool, true, false, not, List, Option, None, Some, ◌&&◌, is_some}
-use Rattle.std.specs.Prelude.{Result, Ok, Err, Unit, tt, if◌then◌else◌}
+use Rattle.std.specs.Prelude.{Result, Ok, Err, if◌then◌else◌}
 use Rattle.guard.specs.declared.rules.Denial.{Denial}
 use Rattle.guard.specs.declared.rules.Denial.TheVariants.{ReadOnly, Guarded}
 use Rattle.guard.specs.declared.rules.Rules.{Rules}
@@ -15,7 +15,7 @@ has_token (Some token) None = false
 has_token (Some token) (Some value) = bears token.bytes.items value
 
 -- whether a request is admitted, or the first reason why not
-abbrev pub judgement : Rules → Claimed → Result Unit Denial
+abbrev pub judgement : Rules → Claimed → Result (Unit {0}) Denial
 judgement rules claims =
     if is_some rules.token && not (is_local claims) then Err Guarded
     else if rules.read_only && claims.posts then Err ReadOnly

@@ -30,19 +30,22 @@ impl Token {
     }
 }
 
-/// Whether two texts are the same, in a time that depends on their lengths alone: each byte is
-/// compared, wherever they differ.
+/// Whether two texts are the same, in a time that depends on their lengths alone: wherever they
+/// differ, each byte is compared.
+#[tactic(auto, using(crate::proofs::Tests::and_assoc))]
 fn is_same(one: &[u8], other: &[u8]) -> bool
     ensures { result ≡ bytes_eq one.now other.now }
 {
-    if one.len() != other.len() {
-        return false;
-    }
     let mut same = true;
-    for i in 0..one.len() {
-        same = same & (one[i] == other[i]);
+    let mut left = other;
+    for byte in one {
+        let Some((first, rest)) = left.split_first() else {
+            return false;
+        };
+        same = same & (*byte == *first);
+        left = rest;
     }
-    same
+    same & left.is_empty()
 }
 
 /// Whether a text begins with a name, in any case of its letters.

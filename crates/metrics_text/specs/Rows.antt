@@ -1,5 +1,5 @@
 -- The lines of a family.
-use Rattle.std.specs.Prelude.{ℕ, ◌+◌, List, [], ◌∷◌, ◌++◌, codes, decimal, min, fold}
+use Rattle.std.specs.Prelude.{ℕ, ◌+◌, ◌-◌, ◌^◌, List, [], ◌∷◌, ◌++◌, codes, decimal, min, fold}
 use Rattle.metrics_text.specs.declared.rows.Kind.{Kind}
 use Rattle.metrics_text.specs.declared.rows.Kind.TheVariants.{Counter, Gauge, Histogram}
 use Rattle.metrics_text.specs.Numbers.{seconds_text}
@@ -52,7 +52,7 @@ rows_text front (label ∷ labels) (n ∷ ns) =
 
 -- a sum that stops at the greatest number of 64 bits
 abbrev pub capped : ℕ → ℕ → ℕ
-capped m n = min (m + n) 18446744073709551615
+capped m n = min (m + n) (2 ^ 64 - 1)
 
 abbrev pub total : List ℕ → ℕ
 total counts = fold capped 0 counts

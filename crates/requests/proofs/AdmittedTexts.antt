@@ -1,6 +1,6 @@
 -- What a head that is admitted, or is not, gives the whole.
 use Rattle.std.proofs.Common.{◌≡◌, ◌+◌, ◌≤◌, ℕ, List, ◌++◌, length, Option, None, Some, IfSome}
-use Rattle.std.proofs.Common.{Result, Ok, Err, inl, inr, refl, sym, ap, ◌∙◌, subst, arith, Unit}
+use Rattle.std.proofs.Common.{Result, Ok, Err, inl, inr, refl, sym, ap, ◌∙◌, subst, arith}
 use Rattle.std.proofs.Common.{length-append}
 use Rattle.std.specs.Io.KnownBytes.{Consumes}
 use Rattle.httparse.specs.Grammar.{RequestHead, ReadsRequest, print_request}
@@ -37,10 +37,10 @@ denied rules None b come refusal taken short p = tt
 denied rules (Some x) None come refusal taken short p = absurd taken
 denied rules (Some x) (Some y) come refusal taken short p =
     under rules come x y p.h p.rest p.reads p.few taken short (Err refusal)
-    (subst (λ (r : Result Unit Refusal). AdmittedMeans r p.h (p.rest ++ y) (Err refusal)) p.is refl)
+    (subst (λ (r : Result (Unit {0}) Refusal). AdmittedMeans r p.h (p.rest ++ y) (Err refusal)) p.is refl)
 
 -- one that is, with what it asks
-asked : (rules : Rules) (come x y : List ℕ) (result : Result Request ReadError) (u : Unit)
+asked : (rules : Rules) (come x y : List ℕ) (result : Result Request ReadError) (u : Unit {0})
     → x ≡ come ++ y → length come ≤ 8192 → IsAdmission rules come (Ok u)
     → (p : AsksWith come y result) → (m : Meaning) → HeadMeans p.h (p.rest ++ y) m
     → MeansUnder rules x m
@@ -48,9 +48,9 @@ asked rules come x y result u e short here p m asks =
     let same = request_unique come here.h p.h here.rest p.rest here.reads p.reads in
     let is : Ok u ≡ admission rules p.h = here.is ∙ ap (admission rules) same.0 in
     under rules come x y p.h p.rest p.reads p.few e short m
-    (subst (λ (r : Result Unit Refusal). AdmittedMeans r p.h (p.rest ++ y) m) is asks)
+    (subst (λ (r : Result (Unit {0}) Refusal). AdmittedMeans r p.h (p.rest ++ y) m) is asks)
 
-pub admitted : (rules : Rules) (a b : Option (List ℕ)) (come : List ℕ) (u : Unit)
+pub admitted : (rules : Rules) (a b : Option (List ℕ)) (come : List ℕ) (u : Unit {0})
     (result : Result Request ReadError)
     → Consumes a b come → length come ≤ 8192 → IsAdmission rules come (Ok u)
     → AsksAfter come b result → IfSome a (AnswersUnder rules result)
@@ -76,6 +76,6 @@ means_unruled input m (inl p) = inl (record {
   reads = p.reads;
   few = p.few;
   short = p.short;
-  asks = subst (λ (r : Result Unit Refusal). AdmittedMeans r p.h p.rest m) (all_admitted p.h) p.asks;
+  asks = subst (λ (r : Result (Unit {0}) Refusal). AdmittedMeans r p.h p.rest m) (all_admitted p.h) p.asks;
 })
 means_unruled input m (inr p) = inr p

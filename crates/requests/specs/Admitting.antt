@@ -1,6 +1,6 @@
 -- What the bytes of a connection mean under rules: a head that they do not admit is refused.
 use Rattle.std.specs.Prelude.{◌≡◌, ◌≤◌, ◌⊎◌, ℕ, Bool, List, [], length, codes, map, ⊤}
-use Rattle.std.specs.Prelude.{Result, Ok, Err, Unit, tt}
+use Rattle.std.specs.Prelude.{Result, Ok, Err}
 use Rattle.std.specs.Str.{bytes_eq}
 use Rattle.httparse.specs.Grammar.{RequestHead, ReadsRequest, print_request}
 use Rattle.guard.specs.declared.rules.Denial.{Denial}
@@ -45,16 +45,16 @@ abbrev pub refusal_of : Denial → Refusal
 refusal_of ReadOnly = refusals.NoSuchPath
 refusal_of Guarded = refusals.Guarded
 
-abbrev pub refused_by : Result Unit Denial → Result Unit Refusal
+abbrev pub refused_by : Result (Unit {0}) Denial → Result (Unit {0}) Refusal
 refused_by (Ok admitted) = Ok tt
 refused_by (Err denial) = Err (refusal_of denial)
 
 -- whether the rules admit a head
-abbrev pub admission : Rules → RequestHead → Result Unit Refusal
+abbrev pub admission : Rules → RequestHead → Result (Unit {0}) Refusal
 admission rules h = refused_by (judgement rules (claims_of h))
 
 -- a head of at most 64 fields stands at the front, and this is whether the rules admit it
-pub record IsAdmission (rules : Rules) (buf : List ℕ) (result : Result Unit Refusal) : Type 0 where
+pub record IsAdmission (rules : Rules) (buf : List ℕ) (result : Result (Unit {0}) Refusal) : Type 0 where
   pub h : RequestHead
   pub rest : List ℕ
   pub reads : ReadsRequest buf h rest
@@ -62,7 +62,7 @@ pub record IsAdmission (rules : Rules) (buf : List ℕ) (result : Result Unit Re
   pub is : result ≡ admission rules h
 
 -- what a head asks with what follows it, if it is admitted
-abbrev pub AdmittedMeans : Result Unit Refusal → RequestHead → List ℕ → Meaning → Type 0
+abbrev pub AdmittedMeans : Result (Unit {0}) Refusal → RequestHead → List ℕ → Meaning → Type 0
 AdmittedMeans (Err refusal) h rest meaning = meaning ≡ Err refusal
 AdmittedMeans (Ok admitted) h rest meaning = HeadMeans h rest meaning
 

@@ -106,7 +106,7 @@ pub(crate) fn claims_in(buf: &[u8]) -> Option<Claims<'_>>
     match parse_request(buf, &mut headers) {
         Ok(Status::Complete(spans)) => Some(claims_among(
             buf,
-            spans.method.of(buf) == b"POST",
+            spans.method.of(buf) == b"POST".as_slice(),
             &headers[..spans.headers],
         )),
         _ => None,
