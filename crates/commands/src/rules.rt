@@ -51,8 +51,8 @@ pub(crate) fn rules_of<F: ReadFiles>(
     files: &F,
     serving: Serving<'_>,
 ) -> Result<Rules, Fault>
-    ensures ok { IfOk result (AreRulesOf (F.may_read files.now) serving) }
-    ensures err { IfErr result (IsGuardFault serving) }
+    ensures ok { IfOk result (AreRulesOf (F.may_read files.now) serving.entry) }
+    ensures err { IfErr result (IsGuardFault serving.entry) }
 {
     let token = match serving.guard {
         Some(path) => Some(token_at(alloc, files, path)?),

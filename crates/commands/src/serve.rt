@@ -59,7 +59,7 @@ fn tell_port<W: Write>(
     out: &mut W,
 ) -> Result<(), Fault>
     ensures ok { OnOk result (TellsPort (W.contents out.old) (W.contents out.new)) }
-    ensures faults { IfErr result (λ fault. IsStoreFault serving fault) }
+    ensures faults { IfErr result (λ fault. IsStoreFault serving.entry fault) }
     ensures kept { IfErr result (λ fault. KeepsAt fault (W.contents out.old) (W.contents out.new)) }
 {
     let Ok(address) = listener.local_addr() else {
@@ -71,9 +71,9 @@ fn tell_port<W: Write>(
 }
 
 fn terms_of(serving: Serving<'_>) -> Terms
-    ensures requests { result.requests ≡ serving.requests }
-    ensures never { IfNone result.idle (serving.idle_seconds ≡ 0) }
-    ensures limit { IfSome result.idle (λ d. as_nanos d ≡ serving.idle_seconds * 1000000000) }
+    ensures requests { result.requests ≡ serving.entry.requests }
+    ensures never { IfNone result.idle (serving.entry.idle_seconds ≡ 0) }
+    ensures limit { IfSome result.idle (λ d. as_nanos d ≡ serving.entry.idle_seconds * 1000000000) }
 {
     let idle = match serving.idle_seconds {
         0 => None,
@@ -103,10 +103,10 @@ fn serve_blocks<
     requires opening { opening_of (map part_in blocks.items) ≡ J.opening }
     requires few { length blocks.items ≤ 63 }
     ensures ok { OnOk result (TellsPort (W.contents out.old) (W.contents out.new)) }
-    ensures workers { IfOk result (λ counts. vec_len counts ≡ serving.workers) }
-    ensures served { IfOk result (λ counts. All (λ n. n ≡ serving.requests) counts.items) }
+    ensures workers { IfOk result (λ counts. vec_len counts ≡ serving.entry.workers) }
+    ensures served { IfOk result (λ counts. All (λ n. n ≡ serving.entry.requests) counts.items) }
     ensures err { IfErr result (λ fault.
-        IsServingFault serving (W.contents out.old) (W.contents out.new) fault) }
+        IsServingFault serving.entry (W.contents out.old) (W.contents out.new) fault) }
 {
     let count = serving.workers as usize;
     let workers = Workers::<J, &R>::open(rt, alloc, store, blocks, count)?;
@@ -135,10 +135,10 @@ pub fn serve<
 ) -> Result<Vec<u64>, Fault>
     ensures ok { OnOk result (IsListening (F.may_read files.now) (paths_of directories.now)
         (W.contents out.old) (W.contents out.new)) }
-    ensures workers { IfOk result (λ counts. vec_len counts ≡ serving.workers) }
-    ensures served { IfOk result (λ counts. All (λ n. n ≡ serving.requests) counts.items) }
+    ensures workers { IfOk result (λ counts. vec_len counts ≡ serving.entry.workers) }
+    ensures served { IfOk result (λ counts. All (λ n. n ≡ serving.entry.requests) counts.items) }
     ensures err { IfErr result (λ fault. IsServeFault (F.may_read files.now)
-        (paths_of directories.now) serving (W.contents out.old) (W.contents out.new) fault) }
+        (paths_of directories.now) serving.entry (W.contents out.old) (W.contents out.new) fault) }
 {
     let rules = rules_of(alloc, files, serving)?;
     let blocks = open_blocks(rt, alloc, files, directories)?;

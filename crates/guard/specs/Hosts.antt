@@ -1,20 +1,25 @@
 -- Where a request comes from.
-use Rattle.std.specs.Prelude.{ℕ, Bool, true, false, not, List, [], ◌∷◌, length, drop, codes}
+use Rattle.std.specs.Prelude.{ℕ, Bool, true, false, not, List, [], ◌∷◌, codes}
 use Rattle.std.specs.Prelude.{Option, None, Some, ◌&&◌, ◌||◌, ◌==◌}
 use Rattle.std.specs.Borrow.{Bor}
 use Rattle.std.specs.List.{list_all}
 use Rattle.std.specs.Char.{is_ascii_digit}
 use Rattle.guard.specs.declared.claims.Claims.{Claims}
-use Rattle.guard.specs.Tokens.{begins}
+use Rattle.guard.specs.Tokens.{rest_after}
 
 -- nothing, or a colon and digits
 abbrev pub ends_as_port : List ℕ → Bool
 ends_as_port [] = true
 ends_as_port (first ∷ digits) = first == 58 && list_all is_ascii_digit digits
 
+-- whether there is a text, and it is that of a port
+abbrev pub is_port : Option (List ℕ) → Bool
+is_port None = false
+is_port (Some text) = ends_as_port text
+
 -- whether the value of `Host` is this name, with a port or without
 abbrev pub is_host : List ℕ → List ℕ → Bool
-is_host name host = begins name host && ends_as_port (drop (length name) host)
+is_host name host = is_port (rest_after name host)
 
 -- whether the value of `Host` names this machine
 abbrev pub is_own_host : List ℕ → Bool

@@ -3,7 +3,7 @@
 ghost use Rattle.std.specs.Prelude.{◌≡◌};
 ghost use Rattle.guard.specs.Hosts.{ends_as_port, is_host, is_own_host, is_local, claimed};
 
-use crate::token::begins;
+use crate::token::rest_after;
 
 /// What the head of a request says of where it comes from.
 #[derive(Clone, Copy, Debug, PartialEq, Eq, Drop)]
@@ -33,7 +33,10 @@ fn ends_as_port(text: &[u8]) -> bool
 fn is_host(name: &[u8], host: &[u8]) -> bool
     ensures { result ≡ is_host name.now host.now }
 {
-    begins(name, host) && ends_as_port(&host[name.len()..])
+    match rest_after(name, host) {
+        Some(rest) => ends_as_port(rest),
+        None => false,
+    }
 }
 
 /// Whether the value of `Host` names this machine, with a port or without.

@@ -27,7 +27,7 @@ pub enum Denial {
 
 /// Whether a request bears the token, if one is asked for.
 fn has_token(token: &Option<Token>, authorization: Option<&[u8]>) -> bool
-    ensures { result ≡ has_token token.now (bytes_of authorization) }
+    ensures { result ≡ has_token token.now (bytes_of authorization.entry) }
 {
     match (token, authorization) {
         (None, _) => true,

@@ -1,7 +1,7 @@
 //! The token of a guard, and how a request bears it.
 
-ghost use Rattle.std.specs.Prelude.{◌≡◌, ◌↔◌, ◌&&◌, true, IsSome, IfSome, IsTrue};
-ghost use Rattle.guard.specs.Tokens.{is_token, is_visible, begins, bears};
+ghost use Rattle.std.specs.Prelude.{◌≡◌, ◌↔◌, option_map, IsSome, IfSome, IsTrue};
+ghost use Rattle.guard.specs.Tokens.{is_token, is_visible, rest_after, bears};
 ghost use Rattle.std.specs.Str.{bytes_eq};
 
 /// A secret that a client has to name: one or more visible characters of ASCII.
@@ -32,7 +32,7 @@ impl Token {
 
 /// Whether two texts are the same, in a time that depends on their lengths alone: wherever they
 /// differ, each byte is compared.
-#[tactic(auto, using(crate::proofs::Tests::and_assoc))]
+#[tactic(auto, using(crate::proofs::Tests::joined))]
 fn is_same(one: &[u8], other: &[u8]) -> bool
     ensures { result ≡ bytes_eq one.now other.now }
 {
@@ -48,19 +48,27 @@ fn is_same(one: &[u8], other: &[u8]) -> bool
     same & left.is_empty()
 }
 
-/// Whether a text begins with a name, in any case of its letters.
-pub(crate) fn begins(name: &[u8], text: &[u8]) -> bool
-    ensures { result ≡ begins name.now text.now }
+/// What stands in a text after a name, in any case of its letters, that the text begins with.
+pub(crate) fn rest_after<'t>(name: &[u8], text: &'t [u8]) -> Option<&'t [u8]>
+    ensures { option_map (λ rest. rest.now) result ≡ rest_after name.now text.now }
 {
     if text.len() < name.len() {
-        return false;
+        return None;
     }
-    text[..name.len()].eq_ignore_ascii_case(name)
+    let (front, rest) = text.split_at(name.len());
+    if front.eq_ignore_ascii_case(name) {
+        Some(rest)
+    } else {
+        None
+    }
 }
 
 /// Whether the value of `Authorization` is the scheme `Bearer`, in any case, and the token.
 pub(crate) fn bears(token: &Token, value: &[u8]) -> bool
     ensures { result ≡ bears token.now.bytes.items value.now }
 {
-    begins(b"bearer ", value) && is_same(&value[7..], token.bytes.as_slice())
+    match rest_after(b"bearer ", value) {
+        Some(rest) => is_same(rest, token.bytes.as_slice()),
+        None => false,
+    }
 }

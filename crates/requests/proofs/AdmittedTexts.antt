@@ -1,18 +1,21 @@
 -- What a head that is admitted, or is not, gives the whole.
 use Rattle.std.proofs.Common.{◌≡◌, ◌+◌, ◌≤◌, ℕ, List, ◌++◌, length, Option, None, Some, IfSome}
 use Rattle.std.proofs.Common.{Result, Ok, Err, inl, inr, refl, sym, ap, ◌∙◌, subst, arith}
-use Rattle.std.proofs.Common.{length-append}
+use Rattle.std.proofs.Common.{length-append, true, false, codes}
+use Rattle.std.specs.Prelude.{Bool, ◌&&◌, if◌then◌else◌}
+use Rattle.std.specs.Str.{bytes_eq}
 use Rattle.std.specs.Io.KnownBytes.{Consumes}
 use Rattle.httparse.specs.Grammar.{RequestHead, ReadsRequest, print_request}
 use Rattle.httparse.proofs.GrammarLemmas.{ReadsRequest-append, request_unique}
+use Rattle.guard.specs.declared.rules.Denial.TheVariants.{Guarded}
 use Rattle.guard.specs.declared.rules.Rules.{Rules}
 use Rattle.guard.specs.Judging.{no_rules}
 use Rattle.requests.specs.declared.refusal.Refusal.{Refusal}
 use Rattle.requests.specs.declared.request.Request.{Request}
 use Rattle.requests.specs.declared.request.ReadError.{ReadError}
 use Rattle.requests.specs.declared.request.ReadError.TheVariants.{Closed, Fault, Memory, Refused}
-use Rattle.requests.specs.Admitting.{IsAdmission, admission, AdmittedMeans, MeansUnder}
-use Rattle.requests.specs.Admitting.{AnswersUnder}
+use Rattle.requests.specs.Admitting.{IsAdmission, admission, refused_by, AdmittedMeans}
+use Rattle.requests.specs.Admitting.{MeansUnder, AnswersUnder}
 use Rattle.requests.specs.Requests.{Meaning}
 use Rattle.requests.specs.Reading.{HeadMeans, Means, AsksWith, AsksAfter}
 
@@ -66,7 +69,11 @@ admitted rules (Some x) (Some y) come u (Err (Refused refusal)) taken short here
 
 -- no rules admit each head
 all_admitted : (h : RequestHead) → admission no_rules h ≡ Ok tt
-all_admitted h = grind arith
+all_admitted h = go (bytes_eq h.method (codes "POST"))
+  where
+    go : (b : Bool) → refused_by (if b && false then Err Guarded else Ok tt) ≡ Ok tt
+    go false = refl
+    go true = refl
 
 -- what bytes mean under no rules is what they mean
 pub means_unruled : (input : List ℕ) (m : Meaning) → MeansUnder no_rules input m → Means input m
