@@ -1,6 +1,6 @@
 -- Replies, put together from what is known of their parts.
 use Rattle.std.proofs.Common.{◌≡◌, ◌≢◌, ℕ, List, [], Option, IfSome, Result, Ok, Err, IfOk, inl}
-use Rattle.std.proofs.Common.{inr, refl, ap, ◌∙◌, codes}
+use Rattle.std.proofs.Common.{inr, refl, ap, subst, ◌∙◌, codes}
 use Rattle.serde_json.specs.Written.{compact_text}
 use Rattle.matchers.specs.Views.{QueryView}
 use Rattle.head.specs.Codes.{commit_code}
@@ -16,6 +16,7 @@ use Rattle.requests.specs.declared.refusal.Refusal.TheVariants.{Refused}
 use Rattle.requests.specs.declared.status.Status.{Status}
 use Rattle.requests.specs.declared.status.Status.TheVariants.{Done, Conflict}
 use Rattle.guard.specs.Judging.{no_rules}
+use Rattle.guard.specs.declared.rules.Rules.{Rules}
 use Rattle.requests.specs.Admitting.{MeansUnder}
 use Rattle.requests.specs.Reading.{Means}
 use Rattle.requests.specs.Refusals.{told_cause}
@@ -124,21 +125,29 @@ reply_unruled opening (Some bytes) before after status text (inr h) = inr (recor
   done = h.done;
 })
 
-pub served_unruled : (opening : SnapshotParts) (input : Option (List ℕ)) (before after : Worker)
+served_plain : (opening : SnapshotParts) (input : Option (List ℕ)) (before after : Worker)
     (old new : Option (List ℕ)) (how : Served)
     → Serves (MeansUnder no_rules) opening input before after old new how
     → Serves Means opening input before after old new how
-served_unruled opening input before after old new (served.Replied status) h = record {
+served_plain opening input before after old new (served.Replied status) h = record {
   text = h.text;
   reply = reply_unruled opening input before after status h.text h.reply;
   written = h.written;
 }
-served_unruled opening input before after old new served.WriteFault h = record {
+served_plain opening input before after old new served.WriteFault h = record {
   status = h.status;
   text = h.text;
   reply = reply_unruled opening input before after h.status h.text h.reply;
   written = h.written;
 }
-served_unruled opening input before after old new served.Closed h = h
-served_unruled opening input before after old new served.ReadFault h = h
-served_unruled opening input before after old new served.NoMemory h = h
+served_plain opening input before after old new served.Closed h = h
+served_plain opening input before after old new served.ReadFault h = h
+served_plain opening input before after old new served.NoMemory h = h
+
+pub served_unruled : (rules : Rules) (opening : SnapshotParts) (input : Option (List ℕ))
+    (before after : Worker) (old new : Option (List ℕ)) (how : Served) → rules ≡ no_rules
+    → Serves (MeansUnder rules) opening input before after old new how
+    → Serves Means opening input before after old new how
+served_unruled rules opening input before after old new how is h =
+    served_plain opening input before after old new how
+    (subst (λ (r : Rules). Serves (MeansUnder r) opening input before after old new how) is h)

@@ -146,7 +146,6 @@ pub fn serve_one_with<J: Naming, C: Wait + Drop, R: Inlet, W: Outlet>(
 
 /// Serves one connection as [`serve_one_with`] does, with buffers of its own and under no
 /// rules.
-#[tactic(auto, using(crate::proofs::Replying::served_unruled))]
 pub fn serve_one<J: Naming, C: Wait + Drop, R: Inlet, W: Outlet>(
     rt: &impl Wait,
     alloc: Global,
