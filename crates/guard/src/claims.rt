@@ -1,6 +1,8 @@
 //! What the head of a request says that rules ask about.
 
 ghost use Rattle.std.specs.Prelude.{◌≡◌};
+ghost use Rattle.std.specs.Char.{is_ascii_digit};
+ghost use Rattle.std.specs.List.{list_all};
 ghost use Rattle.guard.specs.Hosts.{ends_as_port, is_host, is_own_host, is_local, claimed};
 
 use crate::token::rest_after;
@@ -18,15 +20,19 @@ pub struct Claims<'a> {
     pub authorization: Option<&'a [u8]>,
 }
 
+fn are_digits(text: &[u8]) -> bool
+    ensures { result ≡ list_all is_ascii_digit text.now }
+{
+    text.iter().all(|byte| byte.is_ascii_digit())
+}
+
 /// Whether a text is empty, or a colon and digits.
 fn ends_as_port(text: &[u8]) -> bool
     ensures { result ≡ ends_as_port text.now }
 {
     match text.split_first() {
         None => true,
-        Some((first, digits)) => {
-            *first == b':' && digits.iter().all(|byte| byte.is_ascii_digit())
-        }
+        Some((first, digits)) => *first == b':' && are_digits(digits),
     }
 }
 

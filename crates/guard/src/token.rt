@@ -1,6 +1,7 @@
 //! The token of a guard, and how a request bears it.
 
-ghost use Rattle.std.specs.Prelude.{◌≡◌, ◌↔◌, option_map, IsSome, IfSome, IsTrue};
+ghost use Rattle.std.specs.Prelude.{◌≡◌, option_map, is_some, IfSome};
+ghost use Rattle.std.specs.List.{list_all};
 ghost use Rattle.guard.specs.Tokens.{is_token, is_visible, rest_after, bears};
 ghost use Rattle.std.specs.Str.{bytes_eq};
 
@@ -16,14 +17,20 @@ fn is_visible(byte: u8) -> bool
     (33 <= byte) & (byte <= 126)
 }
 
+fn are_visible(bytes: &[u8]) -> bool
+    ensures { result ≡ list_all is_visible bytes.now }
+{
+    bytes.iter().all(|byte| is_visible(*byte))
+}
+
 impl Token {
     /// The token that these bytes spell; none where they are empty, or one is no visible character
     /// of ASCII: such bytes stand in no field of a head.
     pub fn new(bytes: Vec<u8>) -> Option<Token>
-        ensures token { IsSome result ↔ IsTrue (is_token bytes.items) }
+        ensures token { is_some result ≡ is_token bytes.items }
         ensures same { IfSome result (λ token. token.bytes.items ≡ bytes.items) }
     {
-        if bytes.is_empty() || !bytes.iter().all(|byte| is_visible(*byte)) {
+        if bytes.is_empty() || !are_visible(bytes.as_slice()) {
             return None;
         }
         Some(Token { bytes })
@@ -32,7 +39,6 @@ impl Token {
 
 /// Whether two texts are the same, in a time that depends on their lengths alone: wherever they
 /// differ, each byte is compared.
-#[tactic(auto, using(crate::proofs::Tests::joined))]
 fn is_same(one: &[u8], other: &[u8]) -> bool
     ensures { result ≡ bytes_eq one.now other.now }
 {

@@ -56,8 +56,8 @@ pub fn read_admitted_into<R: Inlet>(
 {
     buf.clear();
     read_head(reader, buf)?;
-    if let Err(refusal) = admit(rules, buf.as_slice()) {
-        return Err(ReadError::Refused(refusal));
+    match admit(rules, buf.as_slice()) {
+        Ok(()) => read_after(alloc, reader, buf),
+        Err(refusal) => Err(ReadError::Refused(refusal)),
     }
-    read_after(alloc, reader, buf)
 }
