@@ -14,13 +14,14 @@ use std::alloc::{AllocError, Global};
 const MAX_TOKEN: usize = 4096;
 
 /// The bytes without the end of a line behind them.
+#[tactic(auto, using(crate::proofs::TokenTexts::line_ends))]
 fn without_end(bytes: &[u8]) -> &[u8]
     ensures { result.now ≡ without_end bytes.now }
 {
-    match bytes.split_last() {
-        Some((b'\n', front)) => front,
-        _ => bytes,
-    }
+    let Some((last, front)) = bytes.split_last() else {
+        return bytes;
+    };
+    if *last == b'\n' { front } else { bytes }
 }
 
 fn cannot_read(alloc: Global, path: &str) -> Result<Fault, AllocError>
