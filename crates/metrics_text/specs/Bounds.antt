@@ -2,14 +2,14 @@
 use Rattle.std.specs.Prelude.{ℕ, List, [], ◌∷◌}
 
 -- the statuses of replies
-abbrev pub statuses : List ℕ
+unfoldable pub statuses : List ℕ
 statuses = 200 ∷ 400 ∷ 403 ∷ 404 ∷ 405 ∷ 409 ∷ 413 ∷ 431 ∷ 503 ∷ []
 
 -- the bounds of a histogram, in microseconds
-abbrev pub bounds : List ℕ
+unfoldable pub bounds : List ℕ
 bounds =
     100 ∷ 500 ∷ 1000 ∷ 5000 ∷ 10000 ∷ 50000 ∷ 100000 ∷ 500000 ∷ 1000000 ∷ 5000000 ∷ []
 
 -- the numbers of refusals
-abbrev pub refusals : List ℕ
+unfoldable pub refusals : List ℕ
 refusals = 1 ∷ 2 ∷ 3 ∷ 4 ∷ 5 ∷ 6 ∷ 7 ∷ 8 ∷ 9 ∷ 10 ∷ 11 ∷ 12 ∷ []

@@ -5,24 +5,34 @@ use Rattle.metrics_text.specs.declared.counts.Counts.{Counts}
 use Rattle.metrics_text.specs.declared.counts.PathCounts.{PathCounts}
 use Rattle.metrics_text.specs.declared.counts.State.{State}
 use Rattle.metrics_text.specs.declared.counts.Times.{Times}
+use Rattle.metrics_text.specs.declared.names.Family.{Family}
+use Rattle.metrics_text.specs.declared.names.Family.TheVariants as families
+use Rattle.metrics_text.specs.declared.names.Row.TheVariants as row_of
+use Rattle.metrics_text.specs.declared.rows.Kind.{Kind}
 use Rattle.metrics_text.specs.declared.rows.Kind.TheVariants.{Counter, Gauge, Histogram}
 use Rattle.metrics_text.specs.Bounds.{bounds, statuses, refusals}
+use Rattle.metrics_text.specs.Names.{name_of, help_of, row_name, refusal_front}
+use Rattle.metrics_text.specs.Names.{event_front, version_front, kit_front}
 use Rattle.metrics_text.specs.Numbers.{seconds_text}
 use Rattle.metrics_text.specs.Rows.{head_text, plain_text, row_text, rows_text, path_text}
-use Rattle.metrics_text.specs.Rows.{front_text, buckets_text, total}
+use Rattle.metrics_text.specs.Rows.{front_text, buckets_text, total, end_text}
+
+-- what stands before the rows of a family
+unfoldable pub family_head : Family → Kind → List ℕ
+family_head family kind = head_text (name_of family) kind (help_of family)
 
 -- a counter without labels
-unfoldable pub counter_text : List ℕ → List ℕ → ℕ → List ℕ
-counter_text name help n = head_text name Counter help ++ plain_text name (decimal n)
+unfoldable pub counter_text : Family → ℕ → List ℕ
+counter_text family n = family_head family Counter ++ plain_text (name_of family) (decimal n)
 
 -- a gauge without labels
-unfoldable pub gauge_text : List ℕ → List ℕ → ℕ → List ℕ
-gauge_text name help n = head_text name Gauge help ++ plain_text name (decimal n)
+unfoldable pub gauge_text : Family → ℕ → List ℕ
+gauge_text family n = family_head family Gauge ++ plain_text (name_of family) (decimal n)
 
 -- the replies of a path, by status
 unfoldable pub replies_text : List ℕ → PathCounts → List ℕ
 replies_text path counts =
-    rows_text (front_text (codes "fuzzledge_requests_total") path (codes "status"))
+    rows_text (front_text (name_of families.Requests) path (codes "status"))
     statuses counts.replies
 
 unfoldable pub changes_replies_text : Counts → List ℕ
@@ -33,48 +43,44 @@ changes_replies_text counts =
 
 unfoldable pub requests_text : Counts → List ℕ
 requests_text counts =
-    head_text (codes "fuzzledge_requests_total") Counter
-    (codes "Requests that were replied to, by path and status.")
+    family_head families.Requests Counter
     ++ replies_text (codes "select") counts.select
     ++ changes_replies_text counts
     ++ replies_text (codes "other") counts.other
 
 unfoldable pub refusals_text : Counts → List ℕ
 refusals_text counts =
-    head_text (codes "fuzzledge_refusals_total") Counter (codes "Refusals of requests, by code.")
-    ++ rows_text (codes "fuzzledge_refusals_total{code=\"H") refusals counts.refusals
+    family_head families.Refusals Counter
+    ++ rows_text refusal_front refusals counts.refusals
 
 unfoldable pub events_text : Counts → List ℕ
 events_text counts =
-    head_text (codes "fuzzledge_events_total") Counter
-    (codes "Events that the store accepted, by kind.")
-    ++ row_text (codes "fuzzledge_events_total{kind=\"") (codes "batch") counts.batches
-    ++ row_text (codes "fuzzledge_events_total{kind=\"") (codes "deletion") counts.deletions
-    ++ row_text (codes "fuzzledge_events_total{kind=\"") (codes "cut") counts.cuts
+    family_head families.Events Counter
+    ++ row_text event_front (codes "batch") counts.batches
+    ++ row_text event_front (codes "deletion") counts.deletions
+    ++ row_text event_front (codes "cut") counts.cuts
 
 unfoldable pub sums_text : Counts → List ℕ
 sums_text counts =
-    counter_text (codes "fuzzledge_samples_accepted_total")
-    (codes "Samples of the batches that the store accepted.") counts.samples
-    ++ counter_text (codes "fuzzledge_replied_bytes_total")
-    (codes "Bytes of replies, with their heads.") counts.bytes
+    counter_text families.Samples counts.samples
+    ++ counter_text families.Bytes counts.bytes
 
 -- the buckets of a path: at each bound and below, and then all
 unfoldable pub buckets_of : List ℕ → Times → List ℕ
 buckets_of path times =
-    buckets_text (front_text (codes "fuzzledge_request_duration_seconds_bucket") path (codes "le"))
+    buckets_text (front_text (row_name row_of.Bucket) path (codes "le"))
     0 bounds times.counts
     ++ row_text
-    (front_text (codes "fuzzledge_request_duration_seconds_bucket") path (codes "le"))
+    (front_text (row_name row_of.Bucket) path (codes "le"))
     (codes "+Inf") (total times.counts)
 
 -- the histogram of a path
 unfoldable pub times_text : List ℕ → Times → List ℕ
 times_text path times =
     buckets_of path times
-    ++ path_text (codes "fuzzledge_request_duration_seconds_sum") path
+    ++ path_text (row_name row_of.Sum) path
     (seconds_text times.microseconds)
-    ++ path_text (codes "fuzzledge_request_duration_seconds_count") path
+    ++ path_text (row_name row_of.Count) path
     (decimal (total times.counts))
 
 unfoldable pub changes_times_text : Counts → List ℕ
@@ -85,8 +91,7 @@ changes_times_text counts =
 
 unfoldable pub durations_text : Counts → List ℕ
 durations_text counts =
-    head_text (codes "fuzzledge_request_duration_seconds") Histogram
-    (codes "Time from the first byte read to the last byte written, by path.")
+    family_head families.Durations Histogram
     ++ times_text (codes "select") counts.select.times
     ++ changes_times_text counts
     ++ times_text (codes "other") counts.other.times
@@ -99,31 +104,35 @@ counts_text counts =
 
 unfoldable pub floor_text : ℤ → List ℕ
 floor_text floor =
-    head_text (codes "fuzzledge_head_floor") Gauge
-    (codes "Least time at which the head takes samples, in the unit of their times.")
-    ++ codes "fuzzledge_head_floor " ++ signed_decimal floor ++ codes "\n"
+    family_head families.Floor Gauge
+    ++ plain_text (name_of families.Floor) (signed_decimal floor)
 
 unfoldable pub head_state_text : State → List ℕ
 head_state_text state =
-    gauge_text (codes "fuzzledge_head_series") (codes "Series in the head.") state.series
-    ++ gauge_text (codes "fuzzledge_head_samples") (codes "Samples in the head.") state.samples
+    gauge_text families.HeadSeries state.series
+    ++ gauge_text families.HeadSamples state.samples
     ++ floor_text state.floor
+
+unfoldable pub workers_text : State → List ℕ
+workers_text state =
+    gauge_text families.Workers state.workers
+    ++ gauge_text families.Busy state.busy
 
 unfoldable pub process_text : State → List ℕ
 process_text state =
-    gauge_text (codes "fuzzledge_blocks") (codes "Blocks that are searched.") state.blocks
-    ++ gauge_text (codes "fuzzledge_workers") (codes "Workers.") state.workers
-    ++ gauge_text (codes "fuzzledge_workers_busy")
-    (codes "Workers that serve a connection.") state.busy
-    ++ gauge_text (codes "process_resident_memory_bytes")
-    (codes "Memory that the process occupies.") state.resident
+    gauge_text families.Blocks state.blocks
+    ++ workers_text state
+    ++ gauge_text families.Resident state.resident
+
+-- the versions, up to the last quote
+unfoldable pub versions_text : State → List ℕ
+versions_text state =
+    version_front ++ state.version.now ++ kit_front ++ state.kit.now
 
 unfoldable pub build_text : State → List ℕ
 build_text state =
-    head_text (codes "fuzzledge_build_info") Gauge
-    (codes "1, with the version of the program and of the kit that it was made with.")
-    ++ codes "fuzzledge_build_info{version=\"" ++ state.version.now
-    ++ codes "\",kit=\"" ++ state.kit.now ++ codes "\"} 1\n"
+    family_head families.Build Gauge
+    ++ versions_text state ++ end_text (decimal 1)
 
 -- how a server stands
 unfoldable pub state_text : State → List ℕ

@@ -62,6 +62,7 @@ pub struct State {
 }
 
 /// The statuses of replies, each in its place of [`PathCounts::replies`].
+#[tactic(auto, unfolding(crate::specs::Bounds::statuses))]
 pub fn statuses() -> &'static [u64]
     ensures { result.now ≡ statuses }
 {
@@ -69,6 +70,7 @@ pub fn statuses() -> &'static [u64]
 }
 
 /// The numbers of refusals, each in its place of [`Counts::refusals`].
+#[tactic(auto, unfolding(crate::specs::Bounds::refusals))]
 pub(crate) fn refusal_numbers() -> &'static [u64]
     ensures { result.now ≡ refusals }
 {
@@ -77,6 +79,7 @@ pub(crate) fn refusal_numbers() -> &'static [u64]
 
 /// The bounds of a histogram, in microseconds: the last count of [`Times::counts`] is of what lies
 /// above each of them.
+#[tactic(auto, unfolding(crate::specs::Bounds::bounds))]
 pub fn bounds() -> &'static [u64]
     ensures { result.now ≡ bounds }
 {
@@ -87,6 +90,7 @@ pub fn bounds() -> &'static [u64]
 
 /// The place in [`Times::counts`] of a request that took so many microseconds: how many bounds lie
 /// below it.
+#[tactic(auto, unfolding(crate::specs::Bounds::bounds))]
 pub fn place_in(microseconds: u64) -> usize
     ensures place { result ≡ count_by (λ bound. nat_lt bound microseconds) bounds }
     ensures within { result < 11 }

@@ -2,41 +2,48 @@
 
 ghost use Rattle.std.specs.Prelude.{◌≡◌, ◌++◌, decimal, OnOk, IfOk};
 ghost use Rattle.std.specs.Fmt.{signed_decimal};
-ghost use Rattle.metrics_text.specs.Rows.{head_text, plain_text};
-ghost use Rattle.metrics_text.specs.Families.{replies_text, changes_replies_text, requests_text};
-ghost use Rattle.metrics_text.specs.Families.{refusals_text, events_text, counter_text};
-ghost use Rattle.metrics_text.specs.Families.{buckets_of, times_text, changes_times_text};
-ghost use Rattle.metrics_text.specs.Families.{durations_text, gauge_text, floor_text};
-ghost use Rattle.metrics_text.specs.Families.{build_text, head_state_text};
-ghost use Rattle.metrics_text.specs.Families.{process_text, state_text, sums_text, counts_text};
-ghost use Rattle.metrics_text.specs.Families.{metrics_text};
+ghost use Rattle.metrics_text.specs.Families.{family_head, replies_text, changes_replies_text};
+ghost use Rattle.metrics_text.specs.Families.{requests_text, refusals_text, events_text};
+ghost use Rattle.metrics_text.specs.Families.{counter_text, buckets_of, times_text};
+ghost use Rattle.metrics_text.specs.Families.{changes_times_text, durations_text, gauge_text};
+ghost use Rattle.metrics_text.specs.Families.{floor_text, versions_text, build_text};
+ghost use Rattle.metrics_text.specs.Families.{head_state_text, workers_text, process_text};
+ghost use Rattle.metrics_text.specs.Families.{state_text, sums_text, counts_text, metrics_text};
 
 use crate::counts::{Counts, PathCounts, State, Times, bounds, refusal_numbers, statuses};
-use crate::numbers::append_integer;
+use crate::names::{
+    Family, Row, event_front, help_of, kit_front, name_of, refusal_front, row_name, version_front,
+};
 use crate::rows::{
-    Kind, append, append_buckets, append_counts, append_head, append_path, append_path_time,
-    append_plain, append_word, front_of, total,
+    Kind, append, append_buckets, append_counts, append_end, append_head, append_path,
+    append_path_time, append_plain, append_signed, append_word, front_of, total,
 };
 use std::alloc::{AllocError, Global};
 
+/// Appends what stands before the rows of a family.
+#[tactic(auto, unfolding(crate::specs::Families::family_head))]
+fn append_family(out: &mut Vec<u8>, family: Family, kind: Kind) -> Result<(), AllocError>
+    ensures { OnOk result (out.new.items ≡ out.old.items ++ family_head family kind) }
+{
+    append_head(out, name_of(family), kind, help_of(family))
+}
+
 /// Appends a counter without labels.
 #[tactic(auto, unfolding(crate::specs::Families::counter_text))]
-fn append_counter(out: &mut Vec<u8>, name: &str, help: &str, n: u64) -> Result<(), AllocError>
-    ensures { OnOk result
-        (out.new.items ≡ out.old.items ++ counter_text name.now help.now n) }
+fn append_counter(out: &mut Vec<u8>, family: Family, n: u64) -> Result<(), AllocError>
+    ensures { OnOk result (out.new.items ≡ out.old.items ++ counter_text family n) }
 {
-    append_head(out, name, Kind::Counter, help)?;
-    append_plain(out, name, n)
+    append_family(out, family, Kind::Counter)?;
+    append_plain(out, name_of(family), n)
 }
 
 /// Appends a gauge without labels.
 #[tactic(auto, unfolding(crate::specs::Families::gauge_text))]
-fn append_gauge(out: &mut Vec<u8>, name: &str, help: &str, n: u64) -> Result<(), AllocError>
-    ensures { OnOk result
-        (out.new.items ≡ out.old.items ++ gauge_text name.now help.now n) }
+fn append_gauge(out: &mut Vec<u8>, family: Family, n: u64) -> Result<(), AllocError>
+    ensures { OnOk result (out.new.items ≡ out.old.items ++ gauge_text family n) }
 {
-    append_head(out, name, Kind::Gauge, help)?;
-    append_plain(out, name, n)
+    append_family(out, family, Kind::Gauge)?;
+    append_plain(out, name_of(family), n)
 }
 
 /// Appends the replies of a path, by status.
@@ -50,7 +57,7 @@ fn append_replies(
     ensures { OnOk result
         (out.new.items ≡ out.old.items ++ replies_text path.now counts.now) }
 {
-    let front = front_of(alloc, "fuzzledge_requests_total", path, "status")?;
+    let front = front_of(alloc, name_of(Family::Requests), path, "status")?;
     append_counts(out, front.as_slice(), statuses(), &counts.replies)
 }
 
@@ -72,12 +79,7 @@ fn append_changes_replies(
 fn append_requests(out: &mut Vec<u8>, alloc: Global, counts: &Counts) -> Result<(), AllocError>
     ensures { OnOk result (out.new.items ≡ out.old.items ++ requests_text counts.now) }
 {
-    append_head(
-        out,
-        "fuzzledge_requests_total",
-        Kind::Counter,
-        "Requests that were replied to, by path and status.",
-    )?;
+    append_family(out, Family::Requests, Kind::Counter)?;
     append_replies(out, alloc, "select", &counts.select)?;
     append_changes_replies(out, alloc, counts)?;
     append_replies(out, alloc, "other", &counts.other)
@@ -88,15 +90,10 @@ fn append_requests(out: &mut Vec<u8>, alloc: Global, counts: &Counts) -> Result<
 fn append_refusals(out: &mut Vec<u8>, counts: &Counts) -> Result<(), AllocError>
     ensures { OnOk result (out.new.items ≡ out.old.items ++ refusals_text counts.now) }
 {
-    append_head(
-        out,
-        "fuzzledge_refusals_total",
-        Kind::Counter,
-        "Refusals of requests, by code.",
-    )?;
+    append_family(out, Family::Refusals, Kind::Counter)?;
     append_counts(
         out,
-        b"fuzzledge_refusals_total{code=\"H",
+        refusal_front().as_bytes(),
         refusal_numbers(),
         &counts.refusals,
     )
@@ -107,13 +104,8 @@ fn append_refusals(out: &mut Vec<u8>, counts: &Counts) -> Result<(), AllocError>
 fn append_events(out: &mut Vec<u8>, counts: &Counts) -> Result<(), AllocError>
     ensures { OnOk result (out.new.items ≡ out.old.items ++ events_text counts.now) }
 {
-    append_head(
-        out,
-        "fuzzledge_events_total",
-        Kind::Counter,
-        "Events that the store accepted, by kind.",
-    )?;
-    let front = b"fuzzledge_events_total{kind=\"";
+    append_family(out, Family::Events, Kind::Counter)?;
+    let front = event_front().as_bytes();
     append_word(out, front, "batch", counts.batches)?;
     append_word(out, front, "deletion", counts.deletions)?;
     append_word(out, front, "cut", counts.cuts)
@@ -124,18 +116,8 @@ fn append_events(out: &mut Vec<u8>, counts: &Counts) -> Result<(), AllocError>
 fn append_sums(out: &mut Vec<u8>, counts: &Counts) -> Result<(), AllocError>
     ensures { OnOk result (out.new.items ≡ out.old.items ++ sums_text counts.now) }
 {
-    append_counter(
-        out,
-        "fuzzledge_samples_accepted_total",
-        "Samples of the batches that the store accepted.",
-        counts.samples,
-    )?;
-    append_counter(
-        out,
-        "fuzzledge_replied_bytes_total",
-        "Bytes of replies, with their heads.",
-        counts.bytes,
-    )
+    append_counter(out, Family::Samples, counts.samples)?;
+    append_counter(out, Family::Bytes, counts.bytes)
 }
 
 /// Appends the buckets of a path's histogram.
@@ -149,12 +131,7 @@ fn append_path_buckets(
     ensures { OnOk result
         (out.new.items ≡ out.old.items ++ buckets_of path.now times.now) }
 {
-    let front = front_of(
-        alloc,
-        "fuzzledge_request_duration_seconds_bucket",
-        path,
-        "le",
-    )?;
+    let front = front_of(alloc, row_name(Row::Bucket), path, "le")?;
     append_buckets(out, front.as_slice(), bounds(), &times.counts)?;
     append_word(out, front.as_slice(), "+Inf", total(&times.counts))
 }
@@ -171,18 +148,8 @@ fn append_times(
         (out.new.items ≡ out.old.items ++ times_text path.now times.now) }
 {
     append_path_buckets(out, alloc, path, times)?;
-    append_path_time(
-        out,
-        "fuzzledge_request_duration_seconds_sum",
-        path,
-        times.microseconds,
-    )?;
-    append_path(
-        out,
-        "fuzzledge_request_duration_seconds_count",
-        path,
-        total(&times.counts),
-    )
+    append_path_time(out, row_name(Row::Sum), path, times.microseconds)?;
+    append_path(out, row_name(Row::Count), path, total(&times.counts))
 }
 
 #[tactic(auto, unfolding(crate::specs::Families::changes_times_text))]
@@ -199,31 +166,19 @@ fn append_changes_times(out: &mut Vec<u8>, alloc: Global, counts: &Counts) -> Re
 fn append_durations(out: &mut Vec<u8>, alloc: Global, counts: &Counts) -> Result<(), AllocError>
     ensures { OnOk result (out.new.items ≡ out.old.items ++ durations_text counts.now) }
 {
-    append_head(
-        out,
-        "fuzzledge_request_duration_seconds",
-        Kind::Histogram,
-        "Time from the first byte read to the last byte written, by path.",
-    )?;
+    append_family(out, Family::Durations, Kind::Histogram)?;
     append_times(out, alloc, "select", &counts.select.times)?;
     append_changes_times(out, alloc, counts)?;
     append_times(out, alloc, "other", &counts.other.times)
 }
 
 /// Appends the least time at which the head takes samples.
-#[tactic(auto, unfolding(crate::specs::Families::floor_text, crate::specs::Rows::plain_text))]
+#[tactic(auto, unfolding(crate::specs::Families::floor_text))]
 fn append_floor(out: &mut Vec<u8>, floor: i64) -> Result<(), AllocError>
     ensures { OnOk result (out.new.items ≡ out.old.items ++ floor_text floor) }
 {
-    append_head(
-        out,
-        "fuzzledge_head_floor",
-        Kind::Gauge,
-        "Least time at which the head takes samples, in the unit of their times.",
-    )?;
-    append(out, "fuzzledge_head_floor ")?;
-    append_integer(out, floor)?;
-    append(out, "\n")
+    append_family(out, Family::Floor, Kind::Gauge)?;
+    append_signed(out, name_of(Family::Floor), floor)
 }
 
 /// Appends how the head stands.
@@ -231,19 +186,18 @@ fn append_floor(out: &mut Vec<u8>, floor: i64) -> Result<(), AllocError>
 fn append_head_state(out: &mut Vec<u8>, state: &State) -> Result<(), AllocError>
     ensures { OnOk result (out.new.items ≡ out.old.items ++ head_state_text state.now) }
 {
-    append_gauge(
-        out,
-        "fuzzledge_head_series",
-        "Series in the head.",
-        state.series,
-    )?;
-    append_gauge(
-        out,
-        "fuzzledge_head_samples",
-        "Samples in the head.",
-        state.samples,
-    )?;
+    append_gauge(out, Family::HeadSeries, state.series)?;
+    append_gauge(out, Family::HeadSamples, state.samples)?;
     append_floor(out, state.floor)
+}
+
+/// Appends the workers.
+#[tactic(auto, unfolding(crate::specs::Families::workers_text))]
+fn append_workers(out: &mut Vec<u8>, state: &State) -> Result<(), AllocError>
+    ensures { OnOk result (out.new.items ≡ out.old.items ++ workers_text state.now) }
+{
+    append_gauge(out, Family::Workers, state.workers)?;
+    append_gauge(out, Family::Busy, state.busy)
 }
 
 /// Appends how the process stands.
@@ -251,43 +205,30 @@ fn append_head_state(out: &mut Vec<u8>, state: &State) -> Result<(), AllocError>
 fn append_process(out: &mut Vec<u8>, state: &State) -> Result<(), AllocError>
     ensures { OnOk result (out.new.items ≡ out.old.items ++ process_text state.now) }
 {
-    append_gauge(
-        out,
-        "fuzzledge_blocks",
-        "Blocks that are searched.",
-        state.blocks,
-    )?;
-    append_gauge(out, "fuzzledge_workers", "Workers.", state.workers)?;
-    append_gauge(
-        out,
-        "fuzzledge_workers_busy",
-        "Workers that serve a connection.",
-        state.busy,
-    )?;
-    append_gauge(
-        out,
-        "process_resident_memory_bytes",
-        "Memory that the process occupies.",
-        state.resident,
-    )
+    append_gauge(out, Family::Blocks, state.blocks)?;
+    append_workers(out, state)?;
+    append_gauge(out, Family::Resident, state.resident)
 }
 
-/// Appends the version of the program and of its kit.
+/// Appends the version of the program and of its kit, up to the last quote.
+#[tactic(auto, unfolding(crate::specs::Families::versions_text))]
+fn append_versions(out: &mut Vec<u8>, state: &State) -> Result<(), AllocError>
+    ensures { OnOk result (out.new.items ≡ out.old.items ++ versions_text state.now) }
+{
+    append(out, version_front())?;
+    append(out, state.version)?;
+    append(out, kit_front())?;
+    append(out, state.kit)
+}
+
+/// Appends a row with the version of the program and of its kit.
 #[tactic(auto, unfolding(crate::specs::Families::build_text))]
 fn append_build(out: &mut Vec<u8>, state: &State) -> Result<(), AllocError>
     ensures { OnOk result (out.new.items ≡ out.old.items ++ build_text state.now) }
 {
-    append_head(
-        out,
-        "fuzzledge_build_info",
-        Kind::Gauge,
-        "1, with the version of the program and of the kit that it was made with.",
-    )?;
-    append(out, "fuzzledge_build_info{version=\"")?;
-    append(out, state.version)?;
-    append(out, "\",kit=\"")?;
-    append(out, state.kit)?;
-    append(out, "\"} 1\n")
+    append_family(out, Family::Build, Kind::Gauge)?;
+    append_versions(out, state)?;
+    append_end(out, 1)
 }
 
 /// Appends how a server stands.

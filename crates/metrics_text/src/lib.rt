@@ -18,6 +18,7 @@
 
 mod counts;
 mod families;
+mod names;
 mod numbers;
 mod rows;
 

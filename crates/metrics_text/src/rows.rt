@@ -1,12 +1,13 @@
 //! The lines of a family.
 
 ghost use Rattle.std.specs.Prelude.{◌≡◌, ◌++◌, decimal, OnOk, IfOk};
+ghost use Rattle.std.specs.Fmt.{signed_decimal};
 ghost use Rattle.metrics_text.specs.Rows.{kind_name, help_text, type_text, head_text};
 ghost use Rattle.metrics_text.specs.Rows.{plain_text, row_text, path_text, front_text, rows_text};
 ghost use Rattle.metrics_text.specs.Rows.{total, buckets_text, end_text, path_front};
 ghost use Rattle.metrics_text.specs.Numbers.{seconds_text};
 
-use crate::numbers::{append_number, append_seconds};
+use crate::numbers::{append_integer, append_number, append_seconds};
 use std::alloc::{AllocError, Global};
 
 /// What the numbers of a family are.
@@ -81,9 +82,21 @@ pub(crate) fn append_plain(out: &mut Vec<u8>, name: &str, n: u64) -> Result<(), 
     append(out, "\n")
 }
 
+/// Appends a row without labels, of a number with a sign.
+#[tactic(auto, unfolding(crate::specs::Rows::plain_text))]
+pub(crate) fn append_signed(out: &mut Vec<u8>, name: &str, n: i64) -> Result<(), AllocError>
+    ensures { OnOk result
+        (out.new.items ≡ out.old.items ++ plain_text name.now (signed_decimal n)) }
+{
+    append(out, name)?;
+    append(out, " ")?;
+    append_integer(out, n)?;
+    append(out, "\n")
+}
+
 /// Appends what ends a row after its last label.
 #[tactic(auto, unfolding(crate::specs::Rows::end_text))]
-fn append_end(out: &mut Vec<u8>, n: u64) -> Result<(), AllocError>
+pub(crate) fn append_end(out: &mut Vec<u8>, n: u64) -> Result<(), AllocError>
     ensures { OnOk result (out.new.items ≡ out.old.items ++ end_text (decimal n)) }
 {
     append(out, "\"} ")?;
