@@ -1,0 +1,167 @@
+//! Numbers, read exactly.
+
+ghost use Rattle.std.specs.Prelude.{◌≡◌, ◌≤◌, ◌<◌, ◌+◌, ◌^◌, ℤ, IfOk, IfSome, unsigned_abs};
+ghost use Rattle.wire.specs.Outcome.{Answers};
+ghost use Rattle.open_metrics.specs.Numbers.{exponent_at, is_minus, is_special, number_at};
+ghost use Rattle.open_metrics.specs.Numbers.{scaled_at, signed_at, small_at, tenth, tenths};
+ghost use Rattle.open_metrics.specs.Numbers.{unsigned_of, value_of, with_sign};
+
+use crate::tokens::{Class, cut_word, front_len};
+use decimal_text::{DecimalError, decimal};
+
+/// What the text of a number says.
+#[derive(Clone, Copy, Debug, PartialEq, Eq, Drop)]
+pub enum Value {
+    /// This whole number of parts, below 2^63 in size.
+    Parts(i64),
+    /// No whole number of parts, one of 2^63 and more in size, a NaN or an infinity.
+    Other,
+}
+
+fn is_minus(text: &[u8]) -> bool
+    ensures { result ≡ is_minus text.now }
+{
+    match text.split_first() {
+        Some((first, _)) => *first == b'-',
+        None => false,
+    }
+}
+
+// What stands after a sign, or all where there is none.
+fn unsigned(text: &[u8]) -> &[u8]
+    ensures { result.now ≡ unsigned_of text.now }
+{
+    let Some((first, rest)) = text.split_first() else {
+        return text;
+    };
+    if *first == b'-' || *first == b'+' {
+        rest
+    } else {
+        text
+    }
+}
+
+// A number of at most 999.
+#[tactic(auto, unfolding(crate::specs::Numbers::small_at))]
+fn small(digits: &[u8]) -> Option<u32>
+    ensures is { result ≡ small_at digits.now }
+    ensures few { IfSome result (λ n. n ≤ 999) }
+{
+    if front_len(Class::Digit, digits) != digits.len() {
+        return None;
+    }
+    match decimal(digits, 0) {
+        Ok(n) if n <= 999 => Some(n as u32),
+        _ => None,
+    }
+}
+
+// The exponent after a mantissa: whether it is below 0, and its size.
+#[tactic(auto, unfolding(crate::specs::Numbers::exponent_at))]
+fn exponent(text: &[u8]) -> Option<(bool, u32)>
+    ensures is { result ≡ exponent_at text.now }
+    ensures few { IfSome result (λ e. e.1 ≤ 999) }
+{
+    let Some((_, rest)) = text.split_first() else {
+        return Some((false, 0));
+    };
+    let size = small(unsigned(rest))?;
+    Some((is_minus(rest), size))
+}
+
+fn tenth(n: u64) -> Result<u64, DecimalError>
+    ensures exact { Answers (λ m. m) result (tenth n) }
+    ensures less { IfOk result (λ m. m ≤ n) }
+{
+    if n % 10 != 0 {
+        return Err(DecimalError::Finer);
+    }
+    Ok(n / 10)
+}
+
+// A number without so many zeros at its end.
+fn tenths(n: u64, zeros: u32) -> Result<u64, DecimalError>
+    requires { n < 2 ^ 63 }
+    ensures exact { Answers (λ m. m) result (tenths zeros n) }
+    ensures bound { IfOk result (λ m. m < 2 ^ 63) }
+{
+    let mut m = n;
+    for _ in 0..zeros {
+        m = tenth(m)?;
+    }
+    Ok(m)
+}
+
+// The size of a mantissa with an exponent, in parts of which 10^places make one.
+#[tactic(auto, unfolding(crate::specs::Numbers::scaled_at))]
+fn scaled(mantissa: &[u8], places: u32, down: bool, size: u32) -> Result<u64, DecimalError>
+    requires places { places ≤ 9 }
+    requires size { size ≤ 999 }
+    ensures exact { Answers (λ n. n) result (scaled_at mantissa.now places down size) }
+    ensures bound { IfOk result (λ n. n < 2 ^ 63) }
+{
+    if !down {
+        let n = decimal(mantissa, places + size)?;
+        return Ok(n);
+    }
+    if size <= places {
+        let n = decimal(mantissa, places - size)?;
+        return Ok(n);
+    }
+    let n = decimal(mantissa, 0)?;
+    let m = tenths(n, size - places)?;
+    Ok(m)
+}
+
+fn with_sign(minus: bool, size: u64) -> i64
+    requires { size < 2 ^ 63 }
+    ensures is { result ≡ with_sign minus size }
+    ensures bound { unsigned_abs result < 2 ^ 63 }
+{
+    if minus { -(size as i64) } else { size as i64 }
+}
+
+fn value_of(minus: bool, size: Result<u64, DecimalError>) -> Option<Value>
+    requires { IfOk size (λ n. n < 2 ^ 63) }
+    ensures { result ≡ value_of minus size }
+{
+    match size {
+        Ok(size) => Some(Value::Parts(with_sign(minus, size))),
+        Err(DecimalError::Form) => None,
+        Err(DecimalError::Finer | DecimalError::Large) => Some(Value::Other),
+    }
+}
+
+fn is_special(text: &[u8]) -> bool
+    ensures { result ≡ is_special text.now }
+{
+    text == b"NaN".as_slice()
+        || (text == b"+Inf".as_slice() || (text == b"-Inf".as_slice() || text == b"Inf".as_slice()))
+}
+
+#[tactic(auto, unfolding(crate::specs::Numbers::signed_at))]
+fn signed(text: &[u8], places: u32) -> Option<Value>
+    requires { places ≤ 9 }
+    ensures { result ≡ signed_at text.now places }
+{
+    let (mantissa, rest) = cut_word(Class::Mantissa, unsigned(text));
+    let (down, size) = exponent(rest)?;
+    let size = scaled(mantissa, places, down, size);
+    value_of(is_minus(text), size)
+}
+
+/// The number that a text writes, in parts of which 10^places make one, or `None` where it writes
+/// no number.
+///
+/// The text is `NaN`, `Inf`, `+Inf`, `-Inf`, or a sign or none, digits, perhaps a point and digits,
+/// and perhaps `e` or `E` and an exponent, whose size is at most 999. Nothing is rounded.
+#[tactic(auto, unfolding(crate::specs::Numbers::number_at))]
+pub fn number(text: &[u8], places: u32) -> Option<Value>
+    requires { places ≤ 9 }
+    ensures { result ≡ number_at text.now places }
+{
+    if is_special(text) {
+        return Some(Value::Other);
+    }
+    signed(text, places)
+}
