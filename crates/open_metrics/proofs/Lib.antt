@@ -1,3 +1,6 @@
+pub mod Again
 pub mod Items
+pub mod Taken
 pub mod Tenths
+pub mod Whole
 pub mod Words

@@ -1,5 +1,6 @@
 pub mod Codes
 pub mod Comments
+pub mod Grammar
 pub mod Labels
 pub mod Lines
 pub mod Numbers

@@ -1,9 +1,10 @@
 //! Lines of a text.
 
-ghost use Rattle.std.specs.Prelude.{◌≡◌, ◌≤◌};
+ghost use Rattle.std.specs.Prelude.{◌≡◌, ◌≤◌, IfOk, Ok};
+ghost use Rattle.open_metrics.specs.Grammar.{IfSampled, IsSample};
 ghost use Rattle.open_metrics.specs.Lines.{empty_in, exemplar_at, line_at, meaning_in, of_comment};
 ghost use Rattle.open_metrics.specs.Lines.{sample_at, sample_in, tail_at, tail_in, time_at};
-ghost use Rattle.open_metrics.specs.Lines.{time_places, value_at};
+ghost use Rattle.open_metrics.specs.Lines.{Sampled, sampled, time_places, value_at};
 ghost use Rattle.open_metrics.specs.Outcome.{Gives};
 
 use crate::comments::{Format, read_comment};
@@ -149,16 +150,10 @@ fn of_comment<'a>(ends: bool) -> Line<'a>
     if ends { Line::End } else { Line::Nothing }
 }
 
-/// What a line says, without the end of the line; values are counted in parts of which 10^places
-/// make one.
-///
-/// The first fault is answered, with how many bytes of the line stand from its place on. Labels are
-/// copied where they may have escapes; else nothing is.
 #[tactic(auto, unfolding(crate::specs::Lines::line_at))]
-pub fn read_line(alloc: Global, format: Format, places: u32, line: &[u8]) -> Result<Line<'_>, Fault>
+fn line_of(alloc: Global, format: Format, places: u32, line: &[u8]) -> Result<Line<'_>, Fault>
     requires { places ≤ 9 }
-    // The first fault is answered; if there is none, what reading gives.
-    ensures exact { Gives meaning_in result (line_at format places line.now) }
+    ensures { Gives meaning_in result (line_at format places line.now) }
 {
     let Some((first, rest)) = line.split_first() else {
         return read_empty(format);
@@ -169,4 +164,23 @@ pub fn read_line(alloc: Global, format: Format, places: u32, line: &[u8]) -> Res
     }
     let sample = read_sample(alloc, format, places, line)?;
     Ok(Line::Sample(sample))
+}
+
+/// What a line says, without the end of the line; values are counted in parts of which 10^places
+/// make one.
+///
+/// The first fault is answered, with how many bytes of the line stand from its place on. The texts
+/// of labels are copied, and nothing else is. It takes time in proportion to the line's length.
+pub fn read_line(alloc: Global, format: Format, places: u32, line: &[u8]) -> Result<Line<'_>, Fault>
+    requires { places ≤ 9 }
+    // The first fault is answered; if there is none, what reading gives.
+    ensures exact { Gives meaning_in result (line_at format places line.now) }
+    // A sample that is given is the one that the line spells.
+    ensures found { IfOk result
+        (λ l. IfSampled (meaning_in l) (IsSample format places line.now)) }
+    // A line that spells a sample gives it, unless memory runs out.
+    ensures only { (s : Sampled) → IsSample format places line.now s
+        → Gives meaning_in result (Ok (sampled s)) }
+{
+    line_of(alloc, format, places, line)
 }
