@@ -10,7 +10,7 @@ use Rattle.metrics_writer.specs.Numbers.{number_text}
 
 -- letters, digits, `_` and `:`
 abbrev pub in_metric : ℕ → Bool
-in_metric c = is_ascii_alphabetic c || (is_ascii_digit c || (c == 95 || c == 58))
+in_metric c = (is_ascii_alphabetic c || (is_ascii_digit c || c == 95)) || c == 58
 
 -- whether a text names a metric: `[a-zA-Z_:][a-zA-Z0-9_:]*`
 abbrev pub is_metric : List ℕ → Bool

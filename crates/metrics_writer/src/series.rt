@@ -14,7 +14,7 @@ const NAME: &str = "__name__";
 fn in_metric(c: u8) -> bool
     ensures { result ≡ in_metric c }
 {
-    c.is_ascii_alphabetic() || (c.is_ascii_digit() || (c == b'_' || c == b':'))
+    (c.is_ascii_alphabetic() || (c.is_ascii_digit() || c == b'_')) || c == b':'
 }
 
 fn are_in_metric(bytes: &[u8]) -> bool

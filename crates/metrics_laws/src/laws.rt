@@ -1,0 +1,30 @@
+//! The laws.
+
+ghost use Rattle.std.specs.Prelude.{◌≡◌, ◌≤◌, ◌<◌, ◌^◌, ◌++◌, ◌∷◌, [], ℕ, ℤ, List, true, Some};
+ghost use Rattle.std.specs.Prelude.{unsigned_abs};
+ghost use Rattle.labels.specs.Labels.{Labels};
+ghost use Rattle.labels.specs.LabelSets.{IsLabelSet};
+ghost use Rattle.metrics_writer.specs.Numbers.{number_text};
+ghost use Rattle.metrics_writer.specs.Series.{is_metric, line_text, metric_of, series_text};
+ghost use Rattle.open_metrics.specs.Grammar.{IsSample};
+ghost use Rattle.open_metrics.specs.Numbers.{number_at};
+ghost use Rattle.open_metrics.specs.declared.comments.Format.TheVariants.{OpenMetrics};
+ghost use Rattle.open_metrics.specs.declared.numbers.Value.TheVariants.{Parts};
+ghost use Rattle.metrics_laws.specs.Read.{sample_of};
+
+/// A number that is written is read again, exactly.
+pub fn numbers_are_read_again()
+    ensures { (places : ℕ) (v : ℤ) → places ≤ 9 → unsigned_abs v < 2 ^ 63
+        → number_at (number_text places v) places ≡ Some (Parts v) }
+{}
+
+/// The line that is written for a sample spells this sample: its metric, its other labels, its
+/// value and its time.
+pub fn lines_are_read_again()
+    ensures { (places : ℕ) (labels : Labels) (s : ℤ × ℤ) → places ≤ 9 → IsLabelSet labels
+        → is_metric (metric_of labels) ≡ true
+        → unsigned_abs s.0 < 2 ^ 63 → unsigned_abs s.1 < 2 ^ 63
+        → (line : List ℕ)
+        × (line_text places (series_text labels) s ≡ line ++ 10 ∷ [])
+        × IsSample OpenMetrics places line (sample_of places labels s) }
+{}
