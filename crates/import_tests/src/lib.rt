@@ -12,4 +12,6 @@ mod doubles_of_ieee;
 #[cfg(test)]
 mod promtool_chunks;
 #[cfg(test)]
+mod promtool_lines;
+#[cfg(test)]
 mod promtool_segments;

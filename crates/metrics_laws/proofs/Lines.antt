@@ -156,7 +156,7 @@ line_again places labels s set named t_small v_small =
     let from_labels = labels_text 123 labels ++ (32 ∷ from_value) in
     let line = metric_of labels ++ from_labels in (
       line,
-      (rw (append_assoc, append_assoc) (grind arith)),
+      (simp append_assoc),
       record {
         from_labels = from_labels;
         value = value;
