@@ -51,8 +51,8 @@ fn small(digits: &[u8]) -> Option<u32>
         return None;
     }
     match decimal(digits, 0) {
-        Ok(n) if n <= 999 => Some(n as u32),
-        _ => None,
+        Ok(n) => { if n <= 999 { Some(n as u32) } else { None } }
+        Err(_) => None,
     }
 }
 
@@ -128,7 +128,8 @@ fn value_of(minus: bool, size: Result<u64, DecimalError>) -> Option<Value>
     match size {
         Ok(size) => Some(Value::Parts(with_sign(minus, size))),
         Err(DecimalError::Form) => None,
-        Err(DecimalError::Finer | DecimalError::Large) => Some(Value::Other),
+        Err(DecimalError::Finer) => Some(Value::Other),
+        Err(DecimalError::Large) => Some(Value::Other),
     }
 }
 
