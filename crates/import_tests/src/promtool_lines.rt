@@ -1,8 +1,9 @@
 //! Lines that promtool 2.42 (Debian) takes and refuses, and one of the OpenMetrics specification.
 //!
 //! Each line was given alone, with `# EOF` behind it, to `promtool tsdb create-blocks-from
-//! openmetrics`. What promtool takes beyond these is not read here: numbers as `1.`, `.5`, `nan` and
-//! `+inf`, and escapes other than three. It takes a time of parts of a millisecond, and cuts it.
+//! openmetrics`. What promtool takes beyond these is not read here: numbers as `1.`, `.5`, `nan`
+//! and `+inf`, and escapes other than three. It takes a time of parts of a millisecond, and cuts
+//! it.
 
 use open_metrics::{Fault, Format, Line, Reason, Value, read_line};
 

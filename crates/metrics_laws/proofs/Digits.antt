@@ -1,5 +1,6 @@
 -- Digits that are written, as digits that are read.
-use Rattle.std.proofs.Common.{◌≡◌, ℕ, zero, suc, ◌+◌, ◌-◌, ◌*◌, ◌/◌, ◌%◌, ◌^◌, ◌<◌, ◌≤◌, true, leb, ◌&&◌}
+use Rattle.std.proofs.Common.{◌≡◌, ℕ, zero, suc, ◌+◌, ◌-◌, ◌*◌, ◌/◌, ◌%◌, ◌^◌, ◌<◌, ◌≤◌, true, leb}
+use Rattle.std.proofs.Common.{◌&&◌}
 use Rattle.std.proofs.Common.{List, [], ◌∷◌, ◌++◌, length, refl, sym, ap, ◌∙◌, arith}
 use Rattle.std.specs.Prelude.{decimal}
 use Rattle.std.specs.Str.Parse.{AllDigits, digits_value_after}
@@ -25,7 +26,8 @@ digits_are (c ∷ cs) all =
     let k = digit_from_value c all.0 in
     (digit_is c k.0 k.1, digits_are cs all.1)
 
-pub value_is : (n : ℕ) (ds : List ℕ) → AllDigits 10 ds → value_from n ds ≡ digits_value_after 10 n ds
+pub value_is : (n : ℕ) (ds : List ℕ) → AllDigits 10 ds
+    → value_from n ds ≡ digits_value_after 10 n ds
 value_is n [] all = refl
 value_is n (c ∷ cs) all =
     let k = digit_from_value c all.0 in
@@ -73,6 +75,7 @@ last_value (suc k) n =
     ap (λ (x : ℕ). x * 10 + (48 + m % 10 - 48)) tens ∙ omega (arith, back) in
     ap (λ (x : ℕ). value_from x (last_digits k n)) one ∙ last_value k n
 
-pub value_append : (n : ℕ) (xs ys : List ℕ) → value_from n (xs ++ ys) ≡ value_from (value_from n xs) ys
+pub value_append : (n : ℕ) (xs ys : List ℕ)
+    → value_from n (xs ++ ys) ≡ value_from (value_from n xs) ys
 value_append n [] ys = refl
 value_append n (x ∷ xs) ys = value_append (n * 10 + (x - 48)) xs ys

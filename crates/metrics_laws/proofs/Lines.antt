@@ -1,6 +1,8 @@
 -- Lines that are written are read again.
-use Rattle.std.proofs.Common.{◌≡◌, ℕ, suc, ◌+◌, ◌<◌, ◌≤◌, ℤ, Bool, true, false, eqb, leb, ◌&&◌, ◌||◌}
-use Rattle.std.proofs.Common.{not, List, [], ◌∷◌, ◌++◌, length, Some, refl, sym, ap, subst, ◌∙◌, inl, inr}
+use Rattle.std.proofs.Common.{◌≡◌, ℕ, suc, ◌+◌, ◌<◌, ◌≤◌, ℤ, Bool, true, false, eqb, leb, ◌&&◌}
+use Rattle.std.proofs.Common.{◌||◌}
+use Rattle.std.proofs.Common.{not, List, [], ◌∷◌, ◌++◌, length, Some, refl, sym, ap, subst, ◌∙◌}
+use Rattle.std.proofs.Common.{inl, inr}
 use Rattle.std.proofs.Common.{append_assoc, length-append, arith}
 use Rattle.std.specs.Prelude.{unsigned_abs, filter, IsTrue}
 use Rattle.std.specs.List.{AllByRecursion, list_all, All}
@@ -17,7 +19,8 @@ use Rattle.metrics_writer.specs.Series.{line_text}
 use Rattle.open_metrics.specs.declared.comments.Format.TheVariants.{OpenMetrics}
 use Rattle.open_metrics.specs.declared.tokens.Class.{Class}
 use Rattle.open_metrics.specs.declared.tokens.Class.TheVariants.{Metric, Label}
-use Rattle.open_metrics.specs.Grammar.{AreIn, IsName, escape_then, text_then, pair_then, others_then}
+use Rattle.open_metrics.specs.Grammar.{AreIn, IsName, escape_then, text_then, pair_then}
+use Rattle.open_metrics.specs.Grammar.{others_then}
 use Rattle.open_metrics.specs.Grammar.{braced_then, SpellsLabels, IsSample}
 use Rattle.open_metrics.specs.Labels.{Pair}
 use Rattle.open_metrics.specs.Tokens.{goes_on}
@@ -51,7 +54,8 @@ pair_is p rest =
     ∙ ap (λ (r : List ℕ). p.0 ++ (61 ∷ 34 ∷ r))
     (append_assoc (escaped_text p.1) (34 ∷ []) rest ∙ text_is p.1 rest)
 
-others_are : (ps : Labels) (rest : List ℕ) → labels_text 44 ps ++ rest ≡ others_then (others_of ps) rest
+others_are : (ps : Labels) (rest : List ℕ)
+    → labels_text 44 ps ++ rest ≡ others_then (others_of ps) rest
 unfolding labels_text
 others_are [] rest = refl
 others_are (p ∷ ps) rest =
@@ -63,7 +67,8 @@ others_are (p ∷ ps) rest =
           ∙ (pair_is p (labels_text 44 ps ++ rest) ∙ ap (pair_then p) (others_are ps rest))))
     ]
 
-pub labels_spell : (ps : Labels) (rest : List ℕ) → SpellsLabels (others_of ps) rest (labels_text 123 ps ++ rest)
+pub labels_spell : (ps : Labels) (rest : List ℕ)
+    → SpellsLabels (others_of ps) rest (labels_text 123 ps ++ rest)
 unfolding labels_text
 labels_spell [] rest = inr (refl, refl)
 labels_spell (p ∷ ps) rest =
@@ -121,7 +126,11 @@ label_name [] h = absurd cc
 label_name (c ∷ cs) h =
     let p = and_parts (starts_name c) (list_all continues_name cs) h in
     record {
-      in_class = (begins (is_ascii_alphabetic c) (eqb c 95) (is_ascii_digit c) p.0, label_bytes cs p.1);
+      in_class = (
+        begins (is_ascii_alphabetic c) (eqb c 95) (is_ascii_digit c) p.0,
+        label_bytes cs
+            p.1,
+      );
       begun = no_digit c p.0;
     }
 
@@ -172,7 +181,8 @@ line_again places labels s set named t_small v_small =
         time_word = number_word 3 s.0 t_small;
         time_is = number_again 3 s.0 t_small;
         tail_is = refl;
-        value_from = omega (arith, length-append value (32 ∷ (time ++ nil)), length-append time nil);
+        value_from =
+            omega (arith, length-append value (32 ∷ (time ++ nil)), length-append time nil);
         time_from = omega (arith, length-append time nil);
       },
     )

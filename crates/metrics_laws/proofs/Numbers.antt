@@ -1,6 +1,8 @@
 -- Numbers that are written are read again.
-use Rattle.std.proofs.Common.{◌≡◌, ℕ, zero, suc, ◌+◌, ◌-◌, ◌*◌, ◌/◌, ◌^◌, ◌<◌, ◌≤◌, ℤ, pos, negsuc, Bool}
-use Rattle.std.proofs.Common.{true, false, eqb, leb, ◌&&◌, List, [], ◌∷◌, ◌++◌, length, Result, Ok, Some}
+use Rattle.std.proofs.Common.{◌≡◌, ℕ, zero, suc, ◌+◌, ◌-◌, ◌*◌, ◌/◌, ◌^◌, ◌<◌, ◌≤◌, ℤ, pos, negsuc}
+use Rattle.std.proofs.Common.{Bool}
+use Rattle.std.proofs.Common.{true, false, eqb, leb, ◌&&◌, List, [], ◌∷◌, ◌++◌, length, Result, Ok}
+use Rattle.std.proofs.Common.{Some}
 use Rattle.std.proofs.Common.{Option, refl, sym, ap, subst, ◌∙◌, arith}
 use Rattle.std.specs.Prelude.{decimal, unsigned_abs}
 use Rattle.std.proofs.lemmas.Bool.{ne_eqb, leb-true, and_parts}
@@ -81,14 +83,16 @@ digits_in : (class : Class) → ((c : ℕ) → is_digit c ≡ true → goes_on c
 digits_in class each [] are = tt
 digits_in class each (c ∷ cs) are = (each c are.0, digits_in class each cs are.1)
 
-both_in : (class : Class) (xs ys : List ℕ) → AreIn class xs → AreIn class ys → AreIn class (xs ++ ys)
+both_in : (class : Class) (xs ys : List ℕ) → AreIn class xs → AreIn class ys
+    → AreIn class (xs ++ ys)
 both_in class [] ys a b = b
 both_in class (x ∷ xs) ys a b = (a.0, both_in class xs ys a.1 b)
 
 fraction_in : (class : Class) → ((c : ℕ) → is_digit c ≡ true → goes_on class c ≡ true)
     → goes_on class 46 ≡ true → (places n : ℕ) → AreIn class (fraction_of places n)
 fraction_in class each point zero n = tt
-fraction_in class each point (suc k) n = (point, digits_in class each (last_digits (suc k) n) (last_are (suc k) n))
+fraction_in class each point (suc k) n =
+    (point, digits_in class each (last_digits (suc k) n) (last_are (suc k) n))
 
 size_in : (class : Class) → ((c : ℕ) → is_digit c ≡ true → goes_on class c ≡ true)
     → goes_on class 46 ≡ true → (places n : ℕ) → n < 2 ^ 63 → AreIn class (size_text places n)
@@ -144,8 +148,10 @@ mantissa_size places n lt =
     let nil = append-nil body in
     let same : places + 0 ≡ places = omega arith in
     record {
-      front_is = subst (λ (b : List ℕ). front Mantissa b ≡ body) nil (front_again Mantissa body [] are tt);
-      behind_is = subst (λ (b : List ℕ). behind Mantissa b ≡ []) nil (behind_again Mantissa body [] are tt);
+      front_is = subst (λ (b : List ℕ). front Mantissa b ≡ body) nil (front_again Mantissa body []
+          are tt);
+      behind_is =
+          subst (λ (b : List ℕ). behind Mantissa b ≡ []) nil (behind_again Mantissa body [] are tt);
       decimal_is = ap (decimal_at body) same ∙ decimal_again body places n lt (size_is places n lt);
     }
 
@@ -165,7 +171,8 @@ pub number_again : (places : ℕ) (v : ℤ) → unsigned_abs v < 2 ^ 63
     → number_at (number_text places v) places ≡ Some (Parts v)
 unfolding number_text
 number_again places (pos n) lt =
-    positive_again (size_text places n) places n (plain_size places n lt) (mantissa_size places n lt)
+    positive_again (size_text places n) places n (plain_size places n lt) (mantissa_size places n
+    lt)
 number_again places (negsuc n) lt =
     negative_again (size_text places (suc n)) places (suc n) (plain_size places (suc n) lt)
     (mantissa_size places (suc n) lt)

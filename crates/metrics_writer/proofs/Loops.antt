@@ -1,5 +1,6 @@
 -- What is written piece by piece.
-use Rattle.std.proofs.Common.{◌≡◌, ℕ, suc, ◌+◌, ◌-◌, ◌<◌, ◌≤◌, List, [], ◌∷◌, ◌++◌, length, drop, get_or}
+use Rattle.std.proofs.Common.{◌≡◌, ℕ, suc, ◌+◌, ◌-◌, ◌<◌, ◌≤◌, List, [], ◌∷◌, ◌++◌, length, drop}
+use Rattle.std.proofs.Common.{get_or}
 use Rattle.std.proofs.Common.{refl, sym, ap, ◌∙◌, append_assoc, add-one, arith}
 use Rattle.std.specs.List.{flat_map}
 use Rattle.std.proofs.Math.Seq.{drop-cons}
@@ -40,7 +41,8 @@ each_done text xs i le = ap (flat_map text) (gone xs i le)
 
 pub labels_next : (mark : ℕ) (ps : Labels) (i : ℕ) (p : List ℕ × List ℕ) → i < length ps
     → p ≡ get_or ps i p
-    → labels_text mark (drop i ps) ≡ label_text mark p ++ labels_text (mark_after mark p) (drop (i + 1) ps)
+    → labels_text mark (drop i ps)
+    ≡ label_text mark p ++ labels_text (mark_after mark p) (drop (i + 1) ps)
 unfolding labels_text
 labels_next mark ps i p lt e = ap (labels_text mark) (next ps i p lt e)
 

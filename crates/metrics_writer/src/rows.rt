@@ -1,9 +1,11 @@
 //! Rows as text.
 
-ghost use Rattle.std.specs.Prelude.{◌≡◌, ◌<◌, ◌≤◌, ◌++◌, ℕ, true, false, length, get_or, IfOk, OnOk};
+ghost use Rattle.std.specs.Prelude.{◌≡◌, ◌<◌, ◌≤◌, ◌++◌, ℕ, true, false, length, get_or, IfOk};
+ghost use Rattle.std.specs.Prelude.{OnOk};
 ghost use Rattle.std.specs.Prelude.{IsErrOf, Err};
 ghost use Rattle.std.specs.List.{flat_map, list_all};
-ghost use Rattle.metrics_writer.specs.Series.{is_of_metric, line_text, row_text, rows_text, text_of};
+ghost use Rattle.metrics_writer.specs.Series.{is_of_metric, line_text, row_text, rows_text};
+ghost use Rattle.metrics_writer.specs.Series.{text_of};
 ghost use Rattle.metrics_writer.specs.declared.rows.WriteError.TheVariants.{Memory};
 
 use crate::numbers::append_number;

@@ -1,5 +1,6 @@
 -- What is spelled is read.
-use Rattle.std.proofs.Common.{◌≡◌, ℕ, zero, suc, ◌+◌, ◌<◌, ◌≤◌, Bool, true, false, eqb, cond, List, []}
+use Rattle.std.proofs.Common.{◌≡◌, ℕ, zero, suc, ◌+◌, ◌<◌, ◌≤◌, Bool, true, false, eqb, cond, List}
+use Rattle.std.proofs.Common.{[]}
 use Rattle.std.proofs.Common.{◌∷◌, ◌++◌, length, take, drop, Result, Ok, Err, Option, None, Some}
 use Rattle.std.proofs.Common.{refl, sym, ap, subst, ◌∙◌, inl, inr, arith}
 use Rattle.std.proofs.lemmas.Bool.{cases_Bool, eqb-true}
@@ -55,7 +56,8 @@ name_again class why name rest is stop =
 
 same_char : (a b : ℕ) (rest : List ℕ) → a ≡ b
     → ◌≡◌ {A = Result (Option ℕ × List ℕ) Fault} (Ok (Some a, rest)) (Ok (Some b, rest))
-same_char a b rest e = ap (λ (x : ℕ). let r : Result (Option ℕ × List ℕ) Fault = Ok (Some x, rest) in r) e
+same_char a b rest e =
+    ap (λ (x : ℕ). let r : Result (Option ℕ × List ℕ) Fault = Ok (Some x, rest) in r) e
 
 char_again : (c : ℕ) (rest : List ℕ) → char_at (escape_then c rest) ≡ Ok (Some c, rest)
 unfolding char_at escape_at
@@ -103,14 +105,16 @@ pub text_again : (cs rest : List ℕ) → text_at (text_then cs rest) ≡ Ok (cs
 unfolding text_at
 text_again cs rest = text_again_in cs rest (length (text_then cs rest)) (text_long cs rest)
 
-pub pair_again : (p : Pair) (rest : List ℕ) → IsName Label p.0 → pair_at (pair_then p rest) ≡ Ok (p, rest)
+pub pair_again : (p : Pair) (rest : List ℕ) → IsName Label p.0
+    → pair_at (pair_then p rest) ≡ Ok (p, rest)
 unfolding pair_at byte_at
 pair_again p rest is =
     let name = name_again Label reason.Label p.0 (61 ∷ 34 ∷ text_then p.1 rest) is refl in
     let text = text_again p.1 rest in
     rw (name, text) refl
 
-others_again_in : (ps : List Pair) (rest : List ℕ) (n : ℕ) → AllByRecursion (λ (p : Pair). IsName Label p.0) ps
+others_again_in : (ps : List Pair) (rest : List ℕ) (n : ℕ)
+    → AllByRecursion (λ (p : Pair). IsName Label p.0) ps
     → length ps < n → until_end next_at reason.Many n (others_then ps rest) ≡ Ok (ps, rest)
 unfolding until_end next_at
 others_again_in [] rest zero are lt = absurd (omega arith)
@@ -122,7 +126,8 @@ others_again_in (p ∷ ps) rest (suc n) are lt =
     rw (one, others) refl
 
 not_brace : (p : Pair) (rest : List ℕ) → IsName Label p.0
-    → within_at (pair_then p rest) ≡ (pair_at (pair_then p rest) >>= λ q. others_at q.1 >>= λ ps. Ok (q.0 ∷ ps.0, ps.1))
+    → within_at (pair_then p rest)
+    ≡ (pair_at (pair_then p rest) >>= λ q. others_at q.1 >>= λ ps. Ok (q.0 ∷ ps.0, ps.1))
 unfolding within_at
 not_brace ([], text) rest is = absurd (let b = is.begun in cc)
 not_brace (c ∷ cs, text) rest is =
@@ -145,7 +150,8 @@ labels_again (p ∷ ps) rest bytes x more are few e (inl is) =
 labels_again labels rest bytes x more are few e (inr is) =
     ap labels_at (is.1 ∙ e)
     ∙ (ap (λ (r : List ℕ). let y : Result (List Pair × List ℕ) Fault = Ok ([], r) in y) (sym e)
-    ∙ ap (λ (ls : List Pair). let y : Result (List Pair × List ℕ) Fault = Ok (ls, rest) in y) (sym is.0))
+    ∙ ap (λ (ls : List Pair). let y : Result (List Pair × List ℕ) Fault = Ok (ls, rest) in y) (sym
+    is.0))
 
 stops_tail : (format : Format) (tail : List ℕ) (exemplar : Bool) → IsTail format tail exemplar
     → Stops Word tail
@@ -158,7 +164,8 @@ tail_again : (format : Format) (tail : List ℕ) (exemplar : Bool) → IsTail fo
 unfolding tail_at exemplar_at byte_at
 tail_again format [] exemplar is = ap (λ (b : Bool). let r : Result Bool Fault = Ok b in r) (sym is)
 tail_again OpenMetrics (c ∷ cs) exemplar is =
-    ap (tail_at OpenMetrics) is.0.is ∙ ap (λ (b : Bool). let r : Result Bool Fault = Ok b in r) (sym is.1)
+    ap (tail_at OpenMetrics) is.0.is
+    ∙ ap (λ (b : Bool). let r : Result Bool Fault = Ok b in r) (sym is.1)
 tail_again Prometheus (c ∷ cs) exemplar is = absurd is
 
 same_sampled : (s t : Sampled) → s ≡ t → ◌≡◌ {A = Result Sampled Fault} (Ok s) (Ok t)
@@ -177,9 +184,12 @@ sample_again format places line s is =
     let after_time = is.tail in
     let from_time = is.time ++ is.tail in
     let from_value = is.value ++ (32 ∷ from_time) in
-    let stop_name = stops_labels s.labels (32 ∷ from_value) is.from_labels from_value refl is.labels_are in
+    let stop_name =
+    stops_labels s.labels (32 ∷ from_value) is.from_labels from_value refl is.labels_are in
     let name = name_again Metric reason.Name s.name is.from_labels is.name_is stop_name in
-    let labels = labels_again s.labels (32 ∷ from_value) is.from_labels 0 from_value is.label_names is.few refl is.labels_are in
+    let labels =
+    labels_again s.labels (32 ∷ from_value) is.from_labels 0 from_value is.label_names is.few
+    refl is.labels_are in
     let value_front = front_again Word is.value (32 ∷ from_time) is.value_word refl in
     let value_rest = behind_again Word is.value (32 ∷ from_time) is.value_word refl in
     let stop = stops_tail format is.tail s.exemplar is.tail_is in

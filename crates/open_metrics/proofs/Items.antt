@@ -32,14 +32,16 @@ module _ {A : Type 0} (at : Step A) (reason : Reason) where
       ap (λ (n : ℕ). until_end at reason n bytes) k
 
   -- an item was read
-  pub goes_on : (front : List A) (count i : ℕ) (bytes : List ℕ) (a : A) (after : List ℕ) (total : Items A)
+  pub goes_on : (front : List A) (count i : ℕ) (bytes : List ℕ) (a : A) (after : List ℕ) (total :
+      Items A)
       → i < count → at bytes ≡ Ok (Some a, after)
       → with_front front (until_end at reason (count - i) bytes) ≡ total
       → with_front (front ++ a ∷ []) (until_end at reason (count - (i + 1)) after) ≡ total
   goes_on front count i bytes a after total lt h so_far =
       let more = λ (rest : List ℕ). until_end at reason (count - (i + 1)) rest in
       let one : until_end at reason (count - i) bytes ≡ (more after >>= λ x. Ok (a ∷ x.0, x.1)) =
-      one_more count i bytes lt ∙ ap (λ (r : Result (Option A × List ℕ) Fault). r >>= λ x. goes_with more x.0 x.1) h in
+      one_more count i bytes lt
+      ∙ ap (λ (r : Result (Option A × List ℕ) Fault). r >>= λ x. goes_with more x.0 x.1) h in
       sym (regroup front a (more after)) ∙ (sym (ap (with_front front) one) ∙ so_far)
 
   -- the end was read
@@ -50,8 +52,10 @@ module _ {A : Type 0} (at : Step A) (reason : Reason) where
   ends front count i bytes after total lt h so_far =
       let more = λ (rest : List ℕ). until_end at reason (count - (i + 1)) rest in
       let one : until_end at reason (count - i) bytes ≡ Ok ([], after) =
-      one_more count i bytes lt ∙ ap (λ (r : Result (Option A × List ℕ) Fault). r >>= λ x. goes_with more x.0 x.1) h in
-      sym so_far ∙ (ap (with_front front) one ∙ ap (λ (ns : List A). Ok (ns, after)) (append-nil front))
+      one_more count i bytes lt
+      ∙ ap (λ (r : Result (Option A × List ℕ) Fault). r >>= λ x. goes_with more x.0 x.1) h in
+      sym so_far
+      ∙ (ap (with_front front) one ∙ ap (λ (ns : List A). Ok (ns, after)) (append-nil front))
 
   stopped : (f : Fault) (front : List A) (count i : ℕ) (bytes : List ℕ) (total : Items A)
       → i < count → at bytes ≡ Err f
@@ -59,7 +63,8 @@ module _ {A : Type 0} (at : Step A) (reason : Reason) where
   stopped f front count i bytes total lt h so_far =
       let more = λ (rest : List ℕ). until_end at reason (count - (i + 1)) rest in
       let one : until_end at reason (count - i) bytes ≡ Err f =
-      one_more count i bytes lt ∙ ap (λ (r : Result (Option A × List ℕ) Fault). r >>= λ x. goes_with more x.0 x.1) h in
+      one_more count i bytes lt
+      ∙ ap (λ (r : Result (Option A × List ℕ) Fault). r >>= λ x. goes_with more x.0 x.1) h in
       sym so_far ∙ ap (with_front front) one
 
   -- the step failed
@@ -67,7 +72,8 @@ module _ {A : Type 0} (at : Step A) (reason : Reason) where
       → i < count → Fails is_memory f (at bytes)
       → with_front front (until_end at reason (count - i) bytes) ≡ total → Fails is_memory f total
   fails Memory front count i bytes total lt h so_far = tt
-  fails (At r n) front count i bytes total lt h so_far = stopped (At r n) front count i bytes total lt h so_far
+  fails (At r n) front count i bytes total lt h so_far =
+      stopped (At r n) front count i bytes total lt h so_far
 
   -- the end did not come
   pub runs_out : (front : List A) (count i : ℕ) (bytes : List ℕ) (total : Items A) → count ≤ i

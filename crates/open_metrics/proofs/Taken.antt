@@ -1,5 +1,6 @@
 -- What is read is spelled so.
-use Rattle.std.proofs.Common.{◌≡◌, ℕ, zero, suc, ◌+◌, ◌<◌, ◌≤◌, ℤ, Bool, true, false, eqb, cond, List, []}
+use Rattle.std.proofs.Common.{◌≡◌, ℕ, zero, suc, ◌+◌, ◌<◌, ◌≤◌, ℤ, Bool, true, false, eqb, cond}
+use Rattle.std.proofs.Common.{List, []}
 use Rattle.std.proofs.Common.{◌∷◌, ◌++◌, length, take, drop, Result, Ok, Err, Option, None, Some}
 use Rattle.std.proofs.Common.{refl, sym, ap, subst, ◌∙◌, inl, inr, arith}
 use Rattle.std.proofs.lemmas.Bool.{cases_Bool, eqb-true}
@@ -26,7 +27,8 @@ use Rattle.open_metrics.specs.Lines.{tail_at, exemplar_at, sample_at}
 use Rattle.open_metrics.specs.Numbers.{number_at}
 use Rattle.open_metrics.specs.Texts.{char_at, escape_at, escaped, or_text, text_at, until_end}
 use Rattle.open_metrics.specs.Texts.{goes_with}
-use Rattle.open_metrics.specs.Tokens.{goes_on, count_front, front, behind, is_begun, name_at, byte_at}
+use Rattle.open_metrics.specs.Tokens.{goes_on, count_front, front, behind, is_begun, name_at}
+use Rattle.open_metrics.specs.Tokens.{byte_at}
 
 front_in : (class : Class) (bytes : List ℕ) → AreIn class (front class bytes)
 unfolding count_front
@@ -62,7 +64,8 @@ unfolding byte_at
 byte_takes c why [] rest h = absurd cc
 byte_takes c why (b ∷ bytes) rest h =
     let p = passed (eqb b c) (At why (length (b ∷ bytes))) (Ok bytes) rest h in
-    ap (λ (x : ℕ). x ∷ bytes) (eqb-true b c p.0) ∙ ap (λ (r : List ℕ). c ∷ r) (same_value bytes rest p.1)
+    ap (λ (x : ℕ). x ∷ bytes) (eqb-true b c p.0)
+    ∙ ap (λ (r : List ℕ). c ∷ r) (same_value bytes rest p.1)
 
 -- what a step of a text found
 abbrev pub SpellsChar : List ℕ → Option ℕ × List ℕ → Type 0
@@ -91,7 +94,9 @@ escape_takes (d ∷ rest) x h =
               let k : or_text rest (length (d ∷ rest)) (Some 10) ≡ Ok x = rw (e, f, g) at h in
               subst (SpellsChar (92 ∷ d ∷ rest)) (same_value (Some 10, rest) x k)
               (ap (λ (y : ℕ). 92 ∷ y ∷ rest) (eqb-true d 110 g))
-          | inr g ↦ absurd (let k : or_text rest (length (d ∷ rest)) None ≡ Ok x = rw (e, f, g) at h in cc)
+          | inr g ↦ absurd (
+              let k : or_text rest (length (d ∷ rest)) None ≡ Ok x = rw (e, f, g) at h in
+              cc)
         ]
       ]
     ]
@@ -108,7 +113,8 @@ char_takes (c ∷ rest) x h =
       | inr e ↦ elim (cases_Bool (eqb c 92)) [
         | inl f ↦
             let g : escape_at rest ≡ Ok x = rw (e, f) at h in
-            subst (λ (y : ℕ). SpellsChar (y ∷ rest) x) (sym (eqb-true c 92 f)) (escape_takes rest x g)
+            subst (λ (y : ℕ). SpellsChar (y ∷ rest) x) (sym (eqb-true c 92 f)) (escape_takes rest
+            x g)
         | inr f ↦ elim (cases_Bool (eqb c 10)) [
           | inl g ↦ absurd (let k = rw (e, f, g) at h in cc)
           | inr g ↦
@@ -120,7 +126,8 @@ char_takes (c ∷ rest) x h =
     ]
 
 text_goes : (n : ℕ) (bytes : List ℕ) (next : Option ℕ) (rest : List ℕ) (x : List ℕ × List ℕ)
-    → ((y : List ℕ × List ℕ) → until_end char_at reason.Text n rest ≡ Ok y → rest ≡ text_then y.0 y.1)
+    → ((y : List ℕ × List ℕ) → until_end char_at reason.Text n rest ≡ Ok y → rest ≡ text_then y.0
+    y.1)
     → SpellsChar bytes (next, rest)
     → goes_with (λ r. until_end char_at reason.Text n r) next rest ≡ Ok x
     → bytes ≡ text_then x.0 x.1
@@ -141,7 +148,8 @@ text_takes_in (suc n) bytes x h =
     let a = bind_ok (char_at bytes) _ x h in
     text_goes n bytes a.0.0 a.0.1 x (text_takes_in n a.0.1) (char_takes bytes a.0 a.1) a.2
 
-text_takes : (bytes : List ℕ) (x : List ℕ × List ℕ) → text_at bytes ≡ Ok x → bytes ≡ text_then x.0 x.1
+text_takes : (bytes : List ℕ) (x : List ℕ × List ℕ) → text_at bytes ≡ Ok x
+    → bytes ≡ text_then x.0 x.1
 unfolding text_at
 text_takes bytes x h = text_takes_in (length bytes) bytes x h
 
@@ -198,8 +206,10 @@ next_takes (c ∷ rest) x h =
             let a = bind_ok (pair_at rest) _ x (rw (e, f) at h) in
             let one = pair_takes rest a.0 a.1 in
             let made : Option Pair × List ℕ = (Some a.0.0, a.0.1) in
-            subst (SpellsNext (c ∷ rest)) (same_value made x a.2)
-            (ap (λ (y : ℕ). y ∷ rest) (eqb-true c 44 f) ∙ ap (λ (r : List ℕ). 44 ∷ r) one.text, one.is)
+            subst (SpellsNext (c ∷ rest)) (same_value made x a.2) (
+              ap (λ (y : ℕ). y ∷ rest) (eqb-true c 44 f) ∙ ap (λ (r : List ℕ). 44 ∷ r) one.text,
+              one.is,
+            )
         | inr f ↦ absurd (let k = rw (e, f) at h in cc)
       ]
     ]
@@ -246,7 +256,11 @@ within_takes (c ∷ rest) x h =
       | inl e ↦
           let made : List Pair × List ℕ = ([], rest) in
           subst (Labelled (123 ∷ c ∷ rest)) (same_value made x (rw e at h))
-          (record { text = inl (ap (λ (y : ℕ). 123 ∷ y ∷ rest) (eqb-true c 125 e)); are = tt; few = omega arith })
+          (record {
+            text = inl (ap (λ (y : ℕ). 123 ∷ y ∷ rest) (eqb-true c 125 e));
+            are = tt;
+            few = omega arith;
+          })
       | inr e ↦
           let a = bind_ok (pair_at (c ∷ rest)) _ x (rw e at h) in
           let b = bind_ok (until_end next_at reason.Many 64 a.0.1) _ x a.2 in
@@ -265,10 +279,15 @@ labels_take : (bytes : List ℕ) (x : List Pair × List ℕ) → labels_at bytes
 unfolding labels_at
 labels_take [] x h =
     let made : List Pair × List ℕ = ([], []) in
-    subst (Labelled []) (same_value made x h) (record { text = inr (refl, refl); are = tt; few = omega arith })
+    subst (Labelled []) (same_value made x h) (record {
+      text = inr (refl, refl);
+      are = tt;
+      few = omega arith;
+    })
 labels_take (c ∷ rest) x h =
     elim (cases_Bool (eqb c 123)) [
-      | inl e ↦ subst (λ (y : ℕ). Labelled (y ∷ rest) x) (sym (eqb-true c 123 e)) (within_takes rest x (rw e at h))
+      | inl e ↦ subst (λ (y : ℕ). Labelled (y ∷ rest) x) (sym (eqb-true c 123 e)) (within_takes
+          rest x (rw e at h))
       | inr e ↦
           let made : List Pair × List ℕ = ([], c ∷ rest) in
           subst (Labelled (c ∷ rest)) (same_value made x (rw e at h))
@@ -285,12 +304,16 @@ value_of_word : (places : ℕ) (bytes : List ℕ) (read : Option Value) (x : Val
 value_of_word places bytes None x e h = absurd cc
 value_of_word places bytes (Some v) x e h =
     let made : Value × List ℕ = (v, behind Word bytes) in
-    subst (Valued places bytes) (same_value made x h) (record { text = front_cut Word bytes; is = e })
+    subst (Valued places bytes) (same_value made x h) (record {
+      text = front_cut Word bytes;
+      is = e;
+    })
 
 value_takes : (places : ℕ) (bytes : List ℕ) (x : Value × List ℕ) → value_at places bytes ≡ Ok x
     → Valued places bytes x
 unfolding value_at
-value_takes places bytes x h = value_of_word places bytes (number_at (front Word bytes) places) x refl h
+value_takes places bytes x h =
+    value_of_word places bytes (number_at (front Word bytes) places) x refl h
 
 pub record Timed (format : Format) (bytes : List ℕ) (x : ℤ × List ℕ) : Type 0 where
   pub text : bytes ≡ front Word bytes ++ x.1
@@ -303,7 +326,10 @@ time_of_word format bytes None x e h = absurd cc
 time_of_word format bytes (Some Other) x e h = absurd cc
 time_of_word format bytes (Some (Parts t)) x e h =
     let made : ℤ × List ℕ = (t, behind Word bytes) in
-    subst (Timed format bytes) (same_value made x h) (record { text = front_cut Word bytes; is = e })
+    subst (Timed format bytes) (same_value made x h) (record {
+      text = front_cut Word bytes;
+      is = e;
+    })
 
 time_takes : (format : Format) (bytes : List ℕ) (x : ℤ × List ℕ) → time_at format bytes ≡ Ok x
     → Timed format bytes x
@@ -311,7 +337,8 @@ unfolding time_at
 time_takes format bytes x h =
     time_of_word format bytes (number_at (front Word bytes) (time_places format)) x refl h
 
-exemplar_takes : (bytes : List ℕ) (b : Bool) → exemplar_at bytes ≡ Ok b → IsExemplar bytes × (b ≡ true)
+exemplar_takes : (bytes : List ℕ) (b : Bool) → exemplar_at bytes ≡ Ok b
+    → IsExemplar bytes × (b ≡ true)
 unfolding exemplar_at
 exemplar_takes bytes b h =
     let one = bind_ok (byte_at 32 reason.After bytes) _ b h in
@@ -324,12 +351,14 @@ exemplar_takes bytes b h =
     let k = byte_takes 123 reason.After three.0 four.0 four.1 in (
       record {
         rest = four.0;
-        is = e ∙ ap (λ (r : List ℕ). 32 ∷ r) (f ∙ ap (λ (r : List ℕ). 35 ∷ r) (g ∙ ap (λ (r : List ℕ). 32 ∷ r) k));
+        is = e ∙ ap (λ (r : List ℕ). 32 ∷ r) (f ∙ ap (λ (r : List ℕ). 35 ∷ r) (g ∙ ap (λ (r : List
+            ℕ). 32 ∷ r) k));
       },
       sym (same_value true b four.2),
     )
 
-tail_takes : (format : Format) (bytes : List ℕ) (b : Bool) → tail_at format bytes ≡ Ok b → IsTail format bytes b
+tail_takes : (format : Format) (bytes : List ℕ) (b : Bool) → tail_at format bytes ≡ Ok b
+    → IsTail format bytes b
 unfolding tail_at
 tail_takes format [] b h = sym (same_value false b h)
 tail_takes OpenMetrics (c ∷ cs) b h = exemplar_takes (c ∷ cs) b h
@@ -356,7 +385,8 @@ sample_takes format places line s h =
     let value_word = front Word value_text.0 in
     let time_word = front Word time_text.0 in
     let from_value : value_text.0 ≡ value_word ++ (32 ∷ (time_word ++ time.0.1)) =
-    four.text ∙ ap (λ (r : List ℕ). value_word ++ r) (five ∙ ap (λ (r : List ℕ). 32 ∷ r) six.text) in
+    four.text
+    ∙ ap (λ (r : List ℕ). value_word ++ r) (five ∙ ap (λ (r : List ℕ). 32 ∷ r) six.text) in
     let made : Sampled = record {
       name = name.0.0;
       labels = labels.0.0;
@@ -374,7 +404,9 @@ sample_takes format places line s h =
       tail = time.0.1;
       line_is = one.text;
       name_is = one.is;
-      labels_are = subst (λ (r : List ℕ). SpellsLabels labels.0.0 r name.0.1) (three ∙ ap (λ (r : List ℕ). 32 ∷ r) from_value) two.text;
+      labels_are =
+          subst (λ (r : List ℕ). SpellsLabels labels.0.0 r name.0.1) (three ∙ ap (λ (r : List ℕ).
+          32 ∷ r) from_value) two.text;
       label_names = two.are;
       few = two.few;
       value_word = front_in Word value_text.0;

@@ -12,7 +12,8 @@ use Rattle.open_metrics.specs.declared.lines.Line.{Line}
 use Rattle.open_metrics.specs.declared.tokens.Class.TheVariants.{Metric}
 use Rattle.open_metrics.specs.Comments.{comment_at}
 use Rattle.open_metrics.specs.Grammar.{IfSampled, IsSample, IsName}
-use Rattle.open_metrics.specs.Lines.{Sampled, Meaning, nothing, end, sampled, meaning_in, of_comment}
+use Rattle.open_metrics.specs.Lines.{Sampled, Meaning, nothing, end, sampled, meaning_in}
+use Rattle.open_metrics.specs.Lines.{of_comment}
 use Rattle.open_metrics.specs.Lines.{line_at, sample_at}
 use Rattle.open_metrics.specs.Outcome.{Gives}
 use Rattle.open_metrics.specs.Tokens.{goes_on}
@@ -27,7 +28,8 @@ empty_takes : (format : Format) (places : ℕ) (m : Meaning) (P : Sampled → Ty
     → line_at format places [] ≡ Ok m → IfSampled m P
 unfolding line_at
 empty_takes OpenMetrics places m P h = absurd cc
-empty_takes Prometheus places m P h = subst (λ (x : Meaning). IfSampled x P) (same_value nothing m h) tt
+empty_takes Prometheus places m P h =
+    subst (λ (x : Meaning). IfSampled x P) (same_value nothing m h) tt
 
 line_takes : (format : Format) (places : ℕ) (line : List ℕ) (m : Meaning)
     → line_at format places line ≡ Ok m → IfSampled m (IsSample format places line)
@@ -47,7 +49,8 @@ line_takes format places (c ∷ rest) m h =
 
 -- a line that begins with the name of a metric is no comment
 no_comment : (format : Format) (places : ℕ) (name rest : List ℕ) → IsName Metric name
-    → line_at format places (name ++ rest) ≡ (sample_at format places (name ++ rest) >>= λ s. Ok (sampled s))
+    → line_at format places (name ++ rest)
+    ≡ (sample_at format places (name ++ rest) >>= λ s. Ok (sampled s))
 unfolding line_at
 no_comment format places [] rest is = absurd (let b = is.begun in cc)
 no_comment format places (c ∷ cs) rest is =
@@ -77,4 +80,5 @@ pub only_in : (format : Format) (places : ℕ) (line : List ℕ) (r : Result Lin
     → Gives meaning_in r (line_at format places line) → IsSample format places line s
     → Gives meaning_in r (Ok (sampled s))
 only_in format places line r s h is =
-    subst (λ (x : Result Meaning Fault). Gives meaning_in r x) (line_again format places line s is) h
+    subst (λ (x : Result Meaning Fault). Gives meaning_in r x) (line_again format places line s
+    is) h

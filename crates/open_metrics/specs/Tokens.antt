@@ -6,7 +6,8 @@ use Rattle.open_metrics.specs.declared.error.Fault.{Fault}
 use Rattle.open_metrics.specs.declared.error.Fault.TheVariants.{At}
 use Rattle.open_metrics.specs.declared.error.Reason.{Reason}
 use Rattle.open_metrics.specs.declared.tokens.Class.{Class}
-use Rattle.open_metrics.specs.declared.tokens.Class.TheVariants.{Metric, Label, Digit, Mantissa, Word}
+use Rattle.open_metrics.specs.declared.tokens.Class.TheVariants.{Metric, Label, Digit, Mantissa}
+use Rattle.open_metrics.specs.declared.tokens.Class.TheVariants.{Word}
 
 -- letters, digits and `_`
 abbrev pub in_name : ℕ → Bool

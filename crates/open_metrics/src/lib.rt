@@ -1,4 +1,4 @@
-//! Lines of OpenMetrics text, and of the older text of Prometheus, as they are exposed and backfilled.
+//! Lines of OpenMetrics text, and of the older text of Prometheus.
 //!
 //! [`read_line`] reads a line without its end: a sample ([`SampleLine`]: its labels, its value and
 //! its time), a line that says nothing of samples, or the end of the text. A line that is wrong is

@@ -8,7 +8,8 @@ returns-in_err-m-clause-exact c =
     let p = err_from_is_err_and c.from_residual.result c.from_residual.ensures.1 in
     let l = c.loop in
     rw (p.1, p.2) (sym l.invariant.so_far
-    ∙ tenth_fails c.args.zeros l.counter l.m c.in_err-m.field-0.0 c.loop-test.true c.in_err-m.ensures.exact)
+    ∙ tenth_fails c.args.zeros l.counter l.m c.in_err-m.field-0.0 c.loop-test.true
+    c.in_err-m.ensures.exact)
 
 pub loop-preserved : goal.loop-preserved
 loop-preserved c =

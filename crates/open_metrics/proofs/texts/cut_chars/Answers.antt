@@ -9,7 +9,8 @@ pub returns-in_err-next : goal.returns-in_err-next
 returns-in_err-next c =
     let p = err_from_is_err_and c.from_residual.result c.from_residual.ensures.1 in
     let l = c.loop-counter in
-    rw (p.1, p.2) (fails char_at Text c.in_err-next.field-0.0 l.text.items c.args.count l.counter l.rest.now
+    rw (p.1, p.2) (fails char_at Text c.in_err-next.field-0.0 l.text.items c.args.count l.counter
+    l.rest.now
     (until_end char_at Text c.args.count c.args.bytes.now) c.loop-counter-test.true
     c.in_err-next.ensures l.invariant)
 
@@ -17,7 +18,8 @@ pub returns-in_default : goal.returns-in_default
 returns-in_default c =
     let l = c.loop-counter in
     let after = c.in_ok-next.after.now in
-    let h = subst (λ (o : Option ℕ). char_at l.rest.now ≡ Ok (o, after)) c.in_default.is c.in_ok-next.ensures in
+    let h = subst (λ (o : Option ℕ). char_at l.rest.now ≡ Ok (o, after)) c.in_default.is
+    c.in_ok-next.ensures in
     ends char_at Text l.text.items c.args.count l.counter l.rest.now after
     (until_end char_at Text c.args.count c.args.bytes.now) c.loop-counter-test.true h l.invariant
 
@@ -25,8 +27,10 @@ pub loop-counter-preserved : goal.loop-counter-preserved
 loop-counter-preserved c =
     let l = c.loop-counter in
     let after = c.in_ok-next.after.now in
-    let h = subst (λ (o : Option ℕ). char_at l.rest.now ≡ Ok (o, after)) c.in-Some.is c.in_ok-next.ensures in
-    rw c.in_ok-push.ensures.items (goes_on char_at Text l.text.items c.args.count l.counter l.rest.now
+    let h = subst (λ (o : Option ℕ). char_at l.rest.now ≡ Ok (o, after)) c.in-Some.is
+    c.in_ok-next.ensures in
+    rw c.in_ok-push.ensures.items (goes_on char_at Text l.text.items c.args.count l.counter
+    l.rest.now
     c.in-Some.c after (until_end char_at Text c.args.count c.args.bytes.now)
     c.loop-counter-test.true h l.invariant)
 
