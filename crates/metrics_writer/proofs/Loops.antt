@@ -1,14 +1,16 @@
 -- What is written piece by piece.
 use Rattle.std.proofs.Common.{◌≡◌, ℕ, suc, ◌+◌, ◌-◌, ◌<◌, ◌≤◌, List, [], ◌∷◌, ◌++◌, length, drop}
 use Rattle.std.proofs.Common.{get_or}
-use Rattle.std.proofs.Common.{refl, sym, ap, ◌∙◌, append_assoc, add-one, arith}
+use Rattle.std.proofs.Common.{refl, sym, ap, ◌∙◌, append_assoc, add-one, arith, Bool, true, false}
+use Rattle.std.proofs.Common.{cond}
 use Rattle.std.specs.List.{flat_map}
 use Rattle.std.proofs.Math.Seq.{drop-cons}
 use Rattle.std.proofs.lemmas.List.{append-nil, nil_from_length, length-drop}
 use Rattle.std.proofs.lemmas.List.Concat.{flat_map-cons}
 use Rattle.labels.specs.Labels.{Labels}
 use Rattle.metrics_writer.specs.Numbers.{digit_at, last_digits}
-use Rattle.metrics_writer.specs.Series.{closing, label_text, labels_text, mark_after}
+use Rattle.metrics_writer.specs.Series.{closing, is_name_label, label_text, labels_text, mark_after}
+use Rattle.metrics_writer.specs.Series.{pair_text}
 
 -- the next part of what is left was written
 pub moved : (old new part rest left whole : List ℕ) → new ≡ old ++ part → left ≡ part ++ rest
@@ -65,3 +67,27 @@ unfolding last_digits
 digits_done places i n le =
     let none : places - i ≡ 0 = omega arith in
     ap (λ (m : ℕ). last_digits m n) none
+
+-- four parts, one after the other
+pub joined : (old a b c d m n o p : List ℕ) → m ≡ old ++ a → n ≡ m ++ b → o ≡ n ++ c → p ≡ o ++ d
+    → p ≡ old ++ (a ++ (b ++ (c ++ d)))
+joined old a b c d m n o p e f g h =
+    h
+    ∙ (ap (λ (l : List ℕ). l ++ d)
+    (g ∙ ap (λ (l : List ℕ). l ++ c) (f ∙ ap (λ (l : List ℕ). l ++ b) e))
+    ∙ simp append_assoc)
+
+-- the label that names the metric, and another
+pub name_is : (mark : ℕ) (p : List ℕ × List ℕ) → is_name_label p ≡ true → label_text mark p ≡ []
+name_is mark p e = ap (λ (b : Bool). cond b [] (mark ∷ pair_text p)) e
+
+pub other_is : (mark : ℕ) (p : List ℕ × List ℕ) → is_name_label p ≡ false
+    → label_text mark p ≡ mark ∷ pair_text p
+other_is mark p e = ap (λ (b : Bool). cond b [] (mark ∷ pair_text p)) e
+
+pub mark_kept : (mark : ℕ) (p : List ℕ × List ℕ) → is_name_label p ≡ true → mark ≡ mark_after mark p
+mark_kept mark p e = sym (ap (λ (b : Bool). cond b mark 44) e)
+
+pub mark_comma : (mark : ℕ) (p : List ℕ × List ℕ) → is_name_label p ≡ false
+    → 44 ≡ mark_after mark p
+mark_comma mark p e = sym (ap (λ (b : Bool). cond b mark 44) e)

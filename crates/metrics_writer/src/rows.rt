@@ -1,9 +1,8 @@
 //! Rows as text.
 
-ghost use Rattle.std.specs.Prelude.{◌≡◌, ◌<◌, ◌≤◌, ◌++◌, ℕ, true, false, length, get_or, IfOk};
-ghost use Rattle.std.specs.Prelude.{OnOk};
-ghost use Rattle.std.specs.Prelude.{IsErrOf, Err};
+ghost use Rattle.std.specs.Prelude.{◌≡◌, ◌≤◌, ◌∷◌, ◌++◌, true, false, Err, IfOk, OnOk, IsErrOf};
 ghost use Rattle.std.specs.List.{flat_map, list_all};
+ghost use Rattle.metrics_writer.specs.Numbers.{number_text};
 ghost use Rattle.metrics_writer.specs.Series.{is_of_metric, line_text, row_text, rows_text};
 ghost use Rattle.metrics_writer.specs.Series.{text_of};
 ghost use Rattle.metrics_writer.specs.declared.rows.WriteError.TheVariants.{Memory};
@@ -38,7 +37,15 @@ impl<T: Drop> From<AllocFailed<T>> for WriteError {
     }
 }
 
-#[tactic(auto, unfolding(crate::specs::Series::line_text))]
+// Appends a space and a number.
+fn append_field(out: &mut Vec<u8>, places: u32, n: i64) -> Result<(), AllocError>
+    requires { places ≤ 9 }
+    ensures { OnOk result (out.new.items ≡ out.old.items ++ (32 ∷ number_text places n)) }
+{
+    out.push(b' ')?;
+    append_number(out, places, n)
+}
+
 fn append_line(
     out: &mut Vec<u8>,
     places: u32,
@@ -49,10 +56,8 @@ fn append_line(
     ensures { OnOk result (out.new.items ≡ out.old.items ++ line_text places series.now sample) }
 {
     out.extend_from_slice(series)?;
-    out.push(b' ')?;
-    append_number(out, places, sample.v())?;
-    out.push(b' ')?;
-    append_number(out, 3, sample.t())?;
+    append_field(out, places, sample.v())?;
+    append_field(out, 3, sample.t())?;
     out.push(b'\n')?;
     Ok(())
 }
