@@ -15,7 +15,7 @@ use Rattle.labels.specs.Names.{is_name, starts_name, continues_name}
 use Rattle.metrics_writer.specs.Numbers.{number_text}
 use Rattle.metrics_writer.specs.Series.{in_metric, is_metric, metric_of, escape, escaped_text}
 use Rattle.metrics_writer.specs.Series.{pair_text, is_name_label, closing, labels_text, series_text}
-use Rattle.metrics_writer.specs.Series.{line_text}
+use Rattle.metrics_writer.specs.Series.{fields_text, line_text}
 use Rattle.open_metrics.specs.declared.comments.Format.TheVariants.{OpenMetrics}
 use Rattle.open_metrics.specs.declared.tokens.Class.{Class}
 use Rattle.open_metrics.specs.declared.tokens.Class.TheVariants.{Metric, Label}
@@ -156,7 +156,7 @@ pub line_again : (places : ℕ) (labels : Labels) (s : ℤ × ℤ) → IsLabelSe
     → is_metric (metric_of labels) ≡ true → unsigned_abs s.0 < 2 ^ 63 → unsigned_abs s.1 < 2 ^ 63
     → (line : List ℕ) × (line_text places (series_text labels) s ≡ line ++ 10 ∷ [])
     × IsSample OpenMetrics places line (sample_of places labels s)
-unfolding line_text series_text
+unfolding line_text fields_text series_text
 line_again places labels s set named t_small v_small =
     let value = number_text places s.1 in
     let time = number_text 3 s.0 in

@@ -25,8 +25,8 @@ done old left whole none e = sym (append-nil old) ∙ (ap (λ (l : List ℕ). ol
 
 next : {X : Type 0} (xs : List X) (i : ℕ) (x : X) → i < length xs → x ≡ get_or xs i x
     → drop i xs ≡ x ∷ drop (i + 1) xs
-next xs i x lt e =
-    rw (add-one, drop-cons xs i x) (ap (λ (y : _). y ∷ drop (i + 1) xs) (sym e))
+next {X} xs i x lt e =
+    rw (add-one, drop-cons xs i x) (ap (λ (y : X). y ∷ drop (suc i) xs) (sym e))
 
 gone : {X : Type 0} (xs : List X) (i : ℕ) → length xs ≤ i → drop i xs ≡ []
 gone xs i le = nil_from_length (drop i xs) (omega (arith, length-drop i xs))
@@ -67,15 +67,6 @@ unfolding last_digits
 digits_done places i n le =
     let none : places - i ≡ 0 = omega arith in
     ap (λ (m : ℕ). last_digits m n) none
-
--- four parts, one after the other
-pub joined : (old a b c d m n o p : List ℕ) → m ≡ old ++ a → n ≡ m ++ b → o ≡ n ++ c → p ≡ o ++ d
-    → p ≡ old ++ (a ++ (b ++ (c ++ d)))
-joined old a b c d m n o p e f g h =
-    h
-    ∙ (ap (λ (l : List ℕ). l ++ d)
-    (g ∙ ap (λ (l : List ℕ). l ++ c) (f ∙ ap (λ (l : List ℕ). l ++ b) e))
-    ∙ simp append_assoc)
 
 -- the label that names the metric, and another
 pub name_is : (mark : ℕ) (p : List ℕ × List ℕ) → is_name_label p ≡ true → label_text mark p ≡ []

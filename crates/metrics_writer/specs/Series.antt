@@ -64,10 +64,13 @@ labels_text mark (p ∷ ps) = label_text mark p ++ labels_text (mark_after mark 
 unfoldable pub series_text : Labels → List ℕ
 series_text labels = metric_of labels ++ labels_text 123 labels
 
+-- a space and a value, a space and a time in seconds
+unfoldable pub fields_text : ℕ → ℤ × ℤ → List ℕ
+fields_text places s = (32 ∷ number_text places s.1) ++ (32 ∷ number_text 3 s.0)
+
 -- a line for a sample
 unfoldable pub line_text : ℕ → List ℕ → ℤ × ℤ → List ℕ
-line_text places series s =
-    series ++ (32 ∷ number_text places s.1) ++ (32 ∷ number_text 3 s.0) ++ 10 ∷ []
+line_text places series s = series ++ fields_text places s ++ 10 ∷ []
 
 unfoldable pub row_text : ℕ → Row → List ℕ
 row_text places row = flat_map (line_text places (series_text row.0)) row.1

@@ -3,7 +3,8 @@
 ghost use Rattle.std.specs.Prelude.{◌≡◌, ◌≤◌, ◌∷◌, ◌++◌, true, false, Err, IfOk, OnOk, IsErrOf};
 ghost use Rattle.std.specs.List.{flat_map, list_all};
 ghost use Rattle.metrics_writer.specs.Numbers.{number_text};
-ghost use Rattle.metrics_writer.specs.Series.{is_of_metric, line_text, row_text, rows_text};
+ghost use Rattle.metrics_writer.specs.Series.{fields_text, is_of_metric, line_text, row_text};
+ghost use Rattle.metrics_writer.specs.Series.{rows_text};
 ghost use Rattle.metrics_writer.specs.Series.{text_of};
 ghost use Rattle.metrics_writer.specs.declared.rows.WriteError.TheVariants.{Memory};
 
@@ -46,6 +47,16 @@ fn append_field(out: &mut Vec<u8>, places: u32, n: i64) -> Result<(), AllocError
     append_number(out, places, n)
 }
 
+#[tactic(auto, unfolding(crate::specs::Series::fields_text))]
+fn append_fields(out: &mut Vec<u8>, places: u32, sample: Sample) -> Result<(), AllocError>
+    requires { places ≤ 9 }
+    ensures { OnOk result (out.new.items ≡ out.old.items ++ fields_text places sample) }
+{
+    append_field(out, places, sample.v())?;
+    append_field(out, 3, sample.t())
+}
+
+#[tactic(auto, unfolding(crate::specs::Series::line_text))]
 fn append_line(
     out: &mut Vec<u8>,
     places: u32,
@@ -56,8 +67,7 @@ fn append_line(
     ensures { OnOk result (out.new.items ≡ out.old.items ++ line_text places series.now sample) }
 {
     out.extend_from_slice(series)?;
-    append_field(out, places, sample.v())?;
-    append_field(out, 3, sample.t())?;
+    append_fields(out, places, sample)?;
     out.push(b'\n')?;
     Ok(())
 }
