@@ -3,7 +3,7 @@ use Rattle.std.proofs.Common.{◌≡◌, ℕ, suc, ◌+◌, ◌<◌, ◌≤◌, 
 use Rattle.std.proofs.Common.{◌||◌}
 use Rattle.std.proofs.Common.{not, List, [], ◌∷◌, ◌++◌, length, Some, refl, sym, ap, subst, ◌∙◌}
 use Rattle.std.proofs.Common.{inl, inr}
-use Rattle.std.proofs.Common.{append_assoc, length-append, arith}
+use Rattle.std.proofs.Common.{append_assoc, length-append, arith, ◌^◌}
 use Rattle.std.specs.Prelude.{unsigned_abs, filter, IsTrue}
 use Rattle.std.specs.List.{AllByRecursion, list_all, All}
 use Rattle.std.specs.Char.{is_ascii_alphabetic, is_ascii_digit}
@@ -50,9 +50,9 @@ text_is (c ∷ cs) rest =
 pair_is : (p : Pair) (rest : List ℕ) → pair_text p ++ rest ≡ pair_then p rest
 unfolding pair_text
 pair_is p rest =
-    append_assoc p.0 ((61 ∷ 34 ∷ escaped_text p.1) ++ 34 ∷ []) rest
-    ∙ ap (λ (r : List ℕ). p.0 ++ (61 ∷ 34 ∷ r))
-    (append_assoc (escaped_text p.1) (34 ∷ []) rest ∙ text_is p.1 rest)
+    let one : pair_text p ++ rest ≡ p.0 ++ (61 ∷ 34 ∷ (escaped_text p.1 ++ (34 ∷ rest))) =
+    simp append_assoc in
+    one ∙ ap (λ (r : List ℕ). p.0 ++ (61 ∷ 34 ∷ r)) (text_is p.1 rest)
 
 others_are : (ps : Labels) (rest : List ℕ)
     → labels_text 44 ps ++ rest ≡ others_then (others_of ps) rest
