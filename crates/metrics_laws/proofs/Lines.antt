@@ -1,29 +1,27 @@
 -- Lines that are written are read again.
-use Rattle.std.proofs.Common.{◌≡◌, ℕ, suc, ◌+◌, ◌<◌, ◌≤◌, ℤ, Bool, true, false, eqb, leb, ◌&&◌}
+use Rattle.std.proofs.Common.{◌≡◌, ℕ, ◌<◌, ◌≤◌, ℤ, Bool, true, false, eqb, leb, ◌&&◌}
 use Rattle.std.proofs.Common.{◌||◌}
-use Rattle.std.proofs.Common.{not, List, [], ◌∷◌, ◌++◌, length, Some, refl, sym, ap, subst, ◌∙◌}
+use Rattle.std.proofs.Common.{not, List, [], ◌∷◌, ◌++◌, length, refl, ap, ◌∙◌}
 use Rattle.std.proofs.Common.{inl, inr}
 use Rattle.std.proofs.Common.{append_assoc, length-append, arith, ◌^◌}
-use Rattle.std.specs.Prelude.{unsigned_abs, filter, IsTrue}
-use Rattle.std.specs.List.{AllByRecursion, list_all, All}
+use Rattle.std.specs.Prelude.{unsigned_abs, IsTrue}
+use Rattle.std.specs.List.{AllByRecursion, list_all}
 use Rattle.std.specs.Char.{is_ascii_alphabetic, is_ascii_digit}
-use Rattle.std.proofs.lemmas.Bool.{cases_Bool, leb-true, and_parts, eqb-true}
+use Rattle.std.proofs.lemmas.Bool.{cases_Bool, leb-true, and_parts}
 use Rattle.std.proofs.lemmas.List.Elements.{recursion_from_All}
 use Rattle.labels.specs.Labels.{Labels}
 use Rattle.labels.specs.LabelSets.{IsLabelSet}
 use Rattle.labels.specs.Names.{is_name, starts_name, continues_name}
 use Rattle.metrics_writer.specs.Numbers.{number_text}
 use Rattle.metrics_writer.specs.Series.{in_metric, is_metric, metric_of, escape, escaped_text}
-use Rattle.metrics_writer.specs.Series.{pair_text, is_name_label, closing, labels_text, series_text}
+use Rattle.metrics_writer.specs.Series.{pair_text, is_name_label, labels_text, series_text}
 use Rattle.metrics_writer.specs.Series.{fields_text, line_text}
 use Rattle.open_metrics.specs.declared.comments.Format.TheVariants.{OpenMetrics}
-use Rattle.open_metrics.specs.declared.tokens.Class.{Class}
 use Rattle.open_metrics.specs.declared.tokens.Class.TheVariants.{Metric, Label}
 use Rattle.open_metrics.specs.Grammar.{AreIn, IsName, escape_then, text_then, pair_then}
 use Rattle.open_metrics.specs.Grammar.{others_then}
-use Rattle.open_metrics.specs.Grammar.{braced_then, SpellsLabels, IsSample}
+use Rattle.open_metrics.specs.Grammar.{SpellsLabels, IsSample}
 use Rattle.open_metrics.specs.Labels.{Pair}
-use Rattle.open_metrics.specs.Tokens.{goes_on}
 use Rattle.metrics_laws.specs.Read.{others_of, sample_of}
 use Rattle.metrics_laws.proofs.Numbers.{number_again, number_word}
 

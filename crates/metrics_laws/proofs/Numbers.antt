@@ -1,29 +1,26 @@
 -- Numbers that are written are read again.
-use Rattle.std.proofs.Common.{◌≡◌, ℕ, zero, suc, ◌+◌, ◌-◌, ◌*◌, ◌/◌, ◌^◌, ◌<◌, ◌≤◌, ℤ, pos, negsuc}
-use Rattle.std.proofs.Common.{Bool}
-use Rattle.std.proofs.Common.{true, false, eqb, leb, ◌&&◌, List, [], ◌∷◌, ◌++◌, length, Result, Ok}
+use Rattle.std.proofs.Common.{◌≡◌, ℕ, zero, suc, ◌+◌, ◌*◌, ◌/◌, ◌^◌, ◌<◌, ◌≤◌, ℤ, pos, negsuc}
+use Rattle.std.proofs.Common.{true, false, eqb, leb, List, [], ◌∷◌, ◌++◌, length, Ok}
 use Rattle.std.proofs.Common.{Some}
-use Rattle.std.proofs.Common.{Option, refl, sym, ap, subst, ◌∙◌, arith}
+use Rattle.std.proofs.Common.{refl, sym, ap, subst, ◌∙◌, arith}
 use Rattle.std.specs.Prelude.{decimal, unsigned_abs}
 use Rattle.std.proofs.lemmas.Bool.{ne_eqb, leb-true, and_parts}
 use Rattle.std.proofs.lemmas.List.{append-nil}
 use Rattle.std.proofs.lemmas.Nat.{div_below}
 use Rattle.std.proofs.Math.Nat.{one-le-pow}
-use Rattle.decimal_text.specs.declared.error.DecimalError.{DecimalError}
 use Rattle.decimal_text.specs.Decimals.{is_digit, AreDigits, value_from, fraction_text, IsDecimal}
 use Rattle.decimal_text.specs.Reading.{decimal_at}
 use Rattle.decimal_text.proofs.Laws.{decimal_again}
 use Rattle.metrics_writer.specs.Numbers.{last_digits, fraction_of, size_text, number_text}
-use Rattle.open_metrics.specs.declared.numbers.Value.{Value}
 use Rattle.open_metrics.specs.declared.numbers.Value.TheVariants.{Parts}
 use Rattle.open_metrics.specs.declared.tokens.Class.{Class}
 use Rattle.open_metrics.specs.declared.tokens.Class.TheVariants.{Mantissa, Word}
 use Rattle.open_metrics.specs.Grammar.{AreIn}
 use Rattle.open_metrics.specs.Numbers.{is_minus, unsigned_of, exponent_at, scaled_at, is_special}
-use Rattle.open_metrics.specs.Numbers.{signed_at, number_at, value_of, with_sign}
+use Rattle.open_metrics.specs.Numbers.{signed_at, number_at, with_sign}
 use Rattle.open_metrics.specs.Tokens.{goes_on, front, behind}
 use Rattle.open_metrics.proofs.Again.{front_again, behind_again}
-use Rattle.metrics_laws.proofs.Digits.{Whole, decimal_is, last_are, last_long, last_value}
+use Rattle.metrics_laws.proofs.Digits.{decimal_is, last_are, last_long, last_value}
 use Rattle.metrics_laws.proofs.Digits.{value_append}
 
 fraction_is : (places n : ℕ) → fraction_of places n ≡ fraction_text (last_digits places n)

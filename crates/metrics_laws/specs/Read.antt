@@ -1,5 +1,5 @@
 -- The sample that is read of a line that was written.
-use Rattle.std.specs.Prelude.{ℕ, ℤ, not, false, ◌+◌, List, length, filter}
+use Rattle.std.specs.Prelude.{ℕ, ℤ, not, false, ◌+◌, length, filter}
 use Rattle.labels.specs.Labels.{Labels}
 use Rattle.metrics_writer.specs.Numbers.{number_text}
 use Rattle.metrics_writer.specs.Series.{is_name_label, metric_of}

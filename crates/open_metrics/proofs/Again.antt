@@ -1,7 +1,7 @@
 -- What is spelled is read.
-use Rattle.std.proofs.Common.{◌≡◌, ℕ, zero, suc, ◌+◌, ◌<◌, ◌≤◌, Bool, true, false, eqb, cond, List}
+use Rattle.std.proofs.Common.{◌≡◌, ℕ, zero, suc, ◌<◌, ◌≤◌, Bool, true, false, eqb, List}
 use Rattle.std.proofs.Common.{[]}
-use Rattle.std.proofs.Common.{◌∷◌, ◌++◌, length, take, drop, Result, Ok, Err, Option, None, Some}
+use Rattle.std.proofs.Common.{◌∷◌, ◌++◌, length, take, drop, Result, Ok, Option, Some}
 use Rattle.std.proofs.Common.{refl, sym, ap, subst, ◌∙◌, inl, inr, arith}
 use Rattle.std.proofs.lemmas.Bool.{cases_Bool, eqb-true}
 use Rattle.std.proofs.lemmas.List.{take_at, drop_at}
@@ -12,11 +12,10 @@ use Rattle.open_metrics.specs.declared.comments.Format.TheVariants.{OpenMetrics,
 use Rattle.open_metrics.specs.declared.error.Fault.{Fault}
 use Rattle.open_metrics.specs.declared.error.Reason.{Reason}
 use Rattle.open_metrics.specs.declared.error.Reason.TheVariants as reason
-use Rattle.open_metrics.specs.declared.numbers.Value.TheVariants.{Parts}
 use Rattle.open_metrics.specs.declared.tokens.Class.{Class}
 use Rattle.open_metrics.specs.declared.tokens.Class.TheVariants.{Metric, Label, Word}
 use Rattle.open_metrics.specs.Grammar.{AreIn, IsName, escape_then, text_then, pair_then}
-use Rattle.open_metrics.specs.Grammar.{others_then, braced_then, SpellsLabels, IsTail, IsSample}
+use Rattle.open_metrics.specs.Grammar.{others_then, SpellsLabels, IsTail, IsSample}
 use Rattle.open_metrics.specs.Labels.{Pair, pair_at, next_at, others_at, within_at, labels_at}
 use Rattle.open_metrics.specs.Lines.{Sampled, value_at, time_at, tail_at, exemplar_at, sample_at}
 use Rattle.open_metrics.specs.Texts.{char_at, escape_at, text_at, until_end}

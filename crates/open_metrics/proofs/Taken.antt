@@ -1,16 +1,14 @@
 -- What is read is spelled so.
-use Rattle.std.proofs.Common.{◌≡◌, ℕ, zero, suc, ◌+◌, ◌<◌, ◌≤◌, ℤ, Bool, true, false, eqb, cond}
+use Rattle.std.proofs.Common.{◌≡◌, ℕ, zero, suc, ◌<◌, ◌≤◌, ℤ, Bool, true, false, eqb}
 use Rattle.std.proofs.Common.{List, []}
-use Rattle.std.proofs.Common.{◌∷◌, ◌++◌, length, take, drop, Result, Ok, Err, Option, None, Some}
+use Rattle.std.proofs.Common.{◌∷◌, ◌++◌, length, Ok, Option, None, Some}
 use Rattle.std.proofs.Common.{refl, sym, ap, subst, ◌∙◌, inl, inr, arith}
 use Rattle.std.proofs.lemmas.Bool.{cases_Bool, eqb-true}
 use Rattle.std.proofs.lemmas.List.{take-append-drop}
 use Rattle.std.specs.List.{AllByRecursion}
-use Rattle.wire.specs.Outcome.{◌>>=◌}
-use Rattle.wire.proofs.Steps.{bind_ok, passed, not_failed, same_value}
+use Rattle.wire.proofs.Steps.{bind_ok, passed, same_value}
 use Rattle.open_metrics.specs.declared.comments.Format.{Format}
 use Rattle.open_metrics.specs.declared.comments.Format.TheVariants.{OpenMetrics, Prometheus}
-use Rattle.open_metrics.specs.declared.error.Fault.{Fault}
 use Rattle.open_metrics.specs.declared.error.Fault.TheVariants.{At}
 use Rattle.open_metrics.specs.declared.error.Reason.{Reason}
 use Rattle.open_metrics.specs.declared.error.Reason.TheVariants as reason
@@ -19,13 +17,13 @@ use Rattle.open_metrics.specs.declared.numbers.Value.TheVariants.{Parts, Other}
 use Rattle.open_metrics.specs.declared.tokens.Class.{Class}
 use Rattle.open_metrics.specs.declared.tokens.Class.TheVariants.{Metric, Label, Word}
 use Rattle.open_metrics.specs.Grammar.{AreIn, IsName, escape_then, text_then, pair_then}
-use Rattle.open_metrics.specs.Grammar.{others_then, braced_then, SpellsLabels, IsExemplar, IsTail}
+use Rattle.open_metrics.specs.Grammar.{others_then, SpellsLabels, IsExemplar, IsTail}
 use Rattle.open_metrics.specs.Grammar.{IsSample}
 use Rattle.open_metrics.specs.Labels.{Pair, pair_at, next_at, others_at, within_at, labels_at}
 use Rattle.open_metrics.specs.Lines.{Sampled, or_value, or_time, value_at, time_at, time_places}
 use Rattle.open_metrics.specs.Lines.{tail_at, exemplar_at, sample_at}
 use Rattle.open_metrics.specs.Numbers.{number_at}
-use Rattle.open_metrics.specs.Texts.{char_at, escape_at, escaped, or_text, text_at, until_end}
+use Rattle.open_metrics.specs.Texts.{char_at, escape_at, or_text, text_at, until_end}
 use Rattle.open_metrics.specs.Texts.{goes_with}
 use Rattle.open_metrics.specs.Tokens.{goes_on, count_front, front, behind, is_begun, name_at}
 use Rattle.open_metrics.specs.Tokens.{byte_at}

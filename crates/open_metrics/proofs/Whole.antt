@@ -12,7 +12,7 @@ use Rattle.open_metrics.specs.declared.lines.Line.{Line}
 use Rattle.open_metrics.specs.declared.tokens.Class.TheVariants.{Metric}
 use Rattle.open_metrics.specs.Comments.{comment_at}
 use Rattle.open_metrics.specs.Grammar.{IfSampled, IsSample, IsName}
-use Rattle.open_metrics.specs.Lines.{Sampled, Meaning, nothing, end, sampled, meaning_in}
+use Rattle.open_metrics.specs.Lines.{Sampled, Meaning, nothing, sampled, meaning_in}
 use Rattle.open_metrics.specs.Lines.{of_comment}
 use Rattle.open_metrics.specs.Lines.{line_at, sample_at}
 use Rattle.open_metrics.specs.Outcome.{Gives}

@@ -1,5 +1,5 @@
 -- What a call answered, against what reading gives.
-use Rattle.std.specs.Prelude.{Bool, true, false, Result, Ok, Err}
+use Rattle.std.specs.Prelude.{Bool, true, false, Result}
 use Rattle.wire.specs.Outcome as outcome
 use Rattle.open_metrics.specs.declared.error.Fault.{Fault}
 use Rattle.open_metrics.specs.declared.error.Fault.TheVariants.{Memory, At}

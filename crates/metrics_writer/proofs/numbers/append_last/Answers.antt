@@ -1,4 +1,4 @@
-use Rattle.std.proofs.Common.{◌∷◌, [], ◌++◌, ◌-◌, ap, sym, ◌∙◌, arith}
+use Rattle.std.proofs.Common.{◌∷◌, [], ◌++◌, ◌-◌, ap, ◌∙◌, arith}
 use Rattle.metrics_writer.proofs.Loops.{digits_done, digits_next, done, moved}
 use Rattle.metrics_writer.proofs.numbers.append_last.Goals as goal
 

@@ -1,6 +1,6 @@
 use Rattle.std.proofs.Common.{◌≡◌, ℕ, true, false, List, [], ◌∷◌, ◌++◌, sym, ap, ◌∙◌, append_assoc}
 use Rattle.std.proofs.lemmas.List.{append-nil}
-use Rattle.metrics_writer.specs.Series.{is_name_label, label_text, pair_text}
+use Rattle.metrics_writer.specs.Series.{is_name_label, pair_text}
 use Rattle.metrics_writer.proofs.Loops.{name_is, other_is, mark_kept, mark_comma}
 use Rattle.metrics_writer.proofs.series.append_label.Goals as goal
 
