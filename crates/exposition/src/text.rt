@@ -1,16 +1,17 @@
 //! Whole texts.
 
-ghost use Rattle.std.specs.Prelude.{◌≡◌, ◌==◌, ◌∷◌, ◌++◌, List, IfOk, IfSome, OnOk, position};
+ghost use Rattle.std.specs.Prelude.{◌≡◌, ◌==◌, ◌∷◌, ◌++◌, List, Ok, IfOk, IfSome, OnOk, position};
 ghost use Rattle.std.specs.List.Sorted.{IsPermutation, IsSortedBy};
 ghost use Rattle.labels.specs.Rows.{Row as RowValue, points_of, row_before};
-ghost use Rattle.open_metrics.specs.Lines.{meaning_in, sample_in};
-ghost use Rattle.exposition.specs.Reading.{Adds, AddsLine, AddsSample, IsText, is_end};
+ghost use Rattle.open_metrics.specs.Lines.{line_at, meaning_in, sample_in};
+ghost use Rattle.exposition.specs.Reading.{Adds, AddsLine, AddsSample, AddsValue, IsText};
+ghost use Rattle.exposition.specs.Reading.{is_end};
 
 use crate::error::{Cause, ReadError, Refusal};
 use crate::points::push_point;
 use crate::series::label_set;
 use imported_values::{Policy, Rest};
-use labels::{Row, Sample, is_time, sort_rows};
+use labels::{LabelSet, Row, Sample, is_time, sort_rows};
 use open_metrics::{Fault, Format, Line, SampleLine, Value, read_line};
 use std::alloc::Global;
 
@@ -71,26 +72,25 @@ fn is_end(format: Format, bytes: &[u8]) -> bool
     }
 }
 
-fn add_sample(
+fn add_value(
     alloc: Global,
-    policy: Policy,
+    policy: Rest,
     rows: &mut Vec<Row>,
     counts: &mut Counts,
-    sample: &SampleLine<'_>,
+    labels: LabelSet,
+    t: i64,
+    value: Value,
 ) -> Result<(), Cause>
-    ensures { OnOk result (AddsSample policy.rest (sample_in sample.now)
+    ensures { OnOk result (AddsValue policy value (labels, t)
         (points_of rows.old.items) (points_of rows.new.items)) }
 {
-    let labels = label_set(alloc, sample)?;
-    if !is_time(sample.t) {
-        return Err(Cause::Time);
-    }
-    match sample.value {
+    match value {
         Value::Parts(v) => {
             counts.kept = counts.kept.saturating_add(1);
-            push_point(alloc, rows, labels, Sample::new(sample.t, v))
+            push_point(alloc, rows, labels, Sample::new(t, v))?;
+            Ok(())
         }
-        Value::Other => match policy.rest {
+        Value::Other => match policy {
             Rest::Drop => {
                 counts.rest = counts.rest.saturating_add(1);
                 Ok(())
@@ -98,6 +98,24 @@ fn add_sample(
             Rest::Refuse => Err(Cause::Value),
         },
     }
+}
+
+fn add_sample(
+    alloc: Global,
+    policy: Rest,
+    rows: &mut Vec<Row>,
+    counts: &mut Counts,
+    sample: &SampleLine<'_>,
+) -> Result<(), Cause>
+    ensures { OnOk result (AddsSample policy (sample_in sample.now)
+        (points_of rows.old.items) (points_of rows.new.items)) }
+{
+    let labels = label_set(alloc, sample)?;
+    if !is_time(sample.t) {
+        return Err(Cause::Time);
+    }
+    add_value(alloc, policy, rows, counts, labels, sample.t, sample.value)?;
+    Ok(())
 }
 
 // How many bytes of a line stand from the place of a cause on.
@@ -111,27 +129,35 @@ fn left_of(cause: Cause, sample: &SampleLine<'_>, len: usize) -> usize {
 
 fn add_read(
     alloc: Global,
-    policy: Policy,
+    policy: Rest,
     rows: &mut Vec<Row>,
     counts: &mut Counts,
     read: Line<'_>,
     len: usize,
 ) -> Result<(), Stop>
-    ensures { OnOk result (Adds policy.rest (meaning_in read)
+    ensures { OnOk result (Adds policy (meaning_in read)
         (points_of rows.old.items) (points_of rows.new.items)) }
 {
     match read {
         Line::Nothing => Ok(()),
         Line::End => Err(Stop::at(Cause::End, len)),
         Line::Sample(sample) => {
-            if sample.exemplar {
-                counts.exemplars = counts.exemplars.saturating_add(1);
-            }
+            counts.exemplars = counts.exemplars.saturating_add(u64::from(sample.exemplar));
             match add_sample(alloc, policy, rows, counts, &sample) {
                 Ok(()) => Ok(()),
                 Err(cause) => Err(Stop::at(cause, left_of(cause, &sample, len))),
             }
         }
+    }
+}
+
+fn line_of(alloc: Global, format: Format, policy: Policy, line: &[u8]) -> Result<Line<'_>, Stop>
+    ensures { IfOk result
+        (λ l. line_at format policy.digits line.now ≡ Ok (meaning_in l)) }
+{
+    match read_line(alloc, format, policy.digits.number(), line) {
+        Ok(read) => Ok(read),
+        Err(fault) => Err(stop_of(fault)),
     }
 }
 
@@ -146,10 +172,9 @@ fn add_line(
     ensures { OnOk result (AddsLine format policy line.now
         (points_of rows.old.items) (points_of rows.new.items)) }
 {
-    match read_line(alloc, format, policy.digits.number(), line) {
-        Ok(read) => add_read(alloc, policy, rows, counts, read, line.len()),
-        Err(fault) => Err(stop_of(fault)),
-    }
+    let read = line_of(alloc, format, policy, line)?;
+    add_read(alloc, policy.rest, rows, counts, read, line.len())?;
+    Ok(())
 }
 
 // The first line without its end, and what stands behind it.
@@ -172,25 +197,54 @@ fn refused(line: u64, len: usize, stop: Stop) -> ReadError {
     })
 }
 
-fn read_lines(
-    alloc: Global,
+// The line of this number, and what stands behind it.
+fn cut_numbered(bytes: &[u8], number: u64) -> Result<(&[u8], &[u8]), ReadError>
+    ensures { IfOk result (λ p. bytes.now ≡ p.0.now ++ 10 ∷ p.1.now) }
+{
+    match cut_line(bytes) {
+        Some(parts) => Ok(parts),
+        None => Err(refused(number, bytes.len(), Stop::at(Cause::End, 0))),
+    }
+}
+
+#[derive(Clone, Copy, Drop)]
+struct Asked {
     format: Format,
     policy: Policy,
+}
+
+fn add_numbered(
+    alloc: Global,
+    asked: Asked,
+    rows: &mut Vec<Row>,
+    counts: &mut Counts,
+    line: &[u8],
+    number: u64,
+) -> Result<(), ReadError>
+    ensures { OnOk result (AddsLine asked.format asked.policy line.now
+        (points_of rows.old.items) (points_of rows.new.items)) }
+{
+    match add_line(alloc, asked.format, asked.policy, rows, counts, line) {
+        Ok(()) => Ok(()),
+        Err(stop) => Err(refused(number, line.len(), stop)),
+    }
+}
+
+fn read_lines(
+    alloc: Global,
+    asked: Asked,
     counts: &mut Counts,
     bytes: &[u8],
 ) -> Result<Vec<Row>, ReadError>
-    ensures { IfOk result (λ rows. IsText format policy bytes.now (points_of rows.items)) }
+    ensures { IfOk result
+        (λ rows. IsText asked.format asked.policy bytes.now (points_of rows.items)) }
 {
     let mut rows = Vec::new(alloc);
     let mut rest = bytes;
     let mut number = 1u64;
-    'lines: while !is_end(format, rest) {
-        let Some((line, after)) = cut_line(rest) else {
-            return Err(refused(number, rest.len(), Stop::at(Cause::End, 0)));
-        };
-        if let Err(stop) = add_line(alloc, format, policy, &mut rows, counts, line) {
-            return Err(refused(number, line.len(), stop));
-        }
+    'lines: while !is_end(asked.format, rest) {
+        let (line, after) = cut_numbered(rest, number)?;
+        add_numbered(alloc, asked, &mut rows, counts, line, number)?;
         rest = after;
         number = number.saturating_add(1);
     }
@@ -219,7 +273,8 @@ pub fn read_text(
         rest: 0,
         exemplars: 0,
     };
-    let mut rows = read_lines(alloc, format, policy, &mut counts, text)?;
+    let asked = Asked { format, policy };
+    let mut rows = read_lines(alloc, asked, &mut counts, text)?;
     sort_rows(&mut rows)?;
     Ok(Exposition { rows, counts })
 }
