@@ -158,9 +158,10 @@ fn bytes_of(
 /// question, reply, tables and lines.
 ///
 /// It claims that no series is missing exactly if each part passes the checks that need no series,
-/// the rows are the merged rows of the parts, and no line of the auditor names a flaw. It takes time
-/// in proportion to the reply, and memory for at most 4,000,000 pieces above the claim, with it and
-/// below it: however many intervals, rows and samples there are, only so many are drawn.
+/// the rows are the merged rows of the parts, and no line of the auditor names a flaw. It takes
+/// time in proportion to the reply, and a sort's for the merge; and memory for at most 4,000,000
+/// pieces each above the claim, with it and below it: however many intervals, rows and samples
+/// there are, only so many are drawn.
 pub fn write_page(alloc: Global, shown: &Shown<'_>) -> Result<Page, AllocError>
     ensures { IfOk result (λ page. IsPageOf shown.now page) }
 {
