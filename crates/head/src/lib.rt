@@ -50,6 +50,7 @@ mod live;
 mod order;
 mod reference_list;
 mod references;
+mod row_batch;
 mod selection;
 mod series;
 mod snapshot;
@@ -63,7 +64,8 @@ pub use head::HeadView;
 pub use list::HeadList;
 pub use live::LiveList;
 pub use postings::PartName;
-pub use snapshot::{Snapshot, apply};
+pub use row_batch::RowBatch;
+pub use snapshot::{Snapshot, apply, apply_rows};
 pub use span::Span;
 
 /// The greatest number of series in a head.

@@ -1,6 +1,10 @@
 //! What the list of a store's published events is made of.
 
+ghost use Rattle.std.specs.Prelude.{◌≡◌};
+
+use crate::change::Change;
 use head::Event;
+use std::marker::Model;
 
 /// An event, with the number of the seat that published it.
 #[derive(Drop)]
@@ -18,4 +22,27 @@ pub enum Mark {
     Try(Entry),
     /// The event that was tried last is published.
     Done,
+}
+
+/// A change that is to be published, with the number of the seat. Contracts see it as an entry.
+#[derive(Drop)]
+pub struct Tried<'a, C: Change> {
+    change: &'a C,
+    seat: usize,
+}
+
+impl<'a, C: Change> Model for Tried<'a, C> {
+    ghost use Rattle.snapshots.specs.declared.entry.Entry.{Entry};
+
+    ghost Value = { Entry };
+
+    ghost view = { λ t. record { event = C.event t.change.now; seat = t.seat } };
+}
+
+impl<'a, C: Change> Tried<'a, C> {
+    pub fn of(change: &'a C, seat: usize) -> Tried<'a, C>
+        ensures { result ≡ record { event = C.event change.now; seat = seat } }
+    {
+        Tried { change, seat }
+    }
 }

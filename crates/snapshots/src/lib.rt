@@ -35,6 +35,7 @@
 
 mod appender;
 mod book;
+mod change;
 mod committer;
 mod entry;
 mod error;
@@ -50,8 +51,10 @@ mod version;
 
 pub use appender::Appender;
 pub use book::Book;
+pub use change::Change;
 pub use committer::Committer;
 pub use entry::{Entry, Mark};
+pub use head::RowBatch;
 pub use error::{OpenError, SnapshotError};
 pub use naming::Naming;
 pub use pass::Pass;

@@ -6,7 +6,8 @@ ghost use Rattle.snapshots.specs.Marks.{accepted, list_of};
 ghost use Rattle.snapshots.specs.Grows.{Shows, MayFollow};
 ghost use Rattle.snapshots.specs.Replays.{IsAfter};
 
-use crate::entry::Entry;
+use crate::change::Change;
+use crate::entry::{Entry, Tried};
 use crate::log::{Ends, LogEnd, Tries};
 use crate::naming::Naming;
 use crate::prefix::LogPrefix;
@@ -37,14 +38,14 @@ fn publish<J: Naming, R: Wait>(rt: &R, mut press: Press<J>, next: Version) -> (P
 }
 
 /// Publishes the snapshot after one more entry, and marks that in the log.
-pub fn publish_entry<J: Naming, R: Wait>(
+pub fn publish_entry<J: Naming, R: Wait, C: Change>(
     rt: &R,
     end: &LogEnd<J>,
     log: &mut LogPrefix<J>,
     press: &mut Press<J>,
     snapshot: Arc<Snapshot>,
     events: u64,
-    entry: &Entry,
+    entry: &Tried<'_, C>,
 ) -> bool
     requires room { length log.old < 2 ^ 61 + 1 }
     requires shown { Shows J.book J.opening press.old.desk.shown.value (accepted log.old) }
@@ -56,7 +57,7 @@ pub fn publish_entry<J: Naming, R: Wait>(
     ensures parts { MatchBool result (press.new.desk.shown.value.parts ≡ arc_value snapshot)
         (press.new.desk.shown.value ≡ press.old.desk.shown.value) }
 {
-    log.add::<Tries, R>(rt, end, entry);
+    log.add::<Tried<'_, C>, Tries, R>(rt, end, entry);
     let next = Version::of(snapshot, events, log);
     let published = replace_with(
         press,
@@ -68,7 +69,7 @@ pub fn publish_entry<J: Naming, R: Wait>(
         { publish(rt, press, next) },
     );
     if published {
-        log.add::<Ends, R>(rt, end, entry);
+        log.add::<Tried<'_, C>, Ends, R>(rt, end, entry);
     }
     published
 }

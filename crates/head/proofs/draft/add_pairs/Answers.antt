@@ -4,7 +4,7 @@ use Rattle.head.specs.Outcomes.{IsStepRefusal}
 use Rattle.head.specs.Taking.{head_added_each}
 use Rattle.head.specs.Slots.{series_in_each}
 use Rattle.head.proofs.Applies.{refused_at}
-use Rattle.head.proofs.draft.add_each.Goals as goal
+use Rattle.head.proofs.draft.add_pairs.Goals as goal
 
 pub returns-in-Err-clause-step : goal.returns-in-Err-clause-step
 returns-in-Err-clause-step c =
