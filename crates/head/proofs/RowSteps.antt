@@ -62,12 +62,18 @@ pub refused_front : (floor : ℤ) (r : Result (List HeadSeries) Refusal) (at : �
 refused_front floor r at xs ys e is =
     subst (IsStepRefusal e) (sym (each_more floor r at xs ys)) (refused_on floor (at + length xs) ys (head_added_each floor r at xs) e is)
 
+pairs_cut : (l : Labels) (i : ℕ) (samples : List (ℤ × ℤ)) (s : ℤ × ℤ) → i < length samples → s ≡ slice_index_or samples i s →
+    drop i (pairs_with l samples) ≡ (l, s) ∷ drop (suc i) (pairs_with l samples)
+pairs_cut l i [] s inside is = absurd (omega (arith, inside))
+pairs_cut l zero (x ∷ xs) s inside is = ap (λ (y : ℤ × ℤ). (l, y) ∷ pairs_with l xs) (sym is)
+pairs_cut l (suc i) (x ∷ xs) s inside is = pairs_cut l i xs s (omega (arith, inside)) is
+
 -- the pairs of a label set from one of its samples on
 pub pairs_from : (l : Labels) (i : ℕ) (samples : List (ℤ × ℤ)) (s : ℤ × ℤ) → i < length samples → s ≡ slice_index_or samples i s →
     drop i (pairs_with l samples) ≡ (l, s) ∷ drop (i + 1) (pairs_with l samples)
-pairs_from l i [] s inside is = absurd (omega (arith, inside))
-pairs_from l zero (x ∷ xs) s inside is = ap (λ (y : ℤ × ℤ). (l, y) ∷ pairs_with l xs) (sym is)
-pairs_from l (suc i) (x ∷ xs) s inside is = pairs_from l i xs s (omega (arith, inside)) is
+pairs_from l i samples s inside is =
+    let e : suc i ≡ i + 1 = omega arith in
+    pairs_cut l i samples s inside is ∙ ap (λ n. (l, s) ∷ drop n (pairs_with l samples)) e
 
 -- one sample of a label set, and then the others
 pub pair_next : (floor : ℤ) (head : List HeadSeries) (at i : ℕ) (l : Labels) (samples : List (ℤ × ℤ)) (s : ℤ × ℤ) (step : Result (List HeadSeries) Refusal) →
@@ -101,12 +107,18 @@ split_all p (x ∷ xs) ys h =
     let rest = split_all p xs ys (second_T (p x) (list_all p (xs ++ ys)) h) in
     (both_T (p x) (list_all p xs) (first_T (p x) (list_all p (xs ++ ys)) h) rest.0, rest.1)
 
+rows_cut : (i : ℕ) (rows : List Row) (row : Row) → i < length rows → row ≡ slice_index_or rows i row →
+    batch_of_rows (drop i rows) ≡ pairs_with row.0 row.1 ++ batch_of_rows (drop (suc i) rows)
+rows_cut i [] row inside is = absurd (omega (arith, inside))
+rows_cut zero (r ∷ rs) row inside is = ap (λ (x : Row). pairs_with x.0 x.1 ++ batch_of_rows rs) (sym is)
+rows_cut (suc i) (r ∷ rs) row inside is = rows_cut i rs row (omega (arith, inside)) is
+
 -- the pairs of the rows from one of them on
 pub rows_from_here : (i : ℕ) (rows : List Row) (row : Row) → i < length rows → row ≡ slice_index_or rows i row →
     batch_of_rows (drop i rows) ≡ pairs_with row.0 row.1 ++ batch_of_rows (drop (i + 1) rows)
-rows_from_here i [] row inside is = absurd (omega (arith, inside))
-rows_from_here zero (r ∷ rs) row inside is = ap (λ (x : Row). pairs_with x.0 x.1 ++ batch_of_rows rs) (sym is)
-rows_from_here (suc i) (r ∷ rs) row inside is = rows_from_here i rs row (omega (arith, inside)) is
+rows_from_here i rows row inside is =
+    let e : suc i ≡ i + 1 = omega arith in
+    rows_cut i rows row inside is ∙ ap (λ n. pairs_with row.0 row.1 ++ batch_of_rows (drop n rows)) e
 
 pub all_in_row : (p : Labels × (ℤ × ℤ) → Bool) (i : ℕ) (rows : List Row) (row : Row) → i < length rows → row ≡ slice_index_or rows i row →
     T (list_all p (batch_of_rows rows)) → T (list_all p (pairs_with row.0 row.1))
@@ -129,9 +141,10 @@ pub row_next : (floor : ℤ) (head : List HeadSeries) (at i : ℕ) (rows : List 
     i < length rows → row ≡ slice_index_or rows i row → head_added_each floor (Ok head) at (pairs_with row.0 row.1) ≡ step →
     head_added_each floor (Ok head) at (batch_of_rows (drop i rows)) ≡ head_added_each floor step (at + length row.1) (batch_of_rows (drop (i + 1) rows))
 row_next floor head at i rows row step inside is made =
+    let count : length (pairs_with row.0 row.1) ≡ length row.1 = length-map row.1 (λ (s : ℤ × ℤ). (row.0, s)) in
     ap (head_added_each floor (Ok head) at) (rows_from_here i rows row inside is)
     ∙ each_more floor (Ok head) at (pairs_with row.0 row.1) (batch_of_rows (drop (i + 1) rows))
-    ∙ (λ k. head_added_each floor (made k) (at + length-map row.1 (λ (s : ℤ × ℤ). (row.0, s)) k) (batch_of_rows (drop (i + 1) rows)))
+    ∙ (λ k. head_added_each floor (made k) (at + count k) (batch_of_rows (drop (i + 1) rows)))
 
 -- The samples of a label set from one place on are added as all are. The next one is accepted, or
 -- refused, or there is none.

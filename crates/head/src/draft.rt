@@ -546,13 +546,13 @@ pub(crate) fn add_each(
     requires ordered { IsOrderOf order.old (series_in_each draft.old) }
     requires few { length (batch_in batch) ≤ 4096 }
     ensures step { IsOutcome result
-        (head_added_each floor (Ok (series_in_each draft.old)) 0 (batch_in batch))
+        (head_added_each floor (Ok (series_in_each draft.old)) 0 (batch_in batch.entry))
         (series_in_each draft.new) }
     ensures ordered { OnOk result (IsOrderOf order.new (series_in_each draft.new)) }
     ensures counted { IfOk result
         (λ copied. copied + 119 * owned draft.old ≤ 119 * owned draft.new) }
     ensures owners { OnOk result ((p : Labels → Bool)
-        → T (list_all (λ x. p x.0) (batch_in batch)) → AllOwn p draft.old → AllOwn p draft.new) }
+        → T (list_all (λ x. p x.0) (batch_in batch.entry)) → AllOwn p draft.old → AllOwn p draft.new) }
 {
     match batch {
         Samples::Pairs(pairs) => add_pairs(alloc, draft, order, floor, pairs),

@@ -125,17 +125,13 @@ impl Snapshot {
     }
 }
 
-fn snapshot_with(
-    alloc: Global,
-    at: &Snapshot,
-    batch: Samples<'_>,
-) -> Result<Snapshot, CommitError>
+fn snapshot_with(alloc: Global, at: &Snapshot, batch: Samples<'_>) -> Result<Snapshot, CommitError>
     requires { IsTrue (is_batch (batch_in batch)) }
-    ensures ok { IfOk result (λ s. committed (world_of at.now) (batch_in batch) ≡ Ok (world_of s)) }
+    ensures ok { IfOk result (λ s. committed (world_of at.now) (batch_in batch.entry) ≡ Ok (world_of s)) }
     ensures refused { IfErr result (λ e.
-        IsStepRefusal e (committed (world_of at.now) (batch_in batch))) }
+        IsStepRefusal e (committed (world_of at.now) (batch_in batch.entry))) }
     ensures kept { IfOk result (λ s. s.blocks ≡ at.now.blocks) }
-    ensures copied { IfOk result (λ s. s.copied ≤ 119 * set_count (batch_in batch)) }
+    ensures copied { IfOk result (λ s. s.copied ≤ 119 * set_count (batch_in batch.entry)) }
 {
     let last = at.head.series().try_clone()?;
     let blocks = Arc::try_clone(&at.blocks)?;

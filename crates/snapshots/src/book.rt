@@ -158,12 +158,15 @@ impl<J: Naming, R: Wait + Drop> Book<J, R> {
         if !self.log.begins_with(seat.log()) {
             return Err((change, CommitError::Memory));
         }
-        let snapshot = match snapshot_after(self.alloc, self.press.published().snapshot(), &change) {
+        let snapshot = match snapshot_after(
+            self.alloc,
+            self.press.published().snapshot(),
+            &change,
+        ) {
             Ok(snapshot) => snapshot,
             Err(error) => return Err((change, error)),
         };
         let events = self.events + 1;
-        let entry = Tried::of(&change, number);
         let published = publish_entry(
             &self.rt,
             &self.end,
@@ -171,7 +174,10 @@ impl<J: Naming, R: Wait + Drop> Book<J, R> {
             &mut self.press,
             snapshot,
             events,
-            &entry,
+            &Tried {
+                change: &change,
+                seat: number,
+            },
         );
         if !published {
             return Err((change, CommitError::Memory));

@@ -1,10 +1,6 @@
 //! What the list of a store's published events is made of.
 
-ghost use Rattle.std.specs.Prelude.{◌≡◌};
-
-use crate::change::Change;
 use head::Event;
-use std::marker::Model;
 
 /// An event, with the number of the seat that published it.
 #[derive(Drop)]
@@ -24,25 +20,9 @@ pub enum Mark {
     Done,
 }
 
-/// A change that is to be published, with the number of the seat. Contracts see it as an entry.
+/// A change that is to be published, with the number of the seat: clauses see it as an entry.
 #[derive(Drop)]
-pub struct Tried<'a, C: Change> {
-    change: &'a C,
-    seat: usize,
-}
-
-impl<'a, C: Change> Model for Tried<'a, C> {
-    ghost use Rattle.snapshots.specs.declared.entry.Entry.{Entry};
-
-    ghost Value = { Entry };
-
-    ghost view = { λ t. record { event = C.event t.change.now; seat = t.seat } };
-}
-
-impl<'a, C: Change> Tried<'a, C> {
-    pub fn of(change: &'a C, seat: usize) -> Tried<'a, C>
-        ensures { result ≡ record { event = C.event change.now; seat = seat } }
-    {
-        Tried { change, seat }
-    }
+pub struct Tried<'a, C> {
+    pub change: &'a C,
+    pub seat: usize,
 }

@@ -53,9 +53,10 @@ pub struct Tries;
 
 impl<'a, C: Change> Plain<Tried<'a, C>, Mark, u64> for Tries {
     ghost use Rattle.std.specs.Prelude.{None};
+    ghost use Rattle.snapshots.specs.Tries.{entry_of};
     ghost use Rattle.snapshots.specs.declared.entry.Mark.TheVariants.{Try};
 
-    ghost ask = { λ e. Try e };
+    ghost ask = { λ t. Try (entry_of C.event t) };
 
     ghost state = { λ e. None };
 }

@@ -1,6 +1,6 @@
 use Rattle.std.specs.Prelude.{◌≡◌, List, false, None, Some, int_lt}
-use Rattle.std.proofs.Common.{rules, sym, ◌∙◌, ap, subst, arith}
-use Rattle.head.specs.Outcomes.{IsStepRefusal}
+use Rattle.std.proofs.Common.{rules, sym, ◌∙◌, ap, subst, arith, to_z, of_z, w64}
+use Rattle.head.specs.Outcomes.{IsOutcome, IsStepRefusal}
 use Rattle.head.specs.Slots.{series_in_each}
 use Rattle.head.specs.Heads.{HeadSeries}
 use Rattle.head.specs.Taking.{head_added, place_from}
@@ -18,7 +18,10 @@ add_at-requires c =
     omega (arith, st.below, length-each c.args.draft.now)
 
 pub returns-in-Some-clause-step : goal.returns-in-Some-clause-step
-returns-in-Some-clause-step c = c.add_at.ensures.step c.args.labels.now (sym c.place_of.ensures.place ∙ c.in-Some.is)
+returns-in-Some-clause-step c =
+    let same_floor : to_z w64 (of_z w64 c.args.floor) ≡ c.args.floor = search rules in
+    subst (λ f. IsOutcome c.add_at.result (head_added f (series_in_each c.args.draft.now) c.args.at (c.args.labels.now, c.args.sample)) (series_in_each c.add_at.new.draft)) same_floor
+    (c.add_at.ensures.step c.args.labels.now (sym c.place_of.ensures.place ∙ c.in-Some.is))
 
 pub returns-in-Some-clause-placed : goal.returns-in-Some-clause-placed
 returns-in-Some-clause-placed c =
@@ -56,7 +59,7 @@ returns-in-Ok-clause-placed c =
     let head : List HeadSeries = series_in_each c.args.draft.now in
     let is : place_from c.args.labels.now 0 head ≡ None = sym c.place_of.ensures.place ∙ c.in-None.is in
     new_placed c.args.labels.now c.args.sample head (series_in_each c.add_new.new.draft) is c.in-Ok.ensures.step
-    ∙ ap Some (length-each c.args.draft.now ∙ sym c.len.ensures.count)
+    ∙ ap Some (length-each c.args.draft.now ∙ sym c.len-near.ensures.count)
 
 pub returns-in-Err-clause-step : goal.returns-in-Err-clause-step
 returns-in-Err-clause-step c =

@@ -29,5 +29,9 @@ returns-clause-step c = λ l is.
 pub returns-clause-owners : goal.returns-clause-owners
 returns-clause-owners c =
     let head : List HeadSeries = series_in_each c.args.draft.now in
-    let like = λ (l : Labels) is. like_series l head (slice_index_or head c.args.place some) ((stands_at l head c.args.place is).found some) in
-    on_ok c.add_known.result (λ own l is p h all. own some p (subst (λ (m : Labels). T (p m)) (like l is) h) all) c.add_known.ensures.owners
+    on_ok c.add_known.result
+    (λ own l is p h all.
+    own some p
+    (subst (λ (m : Labels). T (p m)) (like_series l head (slice_index_or head c.args.place some) ((stands_at l head c.args.place is).found some)) h)
+    all)
+    c.add_known.ensures.owners
