@@ -1,4 +1,4 @@
-use Rattle.std.proofs.Common.{◌≡◌, ◌+◌, ◌∷◌, [], rules, arith, ap, ◌∙◌, drop}
+use Rattle.std.proofs.Common.{◌+◌, rules, arith, ap, ◌∙◌, drop}
 use Rattle.std.proofs.Common.{slice_index_or}
 use Rattle.std.proofs.lemmas.List.{drop_more, drop_all, nil_from_length}
 use Rattle.std.specs.Prelude.{Bool, ◌&&◌}
