@@ -14,7 +14,10 @@ pub fn meta_text(
     series: usize,
     samples: u64,
     digits: u32,
-) -> Result<Option<String>, AllocError> {
+) -> Result<Option<String>, AllocError>
+    ensures { IfOk result (λ meta. IfSome meta (λ text.
+        range_said (string_bytes text) ≡ Some range)) }
+{
     let (min, max) = (range.min(), range.max());
     let text = format!(in alloc;
         "{{\"minTime\":{min},\"maxTime\":{max},\"version\":1,\

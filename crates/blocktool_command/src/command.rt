@@ -1,18 +1,18 @@
 //! The command line.
 
+use block_outputs::Stretch;
 use clap::builder::ValueParser;
 use clap::error::ErrorKind;
 use clap::{Arg, ArgMatches, Command, Error, value_parser};
 use imported_values::{Digits, Policy, Rest, Stale};
 use labels::{MAX_TIME, MIN_TIME};
-use prometheus_block::Times;
 use std::alloc::{AllocError, Global};
 
 /// How an import is made.
 #[derive(Clone, Copy, Debug, Drop)]
 pub(crate) struct Options<'a> {
     pub(crate) policy: Policy,
-    pub(crate) times: Times,
+    pub(crate) times: Stretch,
     pub(crate) into: &'a str,
 }
 
@@ -33,13 +33,13 @@ const PROMETHEUS: &str =
     "Example: blocktool from-prometheus --decimals 3 --rest drop --into mine data/01HX*
 
 Each BLOCK is a directory with index, chunks/ and tombstones, as Prometheus and promtool write it.
-The outputs are OUT/0001, OUT/0002 and so on, at most 63: those of the first BLOCK, then those of
-the next. So of two samples of one series at one time querier takes that of the later BLOCK. OUT must
-be empty or not be there. Each output is made under another name, synced, and then renamed.
+The outputs are OUT/0001, OUT/0002 and so on, at most 63, one range of times after another. Of two
+samples of one series at one time that of the later BLOCK is kept. OUT must be empty or not be there.
+Each output is made under another name, synced, and then renamed.
 
 For each output a line is printed, and then one that tells every sample that was read in one count:
   OUT/0001: 10 series 1200 samples, 1700006400000 to 1700008185001
-  read 1200 samples: 1200 kept, 0 stale, 0 of other values, 0 deleted, 0 outside; ..
+  read 1200 samples: 1200 kept, 0 stale, 0 of other values, 0 deleted, 0 hidden, 0 outside; ..
 
 A value is kept as a whole number of parts, of which 10^N make one. Stale markers are no samples.
 Histograms are left.
@@ -153,7 +153,7 @@ fn options_in<'a>(found: &ArgMatches<'a>) -> Option<Options<'a>> {
             rest,
             stale,
         },
-        times: Times {
+        times: Stretch {
             from: time_in(found, "from", MIN_TIME),
             to: time_in(found, "to", MAX_TIME),
         },

@@ -1,13 +1,12 @@
 //! Why the program ends before it is done.
 
-use block_writer::WriteError;
+use block_outputs::OutputError;
 use imported_values::Reason;
 use prometheus_block::SourceError;
 use std::alloc::{AllocError, AllocFailed};
 use std::error::Error;
 use std::fmt;
 use std::io::{self, Write};
-use time_cuts::CutError;
 
 /// Why the program ends before it is done.
 #[derive(Debug, Drop)]
@@ -37,6 +36,10 @@ pub enum Fault {
     TooMany(usize),
     /// The samples of one moment, or the labels, are more than an output may have.
     TooLarge,
+    /// Rows or times of an input do not ascend.
+    Unordered,
+    /// An input changed while it was read.
+    Changed,
     /// A standard output refused.
     NoOutput,
     /// No memory is left.
@@ -49,7 +52,8 @@ impl Fault {
     pub fn status(&self) -> u8 {
         match self {
             Fault::Source(_, SourceError::Unreadable(_)) => 3,
-            Fault::Source(_, _) | Fault::Value { .. } | Fault::TooMany(_) | Fault::TooLarge => 1,
+            Fault::Source(_, _) | Fault::Value { .. } | Fault::TooMany(_) => 1,
+            Fault::TooLarge | Fault::Unordered | Fault::Changed => 1,
             Fault::Words(_) => 2,
             Fault::CannotRead(_) | Fault::CannotWrite(_) | Fault::NotEmpty(_) | Fault::NoOutput =>
                 3,
@@ -101,6 +105,8 @@ impl fmt::Display for Fault {
                     "refused: one moment alone is more than an output may have"
                 )
             }
+            Fault::Unordered => write!(f, "refused: rows out of order"),
+            Fault::Changed => write!(f, "refused: an input changed while it was read"),
             Fault::NoOutput => write!(f, "cannot write the lines"),
             Fault::Memory => write!(f, "no memory"),
         }
@@ -127,20 +133,13 @@ impl From<io::Error> for Fault {
     }
 }
 
-impl From<WriteError> for Fault {
-    fn from(error: WriteError) -> Fault {
+impl From<OutputError> for Fault {
+    fn from(error: OutputError) -> Fault {
         match error {
-            WriteError::Memory => Fault::Memory,
-            WriteError::Limit => Fault::TooLarge,
-        }
-    }
-}
-
-impl From<CutError> for Fault {
-    fn from(error: CutError) -> Fault {
-        match error {
-            CutError::Memory => Fault::Memory,
-            CutError::Slot => Fault::TooLarge,
+            OutputError::Memory => Fault::Memory,
+            OutputError::Disk => Fault::NoOutput,
+            OutputError::TooLarge => Fault::TooLarge,
+            OutputError::Unordered => Fault::Unordered,
         }
     }
 }

@@ -1,23 +1,24 @@
 //! What the program `blocktool` does: it makes blocks of this project from other programs' data.
 //!
-//! [`run`] does what the words after the program's name ask for. `from-prometheus` reads blocks of
-//! Prometheus (`source`), plans how many outputs there are and which times each has (`plan`), and
-//! makes of each stretch of time the rows (`convert`) and the directory (`output`). What is
-//! refused, and with which status a line ends, is said by `fault` and `run`.
+//! [`run`] does what the words after the program's name ask for. An [`Input`](input) gives rows in a
+//! range of times and counts what it read; `conversion` makes of several inputs, of which the later
+//! wins, one output after another. `from_prometheus` opens blocks of Prometheus (`prometheus`) as
+//! inputs and plans into how many outputs their times are cut. What is refused, and with which
+//! status a line ends, is said by `fault` and `run`.
 //!
-//! It stands on `prometheus_block` for what is read, `imported_values` for values, `time_cuts` for
-//! outputs, and `block_writer` and `block_folder` for what is
-//! written; and on `clap` for words.
+//! It stands on `prometheus_block` for what is read, on `imported_values` for values, on
+//! `block_outputs` and `block_folder` for what is written, and on `clap` for words.
 #![tactic(auto)]
 
 mod command;
-mod convert;
+mod conversion;
 mod fault;
-mod output;
-mod plan;
-mod program;
-mod source;
+mod from_prometheus;
+mod input;
+mod prometheus;
+mod run;
 mod summary;
+mod target;
 
 pub use fault::Fault;
-pub use program::{Ending, run};
+pub use run::{Ending, run};

@@ -1,46 +1,75 @@
 //! What became of all samples.
 
-use crate::output::Written;
-use prometheus_block::{Counted, Tally};
+ghost use Rattle.std.specs.Prelude.{◌≡◌, ◌+◌, IfSome};
+
+use crate::conversion::Account;
+use prometheus_block::Counted;
 use std::alloc::{AllocError, Global};
 
-/// As `mine/0001: 10 series 1200 samples, 1700006400000 to 1700008185001`, and a line feed.
-pub(crate) fn line_of(alloc: Global, name: &str, written: Written) -> Result<String, AllocError> {
-    let Written {
-        series,
-        samples,
-        first,
-        last,
-    } = written;
-    format!(in alloc; "{name}: {series} series {samples} samples, {first} to {last}\n")
+/// How many samples were read, and what became of them: each is told in exactly one of the other
+/// counts. Histograms are none.
+#[derive(Clone, Copy, Debug, PartialEq, Eq, Drop)]
+pub(crate) struct Summary {
+    read: u64,
+    kept: u64,
+    stale: u64,
+    rest: u64,
+    deleted: u64,
+    hidden: u64,
+    outside: u64,
+    histograms: u64,
 }
 
-/// A line that tells each sample that was read in one count, and a line feed.
-pub(crate) fn summary_of(
-    alloc: Global,
-    counted: Counted,
-    tally: Tally,
-    digits: u32,
-) -> Result<String, AllocError> {
-    let Counted {
-        samples,
-        histograms,
-    } = counted;
-    let Tally {
-        kept,
-        stale,
-        rest,
-        deleted,
-        ..
-    } = tally;
-    let told = kept
-        .saturating_add(stale)
-        .saturating_add(rest)
-        .saturating_add(deleted);
-    let outside = samples.saturating_sub(told);
-    format!(in alloc;
-        "read {samples} samples: {kept} kept, {stale} stale, {rest} of other values, \
-         {deleted} deleted, {outside} outside; {histograms} of histograms left; \
-         values times 10^{digits}\n"
-    )
+impl Summary {
+    /// Of so many samples, by what became of those that the outputs' times have. `None` where these
+    /// are more than there are: an input changed while it was read.
+    pub(crate) fn of(counted: Counted, account: Account) -> Option<Summary>
+        // Each sample that was read is told once.
+        ensures all { IfSome result (λ s. s.read
+            ≡ s.kept + s.hidden + s.stale + s.rest + s.deleted + s.outside) }
+        ensures read { IfSome result (λ s. s.read ≡ counted.samples) }
+        ensures kept { IfSome result (λ s. s.kept + s.hidden ≡ account.tally.kept) }
+        ensures hidden { IfSome result (λ s. s.hidden ≡ account.hidden) }
+        ensures stale { IfSome result (λ s. s.stale ≡ account.tally.stale) }
+        ensures rest { IfSome result (λ s. s.rest ≡ account.tally.rest) }
+        ensures deleted { IfSome result (λ s. s.deleted ≡ account.tally.deleted) }
+    {
+        let Account { tally, hidden } = account;
+        let kept = tally.kept.checked_sub(hidden)?;
+        let outside = counted
+            .samples
+            .checked_sub(tally.kept)?
+            .checked_sub(tally.stale)?
+            .checked_sub(tally.rest)?
+            .checked_sub(tally.deleted)?;
+        Some(Summary {
+            read: counted.samples,
+            kept,
+            stale: tally.stale,
+            rest: tally.rest,
+            deleted: tally.deleted,
+            hidden,
+            outside,
+            histograms: counted.histograms,
+        })
+    }
+
+    /// The summary as a line.
+    pub(crate) fn line_of(&self, alloc: Global, digits: u32) -> Result<String, AllocError> {
+        let Summary {
+            read,
+            kept,
+            stale,
+            rest,
+            deleted,
+            hidden,
+            outside,
+            histograms,
+        } = *self;
+        format!(in alloc;
+            "read {read} samples: {kept} kept, {stale} stale, {rest} of other values, \
+             {deleted} deleted, {hidden} hidden, {outside} outside; \
+             {histograms} of histograms left; values times 10^{digits}\n"
+        )
+    }
 }

@@ -1,0 +1,168 @@
+//! Rows as the directory of a block.
+
+ghost use Rattle.std.specs.Prelude.{◌≡◌, ◌^◌, ◌-◌, min, [], Some, None, IfOk, IfNone, OnOk, string_bytes};
+ghost use Rattle.std.specs.Bool.{OnTrue};
+ghost use Rattle.block.specs.Metas.{range_said};
+ghost use Rattle.block_writer.specs.SpellRows.{AreWithin, IsWithin};
+ghost use Rattle.block_outputs.specs.Writing.{samples_in, Writes, WritesBlock};
+
+use crate::error::OutputError;
+use block::Range;
+use block_folder::{Disk, Files, Place, meta_text, write_block};
+use block_writer::{PartRows, write};
+use labels::Row;
+use std::alloc::{AllocError, Global};
+
+/// The most series of a block, and the most samples of a series.
+const MOST: usize = 1_048_576;
+
+/// What rows have.
+#[derive(Clone, Copy, Debug, PartialEq, Eq, Drop)]
+pub struct Extent {
+    /// How many they are.
+    pub series: usize,
+    /// How many samples they have.
+    pub samples: u64,
+    /// The first time, in milliseconds.
+    pub first: i64,
+    /// The last time.
+    pub last: i64,
+}
+
+/// An output that was written.
+#[derive(Debug, Drop)]
+pub struct Output {
+    /// Its directory.
+    pub name: String,
+    /// What it has.
+    pub extent: Extent,
+}
+
+/// How many samples rows have, up to the greatest number.
+pub fn count_samples(rows: &[Row]) -> u64
+    ensures { result ≡ min (samples_in rows.now) (2 ^ 64 - 1) }
+{
+    let mut count = 0u64;
+    for row in rows {
+        count = count.saturating_add(row.samples().len() as u64);
+    }
+    count
+}
+
+/// The first and the last time of rows, if they have a sample.
+fn ends_of(rows: &[Row]) -> Option<(i64, i64)> {
+    let mut ends: Option<(i64, i64)> = None;
+    for row in rows {
+        let (Some(first), Some(last)) = (row.samples().first(), row.samples().last()) else {
+            continue;
+        };
+        ends = Some(match ends {
+            Some((from, to)) => (from.min(first.t()), to.max(last.t())),
+            None => (first.t(), last.t()),
+        });
+    }
+    ends
+}
+
+fn is_within(range: Range, row: &Row) -> bool
+    ensures { OnTrue result (IsWithin range row.now) }
+{
+    row.samples().len() <= MOST && row.samples().iter().all(|sample| range.covers(sample.t()))
+}
+
+fn are_within(range: Range, rows: &[Row]) -> bool
+    ensures { OnTrue result (AreWithin range rows.now) }
+{
+    rows.len() <= MOST && rows.iter().all(|row| is_within(range, row))
+}
+
+/// The range of a block with rows that begin and end at these times.
+fn range_for(first: i64, last: i64, rows: &[Row]) -> Result<Range, OutputError>
+    ensures { IfOk result (λ range. AreWithin range rows.now) }
+{
+    let Some(range) = Range::new(first, last.saturating_add(1)) else {
+        return Err(OutputError::TooLarge);
+    };
+    if !are_within(range, rows) {
+        return Err(OutputError::TooLarge);
+    }
+    Ok(range)
+}
+
+fn meta_for(alloc: Global, range: Range, extent: Extent, digits: u32) -> Result<String, OutputError>
+    ensures { IfOk result (λ text. range_said (string_bytes text) ≡ Some range) }
+{
+    let Extent {
+        series, samples, ..
+    } = extent;
+    match meta_text(alloc, range, series, samples, digits)? {
+        Some(text) => Ok(text),
+        None => Err(OutputError::TooLarge),
+    }
+}
+
+/// Writes the block of rows in a range.
+fn write_in<'a, D: Disk>(
+    alloc: Global,
+    disk: &mut D,
+    place: Place<'a>,
+    range: Range,
+    meta: &str,
+    rows: &PartRows,
+) -> Result<(), OutputError>
+    requires within { AreWithin range rows.now }
+    requires said { range_said meta.now ≡ Some range }
+    ensures { OnOk result (WritesBlock D.did place.entry rows.now disk.old disk.new) }
+{
+    let bytes = write(alloc, rows)?;
+    let files = Files {
+        meta: meta.as_bytes(),
+        index: bytes.index.as_slice(),
+        chunks: bytes.chunks.as_slice(),
+        tombstones: bytes.tombstones.as_slice(),
+    };
+    write_block(alloc, disk, place, files)?;
+    Ok(())
+}
+
+/// Writes rows as the block `INTO/NNNN` of this number, and gives its name and what it has; where
+/// there is no row nothing is written. Values are said to have so many digits after the point.
+/// `TooLarge` where the rows are more than a block may have, or the last time is the greatest of
+/// all; `Disk` where a call of the disk fails, after which no further is made.
+pub fn write_output<D: Disk>(
+    alloc: Global,
+    disk: &mut D,
+    into: &str,
+    number: usize,
+    digits: u32,
+    rows: &PartRows,
+) -> Result<Option<Output>, OutputError>
+    // Nothing is told of no rows alone.
+    ensures none { IfOk result (λ output. IfNone output (rows.now ≡ [])) }
+    // What was called of the disk are the calls for a block of exactly the rows, or none for no row.
+    ensures written { OnOk result (Writes D.did into.now rows.now disk.old disk.new) }
+{
+    if rows.rows().is_empty() {
+        return Ok(None);
+    }
+    let Some((first, last)) = ends_of(rows.rows()) else {
+        return Err(OutputError::TooLarge);
+    };
+    let extent = Extent {
+        series: rows.rows().len(),
+        samples: count_samples(rows.rows()),
+        first,
+        last,
+    };
+    let range = range_for(first, last, rows.rows())?;
+    let meta = meta_for(alloc, range, extent, digits)?;
+    let name = format!(in alloc; "{into}/{number:04}")?;
+    let unfinished = format!(in alloc; "{into}/.{number:04}-unfinished")?;
+    let place = Place {
+        parent: into,
+        block: name.as_str(),
+        unfinished: unfinished.as_str(),
+    };
+    write_in(alloc, disk, place, range, meta.as_str(), rows)?;
+    Ok(Some(Output { name, extent }))
+}

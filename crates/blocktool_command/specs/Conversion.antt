@@ -1,0 +1,75 @@
+-- Outputs of several inputs.
+use Rattle.std.specs.Prelude.{◌≡◌, ℕ, ◌+◌, ◌-◌, ◌^◌, min, List, [], ◌∷◌}
+use Rattle.labels.specs.Rows.{Row}
+use Rattle.prometheus_block.specs.declared.keeping.Tally.{Tally}
+use Rattle.block_folder.specs.Steps.{Did}
+use Rattle.block_outputs.specs.declared.tiles.Stretch.{Stretch}
+use Rattle.block_outputs.specs.Joined.{IsJoined}
+use Rattle.block_outputs.specs.Writing.{samples_in, IsStill, Writes}
+use Rattle.blocktool_command.specs.declared.conversion.Account.{Account}
+
+-- a number, up to the greatest
+abbrev pub capped : ℕ → ℕ
+capped n = min n (2 ^ 64 - 1)
+
+-- how many samples lists of rows have
+abbrev pub samples_in_all : List (List Row) → ℕ
+samples_in_all [] = 0
+samples_in_all (rows ∷ lists) = samples_in rows + samples_in_all lists
+
+-- what an input may give of a range of times, and how counts go on
+abbrev pub Gives : Type 0 → Type 1
+Gives I = I → Stretch → List Row → Tally → Tally → Type 0
+
+-- each input gives its list of rows of a range, one after another
+abbrev pub AreGiven : {I : Type 0} → Gives I → List I → Stretch → List (List Row)
+    → Tally → Tally → Type 0
+AreGiven gives [] times [] old new = new ≡ old
+AreGiven gives [] times (rows ∷ lists) old new = ⊥
+AreGiven gives (input ∷ inputs) times [] old new = ⊥
+AreGiven gives (input ∷ inputs) times (rows ∷ lists) old new =
+    (mid : Tally) × gives input times rows old mid × AreGiven gives inputs times lists mid new
+
+-- the rows of what inputs give of a range, in which the later input wins; what each counted is told,
+-- and how many samples of it are hidden by later inputs
+pub record IsJoinedOf {I : Type 0} (gives : Gives I) (inputs : List I) (times : Stretch)
+    (rows : List Row) (old new : Account) : Type 0 where
+  pub lists : List (List Row)
+  pub given : AreGiven gives inputs times lists old.tally new.tally
+  pub joined : IsJoined lists rows
+  pub hidden : new.hidden
+      ≡ capped (old.hidden + (capped (samples_in_all lists) - capped (samples_in rows)))
+
+-- the output of a range is written: a block with exactly the rows of what inputs give of it, none
+-- where they give nothing
+pub record IsConverted {I D : Type 0} (gives : Gives I) (did : D → List Did → Type 0)
+    (inputs : List I) (into : List ℕ) (times : Stretch) (rows : List Row)
+    (old new : Account) (before after : D) : Type 0 where
+  pub joined : IsJoinedOf gives inputs times rows old new
+  pub written : Writes did into rows before after
+
+-- the outputs of ranges are written, one after another
+abbrev pub AreConvertedFrom : {I D : Type 0} → Gives I → (D → List Did → Type 0) → List I
+    → List ℕ → List Stretch → List (List Row) → Account → Account → D → D → Type 0
+AreConvertedFrom gives did inputs into [] [] old new before after =
+    (new ≡ old) × IsStill did before after
+AreConvertedFrom gives did inputs into [] (rows ∷ outputs) old new before after = ⊥
+AreConvertedFrom gives did inputs into (s ∷ ss) [] old new before after = ⊥
+AreConvertedFrom {I} {D} gives did inputs into (s ∷ ss) (rows ∷ outputs) old new before after =
+    (mid : Account) × (between : D)
+    × IsConverted gives did inputs into s rows old mid before between
+    × AreConvertedFrom gives did inputs into ss outputs mid new between after
+
+-- no sample
+abbrev pub nothing : Account
+nothing = record {
+  tally = record { kept = 0; stale = 0; rest = 0; deleted = 0; outside = 0 };
+  hidden = 0;
+}
+
+-- the outputs of ranges, which are written one after another
+abbrev pub AreConverted : {I D : Type 0} → Gives I → (D → List Did → Type 0) → List I
+    → List ℕ → List Stretch → Account → D → D → Type 0
+AreConverted gives did inputs into ss account before after =
+    (outputs : List (List Row))
+    × AreConvertedFrom gives did inputs into ss outputs nothing account before after
