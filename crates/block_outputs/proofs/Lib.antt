@@ -1,0 +1,2 @@
+pub mod Tiled
+pub mod Held

@@ -1,3 +1,4 @@
+pub mod Contents
 pub mod Joined
 pub mod Tiles
 pub mod Writing

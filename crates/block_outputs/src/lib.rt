@@ -9,12 +9,14 @@
 //! on `block_writer` and `block_folder` for what is written, and on `labels` and `block`.
 #![tactic(auto)]
 
+mod contents;
 mod counts;
 mod error;
 mod joining;
 mod output;
 mod tiles;
 
+pub use contents::outputs_hold_contents;
 pub use counts::Counts;
 pub use error::OutputError;
 pub use joining::join;

@@ -1,12 +1,14 @@
 -- Outputs of several inputs.
 use Rattle.std.specs.Prelude.{◌≡◌, ℕ, ◌+◌, ◌-◌, ◌^◌, min, List, [], ◌∷◌}
 use Rattle.labels.specs.Rows.{Row}
+use Rattle.prometheus_block.specs.declared.chunk.Counted.{Counted}
 use Rattle.prometheus_block.specs.declared.keeping.Tally.{Tally}
 use Rattle.block_folder.specs.Steps.{Did}
 use Rattle.block_outputs.specs.declared.tiles.Stretch.{Stretch}
 use Rattle.block_outputs.specs.Joined.{IsJoined}
 use Rattle.block_outputs.specs.Writing.{samples_in, IsStill, Writes}
 use Rattle.blocktool_command.specs.declared.conversion.Account.{Account}
+use Rattle.blocktool_command.specs.declared.summary.Summary.{Summary}
 
 -- a number, up to the greatest
 abbrev pub capped : ℕ → ℕ
@@ -73,3 +75,21 @@ abbrev pub AreConverted : {I D : Type 0} → Gives I → (D → List Did → Typ
 AreConverted gives did inputs into ss account before after =
     (outputs : List (List Row))
     × AreConvertedFrom gives did inputs into ss outputs nothing account before after
+
+-- what became of so many samples that were counted: each is told in exactly one count
+pub record IsSummaryOf (counted : Counted) (account : Account) (s : Summary) : Type 0 where
+  pub all : s.read ≡ s.kept + s.hidden + s.stale + s.rest + s.deleted + s.outside
+  pub read : s.read ≡ counted.samples
+  pub kept : s.kept + s.hidden ≡ account.tally.kept
+  pub hidden : s.hidden ≡ account.hidden
+  pub stale : s.stale ≡ account.tally.stale
+  pub rest : s.rest ≡ account.tally.rest
+  pub deleted : s.deleted ≡ account.tally.deleted
+
+-- the outputs of ranges are written, and each sample that was counted is told once
+pub record Makes {I D : Type 0} (gives : Gives I) (did : D → List Did → Type 0) (inputs : List I)
+    (into : List ℕ) (ss : List Stretch) (counted : Counted) (summary : Summary)
+    (before after : D) : Type 0 where
+  pub account : Account
+  pub converted : AreConverted gives did inputs into ss account before after
+  pub told : IsSummaryOf counted account summary

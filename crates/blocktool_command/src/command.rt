@@ -21,6 +21,10 @@ pub(crate) struct Options<'a> {
 pub(crate) enum Line<'a> {
     /// Blocks out of the blocks of Prometheus in these directories.
     FromPrometheus(Options<'a>, Vec<&'a str>),
+    /// Blocks in this directory, out of the blocks in these directories.
+    Rewrite(&'a str, Vec<&'a str>),
+    /// What the blocks in these directories have.
+    List(Vec<&'a str>),
 }
 
 const CHOICES: [&str; 2] = ["refuse", "drop"];
@@ -45,6 +49,26 @@ A value is kept as a whole number of parts, of which 10^N make one. Stale marker
 Histograms are left.
 
 Exit status: 0 done; 1 refused, with the place on standard error; 2 a fault of the words; 3 cannot
+read or write; 4 no memory";
+
+const REWRITE: &str =
+    "Example: blocktool rewrite --into whole mine/0001 mine/0002
+
+The outputs are OUT/0001, OUT/0002 and so on, at most 63, one range of times after another, without
+the samples that are deleted. Of two samples of one series at one time that of the later DIR is kept.
+All DIR must have values of as many digits. The rows of all are in memory at once.
+
+Exit status: 0 done; 1 refused, with the code on standard error; 2 a fault of the words; 3 cannot
+read or write; 4 no memory";
+
+const LIST: &str =
+    "For each DIR, in the order given, a line is printed, and one for each name of its labels:
+  DIR: 10 series 1200 samples, 1700006400000 to 1700008185001, 0 deleted, 20841 bytes
+    job: 3 values
+
+The range is that of meta.json; the samples are those that are not deleted.
+
+Exit status: 0 done; 1 refused, with the code on standard error; 2 a fault of the words; 3 cannot
 read or write; 4 no memory";
 
 const ABOUT_DIGITS: &str = "How many digits after the point are kept, 0 to 9 [default: 0]";
@@ -107,6 +131,29 @@ fn from_prometheus<'a>(alloc: Global) -> Result<Command<'a>, AllocError> {
         .arg(blocks(alloc))
 }
 
+fn directories<'a>(alloc: Global) -> Arg<'a> {
+    Arg::new(alloc, "directories")
+        .value_name("DIR")
+        .num_args(1..)
+        .required(true)
+        .help("A directory with a block")
+}
+
+fn rewrite<'a>(alloc: Global) -> Result<Command<'a>, AllocError> {
+    Command::new(alloc, "rewrite")
+        .about("Makes blocks of the samples of blocks that are not deleted")
+        .after_help(REWRITE)
+        .arg(into(alloc))?
+        .arg(directories(alloc))
+}
+
+fn list<'a>(alloc: Global) -> Result<Command<'a>, AllocError> {
+    Command::new(alloc, "list")
+        .about("Lists what blocks have")
+        .after_help(LIST)
+        .arg(directories(alloc))
+}
+
 fn blocktool<'a>(alloc: Global) -> Result<Command<'a>, AllocError> {
     Command::new(alloc, "blocktool")
         .bin_name("blocktool")?
@@ -114,7 +161,9 @@ fn blocktool<'a>(alloc: Global) -> Result<Command<'a>, AllocError> {
         .version("0.1.0")
         .no_binary_name(true)
         .subcommand_required(true)
-        .subcommand(from_prometheus(alloc)?)
+        .subcommand(from_prometheus(alloc)?)?
+        .subcommand(rewrite(alloc)?)?
+        .subcommand(list(alloc)?)
 }
 
 fn time_in(found: &ArgMatches<'_>, name: &str, other: i64) -> i64 {
@@ -172,15 +221,39 @@ fn texts_in<'a>(
     }
 }
 
-fn line_in<'a>(alloc: Global, found: &ArgMatches<'a>) -> Result<Option<Line<'a>>, AllocError> {
-    let Some(arguments) = found.subcommand_matches("from-prometheus") else {
+fn import_in<'a>(
+    alloc: Global,
+    found: &ArgMatches<'a>,
+) -> Result<Option<Line<'a>>, AllocError> {
+    let Some(options) = options_in(found) else {
         return Ok(None);
     };
-    let Some(options) = options_in(arguments) else {
-        return Ok(None);
-    };
-    let blocks = texts_in(alloc, arguments, "blocks")?;
+    let blocks = texts_in(alloc, found, "blocks")?;
     Ok(Some(Line::FromPrometheus(options, blocks)))
+}
+
+fn rewrite_in<'a>(
+    alloc: Global,
+    found: &ArgMatches<'a>,
+) -> Result<Option<Line<'a>>, AllocError> {
+    let Some(into) = found.get_str("into") else {
+        return Ok(None);
+    };
+    let directories = texts_in(alloc, found, "directories")?;
+    Ok(Some(Line::Rewrite(into, directories)))
+}
+
+fn line_in<'a>(alloc: Global, found: &ArgMatches<'a>) -> Result<Option<Line<'a>>, AllocError> {
+    if let Some(found) = found.subcommand_matches("from-prometheus") {
+        return import_in(alloc, found);
+    }
+    if let Some(found) = found.subcommand_matches("rewrite") {
+        return rewrite_in(alloc, found);
+    }
+    let Some(found) = found.subcommand_matches("list") else {
+        return Ok(None);
+    };
+    Ok(Some(Line::List(texts_in(alloc, found, "directories")?)))
 }
 
 fn no_subcommand(alloc: Global) -> Result<Error, AllocError> {

@@ -1,5 +1,6 @@
 //! Why the program ends before it is done.
 
+use block::BlockError;
 use block_outputs::OutputError;
 use imported_values::Reason;
 use prometheus_block::SourceError;
@@ -15,6 +16,10 @@ pub enum Fault {
     Words(clap::Error),
     /// An input is refused: its directory, and the first check that fails.
     Source(String, SourceError),
+    /// A block of this project is refused: its directory, and the first check that fails.
+    Block(String, BlockError),
+    /// The values of the block in this directory have another number of digits.
+    Digits(String),
     /// A value is refused.
     Value {
         /// Why.
@@ -53,6 +58,7 @@ impl Fault {
         match self {
             Fault::Source(_, SourceError::Unreadable(_)) => 3,
             Fault::Source(_, _) | Fault::Value { .. } | Fault::TooMany(_) => 1,
+            Fault::Block(_, _) | Fault::Digits(_) => 1,
             Fault::TooLarge | Fault::Unordered | Fault::Changed => 1,
             Fault::Words(_) => 2,
             Fault::CannotRead(_) | Fault::CannotWrite(_) | Fault::NotEmpty(_) | Fault::NoOutput =>
@@ -75,6 +81,13 @@ impl fmt::Display for Fault {
         match self {
             Fault::Words(error) => write!(f, "{error}"),
             Fault::Source(directory, error) => write!(f, "refused {error} in {directory}"),
+            Fault::Block(directory, error) => {
+                let code = error.code();
+                write!(f, "refused {code} in {directory}")
+            }
+            Fault::Digits(directory) => {
+                write!(f, "refused: values with other digits in {directory}")
+            }
             Fault::Value {
                 reason,
                 series,

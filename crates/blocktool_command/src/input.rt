@@ -4,9 +4,9 @@ ghost use Rattle.std.specs.Prelude.{List, IfOk};
 ghost use Rattle.labels.specs.Rows.{Row as RowValue};
 
 use crate::fault::Fault;
-use block_outputs::Stretch;
+use block_outputs::{Counts, Stretch};
 use labels::Row;
-use prometheus_block::Tally;
+use prometheus_block::{Counted, Tally};
 use std::alloc::Global;
 
 /// What gives rows in a range of times, and counts what it read.
@@ -15,12 +15,24 @@ pub(crate) trait Input {
     ghost may_give: { Self → Stretch → List RowValue → Tally → Tally → Type 0 };
 
     /// The rows in a closed range of times, each with samples.
-    fn rows_in(
-        &self,
-        alloc: Global,
-        times: Stretch,
-        tally: &mut Tally,
-    ) -> Result<Vec<Row>, Fault>
+    fn rows_in(&self, alloc: Global, times: Stretch, tally: &mut Tally) -> Result<Vec<Row>, Fault>
         ensures { IfOk result (λ rows.
             may_give self.now times rows.items tally.old tally.new) };
+
+    /// The first and the last time of the samples in a range, and of others, if there are any.
+    fn span(&self, times: Stretch, before: Option<Stretch>) -> Option<Stretch>;
+
+    /// Counts how many samples there are, and when: all that are read.
+    fn count(&self, alloc: Global, counts: &mut Counts) -> Result<Counted, Fault>;
+}
+
+/// The shortest range of times with two.
+pub(crate) fn joined(span: Option<Stretch>, other: Stretch) -> Option<Stretch> {
+    Some(match span {
+        Some(span) => Stretch {
+            from: span.from.min(other.from),
+            to: span.to.max(other.to),
+        },
+        None => other,
+    })
 }

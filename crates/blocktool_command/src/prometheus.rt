@@ -3,7 +3,7 @@
 ghost use Rattle.prometheus_block.specs.Series.{IsHeld};
 
 use crate::fault::Fault;
-use crate::input::Input;
+use crate::input::{Input, joined};
 use block_outputs::{Counts, Stretch};
 use imported_values::Policy;
 use index_reader::{Chunk, Index};
@@ -165,6 +165,38 @@ fn value_fault(alloc: Global, index: &Index, at: usize, error: KeepError) -> Fau
     }
 }
 
+/// The times of a chunk in a range, if there are any.
+fn times_within(times: Stretch, chunk: &Chunk) -> Option<Stretch> {
+    if chunk.maxt < times.from || times.to < chunk.mint {
+        return None;
+    }
+    Some(Stretch {
+        from: chunk.mint.max(times.from),
+        to: chunk.maxt.min(times.to),
+    })
+}
+
+impl<'a, S: ReadSegments> Source<'a, S> {
+    fn count_chunk(
+        &self,
+        alloc: Global,
+        held: &mut Held,
+        chunk: Chunk,
+        counts: &mut Counts,
+    ) -> Result<Counted, Fault>
+        requires held { IsHeld (S.may_read self.now.segments) held.old }
+        ensures held { IsHeld (S.may_read self.now.segments) held.new }
+    {
+        match count_samples(alloc, &self.segments, held, chunk) {
+            Ok(counted) => {
+                counts.add(chunk.mint, chunk.maxt, counted.samples);
+                Ok(counted)
+            }
+            Err(error) => Err(refused(alloc, self.directory, error)),
+        }
+    }
+}
+
 impl<'a, S: ReadSegments> Input for Source<'a, S> {
     ghost use Rattle.blocktool_command.specs.Prometheus.{IsGivenBy};
 
@@ -193,64 +225,25 @@ impl<'a, S: ReadSegments> Input for Source<'a, S> {
             Err(RowsError::Value(at, error)) => Err(value_fault(alloc, &self.index, at, error)),
         }
     }
-}
 
-/// The first and the last time of a chunk and of others in a range, if there is one.
-fn span_with(times: Stretch, span: Option<Stretch>, chunk: &Chunk) -> Option<Stretch> {
-    if chunk.maxt < times.from || times.to < chunk.mint {
-        return span;
-    }
-    let from = chunk.mint.max(times.from);
-    let to = chunk.maxt.min(times.to);
-    Some(match span {
-        Some(span) => Stretch {
-            from: span.from.min(from),
-            to: span.to.max(to),
-        },
-        None => Stretch { from, to },
-    })
-}
-
-impl<'a, S: ReadSegments> Source<'a, S> {
-    /// The first and the last time that the block and others may have in a range.
-    pub(crate) fn span(&self, times: Stretch, before: Option<Stretch>) -> Option<Stretch> {
+    fn span(&self, times: Stretch, before: Option<Stretch>) -> Option<Stretch> {
         let mut span = before;
         for at in 0..self.index.len() {
             for chunk in self.index.chunks_at(at) {
-                span = span_with(times, span, chunk);
+                if let Some(own) = times_within(times, chunk) {
+                    span = joined(span, own);
+                }
             }
         }
         span
     }
 
-    fn count_chunk(
-        &self,
-        alloc: Global,
-        held: &mut Held,
-        chunk: Chunk,
-        counts: &mut Counts,
-    ) -> Result<Counted, Fault>
-        requires held { IsHeld (S.may_read self.now.segments) held.old }
-        ensures held { IsHeld (S.may_read self.now.segments) held.new }
-    {
-        match count_samples(alloc, &self.segments, held, chunk) {
-            Ok(counted) => {
-                counts.add(chunk.mint, chunk.maxt, counted.samples);
-                Ok(counted)
-            }
-            Err(error) => Err(refused(alloc, self.directory, error)),
-        }
-    }
-
-    /// Counts what the chunks of the block hold, and when.
-    pub(crate) fn count(
-        &self,
-        alloc: Global,
-        counts: &mut Counts,
-        before: Counted,
-    ) -> Result<Counted, Fault> {
+    fn count(&self, alloc: Global, counts: &mut Counts) -> Result<Counted, Fault> {
         let mut held = Held::new();
-        let mut all = before;
+        let mut all = Counted {
+            samples: 0,
+            histograms: 0,
+        };
         for at in 0..self.index.len() {
             for chunk in self.index.chunks_at(at) {
                 let counted = self.count_chunk(alloc, &mut held, *chunk, counts)?;

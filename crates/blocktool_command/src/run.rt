@@ -3,6 +3,8 @@
 use crate::command::{Line, read_line};
 use crate::fault::Fault;
 use crate::from_prometheus::from_prometheus;
+use crate::list::list;
+use crate::rewrite::rewrite;
 use clap::error::ErrorKind;
 use std::alloc::Global;
 use std::io::{self, Write};
@@ -18,6 +20,10 @@ fn execute<R: Files + AllocGlobal + Clone + Drop, W: Write>(
         Ok(Line::FromPrometheus(options, blocks)) => {
             from_prometheus(alloc, rt, &options, blocks.as_slice(), out)
         }
+        Ok(Line::Rewrite(into, directories)) => {
+            rewrite(alloc, rt, into, directories.as_slice(), out)
+        }
+        Ok(Line::List(directories)) => list(alloc, rt, directories.as_slice(), out),
         Err(error) if matches!(error.kind(), ErrorKind::OutOfMemory) => Err(Fault::Memory),
         Err(error) if error.use_stderr() => Err(Fault::Words(error)),
         Err(help) => {

@@ -1,6 +1,7 @@
 //! What became of all samples.
 
-ghost use Rattle.std.specs.Prelude.{◌≡◌, ◌+◌, IfSome};
+ghost use Rattle.std.specs.Prelude.{IfSome};
+ghost use Rattle.blocktool_command.specs.Conversion.{IsSummaryOf};
 
 use crate::conversion::Account;
 use prometheus_block::Counted;
@@ -25,14 +26,7 @@ impl Summary {
     /// are more than there are: an input changed while it was read.
     pub(crate) fn of(counted: Counted, account: Account) -> Option<Summary>
         // Each sample that was read is told once.
-        ensures all { IfSome result (λ s. s.read
-            ≡ s.kept + s.hidden + s.stale + s.rest + s.deleted + s.outside) }
-        ensures read { IfSome result (λ s. s.read ≡ counted.samples) }
-        ensures kept { IfSome result (λ s. s.kept + s.hidden ≡ account.tally.kept) }
-        ensures hidden { IfSome result (λ s. s.hidden ≡ account.hidden) }
-        ensures stale { IfSome result (λ s. s.stale ≡ account.tally.stale) }
-        ensures rest { IfSome result (λ s. s.rest ≡ account.tally.rest) }
-        ensures deleted { IfSome result (λ s. s.deleted ≡ account.tally.deleted) }
+        ensures { IfSome result (IsSummaryOf counted account) }
     {
         let Account { tally, hidden } = account;
         let kept = tally.kept.checked_sub(hidden)?;

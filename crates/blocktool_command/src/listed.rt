@@ -1,0 +1,115 @@
+//! Rows in memory as an input.
+
+ghost use Rattle.std.specs.Prelude.{◌≡◌, ◌++◌, filter, IfOk, OnOk};
+ghost use Rattle.labels.specs.Parts.{within};
+ghost use Rattle.prometheus_block.specs.Rows.{row_if};
+ghost use Rattle.blocktool_command.specs.Listed.{rows_between};
+
+use crate::fault::Fault;
+use crate::input::{Input, joined};
+use block_outputs::{Counts, Stretch, count_samples};
+use labels::{Row, Sample};
+use prometheus_block::{Counted, Tally};
+use std::alloc::{AllocError, Global};
+
+/// How many samples are counted together.
+const PIECE: usize = 120;
+
+/// Rows in memory.
+#[derive(Drop)]
+pub(crate) struct Listed {
+    pub(crate) rows: Vec<Row>,
+}
+
+fn samples_in(
+    alloc: Global,
+    samples: &[Sample],
+    times: Stretch,
+) -> Result<Vec<Sample>, AllocError>
+    ensures { IfOk result (λ v. v.items ≡ within times.from times.to samples.now) }
+{
+    let mut found = Vec::new(alloc);
+    for sample in samples {
+        if times.has(sample.t()) {
+            found.push(*sample)?;
+        }
+    }
+    Ok(found)
+}
+
+// Appends the samples of a row in a range, if there are any.
+fn push_row(
+    alloc: Global,
+    rows: &mut Vec<Row>,
+    row: &Row,
+    times: Stretch,
+) -> Result<(), AllocError>
+    ensures { OnOk result (rows.new.items
+        ≡ rows.old.items ++ row_if row.now.0 (within times.from times.to row.now.1)) }
+{
+    let samples = samples_in(alloc, row.samples(), times)?;
+    if samples.is_empty() {
+        return Ok(());
+    }
+    rows.push(Row::new(row.labels().try_clone()?, samples))?;
+    Ok(())
+}
+
+// The rows in a range.
+fn rows_between(alloc: Global, rows: &[Row], times: Stretch) -> Result<Vec<Row>, AllocError>
+    ensures { IfOk result (λ v. v.items ≡ rows_between times.from times.to rows.now) }
+{
+    let mut found = Vec::new(alloc);
+    for row in rows {
+        push_row(alloc, &mut found, row, times)?;
+    }
+    Ok(found)
+}
+
+impl Input for Listed {
+    ghost use Rattle.blocktool_command.specs.Listed.{IsGivenByRows};
+
+    ghost may_give = { λ listed times rows old new.
+        IsGivenByRows listed.rows.items times rows old new };
+
+    fn rows_in(
+        &self,
+        alloc: Global,
+        times: Stretch,
+        tally: &mut Tally,
+    ) -> Result<Vec<Row>, Fault> {
+        let rows = rows_between(alloc, self.rows.as_slice(), times)?;
+        tally.kept = tally.kept.saturating_add(count_samples(rows.as_slice()));
+        Ok(rows)
+    }
+
+    fn span(&self, _times: Stretch, before: Option<Stretch>) -> Option<Stretch> {
+        let mut span = before;
+        for row in self.rows.as_slice() {
+            if let (Some(first), Some(last)) = (row.samples().first(), row.samples().last()) {
+                let own = Stretch {
+                    from: first.t(),
+                    to: last.t(),
+                };
+                span = joined(span, own);
+            }
+        }
+        span
+    }
+
+    fn count(&self, _alloc: Global, counts: &mut Counts) -> Result<Counted, Fault> {
+        for row in self.rows.as_slice() {
+            for piece in row.samples().chunks(PIECE) {
+                if let (Some(first), Some(last)) = (piece.first(), piece.last()) {
+                    counts.add(first.t(), last.t(), piece.len() as u64);
+                }
+            }
+            counts.end_series();
+        }
+        counts.end_input();
+        Ok(Counted {
+            samples: count_samples(self.rows.as_slice()),
+            histograms: 0,
+        })
+    }
+}
