@@ -1,2 +1,3 @@
-pub mod Tiled
+pub mod Counted
 pub mod Held
+pub mod Tiled

@@ -1,10 +1,10 @@
 -- Ranges of times, one after another.
 use Rattle.std.specs.Prelude.{◌≡◌, ◌≢◌, ℤ, pos, ◌+ℤ◌, ◌≤ℤ◌, ◌<ℤ◌, int_lt, Bool, true, false, not, ◌&&◌, ◌||◌, List, [], ◌∷◌, ◌++◌, refl}
-use Rattle.std.proofs.Common.{arith, absurd}
+use Rattle.std.proofs.Common.{arith, sym, subst, append_assoc}
 use Rattle.std.proofs.lemmas.Int.{ints}
 use Rattle.labels.specs.Contents.{in_range}
 use Rattle.block_outputs.specs.declared.tiles.Stretch.{Stretch}
-use Rattle.block_outputs.specs.Tiles.{AreTiles}
+use Rattle.block_outputs.specs.Tiles.{AreTiles, AreTilesUpTo}
 
 -- no time lies in a range that ends before it begins
 pub none_between : (from to t : ℤ) → to <ℤ from → in_range from to t ≡ false
@@ -29,3 +29,17 @@ cut_once from to m t low high =
       | true ↦ λ e. after (int_lt t from) (int_lt to t) (int_lt m t) (int_lt t (m +ℤ pos 1)) e (grind (arith, ints)) (grind (arith, ints))
       | false ↦ λ e. before (int_lt t from) (int_lt to t) (int_lt m t) (int_lt t (m +ℤ pos 1)) e (grind (arith, ints)) (grind (arith, ints))
     ] refl
+
+-- a tile more
+pub one_more : (begin from to : ℤ) (tiles new : List Stretch) (s : Stretch) → new ≡ tiles ++ s ∷ [] → s.from ≡ from → from ≤ℤ s.to → s.to ≤ℤ to → AreTilesUpTo begin from to tiles → AreTilesUpTo begin (s.to +ℤ pos 1) to new
+one_more begin from to tiles new s e f low high h rest r =
+    subst (λ (ns : List Stretch). AreTiles begin to (ns ++ rest)) (sym e)
+    (subst (AreTiles begin to) (sym (append_assoc tiles (s ∷ []) rest)) (h (s ∷ rest) (f, low, high, r)))
+
+-- the last tile
+pub last_tile : (begin from to : ℤ) (tiles new : List Stretch) (s : Stretch) → new ≡ tiles ++ s ∷ [] → s.from ≡ from → s.to ≡ to → from ≤ℤ to → AreTilesUpTo begin from to tiles → AreTiles begin to new
+last_tile begin from to tiles new s e f t low h =
+    let low' : from ≤ℤ s.to = omega (arith, ints) in
+    let high : s.to ≤ℤ to = omega (arith, ints) in
+    let end : to <ℤ (s.to +ℤ pos 1) = omega (arith, ints) in
+    subst (AreTiles begin to) (sym e) (h (s ∷ []) (f, low', high, end))

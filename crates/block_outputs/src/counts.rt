@@ -44,6 +44,22 @@ fn zeros(alloc: Global, count: usize) -> Result<Vec<u64>, AllocError> {
     Ok(zeros)
 }
 
+// The most of each place, of one series more, whose counts are 0 again.
+fn raise(most: &mut [u64], of_series: &mut [u64]) {
+    for at in 0..most.len().min(of_series.len()) {
+        most[at] = most[at].max(of_series[at]);
+        of_series[at] = 0;
+    }
+}
+
+// The most of each slot, of one input more, whose counts are 0 again.
+fn add_most(slots: &mut [Slot], of_input: &mut [u64]) {
+    for at in 0..slots.len().min(of_input.len()) {
+        slots[at].most = slots[at].most.saturating_add(of_input[at]);
+        of_input[at] = 0;
+    }
+}
+
 impl Counts {
     /// No samples, and which times they may have: none but these need be told apart.
     pub fn new(alloc: Global, whole: Stretch) -> Result<Counts, AllocError> {
@@ -95,20 +111,15 @@ impl Counts {
     /// The next series follows.
     pub fn end_series(&mut self) {
         self.series = self.series.saturating_add(1);
-        let (from, into) = (&mut self.of_series, &mut self.of_input);
-        for at in 0..from.len().min(into.len()) {
-            into[at] = into[at].max(from[at]);
-            from[at] = 0;
-        }
+        raise(
+            self.of_input.as_mut_slice(),
+            self.of_series.as_mut_slice(),
+        );
     }
 
     /// The next input follows.
     pub fn end_input(&mut self) {
-        let (from, into) = (&mut self.of_input, &mut self.slots);
-        for at in 0..from.len().min(into.len()) {
-            into[at].most = into[at].most.saturating_add(from[at]);
-            from[at] = 0;
-        }
+        add_most(self.slots.as_mut_slice(), self.of_input.as_mut_slice());
     }
 
     fn limits(&self) -> Limits {
@@ -130,7 +141,8 @@ impl Counts {
     fn ends(&self, alloc: Global) -> Result<Vec<i64>, OutputError> {
         let mut ends = Vec::new(alloc);
         let mut place = 0u64;
-        for count in &cut(alloc, self.slots.as_slice(), self.limits())? {
+        let counts = cut(alloc, self.slots.as_slice(), self.limits())?;
+        for count in counts.as_slice() {
             place = place.saturating_add(*count as u64);
             ends.push(self.end_of(place))?;
         }

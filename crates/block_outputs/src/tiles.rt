@@ -1,7 +1,7 @@
 //! Closed ranges of times, one after another.
 
-ghost use Rattle.std.specs.Prelude.{IfOk};
-ghost use Rattle.block_outputs.specs.Tiles.{AreTiles};
+ghost use Rattle.std.specs.Prelude.{ℤ, ◌≤ℤ◌, IfOk};
+ghost use Rattle.block_outputs.specs.Tiles.{AreTiles, AreTilesUpTo};
 
 use std::alloc::{AllocError, Global};
 
@@ -26,6 +26,26 @@ impl Stretch {
     }
 }
 
+// A tile more, up to an end, if this is before the last time, and the first time after the tiles.
+fn push_tile(
+    tiles: &mut Vec<Stretch>,
+    from: i64,
+    end: i64,
+    last: i64,
+) -> Result<i64, AllocError>
+    requires { from ≤ℤ last }
+    ensures order { IfOk result (λ next. next ≤ℤ last) }
+    ensures tiles { IfOk result (λ next. (begin : ℤ)
+        → AreTilesUpTo begin from last tiles.old.items
+        → AreTilesUpTo begin next last tiles.new.items) }
+{
+    if end < from || last <= end {
+        return Ok(from);
+    }
+    tiles.push(Stretch { from, to: end })?;
+    Ok(end + 1)
+}
+
 /// A range of times in tiles: each begins where the one before it ended, and they end at these
 /// times, as far as these ascend and lie in the range, and at the end of the range. None for a range
 /// that ends before it begins.
@@ -38,10 +58,7 @@ pub fn tile(alloc: Global, whole: Stretch, ends: &[i64]) -> Result<Vec<Stretch>,
     }
     let mut from = whole.from;
     for end in ends {
-        if from <= *end && *end < whole.to {
-            tiles.push(Stretch { from, to: *end })?;
-            from = *end + 1;
-        }
+        from = push_tile(&mut tiles, from, *end, whole.to)?;
     }
     tiles.push(Stretch { from, to: whole.to })?;
     Ok(tiles)

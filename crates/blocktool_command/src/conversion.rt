@@ -1,8 +1,8 @@
 //! The outputs of several inputs.
 
-ghost use Rattle.std.specs.Prelude.{◌≡◌, ◌×◌, List, IfOk, OnOk};
+ghost use Rattle.std.specs.Prelude.{◌≡◌, List, IfOk, OnOk};
 ghost use Rattle.labels.specs.Rows.{Row as RowValue};
-ghost use Rattle.block_outputs.specs.Joined.{lists_in, IsJoined};
+ghost use Rattle.block_outputs.specs.Joined.{lists_in};
 ghost use Rattle.blocktool_command.specs.Conversion.{AreGiven, IsJoinedOf, IsConverted};
 ghost use Rattle.blocktool_command.specs.Conversion.{AreConverted, samples_in_all, capped};
 
@@ -96,7 +96,8 @@ fn convert_one<I: Input, D: Disk, W: Write>(
     };
     if let Some(output) = written {
         *outputs = number;
-        send(out, target.line_of(alloc, &output)?.as_str())?;
+        let line = target.line_of(alloc, &output)?;
+        send(out, line.as_str())?;
     }
     Ok(())
 }

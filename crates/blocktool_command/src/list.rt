@@ -32,7 +32,7 @@ fn line_of(alloc: Global, directory: &str, opened: &Opened) -> Result<String, Al
     let (first, last) = (range.min(), range.max().saturating_sub(1));
     let series = opened.block.series_count();
     let samples = opened.block.sample_count();
-    let Opened { deleted, bytes, .. } = opened;
+    let (deleted, bytes) = (opened.deleted, opened.bytes);
     format!(in alloc;
         "{directory}: {series} series {samples} samples, {first} to {last}, \
          {deleted} deleted, {bytes} bytes\n"
@@ -51,7 +51,8 @@ fn names_of(alloc: Global, pairs: &[(&str, &str)]) -> Result<String, AllocError>
             None => true,
         };
         if is_last {
-            text.push_str(format!(in alloc; "  {name}: {count} values\n")?.as_str())?;
+            let line = format!(in alloc; "  {name}: {count} values\n")?;
+            text.push_str(line.as_str())?;
             count = 0;
         }
     }

@@ -81,10 +81,23 @@ fn digits_in(alloc: Global, meta: &[u8]) -> u32 {
     said.unwrap_or(0).min(9) as u32
 }
 
+/// How many bytes the files have.
+fn length_of(bytes: &Bytes) -> u64 {
+    (bytes.meta.len() as u64)
+        .saturating_add(bytes.index.len() as u64)
+        .saturating_add(bytes.chunks.len() as u64)
+        .saturating_add(bytes.tombstones.len() as u64)
+}
+
 fn open(alloc: Global, bytes: Bytes) -> Result<Block, BlockError> {
-    let range = Range::read_meta(alloc, bytes.meta.as_slice())?;
-    let (index, tombstones) = (bytes.index.as_slice(), bytes.tombstones.as_slice());
-    Block::open(alloc, range, index, bytes.chunks, tombstones)
+    let Bytes {
+        meta,
+        index,
+        chunks,
+        tombstones,
+    } = bytes;
+    let range = Range::read_meta(alloc, meta.as_slice())?;
+    Block::open(alloc, range, index.as_slice(), chunks, tombstones.as_slice())
 }
 
 /// How many samples a block has whose deletions are left out.
@@ -110,15 +123,7 @@ pub(crate) fn open_own<R: Files + AllocGlobal>(
     let files = read_bytes(alloc, rt, directory)?;
     let digits = digits_in(alloc, files.meta.as_slice());
     let none_deleted = files.tombstones.as_slice() == NONE_DELETED.as_slice();
-    let mut bytes = 0u64;
-    for len in [
-        files.meta.len(),
-        files.index.len(),
-        files.chunks.len(),
-        files.tombstones.len(),
-    ] {
-        bytes = bytes.saturating_add(len as u64);
-    }
+    let bytes = length_of(&files);
     let block = match open(alloc, files) {
         Ok(block) => block,
         Err(error) => return Err(refused(alloc, directory, error)),

@@ -176,25 +176,77 @@ fn times_within(times: Stretch, chunk: &Chunk) -> Option<Stretch> {
     })
 }
 
-impl<'a, S: ReadSegments> Source<'a, S> {
-    fn count_chunk(
-        &self,
-        alloc: Global,
-        held: &mut Held,
-        chunk: Chunk,
-        counts: &mut Counts,
-    ) -> Result<Counted, Fault>
-        requires held { IsHeld (S.may_read self.now.segments) held.old }
-        ensures held { IsHeld (S.may_read self.now.segments) held.new }
-    {
-        match count_samples(alloc, &self.segments, held, chunk) {
-            Ok(counted) => {
-                counts.add(chunk.mint, chunk.maxt, counted.samples);
-                Ok(counted)
+// Counts what a chunk of a block holds, and when.
+fn count_chunk<S: ReadSegments>(
+    alloc: Global,
+    source: &Source<'_, S>,
+    held: &mut Held,
+    chunk: Chunk,
+    counts: &mut Counts,
+) -> Result<Counted, Fault>
+    requires held { IsHeld (S.may_read source.now.segments) held.old }
+    ensures held { IsHeld (S.may_read source.now.segments) held.new }
+{
+    match count_samples(alloc, &source.segments, held, chunk) {
+        Ok(counted) => {
+            counts.add(chunk.mint, chunk.maxt, counted.samples);
+            Ok(counted)
+        }
+        Err(error) => Err(refused(alloc, source.directory, error)),
+    }
+}
+
+// Counts what the chunks of a series hold.
+fn count_series<S: ReadSegments>(
+    alloc: Global,
+    source: &Source<'_, S>,
+    held: &mut Held,
+    chunks: &[Chunk],
+    counts: &mut Counts,
+    all: &mut Counted,
+) -> Result<(), Fault>
+    requires held { IsHeld (S.may_read source.now.segments) held.old }
+    ensures held { IsHeld (S.may_read source.now.segments) held.new }
+{
+    for chunk in chunks {
+        let counted = count_chunk(alloc, source, held, *chunk, counts)?;
+        all.samples = all.samples.saturating_add(counted.samples);
+        all.histograms = all.histograms.saturating_add(counted.histograms);
+    }
+    counts.end_series();
+    Ok(())
+}
+
+// Counts what the chunks of a block hold.
+fn count_block<S: ReadSegments>(
+    alloc: Global,
+    source: &Source<'_, S>,
+    counts: &mut Counts,
+) -> Result<Counted, Fault> {
+    let mut held = Held::new();
+    let mut all = Counted {
+        samples: 0,
+        histograms: 0,
+    };
+    for at in 0..source.index.len() {
+        let chunks = source.index.chunks_at(at);
+        count_series(alloc, source, &mut held, chunks, counts, &mut all)?;
+    }
+    counts.end_input();
+    Ok(all)
+}
+
+// The first and the last time of the chunks of an index in a range, and of others.
+fn span_of(index: &Index, times: Stretch, before: Option<Stretch>) -> Option<Stretch> {
+    let mut span = before;
+    for at in 0..index.len() {
+        for chunk in index.chunks_at(at) {
+            if let Some(own) = times_within(times, chunk) {
+                span = joined(span, own);
             }
-            Err(error) => Err(refused(alloc, self.directory, error)),
         }
     }
+    span
 }
 
 impl<'a, S: ReadSegments> Input for Source<'a, S> {
@@ -227,32 +279,10 @@ impl<'a, S: ReadSegments> Input for Source<'a, S> {
     }
 
     fn span(&self, times: Stretch, before: Option<Stretch>) -> Option<Stretch> {
-        let mut span = before;
-        for at in 0..self.index.len() {
-            for chunk in self.index.chunks_at(at) {
-                if let Some(own) = times_within(times, chunk) {
-                    span = joined(span, own);
-                }
-            }
-        }
-        span
+        span_of(&self.index, times, before)
     }
 
     fn count(&self, alloc: Global, counts: &mut Counts) -> Result<Counted, Fault> {
-        let mut held = Held::new();
-        let mut all = Counted {
-            samples: 0,
-            histograms: 0,
-        };
-        for at in 0..self.index.len() {
-            for chunk in self.index.chunks_at(at) {
-                let counted = self.count_chunk(alloc, &mut held, *chunk, counts)?;
-                all.samples = all.samples.saturating_add(counted.samples);
-                all.histograms = all.histograms.saturating_add(counted.histograms);
-            }
-            counts.end_series();
-        }
-        counts.end_input();
-        Ok(all)
+        count_block(alloc, self, counts)
     }
 }

@@ -1,0 +1,9 @@
+use Rattle.std.specs.Prelude.{◌≤ℤ◌}
+use Rattle.block_outputs.specs.Tiles.{AreTilesUpTo}
+use Rattle.block_outputs.proofs.tiles.tile.Given as goal
+
+abbrev pub invariant-loop-end : goal.invariant-loop-end
+invariant-loop-end l = record {
+  order : l.from ≤ℤ l.whole.to;
+  tiles : AreTilesUpTo l.whole.from l.from l.whole.to l.tiles.items;
+}

@@ -1,0 +1,60 @@
+-- Lists that inputs give, and outputs, one after another.
+use Rattle.std.specs.Prelude.{◌≡◌, ◌≢◌, ◌⊎◌, ℕ, ◌+◌, ◌<◌, List, [], ◌∷◌, ◌++◌, length, take, get_or, refl}
+use Rattle.std.proofs.Common.{sym, ap, subst, ◌∙◌, arith, inl, inr}
+use Rattle.std.proofs.lemmas.Grind.{take_at_read}
+use Rattle.labels.specs.Rows.{Row}
+use Rattle.prometheus_block.specs.declared.keeping.Tally.{Tally}
+use Rattle.block_folder.specs.Steps.{Did}
+use Rattle.block_outputs.specs.declared.tiles.Stretch.{Stretch}
+use Rattle.block_outputs.specs.Writing.{samples_in, IsStill, Writes}
+use Rattle.blocktool_command.specs.declared.conversion.Account.{Account}
+use Rattle.blocktool_command.specs.Conversion.{Gives, AreGiven, IsConverted, AreConvertedFrom, samples_in_all}
+
+given_last : {I : Type 0} (gives : Gives I) (inputs : List I) (input : I) (times : Stretch) (lists : List (List Row)) (rows : List Row) (old mid new : Tally) → AreGiven gives inputs times lists old mid → gives input times rows mid new → AreGiven gives (inputs ++ input ∷ []) times (lists ++ rows ∷ []) old new
+given_last gives [] input times [] rows old mid new h g = (new, subst (λ (t : Tally). gives input times rows t new) h g, refl)
+given_last gives [] input times (x ∷ lists) rows old mid new h g = absurd h
+given_last gives (i ∷ inputs) input times [] rows old mid new h g = absurd h
+given_last gives (i ∷ inputs) input times (x ∷ lists) rows old mid new h g = (h.0, h.1, given_last gives inputs input times lists rows h.0 mid new h.2 g)
+
+-- what one input more gives
+pub given_more : {I : Type 0} (gives : Gives I) (inputs : List I) (n : ℕ) (input : I) (times : Stretch) (lists new_lists : List (List Row)) (rows : List Row) (old mid new : Tally) → n < length inputs → input ≡ get_or inputs n input → new_lists ≡ lists ++ rows ∷ [] → AreGiven gives (take n inputs) times lists old mid → gives input times rows mid new → AreGiven gives (take (n + 1) inputs) times new_lists old new
+given_more {I} gives inputs n input times lists new_lists rows old mid new lt at e h g =
+    subst (λ (ls : List (List Row)). AreGiven gives (take (n + 1) inputs) times ls old new) (sym e)
+    (subst (λ (is : List I). AreGiven gives is times (lists ++ rows ∷ []) old new)
+    (sym ((take_at_read inputs n input lt).1 ∙ ap (λ (x : I). take n inputs ++ x ∷ []) (sym at)))
+    (given_last gives (take n inputs) input times lists rows old mid new h g))
+
+-- a disk on which nothing was called between
+still_first : {D : Type 0} (did : D → List Did → Type 0) (into : List ℕ) (rows : List Row) (a b c : D) → IsStill did a b → Writes did into rows b c → Writes did into rows a c
+still_first did into rows a b c still (inl h) = inl (h.0, λ log d. h.1 log (still log d))
+still_first did into rows a b c still (inr h) = inr (h.0, (h.1.0, h.1.1, record {
+  range = h.1.2.range;
+  is_range = h.1.2.is_range;
+  files = h.1.2.files;
+  said = h.1.2.said;
+  spelled = h.1.2.spelled;
+  called = λ log d. h.1.2.called log (still log d);
+}))
+
+converted_first : {I D : Type 0} (gives : Gives I) (did : D → List Did → Type 0) (inputs : List I) (into : List ℕ) (s : Stretch) (rows : List Row) (old new : Account) (a b c : D) → IsStill did a b → IsConverted gives did inputs into s rows old new b c → IsConverted gives did inputs into s rows old new a c
+converted_first gives did inputs into s rows old new a b c still h = record {
+  joined = h.joined;
+  written = still_first did into rows a b c still h.written;
+}
+
+converted_last : {I D : Type 0} (gives : Gives I) (did : D → List Did → Type 0) (inputs : List I) (into : List ℕ) (ss : List Stretch) (s : Stretch) (outputs : List (List Row)) (rows : List Row) (old mid new : Account) (a b c : D) → AreConvertedFrom gives did inputs into ss outputs old mid a b → IsConverted gives did inputs into s rows mid new b c → AreConvertedFrom gives did inputs into (ss ++ s ∷ []) (outputs ++ rows ∷ []) old new a c
+converted_last gives did inputs into [] s [] rows old mid new a b c h g =
+    let still : IsStill did c c = λ log d. d in
+    let own = converted_first gives did inputs into s rows mid new a b c h.1 g in
+    (new, c, subst (λ (x : Account). IsConverted gives did inputs into s rows x new a c) h.0 own, (refl, still))
+converted_last gives did inputs into [] s (x ∷ outputs) rows old mid new a b c h g = absurd h
+converted_last gives did inputs into (t ∷ ss) s [] rows old mid new a b c h g = absurd h
+converted_last gives did inputs into (t ∷ ss) s (x ∷ outputs) rows old mid new a b c h g =
+    (h.0, h.1, h.2, converted_last gives did inputs into ss s outputs rows h.0 mid new h.1 b c h.3 g)
+
+-- the output of one range more
+pub converted_more : {I D : Type 0} (gives : Gives I) (did : D → List Did → Type 0) (inputs : List I) (into : List ℕ) (ss : List Stretch) (n : ℕ) (s : Stretch) (outputs : List (List Row)) (rows : List Row) (old mid new : Account) (a b c : D) → n < length ss → s ≡ get_or ss n s → AreConvertedFrom gives did inputs into (take n ss) outputs old mid a b → IsConverted gives did inputs into s rows mid new b c → AreConvertedFrom gives did inputs into (take (n + 1) ss) (outputs ++ rows ∷ []) old new a c
+converted_more gives did inputs into ss n s outputs rows old mid new a b c lt at h g =
+    subst (λ (ts : List Stretch). AreConvertedFrom gives did inputs into ts (outputs ++ rows ∷ []) old new a c)
+    (sym ((take_at_read ss n s lt).1 ∙ ap (λ (x : Stretch). take n ss ++ x ∷ []) (sym at)))
+    (converted_last gives did inputs into (take n ss) s outputs rows old mid new a b c h g)
