@@ -1,10 +1,14 @@
 -- Outputs of several inputs.
-use Rattle.std.specs.Prelude.{◌≡◌, ℕ, ◌+◌, ◌-◌, ◌^◌, min, List, [], ◌∷◌}
-use Rattle.labels.specs.Rows.{Row}
+use Rattle.std.specs.Prelude.{◌≡◌, ℕ, ◌+◌, ◌-◌, ◌^◌, min, ℤ, List, [], ◌∷◌, map}
+use Rattle.labels.specs.Contents.{Content}
+use Rattle.labels.specs.Rows.{Row, points_of}
+use Rattle.labels.specs.Parts.{laid_over}
 use Rattle.prometheus_block.specs.declared.chunk.Counted.{Counted}
 use Rattle.prometheus_block.specs.declared.keeping.Tally.{Tally}
 use Rattle.block_folder.specs.Steps.{Did}
 use Rattle.block_outputs.specs.declared.tiles.Stretch.{Stretch}
+use Rattle.block_outputs.specs.Contents.{restricted, HoldAll}
+use Rattle.block_outputs.specs.Tiles.{AreTiles}
 use Rattle.block_outputs.specs.Joined.{IsJoined}
 use Rattle.block_outputs.specs.Writing.{samples_in, IsStill, Writes}
 use Rattle.blocktool_command.specs.declared.conversion.Account.{Account}
@@ -69,12 +73,22 @@ nothing = record {
   hidden = 0;
 }
 
--- the outputs of ranges, which are written one after another
-abbrev pub AreConverted : {I D : Type 0} → Gives I → (D → List Did → Type 0) → List I
-    → List ℕ → List Stretch → Account → D → D → Type 0
-AreConverted gives did inputs into ss account before after =
-    (outputs : List (List Row))
-    × AreConvertedFrom gives did inputs into ss outputs nothing account before after
+-- each input gives of a range exactly what its content has in it
+abbrev pub GiveContents : {I : Type 0} → Gives I → (I → Content) → Type 0
+GiveContents {I} gives content =
+    (input : I) (s : Stretch) (rows : List Row) (old new : Tally) → gives input s rows old new
+    → laid_over (points_of rows) [] ≡ restricted s.from s.to (content input)
+
+-- the outputs of ranges, which are written one after another; where each input has a content and the
+-- ranges are tiles of one, the outputs hold together exactly what the contents have in it, in which
+-- the later input wins
+pub record AreConverted {I D : Type 0} (gives : Gives I) (did : D → List Did → Type 0)
+    (inputs : List I) (into : List ℕ) (ss : List Stretch) (account : Account)
+    (before after : D) : Type 0 where
+  pub outputs : List (List Row)
+  pub each : AreConvertedFrom gives did inputs into ss outputs nothing account before after
+  pub whole : (content : I → Content) → GiveContents gives content
+      → (from to : ℤ) → AreTiles from to ss → HoldAll (map content inputs) from to outputs
 
 -- what became of so many samples that were counted: each is told in exactly one count
 pub record IsSummaryOf (counted : Counted) (account : Account) (s : Summary) : Type 0 where

@@ -26,4 +26,5 @@ mod summary;
 mod target;
 
 pub use fault::Fault;
+pub use listed::rows_give_their_content;
 pub use run::{Ending, run};

@@ -3,7 +3,7 @@
 ghost use Rattle.std.specs.Prelude.{◌≡◌, ◌++◌, filter, IfOk, OnOk};
 ghost use Rattle.labels.specs.Parts.{within};
 ghost use Rattle.prometheus_block.specs.Rows.{row_if};
-ghost use Rattle.blocktool_command.specs.Listed.{rows_between};
+ghost use Rattle.blocktool_command.specs.Listed.{rows_between, RowsGiveTheirContent};
 
 use crate::fault::Fault;
 use crate::input::{Input, joined};
@@ -113,3 +113,9 @@ impl Input for Listed {
         })
     }
 }
+
+/// A law: rows in memory give of a range exactly what they hold in it, as a conversion asks of its
+/// inputs.
+pub fn rows_give_their_content()
+    ensures { RowsGiveTheirContent }
+{}
