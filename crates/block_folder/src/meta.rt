@@ -1,10 +1,28 @@
 //! The text of a block's `meta.json`.
 
 ghost use Rattle.std.specs.Prelude.{◌≡◌, string_bytes, IfOk, IfSome, Some};
+ghost use Rattle.std.specs.Bool.{OnTrue};
 ghost use Rattle.block.specs.Metas.{range_said};
 
 use block::Range;
 use std::alloc::{AllocError, Global};
+
+#[tactic(auto, using(crate::proofs::Said::same_range))]
+fn is_same(a: Range, b: Range) -> bool
+    ensures { OnTrue result (a ≡ b) }
+{
+    a.min() == b.min() && a.max() == b.max()
+}
+
+// Whether the text of a `meta.json` says a range.
+fn is_read_as(alloc: Global, text: &[u8], range: Range) -> bool
+    ensures { OnTrue result (range_said text.now ≡ Some range) }
+{
+    let Ok(read) = Range::read_meta(alloc, text) else {
+        return false;
+    };
+    is_same(read, range)
+}
 
 /// The text of a `meta.json` that says a range, how many series and samples there are, and how many
 /// digits after the point its values have. `None` where it would not be read as this range.
@@ -24,8 +42,8 @@ pub fn meta_text(
          \"stats\":{{\"numSeries\":{series},\"numSamples\":{samples}}},\
          \"decimals\":{digits}}}\n"
     )?;
-    match Range::read_meta(alloc, text.as_bytes()) {
-        Ok(read) if read == range => Ok(Some(text)),
-        _ => Ok(None),
+    if !is_read_as(alloc, text.as_bytes(), range) {
+        return Ok(None);
     }
+    Ok(Some(text))
 }

@@ -1,3 +1,5 @@
 pub mod Counted
 pub mod Held
+pub mod Lists
 pub mod Tiled
+pub mod Within

@@ -1,8 +1,9 @@
 -- Rows as the files of a block, and the calls by which they are written.
-use Rattle.std.specs.Prelude.{◌≡◌, ◌≢◌, ◌⊎◌, ℕ, ◌+◌, ℤ, List, [], ◌∷◌, length, Some}
+use Rattle.std.specs.Prelude.{◌≡◌, ◌⊎◌, ℕ, ◌+◌, ℤ, Bool, ◌&&◌, nat_le, List, [], ◌∷◌, length, Some}
+use Rattle.std.specs.List.{list_all}
 use Rattle.labels.specs.Rows.{Row}
 use Rattle.block.specs.Metas.{range_said}
-use Rattle.block.specs.Ranges.{IsRange}
+use Rattle.block.specs.Ranges.{IsRange, covers}
 use Rattle.block_folder.specs.declared.folder.Place.{Place}
 use Rattle.block_folder.specs.declared.folder.Files.{Files}
 use Rattle.block_folder.specs.Blocks.{calls_of}
@@ -14,10 +15,24 @@ abbrev pub samples_in : List Row → ℕ
 samples_in [] = 0
 samples_in (row ∷ rows) = length row.1 + samples_in rows
 
--- the calls for the files of a block at a place: its meta says a range, and by the grammar of blocks
+-- whether the times of samples lie in a range
+abbrev pub are_inside : ℤ × ℤ → List (ℤ × ℤ) → Bool
+are_inside range samples = list_all (λ (s : ℤ × ℤ). covers range s.0) samples
+
+-- whether a block of a range may have a row
+abbrev pub is_within : ℤ × ℤ → Row → Bool
+is_within range row = nat_le (length row.1) 1048576 && are_inside range row.1
+
+-- whether it may have rows
+abbrev pub are_within : ℤ × ℤ → List Row → Bool
+are_within range rows = nat_le (length rows) 1048576 && list_all (is_within range) rows
+
+-- the calls for the files of a block in a directory: its meta says a range, and by the grammar of blocks
 -- its other files are a block of this range with exactly these rows
-pub record WritesBlock {D : Type 0} (did : D → List Did → Type 0) (place : Place)
+pub record WritesBlock {D : Type 0} (did : D → List Did → Type 0) (into : List ℕ)
     (rows : List Row) (old new : D) : Type 0 where
+  pub place : Place
+  pub parent : place.parent.now ≡ into
   pub range : ℤ × ℤ
   pub is_range : IsRange range
   pub files : Files
@@ -29,9 +44,7 @@ pub record WritesBlock {D : Type 0} (did : D → List Did → Type 0) (place : P
 abbrev pub IsStill : {D : Type 0} → (D → List Did → Type 0) → D → D → Type 0
 IsStill did old new = (log : List Did) → did old log → did new log
 
--- the calls for a block of rows, at a place in a directory; none for no row
+-- the calls for a block of rows in a directory; none for no row
 abbrev pub Writes : {D : Type 0} → (D → List Did → Type 0) → List ℕ → List Row → D → D → Type 0
 Writes did into rows old new =
-    ((rows ≡ []) × IsStill did old new)
-    ⊎ ((rows ≢ []) × ((place : Place) × (place.parent.now ≡ into)
-    × WritesBlock did place rows old new))
+    ((rows ≡ []) × IsStill did old new) ⊎ WritesBlock did into rows old new

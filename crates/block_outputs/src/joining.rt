@@ -1,8 +1,7 @@
 //! The rows of several lists as one list.
 
-ghost use Rattle.std.specs.Prelude.{[], map, IfOk};
-ghost use Rattle.labels.specs.Rows.{AreRows};
-ghost use Rattle.series_merge.specs.Merging.{laid_each, row_lists};
+ghost use Rattle.std.specs.Prelude.{◌≡◌, [], ◌∷◌, IfOk};
+ghost use Rattle.series_merge.specs.Merging.{row_lists};
 ghost use Rattle.block_outputs.specs.Joined.{lists_in, IsJoined};
 
 use crate::error::OutputError;
@@ -31,10 +30,12 @@ fn answer_of(alloc: Global, rows: Vec<Row>) -> PartAnswer
 fn answers_of(alloc: Global, lists: Vec<Vec<Row>>) -> Result<Vec<PartAnswer>, AllocError>
     ensures { IfOk result (λ answers. row_lists answers.items ≡ lists_in lists.items) }
 {
+    let mut lists = lists;
     let mut answers = Vec::new(alloc);
-    for rows in lists {
+    while let Some(rows) = lists.pop() {
         answers.push(answer_of(alloc, rows))?;
     }
+    answers.reverse();
     Ok(answers)
 }
 

@@ -1,16 +1,17 @@
 //! Rows as the directory of a block.
 
-ghost use Rattle.std.specs.Prelude.{◌≡◌, ◌^◌, ◌-◌, min, [], Some, None, IfOk, IfNone, OnOk, string_bytes};
-ghost use Rattle.std.specs.Bool.{OnTrue};
+ghost use Rattle.std.specs.Prelude.{◌≡◌, ◌^◌, ◌-◌, min, [], Some, IfOk, IfNone, OnOk};
+ghost use Rattle.std.specs.Prelude.{string_bytes};
 ghost use Rattle.block.specs.Metas.{range_said};
-ghost use Rattle.block_writer.specs.SpellRows.{AreWithin, IsWithin};
-ghost use Rattle.block_outputs.specs.Writing.{samples_in, Writes, WritesBlock};
+ghost use Rattle.block_writer.specs.SpellRows.{AreWithin};
+ghost use Rattle.block_outputs.specs.Writing.{samples_in, are_inside, is_within, are_within};
+ghost use Rattle.block_outputs.specs.Writing.{Writes, WritesBlock};
 
 use crate::error::OutputError;
 use block::Range;
 use block_folder::{Disk, Files, Place, meta_text, write_block};
 use block_writer::{PartRows, write};
-use labels::Row;
+use labels::{Row, Sample};
 use std::alloc::{AllocError, Global};
 
 /// The most series of a block, and the most samples of a series.
@@ -64,19 +65,26 @@ fn ends_of(rows: &[Row]) -> Option<(i64, i64)> {
     ends
 }
 
-fn is_within(range: Range, row: &Row) -> bool
-    ensures { OnTrue result (IsWithin range row.now) }
+fn are_inside(range: Range, samples: &[Sample]) -> bool
+    ensures { result ≡ are_inside range samples.now }
 {
-    row.samples().len() <= MOST && row.samples().iter().all(|sample| range.covers(sample.t()))
+    samples.iter().all(|sample| range.covers(sample.t()))
+}
+
+fn is_within(range: Range, row: &Row) -> bool
+    ensures { result ≡ is_within range row.now }
+{
+    row.samples().len() <= MOST && are_inside(range, row.samples())
 }
 
 fn are_within(range: Range, rows: &[Row]) -> bool
-    ensures { OnTrue result (AreWithin range rows.now) }
+    ensures { result ≡ are_within range rows.now }
 {
     rows.len() <= MOST && rows.iter().all(|row| is_within(range, row))
 }
 
 /// The range of a block with rows that begin and end at these times.
+#[tactic(auto, using(crate::proofs::Within::rows_within))]
 fn range_for(first: i64, last: i64, rows: &[Row]) -> Result<Range, OutputError>
     ensures { IfOk result (λ range. AreWithin range rows.now) }
 {
@@ -101,20 +109,34 @@ fn meta_for(alloc: Global, range: Range, extent: Extent, digits: u32) -> Result<
     }
 }
 
+/// The names of a block's directory, and of the one in which it stands.
+#[derive(Clone, Copy, Debug, Drop)]
+struct Names<'a> {
+    into: &'a str,
+    block: &'a str,
+    unfinished: &'a str,
+}
+
 /// Writes the block of rows in a range.
-fn write_in<'a, D: Disk>(
+fn write_in<D: Disk>(
     alloc: Global,
     disk: &mut D,
-    place: Place<'a>,
+    names: &Names<'_>,
     range: Range,
     meta: &str,
     rows: &PartRows,
 ) -> Result<(), OutputError>
     requires within { AreWithin range rows.now }
     requires said { range_said meta.now ≡ Some range }
-    ensures { OnOk result (WritesBlock D.did place.entry rows.now disk.old disk.new) }
+    ensures { OnOk result
+        (WritesBlock D.did names.now.into.now rows.now disk.old disk.new) }
 {
     let bytes = write(alloc, rows)?;
+    let place = Place {
+        parent: names.into,
+        block: names.block,
+        unfinished: names.unfinished,
+    };
     let files = Files {
         meta: meta.as_bytes(),
         index: bytes.index.as_slice(),
@@ -158,11 +180,11 @@ pub fn write_output<D: Disk>(
     let meta = meta_for(alloc, range, extent, digits)?;
     let name = format!(in alloc; "{into}/{number:04}")?;
     let unfinished = format!(in alloc; "{into}/.{number:04}-unfinished")?;
-    let place = Place {
-        parent: into,
+    let names = Names {
+        into,
         block: name.as_str(),
         unfinished: unfinished.as_str(),
     };
-    write_in(alloc, disk, place, range, meta.as_str(), rows)?;
+    write_in(alloc, disk, &names, range, meta.as_str(), rows)?;
     Ok(Some(Output { name, extent }))
 }

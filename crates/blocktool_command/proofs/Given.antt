@@ -27,14 +27,16 @@ given_more {I} gives inputs n input times lists new_lists rows old mid new lt at
 -- a disk on which nothing was called between
 still_first : {D : Type 0} (did : D → List Did → Type 0) (into : List ℕ) (rows : List Row) (a b c : D) → IsStill did a b → Writes did into rows b c → Writes did into rows a c
 still_first did into rows a b c still (inl h) = inl (h.0, λ log d. h.1 log (still log d))
-still_first did into rows a b c still (inr h) = inr (h.0, (h.1.0, h.1.1, record {
-  range = h.1.2.range;
-  is_range = h.1.2.is_range;
-  files = h.1.2.files;
-  said = h.1.2.said;
-  spelled = h.1.2.spelled;
-  called = λ log d. h.1.2.called log (still log d);
-}))
+still_first did into rows a b c still (inr h) = inr (record {
+  place = h.place;
+  parent = h.parent;
+  range = h.range;
+  is_range = h.is_range;
+  files = h.files;
+  said = h.said;
+  spelled = h.spelled;
+  called = λ log d. h.called log (still log d);
+})
 
 converted_first : {I D : Type 0} (gives : Gives I) (did : D → List Did → Type 0) (inputs : List I) (into : List ℕ) (s : Stretch) (rows : List Row) (old new : Account) (a b c : D) → IsStill did a b → IsConverted gives did inputs into s rows old new b c → IsConverted gives did inputs into s rows old new a c
 converted_first gives did inputs into s rows old new a b c still h = record {

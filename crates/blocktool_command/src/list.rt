@@ -14,13 +14,13 @@ fn pairs_of<'a>(
     rows: &'a [(SeriesRef, Row)],
 ) -> Result<Vec<(&'a str, &'a str)>, AllocError> {
     let mut pairs = Vec::new(alloc);
-    for (_, row) in rows {
-        let labels = row.labels();
+    for listed in rows {
+        let labels = listed.1.labels();
         for at in 0..labels.len() {
             pairs.push(labels.pair(at))?;
         }
     }
-    pairs.sort()?;
+    pairs.sort_unstable();
     pairs.dedup();
     Ok(pairs)
 }

@@ -28,13 +28,7 @@ fn samples_in(
 ) -> Result<Vec<Sample>, AllocError>
     ensures { IfOk result (λ v. v.items ≡ within times.from times.to samples.now) }
 {
-    let mut found = Vec::new(alloc);
-    for sample in samples {
-        if times.has(sample.t()) {
-            found.push(*sample)?;
-        }
-    }
-    Ok(found)
+    samples.iter().copied().filter(|sample| times.has(sample.t())).collect(alloc)
 }
 
 // Appends the samples of a row in a range, if there are any.
