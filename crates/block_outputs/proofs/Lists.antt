@@ -1,7 +1,7 @@
 -- Lists of rows, as answers and joined.
-use Rattle.std.specs.Prelude.{◌≡◌, ◌≢◌, ℤ, T, Bool, true, false, if◌then◌else◌, List, Vec, [], ◌∷◌, ◌++◌, map, reverse, refl, Option, Some, None}
-use Rattle.std.proofs.Common.{Global, sym, ap, ◌∙◌, append_assoc}
-use Rattle.std.proofs.lemmas.List.{map-append, reverse-append}
+use Rattle.std.specs.Prelude.{◌≡◌, ◌≢◌, ℤ, T, Bool, true, false, if◌then◌else◌, List, Vec, [], ◌∷◌, ◌++◌, map, reverse, length, suc, ◌+◌, refl, Option, Some, None}
+use Rattle.std.proofs.Common.{Global, sym, ap, ◌∙◌, append_assoc, arith}
+use Rattle.std.proofs.lemmas.List.{map-append, reverse-append, length-append}
 use Rattle.std.specs.List.{list_all}
 use Rattle.std.specs.Ordering.{int_cmp}
 use Rattle.std.specs.FinMap.Entries.{is_sorted}
@@ -67,3 +67,10 @@ part_is rows false part e h = absurd cc
 -- rows that a part may have are those
 pub part_of_rows : (rows part : List Row) → part_rows rows ≡ Some part → (are_part_rows rows ≡ true) × (rows ≡ part)
 part_of_rows rows part h = part_is rows (are_part_rows rows) part refl h
+
+-- the only list
+pub the_only : (lists rest : List (Vec Row Global)) (rows : Vec Row Global) → lists ≡ rest ++ rows ∷ [] → length lists ≡ 1 → rows.items ∷ [] ≡ lists_in lists
+the_only lists [] rows e one = sym (ap (λ (ls : List (Vec Row Global)). lists_in ls) e)
+the_only lists (x ∷ rest) rows e one =
+    let two : length lists ≡ suc (length rest + 1) = ap length e ∙ ap suc (length-append rest (rows ∷ [])) in
+    absurd (omega (arith, two, one))

@@ -1,6 +1,6 @@
 //! The rows of several lists as one list.
 
-ghost use Rattle.std.specs.Prelude.{◌≡◌, [], ◌∷◌, IfOk};
+ghost use Rattle.std.specs.Prelude.{◌≡◌, [], ◌∷◌, vec_len, IfOk};
 ghost use Rattle.series_merge.specs.Merging.{row_lists};
 ghost use Rattle.block_outputs.specs.Joined.{lists_in, IsJoined};
 
@@ -43,7 +43,22 @@ fn answers_of(alloc: Global, lists: Vec<Vec<Row>>) -> Result<Vec<PartAnswer>, Al
 fn part_of(rows: Vec<Row>) -> Result<PartRows, OutputError>
     ensures { IfOk result (λ part. IsJoined (rows.items ∷ []) part) }
 {
-    PartRows::new(rows).ok_or(OutputError::Unordered)
+    match PartRows::new(rows) {
+        Some(part) => Ok(part),
+        None => Err(OutputError::Unordered),
+    }
+}
+
+// The rows of the only list.
+fn only_of(lists: Vec<Vec<Row>>) -> Result<PartRows, OutputError>
+    requires { vec_len lists ≡ 1 }
+    ensures { IfOk result (λ part. IsJoined (lists_in lists.items) part) }
+{
+    let mut lists = lists;
+    match lists.pop() {
+        Some(rows) => part_of(rows),
+        None => Err(OutputError::Unordered),
+    }
 }
 
 // The rows of several lists.
@@ -52,7 +67,10 @@ fn merged(alloc: Global, lists: Vec<Vec<Row>>) -> Result<PartRows, OutputError>
 {
     let answers = answers_of(alloc, lists)?;
     let rows = merge(alloc, answers.as_slice())?;
-    PartRows::new(rows).ok_or(OutputError::Unordered)
+    match PartRows::new(rows) {
+        Some(part) => Ok(part),
+        None => Err(OutputError::Unordered),
+    }
 }
 
 /// The rows of lists as one: in label order, one row for each label set, its samples in time order;
@@ -61,11 +79,8 @@ fn merged(alloc: Global, lists: Vec<Vec<Row>>) -> Result<PartRows, OutputError>
 pub fn join(alloc: Global, lists: Vec<Vec<Row>>) -> Result<PartRows, OutputError>
     ensures { IfOk result (λ part. IsJoined (lists_in lists.items) part) }
 {
-    let mut lists = lists;
     if lists.len() == 1 {
-        if let Some(rows) = lists.pop() {
-            return part_of(rows);
-        }
+        return only_of(lists);
     }
     merged(alloc, lists)
 }

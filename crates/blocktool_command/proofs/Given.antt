@@ -1,11 +1,14 @@
 -- Lists that inputs give, and outputs, one after another.
-use Rattle.std.specs.Prelude.{◌≡◌, ◌≢◌, ◌⊎◌, ℕ, ◌+◌, ◌<◌, List, [], ◌∷◌, ◌++◌, length, take, get_or, refl}
+use Rattle.std.specs.Prelude.{◌≡◌, ◌≢◌, ◌⊎◌, ℕ, ◌+◌, ◌<◌, List, Vec, [], ◌∷◌, ◌++◌, length, take, get_or, refl}
 use Rattle.std.proofs.Common.{sym, ap, subst, ◌∙◌, arith, inl, inr}
+use Rattle.std.proofs.Common.{Global}
 use Rattle.std.proofs.lemmas.Grind.{take_at_read}
+use Rattle.std.proofs.lemmas.List.{map-append}
 use Rattle.labels.specs.Rows.{Row}
 use Rattle.prometheus_block.specs.declared.keeping.Tally.{Tally}
 use Rattle.block_folder.specs.Steps.{Did}
 use Rattle.block_outputs.specs.declared.tiles.Stretch.{Stretch}
+use Rattle.block_outputs.specs.Joined.{lists_in}
 use Rattle.block_outputs.specs.Writing.{samples_in, IsStill, Writes}
 use Rattle.blocktool_command.specs.declared.conversion.Account.{Account}
 use Rattle.blocktool_command.specs.Conversion.{Gives, AreGiven, IsConverted, AreConvertedFrom, samples_in_all}
@@ -55,8 +58,20 @@ converted_last gives did inputs into (t ∷ ss) s (x ∷ outputs) rows old mid n
     (h.0, h.1, h.2, converted_last gives did inputs into ss s outputs rows h.0 mid new h.1 b c h.3 g)
 
 -- the output of one range more
-pub converted_more : {I D : Type 0} (gives : Gives I) (did : D → List Did → Type 0) (inputs : List I) (into : List ℕ) (ss : List Stretch) (n : ℕ) (s : Stretch) (outputs : List (List Row)) (rows : List Row) (old mid new : Account) (a b c : D) → n < length ss → s ≡ get_or ss n s → AreConvertedFrom gives did inputs into (take n ss) outputs old mid a b → IsConverted gives did inputs into s rows mid new b c → AreConvertedFrom gives did inputs into (take (n + 1) ss) (outputs ++ rows ∷ []) old new a c
-converted_more gives did inputs into ss n s outputs rows old mid new a b c lt at h g =
+pub converted_more : {I D : Type 0} (gives : Gives I) (did : D → List Did → Type 0) (inputs : List I) (into : List ℕ) (ss : List Stretch) (n : ℕ) (d : Stretch) (outputs : List (List Row)) (rows : List Row) (old mid new : Account) (a b c : D) → n < length ss → AreConvertedFrom gives did inputs into (take n ss) outputs old mid a b → IsConverted gives did inputs into (get_or ss n d) rows mid new b c → AreConvertedFrom gives did inputs into (take (n + 1) ss) (outputs ++ rows ∷ []) old new a c
+converted_more gives did inputs into ss n d outputs rows old mid new a b c lt h g =
     subst (λ (ts : List Stretch). AreConvertedFrom gives did inputs into ts (outputs ++ rows ∷ []) old new a c)
-    (sym ((take_at_read ss n s lt).1 ∙ ap (λ (x : Stretch). take n ss ++ x ∷ []) (sym at)))
-    (converted_last gives did inputs into (take n ss) s outputs rows old mid new a b c h g)
+    (sym (take_at_read ss n d lt).1)
+    (converted_last gives did inputs into (take n ss) (get_or ss n d) outputs rows old mid new a b c h g)
+
+samples_in_all-last : (lists : List (List Row)) (rows : List Row) → samples_in_all (lists ++ rows ∷ []) ≡ samples_in_all lists + samples_in rows
+samples_in_all-last [] rows = omega arith
+samples_in_all-last (x ∷ lists) rows = let rest = samples_in_all-last lists rows in omega (arith, rest)
+
+-- how many samples one list more has
+pub samples_in_all-take : (lists : List (Vec Row Global)) (n : ℕ) (rows : Vec Row Global) → n < length lists → rows ≡ get_or lists n rows → samples_in_all (lists_in (take (n + 1) lists)) ≡ samples_in_all (lists_in (take n lists)) + samples_in rows.items
+samples_in_all-take lists n rows lt at =
+    ap (λ (ls : List (Vec Row Global)). samples_in_all (lists_in ls))
+    ((take_at_read lists n rows lt).1 ∙ ap (λ (x : Vec Row Global). take n lists ++ x ∷ []) (sym at))
+    ∙ ap samples_in_all (map-append (λ (l : Vec Row Global). l.items) (take n lists) (rows ∷ []))
+    ∙ samples_in_all-last (lists_in (take n lists)) rows.items
