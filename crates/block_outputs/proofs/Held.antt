@@ -16,23 +16,20 @@ use Rattle.block_outputs.specs.Tiles.{AreTiles}
 use Rattle.block_outputs.proofs.Tiled.{none_between, cut_once}
 
 -- what the last of some contents that has a point has there, or else this
-latest : Point → List Content → Option ℤ → Option ℤ
+abbrev latest : Point → List Content → Option ℤ → Option ℤ
 latest q [] o = o
 latest q (d ∷ ds) o = latest q ds (or_else (find point_cmp q d) o)
 
 find-laid_all : (q : Point) (c : Content) (ds : List Content) → find point_cmp q (laid_all c ds) ≡ latest q ds (find point_cmp q c)
-unfolding latest
 find-laid_all q c [] = refl
 find-laid_all q c (d ∷ ds) = find-laid_all q (laid_over d c) ds ∙ ap (latest q ds) (find-laid_over q d c)
 
 -- the samples of each list of rows
-points : List (List Row) → List Content
+abbrev points : List (List Row) → List Content
 points [] = []
 points (rows ∷ lists) = points_of rows ∷ points lists
 
 find-laid_each : (q : Point) (c : Content) (lists : List (List Row)) → find point_cmp q (laid_each c lists) ≡ latest q (points lists) (find point_cmp q c)
-unfolding latest
-unfolding points
 find-laid_each q c [] = refl
 find-laid_each q c (rows ∷ lists) = find-laid_each q (laid_over (points_of rows) c) lists ∙ ap (latest q (points lists)) (find-laid_over q (points_of rows) c)
 
@@ -75,8 +72,6 @@ held_at q s rows c e =
 
 -- the same of several
 latest_restricted : (q : Point) (s : Stretch) (lists : List (List Row)) (cs : List Content) (o : Option ℤ) → AreRestrictions s lists cs → latest q (points lists) (only (in_range s.from s.to q.1) o) ≡ only (in_range s.from s.to q.1) (latest q cs o)
-unfolding latest
-unfolding points
 latest_restricted q s [] [] o h = refl
 latest_restricted q s [] (c ∷ cs) o h = absurd h
 latest_restricted q s (rows ∷ lists) [] o h = absurd h
@@ -94,8 +89,6 @@ output_at q s lists cs rows h joined =
 
 -- what outputs of tiles have at a point
 outputs_at : (q : Point) (cs : List Content) (from to : ℤ) (ss : List Stretch) (outputs : List (List Row)) (o : Option ℤ) → AreTiles from to ss → AreOutputsOf cs ss outputs → latest q (points outputs) o ≡ or_else (only (in_range from to q.1) (latest q cs None)) o
-unfolding latest
-unfolding points
 outputs_at q cs from to [] [] o tiles h = ap (λ b. or_else (only b (latest q cs None)) o) (sym (none_between from to q.1 tiles))
 outputs_at q cs from to [] (rows ∷ outputs) o tiles h = absurd h
 outputs_at q cs from to (s ∷ ss) [] o tiles h = absurd h

@@ -16,11 +16,10 @@ none_between from to t h =
 
 before : (a b c d : Bool) → c ≡ false → b ≡ false → d ≡ true → (not a && not b) ≡ ((not a && not c) || (not d && not b))
 before true b c d ec eb ed = rw ed refl
-before false b c d ec eb ed = rw ec (rw eb (rw ed refl))
+before false b c d ec eb ed = rw ec (rw eb refl)
 
 after : (a b c d : Bool) → c ≡ true → a ≡ false → d ≡ false → (not a && not b) ≡ ((not a && not c) || (not d && not b))
-after a true c d ec ea ed = rw ec (rw ea (rw ed refl))
-after a false c d ec ea ed = rw ec (rw ea (rw ed refl))
+after a b c d ec ea ed = rw ec (rw ea (rw ed refl))
 
 -- a time of a range lies before its first cut or after it
 pub cut_once : (from to m t : ℤ) → from ≤ℤ m → m ≤ℤ to → in_range from to t ≡ (in_range from m t || in_range (m +ℤ pos 1) to t)

@@ -1,5 +1,7 @@
-use Rattle.std.proofs.Common.{List, [], ◌∷◌, ◌++◌, subst, take}
+use Rattle.std.proofs.Common.{List, [], ◌∷◌, ◌++◌, subst, arith}
 use Rattle.std.proofs.lemmas.List.{take_all}
+use Rattle.block_outputs.specs.declared.tiles.Stretch.{Stretch}
+use Rattle.blocktool_command.specs.Conversion.{AreConvertedFrom, nothing}
 use Rattle.blocktool_command.proofs.Contents.{whole_content}
 use Rattle.blocktool_command.proofs.Given.{converted_more}
 use Rattle.blocktool_command.proofs.conversion.convert.Goals as goal
@@ -13,3 +15,19 @@ loop-times-preserved g c =
           c.args.tiles.now l.times-index _ l.invariant.0 one.0 _ _ _ _ _ _ c.loop-times-test.true
           l.invariant.1 one.1,
     )
+
+pub returns : goal.returns
+returns g c =
+    let l = c.loop-times in
+    let each =
+    subst (λ (ts : List Stretch). AreConvertedFrom g.I.Input.may_give g.D.Disk.did c.args.inputs.now
+    c.args.target.now.into.now ts l.invariant.0 nothing l.account c.args.disk.now l.disk)
+    (take_all c.args.tiles.now l.times-index (omega arith)) l.invariant.1 in
+    record {
+      outputs = l.invariant.0;
+      each = each;
+      whole =
+          whole_content g.I.Input.may_give g.D.Disk.did c.args.inputs.now
+          c.args.target.now.into.now c.args.tiles.now l.invariant.0 nothing l.account
+          c.args.disk.now l.disk each;
+    }
