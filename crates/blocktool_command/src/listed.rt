@@ -1,9 +1,10 @@
 //! Rows in memory as an input.
 
-ghost use Rattle.std.specs.Prelude.{◌≡◌, ◌++◌, filter, IfOk, OnOk};
+ghost use Rattle.std.specs.Prelude.{◌≡◌, ◌++◌, ◌==◌, length, IfOk, OnOk};
 ghost use Rattle.labels.specs.Parts.{within};
 ghost use Rattle.prometheus_block.specs.Rows.{row_if};
-ghost use Rattle.blocktool_command.specs.Listed.{rows_between, RowsGiveTheirContent};
+ghost use Rattle.blocktool_command.specs.Listed.{rows_between, IsGivenByRows};
+ghost use Rattle.blocktool_command.specs.Listed.{RowsGiveTheirContent};
 
 use crate::fault::Fault;
 use crate::input::{Input, joined};
@@ -42,11 +43,18 @@ fn push_row(
         ≡ rows.old.items ++ row_if row.now.0 (within times.from times.to row.now.1)) }
 {
     let samples = samples_in(alloc, row.samples(), times)?;
-    if samples.is_empty() {
+    if has_none(&samples) {
         return Ok(());
     }
-    rows.push(Row::new(row.labels().try_clone()?, samples))?;
+    let labels = row.labels().try_clone()?;
+    rows.push(Row::new(labels, samples))?;
     Ok(())
+}
+
+fn has_none(samples: &[Sample]) -> bool
+    ensures { result ≡ (length samples.now == 0) }
+{
+    samples.is_empty()
 }
 
 // The rows in a range.
@@ -60,21 +68,27 @@ fn rows_between(alloc: Global, rows: &[Row], times: Stretch) -> Result<Vec<Row>,
     Ok(found)
 }
 
-impl Input for Listed {
-    ghost use Rattle.blocktool_command.specs.Listed.{IsGivenByRows};
+// The rows in a range, each of whose samples is kept.
+fn rows_kept(
+    alloc: Global,
+    all: &[Row],
+    times: Stretch,
+    tally: &mut Tally,
+) -> Result<Vec<Row>, Fault>
+    ensures { IfOk result (λ rows.
+        IsGivenByRows all.now times rows.items tally.old tally.new) }
+{
+    let rows = rows_between(alloc, all, times)?;
+    tally.kept = tally.kept.saturating_add(count_samples(rows.as_slice()));
+    Ok(rows)
+}
 
+impl Input for Listed {
     ghost may_give = { λ listed times rows old new.
         IsGivenByRows listed.rows.items times rows old new };
 
-    fn rows_in(
-        &self,
-        alloc: Global,
-        times: Stretch,
-        tally: &mut Tally,
-    ) -> Result<Vec<Row>, Fault> {
-        let rows = rows_between(alloc, self.rows.as_slice(), times)?;
-        tally.kept = tally.kept.saturating_add(count_samples(rows.as_slice()));
-        Ok(rows)
+    fn rows_in(&self, alloc: Global, times: Stretch, tally: &mut Tally) -> Result<Vec<Row>, Fault> {
+        rows_kept(alloc, self.rows.as_slice(), times, tally)
     }
 
     fn span(&self, _times: Stretch, before: Option<Stretch>) -> Option<Stretch> {

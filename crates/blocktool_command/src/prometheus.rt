@@ -1,6 +1,8 @@
 //! Blocks of Prometheus as inputs.
 
+ghost use Rattle.std.specs.Prelude.{IfOk};
 ghost use Rattle.prometheus_block.specs.Series.{IsHeld};
+ghost use Rattle.blocktool_command.specs.Prometheus.{IsGivenBy};
 
 use crate::fault::Fault;
 use crate::input::{Input, joined};
@@ -249,33 +251,39 @@ fn span_of(index: &Index, times: Stretch, before: Option<Stretch>) -> Option<Str
     span
 }
 
-impl<'a, S: ReadSegments> Input for Source<'a, S> {
-    ghost use Rattle.blocktool_command.specs.Prometheus.{IsGivenBy};
+// The rows of a block in a range.
+fn rows_of<S: ReadSegments>(
+    alloc: Global,
+    source: &Source<'_, S>,
+    times: Stretch,
+    tally: &mut Tally,
+) -> Result<Vec<Row>, Fault>
+    ensures { IfOk result (λ rows. IsGivenBy (S.may_read source.now.segments) source.now.index
+        source.now.tombstones source.now.policy times rows.items tally.old tally.new) }
+{
+    let wanted = Wanted {
+        index: &source.index,
+        tombstones: &source.tombstones,
+        policy: source.policy,
+        times: Times {
+            from: times.from,
+            to: times.to,
+        },
+    };
+    match read_rows(alloc, &source.segments, &wanted, tally) {
+        Ok(rows) => Ok(rows),
+        Err(RowsError::Source(error)) => Err(refused(alloc, source.directory, error)),
+        Err(RowsError::Value(at, error)) => Err(value_fault(alloc, &source.index, at, error)),
+    }
+}
 
+impl<'a, S: ReadSegments> Input for Source<'a, S> {
     ghost may_give = { λ source times rows old new.
         IsGivenBy (S.may_read source.segments) source.index source.tombstones source.policy times
         rows old new };
 
-    fn rows_in(
-        &self,
-        alloc: Global,
-        times: Stretch,
-        tally: &mut Tally,
-    ) -> Result<Vec<Row>, Fault> {
-        let wanted = Wanted {
-            index: &self.index,
-            tombstones: &self.tombstones,
-            policy: self.policy,
-            times: Times {
-                from: times.from,
-                to: times.to,
-            },
-        };
-        match read_rows(alloc, &self.segments, &wanted, tally) {
-            Ok(rows) => Ok(rows),
-            Err(RowsError::Source(error)) => Err(refused(alloc, self.directory, error)),
-            Err(RowsError::Value(at, error)) => Err(value_fault(alloc, &self.index, at, error)),
-        }
+    fn rows_in(&self, alloc: Global, times: Stretch, tally: &mut Tally) -> Result<Vec<Row>, Fault> {
+        rows_of(alloc, self, times, tally)
     }
 
     fn span(&self, times: Stretch, before: Option<Stretch>) -> Option<Stretch> {

@@ -1,0 +1,10 @@
+use Rattle.std.proofs.Common.{refl}
+use Rattle.blocktool_command.proofs.Wanted.{given_by}
+use Rattle.blocktool_command.proofs.prometheus.rows_of.Goals as goal
+
+pub returns-in-Ok : goal.returns-in-Ok
+returns-in-Ok g c =
+    let source = c.args.source.now in
+    given_by _ source.index source.tombstones source.policy c.args.times _ _ _ _
+    c.in-Ok.ensures.found
+    (record { index_is = refl; deletions_are = refl; policy_is = refl; from = refl; to = refl })
