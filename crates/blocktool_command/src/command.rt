@@ -51,7 +51,7 @@ Histograms are left.
 Exit status: 0 done; 1 refused, with the place on standard error; 2 a fault of the words; 3 cannot
 read or write; 4 no memory";
 
-const REWRITE: &str =
+const ABOUT_REWRITE: &str =
     "Example: blocktool rewrite --into whole mine/0001 mine/0002
 
 The outputs are OUT/0001, OUT/0002 and so on, at most 63, one range of times after another, without
@@ -61,7 +61,7 @@ All DIR must have values of as many digits. The rows of all are in memory at onc
 Exit status: 0 done; 1 refused, with the code on standard error; 2 a fault of the words; 3 cannot
 read or write; 4 no memory";
 
-const LIST: &str =
+const ABOUT_LIST: &str =
     "For each DIR, in the order given, a line is printed, and one for each name of its labels:
   DIR: 10 series 1200 samples, 1700006400000 to 1700008185001, 0 deleted, 20841 bytes
     job: 3 values
@@ -142,7 +142,7 @@ fn directories<'a>(alloc: Global) -> Arg<'a> {
 fn rewrite<'a>(alloc: Global) -> Result<Command<'a>, AllocError> {
     Command::new(alloc, "rewrite")
         .about("Makes blocks of the samples of blocks that are not deleted")
-        .after_help(REWRITE)
+        .after_help(ABOUT_REWRITE)
         .arg(into(alloc))?
         .arg(directories(alloc))
 }
@@ -150,7 +150,7 @@ fn rewrite<'a>(alloc: Global) -> Result<Command<'a>, AllocError> {
 fn list<'a>(alloc: Global) -> Result<Command<'a>, AllocError> {
     Command::new(alloc, "list")
         .about("Lists what blocks have")
-        .after_help(LIST)
+        .after_help(ABOUT_LIST)
         .arg(directories(alloc))
 }
 

@@ -4,7 +4,7 @@
 //! range of times and counts what it read; `conversion` makes of several inputs, of which the later
 //! wins, one output after another. `from_prometheus` opens blocks of Prometheus (`prometheus`) as
 //! inputs and plans into how many outputs their times are cut. What is refused, and with which
-//! status a line ends, is said by `fault` and `run`.
+//! status a line ends, is said by `fault` and `program`.
 //!
 //! It stands on `prometheus_block` for what is read, on `imported_values` for values, on
 //! `block_outputs` and `block_folder` for what is written, and on `clap` for words.
@@ -19,12 +19,12 @@ mod list;
 mod listed;
 mod own;
 mod plan;
+mod program;
 mod prometheus;
 mod rewrite;
-mod run;
 mod summary;
 mod target;
 
 pub use fault::Fault;
 pub use listed::rows_give_their_content;
-pub use run::{Ending, run};
+pub use program::{Ending, run};
