@@ -2,6 +2,8 @@
 
 ghost use Rattle.std.specs.Prelude.{List, IfOk};
 ghost use Rattle.labels.specs.Rows.{Row as RowValue};
+ghost use Rattle.prometheus_block.specs.declared.keeping.Tally.{Tally as TallyValue};
+ghost use Rattle.block_outputs.specs.declared.tiles.Stretch.{Stretch as StretchValue};
 
 use crate::fault::Fault;
 use block_outputs::{Counts, Stretch};
@@ -12,7 +14,7 @@ use std::alloc::Global;
 /// What gives rows in a range of times, and counts what it read.
 pub(crate) trait Input {
     /// Of this range it may give these rows, and counts go from these to those.
-    ghost may_give: { Self → Stretch → List RowValue → Tally → Tally → Type 0 };
+    ghost may_give: { Self → StretchValue → List RowValue → TallyValue → TallyValue → Type 0 };
 
     /// The rows in a closed range of times, each with samples.
     fn rows_in(&self, alloc: Global, times: Stretch, tally: &mut Tally) -> Result<Vec<Row>, Fault>
