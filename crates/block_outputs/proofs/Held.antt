@@ -1,7 +1,7 @@
 -- Outputs hold what contents have.
 use Rattle.std.specs.Prelude.{◌≡◌, ℤ, pos, ◌+ℤ◌, Bool, true, false, cond, ◌||◌, T, List, [], ◌∷◌, Option, None, Some, map, refl}
 use Rattle.std.specs.FinMap.Entries.{find, is_sorted, is_sorted-where_key}
-use Rattle.std.proofs.Common.{sym, ◌∙◌, ap, absurd}
+use Rattle.std.proofs.Common.{sym, ◌∙◌, ap}
 use Rattle.labels.specs.Labels.{Point, point_cmp}
 use Rattle.labels.specs.Contents.{Content, in_range}
 use Rattle.labels.specs.Rows.{Row, points_of}

@@ -25,8 +25,8 @@ some_same a b e = cc
 -- one list more is an answer
 pub one_more_answer : (whole : List (List Row)) (lists rest : List (Vec Row Global)) (rows : Vec Row Global) (answers new : List PartAnswer) (answer : PartAnswer) → lists ≡ rest ++ rows ∷ [] → new ≡ answers ++ answer ∷ [] → answer.rows ≡ rows → lists_in lists ++ row_lists (reverse answers) ≡ whole → lists_in rest ++ row_lists (reverse new) ≡ whole
 one_more_answer whole lists rest rows answers new answer e f g h =
-    ap (λ (as : List PartAnswer). lists_in rest ++ row_lists (reverse as)) f
-    ∙ ap (λ (as : List PartAnswer). lists_in rest ++ row_lists as) (reverse-append answers (answer ∷ []))
+    ap (λ (xs : List PartAnswer). lists_in rest ++ row_lists (reverse xs)) f
+    ∙ ap (λ (xs : List PartAnswer). lists_in rest ++ row_lists xs) (reverse-append answers (answer ∷ []))
     ∙ ap (λ (v : Vec Row Global). lists_in rest ++ (v.items ∷ row_lists (reverse answers))) g
     ∙ sym (append_assoc (lists_in rest) (rows.items ∷ []) (row_lists (reverse answers)))
     ∙ ap (λ ls. ls ++ row_lists (reverse answers)) (sym (map-append (λ (l : Vec Row Global). l.items) rest (rows ∷ [])))

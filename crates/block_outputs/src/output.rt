@@ -2,6 +2,7 @@
 
 ghost use Rattle.std.specs.Prelude.{◌≡◌, ◌^◌, ◌-◌, min, [], Some, IfOk, IfNone, OnOk};
 ghost use Rattle.std.specs.Prelude.{string_bytes};
+ghost use Rattle.std.specs.List.{list_all};
 ghost use Rattle.block.specs.Metas.{range_said};
 ghost use Rattle.block_writer.specs.SpellRows.{AreWithin};
 ghost use Rattle.block_outputs.specs.Writing.{samples_in, are_inside, is_within, are_within};
@@ -77,10 +78,16 @@ fn is_within(range: Range, row: &Row) -> bool
     row.samples().len() <= MOST && are_inside(range, row.samples())
 }
 
+fn is_each_within(range: Range, rows: &[Row]) -> bool
+    ensures { result ≡ list_all (is_within range) rows.now }
+{
+    rows.iter().all(|row| is_within(range, row))
+}
+
 fn are_within(range: Range, rows: &[Row]) -> bool
     ensures { result ≡ are_within range rows.now }
 {
-    rows.len() <= MOST && rows.iter().all(|row| is_within(range, row))
+    rows.len() <= MOST && is_each_within(range, rows)
 }
 
 /// The range of a block with rows that begin and end at these times.
@@ -131,6 +138,8 @@ fn write_in<D: Disk>(
     ensures { OnOk result
         (WritesBlock D.did names.now.into.now rows.now disk.old disk.new) }
 {
+    // For the proof alone: the call says that the range begins below its end.
+    let _ = range.min();
     let bytes = write(alloc, rows)?;
     let place = Place {
         parent: names.into,

@@ -1,6 +1,6 @@
 //! Closed ranges of times, one after another.
 
-ghost use Rattle.std.specs.Prelude.{ℤ, ◌≤ℤ◌, IfOk};
+ghost use Rattle.std.specs.Prelude.{◌≡◌, ℤ, ◌≤ℤ◌, IfOk};
 ghost use Rattle.block_outputs.specs.Tiles.{AreTiles, AreTilesUpTo};
 
 use std::alloc::{AllocError, Global};
@@ -26,24 +26,30 @@ impl Stretch {
     }
 }
 
-// A tile more, up to an end, if this is before the last time, and the first time after the tiles.
+// A tile more, up to an end, if this is before the last time, and what is left after the tiles.
 fn push_tile(
     tiles: &mut Vec<Stretch>,
-    from: i64,
+    left: Stretch,
     end: i64,
-    last: i64,
-) -> Result<i64, AllocError>
-    requires { from ≤ℤ last }
-    ensures order { IfOk result (λ next. next ≤ℤ last) }
+) -> Result<Stretch, AllocError>
+    requires { left.from ≤ℤ left.to }
+    ensures order { IfOk result (λ next. next.from ≤ℤ next.to) }
+    ensures last { IfOk result (λ next. next.to ≡ left.to) }
     ensures tiles { IfOk result (λ next. (begin : ℤ)
-        → AreTilesUpTo begin from last tiles.old.items
-        → AreTilesUpTo begin next last tiles.new.items) }
+        → AreTilesUpTo begin left.from left.to tiles.old.items
+        → AreTilesUpTo begin next.from left.to tiles.new.items) }
 {
-    if end < from || last <= end {
-        return Ok(from);
+    if end < left.from || left.to <= end {
+        return Ok(left);
     }
-    tiles.push(Stretch { from, to: end })?;
-    Ok(end + 1)
+    tiles.push(Stretch {
+        from: left.from,
+        to: end,
+    })?;
+    Ok(Stretch {
+        from: end + 1,
+        to: left.to,
+    })
 }
 
 /// A range of times in tiles: each begins where the one before it ended, and they end at these
@@ -56,10 +62,10 @@ pub fn tile(alloc: Global, whole: Stretch, ends: &[i64]) -> Result<Vec<Stretch>,
     if whole.to < whole.from {
         return Ok(tiles);
     }
-    let mut from = whole.from;
+    let mut left = whole;
     for end in ends {
-        from = push_tile(&mut tiles, from, *end, whole.to)?;
+        left = push_tile(&mut tiles, left, *end)?;
     }
-    tiles.push(Stretch { from, to: whole.to })?;
+    tiles.push(left)?;
     Ok(tiles)
 }

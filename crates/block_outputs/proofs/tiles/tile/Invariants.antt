@@ -1,9 +1,10 @@
-use Rattle.std.specs.Prelude.{◌≤ℤ◌}
+use Rattle.std.specs.Prelude.{◌≡◌, ◌≤ℤ◌}
 use Rattle.block_outputs.specs.Tiles.{AreTilesUpTo}
 use Rattle.block_outputs.proofs.tiles.tile.Given as goal
 
 abbrev pub invariant-loop-end : goal.invariant-loop-end
 invariant-loop-end l = record {
-  order : l.from ≤ℤ l.whole.to;
-  tiles : AreTilesUpTo l.whole.from l.from l.whole.to l.tiles.items;
+  order : l.left.from ≤ℤ l.left.to;
+  last : l.left.to ≡ l.whole.to;
+  tiles : AreTilesUpTo l.whole.from l.left.from l.whole.to l.tiles.items;
 }
