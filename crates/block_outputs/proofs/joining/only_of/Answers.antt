@@ -1,4 +1,4 @@
-use Rattle.std.proofs.Common.{List, subst}
+use Rattle.std.proofs.Common.{List, subst, arith}
 use Rattle.std.specs.Prelude.{IfOk}
 use Rattle.labels.specs.Rows.{Row}
 use Rattle.block_outputs.specs.Joined.{IsJoined}
@@ -8,5 +8,6 @@ use Rattle.block_outputs.proofs.joining.only_of.Goals as goal
 pub returns-in-Some : goal.returns-in-Some
 returns-in-Some c =
     subst (λ (ls : List (List Row)). IfOk c.part_of.result (λ part. IsJoined ls part))
-    (the_only c.args.lists.items c.pop.new.self.items c.in-Some.rows c.in-Some.ensures.items c.requires)
+    (the_only c.args.lists.items c.pop.new.self.items c.in-Some.rows c.in-Some.ensures.items
+    (omega (arith, c.args.lists.ok.0, c.requires)))
     c.part_of.ensures

@@ -5,6 +5,6 @@ use Rattle.block_outputs.proofs.tiles.tile.Given as goal
 abbrev pub invariant-loop-end : goal.invariant-loop-end
 invariant-loop-end l = record {
   order : l.left.from ≤ℤ l.left.to;
-  last : l.left.to ≡ l.whole.to;
-  tiles : AreTilesUpTo l.whole.from l.left.from l.whole.to l.tiles.items;
+  last : l.left.to ≡ l.fn.whole.to;
+  tiles : AreTilesUpTo l.fn.whole.from l.left.from l.fn.whole.to l.tiles.items;
 }
