@@ -58,6 +58,10 @@ allocations: ## refuses each allocation in turn: of an opening, changes of a sto
 audits: ## pipes querier's replies, as they are and changed, through auditor (needs rustc)
 	@RT="$(RT)" tests/audits
 
+.PHONY: threads
+threads: ## refuses to start each thread of a selection in turn, and compares the answers (needs a C compiler)
+	@RT="$(RT)" tests/threads
+
 serving: ## runs the server and asks it with curl: the session of the README, slow and silent clients
 	@RT="$(RT)" tests/serving
 

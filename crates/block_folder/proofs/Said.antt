@@ -1,5 +1,6 @@
 -- The range that a text says.
-use Rattle.std.specs.Prelude.{◌≡◌, ℕ, ℤ, Bool, true, false, List, Option, Some, None, Result, Ok, Err, refl}
+use Rattle.std.specs.Prelude.{◌≡◌, ℕ, ℤ, Bool, true, false, List, Option, Some, None, Result, Ok}
+use Rattle.std.specs.Prelude.{Err, refl}
 use Rattle.std.proofs.Common.{ap, ◌∙◌}
 use Rattle.std.specs.Bool.{OnTrue}
 use Rattle.block.specs.declared.error.BlockError.{BlockError}
@@ -17,6 +18,7 @@ said (Some x) read e = ap Some (ok_same x read e)
 said None read e = absurd cc
 
 -- a text says the range that is read of it
-pub said_if : (b : Bool) (text : List ℕ) (read range : ℤ × ℤ) → or_meta (range_said text) ≡ Ok read → OnTrue b (read ≡ range) → OnTrue b (range_said text ≡ Some range)
+pub said_if : (b : Bool) (text : List ℕ) (read range : ℤ × ℤ) → or_meta (range_said text) ≡ Ok read
+    → OnTrue b (read ≡ range) → OnTrue b (range_said text ≡ Some range)
 said_if true text read range e h = said (range_said text) read e ∙ ap Some h
 said_if false text read range e h = tt

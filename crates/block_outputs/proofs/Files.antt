@@ -12,17 +12,23 @@ use Rattle.block_writer.specs.SpellRows.{SpellRows}
 use Rattle.block_outputs.specs.Writing.{WritesBlock}
 
 -- what was called for the files of rows
-pub block_written : {D : Type 0} (did : D → List Did → Type 0) (into : List ℕ) (rows : List Row) (old new : D) (place : Place) (files : Files) (range : ℤ × ℤ) (meta index chunks tombstones : List ℕ) → DoesAll did (calls_of place files) old new → place.parent.now ≡ into → IsRange range → files.meta.now ≡ meta → files.index.now ≡ index → files.chunks.now ≡ chunks → files.tombstones.now ≡ tombstones → range_said meta ≡ Some range → SpellRows range index chunks tombstones rows → WritesBlock did into rows old new
-block_written did into rows old new place files range meta index chunks tombstones done parent is m i c t said spelled = record {
-  place = place;
-  parent = parent;
-  range = range;
-  is_range = is;
-  files = files;
-  said = ap range_said m ∙ said;
-  spelled =
-      subst (λ (x : List ℕ). SpellRows range x files.chunks.now files.tombstones.now rows) (sym i)
-      (subst (λ (x : List ℕ). SpellRows range index x files.tombstones.now rows) (sym c)
-      (subst (λ (x : List ℕ). SpellRows range index chunks x rows) (sym t) spelled));
-  called = done;
-}
+pub block_written : {D : Type 0} (did : D → List Did → Type 0) (into : List ℕ) (rows : List Row)
+    (old new : D) (place : Place) (files : Files) (range : ℤ × ℤ)
+    (meta index chunks tombstones : List ℕ) → DoesAll did (calls_of place files) old new
+    → place.parent.now ≡ into → IsRange range → files.meta.now ≡ meta → files.index.now ≡ index
+    → files.chunks.now ≡ chunks → files.tombstones.now ≡ tombstones → range_said meta ≡ Some range
+    → SpellRows range index chunks tombstones rows → WritesBlock did into rows old new
+block_written did into rows old new place files range meta index chunks tombstones done parent is m
+    i c t said spelled = record {
+      place = place;
+      parent = parent;
+      range = range;
+      is_range = is;
+      files = files;
+      said = ap range_said m ∙ said;
+      spelled =
+          subst (λ (x : List ℕ). SpellRows range x files.chunks.now files.tombstones.now rows) (sym i)
+          (subst (λ (x : List ℕ). SpellRows range index x files.tombstones.now rows) (sym c)
+          (subst (λ (x : List ℕ). SpellRows range index chunks x rows) (sym t) spelled));
+      called = done;
+    }

@@ -9,7 +9,8 @@ use Rattle.block.specs.Ranges.{covers}
 use Rattle.block_writer.specs.SpellRows.{IsWithin, AreWithin}
 use Rattle.block_outputs.specs.Writing.{are_inside, is_within, are_within}
 
-all_true : {X : Type 0} (p : X → Bool) (P : X → Type 0) (f : (x : X) → p x ≡ true → P x) (xs : List X) → list_all p xs ≡ true → AllByRecursion P xs
+all_true : {X : Type 0} (p : X → Bool) (P : X → Type 0) (f : (x : X) → p x ≡ true → P x)
+    (xs : List X) → list_all p xs ≡ true → AllByRecursion P xs
 all_true p P f [] e = tt
 all_true p P f (x ∷ xs) e =
     let both = and_parts (p x) (list_all p xs) e in (f x both.0, all_true p P f xs both.1)
@@ -22,11 +23,13 @@ row_within range row e =
     let both = and_parts (nat_le (length row.1) 1048576) (are_inside range row.1) e in
     record {
       few = few_when (length row.1) both.0;
-      inside = all_true (λ (s : ℤ × ℤ). covers range s.0) (λ (s : ℤ × ℤ). covers range s.0 ≡ true) (λ s h. h) row.1 both.1;
+      inside = all_true (λ (s : ℤ × ℤ). covers range s.0) (λ (s : ℤ × ℤ). covers range s.0 ≡ true)
+          (λ s h. h) row.1 both.1;
     }
 
 -- rows that are found to be within a range
-pub rows_within : (range : ℤ × ℤ) (rows : List Row) → are_within range rows ≡ true → AreWithin range rows
+pub rows_within : (range : ℤ × ℤ) (rows : List Row) → are_within range rows ≡ true
+    → AreWithin range rows
 rows_within range rows e =
     let both = and_parts (nat_le (length rows) 1048576) (list_all (is_within range) rows) e in
     record {

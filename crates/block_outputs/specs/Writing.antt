@@ -27,7 +27,8 @@ is_within range row = nat_le (length row.1) 1048576 && are_inside range row.1
 abbrev pub are_within : ℤ × ℤ → List Row → Bool
 are_within range rows = nat_le (length rows) 1048576 && list_all (is_within range) rows
 
--- the calls for the files of a block in a directory: its meta says a range, and by the grammar of blocks
+-- the calls for the files of a block in a directory: its meta says a range, and by the grammar of
+-- blocks
 -- its other files are a block of this range with exactly these rows
 pub record WritesBlock {D : Type 0} (did : D → List Did → Type 0) (into : List ℕ)
     (rows : List Row) (old new : D) : Type 0 where

@@ -111,10 +111,7 @@ impl Counts {
     /// The next series follows.
     pub fn end_series(&mut self) {
         self.series = self.series.saturating_add(1);
-        raise(
-            self.of_input.as_mut_slice(),
-            self.of_series.as_mut_slice(),
-        );
+        raise(self.of_input.as_mut_slice(), self.of_series.as_mut_slice());
     }
 
     /// The next input follows.

@@ -5,8 +5,8 @@
 //! one list of rows of several, of which the later wins. [`write_output`] writes rows as the
 //! directory of a block, which `Block::open` accepts.
 //!
-//! It stands on `time_cuts` for the cuts, on `series_merge`, `cover` and `postings` for joined rows,
-//! on `block_writer` and `block_folder` for what is written, and on `labels` and `block`.
+//! It stands on `time_cuts` for the cuts, on `series_merge`, `cover` and `postings` for joined
+//! rows, on `block_writer` and `block_folder` for what is written, and on `labels` and `block`.
 #![tactic(auto)]
 
 mod contents;

@@ -108,7 +108,9 @@ fn meta_for(alloc: Global, range: Range, extent: Extent, digits: u32) -> Result<
     ensures { IfOk result (λ text. range_said (string_bytes text) ≡ Some range) }
 {
     let Extent {
-        series, samples, ..
+        series,
+        samples,
+        ..
     } = extent;
     match meta_text(alloc, range, series, samples, digits)? {
         Some(text) => Ok(text),
@@ -170,7 +172,8 @@ pub fn write_output<D: Disk>(
 ) -> Result<Option<Output>, OutputError>
     // Nothing is told of no rows alone.
     ensures none { IfOk result (λ output. IfNone output (rows.now ≡ [])) }
-    // What was called of the disk are the calls for a block of exactly the rows, or none for no row.
+    // What was called of the disk are the calls for a block of exactly the rows, or none for no
+    // row.
     ensures written { OnOk result (Writes D.did into.now rows.now disk.old disk.new) }
 {
     if rows.rows().is_empty() {

@@ -27,11 +27,7 @@ impl Stretch {
 }
 
 // A tile more, up to an end, if this is before the last time, and what is left after the tiles.
-fn push_tile(
-    tiles: &mut Vec<Stretch>,
-    left: Stretch,
-    end: i64,
-) -> Result<Stretch, AllocError>
+fn push_tile(tiles: &mut Vec<Stretch>, left: Stretch, end: i64) -> Result<Stretch, AllocError>
     requires { left.from ≤ℤ left.to }
     ensures order { IfOk result (λ next. next.from ≤ℤ next.to) }
     ensures last { IfOk result (λ next. next.to ≡ left.to) }
@@ -53,8 +49,8 @@ fn push_tile(
 }
 
 /// A range of times in tiles: each begins where the one before it ended, and they end at these
-/// times, as far as these ascend and lie in the range, and at the end of the range. None for a range
-/// that ends before it begins.
+/// times, as far as these ascend and lie in the range, and at the end of the range. None for a
+/// range that ends before it begins.
 pub fn tile(alloc: Global, whole: Stretch, ends: &[i64]) -> Result<Vec<Stretch>, AllocError>
     ensures { IfOk result (λ tiles. AreTiles whole.from whole.to tiles.items) }
 {

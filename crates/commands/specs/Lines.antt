@@ -7,7 +7,7 @@ use Rattle.std.specs.Str.Parse.{IsNumeral, without_leading_sign, signed_digits_v
 use Rattle.labels.specs.declared.sample.TheConstants.{MIN_TIME, MAX_TIME}
 use Rattle.clap.specs.Lexer.{usize_max}
 use Rattle.clap.specs.Words.{App, Row, Rule, Text, new_app, new_rule, with_rule, with_subcommand}
-use Rattle.clap.specs.Words.{first_of, one_of, all_of, subcommand_of, takes}
+use Rattle.clap.specs.Words.{first_of, one_of, all_of, subcommand_of, takes, fault_of}
 use Rattle.clap.specs.declared.builder.value_parser.ValueParser.TheVariants.{Signed}
 use Rattle.commands.specs.OptionRules.{directories_rule}
 use Rattle.commands.specs.ServingLines.{serve_app, IsServe}
@@ -115,6 +115,10 @@ IsLineOf words line = IsLineIn (subcommand_of querier_app words) line
 -- `clap` takes the words
 abbrev pub AreTakenByClap : List Text → Type 0
 AreTakenByClap words = takes querier_app words ≡ true
+
+-- `clap` refuses the words: it finds that they ask for help or for the version, or a fault of them
+abbrev pub AreRefusedByClap : List Text → Type 0
+AreRefusedByClap words = fault_of querier_app words ≡ [] → ⊥
 
 -- the words are no line
 abbrev pub AreNoCommandLine : List Text → Type 0

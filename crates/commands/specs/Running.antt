@@ -1,12 +1,14 @@
 -- How the lines of the program end.
-use Rattle.std.specs.Prelude.{◌≡◌, ℕ, pos, List, Option, Result, Ok, Err, IsOk, OnOk, IfSome}
+use Rattle.std.specs.Prelude.{◌≡◌, ◌⊎◌, ℕ, pos, List, Option, Result, Ok, Err, IsOk, OnOk, IfSome}
 use Rattle.std.specs.Io.KnownBytes.{Appends, Keeps}
-use Rattle.clap.specs.Words.{Text}
+use Rattle.clap.specs.Words.{IsAmong, Text, fault_of, kind_of}
+use Rattle.clap.specs.declared.error.kind.ErrorKind.TheVariants.{DisplayHelp, DisplayVersion}
 use Rattle.commands.specs.Checking.{IsChecked, IsCheckFault}
 use Rattle.commands.specs.Demo.{demo_events, demo_query}
 use Rattle.commands.specs.DemoAnswer.{IsDemoFault, WritesAnswerAfter}
 use Rattle.commands.specs.Faults.{status_of, line_of}
-use Rattle.commands.specs.Lines.{AreNoCommandLine, AreTakenByClap, IsLineOf}
+use Rattle.commands.specs.Lines.{AreNoCommandLine, AreRefusedByClap, AreTakenByClap, IsLineOf}
+use Rattle.commands.specs.Lines.{querier_app}
 use Rattle.commands.specs.Reading.{Host, paths_of}
 use Rattle.commands.specs.Selecting.{IsSelectFault, KeepsAt, WritesSelection}
 use Rattle.commands.specs.ServingRuns.{IsListening, IsServeFault}
@@ -77,20 +79,36 @@ IsWordsFault (Err (fault.Words error)) = Unit {0}
 IsWordsFault (Err fault.Memory) = Unit {0}
 IsWordsFault other = ⊥
 
+-- the words ask for help or for the version
+abbrev pub AskForText : List Text → Type 0
+AskForText words = IsAmong DisplayHelp (fault_of querier_app words)
+    ⊎ IsAmong DisplayVersion (fault_of querier_app words)
+
+-- how words that `clap` refuses end: what they ask for was written, or the writer failed at it; or
+-- they are at fault, in a way that `clap` finds in them; or memory failed
+abbrev pub IsRefusedEnd : List Text → Result Outcome Fault → Type 0
+IsRefusedEnd words (Ok Done) = AskForText words
+IsRefusedEnd words (Err fault.CannotWrite) = AskForText words
+IsRefusedEnd words (Err (fault.Words error)) =
+    IsAmong (kind_of error) (fault_of querier_app words)
+IsRefusedEnd words (Err fault.Memory) = Unit {0}
+IsRefusedEnd words other = ⊥
+
 -- the line of a fault was written, or the writer failed; of an end without a fault nothing was
 abbrev pub IsTold : {E : Type 0} → Result Outcome Fault → Result (Unit {0}) E → Option (List ℕ)
     → Option (List ℕ) → Type 0
 IsTold (Ok outcome) told old new = IsOk told × Keeps old new
 IsTold (Err fault) told old new = OnOk told (IfSome (line_of fault) (Appends old new))
 
--- The words that are a line end as that line does, and others as no line may. The exit status says
--- which end it is, and a fault was told.
+-- The words that are a line end as that line does, and others as no line may; words that `clap`
+-- refuses end by what it finds in them. The exit status says which end it is, and a fault was told.
 pub record HasEnded (reads : Host) (words : List Text)
     (old new told_old told_new : Option (List ℕ)) (ending : Ending) : Type 0 where
   pub end : Result Outcome Fault
   pub line : IsTaken words → IsEnd reads words old new end
   pub no_line : AreNoCommandLine words → IsNoLine end
   pub refused : AreTakenByClap words → AreNoCommandLine words → IsWordsFault end
+  pub by_clap : AreRefusedByClap words → IsRefusedEnd words end
   pub status : ending.status ≡ status_at end
   pub told : IsTold end ending.told told_old told_new
 

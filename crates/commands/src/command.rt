@@ -7,11 +7,12 @@ ghost use Rattle.commands.specs.Running.{IsTaken};
 ghost use Rattle.clap.specs.Values.{kind_of};
 ghost use Rattle.clap.specs.Matches.{found_of};
 ghost use Rattle.clap.specs.Words.{app_of, new_app, rule_of, rows_of, one_of, first_of, all_of};
-ghost use Rattle.clap.specs.Words.{subcommand_of, subcommand_rows_of};
+ghost use Rattle.clap.specs.Words.{subcommand_of, subcommand_rows_of, fault_of, FailsBy};
 ghost use Rattle.commands.specs.OptionRules.{directories_rule};
 ghost use Rattle.commands.specs.Lines.{time_rule, selector_rule, blocks_rule, select_app};
 ghost use Rattle.commands.specs.Lines.{check_app, querier_app, IsTimeIn, IsSelectionIn};
-ghost use Rattle.commands.specs.Lines.{AreTakenByClap, IsFoundLine, IsLineOf, texts_of};
+ghost use Rattle.commands.specs.Lines.{AreTakenByClap, AreRefusedByClap, IsFoundLine, IsLineOf};
+ghost use Rattle.commands.specs.Lines.{texts_of};
 
 use clap::builder::ValueParser;
 use clap::error::ErrorKind;
@@ -361,6 +362,7 @@ fn matches_in<'a>(alloc: Global, words: &'a [String]) -> Result<ArgMatches<'a>, 
         subcommand_rows_of found ≡ subcommand_of querier_app (texts_of words.entry.now)) }
     ensures err { IfErr result (λ e.
         AreTakenByClap (texts_of words.entry.now) → kind_of e ≡ ErrorKind.OutOfMemory) }
+    ensures fails { FailsBy (fault_of querier_app (texts_of words.entry.now)) result }
 {
     querier(alloc)?.try_get_matches_from(words)
 }
@@ -380,6 +382,8 @@ pub fn read_line<'a>(alloc: Global, words: &'a [String]) -> Result<Line<'a>, Err
         IsTaken (texts_of words.entry.now) → kind_of e ≡ ErrorKind.OutOfMemory) }
     ensures refused { IfErr result (λ e. AreTakenByClap (texts_of words.entry.now)
         → (kind_of e ≡ ErrorKind.OutOfMemory) ⊎ (kind_of e ≡ ErrorKind.MissingSubcommand)) }
+    ensures fails { AreRefusedByClap (texts_of words.entry.now)
+        → FailsBy (fault_of querier_app (texts_of words.entry.now)) result }
 {
     let found = matches_in(alloc, words)?;
     match line_in(alloc, &found)? {

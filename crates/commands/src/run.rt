@@ -2,8 +2,10 @@
 
 ghost use Rattle.std.specs.Prelude.{◌≡◌, ◌≤◌, ◌⊎◌};
 ghost use Rattle.std.specs.Io.KnownBytes.{Keeps};
-ghost use Rattle.commands.specs.Lines.{texts_of, AreNoCommandLine, AreTakenByClap};
-ghost use Rattle.commands.specs.Running.{IsTaken, IsLineEnd, IsEnd, IsNoLine, IsWordsFault};
+ghost use Rattle.commands.specs.Lines.{texts_of, AreNoCommandLine, AreRefusedByClap};
+ghost use Rattle.commands.specs.Lines.{AreTakenByClap};
+ghost use Rattle.commands.specs.Running.{IsTaken, IsLineEnd, IsEnd, IsNoLine, IsRefusedEnd};
+ghost use Rattle.commands.specs.Running.{IsWordsFault};
 ghost use Rattle.commands.specs.Running.{IsEarlyLine, IsTold, HasEnded, KeepsAtEnd, status_at};
 
 use crate::check::{Outcome, check};
@@ -53,17 +55,21 @@ fn execute<
     ensures no_line { AreNoCommandLine (texts_of words.now) → IsNoLine result }
     ensures refused { AreTakenByClap (texts_of words.now)
         → AreNoCommandLine (texts_of words.now) → IsWordsFault result }
+    ensures by_clap { AreRefusedByClap (texts_of words.now)
+        → IsRefusedEnd (texts_of words.now) result }
     ensures kept { IsEarlyLine (texts_of words.now)
         ⊎ KeepsAtEnd (W.contents out.old) (W.contents out.new) result }
 {
     match read_line(alloc, words) {
         Ok(line) => answer_line(rt, alloc, files, line, out),
-        Err(error) if matches!(error.kind(), ErrorKind::OutOfMemory) => Err(Fault::Memory),
-        Err(error) if error.use_stderr() => Err(Fault::Words(error)),
-        Err(help) => {
-            write!(out, "{help}")?;
-            Ok(Outcome::Done)
-        }
+        Err(error) => match error.kind() {
+            ErrorKind::OutOfMemory => Err(Fault::Memory),
+            ErrorKind::DisplayHelp | ErrorKind::DisplayVersion => {
+                write!(out, "{error}")?;
+                Ok(Outcome::Done)
+            }
+            _ => Err(Fault::Words(error)),
+        },
     }
 }
 

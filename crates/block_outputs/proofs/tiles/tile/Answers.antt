@@ -11,7 +11,8 @@ loop-end-preserved c =
       order = next.order;
       last = next.last ∙ l.invariant.last;
       tiles =
-          subst (λ (to : ℤ). AreTilesUpTo whole.from c.in_ok-left.left.from to c.push_tile.new.tiles.items)
+          subst (λ (to : ℤ). AreTilesUpTo whole.from c.in_ok-left.left.from to
+          c.push_tile.new.tiles.items)
           l.invariant.last
           (next.tiles whole.from
           (subst (λ (to : ℤ). AreTilesUpTo whole.from l.left.from to l.tiles.items)

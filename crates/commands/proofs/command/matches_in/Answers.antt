@@ -1,6 +1,7 @@
-use Rattle.std.proofs.Common.{ap, ◌≡◌, ◌∙◌}
+use Rattle.std.proofs.Common.{ap, subst, ◌≡◌, ◌∙◌}
 use Rattle.std.proofs.lemmas.Result.{IfErr-weaker, IfOk-weaker}
-use Rattle.clap.specs.Words.{app_of, is_simple, subcommand_of, takes}
+use Rattle.clap.specs.Words.{app_of, is_simple, is_simple_and_free, subcommand_of, takes}
+use Rattle.clap.specs.Words.{fault_of, FailsBy}
 use Rattle.commands.specs.Lines.{querier_app, texts_of}
 use Rattle.commands.proofs.command.matches_in.Goals as goal
 
@@ -17,3 +18,10 @@ returns-clause-err c =
     IfErr-weaker c.try_get_matches_from.result _ _
     (λ e h taken. h (ap (λ a. takes a (texts_of c.args.words.now)) is ∙ taken))
     c.try_get_matches_from.ensures.passes
+
+pub returns-clause-fails : goal.returns-clause-fails
+returns-clause-fails c =
+    let is : app_of c.in_ok-querier.field-0 ≡ querier_app = c.in_ok-querier.ensures in
+    subst (λ kinds. FailsBy kinds c.try_get_matches_from.result)
+    (ap (λ a. fault_of a (texts_of c.args.words.now)) is)
+    (c.try_get_matches_from.ensures.kinds (ap is_simple_and_free is))

@@ -2,8 +2,8 @@ use Rattle.commands.proofs.LineEnds.{end_without_memory, kept_at_end}
 use Rattle.commands.specs.Lines.{texts_of}
 use Rattle.commands.proofs.run.execute.Goals as goal
 
-pub returns-in-Err-clause-ends : goal.returns-in-Err-clause-ends
-returns-in-Err-clause-ends g c = λ taken. end_without_memory _ _ _ taken
+pub returns-in-OutOfMemory-clause-ends : goal.returns-in-OutOfMemory-clause-ends
+returns-in-OutOfMemory-clause-ends g c = λ taken. end_without_memory _ _ _ taken
 
 pub returns-in-Ok-clause-no_line : goal.returns-in-Ok-clause-no_line
 returns-in-Ok-clause-no_line g c = λ none. absurd (none c.in-Ok.line c.in-Ok.ensures.ok)
