@@ -11,5 +11,10 @@ use Rattle.prometheus_block.specs.Series.{Segments}
 use Rattle.block_outputs.specs.declared.tiles.Stretch.{Stretch}
 use Rattle.blocktool_command.specs.Prometheus.{IsWanted, IsGivenBy}
 
-pub given_by : (reads : Segments) (index : Indexed) (deletions : List Deletion) (policy : Policy) (times : Stretch) (wanted : Wanted) (rows : List Row) (old new : Tally) → AreRowsOf reads wanted index.series rows old new → IsWanted index deletions policy times wanted → IsGivenBy reads index deletions policy times rows old new
-given_by reads index deletions policy times wanted rows old new h w = record { wanted = wanted; is = w; rows_are = h }
+pub given_by : (reads : Segments) (index : Indexed) (deletions : List Deletion) (policy : Policy)
+    (times : Stretch) (wanted : Wanted) (rows : List Row) (old new : Tally)
+    → AreRowsOf reads wanted index.series rows old new
+    → IsWanted index deletions policy times wanted
+    → IsGivenBy reads index deletions policy times rows old new
+given_by reads index deletions policy times wanted rows old new h w = record
+    { wanted = wanted; is = w; rows_are = h }

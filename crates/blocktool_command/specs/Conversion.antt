@@ -36,7 +36,8 @@ AreGiven gives (input ∷ inputs) times [] old new = ⊥
 AreGiven gives (input ∷ inputs) times (rows ∷ lists) old new =
     (mid : Tally) × gives input times rows old mid × AreGiven gives inputs times lists mid new
 
--- the rows of what inputs give of a range, in which the later input wins; what each counted is told,
+-- the rows of what inputs give of a range, in which the later input wins; what each counted is
+-- told,
 -- and how many samples of it are hidden by later inputs
 pub record IsJoinedOf {I : Type 0} (gives : Gives I) (inputs : List I) (times : Stretch)
     (rows : List Row) (old new : Account) : Type 0 where
@@ -79,7 +80,8 @@ GiveContents {I} gives content =
     (input : I) (s : Stretch) (rows : List Row) (old new : Tally) → gives input s rows old new
     → laid_over (points_of rows) [] ≡ restricted s.from s.to (content input)
 
--- the outputs of ranges, which are written one after another; where each input has a content and the
+-- the outputs of ranges, which are written one after another; where each input has a content and
+-- the
 -- ranges are tiles of one, the outputs hold together exactly what the contents have in it, in which
 -- the later input wins
 pub record AreConverted {I D : Type 0} (gives : Gives I) (did : D → List Did → Type 0)

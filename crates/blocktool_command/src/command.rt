@@ -51,8 +51,7 @@ Histograms are left.
 Exit status: 0 done; 1 refused, with the place on standard error; 2 a fault of the words; 3 cannot
 read or write; 4 no memory";
 
-const ABOUT_REWRITE: &str =
-    "Example: blocktool rewrite --into whole mine/0001 mine/0002
+const ABOUT_REWRITE: &str = "Example: blocktool rewrite --into whole mine/0001 mine/0002
 
 The outputs are OUT/0001, OUT/0002 and so on, at most 63, one range of times after another, without
 the samples that are deleted. Of two samples of one series at one time that of the later DIR is kept.
@@ -221,10 +220,7 @@ fn texts_in<'a>(
     }
 }
 
-fn import_in<'a>(
-    alloc: Global,
-    found: &ArgMatches<'a>,
-) -> Result<Option<Line<'a>>, AllocError> {
+fn import_in<'a>(alloc: Global, found: &ArgMatches<'a>) -> Result<Option<Line<'a>>, AllocError> {
     let Some(options) = options_in(found) else {
         return Ok(None);
     };
@@ -232,10 +228,7 @@ fn import_in<'a>(
     Ok(Some(Line::FromPrometheus(options, blocks)))
 }
 
-fn rewrite_in<'a>(
-    alloc: Global,
-    found: &ArgMatches<'a>,
-) -> Result<Option<Line<'a>>, AllocError> {
+fn rewrite_in<'a>(alloc: Global, found: &ArgMatches<'a>) -> Result<Option<Line<'a>>, AllocError> {
     let Some(into) = found.get_str("into") else {
         return Ok(None);
     };

@@ -22,23 +22,18 @@ pub(crate) struct Listed {
     pub(crate) rows: Vec<Row>,
 }
 
-fn samples_in(
-    alloc: Global,
-    samples: &[Sample],
-    times: Stretch,
-) -> Result<Vec<Sample>, AllocError>
+fn samples_in(alloc: Global, samples: &[Sample], times: Stretch) -> Result<Vec<Sample>, AllocError>
     ensures { IfOk result (λ v. v.items ≡ within times.from times.to samples.now) }
 {
-    samples.iter().copied().filter(|sample| times.has(sample.t())).collect(alloc)
+    samples
+        .iter()
+        .copied()
+        .filter(|sample| times.has(sample.t()))
+        .collect(alloc)
 }
 
 // Appends the samples of a row in a range, if there are any.
-fn push_row(
-    alloc: Global,
-    rows: &mut Vec<Row>,
-    row: &Row,
-    times: Stretch,
-) -> Result<(), AllocError>
+fn push_row(alloc: Global, rows: &mut Vec<Row>, row: &Row, times: Stretch) -> Result<(), AllocError>
     ensures { OnOk result (rows.new.items
         ≡ rows.old.items ++ row_if row.now.0 (within times.from times.to row.now.1)) }
 {

@@ -97,7 +97,13 @@ fn open(alloc: Global, bytes: Bytes) -> Result<Block, BlockError> {
         tombstones,
     } = bytes;
     let range = Range::read_meta(alloc, meta.as_slice())?;
-    Block::open(alloc, range, index.as_slice(), chunks, tombstones.as_slice())
+    Block::open(
+        alloc,
+        range,
+        index.as_slice(),
+        chunks,
+        tombstones.as_slice(),
+    )
 }
 
 /// How many samples a block has whose deletions are left out.

@@ -36,11 +36,7 @@ fn span_of<I: Input>(inputs: &[I], times: Stretch) -> Stretch {
     span.unwrap_or(times)
 }
 
-fn count_all<I: Input>(
-    alloc: Global,
-    inputs: &[I],
-    counts: &mut Counts,
-) -> Result<Counted, Fault> {
+fn count_all<I: Input>(alloc: Global, inputs: &[I], counts: &mut Counts) -> Result<Counted, Fault> {
     let mut all = Counted {
         samples: 0,
         histograms: 0,
@@ -54,11 +50,7 @@ fn count_all<I: Input>(
 }
 
 /// Counts what inputs have in a range of times, and cuts it into at most 63 outputs.
-pub(crate) fn plan_for<I: Input>(
-    alloc: Global,
-    inputs: &[I],
-    times: Stretch,
-) -> Result<Plan, Fault>
+pub(crate) fn plan_for<I: Input>(alloc: Global, inputs: &[I], times: Stretch) -> Result<Plan, Fault>
     ensures tiles { IfOk result (λ plan. AreTiles times.from times.to plan.tiles.items) }
     ensures few { IfOk result (λ plan. length plan.tiles.items ≤ 63) }
 {

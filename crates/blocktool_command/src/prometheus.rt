@@ -10,8 +10,10 @@ use block_outputs::{Counts, Stretch};
 use imported_values::Policy;
 use index_reader::{Chunk, Index};
 use labels::{LabelSet, Row};
-use prometheus_block::{Counted, Held, KeepError, ReadSegments, RowsError, SourceError, Tally};
-use prometheus_block::{Times, Wanted, count_samples, read_rows};
+use prometheus_block::{
+    Counted, Held, KeepError, ReadSegments, RowsError, SourceError, Tally, Times, Wanted,
+    count_samples, read_rows,
+};
 use std::alloc::{AllocError, Global};
 use std::fs;
 use std::io::{self, ErrorKind};
