@@ -38,8 +38,8 @@ const PROMETHEUS: &str =
 
 Each BLOCK is a directory with index, chunks/ and tombstones, as Prometheus and promtool write it.
 The outputs are OUT/0001, OUT/0002 and so on, at most 63, one range of times after another. Of two
-samples of one series at one time that of the later BLOCK is kept. OUT must be empty or not be there.
-Each output is made under another name, synced, and then renamed.
+samples of one series at one time that of the later BLOCK is kept. OUT must be empty or not be
+there. Each output is made under another name, synced, and then renamed.
 
 For each output a line is printed, and then one that tells every sample that was read in one count:
   OUT/0001: 10 series 1200 samples, 1700006400000 to 1700008185001
@@ -54,8 +54,8 @@ read or write; 4 no memory";
 const ABOUT_REWRITE: &str = "Example: blocktool rewrite --into whole mine/0001 mine/0002
 
 The outputs are OUT/0001, OUT/0002 and so on, at most 63, one range of times after another, without
-the samples that are deleted. Of two samples of one series at one time that of the later DIR is kept.
-All DIR must have values of as many digits. The rows of all are in memory at once.
+the samples that are deleted. Of two samples of one series at one time that of the later DIR is
+kept. All DIR must have values of as many digits. The rows of all are in memory at once.
 
 Exit status: 0 done; 1 refused, with the code on standard error; 2 a fault of the words; 3 cannot
 read or write; 4 no memory";

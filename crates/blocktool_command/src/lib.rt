@@ -1,7 +1,7 @@
 //! What the program `blocktool` does: it makes blocks of this project from other programs' data.
 //!
-//! [`run`] does what the words after the program's name ask for. An [`Input`](input) gives rows in a
-//! range of times and counts what it read; `conversion` makes of several inputs, of which the later
+//! [`run`] does what the words after the program's name ask for. An `Input` gives rows in a range
+//! of times and counts what it read; `conversion` makes of several inputs, of which the later
 //! wins, one output after another. `from_prometheus` opens blocks of Prometheus (`prometheus`) as
 //! inputs and plans into how many outputs their times are cut. What is refused, and with which
 //! status a line ends, is said by `fault` and `program`.

@@ -53,8 +53,8 @@ impl<'a, R: Files + AllocGlobal> ReadSegments for Segments<'a, R> {
     }
 }
 
-/// A block of Prometheus: what reads its segments, what its index and its deletions say, and how its
-/// values are kept.
+/// A block of Prometheus: what reads its segments, what its index and its deletions say, and how
+/// its values are kept.
 #[derive(Drop)]
 pub(crate) struct Source<'a, S> {
     directory: &'a str,
