@@ -118,7 +118,13 @@ pub(crate) fn convert<I: Input, D: Disk, W: Write>(
         target.now.into.now tiles.now account disk.old disk.new) }
 {
     let mut account = Account {
-        tally: Tally::new(),
+        tally: Tally {
+            kept: 0,
+            stale: 0,
+            rest: 0,
+            deleted: 0,
+            outside: 0,
+        },
         hidden: 0,
     };
     let mut outputs = 0usize;
