@@ -11,7 +11,7 @@ TESTS_OF := selection_tests:labels,pages,matchers,postings \
 	serving_tests:cover,block_search,series_merge,answers,requests,query_http,server \
 	command_tests:commands,querier \
 	auditing_tests:auditor,audit_command,audit_laws,auditor_program \
-	import_tests:xor_reader,doubles,decimal_text,prometheus_block \
+	import_tests:xor_reader,doubles,decimal_text,prometheus_block,blocktool_command,blocktool \
 	journal_tests:journal,event_text
 # The crate with the tests of a crate, or nothing.
 tests_of = $(if $(filter %_tests,$(1)),$(1),$(word 1,$(subst :, ,$(foreach it,$(TESTS_OF),$(if \

@@ -1,0 +1,4 @@
+pub mod Between
+pub mod Contents
+pub mod Given
+pub mod Wanted

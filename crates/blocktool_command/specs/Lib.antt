@@ -1,0 +1,3 @@
+pub mod Conversion
+pub mod Listed
+pub mod Prometheus

@@ -1,0 +1,264 @@
+//! The command line.
+
+use block_outputs::Stretch;
+use clap::builder::ValueParser;
+use clap::error::ErrorKind;
+use clap::{Arg, ArgMatches, Command, Error, value_parser};
+use imported_values::{Digits, Policy, Rest, Stale};
+use labels::{MAX_TIME, MIN_TIME};
+use std::alloc::{AllocError, Global};
+
+/// How an import is made.
+#[derive(Clone, Copy, Debug, Drop)]
+pub(crate) struct Options<'a> {
+    pub(crate) policy: Policy,
+    pub(crate) times: Stretch,
+    pub(crate) into: &'a str,
+}
+
+/// What the words ask for.
+#[derive(Debug, Drop)]
+pub(crate) enum Line<'a> {
+    /// Blocks out of the blocks of Prometheus in these directories.
+    FromPrometheus(Options<'a>, Vec<&'a str>),
+    /// Blocks in this directory, out of the blocks in these directories.
+    Rewrite(&'a str, Vec<&'a str>),
+    /// What the blocks in these directories have.
+    List(Vec<&'a str>),
+}
+
+const CHOICES: [&str; 2] = ["refuse", "drop"];
+
+const FROM: &str = "The first time that is kept, in milliseconds [default: -2^62]";
+
+const TO: &str = "The last time that is kept, in milliseconds [default: 2^62 - 1]";
+
+const PROMETHEUS: &str =
+    "Example: blocktool from-prometheus --decimals 3 --rest drop --into mine data/01HX*
+
+Each BLOCK is a directory with index, chunks/ and tombstones, as Prometheus and promtool write it.
+The outputs are OUT/0001, OUT/0002 and so on, at most 63, one range of times after another. Of two
+samples of one series at one time that of the later BLOCK is kept. OUT must be empty or not be
+there. Each output is made under another name, synced, and then renamed.
+
+For each output a line is printed, and then one that tells every sample that was read in one count:
+  OUT/0001: 10 series 1200 samples, 1700006400000 to 1700008185001
+  read 1200 samples: 1200 kept, 0 stale, 0 of other values, 0 deleted, 0 hidden, 0 outside; ..
+
+A value is kept as a whole number of parts, of which 10^N make one. Stale markers are no samples.
+Histograms are left.
+
+Exit status: 0 done; 1 refused, with the place on standard error; 2 a fault of the words; 3 cannot
+read or write; 4 no memory";
+
+const ABOUT_REWRITE: &str = "Example: blocktool rewrite --into whole mine/0001 mine/0002
+
+The outputs are OUT/0001, OUT/0002 and so on, at most 63, one range of times after another, without
+the samples that are deleted. Of two samples of one series at one time that of the later DIR is
+kept. All DIR must have values of as many digits. The rows of all are in memory at once.
+
+Exit status: 0 done; 1 refused, with the code on standard error; 2 a fault of the words; 3 cannot
+read or write; 4 no memory";
+
+const ABOUT_LIST: &str =
+    "For each DIR, in the order given, a line is printed, and one for each name of its labels:
+  DIR: 10 series 1200 samples, 1700006400000 to 1700008185001, 0 deleted, 20841 bytes
+    job: 3 values
+
+The range is that of meta.json; the samples are those that are not deleted.
+
+Exit status: 0 done; 1 refused, with the code on standard error; 2 a fault of the words; 3 cannot
+read or write; 4 no memory";
+
+const ABOUT_DIGITS: &str = "How many digits after the point are kept, 0 to 9 [default: 0]";
+
+const ABOUT_REST: &str =
+    "What is done with values that need more digits, NaN and infinities [default: refuse]";
+
+const ABOUT_STALE: &str = "What is done with stale markers [default: drop]";
+
+fn time<'a>(alloc: Global, name: &'a str, help: &'a str) -> Arg<'a> {
+    Arg::new(alloc, name)
+        .long(name)
+        .value_name("T")
+        .value_parser(value_parser!(i64))
+        .help(help)
+}
+
+fn choice<'a>(alloc: Global, name: &'a str, help: &'a str) -> Arg<'a> {
+    Arg::new(alloc, name)
+        .long(name)
+        .value_name("WHAT")
+        .value_parser(ValueParser::from(CHOICES.as_slice()))
+        .help(help)
+}
+
+fn digits<'a>(alloc: Global) -> Arg<'a> {
+    Arg::new(alloc, "decimals")
+        .long("decimals")
+        .value_name("N")
+        .value_parser(ValueParser::unsigned(0, 9))
+        .help(ABOUT_DIGITS)
+}
+
+fn into<'a>(alloc: Global) -> Arg<'a> {
+    Arg::new(alloc, "into")
+        .long("into")
+        .value_name("OUT")
+        .required(true)
+        .help("The directory for the outputs: empty, or not there")
+}
+
+fn blocks<'a>(alloc: Global) -> Arg<'a> {
+    Arg::new(alloc, "blocks")
+        .value_name("BLOCK")
+        .num_args(1..)
+        .required(true)
+        .help("A directory with a block of Prometheus")
+}
+
+fn from_prometheus<'a>(alloc: Global) -> Result<Command<'a>, AllocError> {
+    Command::new(alloc, "from-prometheus")
+        .about("Makes blocks out of blocks of Prometheus")
+        .after_help(PROMETHEUS)
+        .arg(digits(alloc))?
+        .arg(choice(alloc, "rest", ABOUT_REST))?
+        .arg(choice(alloc, "stale", ABOUT_STALE))?
+        .arg(time(alloc, "from", FROM))?
+        .arg(time(alloc, "to", TO))?
+        .arg(into(alloc))?
+        .arg(blocks(alloc))
+}
+
+fn directories<'a>(alloc: Global) -> Arg<'a> {
+    Arg::new(alloc, "directories")
+        .value_name("DIR")
+        .num_args(1..)
+        .required(true)
+        .help("A directory with a block")
+}
+
+fn rewrite<'a>(alloc: Global) -> Result<Command<'a>, AllocError> {
+    Command::new(alloc, "rewrite")
+        .about("Makes blocks of the samples of blocks that are not deleted")
+        .after_help(ABOUT_REWRITE)
+        .arg(into(alloc))?
+        .arg(directories(alloc))
+}
+
+fn list<'a>(alloc: Global) -> Result<Command<'a>, AllocError> {
+    Command::new(alloc, "list")
+        .about("Lists what blocks have")
+        .after_help(ABOUT_LIST)
+        .arg(directories(alloc))
+}
+
+fn blocktool<'a>(alloc: Global) -> Result<Command<'a>, AllocError> {
+    Command::new(alloc, "blocktool")
+        .bin_name("blocktool")?
+        .about("Makes blocks for `querier` and `auditor` out of other programs' data")
+        .version("0.1.0")
+        .no_binary_name(true)
+        .subcommand_required(true)
+        .subcommand(from_prometheus(alloc)?)?
+        .subcommand(rewrite(alloc)?)?
+        .subcommand(list(alloc)?)
+}
+
+fn time_in(found: &ArgMatches<'_>, name: &str, other: i64) -> i64 {
+    match found.get_one(name) {
+        Some(time) => time,
+        None => other,
+    }
+}
+
+fn digits_in(found: &ArgMatches<'_>) -> Option<Digits> {
+    let number: u64 = match found.get_one("decimals") {
+        Some(number) => number,
+        None => 0,
+    };
+    Digits::new(number.min(10) as u32)
+}
+
+fn is_chosen(found: &ArgMatches<'_>, name: &str, choice: &str) -> bool {
+    found.get_str(name) == Some(choice)
+}
+
+fn options_in<'a>(found: &ArgMatches<'a>) -> Option<Options<'a>> {
+    let rest = if is_chosen(found, "rest", "drop") {
+        Rest::Drop
+    } else {
+        Rest::Refuse
+    };
+    let stale = if is_chosen(found, "stale", "refuse") {
+        Stale::Refuse
+    } else {
+        Stale::Drop
+    };
+    Some(Options {
+        policy: Policy {
+            digits: digits_in(found)?,
+            rest,
+            stale,
+        },
+        times: Stretch {
+            from: time_in(found, "from", MIN_TIME),
+            to: time_in(found, "to", MAX_TIME),
+        },
+        into: found.get_str("into")?,
+    })
+}
+
+fn texts_in<'a>(
+    alloc: Global,
+    found: &ArgMatches<'a>,
+    name: &str,
+) -> Result<Vec<&'a str>, AllocError> {
+    match found.get_strs(name) {
+        Some(texts) => Vec::from_slice(alloc, texts),
+        None => Ok(Vec::new(alloc)),
+    }
+}
+
+fn import_in<'a>(alloc: Global, found: &ArgMatches<'a>) -> Result<Option<Line<'a>>, AllocError> {
+    let Some(options) = options_in(found) else {
+        return Ok(None);
+    };
+    let blocks = texts_in(alloc, found, "blocks")?;
+    Ok(Some(Line::FromPrometheus(options, blocks)))
+}
+
+fn rewrite_in<'a>(alloc: Global, found: &ArgMatches<'a>) -> Result<Option<Line<'a>>, AllocError> {
+    let Some(into) = found.get_str("into") else {
+        return Ok(None);
+    };
+    let directories = texts_in(alloc, found, "directories")?;
+    Ok(Some(Line::Rewrite(into, directories)))
+}
+
+fn line_in<'a>(alloc: Global, found: &ArgMatches<'a>) -> Result<Option<Line<'a>>, AllocError> {
+    if let Some(found) = found.subcommand_matches("from-prometheus") {
+        return import_in(alloc, found);
+    }
+    if let Some(found) = found.subcommand_matches("rewrite") {
+        return rewrite_in(alloc, found);
+    }
+    let Some(found) = found.subcommand_matches("list") else {
+        return Ok(None);
+    };
+    Ok(Some(Line::List(texts_in(alloc, found, "directories")?)))
+}
+
+fn no_subcommand(alloc: Global) -> Result<Error, AllocError> {
+    blocktool(alloc)?.error(ErrorKind::MissingSubcommand, "a subcommand is missing")
+}
+
+/// What the words after the program's name ask for, or what to print in place of it: help, the
+/// version, or a fault of the words.
+pub(crate) fn read_line<'a>(alloc: Global, words: &'a [String]) -> Result<Line<'a>, Error> {
+    let found = blocktool(alloc)?.try_get_matches_from(words)?;
+    match line_in(alloc, &found)? {
+        Some(line) => Ok(line),
+        None => Err(no_subcommand(alloc)?),
+    }
+}

@@ -1,0 +1,144 @@
+//! The outputs of several inputs.
+
+ghost use Rattle.std.specs.Prelude.{◌≡◌, List, IfOk, OnOk};
+ghost use Rattle.labels.specs.Rows.{Row as RowValue};
+ghost use Rattle.block_outputs.specs.Joined.{lists_in};
+ghost use Rattle.blocktool_command.specs.Conversion.{AreGiven, IsJoinedOf, IsConverted};
+ghost use Rattle.blocktool_command.specs.Conversion.{AreConverted, samples_in_all, capped};
+
+use crate::fault::Fault;
+use crate::input::Input;
+use crate::target::{Target, send};
+use block_folder::Disk;
+use block_outputs::{Stretch, count_samples, join, write_output};
+use block_writer::PartRows;
+use labels::Row;
+use prometheus_block::Tally;
+use std::alloc::Global;
+use std::io::Write;
+
+/// What became of samples.
+#[derive(Clone, Copy, Debug, PartialEq, Eq, Drop)]
+pub(crate) struct Account {
+    /// What the inputs counted.
+    pub(crate) tally: Tally,
+    /// How many samples were given that a later input has at the same label set and time.
+    pub(crate) hidden: u64,
+}
+
+/// The rows that each input gives of a range.
+fn rows_of_all<I: Input>(
+    alloc: Global,
+    inputs: &[I],
+    times: Stretch,
+    tally: &mut Tally,
+) -> Result<Vec<Vec<Row>>, Fault>
+    ensures { IfOk result (λ lists. AreGiven I.may_give inputs.now times
+        (lists_in lists.items) tally.old tally.new) }
+{
+    let mut lists = Vec::new(alloc);
+    for input in inputs {
+        let rows = input.rows_in(alloc, times, tally)?;
+        lists.push(rows)?;
+    }
+    Ok(lists)
+}
+
+/// How many samples lists have, up to the greatest number.
+fn count_all(lists: &[Vec<Row>]) -> u64
+    ensures { result ≡ capped (samples_in_all (lists_in lists.now)) }
+{
+    let mut count = 0u64;
+    for rows in lists {
+        count = count.saturating_add(count_samples(rows.as_slice()));
+    }
+    count
+}
+
+/// The rows of all inputs in a range, of which the later wins.
+fn rows_joined<I: Input>(
+    alloc: Global,
+    inputs: &[I],
+    times: Stretch,
+    account: &mut Account,
+) -> Result<PartRows, Fault>
+    ensures { IfOk result (λ rows. IsJoinedOf I.may_give inputs.now times rows
+        account.old account.new) }
+{
+    let lists = rows_of_all(alloc, inputs, times, &mut account.tally)?;
+    let given = count_all(lists.as_slice());
+    let rows = join(alloc, lists)?;
+    let hidden = given.saturating_sub(count_samples(rows.rows()));
+    account.hidden = account.hidden.saturating_add(hidden);
+    Ok(rows)
+}
+
+/// Writes the output of a range and its line; nothing where there is no row. `outputs` counts them.
+fn convert_one<I: Input, D: Disk, W: Write>(
+    alloc: Global,
+    inputs: &[I],
+    times: Stretch,
+    disk: &mut D,
+    target: &Target<'_>,
+    account: &mut Account,
+    outputs: &mut usize,
+    out: &mut W,
+) -> Result<(), Fault>
+    ensures { OnOk result ((rows : List RowValue)
+        × IsConverted I.may_give D.did inputs.now target.now.into.now times rows
+        account.old account.new disk.old disk.new) }
+{
+    let rows = rows_joined(alloc, inputs, times, account)?;
+    let number = outputs.saturating_add(1);
+    let written = match write_output(alloc, disk, target.into, number, target.digits, &rows) {
+        Ok(written) => written,
+        Err(error) => return Err(target.fault(alloc, number, error)),
+    };
+    if let Some(output) = written {
+        *outputs = number;
+        let line = target.line_of(alloc, &output)?;
+        send(out, line.as_str())?;
+    }
+    Ok(())
+}
+
+/// Writes the outputs of ranges of times, one after another, and the line of each, and gives what
+/// became of the samples.
+pub(crate) fn convert<I: Input, D: Disk, W: Write>(
+    alloc: Global,
+    inputs: &[I],
+    tiles: &[Stretch],
+    disk: &mut D,
+    target: &Target<'_>,
+    out: &mut W,
+) -> Result<Account, Fault>
+    // Each output has exactly the rows of what the inputs hold together in its range, in which the
+    // later input wins; nothing else is written.
+    ensures { IfOk result (λ account. AreConverted I.may_give D.did inputs.now
+        target.now.into.now tiles.now account disk.old disk.new) }
+{
+    let mut account = Account {
+        tally: Tally {
+            kept: 0,
+            stale: 0,
+            rest: 0,
+            deleted: 0,
+            outside: 0,
+        },
+        hidden: 0,
+    };
+    let mut outputs = 0usize;
+    for times in tiles {
+        convert_one(
+            alloc,
+            inputs,
+            *times,
+            disk,
+            target,
+            &mut account,
+            &mut outputs,
+            out,
+        )?;
+    }
+    Ok(account)
+}

@@ -1,0 +1,47 @@
+//! Blocks out of blocks of Prometheus.
+
+use crate::command::Options;
+use crate::fault::Fault;
+use crate::plan::{make_outputs, plan_for};
+use crate::prometheus::{Segments, Source, open_source};
+use crate::target::{Target, make_folder, send};
+use block_folder::HostDisk;
+use std::alloc::Global;
+use std::io::Write;
+use std::rt::Files;
+
+fn open_all<'a, R: Files + AllocGlobal>(
+    alloc: Global,
+    rt: &'a R,
+    options: &Options<'_>,
+    blocks: &[&'a str],
+) -> Result<Vec<Source<'a, Segments<'a, R>>>, Fault> {
+    let mut sources = Vec::new(alloc);
+    for block in blocks {
+        let source = open_source(alloc, rt, *block, options.policy)?;
+        sources.push(source)?;
+    }
+    Ok(sources)
+}
+
+/// Makes blocks out of the blocks of Prometheus in directories, of which the later wins.
+pub(crate) fn from_prometheus<R: Files + AllocGlobal + Clone + Drop, W: Write>(
+    alloc: Global,
+    rt: &R,
+    options: &Options<'_>,
+    blocks: &[&str],
+    out: &mut W,
+) -> Result<(), Fault> {
+    let sources = open_all(alloc, rt, options, blocks)?;
+    let plan = plan_for(alloc, sources.as_slice(), options.times)?;
+    make_folder(alloc, rt, options.into)?;
+    let target = Target {
+        into: options.into,
+        digits: options.policy.digits.number(),
+    };
+    let mut disk = HostDisk::new(rt);
+    let summary = make_outputs(alloc, sources.as_slice(), &plan, &mut disk, &target, out)?;
+    let line = summary.line_of(alloc, target.digits)?;
+    send(out, line.as_str())?;
+    Ok(())
+}

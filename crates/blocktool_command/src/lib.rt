@@ -1,0 +1,30 @@
+//! What the program `blocktool` does: it makes blocks of this project from other programs' data.
+//!
+//! [`run`] does what the words after the program's name ask for. An `Input` gives rows in a range
+//! of times and counts what it read; `conversion` makes of several inputs, of which the later
+//! wins, one output after another. `from_prometheus` opens blocks of Prometheus (`prometheus`) as
+//! inputs and plans into how many outputs their times are cut. What is refused, and with which
+//! status a line ends, is said by `fault` and `program`.
+//!
+//! It stands on `prometheus_block` for what is read, on `imported_values` for values, on
+//! `block_outputs` and `block_folder` for what is written, and on `clap` for words.
+#![tactic(auto)]
+
+mod command;
+mod conversion;
+mod fault;
+mod from_prometheus;
+mod input;
+mod list;
+mod listed;
+mod own;
+mod plan;
+mod program;
+mod prometheus;
+mod rewrite;
+mod summary;
+mod target;
+
+pub use fault::Fault;
+pub use listed::rows_give_their_content;
+pub use program::{Ending, run};

@@ -1,0 +1,149 @@
+//! Blocks of this project in directories.
+
+use crate::fault::Fault;
+use block::{Block, BlockError, Range};
+use serde_json::Value;
+use std::alloc::Global;
+use std::fs;
+use std::io::ErrorKind;
+use std::rt::Files;
+
+/// The file of deletions of a block in which nothing is deleted.
+const NONE_DELETED: [u8; 9] = [0x01, 0x30, 0xBA, 0x30, 0x01, 0, 0, 0, 0];
+
+/// The bytes of the files of a block.
+#[derive(Drop)]
+struct Bytes {
+    meta: Vec<u8>,
+    index: Vec<u8>,
+    chunks: Vec<u8>,
+    tombstones: Vec<u8>,
+}
+
+/// A block, and what its files say of it.
+#[derive(Drop)]
+pub(crate) struct Opened {
+    pub(crate) block: Block,
+    /// How many samples are deleted.
+    pub(crate) deleted: u64,
+    /// How many bytes its files have.
+    pub(crate) bytes: u64,
+    /// How many digits after the point its values have.
+    pub(crate) digits: u32,
+}
+
+fn read_file<R: Files + AllocGlobal>(
+    alloc: Global,
+    rt: &R,
+    directory: &str,
+    name: &str,
+) -> Result<Vec<u8>, Fault> {
+    let path = format!(in alloc; "{directory}/{name}")?;
+    match fs::read(rt, path.as_str()) {
+        Ok(bytes) => Ok(bytes),
+        Err(error) if error.kind() == ErrorKind::OutOfMemory => Err(Fault::Memory),
+        Err(_) => Err(Fault::CannotRead(path)),
+    }
+}
+
+fn read_bytes<R: Files + AllocGlobal>(
+    alloc: Global,
+    rt: &R,
+    directory: &str,
+) -> Result<Bytes, Fault> {
+    Ok(Bytes {
+        meta: read_file(alloc, rt, directory, "meta.json")?,
+        index: read_file(alloc, rt, directory, "index")?,
+        chunks: read_file(alloc, rt, directory, "chunks/000001")?,
+        tombstones: read_file(alloc, rt, directory, "tombstones")?,
+    })
+}
+
+fn refused(alloc: Global, directory: &str, error: BlockError) -> Fault {
+    if error == BlockError::Memory {
+        return Fault::Memory;
+    }
+    match String::from_str(alloc, directory) {
+        Ok(directory) => Fault::Block(directory, error),
+        Err(_) => Fault::Memory,
+    }
+}
+
+/// The digits that a `meta.json` says, none where it says nothing of them.
+fn digits_in(alloc: Global, meta: &[u8]) -> u32 {
+    let Ok(meta) = Value::from_slice(alloc, meta) else {
+        return 0;
+    };
+    let said = match meta.get("decimals") {
+        Some(digits) => digits.as_u64(),
+        None => None,
+    };
+    said.unwrap_or(0).min(9) as u32
+}
+
+/// How many bytes the files have.
+fn length_of(bytes: &Bytes) -> u64 {
+    (bytes.meta.len() as u64)
+        .saturating_add(bytes.index.len() as u64)
+        .saturating_add(bytes.chunks.len() as u64)
+        .saturating_add(bytes.tombstones.len() as u64)
+}
+
+fn open(alloc: Global, bytes: Bytes) -> Result<Block, BlockError> {
+    let Bytes {
+        meta,
+        index,
+        chunks,
+        tombstones,
+    } = bytes;
+    let range = Range::read_meta(alloc, meta.as_slice())?;
+    Block::open(
+        alloc,
+        range,
+        index.as_slice(),
+        chunks,
+        tombstones.as_slice(),
+    )
+}
+
+/// How many samples a block has whose deletions are left out.
+fn count_stored<R: Files + AllocGlobal>(
+    alloc: Global,
+    rt: &R,
+    directory: &str,
+) -> Result<u64, Fault> {
+    let mut bytes = read_bytes(alloc, rt, directory)?;
+    bytes.tombstones = Vec::from_slice(alloc, &NONE_DELETED)?;
+    match open(alloc, bytes) {
+        Ok(block) => Ok(block.sample_count()),
+        Err(error) => Err(refused(alloc, directory, error)),
+    }
+}
+
+/// Opens the block in a directory. Where something is deleted its files are read twice.
+pub(crate) fn open_own<R: Files + AllocGlobal>(
+    alloc: Global,
+    rt: &R,
+    directory: &str,
+) -> Result<Opened, Fault> {
+    let files = read_bytes(alloc, rt, directory)?;
+    let digits = digits_in(alloc, files.meta.as_slice());
+    let none_deleted = files.tombstones.as_slice() == NONE_DELETED.as_slice();
+    let bytes = length_of(&files);
+    let block = match open(alloc, files) {
+        Ok(block) => block,
+        Err(error) => return Err(refused(alloc, directory, error)),
+    };
+    let stored = if none_deleted {
+        block.sample_count()
+    } else {
+        count_stored(alloc, rt, directory)?
+    };
+    let deleted = stored.saturating_sub(block.sample_count());
+    Ok(Opened {
+        block,
+        deleted,
+        bytes,
+        digits,
+    })
+}

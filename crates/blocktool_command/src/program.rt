@@ -1,0 +1,67 @@
+//! What the program does.
+
+use crate::command::{Line, read_line};
+use crate::fault::Fault;
+use crate::from_prometheus::from_prometheus;
+use crate::list::list;
+use crate::rewrite::rewrite;
+use clap::error::ErrorKind;
+use std::alloc::Global;
+use std::io::{self, Write};
+use std::rt::Files;
+
+fn execute<R: Files + AllocGlobal + Clone + Drop, W: Write>(
+    alloc: Global,
+    rt: &R,
+    words: &[String],
+    out: &mut W,
+) -> Result<(), Fault> {
+    match read_line(alloc, words) {
+        Ok(Line::FromPrometheus(options, blocks)) => {
+            from_prometheus(alloc, rt, &options, blocks.as_slice(), out)
+        }
+        Ok(Line::Rewrite(into, directories)) => {
+            rewrite(alloc, rt, into, directories.as_slice(), out)
+        }
+        Ok(Line::List(directories)) => list(alloc, rt, directories.as_slice(), out),
+        Err(error) if matches!(error.kind(), ErrorKind::OutOfMemory) => Err(Fault::Memory),
+        Err(error) if error.use_stderr() => Err(Fault::Words(error)),
+        Err(help) => {
+            write!(out, "{help}")?;
+            Ok(())
+        }
+    }
+}
+
+/// How the program ends.
+#[derive(Debug, Drop)]
+pub struct Ending {
+    /// The exit status.
+    pub status: u8,
+    /// Whether the fault was told, where there is one: an error is the second writer's.
+    pub told: io::Result<()>,
+}
+
+/// Does what the words after the program's name ask for.
+///
+/// Standard output has a line for each output and one that tells what became of every sample. The
+/// status is 0 where all was done, 1 for a refusal, 2 for a fault of the words, 3 for what cannot
+/// be read or written, and 4 for want of memory; a line on the second writer says why.
+pub fn run<R: Files + AllocGlobal + Clone + Drop, W: Write, E: Write>(
+    alloc: Global,
+    rt: &R,
+    words: &[String],
+    out: &mut W,
+    err: &mut E,
+) -> Ending {
+    match execute(alloc, rt, words, out) {
+        Ok(()) => Ending {
+            status: 0,
+            told: Ok(()),
+        },
+        Err(fault) => Ending {
+            status: fault.status(),
+            told: fault.tell(err),
+        },
+    }
+}

@@ -1,0 +1,76 @@
+//! Blocks of this project, written anew.
+
+use crate::fault::Fault;
+use crate::listed::Listed;
+use crate::own::{Opened, open_own};
+use crate::plan::{make_outputs, plan_for};
+use crate::target::{Target, make_folder, send};
+use block_folder::HostDisk;
+use block_outputs::Stretch;
+use labels::{MAX_TIME, MIN_TIME};
+use std::alloc::{AllocError, Global};
+use std::io::Write;
+use std::rt::Files;
+
+/// Inputs, and how many digits after the point their values have.
+#[derive(Drop)]
+struct Inputs {
+    listed: Vec<Listed>,
+    digits: Option<u32>,
+}
+
+/// The rows of a block that have a sample.
+fn listed_of(alloc: Global, opened: &Opened) -> Result<Listed, AllocError> {
+    let mut rows = Vec::new(alloc);
+    for (_, row) in opened.block.list_all(alloc)? {
+        if !row.samples().is_empty() {
+            rows.push(row)?;
+        }
+    }
+    Ok(Listed { rows })
+}
+
+fn open_all<R: Files + AllocGlobal>(
+    alloc: Global,
+    rt: &R,
+    directories: &[&str],
+) -> Result<Inputs, Fault> {
+    let mut listed = Vec::new(alloc);
+    let mut digits = None;
+    for directory in directories {
+        let opened = open_own(alloc, rt, *directory)?;
+        if digits.is_some() && digits != Some(opened.digits) {
+            return Err(Fault::Digits(String::from_str(alloc, *directory)?));
+        }
+        digits = Some(opened.digits);
+        listed.push(listed_of(alloc, &opened)?)?;
+    }
+    Ok(Inputs { listed, digits })
+}
+
+/// Makes blocks of the samples of blocks that are not deleted, of which the later wins.
+pub(crate) fn rewrite<R: Files + AllocGlobal + Clone + Drop, W: Write>(
+    alloc: Global,
+    rt: &R,
+    into: &str,
+    directories: &[&str],
+    out: &mut W,
+) -> Result<(), Fault> {
+    let inputs = open_all(alloc, rt, directories)?;
+    let whole = Stretch {
+        from: MIN_TIME,
+        to: MAX_TIME,
+    };
+    let plan = plan_for(alloc, inputs.listed.as_slice(), whole)?;
+    make_folder(alloc, rt, into)?;
+    let target = Target {
+        into,
+        digits: inputs.digits.unwrap_or(0),
+    };
+    let mut disk = HostDisk::new(rt);
+    let listed = inputs.listed.as_slice();
+    let summary = make_outputs(alloc, listed, &plan, &mut disk, &target, out)?;
+    let line = summary.line_of(alloc, target.digits)?;
+    send(out, line.as_str())?;
+    Ok(())
+}

@@ -1,0 +1,231 @@
+"""Reads blocks with uncompressed chunks straight from their bytes, and compares them with `promtool tsdb dump`.
+
+    read_block.py texts DIR [large]                           writes texts of OpenMetrics into DIR
+    read_block.py compare DIGITS TOLD TSDB.. -- BLOCK..       the blocks hold what `promtool tsdb dump` prints of each TSDB,
+                                                              the later wins, times 10^DIGITS; the counts in TOLD are right
+    read_block.py delete BLOCK                                deletes of each third series the times of its second quarter
+    read_block.py change BLOCKTOOL TSDB DIR                   changes each byte of the block in TSDB: refused, or the same
+"""
+import ast, glob, json, os, random, re, shutil, struct, subprocess, sys
+from decimal import Decimal
+
+
+def uvar(b, p):
+    n = s = 0
+    while True:
+        c = b[p]; p += 1
+        n |= (c & 127) << s; s += 7
+        if c < 128: return n, p
+def var(b, p):
+    n, p = uvar(b, p)
+    return (n >> 1) ^ -(n & 1), p
+def references(d):
+    """The reference of each series of an index, and its labels."""
+    ix = open(d + "/index", "rb").read()
+    toc = struct.unpack(">6Q", ix[-52:-4])
+    p, end = toc[1], toc[2] or toc[3]
+    while p < end:
+        p += -p % 16
+        if p >= end: break
+        l, q = uvar(ix, p)
+        if l == 0: break
+        yield p // 16, ix[q:q+l]
+        p = q + l + 4
+def block(d):
+    ix = open(d + "/index", "rb").read(); ch = open(d + "/chunks/000001", "rb").read()
+    toc = struct.unpack(">6Q", ix[-52:-4])
+    sym, ser, labi = toc[0], toc[1], toc[2]
+    n = struct.unpack(">I", ix[sym+4:sym+8])[0]; p = sym + 8; syms = []
+    for _ in range(n):
+        l, p = uvar(ix, p); syms.append(ix[p:p+l].decode()); p += l
+    out = {}
+    p = ser; end = labi or toc[3]
+    while p < end:
+        if p % 16: p += 16 - p % 16
+        if p >= end: break
+        l, q = uvar(ix, p)
+        if l == 0: break
+        e = q + l; k, q = uvar(ix, q); labels = []
+        for _ in range(k):
+            a, q = uvar(ix, q); v, q = uvar(ix, q); labels.append((syms[a], syms[v]))
+        c, q = uvar(ix, q); refs = []
+        mint, q = var(ix, q); w, q = uvar(ix, q); ref, q = uvar(ix, q); maxt = mint + w; refs.append((ref, mint, maxt))
+        for _ in range(c - 1):
+            g, q = uvar(ix, q); w, q = uvar(ix, q); dr, q = var(ix, q); mint = maxt + g; maxt = mint + w; ref += dr; refs.append((ref, mint, maxt))
+        assert q == e
+        s = []
+        for ref, mint, maxt in refs:
+            l, q = uvar(ch, ref); assert ch[q] == 0xE0; q += 1; cnt = struct.unpack(">H", ch[q:q+2])[0]; q += 2
+            for i in range(cnt): s.append(struct.unpack(">qq", ch[q+16*i:q+16*i+16]))
+        out[tuple(labels)] = s
+        p = e + 4
+    return out
+def blocks(ds):
+    out = {}
+    for d in ds:
+        for k, s in block(d).items(): out.setdefault(k, []).extend(s)
+    return out
+
+
+LAB = re.compile(r'([a-zA-Z_][a-zA-Z0-9_]*)=("(?:[^"\\]|\\.)*")')
+def dump(lines, digits):
+    out = {}; left = 0
+    for line in lines:
+        i = line.rindex("} "); lab = line[1:i]; v, t = line[i+2:].split()
+        key = tuple(sorted((a, ast.literal_eval(b)) for a, b in LAB.findall(lab)))
+        if v in ("NaN", "+Inf", "-Inf"): left += 1; continue
+        f = float(v)
+        whole = f == int(f)
+        x = (Decimal(int(f)) if whole else Decimal(repr(f))).scaleb(digits)
+        if x != x.to_integral_value() or abs(x) >= (2**63 if whole else 10**15): left += 1; continue
+        out.setdefault(key, []).append((int(t), int(x)))
+    return out, left
+
+
+def texts(folder, large):
+    random.seed(7)
+
+    def write(name, series):
+        with open(f"{folder}/{name}.om", "w") as f:
+            for metric, rows in series:
+                f.write(f"# TYPE {metric} gauge\n")
+                for labels, value, t in rows:
+                    f.write(f"{metric}{labels} {value} {t}\n")
+            f.write("# EOF\n")
+
+    def many(name, series, samples):
+        write(name, [("m", [('{i="%d"}' % s, (s * 31 + i * i) % 1000 - 300, start + i * 15)
+                            for s in range(series) for i in range(samples)])])
+
+    start = 1700006400
+    values = ["1", "7", "0", "-3", "123456789", "9007199254740993", "-4611686018427387904"]
+    write("whole", [(f"m{s}", [('{job="a",i="%d"}' % s, values[(i * i + s) % 7] if i % 5 else i, start + i * 15)
+                               for i in range(300)]) for s in range(20)])
+    # times that the one before has too, others between them, and a series more
+    write("over", [(f"m{s}", [('{job="a",i="%d"}' % s, -1 - i, "%d.%03d" % (start + 1500 + i * 10, s % 2))
+                              for i in range(150)]) for s in range(5, 22)])
+    odd = ["1.5", "NaN", "+Inf", "-Inf", "-0", "5e-324", "9223372036854775808", "0.1", "123456789.123456789", "1e15", "-7",
+           "0.000000001", "3", "4611686018427387904", "-0.3"]
+    write("odd", [("odd", [('{k="%02d",v="x\\"y\\\\z \u00e9"}' % k, v, "%d.%03d" % (start + i * 13, i * 8))
+                           for k, v in enumerate(odd) for i in range(3)])])
+    write("gaps", [(f"g{s}", [("", i % 11 - 5, "%d.%03d" % (start + i * 9 + (i // 50) * 3000, (i * 37) % 1000))
+                              for i in range(400)]) for s in range(3)])
+    write("fractions", [("f", [('{i="%d"}' % s, "%.*f" % (s, random.uniform(-1000, 1000)), start + i * 15)
+                               for s in range(11) for i in range(200)])])
+    many("thousand", 1000, 120)
+    if large:
+        many("many", 10000, 120)
+        many("wide", 100000, 12)
+
+
+def dump_of(tsdb):
+    os.makedirs(tsdb + "/wal", exist_ok=True)
+    return subprocess.run(["promtool", "tsdb", "dump", tsdb], capture_output=True, text=True, check=True).stdout
+
+
+def compare(digits, told, tsdbs, folders):
+    want, left, given = {}, 0, 0
+    for tsdb in tsdbs:
+        rows, rest = dump(dump_of(tsdb).splitlines(), digits)
+        left += rest
+        for k, samples in rows.items():
+            given += len(samples)
+            want.setdefault(k, {}).update(samples)
+    want = {k: sorted(samples.items()) for k, samples in want.items()}
+    ranges = []
+    got = {}
+    for folder in sorted(folders):
+        rows = block(folder)
+        times = [t for samples in rows.values() for t, _ in samples]
+        meta = json.load(open(folder + "/meta.json"))
+        assert meta["minTime"] == min(times) and meta["maxTime"] == max(times) + 1, folder
+        assert meta["stats"] == {"numSeries": len(rows), "numSamples": len(times)}, folder
+        assert meta["decimals"] == digits, folder
+        ranges.append((min(times), max(times)))
+        for k, samples in rows.items():
+            got.setdefault(tuple(sorted(k)), []).extend(samples)
+    assert all(a[1] < b[0] for a, b in zip(ranges, ranges[1:])), ranges
+    assert want.keys() == got.keys(), list(set(want) ^ set(got))[:3]
+    for k in want:
+        assert want[k] == got[k], (k, want[k][:3], got[k][:3])
+    count = sum(map(len, got.values()))
+    counts = {word: int(n) for n, word in re.findall(r"(\d+) (kept|stale|of other|deleted|hidden|outside)", open(told).read())}
+    read = int(re.search(r"read (\d+) samples", open(told).read()).group(1))
+    assert sum(counts.values()) == read, (read, counts)
+    assert counts["kept"] == count and counts["hidden"] == given - count, (counts, count, given)
+    assert counts["stale"] + counts["of other"] == left, (counts, left)
+    print("the same:", count, "samples of", len(got), "series in", len(folders), "blocks;", left, "left out")
+
+
+def crc32c(data):
+    crc = 0xFFFFFFFF
+    for byte in data:
+        crc ^= byte
+        for _ in range(8):
+            crc = crc >> 1 ^ (0x82F63B78 if crc & 1 else 0)
+    return crc ^ 0xFFFFFFFF
+
+
+def uvarint(n):
+    out = b""
+    while n > 127:
+        out += bytes([n & 127 | 128])
+        n >>= 7
+    return out + bytes([n])
+
+
+def varint(n):
+    return uvarint(n << 1 if n >= 0 else (-n << 1) - 1)
+
+
+def delete(folder):
+    meta = json.load(open(folder + "/meta.json"))
+    width = meta["maxTime"] - meta["minTime"]
+    entries = b""
+    for at, (reference, _) in enumerate(references(folder)):
+        if at % 3 == 0:
+            entries += uvarint(reference) + varint(meta["minTime"] + width // 4) + varint(meta["minTime"] + width // 2)
+    body = b"\x01" + entries
+    open(folder + "/tombstones", "wb").write(struct.pack(">I", 0x0130BA30) + body + struct.pack(">I", crc32c(entries)))
+
+
+def run(tool, source, out):
+    shutil.rmtree(out, ignore_errors=True)
+    end = subprocess.run([tool, "from-prometheus", "--decimals", "9", "--rest", "drop", "--into", out, source],
+                         capture_output=True, timeout=60)
+    return end.returncode
+
+
+def change(tool, tsdb, work):
+    source = glob.glob(tsdb + "/0*")[0]
+    out, copy = work + "/changed-out", work + "/changed"
+    assert run(tool, source, out) == 0
+    wanted = blocks(glob.glob(out + "/0*"))
+    ends = {}
+    for name in ["index", "chunks/000001", "tombstones"]:
+        whole = open(f"{source}/{name}", "rb").read()
+        for at in range(len(whole)):
+            for flip in (1, 0x80, 0xFF):
+                shutil.rmtree(copy, ignore_errors=True)
+                shutil.copytree(source, copy)
+                changed = bytearray(whole)
+                changed[at] ^= flip
+                open(f"{copy}/{name}", "wb").write(changed)
+                code = run(tool, copy, out)
+                ends[code] = ends.get(code, 0) + 1
+                assert code in (0, 1, 3), (name, at, flip, code)
+                if code == 0:
+                    assert blocks(glob.glob(out + "/0*")) == wanted, (name, at, flip)
+    print("changed bytes by exit status:", ends)
+
+
+if __name__ == "__main__":
+    if sys.argv[1] == "texts":
+        texts(sys.argv[2], len(sys.argv) > 3)
+    elif sys.argv[1] == "compare":
+        cut = sys.argv.index("--")
+        compare(int(sys.argv[2]), sys.argv[3], sys.argv[4:cut], sys.argv[cut + 1:])
+    elif sys.argv[1] == "delete":
+        delete(sys.argv[2])
+    else:
+        change(*sys.argv[2:5])
