@@ -23,7 +23,7 @@ def references(d):
     """The reference of each series of an index, and its labels."""
     ix = open(d + "/index", "rb").read()
     toc = struct.unpack(">6Q", ix[-52:-4])
-    p, end = toc[1], toc[2] or toc[3]
+    p, end = toc[1], toc[2] or toc[4]
     while p < end:
         p += -p % 16
         if p >= end: break
@@ -39,7 +39,7 @@ def block(d):
     for _ in range(n):
         l, p = uvar(ix, p); syms.append(ix[p:p+l].decode()); p += l
     out = {}
-    p = ser; end = labi or toc[3]
+    p = ser; end = labi or toc[4]
     while p < end:
         if p % 16: p += 16 - p % 16
         if p >= end: break
