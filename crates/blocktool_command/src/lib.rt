@@ -13,6 +13,7 @@
 mod command;
 mod conversion;
 mod fault;
+mod files;
 mod from_prometheus;
 mod input;
 mod list;

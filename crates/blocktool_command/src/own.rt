@@ -1,11 +1,10 @@
 //! Blocks of this project in directories.
 
 use crate::fault::Fault;
+use crate::files::read_file;
 use block::{Block, BlockError, Range};
 use serde_json::Value;
 use std::alloc::Global;
-use std::fs;
-use std::io::ErrorKind;
 use std::rt::Files;
 
 /// The file of deletions of a block in which nothing is deleted.
@@ -30,20 +29,6 @@ pub(crate) struct Opened {
     pub(crate) bytes: u64,
     /// How many digits after the point its values have.
     pub(crate) digits: u32,
-}
-
-fn read_file<R: Files + AllocGlobal>(
-    alloc: Global,
-    rt: &R,
-    directory: &str,
-    name: &str,
-) -> Result<Vec<u8>, Fault> {
-    let path = format!(in alloc; "{directory}/{name}")?;
-    match fs::read(rt, path.as_str()) {
-        Ok(bytes) => Ok(bytes),
-        Err(error) if error.kind() == ErrorKind::OutOfMemory => Err(Fault::Memory),
-        Err(_) => Err(Fault::CannotRead(path)),
-    }
 }
 
 fn read_bytes<R: Files + AllocGlobal>(

@@ -5,6 +5,7 @@ ghost use Rattle.prometheus_block.specs.Series.{IsHeld};
 ghost use Rattle.blocktool_command.specs.Prometheus.{IsGivenBy};
 
 use crate::fault::Fault;
+use crate::files::read_file;
 use crate::input::{Input, joined};
 use block_outputs::{Counts, Stretch};
 use imported_values::Policy;
@@ -64,20 +65,6 @@ pub(crate) struct Source<'a, S> {
     policy: Policy,
 }
 
-fn read_file<R: Files + AllocGlobal>(
-    alloc: Global,
-    rt: &R,
-    directory: &str,
-    name: &str,
-) -> Result<Vec<u8>, Fault> {
-    let path = format!(in alloc; "{directory}/{name}")?;
-    match fs::read(rt, path.as_str()) {
-        Ok(bytes) => Ok(bytes),
-        Err(error) if error.kind() == ErrorKind::OutOfMemory => Err(Fault::Memory),
-        Err(_) => Err(Fault::CannotRead(path)),
-    }
-}
-
 /// The fault of a block that is refused.
 fn refused(alloc: Global, directory: &str, error: SourceError) -> Fault {
     if error == SourceError::Memory {
@@ -131,6 +118,19 @@ pub(crate) fn open_source<'a, R: Files + AllocGlobal>(
     })
 }
 
+/// Adds the value of a label, as it stands between quotes.
+fn push_value(text: &mut String, value: &str) -> Result<(), AllocError> {
+    for c in value.chars() {
+        match c {
+            '\\' => text.push_str("\\\\")?,
+            '"' => text.push_str("\\\"")?,
+            '\n' => text.push_str("\\n")?,
+            _ => text.push(c)?,
+        }
+    }
+    Ok(())
+}
+
 /// The text of a label set, as `{__name__="up",job="a"}`.
 fn text_of(alloc: Global, labels: &LabelSet) -> Result<String, AllocError> {
     let mut text = String::from_str(alloc, "{")?;
@@ -141,7 +141,7 @@ fn text_of(alloc: Global, labels: &LabelSet) -> Result<String, AllocError> {
         }
         text.push_str(name)?;
         text.push_str("=\"")?;
-        text.push_str(value)?;
+        push_value(&mut text, value)?;
         text.push('"')?;
     }
     text.push('}')?;
