@@ -4,16 +4,18 @@ PREFIX ?= /usr/local
 # Checks that the gate runs side by side: the largest takes some 5.5 GB of a machine's 24, most half of that.
 GATE_JOBS ?= $(shell n=$$(nproc); echo $$((n < 4 ? n : 4)))
 CRATES := $(shell sed -e 's/\#.*//' -e 's/:.*//' -e '/^[[:space:]]*$$/d' crates.txt)
-# Which crate has the tests of which crates; a crate of tests has its own.
+# Which crate, or script, has the tests of which crates; a crate of tests has its own.
 TESTS_OF := selection_tests:labels,pages,matchers,postings \
 	file_tests:wire,index_reader,chunk_reader,tombstones,block,block_writer \
 	store_tests:head,history,snapshots \
 	serving_tests:cover,block_search,series_merge,answers,requests,query_http,server \
 	command_tests:commands,querier \
 	auditing_tests:auditor,audit_command,audit_laws,auditor_program \
-	import_tests:xor_reader,doubles,decimal_text,prometheus_block,blocktool_command,blocktool \
-	journal_tests:journal,event_text
-# The crate with the tests of a crate, or nothing.
+	import_tests:xor_reader,doubles,decimal_text,prometheus_block \
+	journal_tests:journal,event_text \
+	tests/importing:imported_values,time_cuts,block_folder,block_outputs,blocktool_command,blocktool \
+	tests/pages-html:page_layout,page_style,page_text,page_claims,page,explain_command,explain
+# The crate or the script with the tests of a crate, or nothing.
 tests_of = $(if $(filter %_tests,$(1)),$(1),$(word 1,$(subst :, ,$(foreach it,$(TESTS_OF),$(if \
 	$(filter $(1),$(subst $(comma), ,$(word 2,$(subst :, ,$(it))))),$(it))))))
 comma := ,
@@ -79,22 +81,27 @@ scaling: ## asks four queriers over the quarters of a block, and compares their 
 bench: ## measures speed (never part of the gate)
 	@RT="$(RT)" bench/run && RT="$(RT)" bench/check && RT="$(RT)" bench/select && RT="$(RT)" bench/audit && RT="$(RT)" bench/serve
 
-install: ## proves what querier, auditor and explain stand on, with a line for each crate, builds them, and copies them to PREFIX/bin
-	@$(MAKE) --no-print-directory -j $(GATE_JOBS) proved-querier proved-auditor_program proved-explain
-	@echo "building querier, auditor and explain: three to eight minutes" >&2
+install: ## proves what querier, auditor, explain and blocktool stand on, with a line for each crate, builds them, and copies them to PREFIX/bin
+	@$(MAKE) --no-print-directory -j $(GATE_JOBS) proved-querier proved-auditor_program proved-explain proved-blocktool
+	@echo "building querier, auditor, explain and blocktool: one to three minutes each" >&2
 	@$(call quiet,cd crates/querier && $(RT) run -- demo,the build of querier)
 	@$(call quiet,cd crates/auditor_program && $(RT) run -- --selector up <stdin,the build of auditor)
 	@$(call quiet,cd crates/explain && $(RT) run -- --version <stdin,the build of explain)
+	@$(call quiet,cd crates/blocktool && $(RT) run -- --version,the build of blocktool)
 	@install -D -m 755 crates/querier/out/querier "$(DESTDIR)$(PREFIX)/bin/querier"
 	@install -D -m 755 crates/auditor_program/out/auditor_program "$(DESTDIR)$(PREFIX)/bin/auditor"
 	@install -D -m 755 crates/explain/out/explain "$(DESTDIR)$(PREFIX)/bin/explain"
+	@install -D -m 755 crates/blocktool/out/blocktool "$(DESTDIR)$(PREFIX)/bin/blocktool"
 
 $(addprefix check-,$(CRATES)): check-%:
 	@cd crates/$* && $(RT) check
 
 $(addprefix test-,$(CRATES)): test-%:
 	@tests="$(call tests_of,$*)"; [ -n "$$tests" ] || { echo "$*: the Makefile's table TESTS_OF does not name its tests" >&2; exit 1; }; \
-	echo "the tests of $* stand in crates/$$tests" >&2; cd crates/$$tests && $(RT) test
+	case $$tests in \
+	  */*) echo "the tests of $* are the script $$tests" >&2; RT="$(RT)" $$tests ;; \
+	  *) echo "the tests of $* stand in crates/$$tests" >&2; cd crates/$$tests && $(RT) test ;; \
+	esac
 
 # proved-CRATE proves a crate once those that it stands on are proved, as crates.txt says, several side by side.
 $(addprefix proved-,$(CRATES)): proved-%:
