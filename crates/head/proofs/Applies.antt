@@ -34,7 +34,7 @@ answer_same Memory f keeps r is = tt
 pub refused : (s : SnapshotParts) (xs : List (Labels × (ℤ × ℤ))) (e : CommitError) → IsSoundSnapshot s → IsStepRefusal e (head_added_each s.floor (Ok s.head) 0 xs) → IsStepRefusal e (committed (world_of s) xs)
 refused s xs e sound is = subst (IsStepRefusal e) (sym (all_of s xs sound).0) (answer_same e (world_with s) (λ _. refl) (head_added_each s.floor (Ok s.head) 0 xs) is)
 
-stuck : (floor : ℤ) (at : ℕ) (xs : List (Labels × (ℤ × ℤ))) (r : Refusal) → head_added_each floor (Err r) at xs ≡ Err r
+pub stuck : (floor : ℤ) (at : ℕ) (xs : List (Labels × (ℤ × ℤ))) (r : Refusal) → head_added_each floor (Err r) at xs ≡ Err r
 stuck floor at [] r = refl
 stuck floor at (x ∷ xs) r = refl
 

@@ -4,6 +4,7 @@ pub mod HeadLaws
 pub mod Simulates
 pub mod Places
 pub mod Applies
+pub mod RowSteps
 pub mod Chunks
 pub mod BlockNaming
 pub mod Opening

@@ -68,6 +68,12 @@ place_last head h d none =
     ∙ ap (λ b. cond b (Some (0 + length head)) None) (same_self h.labels)
     ∙ ap Some (sym (from_zero (length head)))
 
+-- a series of a label set that was not there
+pub place_new : (head : List HeadSeries) (h : HeadSeries) → place_from h.labels 0 head ≡ None → place_from h.labels 0 (head ++ h ∷ []) ≡ Some (length head)
+place_new head h none =
+    ap (λ (x : HeadSeries). place_from x.labels 0 (head ++ h ∷ [])) (sym (last_is head h h))
+    ∙ place_last head h h none
+
 apart_more : (head : List HeadSeries) (h : HeadSeries) → place_from h.labels 0 head ≡ None
     → ((k : ℕ) (d : HeadSeries) → k < length head → place_from (slice_index_or head k d).labels 0 head ≡ Some k)
     → (k : ℕ) (d : HeadSeries) → k < length (head ++ h ∷ []) → place_from (slice_index_or (head ++ h ∷ []) k d).labels 0 (head ++ h ∷ []) ≡ Some k
@@ -93,7 +99,7 @@ ordered_more order head h k is none ordered = record {
 pub ordered_none : IsOrderOf [] []
 ordered_none = record { placed = λ l. refl; apart = λ k d l. absurd (omega (arith, l)) }
 
-same_place : (l : Labels) (n : ℕ) (a b : List HeadSeries) → sets_of a ≡ sets_of b → place_from l n a ≡ place_from l n b
+pub same_place : (l : Labels) (n : ℕ) (a b : List HeadSeries) → sets_of a ≡ sets_of b → place_from l n a ≡ place_from l n b
 same_place l n [] [] e = refl
 same_place l n [] (y ∷ ys) e = absurd cc
 same_place l n (x ∷ xs) [] e = absurd cc

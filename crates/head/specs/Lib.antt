@@ -3,6 +3,7 @@ pub mod Limits
 pub mod Fits
 pub mod Worlds
 pub mod Batches
+pub mod BatchRows
 pub mod Heads
 pub mod Pointers
 pub mod Chunks

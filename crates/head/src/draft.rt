@@ -3,10 +3,11 @@
 
 ghost use Rattle.std.specs.Prelude.{◌≡◌, ◌≢◌, ◌<◌, ◌≤◌, ◌+◌, ◌*◌, ℕ, Bool, T, Ok, IfOk, IfErr};
 ghost use Rattle.std.specs.Prelude.{OnOk, OnErr, None, length, [], ◌∷◌, ◌++◌, map, slice_set};
-ghost use Rattle.std.specs.Prelude.{slice_index_or, IsTrue};
+ghost use Rattle.std.specs.Prelude.{slice_index_or, IsTrue, Some, IfSome};
 ghost use Rattle.std.specs.List.{list_all};
 ghost use Rattle.labels.specs.Labels.{Labels};
 ghost use Rattle.head.specs.declared.TheConstants.{MAX_SERIES};
+ghost use Rattle.head.specs.BatchRows.{pairs_with, batch_of_rows, batch_in};
 ghost use Rattle.head.specs.Heads.{HeadSeries};
 ghost use Rattle.head.specs.Taking.{head_added, head_added_each, added_at_place, new_added, grown};
 ghost use Rattle.head.specs.Taking.{place_from};
@@ -21,7 +22,7 @@ use crate::MAX_SERIES;
 use crate::error::CommitError;
 use crate::order::Order;
 use crate::series::{Series, SeriesList};
-use labels::{LabelSet, Sample};
+use labels::{LabelSet, Row, Sample};
 use pages::Spot;
 use std::alloc::{AllocError, Global};
 use std::collections::BTreeMap;
@@ -284,12 +285,27 @@ struct Near {
     spot: Spot,
 }
 
+impl Near {
+    /// Before all series.
+    fn start() -> Near {
+        Near {
+            place: 0,
+            spot: Spot {
+                group: 0,
+                page: 0,
+                at: 0,
+            },
+        }
+    }
+}
+
 /// The place of the series with a label set. It looks first at the series that was begun after the
 /// last one found, and at that one: batches mostly have series as they were begun, and samples of
 /// one series in a row.
 fn place_of(draft: &Draft, order: &Order, labels: &LabelSet, near: &mut Near) -> Option<usize>
     requires { IsOrderOf order.now (series_in_each draft.now) }
-    ensures { result ≡ place_from labels.now 0 (series_in_each draft.now) }
+    ensures place { result ≡ place_from labels.now 0 (series_in_each draft.now) }
+    ensures found { IfSome result (λ place. near.new.place ≡ place) }
 {
     let next = near.place.saturating_add(1);
     if draft.has_at(next, labels) {
@@ -304,8 +320,37 @@ fn place_of(draft: &Draft, order: &Order, labels: &LabelSet, near: &mut Near) ->
     Some(place)
 }
 
+/// Adds a sample, which has the number `at` in its batch, to the series at a place. Gives how many
+/// samples were copied.
+fn add_at(
+    alloc: Global,
+    draft: &mut Draft,
+    place: usize,
+    floor: i64,
+    at: usize,
+    sample: Sample,
+) -> Result<u64, CommitError>
+    requires { place < length draft.old }
+    ensures step { (l : Labels) → place_from l 0 (series_in_each draft.old) ≡ Some place
+        → IsOutcome result (head_added floor (series_in_each draft.old) at (l, sample))
+        (series_in_each draft.new) }
+    ensures few { IfOk result (λ copied. copied < 120) }
+    ensures labels { OnOk result (sets_of (series_in_each draft.new)
+        ≡ sets_of (series_in_each draft.old)) }
+    ensures counted { IfOk result
+        (λ copied. copied + 119 * owned draft.old ≤ 119 * owned draft.new) }
+    ensures owners { OnOk result ((l : Labels)
+        → place_from l 0 (series_in_each draft.old) ≡ Some place
+        → AddsNoOwnBut l draft.old draft.new) }
+{
+    if sample.t() < floor {
+        return Err(CommitError::OutOfBounds { at });
+    }
+    add_known(alloc, draft, place, at, sample)
+}
+
 /// Adds the sample that has the number `at` in its batch. Gives how many samples were copied. It
-/// looks for the label set near where the last one was found.
+/// looks for the label set near where the last one was found, and leaves there where it is.
 fn add(
     alloc: Global,
     draft: &mut Draft,
@@ -321,17 +366,19 @@ fn add(
         (head_added floor (series_in_each draft.old) at (labels.now, sample))
         (series_in_each draft.new) }
     ensures few { IfOk result (λ copied. copied < 120) }
+    ensures placed { OnOk result
+        (place_from labels.now 0 (series_in_each draft.new) ≡ Some near.new.place) }
     ensures ordered { OnOk result (IsOrderOf order.new (series_in_each draft.new)) }
     ensures counted { IfOk result
         (λ copied. copied + 119 * owned draft.old ≤ 119 * owned draft.new) }
     ensures owners { OnOk result (AddsNoOwnBut labels.now draft.old draft.new) }
 {
-    if sample.t() < floor {
-        return Err(CommitError::OutOfBounds { at });
-    }
     match place_of(draft, order, labels, near) {
-        Some(place) => add_known(alloc, draft, place, at, sample),
+        Some(place) => add_at(alloc, draft, place, floor, at, sample),
         None => {
+            if sample.t() < floor {
+                return Err(CommitError::OutOfBounds { at });
+            }
             near.place = draft.len();
             match add_new(alloc, draft, order, labels, sample) {
                 Ok(()) => Ok(0),
@@ -341,8 +388,115 @@ fn add(
     }
 }
 
-/// Adds the samples of a batch, up to the first refused one. Gives how many samples were copied.
-pub(crate) fn add_each(
+/// Adds the samples of the series at a place, up to the first refused one; the first has the number
+/// `at` in its batch. Gives how many samples were copied.
+fn add_each_at(
+    alloc: Global,
+    draft: &mut Draft,
+    place: usize,
+    floor: i64,
+    at: usize,
+    samples: &[Sample],
+) -> Result<u64, CommitError>
+    requires inside { place < length draft.old }
+    requires few { at + length samples.now ≤ 4096 }
+    ensures step { (l : Labels) → place_from l 0 (series_in_each draft.old) ≡ Some place
+        → IsOutcome result
+        (head_added_each floor (Ok (series_in_each draft.old)) at (pairs_with l samples.now))
+        (series_in_each draft.new) }
+    ensures few { IfOk result (λ copied. copied ≤ 119 * length samples.now) }
+    ensures labels { OnOk result (sets_of (series_in_each draft.new)
+        ≡ sets_of (series_in_each draft.old)) }
+    ensures counted { IfOk result
+        (λ copied. copied + 119 * owned draft.old ≤ 119 * owned draft.new) }
+    ensures owners { OnOk result ((l : Labels)
+        → place_from l 0 (series_in_each draft.old) ≡ Some place
+        → AddsNoOwnBut l draft.old draft.new) }
+{
+    let mut copied = 0;
+    let mut i = 0;
+    while i < samples.len() {
+        match add_at(alloc, draft, place, floor, at + i, samples[i]) {
+            Ok(more) => copied += more,
+            Err(refusal) => return Err(refusal),
+        }
+        i += 1;
+    }
+    Ok(copied)
+}
+
+/// Adds the samples of a row, up to the first refused one; the first has the number `at` in its
+/// batch. Gives how many samples were copied. It looks once for the label set.
+fn add_row(
+    alloc: Global,
+    draft: &mut Draft,
+    order: &mut Order,
+    near: &mut Near,
+    floor: i64,
+    at: usize,
+    row: &Row,
+) -> Result<u64, CommitError>
+    requires ordered { IsOrderOf order.old (series_in_each draft.old) }
+    requires few { at + length row.now.1 ≤ 4096 }
+    ensures step { IsOutcome result
+        (head_added_each floor (Ok (series_in_each draft.old)) at (pairs_with row.now.0 row.now.1))
+        (series_in_each draft.new) }
+    ensures few { IfOk result (λ copied. copied ≤ 119 * length row.now.1) }
+    ensures ordered { OnOk result (IsOrderOf order.new (series_in_each draft.new)) }
+    ensures counted { IfOk result
+        (λ copied. copied + 119 * owned draft.old ≤ 119 * owned draft.new) }
+    ensures owners { OnOk result ((p : Labels → Bool)
+        → T (list_all (λ x. p x.0) (pairs_with row.now.0 row.now.1))
+        → AllOwn p draft.old → AllOwn p draft.new) }
+{
+    let Some((first, rest)) = row.samples().split_first() else {
+        return Ok(0);
+    };
+    let copied = match add(alloc, draft, order, near, floor, at, row.labels(), *first) {
+        Ok(copied) => copied,
+        Err(refusal) => return Err(refusal),
+    };
+    match add_each_at(alloc, draft, near.place, floor, at + 1, rest) {
+        Ok(more) => Ok(copied + more),
+        Err(refusal) => Err(refusal),
+    }
+}
+
+/// Adds the samples of rows, up to the first refused one. Gives how many samples were copied.
+fn add_rows(
+    alloc: Global,
+    draft: &mut Draft,
+    order: &mut Order,
+    floor: i64,
+    rows: &[Row],
+) -> Result<u64, CommitError>
+    requires ordered { IsOrderOf order.old (series_in_each draft.old) }
+    requires few { length (batch_of_rows rows.now) ≤ 4096 }
+    ensures step { IsOutcome result
+        (head_added_each floor (Ok (series_in_each draft.old)) 0 (batch_of_rows rows.now))
+        (series_in_each draft.new) }
+    ensures ordered { OnOk result (IsOrderOf order.new (series_in_each draft.new)) }
+    ensures counted { IfOk result
+        (λ copied. copied + 119 * owned draft.old ≤ 119 * owned draft.new) }
+    ensures owners { OnOk result ((p : Labels → Bool)
+        → T (list_all (λ x. p x.0) (batch_of_rows rows.now))
+        → AllOwn p draft.old → AllOwn p draft.new) }
+{
+    let mut copied = 0;
+    let mut near = Near::start();
+    let mut at = 0;
+    for row in rows {
+        match add_row(alloc, draft, order, &mut near, floor, at, row) {
+            Ok(more) => copied += more,
+            Err(refusal) => return Err(refusal),
+        }
+        at += row.samples().len();
+    }
+    Ok(copied)
+}
+
+/// Adds the samples of pairs, up to the first refused one. Gives how many samples were copied.
+fn add_pairs(
     alloc: Global,
     draft: &mut Draft,
     order: &mut Order,
@@ -361,14 +515,7 @@ pub(crate) fn add_each(
         → T (list_all (λ x. p x.0) batch.now) → AllOwn p draft.old → AllOwn p draft.new) }
 {
     let mut copied = 0;
-    let mut near = Near {
-        place: 0,
-        spot: Spot {
-            group: 0,
-            page: 0,
-            at: 0,
-        },
-    };
+    let mut near = Near::start();
     let mut i = 0;
     while i < batch.len() {
         let item = &batch[i];
@@ -379,4 +526,37 @@ pub(crate) fn add_each(
         i += 1;
     }
     Ok(copied)
+}
+
+/// The samples of a batch, as they were handed over.
+#[derive(Clone, Copy, Drop)]
+pub(crate) enum Samples<'a> {
+    Pairs(&'a [(LabelSet, Sample)]),
+    Rows(&'a [Row]),
+}
+
+/// Adds the samples of a batch, up to the first refused one. Gives how many samples were copied.
+pub(crate) fn add_each(
+    alloc: Global,
+    draft: &mut Draft,
+    order: &mut Order,
+    floor: i64,
+    batch: Samples<'_>,
+) -> Result<u64, CommitError>
+    requires ordered { IsOrderOf order.old (series_in_each draft.old) }
+    requires few { length (batch_in batch) ≤ 4096 }
+    ensures step { IsOutcome result
+        (head_added_each floor (Ok (series_in_each draft.old)) 0 (batch_in batch.entry))
+        (series_in_each draft.new) }
+    ensures ordered { OnOk result (IsOrderOf order.new (series_in_each draft.new)) }
+    ensures counted { IfOk result
+        (λ copied. copied + 119 * owned draft.old ≤ 119 * owned draft.new) }
+    ensures owners { OnOk result ((p : Labels → Bool)
+        → T (list_all (λ x. p x.0) (batch_in batch.entry))
+        → AllOwn p draft.old → AllOwn p draft.new) }
+{
+    match batch {
+        Samples::Pairs(pairs) => add_pairs(alloc, draft, order, floor, pairs),
+        Samples::Rows(rows) => add_rows(alloc, draft, order, floor, rows),
+    }
 }

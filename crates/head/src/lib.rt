@@ -5,8 +5,9 @@
 //! the newest sample of each label set in order of creation, a floor and a number of blocks.
 //! [`apply`] takes a snapshot one [`Event`] further: it is Ok exactly where the step of that event
 //! accepts it on the snapshot's world, and the world of what it gives is the world after; else it
-//! answers the step's refusal ([`CommitError`]). A head ([`HeadView`]) is a part: its references
-//! are 1 to n in order of creation. A store is opened with at most 63 blocks, and its floor is then
+//! answers the step's refusal ([`CommitError`]). [`apply_rows`] does so for a batch whose samples
+//! stand in rows ([`RowBatch`]). A head ([`HeadView`]) is a part: its references are 1 to n in
+//! order of creation. A store is opened with at most 63 blocks, and its floor is then
 //! at the greatest end of their ranges, so that no block has a sample at or above it.
 //!
 //! A cut makes the head's samples before its time a block of their own, the last one, whose range
@@ -50,6 +51,7 @@ mod live;
 mod order;
 mod reference_list;
 mod references;
+mod row_batch;
 mod selection;
 mod series;
 mod snapshot;
@@ -63,7 +65,8 @@ pub use head::HeadView;
 pub use list::HeadList;
 pub use live::LiveList;
 pub use postings::PartName;
-pub use snapshot::{Snapshot, apply};
+pub use row_batch::RowBatch;
+pub use snapshot::{Snapshot, apply, apply_rows};
 pub use span::Span;
 
 /// The greatest number of series in a head.

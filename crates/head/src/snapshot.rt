@@ -5,18 +5,20 @@ ghost use Rattle.std.specs.Prelude.{IfNone, length, slice_get};
 ghost use Rattle.labels.specs.Contents.{is_time};
 ghost use Rattle.head.specs.Heads.{world_of, IsSoundSnapshot};
 ghost use Rattle.head.specs.Batches.{is_batch, set_count, CopiesFew};
+ghost use Rattle.head.specs.BatchRows.{batch_of_rows, batch_in};
 ghost use Rattle.head.specs.Kept.{KeepsBlocks};
-ghost use Rattle.head.specs.Worlds.{stepped, committed};
+ghost use Rattle.head.specs.Worlds.{stepped, committed, batch};
 ghost use Rattle.head.specs.Outcomes.{IsStepRefusal};
 
 use crate::cut::cut_at;
 use crate::deletion::snapshot_without;
-use crate::draft::{Draft, add_each};
+use crate::draft::{Draft, Samples, add_each};
 use crate::error::CommitError;
 use crate::event::{Event, Kind};
 use crate::head::HeadView;
+use crate::row_batch::RowBatch;
 use block::Block;
-use labels::{LabelSet, MIN_TIME, Sample};
+use labels::MIN_TIME;
 use postings::PartName;
 use std::alloc::{AllocError, Global};
 use std::marker::Model;
@@ -123,17 +125,14 @@ impl Snapshot {
     }
 }
 
-fn snapshot_with(
-    alloc: Global,
-    at: &Snapshot,
-    batch: &[(LabelSet, Sample)],
-) -> Result<Snapshot, CommitError>
-    requires { IsTrue (is_batch batch.now) }
-    ensures ok { IfOk result (λ s. committed (world_of at.now) batch.now ≡ Ok (world_of s)) }
+fn snapshot_with(alloc: Global, at: &Snapshot, batch: Samples<'_>) -> Result<Snapshot, CommitError>
+    requires { IsTrue (is_batch (batch_in batch)) }
+    ensures ok { IfOk result (λ s.
+        committed (world_of at.now) (batch_in batch.entry) ≡ Ok (world_of s)) }
     ensures refused { IfErr result (λ e.
-        IsStepRefusal e (committed (world_of at.now) batch.now)) }
+        IsStepRefusal e (committed (world_of at.now) (batch_in batch.entry))) }
     ensures kept { IfOk result (λ s. s.blocks ≡ at.now.blocks) }
-    ensures copied { IfOk result (λ s. s.copied ≤ 119 * set_count batch.now) }
+    ensures copied { IfOk result (λ s. s.copied ≤ 119 * set_count (batch_in batch.entry)) }
 {
     let last = at.head.series().try_clone()?;
     let blocks = Arc::try_clone(&at.blocks)?;
@@ -160,10 +159,24 @@ pub fn apply(alloc: Global, at: &Snapshot, event: &Event) -> Result<Snapshot, Co
     ensures copied { IfOk result (λ s. CopiesFew event.now s.copied) }
 {
     match event.kind() {
-        Kind::Batch(samples) => snapshot_with(alloc, at, samples.as_slice()),
+        Kind::Batch(samples) => snapshot_with(alloc, at, Samples::Pairs(samples.as_slice())),
         Kind::Deletion(matchers, from, to) => {
             Ok(snapshot_without(alloc, at, matchers.as_slice(), *from, *to)?)
         }
         Kind::Cut(time) => cut_at(alloc, at, *time),
     }
+}
+
+/// The snapshot after a batch of rows: what [`apply`] gives for the batch of their samples in their
+/// order, each with its label set. It looks for each label set once a row.
+pub fn apply_rows(alloc: Global, at: &Snapshot, rows: &RowBatch) -> Result<Snapshot, CommitError>
+    ensures ok { IfOk result (λ s.
+        stepped (world_of at.now) (batch (batch_of_rows rows.now)) ≡ Ok (world_of s)) }
+    ensures refused { IfErr result (λ e.
+        IsStepRefusal e (stepped (world_of at.now) (batch (batch_of_rows rows.now)))) }
+    ensures kept { IfOk result (λ s.
+        KeepsBlocks (batch (batch_of_rows rows.now)) at.now s.blocks) }
+    ensures copied { IfOk result (λ s. CopiesFew (batch (batch_of_rows rows.now)) s.copied) }
+{
+    snapshot_with(alloc, at, Samples::Rows(rows.rows()))
 }

@@ -191,7 +191,7 @@ pub body_fit : (asked : Path) (body : List ℕ) (request : Request) → BodyMean
     (Ok request) → IsFit request
 body_fit to_path.Select body request p = absurd (cc)
 body_fit to_path.Write body (Select asked) p = absurd p
-body_fit to_path.Write body (Write batch) p = rw p.2 (p.3, written_timed body p.0 p.1)
+body_fit to_path.Write body (Write rows) p = (p.1, written_timed body rows.items p.0)
 body_fit to_path.Write body (Delete matchers from to) p = absurd p
 body_fit to_path.Write body (Cut t) p = absurd p
 body_fit to_path.Delete body (Select asked) p = absurd p

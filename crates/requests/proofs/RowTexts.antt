@@ -1,11 +1,10 @@
 -- What the parts of written rows give the whole.
 use Rattle.std.proofs.Common.{◌≡◌, ℕ, ℤ, ◌+◌, ◌<◌, add-one, List, [], ◌∷◌, ◌++◌, length, map, drop}
-use Rattle.std.proofs.Common.{drop-cons, get_or, true, Option, None, Some, option_map, refl, sym}
+use Rattle.std.proofs.Common.{suc, drop-cons, get_or, true, Option, None, Some, option_map, refl, sym}
 use Rattle.std.proofs.Common.{ap, ◌∙◌, append_assoc, ne_eqb, String, Global, string_bytes}
 use Rattle.std.specs.Prelude.{option_and_then}
-use Rattle.std.proofs.lemmas.List.{map-append}
+use Rattle.std.proofs.lemmas.List.{map-append, length-append, length-map}
 use Rattle.labels.specs.Pairs.{pairs_of}
-use Rattle.labels.specs.Labels.{Labels}
 use Rattle.labels.specs.Rows.{Row}
 use Rattle.serde_json.specs.Data.{Data, Items, Members}
 use Rattle.serde_json.specs.Find.{as_array, as_str}
@@ -63,19 +62,15 @@ rows_turn values i value written rows next one row lt at each so_far is made e =
           ∙ ap (option_map (λ rs. written ++ rs)) here ∙ after_one written one _,
     )
 
--- one more row of the batch
-pub batch_turn : (rows : List Row) (i : ℕ) (row : Row) (labels : Labels) (samples : List (ℤ × ℤ))
-    (done next : List (Labels × (ℤ × ℤ)))
-    → i < length rows → row ≡ get_or rows i row → labels ≡ row.0 → samples ≡ row.1
-    → batch_of rows ≡ done ++ batch_of (drop i rows) → next ≡ done ++ map
-    (λ (s : ℤ × ℤ). (labels, s)) samples
-    → batch_of rows ≡ next ++ batch_of (drop (i + 1) rows)
-batch_turn rows i row labels samples done next lt at l s so_far e =
-    let here : batch_of (drop i rows) ≡ map (λ (s : ℤ × ℤ). (labels, s)) samples
-    ++ batch_of (drop (i + 1) rows) =
-    rw (drop-cons rows i row lt, add-one, ← at, l, s) in
-    so_far ∙ ap (λ b. done ++ b) here ∙ sym (append_assoc done _ _) ∙ ap
-    (λ b. b ++ batch_of (drop (i + 1) rows)) (sym e)
+-- how many samples are left before a row, and after it
+pub left_turn : (rows : List Row) (i : ℕ) (row : Row) (samples : List (ℤ × ℤ))
+    → i < length rows → row ≡ get_or rows i row → samples ≡ row.1
+    → length (batch_of (drop i rows)) ≡ length samples + length (batch_of (drop (i + 1) rows))
+left_turn rows i row samples lt at s =
+    rw (drop-cons rows i row lt, add-one, ← at, s)
+    (length-append (map (λ (s : ℤ × ℤ). (row.0, s)) row.1) (batch_of (drop (suc i) rows))
+    ∙ ap (λ n. n + length (batch_of (drop (suc i) rows)))
+    (length-map row.1 (λ (s : ℤ × ℤ). (row.0, s))))
 
 pairs_head : (o : Option (List ℕ)) (name : List ℕ) (pair : List ℕ × List ℕ)
     (left : Option (List (List ℕ × List ℕ)))

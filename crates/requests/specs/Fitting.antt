@@ -4,6 +4,7 @@ use Rattle.std.specs.List.{list_all}
 use Rattle.labels.specs.Contents.{is_time}
 use Rattle.labels.specs.Labels.{Labels}
 use Rattle.matchers.specs.Queries.{is_query_range}
+use Rattle.requests.specs.Rows.{batch_of}
 use Rattle.requests.specs.declared.request.Request.{Request}
 use Rattle.requests.specs.declared.request.Request.TheVariants.{Select, Write, Delete, Cut}
 
@@ -15,6 +16,7 @@ are_timed samples = list_all (λ (s : Labels × (ℤ × ℤ)). is_time s.1.0) sa
 -- a cut is at a time
 abbrev pub IsFit : Request → Type 0
 IsFit (Select query) = ⊤
-IsFit (Write batch) = (length batch.items ≤ 4096) × (are_timed batch.items ≡ true)
+IsFit (Write rows) =
+    (length (batch_of rows.items) ≤ 4096) × (are_timed (batch_of rows.items) ≡ true)
 IsFit (Delete matchers from to) = (is_query_range from to ≡ true) × (length matchers.items ≤ 16)
 IsFit (Cut t) = is_time t ≡ true

@@ -101,6 +101,6 @@ EndsBody come end (Refused _) more = ⊥
 -- one with a body.
 abbrev pub most_taken : Request → ℕ
 most_taken (asks.Select query) = 8192
-most_taken (asks.Write batch) = 1056768
+most_taken (asks.Write rows) = 1056768
 most_taken (asks.Delete matchers from to) = 1056768
 most_taken (asks.Cut t) = 1056768

@@ -19,9 +19,8 @@ AreRowsInBody body (Some rows) = IsWritten body rows
 
 -- rows of at most 4,096 samples ask a batch; another body is a bad one
 abbrev pub WriteMeans : List ℕ → Meaning → Type 0
-WriteMeans body (Ok (Write batch)) =
-    (rows : List Row) × IsWritten body rows × (batch.items ≡ batch_of rows)
-    × (length (batch_of rows) ≤ 4096)
+WriteMeans body (Ok (Write rows)) =
+    IsWritten body rows.items × (length (batch_of rows.items) ≤ 4096)
 WriteMeans body (Ok _) = ⊥
 WriteMeans body (Err BadBody) =
     (rows_in_body body ≡ None)

@@ -4,7 +4,7 @@ ghost use Rattle.std.specs.Prelude.{◌≡◌};
 ghost use Rattle.requests.specs.declared.request.ReadError.TheVariants as read_error;
 
 use crate::{Fault, Refusal};
-use labels::{LabelSet, Sample};
+use labels::Row;
 use matchers::{Matcher, Query};
 use std::alloc::{AllocError, AllocFailed};
 use std::error::Error;
@@ -15,8 +15,8 @@ use std::fmt;
 pub enum Request {
     /// The rows that a query finds.
     Select(Query),
-    /// Samples that are to be committed as one batch, in this order: at most [`MAX_BATCH`].
-    Write(Vec<(LabelSet, Sample)>),
+    /// Rows whose samples are to be committed as one batch, in this order: at most [`MAX_BATCH`].
+    Write(Vec<Row>),
     /// The samples from one time to another, both in the range, of the label sets that satisfy the
     /// matchers, 1 to 16, are to be deleted.
     Delete {

@@ -1,6 +1,7 @@
 //! The body of `/write`: rows of label sets and samples.
 
-ghost use Rattle.std.specs.Prelude.{◌≡◌, ◌++◌, ℤ, map, option_map, string_bytes, IfOk, OnOk};
+ghost use Rattle.std.specs.Prelude.{◌≡◌, ◌<◌, ◌≤◌, length, option_map, string_bytes, IfOk};
+ghost use Rattle.std.specs.Prelude.{MatchBool};
 ghost use Rattle.labels.specs.Pairs.{pairs_of};
 ghost use Rattle.serde_json.specs.View.{view, items_view, members_view};
 ghost use Rattle.requests.specs.Rows.{pair_bytes, text_pair, pairs_in, labels_at, time_item};
@@ -174,41 +175,32 @@ fn rows_in_body(alloc: Global, body: &[u8]) -> Result<Option<Vec<Row>>, AllocErr
     }
 }
 
-fn push_samples(
-    batch: &mut Vec<(LabelSet, Sample)>,
-    labels: &LabelSet,
-    samples: &[Sample],
-) -> Result<(), AllocError>
-    ensures { OnOk result (batch.new.items
-        ≡ batch.old.items ++ map (λ (s : ℤ × ℤ). (labels.now, s)) samples.now) }
+/// Whether the rows have at most [`MAX_BATCH`] samples.
+fn are_few(rows: &[Row]) -> bool
+    ensures { MatchBool result (length (batch_of rows.now) ≤ 4096)
+        (4096 < length (batch_of rows.now)) }
 {
-    for sample in samples {
-        batch.push((labels.try_clone()?, *sample))?;
-    }
-    Ok(())
-}
-
-fn batch_of(alloc: Global, rows: &[Row]) -> Result<Vec<(LabelSet, Sample)>, AllocError>
-    ensures { IfOk result (λ v. v.items ≡ batch_of rows.now) }
-{
-    let mut batch = Vec::new(alloc);
+    let mut room = MAX_BATCH;
     for row in rows {
-        push_samples(&mut batch, row.labels(), row.samples())?;
+        let count = row.samples().len();
+        if count > room {
+            return false;
+        }
+        room -= count;
     }
-    Ok(batch)
+    true
 }
 
-/// The batch that a body asks: `H7` where it is not of the form, or has a label set that is
-/// refused, a time that is none, or more than [`MAX_BATCH`] samples.
+/// The rows of the batch that a body asks: `H7` where it is not of the form, or has a label set
+/// that is refused, a time that is none, or more than [`MAX_BATCH`] samples.
 pub fn write(alloc: Global, body: &[u8]) -> Result<Request, ReadError>
     ensures { Told (WriteMeans body.now) result }
 {
     let Some(rows) = rows_in_body(alloc, body)? else {
         return Err(ReadError::Refused(Refusal::BadBody));
     };
-    let batch = batch_of(alloc, rows.as_slice())?;
-    if batch.len() > MAX_BATCH {
+    if !are_few(rows.as_slice()) {
         return Err(ReadError::Refused(Refusal::BadBody));
     }
-    Ok(Request::Write(batch))
+    Ok(Request::Write(rows))
 }

@@ -81,8 +81,8 @@ after_shown book opening x es e s t shows at step =
     (subst (λ (z : SnapshotParts). Steps z e.event t) at step)
 
 -- what refuses a step of a book refuses it after a list that the seat may meet
-pub refused_met : {A : Type 0} (opening : SnapshotParts) (seat seat_after : SeatView)
-    (event : Event) (old new : Ledger) (r : Result A (Event × CommitError))
+pub refused_met : {A C : Type 0} (opening : SnapshotParts) (seat seat_after : SeatView)
+    (event : Event) (old new : Ledger) (r : Result A (C × CommitError))
     → OnErr r ((new ≡ old) × (seat_after ≡ seat)) → IsAfter opening new.entries new.parts
     → IfErr r (λ e. IsEventRefusal e.1 old.parts event)
     → IfErr r (λ e. ¬ (e.1 ≡ Seat) → ¬ (e.1 ≡ Memory) → IsMetBy seat old.entries)

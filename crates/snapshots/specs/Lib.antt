@@ -5,3 +5,4 @@ pub mod Rules
 pub mod Views
 pub mod Grows
 pub mod Refusals
+pub mod Tries

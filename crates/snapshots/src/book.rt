@@ -11,14 +11,15 @@ ghost use Rattle.snapshots.specs.Grows.{Shows};
 ghost use Rattle.snapshots.specs.Replays.{IsAfter, Steps, IsEventRefusal};
 ghost use Rattle.snapshots.specs.Seats.{FitsSeat, AreCounts, IsMetBy, HasOneMoreEvent};
 
-use crate::entry::Entry;
+use crate::change::Change;
+use crate::entry::Tried;
 use crate::log::LogEnd;
 use crate::naming::Naming;
 use crate::prefix::LogPrefix;
 use crate::press::{Press, publish_entry};
 use crate::receipt::Receipt;
 use crate::seat::Seat;
-use head::{CommitError, Event, Snapshot, apply};
+use head::{CommitError, Snapshot};
 use std::alloc::Global;
 use std::marker::Model;
 use std::sync::{Arc, Wait};
@@ -37,13 +38,17 @@ fn fits<J: Naming>(counts: &Vec<u64>, seat: &Seat<J>) -> bool
     }
 }
 
-/// The snapshot after an event, to be shared.
-fn snapshot_after(alloc: Global, at: &Snapshot, event: &Event) -> Result<Arc<Snapshot>, CommitError>
-    ensures ok { IfOk result (λ s. Steps at.now event.now (arc_value s)) }
+/// The snapshot after a change, to be shared.
+fn snapshot_after<C: Change>(
+    alloc: Global,
+    at: &Snapshot,
+    change: &C,
+) -> Result<Arc<Snapshot>, CommitError>
+    ensures ok { IfOk result (λ s. Steps at.now (C.event change.now) (arc_value s)) }
     ensures refused { IfErr result (λ e.
-        IsStepRefusal e (stepped (world_of at.now) event.now)) }
+        IsStepRefusal e (stepped (world_of at.now) (C.event change.now))) }
 {
-    let snapshot = apply(alloc, at, event)?;
+    let snapshot = change.apply(alloc, at)?;
     match Arc::new(alloc, snapshot) {
         Ok(shared) => Ok(shared),
         Err(_) => Err(CommitError::Memory),
@@ -112,29 +117,30 @@ impl<J: Naming, R: Wait + Drop> Book<J, R> {
         }
     }
 
-    /// Publishes one event under a seat's number: one whole version, seen by each pass that enters
-    /// from then on. `E7` where the number is none of this store's, or the seat's count is not the
-    /// book's for it, or cannot grow; else the refusal of the event's step on the published
-    /// version, whose list begins with that of the seat's last receipt and has as many events of
-    /// the seat's number as the seat counts. A list shorter than that of the seat's last receipt
-    /// would be a refusal of memory, and does not occur. It waits for the readers of the version
-    /// before.
-    pub fn step(
+    /// Publishes one event, in the form that it is held in, under a seat's number: one whole
+    /// version, seen by each pass that enters from then on. `E7` where the number is none of this
+    /// store's, or the seat's count is not the book's for it, or cannot grow; else the refusal of
+    /// the event's step on the published version, whose list begins with that of the seat's last
+    /// receipt and has as many events of the seat's number as the seat counts. A list shorter than
+    /// that of the seat's last receipt would be a refusal of memory, and does not occur. It waits
+    /// for the readers of the version before.
+    pub fn step<C: Change + Drop>(
         &mut self,
         seat: &mut Seat<J>,
-        event: Event,
-    ) -> Result<Receipt<J>, (Event, CommitError)>
+        change: C,
+    ) -> Result<Receipt<J>, (C, CommitError)>
         ensures fits { OnOk result (FitsSeat seat.old self.old.counts) }
         ensures seat { IfErr result (λ e.
             (e.1 ≡ CommitError.Seat) ↔ (¬ FitsSeat seat.old self.old.counts)) }
-        ensures steps { OnOk result (Steps self.old.parts event self.new.parts) }
-        ensures refused { IfErr result (λ e. IsEventRefusal e.1 self.old.parts event) }
+        ensures steps { OnOk result (Steps self.old.parts (C.event change) self.new.parts) }
+        ensures refused { IfErr result (λ e. IsEventRefusal e.1 self.old.parts (C.event change)) }
         ensures met { IfErr result (λ e. ¬ (e.1 ≡ CommitError.Seat) → ¬ (e.1 ≡ CommitError.Memory)
             → IsMetBy seat.old self.old.entries) }
-        ensures returned { IfErr result (λ e. e.0 ≡ event) }
+        ensures returned { IfErr result (λ e. e.0 ≡ change) }
         ensures kept { OnErr result ((self.new ≡ self.old) × (seat.new ≡ seat.old)) }
         ensures list { IfOk result (λ r.
-            r ≡ self.old.entries ++ record { event = event; seat = seat.old.number } ∷ []) }
+            r ≡ self.old.entries
+            ++ record { event = C.event change; seat = seat.old.number } ∷ []) }
         ensures added { IfOk result (λ r. self.new.entries ≡ r) }
         ensures counts { OnOk result (self.new.counts
             ≡ slice_set self.old.counts seat.old.number (seat.old.count + 1)) }
@@ -144,23 +150,23 @@ impl<J: Naming, R: Wait + Drop> Book<J, R> {
     {
         let number = seat.number();
         if !fits(&self.counts, seat) {
-            return Err((event, CommitError::Seat));
+            return Err((change, CommitError::Seat));
         }
         if self.log.len() > ROOM {
-            return Err((event, CommitError::Memory));
+            return Err((change, CommitError::Memory));
         }
         if !self.log.begins_with(seat.log()) {
-            return Err((event, CommitError::Memory));
+            return Err((change, CommitError::Memory));
         }
-        let snapshot = match snapshot_after(self.alloc, self.press.published().snapshot(), &event) {
+        let snapshot = match snapshot_after(
+            self.alloc,
+            self.press.published().snapshot(),
+            &change,
+        ) {
             Ok(snapshot) => snapshot,
-            Err(error) => return Err((event, error)),
+            Err(error) => return Err((change, error)),
         };
         let events = self.events + 1;
-        let entry = Entry {
-            event,
-            seat: number,
-        };
         let published = publish_entry(
             &self.rt,
             &self.end,
@@ -168,10 +174,13 @@ impl<J: Naming, R: Wait + Drop> Book<J, R> {
             &mut self.press,
             snapshot,
             events,
-            &entry,
+            &Tried {
+                change: &change,
+                seat: number,
+            },
         );
         if !published {
-            return Err((entry.event, CommitError::Memory));
+            return Err((change, CommitError::Memory));
         }
         self.counts[number] = seat.count() + 1;
         self.events = events;

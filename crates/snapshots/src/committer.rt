@@ -2,6 +2,7 @@
 
 ghost use Rattle.std.specs.Prelude.{◌≡◌, false, Some, is_none, IsTrue, IfOk, IfErr, OnErr};
 ghost use Rattle.labels.specs.Contents.{is_time};
+ghost use Rattle.head.specs.BatchRows.{batch_of_rows};
 ghost use Rattle.head.specs.Batches.{is_deletion};
 ghost use Rattle.head.specs.Worlds.{batch, deletion, cut, matchers_of};
 ghost use Rattle.snapshots.specs.Replays.{EndsWith, AreAccepted, IsRefusedAfter, IsOfSeatOrMemory};
@@ -9,10 +10,11 @@ ghost use Rattle.snapshots.specs.Seats.{HasOneMoreEvent};
 
 use crate::appender::Appender;
 use crate::book::Book;
+use crate::change::Change;
 use crate::naming::Naming;
 use crate::receipt::Receipt;
 use crate::seat::Seat;
-use head::{CommitError, Event};
+use head::{CommitError, Event, RowBatch};
 use matchers::Matcher;
 use std::sync::{Mutex, Wait};
 
@@ -41,19 +43,20 @@ impl<J: Naming, R: Wait + Drop> Committer<J, R> {
     }
 
     /// Locks the book, and makes one step of it.
-    fn step(
+    fn step<C: Change + Drop>(
         &self,
         rt: &impl Wait,
         seat: &mut Seat<J>,
-        event: Event,
-    ) -> Result<Receipt<J>, (Event, CommitError)>
-        ensures ends { IfOk result (λ r. EndsWith event seat.old.number r) }
+        change: C,
+    ) -> Result<Receipt<J>, (C, CommitError)>
+        ensures ends { IfOk result (λ r. EndsWith (C.event change) seat.old.number r) }
         ensures accepted { IfOk result (λ r. AreAccepted J.opening r) }
         ensures counted { IfOk result (λ r. HasOneMoreEvent seat.old seat.new r) }
-        ensures kept { IfErr result (λ e. (e.0 ≡ event) × (seat.new ≡ seat.old)) }
-        ensures refused { IfErr result (λ e. IsRefusedAfter J.opening seat.old e.1 event) }
+        ensures kept { IfErr result (λ e. (e.0 ≡ change) × (seat.new ≡ seat.old)) }
+        ensures refused { IfErr result (λ e.
+            IsRefusedAfter J.opening seat.old e.1 (C.event change)) }
     {
-        self.book.lock(rt).step(seat, event)
+        self.book.lock(rt).step(seat, change)
     }
 
     /// Publishes a batch under the seat's number, whole or not at all. The list of the receipt
@@ -81,6 +84,26 @@ impl<J: Naming, R: Wait + Drop> Committer<J, R> {
             Ok(receipt) => Ok(receipt),
             Err((event, refusal)) => Err((Appender::of_batch(event), refusal)),
         }
+    }
+
+    /// Publishes a batch of rows under the seat's number, whole or not at all: as
+    /// [`Committer::commit`] does for the samples of the rows in their order, each with its label
+    /// set. A refusal gives the rows back and leaves the seat.
+    pub fn commit_rows(
+        &self,
+        rt: &impl Wait,
+        seat: &mut Seat<J>,
+        rows: RowBatch,
+    ) -> Result<Receipt<J>, (RowBatch, CommitError)>
+        ensures ends { IfOk result (λ r.
+            EndsWith (batch (batch_of_rows rows)) seat.old.number r) }
+        ensures accepted { IfOk result (λ r. AreAccepted J.opening r) }
+        ensures counted { IfOk result (λ r. HasOneMoreEvent seat.old seat.new r) }
+        ensures kept { IfErr result (λ e. (e.0 ≡ rows) × (seat.new ≡ seat.old)) }
+        ensures refused { IfErr result (λ e.
+            IsRefusedAfter J.opening seat.old e.1 (batch (batch_of_rows rows))) }
+    {
+        self.step(rt, seat, rows)
     }
 
     /// Publishes a deletion under the seat's number: the samples from one time to another, both

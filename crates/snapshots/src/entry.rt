@@ -19,3 +19,10 @@ pub enum Mark {
     /// The event that was tried last is published.
     Done,
 }
+
+/// A change that is to be published, with the number of the seat: clauses see it as an entry.
+#[derive(Drop)]
+pub struct Tried<'a, C> {
+    pub change: &'a C,
+    pub seat: usize,
+}

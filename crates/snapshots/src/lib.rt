@@ -2,9 +2,9 @@
 //! at a time.
 //!
 //! [`Store::open`] gives one [`Committer`], and as many [`Pass`]es and [`Seat`]s as are asked
-//! for. A committer publishes a batch, which an [`Appender`] gathers, a deletion or a cut under
-//! the number of a seat: the published version changes in one step, from one snapshot to the
-//! next. It answers a [`Receipt`], which knows all events up to that one. A pass takes the
+//! for. A committer publishes a batch, which an [`Appender`] gathers or a [`RowBatch`] holds, a
+//! deletion or a cut under the number of a seat: the published version changes in one step, from
+//! one snapshot to the next. It answers a [`Receipt`], which knows all events up to that one. A pass takes the
 //! snapshot that is published, without a lock; it begins with all that the pass had seen, and
 //! with the list of each receipt that the pass learnt before. So what one thread committed is
 //! seen by each thread that its receipt was passed on to.
@@ -35,6 +35,7 @@
 
 mod appender;
 mod book;
+mod change;
 mod committer;
 mod entry;
 mod error;
@@ -50,9 +51,11 @@ mod version;
 
 pub use appender::Appender;
 pub use book::Book;
+pub use change::Change;
 pub use committer::Committer;
 pub use entry::{Entry, Mark};
 pub use error::{OpenError, SnapshotError};
+pub use head::RowBatch;
 pub use naming::Naming;
 pub use pass::Pass;
 pub use receipt::Receipt;

@@ -3,7 +3,8 @@
 ghost use Rattle.std.specs.Prelude.{◌≡◌};
 ghost use Rattle.snapshots.specs.Rules.{end_of};
 
-use crate::entry::{Entry, Mark};
+use crate::change::Change;
+use crate::entry::{Mark, Tried};
 use crate::naming::Naming;
 use logbook::{Gain, Plain, Play, Rule, Word};
 use std::marker::PhantomData;
@@ -50,11 +51,12 @@ impl Play<Mark, u64> for Add {
 /// What a step asks for: the try of an entry.
 pub struct Tries;
 
-impl Plain<Entry, Mark, u64> for Tries {
+impl<'a, C: Change> Plain<Tried<'a, C>, Mark, u64> for Tries {
     ghost use Rattle.std.specs.Prelude.{None};
+    ghost use Rattle.snapshots.specs.Tries.{entry_of};
     ghost use Rattle.snapshots.specs.declared.entry.Mark.TheVariants.{Try};
 
-    ghost ask = { λ e. Try e };
+    ghost ask = { λ t. Try (entry_of C.event t) };
 
     ghost state = { λ e. None };
 }
@@ -62,7 +64,7 @@ impl Plain<Entry, Mark, u64> for Tries {
 /// What a step asks for: that the last try is done.
 pub struct Ends;
 
-impl Plain<Entry, Mark, u64> for Ends {
+impl<'a, C: Change> Plain<Tried<'a, C>, Mark, u64> for Ends {
     ghost use Rattle.std.specs.Prelude.{None};
     ghost use Rattle.snapshots.specs.declared.entry.Mark.TheVariants.{Done};
 

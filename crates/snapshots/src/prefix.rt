@@ -5,7 +5,7 @@ ghost use Rattle.std.specs.Prelude.{MatchBool, IsTrue, ◌↔◌, None};
 ghost use mathlib.Core.List.{IsPrefix};
 ghost use Rattle.snapshots.specs.Marks.{accepted, list_of};
 
-use crate::entry::{Entry, Mark};
+use crate::entry::Mark;
 use crate::log::{Add, Law, LogEnd, Nothing};
 use crate::naming::Naming;
 use logbook::{Offer, Plain, Seen};
@@ -109,14 +109,14 @@ impl<J: Naming> LogPrefix<J> {
     }
 
     /// Adds a mark to all that was seen, or changes nothing.
-    fn adds<M: Plain<Entry, Mark, u64>>(&mut self, end: &LogEnd<J>, entry: &Entry) -> bool
+    fn adds<X, M: Plain<X, Mark, u64>>(&mut self, end: &LogEnd<J>, about: &X) -> bool
         requires room { length self.old < 2 ^ 62 }
-        requires plain { M.state entry.now ≡ None }
-        ensures { MatchBool result (self.new ≡ self.old ++ M.ask entry.now ∷ [])
+        requires plain { M.state about.now ≡ None }
+        ensures { MatchBool result (self.new ≡ self.old ++ M.ask about.now ∷ [])
             (self.new ≡ self.old) }
     {
         let mut seen = self.seen.again();
-        let mut offer: Offer<Mark, u64, Law, Nothing> = seen.plain::<Nothing, Entry, M>(entry);
+        let mut offer: Offer<Mark, u64, Law, Nothing> = seen.plain::<Nothing, X, M>(about);
         let mut pen = seen.no_pen();
         let marks = self.marks;
         let found = end
@@ -134,18 +134,13 @@ impl<J: Naming> LogPrefix<J> {
     }
 
     /// Adds a mark to all that was seen. It tries until the log is not longer than that.
-    pub fn add<M: Plain<Entry, Mark, u64>, R: Wait>(
-        &mut self,
-        rt: &R,
-        end: &LogEnd<J>,
-        entry: &Entry,
-    )
+    pub fn add<X, M: Plain<X, Mark, u64>, R: Wait>(&mut self, rt: &R, end: &LogEnd<J>, about: &X)
         requires room { length self.old < 2 ^ 62 }
-        requires plain { M.state entry.now ≡ None }
-        ensures { self.new ≡ self.old ++ M.ask entry.now ∷ [] }
+        requires plain { M.state about.now ≡ None }
+        ensures { self.new ≡ self.old ++ M.ask about.now ∷ [] }
     {
         for _ in rt.forever() {
-            if self.adds::<M>(end, entry) {
+            if self.adds::<X, M>(end, about) {
                 return;
             }
         }

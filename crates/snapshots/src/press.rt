@@ -5,8 +5,10 @@ ghost use Rattle.std.specs.Arc.{arc_value};
 ghost use Rattle.snapshots.specs.Marks.{accepted, list_of};
 ghost use Rattle.snapshots.specs.Grows.{Shows, MayFollow};
 ghost use Rattle.snapshots.specs.Replays.{IsAfter};
+ghost use Rattle.snapshots.specs.Tries.{entry_of};
 
-use crate::entry::Entry;
+use crate::change::Change;
+use crate::entry::{Entry, Tried};
 use crate::log::{Ends, LogEnd, Tries};
 use crate::naming::Naming;
 use crate::prefix::LogPrefix;
@@ -36,27 +38,29 @@ fn publish<J: Naming, R: Wait>(rt: &R, mut press: Press<J>, next: Version) -> (P
     (press, true)
 }
 
-/// Publishes the snapshot after one more entry, and marks that in the log.
-pub fn publish_entry<J: Naming, R: Wait>(
+/// Publishes the snapshot after one more event, and marks that in the log.
+pub fn publish_entry<J: Naming, R: Wait, C: Change>(
     rt: &R,
     end: &LogEnd<J>,
     log: &mut LogPrefix<J>,
     press: &mut Press<J>,
     snapshot: Arc<Snapshot>,
     events: u64,
-    entry: &Entry,
+    tried: &Tried<'_, C>,
 ) -> bool
     requires room { length log.old < 2 ^ 61 + 1 }
     requires shown { Shows J.book J.opening press.old.desk.shown.value (accepted log.old) }
-    requires next { IsAfter J.opening (accepted log.old ++ entry.now ∷ []) (arc_value snapshot) }
+    requires next { IsAfter J.opening (accepted log.old ++ entry_of C.event tried.now ∷ [])
+        (arc_value snapshot) }
     requires events { events ≡ length (accepted log.old) + 1 }
-    ensures list { MatchBool result (accepted log.new ≡ accepted log.old ++ entry.now ∷ [])
+    ensures list { MatchBool result
+        (accepted log.new ≡ accepted log.old ++ entry_of C.event tried.now ∷ [])
         (accepted log.new ≡ accepted log.old) }
     ensures shown { Shows J.book J.opening press.new.desk.shown.value (accepted log.new) }
     ensures parts { MatchBool result (press.new.desk.shown.value.parts ≡ arc_value snapshot)
         (press.new.desk.shown.value ≡ press.old.desk.shown.value) }
 {
-    log.add::<Tries, R>(rt, end, entry);
+    log.add::<Tried<'_, C>, Tries, R>(rt, end, tried);
     let next = Version::of(snapshot, events, log);
     let published = replace_with(
         press,
@@ -68,7 +72,7 @@ pub fn publish_entry<J: Naming, R: Wait>(
         { publish(rt, press, next) },
     );
     if published {
-        log.add::<Ends, R>(rt, end, entry);
+        log.add::<Tried<'_, C>, Ends, R>(rt, end, tried);
     }
     published
 }

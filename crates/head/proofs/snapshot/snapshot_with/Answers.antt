@@ -14,6 +14,7 @@ use Rattle.head.specs.Heads.{HeadSeries, SnapshotParts, IsSoundSnapshot, head_pa
 use Rattle.head.specs.Taking.{head_added_each}
 use Rattle.head.specs.Worlds.{committed}
 use Rattle.head.specs.Batches.{has_set, set_count}
+use Rattle.head.specs.BatchRows.{batch_in}
 use Rattle.head.proofs.Counting.{owned_within, has_each, copied_within}
 use Rattle.head.proofs.SlotLaws.{owned-shared, AllOwn-shared, series_shared}
 use Rattle.head.proofs.Applies.{accepted, refused}
@@ -39,9 +40,9 @@ returns-in_err-copied-clause-refused c =
     let head_is : series_in_each c.new-draft.result ≡ s.head = ap (λ (ss : List Slot). series_in_each ss) c.new-draft.ensures ∙ series_shared c.in_ok-last.last ∙ last_is in
     let p = err_from_is_err_and c.from_residual-in_err-copied.result c.from_residual-in_err-copied.ensures.1 in
     rw (p.1, p.2)
-    (subst (λ (v : SnapshotParts). IsStepRefusal c.in_err-copied.field-0.0 (committed (world_of v) c.args.batch.now)) c.at.view_is
-    (refused s c.args.batch.now c.in_err-copied.field-0.0 c.at.invariant
-    (subst (IsStepRefusal c.in_err-copied.field-0.0) (λ i. head_added_each (floor_is i) (Ok (head_is i)) 0 c.args.batch.now) c.in_err-copied.ensures.step)))
+    (subst (λ (v : SnapshotParts). IsStepRefusal c.in_err-copied.field-0.0 (committed (world_of v) (batch_in c.args.batch))) c.at.view_is
+    (refused s (batch_in c.args.batch) c.in_err-copied.field-0.0 c.at.invariant
+    (subst (IsStepRefusal c.in_err-copied.field-0.0) (λ i. head_added_each (floor_is i) (Ok (head_is i)) 0 (batch_in c.args.batch)) c.in_err-copied.ensures.step)))
 
 pub index_of-requires : goal.index_of-requires
 index_of-requires c =
@@ -49,13 +50,13 @@ index_of-requires c =
     let floor_is : to_z w64 (of_z w64 c.at.inside.floor) ≡ c.at.inside.floor = search rules in
     let last_is : c.in_ok-last.last ≡ s.head = c.in_ok-last.ensures ∙ c.series.ensures in
     let head_is : series_in_each c.new-draft.result ≡ s.head = ap (λ (ss : List Slot). series_in_each ss) c.new-draft.ensures ∙ series_shared c.in_ok-last.last ∙ last_is in
-    let is : head_added_each s.floor (Ok s.head) 0 c.args.batch.now ≡ Ok (series_in_each c.add_each.new.draft) =
-    (λ i. head_added_each (sym floor_is i) (Ok (sym head_is i)) 0 c.args.batch.now) ∙ c.in_ok-copied.ensures.step in
-    let after : length (series_in_each c.add_each.new.draft) ≤ max_series = few_after_batch s.floor s.head 0 c.args.batch.now (series_in_each c.add_each.new.draft) c.at.inside.head.few is in
+    let is : head_added_each s.floor (Ok s.head) 0 (batch_in c.args.batch) ≡ Ok (series_in_each c.add_each.new.draft) =
+    (λ i. head_added_each (sym floor_is i) (Ok (sym head_is i)) 0 (batch_in c.args.batch)) ∙ c.in_ok-copied.ensures.step in
+    let after : length (series_in_each c.add_each.new.draft) ≤ max_series = few_after_batch s.floor s.head 0 (batch_in c.args.batch) (series_in_each c.add_each.new.draft) c.at.inside.head.few is in
     let made : c.in_ok-series.series ≡ series_in_each c.add_each.new.draft = c.in_ok-series.ensures.series in
     record {
       few = subst (λ (hs : List HeadSeries). length hs ≤ max_series) (sym made) after;
-      extended = subst (λ (hs : List HeadSeries). Extends (sets_of s.head) (sets_of hs)) (sym made) (batch_extends s.floor s.head c.args.batch.now (series_in_each c.add_each.new.draft) is);
+      extended = subst (λ (hs : List HeadSeries). Extends (sets_of s.head) (sets_of hs)) (sym made) (batch_extends s.floor s.head (batch_in c.args.batch) (series_in_each c.add_each.new.draft) is);
     }
 
 pub of-requires : goal.of-requires
@@ -64,16 +65,16 @@ of-requires c =
     let floor_is : to_z w64 (of_z w64 c.at.inside.floor) ≡ c.at.inside.floor = search rules in
     let last_is : c.in_ok-last.last ≡ s.head = c.in_ok-last.ensures ∙ c.series.ensures in
     let head_is : series_in_each c.new-draft.result ≡ s.head = ap (λ (ss : List Slot). series_in_each ss) c.new-draft.ensures ∙ series_shared c.in_ok-last.last ∙ last_is in
-    let is : head_added_each s.floor (Ok s.head) 0 c.args.batch.now ≡ Ok (series_in_each c.add_each.new.draft) =
-    (λ i. head_added_each (sym floor_is i) (Ok (sym head_is i)) 0 c.args.batch.now) ∙ c.in_ok-copied.ensures.step in
-    let after : length (series_in_each c.add_each.new.draft) ≤ max_series = few_after_batch s.floor s.head 0 c.args.batch.now (series_in_each c.add_each.new.draft) c.at.inside.head.few is in
+    let is : head_added_each s.floor (Ok s.head) 0 (batch_in c.args.batch) ≡ Ok (series_in_each c.add_each.new.draft) =
+    (λ i. head_added_each (sym floor_is i) (Ok (sym head_is i)) 0 (batch_in c.args.batch)) ∙ c.in_ok-copied.ensures.step in
+    let after : length (series_in_each c.add_each.new.draft) ≤ max_series = few_after_batch s.floor s.head 0 (batch_in c.args.batch) (series_in_each c.add_each.new.draft) c.at.inside.head.few is in
     let made : c.in_ok-series.series ≡ series_in_each c.add_each.new.draft = c.in_ok-series.ensures.series in
     record {
       few = subst (λ (hs : List HeadSeries). length hs ≤ max_series) (sym made) after;
       ordered = subst (λ (hs : List HeadSeries). IsOrderOf c.add_each.new.order hs) (sym made) c.in_ok-copied.ensures.ordered;
       indexed = c.in_ok-index.ensures;
       is_part = subst (λ (hs : List HeadSeries). IsPart (head_part hs)) (sym made)
-          (IsPart-head_part s.floor (series_in_each c.add_each.new.draft) (accepted s c.args.batch.now (series_in_each c.add_each.new.draft) c.at.invariant is).1.head after);
+          (IsPart-head_part s.floor (series_in_each c.add_each.new.draft) (accepted s (batch_in c.args.batch) (series_in_each c.add_each.new.draft) c.at.invariant is).1.head after);
     }
 
 pub invariant_of-result : goal.invariant_of-result
@@ -82,10 +83,10 @@ invariant_of-result c =
     let floor_is : to_z w64 (of_z w64 c.at.inside.floor) ≡ c.at.inside.floor = search rules in
     let last_is : c.in_ok-last.last ≡ s.head = c.in_ok-last.ensures ∙ c.series.ensures in
     let head_is : series_in_each c.new-draft.result ≡ s.head = ap (λ (ss : List Slot). series_in_each ss) c.new-draft.ensures ∙ series_shared c.in_ok-last.last ∙ last_is in
-    let is : head_added_each s.floor (Ok s.head) 0 c.args.batch.now ≡ Ok (series_in_each c.add_each.new.draft) =
-    (λ i. head_added_each (sym floor_is i) (Ok (sym head_is i)) 0 c.args.batch.now) ∙ c.in_ok-copied.ensures.step in
+    let is : head_added_each s.floor (Ok s.head) 0 (batch_in c.args.batch) ≡ Ok (series_in_each c.add_each.new.draft) =
+    (λ i. head_added_each (sym floor_is i) (Ok (sym head_is i)) 0 (batch_in c.args.batch)) ∙ c.in_ok-copied.ensures.step in
     let made = c.of.ensures.series ∙ c.in_ok-series.ensures.series in
-    let sound = (accepted s c.args.batch.now (series_in_each c.add_each.new.draft) c.at.invariant is).1 in
+    let sound = (accepted s (batch_in c.args.batch) (series_in_each c.add_each.new.draft) c.at.invariant is).1 in
     subst IsSoundSnapshot (λ i. record { blocks = map part_in (sym c.in_ok-blocks.ensures i).items; head = sym made i; floor = sym floor_is i; copied = c.of.result.copied })
     (record { few = sound.few; time = sound.time; ends = sound.ends; head = sound.head; blocks = sound.blocks })
 
@@ -95,11 +96,11 @@ returns-clause-ok c =
     let floor_is : to_z w64 (of_z w64 c.at.inside.floor) ≡ c.at.inside.floor = search rules in
     let last_is : c.in_ok-last.last ≡ s.head = c.in_ok-last.ensures ∙ c.series.ensures in
     let head_is : series_in_each c.new-draft.result ≡ s.head = ap (λ (ss : List Slot). series_in_each ss) c.new-draft.ensures ∙ series_shared c.in_ok-last.last ∙ last_is in
-    let is : head_added_each s.floor (Ok s.head) 0 c.args.batch.now ≡ Ok (series_in_each c.add_each.new.draft) =
-    (λ i. head_added_each (sym floor_is i) (Ok (sym head_is i)) 0 c.args.batch.now) ∙ c.in_ok-copied.ensures.step in
+    let is : head_added_each s.floor (Ok s.head) 0 (batch_in c.args.batch) ≡ Ok (series_in_each c.add_each.new.draft) =
+    (λ i. head_added_each (sym floor_is i) (Ok (sym head_is i)) 0 (batch_in c.args.batch)) ∙ c.in_ok-copied.ensures.step in
     let made = c.of.ensures.series ∙ c.in_ok-series.ensures.series in
-    ap (λ (v : SnapshotParts). committed (world_of v) c.args.batch.now) (sym c.at.view_is)
-    ∙ (accepted s c.args.batch.now (series_in_each c.add_each.new.draft) c.at.invariant is).0
+    ap (λ (v : SnapshotParts). committed (world_of v) (batch_in c.args.batch)) (sym c.at.view_is)
+    ∙ (accepted s (batch_in c.args.batch) (series_in_each c.add_each.new.draft) c.at.invariant is).0
     ∙ ap Ok (same_world (record s { head = series_in_each c.add_each.new.draft }) c.of.result.copied)
     ∙ (λ i. Ok (world_of (record { blocks = map part_in (sym c.in_ok-blocks.ensures i).items; head = sym made i; floor = sym floor_is i; copied = c.of.result.copied })))
 
@@ -109,12 +110,12 @@ returns-clause-copied c =
     let floor_is : to_z w64 (of_z w64 c.at.inside.floor) ≡ c.at.inside.floor = search rules in
     let last_is : c.in_ok-last.last ≡ s.head = c.in_ok-last.ensures ∙ c.series.ensures in
     let head_is : series_in_each c.new-draft.result ≡ s.head = ap (λ (ss : List Slot). series_in_each ss) c.new-draft.ensures ∙ series_shared c.in_ok-last.last ∙ last_is in
-    let is : head_added_each s.floor (Ok s.head) 0 c.args.batch.now ≡ Ok (series_in_each c.add_each.new.draft) =
-    (λ i. head_added_each (sym floor_is i) (Ok (sym head_is i)) 0 c.args.batch.now) ∙ c.in_ok-copied.ensures.step in
-    let sound = (accepted s c.args.batch.now (series_in_each c.add_each.new.draft) c.at.invariant is).1.head in
+    let is : head_added_each s.floor (Ok s.head) 0 (batch_in c.args.batch) ≡ Ok (series_in_each c.add_each.new.draft) =
+    (λ i. head_added_each (sym floor_is i) (Ok (sym head_is i)) 0 (batch_in c.args.batch)) ∙ c.in_ok-copied.ensures.step in
+    let sound = (accepted s (batch_in c.args.batch) (series_in_each c.add_each.new.draft) c.at.invariant is).1.head in
     let fresh = c.new-draft.ensures in
-    let before = subst (λ (ss : List Slot). AllOwn (has_set c.args.batch.now) ss) (sym fresh) (AllOwn-shared (has_set c.args.batch.now) c.in_ok-last.last) in
-    let own = c.in_ok-copied.ensures.owners (has_set c.args.batch.now) (has_each c.args.batch.now) before in
-    let few = owned_within s.floor c.add_each.new.draft c.args.batch.now sound own in
+    let before = subst (λ (ss : List Slot). AllOwn (has_set (batch_in c.args.batch)) ss) (sym fresh) (AllOwn-shared (has_set (batch_in c.args.batch)) c.in_ok-last.last) in
+    let own = c.in_ok-copied.ensures.owners (has_set (batch_in c.args.batch)) (has_each (batch_in c.args.batch)) before in
+    let few = owned_within s.floor c.add_each.new.draft (batch_in c.args.batch) sound own in
     let none = ap (λ (ss : List Slot). owned ss) fresh ∙ owned-shared c.in_ok-last.last in
-    copied_within c.in_ok-copied.copied (owned c.new-draft.result) (owned c.add_each.new.draft) (set_count c.args.batch.now) _ c.in_ok-copied.ensures.counted none few c.of.ensures.copied
+    copied_within c.in_ok-copied.copied (owned c.new-draft.result) (owned c.add_each.new.draft) (set_count (batch_in c.args.batch)) _ c.in_ok-copied.ensures.counted none few c.of.ensures.copied

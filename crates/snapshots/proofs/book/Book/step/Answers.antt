@@ -13,14 +13,14 @@ publish_entry-published-requires-clause-next g c =
     let at = c.snapshot.ensures ∙ ap (λ z. z.parts) c.published.ensures in
     after_shown g.J.Naming.book g.J.Naming.opening c.self.inside.press.desk.shown.value
     (accepted c.self.inside.log)
-    (record { event = c.args.event; seat = c.number-number.result }) _ _ c.self.invariant.2
+    (record { event = g.C.Change.event c.args.change; seat = c.number-number.result }) _ _ c.self.invariant.2
     at c.in-Ok.ensures.ok
 
 pub invariant_of-self-2 : goal.invariant_of-self-2
 invariant_of-self-2 g c =
     let counts = c.self.inside.counts.items in
     let log = accepted c.self.inside.log in
-    let entry : Entry = record { event = c.args.event; seat = c.number-number.result } in
+    let entry : Entry = record { event = g.C.Change.event c.args.change; seat = c.number-number.result } in
     let in_range : c.args.seat.now.number < length counts = c.if-not-fits.ensures.0 in
     let same : slice_index counts c.args.seat.now.number ≡ c.args.seat.now.count =
     c.if-not-fits.ensures.1 in
@@ -40,7 +40,7 @@ pub returns-clause-books : goal.returns-clause-books
 returns-clause-books g c =
     let counts = c.self.inside.counts.items in
     let log = accepted c.self.inside.log in
-    let entry : Entry = record { event = c.args.event; seat = c.number-number.result } in
+    let entry : Entry = record { event = g.C.Change.event c.args.change; seat = c.number-number.result } in
     let in_range : c.args.seat.now.number < length counts = c.if-not-fits.ensures.0 in
     let same : slice_index counts c.args.seat.now.number ≡ c.args.seat.now.count =
     c.if-not-fits.ensures.1 in
@@ -55,7 +55,7 @@ pub returns-clause-counted : goal.returns-clause-counted
 returns-clause-counted g c =
     let counts = c.self.inside.counts.items in
     let log = accepted c.self.inside.log in
-    let entry : Entry = record { event = c.args.event; seat = c.number-number.result } in
+    let entry : Entry = record { event = g.C.Change.event c.args.change; seat = c.number-number.result } in
     let in_range : c.args.seat.now.number < length counts = c.if-not-fits.ensures.0 in
     let same : slice_index counts c.args.seat.now.number ≡ c.args.seat.now.count =
     c.if-not-fits.ensures.1 in

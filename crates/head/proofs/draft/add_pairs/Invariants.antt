@@ -5,7 +5,7 @@ use Rattle.std.proofs.Common.{length, ◌-◌, ◌≡◌, drop, ◌≤◌, ◌*�
 use Rattle.head.specs.Taking.{head_added_each}
 use Rattle.head.specs.Orders.{IsOrderOf}
 use Rattle.head.specs.Slots.{series_in_each, owned, AllOwn}
-use Rattle.head.proofs.draft.add_each.Given as goal
+use Rattle.head.proofs.draft.add_pairs.Given as goal
 
 -- the steps from here on are those of all
 abbrev pub invariant-loop-i : goal.invariant-loop-i

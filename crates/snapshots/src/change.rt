@@ -1,0 +1,41 @@
+//! What a committer publishes.
+
+ghost use Rattle.std.specs.Prelude.{IfOk, IfErr};
+ghost use Rattle.head.specs.Heads.{world_of};
+ghost use Rattle.head.specs.Outcomes.{IsStepRefusal};
+ghost use Rattle.head.specs.Worlds.{Event as HeadEvent, stepped};
+ghost use Rattle.snapshots.specs.Replays.{Steps};
+
+use head::{CommitError, Event, RowBatch, Snapshot, apply, apply_rows};
+use std::alloc::Global;
+
+/// What a committer publishes: an event, or a batch that is held in rows, which is one too.
+pub trait Change {
+    /// The event that it is.
+    ghost event: { Self → HeadEvent };
+
+    /// The snapshot after the event, or the refusal of its step.
+    fn apply(&self, alloc: Global, at: &Snapshot) -> Result<Snapshot, CommitError>
+        ensures ok { IfOk result (λ s. Steps at.now (event self.now) s) }
+        ensures refused { IfErr result (λ e.
+            IsStepRefusal e (stepped (world_of at.now) (event self.now))) };
+}
+
+impl Change for Event {
+    ghost event = { λ event. event };
+
+    fn apply(&self, alloc: Global, at: &Snapshot) -> Result<Snapshot, CommitError> {
+        apply(alloc, at, self)
+    }
+}
+
+impl Change for RowBatch {
+    ghost use Rattle.head.specs.BatchRows.{batch_of_rows};
+    ghost use Rattle.head.specs.Worlds.{batch};
+
+    ghost event = { λ rows. batch (batch_of_rows rows) };
+
+    fn apply(&self, alloc: Global, at: &Snapshot) -> Result<Snapshot, CommitError> {
+        apply_rows(alloc, at, self)
+    }
+}
