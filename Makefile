@@ -64,7 +64,7 @@ serving: ## runs the server and asks it with curl: the session of the README, sl
 	@RT="$(RT)" tests/serving
 
 .PHONY: package pages
-package: ## builds a Debian package of the programs, man pages, documents and the example (needs dpkg-deb and binutils)
+package: ## builds a Debian package of the programs, man pages, completions, documents and the example (needs dpkg-deb, binutils and python3)
 	@RT="$(RT)" packaging/make
 
 pages: ## compares the help texts, the man pages and the documents, and runs the examples of the man pages
