@@ -5,6 +5,7 @@ use Rattle.std.specs.Io.KnownBytes.{Appends}
 use mathlib.Core.List.{IsPrefix}
 use Rattle.serde_json.specs.Written.{compact_text}
 use Rattle.matchers.specs.Views.{QueryView}
+use Rattle.head.specs.BatchRows.{batch_of_rows}
 use Rattle.head.specs.Codes.{commit_code}
 use Rattle.head.specs.Heads.{SnapshotParts}
 use Rattle.head.specs.Worlds.{Event, batch, deletion, cut}
@@ -117,8 +118,8 @@ IsEventReply opening event before after status text =
 abbrev pub IsRequestReply : SnapshotParts → Request → Worker → Worker → Status → List ℕ → Type 0
 IsRequestReply opening (asks.Select query) before after status text =
     IsQueryReply opening query before.known after.known status text × IsIdle before after
-IsRequestReply opening (asks.Write samples) before after status text =
-    IsEventReply opening (batch samples.items) before after status text
+IsRequestReply opening (asks.Write rows) before after status text =
+    IsEventReply opening (batch (batch_of_rows rows.items)) before after status text
 IsRequestReply opening (asks.Delete matchers from to) before after status text =
     IsEventReply opening (deletion matchers.items from to) before after status text
 IsRequestReply opening (asks.Cut t) before after status text =

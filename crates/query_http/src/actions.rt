@@ -3,7 +3,8 @@
 ghost use Rattle.std.specs.Prelude.{◌≡◌, ◌≢◌, IfOk, OnErr, IfErr, IsTrue};
 ghost use mathlib.Core.List.{IsPrefix};
 ghost use Rattle.labels.specs.Contents.{is_time};
-ghost use Rattle.head.specs.Batches.{is_deletion};
+ghost use Rattle.head.specs.BatchRows.{batch_of_rows};
+ghost use Rattle.head.specs.Batches.{is_batch, is_deletion};
 ghost use Rattle.head.specs.Worlds.{batch, deletion, cut};
 ghost use Rattle.head.specs.declared.error.CommitError.TheVariants.{Memory};
 ghost use Rattle.requests.specs.Fitting.{IsFit};
@@ -19,10 +20,10 @@ use crate::buffers::Buffers;
 use crate::reply::Reply;
 use answers::{AskError, AuditedAnswer, ask, body_after};
 use head::CommitError;
-use labels::{LabelSet, Sample};
+use labels::Row;
 use matchers::{Matcher, Query};
 use requests::{Cause, HEAD_ROOM, Refusal, Request, Status, done_reply, place_success_head};
-use snapshots::{Appender, Committer, Naming, Pass, Seat};
+use snapshots::{Committer, Naming, Pass, RowBatch, Seat};
 use std::alloc::{AllocError, Global};
 use std::sync::Wait;
 
@@ -113,40 +114,27 @@ fn conflict_reply(alloc: Global, error: CommitError) -> Result<Reply, AllocError
     refusal_reply(alloc, &Refusal::Refused(cause))
 }
 
-/// An appender that holds the samples.
-fn appender_of(alloc: Global, samples: Vec<(LabelSet, Sample)>) -> Result<Appender, AllocError>
-    ensures { IfOk result (λ appender. appender ≡ samples.items) }
-{
-    let mut appender = Appender::new(alloc);
-    for (labels, sample) in samples {
-        if appender.append(labels, sample).is_err() {
-            return Err(AllocError);
-        }
-    }
-    Ok(appender)
-}
-
-/// Publishes a batch. The reply of success is made before.
+/// Publishes a batch of rows. The reply of success is made before.
 fn write<J: Naming, C: Wait + Drop>(
     rt: &impl Wait,
     alloc: Global,
-    samples: Vec<(LabelSet, Sample)>,
+    rows: Vec<Row>,
     pass: &mut Pass<J>,
     seat: &mut Seat<J>,
     committer: &Committer<J, C>,
 ) -> Result<Reply, AllocError>
-    ensures reply { IfOk result (λ r. IsEventReply J.opening (batch samples.items)
+    requires { IsTrue (is_batch (batch_of_rows rows.items)) }
+    ensures reply { IfOk result (λ r. IsEventReply J.opening (batch (batch_of_rows rows.items))
         (worker pass.old seat.old) (worker pass.new seat.new) r.status (text_of r)) }
     ensures kept { OnErr result ((pass.new ≡ pass.old) × (seat.new ≡ seat.old)) }
 {
-    let appender = appender_of(alloc, samples)?;
     let done = change_reply(alloc)?;
-    match committer.commit(rt, seat, appender) {
+    match committer.commit_rows(rt, seat, RowBatch::new(rows)) {
         Ok(receipt) => {
             pass.learn(&receipt);
             Ok(done)
         }
-        Err((_appender, error)) => conflict_reply(alloc, error),
+        Err((_rows, error)) => conflict_reply(alloc, error),
     }
 }
 
@@ -218,7 +206,7 @@ pub(crate) fn act<J: Naming, C: Wait + Drop>(
 {
     match request {
         Request::Select(query) => select(alloc, buffers, pass, &query),
-        Request::Write(samples) => write(rt, alloc, samples, pass, seat, committer),
+        Request::Write(rows) => write(rt, alloc, rows, pass, seat, committer),
         Request::Delete { matchers, from, to } => {
             delete(rt, alloc, (matchers, from, to), pass, seat, committer)
         }
