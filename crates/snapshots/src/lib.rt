@@ -4,10 +4,10 @@
 //! [`Store::open`] gives one [`Committer`], and as many [`Pass`]es and [`Seat`]s as are asked
 //! for. A committer publishes a batch, which an [`Appender`] gathers or a [`RowBatch`] holds, a
 //! deletion or a cut under the number of a seat: the published version changes in one step, from
-//! one snapshot to the next. It answers a [`Receipt`], which knows all events up to that one. A pass takes the
-//! snapshot that is published, without a lock; it begins with all that the pass had seen, and
-//! with the list of each receipt that the pass learnt before. So what one thread committed is
-//! seen by each thread that its receipt was passed on to.
+//! one snapshot to the next. It answers a [`Receipt`], which knows all events up to that one. A
+//! pass takes the snapshot that is published, without a lock; it begins with all that the pass had
+//! seen, and with the list of each receipt that the pass learnt before. So what one thread
+//! committed is seen by each thread that its receipt was passed on to.
 //!
 //! A version's list of events is not stored: the rule of the published versions says that the
 //! world of its snapshot is the replay of that list from the opening's world. [`Book::step`] is
