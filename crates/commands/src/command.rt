@@ -62,7 +62,12 @@ const TO: &str = "The last time, in milliseconds [default: 2^62 - 1]";
 
 const STATUSES: &str =
     "Exit status: 0 done; 1 refused, with the code on standard error, or by `check` in a line of its
-own; 2 a fault of the words; 3 cannot read or write; 4 no memory";
+own; 2 a fault of the words; 3 cannot read or write; 4 no memory
+
+Example: querier select 'up{job=\"a\"}' data/0001";
+
+/// What `--version` tells behind the name: no build knows its commit.
+const VERSION: &str = "0.1.0 (rattle-kit-13f)";
 
 const CHECKS: &str =
     "A block is a directory with the files meta.json, index, chunks/000001 and tombstones. All four
@@ -74,7 +79,8 @@ For each directory, in the order given, one line is printed:
 
   B2        meta.json is not that of a block: an object with minTime below maxTime and version 1
   I1 to I15 the index, or a series of more than 1,048,576 samples (I15)
-  C1 to C8  the chunks; those that Prometheus itself writes are refused with C5
+  C1 to C8  the chunks; those that Prometheus itself writes are refused with C5, and
+            `blocktool from-prometheus` makes a block of them that is read
   T1 to T5  the tombstones
   B1        a chunk outside the range of the meta
 
@@ -82,12 +88,12 @@ docs/FORMATS.md of the project explains each code.
 
 Exit status: 0 each is a block; 1 a line names a refusal; 2 a fault of the words; 3 a file cannot be
 read (it is named on standard error, and the lines of earlier directories are printed), or the lines
-cannot be written; 4 no memory";
+cannot be written; 4 no memory
+
+Example: querier check data/0001 data/0002";
 
 const EXAMPLE: &str =
-    "Example: querier select --from=-10 --to=100 'up{job=\"a\",zone=~\"x|\"}' data/0001 data/0002
-
-A selector is a metric name, matchers in braces, or both. Matchers are name=\"text\",
+    "A selector is a metric name, matchers in braces, or both. Matchers are name=\"text\",
 name!=\"text\", name=~\"pattern\" and name!~\"pattern\"; an absent label counts as the empty text.
 
 The blocks in the directories are searched in the order given, as \"block 0\", \"block 1\" and so
@@ -107,7 +113,9 @@ Refusals, the first that holds:
   O3       more than 63 directories
 
 Exit status: 0 done; 1 refused, with the code on standard error; 2 a fault of the words; 3 a file
-cannot be read (it is named on standard error), or the answer cannot be written; 4 no memory";
+cannot be read (it is named on standard error), or the answer cannot be written; 4 no memory
+
+Example: querier select --from=-10 --to=100 'up{job=\"a\",zone=~\"x|\"}' data/0001 data/0002";
 
 const PORT: &str = "The port of 127.0.0.1, 0 to 65535; 0 takes one that is free";
 
@@ -117,11 +125,10 @@ const REQUESTS: &str = "After how many connections a worker ends [default: never
 
 const IDLE: &str = "For how many seconds a client may be silent; 0 for ever [default: 30]";
 
-const SERVES: &str = r#"Example: querier serve --port 8080 data/0001 data/0002
-
-The directories are opened and verified as by `querier select`, and over them stands an empty head,
-in memory alone: what is written to it ends with the program. Then `listening P` is printed, P being
-the real port.
+const SERVES: &str =
+    r#"The directories are opened and verified as by `querier select`, and over them stands an empty
+head, in memory alone: what is written to it ends with the program. Then `listening P` is printed, P
+being the real port.
 
   GET /select?selector=up%7Bjob%3D%22a%22%7D&from=0&to=100
                  the audited answer, as `querier select` prints it
@@ -135,7 +142,9 @@ project tells each reply and refusal.
 
 Exit status: 0 each worker has ended; 1 the directories are refused, as by `select`; 2 a fault of
 the words; 3 a file cannot be read, the port cannot be listened on, its line cannot be written, a
-thread cannot be made, or the listener is gone; 4 no memory"#;
+thread cannot be made, or the listener is gone; 4 no memory
+
+Example: querier serve --port 8080 data/0001 data/0002"#;
 
 /// An option `--NAME N` with a signed number of 64 bits.
 fn time<'a>(alloc: Global, name: &'a str, help: &'a str) -> Arg<'a>
@@ -217,9 +226,11 @@ fn blocks<'a>(alloc: Global) -> Arg<'a>
 fn demo<'a>(alloc: Global) -> Command<'a>
     ensures { app_of result ≡ new_app (codes "demo") }
 {
-    Command::new(alloc, "demo").about(
-        "Commits two batches to an empty store and prints the audited answer to up{job=\"a\"}",
-    )
+    Command::new(alloc, "demo")
+        .about(
+            "Commits two batches to an empty store and prints the audited answer to up{job=\"a\"}",
+        )
+        .after_help("Example: querier demo")
 }
 
 fn select<'a>(alloc: Global) -> Result<Command<'a>, AllocError>
@@ -263,7 +274,7 @@ fn querier<'a>(alloc: Global) -> Result<Command<'a>, AllocError>
         .bin_name("querier")?
         .about("Answers selectors over series, with a certificate that shows each answer whole")
         .after_help(STATUSES)
-        .version("0.1.0")
+        .version(VERSION)
         .no_binary_name(true)
         .subcommand_required(true)
         .subcommand(demo(alloc))?
