@@ -8,7 +8,7 @@ use Rattle.clap.specs.declared.parser.matches.ArgMatches.{ArgMatches}
 use Rattle.clap.specs.declared.parser.matches.Found.{Found}
 use Rattle.clap.proofs.WalkLemmas.{one_text-rows}
 use Rattle.commands.specs.Lines.{IsTimeIn, IsDemo, IsSelect, IsCheck, IsSelectionIn, IsLineIn}
-use Rattle.commands.specs.ServingLines.{IsCountIn, IsServe, IsServingIn}
+use Rattle.commands.specs.ServingLines.{IsCountIn, IsFlagIn, IsServe, IsServingIn}
 use Rattle.commands.specs.declared.command.Line.{Line}
 use Rattle.commands.specs.declared.command.Line.TheVariants.{Demo, Select, Check, Serve}
 use Rattle.commands.specs.declared.command.Serving.{Serving}
@@ -72,6 +72,21 @@ count_missing f name other value =
     go : (o : Option Text) → one_text f name ≡ o → IsCountIn o other other
     go None e = refl
     go (Some t) e = inr (λ n. value t e (n.numeral, n.fits), refl)
+
+-- a flag that was read
+pub flag_read : (f : Found) (name : Text) (flag : Bool) → (one_text f name ≡ None → flag ≡ false)
+    → (one_text f name ≡ Some (codes "true") → flag ≡ true)
+    → (one_text f name ≡ Some (codes "false") → flag ≡ false)
+    → IsFlagIn (one_of name (rows_of f)) flag
+flag_read f name flag none set unset =
+    subst (λ (o : Option Text). IsFlagIn o flag) (one_text-rows f name) (go (one_text f name) refl)
+  where
+    go : (o : Option Text) → one_text f name ≡ o → IsFlagIn o flag
+    go None e = none e
+    go (Some t) e = (
+      λ is. set (e ∙ ap (λ (t : Text). Some t) is),
+      λ is. unset (e ∙ ap (λ (t : Text). Some t) is),
+    )
 
 mapped_twice : {A B C : Type 0} (f : B → C) (g : A → B) (o : Option A)
     → option_map f (option_map g o) ≡ option_map (λ a. f (g a)) o

@@ -9,3 +9,4 @@ pub mod FirstUnread
 pub mod Sendings
 pub mod WholeFiles
 pub mod Servings
+pub mod TokenTexts

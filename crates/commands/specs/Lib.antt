@@ -14,3 +14,4 @@ pub mod Running
 pub mod OptionRules
 pub mod ServingLines
 pub mod ServingRuns
+pub mod Guarding

@@ -1,8 +1,10 @@
 -- The command line of `serve`.
 use Rattle.std.specs.Prelude.{◌≡◌, ◌⊎◌, ℕ, ◌<◌, ◌^◌, List, [], Option, None, Some, true, codes}
-use Rattle.std.specs.Prelude.{unwrap_or}
+use Rattle.std.specs.Prelude.{Bool, false, option_map, unwrap_or}
 use Rattle.std.specs.Str.Parse.{IsNumeral, without_leading_plus, digits_value}
-use Rattle.clap.specs.Words.{App, Row, Rule, Text, new_app, new_rule, with_rule, one_of, all_of}
+use Rattle.clap.specs.Words.{App, Row, Rule, Text, new_app, new_rule, with_rule, one_of}
+use Rattle.clap.specs.Words.{first_of, all_of}
+use Rattle.clap.specs.declared.builder.action.ArgAction.TheVariants.{SetTrue}
 use Rattle.clap.specs.declared.builder.value_parser.ValueParser.TheVariants.{Unsigned}
 use Rattle.commands.specs.OptionRules.{directories_rule}
 use Rattle.commands.specs.declared.command.Serving.{Serving}
@@ -24,12 +26,27 @@ port_rule = record (new_rule (codes "port")) {
   parser = Some (Unsigned 0 65535);
 }
 
--- serve --port P [--workers W] [--requests N] [--idle-seconds S] [DIR]...
+-- a flag
+abbrev pub flag_rule : Text → Rule
+flag_rule name = record (new_rule name) { long = Some name; action = Some SetTrue }
+
+-- an option with a text
+abbrev pub text_rule : Text → Rule
+text_rule name = record (new_rule name) { long = Some name; value_names = 1 }
+
+-- the options of `serve` with a number
+abbrev pub counts_app : App
+counts_app =
+    with_rule (with_rule (with_rule (with_rule (new_app (codes "serve")) port_rule)
+    (count_rule (codes "workers") 1 64)) (count_rule (codes "requests") 0 18446744073709551615))
+    (count_rule (codes "idle-seconds") 0 4294967295)
+
+-- serve --port P [--workers W] [--requests N] [--idle-seconds S] [--read-only] [--guard FILE]
+-- [DIR]...
 abbrev pub serve_app : App
 serve_app =
-    with_rule (with_rule (with_rule (with_rule (with_rule (new_app (codes "serve")) port_rule)
-    (count_rule (codes "workers") 1 64)) (count_rule (codes "requests") 0 18446744073709551615))
-    (count_rule (codes "idle-seconds") 0 4294967295)) directories_rule
+    with_rule (with_rule (with_rule counts_app (flag_rule (codes "read-only")))
+    (text_rule (codes "guard"))) directories_rule
 
 -- the text is a number of 64 bits without a sign
 pub record IsCount (text : List ℕ) : Type 0 where
@@ -43,12 +60,20 @@ IsCountIn (Some text) other count =
     (IsCount text × (count ≡ digits_value 10 (without_leading_plus text)))
     ⊎ ((IsCount text → ⊥) × (count ≡ other))
 
+-- whether a flag is set
+abbrev pub IsFlagIn : Option Text → Bool → Type 0
+IsFlagIn None flag = flag ≡ false
+IsFlagIn (Some text) flag =
+    (text ≡ codes "true" → flag ≡ true) × (text ≡ codes "false" → flag ≡ false)
+
 -- how the arguments of `serve` have it served
 pub record IsServingIn (rows : List Row) (serving : Serving) : Type 0 where
   pub port : IsCountIn (one_of (codes "port") rows) 0 serving.port
   pub workers : IsCountIn (one_of (codes "workers") rows) 4 serving.workers
   pub requests : IsCountIn (one_of (codes "requests") rows) 18446744073709551615 serving.requests
   pub idle : IsCountIn (one_of (codes "idle-seconds") rows) 30 serving.idle_seconds
+  pub read_only : IsFlagIn (one_of (codes "read-only") rows) serving.read_only
+  pub guard : option_map (λ file. file.now) serving.guard ≡ first_of (codes "guard") rows
 
 -- `serve` was found, to be served so, with these directories
 pub record IsServe (found : Option (Text × List Row)) (serving : Serving)

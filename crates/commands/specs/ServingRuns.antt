@@ -4,6 +4,7 @@ use Rattle.std.specs.Io.KnownBytes.{Appends}
 use Rattle.head.specs.Heads.{BlockPart}
 use Rattle.snapshots.specs.Seats.{IsRoom}
 use Rattle.snapshots.specs.declared.error.OpenError.TheVariants as store
+use Rattle.commands.specs.Guarding.{IsGuardFault}
 use Rattle.commands.specs.Opening.{AreBlocksAt, IsOpeningFault}
 use Rattle.commands.specs.Reading.{Host}
 use Rattle.commands.specs.Selecting.{KeepsAt}
@@ -58,11 +59,13 @@ abbrev pub IsServingFault : Serving → Option (List ℕ) → Option (List ℕ) 
 IsServingFault serving old new fault =
     (IsStoreFault serving fault × KeepsAt fault old new) ⊎ (TellsPort old new × IsLateFault fault)
 
--- Why a line of `serve` ends before each worker has: by the directories; or, where they hold
--- blocks, by the store, the port or the writer, or once the port was told by the listener, a thread
--- or want of memory. Before that the writer holds what it held, unless it failed.
+-- Why a line of `serve` ends before each worker has: by the file of its token; by the directories;
+-- or, where they hold blocks, by the store, the port or the writer, or once the port was told by
+-- the listener, a thread or want of memory. Before that the writer holds what it held, unless it failed.
 pub data IsServeFault (reads : Host) (directories : List (List ℕ)) (serving : Serving)
     (old new : Option (List ℕ)) (fault : Fault) : Type 0 where
+  by_guard : IsGuardFault serving fault → KeepsAt fault old new
+      → IsServeFault reads directories serving old new fault
   by_directories : IsOpeningFault reads directories fault → KeepsAt fault old new
       → IsServeFault reads directories serving old new fault
   by_serving : AreServable reads directories → IsServingFault serving old new fault

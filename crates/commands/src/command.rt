@@ -1,7 +1,9 @@
 //! The command line.
 
-ghost use Rattle.std.specs.Prelude.{◌≡◌, ◌⊎◌, false, [], codes, map, unwrap_or, IfOk, IfErr};
-ghost use Rattle.commands.specs.ServingLines.{count_rule, port_rule, serve_app, IsCountIn};
+ghost use Rattle.std.specs.Prelude.{◌≡◌, ◌⊎◌, false, [], codes, map, option_map, unwrap_or};
+ghost use Rattle.std.specs.Prelude.{IfOk, IfErr};
+ghost use Rattle.commands.specs.ServingLines.{count_rule, port_rule, flag_rule, text_rule};
+ghost use Rattle.commands.specs.ServingLines.{counts_app, serve_app, IsCountIn, IsFlagIn};
 ghost use Rattle.commands.specs.ServingLines.{IsServingIn};
 ghost use Rattle.commands.specs.Running.{IsTaken};
 ghost use Rattle.clap.specs.Values.{kind_of};
@@ -16,7 +18,7 @@ ghost use Rattle.commands.specs.Lines.{texts_of};
 
 use clap::builder::ValueParser;
 use clap::error::ErrorKind;
-use clap::{Arg, ArgMatches, Command, Error, value_parser};
+use clap::{Arg, ArgAction, ArgMatches, Command, Error, value_parser};
 use labels::{MAX_TIME, MIN_TIME};
 use std::alloc::{AllocError, Global};
 
@@ -31,7 +33,7 @@ pub struct Selection<'a> {
 
 /// How a store is served, as it was written.
 #[derive(Clone, Copy, Debug, PartialEq, Eq, Drop)]
-pub struct Serving {
+pub struct Serving<'a> {
     /// The port of 127.0.0.1; 0 for any that is free.
     pub port: u64,
     /// How many workers there are, each a thread.
@@ -40,6 +42,10 @@ pub struct Serving {
     pub requests: u64,
     /// For how many seconds a client may be silent; 0 for ever.
     pub idle_seconds: u64,
+    /// Whether there is no `POST`.
+    pub read_only: bool,
+    /// The file with the token of each `POST`, if requests are guarded.
+    pub guard: Option<&'a str>,
 }
 
 /// What the words ask for.
@@ -52,7 +58,7 @@ pub enum Line<'a> {
     /// What the blocks in these directories are judged to be.
     Check(Vec<&'a str>),
     /// A server over the blocks in these directories.
-    Serve(Serving, Vec<&'a str>),
+    Serve(Serving<'a>, Vec<&'a str>),
 }
 
 const FROM: &str =
@@ -62,7 +68,12 @@ const TO: &str = "The last time, in milliseconds [default: 2^62 - 1]";
 
 const STATUSES: &str =
     "Exit status: 0 done; 1 refused, with the code on standard error, or by `check` in a line of its
-own; 2 a fault of the words; 3 cannot read or write; 4 no memory";
+own; 2 a fault of the words; 3 cannot read or write; 4 no memory
+
+Example: querier select 'up{job=\"a\"}' data/0001";
+
+/// What `--version` tells behind the name: no build knows its commit.
+const VERSION: &str = "0.1.0 (rattle-kit-13f)";
 
 const CHECKS: &str =
     "A block is a directory with the files meta.json, index, chunks/000001 and tombstones. All four
@@ -74,7 +85,8 @@ For each directory, in the order given, one line is printed:
 
   B2        meta.json is not that of a block: an object with minTime below maxTime and version 1
   I1 to I15 the index, or a series of more than 1,048,576 samples (I15)
-  C1 to C8  the chunks; those that Prometheus itself writes are refused with C5
+  C1 to C8  the chunks; those that Prometheus itself writes are refused with C5, and
+            `blocktool from-prometheus` makes a block of them that is read
   T1 to T5  the tombstones
   B1        a chunk outside the range of the meta
 
@@ -82,12 +94,12 @@ docs/FORMATS.md of the project explains each code.
 
 Exit status: 0 each is a block; 1 a line names a refusal; 2 a fault of the words; 3 a file cannot be
 read (it is named on standard error, and the lines of earlier directories are printed), or the lines
-cannot be written; 4 no memory";
+cannot be written; 4 no memory
+
+Example: querier check data/0001 data/0002";
 
 const EXAMPLE: &str =
-    "Example: querier select --from=-10 --to=100 'up{job=\"a\",zone=~\"x|\"}' data/0001 data/0002
-
-A selector is a metric name, matchers in braces, or both. Matchers are name=\"text\",
+    "A selector is a metric name, matchers in braces, or both. Matchers are name=\"text\",
 name!=\"text\", name=~\"pattern\" and name!~\"pattern\"; an absent label counts as the empty text.
 
 The blocks in the directories are searched in the order given, as \"block 0\", \"block 1\" and so
@@ -107,7 +119,9 @@ Refusals, the first that holds:
   O3       more than 63 directories
 
 Exit status: 0 done; 1 refused, with the code on standard error; 2 a fault of the words; 3 a file
-cannot be read (it is named on standard error), or the answer cannot be written; 4 no memory";
+cannot be read (it is named on standard error), or the answer cannot be written; 4 no memory
+
+Example: querier select --from=-10 --to=100 'up{job=\"a\",zone=~\"x|\"}' data/0001 data/0002";
 
 const PORT: &str = "The port of 127.0.0.1, 0 to 65535; 0 takes one that is free";
 
@@ -117,11 +131,14 @@ const REQUESTS: &str = "After how many connections a worker ends [default: never
 
 const IDLE: &str = "For how many seconds a client may be silent; 0 for ever [default: 30]";
 
-const SERVES: &str = r#"Example: querier serve --port 8080 data/0001 data/0002
+const READ_ONLY: &str = "Has no POST: what is served does not change";
 
-The directories are opened and verified as by `querier select`, and over them stands an empty head,
-in memory alone: what is written to it ends with the program. Then `listening P` is printed, P being
-the real port.
+const GUARD: &str = "The file with a token that each POST has to bear, readable by its owner alone";
+
+const SERVES: &str =
+    r#"The directories are opened and verified as by `querier select`, and over them stands an empty
+head, in memory alone: what is written to it ends with the program. Then `listening P` is printed, P
+being the real port.
 
   GET /select?selector=up%7Bjob%3D%22a%22%7D&from=0&to=100
                  the audited answer, as `querier select` prints it
@@ -133,9 +150,16 @@ A connection is served one request, and closed. A worker takes one connection af
 client that gives no byte, or takes none, for the idle seconds is dropped. docs/HTTP.md of the
 project tells each reply and refusal.
 
+A browser on this machine sends what any page tells it to, and each local user reaches the port.
+With --guard, a POST needs the field `Authorization: Bearer TOKEN`, with the token that is all of
+the file, save an end of a line; and each request that has an `Origin`, or whose only `Host` is not
+127.0.0.1, localhost or [::1], is refused with H12. With --read-only, a POST is of no path (H3).
+
 Exit status: 0 each worker has ended; 1 the directories are refused, as by `select`; 2 a fault of
 the words; 3 a file cannot be read, the port cannot be listened on, its line cannot be written, a
-thread cannot be made, or the listener is gone; 4 no memory"#;
+thread cannot be made, or the listener is gone; 4 no memory
+
+Example: querier serve --port 8080 data/0001 data/0002"#;
 
 /// An option `--NAME N` with a signed number of 64 bits.
 fn time<'a>(alloc: Global, name: &'a str, help: &'a str) -> Arg<'a>
@@ -191,6 +215,28 @@ fn port<'a>(alloc: Global) -> Arg<'a>
         .help(PORT)
 }
 
+/// An option `--NAME` without a value.
+fn flag<'a>(alloc: Global, name: &'a str, help: &'a str) -> Arg<'a>
+    ensures rule { rule_of result ≡ flag_rule name.entry.now }
+    ensures global { result.global ≡ false }
+{
+    Arg::new(alloc, name)
+        .long(name)
+        .action(ArgAction::SetTrue)
+        .help(help)
+}
+
+/// An option `--NAME VALUE` with a text.
+fn text<'a>(alloc: Global, name: &'a str, value: &'a str, help: &'a str) -> Arg<'a>
+    ensures rule { rule_of result ≡ text_rule name.entry.now }
+    ensures global { result.global ≡ false }
+{
+    Arg::new(alloc, name)
+        .long(name)
+        .value_name(value)
+        .help(help)
+}
+
 /// The directories of `select` and `serve`, as many as there are.
 fn directories<'a>(alloc: Global) -> Arg<'a>
     ensures rule { rule_of result ≡ directories_rule }
@@ -217,9 +263,11 @@ fn blocks<'a>(alloc: Global) -> Arg<'a>
 fn demo<'a>(alloc: Global) -> Command<'a>
     ensures { app_of result ≡ new_app (codes "demo") }
 {
-    Command::new(alloc, "demo").about(
-        "Commits two batches to an empty store and prints the audited answer to up{job=\"a\"}",
-    )
+    Command::new(alloc, "demo")
+        .about(
+            "Commits two batches to an empty store and prints the audited answer to up{job=\"a\"}",
+        )
+        .after_help("Example: querier demo")
 }
 
 fn select<'a>(alloc: Global) -> Result<Command<'a>, AllocError>
@@ -243,8 +291,9 @@ fn check<'a>(alloc: Global) -> Result<Command<'a>, AllocError>
         .arg(blocks(alloc))
 }
 
-fn serve<'a>(alloc: Global) -> Result<Command<'a>, AllocError>
-    ensures { IfOk result (λ command. app_of command ≡ serve_app) }
+/// The options of `serve` with a number.
+fn counts<'a>(alloc: Global) -> Result<Command<'a>, AllocError>
+    ensures { IfOk result (λ command. app_of command ≡ counts_app) }
 {
     Command::new(alloc, "serve")
         .about("Serves a store over blocks to HTTP clients of this machine")
@@ -252,7 +301,15 @@ fn serve<'a>(alloc: Global) -> Result<Command<'a>, AllocError>
         .arg(port(alloc))?
         .arg(count(alloc, "workers", "W", (1, 64), WORKERS))?
         .arg(count(alloc, "requests", "N", (0, u64::MAX), REQUESTS))?
-        .arg(count(alloc, "idle-seconds", "S", (0, u32::MAX as u64), IDLE))?
+        .arg(count(alloc, "idle-seconds", "S", (0, u32::MAX as u64), IDLE))
+}
+
+fn serve<'a>(alloc: Global) -> Result<Command<'a>, AllocError>
+    ensures { IfOk result (λ command. app_of command ≡ serve_app) }
+{
+    counts(alloc)?
+        .arg(flag(alloc, "read-only", READ_ONLY))?
+        .arg(text(alloc, "guard", "FILE", GUARD))?
         .arg(directories(alloc))
 }
 
@@ -263,7 +320,7 @@ fn querier<'a>(alloc: Global) -> Result<Command<'a>, AllocError>
         .bin_name("querier")?
         .about("Answers selectors over series, with a certificate that shows each answer whole")
         .after_help(STATUSES)
-        .version("0.1.0")
+        .version(VERSION)
         .no_binary_name(true)
         .subcommand_required(true)
         .subcommand(demo(alloc))?
@@ -311,7 +368,22 @@ fn selection_in<'a>(found: &ArgMatches<'a>) -> Selection<'a>
     Selection { selector, from, to }
 }
 
-fn serving_in(found: &ArgMatches<'_>) -> Serving
+/// Whether a flag is set.
+fn flag_in(found: &ArgMatches<'_>, name: &str) -> bool
+    ensures { IsFlagIn (one_of name.now (rows_of (found_of found.now))) result }
+{
+    found.get_flag(name)
+}
+
+/// The text that an option gives, if it is used.
+fn given_in<'a>(found: &ArgMatches<'a>, name: &str) -> Option<&'a str>
+    ensures { option_map (λ text. text.now) result
+        ≡ first_of name.now (rows_of (found_of found.now)) }
+{
+    found.get_str(name)
+}
+
+fn serving_in<'a>(found: &ArgMatches<'a>) -> Serving<'a>
     ensures { IsServingIn (rows_of (found_of found.now)) result }
 {
     let port = count_in(found, "port", 0);
@@ -323,6 +395,8 @@ fn serving_in(found: &ArgMatches<'_>) -> Serving
         workers,
         requests,
         idle_seconds,
+        read_only: flag_in(found, "read-only"),
+        guard: given_in(found, "guard"),
     }
 }
 

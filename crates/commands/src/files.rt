@@ -16,6 +16,7 @@ use std::error::Error;
 use std::fmt;
 use std::fs::{File, OpenFile};
 use std::io::{self, ErrorKind, Read};
+use std::os::unix::fs::PermissionsExt;
 use std::thread::{Threads, join};
 
 /// Why a file is not read.
@@ -53,6 +54,15 @@ pub trait ReadFiles: Sync {
         ensures ok { IfOk result (λ bytes.
             AreFirstBytes (may_read self.now) path.now most bytes.items) }
         ensures err { IfErr result (λ error. IsReadFailure (may_read self.now) path.now error) };
+
+    /// The same of a file that its owner alone may read; files in memory have no other readers.
+    fn read_secret(&self, alloc: Global, path: &str, most: usize) -> Result<Vec<u8>, ReadError>
+        ensures ok { IfOk result (λ bytes.
+            AreFirstBytes (may_read self.now) path.now most bytes.items) }
+        ensures err { IfErr result (λ error. IsReadFailure (may_read self.now) path.now error) }
+    {
+        self.read_file(alloc, path, most)
+    }
 }
 
 /// The first bytes that a reader gives, at most so many, in a list that is made with this room.
@@ -81,6 +91,17 @@ fn first_of_file(alloc: Global, rt: &HostRuntime, path: &str, most: usize) -> io
     first_of(alloc, file, room as usize, most)
 }
 
+/// The same of a file that its owner alone may read.
+fn first_of_secret(alloc: Global, rt: &HostRuntime, path: &str, most: usize) -> io::Result<Vec<u8>>
+    ensures { IfOk result (λ bytes. length bytes.items ≤ most) }
+{
+    let file = File::open(rt, path)?;
+    if file.metadata()?.permissions().mode() & 0o077 != 0 {
+        return Err(io::Error::from(ErrorKind::PermissionDenied));
+    }
+    first_of(alloc, file, 0, most)
+}
+
 /// What the host's files hold, no clause can say.
 impl ReadFiles for HostRuntime {
     ghost use Rattle.std.specs.Prelude.{⊤};
@@ -89,6 +110,14 @@ impl ReadFiles for HostRuntime {
 
     fn read_file(&self, alloc: Global, path: &str, most: usize) -> Result<Vec<u8>, ReadError> {
         match first_of_file(alloc, self, path, most) {
+            Ok(bytes) => Ok(bytes),
+            Err(error) if error.kind() == ErrorKind::OutOfMemory => Err(ReadError::Memory),
+            Err(_) => Err(ReadError::Unreadable),
+        }
+    }
+
+    fn read_secret(&self, alloc: Global, path: &str, most: usize) -> Result<Vec<u8>, ReadError> {
+        match first_of_secret(alloc, self, path, most) {
             Ok(bytes) => Ok(bytes),
             Err(error) if error.kind() == ErrorKind::OutOfMemory => Err(ReadError::Memory),
             Err(_) => Err(ReadError::Unreadable),

@@ -15,8 +15,10 @@ use crate::command::Serving;
 use crate::fault::Fault;
 use crate::files::ReadFiles;
 use crate::opening::open_blocks;
+use crate::rules::rules_of;
 use crate::sending::send;
 use block::Block;
+use guard::Rules;
 use server::{Terms, Workers};
 use snapshots::{Naming, Store};
 use std::alloc::{AllocError, Global};
@@ -53,11 +55,11 @@ fn line_of(alloc: Global, port: u16) -> Result<String, AllocError>
 fn tell_port<W: Write>(
     alloc: Global,
     listener: &TcpListener,
-    serving: Serving,
+    serving: Serving<'_>,
     out: &mut W,
 ) -> Result<(), Fault>
     ensures ok { OnOk result (TellsPort (W.contents out.old) (W.contents out.new)) }
-    ensures faults { IfErr result (λ fault. IsStoreFault serving fault) }
+    ensures faults { IfErr result (λ fault. IsStoreFault serving.entry fault) }
     ensures kept { IfErr result (λ fault. KeepsAt fault (W.contents out.old) (W.contents out.new)) }
 {
     let Ok(address) = listener.local_addr() else {
@@ -68,10 +70,10 @@ fn tell_port<W: Write>(
     Ok(())
 }
 
-fn terms_of(serving: Serving) -> Terms
-    ensures requests { result.requests ≡ serving.requests }
-    ensures never { IfNone result.idle (serving.idle_seconds ≡ 0) }
-    ensures limit { IfSome result.idle (λ d. as_nanos d ≡ serving.idle_seconds * 1000000000) }
+fn terms_of(serving: Serving<'_>) -> Terms
+    ensures requests { result.requests ≡ serving.entry.requests }
+    ensures never { IfNone result.idle (serving.entry.idle_seconds ≡ 0) }
+    ensures limit { IfSome result.idle (λ d. as_nanos d ≡ serving.entry.idle_seconds * 1000000000) }
 {
     let idle = match serving.idle_seconds {
         0 => None,
@@ -93,31 +95,32 @@ fn serve_blocks<
     alloc: Global,
     store: Store,
     blocks: Vec<Block>,
-    serving: Serving,
+    rules: &Rules,
+    serving: Serving<'_>,
     out: &mut W,
 ) -> Result<Vec<u64>, Fault>
     requires book { store.seen.book ≡ J.book }
     requires opening { opening_of (map part_in blocks.items) ≡ J.opening }
     requires few { length blocks.items ≤ 63 }
     ensures ok { OnOk result (TellsPort (W.contents out.old) (W.contents out.new)) }
-    ensures workers { IfOk result (λ counts. vec_len counts ≡ serving.workers) }
-    ensures served { IfOk result (λ counts. All (λ n. n ≡ serving.requests) counts.items) }
+    ensures workers { IfOk result (λ counts. vec_len counts ≡ serving.entry.workers) }
+    ensures served { IfOk result (λ counts. All (λ n. n ≡ serving.entry.requests) counts.items) }
     ensures err { IfErr result (λ fault.
-        IsServingFault serving (W.contents out.old) (W.contents out.new) fault) }
+        IsServingFault serving.entry (W.contents out.old) (W.contents out.new) fault) }
 {
     let count = serving.workers as usize;
     let workers = Workers::<J, &R>::open(rt, alloc, store, blocks, count)?;
     let listener = listen(rt, serving.port)?;
     tell_port(alloc, &listener, serving, out)?;
-    let counts = server::serve(rt, alloc, workers, &listener, terms_of(serving))?;
+    let counts = server::serve(rt, alloc, workers, &listener, rules, terms_of(serving))?;
     Ok(counts)
 }
 
 /// Serves a store over the blocks in these directories, and over them an empty head, until each
 /// worker has ended: how many connections each served, as many as were asked for.
 ///
-/// The directories are opened as by `select`; then the store is opened, the port listened on, and
-/// `listening P` written.
+/// The rules are read; the directories are opened as by `select`; then the store is opened, the
+/// port listened on, and `listening P` written.
 pub fn serve<
     R: Wait + Threads + Net<Listener = TcpListener, Stream = TcpStream> + Clock + Eprint + Sync,
     F: ReadFiles,
@@ -126,17 +129,18 @@ pub fn serve<
     rt: &R,
     alloc: Global,
     files: &F,
-    serving: Serving,
+    serving: Serving<'_>,
     directories: &[&str],
     out: &mut W,
 ) -> Result<Vec<u64>, Fault>
     ensures ok { OnOk result (IsListening (F.may_read files.now) (paths_of directories.now)
         (W.contents out.old) (W.contents out.new)) }
-    ensures workers { IfOk result (λ counts. vec_len counts ≡ serving.workers) }
-    ensures served { IfOk result (λ counts. All (λ n. n ≡ serving.requests) counts.items) }
+    ensures workers { IfOk result (λ counts. vec_len counts ≡ serving.entry.workers) }
+    ensures served { IfOk result (λ counts. All (λ n. n ≡ serving.entry.requests) counts.items) }
     ensures err { IfErr result (λ fault. IsServeFault (F.may_read files.now)
-        (paths_of directories.now) serving (W.contents out.old) (W.contents out.new) fault) }
+        (paths_of directories.now) serving.entry (W.contents out.old) (W.contents out.new) fault) }
 {
+    let rules = rules_of(alloc, files, serving)?;
     let blocks = open_blocks(rt, alloc, files, directories)?;
-    serve_blocks::<Brand, R, W>(rt, alloc, Store::new(), blocks, serving, out)
+    serve_blocks::<Brand, R, W>(rt, alloc, Store::new(), blocks, &rules, serving, out)
 }

@@ -23,7 +23,7 @@ use Rattle.requests.specs.declared.status.Status.{Status}
 use Rattle.requests.specs.declared.status.Status.TheVariants.{Done, Conflict}
 use Rattle.requests.specs.Ending.{IsOfBytes}
 use Rattle.requests.specs.Fitting.{IsFit}
-use Rattle.requests.specs.Reading.{Means}
+use Rattle.requests.specs.Requests.{Meaning}
 use Rattle.requests.specs.Refusals.{status_of}
 use Rattle.requests.specs.Replies.{cause_data, reply_text, done_text, refusal_text}
 use Rattle.answers.specs.declared.audited.AuditedAnswer.{AuditedAnswer}
@@ -125,54 +125,61 @@ IsRequestReply opening (asks.Delete matchers from to) before after status text =
 IsRequestReply opening (asks.Cut t) before after status text =
     IsEventReply opening (cut t) before after status text
 
--- the bytes that came are refused by their first failing check, `H1` to `H8`, and nothing changed
-pub record TurnsAway (input : Option (List ℕ)) (before after : Worker) (status : Status)
-    (text : List ℕ) : Type 0 where
+-- What bytes mean is a parameter of what follows: `Means`, or under rules `MeansUnder`.
+
+-- the bytes that came are refused by their first failing check, `H1` to `H8` or `H12`, and nothing
+-- changed
+pub record TurnsAway (Asks : List ℕ → Meaning → Type 0) (input : Option (List ℕ))
+    (before after : Worker) (status : Status) (text : List ℕ) : Type 0 where
   pub refusal : Refusal
   pub of_bytes : IsOfBytes refusal
-  pub means : IfSome input (λ bytes. Means bytes (Err refusal))
+  pub means : IfSome input (λ bytes. Asks bytes (Err refusal))
   pub refused : IsReplyOfRefusal refusal status text
   pub same : after ≡ before
 
 -- the bytes that came ask a request, which is fit for a store, and this is the reply to it
-pub record DoesAsked (opening : SnapshotParts) (input : Option (List ℕ)) (before after : Worker)
-    (status : Status) (text : List ℕ) : Type 0 where
+pub record DoesAsked (Asks : List ℕ → Meaning → Type 0) (opening : SnapshotParts)
+    (input : Option (List ℕ)) (before after : Worker) (status : Status) (text : List ℕ)
+    : Type 0 where
   pub request : Request
-  pub means : IfSome input (λ bytes. Means bytes (Ok request))
+  pub means : IfSome input (λ bytes. Asks bytes (Ok request))
   pub fits : IsFit request
   pub done : IsRequestReply opening request before after status text
 
 -- the reply to the bytes that came
-abbrev pub IsReply : SnapshotParts → Option (List ℕ) → Worker → Worker → Status → List ℕ → Type 0
-IsReply opening input before after status text =
-    TurnsAway input before after status text ⊎ DoesAsked opening input before after status text
+abbrev pub IsReply : (List ℕ → Meaning → Type 0) → SnapshotParts → Option (List ℕ)
+    → Worker → Worker → Status → List ℕ → Type 0
+IsReply Asks opening input before after status text =
+    TurnsAway Asks input before after status text
+    ⊎ DoesAsked Asks opening input before after status text
 
 -- the whole reply was written, and nothing else
-pub record Replies (opening : SnapshotParts) (input : Option (List ℕ)) (before after : Worker)
-    (old new : Option (List ℕ)) (status : Status) : Type 0 where
+pub record Replies (Asks : List ℕ → Meaning → Type 0) (opening : SnapshotParts)
+    (input : Option (List ℕ)) (before after : Worker) (old new : Option (List ℕ))
+    (status : Status) : Type 0 where
   pub text : List ℕ
-  pub reply : IsReply opening input before after status text
+  pub reply : IsReply Asks opening input before after status text
   pub written : Appends old new text
 
 -- less than the whole reply was written, a prefix of it, and nothing else
-pub record BeginsToReply (opening : SnapshotParts) (input : Option (List ℕ)) (before after : Worker)
-    (old new : Option (List ℕ)) : Type 0 where
+pub record BeginsToReply (Asks : List ℕ → Meaning → Type 0) (opening : SnapshotParts)
+    (input : Option (List ℕ)) (before after : Worker) (old new : Option (List ℕ)) : Type 0 where
   pub status : Status
   pub text : List ℕ
-  pub reply : IsReply opening input before after status text
+  pub reply : IsReply Asks opening input before after status text
   pub written : AppendsFront old new text
 
 -- how a connection was served, by what came and what was written
-abbrev pub Serves : SnapshotParts → Option (List ℕ) → Worker → Worker
-    → Option (List ℕ) → Option (List ℕ) → Served → Type 0
-Serves opening input before after old new (served.Replied status) =
-    Replies opening input before after old new status
-Serves opening input before after old new served.WriteFault =
-    BeginsToReply opening input before after old new
-Serves opening input before after old new served.Closed =
+abbrev pub Serves : (List ℕ → Meaning → Type 0) → SnapshotParts → Option (List ℕ)
+    → Worker → Worker → Option (List ℕ) → Option (List ℕ) → Served → Type 0
+Serves Asks opening input before after old new (served.Replied status) =
+    Replies Asks opening input before after old new status
+Serves Asks opening input before after old new served.WriteFault =
+    BeginsToReply Asks opening input before after old new
+Serves Asks opening input before after old new served.Closed =
     IfSome input (λ bytes. bytes ≡ []) × (after ≡ before)
-Serves opening input before after old new served.ReadFault = after ≡ before
-Serves opening input before after old new served.NoMemory = IsIdle before after
+Serves Asks opening input before after old new served.ReadFault = after ≡ before
+Serves Asks opening input before after old new served.NoMemory = IsIdle before after
 
 -- nothing was replied
 abbrev pub IsSilent : Served → Type 0

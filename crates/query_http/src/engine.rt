@@ -2,7 +2,9 @@
 
 ghost use Rattle.std.specs.Prelude.{◌≡◌, [], IfOk, IfErr, IfSome, OnErr, IsErrOf};
 ghost use Rattle.requests.specs.Edge.{HasGrown};
+ghost use Rattle.requests.specs.Admitting.{MeansUnder, IsBarred};
 ghost use Rattle.requests.specs.Fitting.{IsFit};
+ghost use Rattle.requests.specs.Reading.{Means};
 ghost use Rattle.query_http.specs.Bounds.{IsBounded};
 ghost use Rattle.query_http.specs.Reply.{text_of};
 ghost use Rattle.query_http.specs.Serving.{worker, IsIdle, IsReplyOfRefusal, IsSilent, Serves};
@@ -12,7 +14,8 @@ use crate::actions::{act, refusal_reply};
 use crate::buffers::Buffers;
 use crate::outlet::{Outlet, write_whole};
 use crate::reply::Reply;
-use requests::{Inlet, ReadError, Refusal, Request, Status, read_request_into};
+use guard::Rules;
+use requests::{Inlet, ReadError, Refusal, Request, Status, read_admitted_into};
 use snapshots::{Committer, Naming, Pass, Seat};
 use std::alloc::Global;
 use std::sync::Wait;
@@ -69,13 +72,14 @@ fn do_asked<J: Naming, C: Wait + Drop>(
 fn reply_to<J: Naming, C: Wait + Drop, R: Inlet>(
     rt: &impl Wait,
     alloc: Global,
+    rules: &Rules,
     buffers: &mut Buffers,
     reader: &mut R,
     pass: &mut Pass<J>,
     seat: &mut Seat<J>,
     committer: &Committer<J, C>,
 ) -> Result<Reply, Served>
-    ensures reply { IfOk result (λ r. IsReply J.opening (R.input reader.old)
+    ensures reply { IfOk result (λ r. IsReply (MeansUnder rules.now) J.opening (R.input reader.old)
         (worker pass.old seat.old) (worker pass.new seat.new) r.status (text_of r)) }
     ensures silent { IfErr result IsSilent }
     ensures idle { OnErr result (IsIdle (worker pass.old seat.old) (worker pass.new seat.new)) }
@@ -88,7 +92,7 @@ fn reply_to<J: Naming, C: Wait + Drop, R: Inlet>(
     ensures reads { IsErrOf result Served.ReadFault
         → HasGrown (R.failed_reads reader.old) (R.failed_reads reader.new) }
 {
-    match read_request_into(alloc, reader, &mut buffers.request) {
+    match read_admitted_into(alloc, rules, reader, &mut buffers.request) {
         Ok(request) => do_asked(rt, alloc, buffers, request, pass, seat, committer),
         Err(ReadError::Refused(refusal)) => turn_away(alloc, &refusal),
         Err(ReadError::Closed) => Err(Served::Closed),
@@ -97,16 +101,12 @@ fn reply_to<J: Naming, C: Wait + Drop, R: Inlet>(
     }
 }
 
-/// Serves one connection: one request is read, done and replied to.
-///
-/// The whole reply is made before its first byte is written, and the reply to a change before the
-/// change is published. The pass learns the receipt of a change before the reply is written. It
-/// reads as [`read_request_into`] does, and waits as [`Committer::commit`] does. What the buffers
-/// held before plays no part, and of each at most [`MOST_KEPT`](crate::MOST_KEPT) bytes are kept.
+/// Reads one request, does what it asks and writes the reply.
 #[tactic(auto, using(crate::proofs::Replying::silent_served))]
-pub fn serve_one_with<J: Naming, C: Wait + Drop, R: Inlet, W: Outlet>(
+fn serve_next<J: Naming, C: Wait + Drop, R: Inlet, W: Outlet>(
     rt: &impl Wait,
     alloc: Global,
+    rules: &Rules,
     buffers: &mut Buffers,
     reader: &mut R,
     writer: &mut W,
@@ -114,7 +114,7 @@ pub fn serve_one_with<J: Naming, C: Wait + Drop, R: Inlet, W: Outlet>(
     seat: &mut Seat<J>,
     committer: &Committer<J, C>,
 ) -> Served
-    ensures serves { Serves J.opening (R.input reader.old)
+    ensures serves { Serves (MeansUnder rules.now) J.opening (R.input reader.old)
         (worker pass.old seat.old) (worker pass.new seat.new)
         (W.output writer.old) (W.output writer.new) result }
     ensures silent { IsSilent result → writer.new ≡ writer.old }
@@ -124,7 +124,7 @@ pub fn serve_one_with<J: Naming, C: Wait + Drop, R: Inlet, W: Outlet>(
         → HasGrown (W.failed_writes writer.old) (W.failed_writes writer.new) }
     ensures bounded { IsBounded buffers.new }
 {
-    let made = reply_to(rt, alloc, buffers, reader, pass, seat, committer);
+    let made = reply_to(rt, alloc, rules, buffers, reader, pass, seat, committer);
     buffers.trim_all();
     let reply = match made {
         Ok(reply) => reply,
@@ -138,7 +138,43 @@ pub fn serve_one_with<J: Naming, C: Wait + Drop, R: Inlet, W: Outlet>(
     served
 }
 
-/// Serves one connection as [`serve_one_with`] does, with buffers of its own.
+/// Serves one connection: one request is read, done and replied to.
+///
+/// The whole reply is made before its first byte is written, and the reply to a change before the
+/// change is published. The pass learns the receipt of a change before the reply is written. It
+/// reads as [`read_admitted_into`] does, so that a request that the rules do not admit is refused
+/// and changes nothing (`barred`), and waits as [`Committer::commit`] does. What the buffers held
+/// before plays no part, and of each at most [`MOST_KEPT`](crate::MOST_KEPT) bytes are kept.
+pub fn serve_one_with<J: Naming, C: Wait + Drop, R: Inlet, W: Outlet>(
+    rt: &impl Wait,
+    alloc: Global,
+    rules: &Rules,
+    buffers: &mut Buffers,
+    reader: &mut R,
+    writer: &mut W,
+    pass: &mut Pass<J>,
+    seat: &mut Seat<J>,
+    committer: &Committer<J, C>,
+) -> Served
+    ensures serves { Serves (MeansUnder rules.now) J.opening (R.input reader.old)
+        (worker pass.old seat.old) (worker pass.new seat.new)
+        (W.output writer.old) (W.output writer.new) result }
+    ensures silent { IsSilent result → writer.new ≡ writer.old }
+    ensures reads { result ≡ Served.ReadFault
+        → HasGrown (R.failed_reads reader.old) (R.failed_reads reader.new) }
+    ensures writes { result ≡ Served.WriteFault
+        → HasGrown (W.failed_writes writer.old) (W.failed_writes writer.new) }
+    ensures bounded { IsBounded buffers.new }
+    ensures barred { IfSome (R.input reader.old) (λ bytes. IsBarred rules.now bytes
+        → IsIdle (worker pass.old seat.old) (worker pass.new seat.new)) }
+{
+    serve_next(
+        rt, alloc, rules, buffers, reader, writer, pass, seat, committer,
+    )
+}
+
+/// Serves one connection as [`serve_one_with`] does, with buffers of its own and under no
+/// rules.
 pub fn serve_one<J: Naming, C: Wait + Drop, R: Inlet, W: Outlet>(
     rt: &impl Wait,
     alloc: Global,
@@ -148,7 +184,7 @@ pub fn serve_one<J: Naming, C: Wait + Drop, R: Inlet, W: Outlet>(
     seat: &mut Seat<J>,
     committer: &Committer<J, C>,
 ) -> Served
-    ensures serves { Serves J.opening (R.input reader.old)
+    ensures serves { Serves Means J.opening (R.input reader.old)
         (worker pass.old seat.old) (worker pass.new seat.new)
         (W.output writer.old) (W.output writer.new) result }
     ensures silent { IsSilent result → writer.new ≡ writer.old }
@@ -161,6 +197,7 @@ pub fn serve_one<J: Naming, C: Wait + Drop, R: Inlet, W: Outlet>(
     serve_one_with(
         rt,
         alloc,
+        &Rules::none(),
         &mut buffers,
         reader,
         writer,

@@ -10,6 +10,7 @@ pub mod UsualTexts
 pub mod HeadTexts
 pub mod FieldTexts
 pub mod ReadTexts
+pub mod AdmittedTexts
 pub mod FitTexts
 pub mod Endings
 pub mod TakenTexts

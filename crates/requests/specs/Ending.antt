@@ -5,12 +5,12 @@ use Rattle.requests.specs.declared.refusal.Refusal.{Refusal}
 use Rattle.requests.specs.declared.refusal.Refusal.TheVariants.{BadHead, HeadTooLong, NoSuchPath}
 use Rattle.requests.specs.declared.refusal.Refusal.TheVariants.{Method, BadQuery, BadSelector}
 use Rattle.requests.specs.declared.refusal.Refusal.TheVariants.{BadBody, BodyTooLong, Refused}
-use Rattle.requests.specs.declared.refusal.Refusal.TheVariants.{Unavailable}
+use Rattle.requests.specs.declared.refusal.Refusal.TheVariants.{Unavailable, Guarded}
 use Rattle.requests.specs.declared.request.ReadError.{ReadError}
 use Rattle.requests.specs.declared.request.ReadError.TheVariants as ends
 use Rattle.requests.specs.Edge.{HasGrown}
 
--- the refusal is of what came, `H1` to `H8`, and none of a store
+-- the refusal is of what came, `H1` to `H8` and `H12`, and none of a store
 abbrev pub IsOfBytes : Refusal → Type 0
 IsOfBytes BadHead = ⊤
 IsOfBytes HeadTooLong = ⊤
@@ -22,6 +22,7 @@ IsOfBytes BadBody = ⊤
 IsOfBytes BodyTooLong = ⊤
 IsOfBytes (Refused cause) = ⊥
 IsOfBytes Unavailable = ⊥
+IsOfBytes Guarded = ⊤
 
 -- where a refusal is the end, it is of what came
 abbrev pub EndsReading : ReadError → Type 0

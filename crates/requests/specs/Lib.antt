@@ -18,4 +18,5 @@ pub mod Heads
 pub mod Looks
 pub mod Fields
 pub mod Reading
+pub mod Admitting
 pub mod Fitting

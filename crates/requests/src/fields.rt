@@ -8,9 +8,12 @@ ghost use Rattle.requests.specs.Fields.{is_named, field_values, has_field, is_de
 ghost use Rattle.requests.specs.Fields.{length_asked, IsHeadIn};
 ghost use Rattle.requests.specs.QueryStrings.{only};
 ghost use Rattle.requests.specs.Heads.{BeginsWithHead};
+ghost use Rattle.guard.specs.Hosts.{claimed};
+ghost use Rattle.requests.specs.Admitting.{claims_among, AreClaimsIn};
 
 use crate::Refusal;
 use crate::times::are_digits;
+use guard::Claims;
 use httparse::Status;
 use httparse::spans::{EMPTY_HEADER_SPAN, HeaderSpan, parse_request};
 
@@ -77,6 +80,36 @@ fn length_in(value: &[u8]) -> Result<usize, Refusal>
             }
         }
         Err(_) => Err(Refusal::BodyTooLong),
+    }
+}
+
+/// What a head claims, of its method and its fields.
+fn claims_among<'b>(buf: &'b [u8], posts: bool, headers: &[HeaderSpan]) -> Claims<'b>
+    requires { All (IsHeaderWithin (length buf.now)) headers.now }
+    ensures { claimed result
+        ≡ claims_among posts (map (header_bytes buf.now) headers.now) }
+{
+    Claims {
+        posts,
+        has_origin: has_field(buf, headers, b"origin"),
+        host: only_field(buf, headers, b"host"),
+        authorization: only_field(buf, headers, b"authorization"),
+    }
+}
+
+/// The claims of the head at the front of some bytes.
+pub(crate) fn claims_in(buf: &[u8]) -> Option<Claims<'_>>
+    ensures value { IfSome result (λ claims. AreClaimsIn buf.now (claimed claims)) }
+    ensures found { BeginsWithHead buf.now → IsSome result }
+{
+    let mut headers = [EMPTY_HEADER_SPAN; 64];
+    match parse_request(buf, &mut headers) {
+        Ok(Status::Complete(spans)) => Some(claims_among(
+            buf,
+            spans.method.of(buf) == b"POST".as_slice(),
+            &headers[..spans.headers],
+        )),
+        _ => None,
     }
 }
 

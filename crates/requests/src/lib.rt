@@ -8,7 +8,10 @@
 //! store: a batch has at most 4,096 samples, each at a time, a deletion has a range and at most 16
 //! matchers, a cut is at a time.
 //!
-//! A [`Refusal`] is one of `H1` to `H10`; its `reply` is the whole text that answers it.
+//! A [`Refusal`] is one of `H1` to `H10` or `H12`; its `reply` is the whole text that answers it.
+//! [`read_admitted_into`] reads as [`read_request_into`] does, and refuses a head that
+//! [`guard::Rules`] do not admit.
+//!
 //! [`place_success_head`] puts before a body what makes it a reply, and [`done_reply`] is the one
 //! of a change that was made. The writing side and what is done with a request belong to the
 //! caller.
@@ -62,6 +65,7 @@
 //! Statuses are those of RFC 9110 and RFC 6585.
 #![tactic(auto)]
 
+mod admit;
 mod changes;
 mod edge;
 mod fields;
@@ -78,6 +82,7 @@ mod usual;
 mod values;
 mod write;
 
+pub use admit::read_admitted_into;
 pub use edge::{Fault, Inlet};
 pub use read::{read_request, read_request_into};
 pub use refusal::{Cause, Refusal};

@@ -61,7 +61,7 @@ fn head_of(buf: &[u8]) -> Head<'_>
 }
 
 /// Reads what follows a head that has come, if its path takes a body, and says what is asked.
-fn read_after<R: Inlet>(
+pub(crate) fn read_after<R: Inlet>(
     alloc: Global,
     reader: &mut R,
     buf: &mut Vec<u8>,

@@ -41,6 +41,9 @@ pub enum Refusal {
     Refused(Cause),
     /// `H10`: the store lends no snapshot.
     Unavailable,
+    /// `H12`: the rules of the server do not admit the request: it comes from a page of a browser,
+    /// does not name this machine, or bears no token.
+    Guarded,
 }
 
 impl Refusal {
@@ -59,6 +62,7 @@ impl Refusal {
             Refusal::BodyTooLong => "H8",
             Refusal::Refused(_) => "H9",
             Refusal::Unavailable => "H10",
+            Refusal::Guarded => "H12",
         }
     }
 
@@ -75,6 +79,7 @@ impl Refusal {
             Refusal::BodyTooLong => Status::ContentTooLarge,
             Refusal::Refused(_) => Status::Conflict,
             Refusal::Unavailable => Status::ServiceUnavailable,
+            Refusal::Guarded => Status::Forbidden,
         }
     }
 
@@ -116,6 +121,7 @@ impl fmt::Display for Refusal {
                 write!(f, "H9: the store refuses the event: {code}")
             }
             Refusal::Unavailable => write!(f, "H10: the store lends no snapshot"),
+            Refusal::Guarded => write!(f, "H12: the rules of the server do not admit it"),
         }
     }
 }

@@ -10,6 +10,8 @@ pub enum Status {
     Done,
     /// 400: the request says nothing that can be done.
     BadRequest,
+    /// 403: the rules of the server do not admit the request.
+    Forbidden,
     /// 404: there is no such path.
     NotFound,
     /// 405: the path takes another method.
@@ -32,6 +34,7 @@ impl Status {
         match self {
             Status::Done => (200, "OK"),
             Status::BadRequest => (400, "Bad Request"),
+            Status::Forbidden => (403, "Forbidden"),
             Status::NotFound => (404, "Not Found"),
             Status::MethodNotAllowed => (405, "Method Not Allowed"),
             Status::Conflict => (409, "Conflict"),

@@ -5,6 +5,8 @@ use Rattle.head.specs.Heads.{SnapshotParts}
 use Rattle.head.specs.Worlds.{Event}
 use Rattle.snapshots.specs.declared.entry.Entry.{Entry}
 use Rattle.snapshots.proofs.Prefixes.{prefix_self, prefix_trans}
+use Rattle.guard.specs.declared.rules.Rules.{Rules}
+use Rattle.requests.specs.Admitting.{MeansUnder}
 use Rattle.requests.specs.declared.request.Request.{Request}
 use Rattle.requests.specs.declared.request.Request.TheVariants as asks
 use Rattle.requests.specs.declared.status.Status.{Status}
@@ -86,26 +88,33 @@ asked_farther opening (asks.Delete matchers from to) before after status text h 
 asked_farther opening (asks.Cut t) before after status text h =
     event_farther opening _ before after status text h
 
-reply_farther : (opening : SnapshotParts) (input : Option (List ℕ)) (before after : Worker)
+reply_farther : (rules : Rules) (opening : SnapshotParts) (input : Option (List ℕ))
+    (before after : Worker)
     (status : Status) (text : List ℕ)
-    → IsReply opening input before after status text → IsFarther before after 1
-reply_farther opening input before after status text (inl h) = same_farther before after h.same
-reply_farther opening input before after status text (inr h) =
+    → IsReply (MeansUnder rules) opening input before after status text → IsFarther before after 1
+reply_farther rules opening input before after status text (inl h) =
+    same_farther before after h.same
+reply_farther rules opening input before after status text (inr h) =
     asked_farther opening h.request before after status text h.done
 
-serves_farther : (opening : SnapshotParts) (input : Option (List ℕ)) (before after : Worker)
+serves_farther : (rules : Rules) (opening : SnapshotParts) (input : Option (List ℕ))
+    (before after : Worker)
     (old new : Option (List ℕ)) (s : Served)
-    → Serves opening input before after old new s → IsFarther before after 1
-serves_farther opening input before after old new (served.Replied status) h =
-    reply_farther opening input before after status h.text h.reply
-serves_farther opening input before after old new served.WriteFault h =
-    reply_farther opening input before after h.status h.text h.reply
-serves_farther opening input before after old new served.Closed h = same_farther before after h.1
-serves_farther opening input before after old new served.ReadFault h = same_farther before after h
-serves_farther opening input before after old new served.NoMemory h = idle_farther before after h
+    → Serves (MeansUnder rules) opening input before after old new s → IsFarther before after 1
+serves_farther rules opening input before after old new (served.Replied status) h =
+    reply_farther rules opening input before after status h.text h.reply
+serves_farther rules opening input before after old new served.WriteFault h =
+    reply_farther rules opening input before after h.status h.text h.reply
+serves_farther rules opening input before after old new served.Closed h =
+    same_farther before after h.1
+serves_farther rules opening input before after old new served.ReadFault h =
+    same_farther before after h
+serves_farther rules opening input before after old new served.NoMemory h =
+    idle_farther before after h
 
 -- a connection takes its worker no farther than one event
-pub served_farther : (opening : SnapshotParts) (before after : Worker) (s : Session)
-    → IsServed opening before after s → IsFarther before after 1
-served_farther opening before after s h =
-    serves_farther opening s.input before after h.output s.ending.written s.ending.served h.serves
+pub served_farther : (rules : Rules) (opening : SnapshotParts) (before after : Worker) (s : Session)
+    → IsServed rules opening before after s → IsFarther before after 1
+served_farther rules opening before after s h =
+    serves_farther rules opening s.input before after h.output s.ending.written s.ending.served
+    h.serves

@@ -2,18 +2,19 @@
 use Rattle.std.proofs.Common.{◌≡◌, ℕ, ◌+◌, List, [], ◌∷◌, ◌++◌, Option, None, Some, refl, sym, ap, subst, ◌∙◌, map, append_assoc, append-nil, length-append}
 use Rattle.std.proofs.lemmas.List.{map-append}
 use Rattle.head.specs.Heads.{SnapshotParts}
+use Rattle.guard.specs.declared.rules.Rules.{Rules}
 use Rattle.query_http.specs.Serving.{Worker}
 use Rattle.server.specs.Sessions.{Session, Ending, IsServed, AreServed, Arrives, AreFirstToCome, AreAdded}
 use Rattle.server.specs.Working.{Works}
 
-served_more : (opening : SnapshotParts) (before between after : Worker)
+served_more : (rules : Rules) (opening : SnapshotParts) (before between after : Worker)
     (ss : List Session) (s : Session)
-    → AreServed opening before ss between → IsServed opening between after s
-    → AreServed opening before (ss ++ s ∷ []) after
-served_more opening before between after [] s e one =
-    (after, subst (λ (w : Worker). IsServed opening w after s) e one, refl)
-served_more opening before between after (t ∷ ss) s h one =
-    (h.0, h.1, served_more opening h.0 between after ss s h.2 one)
+    → AreServed rules opening before ss between → IsServed rules opening between after s
+    → AreServed rules opening before (ss ++ s ∷ []) after
+served_more rules opening before between after [] s e one =
+    (after, subst (λ (w : Worker). IsServed rules opening w after s) e one, refl)
+served_more rules opening before between after (t ∷ ss) s h one =
+    (h.0, h.1, served_more rules opening h.0 between after ss s h.2 one)
 
 first_more : (coming mid left : Option (List (List ℕ))) (ss : List Session) (s : Session)
     → AreFirstToCome coming mid ss → Arrives mid left s.input → AreFirstToCome coming left (ss ++ s ∷ [])
@@ -42,17 +43,18 @@ added_more (Some old) (Some mid) (Some new) xs ys h more =
     more ∙ ap (λ (l : List Ending). l ++ ys) h ∙ append_assoc old xs ys
 
 -- a connection more was served
-pub works_more : (opening : SnapshotParts) (before between after : Worker)
+pub works_more : (rules : Rules) (opening : SnapshotParts) (before between after : Worker)
     (coming mid left : Option (List (List ℕ)))
     (past told ended : Option (List Ending)) (count : ℕ) (s : Session)
-    → Works opening before between coming mid past told count → IsServed opening between after s
+    → Works rules opening before between coming mid past told count
+    → IsServed rules opening between after s
     → Arrives mid left s.input → AreAdded told ended (s.ending ∷ [])
-    → Works opening before after coming left past ended (count + 1)
-works_more opening before between after coming mid left past told ended count s done one
+    → Works rules opening before after coming left past ended (count + 1)
+works_more rules opening before between after coming mid left past told ended count s done one
     here added = record {
       sessions = done.sessions ++ s ∷ [];
       counted = length-append done.sessions (s ∷ []) ∙ ap (λ (n : ℕ). n + 1) done.counted;
-      served = served_more opening before between after done.sessions s done.served one;
+      served = served_more rules opening before between after done.sessions s done.served one;
       first = first_more coming mid left done.sessions s done.first here;
       told =
           subst (λ (l : List Ending). AreAdded past ended l)
@@ -70,10 +72,11 @@ none_added None = tt
 none_added (Some old) = sym (append-nil old)
 
 -- no connection was served
-pub works_none : (opening : SnapshotParts) (before : Worker) (coming : Option (List (List ℕ)))
+pub works_none : (rules : Rules) (opening : SnapshotParts) (before : Worker)
+    (coming : Option (List (List ℕ)))
     (past : Option (List Ending))
-    → Works opening before before coming coming past past 0
-works_none opening before coming past = record {
+    → Works rules opening before before coming coming past past 0
+works_none rules opening before coming past = record {
   sessions = [];
   counted = refl;
   served = refl;

@@ -1,6 +1,8 @@
 -- Connections: what came on them, what was written to them, and how they were served.
 use Rattle.std.specs.Prelude.{◌≡◌, ℕ, List, [], ◌∷◌, ◌++◌, Option, None, Some, map, IfSome, ⊤}
 use Rattle.head.specs.Heads.{SnapshotParts}
+use Rattle.guard.specs.declared.rules.Rules.{Rules}
+use Rattle.requests.specs.Admitting.{MeansUnder}
 use Rattle.query_http.specs.Serving.{Worker, Serves}
 use Rattle.query_http.specs.declared.engine.Served.{Served}
 
@@ -18,17 +20,21 @@ pub record Session : Type 0 where
 abbrev pub IsFresh : Option (List ℕ) → Type 0
 IsFresh output = IfSome output (λ bytes. bytes ≡ [])
 
--- the connection was served by this worker: one request was read, done and replied to
-pub record IsServed (opening : SnapshotParts) (before after : Worker) (s : Session) : Type 0 where
+-- the connection was served by this worker: one request was read, under these rules, done and
+-- replied to
+pub record IsServed (rules : Rules) (opening : SnapshotParts) (before after : Worker)
+    (s : Session) : Type 0 where
   pub output : Option (List ℕ)
   pub fresh : IsFresh output
-  pub serves : Serves opening s.input before after output s.ending.written s.ending.served
+  pub serves : Serves (MeansUnder rules) opening s.input before after output s.ending.written
+      s.ending.served
 
 -- the connections were served one after another, each by the worker as the one before left it
-abbrev pub AreServed : SnapshotParts → Worker → List Session → Worker → Type 0
-AreServed opening before [] after = after ≡ before
-AreServed opening before (s ∷ ss) after =
-    (between : Worker) × IsServed opening before between s × AreServed opening between ss after
+abbrev pub AreServed : Rules → SnapshotParts → Worker → List Session → Worker → Type 0
+AreServed rules opening before [] after = after ≡ before
+AreServed rules opening before (s ∷ ss) after =
+    (between : Worker) × IsServed rules opening before between s
+    × AreServed rules opening between ss after
 
 -- the next of the connections to come was taken, and this came on it
 abbrev pub Arrives : Option (List (List ℕ)) → Option (List (List ℕ)) → Option (List ℕ) → Type 0

@@ -2,17 +2,18 @@
 use Rattle.std.specs.Prelude.{◌≡◌, ◌≤◌, ℕ, ◌+◌, List, Option, length, map}
 use mathlib.Core.List.{IsPrefix}
 use Rattle.head.specs.Heads.{SnapshotParts}
+use Rattle.guard.specs.declared.rules.Rules.{Rules}
 use Rattle.query_http.specs.Serving.{Worker}
 use Rattle.server.specs.Sessions.{Session, Ending, AreServed, AreFirstToCome, AreAdded}
 
 -- The worker served so many connections, one after another, the first of those that were to come,
 -- and each ended as its connection was served.
-pub record Works (opening : SnapshotParts) (before after : Worker)
+pub record Works (rules : Rules) (opening : SnapshotParts) (before after : Worker)
     (coming left : Option (List (List ℕ))) (past ended : Option (List Ending))
     (count : ℕ) : Type 0 where
   pub sessions : List Session
   pub counted : length sessions ≡ count
-  pub served : AreServed opening before sessions after
+  pub served : AreServed rules opening before sessions after
   pub first : AreFirstToCome coming left sessions
   pub told : AreAdded past ended (map (λ s. s.ending) sessions)
 

@@ -12,7 +12,8 @@
 //! The loop of a worker over two `connections` in memory:
 //!
 //! ```
-//! let count = work(rt, alloc, connections, &mut pass, &mut seat, &committer, 9);
+//! let rules = Rules::none();
+//! let count = work(rt, alloc, &rules, connections, &mut pass, &mut seat, &committer, 9);
 //! assert_eq!(rt; count, 2);
 //! ```
 //!

@@ -10,6 +10,7 @@ use crate::error::ServeError;
 use crate::sockets::Sockets;
 use crate::worker::work;
 use block::Block;
+use guard::Rules;
 use snapshots::{Committer, Naming, OpenError, Pass, Seat, Store};
 use std::alloc::{AllocError, Global};
 use std::marker::Model;
@@ -97,6 +98,7 @@ impl<J: Naming, C: Wait + Drop> Workers<J, C> {
 fn work_at<J: Naming, C: Wait + Drop, R: Wait + Clock + Eprint>(
     rt: &R,
     alloc: Global,
+    rules: &Rules,
     listener: &TcpListener,
     committer: &Committer<J, C>,
     place: Place<J>,
@@ -110,6 +112,7 @@ fn work_at<J: Naming, C: Wait + Drop, R: Wait + Clock + Eprint>(
     work(
         rt,
         alloc,
+        rules,
         &mut sockets,
         &mut pass,
         &mut seat,
@@ -151,8 +154,8 @@ fn can_make<R: Threads + Wait + Sync>(rt: &R, count: usize) -> bool {
     })
 }
 
-/// Serves the connections of a listener until each worker has ended, each in a thread of its own:
-/// how many each served, which is as many as the terms ask for.
+/// Serves the connections of a listener under rules until each worker has ended, each in a thread
+/// of its own: how many each served, which is as many as the terms ask for.
 ///
 /// `NoThread` is answered before any connection is accepted, where so many threads cannot be made;
 /// `NoListener` where a worker has ended because there is no listener any more.
@@ -165,6 +168,7 @@ pub fn serve<
     alloc: Global,
     workers: Workers<J, C>,
     listener: &TcpListener,
+    rules: &Rules,
     terms: Terms,
 ) -> Result<Vec<u64>, ServeError>
     ensures all { IfOk result (λ counts. vec_len counts ≡ workers) }
@@ -180,7 +184,7 @@ pub fn serve<
         places,
         &|place: Place<J>| -> u64
             ensures { result ≤ terms.requests }
-        { work_at(rt, alloc, listener, shared, place, terms) },
+        { work_at(rt, alloc, rules, listener, shared, place, terms) },
     )?;
     all_served(counts, terms.requests)
 }

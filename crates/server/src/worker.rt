@@ -6,6 +6,7 @@ ghost use Rattle.server.specs.Sessions.{IsOver};
 ghost use Rattle.server.specs.Working.{Works, IsFarther};
 
 use crate::connections::Connections;
+use guard::Rules;
 use query_http::{Buffers, serve_one_with};
 use snapshots::{Committer, Naming, Pass, Seat};
 use std::alloc::Global;
@@ -14,18 +15,19 @@ use std::sync::Wait;
 /// Serves connections one after another, at most so many, and says how many: fewer only where no
 /// more will come.
 ///
-/// Each is served by [`serve_one_with`], with the pass and the seat as the connection before left
-/// them, and in the same buffers.
+/// Each is served by [`serve_one_with`] under these rules, with the pass and the seat as the
+/// connection before left them, and in the same buffers.
 pub fn work<J: Naming, C: Wait + Drop, A: Connections>(
     rt: &impl Wait,
     alloc: Global,
+    rules: &Rules,
     connections: &mut A,
     pass: &mut Pass<J>,
     seat: &mut Seat<J>,
     committer: &Committer<J, C>,
     most: u64,
 ) -> u64
-    ensures works { Works J.opening (worker pass.old seat.old) (worker pass.new seat.new)
+    ensures works { Works rules.now J.opening (worker pass.old seat.old) (worker pass.new seat.new)
         (A.coming connections.old) (A.coming connections.new)
         (A.past connections.old) (A.past connections.new) result }
     ensures farther { IsFarther (worker pass.old seat.old) (worker pass.new seat.new) result }
@@ -40,6 +42,7 @@ pub fn work<J: Naming, C: Wait + Drop, A: Connections>(
         let served = serve_one_with(
             rt,
             alloc,
+            rules,
             &mut buffers,
             &mut reader,
             &mut writer,

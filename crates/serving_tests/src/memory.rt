@@ -5,6 +5,7 @@ ghost use Rattle.head.specs.Blocks.{opening_of};
 
 use crate::script::{Script, Sink};
 use crate::store::{EmptyStore, open_empty};
+use guard::Rules;
 use query_http::Served;
 use server::{Connections, work};
 use snapshots::{Naming, Store};
@@ -93,7 +94,10 @@ fn work_alone<J: Naming, R: Wait>(
         mut pass,
         mut seat,
     } = open_empty::<J, &R>(rt, alloc, store)?;
-    Some(work(rt, alloc, texts, &mut pass, &mut seat, &committer, most))
+    let rules = Rules::none();
+    Some(work(
+        rt, alloc, &rules, texts, &mut pass, &mut seat, &committer, most,
+    ))
 }
 
 /// How many of these connections one worker of an empty store serves, with room for so many, and
@@ -161,7 +165,17 @@ fn work_on_two<J: Naming, R: Wait + Abort>(
         mut pass,
         mut seat,
     } = open_empty::<J, &R>(rt, alloc, store)?;
-    let count = work(rt, alloc, connections, &mut pass, &mut seat, &committer, 9);
+    let rules = Rules::none();
+    let count = work(
+        rt,
+        alloc,
+        &rules,
+        connections,
+        &mut pass,
+        &mut seat,
+        &committer,
+        9,
+    );
     assert_eq!(rt; count, 2);
     Some(())
 }

@@ -3,6 +3,7 @@
 ghost use Rattle.std.specs.Prelude.{◌≡◌, []};
 ghost use Rattle.head.specs.Blocks.{opening_of};
 
+use guard::Rules;
 use server::{Terms, Workers, serve};
 use snapshots::{Naming, Store};
 use std::alloc::Global;
@@ -53,9 +54,10 @@ fn serve_beside<
         idle: Some(Duration::from_secs(1)),
     };
     let (silent, requests) = asked;
+    let rules = Rules::none();
     join(
         rt,
-        || serve(rt, alloc, workers, listener, terms).is_ok(),
+        || serve(rt, alloc, workers, listener, &rules, terms).is_ok(),
         || ask_all(rt, alloc, port, silent, requests),
     )
 }

@@ -1,0 +1,3 @@
+pub mod Hosts
+pub mod Judging
+pub mod Tokens
