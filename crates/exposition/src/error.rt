@@ -1,0 +1,65 @@
+//! Why a text is refused.
+
+use labels::LabelError;
+use open_metrics::Reason;
+use std::alloc::{AllocError, AllocFailed};
+
+/// Why a line is refused.
+#[derive(Clone, Copy, Debug, PartialEq, Eq, Drop)]
+pub enum Cause {
+    /// `O1` to `O9`: the line is wrong.
+    Line(Reason),
+    /// `O10`: the name or the text of a label is no UTF-8.
+    Text,
+    /// `L1` to `L3`: the labels make no label set.
+    Labels(LabelError),
+    /// `O11`: the time is outside -2^62 to 2^62 - 1.
+    Time,
+    /// `O12`: the text does not end with `# EOF`, or goes on behind it.
+    End,
+}
+
+impl Cause {
+    /// The refusal's number, as it is printed.
+    pub fn code(self) -> &'static str {
+        match self {
+            Cause::Line(reason) => reason.code(),
+            Cause::Text => "O10",
+            Cause::Labels(error) => error.code(),
+            Cause::Time => "O11",
+            Cause::End => "O12",
+        }
+    }
+}
+
+/// Where and why a text is refused.
+#[derive(Clone, Copy, Debug, PartialEq, Eq, Drop)]
+pub struct Refusal {
+    /// The number of the line, from 1.
+    pub line: u64,
+    /// The column of the line in bytes, from 1.
+    pub column: u64,
+    /// The cause.
+    pub cause: Cause,
+}
+
+/// Why no rows are read.
+#[derive(Clone, Copy, Debug, PartialEq, Eq, Drop)]
+pub enum ReadError {
+    /// No memory is left.
+    Memory,
+    /// The first line that is wrong.
+    Refused(Refusal),
+}
+
+impl From<AllocError> for ReadError {
+    fn from(_error: AllocError) -> ReadError {
+        ReadError::Memory
+    }
+}
+
+impl<T: Drop> From<AllocFailed<T>> for ReadError {
+    fn from(_error: AllocFailed<T>) -> ReadError {
+        ReadError::Memory
+    }
+}
