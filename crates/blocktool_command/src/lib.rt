@@ -2,8 +2,8 @@
 //!
 //! [`run`] does what the words after the program's name ask for. An `Input` gives rows in a range
 //! of times and counts what it read; `conversion` makes of several inputs, of which the later
-//! wins, one output after another. `from_prometheus` opens blocks of Prometheus (`prometheus`) as
-//! inputs and plans into how many outputs their times are cut. What is refused, and with which
+//! wins, one output after another. `from_prometheus` finds blocks of Prometheus (`folder`), opens
+//! them (`prometheus`) as inputs and plans into how many outputs their times are cut. What is refused, and with which
 //! status a line ends, is said by `fault` and `program`.
 //!
 //! It stands on `prometheus_block` for what is read, on `imported_values` for values, on
@@ -14,8 +14,10 @@ mod command;
 mod conversion;
 mod fault;
 mod files;
+mod folder;
 mod from_prometheus;
 mod input;
+mod laws;
 mod list;
 mod listed;
 mod own;
@@ -25,7 +27,9 @@ mod prometheus;
 mod rewrite;
 mod summary;
 mod target;
+mod teller;
 
 pub use fault::Fault;
+pub use laws::blocks_give_their_content;
 pub use listed::rows_give_their_content;
 pub use program::{Ending, run};

@@ -5,20 +5,22 @@ use crate::fault::Fault;
 use crate::from_prometheus::from_prometheus;
 use crate::list::list;
 use crate::rewrite::rewrite;
+use crate::teller::Teller;
 use clap::error::ErrorKind;
 use std::alloc::Global;
 use std::io::{self, Write};
 use std::rt::Files;
 
-fn execute<R: Files + AllocGlobal + Clone + Drop, W: Write>(
+fn execute<R: Files + AllocGlobal + Clone + Drop, W: Write, E: Write>(
     alloc: Global,
     rt: &R,
     words: &[String],
     out: &mut W,
+    teller: &mut Teller<'_, E>,
 ) -> Result<(), Fault> {
     match read_line(alloc, words) {
         Ok(Line::FromPrometheus(options, blocks)) => {
-            from_prometheus(alloc, rt, &options, blocks.as_slice(), out)
+            from_prometheus(alloc, rt, &options, blocks.as_slice(), out, teller)
         }
         Ok(Line::Rewrite(into, directories)) => {
             rewrite(alloc, rt, into, directories.as_slice(), out)
@@ -46,22 +48,25 @@ pub struct Ending {
 ///
 /// Standard output has a line for each output and one that tells what became of every sample. The
 /// status is 0 where all was done, 1 for a refusal, 2 for a fault of the words, 3 for what cannot
-/// be read or written, and 4 for want of memory; a line on the second writer says why.
+/// be read or written, and 4 for want of memory; a line on the second writer says why. It also
+/// tells what is passed over and, if it is a terminal, what the program is at.
 pub fn run<R: Files + AllocGlobal + Clone + Drop, W: Write, E: Write>(
     alloc: Global,
     rt: &R,
     words: &[String],
     out: &mut W,
     err: &mut E,
+    is_terminal: bool,
 ) -> Ending {
-    match execute(alloc, rt, words, out) {
+    let mut teller = Teller { err, is_terminal };
+    match execute(alloc, rt, words, out, &mut teller) {
         Ok(()) => Ending {
             status: 0,
             told: Ok(()),
         },
         Err(fault) => Ending {
             status: fault.status(),
-            told: fault.tell(err),
+            told: fault.tell(teller.err),
         },
     }
 }
