@@ -1,5 +1,6 @@
 -- What inputs and outputs hold.
-use Rattle.std.specs.Prelude.{◌≡◌, ◌≤ℤ◌, ◌+ℤ◌, ℕ, ℤ, pos, Bool, List, [], ◌∷◌, ◌++◌, map, refl, filter}
+use Rattle.std.specs.Prelude.{◌≡◌, ◌≤ℤ◌, ◌+ℤ◌, ℕ, ℤ, pos, Bool, List, [], ◌∷◌, ◌++◌, map, refl}
+use Rattle.std.specs.Prelude.{filter}
 use Rattle.std.proofs.Common.{sym, ap, subst, ◌∙◌, append_assoc, arith}
 use Rattle.std.proofs.lemmas.Int.{ints}
 use Rattle.labels.specs.Labels.{Labels, Point}

@@ -90,12 +90,7 @@ fn time<'a>(alloc: Global, name: &'a str, help: &'a str) -> Arg<'a> {
         .help(help)
 }
 
-fn choice<'a>(
-    alloc: Global,
-    name: &'a str,
-    choices: &'a [&'a str],
-    help: &'a str,
-) -> Arg<'a> {
+fn choice<'a>(alloc: Global, name: &'a str, choices: &'a [&'a str], help: &'a str) -> Arg<'a> {
     Arg::new(alloc, name)
         .long(name)
         .value_name("WHAT")

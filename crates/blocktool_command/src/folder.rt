@@ -14,11 +14,7 @@ use std::rt::Files;
 type Placed = (i64, String);
 
 /// The first time of the range that the meta.json of a block says.
-fn begin_of<R: Files + AllocGlobal>(
-    alloc: Global,
-    rt: &R,
-    directory: &str,
-) -> Result<i64, Fault> {
+fn begin_of<R: Files + AllocGlobal>(alloc: Global, rt: &R, directory: &str) -> Result<i64, Fault> {
     let meta = read_file(alloc, rt, directory, "meta.json")?;
     match Range::read_meta(alloc, meta.as_slice()) {
         Ok(range) => Ok(range.min()),
