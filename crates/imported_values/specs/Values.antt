@@ -56,8 +56,8 @@ pub record IsRoundedBy (policy : Policy) (bits : ℕ) (v : ℤ) : Type 0 where
   pub nearest : IsNearestParts policy.digits bits v
 
 -- what becomes of the value with these bits: a stale marker is left out or refused, a number of
--- parts is kept as it is, any other value is left out, refused or rounded; nothing else is kept, and
--- nothing else is rounded
+-- parts is kept as it is, any other value is left out, refused or rounded; nothing else is kept or
+-- rounded
 pub record IsVerdict (policy : Policy) (bits : ℕ) (verdict : Verdict) : Type 0 where
   pub stale : bits ≡ stale_marker → verdict ≡ verdict_of_stale policy.stale
   pub kept : (v : ℤ) → IsExact policy.digits bits v → verdict ≡ Kept v

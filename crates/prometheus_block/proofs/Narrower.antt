@@ -31,7 +31,8 @@ use Rattle.prometheus_block.specs.declared.keeping.Fate.TheVariants.{Outside, De
 use Rattle.prometheus_block.specs.declared.keeping.Tally.{Tally}
 use Rattle.prometheus_block.specs.declared.keeping.Times.{Times}
 use Rattle.prometheus_block.specs.declared.rows.Wanted.{Wanted}
-use Rattle.prometheus_block.specs.Keeping.{AreFates, IsFate, is_asked, is_deleted, kept_of, kept_one}
+use Rattle.prometheus_block.specs.Keeping.{AreFates, IsFate, is_asked, is_deleted, kept_of}
+use Rattle.prometheus_block.specs.Keeping.{kept_one}
 use Rattle.prometheus_block.specs.Reading.{Held, chunk_read}
 use Rattle.prometheus_block.specs.Narrowing.{AreReadAlike, IsPartOf}
 use Rattle.prometheus_block.specs.Rows.{AreRowsOf, IsAskedOf, IsRowAfter, row_if, rows_between}
@@ -57,7 +58,8 @@ rounded_again p bits x w v h =
     told.0 x r.nearest
 
 -- two verdicts of a value keep the same
-one_verdict : (p : Policy) (bits : ℕ) (t : ℤ) (v w : Verdict) → IsVerdict p bits v → IsVerdict p bits w
+one_verdict : (p : Policy) (bits : ℕ) (t : ℤ) (v w : Verdict) → IsVerdict p bits v
+    → IsVerdict p bits w
     → kept_one t (Judged v) ≡ kept_one t (Judged w)
 one_verdict p bits t (Kept x) w a b =
     ap (λ (z : Verdict). kept_one t (Judged z)) (sym (b.kept x (a.only x refl)))
@@ -159,7 +161,8 @@ module _ (narrow wide : Asked) (n : IsNarrower narrow wide) where
       go false e = none_kept s g e b ∙ sym (inside_one s.0 f false e)
 
   -- of the same samples
-  pub all_kept : (xs : List Sample) (fs gs : List Fate) → AreFates wide xs fs → AreFates narrow xs gs
+  pub all_kept : (xs : List Sample) (fs gs : List Fate) → AreFates wide xs fs
+      → AreFates narrow xs gs
       → kept_of xs gs ≡ inside (kept_of xs fs)
   all_kept [] fs gs a b = refl
   all_kept (x ∷ xs) [] gs a b = absurd a
@@ -257,7 +260,8 @@ module _ (reads : Segments) (alike : AreReadAlike reads) (narrow wide : Asked)
       → kept_of ys gs ≡ within narrow.times.from narrow.times.to (kept_of xs fs)
   one_chunk c xs ys fs gs (inl a) (inl b) f g =
       ap (λ (zs : List Sample). kept_of zs gs) b.1
-      ∙ sym (ap (λ (zs : List Sample). within narrow.times.from narrow.times.to (kept_of zs fs)) a.1)
+      ∙ sym (ap (λ (zs : List Sample). within narrow.times.from narrow.times.to (kept_of zs fs))
+      a.1)
   one_chunk c xs ys fs gs (inl a) (inr b) f g =
       absurd (differ (meets wide.times c) (meets_too c b.0) a.0)
   one_chunk c xs ys fs gs (inr a) (inl b) f g =
@@ -272,7 +276,8 @@ module _ (reads : Segments) (alike : AreReadAlike reads) (narrow wide : Asked)
       let q = b.1.1 in
       let bytes = alike (c.reference / 0x1_0000_0000) q.segment p.segment q.reads_so p.reads_so in
       let again = subst (λ (s : List ℕ). chunk_read s c ≡ Ok (b.1.0, q.histograms)) bytes q.held in
-      let same = held_same b.1.0 a.1.0 q.histograms p.histograms (chunk_read p.segment c) again p.held in
+      let same =
+      held_same b.1.0 a.1.0 q.histograms p.histograms (chunk_read p.segment c) again p.held in
       let ys_is : ys ≡ xs = b.1.2 ∙ (same ∙ sym a.1.2) in
       let g' = subst (λ (zs : List Sample). AreFates narrow zs gs) ys_is g in
       ap (λ (zs : List Sample). kept_of zs gs) ys_is ∙ all_kept narrow wide n xs fs gs f g'
@@ -287,7 +292,8 @@ module _ (reads : Segments) (alike : AreReadAlike reads) (narrow wide : Asked)
       ∙ sym (ap (λ (zs : List Sample). within narrow.times.from narrow.times.to (kept_of zs fs)) a)
   chunks_kept (c ∷ cs) xs ys fs gs a b f g =
       let p = parted wide a.0 a.1 fs (subst (λ (zs : List Sample). AreFates wide zs fs) a.2 f) in
-      let q = parted narrow b.0 b.1 gs (subst (λ (zs : List Sample). AreFates narrow zs gs) b.2 g) in
+      let q =
+      parted narrow b.0 b.1 gs (subst (λ (zs : List Sample). AreFates narrow zs gs) b.2 g) in
       let one = one_chunk c a.0 b.0 p.first q.first a.3 b.3 p.of_first q.of_first in
       let more = chunks_kept cs a.1 b.1 p.later q.later a.4 b.4 p.of_later q.of_later in
       let inside = within narrow.times.from narrow.times.to in
@@ -325,8 +331,10 @@ kept_between : (reads : Segments) (s : Series) (narrow wide : Wanted) (all rows 
     → (x : IsRowAfter reads wide s [] all a b) → (y : IsRowAfter reads narrow s [] rows c d)
     → y.kept ≡ within narrow.times.from narrow.times.to x.kept
 kept_between reads s narrow wide all rows a b c d alike p x y =
-    let held = subst (λ (t : Times). AreSamplesIn reads t s.chunks x.samples) (sym x.of.times) x.held in
-    let own = subst (λ (t : Times). AreSamplesIn reads t s.chunks y.samples) (sym y.of.times) y.held in
+    let held =
+    subst (λ (t : Times). AreSamplesIn reads t s.chunks x.samples) (sym x.of.times) x.held in
+    let own =
+    subst (λ (t : Times). AreSamplesIn reads t s.chunks y.samples) (sym y.of.times) y.held in
     let n = asked_narrower s narrow wide y.asked x.asked p y.of x.of in
     let inside = λ (t : Times) (k : List (ℤ × ℤ)). within t.from t.to k in
     y.keeps.kept

@@ -192,7 +192,8 @@ held_lie c encoding body samples histograms h =
           subst (LieIn c) (ap (λ (p : Held). p.0) (same_value made whole a.2))
           (floats_lie c body a.0 a.1)
       | inr t ↦
-          let p = passed (encoding == 2 || encoding == 3) (source.Chunk OtherEncoding) _ whole t.1 in
+          let p =
+          passed (encoding == 2 || encoding == 3) (source.Chunk OtherEncoding) _ whole t.1 in
           let a = bind_ok (count_at body) _ whole p.1 in
           let made : Held = ([], a.0) in
           subst (LieIn c) (ap (λ (q : Held). q.0) (same_value made whole a.2)) tt

@@ -18,8 +18,8 @@ pub record IsPartOf (narrow wide : Wanted) : Type 0 where
   pub from : wide.times.from ≤ℤ narrow.times.from
   pub to : narrow.times.to ≤ℤ wide.times.to
 
--- where segments are read alike each time, the rows of a part of a range are those of the whole with
--- their samples in it
+-- where segments are read alike each time, the rows of a part of a range are those of the whole
+-- with their samples in it
 abbrev pub PartsHaveTheRowsBetween : Segments → Type 0
 PartsHaveTheRowsBetween reads = AreReadAlike reads → (narrow wide : Wanted) → IsPartOf narrow wide
     → (ss : List Series) (all rows : List Row) (a b c d : Tally)

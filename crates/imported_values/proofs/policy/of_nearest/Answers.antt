@@ -1,7 +1,8 @@
 use Rattle.std.proofs.Common.{ℤ, ap, sym, subst, ◌∙◌}
 use Rattle.imported_values.specs.declared.policy.Verdict.TheVariants.{Rounded}
 use Rattle.imported_values.specs.Values.{IsNearestParts}
-use Rattle.imported_values.proofs.Parts.{nearest_parts, none_not, passed_on, rounded_same, some_same}
+use Rattle.imported_values.proofs.Parts.{nearest_parts, none_not, passed_on, rounded_same}
+use Rattle.imported_values.proofs.Parts.{some_same}
 use Rattle.imported_values.proofs.policy.of_nearest.Goals as goal
 
 pub returns-in-Some-clause-nearest : goal.returns-in-Some-clause-nearest
