@@ -1,8 +1,9 @@
 """Reads blocks with uncompressed chunks straight from their bytes, and compares them with `promtool tsdb dump`.
 
     read_block.py texts DIR [large]                           writes texts of OpenMetrics into DIR
-    read_block.py compare DIGITS TOLD TSDB.. -- BLOCK..       the blocks hold what `promtool tsdb dump` prints of each TSDB,
-                                                              the later wins, times 10^DIGITS; the counts in TOLD are right
+    read_block.py compare DIGITS REST TOLD TSDB.. -- BLOCK..  the blocks hold what `promtool tsdb dump` prints of each TSDB,
+                                                              the later wins, times 10^DIGITS, other values dropped or
+                                                              rounded; the counts in TOLD are right
     read_block.py text DIGITS TOLD TEXT -- BLOCK..            the blocks hold the samples that a text writes, read as decimals;
                                                               of two at one time that of the later line; the counts are right
     read_block.py reply BLOCK..                               prints the rows of the blocks as a reply
@@ -12,6 +13,7 @@
 """
 import ast, glob, json, os, random, re, shutil, struct, subprocess, sys
 from decimal import Decimal
+from fractions import Fraction
 
 
 def uvar(b, p):
@@ -72,8 +74,8 @@ def blocks(ds):
 
 
 LAB = re.compile(r'([a-zA-Z_][a-zA-Z0-9_]*)=("(?:[^"\\]|\\.)*")')
-def dump(lines, digits):
-    out = {}; left = 0
+def dump(lines, digits, rest):
+    out = {}; left = 0; rounded = 0
     for line in lines:
         i = line.rindex("} "); lab = line[1:i]; v, t = line[i+2:].split()
         key = tuple(sorted((a, ast.literal_eval(b)) for a, b in LAB.findall(lab)))
@@ -81,9 +83,13 @@ def dump(lines, digits):
         f = float(v)
         whole = f == int(f)
         x = (Decimal(int(f)) if whole else Decimal(repr(f))).scaleb(digits)
-        if x != x.to_integral_value() or abs(x) >= (2**63 if whole else 10**15): left += 1; continue
+        if x != x.to_integral_value() or abs(x) >= (2**63 if whole else 10**15):
+            # Python rounds a fraction to the nearest whole number, and a half to the even one
+            x = round(Fraction(f) * 10**digits)
+            if rest != "round" or abs(x) >= 2**63: left += 1; continue
+            rounded += 1
         out.setdefault(key, []).append((int(t), int(x)))
-    return out, left
+    return out, left, rounded
 
 
 def texts(folder, large):
@@ -185,11 +191,12 @@ def same(digits, tsdb, folders):
     print("the same:", sum(map(len, got.values())), "samples of", len(got), "series back in promtool")
 
 
-def compare(digits, told, tsdbs, folders):
-    want, left, given = {}, 0, 0
+def compare(digits, rest, told, tsdbs, folders):
+    want, left, given, rounded = {}, 0, 0, 0
     for tsdb in tsdbs:
-        rows, rest = dump(dump_of(tsdb).splitlines(), digits)
-        left += rest
+        rows, other, more = dump(dump_of(tsdb).splitlines(), digits, rest)
+        left += other
+        rounded += more
         for k, samples in rows.items():
             given += len(samples)
             want.setdefault(k, {}).update(samples)
@@ -214,7 +221,8 @@ def compare(digits, told, tsdbs, folders):
     counts = counts_in(told)
     assert counts["kept"] == count and counts["hidden"] == given - count, (counts, count, given)
     assert counts["stale"] + counts["of other"] == left, (counts, left)
-    print("the same:", count, "samples of", len(got), "series in", len(folders), "blocks;", left, "left out")
+    assert int(re.search(r"(\d+) rounded", open(told).read()).group(1)) == rounded, rounded
+    print("the same:", count, "samples of", len(got), "series in", len(folders), "blocks;", left, "left out,", rounded, "rounded")
 
 
 def crc32c(data):
@@ -284,7 +292,7 @@ if __name__ == "__main__":
         texts(sys.argv[2], len(sys.argv) > 3)
     elif sys.argv[1] == "compare":
         cut = sys.argv.index("--")
-        compare(int(sys.argv[2]), sys.argv[3], sys.argv[4:cut], sys.argv[cut + 1:])
+        compare(int(sys.argv[2]), sys.argv[3], sys.argv[4], sys.argv[5:cut], sys.argv[cut + 1:])
     elif sys.argv[1] == "text":
         compare_text(int(sys.argv[2]), sys.argv[3], sys.argv[4], sys.argv[6:])
     elif sys.argv[1] == "reply":

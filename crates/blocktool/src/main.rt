@@ -4,7 +4,7 @@
 #![tactic(auto)]
 
 use blocktool_command::run;
-use std::io;
+use std::io::{self, IsTerminal};
 use std::process::ExitCode;
 
 fn main(rt: HostRuntime) -> io::Result<ExitCode> {
@@ -17,6 +17,14 @@ fn main(rt: HostRuntime) -> io::Result<ExitCode> {
     let (stdout, stderr) = (rt.stdout(), rt.stderr());
     let mut out = io::writer(&stdout);
     let mut err = io::writer(&stderr);
-    let ending = run(alloc, &rt, words.as_slice(), &mut input, &mut out, &mut err);
+    let ending = run(
+        alloc,
+        &rt,
+        words.as_slice(),
+        &mut input,
+        &mut out,
+        &mut err,
+        stderr.is_terminal(),
+    );
     Ok(ExitCode::from(ending.status))
 }

@@ -5,8 +5,7 @@ use Rattle.std.proofs.lemmas.Grind.{take_at_read}
 use Rattle.std.proofs.lemmas.List.{append-nil}
 use Rattle.labels.specs.Rows.{Row}
 use Rattle.labels.specs.Parts.{within}
-use Rattle.prometheus_block.specs.Rows.{row_if}
-use Rattle.blocktool_command.specs.Listed.{rows_between}
+use Rattle.prometheus_block.specs.Rows.{row_if, rows_between}
 
 between_last : (from to : ℤ) (rows : List Row) (row : Row)
     → rows_between from to (rows ++ row ∷ []) ≡ rows_between from to rows ++ row_if row.0

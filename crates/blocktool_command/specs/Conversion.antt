@@ -1,5 +1,5 @@
 -- Outputs of several inputs.
-use Rattle.std.specs.Prelude.{◌≡◌, ℕ, ◌+◌, ◌-◌, ◌^◌, min, ℤ, List, [], ◌∷◌, map}
+use Rattle.std.specs.Prelude.{◌≡◌, ℕ, ◌+◌, ◌-◌, ◌^◌, min, ℤ, ◌≤ℤ◌, List, [], ◌∷◌, map}
 use Rattle.labels.specs.Contents.{Content}
 use Rattle.labels.specs.Rows.{Row, points_of}
 use Rattle.labels.specs.Parts.{laid_over}
@@ -70,34 +70,36 @@ AreConvertedFrom {I} {D} gives did inputs into (s ∷ ss) (rows ∷ outputs) old
 -- no sample
 abbrev pub nothing : Account
 nothing = record {
-  tally = record { kept = 0; stale = 0; rest = 0; deleted = 0; outside = 0 };
+  tally = record { kept = 0; rounded = 0; stale = 0; rest = 0; deleted = 0; outside = 0 };
   hidden = 0;
 }
 
--- each input gives of a range exactly what its content has in it
-abbrev pub GiveContents : {I : Type 0} → Gives I → (I → Content) → Type 0
-GiveContents {I} gives content =
-    (input : I) (s : Stretch) (rows : List Row) (old new : Tally) → gives input s rows old new
+-- each input gives of each part of a range exactly what its content has in it
+abbrev pub GiveContents : {I : Type 0} → Gives I → (I → Content) → ℤ → ℤ → Type 0
+GiveContents {I} gives content from to =
+    (input : I) (s : Stretch) → from ≤ℤ s.from → s.to ≤ℤ to
+    → (rows : List Row) (old new : Tally) → gives input s rows old new
     → laid_over (points_of rows) [] ≡ restricted s.from s.to (content input)
 
--- the outputs of ranges, which are written one after another; where each input has a content and
--- the
--- ranges are tiles of one, the outputs hold together exactly what the contents have in it, in which
--- the later input wins
+-- the outputs of ranges, which are written one after another; where each input has a content in a
+-- range and the ranges are its tiles, the outputs hold together exactly what the contents have in
+-- it, in which the later input wins
 pub record AreConverted {I D : Type 0} (gives : Gives I) (did : D → List Did → Type 0)
     (inputs : List I) (into : List ℕ) (ss : List Stretch) (account : Account)
     (before after : D) : Type 0 where
   pub outputs : List (List Row)
   pub each : AreConvertedFrom gives did inputs into ss outputs nothing account before after
-  pub whole : (content : I → Content) → GiveContents gives content
-      → (from to : ℤ) → AreTiles from to ss → HoldAll (map content inputs) from to outputs
+  pub whole : (content : I → Content) (from to : ℤ) → GiveContents gives content from to
+      → AreTiles from to ss → HoldAll (map content inputs) from to outputs
 
--- what became of so many samples that were counted: each is told in exactly one count
+-- what became of so many samples that were counted: each is told in exactly one count; those that
+-- were rounded are among the kept and the hidden
 pub record IsSummaryOf (counted : Counted) (account : Account) (s : Summary) : Type 0 where
   pub all : s.read ≡ s.kept + s.hidden + s.stale + s.rest + s.deleted + s.outside
   pub read : s.read ≡ counted.samples
   pub kept : s.kept + s.hidden ≡ account.tally.kept
   pub hidden : s.hidden ≡ account.hidden
+  pub rounded : s.rounded ≡ account.tally.rounded
   pub stale : s.stale ≡ account.tally.stale
   pub rest : s.rest ≡ account.tally.rest
   pub deleted : s.deleted ≡ account.tally.deleted

@@ -1,20 +1,14 @@
 -- Rows in memory, in a range of times.
-use Rattle.std.specs.Prelude.{◌≡◌, ◌+◌, ℤ, List, [], ◌∷◌, ◌++◌}
+use Rattle.std.specs.Prelude.{◌≡◌, ◌+◌, List, []}
 use Rattle.labels.specs.Contents.{Content}
 use Rattle.labels.specs.Rows.{Row, points_of}
-use Rattle.labels.specs.Parts.{laid_over, within}
+use Rattle.labels.specs.Parts.{laid_over}
 use Rattle.prometheus_block.specs.declared.keeping.Tally.{Tally}
-use Rattle.prometheus_block.specs.Rows.{row_if}
+use Rattle.prometheus_block.specs.Rows.{rows_between}
 use Rattle.block_outputs.specs.declared.tiles.Stretch.{Stretch}
 use Rattle.block_outputs.specs.Contents.{restricted}
 use Rattle.block_outputs.specs.Writing.{samples_in}
 use Rattle.blocktool_command.specs.Conversion.{capped}
-
--- the rows with their samples in a closed range; a row without one is none
-abbrev pub rows_between : ℤ → ℤ → List Row → List Row
-rows_between from to [] = []
-rows_between from to (row ∷ rows) =
-    row_if row.0 (within from to row.1) ++ rows_between from to rows
 
 -- counts with so many kept samples more
 abbrev pub IsKept : List Row → Tally → Tally → Type 0

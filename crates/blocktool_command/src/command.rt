@@ -38,6 +38,8 @@ pub(crate) enum Line<'a> {
 
 const CHOICES: [&str; 2] = ["refuse", "drop"];
 
+const RESTS: [&str; 3] = ["refuse", "drop", "round"];
+
 pub(crate) const FROM: &str = "The first time that is kept, in milliseconds [default: -2^62]";
 
 pub(crate) const TO: &str = "The last time that is kept, in milliseconds [default: 2^62 - 1]";
@@ -45,17 +47,20 @@ pub(crate) const TO: &str = "The last time that is kept, in milliseconds [defaul
 const PROMETHEUS: &str =
     "Example: blocktool from-prometheus --decimals 3 --rest drop --into mine data/01HX*
 
-Each BLOCK is a directory with index, chunks/ and tombstones, as Prometheus and promtool write it.
-The outputs are OUT/0001, OUT/0002 and so on, at most 63, one range of times after another. Of two
-samples of one series at one time that of the later BLOCK is kept. OUT must be empty or not be
-there. Each output is made under another name, synced, and then renamed.
+Each BLOCK is a directory with index, chunks/ and tombstones, as Prometheus and promtool write it,
+or a folder that holds such blocks, as a server's data: they are taken in the order of their times,
+and other directories in it are told and passed over. The outputs are OUT/0001, OUT/0002 and so on,
+at most 63, one range of times after another. Of two samples of one series at one time that of the
+later BLOCK is kept. OUT must be empty or not be there. Each output is made under another name,
+synced, and then renamed.
 
 For each output a line is printed, and then one that tells every sample that was read in one count:
   OUT/0001: 10 series 1200 samples, 1700006400000 to 1700008185001
   read 1200 samples: 1200 kept, 0 stale, 0 of other values, 0 deleted, 0 hidden, 0 outside; ..
 
-A value is kept as a whole number of parts, of which 10^N make one. Stale markers are no samples.
-Histograms are left.
+A value is kept as a whole number of parts, of which 10^N make one. --rest round keeps a fraction as
+the nearest such number, of two the even one, and drops NaN, infinities and 2^63 parts and more.
+Stale markers are no samples. Histograms are left.
 
 Exit status: 0 done; 1 refused, with the place on standard error; 2 a fault of the words; 3 cannot
 read or write; 4 no memory";
@@ -94,11 +99,11 @@ pub(crate) fn time<'a>(alloc: Global, name: &'a str, help: &'a str) -> Arg<'a> {
         .help(help)
 }
 
-fn choice<'a>(alloc: Global, name: &'a str, help: &'a str) -> Arg<'a> {
+fn choice<'a>(alloc: Global, name: &'a str, choices: &'a [&'a str], help: &'a str) -> Arg<'a> {
     Arg::new(alloc, name)
         .long(name)
         .value_name("WHAT")
-        .value_parser(ValueParser::from(CHOICES.as_slice()))
+        .value_parser(ValueParser::from(choices))
         .help(help)
 }
 
@@ -123,7 +128,7 @@ fn blocks<'a>(alloc: Global) -> Arg<'a> {
         .value_name("BLOCK")
         .num_args(1..)
         .required(true)
-        .help("A directory with a block of Prometheus")
+        .help("A block of Prometheus, or a folder that holds some")
 }
 
 fn from_prometheus<'a>(alloc: Global) -> Result<Command<'a>, AllocError> {
@@ -131,8 +136,8 @@ fn from_prometheus<'a>(alloc: Global) -> Result<Command<'a>, AllocError> {
         .about("Makes blocks out of blocks of Prometheus")
         .after_help(PROMETHEUS)
         .arg(digits(alloc))?
-        .arg(choice(alloc, "rest", ABOUT_REST))?
-        .arg(choice(alloc, "stale", ABOUT_STALE))?
+        .arg(choice(alloc, "rest", RESTS.as_slice(), ABOUT_REST))?
+        .arg(choice(alloc, "stale", CHOICES.as_slice(), ABOUT_STALE))?
         .arg(time(alloc, "from", FROM))?
         .arg(time(alloc, "to", TO))?
         .arg(into(alloc))?
@@ -199,6 +204,8 @@ fn is_chosen(found: &ArgMatches<'_>, name: &str, choice: &str) -> bool {
 pub(crate) fn options_in<'a>(found: &ArgMatches<'a>) -> Option<Options<'a>> {
     let rest = if is_chosen(found, "rest", "drop") {
         Rest::Drop
+    } else if is_chosen(found, "rest", "round") {
+        Rest::Round
     } else {
         Rest::Refuse
     };

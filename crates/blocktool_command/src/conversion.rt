@@ -120,6 +120,7 @@ pub(crate) fn convert<I: Input, D: Disk, W: Write>(
     let mut account = Account {
         tally: Tally {
             kept: 0,
+            rounded: 0,
             stale: 0,
             rest: 0,
             deleted: 0,

@@ -2,9 +2,11 @@
 
 use crate::command::Options;
 use crate::fault::Fault;
+use crate::folder::find_blocks;
 use crate::plan::{make_outputs, plan_for};
 use crate::prometheus::{Segments, Source, open_source};
 use crate::target::{Target, make_folder, send};
+use crate::teller::Teller;
 use block_folder::HostDisk;
 use std::alloc::Global;
 use std::io::Write;
@@ -14,26 +16,31 @@ fn open_all<'a, R: Files + AllocGlobal>(
     alloc: Global,
     rt: &'a R,
     options: &Options<'_>,
-    blocks: &[&'a str],
+    blocks: &'a [String],
 ) -> Result<Vec<Source<'a, Segments<'a, R>>>, Fault> {
     let mut sources = Vec::new(alloc);
     for block in blocks {
-        let source = open_source(alloc, rt, *block, options.policy)?;
+        let source = open_source(alloc, rt, block.as_str(), options.policy)?;
         sources.push(source)?;
     }
     Ok(sources)
 }
 
-/// Makes blocks out of the blocks of Prometheus in directories, of which the later wins.
-pub(crate) fn from_prometheus<R: Files + AllocGlobal + Clone + Drop, W: Write>(
+/// Makes blocks out of the blocks of Prometheus that paths name, of which the later wins.
+pub(crate) fn from_prometheus<R: Files + AllocGlobal + Clone + Drop, W: Write, E: Write>(
     alloc: Global,
     rt: &R,
     options: &Options<'_>,
-    blocks: &[&str],
+    paths: &[&str],
     out: &mut W,
+    teller: &mut Teller<'_, E>,
 ) -> Result<(), Fault> {
-    let sources = open_all(alloc, rt, options, blocks)?;
+    let blocks = find_blocks(alloc, rt, paths, teller)?;
+    teller.is_at("reading the indexes")?;
+    let sources = open_all(alloc, rt, options, blocks.as_slice())?;
+    teller.is_at("counting the samples")?;
     let plan = plan_for(alloc, sources.as_slice(), options.times)?;
+    teller.is_at("writing the outputs")?;
     make_folder(alloc, rt, options.into)?;
     let target = Target {
         into: options.into,

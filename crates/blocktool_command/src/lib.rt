@@ -1,10 +1,10 @@
 //! What the program `blocktool` does: it makes blocks of this project from other programs' data.
 //!
 //! [`run`] does what the words after the program's name ask for. An `Input` gives rows in a range
-//! of times and counts what it read; `conversion` makes of several inputs, of which the later
-//! wins, one output after another. `from_prometheus` opens blocks of Prometheus (`prometheus`) as
-//! inputs and plans into how many outputs their times are cut. What is refused, and with which
-//! status a line ends, is said by `fault` and `program`.
+//! of times and counts what it read; `conversion` makes of several inputs, of which the later wins,
+//! one output after another. `from_prometheus` finds blocks of Prometheus (`folder`), opens them
+//! (`prometheus`) as inputs and plans into how many outputs their times are cut. What is refused,
+//! and with which status a line ends, is said by `fault` and `program`.
 //!
 //! It stands on `prometheus_block` for what is read, on `imported_values` for values, on
 //! `block_outputs` and `block_folder` for what is written, and on `clap` for words.
@@ -14,10 +14,12 @@ mod command;
 mod conversion;
 mod fault;
 mod files;
+mod folder;
 mod from_openmetrics;
 mod from_prometheus;
 mod from_rows;
 mod input;
+mod laws;
 mod list;
 mod listed;
 mod own;
@@ -28,11 +30,13 @@ mod rewrite;
 mod said;
 mod summary;
 mod target;
+mod teller;
 mod text_commands;
 mod texts;
 mod to_openmetrics;
 
 pub use fault::Fault;
+pub use laws::blocks_give_their_content;
 pub use listed::rows_give_their_content;
 pub use program::{Ending, run};
 pub use said::texts_give_their_content;

@@ -2,8 +2,8 @@
 
 ghost use Rattle.std.specs.Prelude.{◌≡◌, ◌++◌, ◌==◌, length, IfOk, OnOk};
 ghost use Rattle.labels.specs.Parts.{within};
-ghost use Rattle.prometheus_block.specs.Rows.{row_if};
-ghost use Rattle.blocktool_command.specs.Listed.{rows_between, IsGivenByRows};
+ghost use Rattle.prometheus_block.specs.Rows.{row_if, rows_between};
+ghost use Rattle.blocktool_command.specs.Listed.{IsGivenByRows};
 ghost use Rattle.blocktool_command.specs.Listed.{RowsGiveTheirContent};
 
 use crate::fault::Fault;

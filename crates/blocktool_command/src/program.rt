@@ -7,22 +7,24 @@ use crate::from_prometheus::from_prometheus;
 use crate::from_rows::from_rows;
 use crate::list::list;
 use crate::rewrite::rewrite;
+use crate::teller::Teller;
 use crate::to_openmetrics::to_openmetrics;
 use clap::error::ErrorKind;
 use std::alloc::Global;
 use std::io::{self, Read, Write};
 use std::rt::Files;
 
-fn execute<R: Files + AllocGlobal + Clone + Drop, I: Read, W: Write>(
+fn execute<R: Files + AllocGlobal + Clone + Drop, I: Read, W: Write, E: Write>(
     alloc: Global,
     rt: &R,
     words: &[String],
     input: &mut I,
     out: &mut W,
+    teller: &mut Teller<'_, E>,
 ) -> Result<(), Fault> {
     match read_line(alloc, words) {
         Ok(Line::FromPrometheus(options, blocks)) => {
-            from_prometheus(alloc, rt, &options, blocks.as_slice(), out)
+            from_prometheus(alloc, rt, &options, blocks.as_slice(), out, teller)
         }
         Ok(Line::Rewrite(into, directories)) => {
             rewrite(alloc, rt, into, directories.as_slice(), out)
@@ -57,8 +59,9 @@ pub struct Ending {
 ///
 /// Standard output has a line for each output and one that tells what became of every sample. The
 /// status is 0 where all was done, 1 for a refusal, 2 for a fault of the words, 3 for what cannot
-/// be read or written, and 4 for want of memory; a line on the second writer says why. The reader
-/// is standard input, which is read only if the words name no file of text.
+/// be read or written, and 4 for want of memory; a line on the second writer says why. It also
+/// tells what is passed over and, if it is a terminal, what the program is at. The reader is
+/// standard input, which is read only if the words name no file of text.
 pub fn run<R: Files + AllocGlobal + Clone + Drop, I: Read, W: Write, E: Write>(
     alloc: Global,
     rt: &R,
@@ -66,15 +69,17 @@ pub fn run<R: Files + AllocGlobal + Clone + Drop, I: Read, W: Write, E: Write>(
     input: &mut I,
     out: &mut W,
     err: &mut E,
+    is_terminal: bool,
 ) -> Ending {
-    match execute(alloc, rt, words, input, out) {
+    let mut teller = Teller { err, is_terminal };
+    match execute(alloc, rt, words, input, out, &mut teller) {
         Ok(()) => Ending {
             status: 0,
             told: Ok(()),
         },
         Err(fault) => Ending {
             status: fault.status(),
-            told: fault.tell(err),
+            told: fault.tell(teller.err),
         },
     }
 }

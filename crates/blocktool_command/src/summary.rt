@@ -8,7 +8,8 @@ use prometheus_block::Counted;
 use std::alloc::{AllocError, Global};
 
 /// How many samples were read, and what became of them: each is told in exactly one of the other
-/// counts. Histograms are none.
+/// counts. Those that were rounded are told among the kept and the hidden, and once more.
+/// Histograms are none.
 #[derive(Clone, Copy, Debug, PartialEq, Eq, Drop)]
 pub(crate) struct Summary {
     read: u64,
@@ -18,6 +19,7 @@ pub(crate) struct Summary {
     deleted: u64,
     hidden: u64,
     outside: u64,
+    rounded: u64,
     histograms: u64,
 }
 
@@ -44,6 +46,7 @@ impl Summary {
             deleted: tally.deleted,
             hidden,
             outside,
+            rounded: tally.rounded,
             histograms: counted.histograms,
         })
     }
@@ -58,12 +61,13 @@ impl Summary {
             deleted,
             hidden,
             outside,
+            rounded,
             histograms,
         } = *self;
         format!(in alloc;
             "read {read} samples: {kept} kept, {stale} stale, {rest} of other values, \
              {deleted} deleted, {hidden} hidden, {outside} outside; \
-             {histograms} of histograms left; values times 10^{digits}\n"
+             {histograms} of histograms left; values times 10^{digits}, {rounded} rounded\n"
         )
     }
 }

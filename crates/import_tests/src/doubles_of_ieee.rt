@@ -1,7 +1,7 @@
 //! Doubles whose bits are documented: the examples of binary64 in Wikipedia's "Double-precision
 //! floating-point format", and Prometheus's own NaNs (model/value/value.go).
 
-use doubles::{decimal, is_stale, whole};
+use doubles::{decimal, is_stale, rounded, whole};
 
 #[test]
 fn whole_numbers_are_told(rt: HostRuntime) {
@@ -37,6 +37,20 @@ fn decimals_are_told(rt: HostRuntime) {
     // The doubles next to 1/3 and to pi.
     assert_eq!(rt; decimal(0x3fd5_5555_5555_5555, 9), None);
     assert_eq!(rt; decimal(0x4009_21fb_5444_2d18, 9), None);
+}
+
+#[test]
+fn halves_go_to_the_even_number(rt: HostRuntime) {
+    // 2.5, 3.5, -0.5, as Python's round gives them.
+    assert_eq!(rt; rounded(0x4004_0000_0000_0000, 0), Some(2));
+    assert_eq!(rt; rounded(0x400c_0000_0000_0000, 0), Some(4));
+    assert_eq!(rt; rounded(0xbfe0_0000_0000_0000, 0), Some(0));
+    // The double next to pi, the least above 0, 2^63, infinity, a NaN.
+    assert_eq!(rt; rounded(0x4009_21fb_5444_2d18, 9), Some(3_141_592_654));
+    assert_eq!(rt; rounded(0x0000_0000_0000_0001, 9), Some(0));
+    assert_eq!(rt; rounded(0x43e0_0000_0000_0000, 0), None);
+    assert_eq!(rt; rounded(0x7ff0_0000_0000_0000, 0), None);
+    assert_eq!(rt; rounded(0x7ff8_0000_0000_0001, 0), None);
 }
 
 #[test]

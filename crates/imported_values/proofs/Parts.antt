@@ -1,12 +1,14 @@
 -- A double has one number of parts at most, and it is found by its whole number or its decimal.
-use Rattle.std.proofs.Common.{◌≡◌, ◌⊎◌, inl, inr, ℕ, ◌^◌, ◌<◌, ◌*ℤ◌, pos, negsuc, ℤ, Option, Some}
+use Rattle.std.proofs.Common.{◌≡◌, inl, inr, ℕ, ◌^◌, ◌<◌, ◌*ℤ◌, pos, negsuc, ℤ, Option, Some}
 use Rattle.std.proofs.Common.{None}
-use Rattle.std.proofs.Common.{IfSome, IfNone, sym, ap, subst, ◌∙◌, to_z, of_z, w64, arith}
+use Rattle.std.proofs.Common.{IfSome, sym, ap, subst, ◌∙◌, to_z, of_z, w64, arith}
 use Rattle.std.proofs.lemmas.Int.{ints, to_z-of_z}
 use Rattle.std.specs.Prelude.{unsigned_abs}
 use Rattle.doubles.specs.Double.{IsWhole}
 use Rattle.doubles.specs.Decimal.{IsDecimal}
-use Rattle.imported_values.specs.Values.{IsWholeInParts, IsFractionInParts, IsExact}
+use Rattle.doubles.specs.Rounded.{IsRounded}
+use Rattle.imported_values.specs.declared.policy.Verdict.TheVariants.{Rounded}
+use Rattle.imported_values.specs.Values.{IsExact, IsNearestParts}
 
 -- of a whole number
 pub found_whole : (digits bits : ℕ) (n : ℤ) → IsWhole bits n → unsigned_abs n < 2 ^ 63
@@ -27,6 +29,17 @@ found_fraction digits bits not_whole None nearest fits = tt
 
 pub some_same : (a b : ℤ) → Some a ≡ Some b → a ≡ b
 some_same a b e = cc
+
+pub rounded_same : (a b : ℤ) → Rounded a ≡ Rounded b → a ≡ b
+rounded_same a b e = cc
+
+-- what is rounded is the nearest
+pub nearest_parts : (digits given bits : ℕ) (v : ℤ) → given ≡ digits → IsRounded bits given v
+    → unsigned_abs v < 2 ^ 63 → IsNearestParts digits bits v
+nearest_parts digits given bits v same nearest fits = record {
+  nearest = subst (λ (d : ℕ). IsRounded bits d v) same nearest;
+  fits = fits;
+}
 
 pub none_not : (v : ℤ) → None ≡ Some v → ⊥
 none_not v e = absurd cc

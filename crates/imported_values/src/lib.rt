@@ -2,7 +2,7 @@
 //!
 //! A store's values are integers of 64 bits; Prometheus's are doubles. [`exact`] gives the integer
 //! that a double is in parts of which 10^digits make one, exactly where there is one (`IsExact`);
-//! [`judge`] says by a [`Policy`] whether a value is kept, left out or refused.
+//! [`judge`] says by a [`Policy`] whether a value is kept, rounded, left out or refused.
 //!
 //! ```
 //! let policy = Policy {

@@ -6,7 +6,7 @@ use Rattle.imported_values.specs.Values.{IsVerdict}
 use Rattle.imported_values.specs.declared.policy.Reason.{Reason}
 use Rattle.imported_values.specs.declared.policy.Reason.TheVariants as reason
 use Rattle.imported_values.specs.declared.policy.Verdict.{Verdict}
-use Rattle.imported_values.specs.declared.policy.Verdict.TheVariants.{Kept, Left, Refused}
+use Rattle.imported_values.specs.declared.policy.Verdict.TheVariants.{Kept, Rounded, Left, Refused}
 use Rattle.xor_reader.specs.Grammar.{Sample}
 use Rattle.prometheus_block.specs.declared.keeping.Asked.{Asked}
 use Rattle.prometheus_block.specs.declared.keeping.Fate.{Fate}
@@ -41,6 +41,7 @@ AreFates asked (s ∷ samples) (f ∷ fates) = IsFate asked s f × AreFates aske
 -- the sample that is kept of one with this time and this fate
 abbrev pub kept_one : ℤ → Fate → List (ℤ × ℤ)
 kept_one t (Judged (Kept v)) = (t, v) ∷ []
+kept_one t (Judged (Rounded v)) = (t, v) ∷ []
 kept_one t (Judged (Left reason)) = []
 kept_one t (Judged (Refused reason)) = []
 kept_one t Outside = []
@@ -56,43 +57,16 @@ kept_of (s ∷ samples) (f ∷ fates) = kept_one s.0 f ++ kept_of samples fates
 abbrev pub one_more : ℕ → ℕ
 one_more n = min (n + 1) 0xffff_ffff_ffff_ffff
 
--- counts with one sample more: it is told in one of them, unless it is refused
+-- counts with one sample more: it is told in one of them, unless it is refused; one that is rounded
+-- is told among those that are kept, and once more
 abbrev pub told : Tally → Fate → Tally
-told tally Outside = record {
-  kept = tally.kept;
-  stale = tally.stale;
-  rest = tally.rest;
-  deleted = tally.deleted;
-  outside = one_more tally.outside;
-}
-told tally Deleted = record {
-  kept = tally.kept;
-  stale = tally.stale;
-  rest = tally.rest;
-  deleted = one_more tally.deleted;
-  outside = tally.outside;
-}
-told tally (Judged (Kept v)) = record {
-  kept = one_more tally.kept;
-  stale = tally.stale;
-  rest = tally.rest;
-  deleted = tally.deleted;
-  outside = tally.outside;
-}
-told tally (Judged (Left reason.Stale)) = record {
-  kept = tally.kept;
-  stale = one_more tally.stale;
-  rest = tally.rest;
-  deleted = tally.deleted;
-  outside = tally.outside;
-}
-told tally (Judged (Left reason.Rest)) = record {
-  kept = tally.kept;
-  stale = tally.stale;
-  rest = one_more tally.rest;
-  deleted = tally.deleted;
-  outside = tally.outside;
-}
+told tally Outside = record tally { outside = one_more tally.outside }
+told tally Deleted = record tally { deleted = one_more tally.deleted }
+told tally (Judged (Kept v)) = record tally { kept = one_more tally.kept }
+told tally (Judged (Rounded v)) =
+    record tally { kept = one_more tally.kept; rounded = one_more tally.rounded }
+told tally (Judged (Left reason.Stale)) = record tally { stale = one_more tally.stale }
+told tally (Judged (Left reason.Rest)) = record tally { rest = one_more tally.rest }
 told tally (Judged (Refused reason)) = tally
 
 -- counts with samples more
@@ -104,6 +78,7 @@ told_all tally (f ∷ fates) = told_all (told tally f) fates
 abbrev pub IsRefused : Fate → Type 0
 IsRefused (Judged (Refused reason)) = Unit {0}
 IsRefused (Judged (Kept v)) = ⊥
+IsRefused (Judged (Rounded v)) = ⊥
 IsRefused (Judged (Left reason)) = ⊥
 IsRefused Outside = ⊥
 IsRefused Deleted = ⊥

@@ -1,6 +1,7 @@
 -- The rows of a block, by what its files hold.
 use Rattle.std.specs.Prelude.{◌≡◌, ℕ, ℤ, List, [], ◌∷◌, ◌++◌}
 use Rattle.labels.specs.Labels.{Labels}
+use Rattle.labels.specs.Parts.{within}
 use Rattle.labels.specs.Rows.{Row}
 use Rattle.index_reader.specs.Indexes.{Series}
 use Rattle.xor_reader.specs.Grammar.{Sample}
@@ -21,6 +22,12 @@ pub record IsAskedOf (wanted : Wanted) (s : Series) (asked : Asked) : Type 0 whe
 abbrev pub row_if : Labels → List (ℤ × ℤ) → List Row
 row_if labels [] = []
 row_if labels (x ∷ samples) = (labels, x ∷ samples) ∷ []
+
+-- the rows with their samples in a closed range; a row without one is none
+abbrev pub rows_between : ℤ → ℤ → List Row → List Row
+rows_between from to [] = []
+rows_between from to (row ∷ rows) =
+    row_if row.0 (within from to row.1) ++ rows_between from to rows
 
 -- after some rows stands that of a series: what is kept of the samples that its chunks hold
 pub record IsRowAfter (reads : Segments) (wanted : Wanted) (s : Series) (old new : List Row)

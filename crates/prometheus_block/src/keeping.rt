@@ -44,6 +44,8 @@ impl Times {
 pub struct Tally {
     /// They are kept.
     pub kept: u64,
+    /// They are rounded, and among those that are kept.
+    pub rounded: u64,
     /// They are stale markers.
     pub stale: u64,
     /// Their values are no numbers of parts.
@@ -59,6 +61,7 @@ impl Tally {
     pub fn new() -> Tally {
         Tally {
             kept: 0,
+            rounded: 0,
             stale: 0,
             rest: 0,
             deleted: 0,
@@ -181,6 +184,11 @@ fn keep_one(
         Fate::Judged(Verdict::Kept(value)) => {
             kept.push(Sample::new(float.t(), value))?;
             tally.kept = tally.kept.saturating_add(1);
+        }
+        Fate::Judged(Verdict::Rounded(value)) => {
+            kept.push(Sample::new(float.t(), value))?;
+            tally.kept = tally.kept.saturating_add(1);
+            tally.rounded = tally.rounded.saturating_add(1);
         }
         Fate::Judged(Verdict::Refused(reason)) => {
             return Err(KeepError::Value {

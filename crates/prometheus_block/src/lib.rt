@@ -14,6 +14,7 @@
 mod chunk;
 mod error;
 mod keeping;
+mod narrowing;
 mod rows;
 mod segments;
 mod series;
@@ -21,6 +22,7 @@ mod series;
 pub use chunk::{Content, Counted, read_chunk};
 pub use error::SourceError;
 pub use keeping::{Asked, KeepError, Tally, Times, keep_samples};
+pub use narrowing::parts_have_the_rows_between;
 pub use rows::{RowsError, Wanted, read_rows};
 pub use segments::{Held, ReadSegments};
 pub use series::{count_samples, read_series};

@@ -1,5 +1,5 @@
 use Rattle.std.proofs.Common.{◌≡◌, take}
-use Rattle.blocktool_command.specs.Listed.{rows_between}
+use Rattle.prometheus_block.specs.Rows.{rows_between}
 use Rattle.blocktool_command.proofs.listed.rows_between.Given as goal
 
 abbrev pub invariant-loop-row : goal.invariant-loop-row

@@ -1,7 +1,6 @@
 use Rattle.std.proofs.Common.{ℤ, ap}
 use Rattle.imported_values.specs.declared.policy.Verdict.{Verdict}
 use Rattle.imported_values.specs.declared.policy.Verdict.TheVariants.{Kept}
-use Rattle.imported_values.specs.Values.{IsExact}
 use Rattle.imported_values.proofs.Parts.{passed_on, some_same}
 use Rattle.imported_values.proofs.policy.decide.Goals as goal
 

@@ -1,8 +1,5 @@
-use Rattle.std.proofs.Common.{◌≡◌, ◌<◌, ◌^◌, ℤ, ap, sym, ◌∙◌}
 use Rattle.imported_values.proofs.Parts.{found_whole, found_fraction, only_whole, only_fraction}
 use Rattle.imported_values.proofs.Parts.{passed_on, none_not}
-use Rattle.doubles.specs.Double.{IsWhole}
-use Rattle.doubles.specs.Decimal.{IsDecimal}
 use Rattle.imported_values.proofs.values.exact.Goals as goal
 
 pub returns-in-Some-clause-found : goal.returns-in-Some-clause-found
