@@ -109,11 +109,12 @@ pub(crate) fn to_openmetrics<'a>(alloc: Global) -> Result<Command<'a>, AllocErro
 }
 
 fn text_in<'a>(found: &ArgMatches<'a>) -> Option<Line<'a>> {
-    let text_in = TextIn {
+    let options = options_in(found)?;
+    let text = TextIn {
         format: format_in(found),
         file: found.get_str("file"),
     };
-    Some(Line::FromOpenMetrics(options_in(found)?, text_in))
+    Some(Line::FromOpenMetrics(options, text))
 }
 
 fn rows_in<'a>(found: &ArgMatches<'a>) -> Option<Line<'a>> {
