@@ -3,6 +3,10 @@
     read_block.py texts DIR [large]                           writes texts of OpenMetrics into DIR
     read_block.py compare DIGITS TOLD TSDB.. -- BLOCK..       the blocks hold what `promtool tsdb dump` prints of each TSDB,
                                                               the later wins, times 10^DIGITS; the counts in TOLD are right
+    read_block.py text DIGITS TOLD TEXT -- BLOCK..            the blocks hold the samples that a text writes, read as decimals;
+                                                              of two at one time that of the later line; the counts are right
+    read_block.py reply BLOCK..                               prints the rows of the blocks as a reply
+    read_block.py same DIGITS TSDB -- BLOCK..                 `promtool tsdb dump` of the TSDB prints the blocks' samples
     read_block.py delete BLOCK                                deletes of each third series the times of its second quarter
     read_block.py change BLOCKTOOL TSDB DIR                   changes each byte of the block in TSDB: refused, or the same
 """
@@ -123,6 +127,64 @@ def dump_of(tsdb):
     return subprocess.run(["promtool", "tsdb", "dump", tsdb], capture_output=True, text=True, check=True).stdout
 
 
+def rows_of(folders):
+    got = {}
+    for labels, samples in blocks(sorted(folders)).items():
+        got.setdefault(tuple(sorted(labels)), []).extend(samples)
+    return got
+
+
+def counts_in(told):
+    text = open(told).read()
+    counts = {word: int(n) for n, word in re.findall(r"(\d+) (kept|stale|of other|deleted|hidden|outside)", text)}
+    read = int(re.search(r"read (\d+) samples", text).group(1))
+    assert sum(counts.values()) == read, (read, counts)
+    return counts
+
+
+ESCAPES = {"\\\\": "\\", '\\"': '"', "\\n": "\n"}
+
+
+def written(path, digits):
+    """The samples that a text writes in its lines, how many are at a time that a later line has too, and how many are left."""
+    out, hidden, left = {}, 0, 0
+    for line in open(path, encoding="utf-8").read().split("\n"):
+        if line.startswith("#") or not line: continue
+        name = re.match("[a-zA-Z_:][a-zA-Z0-9_:]*", line)[0]
+        v, t = line.split(" ")[-2:]
+        labels = [(a, re.sub(r"\\.", lambda m: ESCAPES[m[0]], b[1:-1])) for a, b in LAB.findall(line)]
+        key = tuple(sorted([("__name__", name)] + [pair for pair in labels if pair[1]]))
+        x = Decimal(v)
+        if x.is_finite(): x = x.scaleb(digits)
+        if not x.is_finite() or x != x.to_integral_value() or not -2**63 < x < 2**63: left += 1; continue
+        at = int(Decimal(t).scaleb(3))
+        hidden += at in out.setdefault(key, {})
+        out[key][at] = int(x)
+    return {key: sorted(samples.items()) for key, samples in out.items()}, hidden, left
+
+
+def compare_text(digits, told, text, folders):
+    want, hidden, left = written(text, digits)
+    got = rows_of(folders)
+    assert want == got, [(k, want.get(k), got.get(k)) for k in set(want) | set(got) if want.get(k) != got.get(k)][:2]
+    counts = counts_in(told)
+    assert (counts["hidden"], counts["of other"]) == (hidden, left), (counts, hidden, left)
+    print("the same:", counts["kept"], "samples of", len(got), "series as the text writes;", left, "left out")
+
+
+def reply(folders):
+    rows = [{"labels": dict(labels), "samples": samples} for labels, samples in sorted(rows_of(folders).items())]
+    print(json.dumps({"parts": [], "rows": rows}, ensure_ascii=False, separators=(",", ":")))
+
+
+def same(digits, tsdb, folders):
+    want, left = dump(dump_of(tsdb).splitlines(), digits)
+    got = rows_of(folders)
+    want = {key: sorted(samples) for key, samples in want.items()}
+    assert not left and want == got, (left, [(k, want.get(k), got.get(k)) for k in set(want) | set(got) if want.get(k) != got.get(k)][:2])
+    print("the same:", sum(map(len, got.values())), "samples of", len(got), "series back in promtool")
+
+
 def compare(digits, told, tsdbs, folders):
     want, left, given = {}, 0, 0
     for tsdb in tsdbs:
@@ -149,9 +211,7 @@ def compare(digits, told, tsdbs, folders):
     for k in want:
         assert want[k] == got[k], (k, want[k][:3], got[k][:3])
     count = sum(map(len, got.values()))
-    counts = {word: int(n) for n, word in re.findall(r"(\d+) (kept|stale|of other|deleted|hidden|outside)", open(told).read())}
-    read = int(re.search(r"read (\d+) samples", open(told).read()).group(1))
-    assert sum(counts.values()) == read, (read, counts)
+    counts = counts_in(told)
     assert counts["kept"] == count and counts["hidden"] == given - count, (counts, count, given)
     assert counts["stale"] + counts["of other"] == left, (counts, left)
     print("the same:", count, "samples of", len(got), "series in", len(folders), "blocks;", left, "left out")
@@ -225,6 +285,12 @@ if __name__ == "__main__":
     elif sys.argv[1] == "compare":
         cut = sys.argv.index("--")
         compare(int(sys.argv[2]), sys.argv[3], sys.argv[4:cut], sys.argv[cut + 1:])
+    elif sys.argv[1] == "text":
+        compare_text(int(sys.argv[2]), sys.argv[3], sys.argv[4], sys.argv[6:])
+    elif sys.argv[1] == "reply":
+        reply(sys.argv[2:])
+    elif sys.argv[1] == "same":
+        same(int(sys.argv[2]), sys.argv[3], sys.argv[5:])
     elif sys.argv[1] == "delete":
         delete(sys.argv[2])
     else:

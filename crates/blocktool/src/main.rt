@@ -1,6 +1,6 @@
 //! The program `blocktool`: blocks for `querier` and `auditor` out of other programs' data.
 //!
-//! It passes its words, the host's files and its two outputs to `blocktool_command::run`.
+//! It passes its words, the host's files, its input and its two outputs to `blocktool_command::run`.
 #![tactic(auto)]
 
 use blocktool_command::run;
@@ -13,9 +13,10 @@ fn main(rt: HostRuntime) -> io::Result<ExitCode> {
     if !words.is_empty() {
         let _program = words.remove(0);
     }
+    let mut input = rt.reader();
     let (stdout, stderr) = (rt.stdout(), rt.stderr());
     let mut out = io::writer(&stdout);
     let mut err = io::writer(&stderr);
-    let ending = run(alloc, &rt, words.as_slice(), &mut out, &mut err);
+    let ending = run(alloc, &rt, words.as_slice(), &mut input, &mut out, &mut err);
     Ok(ExitCode::from(ending.status))
 }

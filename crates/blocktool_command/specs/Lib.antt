@@ -1,3 +1,4 @@
 pub mod Conversion
 pub mod Listed
 pub mod Prometheus
+pub mod Texts

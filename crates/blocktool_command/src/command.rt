@@ -1,5 +1,8 @@
 //! The command line.
 
+use crate::from_openmetrics::TextIn;
+use crate::target::Target;
+use crate::text_commands::{from_openmetrics, from_rows, text_line_in, to_openmetrics};
 use block_outputs::Stretch;
 use clap::builder::ValueParser;
 use clap::error::ErrorKind;
@@ -25,13 +28,19 @@ pub(crate) enum Line<'a> {
     Rewrite(&'a str, Vec<&'a str>),
     /// What the blocks in these directories have.
     List(Vec<&'a str>),
+    /// Blocks out of a text.
+    FromOpenMetrics(Options<'a>, TextIn<'a>),
+    /// Blocks out of the rows in this file, or on standard input.
+    FromRows(Target<'a>, Option<&'a str>),
+    /// Text out of the reply in this file, or on standard input, whose values have so many digits.
+    ToOpenMetrics(Digits, Option<&'a str>),
 }
 
 const CHOICES: [&str; 2] = ["refuse", "drop"];
 
-const FROM: &str = "The first time that is kept, in milliseconds [default: -2^62]";
+pub(crate) const FROM: &str = "The first time that is kept, in milliseconds [default: -2^62]";
 
-const TO: &str = "The last time that is kept, in milliseconds [default: 2^62 - 1]";
+pub(crate) const TO: &str = "The last time that is kept, in milliseconds [default: 2^62 - 1]";
 
 const PROMETHEUS: &str =
     "Example: blocktool from-prometheus --decimals 3 --rest drop --into mine data/01HX*
@@ -72,12 +81,12 @@ read or write; 4 no memory";
 
 const ABOUT_DIGITS: &str = "How many digits after the point are kept, 0 to 9 [default: 0]";
 
-const ABOUT_REST: &str =
+pub(crate) const ABOUT_REST: &str =
     "What is done with values that need more digits, NaN and infinities [default: refuse]";
 
-const ABOUT_STALE: &str = "What is done with stale markers [default: drop]";
+pub(crate) const ABOUT_STALE: &str = "What is done with stale markers [default: drop]";
 
-fn time<'a>(alloc: Global, name: &'a str, help: &'a str) -> Arg<'a> {
+pub(crate) fn time<'a>(alloc: Global, name: &'a str, help: &'a str) -> Arg<'a> {
     Arg::new(alloc, name)
         .long(name)
         .value_name("T")
@@ -93,7 +102,7 @@ fn choice<'a>(alloc: Global, name: &'a str, help: &'a str) -> Arg<'a> {
         .help(help)
 }
 
-fn digits<'a>(alloc: Global) -> Arg<'a> {
+pub(crate) fn digits<'a>(alloc: Global) -> Arg<'a> {
     Arg::new(alloc, "decimals")
         .long("decimals")
         .value_name("N")
@@ -101,7 +110,7 @@ fn digits<'a>(alloc: Global) -> Arg<'a> {
         .help(ABOUT_DIGITS)
 }
 
-fn into<'a>(alloc: Global) -> Arg<'a> {
+pub(crate) fn into<'a>(alloc: Global) -> Arg<'a> {
     Arg::new(alloc, "into")
         .long("into")
         .value_name("OUT")
@@ -162,7 +171,10 @@ fn blocktool<'a>(alloc: Global) -> Result<Command<'a>, AllocError> {
         .subcommand_required(true)
         .subcommand(from_prometheus(alloc)?)?
         .subcommand(rewrite(alloc)?)?
-        .subcommand(list(alloc)?)
+        .subcommand(list(alloc)?)?
+        .subcommand(from_openmetrics(alloc)?)?
+        .subcommand(from_rows(alloc)?)?
+        .subcommand(to_openmetrics(alloc)?)
 }
 
 fn time_in(found: &ArgMatches<'_>, name: &str, other: i64) -> i64 {
@@ -172,7 +184,7 @@ fn time_in(found: &ArgMatches<'_>, name: &str, other: i64) -> i64 {
     }
 }
 
-fn digits_in(found: &ArgMatches<'_>) -> Option<Digits> {
+pub(crate) fn digits_in(found: &ArgMatches<'_>) -> Option<Digits> {
     let number: u64 = match found.get_one("decimals") {
         Some(number) => number,
         None => 0,
@@ -184,7 +196,7 @@ fn is_chosen(found: &ArgMatches<'_>, name: &str, choice: &str) -> bool {
     found.get_str(name) == Some(choice)
 }
 
-fn options_in<'a>(found: &ArgMatches<'a>) -> Option<Options<'a>> {
+pub(crate) fn options_in<'a>(found: &ArgMatches<'a>) -> Option<Options<'a>> {
     let rest = if is_chosen(found, "rest", "drop") {
         Rest::Drop
     } else {
@@ -243,10 +255,10 @@ fn line_in<'a>(alloc: Global, found: &ArgMatches<'a>) -> Result<Option<Line<'a>>
     if let Some(found) = found.subcommand_matches("rewrite") {
         return rewrite_in(alloc, found);
     }
-    let Some(found) = found.subcommand_matches("list") else {
-        return Ok(None);
-    };
-    Ok(Some(Line::List(texts_in(alloc, found, "directories")?)))
+    if let Some(found) = found.subcommand_matches("list") {
+        return Ok(Some(Line::List(texts_in(alloc, found, "directories")?)));
+    }
+    Ok(text_line_in(found))
 }
 
 fn no_subcommand(alloc: Global) -> Result<Error, AllocError> {

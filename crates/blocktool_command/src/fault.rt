@@ -2,6 +2,7 @@
 
 use block::BlockError;
 use block_outputs::OutputError;
+use exposition::{Left, Refusal};
 use imported_values::Reason;
 use prometheus_block::SourceError;
 use std::alloc::{AllocError, AllocFailed};
@@ -31,6 +32,16 @@ pub enum Fault {
         /// The bits of the double.
         bits: u64,
     },
+    /// A text is refused: its name, and its first line that is wrong.
+    Text(String, Refusal),
+    /// A value of a text is refused: the text's name, and the sample.
+    Other(String, Left),
+    /// A text is no reply.
+    BadReply,
+    /// A row has no `__name__` that names a metric.
+    NoMetric,
+    /// Standard input cannot be read.
+    NoInput,
     /// The file or directory at this path cannot be read.
     CannotRead(String),
     /// The file or directory at this path cannot be written.
@@ -60,9 +71,12 @@ impl Fault {
             Fault::Source(_, _) | Fault::Value { .. } | Fault::TooMany(_) => 1,
             Fault::Block(_, _) | Fault::Digits(_) => 1,
             Fault::TooLarge | Fault::Unordered | Fault::Changed => 1,
+            Fault::BadReply | Fault::NoMetric => 1,
+            Fault::Text(_, _) | Fault::Other(_, _) => 1,
             Fault::Words(_) => 2,
             Fault::CannotRead(_) | Fault::CannotWrite(_) | Fault::NotEmpty(_) | Fault::NoOutput =>
                 3,
+            Fault::NoInput => 3,
             Fault::Memory => 4,
         }
     }
@@ -103,6 +117,29 @@ impl fmt::Display for Fault {
                     "refused value: {series} at {t}: {why} (the double {bits:#018x})"
                 )
             }
+            Fault::Text(name, refusal) => {
+                let Refusal {
+                    line,
+                    column,
+                    cause,
+                } = *refusal;
+                let code = cause.code();
+                write!(
+                    f,
+                    "refused {code} in {name} at line {line}, column {column}"
+                )
+            }
+            Fault::Other(name, left) => {
+                let Left { line, column, .. } = *left;
+                write!(
+                    f,
+                    "refused value in {name} at line {line}, column {column}: \
+                     no whole number of parts"
+                )
+            }
+            Fault::BadReply => write!(f, "refused: bad reply"),
+            Fault::NoMetric => write!(f, "refused: a series without the name of a metric"),
+            Fault::NoInput => write!(f, "cannot read standard input"),
             Fault::CannotRead(path) => write!(f, "cannot read {path}"),
             Fault::CannotWrite(path) => write!(f, "cannot write {path}"),
             Fault::NotEmpty(path) => write!(f, "{path} is not empty"),

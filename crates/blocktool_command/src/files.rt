@@ -6,6 +6,19 @@ use std::fs;
 use std::io::ErrorKind;
 use std::rt::Files;
 
+/// The bytes of the file at a path.
+pub(crate) fn read_path<R: Files + AllocGlobal>(
+    alloc: Global,
+    rt: &R,
+    path: &str,
+) -> Result<Vec<u8>, Fault> {
+    match fs::read(rt, path) {
+        Ok(bytes) => Ok(bytes),
+        Err(error) if error.kind() == ErrorKind::OutOfMemory => Err(Fault::Memory),
+        Err(_) => Err(Fault::CannotRead(String::from_str(alloc, path)?)),
+    }
+}
+
 /// The bytes of a file of a directory.
 pub(crate) fn read_file<R: Files + AllocGlobal>(
     alloc: Global,
@@ -14,9 +27,5 @@ pub(crate) fn read_file<R: Files + AllocGlobal>(
     name: &str,
 ) -> Result<Vec<u8>, Fault> {
     let path = format!(in alloc; "{directory}/{name}")?;
-    match fs::read(rt, path.as_str()) {
-        Ok(bytes) => Ok(bytes),
-        Err(error) if error.kind() == ErrorKind::OutOfMemory => Err(Fault::Memory),
-        Err(_) => Err(Fault::CannotRead(path)),
-    }
+    read_path(alloc, rt, path.as_str())
 }

@@ -2,18 +2,22 @@
 
 use crate::command::{Line, read_line};
 use crate::fault::Fault;
+use crate::from_openmetrics::from_openmetrics;
 use crate::from_prometheus::from_prometheus;
+use crate::from_rows::from_rows;
 use crate::list::list;
 use crate::rewrite::rewrite;
+use crate::to_openmetrics::to_openmetrics;
 use clap::error::ErrorKind;
 use std::alloc::Global;
-use std::io::{self, Write};
+use std::io::{self, Read, Write};
 use std::rt::Files;
 
-fn execute<R: Files + AllocGlobal + Clone + Drop, W: Write>(
+fn execute<R: Files + AllocGlobal + Clone + Drop, I: Read, W: Write>(
     alloc: Global,
     rt: &R,
     words: &[String],
+    input: &mut I,
     out: &mut W,
 ) -> Result<(), Fault> {
     match read_line(alloc, words) {
@@ -24,6 +28,13 @@ fn execute<R: Files + AllocGlobal + Clone + Drop, W: Write>(
             rewrite(alloc, rt, into, directories.as_slice(), out)
         }
         Ok(Line::List(directories)) => list(alloc, rt, directories.as_slice(), out),
+        Ok(Line::FromOpenMetrics(options, text_in)) => {
+            from_openmetrics(alloc, rt, &options, text_in, input, out)
+        }
+        Ok(Line::FromRows(target, file)) => from_rows(alloc, rt, &target, file, input, out),
+        Ok(Line::ToOpenMetrics(digits, file)) => {
+            to_openmetrics(alloc, rt, digits, file, input, out)
+        }
         Err(error) if matches!(error.kind(), ErrorKind::OutOfMemory) => Err(Fault::Memory),
         Err(error) if error.use_stderr() => Err(Fault::Words(error)),
         Err(help) => {
@@ -46,15 +57,17 @@ pub struct Ending {
 ///
 /// Standard output has a line for each output and one that tells what became of every sample. The
 /// status is 0 where all was done, 1 for a refusal, 2 for a fault of the words, 3 for what cannot
-/// be read or written, and 4 for want of memory; a line on the second writer says why.
-pub fn run<R: Files + AllocGlobal + Clone + Drop, W: Write, E: Write>(
+/// be read or written, and 4 for want of memory; a line on the second writer says why. The reader
+/// is standard input, which is read only if the words name no file of text.
+pub fn run<R: Files + AllocGlobal + Clone + Drop, I: Read, W: Write, E: Write>(
     alloc: Global,
     rt: &R,
     words: &[String],
+    input: &mut I,
     out: &mut W,
     err: &mut E,
 ) -> Ending {
-    match execute(alloc, rt, words, out) {
+    match execute(alloc, rt, words, input, out) {
         Ok(()) => Ending {
             status: 0,
             told: Ok(()),

@@ -1,0 +1,5 @@
+use Rattle.std.proofs.Common.{rules}
+use Rattle.blocktool_command.proofs.said.rows_said.Goals as goal
+
+pub returns : goal.returns
+returns c = (_, c.in_ok-rows.ensures, search rules)

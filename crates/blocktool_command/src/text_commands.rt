@@ -1,0 +1,139 @@
+//! The words of the commands that read and write text.
+
+use crate::command::{
+    ABOUT_REST, ABOUT_STALE, FROM, Line, TO, digits, digits_in, into, options_in, time,
+};
+use crate::from_openmetrics::TextIn;
+use crate::target::Target;
+use clap::builder::ValueParser;
+use clap::{Arg, ArgMatches, Command};
+use open_metrics::Format;
+use std::alloc::{AllocError, Global};
+
+const FORMATS: [&str; 2] = ["openmetrics", "prometheus"];
+
+const EITHER: [&str; 2] = ["refuse", "drop"];
+
+const ABOUT_FROM: &str = "Example: blocktool from-openmetrics --decimals 3 --into mine backfill.om
+
+FILE, or standard input, is OpenMetrics text, whose times are in seconds and which ends with
+`# EOF`, or with --format prometheus the older text of Prometheus, whose times are in milliseconds.
+Each sample needs a time. Of two samples of one series at one time that of the later line is kept.
+The first line that is wrong is refused with its code, line and column: O1 to O12, L1 to L3.
+Exemplars are left; no text has stale markers. The text and its rows are in memory at once.
+
+The outputs, the values and the last line are those of `blocktool from-prometheus`.
+
+Exit status: 0 done; 1 refused, with the place on standard error; 2 a fault of the words; 3 cannot
+read or write; 4 no memory";
+
+const ABOUT_ROWS: &str = "Example: blocktool from-rows --into mine rows.json
+
+FILE, or standard input, is a reply as `querier select` prints it, of which the merged rows are
+taken, or a list of rows, as the body of `POST /write`. Of two samples of one series at one time the
+later is kept. Values are taken as they stand, in parts of which 10^N make one. All rows are in
+memory at once.
+
+The outputs and the last line are those of `blocktool from-prometheus`.
+
+Exit status: 0 done; 1 refused: no rows; 2 a fault of the words; 3 cannot read or write; 4 no
+memory";
+
+const ABOUT_TO: &str = "Example: querier select 'up' mine/* | blocktool to-openmetrics >up.om
+
+FILE, or standard input, is a reply as `querier select` prints it. Its merged rows are written as
+OpenMetrics text, which `promtool tsdb create-blocks-from openmetrics` reads: a line for each
+sample, its time in seconds, its value a decimal with N digits after the point. Give the N with
+which the blocks were made.
+
+Exit status: 0 done; 1 refused: no reply, or a series without the name of a metric; 2 a fault of the
+words; 3 cannot read or write; 4 no memory";
+
+fn file<'a>(alloc: Global, help: &'a str) -> Arg<'a> {
+    Arg::new(alloc, "file").value_name("FILE").help(help)
+}
+
+fn format<'a>(alloc: Global) -> Arg<'a> {
+    Arg::new(alloc, "format")
+        .long("format")
+        .value_name("FORMAT")
+        .value_parser(ValueParser::from(FORMATS.as_slice()))
+        .help("The format of the text [default: openmetrics]")
+}
+
+fn either<'a>(alloc: Global, name: &'a str, help: &'a str) -> Arg<'a> {
+    Arg::new(alloc, name)
+        .long(name)
+        .value_name("WHAT")
+        .value_parser(ValueParser::from(EITHER.as_slice()))
+        .help(help)
+}
+
+fn format_in(found: &ArgMatches<'_>) -> Format {
+    if found.get_str("format") == Some("prometheus") {
+        Format::Prometheus
+    } else {
+        Format::OpenMetrics
+    }
+}
+
+pub(crate) fn from_openmetrics<'a>(alloc: Global) -> Result<Command<'a>, AllocError> {
+    Command::new(alloc, "from-openmetrics")
+        .about("Makes blocks out of OpenMetrics text")
+        .after_help(ABOUT_FROM)
+        .arg(digits(alloc))?
+        .arg(either(alloc, "rest", ABOUT_REST))?
+        .arg(either(alloc, "stale", ABOUT_STALE))?
+        .arg(time(alloc, "from", FROM))?
+        .arg(time(alloc, "to", TO))?
+        .arg(into(alloc))?
+        .arg(format(alloc))?
+        .arg(file(alloc, "A file with text [default: standard input]"))
+}
+
+pub(crate) fn from_rows<'a>(alloc: Global) -> Result<Command<'a>, AllocError> {
+    Command::new(alloc, "from-rows")
+        .about("Makes blocks out of the rows of a reply or of a write")
+        .after_help(ABOUT_ROWS)
+        .arg(digits(alloc))?
+        .arg(into(alloc))?
+        .arg(file(alloc, "A file with rows [default: standard input]"))
+}
+
+pub(crate) fn to_openmetrics<'a>(alloc: Global) -> Result<Command<'a>, AllocError> {
+    Command::new(alloc, "to-openmetrics")
+        .about("Writes the rows of a reply as OpenMetrics text")
+        .after_help(ABOUT_TO)
+        .arg(digits(alloc))?
+        .arg(file(alloc, "A file with a reply [default: standard input]"))
+}
+
+fn text_in<'a>(found: &ArgMatches<'a>) -> Option<Line<'a>> {
+    let options = options_in(found)?;
+    let text = TextIn {
+        format: format_in(found),
+        file: found.get_str("file"),
+    };
+    Some(Line::FromOpenMetrics(options, text))
+}
+
+fn rows_in<'a>(found: &ArgMatches<'a>) -> Option<Line<'a>> {
+    let target = Target {
+        into: found.get_str("into")?,
+        digits: digits_in(found)?.number(),
+    };
+    Some(Line::FromRows(target, found.get_str("file")))
+}
+
+/// What the words of one of these commands ask for.
+pub(crate) fn text_line_in<'a>(found: &ArgMatches<'a>) -> Option<Line<'a>> {
+    if let Some(found) = found.subcommand_matches("from-openmetrics") {
+        return text_in(found);
+    }
+    if let Some(found) = found.subcommand_matches("from-rows") {
+        return rows_in(found);
+    }
+    let found = found.subcommand_matches("to-openmetrics")?;
+    let file = found.get_str("file");
+    Some(Line::ToOpenMetrics(digits_in(found)?, file))
+}
