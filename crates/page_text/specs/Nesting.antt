@@ -27,6 +27,10 @@ open_after (Some open_tags) (pieces.Integer n) = Some open_tags
 open_after (Some open_tags) (pieces.Counted n) = Some open_tags
 open_after (Some open_tags) pieces.Line = Some open_tags
 
+-- the piece begins no element and ends none
+abbrev pub KeepsOpen : Piece → Type 0
+KeepsOpen piece = (tags : List Tag) → open_after (Some tags) piece ≡ Some tags
+
 -- the elements that pieces leave open
 abbrev pub left_open : List Piece → Option (List Tag)
 left_open pieces = fold open_after (Some []) pieces

@@ -4,8 +4,8 @@ ghost use Rattle.std.specs.Prelude.{◌≡◌, ◌+◌, ◌≤◌, ◌++◌, ◌
 ghost use Rattle.std.specs.Prelude.{reverse, IfOk, OnOk};
 ghost use Rattle.std.specs.Fmt.{signed_decimal};
 ghost use Rattle.page_text.specs.Escaping.{word_text, leaf_text};
-ghost use Rattle.page_text.specs.Printing.{counted, head_text};
-ghost use Rattle.page_text.specs.Nesting.{left_open, IsContent};
+ghost use Rattle.page_text.specs.Printing.{counted, head_text, piece_text};
+ghost use Rattle.page_text.specs.Nesting.{left_open, KeepsOpen, IsContent};
 
 use crate::attribute::Attribute;
 use crate::piece::Piece;
@@ -56,9 +56,21 @@ impl Tree {
         }
     }
 
+    /// Adds a piece that begins no element and ends none.
+    #[tactic(auto, using(crate::proofs::Nested::more, crate::proofs::Growth::growth))]
+    fn push(&mut self, piece: Piece) -> Result<(), AllocError>
+        requires { KeepsOpen piece }
+        ensures printed { OnOk result (printed self.new ≡ printed self.old
+            ++ piece_text piece) }
+        ensures inside { OnOk result (open_tags self.new ≡ open_tags self.old) }
+    {
+        self.room_for(1)?;
+        Ok(self.pieces.push(piece)?)
+    }
+
     /// Begins an element, which is open until it is closed. Without memory for it the tree is
     /// nothing again.
-    #[tactic(auto, using(crate::proofs::Nested::more, crate::proofs::Growth::growth), unfolding(crate::specs::Growing::printed, crate::specs::Growing::open_tags, crate::specs::Printing::piece_text))]
+    #[tactic(auto, using(crate::proofs::Nested::more, crate::proofs::Growth::growth))]
     pub fn open(&mut self, tag: Tag, attributes: Vec<Attribute>) -> Result<(), AllocError>
         ensures printed { OnOk result (printed self.new ≡ printed self.old
             ++ head_text tag attributes.items (codes ">")) }
@@ -77,19 +89,18 @@ impl Tree {
     }
 
     /// Adds an element that holds nothing.
-    #[tactic(auto, using(crate::proofs::Nested::more, crate::proofs::Growth::growth), unfolding(crate::specs::Growing::printed, crate::specs::Growing::open_tags, crate::specs::Printing::piece_text))]
+    #[tactic(auto, unfolding(crate::specs::Printing::piece_text))]
     pub fn leaf(&mut self, tag: Tag, attributes: Vec<Attribute>) -> Result<(), AllocError>
         ensures printed { OnOk result (printed self.new ≡ printed self.old
             ++ head_text tag attributes.items (codes "/>")) }
         ensures inside { OnOk result (open_tags self.new ≡ open_tags self.old) }
     {
-        self.room_for(1)?;
-        Ok(self.pieces.push(Piece::Leaf(tag, attributes))?)
+        self.push(Piece::Leaf(tag, attributes))
     }
 
     /// Ends the element that was begun last; nothing if none is open. Without memory for it the
     /// tree is nothing again.
-    #[tactic(auto, using(crate::proofs::Nested::more, crate::proofs::Growth::growth), unfolding(crate::specs::Growing::printed, crate::specs::Growing::open_tags, crate::specs::Printing::piece_text))]
+    #[tactic(auto, using(crate::proofs::Nested::more, crate::proofs::Growth::growth))]
     pub fn close(&mut self) -> Result<(), AllocError>
         ensures printed { OnOk result (printed self.new ≡ printed self.old
             ++ ending (open_tags self.old)) }
@@ -109,69 +120,63 @@ impl Tree {
     }
 
     /// Adds a constant text.
-    #[tactic(auto, using(crate::proofs::Nested::more, crate::proofs::Growth::growth), unfolding(crate::specs::Growing::printed, crate::specs::Growing::open_tags, crate::specs::Printing::piece_text))]
+    #[tactic(auto, unfolding(crate::specs::Printing::piece_text))]
     pub fn word(&mut self, word: &'static str) -> Result<(), AllocError>
         ensures printed { OnOk result (printed self.new ≡ printed self.old
             ++ word_text word.now) }
         ensures inside { OnOk result (open_tags self.new ≡ open_tags self.old) }
     {
-        self.room_for(1)?;
-        Ok(self.pieces.push(Piece::Word(word))?)
+        self.push(Piece::Word(word))
     }
 
     /// Adds a text from outside, as its characters.
-    #[tactic(auto, using(crate::proofs::Nested::more, crate::proofs::Growth::growth), unfolding(crate::specs::Growing::printed, crate::specs::Growing::open_tags, crate::specs::Printing::piece_text))]
+    #[tactic(auto, unfolding(crate::specs::Printing::piece_text))]
     pub fn text(&mut self, chars: Vec<char>) -> Result<(), AllocError>
         ensures printed { OnOk result (printed self.new ≡ printed self.old
             ++ leaf_text chars.items) }
         ensures inside { OnOk result (open_tags self.new ≡ open_tags self.old) }
     {
-        self.room_for(1)?;
-        Ok(self.pieces.push(Piece::Text(chars))?)
+        self.push(Piece::Text(chars))
     }
 
     /// Adds a number.
-    #[tactic(auto, using(crate::proofs::Nested::more, crate::proofs::Growth::growth), unfolding(crate::specs::Growing::printed, crate::specs::Growing::open_tags, crate::specs::Printing::piece_text))]
+    #[tactic(auto, unfolding(crate::specs::Printing::piece_text))]
     pub fn number(&mut self, n: u64) -> Result<(), AllocError>
         ensures printed { OnOk result (printed self.new ≡ printed self.old
             ++ decimal n) }
         ensures inside { OnOk result (open_tags self.new ≡ open_tags self.old) }
     {
-        self.room_for(1)?;
-        Ok(self.pieces.push(Piece::Number(n))?)
+        self.push(Piece::Number(n))
     }
 
     /// Adds a number with a sign.
-    #[tactic(auto, using(crate::proofs::Nested::more, crate::proofs::Growth::growth), unfolding(crate::specs::Growing::printed, crate::specs::Growing::open_tags, crate::specs::Printing::piece_text))]
+    #[tactic(auto, unfolding(crate::specs::Printing::piece_text))]
     pub fn integer(&mut self, n: i64) -> Result<(), AllocError>
         ensures printed { OnOk result (printed self.new ≡ printed self.old
             ++ signed_decimal n) }
         ensures inside { OnOk result (open_tags self.new ≡ open_tags self.old) }
     {
-        self.room_for(1)?;
-        Ok(self.pieces.push(Piece::Integer(n))?)
+        self.push(Piece::Integer(n))
     }
 
     /// Adds a number with commas.
-    #[tactic(auto, using(crate::proofs::Nested::more, crate::proofs::Growth::growth), unfolding(crate::specs::Growing::printed, crate::specs::Growing::open_tags, crate::specs::Printing::piece_text))]
+    #[tactic(auto, unfolding(crate::specs::Printing::piece_text))]
     pub fn counted(&mut self, n: u64) -> Result<(), AllocError>
         ensures printed { OnOk result (printed self.new ≡ printed self.old
             ++ counted n) }
         ensures inside { OnOk result (open_tags self.new ≡ open_tags self.old) }
     {
-        self.room_for(1)?;
-        Ok(self.pieces.push(Piece::Counted(n))?)
+        self.push(Piece::Counted(n))
     }
 
     /// Ends a line.
-    #[tactic(auto, using(crate::proofs::Nested::more, crate::proofs::Growth::growth), unfolding(crate::specs::Growing::printed, crate::specs::Growing::open_tags, crate::specs::Printing::piece_text))]
+    #[tactic(auto, unfolding(crate::specs::Printing::piece_text))]
     pub fn line(&mut self) -> Result<(), AllocError>
         ensures printed { OnOk result (printed self.new ≡ printed self.old
             ++ codes "\n") }
         ensures inside { OnOk result (open_tags self.new ≡ open_tags self.old) }
     {
-        self.room_for(1)?;
-        Ok(self.pieces.push(Piece::Line)?)
+        self.push(Piece::Line)
     }
 
     /// Ends every element that is open, and gives the pieces.
