@@ -109,7 +109,9 @@ pub(crate) fn to_openmetrics<'a>(alloc: Global) -> Result<Command<'a>, AllocErro
 }
 
 fn text_in<'a>(found: &ArgMatches<'a>) -> Option<Line<'a>> {
-    let options = options_in(found)?;
+    let Some(options) = options_in(found) else {
+        return None;
+    };
     let text = TextIn {
         format: format_in(found),
         file: found.get_str("file"),
