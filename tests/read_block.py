@@ -184,7 +184,7 @@ def reply(folders):
 
 
 def same(digits, tsdb, folders):
-    want, left = dump(dump_of(tsdb).splitlines(), digits)
+    want, left, _ = dump(dump_of(tsdb).splitlines(), digits, "drop")
     got = rows_of(folders)
     want = {key: sorted(samples) for key, samples in want.items()}
     assert not left and want == got, (left, [(k, want.get(k), got.get(k)) for k in set(want) | set(got) if want.get(k) != got.get(k)][:2])

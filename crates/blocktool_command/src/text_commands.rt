@@ -19,10 +19,11 @@ const ABOUT_FROM: &str = "Example: blocktool from-openmetrics --decimals 3 --int
 FILE, or standard input, is OpenMetrics text, whose times are in seconds and which ends with
 `# EOF`, or with --format prometheus the older text of Prometheus, whose times are in milliseconds.
 Each sample needs a time. Of two samples of one series at one time that of the later line is kept.
-The first line that is wrong is refused with its code, line and column: O1 to O12, L1 to L3.
+The first line that is wrong is refused with its code, line and column: P1 to P12, L1 to L3.
 Exemplars are left; no text has stale markers. The text and its rows are in memory at once.
 
-The outputs, the values and the last line are those of `blocktool from-prometheus`.
+The outputs, the values and the last line are those of `blocktool from-prometheus`, but for
+`--rest round`.
 
 Exit status: 0 done; 1 refused, with the place on standard error; 2 a fault of the words; 3 cannot
 read or write; 4 no memory";

@@ -7,15 +7,15 @@ use std::alloc::{AllocError, AllocFailed};
 /// Why a line is refused.
 #[derive(Clone, Copy, Debug, PartialEq, Eq, Drop)]
 pub enum Cause {
-    /// `O1` to `O9`: the line is wrong.
+    /// `P1` to `P9`: the line is wrong.
     Line(Reason),
-    /// `O10`: the name or the text of a label is no UTF-8.
+    /// `P10`: the name or the text of a label is no UTF-8.
     Text,
     /// `L1` to `L3`: the labels make no label set.
     Labels(LabelError),
-    /// `O11`: the time is outside -2^62 to 2^62 - 1.
+    /// `P11`: the time is outside -2^62 to 2^62 - 1.
     Time,
-    /// `O12`: the text does not end with `# EOF`, or goes on behind it.
+    /// `P12`: the text does not end with `# EOF`, or goes on behind it.
     End,
 }
 
@@ -24,10 +24,10 @@ impl Cause {
     pub fn code(self) -> &'static str {
         match self {
             Cause::Line(reason) => reason.code(),
-            Cause::Text => "O10",
+            Cause::Text => "P10",
             Cause::Labels(error) => error.code(),
-            Cause::Time => "O11",
-            Cause::End => "O12",
+            Cause::Time => "P11",
+            Cause::End => "P12",
         }
     }
 }

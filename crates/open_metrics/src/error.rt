@@ -9,24 +9,24 @@ use std::fmt;
 /// What is wrong at a place of a line.
 #[derive(Clone, Copy, Debug, PartialEq, Eq, Drop)]
 pub enum Reason {
-    /// `O1`: a line of OpenMetrics is empty, or is a comment other than HELP, TYPE, UNIT and EOF.
+    /// `P1`: a line of OpenMetrics is empty, or is a comment other than HELP, TYPE, UNIT and EOF.
     Comment,
-    /// `O2`: no name of a metric stands here.
+    /// `P2`: no name of a metric stands here.
     Name,
-    /// `O3`: no type of a metric stands here.
+    /// `P3`: no type of a metric stands here.
     Kind,
-    /// `O4`: no label stands here: its name, `=`, and what goes on or ends the labels.
+    /// `P4`: no label stands here: its name, `=`, and what goes on or ends the labels.
     Label,
-    /// `O5`: the text of a label does not begin or does not end, or has an escape other than `\\`,
+    /// `P5`: the text of a label does not begin or does not end, or has an escape other than `\\`,
     /// `\"` and `\n`.
     Text,
-    /// `O6`: there are more than 64 labels.
+    /// `P6`: there are more than 64 labels.
     Many,
-    /// `O7`: no value stands here.
+    /// `P7`: no value stands here.
     Value,
-    /// `O8`: no time stands here, or none that is a whole number of milliseconds.
+    /// `P8`: no time stands here, or none that is a whole number of milliseconds.
     Time,
-    /// `O9`: something else stands after a sample.
+    /// `P9`: something else stands after a sample.
     After,
 }
 
@@ -38,15 +38,15 @@ impl Reason {
         ensures { result.now ≡ code_of self }
     {
         match self {
-            Reason::Comment => "O1",
-            Reason::Name => "O2",
-            Reason::Kind => "O3",
-            Reason::Label => "O4",
-            Reason::Text => "O5",
-            Reason::Many => "O6",
-            Reason::Value => "O7",
-            Reason::Time => "O8",
-            Reason::After => "O9",
+            Reason::Comment => "P1",
+            Reason::Name => "P2",
+            Reason::Kind => "P3",
+            Reason::Label => "P4",
+            Reason::Text => "P5",
+            Reason::Many => "P6",
+            Reason::Value => "P7",
+            Reason::Time => "P8",
+            Reason::After => "P9",
         }
     }
 }
@@ -59,15 +59,15 @@ impl fmt::Display for Reason {
 
     fn fmt<W: fmt::Write>(&self, f: &mut fmt::Formatter<W>) -> fmt::Result {
         let text = match self {
-            Reason::Comment => "O1: a line is none of HELP, TYPE, UNIT, EOF and a sample",
-            Reason::Name => "O2: no name of a metric stands here",
-            Reason::Kind => "O3: no type of a metric stands here",
-            Reason::Label => "O4: no label stands here",
-            Reason::Text => "O5: no text of a label stands here",
-            Reason::Many => "O6: a sample has more than 64 labels",
-            Reason::Value => "O7: no value stands here",
-            Reason::Time => "O8: no time in whole milliseconds stands here",
-            Reason::After => "O9: something else stands after a sample",
+            Reason::Comment => "P1: a line is none of HELP, TYPE, UNIT, EOF and a sample",
+            Reason::Name => "P2: no name of a metric stands here",
+            Reason::Kind => "P3: no type of a metric stands here",
+            Reason::Label => "P4: no label stands here",
+            Reason::Text => "P5: no text of a label stands here",
+            Reason::Many => "P6: a sample has more than 64 labels",
+            Reason::Value => "P7: no value stands here",
+            Reason::Time => "P8: no time in whole milliseconds stands here",
+            Reason::After => "P9: something else stands after a sample",
         };
         write!(f, "{text}")
     }
