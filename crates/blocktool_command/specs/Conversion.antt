@@ -103,6 +103,7 @@ pub record IsSummaryOf (counted : Counted) (account : Account) (s : Summary) : T
   pub stale : s.stale ≡ account.tally.stale
   pub rest : s.rest ≡ account.tally.rest
   pub deleted : s.deleted ≡ account.tally.deleted
+  pub histograms : s.histograms ≡ counted.histograms
 
 -- the outputs of ranges are written, and each sample that was counted is told once
 pub record Makes {I D : Type 0} (gives : Gives I) (did : D → List Did → Type 0) (inputs : List I)

@@ -27,16 +27,19 @@ fn refused(alloc: Global, file: Option<&str>, error: ReadError) -> Fault {
     }
 }
 
-/// Refuses the first of samples with other values, unless they are to be left out.
+/// Refuses the first of samples with other values in the range, unless they are to be left out.
 fn check_others(
     alloc: Global,
     file: Option<&str>,
-    rest: Rest,
+    options: &Options<'_>,
     others: &[Left],
 ) -> Result<(), Fault> {
-    match others.first() {
-        Some(left) if rest != Rest::Drop => Err(Fault::Other(name_of(alloc, file)?, *left)),
-        _ => Ok(()),
+    if options.policy.rest == Rest::Drop {
+        return Ok(());
+    }
+    match others.iter().find(|left| options.times.has(left.t)) {
+        Some(left) => Err(Fault::Other(name_of(alloc, file)?, *left)),
+        None => Ok(()),
     }
 }
 
@@ -56,7 +59,7 @@ fn said_by(
         Ok(read) => read,
         Err(error) => return Err(refused(alloc, text_in.file, error)),
     };
-    check_others(alloc, text_in.file, options.policy.rest, others.as_slice())?;
+    check_others(alloc, text_in.file, options, others.as_slice())?;
     Ok(Said {
         listed: Listed { rows },
         others,
