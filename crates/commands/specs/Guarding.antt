@@ -1,6 +1,6 @@
 -- The rules of a server.
 use Rattle.std.specs.Prelude.{◌≡◌, ℕ, ◌==◌, List, [], ◌∷◌, Option, None, Some, if◌then◌else◌}
-use Rattle.std.specs.Prelude.{string_bytes}
+use Rattle.std.specs.Prelude.{string_bytes, length, ◌≤◌}
 use Rattle.std.specs.Borrow.{Bor}
 use Rattle.guard.specs.declared.rules.Rules.{Rules}
 use Rattle.guard.specs.declared.token.Token.{Token}
@@ -15,11 +15,13 @@ without_end [] = []
 without_end (byte ∷ []) = if byte == 10 then [] else byte ∷ []
 without_end (byte ∷ next ∷ rest) = byte ∷ without_end (next ∷ rest)
 
--- the token is what the file at a path holds, without the end of its line
+-- the token is what the file at a path holds, without the end of its line: of a longer file more
+-- than 4,096 bytes would be left
 pub record IsTokenAt (reads : Host) (path : List ℕ) (token : Token) : Type 0 where
   pub bytes : List ℕ
-  pub read : AreFirstBytes reads path 4096 bytes
+  pub read : AreFirstBytes reads path 4098 bytes
   pub is : token.bytes.items ≡ without_end bytes
+  pub few : length token.bytes.items ≤ 4096
 
 -- the token of the file, if one is named
 abbrev pub IsTokenOf : Host → Option (Bor (List ℕ)) → Option Token → Type 0

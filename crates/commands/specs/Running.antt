@@ -32,7 +32,8 @@ IsDone reads Demo old new Done =
     WritesAnswerAfter demo_events (demo_query (pos 0) (pos 100)) old new
 IsDone reads (Select s texts) old new Done = WritesSelection reads (paths_of texts.items) s old new
 IsDone reads (Check texts) old new outcome = IsChecked reads (paths_of texts.items) old new outcome
-IsDone reads (Serve serving texts) old new Done = IsListening reads (paths_of texts.items) old new
+IsDone reads (Serve serving texts) old new Done =
+    IsListening reads serving (paths_of texts.items) old new
 IsDone reads line old new other = ⊥
 
 -- why a line ends before it is done, and what was written by then

@@ -4,7 +4,8 @@ use Rattle.std.specs.Io.KnownBytes.{Appends}
 use Rattle.head.specs.Heads.{BlockPart}
 use Rattle.snapshots.specs.Seats.{IsRoom}
 use Rattle.snapshots.specs.declared.error.OpenError.TheVariants as store
-use Rattle.commands.specs.Guarding.{IsGuardFault}
+use Rattle.guard.specs.declared.rules.Rules.{Rules}
+use Rattle.commands.specs.Guarding.{AreRulesOf, IsGuardFault}
 use Rattle.commands.specs.Opening.{AreBlocksAt, IsOpeningFault}
 use Rattle.commands.specs.Reading.{Host}
 use Rattle.commands.specs.Selecting.{KeepsAt}
@@ -29,9 +30,12 @@ pub record AreServable (reads : Host) (directories : List (List ℕ)) : Type 0 w
   pub opened : AreBlocksAt reads directories blocks
   pub few : length directories ≤ 63
 
--- the directories hold blocks, and the port at which a store over them is served was told
-pub record IsListening (reads : Host) (directories : List (List ℕ))
+-- the options ask for rules, the directories hold blocks, and the port at which a store over them is
+-- served was told
+pub record IsListening (reads : Host) (serving : Serving) (directories : List (List ℕ))
     (old new : Option (List ℕ)) : Type 0 where
+  pub rules : Rules
+  pub ruled : AreRulesOf reads serving rules
   pub servable : AreServable reads directories
   pub told : TellsPort old new
 

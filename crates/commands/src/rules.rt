@@ -10,8 +10,11 @@ use crate::files::{ReadError, ReadFiles};
 use guard::{Rules, Token};
 use std::alloc::{AllocError, Global};
 
-/// The most bytes of the file of a token: what stands behind them is not read.
+/// The most bytes of a token.
 const MAX_TOKEN: usize = 4096;
+
+/// The most bytes that are read of its file: a longer file leaves more than a token has.
+const MAX_FILE: usize = MAX_TOKEN + 2;
 
 /// The bytes without the end of a line behind them.
 #[tactic(auto, using(crate::proofs::TokenTexts::line_ends))]
@@ -35,12 +38,16 @@ fn token_at<F: ReadFiles>(alloc: Global, files: &F, path: &str) -> Result<Token,
     ensures ok { IfOk result (IsTokenAt (F.may_read files.now) path.now) }
     ensures err { IfErr result (IsTokenFault path.now) }
 {
-    let bytes = match files.read_secret(alloc, path, MAX_TOKEN) {
+    let bytes = match files.read_secret(alloc, path, MAX_FILE) {
         Ok(bytes) => bytes,
         Err(ReadError::Unreadable) => return Err(cannot_read(alloc, path)?),
         Err(ReadError::Memory) => return Err(Fault::Memory),
     };
-    match Token::new(Vec::from_slice(alloc, without_end(bytes.as_slice()))?) {
+    let text = without_end(bytes.as_slice());
+    if text.len() > MAX_TOKEN {
+        return Err(cannot_read(alloc, path)?);
+    }
+    match Token::new(Vec::from_slice(alloc, text)?) {
         Some(token) => Ok(token),
         None => Err(cannot_read(alloc, path)?),
     }

@@ -133,8 +133,8 @@ pub fn serve<
     directories: &[&str],
     out: &mut W,
 ) -> Result<Vec<u64>, Fault>
-    ensures ok { OnOk result (IsListening (F.may_read files.now) (paths_of directories.now)
-        (W.contents out.old) (W.contents out.new)) }
+    ensures ok { OnOk result (IsListening (F.may_read files.now) serving.entry
+        (paths_of directories.now) (W.contents out.old) (W.contents out.new)) }
     ensures workers { IfOk result (λ counts. vec_len counts ≡ serving.entry.workers) }
     ensures served { IfOk result (λ counts. All (λ n. n ≡ serving.entry.requests) counts.items) }
     ensures err { IfErr result (λ fault. IsServeFault (F.may_read files.now)

@@ -25,6 +25,8 @@ pub returns-clause-ok : goal.returns-clause-ok
 returns-clause-ok g c =
     let same = as_many _ _ _ c.in_ok-blocks.ensures.ok in
     on_ok_weaker c.serve_blocks.result (λ told. record {
+      rules = c.in_ok-rules.rules;
+      ruled = c.in_ok-rules.ensures.ok;
       servable = record {
         blocks = map part_in c.in_ok-blocks.blocks.items;
         opened = c.in_ok-blocks.ensures.ok;
