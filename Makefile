@@ -9,11 +9,12 @@ TESTS_OF := selection_tests:labels,pages,matchers,postings \
 	file_tests:wire,index_reader,chunk_reader,tombstones,block,block_writer \
 	store_tests:head,history,snapshots \
 	serving_tests:cover,block_search,series_merge,answers,requests,query_http,server \
+	tests/serving:guard \
 	command_tests:commands,querier \
 	auditing_tests:auditor,audit_command,audit_laws,auditor_program \
 	import_tests:xor_reader,doubles,decimal_text,prometheus_block \
 	journal_tests:journal,event_text \
-	tests/importing:imported_values,time_cuts,block_folder,block_outputs,blocktool_command,blocktool \
+	tests/importing:imported_values,time_cuts,block_folder,block_outputs,open_metrics,metrics_writer,exposition,blocktool_command,blocktool \
 	tests/pages-html:page_layout,page_style,page_text,page_claims,page,explain_command,explain
 # The crate or the script with the tests of a crate, or nothing.
 tests_of = $(if $(filter %_tests,$(1)),$(1),$(word 1,$(subst :, ,$(foreach it,$(TESTS_OF),$(if \
