@@ -3,6 +3,7 @@
 use crate::from_openmetrics::TextIn;
 use crate::target::Target;
 use crate::text_commands::{from_openmetrics, from_rows, text_line_in, to_openmetrics};
+use crate::to_openmetrics::ReplyIn;
 use block_outputs::Stretch;
 use clap::builder::ValueParser;
 use clap::error::ErrorKind;
@@ -32,8 +33,8 @@ pub(crate) enum Line<'a> {
     FromOpenMetrics(Options<'a>, TextIn<'a>),
     /// Blocks out of the rows in this file, or on standard input.
     FromRows(Target<'a>, Option<&'a str>),
-    /// Text out of the reply in this file, or on standard input, whose values have so many digits.
-    ToOpenMetrics(Digits, Option<&'a str>),
+    /// Text out of a reply.
+    ToOpenMetrics(ReplyIn<'a>),
 }
 
 const CHOICES: [&str; 2] = ["refuse", "drop"];

@@ -34,9 +34,7 @@ fn execute<R: Files + AllocGlobal + Clone + Drop, I: Read, W: Write, E: Write>(
             from_openmetrics(alloc, rt, &options, text_in, input, out)
         }
         Ok(Line::FromRows(target, file)) => from_rows(alloc, rt, &target, file, input, out),
-        Ok(Line::ToOpenMetrics(digits, file)) => {
-            to_openmetrics(alloc, rt, digits, file, input, out)
-        }
+        Ok(Line::ToOpenMetrics(reply_in)) => to_openmetrics(alloc, rt, &reply_in, input, out),
         Err(error) if matches!(error.kind(), ErrorKind::OutOfMemory) => Err(Fault::Memory),
         Err(error) if error.use_stderr() => Err(Fault::Words(error)),
         Err(help) => {

@@ -5,6 +5,7 @@ use crate::command::{
 };
 use crate::from_openmetrics::TextIn;
 use crate::target::Target;
+use crate::to_openmetrics::ReplyIn;
 use clap::builder::ValueParser;
 use clap::{Arg, ArgMatches, Command};
 use open_metrics::Format;
@@ -128,6 +129,14 @@ fn rows_in<'a>(found: &ArgMatches<'a>) -> Option<Line<'a>> {
     Some(Line::FromRows(target, found.get_str("file")))
 }
 
+fn reply_in<'a>(found: &ArgMatches<'a>) -> Option<Line<'a>> {
+    let reply = ReplyIn {
+        digits: digits_in(found)?,
+        file: found.get_str("file"),
+    };
+    Some(Line::ToOpenMetrics(reply))
+}
+
 /// What the words of one of these commands ask for.
 pub(crate) fn text_line_in<'a>(found: &ArgMatches<'a>) -> Option<Line<'a>> {
     if let Some(found) = found.subcommand_matches("from-openmetrics") {
@@ -137,6 +146,5 @@ pub(crate) fn text_line_in<'a>(found: &ArgMatches<'a>) -> Option<Line<'a>> {
         return rows_in(found);
     }
     let found = found.subcommand_matches("to-openmetrics")?;
-    let file = found.get_str("file");
-    Some(Line::ToOpenMetrics(digits_in(found)?, file))
+    reply_in(found)
 }

@@ -14,6 +14,14 @@ use std::alloc::Global;
 use std::io::{Read, Write};
 use std::rt::Files;
 
+/// A reply: how many digits its values have, and the file in which it is, if it is not standard
+/// input.
+#[derive(Clone, Copy, Debug, Drop)]
+pub(crate) struct ReplyIn<'a> {
+    pub(crate) digits: Digits,
+    pub(crate) file: Option<&'a str>,
+}
+
 /// The reply that a text is.
 pub(crate) fn reply_of(alloc: Global, text: &[u8]) -> Result<Reply, Fault>
     ensures { IfOk result (λ reply. text_said text.now ≡ Some (told_of reply)) }
@@ -49,13 +57,12 @@ fn text_of_reply(alloc: Global, reply: &[u8], digits: Digits) -> Result<Vec<u8>,
 pub(crate) fn to_openmetrics<R: Files + AllocGlobal, I: Read, W: Write>(
     alloc: Global,
     rt: &R,
-    digits: Digits,
-    file: Option<&str>,
+    reply_in: &ReplyIn<'_>,
     input: &mut I,
     out: &mut W,
 ) -> Result<(), Fault> {
-    let reply = read_text(alloc, rt, file, input)?;
-    let text = text_of_reply(alloc, reply.as_slice(), digits)?;
+    let reply = read_text(alloc, rt, reply_in.file, input)?;
+    let text = text_of_reply(alloc, reply.as_slice(), reply_in.digits)?;
     out.write_all(text.as_slice())?;
     out.flush()?;
     Ok(())
