@@ -42,6 +42,8 @@ pub struct Serving<'a> {
     pub requests: u64,
     /// For how many seconds a client may be silent; 0 for ever.
     pub idle_seconds: u64,
+    /// The port of 127.0.0.1 for those that ask how the server stands; 0 for none.
+    pub status_port: u64,
     /// Whether there is no `POST`.
     pub read_only: bool,
     /// The file with the token of each `POST`, if requests are guarded.
@@ -74,6 +76,10 @@ Example: querier select 'up{job=\"a\"}' data/0001";
 
 /// What `--version` tells behind the name: no build knows its commit.
 const VERSION: &str = "0.1.0 (rattle-kit-13f)";
+
+/// The version, and the one of the kit, as the status port tells them.
+pub(crate) const OWN_VERSION: &str = "0.1.0";
+pub(crate) const KIT_VERSION: &str = "rattle-kit-13f";
 
 const CHECKS: &str =
     "A block is a directory with the files meta.json, index, chunks/000001 and tombstones. All four
@@ -131,6 +137,9 @@ const REQUESTS: &str = "After how many connections a worker ends [default: never
 
 const IDLE: &str = "For how many seconds a client may be silent; 0 for ever [default: 30]";
 
+const STATUS_PORT: &str =
+    "A port of 127.0.0.1 with GET /metrics, /healthy and /ready, 1 to 65535 [default: none]";
+
 const READ_ONLY: &str = "Has no POST: what is served does not change";
 
 const GUARD: &str = "The file with a token that each POST has to bear, readable by its owner alone";
@@ -151,6 +160,9 @@ client that gives no byte, or takes none, for the idle seconds is dropped. docs/
 project tells each reply and refusal.
 
 A browser on this machine sends what any page tells it to, and each local user reaches the port.
+With --status-port, a second listener answers GET /metrics in the text format of Prometheus, GET
+/healthy, and GET /ready: 503 until the blocks are open. It answers before they are.
+
 With --guard, a POST needs the field `Authorization: Bearer TOKEN`, with the token that is all of
 the file, save an end of a line; and each request that has an `Origin`, or whose only `Host` is not
 127.0.0.1, localhost or [::1], is refused with H12. With --read-only, a POST is of no path (H3).
@@ -301,7 +313,8 @@ fn counts<'a>(alloc: Global) -> Result<Command<'a>, AllocError>
         .arg(port(alloc))?
         .arg(count(alloc, "workers", "W", (1, 64), WORKERS))?
         .arg(count(alloc, "requests", "N", (0, u64::MAX), REQUESTS))?
-        .arg(count(alloc, "idle-seconds", "S", (0, u32::MAX as u64), IDLE))
+        .arg(count(alloc, "idle-seconds", "S", (0, u32::MAX as u64), IDLE))?
+        .arg(count(alloc, "status-port", "P", (1, 65535), STATUS_PORT))
 }
 
 fn serve<'a>(alloc: Global) -> Result<Command<'a>, AllocError>
@@ -390,11 +403,13 @@ fn serving_in<'a>(found: &ArgMatches<'a>) -> Serving<'a>
     let workers = count_in(found, "workers", 4);
     let requests = count_in(found, "requests", u64::MAX);
     let idle_seconds = count_in(found, "idle-seconds", 30);
+    let status_port = count_in(found, "status-port", 0);
     Serving {
         port,
         workers,
         requests,
         idle_seconds,
+        status_port,
         read_only: flag_in(found, "read-only"),
         guard: given_in(found, "guard"),
     }

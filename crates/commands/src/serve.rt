@@ -8,25 +8,30 @@ ghost use Rattle.head.specs.Blocks.{part_in, opening_of};
 ghost use Rattle.commands.specs.Reading.{paths_of};
 ghost use Rattle.commands.specs.Selecting.{KeepsAt};
 ghost use Rattle.commands.specs.ServingRuns.{listening_line, TellsPort, IsListening, IsStoreFault};
-ghost use Rattle.commands.specs.ServingRuns.{IsServeFault, IsServingFault};
+ghost use Rattle.commands.specs.ServingRuns.{IsServeFault, IsServingFault, IsWatchFault, passes_of};
+ghost use Rattle.commands.specs.Opening.{AreBlocksAt, IsOpeningFault};
+ghost use Rattle.std.specs.Thread.{IsSync};
+ghost use Rattle.snapshots.specs.Seats.{IsRoom};
 ghost use Rattle.commands.specs.declared.fault.Fault.TheVariants.{CannotListen};
 
-use crate::command::Serving;
+use crate::command::{KIT_VERSION, OWN_VERSION, Serving};
 use crate::fault::Fault;
 use crate::files::ReadFiles;
 use crate::opening::open_blocks;
+use crate::process::Process;
 use crate::rules::rules_of;
 use crate::sending::send;
 use block::Block;
 use guard::Rules;
-use server::{Terms, Workers};
+use server::{ServeError, Terms, Watch, Workers, report_opening, serve_watched};
 use snapshots::{Naming, Store};
 use std::alloc::{AllocError, Global};
 use std::io::Write;
 use std::marker::Brand;
 use std::net::{Net, TcpListener, TcpStream};
 use std::sync::Wait;
-use std::thread::Threads;
+use std::sync::atomic::{AtomicBool, Ordering};
+use std::thread::{Threads, join};
 use std::time::{Clock, Duration};
 
 /// Listens on a port of 127.0.0.1.
@@ -85,10 +90,47 @@ fn terms_of(serving: Serving<'_>) -> Terms
     }
 }
 
+/// Runs workers, with those beside that watch.
+fn run_workers<
+    J: Naming + Send + Sync,
+    R: Wait + Threads + Clock + Eprint + Sync,
+    F: ReadFiles,
+>(
+    rt: &R,
+    alloc: Global,
+    workers: Workers<J, &R>,
+    listener: &TcpListener,
+    rules: &Rules,
+    watch: Option<&Watch<'_, Process<'_, F>>>,
+    terms: Terms,
+) -> Result<Vec<u64>, ServeError>
+    ensures all { IfOk result (λ counts. vec_len counts ≡ workers) }
+    ensures each { IfOk result (λ counts. All (λ n. n ≡ terms.requests) counts.items) }
+{
+    match watch {
+        Some(watch) => serve_watched(rt, alloc, workers, listener, rules, terms, watch),
+        None => server::serve(rt, alloc, workers, listener, rules, terms),
+    }
+}
+
+/// How many passes there are: one for each worker, and one for those that watch.
+fn passes_of(serving: Serving<'_>) -> usize
+    ensures { IsRoom (passes_of serving.entry) serving.entry.workers
+        → result ≡ passes_of serving.entry }
+{
+    let count = serving.workers as usize;
+    if serving.status_port == 0 {
+        count
+    } else {
+        count.saturating_add(1)
+    }
+}
+
 /// Serves a store over these blocks until each worker has ended: how many connections each served.
 fn serve_blocks<
     J: Naming + Send + Sync,
     R: Wait + Threads + Net<Listener = TcpListener, Stream = TcpStream> + Clock + Eprint + Sync,
+    F: ReadFiles,
     W: Write,
 >(
     rt: &R,
@@ -96,6 +138,7 @@ fn serve_blocks<
     store: Store,
     blocks: Vec<Block>,
     rules: &Rules,
+    watch: Option<&Watch<'_, Process<'_, F>>>,
     serving: Serving<'_>,
     out: &mut W,
 ) -> Result<Vec<u64>, Fault>
@@ -109,18 +152,106 @@ fn serve_blocks<
         IsServingFault serving.entry (W.contents out.old) (W.contents out.new) fault) }
 {
     let count = serving.workers as usize;
-    let workers = Workers::<J, &R>::open(rt, alloc, store, blocks, count)?;
+    let passes = passes_of(serving);
+    let workers = Workers::<J, &R>::open(rt, alloc, store, blocks, passes, count)?;
     let listener = listen(rt, serving.port)?;
     tell_port(alloc, &listener, serving, out)?;
-    let counts = server::serve(rt, alloc, workers, &listener, rules, terms_of(serving))?;
+    let terms = terms_of(serving);
+    let counts = run_workers(rt, alloc, workers, &listener, rules, watch, terms)?;
     Ok(counts)
+}
+
+/// Listens on the status port, if there is one, and does not wait for its clients.
+fn listen_beside<R: Net<Listener = TcpListener, Stream = TcpStream>>(
+    rt: &R,
+    serving: Serving<'_>,
+) -> Result<Option<TcpListener>, Fault>
+    ensures { IfErr result (IsWatchFault serving.entry) }
+{
+    if serving.status_port == 0 {
+        return Ok(None);
+    }
+    let listener = listen(rt, serving.status_port)?;
+    if listener.set_nonblocking(true).is_err() {
+        return Err(Fault::CannotListen(serving.status_port));
+    }
+    Ok(Some(listener))
+}
+
+/// What those at the status port are told of, if there is one.
+fn watch_of<'a, F>(
+    beside: &'a Option<TcpListener>,
+    process: &'a Process<'a, F>,
+) -> Option<Watch<'a, Process<'a, F>>> {
+    match beside {
+        Some(listener) => Some(Watch {
+            listener,
+            memory: process,
+            version: OWN_VERSION,
+            kit: KIT_VERSION,
+        }),
+        None => None,
+    }
+}
+
+/// Opens blocks as [`open_blocks`] does, and answers those beside that watch.
+fn open_watched<R: Threads + Clock + Sync, F: ReadFiles>(
+    rt: &R,
+    alloc: Global,
+    files: &F,
+    directories: &[&str],
+    watch: &Watch<'_, Process<'_, F>>,
+) -> Result<Vec<Block>, Fault>
+    ensures ok { IfOk result (λ blocks.
+        AreBlocksAt (F.may_read files.now) (paths_of directories.now) (map part_in blocks.items)) }
+    ensures few { IfOk result (λ blocks. length blocks.items ≤ 63) }
+    ensures err { IfErr result (λ fault.
+        IsOpeningFault (F.may_read files.now) (paths_of directories.now) fault) }
+{
+    let over = AtomicBool::new(false);
+    let ended = &over;
+    let apart = || report_opening(rt, alloc, watch, ended);
+    let here = || -> Result<Vec<Block>, Fault>
+        requires { IsSync R.row × IsSync F.row }
+        ensures ok { IfOk result (λ blocks. AreBlocksAt (F.may_read files.entry.now)
+            (paths_of directories.entry.now) (map part_in blocks.items)) }
+        ensures few { IfOk result (λ blocks. length blocks.items ≤ 63) }
+        ensures err { IfErr result (λ fault. IsOpeningFault (F.may_read files.entry.now)
+            (paths_of directories.entry.now) fault) }
+    {
+        let blocks = open_blocks(rt, alloc, files, directories);
+        ended.store(true, Ordering::SeqCst);
+        blocks
+    };
+    let (_, blocks) = join(rt, apart, here);
+    blocks
+}
+
+/// Opens blocks, and answers those beside that watch, if any can.
+fn open_beside<R: Threads + Clock + Sync, F: ReadFiles>(
+    rt: &R,
+    alloc: Global,
+    files: &F,
+    directories: &[&str],
+    watch: Option<&Watch<'_, Process<'_, F>>>,
+) -> Result<Vec<Block>, Fault>
+    ensures ok { IfOk result (λ blocks.
+        AreBlocksAt (F.may_read files.now) (paths_of directories.now) (map part_in blocks.items)) }
+    ensures few { IfOk result (λ blocks. length blocks.items ≤ 63) }
+    ensures err { IfErr result (λ fault.
+        IsOpeningFault (F.may_read files.now) (paths_of directories.now) fault) }
+{
+    match watch {
+        Some(watch) => open_watched(rt, alloc, files, directories, watch),
+        None => open_blocks(rt, alloc, files, directories),
+    }
 }
 
 /// Serves a store over the blocks in these directories, and over them an empty head, until each
 /// worker has ended: how many connections each served, as many as were asked for.
 ///
-/// The rules are read; the directories are opened as by `select`; then the store is opened, the
-/// port listened on, and `listening P` written.
+/// The rules are read, and the status port is listened on; the directories are opened as by
+/// `select`; then the store is opened, the port listened on, and `listening P` written.
 pub fn serve<
     R: Wait + Threads + Net<Listener = TcpListener, Stream = TcpStream> + Clock + Eprint + Sync,
     F: ReadFiles,
@@ -141,6 +272,11 @@ pub fn serve<
         (paths_of directories.now) serving.entry (W.contents out.old) (W.contents out.new) fault) }
 {
     let rules = rules_of(alloc, files, serving)?;
-    let blocks = open_blocks(rt, alloc, files, directories)?;
-    serve_blocks::<Brand, R, W>(rt, alloc, Store::new(), blocks, &rules, serving, out)
+    let listener = listen_beside(rt, serving)?;
+    let process = Process { alloc, files };
+    let watch = watch_of(&listener, &process);
+    let beside = watch.as_ref();
+    let blocks = open_beside(rt, alloc, files, directories, beside)?;
+    let store = Store::new();
+    serve_blocks::<Brand, R, F, W>(rt, alloc, store, blocks, &rules, beside, serving, out)
 }

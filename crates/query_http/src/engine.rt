@@ -12,10 +12,11 @@ ghost use Rattle.query_http.specs.Serving.{IsRequestReply, IsReply};
 
 use crate::actions::{act, refusal_reply};
 use crate::buffers::Buffers;
+use crate::note::Note;
 use crate::outlet::{Outlet, write_whole};
 use crate::reply::Reply;
 use guard::Rules;
-use requests::{Inlet, ReadError, Refusal, Request, Status, read_admitted_into};
+use requests::{Inlet, ReadError, Refusal, Request, Status, path_in, read_admitted_into};
 use snapshots::{Committer, Naming, Pass, Seat};
 use std::alloc::Global;
 use std::sync::Wait;
@@ -93,8 +94,14 @@ fn reply_to<J: Naming, C: Wait + Drop, R: Inlet>(
         → HasGrown (R.failed_reads reader.old) (R.failed_reads reader.new) }
 {
     match read_admitted_into(alloc, rules, reader, &mut buffers.request) {
-        Ok(request) => do_asked(rt, alloc, buffers, request, pass, seat, committer),
-        Err(ReadError::Refused(refusal)) => turn_away(alloc, &refusal),
+        Ok(request) => {
+            buffers.note = Note::asked(&request);
+            do_asked(rt, alloc, buffers, request, pass, seat, committer)
+        }
+        Err(ReadError::Refused(refusal)) => {
+            buffers.note = Note::refused(path_in(buffers.request.as_slice()), &refusal);
+            turn_away(alloc, &refusal)
+        }
         Err(ReadError::Closed) => Err(Served::Closed),
         Err(ReadError::Fault) => Err(Served::ReadFault),
         Err(ReadError::Memory) => Err(Served::NoMemory),
@@ -124,12 +131,14 @@ fn serve_next<J: Naming, C: Wait + Drop, R: Inlet, W: Outlet>(
         → HasGrown (W.failed_writes writer.old) (W.failed_writes writer.new) }
     ensures bounded { IsBounded buffers.new }
 {
+    buffers.note = Note::none();
     let made = reply_to(rt, alloc, rules, buffers, reader, pass, seat, committer);
     buffers.trim_all();
     let reply = match made {
         Ok(reply) => reply,
         Err(served) => return served,
     };
+    buffers.note.status = Some(reply.status);
     let served = match write_whole(writer, reply.text()) {
         Ok(()) => Served::Replied(reply.status),
         Err(_) => Served::WriteFault,

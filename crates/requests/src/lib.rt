@@ -84,8 +84,10 @@ mod write;
 
 pub use admit::read_admitted_into;
 pub use edge::{Fault, Inlet};
+pub use fields::path_in;
 pub use read::{read_request, read_request_into};
 pub use refusal::{Cause, Refusal};
 pub use reply::{HEAD_ROOM, done_reply, place_success_head};
 pub use request::{MAX_BATCH, ReadError, Request};
 pub use status::Status;
+pub use target::Path;

@@ -26,11 +26,16 @@ mod error;
 mod pool;
 mod socket;
 mod sockets;
+mod standing;
+mod status;
+mod tally;
 mod worker;
 
 pub use connections::Connections;
 pub use error::ServeError;
-pub use pool::{Terms, Workers, serve};
+pub use pool::{Terms, Workers, serve, serve_watched};
 pub use socket::{SocketReader, SocketWriter};
 pub use sockets::Sockets;
+pub use standing::{Memory, Watch, report_opening};
+pub use tally::Tally;
 pub use worker::work;

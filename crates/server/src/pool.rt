@@ -2,12 +2,15 @@
 
 ghost use Rattle.std.specs.Prelude.{◌≡◌, ◌≤◌, ◌<◌, length, map, vec_len, IfOk, IfErr};
 ghost use Rattle.std.specs.List.{All};
+ghost use Rattle.std.specs.Thread.{IsSync};
 ghost use Rattle.head.specs.Blocks.{part_in, opening_of};
 ghost use Rattle.snapshots.specs.Seats.{IsRoom};
 ghost use Rattle.snapshots.specs.declared.error.OpenError.TheVariants.{BadPasses, Limit};
 
 use crate::error::ServeError;
 use crate::sockets::Sockets;
+use crate::standing::{Memory, Watch, report_open};
+use crate::tally::Tally;
 use crate::worker::work;
 use block::Block;
 use guard::Rules;
@@ -15,8 +18,9 @@ use snapshots::{Committer, Naming, OpenError, Pass, Seat, Store};
 use std::alloc::{AllocError, Global};
 use std::marker::Model;
 use std::net::TcpListener;
-use std::sync::{Mutex, Wait};
-use std::thread::{self, Threads, map_vec};
+use std::sync::atomic::{AtomicBool, Ordering};
+use std::sync::{Arc, Mutex, Wait};
+use std::thread::{self, Threads, join, map_vec};
 use std::time::{Clock, Duration};
 
 /// What is one worker's own.
@@ -24,6 +28,7 @@ use std::time::{Clock, Duration};
 struct Place<J: Naming> {
     pass: Pass<J>,
     seat: Seat<J>,
+    tally: Arc<Tally>,
 }
 
 /// An open store and its workers. Contracts see how many workers there are.
@@ -31,6 +36,7 @@ struct Place<J: Naming> {
 pub struct Workers<J: Naming, C: Wait + Drop> {
     committer: Committer<J, C>,
     places: Vec<Place<J>>,
+    spare: Vec<Pass<J>>,
 }
 
 impl<J: Naming, C: Wait + Drop> Model for Workers<J, C> {
@@ -50,45 +56,51 @@ pub struct Terms {
     pub idle: Option<Duration>,
 }
 
-/// Each pass with a seat; the seats are as many.
+/// Each seat with a pass; there are as many passes, or more.
 fn places_of<J: Naming>(
     alloc: Global,
-    passes: Vec<Pass<J>>,
-    mut seats: Vec<Seat<J>>,
+    passes: &mut Vec<Pass<J>>,
+    seats: Vec<Seat<J>>,
 ) -> Result<Vec<Place<J>>, AllocError>
-    ensures { IfOk result (λ places. vec_len places ≡ vec_len passes) }
+    ensures { IfOk result (λ places. vec_len places ≡ vec_len seats) }
 {
     let mut places = Vec::new(alloc);
-    for pass in passes {
-        let Some(seat) = seats.pop() else {
+    for seat in seats {
+        let Some(pass) = passes.pop() else {
             return Err(AllocError);
         };
-        places.push(Place { pass, seat })?;
+        let tally = Arc::new(alloc, Tally::new(alloc)?)?;
+        places.push(Place { pass, seat, tally })?;
     }
     Ok(places)
 }
 
 impl<J: Naming, C: Wait + Drop> Workers<J, C> {
-    /// Opens a store over these blocks with so many workers, each with a pass and a seat of its
-    /// own. `O2` where there are not 1 to 64 workers, then `O3` where there are more than 63
-    /// blocks, then `O4` and memory.
+    /// Opens a store over these blocks with so many passes and workers, each worker with a pass and
+    /// a seat of its own; a pass more is for whoever watches them. `O2` where there are not 1 to 64
+    /// of each, then `O3` where there are more than 63 blocks, then `O4` and memory.
     pub fn open(
         rt: C,
         alloc: Global,
         store: Store,
         blocks: Vec<Block>,
+        passes: usize,
         count: usize,
     ) -> Result<Workers<J, C>, OpenError>
         requires book { store.seen.book ≡ J.book }
         requires opening { opening_of (map part_in blocks.items) ≡ J.opening }
         ensures workers { IfOk result (λ w. w ≡ count) }
-        ensures room { IfOk result (λ _. IsRoom count count) }
-        ensures refused { IfErr result (λ e. e ≡ BadPasses → ¬ IsRoom count count) }
+        ensures room { IfOk result (λ _. IsRoom passes count) }
+        ensures refused { IfErr result (λ e. e ≡ BadPasses → ¬ IsRoom passes count) }
         ensures few { IfErr result (λ e. e ≡ Limit → 63 < length blocks.items) }
     {
-        let (committer, passes, seats) = store.open::<J, C>(rt, alloc, blocks, count, count)?;
-        match places_of(alloc, passes, seats) {
-            Ok(places) => Ok(Workers { committer, places }),
+        let (committer, mut spare, seats) = store.open::<J, C>(rt, alloc, blocks, passes, count)?;
+        match places_of(alloc, &mut spare, seats) {
+            Ok(places) => Ok(Workers {
+                committer,
+                places,
+                spare,
+            }),
             Err(_) => Err(OpenError::Memory),
         }
     }
@@ -106,8 +118,12 @@ fn work_at<J: Naming, C: Wait + Drop, R: Wait + Clock + Eprint>(
 ) -> u64
     ensures { result ≤ terms.requests }
 {
-    let Place { mut pass, mut seat } = place;
-    let mut sockets = Sockets::new(rt, alloc, listener, terms.idle);
+    let Place {
+        mut pass,
+        mut seat,
+        tally,
+    } = place;
+    let mut sockets = Sockets::new(rt, alloc, listener, terms.idle, &tally);
     let most = terms.requests;
     work(
         rt,
@@ -154,6 +170,36 @@ fn can_make<R: Threads + Wait + Sync>(rt: &R, count: usize) -> bool {
     })
 }
 
+/// Serves the connections of a listener until each worker has ended.
+fn run_all<
+    J: Naming + Send + Sync,
+    C: Wait + Drop + Send + Sync,
+    R: Threads + Wait + Clock + Eprint + Sync,
+>(
+    rt: &R,
+    alloc: Global,
+    committer: &Committer<J, C>,
+    places: Vec<Place<J>>,
+    listener: &TcpListener,
+    rules: &Rules,
+    terms: Terms,
+) -> Result<Vec<u64>, ServeError>
+    ensures all { IfOk result (λ counts. vec_len counts ≡ vec_len places) }
+    ensures each { IfOk result (λ counts. All (λ n. n ≡ terms.requests) counts.items) }
+{
+    if !can_make(rt, places.len()) {
+        return Err(ServeError::NoThread);
+    }
+    let counts = map_vec(
+        rt,
+        places,
+        &|place: Place<J>| -> u64
+            ensures { result ≤ terms.requests }
+        { work_at(rt, alloc, rules, listener, committer, place, terms) },
+    )?;
+    all_served(counts, terms.requests)
+}
+
 /// Serves the connections of a listener under rules until each worker has ended, each in a thread
 /// of its own: how many each served, which is as many as the terms ask for.
 ///
@@ -174,17 +220,62 @@ pub fn serve<
     ensures all { IfOk result (λ counts. vec_len counts ≡ workers) }
     ensures each { IfOk result (λ counts. All (λ n. n ≡ terms.requests) counts.items) }
 {
-    let Workers { committer, places } = workers;
-    if !can_make(rt, places.len()) {
-        return Err(ServeError::NoThread);
-    }
-    let shared = &committer;
-    let counts = map_vec(
-        rt,
+    let Workers {
+        committer,
         places,
-        &|place: Place<J>| -> u64
-            ensures { result ≤ terms.requests }
-        { work_at(rt, alloc, rules, listener, shared, place, terms) },
-    )?;
-    all_served(counts, terms.requests)
+        spare: _,
+    } = workers;
+    run_all(rt, alloc, &committer, places, listener, rules, terms)
+}
+
+fn tallies_of<J: Naming>(
+    alloc: Global,
+    places: &[Place<J>],
+) -> Result<Vec<Arc<Tally>>, AllocError> {
+    let mut tallies = Vec::new(alloc);
+    for place in places {
+        tallies.push(Arc::try_clone(&place.tally)?)?;
+    }
+    Ok(tallies)
+}
+
+/// Serves as [`serve`] does, and answers the clients of the status port beside.
+pub fn serve_watched<
+    J: Naming + Send + Sync,
+    C: Wait + Drop + Send + Sync,
+    R: Threads + Wait + Clock + Eprint + Sync,
+    M: Memory + Sync,
+>(
+    rt: &R,
+    alloc: Global,
+    workers: Workers<J, C>,
+    listener: &TcpListener,
+    rules: &Rules,
+    terms: Terms,
+    watch: &Watch<'_, M>,
+) -> Result<Vec<u64>, ServeError>
+    ensures all { IfOk result (λ counts. vec_len counts ≡ workers) }
+    ensures each { IfOk result (λ counts. All (λ n. n ≡ terms.requests) counts.items) }
+{
+    let Workers {
+        committer,
+        places,
+        mut spare,
+    } = workers;
+    let tallies = tallies_of(alloc, places.as_slice())?;
+    let pass = spare.pop();
+    let over = AtomicBool::new(false);
+    let (shared, ended) = (&committer, &over);
+    let apart = || report_open(rt, alloc, watch, ended, pass, tallies);
+    let here = || -> Result<Vec<u64>, ServeError>
+        requires { IsSync R.row }
+        ensures all { IfOk result (λ counts. vec_len counts ≡ vec_len places) }
+        ensures each { IfOk result (λ counts. All (λ n. n ≡ terms.requests) counts.items) }
+    {
+        let counts = run_all(rt, alloc, shared, places, listener, rules, terms);
+        ended.store(true, Ordering::SeqCst);
+        counts
+    };
+    let (_, counts) = join(rt, apart, here);
+    counts
 }

@@ -2,7 +2,8 @@
 
 use crate::connections::Connections;
 use crate::socket::{SocketReader, SocketWriter};
-use query_http::Served;
+use crate::tally::Tally;
+use query_http::{Note, Served};
 use requests::Status;
 use std::alloc::Global;
 use std::io::{self, ErrorKind, Read};
@@ -27,24 +28,35 @@ pub struct Sockets<'a, R> {
     alloc: Global,
     listener: &'a TcpListener,
     idle: Option<Duration>,
+    tally: &'a Tally,
+    since: Option<Instant>,
 }
 
 impl<'a, R> Sockets<'a, R> {
     /// The connections of a listener. A connection that gives no byte, or takes none, for the time
-    /// given ends as a failed read or write.
+    /// given ends as a failed read or write. Each is counted.
     pub fn new(
         rt: &'a R,
         alloc: Global,
         listener: &'a TcpListener,
         idle: Option<Duration>,
+        tally: &'a Tally,
     ) -> Sockets<'a, R> {
         Sockets {
             rt,
             alloc,
             listener,
             idle,
+            tally,
+            since: None,
         }
     }
+}
+
+/// A time in microseconds, or the greatest number.
+fn micros_of(time: Duration) -> u64 {
+    let whole = time.as_secs().saturating_mul(1_000_000);
+    whole.saturating_add(time.subsec_micros() as u64)
 }
 
 /// Whether an accept failed because there is no listener any more.
@@ -140,6 +152,23 @@ impl<'a, R: Clock + Eprint> Sockets<'a, R> {
         sides
     }
 
+    /// For how many microseconds the connection is served, as far as the clock tells.
+    fn microseconds(&self) -> u64 {
+        let Some(since) = self.since else {
+            return 0;
+        };
+        match since.elapsed(self.rt) {
+            Ok(time) => micros_of(time),
+            Err(_) => 0,
+        }
+    }
+
+    /// The worker begins to serve a connection.
+    fn begin(&mut self) {
+        self.tally.set_busy(true);
+        self.since = Instant::now(self.rt).ok();
+    }
+
     /// One try to accept a connection: an error where there is no listener any more.
     fn try_accept(&self) -> io::Result<Option<(SocketReader, SocketWriter)>> {
         match self.listener.accept() {
@@ -166,9 +195,13 @@ impl<R: Clock + Eprint> Connections for Sockets<'_, R> {
     ghost past = { λ _. None };
 
     fn accept(&mut self) -> Option<(SocketReader, SocketWriter)> {
+        self.tally.set_busy(false);
         for _ in 0..u64::MAX {
             match self.try_accept() {
-                Ok(Some(connection)) => return Some(connection),
+                Ok(Some(connection)) => {
+                    self.begin();
+                    return Some(connection);
+                }
                 Ok(None) => {}
                 Err(_) => return None,
             }
@@ -176,7 +209,14 @@ impl<R: Clock + Eprint> Connections for Sockets<'_, R> {
         None
     }
 
-    fn close(&mut self, _reader: SocketReader, writer: SocketWriter, served: Served) {
+    fn close(
+        &mut self,
+        _reader: SocketReader,
+        writer: SocketWriter,
+        served: Served,
+        note: Note,
+    ) {
+        self.tally.count(note, self.microseconds(), writer.written());
         if let Some(fault) = fault_of(served) {
             self.tell(fault);
         }

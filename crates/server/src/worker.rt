@@ -50,7 +50,7 @@ pub fn work<J: Naming, C: Wait + Drop, A: Connections>(
             seat,
             committer,
         );
-        connections.close(reader, writer, served);
+        connections.close(reader, writer, served, buffers.note());
     }
     most
 }

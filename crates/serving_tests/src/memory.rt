@@ -6,7 +6,7 @@ ghost use Rattle.head.specs.Blocks.{opening_of};
 use crate::script::{Script, Sink};
 use crate::store::{EmptyStore, open_empty};
 use guard::Rules;
-use query_http::Served;
+use query_http::{Note, Served};
 use server::{Connections, work};
 use snapshots::{Naming, Store};
 use std::alloc::Global;
@@ -61,7 +61,7 @@ impl<'a> Connections for Texts<'a> {
         Some((reader, writer))
     }
 
-    fn close(&mut self, _reader: Script<'a>, writer: Sink, served: Served) {
+    fn close(&mut self, _reader: Script<'a>, writer: Sink, served: Served, _note: Note) {
         let Sink {
             bytes,
             room: _,

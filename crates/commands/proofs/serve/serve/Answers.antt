@@ -2,7 +2,7 @@ use Rattle.std.proofs.Common.{map, arith, length, ◌≤◌}
 use Rattle.std.proofs.lemmas.Result.{err_from_is_err_and, on_ok_weaker, IfErr-weaker}
 use Rattle.head.specs.Blocks.{part_in}
 use Rattle.commands.specs.Reading.{paths_of}
-use Rattle.commands.specs.ServingRuns.{by_guard, by_directories, by_serving}
+use Rattle.commands.specs.ServingRuns.{by_guard, by_watch, by_directories, by_serving}
 use Rattle.commands.proofs.LineEnds.{unused}
 use Rattle.commands.proofs.Openings.{as_many}
 use Rattle.commands.proofs.serve.serve.Goals as goal
@@ -12,6 +12,14 @@ returns-in_err-rules-clause-err g c =
     let p = err_from_is_err_and c.from_residual.result c.from_residual.ensures.1 in
     rw (p.1, p.2)
     (by_guard c.in_err-rules.ensures.err (unused _ (g.W.Write.contents c.args.out.now)))
+
+pub returns-in_err-listener-clause-err : goal.returns-in_err-listener-clause-err
+returns-in_err-listener-clause-err g c =
+    let p =
+    err_from_is_err_and c.from_residual-in_err-listener.result
+    c.from_residual-in_err-listener.ensures.1 in
+    rw (p.1, p.2)
+    (by_watch c.in_err-listener.ensures (unused _ (g.W.Write.contents c.args.out.now)))
 
 pub returns-in_err-blocks-clause-err : goal.returns-in_err-blocks-clause-err
 returns-in_err-blocks-clause-err g c =
