@@ -1,0 +1,13 @@
+-- Records that are written together.
+use Rattle.std.specs.Prelude.{◌≡◌, ℕ, List, ◌++◌, take}
+use Rattle.std.specs.List.{AllByRecursion}
+use Rattle.journal.specs.Records.{records_of, IsContent, Recovers}
+
+-- the bytes are the records of these contents
+pub record AreRecords (contents : List (List ℕ)) (bytes : List ℕ) : Type 0 where
+  pub each : AllByRecursion IsContent contents
+  pub whole : bytes ≡ records_of contents
+
+-- the file stands for these contents and the first of some more
+abbrev pub HasSomeMore : List (List ℕ) → List (List ℕ) → List ℕ → Type 0
+HasSomeMore contents more file = (n : ℕ) × Recovers file (contents ++ take n more)
