@@ -1,10 +1,11 @@
 //! Sparklines.
 
+use crate::pen::Pen;
 use crate::time::column_of;
 use labels::Sample;
 use page_claims::Figures;
 use page_layout::share;
-use page_text::{Attribute, Key, Move, Tag, Tree};
+use page_text::{Attribute, Key, Move, Tag};
 use std::alloc::{AllocError, Global};
 
 /// How many columns a sparkline has.
@@ -126,33 +127,32 @@ fn dots_of(alloc: Global, bars: &[Bar], samples: &[Sample]) -> Result<Vec<Move>,
     Ok(moves)
 }
 
-fn path(tree: &mut Tree, class: &'static str, moves: Vec<Move>) -> Result<(), AllocError> {
-    let alloc = tree.alloc();
+fn path(pen: &mut Pen, class: &'static str, moves: Vec<Move>) -> Result<(), AllocError> {
     if moves.is_empty() {
         return Ok(());
     }
-    let attributes = vec![in alloc; Attribute::Word(Key::Class, class), Attribute::Path(moves)]?;
-    tree.leaf(Tag::Path, attributes)
+    let attributes = [Attribute::Word(Key::Class, class), Attribute::Path(moves)];
+    pen.leaf(Tag::Path, attributes)
 }
 
 /// The samples of a row over an axis, from its own least value to its own greatest.
 pub(crate) fn spark(
-    tree: &mut Tree,
+    pen: &mut Pen,
     axis: (i64, i64),
     samples: &[Sample],
     figures: Figures,
 ) -> Result<(), AllocError> {
-    let alloc = tree.alloc();
+    let alloc = pen.alloc();
     let bars = bars_of(alloc, axis, samples, figures)?;
-    let frame = vec![in alloc;
+    let frame = [
         Attribute::Number(Key::Width, 180),
         Attribute::Number(Key::Height, 32),
         Attribute::Word(Key::ViewBox, "-2 -2 184 32"),
         Attribute::Word(Key::PreserveAspectRatio, "none"),
         Attribute::Word(Key::AriaHidden, "true"),
-    ]?;
-    tree.open(Tag::Svg, frame)?;
-    path(tree, "ln", lines_of(alloc, bars.as_slice(), samples)?)?;
-    path(tree, "dt", dots_of(alloc, bars.as_slice(), samples)?)?;
-    tree.close()
+    ];
+    pen.open(Tag::Svg, frame)?;
+    path(pen, "ln", lines_of(alloc, bars.as_slice(), samples)?)?;
+    path(pen, "dt", dots_of(alloc, bars.as_slice(), samples)?)?;
+    pen.close()
 }
