@@ -3,9 +3,9 @@
 use crate::pen::Pen;
 use crate::sayings::{sayings, text_of};
 use crate::shown::View;
-use crate::words::{classed, word};
+use crate::words::{classed, open_section, word};
 use page_claims::{Checks, checks_of};
-use page_text::{Attribute, Key, Tag};
+use page_text::Tag;
 use std::alloc::AllocError;
 
 const CERTIFICATE: &str =
@@ -143,8 +143,7 @@ fn reply(pen: &mut Pen, view: &View<'_>) -> Result<(), AllocError> {
 
 /// The last section.
 pub(crate) fn help(pen: &mut Pen, view: &View<'_>) -> Result<(), AllocError> {
-    pen.open_with(Tag::Section, Attribute::Word(Key::Id, "help"))?;
-    word(pen, Tag::H2, "What this page shows, and what it does not")?;
+    open_section(pen, "help", "What this page shows, and what it does not")?;
     pen.begin(Tag::Div, "cols")?;
     left(pen)?;
     right(pen, view)?;

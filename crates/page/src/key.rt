@@ -4,7 +4,7 @@ use crate::pen::Pen;
 use crate::shapes::open_small;
 use crate::shown::View;
 use crate::verdicts::{MATCH, NONE, UNKNOWN, chip, matcher, plain_fill, slot_name};
-use crate::words::{classed, head_cell, word};
+use crate::words::{classed, head_cell, open_section, word};
 use page_claims::SLOTS;
 use page_layout::share;
 use page_text::{Attribute, Key, Tag};
@@ -192,8 +192,7 @@ fn heads(pen: &mut Pen) -> Result<(), AllocError> {
 
 /// The key.
 pub(crate) fn key(pen: &mut Pen, view: &View<'_>) -> Result<(), AllocError> {
-    pen.open_with(Tag::Section, Attribute::Word(Key::Id, "why"))?;
-    word(pen, Tag::H2, "Why a series is in the answer, or not")?;
+    open_section(pen, "why", "Why a series is in the answer, or not")?;
     pen.begin(Tag::Div, "scroll")?;
     pen.begin(Tag::Table, "key")?;
     heads(pen)?;

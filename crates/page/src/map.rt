@@ -17,14 +17,14 @@ const COLUMNS: u64 = 480;
 const CLOSED: u64 = 9400;
 
 /// What meets a column of a map: a match, and the first other verdict.
-#[derive(Clone, Copy, Debug, PartialEq, Eq, Drop)]
+#[derive(Clone, Copy)]
 struct Spot {
     has_match: bool,
     other: Option<usize>,
 }
 
 /// The references of a map: from the first interval to the last.
-#[derive(Clone, Copy, Debug, PartialEq, Eq, Drop)]
+#[derive(Clone, Copy)]
 struct Scale {
     from: u64,
     span: u64,

@@ -10,7 +10,7 @@ use crate::shapes::open_small;
 use crate::shown::View;
 use crate::strip::{END, Strip, caption, draw_strip, layers_of, summary};
 use crate::verdicts::{chip, row_class, slot_name, why};
-use crate::words::{classed, head_cell, plural, word};
+use crate::words::{classed, head_cell, open_section, plural, word};
 use cover::{Interval, PartAnswer, Verdict};
 use labels::SeriesRef;
 use page_claims::{Checks, Place, checks_of, shown_of, slot_of};
@@ -446,8 +446,7 @@ fn articles(pen: &mut Pen, view: &View<'_>) -> Result<(), AllocError> {
 
 /// The certificates.
 pub(crate) fn certificates(pen: &mut Pen, view: &View<'_>) -> Result<(), AllocError> {
-    pen.open_with(Tag::Section, Attribute::Word(Key::Id, "cert"))?;
-    word(pen, Tag::H2, "Certificates")?;
+    open_section(pen, "cert", "Certificates")?;
     classed(
         pen,
         Tag::P,

@@ -6,10 +6,10 @@ use crate::shown::{View, samples_in};
 use crate::spark::spark;
 use crate::time::axis_text;
 use crate::verdicts::series;
-use crate::words::{classed, head_cell, open_head, plural, word};
+use crate::words::{classed, head_cell, open_head, open_section, plural, word};
 use labels::{LabelSet, Row};
 use page_claims::{figures_of, row_with, shown_of};
-use page_text::{Attribute, Key, Tag};
+use page_text::Tag;
 use postings::PartName;
 use std::alloc::AllocError;
 
@@ -124,8 +124,7 @@ const NOTE: &str =
 pub(crate) fn rows(pen: &mut Pen, view: &View<'_>) -> Result<(), AllocError> {
     let all = view.shown.told.rows.as_slice();
     let (shown, rest) = shown_of(all, MOST_ROWS);
-    pen.open_with(Tag::Section, Attribute::Word(Key::Id, "rows"))?;
-    word(pen, Tag::H2, "The rows of the answer")?;
+    open_section(pen, "rows", "The rows of the answer")?;
     if shown.is_empty() {
         word(pen, Tag::P, "No series answers.")?;
         pen.close()?;

@@ -9,7 +9,7 @@ use page_claims::{Checks, count_in};
 use std::alloc::AllocError;
 
 /// A check that a reply alone allows.
-#[derive(Clone, Copy, Debug, PartialEq, Eq, Drop)]
+#[derive(Clone, Copy)]
 pub(crate) enum Check {
     Chain,
     Names,

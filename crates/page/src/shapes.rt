@@ -6,7 +6,7 @@ use std::alloc::AllocError;
 
 /// A rectangle: where it begins across and how wide it is, where it begins below and how high it
 /// is.
-#[derive(Clone, Copy, Debug, PartialEq, Eq, Drop)]
+#[derive(Clone, Copy)]
 pub(crate) struct Area {
     pub(crate) x: u64,
     pub(crate) y: u64,

@@ -12,7 +12,7 @@ use std::alloc::{AllocError, Global};
 const COLUMNS: u64 = 180;
 
 /// What a column of a sparkline shows of its samples.
-#[derive(Clone, Copy, Debug, PartialEq, Eq, Drop)]
+#[derive(Clone, Copy)]
 struct Bar {
     column: u64,
     highest: u64,

@@ -196,7 +196,7 @@ fn box_letter(pen: &mut Pen, strip: &Strip<'_>, column: &Column<'_>) -> Result<(
 }
 
 /// A layer of a column: its slot, where it stands below the top, and how high it is.
-#[derive(Clone, Copy, Debug, PartialEq, Eq, Drop)]
+#[derive(Clone, Copy)]
 struct Layer {
     slot: usize,
     y: u64,

@@ -5,7 +5,7 @@ use crate::pen::Pen;
 use crate::shapes::{class_line, open_text, open_wide};
 use crate::shown::{View, samples_in, times_of};
 use crate::times::{civil_of, ends, tick, when};
-use crate::words::{classed, head_cell, plural, word};
+use crate::words::{classed, head_cell, open_section, plural, word};
 use cover::PartAnswer;
 use labels::{Row, Sample};
 use page_claims::Place;
@@ -414,9 +414,8 @@ fn twice(pen: &mut Pen, view: &View<'_>) -> Result<(), AllocError> {
 pub(crate) fn time(pen: &mut Pen, view: &View<'_>) -> Result<(), AllocError> {
     let rows = view.shown.told.rows.as_slice();
     let mut most = 0;
-    pen.open_with(Tag::Section, Attribute::Word(Key::Id, "time"))?;
     let title = "Which part has samples of the answer, and when";
-    word(pen, Tag::H2, title)?;
+    open_section(pen, "time", title)?;
     match view.axis {
         Some(axis) => {
             most = most_rows(view, axis)?;

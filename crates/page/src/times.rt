@@ -6,7 +6,7 @@ use page_text::Tag;
 use std::alloc::AllocError;
 
 /// A day and a time of it, in UTC.
-#[derive(Clone, Copy, Debug, PartialEq, Eq, Drop)]
+#[derive(Clone, Copy)]
 pub(crate) struct Civil {
     year: u64,
     month: u64,

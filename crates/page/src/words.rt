@@ -23,6 +23,16 @@ pub(crate) fn classed(
     pen.close()
 }
 
+/// Begins a section with a title.
+pub(crate) fn open_section(
+    pen: &mut Pen,
+    id: &'static str,
+    title: &'static str,
+) -> Result<(), AllocError> {
+    pen.open_with(Tag::Section, Attribute::Word(Key::Id, id))?;
+    word(pen, Tag::H2, title)
+}
+
 /// Begins the head of a column or of a row (`scope`), of a class.
 pub(crate) fn open_head(
     pen: &mut Pen,
