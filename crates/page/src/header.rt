@@ -2,63 +2,60 @@
 
 use crate::asked::Asked;
 use crate::judgements::judgement_of;
+use crate::pen::Pen;
 use crate::sayings::{sayings, seen, text_of};
 use crate::shown::View;
 use crate::times::range;
 use crate::verdicts::{MATCH, UNKNOWN, chip, matcher, series};
-use crate::words::{begin, classed, long_text, plain, plural, word};
+use crate::words::{classed, long_text, plural, word};
 use auditor::Line;
 use cover::PartAnswer;
 use labels::LabelSet;
 use page_claims::{Place, checks_of};
-use page_text::{Attribute, Key, Tag, Tree};
+use page_text::{Attribute, Key, Tag};
 use postings::PartName;
 use std::alloc::AllocError;
 
 /// The name of a part.
-pub(crate) fn part_name(tree: &mut Tree, name: PartName) -> Result<(), AllocError> {
+pub(crate) fn part_name(pen: &mut Pen, name: PartName) -> Result<(), AllocError> {
     match name {
-        PartName::Head => tree.word("head"),
+        PartName::Head => pen.word("head"),
         PartName::Block(number) => {
-            tree.word("block ")?;
-            tree.number(number as u64)
+            pen.word("block ")?;
+            pen.number(number as u64)
         }
     }
 }
 
 /// A link to the article of the part at a place.
-pub(crate) fn part_link(tree: &mut Tree, at: usize, name: PartName) -> Result<(), AllocError> {
-    let alloc = tree.alloc();
-    tree.open(
-        Tag::A,
-        vec![in alloc; Attribute::Named(Key::Href, "#p", at as u64)]?,
-    )?;
-    part_name(tree, name)?;
-    tree.close()
+pub(crate) fn part_link(pen: &mut Pen, at: usize, name: PartName) -> Result<(), AllocError> {
+    pen.open_with(Tag::A, Attribute::Named(Key::Href, "#p", at as u64))?;
+    part_name(pen, name)?;
+    pen.close()
 }
 
 /// What the intervals say.
-fn intervals_say(tree: &mut Tree, view: &View<'_>) -> Result<(), AllocError> {
+fn intervals_say(pen: &mut Pen, view: &View<'_>) -> Result<(), AllocError> {
     let searched = view.shown.told.answers.len() as u64;
     let matches = view.count(MATCH);
     let reasons = view.intervals.saturating_sub(matches);
     if searched == 1 {
-        tree.word("All series of the searched part lie in ")?;
+        pen.word("All series of the searched part lie in ")?;
     } else {
-        tree.word("All series of the ")?;
-        tree.counted(searched)?;
-        tree.word(" searched parts lie in ")?;
+        pen.word("All series of the ")?;
+        pen.counted(searched)?;
+        pen.word(" searched parts lie in ")?;
     }
-    plural(tree, view.intervals, " interval", " intervals")?;
-    tree.word(", without a hole. ")?;
-    plain(tree, Tag::B)?;
-    plural(tree, matches, " is", " are")?;
-    tree.close()?;
-    matches_say(tree, view, matches)?;
-    plain(tree, Tag::B)?;
-    plural(tree, reasons, " gives", " give")?;
-    tree.close()?;
-    tree.word(if reasons == 1 {
+    plural(pen, view.intervals, " interval", " intervals")?;
+    pen.word(", without a hole. ")?;
+    pen.plain(Tag::B)?;
+    plural(pen, matches, " is", " are")?;
+    pen.close()?;
+    matches_say(pen, view, matches)?;
+    pen.plain(Tag::B)?;
+    plural(pen, reasons, " gives", " give")?;
+    pen.close()?;
+    pen.word(if reasons == 1 {
         " the reason why none of its series is a row. "
     } else {
         " the reason why none of their series is a row. "
@@ -66,49 +63,49 @@ fn intervals_say(tree: &mut Tree, view: &View<'_>) -> Result<(), AllocError> {
 }
 
 /// What becomes of the matches.
-fn matches_say(tree: &mut Tree, view: &View<'_>, matches: u64) -> Result<(), AllocError> {
+fn matches_say(pen: &mut Pen, view: &View<'_>, matches: u64) -> Result<(), AllocError> {
     let told = view.shown.told;
-    tree.word(if matches == 1 {
+    pen.word(if matches == 1 {
         " one matching series"
     } else {
         " one matching series each"
     })?;
     if told.answers.len() == 1 {
-        return tree.word(if matches == 1 {
+        return pen.word(if matches == 1 {
             ": the row. "
         } else {
             ": the rows. "
         });
     }
-    tree.word(": they merge into the ")?;
-    plural(tree, told.rows.len() as u64, " row. ", " rows. ")
+    pen.word(": they merge into the ")?;
+    plural(pen, told.rows.len() as u64, " row. ", " rows. ")
 }
 
-fn counts(tree: &mut Tree, view: &View<'_>) -> Result<(), AllocError> {
+fn counts(pen: &mut Pen, view: &View<'_>) -> Result<(), AllocError> {
     let told = view.shown.told;
     let searched = told.answers.len() as u64;
-    plain(tree, Tag::P)?;
+    pen.plain(Tag::P)?;
     if searched == 0 {
-        tree.word("No part was searched. ")?;
+        pen.word("No part was searched. ")?;
     } else if view.intervals == 0 {
-        tree.word("The searched parts have no series. ")?;
+        pen.word("The searched parts have no series. ")?;
     } else {
-        intervals_say(tree, view)?;
+        intervals_say(pen, view)?;
     }
     match (told.places.len() as u64).saturating_sub(searched) {
-        0 => tree.word("No part was skipped.")?,
-        1 => tree.word("1 part was skipped: its times do not meet the range.")?,
+        0 => pen.word("No part was skipped.")?,
+        1 => pen.word("1 part was skipped: its times do not meet the range.")?,
         skipped => {
-            tree.counted(skipped)?;
-            tree.word(" parts were skipped: their times do not meet the range.")?;
+            pen.counted(skipped)?;
+            pen.word(" parts were skipped: their times do not meet the range.")?;
         }
     }
-    tree.close()
+    pen.close()
 }
 
 /// The checks that an answer does not pass, each with the first place.
 fn failing(
-    tree: &mut Tree,
+    pen: &mut Pen,
     view: &View<'_>,
     at: usize,
     answer: &PartAnswer,
@@ -116,26 +113,26 @@ fn failing(
     let matchers = view.matchers().len();
     for (check, holds) in sayings(checks_of(answer, matchers)) {
         if !holds {
-            plain(tree, Tag::Item)?;
-            part_link(tree, at, answer.part)?;
-            tree.word(": not so: “")?;
-            tree.word(text_of(check))?;
-            tree.word("” But ")?;
-            seen(tree, check, answer, matchers)?;
-            tree.word(".")?;
-            tree.close()?;
+            pen.plain(Tag::Item)?;
+            part_link(pen, at, answer.part)?;
+            pen.word(": not so: “")?;
+            pen.word(text_of(check))?;
+            pen.word("” But ")?;
+            seen(pen, check, answer, matchers)?;
+            pen.word(".")?;
+            pen.close()?;
         }
     }
     Ok(())
 }
 
-fn all_failing(tree: &mut Tree, view: &View<'_>) -> Result<(), AllocError> {
+fn all_failing(pen: &mut Pen, view: &View<'_>) -> Result<(), AllocError> {
     let mut answers = view.shown.told.answers.as_slice();
     for (at, place) in view.shown.told.places.iter().enumerate() {
         if let Place::Searched = *place {
             if let Some((answer, later)) = answers.split_first() {
                 answers = later;
-                failing(tree, view, at, answer)?;
+                failing(pen, view, at, answer)?;
             }
         }
     }
@@ -143,121 +140,121 @@ fn all_failing(tree: &mut Tree, view: &View<'_>) -> Result<(), AllocError> {
 }
 
 /// The lines of the auditor that name a flaw or a refusal.
-fn faults(tree: &mut Tree, view: &View<'_>) -> Result<(), AllocError> {
+fn faults(pen: &mut Pen, view: &View<'_>) -> Result<(), AllocError> {
     for line in view.shown.lines {
         if line.judgement.is_fault() {
-            plain(tree, Tag::Item)?;
-            tree.word("The auditor found a flaw: ")?;
-            auditor_line(tree, line)?;
-            tree.close()?;
+            pen.plain(Tag::Item)?;
+            pen.word("The auditor found a flaw: ")?;
+            auditor_line(pen, line)?;
+            pen.close()?;
         }
     }
     Ok(())
 }
 
 /// What does not hold, each with the first place.
-fn failures(tree: &mut Tree, view: &View<'_>) -> Result<(), AllocError> {
-    plain(tree, Tag::Ul)?;
-    all_failing(tree, view)?;
-    faults(tree, view)?;
+fn failures(pen: &mut Pen, view: &View<'_>) -> Result<(), AllocError> {
+    pen.plain(Tag::Ul)?;
+    all_failing(pen, view)?;
+    faults(pen, view)?;
     if !view.claim.is_merged {
         word(
-            tree,
+            pen,
             Tag::Item,
             "The rows of the answer are not the merged rows of the parts.",
         )?;
     }
-    tree.close()
+    pen.close()
 }
 
 /// What stands below the claim: counts, or what does not hold.
-pub(crate) fn details(tree: &mut Tree, view: &View<'_>) -> Result<(), AllocError> {
+pub(crate) fn details(pen: &mut Pen, view: &View<'_>) -> Result<(), AllocError> {
     if view.claim.is_shown {
-        counts(tree, view)
+        counts(pen, view)
     } else {
-        failures(tree, view)
+        failures(pen, view)
     }
 }
 
 /// A line of the auditor, as it prints it.
-pub(crate) fn auditor_text(tree: &mut Tree, line: &Line) -> Result<(), AllocError> {
-    let alloc = tree.alloc();
+pub(crate) fn auditor_text(pen: &mut Pen, line: &Line) -> Result<(), AllocError> {
+    let alloc = pen.alloc();
     let text = format!(in alloc; "{line}")?;
-    long_text(tree, text.as_str(), 120)
+    long_text(pen, text.as_str(), 120)
 }
 
-fn auditor_line(tree: &mut Tree, line: &Line) -> Result<(), AllocError> {
-    plain(tree, Tag::Code)?;
-    auditor_text(tree, line)?;
-    tree.close()
+fn auditor_line(pen: &mut Pen, line: &Line) -> Result<(), AllocError> {
+    pen.plain(Tag::Code)?;
+    auditor_text(pen, line)?;
+    pen.close()
 }
 
 /// The searched parts that the auditor did not judge.
-fn unjudged(tree: &mut Tree, view: &View<'_>) -> Result<(), AllocError> {
+fn unjudged(pen: &mut Pen, view: &View<'_>) -> Result<(), AllocError> {
     let mut named = false;
     for answer in view.shown.told.answers.as_slice() {
         if judgement_of(view.shown.lines, answer.part).is_none() {
-            tree.word(if named { ", " } else { " Not judged: " })?;
-            part_name(tree, answer.part)?;
+            pen.word(if named { ", " } else { " Not judged: " })?;
+            part_name(pen, answer.part)?;
             named = true;
         }
     }
-    if named { tree.word(".") } else { Ok(()) }
+    if named { pen.word(".") } else { Ok(()) }
 }
 
-fn judged(tree: &mut Tree, view: &View<'_>) -> Result<(), AllocError> {
+fn judged(pen: &mut Pen, view: &View<'_>) -> Result<(), AllocError> {
     if view.shown.lines.is_empty() {
         return Ok(());
     }
-    begin(tree, Tag::P, "audit")?;
-    word(tree, Tag::B, "The auditor said:")?;
+    pen.begin(Tag::P, "audit")?;
+    word(pen, Tag::B, "The auditor said:")?;
     let mut first = true;
     for line in view.shown.lines {
-        tree.word(if first { " " } else { " · " })?;
+        pen.word(if first { " " } else { " · " })?;
         first = false;
-        auditor_line(tree, line)?;
+        auditor_line(pen, line)?;
     }
-    tree.word(".")?;
-    begin(tree, Tag::Span, "mute")?;
-    unjudged(tree, view)?;
-    tree.close()?;
-    tree.close()?;
-    tree.line()
+    pen.word(".")?;
+    pen.begin(Tag::Span, "mute")?;
+    unjudged(pen, view)?;
+    pen.close()?;
+    pen.close()?;
+    pen.line()
 }
 
-fn rejected(tree: &mut Tree, view: &View<'_>, places: &[usize]) -> Result<(), AllocError> {
+fn rejected(pen: &mut Pen, view: &View<'_>, places: &[usize]) -> Result<(), AllocError> {
     let mut first = true;
     for at in places {
-        tree.word(if first {
+        pen.word(if first {
             "It is not in the answer, since "
         } else {
             " and "
         })?;
         first = false;
-        chip(tree, at.saturating_add(1).min(UNKNOWN))?;
+        chip(pen, at.saturating_add(1).min(UNKNOWN))?;
         if let Some(failed) = view.matchers().get(*at) {
-            tree.word(" ")?;
-            matcher(tree, failed)?;
+            pen.word(" ")?;
+            matcher(pen, failed)?;
         }
     }
-    tree.word(if places.len() == 1 {
+    pen.word(if places.len() == 1 {
         " rejects"
     } else {
         " reject"
     })?;
-    tree.word(" these labels, whatever the store holds.")
+    pen.word(" these labels, whatever the store holds.")
 }
 
 /// What is said of the label set that somebody asks about.
-fn said(tree: &mut Tree, view: &View<'_>, asked: &Asked) -> Result<(), AllocError> {
+fn said(pen: &mut Pen, view: &View<'_>, asked: &Asked) -> Result<(), AllocError> {
     match asked {
         Asked::Row(at) => {
-            tree.word("It is in the answer, as row ")?;
-            tree.counted((*at as u64).saturating_add(1))?;
-            tree.word(".")
+            pen.word("It is in the answer, as row ")?;
+            pen.counted((*at as u64).saturating_add(1))?;
+            pen.word(".")
         }
-        Asked::Rejected(places) => rejected(tree, view, places.as_slice()),
-        Asked::Accepted => tree.word(
+        Asked::Rejected(places) => rejected(pen, view, places.as_slice()),
+        Asked::Accepted => pen.word(
             "Every matcher accepts these labels, and it is not a row. So, if the certificate is \
              right, no part holds a sample of it in the range: nothing was written under exactly \
              these labels then, or it was deleted.",
@@ -266,100 +263,94 @@ fn said(tree: &mut Tree, view: &View<'_>, asked: &Asked) -> Result<(), AllocErro
 }
 
 fn about(
-    tree: &mut Tree,
+    pen: &mut Pen,
     view: &View<'_>,
     labels: &LabelSet,
     asked: &Asked,
 ) -> Result<(), AllocError> {
-    begin(tree, Tag::Div, "about")?;
-    plain(tree, Tag::P)?;
-    word(tree, Tag::B, "Asked about")?;
-    tree.word(" ")?;
-    series(tree, labels)?;
-    tree.close()?;
-    plain(tree, Tag::P)?;
-    said(tree, view, asked)?;
-    tree.close()?;
-    tree.close()?;
-    tree.line()
+    pen.begin(Tag::Div, "about")?;
+    pen.plain(Tag::P)?;
+    word(pen, Tag::B, "Asked about")?;
+    pen.word(" ")?;
+    series(pen, labels)?;
+    pen.close()?;
+    pen.plain(Tag::P)?;
+    said(pen, view, asked)?;
+    pen.close()?;
+    pen.close()?;
+    pen.line()
 }
 
-fn open_number(tree: &mut Tree, href: &'static str) -> Result<(), AllocError> {
-    let alloc = tree.alloc();
-    plain(tree, Tag::Div)?;
-    plain(tree, Tag::Term)?;
-    tree.open(Tag::A, vec![in alloc; Attribute::Word(Key::Href, href)]?)
+fn open_number(pen: &mut Pen, href: &'static str) -> Result<(), AllocError> {
+    pen.plain(Tag::Div)?;
+    pen.plain(Tag::Term)?;
+    pen.open_with(Tag::A, Attribute::Word(Key::Href, href))
 }
 
-fn close_number(tree: &mut Tree, n: u64) -> Result<(), AllocError> {
-    tree.close()?;
-    tree.close()?;
-    plain(tree, Tag::DescriptionText)?;
-    tree.counted(n)?;
-    tree.close()?;
-    tree.close()
+fn close_number(pen: &mut Pen, n: u64) -> Result<(), AllocError> {
+    pen.close()?;
+    pen.close()?;
+    pen.plain(Tag::DescriptionText)?;
+    pen.counted(n)?;
+    pen.close()?;
+    pen.close()
 }
 
-fn number(
-    tree: &mut Tree,
-    n: u64,
-    href: &'static str,
-    what: &'static str,
-) -> Result<(), AllocError> {
-    open_number(tree, href)?;
-    tree.word(what)?;
-    close_number(tree, n)
+fn number(pen: &mut Pen, n: u64, href: &'static str, what: &'static str) -> Result<(), AllocError> {
+    open_number(pen, href)?;
+    pen.word(what)?;
+    close_number(pen, n)
 }
 
-fn searched_number(tree: &mut Tree, view: &View<'_>) -> Result<(), AllocError> {
+fn searched_number(pen: &mut Pen, view: &View<'_>) -> Result<(), AllocError> {
     let told = view.shown.told;
-    open_number(tree, "#time")?;
-    tree.word("of ")?;
-    plural(tree, told.places.len() as u64, " part", " parts")?;
-    tree.word(" searched")?;
-    close_number(tree, told.answers.len() as u64)
+    open_number(pen, "#time")?;
+    pen.word("of ")?;
+    plural(pen, told.places.len() as u64, " part", " parts")?;
+    pen.word(" searched")?;
+    close_number(pen, told.answers.len() as u64)
 }
 
-fn numbers(tree: &mut Tree, view: &View<'_>) -> Result<(), AllocError> {
+fn numbers(pen: &mut Pen, view: &View<'_>) -> Result<(), AllocError> {
     let told = view.shown.told;
     let mut separators = 0u64;
     for answer in told.answers.as_slice() {
         separators = separators.saturating_add(answer.cover.separators.len() as u64);
     }
-    begin(tree, Tag::DescriptionList, "nums")?;
-    number(tree, told.rows.len() as u64, "#rows", "series")?;
-    number(tree, view.samples, "#rows", "samples")?;
-    searched_number(tree, view)?;
-    number(tree, view.intervals, "#cert", "intervals")?;
-    number(tree, separators, "#cert", "separators")?;
-    tree.close()?;
-    tree.line()
+    pen.begin(Tag::DescriptionList, "nums")?;
+    number(pen, told.rows.len() as u64, "#rows", "series")?;
+    number(pen, view.samples, "#rows", "samples")?;
+    searched_number(pen, view)?;
+    number(pen, view.intervals, "#cert", "intervals")?;
+    number(pen, separators, "#cert", "separators")?;
+    pen.close()?;
+    pen.line()
 }
 
 /// The head of a page: what was asked.
-pub(crate) fn heading(tree: &mut Tree, view: &View<'_>) -> Result<(), AllocError> {
-    plain(tree, Tag::Header)?;
-    classed(tree, Tag::P, "kicker", "Audited answer")?;
-    plain(tree, Tag::H1)?;
-    plain(tree, Tag::Code)?;
-    long_text(tree, view.shown.selector, 4096)?;
-    tree.close()?;
-    tree.close()?;
-    tree.line()?;
-    range(tree, view.shown.query.from(), view.shown.query.to())?;
-    tree.close()?;
-    tree.line()
+pub(crate) fn heading(pen: &mut Pen, view: &View<'_>) -> Result<(), AllocError> {
+    pen.plain(Tag::Header)?;
+    classed(pen, Tag::P, "kicker", "Audited answer")?;
+    pen.plain(Tag::H1)?;
+    pen.plain(Tag::Code)?;
+    long_text(pen, view.shown.selector, 4096)?;
+    pen.close()?;
+    pen.close()?;
+    pen.line()?;
+    range(pen, view.shown.query.from(), view.shown.query.to())?;
+    pen.close()?;
+    pen.line()
 }
 
 /// What the auditor said, what is said of a label set, and counts.
 pub(crate) fn summary(
-    tree: &mut Tree,
+    pen: &mut Pen,
     view: &View<'_>,
     asked: Option<&Asked>,
 ) -> Result<(), AllocError> {
-    judged(tree, view)?;
+    judged(pen, view)?;
     if let (Some(labels), Some(asked)) = (view.shown.about, asked) {
-        about(tree, view, labels, asked)?;
+        about(pen, view, labels, asked)?;
     }
-    numbers(tree, view)
+    numbers(pen, view)
 }

@@ -1,10 +1,11 @@
 //! What a page shows, and what it does not.
 
+use crate::pen::Pen;
 use crate::sayings::{sayings, text_of};
 use crate::shown::View;
-use crate::words::{begin, classed, plain, word};
+use crate::words::{classed, open_section, word};
 use page_claims::{Checks, checks_of};
-use page_text::{Attribute, Key, Tag, Tree};
+use page_text::Tag;
 use std::alloc::AllocError;
 
 const CERTIFICATE: &str =
@@ -23,8 +24,8 @@ const SPANS: &str =
      stands for a character that cannot be seen.";
 
 const UNCHECKED: &str =
-    "That each reason is true of the series. The reply has no labels of a series that is not a row. \
-     Who holds the blocks can check it, without trust in the store:";
+    "That each reason is true of the series. The reply has no labels of a series that is not a \
+     row. Who holds the blocks can check it, without trust in the store:";
 
 const CHECKED: &str =
     "That each reason is true of the series, for each part that the auditor judged. Who holds the \
@@ -39,22 +40,22 @@ const REASONS: [&str; 3] = [
      would be a box of its own, marked ✓, and a row.",
 ];
 
-fn titled(tree: &mut Tree, title: &'static str, text: &'static str) -> Result<(), AllocError> {
-    word(tree, Tag::H3, title)?;
-    word(tree, Tag::P, text)
+fn titled(pen: &mut Pen, title: &'static str, text: &'static str) -> Result<(), AllocError> {
+    word(pen, Tag::H3, title)?;
+    word(pen, Tag::P, text)
 }
 
-fn left(tree: &mut Tree) -> Result<(), AllocError> {
-    plain(tree, Tag::Div)?;
-    word(tree, Tag::H3, "“Why is my series not here?”")?;
-    plain(tree, Tag::Ol)?;
+fn left(pen: &mut Pen) -> Result<(), AllocError> {
+    pen.plain(Tag::Div)?;
+    word(pen, Tag::H3, "“Why is my series not here?”")?;
+    pen.plain(Tag::Ol)?;
     for reason in REASONS {
-        word(tree, Tag::Item, reason)?;
+        word(pen, Tag::Item, reason)?;
     }
-    tree.close()?;
-    titled(tree, "What a certificate is", CERTIFICATE)?;
-    titled(tree, "Spans and numbers", SPANS)?;
-    tree.close()
+    pen.close()?;
+    titled(pen, "What a certificate is", CERTIFICATE)?;
+    titled(pen, "Spans and numbers", SPANS)?;
+    pen.close()
 }
 
 /// The checks that all parts pass.
@@ -77,50 +78,50 @@ fn all_checks(view: &View<'_>) -> Checks {
     all
 }
 
-fn check(tree: &mut Tree, saying: &'static str, holds: bool) -> Result<(), AllocError> {
-    plain(tree, Tag::Item)?;
+fn check(pen: &mut Pen, saying: &'static str, holds: bool) -> Result<(), AllocError> {
+    pen.plain(Tag::Item)?;
     if holds {
-        classed(tree, Tag::B, "yes", "✓")?;
+        classed(pen, Tag::B, "yes", "✓")?;
     } else {
-        classed(tree, Tag::B, "no", "✗")?;
+        classed(pen, Tag::B, "no", "✗")?;
     }
-    tree.word(" ")?;
-    tree.word(saying)?;
-    tree.close()
+    pen.word(" ")?;
+    pen.word(saying)?;
+    pen.close()
 }
 
 /// Who checks that reasons are true.
-fn reasons(tree: &mut Tree, view: &View<'_>) -> Result<(), AllocError> {
+fn reasons(pen: &mut Pen, view: &View<'_>) -> Result<(), AllocError> {
     if view.shown.lines.is_empty() {
-        titled(tree, "Not checked here", UNCHECKED)
+        titled(pen, "Not checked here", UNCHECKED)
     } else {
-        titled(tree, "Checked by the auditor", CHECKED)
+        titled(pen, "Checked by the auditor", CHECKED)
     }
 }
 
-fn right(tree: &mut Tree, view: &View<'_>) -> Result<(), AllocError> {
-    plain(tree, Tag::Div)?;
-    word(tree, Tag::H3, "Checked while this page was made")?;
-    begin(tree, Tag::Ul, "checks")?;
+fn right(pen: &mut Pen, view: &View<'_>) -> Result<(), AllocError> {
+    pen.plain(Tag::Div)?;
+    word(pen, Tag::H3, "Checked while this page was made")?;
+    pen.begin(Tag::Ul, "checks")?;
     for (one, holds) in sayings(all_checks(view)) {
-        check(tree, text_of(one), holds)?;
+        check(pen, text_of(one), holds)?;
     }
     let merged = "The rows of the answer are the merged rows of the parts.";
-    check(tree, merged, view.claim.is_merged)?;
-    tree.close()?;
-    reasons(tree, view)?;
-    plain(tree, Tag::Pre)?;
+    check(pen, merged, view.claim.is_merged)?;
+    pen.close()?;
+    reasons(pen, view)?;
+    pen.plain(Tag::Pre)?;
     word(
-        tree,
+        pen,
         Tag::Code,
         "auditor --selector SELECTOR --from N --to N DIR... < REPLY",
     )?;
-    tree.close()?;
-    tree.close()
+    pen.close()?;
+    pen.close()
 }
 
 /// Which reply the page shows: its length and its SHA-256.
-fn reply(tree: &mut Tree, view: &View<'_>) -> Result<(), AllocError> {
+fn reply(pen: &mut Pen, view: &View<'_>) -> Result<(), AllocError> {
     let mut digits = Vec::new(view.alloc);
     for byte in view.shown.digest {
         for digit in [byte / 16, byte % 16] {
@@ -128,31 +129,26 @@ fn reply(tree: &mut Tree, view: &View<'_>) -> Result<(), AllocError> {
             digits.push(char::from(code))?;
         }
     }
-    begin(tree, Tag::P, "note")?;
-    tree.word("This page shows a reply of ")?;
-    tree.counted(view.shown.length)?;
-    tree.word(" bytes; their SHA-256 is ")?;
-    plain(tree, Tag::Code)?;
-    tree.text(digits)?;
-    tree.close()?;
-    tree.word(".")?;
-    tree.close()?;
-    tree.line()
+    pen.begin(Tag::P, "note")?;
+    pen.word("This page shows a reply of ")?;
+    pen.counted(view.shown.length)?;
+    pen.word(" bytes; their SHA-256 is ")?;
+    pen.plain(Tag::Code)?;
+    pen.text(digits)?;
+    pen.close()?;
+    pen.word(".")?;
+    pen.close()?;
+    pen.line()
 }
 
 /// The last section.
-pub(crate) fn help(tree: &mut Tree, view: &View<'_>) -> Result<(), AllocError> {
-    let alloc = tree.alloc();
-    tree.open(
-        Tag::Section,
-        vec![in alloc; Attribute::Word(Key::Id, "help")]?,
-    )?;
-    word(tree, Tag::H2, "What this page shows, and what it does not")?;
-    begin(tree, Tag::Div, "cols")?;
-    left(tree)?;
-    right(tree, view)?;
-    tree.close()?;
-    reply(tree, view)?;
-    tree.close()?;
-    tree.line()
+pub(crate) fn help(pen: &mut Pen, view: &View<'_>) -> Result<(), AllocError> {
+    open_section(pen, "help", "What this page shows, and what it does not")?;
+    pen.begin(Tag::Div, "cols")?;
+    left(pen)?;
+    right(pen, view)?;
+    pen.close()?;
+    reply(pen, view)?;
+    pen.close()?;
+    pen.line()
 }

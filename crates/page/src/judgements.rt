@@ -1,13 +1,14 @@
 //! What the auditor said of a part, and which series it knows.
 
+use crate::pen::Pen;
 use crate::shown::View;
 use crate::verdicts::series;
-use crate::words::{begin, plural};
+use crate::words::plural;
 use auditor::{BlockTable, Judgement, Line, Subject, Table};
 use cover::Interval;
 use labels::{Row, SeriesRef};
 use page_claims::shown_of;
-use page_text::{Tag, Tree};
+use page_text::Tag;
 use postings::PartName;
 use std::alloc::AllocError;
 
@@ -41,22 +42,18 @@ pub(crate) fn table_of<'a>(tables: &'a [BlockTable], name: PartName) -> Option<&
 }
 
 /// The judgement of a searched part.
-pub(crate) fn judgement(
-    tree: &mut Tree,
-    view: &View<'_>,
-    name: PartName,
-) -> Result<(), AllocError> {
+pub(crate) fn judgement(pen: &mut Pen, view: &View<'_>, name: PartName) -> Result<(), AllocError> {
     if view.shown.lines.is_empty() {
         return Ok(());
     }
-    begin(tree, Tag::P, "note")?;
+    pen.begin(Tag::P, "note")?;
     match judgement_of(view.shown.lines, name) {
-        None => tree.word("The auditor did not judge this part: it was given no block for it.")?,
-        Some(Judgement::Valid) => tree.word("The auditor judged this part: it is valid.")?,
-        Some(_) => tree.word("The auditor names a flaw of this part: see above.")?,
+        None => pen.word("The auditor did not judge this part: it was given no block for it.")?,
+        Some(Judgement::Valid) => pen.word("The auditor judged this part: it is valid.")?,
+        Some(_) => pen.word("The auditor names a flaw of this part: see above.")?,
     }
-    tree.close()?;
-    tree.line()
+    pen.close()?;
+    pen.line()
 }
 
 /// Most series of an interval that are named.
@@ -74,20 +71,20 @@ fn series_in<'a>(table: &'a Table, interval: &Interval) -> &'a [(SeriesRef, Row)
 
 /// The first series of an interval, by the auditor's table of the block.
 pub(crate) fn first_series(
-    tree: &mut Tree,
+    pen: &mut Pen,
     table: &Table,
     interval: &Interval,
 ) -> Result<(), AllocError> {
     let (shown, rest) = shown_of(series_in(table, interval), MOST_SERIES);
     let mut first = true;
     for one in shown {
-        tree.word(if first { ": " } else { ", " })?;
+        pen.word(if first { ": " } else { ", " })?;
         first = false;
-        series(tree, one.1.labels())?;
+        series(pen, one.1.labels())?;
     }
     if !rest.is_empty() {
-        tree.word(" and ")?;
-        plural(tree, rest.len() as u64, " more", " more")?;
+        pen.word(" and ")?;
+        plural(pen, rest.len() as u64, " more", " more")?;
     }
     Ok(())
 }

@@ -1,74 +1,69 @@
 //! The key: what each verdict says, and how many intervals have it.
 
+use crate::pen::Pen;
+use crate::shapes::open_small;
 use crate::shown::View;
 use crate::verdicts::{MATCH, NONE, UNKNOWN, chip, matcher, plain_fill, slot_name};
-use crate::words::{begin, classed, counted_cell, head_cell, plain, word};
+use crate::words::{classed, head_cell, open_section, word};
 use page_claims::SLOTS;
 use page_layout::share;
-use page_text::{Attribute, Key, Tag, Tree};
+use page_text::{Attribute, Key, Tag};
 use std::alloc::AllocError;
 
 /// What a slot says of each series of its intervals.
-fn meaning(tree: &mut Tree, view: &View<'_>, slot: usize) -> Result<(), AllocError> {
+fn meaning(pen: &mut Pen, view: &View<'_>, slot: usize) -> Result<(), AllocError> {
     match slot {
         MATCH => {
-            tree.word("Every matcher accepts it and it has a sample in the range: ")?;
-            word(tree, Tag::B, "a row")?;
-            tree.word(".")
+            pen.word("Every matcher accepts it and it has a sample in the range: ")?;
+            word(pen, Tag::B, "a row")?;
+            pen.word(".")
         }
-        NONE => tree.word("It has no sample in the range."),
+        NONE => pen.word("It has no sample in the range."),
         _ => match view.matchers().get(slot.saturating_sub(1)) {
             Some(failed) => {
-                tree.word("It fails ")?;
-                matcher(tree, failed)
+                pen.word("It fails ")?;
+                matcher(pen, failed)
             }
-            None => classed(tree, Tag::B, "no", "The selector has no such matcher."),
+            None => classed(pen, Tag::B, "no", "The selector has no such matcher."),
         },
     }
 }
 
 /// A share in tenths of a percent, rounded down; never 0 for something, nor all for less.
-fn percent(tree: &mut Tree, n: u64, of: u64) -> Result<(), AllocError> {
-    begin(tree, Tag::Span, "pct")?;
+fn percent(pen: &mut Pen, n: u64, of: u64) -> Result<(), AllocError> {
+    pen.begin(Tag::Span, "pct")?;
     let tenths = share(n, of, 1000);
     if n == 0 {
-        tree.word("0 %")?;
+        pen.word("0 %")?;
     } else if n >= of {
-        tree.word("100 %")?;
+        pen.word("100 %")?;
     } else if tenths == 0 {
-        tree.word("< 0.1 %")?;
+        pen.word("< 0.1 %")?;
     } else {
-        tree.number(tenths / 10)?;
-        tree.word(".")?;
-        tree.number(tenths % 10)?;
-        tree.word(" %")?;
+        pen.number(tenths / 10)?;
+        pen.word(".")?;
+        pen.number(tenths % 10)?;
+        pen.word(" %")?;
     }
-    tree.close()
+    pen.close()
 }
 
-fn bar(tree: &mut Tree, slot: usize, n: u64, of: u64) -> Result<(), AllocError> {
-    let alloc = tree.alloc();
-    let frame = vec![in alloc;
-        Attribute::Word(Key::Class, "bar"),
-        Attribute::Number(Key::Width, 100),
-        Attribute::Number(Key::Height, 12),
-        Attribute::Word(Key::AriaHidden, "true"),
-    ]?;
-    tree.open(Tag::Svg, frame)?;
-    let track = vec![in alloc;
+fn bar(pen: &mut Pen, slot: usize, n: u64, of: u64) -> Result<(), AllocError> {
+    open_small(pen, "bar", 100, 12)?;
+    let track = vec![in pen.alloc();
         Attribute::Word(Key::Class, "track"),
         Attribute::Number(Key::Width, 100),
         Attribute::Number(Key::Height, 12),
     ]?;
-    tree.leaf(Tag::Rect, track)?;
+    pen.leaf(Tag::Rect, track)?;
     let width = if n == 0 { 0 } else { share(n, of, 100).max(1) };
-    let filled = vec![in alloc;
+    let filled = vec![in pen.alloc();
         plain_fill(slot),
         Attribute::Number(Key::Width, width),
         Attribute::Number(Key::Height, 12),
     ]?;
-    tree.leaf(Tag::Rect, filled)?;
-    tree.close()
+    pen.leaf(Tag::Rect, filled)?;
+    pen.close()
 }
 
 /// How many references the intervals of a slot span that have an end, and how many have none.
@@ -90,23 +85,23 @@ fn span_of(view: &View<'_>, slot: usize) -> (u64, u64) {
     (sum, open)
 }
 
-fn span(tree: &mut Tree, view: &View<'_>, slot: usize) -> Result<(), AllocError> {
+fn span(pen: &mut Pen, view: &View<'_>, slot: usize) -> Result<(), AllocError> {
     let (sum, open) = span_of(view, slot);
-    begin(tree, Tag::Td, "n")?;
+    pen.begin(Tag::Td, "n")?;
     if sum > 0 || open == 0 {
-        tree.counted(sum)?;
+        pen.counted(sum)?;
     }
     if sum > 0 && open > 0 {
-        tree.word(" + ")?;
+        pen.word(" + ")?;
     }
     if open > 1 {
-        tree.counted(open)?;
-        tree.word(" × ")?;
+        pen.counted(open)?;
+        pen.word(" × ")?;
     }
     if open > 0 {
-        tree.word("open end")?;
+        pen.word("open end")?;
     }
-    tree.close()
+    pen.close()
 }
 
 /// The name of the radio button that shows a slot alone.
@@ -132,97 +127,89 @@ fn radio_label(slot: usize) -> Attribute {
     }
 }
 
-fn radio(tree: &mut Tree, slot: usize) -> Result<(), AllocError> {
-    let alloc = tree.alloc();
-    begin(tree, Tag::Td, "hl")?;
-    let attributes = vec![in alloc;
+fn radio(pen: &mut Pen, slot: usize) -> Result<(), AllocError> {
+    pen.begin(Tag::Td, "hl")?;
+    let attributes = vec![in pen.alloc();
         Attribute::Word(Key::Type, "radio"),
         Attribute::Word(Key::Name, "s"),
         radio_name(slot),
         radio_label(slot),
     ]?;
-    tree.leaf(Tag::Input, attributes)?;
-    tree.close()
+    pen.leaf(Tag::Input, attributes)?;
+    pen.close()
 }
 
-fn row(tree: &mut Tree, view: &View<'_>, slot: usize, n: u64) -> Result<(), AllocError> {
-    let alloc = tree.alloc();
-    plain(tree, Tag::Tr)?;
-    tree.open(Tag::Th, vec![in alloc; Attribute::Word(Key::Scope, "row")]?)?;
-    chip(tree, slot)?;
-    tree.word(" ")?;
-    slot_name(tree, slot)?;
-    tree.close()?;
-    plain(tree, Tag::Td)?;
-    meaning(tree, view, slot)?;
-    tree.close()?;
-    counted_cell(tree, n)?;
-    begin(tree, Tag::Td, "wide")?;
-    bar(tree, slot, n, view.intervals)?;
-    tree.word(" ")?;
-    percent(tree, n, view.intervals)?;
-    tree.close()?;
-    span(tree, view, slot)?;
-    radio(tree, slot)?;
-    tree.close()?;
-    tree.line()
+fn row(pen: &mut Pen, view: &View<'_>, slot: usize, n: u64) -> Result<(), AllocError> {
+    pen.plain(Tag::Tr)?;
+    pen.open_with(Tag::Th, Attribute::Word(Key::Scope, "row"))?;
+    chip(pen, slot)?;
+    pen.word(" ")?;
+    slot_name(pen, slot)?;
+    pen.close()?;
+    pen.plain(Tag::Td)?;
+    meaning(pen, view, slot)?;
+    pen.close()?;
+    pen.counted_cell(n)?;
+    pen.begin(Tag::Td, "wide")?;
+    bar(pen, slot, n, view.intervals)?;
+    pen.word(" ")?;
+    percent(pen, n, view.intervals)?;
+    pen.close()?;
+    span(pen, view, slot)?;
+    radio(pen, slot)?;
+    pen.close()?;
+    pen.line()
 }
 
-fn show_all(tree: &mut Tree) -> Result<(), AllocError> {
-    let alloc = tree.alloc();
-    begin(tree, Tag::Th, "hl")?;
-    tree.word("Show ")?;
-    plain(tree, Tag::Label)?;
-    let attributes = vec![in alloc;
+fn show_all(pen: &mut Pen) -> Result<(), AllocError> {
+    pen.begin(Tag::Th, "hl")?;
+    pen.word("Show ")?;
+    pen.plain(Tag::Label)?;
+    let attributes = vec![in pen.alloc();
         Attribute::Word(Key::Type, "radio"),
         Attribute::Word(Key::Name, "s"),
         Attribute::Word(Key::Id, "s-all"),
         Attribute::Word(Key::Checked, ""),
     ]?;
-    tree.leaf(Tag::Input, attributes)?;
-    tree.word(" all")?;
-    tree.close()?;
-    tree.close()
+    pen.leaf(Tag::Input, attributes)?;
+    pen.word(" all")?;
+    pen.close()?;
+    pen.close()
 }
 
-fn heads(tree: &mut Tree) -> Result<(), AllocError> {
-    plain(tree, Tag::TableHead)?;
-    plain(tree, Tag::Tr)?;
-    head_cell(tree, "", "Verdict")?;
-    head_cell(tree, "", "What it says of each series of its interval")?;
-    head_cell(tree, "n", "Intervals")?;
-    head_cell(tree, "wide", "Share of intervals")?;
-    head_cell(tree, "n", "Span of references")?;
-    show_all(tree)?;
-    tree.close()?;
-    tree.close()
+fn heads(pen: &mut Pen) -> Result<(), AllocError> {
+    pen.plain(Tag::TableHead)?;
+    pen.plain(Tag::Tr)?;
+    head_cell(pen, "", "Verdict")?;
+    head_cell(pen, "", "What it says of each series of its interval")?;
+    head_cell(pen, "n", "Intervals")?;
+    head_cell(pen, "wide", "Share of intervals")?;
+    head_cell(pen, "n", "Span of references")?;
+    show_all(pen)?;
+    pen.close()?;
+    pen.close()
 }
 
 /// The key.
-pub(crate) fn key(tree: &mut Tree, view: &View<'_>) -> Result<(), AllocError> {
-    let alloc = tree.alloc();
-    tree.open(
-        Tag::Section,
-        vec![in alloc; Attribute::Word(Key::Id, "why")]?,
-    )?;
-    word(tree, Tag::H2, "Why a series is in the answer, or not")?;
-    begin(tree, Tag::Div, "scroll")?;
-    begin(tree, Tag::Table, "key")?;
-    heads(tree)?;
-    plain(tree, Tag::TableBody)?;
-    tree.line()?;
+pub(crate) fn key(pen: &mut Pen, view: &View<'_>) -> Result<(), AllocError> {
+    open_section(pen, "why", "Why a series is in the answer, or not")?;
+    pen.begin(Tag::Div, "scroll")?;
+    pen.begin(Tag::Table, "key")?;
+    heads(pen)?;
+    pen.plain(Tag::TableBody)?;
+    pen.line()?;
     for slot in 0..SLOTS {
         let n = view.count(slot);
         let there = slot == MATCH || slot == NONE || slot <= view.matchers().len();
         if there || n > 0 {
-            row(tree, view, slot, n)?;
+            row(pen, view, slot, n)?;
         }
     }
-    tree.close()?;
-    tree.close()?;
-    tree.close()?;
+    pen.close()?;
+    pen.close()?;
+    pen.close()?;
     let note = "A span counts reference numbers, not series: numbers in between may be unused.";
-    classed(tree, Tag::P, "note", note)?;
-    tree.close()?;
-    tree.line()
+    classed(pen, Tag::P, "note", note)?;
+    pen.close()?;
+    pen.line()
 }

@@ -1,14 +1,15 @@
 //! Pages that show an audited answer: one HTML file made of a question, the reply to it, and what
 //! the auditor said of it.
 //!
-//! [`write_page`] makes the page as the pieces of a tree, in which texts from outside (the selector,
-//! label names and values, the auditor's lines) are texts alone, and prints it between a constant
-//! head and end, and [`write_text`] writes the same for a terminal. The claim at the top is
-//! `page_claims::find_claim`'s, and what is said of a label set is [`ask`]'s.
+//! [`write_page`] makes the page as the pieces of trees, in which texts from outside (the selector,
+//! label names and values) are texts alone, and prints them between a constant front and a constant
+//! end; [`write_text`] writes the same for a terminal. The claim between them is that of
+//! `page_claims::find_claim`, and what is said of a label set is [`ask`]'s.
 //!
 //! ```
 //! let (tables, lines, about) = (&[], &[], None);
-//! let shown = Shown { selector, query: &query, told: &told, tables, lines, about, length, digest };
+//! let (query, told) = (&query, &told);
+//! let shown = Shown { selector, query, told, tables, lines, about, length, digest };
 //! let page = write_page(alloc, &shown)?;
 //! ```
 //!
@@ -17,6 +18,7 @@
 #![tactic(auto)]
 
 mod asked;
+mod cells;
 mod claim_text;
 mod groups;
 mod header;
@@ -25,6 +27,7 @@ mod judgements;
 mod key;
 mod map;
 mod parts;
+mod pen;
 mod rows;
 mod sayings;
 mod shapes;

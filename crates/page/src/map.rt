@@ -1,13 +1,13 @@
 //! The map of a part: its references to scale, and the lines from it to the boxes.
 
+use crate::pen::Pen;
 use crate::shapes::{Area, class_line, line, open_text, rect};
 use crate::strip::{FULL, Strip};
 use crate::verdicts::{MATCH, fill};
-use crate::words::begin;
 use cover::Interval;
 use page_claims::{SLOTS, slot_of};
 use page_layout::{edge, share};
-use page_text::{Attribute, Key, Tag, Tree};
+use page_text::{Attribute, Key, Tag};
 use std::alloc::{AllocError, Global};
 
 /// How many columns a map has.
@@ -17,14 +17,14 @@ const COLUMNS: u64 = 480;
 const CLOSED: u64 = 9400;
 
 /// What meets a column of a map: a match, and the first other verdict.
-#[derive(Clone, Copy, Debug, PartialEq, Eq, Drop)]
+#[derive(Clone, Copy)]
 struct Spot {
     has_match: bool,
     other: Option<usize>,
 }
 
 /// The references of a map: from the first interval to the last.
-#[derive(Clone, Copy, Debug, PartialEq, Eq, Drop)]
+#[derive(Clone, Copy)]
 struct Scale {
     from: u64,
     span: u64,
@@ -100,7 +100,7 @@ fn half_of(spot: &Spot) -> usize {
 }
 
 fn run(
-    tree: &mut Tree,
+    pen: &mut Pen,
     scale: Scale,
     its: usize,
     columns: (u64, u64),
@@ -117,11 +117,11 @@ fn run(
         width: end.saturating_sub(x),
         height,
     };
-    rect(tree, fill(its), area)
+    rect(pen, fill(its), area)
 }
 
 /// Equal neighbours as one rectangle.
-fn runs(tree: &mut Tree, scale: Scale, spots: &[Spot], halves: bool) -> Result<(), AllocError> {
+fn runs(pen: &mut Pen, scale: Scale, spots: &[Spot], halves: bool) -> Result<(), AllocError> {
     let height = if halves { 7 } else { 13 };
     let (mut its, mut start) = (SLOTS, 0u64);
     for (at, spot) in spots.iter().enumerate() {
@@ -131,66 +131,73 @@ fn runs(tree: &mut Tree, scale: Scale, spots: &[Spot], halves: bool) -> Result<(
             whole_of(spot)
         };
         if next != its {
-            run(tree, scale, its, (start, at as u64), height)?;
+            run(pen, scale, its, (start, at as u64), height)?;
             its = next;
             start = at as u64;
         }
     }
-    run(tree, scale, its, (start, spots.len() as u64), height)
+    run(pen, scale, its, (start, spots.len() as u64), height)
 }
 
-fn map_strip(tree: &mut Tree, strip: &Strip<'_>, scale: Scale) -> Result<(), AllocError> {
-    open_text(tree, Attribute::Word(Key::Class, "cap"), 0, 11, "start")?;
+/// What stands above a map.
+fn captions(pen: &mut Pen, scale: Scale) -> Result<(), AllocError> {
+    open_text(pen, Attribute::Word(Key::Class, "cap"), 0, 11, "start")?;
     if scale.closed > 0 {
-        tree.word("to scale: references ")?;
-        tree.number(scale.from)?;
-        tree.word(" to ")?;
-        tree.number(scale.from.saturating_add(scale.span))?;
-        tree.word(", then the open end")?;
+        pen.word("to scale: references ")?;
+        pen.number(scale.from)?;
+        pen.word(" to ")?;
+        pen.number(scale.from.saturating_add(scale.span))?;
+        pen.word(", then the open end")?;
     } else {
-        tree.word("references: one interval")?;
+        pen.word("references: one interval")?;
     }
-    tree.close()?;
+    pen.close()?;
     open_text(
-        tree,
+        pen,
         Attribute::Word(Key::Class, "cap"),
         FULL as u64,
         11,
         "end",
     )?;
-    tree.word("below: a box for each interval")?;
-    tree.close()?;
-    let hole = Area {
-        x: 0,
+    pen.word("below: a box for each interval")?;
+    pen.close()
+}
+
+/// The part of a map from a place to another.
+fn band(x: u64, end: u64) -> Area {
+    Area {
+        x,
         y: 17,
-        width: FULL as u64,
+        width: end.saturating_sub(x),
         height: 13,
-    };
-    begin(tree, Tag::G, "map")?;
-    rect(tree, Attribute::Word(Key::Class, "hole"), hole)?;
-    let spots = spots_of(tree.alloc(), scale, strip.intervals)?;
-    runs(tree, scale, spots.as_slice(), false)?;
-    runs(tree, scale, spots.as_slice(), true)?;
+    }
+}
+
+fn map_strip(pen: &mut Pen, strip: &Strip<'_>, scale: Scale) -> Result<(), AllocError> {
+    captions(pen, scale)?;
+    pen.begin(Tag::G, "map")?;
+    rect(
+        pen,
+        Attribute::Word(Key::Class, "hole"),
+        band(0, FULL as u64),
+    )?;
+    let spots = spots_of(pen.alloc(), scale, strip.intervals)?;
+    runs(pen, scale, spots.as_slice(), false)?;
+    runs(pen, scale, spots.as_slice(), true)?;
     if let Some(last) = strip.intervals.last() {
-        let open = Area {
-            x: scale.closed,
-            y: 17,
-            width: (FULL as u64).saturating_sub(scale.closed),
-            height: 13,
-        };
-        rect(tree, fill(slot_of(last.verdict)), open)?;
+        let open = band(scale.closed, FULL as u64);
+        rect(pen, fill(slot_of(last.verdict)), open)?;
     }
     if scale.closed > 0 {
-        class_line(tree, "brk", (scale.closed, 14), (scale.closed, 33))?;
+        class_line(pen, "brk", (scale.closed, 14), (scale.closed, 33))?;
     }
-    tree.close()?;
-    tree.line()
+    pen.close()?;
+    pen.line()
 }
 
 /// The lines from the map to the boxes: to each if they are at most 64, else at both ends.
-fn fan(tree: &mut Tree, strip: &Strip<'_>, scale: Scale) -> Result<(), AllocError> {
-    begin(
-        tree,
+fn fan(pen: &mut Pen, strip: &Strip<'_>, scale: Scale) -> Result<(), AllocError> {
+    pen.begin(
         Tag::G,
         if strip.columns <= 32 {
             "fan"
@@ -202,19 +209,19 @@ fn fan(tree: &mut Tree, strip: &Strip<'_>, scale: Scale) -> Result<(), AllocErro
         if at < strip.columns && (at == 0 || strip.columns <= 64) {
             let from = scale.place(u64::from(interval.from.number()));
             let to = edge(at, strip.columns, FULL) as u64;
-            line(tree, (from, 30), (to, strip.top))?;
+            line(pen, (from, 30), (to, strip.top))?;
         }
     }
-    line(tree, (FULL as u64, 30), (FULL as u64, strip.top))?;
-    tree.close()?;
-    tree.line()
+    line(pen, (FULL as u64, 30), (FULL as u64, strip.top))?;
+    pen.close()?;
+    pen.line()
 }
 
 /// The map and its lines.
-pub(crate) fn draw_map(tree: &mut Tree, strip: &Strip<'_>) -> Result<(), AllocError> {
+pub(crate) fn draw_map(pen: &mut Pen, strip: &Strip<'_>) -> Result<(), AllocError> {
     let Some(scale) = scale_of(strip.intervals) else {
         return Ok(());
     };
-    map_strip(tree, strip, scale)?;
-    fan(tree, strip, scale)
+    map_strip(pen, strip, scale)?;
+    fan(pen, strip, scale)
 }

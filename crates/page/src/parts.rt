@@ -4,15 +4,17 @@ use crate::groups::groups;
 use crate::header::part_name;
 use crate::judgements::{first_series, judgement, table_of};
 use crate::map::draw_map;
+use crate::pen::Pen;
 use crate::sayings::{sayings, seen, text_of};
+use crate::shapes::open_small;
 use crate::shown::View;
 use crate::strip::{END, Strip, caption, draw_strip, layers_of, summary};
 use crate::verdicts::{chip, row_class, slot_name, why};
-use crate::words::{begin, classed, counted_cell, head_cell, number_cell, plain, plural, word};
+use crate::words::{classed, head_cell, open_section, plural, word};
 use cover::{Interval, PartAnswer, Verdict};
 use labels::SeriesRef;
 use page_claims::{Checks, Place, checks_of, shown_of, slot_of};
-use page_text::{Attribute, Key, Tag, Tree};
+use page_text::{Attribute, Key, Tag};
 use postings::PartName;
 use std::alloc::AllocError;
 
@@ -43,127 +45,112 @@ fn strip_of<'a>(answer: &'a PartAnswer, few: bool) -> Strip<'a> {
     }
 }
 
-fn figure(tree: &mut Tree, shown: &Strip<'_>, name: PartName) -> Result<(), AllocError> {
-    let alloc = tree.alloc();
-    let attributes = vec![in alloc;
+/// What a figure shows, in words.
+fn figure_title(pen: &mut Pen, shown: &Strip<'_>, name: PartName) -> Result<(), AllocError> {
+    pen.plain(Tag::Title)?;
+    pen.word("Certificate of ")?;
+    part_name(pen, name)?;
+    pen.close()?;
+    pen.plain(Tag::Description)?;
+    let intervals = shown.intervals.len() as u64;
+    plural(pen, intervals, " interval: ", " intervals: ")?;
+    summary(pen, shown.intervals)?;
+    pen.word(". The table below has the same.")?;
+    pen.close()?;
+    pen.line()
+}
+
+fn figure(pen: &mut Pen, shown: &Strip<'_>, name: PartName) -> Result<(), AllocError> {
+    let attributes = vec![in pen.alloc();
         Attribute::Word(Key::Class, "fig"),
         Attribute::Word(Key::Width, "100%"),
         Attribute::Number(
             Key::Height,
-            shown.top.saturating_add(shown.height).saturating_add(34)
+            shown.top.saturating_add(shown.height).saturating_add(34),
         ),
         Attribute::Word(Key::Role, "img"),
     ]?;
-    tree.open(Tag::Svg, attributes)?;
-    plain(tree, Tag::Title)?;
-    tree.word("Certificate of ")?;
-    part_name(tree, name)?;
-    tree.close()?;
-    plain(tree, Tag::Description)?;
-    plural(
-        tree,
-        shown.intervals.len() as u64,
-        " interval: ",
-        " intervals: ",
-    )?;
-    summary(tree, shown.intervals)?;
-    tree.word(". The table below has the same.")?;
-    tree.close()?;
-    tree.line()?;
+    pen.open(Tag::Svg, attributes)?;
+    figure_title(pen, shown, name)?;
     if shown.top > 18 {
-        draw_map(tree, shown)?;
+        draw_map(pen, shown)?;
     } else {
-        caption(tree, shown)?;
-        tree.line()?;
+        caption(pen, shown)?;
+        pen.line()?;
     }
-    draw_strip(tree, shown)?;
-    tree.close()?;
-    tree.line()
+    draw_strip(pen, shown)?;
+    pen.close()?;
+    pen.line()
 }
 
-fn head(tree: &mut Tree, answer: &PartAnswer) -> Result<(), AllocError> {
-    let layers = layers_of(tree.alloc(), answer.cover.certificate.as_slice())?;
-    plain(tree, Tag::H3)?;
-    part_name(tree, answer.part)?;
-    tree.word(" ")?;
-    begin(tree, Tag::Span, "counts")?;
+fn head(pen: &mut Pen, answer: &PartAnswer) -> Result<(), AllocError> {
+    let layers = layers_of(pen.alloc(), answer.cover.certificate.as_slice())?;
+    pen.plain(Tag::H3)?;
+    part_name(pen, answer.part)?;
+    pen.word(" ")?;
+    pen.begin(Tag::Span, "counts")?;
     for layer in layers.as_slice() {
-        plain(tree, Tag::Span)?;
-        chip(tree, layer.0)?;
-        tree.word(" ")?;
-        tree.counted(u64::from(layer.1))?;
-        tree.close()?;
-        tree.word(" ")?;
+        pen.plain(Tag::Span)?;
+        chip(pen, layer.0)?;
+        pen.word(" ")?;
+        pen.counted(u64::from(layer.1))?;
+        pen.close()?;
+        pen.word(" ")?;
     }
-    tree.close()?;
-    tree.close()?;
-    tree.line()
+    pen.close()?;
+    pen.close()?;
+    pen.line()
 }
 
-fn flaws(tree: &mut Tree, answer: &PartAnswer, matchers: usize) -> Result<(), AllocError> {
+fn flaws(pen: &mut Pen, answer: &PartAnswer, matchers: usize) -> Result<(), AllocError> {
     for (check, holds) in sayings(checks_of(answer, matchers)) {
         if !holds {
-            begin(tree, Tag::P, "flaw")?;
-            word(tree, Tag::B, "✗ Not so:")?;
-            tree.word(" ")?;
-            tree.word(text_of(check))?;
-            tree.word(" But ")?;
-            seen(tree, check, answer, matchers)?;
-            tree.word(".")?;
-            tree.close()?;
-            tree.line()?;
+            pen.begin(Tag::P, "flaw")?;
+            word(pen, Tag::B, "✗ Not so:")?;
+            pen.word(" ")?;
+            pen.word(text_of(check))?;
+            pen.word(" But ")?;
+            seen(pen, check, answer, matchers)?;
+            pen.word(".")?;
+            pen.close()?;
+            pen.line()?;
         }
     }
     Ok(())
 }
 
 /// What a tick of a separator looks like.
-fn tick_key(tree: &mut Tree, few: bool) -> Result<(), AllocError> {
-    let alloc = tree.alloc();
-    let frame = vec![in alloc;
-        Attribute::Word(Key::Class, "tickkey"),
-        Attribute::Number(Key::Width, 14),
-        Attribute::Number(Key::Height, 12),
-        Attribute::Word(Key::AriaHidden, "true"),
-    ]?;
-    tree.open(Tag::Svg, frame)?;
-    let path = vec![in alloc;
+fn tick_key(pen: &mut Pen, few: bool) -> Result<(), AllocError> {
+    open_small(pen, "tickkey", 14, 12)?;
+    let path = vec![in pen.alloc();
         Attribute::Word(Key::Class, "sep"),
         Attribute::Word(Key::D, if few { "M7 1l5 9H2z" } else { "M6 1h2v9h-2z" }),
     ]?;
-    tree.leaf(Tag::Path, path)?;
-    tree.close()?;
-    tree.word(" ")
+    pen.leaf(Tag::Path, path)?;
+    pen.close()?;
+    pen.word(" ")
 }
 
-fn least(tree: &mut Tree, answer: &PartAnswer, checks: Checks) -> Result<(), AllocError> {
-    begin(tree, Tag::P, "least")?;
-    tick_key(tree, answer.cover.certificate.len() <= 32)?;
-    plural(
-        tree,
-        answer.cover.separators.len() as u64,
-        " separator, ",
-        " separators, ",
-    )?;
-    plural(
-        tree,
-        answer.cover.certificate.len() as u64,
-        " interval: ",
-        " intervals: ",
-    )?;
-    tree.word(if checks.chain && checks.names && checks.separators {
+fn least(pen: &mut Pen, answer: &PartAnswer, checks: Checks) -> Result<(), AllocError> {
+    pen.begin(Tag::P, "least")?;
+    tick_key(pen, answer.cover.certificate.len() <= 32)?;
+    let separators = answer.cover.separators.len() as u64;
+    plural(pen, separators, " separator, ", " separators, ")?;
+    let intervals = answer.cover.certificate.len() as u64;
+    plural(pen, intervals, " interval: ", " intervals: ")?;
+    pen.word(if checks.chain && checks.names && checks.separators {
         "no valid certificate has fewer."
     } else {
         "this does not show that no valid certificate has fewer."
     })?;
-    tree.close()?;
-    tree.line()
+    pen.close()?;
+    pen.line()
 }
 
 /// The separators that lie from one reference to before another, at most four of them, and how many
 /// more there are; and whether there is one.
 fn some_separators(
-    tree: &mut Tree,
+    pen: &mut Pen,
     separators: &[SeriesRef],
     from: u64,
     until: u64,
@@ -173,220 +160,214 @@ fn some_separators(
         let number = u64::from(separator.number());
         if from <= number && number < until {
             if found > 0 && found < 4 {
-                tree.word(", ")?;
+                pen.word(", ")?;
             }
             if found < 4 {
-                tree.number(number)?;
+                pen.number(number)?;
             }
             found = found.saturating_add(1);
         }
     }
     if found > 4 {
-        tree.word(" +")?;
-        tree.counted(found.saturating_sub(4))?;
+        pen.word(" +")?;
+        pen.counted(found.saturating_sub(4))?;
     }
     Ok(found > 0)
 }
 
 /// The cell of the separators of an interval; none is red.
 fn separators(
-    tree: &mut Tree,
+    pen: &mut Pen,
     separators: &[SeriesRef],
     from: u64,
     until: u64,
 ) -> Result<(), AllocError> {
-    begin(tree, Tag::Td, "n")?;
-    if !some_separators(tree, separators, from, until)? {
-        classed(tree, Tag::B, "no", "none")?;
+    pen.begin(Tag::Td, "n")?;
+    if !some_separators(pen, separators, from, until)? {
+        classed(pen, Tag::B, "no", "none")?;
     }
-    tree.close()
+    pen.close()
 }
 
 /// The row of a hole or an overlap before an interval, with the separators that lie in the hole.
-fn hole(tree: &mut Tree, answer: &PartAnswer, before: u64, from: u64) -> Result<(), AllocError> {
-    let alloc = tree.alloc();
+fn hole(pen: &mut Pen, answer: &PartAnswer, before: u64, from: u64) -> Result<(), AllocError> {
     if before == from {
         return Ok(());
     }
-    begin(tree, Tag::Tr, "no")?;
-    word(tree, Tag::Td, "")?;
-    number_cell(tree, before)?;
-    number_cell(tree, from)?;
-    begin(tree, Tag::Td, "n x")?;
-    tree.close()?;
-    begin(tree, Tag::Td, "n")?;
-    some_separators(tree, answer.cover.separators.as_slice(), before, from)?;
-    tree.close()?;
-    tree.open(Tag::Td, vec![in alloc; Attribute::Number(Key::Colspan, 2)]?)?;
-    tree.word(if before < from {
+    pen.begin(Tag::Tr, "no")?;
+    word(pen, Tag::Td, "")?;
+    pen.number_cell(before)?;
+    pen.number_cell(from)?;
+    pen.begin(Tag::Td, "n x")?;
+    pen.close()?;
+    pen.begin(Tag::Td, "n")?;
+    some_separators(pen, answer.cover.separators.as_slice(), before, from)?;
+    pen.close()?;
+    pen.open_with(Tag::Td, Attribute::Number(Key::Colspan, 2))?;
+    pen.word(if before < from {
         "a hole: in no interval"
     } else {
         "an overlap: out of order"
     })?;
-    tree.close()?;
-    tree.close()?;
-    tree.line()
+    pen.close()?;
+    pen.close()?;
+    pen.line()
 }
 
 /// The first series of an interval that is no match, if the auditor knows them.
 fn examples(
-    tree: &mut Tree,
+    pen: &mut Pen,
     view: &View<'_>,
     answer: &PartAnswer,
     interval: &Interval,
 ) -> Result<(), AllocError> {
     match (table_of(view.shown.tables, answer.part), interval.verdict) {
-        (Some(table), Verdict::Rejected(_)) => first_series(tree, table, interval),
-        (Some(table), Verdict::NoSample) => first_series(tree, table, interval),
+        (Some(table), Verdict::Rejected(_)) => first_series(pen, table, interval),
+        (Some(table), Verdict::NoSample) => first_series(pen, table, interval),
         _ => Ok(()),
     }
 }
 
+/// How many references an interval spans.
+fn span(pen: &mut Pen, from: u64, until: u64) -> Result<(), AllocError> {
+    pen.begin(Tag::Td, "n x")?;
+    if until == END {
+        pen.word("open end")?;
+    } else {
+        pen.counted(until.saturating_sub(from))?;
+    }
+    pen.close()
+}
+
 fn interval_row(
-    tree: &mut Tree,
+    pen: &mut Pen,
     view: &View<'_>,
     answer: &PartAnswer,
     at: usize,
     interval: &Interval,
 ) -> Result<(), AllocError> {
-    let alloc = tree.alloc();
     let slot = slot_of(interval.verdict);
     let from = u64::from(interval.from.number());
-    tree.open(Tag::Tr, vec![in alloc; row_class(slot)]?)?;
-    counted_cell(tree, (at as u64).saturating_add(1))?;
-    number_cell(tree, from)?;
-    number_cell(tree, interval.until)?;
-    begin(tree, Tag::Td, "n x")?;
-    if interval.until == END {
-        tree.word("open end")?;
-    } else {
-        tree.counted(interval.until.saturating_sub(from))?;
-    }
-    tree.close()?;
-    separators(
-        tree,
-        answer.cover.separators.as_slice(),
-        from,
-        interval.until,
-    )?;
-    begin(tree, Tag::Td, "vd")?;
-    chip(tree, slot)?;
-    tree.word(" ")?;
-    slot_name(tree, slot)?;
-    tree.close()?;
-    plain(tree, Tag::Td)?;
-    why(tree, interval.verdict, view.matchers())?;
-    examples(tree, view, answer, interval)?;
-    tree.close()?;
-    tree.close()?;
-    tree.line()
+    pen.open_with(Tag::Tr, row_class(slot))?;
+    pen.counted_cell((at as u64).saturating_add(1))?;
+    pen.number_cell(from)?;
+    pen.number_cell(interval.until)?;
+    span(pen, from, interval.until)?;
+    let all = answer.cover.separators.as_slice();
+    separators(pen, all, from, interval.until)?;
+    pen.begin(Tag::Td, "vd")?;
+    chip(pen, slot)?;
+    pen.word(" ")?;
+    slot_name(pen, slot)?;
+    pen.close()?;
+    pen.plain(Tag::Td)?;
+    why(pen, interval.verdict, view.matchers())?;
+    examples(pen, view, answer, interval)?;
+    pen.close()?;
+    pen.close()?;
+    pen.line()
 }
 
-fn heads(tree: &mut Tree) -> Result<(), AllocError> {
-    plain(tree, Tag::TableHead)?;
-    plain(tree, Tag::Tr)?;
-    head_cell(tree, "n", "No.")?;
-    head_cell(tree, "n", "from")?;
-    head_cell(tree, "n", "until")?;
-    head_cell(tree, "n x", "Span")?;
-    head_cell(tree, "n", "Separator")?;
-    head_cell(tree, "", "Verdict")?;
-    head_cell(tree, "", "Why")?;
-    tree.close()?;
-    tree.close()
+fn heads(pen: &mut Pen) -> Result<(), AllocError> {
+    pen.plain(Tag::TableHead)?;
+    pen.plain(Tag::Tr)?;
+    head_cell(pen, "n", "No.")?;
+    head_cell(pen, "n", "from")?;
+    head_cell(pen, "n", "until")?;
+    head_cell(pen, "n x", "Span")?;
+    head_cell(pen, "n", "Separator")?;
+    head_cell(pen, "", "Verdict")?;
+    head_cell(pen, "", "Why")?;
+    pen.close()?;
+    pen.close()
 }
 
-fn table_summary(tree: &mut Tree, shown: usize, all: usize) -> Result<(), AllocError> {
-    plain(tree, Tag::Summary)?;
+fn table_summary(pen: &mut Pen, shown: usize, all: usize) -> Result<(), AllocError> {
+    pen.plain(Tag::Summary)?;
     if shown < all {
-        tree.word("The first ")?;
-        tree.counted(shown as u64)?;
-        tree.word(" of ")?;
-        plural(tree, all as u64, " interval", " intervals")?;
+        pen.word("The first ")?;
+        pen.counted(shown as u64)?;
+        pen.word(" of ")?;
+        plural(pen, all as u64, " interval", " intervals")?;
     } else {
-        tree.word("Interval by interval")?;
+        pen.word("Interval by interval")?;
     }
-    tree.close()
+    pen.close()
 }
 
 /// What is left out of a table, by verdict.
-fn left_out(tree: &mut Tree, rest: &[Interval]) -> Result<(), AllocError> {
+fn left_out(pen: &mut Pen, rest: &[Interval]) -> Result<(), AllocError> {
     if rest.is_empty() {
         return Ok(());
     }
-    begin(tree, Tag::P, "left")?;
+    pen.begin(Tag::P, "left")?;
     let (one, many) = (" more interval is", " more intervals are");
-    plural(tree, rest.len() as u64, one, many)?;
-    tree.word(" left out of this table: ")?;
-    summary(tree, rest)?;
-    tree.word(". The strip and the counts have all of them.")?;
-    tree.close()
+    plural(pen, rest.len() as u64, one, many)?;
+    pen.word(" left out of this table: ")?;
+    summary(pen, rest)?;
+    pen.word(". The strip and the counts have all of them.")?;
+    pen.close()
 }
 
-fn table(tree: &mut Tree, view: &View<'_>, answer: &PartAnswer) -> Result<(), AllocError> {
-    let alloc = tree.alloc();
+fn table(pen: &mut Pen, view: &View<'_>, answer: &PartAnswer) -> Result<(), AllocError> {
     let intervals = answer.cover.certificate.as_slice();
     let most: usize = if view.few { 100 } else { 20 };
     let (shown, rest) = shown_of(intervals, most);
-    let mut details = Vec::new(alloc);
     if intervals.len() <= 16 {
-        details.push(Attribute::Word(Key::Open, ""))?;
+        pen.open_with(Tag::Details, Attribute::Word(Key::Open, ""))?;
+    } else {
+        pen.plain(Tag::Details)?;
     }
-    tree.open(Tag::Details, details)?;
-    table_summary(tree, shown.len(), intervals.len())?;
-    begin(tree, Tag::Div, "scroll")?;
-    begin(tree, Tag::Table, "iv")?;
-    heads(tree)?;
-    plain(tree, Tag::TableBody)?;
-    tree.line()?;
+    table_summary(pen, shown.len(), intervals.len())?;
+    pen.begin(Tag::Div, "scroll")?;
+    pen.begin(Tag::Table, "iv")?;
+    heads(pen)?;
+    pen.plain(Tag::TableBody)?;
+    pen.line()?;
     let mut before = None;
     for (at, interval) in shown.iter().enumerate() {
         if let Some(until) = before {
-            hole(tree, answer, until, u64::from(interval.from.number()))?;
+            hole(pen, answer, until, u64::from(interval.from.number()))?;
         }
         before = Some(interval.until);
-        interval_row(tree, view, answer, at, interval)?;
+        interval_row(pen, view, answer, at, interval)?;
     }
-    tree.close()?;
-    tree.close()?;
-    tree.close()?;
-    left_out(tree, rest)?;
-    tree.close()?;
-    tree.line()
+    pen.close()?;
+    pen.close()?;
+    pen.close()?;
+    left_out(pen, rest)?;
+    pen.close()?;
+    pen.line()
 }
 
 fn article(
-    tree: &mut Tree,
+    pen: &mut Pen,
     view: &View<'_>,
     at: usize,
     answer: &PartAnswer,
 ) -> Result<(), AllocError> {
-    let alloc = tree.alloc();
     let checks = checks_of(answer, view.matchers().len());
-    let attributes = vec![in alloc;
+    let attributes = vec![in pen.alloc();
         Attribute::Word(Key::Class, "part"),
         Attribute::Named(Key::Id, "p", at as u64),
     ]?;
-    tree.open(Tag::Article, attributes)?;
-    head(tree, answer)?;
-    flaws(tree, answer, view.matchers().len())?;
-    judgement(tree, view, answer.part)?;
+    pen.open(Tag::Article, attributes)?;
+    head(pen, answer)?;
+    flaws(pen, answer, view.matchers().len())?;
+    judgement(pen, view, answer.part)?;
     if answer.cover.certificate.is_empty() {
-        word(
-            tree,
-            Tag::P,
-            "This part has no series, so it needs no interval.",
-        )?;
+        let none = "This part has no series, so it needs no interval.";
+        word(pen, Tag::P, none)?;
     } else {
-        figure(tree, &strip_of(answer, view.few), answer.part)?;
-        least(tree, answer, checks)?;
+        figure(pen, &strip_of(answer, view.few), answer.part)?;
+        least(pen, answer, checks)?;
         if answer.cover.certificate.len() > 240 {
-            groups(tree, answer.cover.certificate.as_slice())?;
+            groups(pen, answer.cover.certificate.as_slice())?;
         }
-        table(tree, view, answer)?;
+        table(pen, view, answer)?;
     }
-    tree.close()?;
-    tree.line()
+    pen.close()?;
+    pen.line()
 }
 
 /// Whether the auditor was given the block of a part that was skipped.
@@ -395,34 +376,32 @@ fn is_known(view: &View<'_>, number: usize) -> bool {
 }
 
 /// The names of the parts that were skipped.
-fn skipped_names(tree: &mut Tree, view: &View<'_>) -> Result<(), AllocError> {
-    let alloc = tree.alloc();
+fn skipped_names(pen: &mut Pen, view: &View<'_>) -> Result<(), AllocError> {
     let mut first = true;
     for (at, place) in view.shown.told.places.iter().enumerate() {
         if let Place::Skipped(number) = *place {
-            tree.word(if first { "Skipped: " } else { ", " })?;
+            pen.word(if first { "Skipped: " } else { ", " })?;
             first = false;
-            let id = vec![in alloc; Attribute::Named(Key::Id, "p", at as u64)]?;
-            tree.open(Tag::Span, id)?;
-            part_name(tree, PartName::Block(number))?;
-            tree.close()?;
+            pen.open_with(Tag::Span, Attribute::Named(Key::Id, "p", at as u64))?;
+            part_name(pen, PartName::Block(number))?;
+            pen.close()?;
         }
     }
     Ok(())
 }
 
 /// Which skips the auditor judged, and which it could not.
-fn skips_judged(tree: &mut Tree, view: &View<'_>) -> Result<(), AllocError> {
+fn skips_judged(pen: &mut Pen, view: &View<'_>) -> Result<(), AllocError> {
     if view.shown.lines.is_empty() {
-        return tree.word(
+        return pen.word(
             " The reply has no certificate for it; the auditor checks the skip against the block.",
         );
     }
     for place in view.shown.told.places.as_slice() {
         if let Place::Skipped(number) = *place {
-            tree.word(" ")?;
-            part_name(tree, PartName::Block(number))?;
-            tree.word(if is_known(view, number) {
+            pen.word(" ")?;
+            part_name(pen, PartName::Block(number))?;
+            pen.word(if is_known(view, number) {
                 ": the auditor judged the skip against the block."
             } else {
                 ": not judged, as the auditor was given no block for it."
@@ -433,32 +412,32 @@ fn skips_judged(tree: &mut Tree, view: &View<'_>) -> Result<(), AllocError> {
 }
 
 /// The parts that were skipped.
-fn skipped(tree: &mut Tree, view: &View<'_>) -> Result<(), AllocError> {
+fn skipped(pen: &mut Pen, view: &View<'_>) -> Result<(), AllocError> {
     if view.shown.told.places.len() == view.shown.told.answers.len() {
         return Ok(());
     }
-    begin(tree, Tag::Article, "part skip")?;
-    plain(tree, Tag::H3)?;
-    skipped_names(tree, view)?;
-    tree.close()?;
-    plain(tree, Tag::P)?;
-    tree.word(
+    pen.begin(Tag::Article, "part skip")?;
+    pen.plain(Tag::H3)?;
+    skipped_names(pen, view)?;
+    pen.close()?;
+    pen.plain(Tag::P)?;
+    pen.word(
         "Not searched: the times of the block do not meet the range of the query, so no sample of \
          it can be an answer.",
     )?;
-    skips_judged(tree, view)?;
-    tree.close()?;
-    tree.close()?;
-    tree.line()
+    skips_judged(pen, view)?;
+    pen.close()?;
+    pen.close()?;
+    pen.line()
 }
 
-fn articles(tree: &mut Tree, view: &View<'_>) -> Result<(), AllocError> {
+fn articles(pen: &mut Pen, view: &View<'_>) -> Result<(), AllocError> {
     let mut answers = view.shown.told.answers.as_slice();
     for (at, place) in view.shown.told.places.iter().enumerate() {
         if let Place::Searched = *place {
             if let Some((answer, later)) = answers.split_first() {
                 answers = later;
-                article(tree, view, at, answer)?;
+                article(pen, view, at, answer)?;
             }
         }
     }
@@ -466,23 +445,18 @@ fn articles(tree: &mut Tree, view: &View<'_>) -> Result<(), AllocError> {
 }
 
 /// The certificates.
-pub(crate) fn certificates(tree: &mut Tree, view: &View<'_>) -> Result<(), AllocError> {
-    let alloc = tree.alloc();
-    tree.open(
-        Tag::Section,
-        vec![in alloc; Attribute::Word(Key::Id, "cert")]?,
-    )?;
-    word(tree, Tag::H2, "Certificates")?;
+pub(crate) fn certificates(pen: &mut Pen, view: &View<'_>) -> Result<(), AllocError> {
+    open_section(pen, "cert", "Certificates")?;
     classed(
-        tree,
+        pen,
         Tag::P,
         "note",
         "Read from left to right: every series of the part lies in one box, and the box says why \
          it is a row (✓) or not. Point at a box for its numbers.",
     )?;
-    tree.line()?;
-    articles(tree, view)?;
-    skipped(tree, view)?;
-    tree.close()?;
-    tree.line()
+    pen.line()?;
+    articles(pen, view)?;
+    skipped(pen, view)?;
+    pen.close()?;
+    pen.line()
 }

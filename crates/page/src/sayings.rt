@@ -1,16 +1,15 @@
 //! What the checks of a part say, and the first place where one does not hold.
 
-use crate::strip::bounds;
+use crate::pen::Pen;
 use crate::verdicts::MATCH;
 use crate::words::plural;
 use cover::{Interval, PartAnswer, Verdict};
 use labels::SeriesRef;
 use page_claims::{Checks, count_in};
-use page_text::Tree;
 use std::alloc::AllocError;
 
 /// A check that a reply alone allows.
-#[derive(Clone, Copy, Debug, PartialEq, Eq, Drop)]
+#[derive(Clone, Copy)]
 pub(crate) enum Check {
     Chain,
     Names,
@@ -42,46 +41,46 @@ pub(crate) fn text_of(check: Check) -> &'static str {
 }
 
 /// Where the chain breaks first.
-fn chain_seen(tree: &mut Tree, intervals: &[Interval]) -> Result<(), AllocError> {
+fn chain_seen(pen: &mut Pen, intervals: &[Interval]) -> Result<(), AllocError> {
     let mut before: Option<&Interval> = None;
     for interval in intervals {
         if let Some(earlier) = before {
             let from = u64::from(interval.from.number());
             if earlier.until != from || u64::from(earlier.from.number()) >= earlier.until {
-                bounds(tree, earlier.from, earlier.until)?;
-                tree.word(" is followed by ")?;
-                return bounds(tree, interval.from, interval.until);
+                pen.bounds(earlier.from, earlier.until)?;
+                pen.word(" is followed by ")?;
+                return pen.bounds(interval.from, interval.until);
             }
         }
         before = Some(interval);
     }
     if let Some(last) = before {
-        tree.word("the last interval is ")?;
-        bounds(tree, last.from, last.until)?;
+        pen.word("the last interval is ")?;
+        pen.bounds(last.from, last.until)?;
     }
     Ok(())
 }
 
 /// The first verdict that names no matcher.
-fn names_seen(tree: &mut Tree, intervals: &[Interval], matchers: usize) -> Result<(), AllocError> {
+fn names_seen(pen: &mut Pen, intervals: &[Interval], matchers: usize) -> Result<(), AllocError> {
     for interval in intervals {
         if let Verdict::Rejected(named) = interval.verdict {
             if named >= matchers {
-                bounds(tree, interval.from, interval.until)?;
-                tree.word(" names matcher ")?;
-                return tree.number(named as u64);
+                pen.bounds(interval.from, interval.until)?;
+                pen.word(" names matcher ")?;
+                return pen.number(named as u64);
             }
         }
     }
     Ok(())
 }
 
-fn rows_seen(tree: &mut Tree, answer: &PartAnswer) -> Result<(), AllocError> {
+fn rows_seen(pen: &mut Pen, answer: &PartAnswer) -> Result<(), AllocError> {
     let matches = count_in(answer.cover.certificate.as_slice(), MATCH);
-    tree.word("there are ")?;
-    plural(tree, matches as u64, " match", " matches")?;
-    tree.word(" and ")?;
-    plural(tree, answer.rows.len() as u64, " row", " rows")
+    pen.word("there are ")?;
+    plural(pen, matches as u64, " match", " matches")?;
+    pen.word(" and ")?;
+    plural(pen, answer.rows.len() as u64, " row", " rows")
 }
 
 fn is_outside(interval: &Interval, separator: SeriesRef) -> bool {
@@ -89,24 +88,24 @@ fn is_outside(interval: &Interval, separator: SeriesRef) -> bool {
 }
 
 /// The first separator that is not in its interval, or how many there are.
-fn separators_seen(tree: &mut Tree, answer: &PartAnswer) -> Result<(), AllocError> {
+fn separators_seen(pen: &mut Pen, answer: &PartAnswer) -> Result<(), AllocError> {
     let intervals = answer.cover.certificate.as_slice();
     let separators = answer.cover.separators.as_slice();
     if intervals.len() != separators.len() {
-        tree.word("there are ")?;
-        plural(tree, separators.len() as u64, " separator", " separators")?;
-        tree.word(" and ")?;
-        return plural(tree, intervals.len() as u64, " interval", " intervals");
+        pen.word("there are ")?;
+        plural(pen, separators.len() as u64, " separator", " separators")?;
+        pen.word(" and ")?;
+        return plural(pen, intervals.len() as u64, " interval", " intervals");
     }
     for at in 0..intervals.len() {
         if let (Some(interval), Some(separator)) = (intervals.get(at), separators.get(at)) {
             if is_outside(interval, *separator) {
-                tree.word("separator ")?;
-                tree.number(u64::from(separator.number()))?;
-                tree.word(", number ")?;
-                tree.counted((at as u64).saturating_add(1))?;
-                tree.word(", is not in interval ")?;
-                return bounds(tree, interval.from, interval.until);
+                pen.word("separator ")?;
+                pen.number(u64::from(separator.number()))?;
+                pen.word(", number ")?;
+                pen.counted((at as u64).saturating_add(1))?;
+                pen.word(", is not in interval ")?;
+                return pen.bounds(interval.from, interval.until);
             }
         }
     }
@@ -115,16 +114,16 @@ fn separators_seen(tree: &mut Tree, answer: &PartAnswer) -> Result<(), AllocErro
 
 /// What is seen where a check does not hold.
 pub(crate) fn seen(
-    tree: &mut Tree,
+    pen: &mut Pen,
     check: Check,
     answer: &PartAnswer,
     matchers: usize,
 ) -> Result<(), AllocError> {
     let intervals = answer.cover.certificate.as_slice();
     match check {
-        Check::Chain => chain_seen(tree, intervals),
-        Check::Names => names_seen(tree, intervals, matchers),
-        Check::Rows => rows_seen(tree, answer),
-        Check::Separators => separators_seen(tree, answer),
+        Check::Chain => chain_seen(pen, intervals),
+        Check::Names => names_seen(pen, intervals, matchers),
+        Check::Rows => rows_seen(pen, answer),
+        Check::Separators => separators_seen(pen, answer),
     }
 }

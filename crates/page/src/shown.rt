@@ -59,12 +59,16 @@ impl<'a> View<'a> {
     }
 }
 
-/// The first and the last time of samples, over those of others.
-fn over(times: Option<(i64, i64)>, samples: &[Sample]) -> Option<(i64, i64)> {
-    let (first, last) = (samples.first()?.t(), samples.last()?.t());
-    match times {
-        Some((from, to)) => Some((from.min(first), to.max(last))),
-        None => Some((first, last)),
+/// The first and the last time of samples.
+fn ends_of(samples: &[Sample]) -> Option<(i64, i64)> {
+    Some((samples.first()?.t(), samples.last()?.t()))
+}
+
+/// The first and the last time of both.
+fn over(times: Option<(i64, i64)>, others: Option<(i64, i64)>) -> Option<(i64, i64)> {
+    match (times, others) {
+        (Some((from, to)), Some((first, last))) => Some((from.min(first), to.max(last))),
+        (None, ends) | (ends, None) => ends,
     }
 }
 
@@ -72,9 +76,7 @@ fn over(times: Option<(i64, i64)>, samples: &[Sample]) -> Option<(i64, i64)> {
 pub(crate) fn times_of(rows: &[labels::Row]) -> Option<(i64, i64)> {
     let mut times = None;
     for row in rows {
-        if let Some(wider) = over(times, row.samples()) {
-            times = Some(wider);
-        }
+        times = over(times, ends_of(row.samples()));
     }
     times
 }
@@ -91,14 +93,9 @@ pub(crate) fn samples_in(rows: &[labels::Row]) -> u64 {
 /// The axis of all figures of time: the range of the query if it is at most sixteen times as long
 /// as that of the samples, else that of the samples.
 pub(crate) fn axis_of(query: &Query, told: &Told) -> Option<(i64, i64)> {
-    let mut times: Option<(i64, i64)> = None;
+    let mut times = None;
     for answer in told.answers.as_slice() {
-        if let Some((first, last)) = times_of(answer.rows.as_slice()) {
-            times = match times {
-                Some((from, to)) => Some((from.min(first), to.max(last))),
-                None => Some((first, last)),
-            };
-        }
+        times = over(times, times_of(answer.rows.as_slice()));
     }
     let (first, last) = times?;
     let (from, to) = (query.from(), query.to());

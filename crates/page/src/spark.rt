@@ -1,17 +1,18 @@
 //! Sparklines.
 
+use crate::pen::Pen;
 use crate::time::column_of;
 use labels::Sample;
 use page_claims::Figures;
 use page_layout::share;
-use page_text::{Attribute, Key, Move, Tag, Tree};
+use page_text::{Attribute, Key, Move, Tag};
 use std::alloc::{AllocError, Global};
 
 /// How many columns a sparkline has.
 const COLUMNS: u64 = 180;
 
 /// What a column of a sparkline shows of its samples.
-#[derive(Clone, Copy, Debug, PartialEq, Eq, Drop)]
+#[derive(Clone, Copy)]
 struct Bar {
     column: u64,
     highest: u64,
@@ -20,6 +21,29 @@ struct Bar {
     last: u64,
     from: i64,
     to: i64,
+}
+
+impl Bar {
+    /// The bar of one sample, which stands at `y`.
+    fn new(column: u64, y: u64, t: i64) -> Bar {
+        Bar {
+            column,
+            highest: y,
+            lowest: y,
+            first: y,
+            last: y,
+            from: t,
+            to: t,
+        }
+    }
+
+    /// Adds a later sample.
+    fn add(&mut self, y: u64, t: i64) {
+        self.highest = self.highest.min(y);
+        self.lowest = self.lowest.max(y);
+        self.last = y;
+        self.to = t;
+    }
 }
 
 /// How far below the top a value stands.
@@ -44,21 +68,8 @@ fn bars_of(
         };
         let y = height_of(sample.v(), figures);
         match bars.last_mut() {
-            Some(bar) if bar.column == column => {
-                bar.highest = bar.highest.min(y);
-                bar.lowest = bar.lowest.max(y);
-                bar.last = y;
-                bar.to = sample.t();
-            }
-            _ => bars.push(Bar {
-                column,
-                highest: y,
-                lowest: y,
-                first: y,
-                last: y,
-                from: sample.t(),
-                to: sample.t(),
-            })?,
+            Some(bar) if bar.column == column => bar.add(y, sample.t()),
+            _ => bars.push(Bar::new(column, y, sample.t()))?,
         }
     }
     Ok(bars)
@@ -126,33 +137,35 @@ fn dots_of(alloc: Global, bars: &[Bar], samples: &[Sample]) -> Result<Vec<Move>,
     Ok(moves)
 }
 
-fn path(tree: &mut Tree, class: &'static str, moves: Vec<Move>) -> Result<(), AllocError> {
-    let alloc = tree.alloc();
+fn path(pen: &mut Pen, class: &'static str, moves: Vec<Move>) -> Result<(), AllocError> {
     if moves.is_empty() {
         return Ok(());
     }
-    let attributes = vec![in alloc; Attribute::Word(Key::Class, class), Attribute::Path(moves)]?;
-    tree.leaf(Tag::Path, attributes)
+    let attributes = vec![in pen.alloc();
+        Attribute::Word(Key::Class, class),
+        Attribute::Path(moves),
+    ]?;
+    pen.leaf(Tag::Path, attributes)
 }
 
 /// The samples of a row over an axis, from its own least value to its own greatest.
 pub(crate) fn spark(
-    tree: &mut Tree,
+    pen: &mut Pen,
     axis: (i64, i64),
     samples: &[Sample],
     figures: Figures,
 ) -> Result<(), AllocError> {
-    let alloc = tree.alloc();
+    let alloc = pen.alloc();
     let bars = bars_of(alloc, axis, samples, figures)?;
-    let frame = vec![in alloc;
+    let frame = vec![in pen.alloc();
         Attribute::Number(Key::Width, 180),
         Attribute::Number(Key::Height, 32),
         Attribute::Word(Key::ViewBox, "-2 -2 184 32"),
         Attribute::Word(Key::PreserveAspectRatio, "none"),
         Attribute::Word(Key::AriaHidden, "true"),
     ]?;
-    tree.open(Tag::Svg, frame)?;
-    path(tree, "ln", lines_of(alloc, bars.as_slice(), samples)?)?;
-    path(tree, "dt", dots_of(alloc, bars.as_slice(), samples)?)?;
-    tree.close()
+    pen.open(Tag::Svg, frame)?;
+    path(pen, "ln", lines_of(alloc, bars.as_slice(), samples)?)?;
+    path(pen, "dt", dots_of(alloc, bars.as_slice(), samples)?)?;
+    pen.close()
 }

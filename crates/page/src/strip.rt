@@ -1,17 +1,15 @@
 //! The strip of a part: a box for each interval, or a column for several.
 
-ghost use Rattle.std.specs.Prelude.{◌≡◌, ◌++◌, ◌<◌, OnOk};
-ghost use Rattle.page_text.specs.Growing.{printed, open_tags};
-ghost use Rattle.page.specs.Cells.{bounds_text};
+ghost use Rattle.std.specs.Prelude.{◌<◌};
 
+use crate::pen::Pen;
 use crate::shapes::{Area, class_line, line, open_text, rect};
 use crate::verdicts::{fill, letter, letter_class, said, wide_letter_class};
-use crate::words::{begin, plain};
 use cover::Interval;
 use labels::SeriesRef;
 use page_claims::{SLOTS, count_in, slot_of};
 use page_layout::{edge, heights, range_of, share};
-use page_text::{Attribute, Key, Tag, Tree};
+use page_text::{Attribute, Key, Tag};
 use std::alloc::{AllocError, Global};
 
 /// The width of a strip.
@@ -88,54 +86,41 @@ pub(crate) fn layers_of(
 }
 
 /// How many intervals have each verdict, in words.
-pub(crate) fn summary(tree: &mut Tree, intervals: &[Interval]) -> Result<(), AllocError> {
-    let layers = layers_of(tree.alloc(), intervals)?;
+pub(crate) fn summary(pen: &mut Pen, intervals: &[Interval]) -> Result<(), AllocError> {
+    let layers = layers_of(pen.alloc(), intervals)?;
     let mut first = true;
     for layer in layers.as_slice() {
         let (slot, count) = *layer;
         if !first {
-            tree.word(", ")?;
+            pen.word(", ")?;
         }
         first = false;
-        tree.counted(u64::from(count))?;
-        tree.word(" ")?;
-        said(tree, slot)?;
+        pen.counted(u64::from(count))?;
+        pen.word(" ")?;
+        said(pen, slot)?;
     }
     Ok(())
 }
 
-/// An interval, as `[2, 4)`.
-#[tactic(auto, unfolding(crate::specs::Cells::bounds_text))]
-pub(crate) fn bounds(tree: &mut Tree, from: SeriesRef, until: u64) -> Result<(), AllocError>
-    ensures printed { OnOk result (printed tree.new ≡ printed tree.old ++ bounds_text from until) }
-    ensures inside { OnOk result (open_tags tree.new ≡ open_tags tree.old) }
-{
-    tree.word("[")?;
-    tree.number(u64::from(from.number()))?;
-    tree.word(", ")?;
-    tree.number(until)?;
-    tree.word(")")
-}
-
-fn hover(tree: &mut Tree, column: &Column<'_>) -> Result<(), AllocError> {
-    plain(tree, Tag::Title)?;
+fn hover(pen: &mut Pen, column: &Column<'_>) -> Result<(), AllocError> {
+    pen.plain(Tag::Title)?;
     if let (Some(first), Some(last)) = (column.intervals.first(), column.intervals.last()) {
         if column.intervals.len() == 1 {
-            bounds(tree, first.from, first.until)?;
-            tree.word(" ")?;
-            said(tree, slot_of(first.verdict))?;
+            pen.bounds(first.from, first.until)?;
+            pen.word(" ")?;
+            said(pen, slot_of(first.verdict))?;
         } else {
-            tree.word("intervals ")?;
-            tree.counted((column.from as u64).saturating_add(1))?;
-            tree.word(" to ")?;
-            tree.counted((column.from as u64).saturating_add(column.intervals.len() as u64))?;
-            tree.word(", ")?;
-            bounds(tree, first.from, last.until)?;
-            tree.word(": ")?;
-            summary(tree, column.intervals)?;
+            pen.word("intervals ")?;
+            pen.counted((column.from as u64).saturating_add(1))?;
+            pen.word(" to ")?;
+            pen.counted((column.from as u64).saturating_add(column.intervals.len() as u64))?;
+            pen.word(", ")?;
+            pen.bounds(first.from, last.until)?;
+            pen.word(": ")?;
+            summary(pen, column.intervals)?;
         }
     }
-    tree.close()
+    pen.close()
 }
 
 /// Whether a hole or an overlap is in a column or behind it.
@@ -155,7 +140,7 @@ fn is_broken(column: &Column<'_>) -> bool {
     }
 }
 
-fn gap(tree: &mut Tree, strip: &Strip<'_>, column: &Column<'_>) -> Result<(), AllocError> {
+fn gap(pen: &mut Pen, strip: &Strip<'_>, column: &Column<'_>) -> Result<(), AllocError> {
     let (mut x, mut width) = (column.x, column.width);
     if let (Some(only), false) = (column.intervals.first(), strip.is_aggregated()) {
         if only.until >= column.next {
@@ -170,7 +155,7 @@ fn gap(tree: &mut Tree, strip: &Strip<'_>, column: &Column<'_>) -> Result<(), Al
         width,
         height: strip.height,
     };
-    rect(tree, Attribute::Word(Key::Class, "gap"), area)
+    rect(pen, Attribute::Word(Key::Class, "gap"), area)
 }
 
 fn middle(column: &Column<'_>) -> u64 {
@@ -184,7 +169,7 @@ fn is_lettered(strip: &Strip<'_>, at: usize) -> bool {
 }
 
 fn layer_letter(
-    tree: &mut Tree,
+    pen: &mut Pen,
     strip: &Strip<'_>,
     slot: usize,
     place: (u64, u64),
@@ -194,24 +179,24 @@ fn layer_letter(
     } else {
         wide_letter_class(slot)
     };
-    open_text(tree, class, place.0, place.1, "middle")?;
-    letter(tree, slot)?;
-    tree.close()
+    open_text(pen, class, place.0, place.1, "middle")?;
+    letter(pen, slot)?;
+    pen.close()
 }
 
 /// The letter of a box that holds one interval.
-fn box_letter(tree: &mut Tree, strip: &Strip<'_>, column: &Column<'_>) -> Result<(), AllocError> {
+fn box_letter(pen: &mut Pen, strip: &Strip<'_>, column: &Column<'_>) -> Result<(), AllocError> {
     match column.intervals.first() {
         Some(only) if strip.columns <= 64 && !strip.is_aggregated() => {
             let y = strip.top.saturating_add(strip.height / 2).saturating_add(6);
-            layer_letter(tree, strip, slot_of(only.verdict), (middle(column), y))
+            layer_letter(pen, strip, slot_of(only.verdict), (middle(column), y))
         }
         _ => Ok(()),
     }
 }
 
 /// A layer of a column: its slot, where it stands below the top, and how high it is.
-#[derive(Clone, Copy, Debug, PartialEq, Eq, Drop)]
+#[derive(Clone, Copy)]
 struct Layer {
     slot: usize,
     y: u64,
@@ -246,8 +231,8 @@ fn stack_of(
     Ok(stack)
 }
 
-fn layers(tree: &mut Tree, strip: &Strip<'_>, column: &Column<'_>) -> Result<(), AllocError> {
-    let stack = stack_of(tree.alloc(), strip, column)?;
+fn layers(pen: &mut Pen, strip: &Strip<'_>, column: &Column<'_>) -> Result<(), AllocError> {
+    let stack = stack_of(pen.alloc(), strip, column)?;
     for layer in stack.as_slice() {
         let area = Area {
             x: column.x,
@@ -255,93 +240,88 @@ fn layers(tree: &mut Tree, strip: &Strip<'_>, column: &Column<'_>) -> Result<(),
             width: column.width,
             height: layer.height,
         };
-        rect(tree, fill(layer.slot), area)?;
+        rect(pen, fill(layer.slot), area)?;
     }
     Ok(())
 }
 
 /// The letters of the high layers of a column of several intervals.
-fn layer_letters(
-    tree: &mut Tree,
-    strip: &Strip<'_>,
-    column: &Column<'_>,
-) -> Result<(), AllocError> {
-    let stack = stack_of(tree.alloc(), strip, column)?;
+fn layer_letters(pen: &mut Pen, strip: &Strip<'_>, column: &Column<'_>) -> Result<(), AllocError> {
+    let stack = stack_of(pen.alloc(), strip, column)?;
     for layer in stack.as_slice() {
         if layer.height >= 14 {
             let y = layer.y.saturating_add(layer.height / 2).saturating_add(5);
-            layer_letter(tree, strip, layer.slot, (middle(column), y))?;
+            layer_letter(pen, strip, layer.slot, (middle(column), y))?;
         }
     }
     Ok(())
 }
 
 /// What stands over the columns of several intervals: letters, and a line at half the height.
-fn over_columns(tree: &mut Tree, strip: &Strip<'_>) -> Result<(), AllocError> {
+fn over_columns(pen: &mut Pen, strip: &Strip<'_>) -> Result<(), AllocError> {
     if !strip.is_aggregated() {
         return Ok(());
     }
     for at in 0..strip.columns {
         if is_lettered(strip, at) {
-            layer_letters(tree, strip, &strip.column(at))?;
+            layer_letters(pen, strip, &strip.column(at))?;
         }
     }
     let y = strip.top.saturating_add(strip.height / 2);
-    class_line(tree, "half", (0, y), (FULL as u64, y))?;
-    tree.line()
+    class_line(pen, "half", (0, y), (FULL as u64, y))?;
+    pen.line()
 }
 
-fn draw(tree: &mut Tree, strip: &Strip<'_>, column: &Column<'_>) -> Result<(), AllocError> {
-    plain(tree, Tag::G)?;
-    hover(tree, column)?;
-    layers(tree, strip, column)?;
+fn draw(pen: &mut Pen, strip: &Strip<'_>, column: &Column<'_>) -> Result<(), AllocError> {
+    pen.plain(Tag::G)?;
+    hover(pen, column)?;
+    layers(pen, strip, column)?;
     if is_broken(column) {
-        gap(tree, strip, column)?;
+        gap(pen, strip, column)?;
     }
-    box_letter(tree, strip, column)?;
-    tree.close()?;
-    tree.line()
+    box_letter(pen, strip, column)?;
+    pen.close()?;
+    pen.line()
 }
 
-fn cuts(tree: &mut Tree, strip: &Strip<'_>) -> Result<(), AllocError> {
+fn cuts(pen: &mut Pen, strip: &Strip<'_>) -> Result<(), AllocError> {
     let few = strip.columns <= 32;
-    begin(tree, Tag::G, if few { "cut" } else { "cut fine" })?;
+    pen.begin(Tag::G, if few { "cut" } else { "cut fine" })?;
     for at in 1..strip.columns {
         let x = edge(at, strip.columns, FULL) as u64;
         line(
-            tree,
+            pen,
             (x, strip.top),
             (x, strip.top.saturating_add(strip.height)),
         )?;
     }
-    tree.close()?;
-    tree.line()
+    pen.close()?;
+    pen.line()
 }
 
 /// A tick at a place below the strip: a triangle if there are few.
-fn tick(tree: &mut Tree, strip: &Strip<'_>, x: u64) -> Result<(), AllocError> {
-    let alloc = tree.alloc();
+fn tick(pen: &mut Pen, strip: &Strip<'_>, x: u64) -> Result<(), AllocError> {
     let y = below(strip);
     if strip.columns <= 32 && !strip.is_aggregated() {
-        let attributes = vec![in alloc;
+        let attributes = vec![in pen.alloc();
             Attribute::Share(Key::X, x),
             Attribute::Number(Key::Y, y),
             Attribute::Number(Key::Width, 12),
             Attribute::Number(Key::Height, 10),
             Attribute::Word(Key::Overflow, "visible"),
         ]?;
-        tree.open(Tag::Svg, attributes)?;
-        let triangle = vec![in alloc; Attribute::Word(Key::D, "M0 0l5 9H-5z")]?;
-        tree.leaf(Tag::Path, triangle)?;
-        return tree.close();
+        pen.open(Tag::Svg, attributes)?;
+        let triangle = vec![in pen.alloc(); Attribute::Word(Key::D, "M0 0l5 9H-5z")]?;
+        pen.leaf(Tag::Path, triangle)?;
+        return pen.close();
     }
-    let attributes = vec![in alloc;
+    let attributes = vec![in pen.alloc();
         Attribute::Share(Key::X, x),
         Attribute::Number(Key::Y, y),
         Attribute::Word(Key::Width, "1.5"),
         Attribute::Number(Key::Height, 7),
     ]?;
-    tree.leaf(Tag::Rect, attributes)
+    pen.leaf(Tag::Rect, attributes)
 }
 
 /// Where ticks stand.
@@ -353,7 +333,7 @@ fn below(strip: &Strip<'_>) -> u64 {
 const MOST_TICKS: u64 = 4;
 
 /// The ticks of the separators that lie in the interval of a box.
-fn box_ticks(tree: &mut Tree, strip: &Strip<'_>, column: &Column<'_>) -> Result<(), AllocError> {
+fn box_ticks(pen: &mut Pen, strip: &Strip<'_>, column: &Column<'_>) -> Result<(), AllocError> {
     let Some(only) = column.intervals.first() else {
         return Ok(());
     };
@@ -365,7 +345,7 @@ fn box_ticks(tree: &mut Tree, strip: &Strip<'_>, column: &Column<'_>) -> Result<
         if from <= number && number < only.until && drawn < MOST_TICKS {
             drawn += 1;
             let across = share(number.saturating_sub(from), span, column.width);
-            tick(tree, strip, column.x.saturating_add(across))?;
+            tick(pen, strip, column.x.saturating_add(across))?;
         }
     }
     Ok(())
@@ -387,9 +367,9 @@ fn separators_in(strip: &Strip<'_>, column: &Column<'_>) -> u64 {
 }
 
 /// One tick where a column has as many separators as intervals, else a red bar.
-fn column_tick(tree: &mut Tree, strip: &Strip<'_>, column: &Column<'_>) -> Result<(), AllocError> {
+fn column_tick(pen: &mut Pen, strip: &Strip<'_>, column: &Column<'_>) -> Result<(), AllocError> {
     if separators_in(strip, column) == column.intervals.len() as u64 {
-        return tick(tree, strip, column.x);
+        return tick(pen, strip, column.x);
     }
     let area = Area {
         x: column.x,
@@ -397,13 +377,12 @@ fn column_tick(tree: &mut Tree, strip: &Strip<'_>, column: &Column<'_>) -> Resul
         width: column.width,
         height: 7,
     };
-    rect(tree, Attribute::Word(Key::Class, "gap"), area)
+    rect(pen, Attribute::Word(Key::Class, "gap"), area)
 }
 
 /// The ticks of the separators.
-fn ticks(tree: &mut Tree, strip: &Strip<'_>) -> Result<(), AllocError> {
-    begin(
-        tree,
+fn ticks(pen: &mut Pen, strip: &Strip<'_>) -> Result<(), AllocError> {
+    pen.begin(
         Tag::G,
         if strip.is_aggregated() {
             "sep many"
@@ -414,13 +393,13 @@ fn ticks(tree: &mut Tree, strip: &Strip<'_>) -> Result<(), AllocError> {
     for at in 0..strip.columns {
         let column = strip.column(at);
         if strip.is_aggregated() {
-            column_tick(tree, strip, &column)?;
+            column_tick(pen, strip, &column)?;
         } else {
-            box_ticks(tree, strip, &column)?;
+            box_ticks(pen, strip, &column)?;
         }
     }
-    tree.close()?;
-    tree.line()
+    pen.close()?;
+    pen.line()
 }
 
 /// How many digits a number has.
@@ -436,11 +415,26 @@ fn digits(n: u64) -> u64 {
     count
 }
 
+/// Begins a number below a strip.
+fn open_number(pen: &mut Pen, x: u64, y: u64, anchor: &'static str) -> Result<(), AllocError> {
+    open_text(pen, Attribute::Word(Key::Class, "no-i"), x, y, anchor)
+}
+
+/// Where the last interval ends.
+fn last_number(pen: &mut Pen, strip: &Strip<'_>, y: u64) -> Result<(), AllocError> {
+    open_number(pen, FULL as u64, y, "end")?;
+    match strip.intervals.last() {
+        Some(last) if last.until != END => pen.number(last.until)?,
+        _ => pen.word("end")?,
+    }
+    pen.close()
+}
+
 /// Where columns begin, wherever there is room for the number.
-fn numbers(tree: &mut Tree, strip: &Strip<'_>) -> Result<(), AllocError> {
+fn numbers(pen: &mut Pen, strip: &Strip<'_>) -> Result<(), AllocError> {
     let y = strip.top.saturating_add(strip.height).saturating_add(26);
     let mut free = 0u64;
-    begin(tree, Tag::G, "num")?;
+    pen.begin(Tag::G, "num")?;
     for at in 0..strip.columns {
         let column = strip.column(at);
         let Some(first) = column.intervals.first() else {
@@ -453,64 +447,53 @@ fn numbers(tree: &mut Tree, strip: &Strip<'_>) -> Result<(), AllocError> {
             continue;
         }
         let anchor = if at == 0 { "start" } else { "middle" };
-        open_text(
-            tree,
-            Attribute::Word(Key::Class, "no-i"),
-            column.x,
-            y,
-            anchor,
-        )?;
-        tree.number(number)?;
-        tree.close()?;
+        open_number(pen, column.x, y, anchor)?;
+        pen.number(number)?;
+        pen.close()?;
         free = column
             .x
             .saturating_add(width.saturating_sub(half))
             .saturating_add(60);
     }
-    open_text(tree, Attribute::Word(Key::Class, "no-i"), 10_000, y, "end")?;
-    match strip.intervals.last() {
-        Some(last) if last.until != END => tree.number(last.until)?,
-        _ => tree.word("end")?,
-    }
-    tree.close()?;
-    tree.close()
+    last_number(pen, strip, y)?;
+    pen.close()
 }
 
 /// The boxes or columns of a strip, the lines between them, the ticks and the numbers.
-pub(crate) fn draw_strip(tree: &mut Tree, strip: &Strip<'_>) -> Result<(), AllocError> {
+pub(crate) fn draw_strip(pen: &mut Pen, strip: &Strip<'_>) -> Result<(), AllocError> {
     let area = Area {
         x: 0,
         y: strip.top,
         width: 10_000,
         height: strip.height,
     };
-    rect(tree, Attribute::Word(Key::Class, "hole"), area)?;
-    tree.line()?;
+    rect(pen, Attribute::Word(Key::Class, "hole"), area)?;
+    pen.line()?;
     for at in 0..strip.columns {
-        draw(tree, strip, &strip.column(at))?;
+        draw(pen, strip, &strip.column(at))?;
     }
-    over_columns(tree, strip)?;
+    over_columns(pen, strip)?;
     if strip.columns <= 120 {
-        cuts(tree, strip)?;
+        cuts(pen, strip)?;
     }
-    ticks(tree, strip)?;
-    numbers(tree, strip)
+    ticks(pen, strip)?;
+    numbers(pen, strip)
 }
 
 /// A caption of a figure.
-pub(crate) fn caption(tree: &mut Tree, strip: &Strip<'_>) -> Result<(), AllocError> {
-    open_text(tree, Attribute::Word(Key::Class, "cap"), 0, 11, "start")?;
+pub(crate) fn caption(pen: &mut Pen, strip: &Strip<'_>) -> Result<(), AllocError> {
+    open_text(pen, Attribute::Word(Key::Class, "cap"), 0, 11, "start")?;
     if strip.is_aggregated() && strip.columns > 0 {
         let each = strip.intervals.len() / strip.columns;
-        tree.word("each column: ")?;
-        tree.counted(each as u64)?;
+        pen.word("each column: ")?;
+        pen.counted(each as u64)?;
         if strip.intervals.len() % strip.columns > 0 {
-            tree.word(" or ")?;
-            tree.counted((each as u64).saturating_add(1))?;
+            pen.word(" or ")?;
+            pen.counted((each as u64).saturating_add(1))?;
         }
-        tree.word(" intervals, in order; heights: how many of each verdict")?;
+        pen.word(" intervals, in order; heights: how many of each verdict")?;
     } else {
-        tree.word("a box for each interval")?;
+        pen.word("a box for each interval")?;
     }
-    tree.close()
+    pen.close()
 }

@@ -1,15 +1,16 @@
 //! Which part has samples of the answer, and when.
 
 use crate::header::part_link;
-use crate::shapes::{class_line, open_text};
+use crate::pen::Pen;
+use crate::shapes::{class_line, open_text, open_wide};
 use crate::shown::{View, samples_in, times_of};
 use crate::times::{civil_of, ends, tick, when};
-use crate::words::{begin, classed, counted_cell, head_cell, plain, plural, word};
+use crate::words::{classed, head_cell, open_section, plural, word};
 use cover::PartAnswer;
 use labels::{Row, Sample};
 use page_claims::Place;
 use page_layout::share;
-use page_text::{Attribute, Key, Move, Tag, Tree};
+use page_text::{Attribute, Key, Move, Tag};
 use postings::PartName;
 use std::alloc::{AllocError, Global};
 
@@ -75,32 +76,34 @@ fn most_rows(view: &View<'_>, axis: (i64, i64)) -> Result<u64, AllocError> {
     Ok(most)
 }
 
+/// Steps between the ticks of an axis in UTC, in milliseconds.
+const STEPS: [u64; 22] = [
+    1000,
+    2000,
+    5000,
+    10_000,
+    15_000,
+    30_000,
+    60_000,
+    120_000,
+    300_000,
+    600_000,
+    900_000,
+    1_800_000,
+    3_600_000,
+    7_200_000,
+    10_800_000,
+    21_600_000,
+    43_200_000,
+    86_400_000,
+    172_800_000,
+    432_000_000,
+    864_000_000,
+    8_640_000_000,
+];
+
 /// How far apart ticks are: the least step that fits at most five times.
 fn step_of(axis: (i64, i64)) -> u64 {
-    const STEPS: [u64; 22] = [
-        1000,
-        2000,
-        5000,
-        10_000,
-        15_000,
-        30_000,
-        60_000,
-        120_000,
-        300_000,
-        600_000,
-        900_000,
-        1_800_000,
-        3_600_000,
-        7_200_000,
-        10_800_000,
-        21_600_000,
-        43_200_000,
-        86_400_000,
-        172_800_000,
-        432_000_000,
-        864_000_000,
-        8_640_000_000,
-    ];
     let span = axis.1.abs_diff(axis.0);
     if civil_of(axis.0).is_some() && civil_of(axis.1).is_some() {
         for step in STEPS {
@@ -148,17 +151,17 @@ fn place_of(axis: (i64, i64), t: i64) -> u64 {
 }
 
 /// The numbers of an axis: of all its ticks, or of the first and the last.
-pub(crate) fn axis_text(tree: &mut Tree, axis: (i64, i64), all: bool) -> Result<(), AllocError> {
-    let alloc = tree.alloc();
+pub(crate) fn axis_text(pen: &mut Pen, axis: (i64, i64), all: bool) -> Result<(), AllocError> {
+    let alloc = pen.alloc();
     let ticks = ticks_of(alloc, axis)?;
     let step = step_of(axis);
-    let attributes = vec![in alloc;
+    let attributes = vec![in pen.alloc();
         Attribute::Word(Key::Width, "100%"),
         Attribute::Number(Key::Height, 16),
         Attribute::Word(Key::AriaHidden, "true"),
         Attribute::Word(Key::Class, "ax"),
     ]?;
-    tree.open(Tag::Svg, attributes)?;
+    pen.open(Tag::Svg, attributes)?;
     for (at, t) in ticks.iter().enumerate() {
         if all || at == 0 || at.saturating_add(1) == ticks.len() {
             let x = place_of(axis, *t);
@@ -169,12 +172,12 @@ pub(crate) fn axis_text(tree: &mut Tree, axis: (i64, i64), all: bool) -> Result<
             } else {
                 "middle"
             };
-            open_text(tree, Attribute::Word(Key::Class, "at"), x, 12, anchor)?;
-            tick(tree, *t, step)?;
-            tree.close()?;
+            open_text(pen, Attribute::Word(Key::Class, "at"), x, 12, anchor)?;
+            tick(pen, *t, step)?;
+            pen.close()?;
         }
     }
-    tree.close()
+    pen.close()
 }
 
 /// How high a bar of so many rows is, rounded up, where the most has 22 units.
@@ -220,170 +223,164 @@ fn moves_of(alloc: Global, columns: &[u64], most: u64) -> Result<Vec<Move>, Allo
     Ok(moves)
 }
 
-fn bars(tree: &mut Tree, axis: (i64, i64), rows: &[Row], most: u64) -> Result<(), AllocError> {
-    let alloc = tree.alloc();
-    let columns = columns_of(alloc, axis, rows)?;
-    let frame = vec![in alloc;
-        Attribute::Word(Key::Width, "100%"),
-        Attribute::Number(Key::Height, 30),
-        Attribute::Word(Key::AriaHidden, "true"),
-    ]?;
-    tree.open(Tag::Svg, frame)?;
-    let ticks = ticks_of(alloc, axis)?;
+/// The ticks of an axis behind bars, and the line that these stand on.
+fn grid(pen: &mut Pen, axis: (i64, i64)) -> Result<(), AllocError> {
+    let ticks = ticks_of(pen.alloc(), axis)?;
     for t in ticks.as_slice() {
         let x = place_of(axis, *t);
-        class_line(tree, "grid", (x, 0), (x, 30))?;
+        class_line(pen, "grid", (x, 0), (x, 30))?;
     }
-    class_line(tree, "base", (0, 26), (10_000, 26))?;
-    let inner = vec![in alloc;
+    class_line(pen, "base", (0, 26), (10_000, 26))
+}
+
+fn bar_path(pen: &mut Pen, columns: &[u64], most: u64) -> Result<(), AllocError> {
+    let moves = moves_of(pen.alloc(), columns, most)?;
+    let frame = vec![in pen.alloc();
         Attribute::Number(Key::Y, 4),
         Attribute::Word(Key::Width, "100%"),
         Attribute::Number(Key::Height, 22),
         Attribute::Word(Key::ViewBox, "0 0 120 22"),
         Attribute::Word(Key::PreserveAspectRatio, "none"),
     ]?;
-    tree.open(Tag::Svg, inner)?;
-    let path = vec![in alloc;
-        Attribute::Word(Key::Class, "bars"),
-        Attribute::Path(moves_of(alloc, columns.as_slice(), most)?),
-    ]?;
-    tree.leaf(Tag::Path, path)?;
-    tree.close()?;
-    tree.close()
+    pen.open(Tag::Svg, frame)?;
+    let path = vec![in pen.alloc(); Attribute::Word(Key::Class, "bars"), Attribute::Path(moves)]?;
+    pen.leaf(Tag::Path, path)?;
+    pen.close()
+}
+
+fn bars(pen: &mut Pen, axis: (i64, i64), rows: &[Row], most: u64) -> Result<(), AllocError> {
+    let columns = columns_of(pen.alloc(), axis, rows)?;
+    open_wide(pen, 30)?;
+    grid(pen, axis)?;
+    bar_path(pen, columns.as_slice(), most)?;
+    pen.close()
 }
 
 fn cells(
-    tree: &mut Tree,
+    pen: &mut Pen,
     view: &View<'_>,
     rows: &[Row],
     intervals: u64,
     most: u64,
 ) -> Result<(), AllocError> {
-    begin(tree, Tag::Td, "when")?;
+    pen.begin(Tag::Td, "when")?;
     if let Some(axis) = view.axis {
-        bars(tree, axis, rows, most)?;
+        bars(pen, axis, rows, most)?;
     }
-    tree.close()?;
-    begin(tree, Tag::Td, "n iw")?;
-    tree.counted(intervals)?;
-    tree.close()?;
-    counted_cell(tree, rows.len() as u64)?;
-    counted_cell(tree, samples_in(rows))?;
-    begin(tree, Tag::Td, "fl")?;
+    pen.close()?;
+    pen.begin(Tag::Td, "n iw")?;
+    pen.counted(intervals)?;
+    pen.close()?;
+    pen.counted_cell(rows.len() as u64)?;
+    pen.counted_cell(samples_in(rows))?;
+    pen.begin(Tag::Td, "fl")?;
     match times_of(rows) {
-        Some((from, to)) => ends(tree, from, to)?,
-        None => tree.word("no sample")?,
+        Some((from, to)) => ends(pen, from, to)?,
+        None => pen.word("no sample")?,
     }
-    tree.close()?;
-    tree.close()?;
-    tree.line()
+    pen.close()?;
+    pen.close()?;
+    pen.line()
 }
 
-fn open_row(tree: &mut Tree, class: &'static str) -> Result<(), AllocError> {
-    let alloc = tree.alloc();
-    begin(tree, Tag::Tr, class)?;
-    tree.open(Tag::Th, vec![in alloc; Attribute::Word(Key::Scope, "row")]?)
+fn open_row(pen: &mut Pen, class: &'static str) -> Result<(), AllocError> {
+    pen.begin(Tag::Tr, class)?;
+    pen.open_with(Tag::Th, Attribute::Word(Key::Scope, "row"))
 }
 
 fn part_row(
-    tree: &mut Tree,
+    pen: &mut Pen,
     view: &View<'_>,
     at: usize,
     answer: &PartAnswer,
     most: u64,
 ) -> Result<(), AllocError> {
-    open_row(tree, "searched")?;
-    part_link(tree, at, answer.part)?;
-    tree.close()?;
+    open_row(pen, "searched")?;
+    part_link(pen, at, answer.part)?;
+    pen.close()?;
     let intervals = answer.cover.certificate.len() as u64;
-    cells(tree, view, answer.rows.as_slice(), intervals, most)
+    cells(pen, view, answer.rows.as_slice(), intervals, most)
 }
 
-fn skipped_row(tree: &mut Tree, at: usize, number: usize) -> Result<(), AllocError> {
-    let alloc = tree.alloc();
-    open_row(tree, "unsearched")?;
-    part_link(tree, at, PartName::Block(number))?;
-    tree.close()?;
-    begin(tree, Tag::Td, "when")?;
-    let frame = vec![in alloc;
-        Attribute::Word(Key::Width, "100%"),
-        Attribute::Number(Key::Height, 30),
-        Attribute::Word(Key::AriaHidden, "true"),
-    ]?;
-    tree.open(Tag::Svg, frame)?;
-    let hatched = vec![in alloc;
+fn skipped_row(pen: &mut Pen, at: usize, number: usize) -> Result<(), AllocError> {
+    open_row(pen, "unsearched")?;
+    part_link(pen, at, PartName::Block(number))?;
+    pen.close()?;
+    pen.begin(Tag::Td, "when")?;
+    open_wide(pen, 30)?;
+    let hatched = vec![in pen.alloc();
         Attribute::Word(Key::Class, "skipped"),
         Attribute::Number(Key::X, 0),
         Attribute::Number(Key::Y, 3),
         Attribute::Word(Key::Width, "100%"),
         Attribute::Number(Key::Height, 24),
     ]?;
-    tree.leaf(Tag::Rect, hatched)?;
-    tree.close()?;
-    tree.close()?;
-    let wide = vec![in alloc;
+    pen.leaf(Tag::Rect, hatched)?;
+    pen.close()?;
+    pen.close()?;
+    let wide = vec![in pen.alloc();
         Attribute::Word(Key::Class, "skipw"),
         Attribute::Number(Key::Colspan, 4),
     ]?;
-    tree.open(Tag::Td, wide)?;
-    tree.word("skipped: outside the range")?;
-    tree.close()?;
-    tree.close()?;
-    tree.line()
+    pen.open(Tag::Td, wide)?;
+    pen.word("skipped: outside the range")?;
+    pen.close()?;
+    pen.close()?;
+    pen.line()
 }
 
 fn axis_note(
-    tree: &mut Tree,
+    pen: &mut Pen,
     view: &View<'_>,
     axis: (i64, i64),
     most: u64,
 ) -> Result<(), AllocError> {
     let (from, to) = (view.shown.query.from(), view.shown.query.to());
-    begin(tree, Tag::P, "note")?;
-    tree.word("All figures of time, here and in the rows, go from ")?;
-    when(tree, axis.0)?;
-    tree.word(" to ")?;
-    when(tree, axis.1)?;
-    tree.word(if axis.0 == from && axis.1 == to {
+    pen.begin(Tag::P, "note")?;
+    pen.word("All figures of time, here and in the rows, go from ")?;
+    when(pen, axis.0)?;
+    pen.word(" to ")?;
+    when(pen, axis.1)?;
+    pen.word(if axis.0 == from && axis.1 == to {
         ", the range of the query"
     } else {
         ", the first and the last sample, as the range of the query is much wider"
     })?;
-    tree.word(
+    pen.word(
         ". The height over each of 120 equal times is the number of rows with a sample in it; full \
          height is ",
     )?;
-    plural(tree, most, " row.", " rows.")?;
-    tree.close()?;
-    tree.line()
+    plural(pen, most, " row.", " rows.")?;
+    pen.close()?;
+    pen.line()
 }
 
-fn heads(tree: &mut Tree, view: &View<'_>) -> Result<(), AllocError> {
-    plain(tree, Tag::TableHead)?;
-    plain(tree, Tag::Tr)?;
-    head_cell(tree, "", "Part")?;
-    begin(tree, Tag::Th, "when")?;
+fn heads(pen: &mut Pen, view: &View<'_>) -> Result<(), AllocError> {
+    pen.plain(Tag::TableHead)?;
+    pen.plain(Tag::Tr)?;
+    head_cell(pen, "", "Part")?;
+    pen.begin(Tag::Th, "when")?;
     if let Some(axis) = view.axis {
-        axis_text(tree, axis, true)?;
+        axis_text(pen, axis, true)?;
     }
-    tree.close()?;
-    head_cell(tree, "n iw", "Intervals")?;
-    head_cell(tree, "n", "Rows")?;
-    head_cell(tree, "n", "Samples")?;
-    head_cell(tree, "fl", "First and last sample")?;
-    tree.close()?;
-    tree.close()
+    pen.close()?;
+    head_cell(pen, "n iw", "Intervals")?;
+    head_cell(pen, "n", "Rows")?;
+    head_cell(pen, "n", "Samples")?;
+    head_cell(pen, "fl", "First and last sample")?;
+    pen.close()?;
+    pen.close()
 }
 
-fn part_rows(tree: &mut Tree, view: &View<'_>, most: u64) -> Result<(), AllocError> {
+fn part_rows(pen: &mut Pen, view: &View<'_>, most: u64) -> Result<(), AllocError> {
     let mut answers = view.shown.told.answers.as_slice();
     for (at, place) in view.shown.told.places.iter().enumerate() {
         match *place {
-            Place::Skipped(number) => skipped_row(tree, at, number)?,
+            Place::Skipped(number) => skipped_row(pen, at, number)?,
             Place::Searched => {
                 if let Some((answer, later)) = answers.split_first() {
                     answers = later;
-                    part_row(tree, view, at, answer, most)?;
+                    part_row(pen, view, at, answer, most)?;
                 }
             }
         }
@@ -392,7 +389,7 @@ fn part_rows(tree: &mut Tree, view: &View<'_>, most: u64) -> Result<(), AllocErr
 }
 
 /// How many samples stand in more than one part.
-fn twice(tree: &mut Tree, view: &View<'_>) -> Result<(), AllocError> {
+fn twice(pen: &mut Pen, view: &View<'_>) -> Result<(), AllocError> {
     let mut listed = 0u64;
     for answer in view.shown.told.answers.as_slice() {
         listed = listed.saturating_add(samples_in(answer.rows.as_slice()));
@@ -401,51 +398,43 @@ fn twice(tree: &mut Tree, view: &View<'_>) -> Result<(), AllocError> {
     if more == 0 {
         return Ok(());
     }
-    begin(tree, Tag::P, "note")?;
-    tree.word("The parts list ")?;
-    plural(tree, listed, " sample", " samples")?;
-    tree.word(", the answer ")?;
-    tree.counted(view.samples)?;
-    tree.word(": ")?;
-    plural(tree, more, " sample stands", " samples stand")?;
-    tree.word(" in more than one part, and of these the later part’s counts.")?;
-    tree.close()?;
-    tree.line()
+    pen.begin(Tag::P, "note")?;
+    pen.word("The parts list ")?;
+    plural(pen, listed, " sample", " samples")?;
+    pen.word(", the answer ")?;
+    pen.counted(view.samples)?;
+    pen.word(": ")?;
+    plural(pen, more, " sample stands", " samples stand")?;
+    pen.word(" in more than one part, and of these the later part’s counts.")?;
+    pen.close()?;
+    pen.line()
 }
 
 /// The section of times.
-pub(crate) fn time(tree: &mut Tree, view: &View<'_>) -> Result<(), AllocError> {
-    let alloc = tree.alloc();
+pub(crate) fn time(pen: &mut Pen, view: &View<'_>) -> Result<(), AllocError> {
     let rows = view.shown.told.rows.as_slice();
     let mut most = 0;
-    tree.open(
-        Tag::Section,
-        vec![in alloc; Attribute::Word(Key::Id, "time")]?,
-    )?;
-    word(
-        tree,
-        Tag::H2,
-        "Which part has samples of the answer, and when",
-    )?;
+    let title = "Which part has samples of the answer, and when";
+    open_section(pen, "time", title)?;
     match view.axis {
         Some(axis) => {
             most = most_rows(view, axis)?;
-            axis_note(tree, view, axis, most)?;
+            axis_note(pen, view, axis, most)?;
         }
-        None => classed(tree, Tag::P, "note", "The answer has no sample.")?,
+        None => classed(pen, Tag::P, "note", "The answer has no sample.")?,
     }
-    begin(tree, Tag::Table, "time")?;
-    heads(tree, view)?;
-    plain(tree, Tag::TableBody)?;
-    tree.line()?;
-    part_rows(tree, view, most)?;
-    open_row(tree, "sum")?;
-    tree.word("answer")?;
-    tree.close()?;
-    cells(tree, view, rows, view.intervals, most)?;
-    tree.close()?;
-    tree.close()?;
-    twice(tree, view)?;
-    tree.close()?;
-    tree.line()
+    pen.begin(Tag::Table, "time")?;
+    heads(pen, view)?;
+    pen.plain(Tag::TableBody)?;
+    pen.line()?;
+    part_rows(pen, view, most)?;
+    open_row(pen, "sum")?;
+    pen.word("answer")?;
+    pen.close()?;
+    cells(pen, view, rows, view.intervals, most)?;
+    pen.close()?;
+    pen.close()?;
+    twice(pen, view)?;
+    pen.close()?;
+    pen.line()
 }

@@ -1,11 +1,12 @@
 //! Times: in milliseconds as the reply has them, and before it in UTC.
 
-use crate::words::{begin, classed};
-use page_text::{Tag, Tree};
+use crate::pen::Pen;
+use crate::words::classed;
+use page_text::Tag;
 use std::alloc::AllocError;
 
 /// A day and a time of it, in UTC.
-#[derive(Clone, Copy, Debug, PartialEq, Eq, Drop)]
+#[derive(Clone, Copy)]
 pub(crate) struct Civil {
     year: u64,
     month: u64,
@@ -55,117 +56,116 @@ pub(crate) fn civil_of(t: i64) -> Option<Civil> {
     })
 }
 
-fn two(tree: &mut Tree, n: u64) -> Result<(), AllocError> {
+fn two(pen: &mut Pen, n: u64) -> Result<(), AllocError> {
     if n < 10 {
-        tree.word("0")?;
+        pen.word("0")?;
     }
-    tree.number(n)
+    pen.number(n)
 }
 
-fn three(tree: &mut Tree, n: u64) -> Result<(), AllocError> {
+fn three(pen: &mut Pen, n: u64) -> Result<(), AllocError> {
     if n < 100 {
-        tree.word("0")?;
+        pen.word("0")?;
     }
-    two(tree, n)
+    two(pen, n)
 }
 
-fn hour_and_minute(tree: &mut Tree, second: u64) -> Result<(), AllocError> {
-    two(tree, second / 3600)?;
-    tree.word(":")?;
-    two(tree, second / 60 % 60)
+fn hour_and_minute(pen: &mut Pen, second: u64) -> Result<(), AllocError> {
+    two(pen, second / 3600)?;
+    pen.word(":")?;
+    two(pen, second / 60 % 60)
 }
 
-fn month_and_day(tree: &mut Tree, at: Civil) -> Result<(), AllocError> {
-    two(tree, at.month)?;
-    tree.word("-")?;
-    two(tree, at.day)
+fn month_and_day(pen: &mut Pen, at: Civil) -> Result<(), AllocError> {
+    two(pen, at.month)?;
+    pen.word("-")?;
+    two(pen, at.day)
 }
 
-fn utc(tree: &mut Tree, at: Civil) -> Result<(), AllocError> {
-    tree.number(at.year)?;
-    tree.word("-")?;
-    month_and_day(tree, at)?;
-    tree.word(" ")?;
-    hour_and_minute(tree, at.second)?;
-    tree.word(":")?;
-    two(tree, at.second % 60)?;
+fn utc(pen: &mut Pen, at: Civil) -> Result<(), AllocError> {
+    pen.number(at.year)?;
+    pen.word("-")?;
+    month_and_day(pen, at)?;
+    pen.word(" ")?;
+    hour_and_minute(pen, at.second)?;
+    pen.word(":")?;
+    two(pen, at.second % 60)?;
     if at.millisecond > 0 {
-        tree.word(".")?;
-        three(tree, at.millisecond)?;
+        pen.word(".")?;
+        three(pen, at.millisecond)?;
     }
     Ok(())
 }
 
 /// A time, for people first if it is one of theirs.
-pub(crate) fn when(tree: &mut Tree, t: i64) -> Result<(), AllocError> {
-    begin(tree, Tag::B, "t")?;
+pub(crate) fn when(pen: &mut Pen, t: i64) -> Result<(), AllocError> {
+    pen.begin(Tag::B, "t")?;
     let Some(at) = civil_of(t) else {
-        tree.integer(t)?;
-        return tree.close();
+        pen.integer(t)?;
+        return pen.close();
     };
-    utc(tree, at)?;
-    tree.close()?;
-    tree.word(" ")?;
-    begin(tree, Tag::Span, "ms")?;
-    tree.integer(t)?;
-    tree.close()
+    utc(pen, at)?;
+    pen.close()?;
+    pen.word(" ")?;
+    pen.begin(Tag::Span, "ms")?;
+    pen.integer(t)?;
+    pen.close()
 }
 
 /// A time at a tick of an axis whose ticks are so many milliseconds apart.
-pub(crate) fn tick(tree: &mut Tree, t: i64, step: u64) -> Result<(), AllocError> {
+pub(crate) fn tick(pen: &mut Pen, t: i64, step: u64) -> Result<(), AllocError> {
     let Some(at) = civil_of(t) else {
-        return tree.integer(t);
+        return pen.integer(t);
     };
     if step >= 86_400_000 {
-        return month_and_day(tree, at);
+        return month_and_day(pen, at);
     }
-    hour_and_minute(tree, at.second)?;
+    hour_and_minute(pen, at.second)?;
     if step >= 60_000 {
         return Ok(());
     }
-    tree.word(":")?;
-    two(tree, at.second % 60)
+    pen.word(":")?;
+    two(pen, at.second % 60)
 }
 
 /// The first and the last of some times.
-pub(crate) fn ends(tree: &mut Tree, from: i64, to: i64) -> Result<(), AllocError> {
-    when(tree, from)?;
+pub(crate) fn ends(pen: &mut Pen, from: i64, to: i64) -> Result<(), AllocError> {
+    when(pen, from)?;
     if from < to {
-        let alloc = tree.alloc();
-        tree.leaf(Tag::Break, Vec::new(alloc))?;
-        when(tree, to)?;
+        pen.empty(Tag::Break)?;
+        when(pen, to)?;
     }
     Ok(())
 }
 
 /// The times of a query.
-pub(crate) fn range(tree: &mut Tree, from: i64, to: i64) -> Result<(), AllocError> {
+pub(crate) fn range(pen: &mut Pen, from: i64, to: i64) -> Result<(), AllocError> {
     let (first, last) = (from == labels::MIN_TIME, to == labels::MAX_TIME);
-    begin(tree, Tag::P, "range")?;
+    pen.begin(Tag::P, "range")?;
     if first && last {
-        tree.word("all times")?;
+        pen.word("all times")?;
     } else {
-        tree.word("from ")?;
+        pen.word("from ")?;
         if first {
-            tree.word("the beginning")?;
+            pen.word("the beginning")?;
         } else {
-            when(tree, from)?;
+            when(pen, from)?;
         }
-        tree.word(" to ")?;
+        pen.word(" to ")?;
         if last {
-            tree.word("the end")?;
+            pen.word("the end")?;
         } else {
-            when(tree, to)?;
+            when(pen, to)?;
         }
     }
     let utc = civil_of(from).is_some() || civil_of(to).is_some();
-    tree.word(" ")?;
+    pen.word(" ")?;
     let unit = if utc {
         "(milliseconds, both ends included, UTC)"
     } else {
         "(milliseconds, both ends included)"
     };
-    classed(tree, Tag::Span, "mute", unit)?;
-    tree.close()?;
-    tree.line()
+    classed(pen, Tag::Span, "mute", unit)?;
+    pen.close()?;
+    pen.line()
 }

@@ -1,10 +1,12 @@
 //! Verdicts: their classes, chips and words.
 
-use crate::words::{begin, name, plain, quoted};
+use crate::pen::Pen;
+use crate::shapes::open_small;
+use crate::words::{left_box, name, quoted};
 use cover::Verdict;
 use labels::LabelSet;
 use matchers::{Matcher, Op};
-use page_text::{Attribute, Key, Tag, Tree};
+use page_text::{Attribute, Key, Tag};
 use std::alloc::AllocError;
 
 /// The slot of a match.
@@ -67,99 +69,93 @@ pub(crate) fn row_class(slot: usize) -> Attribute {
 }
 
 /// The letter of a slot.
-pub(crate) fn letter(tree: &mut Tree, slot: usize) -> Result<(), AllocError> {
+pub(crate) fn letter(pen: &mut Pen, slot: usize) -> Result<(), AllocError> {
     match slot {
-        MATCH => tree.word("✓"),
-        NONE => tree.word("∅"),
-        UNKNOWN => tree.word("?"),
-        _ => tree.number(slot.saturating_sub(1) as u64),
+        MATCH => pen.word("✓"),
+        NONE => pen.word("∅"),
+        UNKNOWN => pen.word("?"),
+        _ => pen.number(slot.saturating_sub(1) as u64),
     }
 }
 
 /// A box with the fill and the letter of a slot.
-pub(crate) fn chip(tree: &mut Tree, slot: usize) -> Result<(), AllocError> {
-    let alloc = tree.alloc();
-    let attributes = vec![in alloc;
-        Attribute::Word(Key::Class, "chip"),
-        Attribute::Number(Key::Width, 22),
-        Attribute::Number(Key::Height, 18),
-        Attribute::Word(Key::AriaHidden, "true"),
-    ]?;
-    tree.open(Tag::Svg, attributes)?;
-    let filled = vec![in alloc;
+pub(crate) fn chip(pen: &mut Pen, slot: usize) -> Result<(), AllocError> {
+    open_small(pen, "chip", 22, 18)?;
+    let filled = vec![in pen.alloc();
         plain_fill(slot),
         Attribute::Number(Key::Width, 22),
         Attribute::Number(Key::Height, 18),
         Attribute::Number(Key::Rx, 2),
     ]?;
-    tree.leaf(Tag::Rect, filled)?;
-    let lettered = vec![in alloc;
+    pen.leaf(Tag::Rect, filled)?;
+    let lettered = vec![in pen.alloc();
         letter_class(slot),
         Attribute::Number(Key::X, 11),
         Attribute::Word(Key::Y, "13.5"),
         Attribute::Word(Key::TextAnchor, "middle"),
     ]?;
-    tree.open(Tag::Text, lettered)?;
-    letter(tree, slot)?;
-    tree.close()?;
-    tree.close()
+    pen.open(Tag::Text, lettered)?;
+    letter(pen, slot)?;
+    pen.close()?;
+    pen.close()
 }
 
 /// What a slot says, in a few words.
-pub(crate) fn said(tree: &mut Tree, slot: usize) -> Result<(), AllocError> {
+pub(crate) fn said(pen: &mut Pen, slot: usize) -> Result<(), AllocError> {
     match slot {
-        MATCH => tree.word("match"),
-        NONE => tree.word("no sample in the range"),
-        UNKNOWN => tree.word("rejected by a matcher that is not there"),
+        MATCH => pen.word("match"),
+        NONE => pen.word("no sample in the range"),
+        UNKNOWN => pen.word("rejected by a matcher that is not there"),
         _ => {
-            tree.word("rejected by ")?;
-            tree.number(slot.saturating_sub(1) as u64)
+            pen.word("rejected by ")?;
+            pen.number(slot.saturating_sub(1) as u64)
         }
     }
 }
 
 /// The name of a slot.
-pub(crate) fn slot_name(tree: &mut Tree, slot: usize) -> Result<(), AllocError> {
+pub(crate) fn slot_name(pen: &mut Pen, slot: usize) -> Result<(), AllocError> {
     match slot {
-        MATCH => tree.word("match"),
-        NONE => tree.word("none"),
-        UNKNOWN => tree.word("no such matcher"),
+        MATCH => pen.word("match"),
+        NONE => pen.word("none"),
+        UNKNOWN => pen.word("no such matcher"),
         _ => {
-            tree.word("matcher ")?;
-            tree.number(slot.saturating_sub(1) as u64)
+            pen.word("matcher ")?;
+            pen.number(slot.saturating_sub(1) as u64)
         }
     }
 }
 
-/// A matcher, as selectors write it.
-pub(crate) fn matcher(tree: &mut Tree, matcher: &Matcher) -> Result<(), AllocError> {
-    plain(tree, Tag::Code)?;
-    name(tree, matcher.name())?;
-    tree.word(match matcher.op() {
+/// An operator, as selectors write it.
+pub(crate) fn op_text(op: Op) -> &'static str {
+    match op {
         Op::Equal => "=",
         Op::NotEqual => "!=",
         Op::Like => "=~",
         Op::NotLike => "!~",
-    })?;
-    quoted(tree, matcher.text())?;
-    tree.close()
+    }
+}
+
+/// A matcher, as selectors write it.
+pub(crate) fn matcher(pen: &mut Pen, matcher: &Matcher) -> Result<(), AllocError> {
+    pen.plain(Tag::Code)?;
+    name(pen, matcher.name())?;
+    pen.word(op_text(matcher.op()))?;
+    quoted(pen, matcher.text())?;
+    pen.close()
 }
 
 /// Why the series of an interval are no rows, or the row.
-pub(crate) fn why(
-    tree: &mut Tree,
-    verdict: Verdict,
-    matchers: &[Matcher],
-) -> Result<(), AllocError> {
+pub(crate) fn why(pen: &mut Pen, verdict: Verdict, matchers: &[Matcher]) -> Result<(), AllocError> {
     match verdict {
-        Verdict::Match => tree.word("is a row of the answer"),
-        Verdict::NoSample => tree.word("no sample in the range"),
+        Verdict::Match => pen.word("is a row of the answer"),
+        Verdict::NoSample => pen.word("no sample in the range"),
         Verdict::Rejected(at) => match matchers.get(at) {
             Some(failed) => {
-                tree.word("fails ")?;
-                matcher(tree, failed)
+                pen.word("fails ")?;
+                matcher(pen, failed)
             }
-            None => tree.word("no such matcher"),
+            None => pen.word("no such matcher"),
         },
     }
 }
@@ -186,20 +182,20 @@ fn is_plain_name(text: &str) -> bool {
     true
 }
 
-fn pair(tree: &mut Tree, label: &str, value: &str, last: bool) -> Result<(), AllocError> {
-    begin(tree, Tag::Span, "lb")?;
-    name(tree, label)?;
-    tree.word("=")?;
-    begin(tree, Tag::Span, "v")?;
-    quoted(tree, value)?;
-    tree.close()?;
+fn pair(pen: &mut Pen, label: &str, value: &str, last: bool) -> Result<(), AllocError> {
+    pen.begin(Tag::Span, "lb")?;
+    name(pen, label)?;
+    pen.word("=")?;
+    pen.begin(Tag::Span, "v")?;
+    quoted(pen, value)?;
+    pen.close()?;
     if !last {
-        tree.word(",")?;
+        pen.word(",")?;
     }
-    tree.close()
+    pen.close()
 }
 
-fn pairs(tree: &mut Tree, labels: &LabelSet, named: bool) -> Result<(), AllocError> {
+fn pairs(pen: &mut Pen, labels: &LabelSet, named: bool) -> Result<(), AllocError> {
     let all = if named {
         labels.len().saturating_sub(1)
     } else {
@@ -207,34 +203,33 @@ fn pairs(tree: &mut Tree, labels: &LabelSet, named: bool) -> Result<(), AllocErr
     };
     let most = all.min(MOST_LABELS);
     let mut shown = 0usize;
-    tree.word("{")?;
+    pen.word("{")?;
     for at in 0..labels.len() {
         let (label, value) = labels.pair(at);
         if shown < most && !(named && label == "__name__") {
             if shown > 0 {
-                let alloc = tree.alloc();
-                tree.leaf(Tag::Wbr, Vec::new(alloc))?;
+                pen.empty(Tag::Wbr)?;
             }
             shown += 1;
-            pair(tree, label, value, shown == most)?;
+            pair(pen, label, value, shown == most)?;
         }
     }
-    crate::words::left_box(tree, all.saturating_sub(most) as u64, " label", " labels")?;
-    tree.word("}")
+    left_box(pen, all.saturating_sub(most) as u64, " label", " labels")?;
+    pen.word("}")
 }
 
 /// A series, as selectors write it.
-pub(crate) fn series(tree: &mut Tree, labels: &LabelSet) -> Result<(), AllocError> {
+pub(crate) fn series(pen: &mut Pen, labels: &LabelSet) -> Result<(), AllocError> {
     let metric = labels.value("__name__");
     let named = is_plain_name(metric);
-    begin(tree, Tag::Code, "lbs")?;
+    pen.begin(Tag::Code, "lbs")?;
     if named {
-        plain(tree, Tag::B)?;
-        name(tree, metric)?;
-        tree.close()?;
+        pen.plain(Tag::B)?;
+        name(pen, metric)?;
+        pen.close()?;
     }
     if !named || labels.len() > 1 {
-        pairs(tree, labels, named)?;
+        pairs(pen, labels, named)?;
     }
-    tree.close()
+    pen.close()
 }

@@ -1,100 +1,71 @@
 //! Short ways to grow a tree.
 
-ghost use Rattle.std.specs.Prelude.{◌≡◌, ◌++◌, ◌∷◌, [], codes, OnOk};
-ghost use Rattle.page_text.specs.Growing.{printed, open_tags};
-ghost use Rattle.page_text.specs.Printing.{head_text};
-ghost use Rattle.page.specs.Cells.{class_front, number_text, counted_text};
-
-use page_text::{Attribute, Key, Tag, Tree, is_invisible};
+use crate::pen::Pen;
+use page_text::{Attribute, Key, Tag, is_invisible};
 use std::alloc::{AllocError, Global};
 
-/// Begins an element with no attribute.
-pub(crate) fn plain(tree: &mut Tree, tag: Tag) -> Result<(), AllocError>
-    ensures printed { OnOk result (printed tree.new ≡ printed tree.old
-        ++ head_text tag [] (codes ">")) }
-    ensures inside { OnOk result (open_tags tree.new ≡ tag ∷ open_tags tree.old) }
-{
-    let alloc = tree.alloc();
-    tree.open(tag, Vec::new(alloc))
-}
-
-/// Begins an element of a class.
-#[tactic(auto, unfolding(crate::specs::Cells::class_front, page_text::specs::Printing::head_text, page_text::specs::Printing::attribute_text, page_text::specs::Printing::open_attribute))]
-pub(crate) fn begin(tree: &mut Tree, tag: Tag, class: &'static str) -> Result<(), AllocError>
-    ensures printed { OnOk result
-        (printed tree.new ≡ printed tree.old ++ class_front tag class.now) }
-    ensures inside { OnOk result (open_tags tree.new ≡ tag ∷ open_tags tree.old) }
-{
-    let alloc = tree.alloc();
-    tree.open(tag, vec![in alloc; Attribute::Word(Key::Class, class)]?)
-}
-
 /// An element with no attribute that holds a constant.
-pub(crate) fn word(tree: &mut Tree, tag: Tag, text: &'static str) -> Result<(), AllocError> {
-    plain(tree, tag)?;
-    tree.word(text)?;
-    tree.close()
+pub(crate) fn word(pen: &mut Pen, tag: Tag, text: &'static str) -> Result<(), AllocError> {
+    pen.plain(tag)?;
+    pen.word(text)?;
+    pen.close()
 }
 
 /// An element of a class that holds a constant.
 pub(crate) fn classed(
-    tree: &mut Tree,
+    pen: &mut Pen,
     tag: Tag,
     class: &'static str,
     text: &'static str,
 ) -> Result<(), AllocError> {
-    begin(tree, tag, class)?;
-    tree.word(text)?;
-    tree.close()
+    pen.begin(tag, class)?;
+    pen.word(text)?;
+    pen.close()
 }
 
-/// The cell of a table that holds a number with commas.
-#[tactic(auto, unfolding(crate::specs::Cells::counted_text))]
-pub(crate) fn counted_cell(tree: &mut Tree, n: u64) -> Result<(), AllocError>
-    ensures printed { OnOk result (printed tree.new ≡ printed tree.old ++ counted_text n) }
-    ensures inside { OnOk result (open_tags tree.new ≡ open_tags tree.old) }
-{
-    begin(tree, Tag::Td, "n")?;
-    tree.counted(n)?;
-    tree.close()
+/// Begins a section with a title.
+pub(crate) fn open_section(
+    pen: &mut Pen,
+    id: &'static str,
+    title: &'static str,
+) -> Result<(), AllocError> {
+    pen.open_with(Tag::Section, Attribute::Word(Key::Id, id))?;
+    word(pen, Tag::H2, title)
 }
 
-/// The cell of a table that holds a number of the reply.
-#[tactic(auto, unfolding(crate::specs::Cells::number_text))]
-pub(crate) fn number_cell(tree: &mut Tree, n: u64) -> Result<(), AllocError>
-    ensures printed { OnOk result (printed tree.new ≡ printed tree.old ++ number_text n) }
-    ensures inside { OnOk result (open_tags tree.new ≡ open_tags tree.old) }
-{
-    begin(tree, Tag::Td, "n")?;
-    tree.number(n)?;
-    tree.close()
+/// Begins the head of a column or of a row (`scope`), of a class.
+pub(crate) fn open_head(
+    pen: &mut Pen,
+    scope: &'static str,
+    class: &'static str,
+) -> Result<(), AllocError> {
+    let attributes = vec![in pen.alloc();
+        Attribute::Word(Key::Scope, scope),
+        Attribute::Word(Key::Class, class),
+    ]?;
+    pen.open(Tag::Th, attributes)
 }
 
 /// The head of a column.
 pub(crate) fn head_cell(
-    tree: &mut Tree,
+    pen: &mut Pen,
     class: &'static str,
     text: &'static str,
 ) -> Result<(), AllocError> {
-    let alloc = tree.alloc();
-    let attributes = vec![in alloc;
-        Attribute::Word(Key::Scope, "col"),
-        Attribute::Word(Key::Class, class),
-    ]?;
-    tree.open(Tag::Th, attributes)?;
-    tree.word(text)?;
-    tree.close()
+    open_head(pen, "col", class)?;
+    pen.word(text)?;
+    pen.close()
 }
 
 /// A number of things, with the word for one and for more.
 pub(crate) fn plural(
-    tree: &mut Tree,
+    pen: &mut Pen,
     n: u64,
     one: &'static str,
     many: &'static str,
 ) -> Result<(), AllocError> {
-    tree.counted(n)?;
-    tree.word(if n == 1 { one } else { many })
+    pen.counted(n)?;
+    pen.word(if n == 1 { one } else { many })
 }
 
 /// What is shown of a text from outside, and how many characters are left out.
@@ -156,7 +127,7 @@ fn cut_of(alloc: Global, text: &str, escaped: bool) -> Result<Cut, AllocError> {
 
 /// Tells how many of something are left out, in a box.
 pub(crate) fn left_box(
-    tree: &mut Tree,
+    pen: &mut Pen,
     left: u64,
     one: &'static str,
     many: &'static str,
@@ -164,33 +135,33 @@ pub(crate) fn left_box(
     if left == 0 {
         return Ok(());
     }
-    begin(tree, Tag::I, "u")?;
-    tree.word("+")?;
-    plural(tree, left, one, many)?;
-    tree.close()
+    pen.begin(Tag::I, "u")?;
+    pen.word("+")?;
+    plural(pen, left, one, many)?;
+    pen.close()
 }
 
 /// A name from outside.
-pub(crate) fn name(tree: &mut Tree, text: &str) -> Result<(), AllocError> {
-    let Cut { chars, left, .. } = cut_of(tree.alloc(), text, false)?;
-    tree.text(chars)?;
-    left_box(tree, left, " character", " characters")
+pub(crate) fn name(pen: &mut Pen, text: &str) -> Result<(), AllocError> {
+    let Cut { chars, left, .. } = cut_of(pen.alloc(), text, false)?;
+    pen.text(chars)?;
+    left_box(pen, left, " character", " characters")
 }
 
 /// A value from outside in quotes, as selectors write it.
-pub(crate) fn quoted(tree: &mut Tree, text: &str) -> Result<(), AllocError> {
-    let Cut { chars, left, .. } = cut_of(tree.alloc(), text, true)?;
-    tree.word("\"")?;
-    plain(tree, Tag::Bdi)?;
-    tree.text(chars)?;
-    tree.close()?;
-    tree.word("\"")?;
-    left_box(tree, left, " character", " characters")
+pub(crate) fn quoted(pen: &mut Pen, text: &str) -> Result<(), AllocError> {
+    let Cut { chars, left, .. } = cut_of(pen.alloc(), text, true)?;
+    pen.word("\"")?;
+    pen.plain(Tag::Bdi)?;
+    pen.text(chars)?;
+    pen.close()?;
+    pen.word("\"")?;
+    left_box(pen, left, " character", " characters")
 }
 
 /// The first characters of a text from outside, and how many more there are.
-pub(crate) fn long_text(tree: &mut Tree, text: &str, most: u64) -> Result<(), AllocError> {
-    let mut chars = Vec::new(tree.alloc());
+pub(crate) fn long_text(pen: &mut Pen, text: &str, most: u64) -> Result<(), AllocError> {
+    let mut chars = Vec::new(pen.alloc());
     let (mut shown, mut left) = (0u64, 0u64);
     for c in text.chars() {
         if shown < most {
@@ -200,6 +171,6 @@ pub(crate) fn long_text(tree: &mut Tree, text: &str, most: u64) -> Result<(), Al
             left = left.saturating_add(1);
         }
     }
-    tree.text(chars)?;
-    left_box(tree, left, " character", " characters")
+    pen.text(chars)?;
+    left_box(pen, left, " character", " characters")
 }

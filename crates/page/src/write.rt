@@ -13,14 +13,14 @@ use crate::header::{details, heading, summary};
 use crate::help::help;
 use crate::key::key;
 use crate::parts::certificates;
+use crate::pen::Pen;
 use crate::rows::rows;
 use crate::shown::{Shown, View, axis_of, samples_in};
 use crate::terminal::terminal;
 use crate::time::time;
-use crate::words::plain;
 use page_claims::{Claim, find_claim};
 use page_style::{append_back, append_front};
-use page_text::{Piece, Tag, Tree, print, print_plain};
+use page_text::{Piece, Tag, print, print_plain};
 use std::alloc::{AllocError, Global};
 
 /// What all sections need.
@@ -60,18 +60,18 @@ fn asked_of(alloc: Global, shown: &Shown<'_>) -> Result<Option<Asked>, AllocErro
 fn heading_of(alloc: Global, view: &View<'_>) -> Result<Vec<Piece>, AllocError>
     ensures { IfOk result (λ pieces. IsContent pieces.items) }
 {
-    let mut tree = Tree::new(alloc);
-    heading(&mut tree, view)?;
-    tree.finish()
+    let mut pen = Pen::new(alloc);
+    heading(&mut pen, view)?;
+    pen.finish()
 }
 
 /// What stands with the claim.
 fn details_of(alloc: Global, view: &View<'_>) -> Result<Vec<Piece>, AllocError>
     ensures { IfOk result (λ pieces. IsContent pieces.items) }
 {
-    let mut tree = Tree::new(alloc);
-    details(&mut tree, view)?;
-    tree.finish()
+    let mut pen = Pen::new(alloc);
+    details(&mut pen, view)?;
+    pen.finish()
 }
 
 /// What stands below the claim.
@@ -82,16 +82,16 @@ fn sections_of(
 ) -> Result<Vec<Piece>, AllocError>
     ensures { IfOk result (λ pieces. IsContent pieces.items) }
 {
-    let mut tree = Tree::new(alloc);
-    summary(&mut tree, view, asked)?;
-    plain(&mut tree, Tag::Main)?;
-    tree.line()?;
-    key(&mut tree, view)?;
-    certificates(&mut tree, view)?;
-    time(&mut tree, view)?;
-    rows(&mut tree, view)?;
-    help(&mut tree, view)?;
-    tree.finish()
+    let mut pen = Pen::new(alloc);
+    summary(&mut pen, view, asked)?;
+    pen.plain(Tag::Main)?;
+    pen.line()?;
+    key(&mut pen, view)?;
+    certificates(&mut pen, view)?;
+    time(&mut pen, view)?;
+    rows(&mut pen, view)?;
+    help(&mut pen, view)?;
+    pen.finish()
 }
 
 /// A page: what it claims; what it says of the label set that somebody asks about; and its bytes.
@@ -158,9 +158,10 @@ fn bytes_of(
 /// question, reply, tables and lines.
 ///
 /// It claims that no series is missing exactly if each part passes the checks that need no series,
-/// the rows are the merged rows of the parts, and no line of the auditor names a flaw. It takes time
-/// in proportion to the reply, and memory for at most 4,000,000 pieces above the claim, with it and
-/// below it: however many intervals, rows and samples there are, only so many are drawn.
+/// the rows are the merged rows of the parts, and no line of the auditor names a flaw. It takes
+/// time in proportion to the reply, and a sort's for the merge; and memory for at most 4,000,000
+/// pieces each above the claim, with it and below it: however many intervals, rows and samples
+/// there are, only so many are drawn.
 pub fn write_page(alloc: Global, shown: &Shown<'_>) -> Result<Page, AllocError>
     ensures { IfOk result (λ page. IsPageOf shown.now page) }
 {
@@ -191,9 +192,9 @@ pub fn write_page(alloc: Global, shown: &Shown<'_>) -> Result<Page, AllocError>
 fn lines_of(alloc: Global, view: &View<'_>, asked: Option<&Asked>) -> Result<Vec<Piece>, AllocError>
     ensures { IfOk result (λ pieces. IsContent pieces.items) }
 {
-    let mut tree = Tree::new(alloc);
-    terminal(&mut tree, view, asked)?;
-    tree.finish()
+    let mut pen = Pen::new(alloc);
+    terminal(&mut pen, view, asked)?;
+    pen.finish()
 }
 
 /// The claim, and the texts and numbers of the lines.
