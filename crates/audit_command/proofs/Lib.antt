@@ -3,3 +3,4 @@ pub mod FirstUnread
 pub mod WholeFiles
 pub mod Directories
 pub mod Endings
+pub mod Reading

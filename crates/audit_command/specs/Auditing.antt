@@ -90,6 +90,16 @@ IsInputFault (Refused refusal) = ⊥
 IsInputFault (CannotRead path) = ⊥
 IsInputFault CannotWrite = ⊥
 
+-- why no reply is read of a text: it is none, or memory failed
+abbrev pub IsTextFault : List ℕ → Fault → Type 0
+IsTextFault text BadReply = text_said text ≡ None
+IsTextFault text Memory = Unit {0}
+IsTextFault text CannotReadInput = ⊥
+IsTextFault text (Words error) = ⊥
+IsTextFault text (Refused refusal) = ⊥
+IsTextFault text (CannotRead path) = ⊥
+IsTextFault text CannotWrite = ⊥
+
 -- why no reply is read
 abbrev pub IsReplyFault : Option (List ℕ) → Fault → Type 0
 IsReplyFault input BadReply = HoldsNoReply input

@@ -2,7 +2,7 @@
 use Rattle.std.specs.Prelude.{◌≡◌, ◌⊎◌, ℕ, List, Option, Result, Ok, Err, IsOk, OnOk, IfSome}
 use Rattle.std.specs.Prelude.{string_bytes}
 use Rattle.std.specs.Io.KnownBytes.{Appends, Keeps}
-use Rattle.clap.specs.Words.{IsAmong, Text, fault_of, kind_of}
+use Rattle.clap.specs.Words.{App, IsAmong, Text, fault_of, kind_of}
 use Rattle.clap.specs.declared.error.kind.ErrorKind.TheVariants.{DisplayHelp, DisplayVersion}
 use Rattle.audit_command.specs.Asking.{AreTaken, IsAskedBy, auditor_app}
 use Rattle.audit_command.specs.Auditing.{IsReport, IsAuditFault}
@@ -49,20 +49,24 @@ pub data IsEnd (reads : Host) (input : Option (List ℕ)) (words : List Text)
       → IsEnd reads input words old new end
   by_memory : end ≡ Err fault.Memory → Keeps old new → IsEnd reads input words old new end
 
--- the words ask for help or for the version
-abbrev pub AskForText : List Text → Type 0
-AskForText words = IsAmong DisplayHelp (fault_of auditor_app words)
-    ⊎ IsAmong DisplayVersion (fault_of auditor_app words)
+-- the words ask a program for help or for its version
+abbrev pub AskForText : App → List Text → Type 0
+AskForText app words = IsAmong DisplayHelp (fault_of app words)
+    ⊎ IsAmong DisplayVersion (fault_of app words)
 
--- how words that `clap` does not take may end: what they ask for was written, or the writer failed
--- at it; or they are at fault, in a way that `clap` finds in them; or memory failed
+-- by which fault words end that `clap` does not take: the writer failed at the text that they ask
+-- for; or they are at fault, in a way that `clap` finds in them; or memory failed
+abbrev pub IsWordsFault : App → List Text → Fault → Type 0
+IsWordsFault app words fault.CannotWrite = AskForText app words
+IsWordsFault app words (fault.Words error) = IsAmong (kind_of error) (fault_of app words)
+IsWordsFault app words fault.Memory = Unit {0}
+IsWordsFault app words _ = ⊥
+
+-- how words that `clap` does not take may end: the text that they ask for was written; or by a fault
 abbrev pub IsNoAudit : List Text → Result Outcome Fault → Type 0
-IsNoAudit words (Ok Done) = AskForText words
+IsNoAudit words (Ok Done) = AskForText auditor_app words
 IsNoAudit words (Ok Flawed) = ⊥
-IsNoAudit words (Err fault.CannotWrite) = AskForText words
-IsNoAudit words (Err (fault.Words error)) = IsAmong (kind_of error) (fault_of auditor_app words)
-IsNoAudit words (Err fault.Memory) = Unit {0}
-IsNoAudit words (Err _) = ⊥
+IsNoAudit words (Err end) = IsWordsFault auditor_app words end
 
 -- the exit status of an end
 abbrev pub status_at : Result Outcome Fault → ℕ

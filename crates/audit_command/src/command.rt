@@ -29,12 +29,10 @@ const FROM: &str =
 const TO: &str = "The last time, in milliseconds [default: 2^62 - 1]";
 
 const LINES: &str =
-    r#"Example: querier select 'up{job="a"}' data/0001 | auditor --selector 'up{job="a"}' data/0001
-
-The reply is read from standard input. The directories are its blocks, "block 0", "block 1" and
-so on, in the order given; of each the files index, chunks/000001 and tombstones are read, and the
-lists of the index are not looked at. For each part of the reply one line is printed, then one for
-each directory that no part names, and last that of the rows of all:
+    r#"The reply is read from standard input. The directories are its blocks, "block 0", "block 1"
+and so on, in the order given; of each the files index, chunks/000001 and tombstones are read, and
+the lists of the index are not looked at. For each part of the reply one line is printed, then one
+for each directory that no part names, and last that of the rows of all:
   block 0: valid         the rows are those that the query selects, and the certificate shows it
   block 0: F5 at 1       the first flaw of what is said of the part: F1 to F8
   block 0: skipped       the part was skipped, and the query selects nothing of it
@@ -47,7 +45,12 @@ docs/AUDITING.md of the project explains each flaw.
 
 Exit status: 0 nothing is wrong; 1 a line names a flaw or a refusal, or the selector or the range is
 refused; 2 a fault of the words; 3 a file or standard input cannot be read, or it holds no reply, or
-the lines cannot be written; 4 no memory"#;
+the lines cannot be written; 4 no memory
+
+Example: querier select 'up{job="a"}' data/0001 | auditor --selector 'up{job="a"}' data/0001"#;
+
+/// What `--version` tells behind the name.
+const VERSION: &str = "0.1.0 (rattle-kit-13f)";
 
 /// The option `--selector S`, which must stand there.
 fn selector<'a>(alloc: Global) -> Arg<'a>
@@ -104,7 +107,7 @@ fn auditor<'a>(alloc: Global) -> Result<Command<'a>, AllocError>
         .bin_name("auditor")?
         .about("Audits a reply to a selector, without the store's index reader, search or merge")
         .after_help(LINES)
-        .version("0.1.0")
+        .version(VERSION)
         .no_binary_name(true);
     Ok(command)
 }

@@ -1,7 +1,8 @@
 //! The reply on standard input.
 
-ghost use Rattle.std.specs.Prelude.{◌≡◌, IfOk, IfErr, IfSome};
-ghost use Rattle.audit_command.specs.Auditing.{IsInputFault, IsReplyIn, IsReplyFault};
+ghost use Rattle.std.specs.Prelude.{◌≡◌, Some, IfOk, IfErr, IfSome};
+ghost use Rattle.auditor.specs.Replies.{text_said, told_of};
+ghost use Rattle.audit_command.specs.Auditing.{IsInputFault, IsTextFault, IsReplyIn, IsReplyFault};
 
 use crate::fault::Fault;
 use auditor::{Reply, ReplyError};
@@ -21,15 +22,23 @@ pub fn all_of<R: Read>(alloc: Global, input: &mut R) -> Result<Vec<u8>, Fault>
     }
 }
 
+/// The reply that a text says.
+pub fn reply_of(alloc: Global, text: &[u8]) -> Result<Reply, Fault>
+    ensures ok { IfOk result (λ reply. text_said text.now ≡ Some (told_of reply)) }
+    ensures err { IfErr result (λ fault. IsTextFault text.now fault) }
+{
+    match Reply::read(alloc, text) {
+        Ok(reply) => Ok(reply),
+        Err(ReplyError::BadReply) => Err(Fault::BadReply),
+        Err(ReplyError::Memory) => Err(Fault::Memory),
+    }
+}
+
 /// The reply that a reader gives, which is read to its end.
 pub fn reply_in<R: Read>(alloc: Global, input: &mut R) -> Result<Reply, Fault>
     ensures ok { IfOk result (λ reply. IsReplyIn (R.remaining input.old) reply) }
     ensures err { IfErr result (λ fault. IsReplyFault (R.remaining input.old) fault) }
 {
     let text = all_of(alloc, input)?;
-    match Reply::read(alloc, text.as_slice()) {
-        Ok(reply) => Ok(reply),
-        Err(ReplyError::BadReply) => Err(Fault::BadReply),
-        Err(ReplyError::Memory) => Err(Fault::Memory),
-    }
+    reply_of(alloc, text.as_slice())
 }

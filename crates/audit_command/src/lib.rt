@@ -18,8 +18,9 @@
 //! assert_eq!(rt; out.as_slice(), b"rows: valid\n".as_slice());
 //! ```
 //!
-//! Programs that ask the same of a reply take their words, their query and the blocks from here:
-//! [`with_arguments`] and [`asked_in`], [`query_of`], [`all_of`] and [`tables_at`].
+//! Programs that ask the same of a reply take their words, their query, the reply and the blocks
+//! from here: [`with_arguments`] and [`asked_in`], [`query_of`], [`all_of`] and [`reply_of`],
+//! [`tables_at`]; and they end alike, by [`send`] and an [`Ending`].
 //!
 //! It stands on `auditor`, on `labels` and `matchers` for times and queries, and on `clap` for
 //! words.
@@ -36,7 +37,7 @@ mod tables;
 pub use command::{Asked, asked_in, with_arguments};
 pub use fault::{Fault, Refusal};
 pub use files::{ReadError, ReadFiles};
-pub use input::all_of;
-pub use program::{Ending, run};
+pub use input::{all_of, reply_of};
+pub use program::{Ending, run, send};
 pub use report::query_of;
 pub use tables::tables_at;

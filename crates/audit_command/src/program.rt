@@ -15,7 +15,7 @@ use std::alloc::Global;
 use std::io::{self, Read, Write};
 
 /// Writes a text whole and passes it on.
-fn send<W: Write>(out: &mut W, text: &[u8]) -> io::Result<()>
+pub fn send<W: Write>(out: &mut W, text: &[u8]) -> io::Result<()>
     ensures { OnOk result (Appends (W.contents out.old) (W.contents out.new) text.now) }
 {
     out.write_all(text)?;
@@ -63,12 +63,12 @@ fn execute<F: ReadFiles, R: Read, W: Write>(
     }
 }
 
-/// How the program ends.
+/// How a program ends.
 #[derive(Debug, Drop)]
 pub struct Ending {
     /// The exit status.
     pub status: u8,
-    /// Whether the fault was told, where there is one: an error is the second writer's.
+    /// Whether the fault was told, if there is one: an error is the second writer's.
     pub told: io::Result<()>,
 }
 

@@ -1,20 +1,19 @@
 -- How the program ends.
-use Rattle.std.specs.Prelude.{◌≡◌, ◌⊎◌, ℕ, Bool, true, false, List, Option, Result, Ok, Err, IsOk}
+use Rattle.std.specs.Prelude.{◌≡◌, ℕ, Bool, true, false, List, Option, Result, Ok, Err, IsOk}
 use Rattle.std.specs.Prelude.{OnOk, IfSome}
 use Rattle.std.specs.Io.KnownBytes.{Appends, Keeps}
-use Rattle.clap.specs.Words.{IsAmong, Text, fault_of, kind_of}
-use Rattle.clap.specs.declared.error.kind.ErrorKind.TheVariants.{DisplayHelp, DisplayVersion}
+use Rattle.clap.specs.Words.{Text}
 use Rattle.page.specs.declared.write.Page.{Page}
 use Rattle.audit_command.specs.Reading.{Host}
 use Rattle.audit_command.specs.Running as audits
 use Rattle.audit_command.specs.declared.fault.Fault.TheVariants as faults
+use Rattle.audit_command.specs.declared.program.Ending.{Ending}
 use Rattle.explain_command.specs.Asking.{AreTaken, IsAskedBy, explain_app}
 use Rattle.explain_command.specs.Faults.{status_of, line_of}
 use Rattle.explain_command.specs.Showing.{IsAnswer, IsAnswerFault}
 use Rattle.explain_command.specs.declared.command.Asked.{Asked}
 use Rattle.explain_command.specs.declared.fault.Fault.{Fault}
 use Rattle.explain_command.specs.declared.fault.Fault.TheVariants.{Audit, NoSeries}
-use Rattle.explain_command.specs.declared.program.Ending.{Ending}
 
 -- the page was written, and nothing else; it claims that no series is missing, or it does not
 pub record IsWritten (reads : Host) (input : Option (List ℕ)) (asked : Asked)
@@ -44,21 +43,12 @@ pub data IsEnd (reads : Host) (input : Option (List ℕ)) (words : List Text)
       → IsEnd reads input words old new end
   by_memory : end ≡ Err (Audit faults.Memory) → Keeps old new → IsEnd reads input words old new end
 
--- the words ask for help or for the version
-abbrev pub AskForText : List Text → Type 0
-AskForText words = IsAmong DisplayHelp (fault_of explain_app words)
-    ⊎ IsAmong DisplayVersion (fault_of explain_app words)
-
--- how words that `clap` does not take may end: what they ask for was written, or the writer failed
--- at it; or they are at fault, in a way that `clap` finds in them; or memory failed
+-- how words that `clap` does not take may end: the text that they ask for was written; or by a fault
 abbrev pub IsNoPage : List Text → Result Bool Fault → Type 0
-IsNoPage words (Ok true) = AskForText words
+IsNoPage words (Ok true) = audits.AskForText explain_app words
 IsNoPage words (Ok false) = ⊥
-IsNoPage words (Err (Audit faults.CannotWrite)) = AskForText words
-IsNoPage words (Err (Audit (faults.Words error))) =
-    IsAmong (kind_of error) (fault_of explain_app words)
-IsNoPage words (Err (Audit faults.Memory)) = Unit {0}
-IsNoPage words (Err _) = ⊥
+IsNoPage words (Err (Audit fault)) = audits.IsWordsFault explain_app words fault
+IsNoPage words (Err NoSeries) = ⊥
 
 -- the exit status of an end
 abbrev pub status_at : Result Bool Fault → ℕ

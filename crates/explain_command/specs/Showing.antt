@@ -21,7 +21,6 @@ use Rattle.audit_command.specs.Auditing.{IsReplyFault, IsWritingFault}
 use Rattle.audit_command.specs.Reading.{Host}
 use Rattle.audit_command.specs.Walking.{AreTablesAt, IsFirstFault}
 use Rattle.audit_command.specs.declared.fault.Fault.{Fault as AuditFault}
-use Rattle.audit_command.specs.declared.fault.Fault.TheVariants as faults
 use Rattle.explain_command.specs.Series.{IsSeries, IsSeriesFault}
 use Rattle.explain_command.specs.declared.answer.Found.{Found}
 use Rattle.explain_command.specs.declared.command.Asked.{Asked}
@@ -51,12 +50,10 @@ IsAboutTextFault (Some text) fault = IsSeriesFault text fault
 abbrev pub IsAboutFault : Asked → Fault → Type 0
 IsAboutFault asked fault = IsAboutTextFault (about_text asked) fault
 
--- why no reply is read of a text: it is none, or memory failed
-abbrev pub IsTextFault : List ℕ → Fault → Type 0
-IsTextFault text (Audit faults.BadReply) = text_said text ≡ None
-IsTextFault text (Audit faults.Memory) = Unit {0}
-IsTextFault text (Audit _) = ⊥
-IsTextFault text NoSeries = ⊥
+-- a fault of the audit's own
+abbrev pub IsAuditFault : (AuditFault → Type 0) → Fault → Type 0
+IsAuditFault cause (Audit fault) = cause fault
+IsAuditFault cause NoSeries = ⊥
 
 -- the answers and the rows of the reply that the text says
 pub record IsToldIn (text : List ℕ) (told : Told) : Type 0 where
@@ -116,11 +113,6 @@ pub record IsAnswer (reads : Host) (input : Option (List ℕ)) (asked : Asked) (
   pub has_read : HasRead reads input asked found
   pub page_of_found : IsPageOfFound asked found page
 
--- a fault of the audit's own
-abbrev pub IsAuditFault : (AuditFault → Type 0) → Fault → Type 0
-IsAuditFault cause (Audit fault) = cause fault
-IsAuditFault cause NoSeries = ⊥
-
 -- the query is accepted, and so is the series that somebody asks about
 pub record IsTaken (asked : Asked) : Type 0 where
   pub query : IsAllowed asked.audit
@@ -134,9 +126,9 @@ pub record HoldsReply (input : Option (List ℕ)) : Type 0 where
   pub told : Told
   pub is_told : IsToldIn text told
 
--- Why no page is written: by the query; by the series that is asked about, if the query is accepted;
--- by the reply, if both are; by the directories, if there is a reply too; or by the writer, if there
--- is a page.
+-- Why no page is written: by the query; by the series that is asked about, if the query is
+-- accepted; by the reply, if both are; by the directories, if there is a reply too; or by the
+-- writer, if there is a page.
 pub data IsAnswerFault (reads : Host) (input : Option (List ℕ)) (asked : Asked)
     (fault : Fault) : Type 0 where
   by_query : IsAuditFault (IsSelectionFault asked.audit) fault

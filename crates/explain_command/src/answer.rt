@@ -1,16 +1,16 @@
 //! The page of a reply.
 
-ghost use Rattle.std.specs.Prelude.{◌≡◌, Some, IfOk, IfErr};
-ghost use Rattle.auditor.specs.Replies.{text_said, told_of};
-ghost use Rattle.explain_command.specs.Showing.{IsAbout, IsAboutFault, IsTextFault, IsToldIn};
+ghost use Rattle.std.specs.Prelude.{IfOk, IfErr};
+ghost use Rattle.audit_command.specs.Auditing.{IsTextFault};
+ghost use Rattle.explain_command.specs.Showing.{IsAbout, IsAboutFault, IsAuditFault, IsToldIn};
 ghost use Rattle.explain_command.specs.Showing.{AreLinesOf, IsShownAs, HasRead, IsPageOfFound};
 ghost use Rattle.explain_command.specs.Showing.{Shows, IsAnswer, IsAnswerFault};
 
 use crate::command::Asked;
 use crate::fault::Fault;
 use crate::series::series_of;
-use audit_command::{Fault as AuditFault, ReadFiles, all_of, query_of, tables_at};
-use auditor::{BlockTable, Line, Reply, ReplyError, judge};
+use audit_command::{ReadFiles, all_of, query_of, reply_of, tables_at};
+use auditor::{BlockTable, Line, judge};
 use labels::LabelSet;
 use matchers::Query;
 use page::{Page, Shown, write_page, write_text};
@@ -30,21 +30,10 @@ fn about_of(alloc: Global, asked: &Asked<'_>) -> Result<Option<LabelSet>, Fault>
     }
 }
 
-fn reply_of(alloc: Global, text: &[u8]) -> Result<Reply, Fault>
-    ensures ok { IfOk result (λ reply. text_said text.now ≡ Some (told_of reply)) }
-    ensures err { IfErr result (λ fault. IsTextFault text.now fault) }
-{
-    match Reply::read(alloc, text) {
-        Ok(reply) => Ok(reply),
-        Err(ReplyError::BadReply) => Err(Fault::Audit(AuditFault::BadReply)),
-        Err(ReplyError::Memory) => Err(Fault::Audit(AuditFault::Memory)),
-    }
-}
-
 /// The reply that a text says, taken apart.
 fn told_in(alloc: Global, text: &[u8]) -> Result<Told, Fault>
     ensures ok { IfOk result (λ told. IsToldIn text.now told) }
-    ensures err { IfErr result (λ fault. IsTextFault text.now fault) }
+    ensures err { IfErr result (λ fault. IsAuditFault (IsTextFault text.now) fault) }
 {
     let reply = reply_of(alloc, text)?;
     Ok(Told::of(alloc, reply)?)
@@ -58,7 +47,7 @@ fn lines_of(
     text: &[u8],
 ) -> Result<Vec<Line>, Fault>
     ensures ok { IfOk result (λ lines. AreLinesOf tables.now query.now text.now lines.items) }
-    ensures err { IfErr result (λ fault. IsTextFault text.now fault) }
+    ensures err { IfErr result (λ fault. IsAuditFault (IsTextFault text.now) fault) }
 {
     if tables.is_empty() {
         return Ok(Vec::new(alloc));

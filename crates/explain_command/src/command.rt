@@ -24,12 +24,10 @@ pub struct Asked<'a> {
 }
 
 const LINES: &str =
-    r#"Example: querier select up data/0001 | explain --selector up data/0001 >answer.html
-
-The reply is read from standard input, and the page is written to standard output: one file of HTML
-without a script, which fetches nothing; the same bytes for the same input. With directories the
-reply is judged first, as auditor does: they are its blocks, "block 0", "block 1" and so on, in the
-order given. The page then carries each judgement, and names series that each interval rejects.
+    r#"The reply is read from standard input, and the page is written to standard output: one file
+of HTML without a script, which fetches nothing; the same bytes for the same input. With directories
+the reply is judged first, as auditor does: they are its blocks, "block 0", "block 1" and so on, in
+the order given. The page then carries each judgement, and names series that each interval rejects.
 
 --about 'up{job="b"}' has the page say why that series is in the answer, or not. It is written as a
 selector is, with = alone. --text writes the claim, the key, a strip of letters for each part and
@@ -37,7 +35,12 @@ that sentence.
 
 Exit status: 0 the page says that no series is missing; 1 it does not, or the selector, the range or
 the series is refused; 2 a fault of the words; 3 a file or standard input cannot be read, or it
-holds no reply, or the page cannot be written; 4 no memory"#;
+holds no reply, or the page cannot be written; 4 no memory
+
+Example: querier select up data/0001 | explain --selector up data/0001 >answer.html"#;
+
+/// What `--version` tells behind the name.
+const VERSION: &str = "0.1.0 (rattle-kit-13f)";
 
 /// The option `--about SERIES`.
 fn about<'a>(alloc: Global) -> Arg<'a>
@@ -69,7 +72,7 @@ fn explain<'a>(alloc: Global) -> Result<Command<'a>, AllocError>
         .bin_name("explain")?
         .about("Shows an audited answer as a page")
         .after_help(LINES)
-        .version("0.1.0")
+        .version(VERSION)
         .no_binary_name(true);
     Ok(command)
 }

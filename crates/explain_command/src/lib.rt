@@ -25,4 +25,5 @@ mod fault;
 mod program;
 mod series;
 
-pub use program::{Ending, run};
+pub use audit_command::Ending;
+pub use program::run;

@@ -1,7 +1,7 @@
 //! What the program does.
 
-ghost use Rattle.std.specs.Prelude.{◌≡◌, ◌≤◌, OnOk};
-ghost use Rattle.std.specs.Io.KnownBytes.{Appends, Keeps};
+ghost use Rattle.std.specs.Prelude.{◌≡◌, ◌≤◌};
+ghost use Rattle.std.specs.Io.KnownBytes.{Keeps};
 ghost use Rattle.audit_command.specs.Asking.{texts_of};
 ghost use Rattle.explain_command.specs.Asking.{AreTaken};
 ghost use Rattle.explain_command.specs.Running.{IsPageEnd, IsEnd, IsNoPage, IsTold, HasEnded};
@@ -10,18 +10,10 @@ ghost use Rattle.explain_command.specs.Running.{status_at};
 use crate::answer::answer;
 use crate::command::{Asked, read_words};
 use crate::fault::Fault;
-use audit_command::{Fault as AuditFault, ReadFiles};
+use audit_command::{Ending, Fault as AuditFault, ReadFiles, send};
 use clap::error::ErrorKind;
 use std::alloc::Global;
 use std::io::{self, Read, Write};
-
-/// Writes a text whole and passes it on.
-fn send<W: Write>(out: &mut W, text: &[u8]) -> io::Result<()>
-    ensures { OnOk result (Appends (W.contents out.old) (W.contents out.new) text.now) }
-{
-    out.write_all(text)?;
-    out.flush()
-}
 
 /// Writes the page of the reply that a reader gives, and says whether it claims that no series is
 /// missing.
@@ -63,15 +55,6 @@ fn execute<F: ReadFiles, R: Read, W: Write>(
             _ => Err(Fault::Audit(AuditFault::Words(error))),
         },
     }
-}
-
-/// How the program ends.
-#[derive(Debug, Drop)]
-pub struct Ending {
-    /// The exit status.
-    pub status: u8,
-    /// Whether the fault was told, if there is one: an error is the second writer's.
-    pub told: io::Result<()>,
 }
 
 /// The exit status of an end.

@@ -1,6 +1,7 @@
 use Rattle.std.proofs.lemmas.Result.{err_from_is_err_and}
 use Rattle.explain_command.specs.Showing.{by_query, by_series, by_reply, by_directories}
-use Rattle.explain_command.proofs.Reading.{unread, no_reply}
+use Rattle.audit_command.proofs.Reading.{unread}
+use Rattle.explain_command.proofs.Reading.{no_reply}
 use Rattle.explain_command.proofs.answer.read_all.Goals as goal
 
 pub returns-in_err-query-clause-err : goal.returns-in_err-query-clause-err
