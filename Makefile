@@ -71,6 +71,10 @@ package: ## builds a Debian package of the programs, man pages, completions, doc
 pages: ## compares the help texts, the man pages and the documents, and runs the examples of the man pages
 	@RT="$(RT)" tests/pages
 
+.PHONY: progress
+progress: ## looks at what querier tells a terminal of the directories that it reads (needs python3)
+	@RT="$(RT)" tests/progress
+
 .PHONY: pages-html
 pages-html: ## has the program `explain` show replies of any kind, and checks the pages (needs python3)
 	@RT="$(RT)" tests/pages-html

@@ -25,7 +25,7 @@ pub fn told_by<
 >(rt: &Q, alloc: Global, files: &Directories, words: &[String]) -> Told {
     let mut out = Vec::new(alloc);
     let mut err = Vec::new(alloc);
-    let ending = run(rt, alloc, files, words, &mut out, &mut err);
+    let ending = run(rt, alloc, files, words, &mut out, &mut err, false);
     Told {
         status: ending.status,
         out,

@@ -23,7 +23,7 @@ pub fn ending_of<
     for word in words {
         given.push(String::from_str(alloc, word).ok()?).ok()?;
     }
-    Some(run(rt, alloc, files, given.as_slice(), out, err))
+    Some(run(rt, alloc, files, given.as_slice(), out, err, false))
 }
 
 /// What a run gives: how it ends, and what it writes to both writers.

@@ -1,14 +1,15 @@
 -- What the getters of `clap` say of the line that the words ask for.
-use Rattle.std.proofs.Common.{◌≡◌, ◌<◌, ◌^◌, ℕ, ℤ, true, false, List, [], Option, Some, None, refl, sym, ap, ap₂, subst, ◌∙◌, inl, inr, codes}
+use Rattle.std.proofs.Common.{◌≡◌, ◌<◌, ◌^◌, ℕ, ℤ, true, false, List, Option, Some, None, refl, sym, ap, ap₂, subst, ◌∙◌, inl, inr, codes}
 use Rattle.std.specs.Prelude.{option_map, unwrap_or, is_some, FitsSigned, Bool, not, ◌&&◌}
 use Rattle.std.specs.Int.{w64}
 use Rattle.std.specs.Str.Parse.{IsNumeral, without_leading_sign, signed_digits_value, without_leading_plus, digits_value}
-use Rattle.clap.specs.Words.{Row, Text, one_of, one_text, all_of, rows_of, subcommand_name_of, subcommand_rows_of}
+use Rattle.clap.specs.Words.{Row, Text, one_of, one_text, rows_of, subcommand_name_of, subcommand_rows_of}
 use Rattle.clap.specs.declared.parser.matches.ArgMatches.{ArgMatches}
 use Rattle.clap.specs.declared.parser.matches.Found.{Found}
 use Rattle.clap.proofs.WalkLemmas.{one_text-rows}
 use Rattle.commands.specs.Lines.{IsTimeIn, IsDemo, IsSelect, IsCheck, IsSelectionIn, IsLineIn}
-use Rattle.commands.specs.ServingLines.{IsCountIn, IsFlagIn, IsServe, IsServingIn}
+use Rattle.commands.specs.ServingLines.{IsCountIn, IsFlagIn, IsServe, IsServingIn, IsReadingIn}
+use Rattle.commands.specs.declared.command.Reading.{Reading}
 use Rattle.commands.specs.declared.command.Line.{Line}
 use Rattle.commands.specs.declared.command.Line.TheVariants.{Demo, Select, Check, Serve}
 use Rattle.commands.specs.declared.command.Serving.{Serving}
@@ -124,12 +125,11 @@ demo_found (Some p) e =
 
 -- and so with its arguments
 pub select_found : (o : Option (Text × List Row)) (rows : List Row) (text : List ℕ) (from to : ℤ)
-    (directories : List Text) → option_map (λ p. p.0) o ≡ Some (codes "select")
+    (reading : Reading) → option_map (λ p. p.0) o ≡ Some (codes "select")
     → option_map (λ p. p.1) o ≡ Some rows → IsSelectionIn rows text from to
-    → directories ≡ unwrap_or (all_of (codes "directories") rows) []
-    → IsSelect o text from to directories
-select_found None rows text from to directories e f selection given = cc
-select_found (Some p) rows text from to directories e f selection given = record {
+    → IsReadingIn rows reading → IsSelect o text from to reading
+select_found None rows text from to reading e f selection given = cc
+select_found (Some p) rows text from to reading e f selection given = record {
   rows = rows;
   is =
       ap₂ (λ (n : Option Text) (r : Option (List Row)). Some (unwrap_or n p.0, unwrap_or r p.1)) e
@@ -139,12 +139,12 @@ select_found (Some p) rows text from to directories e f selection given = record
 }
 
 -- and so with the directories of `check`
-pub check_found : (o : Option (Text × List Row)) (rows : List Row) (directories : List Text)
+pub check_found : (o : Option (Text × List Row)) (rows : List Row) (reading : Reading)
     → option_map (λ p. p.0) o ≡ Some (codes "check")
     → option_map (λ p. p.1) o ≡ Some rows
-    → directories ≡ unwrap_or (all_of (codes "directories") rows) [] → IsCheck o directories
-check_found None rows directories e f given = cc
-check_found (Some p) rows directories e f given = record {
+    → IsReadingIn rows reading → IsCheck o reading
+check_found None rows reading e f given = cc
+check_found (Some p) rows reading e f given = record {
   rows = rows;
   is =
       ap₂ (λ (n : Option Text) (r : Option (List Row)). Some (unwrap_or n p.0, unwrap_or r p.1)) e
@@ -154,11 +154,11 @@ check_found (Some p) rows directories e f given = record {
 
 -- and so with what `serve` is to serve
 pub serve_found : (o : Option (Text × List Row)) (rows : List Row) (serving : Serving)
-    (directories : List Text) → option_map (λ p. p.0) o ≡ Some (codes "serve")
+    (reading : Reading) → option_map (λ p. p.0) o ≡ Some (codes "serve")
     → option_map (λ p. p.1) o ≡ Some rows → IsServingIn rows serving
-    → directories ≡ unwrap_or (all_of (codes "directories") rows) [] → IsServe o serving directories
-serve_found None rows serving directories e f served given = cc
-serve_found (Some p) rows serving directories e f served given = record {
+    → IsReadingIn rows reading → IsServe o serving reading
+serve_found None rows serving reading e f served given = cc
+serve_found (Some p) rows serving reading e f served given = record {
   rows = rows;
   is =
       ap₂ (λ (n : Option Text) (r : Option (List Row)). Some (unwrap_or n p.0, unwrap_or r p.1)) e

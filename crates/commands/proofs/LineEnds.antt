@@ -1,11 +1,11 @@
 -- How a line ends says how the words end.
 use Rattle.std.proofs.Common.{◌≡◌, ℕ, List, [], Option, None, Some, Result, Ok, Err, refl, inl, inr}
-use Rattle.std.specs.Prelude.{◌⊎◌, map}
+use Rattle.std.specs.Prelude.{◌⊎◌}
 use Rattle.std.specs.Io.KnownBytes.{Keeps}
 use Rattle.clap.specs.Words.{Text}
 use Rattle.commands.specs.Checking.{IsBegun}
 use Rattle.commands.specs.Lines.{IsLineOf}
-use Rattle.commands.specs.Reading.{Host}
+use Rattle.commands.specs.Reading.{Host, paths_of}
 use Rattle.commands.specs.DemoAnswer.{by_writing}
 use Rattle.commands.specs.Selecting.{KeepsAt, by_selection}
 use Rattle.commands.specs.ServingRuns.{by_directories}
@@ -47,9 +47,9 @@ none_begun reads directories old = record {
 memory_fault : (reads : Host) (line : Line) (old : Option (List ℕ))
     → IsLineFault reads line old old fault.Memory
 memory_fault reads Demo old = (by_writing tt, keeps_itself old)
-memory_fault reads (Select s texts) old = (by_selection tt, keeps_itself old)
-memory_fault reads (Check texts) old = none_begun reads (map (λ text. text.now) texts.items) old
-memory_fault reads (Serve serving texts) old = by_directories tt (keeps_itself old)
+memory_fault reads (Select s r) old = (by_selection tt, keeps_itself old)
+memory_fault reads (Check r) old = none_begun reads (paths_of r.directories.items) old
+memory_fault reads (Serve serving r) old = by_directories tt (keeps_itself old)
 
 -- a line may end by want of memory before it begins
 pub end_without_memory : (reads : Host) (words : List Text) (old : Option (List ℕ)) → IsTaken words
@@ -67,16 +67,16 @@ end_of_line reads words line old new end is ends = record { line = line; is = is
 pub kept_at_end : (reads : Host) (words : List Text) (line : Line) (old new : Option (List ℕ))
     (end : Result Outcome Fault) → IsLineOf words line
     → IsLineEnd reads line old new end → IsEarlyLine words ⊎ KeepsAtEnd old new end
-kept_at_end reads words (Check texts) old new end is ends =
-    inl (record { line = Check texts; is = is; tells = tt })
-kept_at_end reads words (Serve serving texts) old new end is ends =
-    inl (record { line = Serve serving texts; is = is; tells = tt })
+kept_at_end reads words (Check r) old new end is ends =
+    inl (record { line = Check r; is = is; tells = tt })
+kept_at_end reads words (Serve serving r) old new end is ends =
+    inl (record { line = Serve serving r; is = is; tells = tt })
 kept_at_end reads words Demo old new (Ok Done) is ends = inr tt
 kept_at_end reads words Demo old new (Ok Refused) is ends = absurd ends
 kept_at_end reads words Demo old new (Err fault) is ends = inr ends.1
-kept_at_end reads words (Select s texts) old new (Ok Done) is ends = inr tt
-kept_at_end reads words (Select s texts) old new (Ok Refused) is ends = absurd ends
-kept_at_end reads words (Select s texts) old new (Err fault) is ends = inr ends.1
+kept_at_end reads words (Select s r) old new (Ok Done) is ends = inr tt
+kept_at_end reads words (Select s r) old new (Ok Refused) is ends = absurd ends
+kept_at_end reads words (Select s r) old new (Err fault) is ends = inr ends.1
 
 -- what is written at an end, by its exit status
 pub written_at_status : (words : List Text) (old new : Option (List ℕ))

@@ -7,10 +7,11 @@ use Rattle.std.specs.Str.Parse.{IsNumeral, without_leading_sign, signed_digits_v
 use Rattle.labels.specs.declared.sample.TheConstants.{MIN_TIME, MAX_TIME}
 use Rattle.clap.specs.Lexer.{usize_max}
 use Rattle.clap.specs.Words.{App, Row, Rule, Text, new_app, new_rule, with_rule, with_subcommand}
-use Rattle.clap.specs.Words.{first_of, one_of, all_of, subcommand_of, takes, fault_of}
+use Rattle.clap.specs.Words.{first_of, one_of, subcommand_of, takes, fault_of}
 use Rattle.clap.specs.declared.builder.value_parser.ValueParser.TheVariants.{Signed}
 use Rattle.commands.specs.OptionRules.{directories_rule}
-use Rattle.commands.specs.ServingLines.{serve_app, IsServe}
+use Rattle.commands.specs.ServingLines.{flag_rule, serve_app, IsReadingIn, IsServe}
+use Rattle.commands.specs.declared.command.Reading.{Reading}
 use Rattle.commands.specs.declared.command.Line.{Line}
 use Rattle.commands.specs.declared.command.Line.TheVariants.{Demo, Select, Check, Serve}
 
@@ -30,11 +31,12 @@ time_rule name = record (new_rule name) {
 abbrev pub selector_rule : Rule
 selector_rule = record (new_rule (codes "selector")) { value_names = 1; required = true }
 
--- select [--from N] [--to N] SELECTOR [DIR]...
+-- select [--from N] [--to N] [--quiet] SELECTOR [DIR]...
 abbrev pub select_app : App
 select_app =
-    with_rule (with_rule (with_rule (with_rule (new_app (codes "select"))
-    (time_rule (codes "from"))) (time_rule (codes "to"))) selector_rule) directories_rule
+    with_rule (with_rule (with_rule (with_rule (with_rule (new_app (codes "select"))
+    (time_rule (codes "from"))) (time_rule (codes "to"))) (flag_rule (codes "quiet")))
+    selector_rule) directories_rule
 
 -- the directories of `check`, one or more
 abbrev pub blocks_rule : Rule
@@ -44,9 +46,10 @@ blocks_rule = record (new_rule (codes "directories")) {
   range = Some (record { start_inclusive = 1; end_inclusive = usize_max });
 }
 
--- check DIR...
+-- check [--quiet] DIR...
 abbrev pub check_app : App
-check_app = with_rule (new_app (codes "check")) blocks_rule
+check_app =
+    with_rule (with_rule (new_app (codes "check")) (flag_rule (codes "quiet"))) blocks_rule
 
 -- the program, with `demo`, `check`, `select` and `serve`
 abbrev pub querier_app : App
@@ -81,27 +84,26 @@ pub record IsDemo (found : Option (Text × List Row)) : Type 0 where
   pub rows : List Row
   pub is : found ≡ Some (codes "demo", rows)
 
--- `select` was found, with this selection and these directories
+-- `select` was found, with this selection and this reading
 pub record IsSelect (found : Option (Text × List Row)) (text : List ℕ) (from to : ℤ)
-    (directories : List Text) : Type 0 where
+    (reading : Reading) : Type 0 where
   pub rows : List Row
   pub is : found ≡ Some (codes "select", rows)
   pub selection : IsSelectionIn rows text from to
-  pub given : directories ≡ unwrap_or (all_of (codes "directories") rows) []
+  pub given : IsReadingIn rows reading
 
--- `check` was found, with these directories
-pub record IsCheck (found : Option (Text × List Row)) (directories : List Text) : Type 0 where
+-- `check` was found, with this reading
+pub record IsCheck (found : Option (Text × List Row)) (reading : Reading) : Type 0 where
   pub rows : List Row
   pub is : found ≡ Some (codes "check", rows)
-  pub given : directories ≡ unwrap_or (all_of (codes "directories") rows) []
+  pub given : IsReadingIn rows reading
 
 -- what a found subcommand asks for
 abbrev pub IsLineIn : Option (Text × List Row) → Line → Type 0
 IsLineIn found Demo = IsDemo found
-IsLineIn found (Select s texts) =
-    IsSelect found s.selector.now s.from s.to (map (λ text. text.now) texts.items)
-IsLineIn found (Check texts) = IsCheck found (map (λ text. text.now) texts.items)
-IsLineIn found (Serve serving texts) = IsServe found serving (map (λ text. text.now) texts.items)
+IsLineIn found (Select s reading) = IsSelect found s.selector.now s.from s.to reading
+IsLineIn found (Check reading) = IsCheck found reading
+IsLineIn found (Serve serving reading) = IsServe found serving reading
 
 -- the line that a found subcommand asks for, or that it asks for none
 abbrev pub IsFoundLine : Option (Text × List Row) → Option Line → Type 0

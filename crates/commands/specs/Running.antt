@@ -30,21 +30,21 @@ pub record IsTaken (words : List Text) : Type 0 where
 abbrev pub IsDone : Host → Line → Option (List ℕ) → Option (List ℕ) → Outcome → Type 0
 IsDone reads Demo old new Done =
     WritesAnswerAfter demo_events (demo_query (pos 0) (pos 100)) old new
-IsDone reads (Select s texts) old new Done = WritesSelection reads (paths_of texts.items) s old new
-IsDone reads (Check texts) old new outcome = IsChecked reads (paths_of texts.items) old new outcome
-IsDone reads (Serve serving texts) old new Done =
-    IsListening reads serving (paths_of texts.items) old new
+IsDone reads (Select s r) old new Done = WritesSelection reads (paths_of r.directories.items) s old new
+IsDone reads (Check r) old new outcome = IsChecked reads (paths_of r.directories.items) old new outcome
+IsDone reads (Serve serving r) old new Done =
+    IsListening reads serving (paths_of r.directories.items) old new
 IsDone reads line old new other = ⊥
 
 -- why a line ends before it is done, and what was written by then
 abbrev pub IsLineFault : Host → Line → Option (List ℕ) → Option (List ℕ) → Fault → Type 0
 IsLineFault reads Demo old new fault = IsDemoFault fault × KeepsAt fault old new
-IsLineFault reads (Select s texts) old new fault =
-    IsSelectFault reads (paths_of texts.items) s fault × KeepsAt fault old new
-IsLineFault reads (Check texts) old new fault =
-    IsCheckFault reads (paths_of texts.items) old new fault
-IsLineFault reads (Serve serving texts) old new fault =
-    IsServeFault reads (paths_of texts.items) serving old new fault
+IsLineFault reads (Select s r) old new fault =
+    IsSelectFault reads (paths_of r.directories.items) s fault × KeepsAt fault old new
+IsLineFault reads (Check r) old new fault =
+    IsCheckFault reads (paths_of r.directories.items) old new fault
+IsLineFault reads (Serve serving r) old new fault =
+    IsServeFault reads (paths_of r.directories.items) serving old new fault
 
 -- how a line ends
 abbrev pub IsLineEnd : Host → Line → Option (List ℕ) → Option (List ℕ)
@@ -115,8 +115,8 @@ pub record HasEnded (reads : Host) (words : List Text)
 
 -- the line is one of `check` or `serve`
 abbrev pub TellsEarly : Line → Type 0
-TellsEarly (Check texts) = Unit {0}
-TellsEarly (Serve serving texts) = Unit {0}
+TellsEarly (Check r) = Unit {0}
+TellsEarly (Serve serving r) = Unit {0}
 TellsEarly other = ⊥
 
 -- the words are a line of `check` or `serve`, which alone may write before they end otherwise than

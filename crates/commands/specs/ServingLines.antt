@@ -1,12 +1,13 @@
 -- The command line of `serve`.
 use Rattle.std.specs.Prelude.{◌≡◌, ◌⊎◌, ℕ, ◌<◌, ◌^◌, List, [], Option, None, Some, true, codes}
-use Rattle.std.specs.Prelude.{Bool, false, option_map, unwrap_or}
+use Rattle.std.specs.Prelude.{Bool, false, map, option_map, unwrap_or}
 use Rattle.std.specs.Str.Parse.{IsNumeral, without_leading_plus, digits_value}
 use Rattle.clap.specs.Words.{App, Row, Rule, Text, new_app, new_rule, with_rule, one_of}
 use Rattle.clap.specs.Words.{first_of, all_of}
 use Rattle.clap.specs.declared.builder.action.ArgAction.TheVariants.{SetTrue}
 use Rattle.clap.specs.declared.builder.value_parser.ValueParser.TheVariants.{Unsigned}
 use Rattle.commands.specs.OptionRules.{directories_rule}
+use Rattle.commands.specs.declared.command.Reading.{Reading}
 use Rattle.commands.specs.declared.command.Serving.{Serving}
 
 -- an option with a number from one to another
@@ -42,11 +43,11 @@ counts_app =
     (count_rule (codes "idle-seconds") 0 4294967295)
 
 -- serve --port P [--workers W] [--requests N] [--idle-seconds S] [--read-only] [--guard FILE]
--- [DIR]...
+-- [--quiet] [DIR]...
 abbrev pub serve_app : App
 serve_app =
-    with_rule (with_rule (with_rule counts_app (flag_rule (codes "read-only")))
-    (text_rule (codes "guard"))) directories_rule
+    with_rule (with_rule (with_rule (with_rule counts_app (flag_rule (codes "read-only")))
+    (text_rule (codes "guard"))) (flag_rule (codes "quiet"))) directories_rule
 
 -- the text is a number of 64 bits without a sign
 pub record IsCount (text : List ℕ) : Type 0 where
@@ -75,10 +76,16 @@ pub record IsServingIn (rows : List Row) (serving : Serving) : Type 0 where
   pub read_only : IsFlagIn (one_of (codes "read-only") rows) serving.read_only
   pub guard : option_map (λ file. file.now) serving.guard ≡ first_of (codes "guard") rows
 
--- `serve` was found, to be served so, with these directories
+-- the directories that arguments name, and whether they are read quietly
+pub record IsReadingIn (rows : List Row) (reading : Reading) : Type 0 where
+  pub directories : map (λ directory. directory.now) reading.directories.items
+      ≡ unwrap_or (all_of (codes "directories") rows) []
+  pub quiet : IsFlagIn (one_of (codes "quiet") rows) reading.quiet
+
+-- `serve` was found, to be served so, with this reading
 pub record IsServe (found : Option (Text × List Row)) (serving : Serving)
-    (directories : List Text) : Type 0 where
+    (reading : Reading) : Type 0 where
   pub rows : List Row
   pub is : found ≡ Some (codes "serve", rows)
   pub asked : IsServingIn rows serving
-  pub given : directories ≡ unwrap_or (all_of (codes "directories") rows) []
+  pub given : IsReadingIn rows reading

@@ -4,7 +4,7 @@ ghost use Rattle.std.specs.Prelude.{◌≡◌, ◌⊎◌, false, [], codes, map,
 ghost use Rattle.std.specs.Prelude.{IfOk, IfErr};
 ghost use Rattle.commands.specs.ServingLines.{count_rule, port_rule, flag_rule, text_rule};
 ghost use Rattle.commands.specs.ServingLines.{counts_app, serve_app, IsCountIn, IsFlagIn};
-ghost use Rattle.commands.specs.ServingLines.{IsServingIn};
+ghost use Rattle.commands.specs.ServingLines.{IsServingIn, IsReadingIn};
 ghost use Rattle.commands.specs.Running.{IsTaken};
 ghost use Rattle.clap.specs.Values.{kind_of};
 ghost use Rattle.clap.specs.Matches.{found_of};
@@ -48,23 +48,33 @@ pub struct Serving<'a> {
     pub guard: Option<&'a str>,
 }
 
+/// What is read, as it was written.
+#[derive(Debug, Drop)]
+pub struct Reading<'a> {
+    pub directories: Vec<&'a str>,
+    /// Whether no terminal is told how far it is read.
+    pub quiet: bool,
+}
+
 /// What the words ask for.
 #[derive(Debug, Drop)]
 pub enum Line<'a> {
     /// The answer to `up{job="a"}` over six series that two batches bring.
     Demo,
     /// The answer to a selection over the blocks in these directories.
-    Select(Selection<'a>, Vec<&'a str>),
+    Select(Selection<'a>, Reading<'a>),
     /// What the blocks in these directories are judged to be.
-    Check(Vec<&'a str>),
+    Check(Reading<'a>),
     /// A server over the blocks in these directories.
-    Serve(Serving<'a>, Vec<&'a str>),
+    Serve(Serving<'a>, Reading<'a>),
 }
 
 const FROM: &str =
     "The first time, in milliseconds; a negative one is written --from=-10 [default: -2^62]";
 
 const TO: &str = "The last time, in milliseconds [default: 2^62 - 1]";
+
+const QUIET: &str = "Does not tell a terminal which directory is read";
 
 const STATUSES: &str =
     "Exit status: 0 done; 1 refused, with the code on standard error, or by `check` in a line of its
@@ -278,6 +288,7 @@ fn select<'a>(alloc: Global) -> Result<Command<'a>, AllocError>
         .after_help(EXAMPLE)
         .arg(time(alloc, "from", FROM))?
         .arg(time(alloc, "to", TO))?
+        .arg(flag(alloc, "quiet", QUIET))?
         .arg(selector(alloc))?
         .arg(directories(alloc))
 }
@@ -288,6 +299,7 @@ fn check<'a>(alloc: Global) -> Result<Command<'a>, AllocError>
     Command::new(alloc, "check")
         .about("Verifies blocks completely: each checksum, each chunk and each list of postings")
         .after_help(CHECKS)
+        .arg(flag(alloc, "quiet", QUIET))?
         .arg(blocks(alloc))
 }
 
@@ -310,6 +322,7 @@ fn serve<'a>(alloc: Global) -> Result<Command<'a>, AllocError>
     counts(alloc)?
         .arg(flag(alloc, "read-only", READ_ONLY))?
         .arg(text(alloc, "guard", "FILE", GUARD))?
+        .arg(flag(alloc, "quiet", QUIET))?
         .arg(directories(alloc))
 }
 
@@ -410,6 +423,15 @@ fn directories_in<'a>(alloc: Global, found: &ArgMatches<'a>) -> Result<Vec<&'a s
     }
 }
 
+fn reading_in<'a>(alloc: Global, found: &ArgMatches<'a>) -> Result<Reading<'a>, AllocError>
+    ensures { IfOk result (λ reading. IsReadingIn (rows_of (found_of found.now)) reading) }
+{
+    Ok(Reading {
+        directories: directories_in(alloc, found)?,
+        quiet: flag_in(found, "quiet"),
+    })
+}
+
 /// What a found subcommand asks for; none where there is none.
 fn line_in<'a>(alloc: Global, found: &ArgMatches<'a>) -> Result<Option<Line<'a>>, AllocError>
     ensures { IfOk result (λ line. IsFoundLine (subcommand_rows_of found.now) line) }
@@ -418,17 +440,17 @@ fn line_in<'a>(alloc: Global, found: &ArgMatches<'a>) -> Result<Option<Line<'a>>
         return Ok(Some(Line::Demo));
     }
     if let Some(arguments) = found.subcommand_matches("check") {
-        return Ok(Some(Line::Check(directories_in(alloc, arguments)?)));
+        return Ok(Some(Line::Check(reading_in(alloc, arguments)?)));
     }
     if let Some(arguments) = found.subcommand_matches("serve") {
-        let directories = directories_in(alloc, arguments)?;
-        return Ok(Some(Line::Serve(serving_in(arguments), directories)));
+        let reading = reading_in(alloc, arguments)?;
+        return Ok(Some(Line::Serve(serving_in(arguments), reading)));
     }
     let Some(arguments) = found.subcommand_matches("select") else {
         return Ok(None);
     };
-    let directories = directories_in(alloc, arguments)?;
-    Ok(Some(Line::Select(selection_in(arguments), directories)))
+    let reading = reading_in(alloc, arguments)?;
+    Ok(Some(Line::Select(selection_in(arguments), reading)))
 }
 
 fn matches_in<'a>(alloc: Global, words: &'a [String]) -> Result<ArgMatches<'a>, Error>

@@ -63,6 +63,9 @@ pub trait ReadFiles: Sync {
     {
         self.read_file(alloc, path, most)
     }
+
+    /// Is told of which directory the files are read next: nothing that is read depends on it.
+    fn begin(&self, _directory: &str) {}
 }
 
 /// The first bytes that a reader gives, at most so many, in a list that is made with this room.
@@ -227,6 +230,7 @@ pub fn read_block<T: Threads + Sync, F: ReadFiles>(
     ensures err { IfErr result (λ fault.
         IsReadingFault (F.may_read files.now) directory.now fault) }
 {
+    files.begin(directory);
     let meta = read_one(alloc, files, directory, FileName::Meta)?;
     let apart = || -> Result<Vec<u8>, Fault>
         requires { IsSync F.row }

@@ -9,7 +9,8 @@
 //! `select`). `check` verifies blocks completely and writes a line for each: `files` says what is
 //! read of a directory, `judgement` what that is judged to be, and `check` which lines are
 //! written. What is refused, and with which status a line ends, is said by `fault` and `run`.
-//! `serve` serves the blocks in directories, under an empty head, to HTTP clients.
+//! `serve` serves the blocks in directories, under an empty head, to HTTP clients. A terminal is
+//! told by `progress` which directory is read.
 //!
 //! ```
 //! let words = [
@@ -18,7 +19,7 @@
 //! ];
 //! let mut out: Vec<u8> = Vec::new(alloc);
 //! let mut err: Vec<u8> = Vec::new(alloc);
-//! let ending = run(&rt, alloc, &rt, &words, &mut out, &mut err);
+//! let ending = run(&rt, alloc, &rt, &words, &mut out, &mut err, false);
 //! assert_eq!(rt; (ending.status, out.len()), (1, 0));
 //! assert_eq!(rt; err.as_slice(), b"refused M6\n".as_slice());
 //! ```
@@ -36,6 +37,7 @@ mod fault;
 mod files;
 mod judgement;
 mod opening;
+mod progress;
 mod rules;
 pub mod run;
 pub mod select;
@@ -44,7 +46,7 @@ pub mod serve;
 mod writing;
 
 pub use check::Outcome;
-pub use command::{Line, Selection, Serving, read_line};
+pub use command::{Line, Reading, Selection, Serving, read_line};
 pub use demo::{demo_answer, first_batch, query, second_batch};
 pub use fault::{Fault, Refusal};
 pub use files::{BlockFiles, FileName, ReadError, ReadFiles, read_block};

@@ -13,6 +13,7 @@ use crate::command::{Line, read_line};
 use crate::demo::demo;
 use crate::fault::Fault;
 use crate::files::ReadFiles;
+use crate::progress::Followed;
 use crate::select::select;
 use crate::serve::serve;
 use clap::error::ErrorKind;
@@ -28,18 +29,32 @@ fn answer_line<
     Q: Wait + Threads + Net<Listener = TcpListener, Stream = TcpStream> + Clock + Eprint + Sync,
     F: ReadFiles,
     W: Write,
->(rt: &Q, alloc: Global, files: &F, line: Line<'_>, out: &mut W) -> Result<Outcome, Fault>
+>(
+    rt: &Q,
+    alloc: Global,
+    files: &F,
+    line: Line<'_>,
+    out: &mut W,
+    is_terminal: bool,
+) -> Result<Outcome, Fault>
     ensures { IsLineEnd (F.may_read files.now) line.entry (W.contents out.old)
         (W.contents out.new) result }
 {
     match line {
         Line::Demo => demo(rt, alloc, out)?,
-        Line::Select(selection, directories) => {
-            select(rt, alloc, files, selection, directories.as_slice(), out)?;
+        Line::Select(selection, reading) => {
+            let followed = Followed::new(rt, files, &reading, is_terminal);
+            let directories = reading.directories.as_slice();
+            select(rt, alloc, &followed, selection, directories, out)?;
         }
-        Line::Check(directories) => return check(rt, alloc, files, directories.as_slice(), out),
-        Line::Serve(serving, directories) => {
-            serve(rt, alloc, files, serving, directories.as_slice(), out)?;
+        Line::Check(reading) => {
+            let followed = Followed::new(rt, files, &reading, is_terminal);
+            return check(rt, alloc, &followed, reading.directories.as_slice(), out);
+        }
+        Line::Serve(serving, reading) => {
+            let followed = Followed::new(rt, files, &reading, is_terminal);
+            let directories = reading.directories.as_slice();
+            serve(rt, alloc, &followed, serving, directories, out)?;
         }
     }
     Ok(Outcome::Done)
@@ -49,7 +64,14 @@ fn execute<
     Q: Wait + Threads + Net<Listener = TcpListener, Stream = TcpStream> + Clock + Eprint + Sync,
     F: ReadFiles,
     W: Write,
->(rt: &Q, alloc: Global, files: &F, words: &[String], out: &mut W) -> Result<Outcome, Fault>
+>(
+    rt: &Q,
+    alloc: Global,
+    files: &F,
+    words: &[String],
+    out: &mut W,
+    is_terminal: bool,
+) -> Result<Outcome, Fault>
     ensures ends { IsTaken (texts_of words.now) → IsEnd (F.may_read files.now) (texts_of words.now)
         (W.contents out.old) (W.contents out.new) result }
     ensures no_line { AreNoCommandLine (texts_of words.now) → IsNoLine result }
@@ -61,7 +83,7 @@ fn execute<
         ⊎ KeepsAtEnd (W.contents out.old) (W.contents out.new) result }
 {
     match read_line(alloc, words) {
-        Ok(line) => answer_line(rt, alloc, files, line, out),
+        Ok(line) => answer_line(rt, alloc, files, line, out, is_terminal),
         Err(error) => match error.kind() {
             ErrorKind::OutOfMemory => Err(Fault::Memory),
             ErrorKind::DisplayHelp | ErrorKind::DisplayVersion => {
@@ -111,13 +133,21 @@ fn tell<E: Write>(end: &Result<Outcome, Fault>, to: &mut E) -> io::Result<()>
 /// read or a port not be listened on, which is named there, the first writer fails, or a server
 /// loses its listener or cannot make a thread; 4 where memory fails. The store of the demo waits
 /// for nobody else's threads; a server waits for clients, and tells what becomes of them on the
-/// host's own standard error.
+/// host's own standard error. If that is a terminal, it is also told there which directory is read.
 pub fn run<
     Q: Wait + Threads + Net<Listener = TcpListener, Stream = TcpStream> + Clock + Eprint + Sync,
     F: ReadFiles,
     W: Write,
     E: Write,
->(rt: &Q, alloc: Global, files: &F, words: &[String], out: &mut W, err: &mut E) -> Ending
+>(
+    rt: &Q,
+    alloc: Global,
+    files: &F,
+    words: &[String],
+    out: &mut W,
+    err: &mut E,
+    is_terminal: bool,
+) -> Ending
     ensures ended { HasEnded (F.may_read files.now) (texts_of words.now) (W.contents out.old)
         (W.contents out.new) (E.contents err.old) (E.contents err.new) result }
     ensures few { result.status ≤ 4 }
@@ -125,7 +155,7 @@ pub fn run<
         ⊎ IsEarlyLine (texts_of words.now) ⊎ Keeps (W.contents out.old) (W.contents out.new) }
     ensures nothing_told { result.status ≡ 0 → Keeps (E.contents err.old) (E.contents err.new) }
 {
-    let end = execute(rt, alloc, files, words, out);
+    let end = execute(rt, alloc, files, words, out, is_terminal);
     let told = tell(&end, err);
     Ending {
         status: status_of(&end),

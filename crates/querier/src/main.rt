@@ -5,7 +5,7 @@
 #![tactic(auto)]
 
 use commands::run::run;
-use std::io;
+use std::io::{self, IsTerminal};
 use std::process::ExitCode;
 
 fn main(rt: HostRuntime) -> io::Result<ExitCode> {
@@ -17,6 +17,8 @@ fn main(rt: HostRuntime) -> io::Result<ExitCode> {
     let (stdout, stderr) = (rt.stdout(), rt.stderr());
     let mut out = io::writer(&stdout);
     let mut err = io::writer(&stderr);
-    let ending = run(&rt, alloc, &rt, words.as_slice(), &mut out, &mut err);
+    let is_terminal = stderr.is_terminal();
+    let words = words.as_slice();
+    let ending = run(&rt, alloc, &rt, words, &mut out, &mut err, is_terminal);
     Ok(ExitCode::from(ending.status))
 }

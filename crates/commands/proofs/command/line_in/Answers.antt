@@ -9,4 +9,4 @@ returns c =
     let found = found_of c.in-Some-subcommand_matches-2.arguments.now in
     select_found (subcommand_rows_of c.args.found.now) (rows_of found) _ _ _ _
     (name_of_rows c.args.found.now ∙ named) c.in-Some-subcommand_matches-2.ensures.rows
-    c.selection_in.ensures c.in_ok-directories-2.ensures
+    c.selection_in.ensures c.in_ok-reading-2.ensures
