@@ -6,14 +6,14 @@ use Rattle.snapshots.specs.declared.error.OpenError.TheVariants as store
 use Rattle.server.specs.declared.error.ServeError.{ServeError}
 use Rattle.server.specs.declared.error.ServeError.TheVariants as late
 use Rattle.commands.specs.Faults.{open_fault, serve_fault}
-use Rattle.commands.specs.ServingRuns.{IsStoreFault, IsLateFault}
+use Rattle.commands.specs.ServingRuns.{IsStoreFault, IsLateFault, passes_of}
 use Rattle.commands.specs.declared.command.Serving.{Serving}
 use Rattle.commands.specs.declared.fault.Fault.{Fault}
 use Rattle.commands.specs.declared.fault.Fault.TheVariants.{CannotListen}
 
 -- a store that is not opened
 pub not_opened : (serving : Serving) (e : OpenError)
-    → (e ≡ store.BadPasses → ¬ IsRoom serving.workers serving.workers) → (e ≡ store.Limit → ⊥)
+    → (e ≡ store.BadPasses → ¬ IsRoom (passes_of serving) serving.workers) → (e ≡ store.Limit → ⊥)
     → IsStoreFault serving (open_fault e)
 not_opened serving store.BadPasses few many = few refl
 not_opened serving store.Limit few many = absurd (many refl)

@@ -36,6 +36,7 @@ mod fault;
 mod files;
 mod judgement;
 mod opening;
+mod process;
 mod rules;
 pub mod run;
 pub mod select;

@@ -103,7 +103,7 @@ pub fn statuses() -> &'static [u64]
 
 /// The numbers of refusals, each in its place of [`Counts::refusals`].
 #[tactic(auto, unfolding(crate::specs::Bounds::refusals))]
-pub(crate) fn refusal_numbers() -> &'static [u64]
+pub fn refusal_numbers() -> &'static [u64]
     ensures { result.now ≡ refusals }
 {
     &[1, 2, 3, 4, 5, 6, 7, 8, 9, 10, 11, 12]

@@ -22,5 +22,5 @@ mod names;
 mod numbers;
 mod rows;
 
-pub use counts::{Counts, PathCounts, State, Times, bounds, place_in, statuses};
+pub use counts::{Counts, PathCounts, State, Times, bounds, place_in, refusal_numbers, statuses};
 pub use families::metrics;

@@ -19,7 +19,7 @@ use Rattle.requests.specs.declared.request.ReadError.TheVariants.{Closed, Fault,
 use Rattle.requests.specs.Admitting.{IsAdmission, admission, refused_by, AdmittedMeans}
 use Rattle.requests.specs.Admitting.{MeansUnder, AnswersUnder, IsBarred, refusal_of}
 use Rattle.requests.specs.Requests.{Meaning}
-use Rattle.requests.specs.Reading.{HeadMeans, Means, AsksWith, AsksAfter}
+use Rattle.requests.specs.Reading.{HeadMeans, Means, Answers, AsksWith, AsksAfter}
 
 -- a head in what has come, under rules, with what follows
 under : (rules : Rules) (come x y : List ℕ) (h : RequestHead) (rest : List ℕ)
@@ -109,3 +109,13 @@ means_unruled input m (inl p) = inl (record {
       p.asks;
 })
 means_unruled input m (inr p) = inr p
+
+-- and so of an answer
+pub answers_unruled : (input : Option (List ℕ)) (result : Result Request ReadError)
+    → IfSome input (AnswersUnder no_rules result) → IfSome input (Answers result)
+answers_unruled None result p = tt
+answers_unruled (Some bytes) (Ok request) p = means_unruled bytes (Ok request) p
+answers_unruled (Some bytes) (Err Closed) p = p
+answers_unruled (Some bytes) (Err Fault) p = tt
+answers_unruled (Some bytes) (Err Memory) p = tt
+answers_unruled (Some bytes) (Err (Refused refusal)) p = means_unruled bytes (Err refusal) p
