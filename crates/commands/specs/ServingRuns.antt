@@ -31,8 +31,8 @@ pub record AreServable (reads : Host) (directories : List (List ℕ)) : Type 0 w
   pub opened : AreBlocksAt reads directories blocks
   pub few : length directories ≤ 63
 
--- the options ask for rules, the directories hold blocks, and the port at which a store over them is
--- served was told
+-- the options ask for rules, the directories hold blocks, and the port at which a store over them
+-- is served was told
 pub record IsListening (reads : Host) (serving : Serving) (directories : List (List ℕ))
     (old new : Option (List ℕ)) : Type 0 where
   pub rules : Rules
@@ -50,8 +50,9 @@ IsWatchFault serving (CannotListen port) =
     (0 < serving.status_port) × (port ≡ serving.status_port)
 IsWatchFault serving other = ⊥
 
--- why a store over blocks is not served: there are not 1 to 64 workers (63 if they are watched),
--- the store has no room for so many readers, the port cannot be listened on, or memory or the writer failed
+-- why a store over blocks is not served: there are not 1 to 64 workers (63 if they are watched), the
+-- store has no room for so many readers, the port cannot be listened on, or memory or the writer
+-- failed
 abbrev pub IsStoreFault : Serving → Fault → Type 0
 IsStoreFault serving (Refused (Open store.BadPasses)) = ¬ IsRoom (passes_of serving) serving.workers
 IsStoreFault serving (Refused (Open store.Unavailable)) = Unit {0}

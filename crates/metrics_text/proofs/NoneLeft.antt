@@ -7,7 +7,8 @@ no_rows : (front labels : List ℕ) → rows_text front labels [] ≡ []
 no_rows front [] = refl
 no_rows front (label ∷ labels) = refl
 
-no_buckets : (front : List ℕ) (below : ℕ) (bounds : List ℕ) → buckets_text front below bounds [] ≡ []
+no_buckets : (front : List ℕ) (below : ℕ) (bounds : List ℕ)
+    → buckets_text front below bounds [] ≡ []
 no_buckets front below [] = refl
 no_buckets front below (bound ∷ bounds) = refl
 

@@ -156,8 +156,8 @@ fn serve_next<J: Naming, C: Wait + Drop, R: Inlet, W: Outlet>(
 /// change is published. The pass learns the receipt of a change before the reply is written. It
 /// reads as [`read_admitted_into`] does, so that a request that the rules do not admit is refused
 /// and changes nothing (`barred`), and waits as [`Committer::commit`] does. What the buffers held
-/// before plays no part, and of each at most [`MOST_KEPT`](crate::MOST_KEPT) bytes are kept; of what
-/// they note the status is that of the reply (`noted`).
+/// before plays no part, and of each at most [`MOST_KEPT`](crate::MOST_KEPT) bytes are kept. They
+/// note the status of the reply (`noted`).
 pub fn serve_one_with<J: Naming, C: Wait + Drop, R: Inlet, W: Outlet>(
     rt: &impl Wait,
     alloc: Global,

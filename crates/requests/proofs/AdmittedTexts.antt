@@ -111,11 +111,16 @@ means_unruled input m (inl p) = inl (record {
 means_unruled input m (inr p) = inr p
 
 -- and so of an answer
-pub answers_unruled : (input : Option (List ℕ)) (result : Result Request ReadError)
+unruled : (input : Option (List ℕ)) (result : Result Request ReadError)
     → IfSome input (AnswersUnder no_rules result) → IfSome input (Answers result)
-answers_unruled None result p = tt
-answers_unruled (Some bytes) (Ok request) p = means_unruled bytes (Ok request) p
-answers_unruled (Some bytes) (Err Closed) p = p
-answers_unruled (Some bytes) (Err Fault) p = tt
-answers_unruled (Some bytes) (Err Memory) p = tt
-answers_unruled (Some bytes) (Err (Refused refusal)) p = means_unruled bytes (Err refusal) p
+unruled None result p = tt
+unruled (Some bytes) (Ok request) p = means_unruled bytes (Ok request) p
+unruled (Some bytes) (Err Closed) p = p
+unruled (Some bytes) (Err Fault) p = tt
+unruled (Some bytes) (Err Memory) p = tt
+unruled (Some bytes) (Err (Refused refusal)) p = means_unruled bytes (Err refusal) p
+
+pub answers_unruled : (rules : Rules) (input : Option (List ℕ)) (result : Result Request ReadError)
+    → rules ≡ no_rules → IfSome input (AnswersUnder rules result) → IfSome input (Answers result)
+answers_unruled rules input result e p =
+    unruled input result (subst (λ (r : Rules). IfSome input (AnswersUnder r result)) e p)

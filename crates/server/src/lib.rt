@@ -6,10 +6,11 @@
 //! that each connection is served by `query_http::serve_one_with`, with the pass and the seat as
 //! the connection before left them (`specs/Sessions.antt`), that there are as many as asked unless
 //! no more come, and what was written to each; its [`Shift`] tells the rules that it worked under,
-//! so that of sockets too a clause names them. [`serve_watched`] answers those beside that ask at a
-//! status port how the server stands ([`Watch`]): each worker counts in a [`Tally`] of its own. A worker's buffers are kept from connection to
+//! so that of sockets too a clause names them. A worker's buffers are kept from connection to
 //! connection, and play no part in the contract. [`Sockets`] are connections of the system, with
 //! limits of time: a client that is silent or gone costs its own connection and no other.
+//! [`serve_watched`] answers those beside that ask at a status port how the server stands
+//! ([`Watch`]): each worker counts in a [`Tally`] of its own.
 //!
 //! The loop of a worker over two `connections` in memory:
 //!

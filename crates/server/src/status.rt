@@ -19,6 +19,10 @@ const SILENCE: u64 = 2;
 /// The most bytes of a request that are read.
 const MOST: usize = 8192;
 
+/// The fields of a reply, but for its length.
+const FIELDS: &str =
+    "Content-Type: text/plain; version=0.0.4; charset=utf-8\r\nConnection: close\r\n";
+
 /// Who knows how a server stands.
 pub(crate) trait Report {
     /// Whether the blocks are open.
@@ -89,10 +93,7 @@ fn answer_of<S: Report>(
 
 /// The head of a reply with this status line and a body of this length.
 fn head_of(alloc: Global, line: &str, length: usize) -> Result<String, AllocError> {
-    const FORM: &str = "text/plain; version=0.0.4; charset=utf-8";
-    format!(in alloc;
-        "HTTP/1.1 {line}\r\nContent-Type: {FORM}\r\nContent-Length: {length}\r\nConnection: close\r\n\r\n"
-    )
+    format!(in alloc; "HTTP/1.1 {line}\r\n{FIELDS}Content-Length: {length}\r\n\r\n")
 }
 
 /// The whole reply.
