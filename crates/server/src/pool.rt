@@ -140,7 +140,7 @@ fn work_at<'a, J: Naming, C: Wait + Drop, R: Wait + Clock + Eprint>(
 /// What workers have done, if each has served as many connections as were asked for: a worker that
 /// served fewer has lost its listener.
 fn all_served(shifts: Vec<Shift<'_>>, requests: u64) -> Result<Vec<Shift<'_>>, ServeError>
-    ensures same { IfOk result (λ all. all.items ≡ shifts.items) }
+    ensures same { IfOk result (λ all. all.items ≡ shifts.entry.items) }
     ensures each { IfOk result (λ all. All (λ s. s.served ≡ requests) all.items) }
 {
     if shifts.iter().all(|shift| shift.served == requests) {
@@ -195,7 +195,7 @@ fn run_all<
     let shifts = map_vec(
         rt,
         places,
-        &|place: Place<J>| -> Shift<'a>
+        &|place: Place<J>| -> Shift<'_>
             ensures { result.rules.now ≡ rules.entry.now }
         { work_at(rt, alloc, rules, listener, committer, place, terms) },
     )?;
@@ -274,7 +274,7 @@ pub fn serve_watched<
     let over = AtomicBool::new(false);
     let (shared, ended) = (&committer, &over);
     let apart = || report_open(rt, alloc, watch, ended, pass, tallies);
-    let here = || -> Result<Vec<Shift<'a>>, ServeError>
+    let here = || -> Result<Vec<Shift<'_>>, ServeError>
         requires { IsSync R.row }
         ensures all { IfOk result (λ shifts. vec_len shifts ≡ vec_len places) }
         ensures each { IfOk result (λ shifts. All (λ s. s.served ≡ terms.requests) shifts.items) }
