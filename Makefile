@@ -10,6 +10,7 @@ TESTS_OF := selection_tests:labels,pages,matchers,postings \
 	store_tests:head,history,snapshots \
 	serving_tests:cover,block_search,series_merge,answers,requests,query_http,server \
 	tests/serving:guard \
+	tests/scraping:metrics_text \
 	command_tests:commands,querier \
 	auditing_tests:auditor,audit_command,audit_laws,auditor_program \
 	import_tests:xor_reader,doubles,decimal_text,prometheus_block \

@@ -38,12 +38,12 @@ text_rule name = record (new_rule name) { long = Some name; value_names = 1 }
 -- the options of `serve` with a number
 abbrev pub counts_app : App
 counts_app =
-    with_rule (with_rule (with_rule (with_rule (new_app (codes "serve")) port_rule)
+    with_rule (with_rule (with_rule (with_rule (with_rule (new_app (codes "serve")) port_rule)
     (count_rule (codes "workers") 1 64)) (count_rule (codes "requests") 0 18446744073709551615))
-    (count_rule (codes "idle-seconds") 0 4294967295)
+    (count_rule (codes "idle-seconds") 0 4294967295)) (count_rule (codes "status-port") 1 65535)
 
--- serve --port P [--workers W] [--requests N] [--idle-seconds S] [--read-only] [--guard FILE]
--- [--quiet] [DIR]...
+-- serve --port P [--workers W] [--requests N] [--idle-seconds S] [--status-port P] [--read-only]
+-- [--guard FILE] [--quiet] [DIR]...
 abbrev pub serve_app : App
 serve_app =
     with_rule (with_rule (with_rule (with_rule counts_app (flag_rule (codes "read-only")))
@@ -73,6 +73,7 @@ pub record IsServingIn (rows : List Row) (serving : Serving) : Type 0 where
   pub workers : IsCountIn (one_of (codes "workers") rows) 4 serving.workers
   pub requests : IsCountIn (one_of (codes "requests") rows) 18446744073709551615 serving.requests
   pub idle : IsCountIn (one_of (codes "idle-seconds") rows) 30 serving.idle_seconds
+  pub status_port : IsCountIn (one_of (codes "status-port") rows) 0 serving.status_port
   pub read_only : IsFlagIn (one_of (codes "read-only") rows) serving.read_only
   pub guard : option_map (λ file. file.now) serving.guard ≡ first_of (codes "guard") rows
 

@@ -1,5 +1,6 @@
 -- What is told of a store that is served, and why none is.
-use Rattle.std.specs.Prelude.{◌≡◌, ◌⊎◌, ℕ, ◌≤◌, List, ◌++◌, Option, length, codes, decimal}
+use Rattle.std.specs.Prelude.{◌≡◌, ◌⊎◌, ℕ, ◌≤◌, ◌<◌, ◌+◌, ◌==◌, List, ◌++◌, Option, length, codes}
+use Rattle.std.specs.Prelude.{decimal, if◌then◌else◌}
 use Rattle.std.specs.Io.KnownBytes.{Appends}
 use Rattle.head.specs.Heads.{BlockPart}
 use Rattle.snapshots.specs.Seats.{IsRoom}
@@ -30,8 +31,8 @@ pub record AreServable (reads : Host) (directories : List (List ℕ)) : Type 0 w
   pub opened : AreBlocksAt reads directories blocks
   pub few : length directories ≤ 63
 
--- the options ask for rules, the directories hold blocks, and the port at which a store over them is
--- served was told
+-- the options ask for rules, the directories hold blocks, and the port at which a store over them
+-- is served was told
 pub record IsListening (reads : Host) (serving : Serving) (directories : List (List ℕ))
     (old new : Option (List ℕ)) : Type 0 where
   pub rules : Rules
@@ -39,10 +40,21 @@ pub record IsListening (reads : Host) (serving : Serving) (directories : List (L
   pub servable : AreServable reads directories
   pub told : TellsPort old new
 
--- why a store over blocks is not served: there are not 1 to 64 workers, the store has no room for
--- so many readers, the port cannot be listened on, or memory or the writer failed
+-- how many passes there are: one for each worker, and one for those that watch
+abbrev pub passes_of : Serving → ℕ
+passes_of serving = if serving.status_port == 0 then serving.workers else serving.workers + 1
+
+-- why those that watch are not answered: their port cannot be listened on
+abbrev pub IsWatchFault : Serving → Fault → Type 0
+IsWatchFault serving (CannotListen port) =
+    (0 < serving.status_port) × (port ≡ serving.status_port)
+IsWatchFault serving other = ⊥
+
+-- why a store over blocks is not served: there are not 1 to 64 workers (63 if they are watched), the
+-- store has no room for so many readers, the port cannot be listened on, or memory or the writer
+-- failed
 abbrev pub IsStoreFault : Serving → Fault → Type 0
-IsStoreFault serving (Refused (Open store.BadPasses)) = ¬ IsRoom serving.workers serving.workers
+IsStoreFault serving (Refused (Open store.BadPasses)) = ¬ IsRoom (passes_of serving) serving.workers
 IsStoreFault serving (Refused (Open store.Unavailable)) = Unit {0}
 IsStoreFault serving (CannotListen port) = port ≡ serving.port
 IsStoreFault serving CannotWrite = Unit {0}
@@ -63,12 +75,15 @@ abbrev pub IsServingFault : Serving → Option (List ℕ) → Option (List ℕ) 
 IsServingFault serving old new fault =
     (IsStoreFault serving fault × KeepsAt fault old new) ⊎ (TellsPort old new × IsLateFault fault)
 
--- Why a line of `serve` ends before each worker has: by the file of its token; by the directories;
--- or, where they hold blocks, by the store, the port or the writer, or once the port was told by
--- the listener, a thread or want of memory. Before that the writer holds what it held, unless it failed.
+-- Why a line of `serve` ends before each worker has: by the file of its token; by the status port;
+-- by the directories; or, where they hold blocks, by the store, the port or the writer, or once the
+-- port was told by the listener, a thread or want of memory. Before that the writer holds what it
+-- held, unless it failed.
 pub data IsServeFault (reads : Host) (directories : List (List ℕ)) (serving : Serving)
     (old new : Option (List ℕ)) (fault : Fault) : Type 0 where
   by_guard : IsGuardFault serving fault → KeepsAt fault old new
+      → IsServeFault reads directories serving old new fault
+  by_watch : IsWatchFault serving fault → KeepsAt fault old new
       → IsServeFault reads directories serving old new fault
   by_directories : IsOpeningFault reads directories fault → KeepsAt fault old new
       → IsServeFault reads directories serving old new fault

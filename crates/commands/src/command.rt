@@ -42,6 +42,8 @@ pub struct Serving<'a> {
     pub requests: u64,
     /// For how many seconds a client may be silent; 0 for ever.
     pub idle_seconds: u64,
+    /// The port of 127.0.0.1 for those that ask how the server stands; 0 for none.
+    pub status_port: u64,
     /// Whether there is no `POST`.
     pub read_only: bool,
     /// The file with the token of each `POST`, if requests are guarded.
@@ -84,6 +86,11 @@ Example: querier select 'up{job=\"a\"}' data/0001";
 
 /// What `--version` tells behind the name: no build knows its commit.
 const VERSION: &str = "0.1.0 (rattle-kit-13f)";
+
+/// The version, and the one of the kit, as the status port tells them.
+pub(crate) const OWN_VERSION: &str = "0.1.0";
+
+pub(crate) const KIT_VERSION: &str = "rattle-kit-13f";
 
 const CHECKS: &str =
     "A block is a directory with the files meta.json, index, chunks/000001 and tombstones. All four
@@ -141,6 +148,9 @@ const REQUESTS: &str = "After how many connections a worker ends [default: never
 
 const IDLE: &str = "For how many seconds a client may be silent; 0 for ever [default: 30]";
 
+const STATUS_PORT: &str =
+    "A port of 127.0.0.1 with GET /metrics, /healthy and /ready, 1 to 65535 [default: none]";
+
 const READ_ONLY: &str = "Has no POST: what is served does not change";
 
 const GUARD: &str = "The file with a token that each POST has to bear, readable by its owner alone";
@@ -165,8 +175,11 @@ With --guard, a POST needs the field `Authorization: Bearer TOKEN`, with the tok
 the file, save an end of a line; and each request that has an `Origin`, or whose only `Host` is not
 127.0.0.1, localhost or [::1], is refused with H12. With --read-only, a POST is of no path (H3).
 
+With --status-port, a second listener answers GET /metrics in the text format of Prometheus, GET
+/healthy, and GET /ready, which is 503 until the blocks are open. There are at most 63 workers then.
+
 Exit status: 0 each worker has ended; 1 the directories are refused, as by `select`; 2 a fault of
-the words; 3 a file cannot be read, the port cannot be listened on, its line cannot be written, a
+the words; 3 a file cannot be read, a port cannot be listened on, the line cannot be written, a
 thread cannot be made, or the listener is gone; 4 no memory
 
 Example: querier serve --port 8080 data/0001 data/0002"#;
@@ -313,7 +326,8 @@ fn counts<'a>(alloc: Global) -> Result<Command<'a>, AllocError>
         .arg(port(alloc))?
         .arg(count(alloc, "workers", "W", (1, 64), WORKERS))?
         .arg(count(alloc, "requests", "N", (0, u64::MAX), REQUESTS))?
-        .arg(count(alloc, "idle-seconds", "S", (0, u32::MAX as u64), IDLE))
+        .arg(count(alloc, "idle-seconds", "S", (0, u32::MAX as u64), IDLE))?
+        .arg(count(alloc, "status-port", "P", (1, 65535), STATUS_PORT))
 }
 
 fn serve<'a>(alloc: Global) -> Result<Command<'a>, AllocError>
@@ -403,11 +417,13 @@ fn serving_in<'a>(found: &ArgMatches<'a>) -> Serving<'a>
     let workers = count_in(found, "workers", 4);
     let requests = count_in(found, "requests", u64::MAX);
     let idle_seconds = count_in(found, "idle-seconds", 30);
+    let status_port = count_in(found, "status-port", 0);
     Serving {
         port,
         workers,
         requests,
         idle_seconds,
+        status_port,
         read_only: flag_in(found, "read-only"),
         guard: given_in(found, "guard"),
     }

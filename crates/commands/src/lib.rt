@@ -37,6 +37,7 @@ mod fault;
 mod files;
 mod judgement;
 mod opening;
+mod process;
 mod progress;
 mod rules;
 pub mod run;

@@ -8,25 +8,31 @@ ghost use Rattle.head.specs.Blocks.{part_in, opening_of};
 ghost use Rattle.commands.specs.Reading.{paths_of};
 ghost use Rattle.commands.specs.Selecting.{KeepsAt};
 ghost use Rattle.commands.specs.ServingRuns.{listening_line, TellsPort, IsListening, IsStoreFault};
-ghost use Rattle.commands.specs.ServingRuns.{IsServeFault, IsServingFault};
+ghost use Rattle.commands.specs.ServingRuns.{IsServeFault, IsServingFault, IsWatchFault, passes_of};
+ghost use Rattle.commands.specs.Guarding.{AreRulesOf};
+ghost use Rattle.commands.specs.Opening.{AreBlocksAt, IsOpeningFault};
+ghost use Rattle.std.specs.Thread.{IsSync};
+ghost use Rattle.snapshots.specs.Seats.{IsRoom};
 ghost use Rattle.commands.specs.declared.fault.Fault.TheVariants.{CannotListen};
 
-use crate::command::Serving;
+use crate::command::{KIT_VERSION, OWN_VERSION, Serving};
 use crate::fault::Fault;
 use crate::files::ReadFiles;
 use crate::opening::open_blocks;
+use crate::process::Process;
 use crate::rules::rules_of;
 use crate::sending::send;
 use block::Block;
 use guard::Rules;
-use server::{Terms, Workers};
+use server::{ServeError, Shift, Terms, Watch, Workers, report_opening, serve_watched};
 use snapshots::{Naming, Store};
 use std::alloc::{AllocError, Global};
 use std::io::Write;
 use std::marker::Brand;
 use std::net::{Net, TcpListener, TcpStream};
 use std::sync::Wait;
-use std::thread::Threads;
+use std::sync::atomic::{AtomicBool, Ordering};
+use std::thread::{Threads, join};
 use std::time::{Clock, Duration};
 
 /// Listens on a port of 127.0.0.1.
@@ -85,42 +91,191 @@ fn terms_of(serving: Serving<'_>) -> Terms
     }
 }
 
-/// Serves a store over these blocks until each worker has ended: how many connections each served.
+/// What those are told of that ask at a listener.
+fn watch_at<'a, F>(
+    listener: &'a TcpListener,
+    process: &'a Process<'a, F>,
+) -> Watch<'a, Process<'a, F>> {
+    Watch {
+        listener,
+        memory: process,
+        version: OWN_VERSION,
+        kit: KIT_VERSION,
+    }
+}
+
+/// Runs workers, and answers those beside that watch, if any can.
+fn run_workers<
+    'a,
+    J: Naming + Send + Sync,
+    R: Wait + Threads + Clock + Eprint + Sync,
+    F: ReadFiles,
+>(
+    rt: &R,
+    alloc: Global,
+    workers: Workers<J, &R>,
+    listener: &TcpListener,
+    rules: &'a Rules,
+    process: &Process<'_, F>,
+    beside: Option<&TcpListener>,
+    terms: Terms,
+) -> Result<Vec<Shift<'a>>, ServeError>
+    ensures all { IfOk result (λ shifts. vec_len shifts ≡ workers.entry) }
+    ensures each { IfOk result (λ shifts. All (λ s. s.served ≡ terms.requests) shifts.items) }
+    ensures ruled { IfOk result (λ shifts. All (λ s. s.rules.now ≡ rules.now) shifts.items) }
+{
+    let Some(asked) = beside else {
+        return server::serve(rt, alloc, workers, listener, rules, terms);
+    };
+    let watch = watch_at(asked, process);
+    serve_watched(rt, alloc, workers, listener, rules, terms, &watch)
+}
+
+/// How many passes there are: one for each worker, and one for those that watch.
+fn passes_of(serving: Serving<'_>) -> usize
+    ensures { IsRoom (passes_of serving.entry) serving.entry.workers
+        → result ≡ passes_of serving.entry }
+{
+    let count = serving.workers as usize;
+    if serving.status_port == 0 {
+        count
+    } else {
+        count.saturating_add(1)
+    }
+}
+
+/// Serves a store over these blocks, under the rules that the options ask for, until each worker
+/// has ended: what each has done.
 fn serve_blocks<
+    'a,
     J: Naming + Send + Sync,
     R: Wait + Threads + Net<Listener = TcpListener, Stream = TcpStream> + Clock + Eprint + Sync,
+    F: ReadFiles,
     W: Write,
 >(
     rt: &R,
     alloc: Global,
+    files: &F,
     store: Store,
     blocks: Vec<Block>,
-    rules: &Rules,
+    rules: &'a Rules,
+    beside: Option<&TcpListener>,
     serving: Serving<'_>,
     out: &mut W,
-) -> Result<Vec<u64>, Fault>
+) -> Result<Vec<Shift<'a>>, Fault>
     requires book { store.seen.book ≡ J.book }
     requires opening { opening_of (map part_in blocks.items) ≡ J.opening }
     requires few { length blocks.items ≤ 63 }
+    requires asked { AreRulesOf (F.may_read files.now) serving rules.now }
     ensures ok { OnOk result (TellsPort (W.contents out.old) (W.contents out.new)) }
-    ensures workers { IfOk result (λ counts. vec_len counts ≡ serving.entry.workers) }
-    ensures served { IfOk result (λ counts. All (λ n. n ≡ serving.entry.requests) counts.items) }
+    ensures workers { IfOk result (λ shifts. vec_len shifts ≡ serving.entry.workers) }
+    ensures served { IfOk result (λ shifts.
+        All (λ s. s.served ≡ serving.entry.requests) shifts.items) }
+    ensures ruled { IfOk result (λ shifts. All (λ s. s.rules.now ≡ rules.now) shifts.items) }
     ensures err { IfErr result (λ fault.
         IsServingFault serving.entry (W.contents out.old) (W.contents out.new) fault) }
 {
     let count = serving.workers as usize;
-    let workers = Workers::<J, &R>::open(rt, alloc, store, blocks, count)?;
+    let passes = passes_of(serving);
+    let workers = Workers::<J, &R>::open(rt, alloc, store, blocks, passes, count)?;
     let listener = listen(rt, serving.port)?;
     tell_port(alloc, &listener, serving, out)?;
-    let counts = server::serve(rt, alloc, workers, &listener, rules, terms_of(serving))?;
+    let process = Process { alloc, files };
+    let terms = terms_of(serving);
+    let shifts = run_workers(
+        rt, alloc, workers, &listener, rules, &process, beside, terms,
+    )?;
+    Ok(shifts)
+}
+
+/// Listens on the status port, if there is one, and does not wait for its clients.
+fn listen_beside<R: Net<Listener = TcpListener, Stream = TcpStream>>(
+    rt: &R,
+    serving: Serving<'_>,
+) -> Result<Option<TcpListener>, Fault>
+    ensures { IfErr result (IsWatchFault serving.entry) }
+{
+    if serving.status_port == 0 {
+        return Ok(None);
+    }
+    let listener = listen(rt, serving.status_port)?;
+    if listener.set_nonblocking(true).is_err() {
+        return Err(Fault::CannotListen(serving.status_port));
+    }
+    Ok(Some(listener))
+}
+
+/// Opens blocks as [`open_blocks`] does, and answers those beside that watch.
+fn open_watched<R: Threads + Clock + Sync, F: ReadFiles>(
+    rt: &R,
+    alloc: Global,
+    files: &F,
+    directories: &[&str],
+    listener: &TcpListener,
+) -> Result<Vec<Block>, Fault>
+    ensures ok { IfOk result (λ blocks.
+        AreBlocksAt (F.may_read files.now) (paths_of directories.now) (map part_in blocks.items)) }
+    ensures few { IfOk result (λ blocks. length blocks.items ≤ 63) }
+    ensures err { IfErr result (λ fault.
+        IsOpeningFault (F.may_read files.now) (paths_of directories.now) fault) }
+{
+    let process = Process { alloc, files };
+    let watch = watch_at(listener, &process);
+    let over = AtomicBool::new(false);
+    let (watch, ended) = (&watch, &over);
+    let apart = || report_opening(rt, alloc, watch, ended);
+    let here = || -> Result<Vec<Block>, Fault>
+        requires { IsSync R.row × IsSync F.row }
+        ensures ok { IfOk result (λ blocks. AreBlocksAt (F.may_read files.entry.now)
+            (paths_of directories.entry.now) (map part_in blocks.items)) }
+        ensures few { IfOk result (λ blocks. length blocks.items ≤ 63) }
+        ensures err { IfErr result (λ fault. IsOpeningFault (F.may_read files.entry.now)
+            (paths_of directories.entry.now) fault) }
+    {
+        let blocks = open_blocks(rt, alloc, files, directories);
+        ended.store(true, Ordering::SeqCst);
+        blocks
+    };
+    let (_, blocks) = join(rt, apart, here);
+    blocks
+}
+
+/// Opens blocks, and answers those beside that watch, if any can.
+fn open_beside<R: Threads + Clock + Sync, F: ReadFiles>(
+    rt: &R,
+    alloc: Global,
+    files: &F,
+    directories: &[&str],
+    beside: Option<&TcpListener>,
+) -> Result<Vec<Block>, Fault>
+    ensures ok { IfOk result (λ blocks.
+        AreBlocksAt (F.may_read files.now) (paths_of directories.now) (map part_in blocks.items)) }
+    ensures few { IfOk result (λ blocks. length blocks.items ≤ 63) }
+    ensures err { IfErr result (λ fault.
+        IsOpeningFault (F.may_read files.now) (paths_of directories.now) fault) }
+{
+    match beside {
+        Some(listener) => open_watched(rt, alloc, files, directories, listener),
+        None => open_blocks(rt, alloc, files, directories),
+    }
+}
+
+/// How many connections each worker served.
+fn counts_of(alloc: Global, shifts: &[Shift<'_>]) -> Result<Vec<u64>, AllocError>
+    ensures { IfOk result (λ counts. counts.items ≡ map (λ s. s.served) shifts.now) }
+{
+    let mut counts = Vec::new(alloc);
+    for shift in shifts {
+        counts.push(shift.served)?;
+    }
     Ok(counts)
 }
 
 /// Serves a store over the blocks in these directories, and over them an empty head, until each
 /// worker has ended: how many connections each served, as many as were asked for.
 ///
-/// The rules are read; the directories are opened as by `select`; then the store is opened, the
-/// port listened on, and `listening P` written.
+/// The rules are read, and the status port is listened on; the directories are opened as by
+/// `select`; then the store is opened, the port listened on, and `listening P` written.
 pub fn serve<
     R: Wait + Threads + Net<Listener = TcpListener, Stream = TcpStream> + Clock + Eprint + Sync,
     F: ReadFiles,
@@ -141,6 +296,13 @@ pub fn serve<
         (paths_of directories.now) serving.entry (W.contents out.old) (W.contents out.new) fault) }
 {
     let rules = rules_of(alloc, files, serving)?;
-    let blocks = open_blocks(rt, alloc, files, directories)?;
-    serve_blocks::<Brand, R, W>(rt, alloc, Store::new(), blocks, &rules, serving, out)
+    let listener = listen_beside(rt, serving)?;
+    let beside = listener.as_ref();
+    let blocks = open_beside(rt, alloc, files, directories, beside)?;
+    let store = Store::new();
+    let shifts = serve_blocks::<Brand, R, F, W>(
+        rt, alloc, files, store, blocks, &rules, beside, serving, out,
+    )?;
+    let counts = counts_of(alloc, shifts.as_slice())?;
+    Ok(counts)
 }

@@ -1,8 +1,9 @@
 //! Room that is kept from connection to connection.
 
-ghost use Rattle.std.specs.Prelude.{◌≤◌, vec_capacity};
+ghost use Rattle.std.specs.Prelude.{◌≡◌, ◌≤◌, vec_capacity};
 ghost use Rattle.query_http.specs.Bounds.{IsBounded};
 
+use crate::note::Note;
 use std::alloc::Global;
 use std::mem;
 
@@ -10,7 +11,7 @@ use std::mem;
 pub const MOST_KEPT: usize = 1_048_576;
 
 /// A worker's buffers: for the bytes of a request, for the text of the rows of an answer, and for
-/// the text of a reply.
+/// the text of a reply; and what was noted of the last connection.
 ///
 /// Each connection clears them first, so what they hold between two connections is only room: no
 /// clause speaks of it. A buffer that a connection left larger than [`MOST_KEPT`] is given back to
@@ -20,6 +21,7 @@ pub struct Buffers {
     pub(crate) request: Vec<u8>,
     pub(crate) rows: Vec<u8>,
     pub(crate) reply: Vec<u8>,
+    pub(crate) note: Note,
 }
 
 /// Gives the memory of a buffer back where it is more than is kept.
@@ -41,7 +43,15 @@ impl Buffers {
             request: Vec::new(alloc),
             rows: Vec::new(alloc),
             reply: Vec::new(alloc),
+            note: Note::none(),
         }
+    }
+
+    /// What was noted of the last connection.
+    pub fn note(&self) -> Note
+        ensures { result ≡ self.now.note }
+    {
+        self.note
     }
 
     /// Gives back the memory that is more than is kept.
@@ -61,7 +71,8 @@ impl Buffers {
     /// Takes back what a reply was made in, if it is more than there is and no more than is kept.
     pub(crate) fn give_reply(&mut self, bytes: Vec<u8>)
         requires { IsBounded self.old }
-        ensures { IsBounded self.new }
+        ensures bounded { IsBounded self.new }
+        ensures note { self.new.note ≡ self.old.note }
     {
         if self.reply.capacity() < bytes.capacity() && bytes.capacity() <= MOST_KEPT {
             self.reply = bytes;

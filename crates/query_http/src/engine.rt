@@ -1,10 +1,11 @@
 //! Serving one connection: a request is read, done and replied to.
 
-ghost use Rattle.std.specs.Prelude.{◌≡◌, [], IfOk, IfErr, IfSome, OnErr, IsErrOf};
+ghost use Rattle.std.specs.Prelude.{◌≡◌, [], Some, IfOk, IfErr, IfSome, OnErr, IsErrOf};
 ghost use Rattle.requests.specs.Edge.{HasGrown};
 ghost use Rattle.requests.specs.Admitting.{MeansUnder, IsBarred};
 ghost use Rattle.requests.specs.Fitting.{IsFit};
 ghost use Rattle.requests.specs.Reading.{Means};
+ghost use Rattle.requests.specs.declared.status.Status.{Status};
 ghost use Rattle.query_http.specs.Bounds.{IsBounded};
 ghost use Rattle.query_http.specs.Reply.{text_of};
 ghost use Rattle.query_http.specs.Serving.{worker, IsIdle, IsReplyOfRefusal, IsSilent, Serves};
@@ -12,10 +13,11 @@ ghost use Rattle.query_http.specs.Serving.{IsRequestReply, IsReply};
 
 use crate::actions::{act, refusal_reply};
 use crate::buffers::Buffers;
+use crate::note::Note;
 use crate::outlet::{Outlet, write_whole};
 use crate::reply::Reply;
 use guard::Rules;
-use requests::{Inlet, ReadError, Refusal, Request, Status, read_admitted_into};
+use requests::{Inlet, ReadError, Refusal, Request, Status, path_in, read_admitted_into};
 use snapshots::{Committer, Naming, Pass, Seat};
 use std::alloc::Global;
 use std::sync::Wait;
@@ -93,8 +95,14 @@ fn reply_to<J: Naming, C: Wait + Drop, R: Inlet>(
         → HasGrown (R.failed_reads reader.old) (R.failed_reads reader.new) }
 {
     match read_admitted_into(alloc, rules, reader, &mut buffers.request) {
-        Ok(request) => do_asked(rt, alloc, buffers, request, pass, seat, committer),
-        Err(ReadError::Refused(refusal)) => turn_away(alloc, &refusal),
+        Ok(request) => {
+            buffers.note = Note::asked(&request);
+            do_asked(rt, alloc, buffers, request, pass, seat, committer)
+        }
+        Err(ReadError::Refused(refusal)) => {
+            buffers.note = Note::refused(path_in(buffers.request.as_slice()), &refusal);
+            turn_away(alloc, &refusal)
+        }
         Err(ReadError::Closed) => Err(Served::Closed),
         Err(ReadError::Fault) => Err(Served::ReadFault),
         Err(ReadError::Memory) => Err(Served::NoMemory),
@@ -123,13 +131,17 @@ fn serve_next<J: Naming, C: Wait + Drop, R: Inlet, W: Outlet>(
     ensures writes { result ≡ Served.WriteFault
         → HasGrown (W.failed_writes writer.old) (W.failed_writes writer.new) }
     ensures bounded { IsBounded buffers.new }
+    ensures noted { (status : Status) → result ≡ Served.Replied status
+        → buffers.new.note.status ≡ Some status }
 {
+    buffers.note = Note::none();
     let made = reply_to(rt, alloc, rules, buffers, reader, pass, seat, committer);
     buffers.trim_all();
     let reply = match made {
         Ok(reply) => reply,
         Err(served) => return served,
     };
+    buffers.note.status = Some(reply.status);
     let served = match write_whole(writer, reply.text()) {
         Ok(()) => Served::Replied(reply.status),
         Err(_) => Served::WriteFault,
@@ -144,7 +156,8 @@ fn serve_next<J: Naming, C: Wait + Drop, R: Inlet, W: Outlet>(
 /// change is published. The pass learns the receipt of a change before the reply is written. It
 /// reads as [`read_admitted_into`] does, so that a request that the rules do not admit is refused
 /// and changes nothing (`barred`), and waits as [`Committer::commit`] does. What the buffers held
-/// before plays no part, and of each at most [`MOST_KEPT`](crate::MOST_KEPT) bytes are kept.
+/// before plays no part, and of each at most [`MOST_KEPT`](crate::MOST_KEPT) bytes are kept. They
+/// note the status of the reply (`noted`).
 pub fn serve_one_with<J: Naming, C: Wait + Drop, R: Inlet, W: Outlet>(
     rt: &impl Wait,
     alloc: Global,
@@ -165,6 +178,8 @@ pub fn serve_one_with<J: Naming, C: Wait + Drop, R: Inlet, W: Outlet>(
     ensures writes { result ≡ Served.WriteFault
         → HasGrown (W.failed_writes writer.old) (W.failed_writes writer.new) }
     ensures bounded { IsBounded buffers.new }
+    ensures noted { (status : Status) → result ≡ Served.Replied status
+        → buffers.new.note.status ≡ Some status }
     ensures barred { IfSome (R.input reader.old) (λ bytes. IsBarred rules.now bytes
         → IsIdle (worker pass.old seat.old) (worker pass.new seat.new)) }
 {

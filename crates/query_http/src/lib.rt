@@ -12,10 +12,12 @@
 mod actions;
 mod buffers;
 mod engine;
+mod note;
 mod outlet;
 mod reply;
 
 pub use buffers::{Buffers, MOST_KEPT};
 pub use engine::{Served, serve_one, serve_one_with};
+pub use note::Note;
 pub use outlet::{Outlet, write_whole};
 pub use requests::{Fault, Inlet};

@@ -19,7 +19,7 @@ use Rattle.requests.specs.declared.request.ReadError.TheVariants.{Closed, Fault,
 use Rattle.requests.specs.Admitting.{IsAdmission, admission, refused_by, AdmittedMeans}
 use Rattle.requests.specs.Admitting.{MeansUnder, AnswersUnder, IsBarred, refusal_of}
 use Rattle.requests.specs.Requests.{Meaning}
-use Rattle.requests.specs.Reading.{HeadMeans, Means, AsksWith, AsksAfter}
+use Rattle.requests.specs.Reading.{HeadMeans, Means, Answers, AsksWith, AsksAfter}
 
 -- a head in what has come, under rules, with what follows
 under : (rules : Rules) (come x y : List ℕ) (h : RequestHead) (rest : List ℕ)
@@ -109,3 +109,18 @@ means_unruled input m (inl p) = inl (record {
       p.asks;
 })
 means_unruled input m (inr p) = inr p
+
+-- and so of an answer
+unruled : (input : Option (List ℕ)) (result : Result Request ReadError)
+    → IfSome input (AnswersUnder no_rules result) → IfSome input (Answers result)
+unruled None result p = tt
+unruled (Some bytes) (Ok request) p = means_unruled bytes (Ok request) p
+unruled (Some bytes) (Err Closed) p = p
+unruled (Some bytes) (Err Fault) p = tt
+unruled (Some bytes) (Err Memory) p = tt
+unruled (Some bytes) (Err (Refused refusal)) p = means_unruled bytes (Err refusal) p
+
+pub answers_unruled : (rules : Rules) (input : Option (List ℕ)) (result : Result Request ReadError)
+    → rules ≡ no_rules → IfSome input (AnswersUnder rules result) → IfSome input (Answers result)
+answers_unruled rules input result e p =
+    unruled input result (subst (λ (r : Rules). IfSome input (AnswersUnder r result)) e p)

@@ -1,13 +1,12 @@
 -- What the parts of a connection give the whole.
 use Rattle.std.proofs.Common.{◌≡◌, ◌+◌, ◌-◌, ◌≤◌, ℕ, false, List, ◌++◌, length, take, drop}
-use Rattle.std.proofs.Common.{slice_range, Option, None, Some, IfSome, Result, Ok, Err, inl, inr}
+use Rattle.std.proofs.Common.{slice_range, Option, None, Some, Result, Ok, Err, inr}
 use Rattle.std.proofs.Common.{sym, ap, ◌∙◌, subst, arith, append_assoc, length-append, length-drop}
 use Rattle.std.proofs.Common.{true≢false}
 use lib.Seq.{drop-append-le}
 use Rattle.std.proofs.lemmas.List.{take-append-le}
 use Rattle.std.specs.Io.KnownBytes.{Consumes}
-use Rattle.httparse.specs.Grammar.{RequestHead, print_request}
-use Rattle.httparse.proofs.GrammarLemmas.{ReadsRequest-append}
+use Rattle.httparse.specs.Grammar.{RequestHead}
 use Rattle.requests.specs.declared.fields.Head.{Head}
 use Rattle.requests.specs.declared.request.Request.{Request}
 use Rattle.requests.specs.declared.request.ReadError.{ReadError}
@@ -17,8 +16,8 @@ use Rattle.requests.specs.declared.target.Path.TheVariants.{Select, Write, Delet
 use Rattle.requests.specs.Fields.{IsHeadIn, fields_of, length_asked}
 use Rattle.requests.specs.Requests.{Meaning, Told}
 use Rattle.requests.specs.Targets.{path_asked, takes_query}
-use Rattle.requests.specs.Reading.{BodyMeans, PostMeans, PathMeans, HeadMeans, Means, Answers}
-use Rattle.requests.specs.Reading.{AnswersAfter, AsksWith, AsksAfter}
+use Rattle.requests.specs.Reading.{BodyMeans, PostMeans, PathMeans, HeadMeans}
+use Rattle.requests.specs.Reading.{AnswersAfter, AsksAfter}
 
 told_after : (P Q : Meaning → Type 0) → ((m : Meaning) → P m → Q m) → (r : Result Request ReadError)
     → Told P r → AnswersAfter Q r
@@ -84,28 +83,3 @@ asked_body come all bs body (Some x) (Some y) head h path n result is asked post
           (drop head.end come ++ (bs ++ y)) m) length_is
           (inr (found.0, subst (λ bytes. BodyMeans path bytes m) found.1 p))))) result told);
     }
-
-by_head : (come x y : List ℕ) (result : Result Request ReadError) (p : AsksWith come y result) → x
-    ≡ come ++ y → length come ≤ 8192
-    → (m : Meaning) → HeadMeans p.h (p.rest ++ y) m → Means x m
-by_head come x y result p e short m asks = inl (record {
-  h = p.h;
-  rest = p.rest ++ y;
-  reads = rw e (ReadsRequest-append come p.h p.rest y p.reads);
-  few = p.few;
-  short = omega (arith, short, ap length p.reads.1, length-append (print_request p.h) p.rest);
-  asks = asks;
-})
-
-pub answered : (a b : Option (List ℕ)) (come : List ℕ) (result : Result Request ReadError)
-    → Consumes a b come → length come ≤ 8192
-    → AsksAfter come b result → IfSome a (Answers result)
-answered None b come result taken short p = tt
-answered (Some x) None come result taken short p = absurd taken
-answered (Some x) (Some y) come (Ok request) taken short p = by_head come x y (Ok request) p taken
-    short (Ok request) p.asks
-answered (Some x) (Some y) come (Err Closed) taken short p = absurd p.asks
-answered (Some x) (Some y) come (Err Fault) taken short p = tt
-answered (Some x) (Some y) come (Err Memory) taken short p = tt
-answered (Some x) (Some y) come (Err (Refused refusal)) taken short p =
-    by_head come x y (Err (Refused refusal)) p taken short (Err refusal) p.asks

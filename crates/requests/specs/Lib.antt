@@ -19,4 +19,5 @@ pub mod Looks
 pub mod Fields
 pub mod Reading
 pub mod Admitting
+pub mod Noting
 pub mod Fitting

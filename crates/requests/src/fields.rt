@@ -6,12 +6,14 @@ ghost use Rattle.httparse.specs.Grammar.{RequestHead, ReadsRequest};
 ghost use Rattle.httparse.specs.Spans.{IsHeaderWithin, header_bytes};
 ghost use Rattle.requests.specs.Fields.{is_named, field_values, has_field, is_decimal, length_in};
 ghost use Rattle.requests.specs.Fields.{length_asked, IsHeadIn};
+ghost use Rattle.requests.specs.Noting.{NamesPath};
 ghost use Rattle.requests.specs.QueryStrings.{only};
 ghost use Rattle.requests.specs.Heads.{BeginsWithHead};
 ghost use Rattle.guard.specs.Hosts.{claimed};
 ghost use Rattle.requests.specs.Admitting.{claims_among, AreClaimsIn};
 
 use crate::Refusal;
+use crate::target::{Path, path_named, path_text};
 use crate::times::are_digits;
 use guard::Claims;
 use httparse::Status;
@@ -109,6 +111,17 @@ pub(crate) fn claims_in(buf: &[u8]) -> Option<Claims<'_>>
             spans.method.of(buf) == b"POST".as_slice(),
             &headers[..spans.headers],
         )),
+        _ => None,
+    }
+}
+
+/// The path that the head at the front of some bytes names, whatever its method.
+pub fn path_in(buf: &[u8]) -> Option<Path>
+    ensures { IfSome result (NamesPath buf.now) }
+{
+    let mut headers = [EMPTY_HEADER_SPAN; 64];
+    match parse_request(buf, &mut headers) {
+        Ok(Status::Complete(spans)) => path_named(path_text(spans.path.of(buf))),
         _ => None,
     }
 }

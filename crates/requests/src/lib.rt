@@ -2,15 +2,13 @@
 //! is spelled.
 //!
 //! [`read_request`] reads one [`Request`] from an [`Inlet`], or answers the first refusal that its
-//! bytes meet; [`read_request_into`] does so with a buffer that the caller keeps. The contract
-//! speaks of the whole input and never of the pieces that it came in: `specs/Reading.antt` says
-//! what the bytes mean, head by head and body by body. A request that it answers is fit for a
-//! store: a batch has at most 4,096 samples, each at a time, a deletion has a range and at most 16
-//! matchers, a cut is at a time.
+//! bytes meet; [`read_admitted_into`] does so with a buffer that the caller keeps, and refuses a head
+//! that [`guard::Rules`] do not admit. The contract speaks of the whole input and never of the pieces
+//! that it came in: `specs/Reading.antt` says what the bytes mean, head by head and body by body. A
+//! request that it answers is fit for a store: a batch has at most 4,096 samples, each at a time, a
+//! deletion has a range and at most 16 matchers, a cut is at a time.
 //!
 //! A [`Refusal`] is one of `H1` to `H10` or `H12`; its `reply` is the whole text that answers it.
-//! [`read_admitted_into`] reads as [`read_request_into`] does, and refuses a head that
-//! [`guard::Rules`] do not admit.
 //!
 //! [`place_success_head`] puts before a body what makes it a reply, and [`done_reply`] is the one
 //! of a change that was made. The writing side and what is done with a request belong to the
@@ -82,10 +80,11 @@ mod usual;
 mod values;
 mod write;
 
-pub use admit::read_admitted_into;
+pub use admit::{read_admitted_into, read_request};
 pub use edge::{Fault, Inlet};
-pub use read::{read_request, read_request_into};
+pub use fields::path_in;
 pub use refusal::{Cause, Refusal};
 pub use reply::{HEAD_ROOM, done_reply, place_success_head};
 pub use request::{MAX_BATCH, ReadError, Request};
 pub use status::Status;
+pub use target::Path;

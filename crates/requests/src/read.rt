@@ -1,4 +1,4 @@
-//! A request, read from its first byte to its last.
+//! What follows the head of a request.
 
 ghost use Rattle.std.specs.Prelude.{◌≤◌, ◌-◌, ◌⊎◌, vec_len, IfOk, IfErr, IfSome, OnOk};
 ghost use Rattle.httparse.specs.Grammar.{RequestHead};
@@ -8,12 +8,12 @@ ghost use Rattle.requests.specs.Fields.{IsHeadIn};
 ghost use Rattle.requests.specs.Fitting.{IsFit};
 ghost use Rattle.requests.specs.Heads.{BeginsWithHead};
 ghost use Rattle.requests.specs.Requests.{Told};
-ghost use Rattle.requests.specs.Reading.{EndsBody, BodyMeans, Answers, most_taken};
+ghost use Rattle.requests.specs.Reading.{AsksAfter, EndsBody, BodyMeans, most_taken};
 
 use crate::changes::{cut, delete};
 use crate::edge::Inlet;
 use crate::fields::{Head, head_in};
-use crate::head::{read_head, read_some};
+use crate::head::read_some;
 use crate::select::select;
 use crate::target::{Path, path_asked, query_text, takes_query};
 use crate::write::write;
@@ -91,44 +91,4 @@ pub(crate) fn read_after<R: Inlet>(
     let end = start + length;
     read_body(reader, buf, end)?;
     body_request(alloc, path, &buf[start..end])
-}
-
-ghost use Rattle.requests.specs.Reading.{AsksAfter};
-
-/// Reads one request: its head, and its body where its path takes one.
-///
-/// The answer is the request that the bytes mean, or the first refusal that they meet, `H1` to
-/// `H8`, however they were cut into pieces; `Closed` where the input ends before its first byte.
-/// `Fault` comes only where a read failed. The bytes of the request are read into the buffer, whose
-/// content is dropped first and plays no part in the answer. At most 8,192 bytes are taken from the
-/// input for a request without a body, and at most 1,048,576 more for one with a body. Beside that
-/// it takes memory for the values of the request, and time linear in the number of its bytes.
-pub fn read_request_into<R: Inlet>(
-    alloc: Global,
-    reader: &mut R,
-    buf: &mut Vec<u8>,
-) -> Result<Request, ReadError>
-    ensures means { IfSome (R.input reader.old) (Answers result) }
-    ensures few { IfOk result (λ request. TakesAtMost (most_taken request)
-        (R.input reader.old) (R.input reader.new)) }
-    ensures fits { IfOk result IsFit }
-    ensures refusal { IfErr result EndsReading }
-    ensures failed { IsCountedFault result (R.failed_reads reader.old) (R.failed_reads reader.new) }
-{
-    buf.clear();
-    read_head(reader, buf)?;
-    read_after(alloc, reader, buf)
-}
-
-/// Reads one request as [`read_request_into`] does, into a buffer of its own.
-pub fn read_request<R: Inlet>(alloc: Global, reader: &mut R) -> Result<Request, ReadError>
-    ensures means { IfSome (R.input reader.old) (Answers result) }
-    ensures few { IfOk result (λ request. TakesAtMost (most_taken request)
-        (R.input reader.old) (R.input reader.new)) }
-    ensures fits { IfOk result IsFit }
-    ensures refusal { IfErr result EndsReading }
-    ensures failed { IsCountedFault result (R.failed_reads reader.old) (R.failed_reads reader.new) }
-{
-    let mut buf = Vec::new(alloc);
-    read_request_into(alloc, reader, &mut buf)
 }

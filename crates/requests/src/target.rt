@@ -28,7 +28,7 @@ fn mark_in(target: &[u8]) -> Option<usize>
 
 ghost use Rattle.std.specs.Prelude.{◌==◌, position};
 
-fn path_text(target: &[u8]) -> &[u8]
+pub(crate) fn path_text(target: &[u8]) -> &[u8]
     ensures { result.now ≡ path_text target.now }
 {
     match mark_in(target) {
@@ -47,7 +47,7 @@ pub fn query_text(target: &[u8]) -> &[u8]
     }
 }
 
-fn path_named(text: &[u8]) -> Option<Path>
+pub(crate) fn path_named(text: &[u8]) -> Option<Path>
     ensures { result ≡ path_named text.now }
 {
     if text == b"/select".as_slice() {

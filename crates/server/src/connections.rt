@@ -3,7 +3,7 @@
 ghost use Rattle.std.specs.Prelude.{◌≡◌, ℕ, List, [], ◌∷◌, Option, IfSome, IfNone};
 ghost use Rattle.server.specs.Sessions.{Ending, IsFresh, Arrives, IsOver, AreAdded};
 
-use query_http::{Outlet, Served};
+use query_http::{Note, Outlet, Served};
 use requests::Inlet;
 
 /// Where connections come from: sockets, or texts in memory. It tells in its meaning what will come
@@ -26,8 +26,8 @@ pub trait Connections {
         ensures same { IfNone result (coming self.new ≡ coming self.old) }
         ensures past { past self.new ≡ past self.old };
 
-    /// Ends a connection that was served so.
-    fn close(&mut self, reader: Self::Reader, writer: Self::Writer, served: Served)
+    /// Ends a connection that was served so, and of which this was noted.
+    fn close(&mut self, reader: Self::Reader, writer: Self::Writer, served: Served, note: Note)
         ensures coming { coming self.new ≡ coming self.old }
         ensures past { AreAdded (past self.old) (past self.new)
             (record { written = Self.Writer.output writer; served = served } ∷ []) };

@@ -5,16 +5,19 @@
 //! after another. [`work`] is the loop of one worker, over any [`Connections`]: its contract says
 //! that each connection is served by `query_http::serve_one_with`, with the pass and the seat as
 //! the connection before left them (`specs/Sessions.antt`), that there are as many as asked unless
-//! no more come, and what was written to each. A worker's buffers are kept from connection to
+//! no more come, and what was written to each; its [`Shift`] tells the rules that it worked under,
+//! so that of sockets too a clause names them. A worker's buffers are kept from connection to
 //! connection, and play no part in the contract. [`Sockets`] are connections of the system, with
 //! limits of time: a client that is silent or gone costs its own connection and no other.
+//! [`serve_watched`] answers those beside that ask at a status port how the server stands
+//! ([`Watch`]): each worker counts in a [`Tally`] of its own.
 //!
 //! The loop of a worker over two `connections` in memory:
 //!
 //! ```
 //! let rules = Rules::none();
-//! let count = work(rt, alloc, &rules, connections, &mut pass, &mut seat, &committer, 9);
-//! assert_eq!(rt; count, 2);
+//! let shift = work(rt, alloc, &rules, connections, &mut pass, &mut seat, &committer, 9);
+//! assert_eq!(rt; shift.served, 2);
 //! ```
 //!
 //! It stands on `query_http` for what a connection gets, on `requests` for readers and on
@@ -22,15 +25,21 @@
 #![tactic(auto)]
 
 mod connections;
+mod ending;
 mod error;
 mod pool;
 mod socket;
 mod sockets;
+mod standing;
+mod status;
+mod tally;
 mod worker;
 
 pub use connections::Connections;
 pub use error::ServeError;
-pub use pool::{Terms, Workers, serve};
+pub use pool::{Terms, Workers, serve, serve_watched};
 pub use socket::{SocketReader, SocketWriter};
 pub use sockets::Sockets;
-pub use worker::work;
+pub use standing::{Memory, Watch, report_opening};
+pub use tally::Tally;
+pub use worker::{Shift, work};

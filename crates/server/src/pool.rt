@@ -2,21 +2,25 @@
 
 ghost use Rattle.std.specs.Prelude.{◌≡◌, ◌≤◌, ◌<◌, length, map, vec_len, IfOk, IfErr};
 ghost use Rattle.std.specs.List.{All};
+ghost use Rattle.std.specs.Thread.{IsSync};
 ghost use Rattle.head.specs.Blocks.{part_in, opening_of};
 ghost use Rattle.snapshots.specs.Seats.{IsRoom};
 ghost use Rattle.snapshots.specs.declared.error.OpenError.TheVariants.{BadPasses, Limit};
 
 use crate::error::ServeError;
 use crate::sockets::Sockets;
-use crate::worker::work;
+use crate::standing::{Memory, Watch, report_open};
+use crate::tally::Tally;
+use crate::worker::{Shift, work};
 use block::Block;
 use guard::Rules;
 use snapshots::{Committer, Naming, OpenError, Pass, Seat, Store};
 use std::alloc::{AllocError, Global};
 use std::marker::Model;
 use std::net::TcpListener;
-use std::sync::{Mutex, Wait};
-use std::thread::{self, Threads, map_vec};
+use std::sync::atomic::{AtomicBool, Ordering};
+use std::sync::{Arc, Mutex, Wait};
+use std::thread::{self, Threads, join, map_vec};
 use std::time::{Clock, Duration};
 
 /// What is one worker's own.
@@ -24,6 +28,7 @@ use std::time::{Clock, Duration};
 struct Place<J: Naming> {
     pass: Pass<J>,
     seat: Seat<J>,
+    tally: Arc<Tally>,
 }
 
 /// An open store and its workers. Contracts see how many workers there are.
@@ -31,6 +36,7 @@ struct Place<J: Naming> {
 pub struct Workers<J: Naming, C: Wait + Drop> {
     committer: Committer<J, C>,
     places: Vec<Place<J>>,
+    spare: Vec<Pass<J>>,
 }
 
 impl<J: Naming, C: Wait + Drop> Model for Workers<J, C> {
@@ -50,64 +56,74 @@ pub struct Terms {
     pub idle: Option<Duration>,
 }
 
-/// Each pass with a seat; the seats are as many.
+/// Each seat with a pass; there are as many passes, or more.
 fn places_of<J: Naming>(
     alloc: Global,
-    passes: Vec<Pass<J>>,
-    mut seats: Vec<Seat<J>>,
+    passes: &mut Vec<Pass<J>>,
+    seats: Vec<Seat<J>>,
 ) -> Result<Vec<Place<J>>, AllocError>
-    ensures { IfOk result (λ places. vec_len places ≡ vec_len passes) }
+    ensures { IfOk result (λ places. vec_len places ≡ vec_len seats) }
 {
     let mut places = Vec::new(alloc);
-    for pass in passes {
-        let Some(seat) = seats.pop() else {
+    for seat in seats {
+        let Some(pass) = passes.pop() else {
             return Err(AllocError);
         };
-        places.push(Place { pass, seat })?;
+        let tally = Arc::new(alloc, Tally::new(alloc)?)?;
+        places.push(Place { pass, seat, tally })?;
     }
     Ok(places)
 }
 
 impl<J: Naming, C: Wait + Drop> Workers<J, C> {
-    /// Opens a store over these blocks with so many workers, each with a pass and a seat of its
-    /// own. `O2` where there are not 1 to 64 workers, then `O3` where there are more than 63
-    /// blocks, then `O4` and memory.
+    /// Opens a store over these blocks with so many passes and workers, each worker with a pass and
+    /// a seat of its own; a pass more is for whoever watches them. `O2` where there are not 1 to 64
+    /// of each, then `O3` where there are more than 63 blocks, then `O4` and memory.
     pub fn open(
         rt: C,
         alloc: Global,
         store: Store,
         blocks: Vec<Block>,
+        passes: usize,
         count: usize,
     ) -> Result<Workers<J, C>, OpenError>
         requires book { store.seen.book ≡ J.book }
         requires opening { opening_of (map part_in blocks.items) ≡ J.opening }
         ensures workers { IfOk result (λ w. w ≡ count) }
-        ensures room { IfOk result (λ _. IsRoom count count) }
-        ensures refused { IfErr result (λ e. e ≡ BadPasses → ¬ IsRoom count count) }
+        ensures room { IfOk result (λ _. IsRoom passes count) }
+        ensures refused { IfErr result (λ e. e ≡ BadPasses → ¬ IsRoom passes count) }
         ensures few { IfErr result (λ e. e ≡ Limit → 63 < length blocks.items) }
     {
-        let (committer, passes, seats) = store.open::<J, C>(rt, alloc, blocks, count, count)?;
-        match places_of(alloc, passes, seats) {
-            Ok(places) => Ok(Workers { committer, places }),
+        let (committer, mut spare, seats) = store.open::<J, C>(rt, alloc, blocks, passes, count)?;
+        match places_of(alloc, &mut spare, seats) {
+            Ok(places) => Ok(Workers {
+                committer,
+                places,
+                spare,
+            }),
             Err(_) => Err(OpenError::Memory),
         }
     }
 }
 
-/// The work of one worker: how many connections it served.
-fn work_at<J: Naming, C: Wait + Drop, R: Wait + Clock + Eprint>(
+/// The work of one worker.
+fn work_at<'a, J: Naming, C: Wait + Drop, R: Wait + Clock + Eprint>(
     rt: &R,
     alloc: Global,
-    rules: &Rules,
+    rules: &'a Rules,
     listener: &TcpListener,
     committer: &Committer<J, C>,
     place: Place<J>,
     terms: Terms,
-) -> u64
-    ensures { result ≤ terms.requests }
+) -> Shift<'a>
+    ensures { result.rules.now ≡ rules.now }
 {
-    let Place { mut pass, mut seat } = place;
-    let mut sockets = Sockets::new(rt, alloc, listener, terms.idle);
+    let Place {
+        mut pass,
+        mut seat,
+        tally,
+    } = place;
+    let mut sockets = Sockets::new(rt, alloc, listener, terms.idle, &tally);
     let most = terms.requests;
     work(
         rt,
@@ -121,14 +137,14 @@ fn work_at<J: Naming, C: Wait + Drop, R: Wait + Clock + Eprint>(
     )
 }
 
-/// The counts of workers, if each has served as many connections as were asked for: a worker that
+/// What workers have done, if each has served as many connections as were asked for: a worker that
 /// served fewer has lost its listener.
-fn all_served(counts: Vec<u64>, requests: u64) -> Result<Vec<u64>, ServeError>
-    ensures same { IfOk result (λ all. all.items ≡ counts.items) }
-    ensures each { IfOk result (λ all. All (λ n. n ≡ requests) all.items) }
+fn all_served(shifts: Vec<Shift<'_>>, requests: u64) -> Result<Vec<Shift<'_>>, ServeError>
+    ensures same { IfOk result (λ all. all.items ≡ shifts.entry.items) }
+    ensures each { IfOk result (λ all. All (λ s. s.served ≡ requests) all.items) }
 {
-    if counts.iter().all(|count| *count == requests) {
-        Ok(counts)
+    if shifts.iter().all(|shift| shift.served == requests) {
+        Ok(shifts)
     } else {
         Err(ServeError::NoListener)
     }
@@ -154,12 +170,46 @@ fn can_make<R: Threads + Wait + Sync>(rt: &R, count: usize) -> bool {
     })
 }
 
+/// Serves the connections of a listener until each worker has ended.
+fn run_all<
+    'a,
+    J: Naming + Send + Sync,
+    C: Wait + Drop + Send + Sync,
+    R: Threads + Wait + Clock + Eprint + Sync,
+>(
+    rt: &R,
+    alloc: Global,
+    committer: &Committer<J, C>,
+    places: Vec<Place<J>>,
+    listener: &TcpListener,
+    rules: &'a Rules,
+    terms: Terms,
+) -> Result<Vec<Shift<'a>>, ServeError>
+    ensures all { IfOk result (λ shifts. vec_len shifts ≡ vec_len places) }
+    ensures each { IfOk result (λ shifts. All (λ s. s.served ≡ terms.requests) shifts.items) }
+    ensures ruled { IfOk result (λ shifts. All (λ s. s.rules.now ≡ rules.now) shifts.items) }
+{
+    if !can_make(rt, places.len()) {
+        return Err(ServeError::NoThread);
+    }
+    let shifts = map_vec(
+        rt,
+        places,
+        &|place: Place<J>| -> Shift<'_>
+            ensures { result.rules.now ≡ rules.entry.now }
+        { work_at(rt, alloc, rules, listener, committer, place, terms) },
+    )?;
+    all_served(shifts, terms.requests)
+}
+
 /// Serves the connections of a listener under rules until each worker has ended, each in a thread
-/// of its own: how many each served, which is as many as the terms ask for.
+/// of its own: what each has done, under these rules and for as many connections as the terms ask
+/// for.
 ///
 /// `NoThread` is answered before any connection is accepted, where so many threads cannot be made;
 /// `NoListener` where a worker has ended because there is no listener any more.
 pub fn serve<
+    'a,
     J: Naming + Send + Sync,
     C: Wait + Drop + Send + Sync,
     R: Threads + Wait + Clock + Eprint + Sync,
@@ -168,23 +218,73 @@ pub fn serve<
     alloc: Global,
     workers: Workers<J, C>,
     listener: &TcpListener,
-    rules: &Rules,
+    rules: &'a Rules,
     terms: Terms,
-) -> Result<Vec<u64>, ServeError>
-    ensures all { IfOk result (λ counts. vec_len counts ≡ workers) }
-    ensures each { IfOk result (λ counts. All (λ n. n ≡ terms.requests) counts.items) }
+) -> Result<Vec<Shift<'a>>, ServeError>
+    ensures all { IfOk result (λ shifts. vec_len shifts ≡ workers) }
+    ensures each { IfOk result (λ shifts. All (λ s. s.served ≡ terms.requests) shifts.items) }
+    ensures ruled { IfOk result (λ shifts. All (λ s. s.rules.now ≡ rules.now) shifts.items) }
 {
-    let Workers { committer, places } = workers;
-    if !can_make(rt, places.len()) {
-        return Err(ServeError::NoThread);
-    }
-    let shared = &committer;
-    let counts = map_vec(
-        rt,
+    let Workers {
+        committer,
         places,
-        &|place: Place<J>| -> u64
-            ensures { result ≤ terms.requests }
-        { work_at(rt, alloc, rules, listener, shared, place, terms) },
-    )?;
-    all_served(counts, terms.requests)
+        spare: _,
+    } = workers;
+    run_all(rt, alloc, &committer, places, listener, rules, terms)
+}
+
+fn tallies_of<J: Naming>(
+    alloc: Global,
+    places: &[Place<J>],
+) -> Result<Vec<Arc<Tally>>, AllocError> {
+    let mut tallies = Vec::new(alloc);
+    for place in places {
+        tallies.push(Arc::try_clone(&place.tally)?)?;
+    }
+    Ok(tallies)
+}
+
+/// Serves as [`serve`] does, and answers the clients of the status port beside.
+pub fn serve_watched<
+    'a,
+    J: Naming + Send + Sync,
+    C: Wait + Drop + Send + Sync,
+    R: Threads + Wait + Clock + Eprint + Sync,
+    M: Memory + Sync,
+>(
+    rt: &R,
+    alloc: Global,
+    workers: Workers<J, C>,
+    listener: &TcpListener,
+    rules: &'a Rules,
+    terms: Terms,
+    watch: &Watch<'_, M>,
+) -> Result<Vec<Shift<'a>>, ServeError>
+    ensures all { IfOk result (λ shifts. vec_len shifts ≡ workers) }
+    ensures each { IfOk result (λ shifts. All (λ s. s.served ≡ terms.requests) shifts.items) }
+    ensures ruled { IfOk result (λ shifts. All (λ s. s.rules.now ≡ rules.now) shifts.items) }
+{
+    let Workers {
+        committer,
+        places,
+        mut spare,
+    } = workers;
+    let tallies = tallies_of(alloc, places.as_slice())?;
+    let pass = spare.pop();
+    let over = AtomicBool::new(false);
+    let (shared, ended) = (&committer, &over);
+    let apart = || report_open(rt, alloc, watch, ended, pass, tallies);
+    let here = || -> Result<Vec<Shift<'_>>, ServeError>
+        requires { IsSync R.row }
+        ensures all { IfOk result (λ shifts. vec_len shifts ≡ vec_len places) }
+        ensures each { IfOk result (λ shifts. All (λ s. s.served ≡ terms.requests) shifts.items) }
+        ensures ruled { IfOk result (λ shifts.
+            All (λ s. s.rules.now ≡ rules.entry.now) shifts.items) }
+    {
+        let shifts = run_all(rt, alloc, shared, places, listener, rules, terms);
+        ended.store(true, Ordering::SeqCst);
+        shifts
+    };
+    let (_, shifts) = join(rt, apart, here);
+    shifts
 }

@@ -43,15 +43,25 @@ impl Inlet for SocketReader {
 pub struct SocketWriter {
     stream: Rc<TcpStream>,
     failed: u64,
+    written: u64,
 }
 
 impl SocketWriter {
     pub(crate) fn new(stream: Rc<TcpStream>) -> SocketWriter {
-        SocketWriter { stream, failed: 0 }
+        SocketWriter {
+            stream,
+            failed: 0,
+            written: 0,
+        }
     }
 
     pub(crate) fn stream(&self) -> &TcpStream {
         &self.stream
+    }
+
+    /// How many bytes were written.
+    pub(crate) fn written(&self) -> u64 {
+        self.written
     }
 }
 
@@ -65,7 +75,10 @@ impl Outlet for SocketWriter {
     fn write(&mut self, buf: &[u8]) -> Result<usize, Fault> {
         let mut stream: &TcpStream = &self.stream;
         match stream.write(buf) {
-            Ok(count) if count > 0 || buf.is_empty() => Ok(count),
+            Ok(count) if count > 0 || buf.is_empty() => {
+                self.written = self.written.saturating_add(count as u64);
+                Ok(count)
+            }
             _ => {
                 self.failed = self.failed.saturating_add(1);
                 Err(Fault)

@@ -1,24 +1,20 @@
 //! Connections from a listening socket.
 
 use crate::connections::Connections;
+use crate::ending::end;
 use crate::socket::{SocketReader, SocketWriter};
-use query_http::Served;
+use crate::tally::Tally;
+use query_http::{Note, Served};
 use requests::Status;
 use std::alloc::Global;
-use std::io::{self, ErrorKind, Read};
-use std::net::{Shutdown, TcpListener, TcpStream};
+use std::io;
+use std::net::{TcpListener, TcpStream};
 use std::rc::Rc;
 use std::thread::sleep;
 use std::time::{Clock, Duration, Instant};
 
 /// How long an accept that failed waits, in milliseconds.
 const PAUSE: u64 = 100;
-
-/// For how many seconds a client that has sent more than was read is read on.
-const LINGER: u64 = 1;
-
-/// How often such a client is read on: at most 2 MiB.
-const WASTE_READS: u32 = 256;
 
 /// Connections from a listening socket, each with the time limit of its own.
 #[derive(Drop)]
@@ -27,24 +23,35 @@ pub struct Sockets<'a, R> {
     alloc: Global,
     listener: &'a TcpListener,
     idle: Option<Duration>,
+    tally: &'a Tally,
+    since: Option<Instant>,
 }
 
 impl<'a, R> Sockets<'a, R> {
     /// The connections of a listener. A connection that gives no byte, or takes none, for the time
-    /// given ends as a failed read or write.
+    /// given ends as a failed read or write. Each is counted.
     pub fn new(
         rt: &'a R,
         alloc: Global,
         listener: &'a TcpListener,
         idle: Option<Duration>,
+        tally: &'a Tally,
     ) -> Sockets<'a, R> {
         Sockets {
             rt,
             alloc,
             listener,
             idle,
+            tally,
+            since: None,
         }
     }
+}
+
+/// A time in microseconds, or the greatest number.
+fn micros_of(time: Duration) -> u64 {
+    let whole = time.as_secs().saturating_mul(1_000_000);
+    whole.saturating_add(time.subsec_micros() as u64)
 }
 
 /// Whether an accept failed because there is no listener any more.
@@ -80,47 +87,6 @@ fn sides_of(alloc: Global, stream: TcpStream) -> Option<(SocketReader, SocketWri
     Some((reader, SocketWriter::new(stream)))
 }
 
-/// Whether a client that got this reply may have sent more than was read: of a request that was
-/// refused the rest may still be on its way, of another one only what is there already counts.
-fn may_send_more(stream: &TcpStream, status: Status) -> bool {
-    let mut byte = [0u8; 1];
-    if stream.set_nonblocking(true).is_err() {
-        return false;
-    }
-    match stream.peek(&mut byte) {
-        Ok(count) => count > 0,
-        Err(error) => error.kind() == ErrorKind::WouldBlock && status != Status::Done,
-    }
-}
-
-/// Reads on what a client still sends, and drops it, until the client ends: at most 2 MiB, and no
-/// read begins after a second.
-fn drain(rt: &impl Clock, stream: &TcpStream) -> io::Result<()> {
-    let mut waste = [0u8; 8192];
-    let mut reader = stream;
-    let most = Duration::from_secs(LINGER);
-    stream.set_nonblocking(false)?;
-    stream.set_read_timeout(Some(most))?;
-    let start = Instant::now(rt)?;
-    for _ in 0..WASTE_READS {
-        if reader.read(&mut waste)? == 0 || start.elapsed(rt)? > most {
-            return Ok(());
-        }
-    }
-    Ok(())
-}
-
-/// Ends the writing side, and reads on for a moment where the client may have sent more than was
-/// read: a socket that is closed with bytes unread takes back the reply.
-fn end(rt: &impl Clock, stream: &TcpStream, served: Served) {
-    let Served::Replied(status) = served else {
-        return;
-    };
-    if stream.shutdown(Shutdown::Write).is_ok() && may_send_more(stream, status) {
-        let _ = drain(rt, stream);
-    }
-}
-
 impl<'a, R: Clock + Eprint> Sockets<'a, R> {
     /// Tells a fault in a line of its own on standard error, if that takes it.
     fn tell(&self, fault: &str) {
@@ -138,6 +104,23 @@ impl<'a, R: Clock + Eprint> Sockets<'a, R> {
             self.tell("no memory for a connection");
         }
         sides
+    }
+
+    /// For how many microseconds the connection is served, as far as the clock tells.
+    fn microseconds(&self) -> u64 {
+        let Some(since) = self.since else {
+            return 0;
+        };
+        match since.elapsed(self.rt) {
+            Ok(time) => micros_of(time),
+            Err(_) => 0,
+        }
+    }
+
+    /// The worker begins to serve a connection.
+    fn begin(&mut self) {
+        self.tally.set_busy(true);
+        self.since = Instant::now(self.rt).ok();
     }
 
     /// One try to accept a connection: an error where there is no listener any more.
@@ -166,9 +149,13 @@ impl<R: Clock + Eprint> Connections for Sockets<'_, R> {
     ghost past = { λ _. None };
 
     fn accept(&mut self) -> Option<(SocketReader, SocketWriter)> {
+        self.tally.set_busy(false);
         for _ in 0..u64::MAX {
             match self.try_accept() {
-                Ok(Some(connection)) => return Some(connection),
+                Ok(Some(connection)) => {
+                    self.begin();
+                    return Some(connection);
+                }
                 Ok(None) => {}
                 Err(_) => return None,
             }
@@ -176,10 +163,14 @@ impl<R: Clock + Eprint> Connections for Sockets<'_, R> {
         None
     }
 
-    fn close(&mut self, _reader: SocketReader, writer: SocketWriter, served: Served) {
+    fn close(&mut self, _reader: SocketReader, writer: SocketWriter, served: Served, note: Note) {
+        self.tally
+            .count(note, self.microseconds(), writer.written());
         if let Some(fault) = fault_of(served) {
             self.tell(fault);
         }
-        end(self.rt, writer.stream(), served);
+        if let Served::Replied(status) = served {
+            end(self.rt, writer.stream(), status != Status::Done);
+        }
     }
 }

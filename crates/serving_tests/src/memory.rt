@@ -6,7 +6,7 @@ ghost use Rattle.head.specs.Blocks.{opening_of};
 use crate::script::{Script, Sink};
 use crate::store::{EmptyStore, open_empty};
 use guard::Rules;
-use query_http::Served;
+use query_http::{Note, Served};
 use server::{Connections, work};
 use snapshots::{Naming, Store};
 use std::alloc::Global;
@@ -61,7 +61,7 @@ impl<'a> Connections for Texts<'a> {
         Some((reader, writer))
     }
 
-    fn close(&mut self, _reader: Script<'a>, writer: Sink, served: Served) {
+    fn close(&mut self, _reader: Script<'a>, writer: Sink, served: Served, _note: Note) {
         let Sink {
             bytes,
             room: _,
@@ -95,9 +95,10 @@ fn work_alone<J: Naming, R: Wait>(
         mut seat,
     } = open_empty::<J, &R>(rt, alloc, store)?;
     let rules = Rules::none();
-    Some(work(
+    let shift = work(
         rt, alloc, &rules, texts, &mut pass, &mut seat, &committer, most,
-    ))
+    );
+    Some(shift.served)
 }
 
 /// How many of these connections one worker of an empty store serves, with room for so many, and
@@ -166,7 +167,7 @@ fn work_on_two<J: Naming, R: Wait + Abort>(
         mut seat,
     } = open_empty::<J, &R>(rt, alloc, store)?;
     let rules = Rules::none();
-    let count = work(
+    let shift = work(
         rt,
         alloc,
         &rules,
@@ -176,7 +177,7 @@ fn work_on_two<J: Naming, R: Wait + Abort>(
         &committer,
         9,
     );
-    assert_eq!(rt; count, 2);
+    assert_eq!(rt; shift.served, 2);
     Some(())
 }
 

@@ -79,7 +79,7 @@ fn replies_of_two<
     requires opening { opening_of [] ≡ J.opening }
 {
     let port = listener.local_addr().ok()?.port();
-    let workers = Workers::<J, &R>::open(rt, alloc, store, Vec::new(alloc), 2).ok()?;
+    let workers = Workers::<J, &R>::open(rt, alloc, store, Vec::new(alloc), 2, 2).ok()?;
     let asked = (silent, requests);
     let (served, replies) = serve_beside(rt, alloc, workers, listener, port, asked);
     if served { replies } else { None }

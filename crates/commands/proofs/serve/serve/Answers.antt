@@ -1,10 +1,10 @@
-use Rattle.std.proofs.Common.{map, arith, length, ◌≤◌}
-use Rattle.std.proofs.lemmas.Result.{err_from_is_err_and, on_ok_weaker, IfErr-weaker}
+use Rattle.std.proofs.Common.{map, arith, inr}
+use Rattle.std.proofs.lemmas.Result.{err_from_is_err_and}
 use Rattle.head.specs.Blocks.{part_in}
-use Rattle.commands.specs.Reading.{paths_of}
-use Rattle.commands.specs.ServingRuns.{by_guard, by_directories, by_serving}
+use Rattle.commands.specs.ServingRuns.{by_guard, by_watch, by_directories, by_serving}
 use Rattle.commands.proofs.LineEnds.{unused}
 use Rattle.commands.proofs.Openings.{as_many}
+use Rattle.commands.proofs.Servings.{all_counted}
 use Rattle.commands.proofs.serve.serve.Goals as goal
 
 pub returns-in_err-rules-clause-err : goal.returns-in_err-rules-clause-err
@@ -12,6 +12,14 @@ returns-in_err-rules-clause-err g c =
     let p = err_from_is_err_and c.from_residual.result c.from_residual.ensures.1 in
     rw (p.1, p.2)
     (by_guard c.in_err-rules.ensures.err (unused _ (g.W.Write.contents c.args.out.now)))
+
+pub returns-in_err-listener-clause-err : goal.returns-in_err-listener-clause-err
+returns-in_err-listener-clause-err g c =
+    let p =
+    err_from_is_err_and c.from_residual-in_err-listener.result
+    c.from_residual-in_err-listener.ensures.1 in
+    rw (p.1, p.2)
+    (by_watch c.in_err-listener.ensures (unused _ (g.W.Write.contents c.args.out.now)))
 
 pub returns-in_err-blocks-clause-err : goal.returns-in_err-blocks-clause-err
 returns-in_err-blocks-clause-err g c =
@@ -21,10 +29,34 @@ returns-in_err-blocks-clause-err g c =
     rw (p.1, p.2)
     (by_directories c.in_err-blocks.ensures.err (unused _ (g.W.Write.contents c.args.out.now)))
 
+pub returns-in_err-shifts-clause-err : goal.returns-in_err-shifts-clause-err
+returns-in_err-shifts-clause-err g c =
+    let p =
+    err_from_is_err_and c.from_residual-in_err-shifts.result
+    c.from_residual-in_err-shifts.ensures.1 in
+    let same = as_many _ _ _ c.in_ok-blocks.ensures.ok in
+    rw (p.1, p.2) (by_serving (record {
+      blocks = map part_in c.in_ok-blocks.blocks.items;
+      opened = c.in_ok-blocks.ensures.ok;
+      few = omega (arith, same, c.in_ok-blocks.ensures.few);
+    }) c.in_err-shifts.ensures.err)
+
+pub returns-in_err-counts-clause-err : goal.returns-in_err-counts-clause-err
+returns-in_err-counts-clause-err g c =
+    let p =
+    err_from_is_err_and c.from_residual-in_err-counts.result
+    c.from_residual-in_err-counts.ensures.1 in
+    let same = as_many _ _ _ c.in_ok-blocks.ensures.ok in
+    rw (p.1, p.2) (by_serving (record {
+      blocks = map part_in c.in_ok-blocks.blocks.items;
+      opened = c.in_ok-blocks.ensures.ok;
+      few = omega (arith, same, c.in_ok-blocks.ensures.few);
+    }) (inr (c.in_ok-shifts.ensures.ok, tt)))
+
 pub returns-clause-ok : goal.returns-clause-ok
 returns-clause-ok g c =
     let same = as_many _ _ _ c.in_ok-blocks.ensures.ok in
-    on_ok_weaker c.serve_blocks.result (λ told. record {
+    record {
       rules = c.in_ok-rules.rules;
       ruled = c.in_ok-rules.ensures.ok;
       servable = record {
@@ -32,16 +64,10 @@ returns-clause-ok g c =
         opened = c.in_ok-blocks.ensures.ok;
         few = omega (arith, same, c.in_ok-blocks.ensures.few);
       };
-      told = told;
-    }) c.serve_blocks.ensures.ok
+      told = c.in_ok-shifts.ensures.ok;
+    }
 
-pub returns-clause-err : goal.returns-clause-err
-returns-clause-err g c =
-    let same = as_many _ _ _ c.in_ok-blocks.ensures.ok in
-    let few : length (paths_of c.args.directories.now) ≤ 63 =
-    omega (arith, same, c.in_ok-blocks.ensures.few) in
-    IfErr-weaker c.serve_blocks.result _ _ (λ fault failed. by_serving (record {
-      blocks = map part_in c.in_ok-blocks.blocks.items;
-      opened = c.in_ok-blocks.ensures.ok;
-      few = few;
-    }) failed) c.serve_blocks.ensures.err
+pub returns-clause-served : goal.returns-clause-served
+returns-clause-served g c =
+    all_counted c.as_slice.result.now c.in_ok-counts.counts.items c.args.serving.requests
+    c.in_ok-counts.ensures (rw c.as_slice.ensures.value c.in_ok-shifts.ensures.served)

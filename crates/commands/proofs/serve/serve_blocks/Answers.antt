@@ -8,7 +8,8 @@ pub returns-in_err-workers-clause-err : goal.returns-in_err-workers-clause-err
 returns-in_err-workers-clause-err g c =
     let p = err_from_is_err_and c.from_residual.result c.from_residual.ensures.1 in
     rw (p.1, p.2) (inl (
-      not_opened c.args.serving _ c.in_err-workers.ensures.refused (λ limit.
+      not_opened c.args.serving _ (λ bad room. c.in_err-workers.ensures.refused bad
+          (rw (c.passes_of-passes.ensures room) room)) (λ limit.
           absurd (omega (arith, c.in_err-workers.ensures.few limit, c.requires.few))),
       unused _ (g.W.Write.contents c.args.out.now),
     ))
@@ -30,9 +31,9 @@ returns-in_err-tell_port-clause-err g c =
     c.from_residual-in_err-tell_port.ensures.1 in
     rw (p.1, p.2) (inl (c.in_err-tell_port.ensures.faults, c.in_err-tell_port.ensures.kept))
 
-pub returns-in_err-counts-clause-err : goal.returns-in_err-counts-clause-err
-returns-in_err-counts-clause-err g c =
+pub returns-in_err-shifts-clause-err : goal.returns-in_err-shifts-clause-err
+returns-in_err-shifts-clause-err g c =
     let p =
-    err_from_is_err_and c.from_residual-in_err-counts.result
-    c.from_residual-in_err-counts.ensures.1 in
+    err_from_is_err_and c.from_residual-in_err-shifts.result
+    c.from_residual-in_err-shifts.ensures.1 in
     rw (p.1, p.2) (inr (c.in_ok-tell_port.ensures.ok, ended_early _))

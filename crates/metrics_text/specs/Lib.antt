@@ -1,0 +1,5 @@
+pub mod Bounds
+pub mod Families
+pub mod Names
+pub mod Numbers
+pub mod Rows

@@ -1,0 +1,134 @@
+//! What is counted.
+
+ghost use Rattle.std.specs.Prelude.{◌≡◌, ◌<◌, count_by, nat_lt};
+ghost use Rattle.metrics_text.specs.Bounds.{bounds, statuses, refusals};
+
+/// What was counted of a server's requests since it began.
+#[derive(Clone, Copy, Debug, PartialEq, Eq, Drop)]
+pub struct Counts {
+    pub select: PathCounts,
+    pub write: PathCounts,
+    pub delete: PathCounts,
+    pub cut: PathCounts,
+    /// Requests of no path, and what was no request.
+    pub other: PathCounts,
+    /// Refusals, `H1` to `H12` in turn.
+    pub refusals: [u64; 12],
+    /// Batches, deletions and cuts that the store accepted.
+    pub batches: u64,
+    pub deletions: u64,
+    pub cuts: u64,
+    /// Samples of the batches.
+    pub samples: u64,
+    /// Bytes of replies.
+    pub bytes: u64,
+}
+
+/// What was counted of the requests of one path.
+#[derive(Clone, Copy, Debug, PartialEq, Eq, Drop)]
+pub struct PathCounts {
+    /// Replies by status, in the order of [`statuses`].
+    pub replies: [u64; 9],
+    pub times: Times,
+}
+
+/// How long requests took.
+#[derive(Clone, Copy, Debug, PartialEq, Eq, Drop)]
+pub struct Times {
+    /// How many took so long, by their [`place_in`] the bounds.
+    pub counts: [u64; 11],
+    /// How long all took together, in microseconds.
+    pub microseconds: u64,
+}
+
+impl Counts {
+    /// Nothing was counted.
+    pub fn none() -> Counts {
+        Counts {
+            select: PathCounts::none(),
+            write: PathCounts::none(),
+            delete: PathCounts::none(),
+            cut: PathCounts::none(),
+            other: PathCounts::none(),
+            refusals: [0; 12],
+            batches: 0,
+            deletions: 0,
+            cuts: 0,
+            samples: 0,
+            bytes: 0,
+        }
+    }
+}
+
+impl PathCounts {
+    fn none() -> PathCounts {
+        let times = Times {
+            counts: [0; 11],
+            microseconds: 0,
+        };
+        PathCounts {
+            replies: [0; 9],
+            times,
+        }
+    }
+}
+
+/// How a server stands.
+#[derive(Clone, Copy, Debug, PartialEq, Eq, Drop)]
+pub struct State {
+    /// Series, samples and floor (in milliseconds) of the head.
+    pub series: u64,
+    pub samples: u64,
+    pub floor: i64,
+    /// Blocks that are searched.
+    pub blocks: u64,
+    /// Workers, and how many of them serve a connection.
+    pub workers: u64,
+    pub busy: u64,
+    /// Memory that the process occupies, in bytes.
+    pub resident: u64,
+    /// The version of the program, and of the kit that it was made with: neither has a quote, a
+    /// backslash or an end of a line.
+    pub version: &'static str,
+    pub kit: &'static str,
+}
+
+/// The statuses of replies, each in its place of [`PathCounts::replies`].
+#[tactic(auto, unfolding(crate::specs::Bounds::statuses))]
+pub fn statuses() -> &'static [u64]
+    ensures { result.now ≡ statuses }
+{
+    &[200, 400, 403, 404, 405, 409, 413, 431, 503]
+}
+
+/// The numbers of refusals, each in its place of [`Counts::refusals`].
+#[tactic(auto, unfolding(crate::specs::Bounds::refusals))]
+pub fn refusal_numbers() -> &'static [u64]
+    ensures { result.now ≡ refusals }
+{
+    &[1, 2, 3, 4, 5, 6, 7, 8, 9, 10, 11, 12]
+}
+
+/// The bounds of a histogram, in microseconds: the last count of [`Times::counts`] is of what lies
+/// above each of them.
+#[tactic(auto, unfolding(crate::specs::Bounds::bounds))]
+pub fn bounds() -> &'static [u64]
+    ensures { result.now ≡ bounds }
+{
+    &[
+        100, 500, 1_000, 5_000, 10_000, 50_000, 100_000, 500_000, 1_000_000, 5_000_000,
+    ]
+}
+
+/// The place in [`Times::counts`] of a request that took so many microseconds: how many bounds lie
+/// below it.
+#[tactic(auto, unfolding(crate::specs::Bounds::bounds))]
+pub fn place_in(microseconds: u64) -> usize
+    ensures place { result ≡ count_by (λ bound. nat_lt bound microseconds) bounds }
+    ensures within { result < 11 }
+{
+    bounds()
+        .iter()
+        .filter(|bound| **bound < microseconds)
+        .count()
+}

@@ -1,0 +1,164 @@
+//! How a server stands, for those that ask at the status port.
+
+use crate::status::{Report, answer_status};
+use crate::tally::Tally;
+use head::Snapshot;
+use labels::{MAX_TIME, MIN_TIME, SeriesRef};
+use metrics_text::{Counts, State};
+use snapshots::{Naming, Pass};
+use std::alloc::Global;
+use std::net::TcpListener;
+use std::sync::Arc;
+use std::sync::atomic::AtomicBool;
+use std::time::Clock;
+
+/// What knows how much memory the process occupies.
+pub trait Memory {
+    /// In bytes; 0 where it is not known.
+    fn resident(&self) -> u64;
+}
+
+/// The status port, and what is told there beside what the server knows.
+#[derive(Drop)]
+pub struct Watch<'a, M> {
+    /// Its listener, which does not block.
+    pub listener: &'a TcpListener,
+    pub memory: &'a M,
+    /// The version of the program, and of its kit.
+    pub version: &'static str,
+    pub kit: &'static str,
+}
+
+/// A head that nobody asked for yet.
+fn state_of<M: Memory>(watch: &Watch<'_, M>, workers: u64, busy: u64) -> State {
+    State {
+        series: 0,
+        samples: 0,
+        floor: MIN_TIME,
+        blocks: 0,
+        workers,
+        busy,
+        resident: watch.memory.resident(),
+        version: watch.version,
+        kit: watch.kit,
+    }
+}
+
+/// How a server stands whose blocks are not open yet.
+#[derive(Drop)]
+struct Opening<'a, 'b, M> {
+    watch: &'a Watch<'b, M>,
+}
+
+impl<M: Memory> Report for Opening<'_, '_, M> {
+    fn is_ready(&self) -> bool {
+        false
+    }
+
+    fn counts(&self) -> Counts {
+        Counts::none()
+    }
+
+    fn state(&mut self) -> State {
+        state_of(self.watch, 0, 0)
+    }
+}
+
+/// Answers the clients of the status port while the blocks are opened, until that is over.
+pub fn report_opening<R: Clock, M: Memory>(
+    rt: &R,
+    alloc: Global,
+    watch: &Watch<'_, M>,
+    over: &AtomicBool,
+) {
+    let mut report = Opening { watch };
+    answer_status(rt, alloc, watch.listener, over, &mut report);
+}
+
+/// How many series and samples a head has: its series are numbered from 1.
+fn head_counts(alloc: Global, snapshot: &Snapshot) -> (u64, u64) {
+    let (mut series, mut samples) = (0u64, 0u64);
+    for number in 1..u32::MAX {
+        let reference = SeriesRef::new(number);
+        if snapshot.head().labels_of(reference).is_none() {
+            break;
+        }
+        series = series.saturating_add(1);
+        if let Ok(all) = snapshot
+            .head()
+            .samples_of(alloc, reference, MIN_TIME, MAX_TIME)
+        {
+            samples = samples.saturating_add(all.len() as u64);
+        }
+    }
+    (series, samples)
+}
+
+/// How a server stands whose blocks are open.
+#[derive(Drop)]
+struct Open<'a, 'b, M, J: Naming> {
+    alloc: Global,
+    watch: &'a Watch<'b, M>,
+    pass: Option<Pass<J>>,
+    tallies: Vec<Arc<Tally>>,
+}
+
+impl<M: Memory, J: Naming> Open<'_, '_, M, J> {
+    fn busy(&self) -> u64 {
+        let mut busy = 0u64;
+        for tally in &self.tallies {
+            busy = busy.saturating_add(tally.busy());
+        }
+        busy
+    }
+}
+
+impl<M: Memory, J: Naming> Report for Open<'_, '_, M, J> {
+    fn is_ready(&self) -> bool {
+        true
+    }
+
+    fn counts(&self) -> Counts {
+        let mut counts = Counts::none();
+        for tally in &self.tallies {
+            tally.add_to(&mut counts);
+        }
+        counts
+    }
+
+    fn state(&mut self) -> State {
+        let state = state_of(self.watch, self.tallies.len() as u64, self.busy());
+        let Some(pass) = self.pass.as_mut() else {
+            return state;
+        };
+        let Ok(snapshot) = pass.snapshot() else {
+            return state;
+        };
+        let (series, samples) = head_counts(self.alloc, &snapshot);
+        State {
+            series,
+            samples,
+            floor: snapshot.floor(),
+            blocks: snapshot.blocks().len() as u64,
+            ..state
+        }
+    }
+}
+
+/// Answers the clients of the status port while workers serve, until that is over.
+pub(crate) fn report_open<R: Clock, M: Memory, J: Naming>(
+    rt: &R,
+    alloc: Global,
+    watch: &Watch<'_, M>,
+    over: &AtomicBool,
+    pass: Option<Pass<J>>,
+    tallies: Vec<Arc<Tally>>,
+) {
+    let mut report = Open {
+        alloc,
+        watch,
+        pass,
+        tallies,
+    };
+    answer_status(rt, alloc, watch.listener, over, &mut report);
+}

@@ -1,0 +1,167 @@
+//! The status port: what the server tells of itself.
+
+use crate::ending::end;
+use metrics_text::{Counts, State, metrics};
+use std::alloc::{AllocError, Global};
+use std::io::{self, Read, Write};
+use std::net::{TcpListener, TcpStream};
+use std::sync::atomic::{AtomicBool, Ordering};
+use std::thread::sleep;
+use std::time::{Clock, Duration, Instant};
+
+/// How long the listener of the status port is left alone where nobody asks, in milliseconds.
+const PAUSE: u64 = 20;
+
+/// For how many seconds a client of the status port may give or take no byte, and after how many no
+/// more of its request is read.
+const SILENCE: u64 = 2;
+
+/// The most bytes of a request that are read.
+const MOST: usize = 8192;
+
+/// The fields of a reply, but for its length.
+const FIELDS: &str =
+    "Content-Type: text/plain; version=0.0.4; charset=utf-8\r\nConnection: close\r\n";
+
+/// Who knows how a server stands.
+pub(crate) trait Report {
+    /// Whether the blocks are open.
+    fn is_ready(&self) -> bool;
+
+    /// What was counted so far.
+    fn counts(&self) -> Counts;
+
+    /// How things stand now.
+    fn state(&mut self) -> State;
+}
+
+/// What a client asks for.
+#[derive(Clone, Copy, Debug, PartialEq, Eq)]
+enum Asked {
+    Metrics,
+    Healthy,
+    Ready,
+    /// There is no such path.
+    NoPath,
+    /// A path is asked for by another method than `GET`.
+    NoMethod,
+    /// The head of the request did not end in time, or is too long.
+    NoRequest,
+}
+
+/// Whether the end of a head has come.
+fn has_end(head: &[u8]) -> bool {
+    head.windows(4).any(|four| four == b"\r\n\r\n".as_slice())
+}
+
+fn asked_in(head: &[u8]) -> Asked {
+    if !has_end(head) {
+        Asked::NoRequest
+    } else if head.starts_with(b"GET /metrics ") {
+        Asked::Metrics
+    } else if head.starts_with(b"GET /healthy ") {
+        Asked::Healthy
+    } else if head.starts_with(b"GET /ready ") {
+        Asked::Ready
+    } else if head.starts_with(b"GET ") {
+        Asked::NoPath
+    } else {
+        Asked::NoMethod
+    }
+}
+
+/// The status line and the body of what is asked for.
+fn answer_of<S: Report>(
+    alloc: Global,
+    asked: Asked,
+    report: &mut S,
+) -> Result<(&'static str, Vec<u8>), AllocError> {
+    let (line, text) = match asked {
+        Asked::Metrics => {
+            let text = metrics(alloc, &report.counts(), &report.state())?;
+            return Ok(("200 OK", text));
+        }
+        Asked::Healthy => ("200 OK", "healthy\n"),
+        Asked::Ready if report.is_ready() => ("200 OK", "ready\n"),
+        Asked::Ready => ("503 Service Unavailable", "not ready\n"),
+        Asked::NoPath => ("404 Not Found", "no such path\n"),
+        Asked::NoMethod => ("405 Method Not Allowed", "not this method\n"),
+        Asked::NoRequest => ("400 Bad Request", "no request\n"),
+    };
+    Ok((line, Vec::from_slice(alloc, text.as_bytes())?))
+}
+
+/// The head of a reply with this status line and a body of this length.
+fn head_of(alloc: Global, line: &str, length: usize) -> Result<String, AllocError> {
+    format!(in alloc; "HTTP/1.1 {line}\r\n{FIELDS}Content-Length: {length}\r\n\r\n")
+}
+
+/// The whole reply.
+fn reply_of<S: Report>(alloc: Global, asked: Asked, report: &mut S) -> Result<Vec<u8>, AllocError> {
+    let (line, body) = answer_of(alloc, asked, report)?;
+    let head = head_of(alloc, line, body.len())?;
+    let mut reply = Vec::from_slice(alloc, head.as_bytes())?;
+    reply.extend_from_slice(body.as_slice())?;
+    Ok(reply)
+}
+
+/// Reads the head of a request, or its first bytes where it is long or slow.
+fn read_head(rt: &impl Clock, alloc: Global, stream: &TcpStream) -> io::Result<Vec<u8>> {
+    let mut reader = stream;
+    let mut head = Vec::new(alloc);
+    let mut piece = [0u8; 512];
+    let start = Instant::now(rt)?;
+    for _ in 0..MOST {
+        let Ok(count) = reader.read(&mut piece) else {
+            break;
+        };
+        head.extend_from_slice(&piece[..count])?;
+        let is_late = start.elapsed(rt)? > Duration::from_secs(SILENCE);
+        if count == 0 || is_late || head.len() >= MOST || has_end(head.as_slice()) {
+            break;
+        }
+    }
+    Ok(head)
+}
+
+/// Answers one client.
+fn answer<S: Report>(
+    rt: &impl Clock,
+    alloc: Global,
+    stream: &TcpStream,
+    report: &mut S,
+) -> io::Result<()> {
+    let limit = Some(Duration::from_secs(SILENCE));
+    stream.set_nonblocking(false)?;
+    stream.set_read_timeout(limit)?;
+    stream.set_write_timeout(limit)?;
+    let head = read_head(rt, alloc, stream)?;
+    let asked = asked_in(head.as_slice());
+    let reply = reply_of(alloc, asked, report)?;
+    let mut writer = stream;
+    writer.write_all(reply.as_slice())?;
+    let is_refused = matches!(asked, Asked::NoPath | Asked::NoMethod | Asked::NoRequest);
+    end(rt, stream, is_refused);
+    Ok(())
+}
+
+/// Answers the clients of a listener that does not block, one after another, until it is over.
+pub(crate) fn answer_status<R: Clock, S: Report>(
+    rt: &R,
+    alloc: Global,
+    listener: &TcpListener,
+    over: &AtomicBool,
+    report: &mut S,
+) {
+    for _ in 0..u64::MAX {
+        if over.load(Ordering::SeqCst) {
+            return;
+        }
+        match listener.accept() {
+            Ok((stream, _peer)) => {
+                let _ = answer(rt, alloc, &stream, report);
+            }
+            Err(_) => sleep(rt, Duration::from_millis(PAUSE)),
+        }
+    }
+}

@@ -1,0 +1,212 @@
+//! What a worker counts, while others read it.
+
+use metrics_text::{Counts, PathCounts, Times, place_in, refusal_numbers, statuses};
+use query_http::Note;
+use requests::{Path, Status};
+use std::alloc::{AllocError, Global};
+use std::sync::atomic::{AtomicU64, Ordering};
+
+/// Counts of one kind, each in its place.
+#[derive(Drop)]
+struct Cells {
+    cells: Vec<AtomicU64>,
+}
+
+impl Cells {
+    fn new(alloc: Global, count: usize) -> Result<Cells, AllocError> {
+        let mut cells = Vec::new(alloc);
+        for _ in 0..count {
+            cells.push(AtomicU64::new(0))?;
+        }
+        Ok(Cells { cells })
+    }
+
+    /// One more in a place, if it is one.
+    fn count(&self, place: usize) {
+        if let Some(cell) = self.cells.get(place) {
+            add(cell, 1);
+        }
+    }
+
+    /// Adds each count to the one in its place.
+    fn add_to(&self, counts: &mut [u64]) {
+        for (count, cell) in counts.iter_mut().zip(self.cells.iter()) {
+            *count = count.saturating_add(read(cell));
+        }
+    }
+}
+
+fn add(cell: &AtomicU64, n: u64) {
+    let _ = cell.fetch_add(n, Ordering::Relaxed);
+}
+
+fn read(cell: &AtomicU64) -> u64 {
+    cell.load(Ordering::Relaxed)
+}
+
+/// What is counted of the requests of one path.
+#[derive(Drop)]
+struct PathTally {
+    replies: Cells,
+    times: Cells,
+    microseconds: AtomicU64,
+}
+
+impl PathTally {
+    fn new(alloc: Global) -> Result<PathTally, AllocError> {
+        let times = Cells::new(alloc, 11)?;
+        Ok(PathTally {
+            replies: Cells::new(alloc, 9)?,
+            times,
+            microseconds: AtomicU64::new(0),
+        })
+    }
+
+    /// Counts a reply with this status, of a request that took so long.
+    fn count(&self, status: Status, microseconds: u64) {
+        let number = status.number() as u64;
+        if let Some(place) = statuses().iter().position(|one| *one == number) {
+            self.replies.count(place);
+        }
+        self.times.count(place_in(microseconds));
+        add(&self.microseconds, microseconds);
+    }
+
+    fn add_to(&self, counts: &mut PathCounts) {
+        self.replies.add_to(&mut counts.replies);
+        add_times(self, &mut counts.times);
+    }
+}
+
+fn add_times(tally: &PathTally, times: &mut Times) {
+    tally.times.add_to(&mut times.counts);
+    times.microseconds = times.microseconds.saturating_add(read(&tally.microseconds));
+}
+
+/// What one worker counts. It alone adds, and whoever has it reads, without a lock.
+#[derive(Drop)]
+pub struct Tally {
+    select: PathTally,
+    write: PathTally,
+    delete: PathTally,
+    cut: PathTally,
+    other: PathTally,
+    refusals: Cells,
+    batches: AtomicU64,
+    deletions: AtomicU64,
+    cuts: AtomicU64,
+    samples: AtomicU64,
+    bytes: AtomicU64,
+    busy: AtomicU64,
+}
+
+/// The number of the refusal that a connection got, if it got one: what came is refused, or the
+/// status of the reply says which refusal of a store it is.
+fn refusal_of(note: Note, status: Status) -> Option<u64> {
+    match status {
+        Status::Conflict => Some(9),
+        Status::ServiceUnavailable => Some(10),
+        _ => note.refusal,
+    }
+}
+
+impl Tally {
+    /// Nothing was counted.
+    pub fn new(alloc: Global) -> Result<Tally, AllocError> {
+        let select = PathTally::new(alloc)?;
+        let write = PathTally::new(alloc)?;
+        let delete = PathTally::new(alloc)?;
+        let cut = PathTally::new(alloc)?;
+        let other = PathTally::new(alloc)?;
+        Ok(Tally {
+            select,
+            write,
+            delete,
+            cut,
+            other,
+            refusals: Cells::new(alloc, 12)?,
+            batches: AtomicU64::new(0),
+            deletions: AtomicU64::new(0),
+            cuts: AtomicU64::new(0),
+            samples: AtomicU64::new(0),
+            bytes: AtomicU64::new(0),
+            busy: AtomicU64::new(0),
+        })
+    }
+
+    fn path(&self, path: Option<Path>) -> &PathTally {
+        match path {
+            Some(Path::Select) => &self.select,
+            Some(Path::Write) => &self.write,
+            Some(Path::Delete) => &self.delete,
+            Some(Path::Cut) => &self.cut,
+            None => &self.other,
+        }
+    }
+
+    /// Counts the event that was accepted on a connection.
+    fn count_event(&self, note: Note) {
+        match note.path {
+            Some(Path::Write) => {
+                add(&self.batches, 1);
+                add(&self.samples, note.samples);
+            }
+            Some(Path::Delete) => add(&self.deletions, 1),
+            Some(Path::Cut) => add(&self.cuts, 1),
+            Some(Path::Select) | None => {}
+        }
+    }
+
+    /// Counts a refusal with this number.
+    fn count_refusal(&self, number: u64) {
+        if let Some(place) = refusal_numbers().iter().position(|one| *one == number) {
+            self.refusals.count(place);
+        }
+    }
+
+    /// Counts a connection of which this was noted, if a reply was made for it: it took so long,
+    /// and so many bytes were written.
+    pub(crate) fn count(&self, note: Note, microseconds: u64, bytes: u64) {
+        add(&self.bytes, bytes);
+        let Some(status) = note.status else {
+            return;
+        };
+        self.path(note.path).count(status, microseconds);
+        if let Some(number) = refusal_of(note, status) {
+            self.count_refusal(number);
+        }
+        if status == Status::Done {
+            self.count_event(note);
+        }
+    }
+
+    /// Says whether the worker serves a connection.
+    pub(crate) fn set_busy(&self, busy: bool) {
+        let busy = if busy { 1 } else { 0 };
+        self.busy.store(busy, Ordering::Relaxed);
+    }
+
+    /// 1 where the worker serves a connection, else 0.
+    pub(crate) fn busy(&self) -> u64 {
+        read(&self.busy)
+    }
+
+    fn add_paths_to(&self, counts: &mut Counts) {
+        self.select.add_to(&mut counts.select);
+        self.write.add_to(&mut counts.write);
+        self.delete.add_to(&mut counts.delete);
+        self.cut.add_to(&mut counts.cut);
+        self.other.add_to(&mut counts.other);
+    }
+
+    /// Adds what was counted.
+    pub(crate) fn add_to(&self, counts: &mut Counts) {
+        self.add_paths_to(counts);
+        self.refusals.add_to(&mut counts.refusals);
+        counts.batches = counts.batches.saturating_add(read(&self.batches));
+        counts.deletions = counts.deletions.saturating_add(read(&self.deletions));
+        counts.cuts = counts.cuts.saturating_add(read(&self.cuts));
+        counts.samples = counts.samples.saturating_add(read(&self.samples));
+        counts.bytes = counts.bytes.saturating_add(read(&self.bytes));
+    }
+}
