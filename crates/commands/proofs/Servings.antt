@@ -1,10 +1,13 @@
 -- Why a store is not served.
-use Rattle.std.proofs.Common.{◌≡◌, refl, sym, subst}
+use Rattle.std.proofs.Common.{◌≡◌, ℕ, List, map, refl, sym, subst}
+use Rattle.std.specs.List.{All}
+use Rattle.std.proofs.lemmas.List.Elements.{All-map}
 use Rattle.snapshots.specs.Seats.{IsRoom}
 use Rattle.snapshots.specs.declared.error.OpenError.{OpenError}
 use Rattle.snapshots.specs.declared.error.OpenError.TheVariants as store
 use Rattle.server.specs.declared.error.ServeError.{ServeError}
 use Rattle.server.specs.declared.error.ServeError.TheVariants as late
+use Rattle.server.specs.declared.worker.Shift.{Shift}
 use Rattle.commands.specs.Faults.{open_fault, serve_fault}
 use Rattle.commands.specs.ServingRuns.{IsStoreFault, IsLateFault, passes_of}
 use Rattle.commands.specs.declared.command.Serving.{Serving}
@@ -30,3 +33,11 @@ pub ended_early : (e : ServeError) → IsLateFault (serve_fault e)
 ended_early late.NoListener = tt
 ended_early late.NoThread = tt
 ended_early late.Memory = tt
+
+-- how many connections each worker served, of what each has done
+pub all_counted : (shifts : List Shift) (counts : List ℕ) (n : ℕ)
+    → counts ≡ map (λ (s : Shift). s.served) shifts → All (λ (s : Shift). s.served ≡ n) shifts
+    → All (λ (m : ℕ). m ≡ n) counts
+all_counted shifts counts n e each =
+    subst (λ (ms : List ℕ). All (λ (m : ℕ). m ≡ n) ms) (sym e)
+    (All-map (λ (m : ℕ). m ≡ n) (λ (s : Shift). s.served) shifts each)

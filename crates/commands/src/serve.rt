@@ -120,7 +120,7 @@ fn run_workers<
     beside: Option<&TcpListener>,
     terms: Terms,
 ) -> Result<Vec<Shift<'a>>, ServeError>
-    ensures all { IfOk result (λ shifts. vec_len shifts ≡ workers) }
+    ensures all { IfOk result (λ shifts. vec_len shifts ≡ workers.entry) }
     ensures each { IfOk result (λ shifts. All (λ s. s.served ≡ terms.requests) shifts.items) }
     ensures ruled { IfOk result (λ shifts. All (λ s. s.rules.now ≡ rules.now) shifts.items) }
 {
@@ -166,7 +166,7 @@ fn serve_blocks<
     requires book { store.seen.book ≡ J.book }
     requires opening { opening_of (map part_in blocks.items) ≡ J.opening }
     requires few { length blocks.items ≤ 63 }
-    requires asked { AreRulesOf (F.may_read files.now) serving.entry rules.now }
+    requires asked { AreRulesOf (F.may_read files.now) serving rules.now }
     ensures ok { OnOk result (TellsPort (W.contents out.old) (W.contents out.new)) }
     ensures workers { IfOk result (λ shifts. vec_len shifts ≡ serving.entry.workers) }
     ensures served { IfOk result (λ shifts.

@@ -4,6 +4,7 @@ use Rattle.head.specs.Blocks.{part_in}
 use Rattle.commands.specs.ServingRuns.{by_guard, by_watch, by_directories, by_serving}
 use Rattle.commands.proofs.LineEnds.{unused}
 use Rattle.commands.proofs.Openings.{as_many}
+use Rattle.commands.proofs.Servings.{all_counted}
 use Rattle.commands.proofs.serve.serve.Goals as goal
 
 pub returns-in_err-rules-clause-err : goal.returns-in_err-rules-clause-err
@@ -65,3 +66,8 @@ returns-clause-ok g c =
       };
       told = c.in_ok-shifts.ensures.ok;
     }
+
+pub returns-clause-served : goal.returns-clause-served
+returns-clause-served g c =
+    all_counted c.as_slice.result.now c.in_ok-counts.counts.items c.args.serving.requests
+    c.in_ok-counts.ensures (rw c.as_slice.ensures.value c.in_ok-shifts.ensures.served)

@@ -9,7 +9,7 @@ returns-in_err-workers-clause-err g c =
     let p = err_from_is_err_and c.from_residual.result c.from_residual.ensures.1 in
     rw (p.1, p.2) (inl (
       not_opened c.args.serving _ (λ bad room. c.in_err-workers.ensures.refused bad
-          (rw (c.passes.ensures room) room)) (λ limit.
+          (rw (c.passes_of-passes.ensures room) room)) (λ limit.
           absurd (omega (arith, c.in_err-workers.ensures.few limit, c.requires.few))),
       unused _ (g.W.Write.contents c.args.out.now),
     ))
