@@ -85,6 +85,9 @@ The range is that of meta.json; the samples are those that are not deleted.
 Exit status: 0 done; 1 refused, with the code on standard error; 2 a fault of the words; 3 cannot
 read or write; 4 no memory";
 
+/// What `--version` tells behind the name.
+const VERSION: &str = "0.1.0 (rattle-kit-13f)";
+
 const ABOUT_DIGITS: &str = "How many digits after the point are kept, 0 to 9 [default: 0]";
 
 pub(crate) const ABOUT_REST: &str =
@@ -172,7 +175,7 @@ fn blocktool<'a>(alloc: Global) -> Result<Command<'a>, AllocError> {
     Command::new(alloc, "blocktool")
         .bin_name("blocktool")?
         .about("Makes blocks for `querier` and `auditor` out of other programs' data")
-        .version("0.1.0")
+        .version(VERSION)
         .no_binary_name(true)
         .subcommand_required(true)
         .subcommand(from_prometheus(alloc)?)?
