@@ -8,7 +8,7 @@ use Rattle.block_folder.specs.declared.folder.Place.{Place}
 use Rattle.block_folder.specs.declared.folder.Files.{Files}
 use Rattle.block_folder.specs.Blocks.{calls_of}
 use Rattle.block_folder.specs.Steps.{Did, DoesAll}
-use Rattle.block_writer.specs.SpellRows.{SpellRows}
+use Rattle.block_writer.specs.SpellRows.{AreWithin, SpellRows}
 use Rattle.block_outputs.specs.Writing.{WritesBlock}
 
 -- what was called for the files of rows
@@ -17,13 +17,15 @@ pub block_written : {D : Type 0} (did : D → List Did → Type 0) (into : List 
     (meta index chunks tombstones : List ℕ) → DoesAll did (calls_of place files) old new
     → place.parent.now ≡ into → IsRange range → files.meta.now ≡ meta → files.index.now ≡ index
     → files.chunks.now ≡ chunks → files.tombstones.now ≡ tombstones → range_said meta ≡ Some range
-    → SpellRows range index chunks tombstones rows → WritesBlock did into rows old new
+    → AreWithin range rows → SpellRows range index chunks tombstones rows
+    → WritesBlock did into rows old new
 block_written did into rows old new place files range meta index chunks tombstones done parent is m
-    i c t said spelled = record {
+    i c t said within spelled = record {
       place = place;
       parent = parent;
       range = range;
       is_range = is;
+      within = within;
       files = files;
       said = ap range_said m ∙ said;
       spelled =

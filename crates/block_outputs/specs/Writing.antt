@@ -8,7 +8,7 @@ use Rattle.block_folder.specs.declared.folder.Place.{Place}
 use Rattle.block_folder.specs.declared.folder.Files.{Files}
 use Rattle.block_folder.specs.Blocks.{calls_of}
 use Rattle.block_folder.specs.Steps.{Did, DoesAll}
-use Rattle.block_writer.specs.SpellRows.{SpellRows}
+use Rattle.block_writer.specs.SpellRows.{AreWithin, SpellRows}
 
 -- how many samples rows have
 abbrev pub samples_in : List Row → ℕ
@@ -28,14 +28,15 @@ abbrev pub are_within : ℤ × ℤ → List Row → Bool
 are_within range rows = nat_le (length rows) 1048576 && list_all (is_within range) rows
 
 -- the calls for the files of a block in a directory: its meta says a range, and by the grammar of
--- blocks
--- its other files are a block of this range with exactly these rows
+-- blocks its other files are a block of this range with exactly these rows, which are no more than
+-- a block may have
 pub record WritesBlock {D : Type 0} (did : D → List Did → Type 0) (into : List ℕ)
     (rows : List Row) (old new : D) : Type 0 where
   pub place : Place
   pub parent : place.parent.now ≡ into
   pub range : ℤ × ℤ
   pub is_range : IsRange range
+  pub within : AreWithin range rows
   pub files : Files
   pub said : range_said files.meta.now ≡ Some range
   pub spelled : SpellRows range files.index.now files.chunks.now files.tombstones.now rows

@@ -172,8 +172,8 @@ pub fn write_output<D: Disk>(
 ) -> Result<Option<Output>, OutputError>
     // Nothing is told of no rows alone.
     ensures none { IfOk result (λ output. IfNone output (rows.now ≡ [])) }
-    // What was called of the disk are the calls for a block of exactly the rows, or none for no
-    // row.
+    // What was called of the disk are the calls for a block of exactly the rows, which are no more
+    // than a block may have; or none for no row.
     ensures written { OnOk result (Writes D.did into.now rows.now disk.old disk.new) }
 {
     if rows.rows().is_empty() {

@@ -47,6 +47,7 @@ still_first did into rows a b c still (inr h) = inr (record {
   parent = h.parent;
   range = h.range;
   is_range = h.is_range;
+  within = h.within;
   files = h.files;
   said = h.said;
   spelled = h.spelled;

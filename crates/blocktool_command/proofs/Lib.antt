@@ -1,4 +1,5 @@
 pub mod Between
 pub mod Contents
 pub mod Given
+pub mod Told
 pub mod Wanted

@@ -1,13 +1,31 @@
 -- Text out of replies, and texts in a range of times.
-use Rattle.std.specs.Prelude.{◌≡◌, ◌⊎◌, ℕ, ◌+◌, ℤ, List, [], ◌∷◌, ◌++◌, Some, length}
-use Rattle.std.specs.Prelude.{codes, filter}
+use Rattle.std.specs.Prelude.{◌≡◌, ◌⊎◌, ℕ, ◌+◌, ℤ, Bool, false, List, [], ◌∷◌, ◌++◌, Option, None}
+use Rattle.std.specs.Prelude.{Some, length, codes, filter, is_some, option_map, unwrap_or}
+use Rattle.std.specs.Prelude.{if◌then◌else◌}
+use Rattle.std.specs.List.{find}
+use Rattle.std.specs.declared.string.String.{String}
+use Rattle.std.proofs.Common.{Global}
+use Rattle.serde_json.specs.Find.{as_array}
+use Rattle.serde_json.specs.Read.{read as read_text}
 use Rattle.labels.specs.Contents.{in_range}
 use Rattle.labels.specs.Rows.{Row, points_of}
 use Rattle.labels.specs.Parts.{laid_over}
 use Rattle.prometheus_block.specs.declared.keeping.Tally.{Tally}
+use Rattle.imported_values.specs.declared.policy.Rest.{Rest}
+use Rattle.imported_values.specs.declared.policy.Rest.TheVariants.{Drop}
+use Rattle.open_metrics.specs.declared.comments.Format.{Format}
+use Rattle.exposition.specs.declared.error.ReadError.{ReadError}
+use Rattle.exposition.specs.declared.error.ReadError.TheVariants.{Refused}
+use Rattle.exposition.specs.declared.error.Refusal.{Refusal}
 use Rattle.exposition.specs.declared.text.Left.{Left}
+use Rattle.exposition.specs.Reading.{IsText, told_by}
+use Rattle.exposition.specs.Refusing.{IfRefused, IsRefused}
+use Rattle.exposition.specs.Runs.{AreRising}
 use Rattle.block_outputs.specs.declared.tiles.Stretch.{Stretch}
 use Rattle.block_outputs.specs.Contents.{restricted}
+use Rattle.blocktool_command.specs.declared.fault.Fault.{Fault}
+use Rattle.blocktool_command.specs.declared.fault.Fault.TheVariants.{Memory, Other, Text}
+use Rattle.blocktool_command.specs.declared.said.Said.{Said}
 use Rattle.blocktool_command.specs.Conversion.{capped}
 use Rattle.blocktool_command.specs.Listed.{IsGivenByRows, content_of_rows}
 use Rattle.auditor.specs.Replies.{Told, text_said}
@@ -28,13 +46,64 @@ around rows = codes "{\"parts\":[],\"rows\":" ++ rows ++ 125 ∷ []
 abbrev pub AreRowsOfReply : List ℕ → List Row → Type 0
 AreRowsOfReply text rows = (parts : List Told) × (text_said text ≡ Some (parts, rows))
 
--- the merged rows of a reply, or a list of rows alone
+-- whether a text is a list of JSON
+abbrev pub is_list : List ℕ → Bool
+is_list text = unwrap_or (option_map (λ d. is_some (as_array d)) (read_text text)) false
+
+-- the rows of a list, or the merged rows of a reply
 abbrev pub AreRowsSaid : List ℕ → List Row → Type 0
-AreRowsSaid text rows = AreRowsOfReply text rows ⊎ AreRowsOfReply (around text) rows
+AreRowsSaid text rows = AreRowsOfReply (if is_list text then around text else text) rows
 
 -- how many samples with other values lie in a closed range
 abbrev pub count_within : ℤ → ℤ → List Left → ℕ
 count_within from to others = length (filter (λ (o : Left). in_range from to o.t) others)
+
+-- the first of samples with other values that lies in a closed range
+abbrev pub first_within : ℤ → ℤ → List Left → Option Left
+first_within from to others = find (λ (o : Left). in_range from to o.t) others
+
+-- samples with other values are left out, or none lies in a closed range
+abbrev pub AreAllowed : Rest → Stretch → List Left → Type 0
+AreAllowed rest times others =
+    (rest ≡ Drop) ⊎ (first_within times.from times.to others ≡ None)
+
+-- this sample is told, if memory did not run out
+abbrev pub IsToldOf : Left → Fault → Type 0
+IsToldOf left e = (e ≡ Memory) ⊎ ((name : String Global) × (e ≡ Other name left))
+
+-- the first of them in the range is told, if memory did not run out
+abbrev pub IsOtherRefused : Stretch → List Left → Fault → Type 0
+IsOtherRefused times others e =
+    (left : Left) × (first_within times.from times.to others ≡ Some left) × IsToldOf left e
+
+-- the refusal of a text is told, if memory did not run out
+abbrev pub IsToldFor : ReadError → Fault → Type 0
+IsToldFor error e = (e ≡ Memory)
+    ⊎ ((name : String Global) × (r : Refusal) × (e ≡ Text name r) × (error ≡ Refused r))
+
+-- why a text is refused is told, if memory did not run out
+abbrev pub IsToldRefused : Format → ℕ → List ℕ → Fault → Type 0
+IsToldRefused format places text e =
+    (error : ReadError) × IfRefused error (IsRefused format places text) × IsToldFor error e
+
+-- what a text says, in rows whose times ascend
+pub record IsSaidBy (format : Format) (places : ℕ) (text : List ℕ) (said : Said) : Type 0 where
+  pub is_text : IsText format places text (told_by said.listed.rows.items said.others.items)
+  pub rise : AreRising said.listed.rows.items
+
+-- why a text is refused is told, or the first sample with another value in the range that it says
+abbrev pub IsTextRefused : Format → ℕ → List ℕ → Stretch → Fault → Type 0
+IsTextRefused format places text times e = IsToldRefused format places text e
+    ⊎ ((said : Said) × IsSaidBy format places text said
+    × IsOtherRefused times said.others.items e)
+
+-- what was said, and an input of nothing behind it
+abbrev pub AreInputsOf : Said → List Said → Type 0
+AreInputsOf said [] = ⊥
+AreInputsOf said (a ∷ []) = ⊥
+AreInputsOf said (a ∷ b ∷ []) =
+    (a ≡ said) × (b.listed.rows.items ≡ []) × (b.others.items ≡ [])
+AreInputsOf said (a ∷ b ∷ c ∷ more) = ⊥
 
 -- a text gives the rows of a range, each of whose samples is kept, and counts the samples with
 -- other values that lie in it

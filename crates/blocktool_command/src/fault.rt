@@ -1,5 +1,8 @@
 //! Why the program ends before it is done.
 
+ghost use Rattle.std.specs.Prelude.{◌≡◌};
+ghost use Rattle.blocktool_command.specs.declared.fault.Fault.TheVariants.{Memory};
+
 use block::BlockError;
 use block_outputs::OutputError;
 use exposition::{Left, Refusal};
@@ -94,11 +97,8 @@ impl fmt::Display for Fault {
     fn fmt<W: fmt::Write>(&self, f: &mut fmt::Formatter<W>) -> fmt::Result {
         match self {
             Fault::Words(error) => write!(f, "{error}"),
-            Fault::Source(directory, error) => write!(f, "refused {error} in {directory}"),
-            Fault::Block(directory, error) => {
-                let code = error.code();
-                write!(f, "refused {code} in {directory}")
-            }
+            Fault::Source(directory, error) => write!(f, "refused {error} ({directory})"),
+            Fault::Block(directory, error) => write!(f, "refused {error} ({directory})"),
             Fault::Digits(directory) => {
                 write!(f, "refused: values with other digits in {directory}")
             }
@@ -123,18 +123,14 @@ impl fmt::Display for Fault {
                     column,
                     cause,
                 } = *refusal;
-                let code = cause.code();
-                write!(
-                    f,
-                    "refused {code} in {name} at line {line}, column {column}"
-                )
+                write!(f, "refused {cause} ({name}, line {line}, column {column})")
             }
             Fault::Other(name, left) => {
                 let Left { line, column, .. } = *left;
                 write!(
                     f,
-                    "refused value in {name} at line {line}, column {column}: \
-                     no whole number of parts"
+                    "refused value: no whole number of parts \
+                     ({name}, line {line}, column {column})"
                 )
             }
             Fault::BadReply => write!(f, "refused: bad reply"),
@@ -166,12 +162,16 @@ impl fmt::Display for Fault {
 impl Error for Fault {}
 
 impl From<AllocError> for Fault {
+    ghost from_gives = { λ _ e. e ≡ Memory };
+
     fn from(_error: AllocError) -> Fault {
         Fault::Memory
     }
 }
 
 impl<T: Drop> From<AllocFailed<T>> for Fault {
+    ghost from_gives = { λ _ e. e ≡ Memory };
+
     fn from(_error: AllocFailed<T>) -> Fault {
         Fault::Memory
     }

@@ -1,11 +1,19 @@
 //! Blocks out of text.
 
+ghost use Rattle.std.specs.Prelude.{◌≡◌, ◌≤◌, IfErr, IfOk, OnOk};
+ghost use Rattle.std.specs.Bool.{OnTrue};
+ghost use Rattle.imported_values.specs.declared.policy.Rest.TheVariants.{Drop};
+ghost use Rattle.blocktool_command.specs.Texts.{AreAllowed, first_within, IsOtherRefused};
+ghost use Rattle.blocktool_command.specs.Texts.{IsSaidBy, IsTextRefused, IsToldFor, IsToldOf};
+ghost use Rattle.blocktool_command.specs.Texts.{IsToldRefused};
+
 use crate::command::Options;
 use crate::fault::Fault;
 use crate::listed::Listed;
 use crate::said::{Said, write_said};
 use crate::target::Target;
 use crate::texts::{name_of, read_text};
+use block_outputs::Stretch;
 use exposition::{Exposition, Left, ReadError};
 use imported_values::Rest;
 use open_metrics::Format;
@@ -20,50 +28,103 @@ pub(crate) struct TextIn<'a> {
     pub(crate) file: Option<&'a str>,
 }
 
-fn refused(alloc: Global, file: Option<&str>, error: ReadError) -> Fault {
-    match (error, name_of(alloc, file)) {
-        (ReadError::Refused(refusal), Ok(name)) => Fault::Text(name, refusal),
-        _ => Fault::Memory,
+// The refusal of a text with this name.
+#[tactic(auto, using(crate::proofs::Told::text_told, crate::proofs::Told::no_text_told))]
+fn refused(alloc: Global, file: Option<&str>, error: ReadError) -> Fault
+    ensures { IsToldFor error result }
+{
+    let Ok(name) = name_of(alloc, file) else {
+        return Fault::Memory;
+    };
+    match error {
+        ReadError::Memory => Fault::Memory,
+        ReadError::Refused(refusal) => Fault::Text(name, refusal),
     }
 }
 
+// The refusal of a sample with another value.
+#[tactic(auto, using(crate::proofs::Told::other_told, crate::proofs::Told::no_other_told))]
+fn other(alloc: Global, file: Option<&str>, left: Left) -> Fault
+    ensures { IsToldOf left result }
+{
+    match name_of(alloc, file) {
+        Ok(name) => Fault::Other(name, left),
+        Err(_) => Fault::Memory,
+    }
+}
+
+fn are_dropped(rest: Rest) -> bool
+    ensures { OnTrue result (rest ≡ Drop) }
+{
+    match rest {
+        Rest::Drop => true,
+        Rest::Refuse | Rest::Round => false,
+    }
+}
+
+/// The first of samples with other values that lies in a range.
+fn first_within(others: &[Left], times: Stretch) -> Option<Left>
+    ensures { result ≡ first_within times.from times.to others.now }
+{
+    others.iter().copied().find(|left| times.has(left.t))
+}
+
 /// Refuses the first of samples with other values in the range, unless they are to be left out.
+#[tactic(auto, using(crate::proofs::Told::dropped_allowed, crate::proofs::Told::none_allowed, crate::proofs::Told::first_refused))]
 fn check_others(
     alloc: Global,
     file: Option<&str>,
     options: &Options<'_>,
     others: &[Left],
-) -> Result<(), Fault> {
-    if options.policy.rest == Rest::Drop {
+) -> Result<(), Fault>
+    ensures allowed { OnOk result
+        (AreAllowed options.now.policy.rest options.now.times others.now) }
+    ensures refused { IfErr result (IsOtherRefused options.now.times others.now) }
+{
+    if are_dropped(options.policy.rest) {
         return Ok(());
     }
-    match others.iter().find(|left| options.times.has(left.t)) {
-        Some(left) => Err(Fault::Other(name_of(alloc, file)?, *left)),
+    match first_within(others, options.times) {
+        Some(left) => Err(other(alloc, file, left)),
         None => Ok(()),
     }
 }
 
+// What a text says.
+#[tactic(auto, using(crate::proofs::Told::text_refused))]
+fn read_said(alloc: Global, places: u32, text_in: TextIn<'_>, text: &[u8]) -> Result<Said, Fault>
+    requires { places ≤ 9 }
+    ensures found { IfOk result (IsSaidBy text_in.entry.format places text.now) }
+    ensures refused { IfErr result (IsToldRefused text_in.entry.format places text.now) }
+{
+    match exposition::read_text(alloc, text_in.format, places, text) {
+        Ok(Exposition { rows, others }) => Ok(Said {
+            listed: Listed { rows },
+            others,
+        }),
+        Err(error) => Err(refused(alloc, text_in.file, error)),
+    }
+}
+
+#[tactic(auto, using(crate::proofs::Told::refused_by_text, crate::proofs::Told::refused_by_other))]
 fn said_by(
     alloc: Global,
     options: &Options<'_>,
     text_in: TextIn<'_>,
     text: &[u8],
-) -> Result<Said, Fault> {
-    let places = options.policy.digits.number();
-    let Exposition { rows, others } = match exposition::read_text(
-        alloc,
-        text_in.format,
-        places,
-        text,
-    ) {
-        Ok(read) => read,
-        Err(error) => return Err(refused(alloc, text_in.file, error)),
-    };
-    check_others(alloc, text_in.file, options, others.as_slice())?;
-    Ok(Said {
-        listed: Listed { rows },
-        others,
-    })
+) -> Result<Said, Fault>
+    // What is given is what the text says.
+    ensures found { IfOk result
+        (IsSaidBy text_in.entry.format options.now.policy.digits text.now) }
+    ensures allowed { IfOk result (λ said.
+        AreAllowed options.now.policy.rest options.now.times said.others.items) }
+    // The text's refusal is told, or that of its first value that is not allowed.
+    ensures refused { IfErr result (IsTextRefused text_in.entry.format
+        options.now.policy.digits text.now options.now.times) }
+{
+    let said = read_said(alloc, options.policy.digits.number(), text_in, text)?;
+    check_others(alloc, text_in.file, options, said.others.as_slice())?;
+    Ok(said)
 }
 
 /// Makes blocks out of a text, in which the later line wins.

@@ -2,7 +2,7 @@
 
 ghost use Rattle.std.specs.Prelude.{◌≡◌, IfOk};
 ghost use Rattle.exposition.specs.Rows.{IsSameOf};
-ghost use Rattle.blocktool_command.specs.Texts.{AreRowsOfReply, AreRowsSaid, around};
+ghost use Rattle.blocktool_command.specs.Texts.{AreRowsOfReply, AreRowsSaid, around, is_list};
 
 use crate::fault::Fault;
 use crate::listed::Listed;
@@ -30,7 +30,9 @@ fn around(alloc: Global, rows: &[u8]) -> Result<Vec<u8>, AllocError>
 }
 
 /// Whether a text is a list of JSON.
-fn is_list(alloc: Global, text: &[u8]) -> Result<bool, Fault> {
+fn is_list(alloc: Global, text: &[u8]) -> Result<bool, Fault>
+    ensures { IfOk result (λ b. b ≡ is_list text.now) }
+{
     match Value::from_slice(alloc, text) {
         Ok(value) => Ok(value.is_array()),
         Err(error) if error.is_memory() => Err(Fault::Memory),

@@ -1,7 +1,8 @@
 //! What a text says, as an input.
 
 ghost use Rattle.std.specs.Prelude.{◌≡◌, IfOk};
-ghost use Rattle.blocktool_command.specs.Texts.{count_within, IsGivenByText, TextsGiveTheirContent};
+ghost use Rattle.blocktool_command.specs.Texts.{AreInputsOf, count_within, IsGivenByText};
+ghost use Rattle.blocktool_command.specs.Texts.{TextsGiveTheirContent};
 
 use crate::fault::Fault;
 use crate::input::Input;
@@ -71,7 +72,9 @@ impl Input for Said {
 }
 
 /// What was said, and an empty input behind it: of several inputs the rows are put in order.
-fn inputs_of(alloc: Global, said: Said) -> Result<Vec<Said>, AllocError> {
+fn inputs_of(alloc: Global, said: Said) -> Result<Vec<Said>, AllocError>
+    ensures { IfOk result (λ inputs. AreInputsOf said inputs.items) }
+{
     let mut inputs = Vec::new(alloc);
     inputs.push(said)?;
     inputs.push(Said {

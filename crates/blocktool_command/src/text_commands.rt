@@ -20,7 +20,8 @@ const ABOUT_FROM: &str = "Example: blocktool from-openmetrics --decimals 3 --int
 FILE, or standard input, is OpenMetrics text, whose times are in seconds and which ends with
 `# EOF`, or with --format prometheus the older text of Prometheus, whose times are in milliseconds.
 Each sample needs a time. Of two samples of one series at one time that of the later line is kept.
-The first line that is wrong is refused with its code, line and column: P1 to P12, L1 to L3.
+The first line that is wrong is refused with its code, a sentence, line and column: P1 to P12, L1 to
+L3.
 Exemplars are left; no text has stale markers. The text and its rows are in memory at once.
 
 The outputs, the values and the last line are those of `blocktool from-prometheus`, but for

@@ -13,7 +13,7 @@ use Rattle.wire.specs.Outcome.{Answers}
 use Rattle.wire.proofs.Steps.{bind_ok, passed, not_failed, same_value}
 use Rattle.decimal_text.specs.declared.error.DecimalError.{DecimalError}
 use Rattle.decimal_text.specs.declared.error.DecimalError.TheVariants.{Form, Finer, Large}
-use Rattle.decimal_text.specs.Decimals.{is_digit, AreDigits, value_from, fraction_text, IsDecimal}
+use Rattle.decimal_text.specs.Decimals.{is_digit, AreDigits, value_from, IsFraction, IsDecimal}
 use Rattle.decimal_text.specs.Reading.{digits_in_front, fraction_at, with_digit, whole_at, parts_at}
 use Rattle.decimal_text.specs.Reading.{decimal_at}
 
@@ -99,26 +99,33 @@ digits_all (c ∷ cs) e =
     ]
 
 pub record Fraction (rest fraction : List ℕ) : Type 0 where
-  pub text : rest ≡ fraction_text fraction
+  pub text : IsFraction fraction rest
   pub digits : AreDigits fraction
 
 fraction_takes : (rest f : List ℕ) → fraction_at rest ≡ Ok f → Fraction rest f
 unfolding fraction_at
-fraction_takes [] f h = subst (Fraction []) (same_value [] f h) (record { text = refl; digits = tt })
-fraction_takes (c ∷ []) f h = absurd (let p = (and_parts (eqb c 46) _ (passed _ Form _ f h).0).1 in cc)
-fraction_takes (c ∷ d ∷ cs) f h =
-    let p = passed (eqb c 46 && (ltb 0 (length (d ∷ cs)) && eqb (digits_in_front (d ∷ cs)) (length (d ∷ cs)))) Form _ f h in
+fraction_takes [] f h =
+    subst (Fraction []) (same_value [] f h) (record { text = inr (refl, refl); digits = tt })
+fraction_takes (c ∷ cs) f h =
+    let p = passed (eqb c 46 && eqb (digits_in_front cs) (length cs)) Form _ f h in
     let a = and_parts (eqb c 46) _ p.0 in
-    let b = and_parts (ltb 0 (length (d ∷ cs))) _ a.1 in
     let e = eqb-true c 46 a.0 in
-    subst (Fraction (c ∷ d ∷ cs)) (same_value (d ∷ cs) f p.1)
+    subst (Fraction (c ∷ cs)) (same_value cs f p.1)
     (record {
-      text = ap (λ (x : ℕ). x ∷ d ∷ cs) e;
-      digits = digits_all (d ∷ cs) (eqb-true (digits_in_front (d ∷ cs)) (length (d ∷ cs)) b.1);
+      text = inl (ap (λ (x : ℕ). x ∷ cs) e);
+      digits = digits_all cs (eqb-true (digits_in_front cs) (length cs) a.1);
     })
 
-positive_of : (n : ℕ) → (n ≡ 0 → ⊥) → 0 < n
-positive_of n h = grind arith
+-- a test that fails leaves one of two numbers above 0
+some_of : (n m : ℕ) → (eqb n 0 && eqb m 0) ≡ false → 0 < n + m
+some_of zero zero h = absurd cc
+some_of zero (suc m) h = omega arith
+some_of (suc n) m h = omega arith
+
+none_of : (n m : ℕ) → 0 < n + m → (eqb n 0 && eqb m 0) ≡ false
+none_of zero zero h = absurd (omega (arith, h))
+none_of zero (suc m) h = rw (ne_eqb (suc m) 0 (λ e. omega (arith, e))) refl
+none_of (suc n) m h = rw (ne_eqb (suc n) 0 (λ e. omega (arith, e))) refl
 
 value_append : (n : ℕ) (xs ys : List ℕ) → value_from n (xs ++ ys) ≡ value_from (value_from n xs) ys
 value_append n [] ys = refl
@@ -137,22 +144,24 @@ pub decimal_takes : (text : List ℕ) (places m : ℕ) → decimal_at text place
     → IsDecimal text places m
 unfolding decimal_at
 decimal_takes text places m h =
-    let t = not_failed (eqb (digits_in_front text) 0) Form _ m h in
     let whole = take (digits_in_front text) text in
     let rest = drop (digits_in_front text) text in
-    let f = bind_ok (fraction_at rest) _ m t.1 in
-    let n = bind_ok (whole_at 0 whole) _ m f.2 in
+    let f = bind_ok (fraction_at rest) _ m h in
+    let t = not_failed (eqb (digits_in_front text) 0 && eqb (length f.0) 0) Form _ m f.2 in
+    let n = bind_ok (whole_at 0 whole) _ m t.1 in
     let front = fraction_takes rest f.0 f.1 in
     let value = whole_takes 0 whole n.0 n.1 in
     let parts = parts_take n.0 places f.0 m n.2 in
     let within = digits_within text in
-    let some = eqb-false (digits_in_front text) 0 t.0 in
-    let positive : 0 < digits_in_front text = positive_of (digits_in_front text) some in
+    let long : length whole ≡ digits_in_front text = simp length-take (grind arith) in
+    let some = some_of (digits_in_front text) (length f.0) t.0 in
     record {
       whole = whole;
       fraction = f.0;
-      text_is = sym (take-append-drop (digits_in_front text) text) ∙ ap (λ (r : List ℕ). whole ++ r) front.text;
-      some = simp length-take (grind arith);
+      behind = rest;
+      text_is = sym (take-append-drop (digits_in_front text) text);
+      behind_is = front.text;
+      some = omega (arith, some, long);
       whole_digits = digits_front text;
       fraction_digits = front.digits;
       exact =
@@ -293,24 +302,30 @@ unfolding digits_in_front
 digits_of_digits [] rest digits e = e
 digits_of_digits (w ∷ ws) rest digits e = rw digits.0 (ap suc (digits_of_digits ws rest digits.1 e))
 
-digits_of_fraction : (f : List ℕ) → digits_in_front (fraction_text f) ≡ 0
+digits_of_fraction : (f rest : List ℕ) → IsFraction f rest → digits_in_front rest ≡ 0
 unfolding digits_in_front
-digits_of_fraction [] = refl
-digits_of_fraction (c ∷ cs) = refl
+digits_of_fraction f rest (inl e) = ap digits_in_front e
+digits_of_fraction f rest (inr e) = ap digits_in_front e.1
 
 digits_of_all : (cs : List ℕ) → AreDigits cs → digits_in_front cs ≡ length cs
 unfolding digits_in_front
 digits_of_all [] digits = refl
 digits_of_all (c ∷ cs) digits = rw digits.0 (ap suc (digits_of_all cs digits.1))
 
-fraction_again : (f : List ℕ) → AreDigits f → fraction_at (fraction_text f) ≡ Ok f
+point_again : (f : List ℕ) → AreDigits f → fraction_at (46 ∷ f) ≡ Ok f
 unfolding fraction_at
-fraction_again [] digits = refl
-fraction_again (c ∷ cs) digits =
-    let long : ltb 0 (length (c ∷ cs)) ≡ true = lt-ltb 0 (length (c ∷ cs)) (omega arith) in
-    let all : eqb (digits_in_front (c ∷ cs)) (length (c ∷ cs)) ≡ true =
-    eq-eqb (digits_in_front (c ∷ cs)) (length (c ∷ cs)) (digits_of_all (c ∷ cs) digits) in
-    rw (long, all) refl
+point_again f digits =
+    let all : eqb (digits_in_front f) (length f) ≡ true =
+    eq-eqb (digits_in_front f) (length f) (digits_of_all f digits) in
+    rw all refl
+
+none_again : (f : List ℕ) → f ≡ [] → fraction_at [] ≡ Ok f
+unfolding fraction_at
+none_again f e = ap Ok (sym e)
+
+fraction_again : (f rest : List ℕ) → IsFraction f rest → AreDigits f → fraction_at rest ≡ Ok f
+fraction_again f rest (inl e) digits = ap fraction_at e ∙ point_again f digits
+fraction_again f rest (inr e) digits = ap fraction_at e.1 ∙ none_again f e.0
 
 take_front : (ws rest : List ℕ) → take (length ws) (ws ++ rest) ≡ ws
 take_front [] rest = grind arith
@@ -324,10 +339,11 @@ pub decimal_again : (text : List ℕ) (places m : ℕ) → m < 2 ^ 63 → IsDeci
     → decimal_at text places ≡ Ok m
 unfolding decimal_at
 decimal_again text places m lt x =
-    let rest = fraction_text x.fraction in
-    let n = digits_of_digits x.whole rest x.whole_digits (digits_of_fraction x.fraction) in
+    let rest = x.behind in
+    let n =
+    digits_of_digits x.whole rest x.whole_digits (digits_of_fraction x.fraction rest x.behind_is) in
     let count : digits_in_front text ≡ length x.whole = ap digits_in_front x.text_is ∙ n in
-    let no : eqb (length x.whole) 0 ≡ false = ne_eqb (length x.whole) 0 (λ h. let s = x.some in omega arith) in
+    let no = none_of (length x.whole) (length x.fraction) x.some in
     let front : take (length x.whole) text ≡ x.whole = ap (take (length x.whole)) x.text_is ∙ take_front x.whole rest in
     let back : drop (length x.whole) text ≡ rest = ap (drop (length x.whole)) x.text_is ∙ drop_front x.whole rest in
     let v = value_from 0 x.whole in
@@ -342,10 +358,10 @@ decimal_again text places m lt x =
     let few : v ≤ m = le_of_mul-le-mul_right within (ten_some k) in
     rw (
       count,
-      no,
       back,
+      fraction_again x.fraction rest x.behind_is x.fraction_digits,
+      no,
       front,
-      fraction_again x.fraction x.fraction_digits,
       whole_again 0 x.whole x.whole_digits (omega arith),
     )
     (parts_again v places x.fraction m x.fraction_digits lt parts)

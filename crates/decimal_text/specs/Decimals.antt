@@ -1,5 +1,5 @@
 -- Decimal texts, as whole numbers of parts of a power of ten.
-use Rattle.std.specs.Prelude.{◌≡◌, ℕ, ◌+◌, ◌-◌, ◌*◌, ◌^◌, ◌<◌, Bool, true, ◌&&◌, nat_le, List, []}
+use Rattle.std.specs.Prelude.{◌≡◌, ◌⊎◌, ℕ, ◌+◌, ◌-◌, ◌*◌, ◌^◌, ◌<◌, Bool, true, ◌&&◌, nat_le, List, []}
 use Rattle.std.specs.Prelude.{◌∷◌, ◌++◌, length}
 
 -- `0` to `9`
@@ -15,17 +15,18 @@ abbrev pub value_from : ℕ → List ℕ → ℕ
 value_from n [] = n
 value_from n (c ∷ cs) = value_from (n * 10 + (c - 48)) cs
 
--- nothing, or a point and what stands after it
-abbrev pub fraction_text : List ℕ → List ℕ
-fraction_text [] = []
-fraction_text (c ∷ cs) = 46 ∷ c ∷ cs
+-- a point and digits after it, of which there may be none; or nothing
+abbrev pub IsFraction : List ℕ → List ℕ → Type 0
+IsFraction digits text = (text ≡ 46 ∷ digits) ⊎ ((digits ≡ []) × (text ≡ []))
 
--- the text is that of size / 10 ^ places: digits, and perhaps a point and digits
+-- the text is that of size / 10 ^ places: digits, perhaps with a point before, among or behind them
 pub record IsDecimal (text : List ℕ) (places size : ℕ) : Type 0 where
   pub whole : List ℕ
   pub fraction : List ℕ
-  pub text_is : text ≡ whole ++ fraction_text fraction
-  pub some : 0 < length whole
+  pub behind : List ℕ
+  pub text_is : text ≡ whole ++ behind
+  pub behind_is : IsFraction fraction behind
+  pub some : 0 < length whole + length fraction
   pub whole_digits : AreDigits whole
   pub fraction_digits : AreDigits fraction
   pub exact : value_from 0 (whole ++ fraction) * 10 ^ places ≡ size * 10 ^ length fraction

@@ -15,7 +15,7 @@ digits_in_front (c ∷ cs) = if is_digit c then suc (digits_in_front cs) else 0
 unfoldable pub fraction_at : List ℕ → Result (List ℕ) DecimalError
 fraction_at [] = Ok []
 fraction_at (c ∷ cs) =
-    if c == 46 && (nat_lt 0 (length cs) && digits_in_front cs == length cs) then Ok cs else Err Form
+    if c == 46 && digits_in_front cs == length cs then Ok cs else Err Form
 
 -- a number with one more digit
 abbrev pub with_digit : ℕ → ℕ → Result ℕ DecimalError
@@ -39,6 +39,6 @@ parts_at n (suc places) (c ∷ cs) = with_digit n (c - 48) >>= λ m. parts_at m 
 
 unfoldable pub decimal_at : List ℕ → ℕ → Result ℕ DecimalError
 decimal_at text places =
-    if digits_in_front text == 0 then Err Form else
-    (fraction_at (drop (digits_in_front text) text) >>= λ fraction.
-    whole_at 0 (take (digits_in_front text) text) >>= λ n. parts_at n places fraction)
+    fraction_at (drop (digits_in_front text) text) >>= λ fraction.
+    if digits_in_front text == 0 && length fraction == 0 then Err Form else
+    (whole_at 0 (take (digits_in_front text) text) >>= λ n. parts_at n places fraction)

@@ -8,7 +8,7 @@ use std::fmt;
 /// The first check that failed.
 #[derive(Clone, Copy, Debug, PartialEq, Eq, Drop)]
 pub enum DecimalError {
-    /// `V1`: the text is not digits, or digits, a point and digits.
+    /// `V1`: the text is not digits, perhaps with a point before, among or behind them.
     Form,
     /// `V2`: it has a digit other than 0 beyond the parts.
     Finer,
@@ -39,7 +39,7 @@ impl fmt::Display for DecimalError {
 
     fn fmt<W: fmt::Write>(&self, f: &mut fmt::Formatter<W>) -> fmt::Result {
         let text = match self {
-            DecimalError::Form => "V1: a number is not digits, or digits, a point and digits",
+            DecimalError::Form => "V1: a number is not digits, perhaps with a point",
             DecimalError::Finer => "V2: a number has more digits after its point than are kept",
             DecimalError::Large => "V3: a number is 2^63 or more in the parts that are kept",
         };

@@ -11,10 +11,10 @@ use crate::error::DecimalError;
 
 /// The number that a text writes, in parts of which 10^places make one.
 ///
-/// The text is digits, or digits, a point and digits; a sign is none of it. Nothing is rounded:
-/// digits beyond the parts must be 0. The form is checked first, then digit after digit the size
-/// and what stands beyond the parts ([`DecimalError`]). It takes time in proportion to the text's
-/// length and the places, and no memory.
+/// The text is digits, perhaps with a point before, among or behind them; a sign is none of it.
+/// Nothing is rounded: digits beyond the parts must be 0. The form is checked first, then digit
+/// after digit the size and what stands beyond the parts ([`DecimalError`]). It takes time in
+/// proportion to the text's length and the places, and no memory.
 pub fn decimal(text: &[u8], places: u32) -> Result<u64, DecimalError>
     // The first check that fails is answered; if none does, what reading gives.
     ensures exact { Answers (λ n. n) result (decimal_at text.now places) }
@@ -32,12 +32,11 @@ fn read_decimal(text: &[u8], places: u32) -> Result<u64, DecimalError>
     ensures exact { Answers (λ n. n) result (decimal_at text.now places) }
     ensures bound { IfOk result (λ n. n < 2 ^ 63) }
 {
-    let n = digits_in_front(text);
-    if n == 0 {
+    let (whole, rest) = text.split_at(digits_in_front(text));
+    let fraction = fraction_of(rest)?;
+    if whole.is_empty() && fraction.is_empty() {
         return Err(DecimalError::Form);
     }
-    let (whole, rest) = text.split_at(n);
-    let fraction = fraction_of(rest)?;
     let value = whole_of(whole)?;
     let size = parts_of(value, places, fraction)?;
     Ok(size)
@@ -73,8 +72,7 @@ fn fraction_of(rest: &[u8]) -> Result<&[u8], DecimalError>
     let Some((first, digits)) = rest.split_first() else {
         return Ok(rest);
     };
-    let is_fraction = (*first == 46)
-        & ((0 < digits.len()) & (digits_in_front(digits) == digits.len()));
+    let is_fraction = (*first == 46) & (digits_in_front(digits) == digits.len());
     if !is_fraction {
         return Err(DecimalError::Form);
     }

@@ -1,43 +1,101 @@
 -- Lines, one after the other.
-use Rattle.std.specs.Prelude.{◌≡◌, ℕ, ◌+◌, ◌<◌, List, [], ◌∷◌, ◌++◌, ◌⊎◌, length, take, get_or}
-use Rattle.std.specs.Prelude.{refl}
+use Rattle.std.specs.Prelude.{◌≡◌, ℕ, ◌+◌, ◌<◌, List, [], ◌∷◌, ◌++◌, length, take, get_or}
+use Rattle.std.specs.Prelude.{refl, suc, drop, true, false, ◌&&◌, Option, None, Some, IfSome}
 use Rattle.std.specs.Borrow.{Bor}
-use Rattle.std.proofs.Common.{sym, ap, subst, ◌∙◌, append_assoc, inl, inr}
+use Rattle.std.specs.List.{list_all}
+use Rattle.std.proofs.Math.Seq.{split_at}
+use Rattle.std.proofs.lemmas.List.Folds.{list_all_at, list_all-append, list_all-map}
+use Rattle.std.proofs.Common.{sym, ap, subst, ◌∙◌, append_assoc, arith}
 use Rattle.std.proofs.lemmas.Grind.{take_at_read}
-use Rattle.std.proofs.lemmas.List.{append-nil, map-append}
+use Rattle.std.proofs.lemmas.List.{length-map, length-take-le, map-append}
 use Rattle.open_metrics.specs.declared.comments.Format.{Format}
-use Rattle.open_metrics.specs.declared.comments.Format.TheVariants.{OpenMetrics, Prometheus}
 use Rattle.open_metrics.specs.declared.labels.Label.{Label}
 use Rattle.open_metrics.specs.Labels.{Pair, pair_in, pairs_in}
-use Rattle.exposition.specs.Reading.{Said, AddsLine, AddAll, IsCutInto, eof, texts_in}
+use Rattle.exposition.specs.declared.error.Cause.{Cause}
+use Rattle.exposition.specs.declared.error.Cause.TheVariants.{Text}
+use Rattle.exposition.specs.declared.error.ReadError.{ReadError}
+use Rattle.exposition.specs.declared.error.ReadError.TheVariants.{Memory, Refused}
+use Rattle.exposition.specs.declared.error.Refusal.{Refusal}
+use Rattle.exposition.specs.declared.series.NoLabels.{NoLabels}
+use Rattle.exposition.specs.Faults.{are_utf8, is_utf8_pair, line_fault}
+use Rattle.exposition.specs.Reading.{Said, AddsLine, AddAll, texts_in, unsaid}
+use Rattle.exposition.specs.Refusing.{IfRefused, IsFirstWrong, IsFor}
+use Rattle.exposition.specs.Series.{IsNoUtf8}
 
-all_last : (format : Format) (places : ℕ) (lines : List (List ℕ)) (line : List ℕ) (a b c : Said)
-    → AddAll format places lines a b → AddsLine format places line b c
-    → AddAll format places (lines ++ line ∷ []) a c
-all_last format places [] line a b c all one =
-    (c, subst (λ (x : Said). AddsLine format places line x c) all one, refl)
-all_last format places (l ∷ ls) line a b c all one =
-    (all.0, all.1, all_last format places ls line all.0 b c all.2 one)
+all_last : (format : Format) (places n : ℕ) (lines : List (List ℕ)) (line : List ℕ) (a b c : Said)
+    → AddAll format places n lines a b → AddsLine format places (n + length lines) line b c
+    → AddAll format places n (lines ++ line ∷ []) a c
+all_last format places n [] line a b c all one =
+    let none : n + length {A = List ℕ} [] ≡ n = omega arith in (
+      c,
+      subst (λ (k : ℕ). AddsLine format places k line a c) none
+          (subst (λ (x : Said). AddsLine format places (n + length {A = List ℕ} []) line x c) all
+          one),
+      refl,
+    )
+all_last format places n (l ∷ ls) line a b c all one =
+    let moved : n + length (l ∷ ls) ≡ n + 1 + length ls = omega arith in (
+      all.0,
+      all.1,
+      all_last format places (n + 1) ls line all.0 b c all.2
+          (subst (λ (k : ℕ). AddsLine format places k line b c) moved one),
+    )
 
--- one line more
-pub all_more : (format : Format) (places : ℕ) (lines : List (Bor (List ℕ))) (n : ℕ)
-    (d : Bor (List ℕ)) (a b c : Said) → n < length lines
-    → AddAll format places (texts_in (take n lines)) a b
-    → AddsLine format places (get_or lines n d).now b c
-    → AddAll format places (texts_in (take (n + 1) lines)) a c
-all_more format places lines n d a b c lt all one =
-    subst (λ (ls : List (List ℕ)). AddAll format places ls a c)
+taken : (lines : List (Bor (List ℕ))) (n : ℕ) → n < length lines
+    → length (texts_in (take n lines)) ≡ n
+taken lines n lt =
+    length-map (take n lines) (λ (x : Bor (List ℕ)). x.now)
+    ∙ length-take-le n lines (omega (arith, lt))
+
+-- one line more, the first of which has the number 1
+pub all_more : (format : Format) (places : ℕ) (lines : List (Bor (List ℕ))) (n number : ℕ)
+    (d : Bor (List ℕ)) (a b c : Said) → n < length lines → number ≡ n + 1
+    → AddAll format places 1 (texts_in (take n lines)) a b
+    → AddsLine format places number (get_or lines n d).now b c
+    → AddAll format places 1 (texts_in (take (n + 1) lines)) a c
+all_more format places lines n number d a b c lt is all one =
+    let long = taken lines n lt in
+    let same : number ≡ 1 + length (texts_in (take n lines)) = omega (arith, is, long) in
+    subst (λ (ls : List (List ℕ)). AddAll format places 1 ls a c)
     (sym (ap texts_in (take_at_read lines n d lt).1
     ∙ map-append (λ (x : Bor (List ℕ)). x.now) (take n lines) (get_or lines n d ∷ [])))
-    (all_last format places (texts_in (take n lines)) (get_or lines n d).now a b c all one)
+    (all_last format places 1 (texts_in (take n lines)) (get_or lines n d).now a b c all
+    (subst (λ (k : ℕ). AddsLine format places k (get_or lines n d).now b c) same one))
 
--- a last line that is taken off
-pub last_off : (all rest : List (Bor (List ℕ))) (last : Bor (List ℕ)) (text : List ℕ)
-    → all ≡ rest ++ last ∷ [] → last.now ≡ text → texts_in all ≡ texts_in rest ++ text ∷ []
-last_off all rest last text e f =
-    ap texts_in e
-    ∙ map-append (λ (x : Bor (List ℕ)). x.now) rest (last ∷ [])
-    ∙ ap (λ (t : List ℕ). texts_in rest ++ t ∷ []) f
+-- a line that is wrong, behind lines that say something
+wrong_here : (format : Format) (places : ℕ) (lines : List (Bor (List ℕ))) (n number : ℕ)
+    (d : Bor (List ℕ)) (said : Said) (r : Refusal) → n < length lines → number ≡ n + 1
+    → AddAll format places 1 (texts_in (take n lines)) unsaid said
+    → IsFor number (line_fault format places (get_or lines n d).now) r
+    → IsFirstWrong format places (texts_in lines) r
+wrong_here format places lines n number d said r lt is all wrong = record {
+  before = texts_in (take n lines);
+  line = (get_or lines n d).now;
+  after = texts_in (drop (suc n) lines);
+  parts =
+      ap texts_in (split_at lines n d lt)
+      ∙ map-append (λ (x : Bor (List ℕ)). x.now) (take n lines)
+      (get_or lines n d ∷ drop (suc n) lines);
+  said = said;
+  says = all;
+  wrong = (omega (arith, wrong.0, is, taken lines n lt), wrong.1);
+}
+
+one_pair : (labels : List Label) (n : ℕ) (x : Label) → n < length labels → x ≡ get_or labels n x
+    → pairs_in (take (n + 1) labels) ≡ pairs_in (take n labels) ++ pair_in x ∷ []
+one_pair labels n x lt at =
+    ap pairs_in
+    ((take_at_read labels n x lt).1 ∙ ap (λ (y : Label). take n labels ++ y ∷ []) (sym at))
+    ∙ map-append pair_in (take n labels) (x ∷ [])
+
+pub first_wrong : (e : ReadError) (format : Format) (places : ℕ) (lines : List (Bor (List ℕ)))
+    (n number : ℕ) (d : Bor (List ℕ)) (said : Said) → n < length lines → number ≡ n + 1
+    → AddAll format places 1 (texts_in (take n lines)) unsaid said
+    → IfRefused e (IsFor number (line_fault format places (get_or lines n d).now))
+    → IfRefused e (IsFirstWrong format places (texts_in lines))
+first_wrong Memory format places lines n number d said lt is all wrong = tt
+first_wrong (Refused r) format places lines n number d said lt is all wrong =
+    wrong_here format places lines n number d said r lt is all wrong
 
 -- the pair of one label more
 pub pairs_more : (first so_far new : List Pair) (labels : List Label) (n : ℕ) (x : Label)
@@ -45,29 +103,36 @@ pub pairs_more : (first so_far new : List Pair) (labels : List Label) (n : ℕ) 
     → new ≡ so_far ++ pair_in x ∷ [] → new ≡ first ++ pairs_in (take (n + 1) labels)
 pairs_more first so_far new labels n x lt at inv put =
     let before = pairs_in (take n labels) in
-    let more : pairs_in (take (n + 1) labels) ≡ before ++ pair_in x ∷ [] =
-    ap pairs_in
-    ((take_at_read labels n x lt).1 ∙ ap (λ (y : Label). take n labels ++ y ∷ []) (sym at))
-    ∙ map-append pair_in (take n labels) (x ∷ []) in
     put
     ∙ ap (λ (ps : List Pair). ps ++ pair_in x ∷ []) inv
     ∙ append_assoc first before (pair_in x ∷ [])
-    ∙ ap (λ (ps : List Pair). first ++ ps) (sym more)
+    ∙ ap (λ (ps : List Pair). first ++ ps) (sym (one_pair labels n x lt at))
 
--- the lines before `# EOF`, and an empty line or none behind it
-pub cut_open : (all mid lines : List (List ℕ)) → (mid ≡ all) ⊎ (all ≡ mid ++ [] ∷ [])
-    → mid ≡ lines ++ eof ∷ [] → IsCutInto OpenMetrics all lines
-cut_open all mid lines (inl e) f =
-    record { ending = eof ∷ []; parts = sym e ∙ f; ends = inl refl }
-cut_open all mid lines (inr e) f = record {
-  ending = eof ∷ [] ∷ [];
-  parts =
-      e
-      ∙ (ap (λ (ls : List (List ℕ)). ls ++ [] ∷ []) f
-      ∙ append_assoc lines (eof ∷ []) ([] ∷ []));
-  ends = inr refl;
-}
+-- a label more that is UTF-8
+pub utf8_more : (labels : List Label) (n : ℕ) (x : Label) → n < length labels
+    → x ≡ get_or labels n x → are_utf8 (pairs_in (take n labels)) ≡ true
+    → is_utf8_pair (pair_in x) ≡ true → are_utf8 (pairs_in (take (n + 1) labels)) ≡ true
+utf8_more labels n x lt at all one =
+    ap are_utf8 (one_pair labels n x lt at)
+    ∙ (list_all-append is_utf8_pair (pairs_in (take n labels)) (pair_in x ∷ [])
+    ∙ rw (all, one) refl)
 
-pub cut_older : (all lines : List (List ℕ)) → lines ≡ all → IsCutInto Prometheus all lines
-cut_older all lines e =
-    record { ending = []; parts = sym e ∙ sym (append-nil lines); ends = refl }
+-- one that is not
+pub utf8_less : (labels : List Label) (n : ℕ) (x : Label) → n < length labels
+    → x ≡ get_or labels n x → is_utf8_pair (pair_in x) ≡ false → are_utf8 (pairs_in labels) ≡ false
+utf8_less labels n x lt at one =
+    list_all-map is_utf8_pair pair_in labels
+    ∙ list_all_at (λ (y : Label). is_utf8_pair (pair_in y)) labels n x lt
+    (ap (λ (y : Label). is_utf8_pair (pair_in y)) (sym at) ∙ one)
+
+no_utf8_in : (labels : List Label) (n : ℕ) (x : Label) (o : Option Cause) → n < length labels
+    → x ≡ get_or labels n x
+    → IfSome o (λ c. (c ≡ Text) × (is_utf8_pair (pair_in x) ≡ false))
+    → IfSome o (λ c. (c ≡ Text) × (are_utf8 (pairs_in labels) ≡ false))
+no_utf8_in labels n x None lt at is = tt
+no_utf8_in labels n x (Some c) lt at is = (is.0, utf8_less labels n x lt at is.1)
+
+pub no_utf8 : (labels : List Label) (n : ℕ) (x : Label) (e : NoLabels) → n < length labels
+    → x ≡ get_or labels n x → IsNoUtf8 (is_utf8_pair (pair_in x)) e
+    → IsNoUtf8 (are_utf8 (pairs_in labels)) e
+no_utf8 labels n x e lt at is = no_utf8_in labels n x e.cause lt at is

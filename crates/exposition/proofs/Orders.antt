@@ -43,7 +43,6 @@ put_next l ss s old mid new h p = record {
       ∙ ap (put point_cmp (l, s.0) s.1) h.content
       ∙ sym (put_last (content_of (reverse old)) l ss s);
   count = omega (arith, p.count, h.count, length-append ss (s ∷ []));
-  rise = p.rise;
 }
 
 -- one sample more
@@ -69,7 +68,6 @@ row_next rows r mid new h p =
           ∙ sym (put_both [] points (points_in r.0 r.1))
           ∙ ap (put_each []) (sym (points_last rows r));
       count = omega (arith, p.count, h.count, long, points_long r.0 r.1);
-      rise = p.rise;
     }
 
 -- one row more

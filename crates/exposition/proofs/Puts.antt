@@ -10,7 +10,6 @@ use Rattle.std.specs.FinMap.Entries.{put, find, find-put, is_sorted, below_all, 
 use Rattle.std.proofs.Common.{sym, ap, subst, ◌∙◌, arith, length-append}
 use Rattle.std.proofs.lemmas.Cmp.{int_cmp_total}
 use Rattle.std.proofs.lemmas.List.{reverse-append}
-use Rattle.std.proofs.lemmas.List.Elements.{All-push}
 use Rattle.labels.specs.Labels.{Labels, Point, point_cmp}
 use Rattle.labels.specs.Contents.{Content}
 use Rattle.labels.specs.Rows.{Row, points_in, points_of}
@@ -18,7 +17,7 @@ use Rattle.labels.specs.Parts.{laid_over}
 use Rattle.labels.proofs.ContentLaws.{is_sorted-laid_over, same_content, labels_self}
 use Rattle.labels.proofs.OrderLaws.{point_total, point_exact}
 use Rattle.labels.proofs.Times.{both_T, first_T, second_T, T_of, true_not_false}
-use Rattle.exposition.specs.Runs.{AreRising, GoesOn, content_of, count_of, IsPut}
+use Rattle.exposition.specs.Runs.{GoesOn, content_of, count_of, IsPut}
 
 less_is : (o : Ordering) → T (is_lt o) → o ≡ Less
 less_is Less h = refl
@@ -109,26 +108,22 @@ points_long l (s ∷ ss) = ap suc (points_long l ss)
 reverse_last : (rest : List Row) (x : Row) → reverse (rest ++ x ∷ []) ≡ x ∷ reverse rest
 reverse_last rest x = reverse-append rest (x ∷ [])
 
-abbrev Rises : Row → Type 0
-Rises r = T (is_sorted int_cmp r.1)
-
 -- a run of one sample more
-pub run_put : (l : Labels) (s : ℤ × ℤ) (runs : List Row) → AreRising runs
+pub run_put : (l : Labels) (s : ℤ × ℤ) (runs : List Row)
     → IsPut l s runs (runs ++ (l, s ∷ []) ∷ [])
-run_put l s runs rise =
+run_put l s runs =
     let r : Row = (l, s ∷ []) in
     let long : count_of (reverse (runs ++ r ∷ [])) ≡ suc (count_of (reverse runs)) =
     ap count_of (reverse_last runs r) in
     record {
       content = ap content_of (reverse_last runs r);
       count = omega (arith, long);
-      rise = All-push Rises runs r rise tt;
     }
 
 -- the last run goes on
-pub last_put : (l : Labels) (s : ℤ × ℤ) (runs : List Row) (r : Row) → AreRising runs → GoesOn r l s
+pub last_put : (l : Labels) (s : ℤ × ℤ) (runs : List Row) (r : Row) → GoesOn r l s
     → IsPut l s (runs ++ r ∷ []) (runs ++ (r.0, r.1 ++ s ∷ []) ∷ [])
-last_put l s runs r rise goes =
+last_put l s runs r goes =
     let longer : Row = (r.0, r.1 ++ s ∷ []) in
     let rest = points_of (reverse runs) in
     let one : count_of (reverse (runs ++ longer ∷ []))
@@ -155,7 +150,6 @@ last_put l s runs r rise goes =
             points_long r.0 r.1,
             length-append r.1 (s ∷ []),
           );
-      rise = All-push Rises runs longer rise goes.1;
     }
 
 -- what holds where a test is true

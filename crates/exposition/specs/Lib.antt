@@ -1,3 +1,6 @@
+pub mod Faults
 pub mod Reading
+pub mod Refusing
 pub mod Rows
 pub mod Runs
+pub mod Series

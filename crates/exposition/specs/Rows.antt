@@ -15,15 +15,14 @@ put_each c (e ∷ es) = put_each (put point_cmp e.0 e.1 c) es
 pub record ArePut (l : Labels) (ss : List (ℤ × ℤ)) (old new : List Row) : Type 0 where
   pub content : content_of (reverse new) ≡ put_each (content_of (reverse old)) (points_in l ss)
   pub count : count_of (reverse new) ≡ count_of (reverse old) + length ss
-  pub rise : AreRising new
 
 -- runs, of which the last counts first, hold the samples of rows, in which the last stands
 pub record ArePutOf (rows runs : List Row) : Type 0 where
   pub content : content_of (reverse runs) ≡ put_each [] (points_of rows)
   pub count : count_of (reverse runs) ≡ count_of rows
-  pub rise : AreRising runs
 
--- the same of runs of which the first counts
+-- the same of runs whose times ascend, of which the first counts: none of the samples is lost
 pub record IsSameOf (rows runs : List Row) : Type 0 where
   pub content : content_of runs ≡ put_each [] (points_of rows)
   pub count : count_of runs ≡ count_of rows
+  pub rise : AreRising runs

@@ -28,4 +28,3 @@ count_of rows = length (points_of rows)
 pub record IsPut (l : Labels) (s : ℤ × ℤ) (old new : List Row) : Type 0 where
   pub content : content_of (reverse new) ≡ put point_cmp (l, s.0) s.1 (content_of (reverse old))
   pub count : count_of (reverse new) ≡ count_of (reverse old) + 1
-  pub rise : AreRising new

@@ -1,8 +1,12 @@
 //! Why a text is refused.
 
+ghost use Rattle.std.specs.Prelude.{◌≡◌};
+ghost use Rattle.exposition.specs.declared.error.ReadError.TheVariants.{Memory};
+
 use labels::LabelError;
 use open_metrics::Reason;
 use std::alloc::{AllocError, AllocFailed};
+use std::fmt;
 
 /// Why a line is refused.
 #[derive(Clone, Copy, Debug, PartialEq, Eq, Drop)]
@@ -32,6 +36,18 @@ impl Cause {
     }
 }
 
+impl fmt::Display for Cause {
+    fn fmt<W: fmt::Write>(&self, f: &mut fmt::Formatter<W>) -> fmt::Result {
+        match self {
+            Cause::Line(reason) => write!(f, "{reason}"),
+            Cause::Text => write!(f, "P10: the text of a label is no UTF-8"),
+            Cause::Labels(error) => write!(f, "{error}"),
+            Cause::Time => write!(f, "P11: the time is outside -2^62 to 2^62 - 1"),
+            Cause::End => write!(f, "P12: the last line, and no other, is to be # EOF"),
+        }
+    }
+}
+
 /// Where and why a text is refused.
 #[derive(Clone, Copy, Debug, PartialEq, Eq, Drop)]
 pub struct Refusal {
@@ -53,12 +69,16 @@ pub enum ReadError {
 }
 
 impl From<AllocError> for ReadError {
+    ghost from_gives = { λ _ e. e ≡ Memory };
+
     fn from(_error: AllocError) -> ReadError {
         ReadError::Memory
     }
 }
 
 impl<T: Drop> From<AllocFailed<T>> for ReadError {
+    ghost from_gives = { λ _ e. e ≡ Memory };
+
     fn from(_error: AllocFailed<T>) -> ReadError {
         ReadError::Memory
     }

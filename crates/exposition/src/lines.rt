@@ -1,21 +1,40 @@
 //! The lines of a text.
 
-ghost use Rattle.std.specs.Prelude.{◌≡◌, ◌⊎◌, ◌==◌, ◌++◌, ◌∷◌, [], List, ℕ, IfOk};
+ghost use Rattle.std.specs.Prelude.{◌≡◌, ◌⊎◌, ◌==◌, ◌++◌, ◌+◌, ◌∷◌, [], List, ℕ, IfOk, IfErr};
 ghost use Rattle.std.specs.Str.{bytes_eq};
+ghost use Rattle.exposition.specs.Faults.{column_of};
 ghost use Rattle.exposition.specs.Reading.{eof, IsCutInto, lines_in, texts_in};
+ghost use Rattle.exposition.specs.Refusing.{AreBefore, IfRefused, IsEndless, MissesEnd};
+ghost use Rattle.exposition.specs.declared.error.ReadError.TheVariants.{Refused};
 ghost use Rattle.open_metrics.specs.declared.comments.Format.TheVariants.{OpenMetrics};
 
 use crate::error::{Cause, ReadError, Refusal};
 use open_metrics::Format;
 use std::alloc::{AllocError, Global};
 
+/// A line, and its number from 1.
+#[derive(Clone, Copy, Drop)]
+pub struct Numbered<'a> {
+    pub number: u64,
+    pub line: &'a [u8],
+}
+
 /// The refusal of a line at a column.
-pub fn refused(line: u64, column: u64, cause: Cause) -> ReadError {
+pub fn refused(line: u64, column: u64, cause: Cause) -> ReadError
+    ensures { result ≡ Refused (record { line = line; column = column; cause = cause }) }
+{
     ReadError::Refused(Refusal {
         line,
         column,
         cause,
     })
+}
+
+/// The column at which so many bytes of a line are left.
+pub fn column_at(line: &[u8], left: usize) -> u64
+    ensures { result ≡ column_of line.now left }
+{
+    line.len().saturating_sub(left) as u64 + 1
 }
 
 fn cut_all(alloc: Global, text: &[u8]) -> Result<Vec<&[u8]>, AllocError>
@@ -32,24 +51,26 @@ fn is_eof(line: &[u8]) -> bool
 
 // The lines before `# EOF`, which must be the last.
 fn without_eof(lines: Vec<&[u8]>) -> Result<Vec<&[u8]>, ReadError>
-    ensures { IfOk result (λ front. texts_in lines.entry.items ≡ texts_in front.items ++ eof ∷ []) }
+    ensures found { IfOk result
+        (λ front. texts_in lines.entry.items ≡ texts_in front.items ++ eof ∷ []) }
+    ensures missing { IfErr result
+        (λ e. IfRefused e (IsEndless (texts_in lines.entry.items))) }
 {
-    let missing = refused((lines.len() as u64).saturating_add(1), 1, Cause::End);
+    let missing = refused(lines.len() as u64 + 1, 1, Cause::End);
     let mut front = lines;
-    match front.pop() {
-        Some(last) => if is_eof(last) {
-            Ok(front)
-        } else {
-            Err(missing)
-        },
-        None => Err(missing),
+    let Some(last) = front.pop() else {
+        return Err(missing);
+    };
+    if is_eof(last) {
+        return Ok(front);
     }
+    Err(missing)
 }
 
 // The lines before an empty one at the end.
 fn without_empty(lines: Vec<&[u8]>) -> Result<Vec<&[u8]>, AllocError>
-    ensures { IfOk result (λ front. (texts_in front.items ≡ texts_in lines.entry.items)
-        ⊎ (texts_in lines.entry.items ≡ texts_in front.items ++ [] ∷ [])) }
+    ensures { IfOk result
+        (λ front. AreBefore (texts_in lines.entry.items) (texts_in front.items)) }
 {
     let mut front = lines;
     let Some(last) = front.pop() else {
@@ -62,8 +83,10 @@ fn without_empty(lines: Vec<&[u8]>) -> Result<Vec<&[u8]>, AllocError>
 }
 
 fn open_lines(lines: Vec<&[u8]>) -> Result<Vec<&[u8]>, ReadError>
-    ensures { IfOk result (λ front. IsCutInto OpenMetrics (texts_in lines.entry.items)
+    ensures found { IfOk result (λ front. IsCutInto OpenMetrics (texts_in lines.entry.items)
         (texts_in front.items)) }
+    ensures missing { IfErr result
+        (λ e. IfRefused e (MissesEnd OpenMetrics (texts_in lines.entry.items))) }
 {
     let front = without_empty(lines)?;
     let rest = without_eof(front)?;
@@ -72,7 +95,10 @@ fn open_lines(lines: Vec<&[u8]>) -> Result<Vec<&[u8]>, ReadError>
 
 /// The lines of a text, without its end.
 pub fn lines_of(alloc: Global, format: Format, text: &[u8]) -> Result<Vec<&[u8]>, ReadError>
-    ensures { IfOk result (λ lines. IsCutInto format (lines_in text.now) (texts_in lines.items)) }
+    ensures found { IfOk result
+        (λ lines. IsCutInto format (lines_in text.now) (texts_in lines.items)) }
+    ensures missing { IfErr result
+        (λ e. IfRefused e (MissesEnd format (lines_in text.now))) }
 {
     let lines = cut_all(alloc, text)?;
     match format {

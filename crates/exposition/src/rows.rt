@@ -1,41 +1,38 @@
 //! Rows in any order as runs.
 
 ghost use Rattle.std.specs.Prelude.{IfOk, OnOk};
-ghost use Rattle.exposition.specs.Runs.{AreRising};
 ghost use Rattle.exposition.specs.Rows.{ArePut, ArePutOf, IsSameOf};
 
-use crate::runs::push_sample;
+use crate::runs::Runs;
 use labels::{LabelSet, Row, Sample};
 use std::alloc::{AllocError, Global};
 
-fn push_samples(
+fn put_samples(
     alloc: Global,
-    runs: &mut Vec<Row>,
+    runs: &mut Runs,
     labels: &LabelSet,
     samples: &[Sample],
 ) -> Result<(), AllocError>
-    requires { AreRising runs.old.items }
-    ensures { OnOk result (ArePut labels.now samples.now runs.old.items runs.new.items) }
+    ensures { OnOk result (ArePut labels.now samples.now runs.old runs.new) }
 {
     for sample in samples {
-        push_sample(alloc, runs, labels, *sample)?;
+        runs.put(alloc, labels, *sample)?;
     }
     Ok(())
 }
 
-fn push_row(alloc: Global, runs: &mut Vec<Row>, row: &Row) -> Result<(), AllocError>
-    requires { AreRising runs.old.items }
-    ensures { OnOk result (ArePut row.now.0 row.now.1 runs.old.items runs.new.items) }
+fn put_row(alloc: Global, runs: &mut Runs, row: &Row) -> Result<(), AllocError>
+    ensures { OnOk result (ArePut row.now.0 row.now.1 runs.old runs.new) }
 {
-    push_samples(alloc, runs, row.labels(), row.samples())
+    put_samples(alloc, runs, row.labels(), row.samples())
 }
 
-fn push_rows(alloc: Global, rows: &[Row]) -> Result<Vec<Row>, AllocError>
-    ensures { IfOk result (λ runs. ArePutOf rows.now runs.items) }
+fn put_rows(alloc: Global, rows: &[Row]) -> Result<Runs, AllocError>
+    ensures { IfOk result (ArePutOf rows.now) }
 {
-    let mut runs = Vec::new(alloc);
+    let mut runs = Runs::new(alloc);
     for row in rows {
-        push_row(alloc, &mut runs, row)?;
+        put_row(alloc, &mut runs, row)?;
     }
     Ok(runs)
 }
@@ -45,7 +42,6 @@ fn push_rows(alloc: Global, rows: &[Row]) -> Result<Vec<Row>, AllocError>
 pub fn runs_of(alloc: Global, rows: &[Row]) -> Result<Vec<Row>, AllocError>
     ensures { IfOk result (λ runs. IsSameOf rows.now runs.items) }
 {
-    let mut runs = push_rows(alloc, rows)?;
-    runs.reverse();
-    Ok(runs)
+    let runs = put_rows(alloc, rows)?;
+    Ok(runs.into_rows())
 }

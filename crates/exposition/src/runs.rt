@@ -1,6 +1,6 @@
 //! Samples in runs: rows whose times ascend.
 
-ghost use Rattle.std.specs.Prelude.{◌≡◌, ◌∷◌, [], ◌++◌, T, IfOk, OnOk};
+ghost use Rattle.std.specs.Prelude.{◌≡◌, ◌∷◌, [], ◌++◌, T, IfOk, OnOk, reverse};
 ghost use Rattle.std.specs.Bool.{OnTrue};
 ghost use Rattle.std.specs.Ordering.{int_cmp};
 ghost use Rattle.std.specs.FinMap.Entries.{is_sorted};
@@ -9,6 +9,25 @@ ghost use Rattle.exposition.specs.Runs.{AreRising, GoesOn, IsPut};
 use labels::{LabelSet, Row, Sample};
 use std::alloc::{AllocError, Global};
 use std::cmp::Ordering;
+use std::marker::Model;
+
+/// Rows whose times ascend. Of several samples at one point the last counts.
+#[derive(Drop)]
+pub struct Runs {
+    rows: Vec<Row>,
+}
+
+impl Model for Runs {
+    ghost use Rattle.std.specs.Prelude.{List};
+    ghost use Rattle.labels.specs.Rows.{Row};
+    ghost use Rattle.exposition.specs.Runs.{AreRising};
+
+    ghost Value = { List Row };
+
+    ghost view = { λ r. r.rows.items };
+
+    ghost invariant = { λ r. AreRising r.rows.items };
+}
 
 fn order_of_times(a: Sample, b: Sample) -> Ordering
     ensures { result ≡ int_cmp a.0 b.0 }
@@ -52,56 +71,64 @@ fn with_sample(row: Row, sample: Sample) -> Result<Row, AllocError>
     Ok(Row::new(labels, samples))
 }
 
-// Adds a run of one sample.
-fn push_run(
+// The run that goes on with a sample, or one of it alone behind the last.
+fn last_run(
     alloc: Global,
-    runs: &mut Vec<Row>,
+    rows: &mut Vec<Row>,
     labels: &LabelSet,
     sample: Sample,
-) -> Result<(), AllocError>
-    requires { AreRising runs.old.items }
-    ensures { OnOk result (IsPut labels.now sample runs.old.items runs.new.items) }
+) -> Result<Row, AllocError>
+    requires { AreRising rows.old.items }
+    ensures put { IfOk result
+        (λ row. IsPut labels.now sample rows.old.items (rows.new.items ++ row ∷ [])) }
+    ensures rise { AreRising rows.new.items }
+    ensures row_rises { IfOk result (λ row. T (is_sorted int_cmp row.1)) }
 {
-    let row = row_of(alloc, labels, sample)?;
-    runs.push(row)?;
-    Ok(())
-}
-
-// Adds a run, and a sample over all.
-fn push_behind(
-    alloc: Global,
-    runs: &mut Vec<Row>,
-    last: Row,
-    labels: &LabelSet,
-    sample: Sample,
-) -> Result<(), AllocError>
-    requires rise { AreRising runs.old.items }
-    requires last_rises { T (is_sorted int_cmp last.1) }
-    ensures { OnOk result
-        (IsPut labels.now sample (runs.old.items ++ last ∷ []) runs.new.items) }
-{
+    let Some(last) = rows.pop() else {
+        let row = row_of(alloc, labels, sample)?;
+        return Ok(row);
+    };
     if goes_on(&last, labels, sample) {
         let row = with_sample(last, sample)?;
-        runs.push(row)?;
-        return Ok(());
+        return Ok(row);
     }
-    runs.push(last)?;
-    push_run(alloc, runs, labels, sample)
+    rows.push(last)?;
+    let row = row_of(alloc, labels, sample)?;
+    Ok(row)
 }
 
-/// Puts a sample over those of runs: at the end of the last run, if it goes on there, or as a run
-/// of its own.
-pub fn push_sample(
-    alloc: Global,
-    runs: &mut Vec<Row>,
-    labels: &LabelSet,
-    sample: Sample,
-) -> Result<(), AllocError>
-    requires { AreRising runs.old.items }
-    ensures { OnOk result (IsPut labels.now sample runs.old.items runs.new.items) }
-{
-    match runs.pop() {
-        Some(last) => push_behind(alloc, runs, last, labels, sample),
-        None => push_run(alloc, runs, labels, sample),
+impl Runs {
+    /// No run.
+    pub fn new(alloc: Global) -> Runs
+        ensures { result ≡ [] }
+    {
+        Runs {
+            rows: Vec::new(alloc),
+        }
+    }
+
+    /// Puts a sample over the others: at the end of the last run, if it goes on there, or as a run
+    /// of its own.
+    pub fn put(
+        &mut self,
+        alloc: Global,
+        labels: &LabelSet,
+        sample: Sample,
+    ) -> Result<(), AllocError>
+        ensures { OnOk result (IsPut labels.now sample self.old self.new) }
+    {
+        let row = last_run(alloc, &mut self.rows, labels, sample)?;
+        self.rows.push(row)?;
+        Ok(())
+    }
+
+    /// The runs, of which the first counts.
+    pub fn into_rows(self) -> Vec<Row>
+        ensures is { result.items ≡ reverse self }
+        ensures rise { AreRising result.items }
+    {
+        let mut rows = self.rows;
+        rows.reverse();
+        rows
     }
 }

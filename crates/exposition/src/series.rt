@@ -1,11 +1,15 @@
 //! The label set of a sample.
 
-ghost use Rattle.std.specs.Prelude.{◌≡◌, ◌∷◌, [], ◌++◌, IfOk, OnOk, string_bytes};
-ghost use Rattle.labels.specs.LabelSets.{IsMadeOf};
+ghost use Rattle.std.specs.Prelude.{◌≡◌, ◌∷◌, [], ◌++◌, None, Some, true, false, string_bytes};
+ghost use Rattle.std.specs.Prelude.{IfNone, IfSome, MatchResult};
+ghost use Rattle.std.specs.Str.{is_utf8};
+ghost use Rattle.labels.specs.LabelSets.{IsMadeOf, refusal_of};
 ghost use Rattle.labels.specs.Pairs.{pairs_of};
 ghost use Rattle.open_metrics.specs.Labels.{pair_in, pairs_in};
 ghost use Rattle.open_metrics.specs.Lines.{sample_in};
-ghost use Rattle.exposition.specs.Reading.{pairs_of_sample};
+ghost use Rattle.exposition.specs.Faults.{are_utf8, is_utf8_pair, pairs_fault, pairs_of_sample};
+ghost use Rattle.exposition.specs.Faults.{refused_for};
+ghost use Rattle.exposition.specs.Series.{IfCaused, IsNoUtf8};
 
 use crate::error::Cause;
 use labels::{LabelError, LabelSet};
@@ -21,25 +25,39 @@ pub struct NoLabels {
 }
 
 impl From<AllocError> for NoLabels {
+    ghost from_gives = { λ _ e. e.cause ≡ None };
+
     fn from(_error: AllocError) -> NoLabels {
         NoLabels { cause: None }
     }
 }
 
 impl<T: Drop> From<AllocFailed<T>> for NoLabels {
+    ghost from_gives = { λ _ e. e.cause ≡ None };
+
     fn from(_error: AllocFailed<T>) -> NoLabels {
         NoLabels { cause: None }
     }
 }
 
-fn string_of(alloc: Global, bytes: &[u8]) -> Result<String, NoLabels>
-    ensures { IfOk result (λ text. string_bytes text ≡ bytes.now) }
+fn text_in(bytes: &[u8]) -> Result<&str, NoLabels>
+    ensures { MatchResult result (λ text. (text.now ≡ bytes.now) × (is_utf8 bytes.now ≡ true))
+        (λ e. IsNoUtf8 (is_utf8 bytes.now) e) }
 {
-    let Ok(text) = str::from_utf8(bytes) else {
-        return Err(NoLabels {
+    match str::from_utf8(bytes) {
+        Ok(text) => Ok(text),
+        Err(_) => Err(NoLabels {
             cause: Some(Cause::Text),
-        });
-    };
+        }),
+    }
+}
+
+fn string_of(alloc: Global, bytes: &[u8]) -> Result<String, NoLabels>
+    ensures { MatchResult result
+        (λ text. (string_bytes text ≡ bytes.now) × (is_utf8 bytes.now ≡ true))
+        (λ e. IsNoUtf8 (is_utf8 bytes.now) e) }
+{
+    let text = text_in(bytes)?;
     Ok(String::from_str(alloc, text)?)
 }
 
@@ -49,8 +67,10 @@ fn push_pair(
     name: &[u8],
     text: &[u8],
 ) -> Result<(), NoLabels>
-    ensures { OnOk result (pairs_of pairs.new.items
-        ≡ pairs_of pairs.old.items ++ (name.now, text.now) ∷ []) }
+    ensures { MatchResult result
+        (λ _. (pairs_of pairs.new.items ≡ pairs_of pairs.old.items ++ (name.now, text.now) ∷ [])
+        × (is_utf8_pair (name.now, text.now) ≡ true))
+        (λ e. IsNoUtf8 (is_utf8_pair (name.now, text.now)) e) }
 {
     let name = string_of(alloc, name)?;
     let text = string_of(alloc, text)?;
@@ -63,8 +83,10 @@ fn push_label(
     pairs: &mut Vec<(String, String)>,
     label: &Label<'_>,
 ) -> Result<(), NoLabels>
-    ensures { OnOk result (pairs_of pairs.new.items
-        ≡ pairs_of pairs.old.items ++ pair_in label.now ∷ []) }
+    ensures { MatchResult result
+        (λ _. (pairs_of pairs.new.items ≡ pairs_of pairs.old.items ++ pair_in label.now ∷ [])
+        × (is_utf8_pair (pair_in label.now) ≡ true))
+        (λ e. IsNoUtf8 (is_utf8_pair (pair_in label.now)) e) }
 {
     push_pair(alloc, pairs, label.name, label.text.as_slice())?;
     Ok(())
@@ -75,8 +97,10 @@ fn push_pairs(
     pairs: &mut Vec<(String, String)>,
     labels: &[Label<'_>],
 ) -> Result<(), NoLabels>
-    ensures { OnOk result (pairs_of pairs.new.items
-        ≡ pairs_of pairs.old.items ++ pairs_in labels.now) }
+    ensures { MatchResult result
+        (λ _. (pairs_of pairs.new.items ≡ pairs_of pairs.old.items ++ pairs_in labels.now)
+        × (are_utf8 (pairs_in labels.now) ≡ true))
+        (λ e. IsNoUtf8 (are_utf8 (pairs_in labels.now)) e) }
 {
     for label in labels {
         push_label(alloc, pairs, label)?;
@@ -85,8 +109,10 @@ fn push_pairs(
 }
 
 fn all_pairs(alloc: Global, sample: &SampleLine<'_>) -> Result<Vec<(String, String)>, NoLabels>
-    ensures { IfOk result
-        (λ v. pairs_of v.items ≡ pairs_of_sample (sample_in sample.now)) }
+    ensures { MatchResult result
+        (λ v. (pairs_of v.items ≡ pairs_of_sample (sample_in sample.now))
+        × (are_utf8 (pairs_of_sample (sample_in sample.now)) ≡ true))
+        (λ e. IsNoUtf8 (are_utf8 (pairs_of_sample (sample_in sample.now))) e) }
 {
     let mut pairs = Vec::new(alloc);
     push_pair(alloc, &mut pairs, NAME.as_bytes(), sample.name)?;
@@ -95,7 +121,9 @@ fn all_pairs(alloc: Global, sample: &SampleLine<'_>) -> Result<Vec<(String, Stri
 }
 
 fn made_of(alloc: Global, pairs: Vec<(String, String)>) -> Result<LabelSet, NoLabels>
-    ensures { IfOk result (λ l. IsMadeOf l (pairs_of pairs.items)) }
+    ensures { MatchResult result
+        (λ l. IsMadeOf l (pairs_of pairs.items) × (refusal_of (pairs_of pairs.items) ≡ None))
+        (λ e. IfCaused e (refused_for (refusal_of (pairs_of pairs.items)))) }
 {
     match LabelSet::new(alloc, pairs) {
         Ok(labels) => Ok(labels),
@@ -108,7 +136,10 @@ fn made_of(alloc: Global, pairs: Vec<(String, String)>) -> Result<LabelSet, NoLa
 
 /// The label set of a sample: its labels, and the name of its metric.
 pub fn label_set(alloc: Global, sample: &SampleLine<'_>) -> Result<LabelSet, NoLabels>
-    ensures { IfOk result (λ l. IsMadeOf l (pairs_of_sample (sample_in sample.now))) }
+    ensures { MatchResult result
+        (λ l. IsMadeOf l (pairs_of_sample (sample_in sample.now))
+        × (pairs_fault (pairs_of_sample (sample_in sample.now)) ≡ None))
+        (λ e. IfCaused e (pairs_fault (pairs_of_sample (sample_in sample.now)))) }
 {
     let pairs = all_pairs(alloc, sample)?;
     made_of(alloc, pairs)

@@ -1,15 +1,19 @@
 //! Whole texts.
 
-ghost use Rattle.std.specs.Prelude.{◌≡◌, ◌≤◌, Ok, IfOk, OnOk, [], reverse};
+ghost use Rattle.std.specs.Prelude.{◌≡◌, ◌≤◌, None, Ok, IfErr, IfOk, OnOk, MatchResult};
 ghost use Rattle.open_metrics.specs.Lines.{line_at, meaning_in, sample_in};
-ghost use Rattle.exposition.specs.Runs.{AreRising};
+ghost use Rattle.exposition.specs.Faults.{line_fault, meaning_fault, pairs_fault};
+ghost use Rattle.exposition.specs.Faults.{pairs_of_sample, sample_fault};
 ghost use Rattle.exposition.specs.Reading.{Adds, AddAll, AddsLine, AddsSample, AddsValue, IsText};
-ghost use Rattle.exposition.specs.Reading.{pairs_of_sample, said_by, told_by, texts_in};
+ghost use Rattle.exposition.specs.Reading.{Said, place_of, said_in, texts_in, told_in, unsaid};
+ghost use Rattle.exposition.specs.Refusing.{Gives, IfRefused, IsFirstWrong, IsFor, IsRefused};
+ghost use Rattle.exposition.specs.Runs.{AreRising};
+ghost use Rattle.exposition.specs.Series.{IsCausedBy};
 ghost use Rattle.labels.specs.LabelSets.{IsMadeOf};
 
 use crate::error::{Cause, ReadError};
-use crate::lines::{lines_of, refused};
-use crate::runs::push_sample;
+use crate::lines::{Numbered, column_at, lines_of, refused};
+use crate::runs::Runs;
 use crate::series::{NoLabels, label_set};
 use labels::{LabelSet, Row, Sample, is_time};
 use open_metrics::{Fault, Format, Line, SampleLine, Value, read_line};
@@ -36,98 +40,105 @@ pub struct Exposition {
     pub others: Vec<Left>,
 }
 
-fn left_at(t: i64, line: u64, column: u64) -> Left
-    ensures { result.t ≡ t }
+/// What lines say.
+#[derive(Drop)]
+struct Gathered {
+    runs: Runs,
+    others: Vec<Left>,
+}
+
+fn left_in(at: Numbered<'_>, sample: &SampleLine<'_>) -> Left
+    ensures { result ≡ place_of at.entry.number at.entry.line.now (sample_in sample.now) }
 {
-    Left { t, line, column }
+    Left {
+        t: sample.t,
+        line: at.number,
+        column: column_at(at.line, sample.from_value),
+    }
 }
 
-// The column at which so many bytes of a line are left.
-fn column_at(len: usize, left: usize) -> u64 {
-    (len.saturating_sub(left) as u64).saturating_add(1)
-}
-
-fn no_labels(number: u64, error: NoLabels) -> ReadError {
+fn no_labels(number: u64, error: NoLabels) -> ReadError
+    ensures { IfRefused result (IsCausedBy number error) }
+{
     match error.cause {
         Some(cause) => refused(number, 1, cause),
         None => ReadError::Memory,
     }
 }
 
-fn label_set_of(alloc: Global, number: u64, sample: &SampleLine<'_>) -> Result<LabelSet, ReadError>
-    ensures { IfOk result (λ l. IsMadeOf l (pairs_of_sample (sample_in sample.now))) }
+// The label set of a sample whose time is one of samples.
+#[tactic(auto, using(crate::proofs::Places::labels_wrong, crate::proofs::Places::time_wrong, crate::proofs::Places::none_wrong))]
+fn labels_of(
+    alloc: Global,
+    at: Numbered<'_>,
+    sample: &SampleLine<'_>,
+) -> Result<LabelSet, ReadError>
+    ensures { MatchResult result
+        (λ l. IsMadeOf l (pairs_of_sample (sample_in sample.now))
+        × (sample_fault at.entry.line.now (sample_in sample.now) ≡ None))
+        (λ e. IfRefused e
+        (IsFor at.entry.number (sample_fault at.entry.line.now (sample_in sample.now)))) }
 {
-    match label_set(alloc, sample) {
-        Ok(labels) => Ok(labels),
-        Err(error) => Err(no_labels(number, error)),
+    let labels = match label_set(alloc, sample) {
+        Ok(labels) => labels,
+        Err(error) => return Err(no_labels(at.number, error)),
+    };
+    if !is_time(sample.t) {
+        let column = column_at(at.line, sample.from_time);
+        return Err(refused(at.number, column, Cause::Time));
     }
+    Ok(labels)
 }
 
 fn add_value(
     alloc: Global,
-    runs: &mut Vec<Row>,
-    others: &mut Vec<Left>,
+    gathered: &mut Gathered,
     labels: &LabelSet,
     value: Value,
     place: Left,
 ) -> Result<(), AllocError>
-    requires { AreRising runs.old.items }
-    ensures adds { OnOk result (AddsValue value (labels.now, place.t)
-        (said_by runs.old.items others.old.items) (said_by runs.new.items others.new.items)) }
-    ensures rise { OnOk result (AreRising runs.new.items) }
+    ensures { OnOk result
+        (AddsValue value labels.now place (said_in gathered.old) (said_in gathered.new)) }
 {
     match value {
-        Value::Parts(v) => {
-            push_sample(alloc, runs, labels, Sample::new(place.t, v))?;
-            Ok(())
-        }
-        Value::Other => {
-            others.push(place)?;
-            Ok(())
-        }
+        Value::Parts(v) => gathered.runs.put(alloc, labels, Sample::new(place.t, v))?,
+        Value::Other => gathered.others.push(place)?,
     }
+    Ok(())
 }
 
 fn add_sample(
     alloc: Global,
-    runs: &mut Vec<Row>,
-    others: &mut Vec<Left>,
+    gathered: &mut Gathered,
     sample: &SampleLine<'_>,
-    number: u64,
-    len: usize,
+    at: Numbered<'_>,
 ) -> Result<(), ReadError>
-    requires { AreRising runs.old.items }
-    ensures adds { OnOk result (AddsSample (sample_in sample.now)
-        (said_by runs.old.items others.old.items) (said_by runs.new.items others.new.items)) }
-    ensures rise { OnOk result (AreRising runs.new.items) }
+    ensures adds { OnOk result (AddsSample at.entry.number at.entry.line.now (sample_in sample.now)
+        (said_in gathered.old) (said_in gathered.new)) }
+    ensures wrong { IfErr result (λ e. IfRefused e
+        (IsFor at.entry.number (sample_fault at.entry.line.now (sample_in sample.now)))) }
 {
-    let labels = label_set_of(alloc, number, sample)?;
-    if !is_time(sample.t) {
-        return Err(refused(number, column_at(len, sample.from_time), Cause::Time));
-    }
-    let column = column_at(len, sample.from_value);
-    let place = left_at(sample.t, number, column);
-    add_value(alloc, runs, others, &labels, sample.value, place)?;
+    let labels = labels_of(alloc, at, sample)?;
+    let place = left_in(at, sample);
+    add_value(alloc, gathered, &labels, sample.value, place)?;
     Ok(())
 }
 
 fn add_read(
     alloc: Global,
-    runs: &mut Vec<Row>,
-    others: &mut Vec<Left>,
+    gathered: &mut Gathered,
     read: Line<'_>,
-    number: u64,
-    len: usize,
+    at: Numbered<'_>,
 ) -> Result<(), ReadError>
-    requires { AreRising runs.old.items }
-    ensures adds { OnOk result (Adds (meaning_in read.entry)
-        (said_by runs.old.items others.old.items) (said_by runs.new.items others.new.items)) }
-    ensures rise { OnOk result (AreRising runs.new.items) }
+    ensures adds { OnOk result (Adds at.entry.number at.entry.line.now (meaning_in read.entry)
+        (said_in gathered.old) (said_in gathered.new)) }
+    ensures wrong { IfErr result (λ e. IfRefused e
+        (IsFor at.entry.number (meaning_fault at.entry.line.now (Ok (meaning_in read.entry))))) }
 {
     match read {
         Line::Nothing => Ok(()),
-        Line::End => Err(refused(number, 1, Cause::End)),
-        Line::Sample(sample) => add_sample(alloc, runs, others, &sample, number, len),
+        Line::End => Err(refused(at.number, 1, Cause::End)),
+        Line::Sample(sample) => add_sample(alloc, gathered, &sample, at),
     }
 }
 
@@ -135,17 +146,19 @@ fn line_of(
     alloc: Global,
     format: Format,
     places: u32,
-    number: u64,
-    line: &[u8],
+    at: Numbered<'_>,
 ) -> Result<Line<'_>, ReadError>
     requires { places ≤ 9 }
-    ensures { IfOk result (λ l. line_at format places line.now ≡ Ok (meaning_in l)) }
+    ensures found { IfOk result (λ l. line_at format places at.entry.line.now ≡ Ok (meaning_in l)) }
+    ensures wrong { IfErr result (λ e. IfRefused e
+        (IsFor at.entry.number (line_fault format places at.entry.line.now))) }
 {
-    match read_line(alloc, format, places, line) {
+    match read_line(alloc, format, places, at.line) {
         Ok(read) => Ok(read),
         Err(Fault::Memory) => Err(ReadError::Memory),
         Err(Fault::At(reason, left)) => {
-            Err(refused(number, column_at(line.len(), left), Cause::Line(reason)))
+            let column = column_at(at.line, left);
+            Err(refused(at.number, column, Cause::Line(reason)))
         }
     }
 }
@@ -154,63 +167,69 @@ fn add_line(
     alloc: Global,
     format: Format,
     places: u32,
-    runs: &mut Vec<Row>,
-    others: &mut Vec<Left>,
-    number: u64,
-    line: &[u8],
+    gathered: &mut Gathered,
+    at: Numbered<'_>,
 ) -> Result<(), ReadError>
-    requires few { places ≤ 9 }
-    requires rising { AreRising runs.old.items }
-    ensures adds { OnOk result (AddsLine format places line.now
-        (said_by runs.old.items others.old.items) (said_by runs.new.items others.new.items)) }
-    ensures rise { OnOk result (AreRising runs.new.items) }
+    requires { places ≤ 9 }
+    ensures adds { OnOk result (AddsLine format places at.entry.number at.entry.line.now
+        (said_in gathered.old) (said_in gathered.new)) }
+    ensures wrong { IfErr result (λ e. IfRefused e
+        (IsFor at.entry.number (line_fault format places at.entry.line.now))) }
 {
-    let read = line_of(alloc, format, places, number, line)?;
-    add_read(alloc, runs, others, read, number, line.len())?;
+    let read = line_of(alloc, format, places, at)?;
+    add_read(alloc, gathered, read, at)?;
     Ok(())
 }
 
-fn add_lines(
+fn gather(
     alloc: Global,
     format: Format,
     places: u32,
-    runs: &mut Vec<Row>,
-    others: &mut Vec<Left>,
     lines: &[&[u8]],
-) -> Result<(), ReadError>
-    requires few { places ≤ 9 }
-    requires rising { AreRising runs.old.items }
-    ensures adds { OnOk result (AddAll format places (texts_in lines.now)
-        (said_by runs.old.items others.old.items) (said_by runs.new.items others.new.items)) }
+) -> Result<Gathered, ReadError>
+    requires { places ≤ 9 }
+    ensures adds { IfOk result (λ g.
+        AddAll format places 1 (texts_in lines.now) unsaid (said_in g)) }
+    ensures wrong { IfErr result (λ e. IfRefused e
+        (IsFirstWrong format places (texts_in lines.now))) }
 {
+    let mut gathered = Gathered {
+        runs: Runs::new(alloc),
+        others: Vec::new(alloc),
+    };
     let mut number = 1u64;
     for line in lines {
-        add_line(alloc, format, places, runs, others, number, *line)?;
-        number = number.saturating_add(1);
+        let at = Numbered { number, line };
+        add_line(alloc, format, places, &mut gathered, at)?;
+        number += 1;
     }
-    Ok(())
+    Ok(gathered)
 }
 
+#[tactic(auto, using(crate::proofs::Refusals::text_read, crate::proofs::Refusals::end_missing, crate::proofs::Refusals::line_wrong))]
 fn read_lines(
     alloc: Global,
     format: Format,
     places: u32,
-    lines: &[&[u8]],
+    text: &[u8],
 ) -> Result<Exposition, ReadError>
     requires { places ≤ 9 }
-    ensures { IfOk result (λ e. AddAll format places (texts_in lines.now) (said_by [] [])
-        (told_by e.rows.items e.others.items)) }
+    ensures found { IfOk result (λ e. IsText format places text.now (told_in e)) }
+    ensures rise { IfOk result (λ e. AreRising e.rows.items) }
+    ensures refused { IfErr result (λ e. IfRefused e (IsRefused format places text.now)) }
 {
-    let mut runs = Vec::new(alloc);
-    let mut others = Vec::new(alloc);
-    add_lines(alloc, format, places, &mut runs, &mut others, lines)?;
-    runs.reverse();
-    Ok(Exposition { rows: runs, others })
+    let lines = lines_of(alloc, format, text)?;
+    let Gathered { runs, others } = gather(alloc, format, places, lines.as_slice())?;
+    Ok(Exposition {
+        rows: runs.into_rows(),
+        others,
+    })
 }
 
 /// The samples of a text in rows; values are counted in parts of which 10^places make one.
 ///
-/// The first line that is wrong is refused. It takes time in proportion to the text.
+/// A text of OpenMetrics without its end is refused, and then the first line that is wrong. It
+/// takes time in proportion to the text.
 pub fn read_text(
     alloc: Global,
     format: Format,
@@ -219,9 +238,13 @@ pub fn read_text(
 ) -> Result<Exposition, ReadError>
     requires { places ≤ 9 }
     // Line by line, the text says the samples that the rows hold and the others, and no more.
-    ensures { IfOk result (λ e. IsText format places text.now
-        (told_by e.rows.items e.others.items)) }
+    ensures found { IfOk result (λ e. IsText format places text.now (told_in e)) }
+    ensures rise { IfOk result (λ e. AreRising e.rows.items) }
+    // The end that is missing is told, or the first line that is wrong: its number, where, and why.
+    ensures refused { IfErr result (λ e. IfRefused e (IsRefused format places text.now)) }
+    // A text that says something gives it, unless memory runs out.
+    ensures only { (said : Said) → IsText format places text.now said
+        → Gives told_in result (Ok said) }
 {
-    let lines = lines_of(alloc, format, text)?;
-    read_lines(alloc, format, places, lines.as_slice())
+    read_lines(alloc, format, places, text)
 }

@@ -16,7 +16,9 @@ fn values_are_read_in_parts(rt: HostRuntime) {
     assert_eq!(rt; decimal(b"324789.3", 1), Ok(3_247_893));
     assert_eq!(rt; decimal(b"324789.300", 1), Ok(3_247_893));
     assert_eq!(rt; decimal(b"324789.3", 0), Err(DecimalError::Finer));
-    assert_eq!(rt; decimal(b"1.", 1), Err(DecimalError::Form));
+    assert_eq!(rt; decimal(b"1.", 1), Ok(10));
+    assert_eq!(rt; decimal(b".5", 1), Ok(5));
+    assert_eq!(rt; decimal(b".", 1), Err(DecimalError::Form));
     assert_eq!(rt;
         decimal(b"9223372036854775807", 0),
         Ok(9_223_372_036_854_775_807)

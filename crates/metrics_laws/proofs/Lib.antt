@@ -1,3 +1,6 @@
+pub mod Bytes
 pub mod Digits
 pub mod Lines
 pub mod Numbers
+pub mod Pairs
+pub mod Texts

@@ -18,9 +18,8 @@ use Rattle.metrics_writer.specs.Series.{pair_text, is_name_label, labels_text, s
 use Rattle.metrics_writer.specs.Series.{fields_text, line_text}
 use Rattle.open_metrics.specs.declared.comments.Format.TheVariants.{OpenMetrics}
 use Rattle.open_metrics.specs.declared.tokens.Class.TheVariants.{Metric, Label}
-use Rattle.open_metrics.specs.Grammar.{AreIn, IsName, escape_then, text_then, pair_then}
-use Rattle.open_metrics.specs.Grammar.{others_then}
-use Rattle.open_metrics.specs.Grammar.{SpellsLabels, IsSample}
+use Rattle.open_metrics.specs.Grammar.{AreIn, IsName, escape_then, text_then, SpellsPair}
+use Rattle.open_metrics.specs.Grammar.{SpellsOthers, SpellsLabels, IsSample}
 use Rattle.open_metrics.specs.Labels.{Pair}
 use Rattle.metrics_laws.specs.Read.{others_of, sample_of}
 use Rattle.metrics_laws.proofs.Numbers.{number_again, number_word}
@@ -45,6 +44,10 @@ text_is (c ∷ cs) rest =
     append_assoc (escape c) (escaped_text cs) (34 ∷ rest)
     ∙ (ap (λ (r : List ℕ). escape c ++ r) (text_is cs rest) ∙ escape_is c (text_then cs rest))
 
+-- name="text", and what stands behind it
+abbrev pair_then : Pair → List ℕ → List ℕ
+pair_then p rest = p.0 ++ (61 ∷ 34 ∷ text_then p.1 rest)
+
 pair_is : (p : Pair) (rest : List ℕ) → pair_text p ++ rest ≡ pair_then p rest
 unfolding pair_text
 pair_is p rest =
@@ -52,30 +55,52 @@ pair_is p rest =
     simp append_assoc in
     one ∙ ap (λ (r : List ℕ). p.0 ++ (61 ∷ 34 ∷ r)) (text_is p.1 rest)
 
+pair_spelled : (p : Pair) (rest : List ℕ) → SpellsPair OpenMetrics p rest (pair_text p ++ rest)
+pair_spelled p rest = record {
+  before = [];
+  between = [];
+  behind = [];
+  before_blank = refl;
+  between_blank = refl;
+  behind_blank = refl;
+  text = pair_is p rest;
+}
+
 others_are : (ps : Labels) (rest : List ℕ)
-    → labels_text 44 ps ++ rest ≡ others_then (others_of ps) rest
+    → SpellsOthers OpenMetrics (others_of ps) rest (labels_text 44 ps ++ rest)
 unfolding labels_text
-others_are [] rest = refl
+others_are [] rest = ([], 125 ∷ [], refl, refl, refl)
 others_are (p ∷ ps) rest =
     elim (cases_Bool (is_name_label p)) [
       | inl e ↦ rw e (others_are ps rest)
-      | inr e ↦ rw e
-          (ap (λ (r : List ℕ). 44 ∷ r)
-          (append_assoc (pair_text p) (labels_text 44 ps) rest
-          ∙ (pair_is p (labels_text 44 ps ++ rest) ∙ ap (pair_then p) (others_are ps rest))))
+      | inr e ↦
+          let after = labels_text 44 ps ++ rest in
+          rw e (
+            [],
+            pair_text p ++ after,
+            after,
+            refl,
+            ap (λ (r : List ℕ). 44 ∷ r) (append_assoc (pair_text p) (labels_text 44 ps) rest),
+            pair_spelled p after,
+            others_are ps rest,
+          )
     ]
 
 pub labels_spell : (ps : Labels) (rest : List ℕ)
-    → SpellsLabels (others_of ps) rest (labels_text 123 ps ++ rest)
+    → SpellsLabels OpenMetrics (others_of ps) rest (labels_text 123 ps ++ rest)
 unfolding labels_text
 labels_spell [] rest = inr (refl, refl)
 labels_spell (p ∷ ps) rest =
     elim (cases_Bool (is_name_label p)) [
       | inl e ↦ rw e (labels_spell ps rest)
-      | inr e ↦ rw e
-          (inl (ap (λ (r : List ℕ). 123 ∷ r)
-          (append_assoc (pair_text p) (labels_text 44 ps) rest
-          ∙ (pair_is p (labels_text 44 ps ++ rest) ∙ ap (pair_then p) (others_are ps rest)))))
+      | inr e ↦
+          let after = labels_text 44 ps ++ rest in
+          rw e
+          (inl (
+            pair_text p ++ after,
+            ap (λ (r : List ℕ). 123 ∷ r) (append_assoc (pair_text p) (labels_text 44 ps) rest),
+            (after, pair_spelled p after, others_are ps rest),
+          ))
     ]
 
 metric_bytes : (cs : List ℕ) → list_all in_metric cs ≡ true → AreIn Metric cs
@@ -119,7 +144,7 @@ no_digit c h =
       | inr e ↦ rw e refl
     ]
 
-label_name : (name : List ℕ) → is_name name ≡ true → IsName Label name
+pub label_name : (name : List ℕ) → is_name name ≡ true → IsName Label name
 label_name [] h = absurd cc
 label_name (c ∷ cs) h =
     let p = and_parts (starts_name c) (list_all continues_name cs) h in
@@ -165,15 +190,21 @@ line_again places labels s set named t_small v_small =
       line,
       (simp append_assoc),
       record {
+        lead = nil;
         from_labels = from_labels;
+        gap = 32 ∷ nil;
         value = value;
+        pause = 32 ∷ nil;
         time = time;
         tail = nil;
         line_is = refl;
+        lead_is = refl;
         name_is = metric_name (metric_of labels) named;
         labels_are = labels_spell labels (32 ∷ from_value);
         label_names = names_in labels (recursion_from_All _ labels set.named);
         few = omega (arith, fewer labels, set.few);
+        gap_is = refl;
+        pause_is = refl;
         value_word = number_word places s.1 v_small;
         value_is = number_again places s.1 v_small;
         time_word = number_word 3 s.0 t_small;

@@ -2,13 +2,13 @@
 use Rattle.std.proofs.Common.{◌≡◌, ℕ, zero, suc, ◌+◌, ◌*◌, ◌/◌, ◌^◌, ◌<◌, ◌≤◌, ℤ, pos, negsuc}
 use Rattle.std.proofs.Common.{true, false, eqb, leb, List, [], ◌∷◌, ◌++◌, length, Ok}
 use Rattle.std.proofs.Common.{Some}
-use Rattle.std.proofs.Common.{refl, sym, ap, subst, ◌∙◌, arith}
+use Rattle.std.proofs.Common.{refl, sym, ap, subst, ◌∙◌, inl, inr, arith}
 use Rattle.std.specs.Prelude.{decimal, unsigned_abs}
-use Rattle.std.proofs.lemmas.Bool.{ne_eqb, leb-true, and_parts}
+use Rattle.std.proofs.lemmas.Bool.{lt-ltb, ne_eqb, leb-true, and_parts}
 use Rattle.std.proofs.lemmas.List.{append-nil}
 use Rattle.std.proofs.lemmas.Nat.{div_below}
 use Rattle.std.proofs.Math.Nat.{one-le-pow}
-use Rattle.decimal_text.specs.Decimals.{is_digit, AreDigits, value_from, fraction_text, IsDecimal}
+use Rattle.decimal_text.specs.Decimals.{is_digit, AreDigits, value_from, IsFraction, IsDecimal}
 use Rattle.decimal_text.specs.Reading.{decimal_at}
 use Rattle.decimal_text.proofs.Laws.{decimal_again}
 use Rattle.metrics_writer.specs.Numbers.{last_digits, fraction_of, size_text, number_text}
@@ -23,12 +23,12 @@ use Rattle.open_metrics.proofs.Again.{front_again, behind_again}
 use Rattle.metrics_laws.proofs.Digits.{decimal_is, last_are, last_long, last_value}
 use Rattle.metrics_laws.proofs.Digits.{value_append}
 
-fraction_is : (places n : ℕ) → fraction_of places n ≡ fraction_text (last_digits places n)
+fraction_is : (places n : ℕ) → IsFraction (last_digits places n) (fraction_of places n)
 unfolding last_digits
-fraction_is zero n = refl
-fraction_is (suc k) n = refl
+fraction_is zero n = inr (refl, refl)
+fraction_is (suc k) n = inl refl
 
-whole_small : (places n : ℕ) → n < 2 ^ 63 → n / 10 ^ places < 2 ^ 64
+pub whole_small : (places n : ℕ) → n < 2 ^ 63 → n / 10 ^ places < 2 ^ 64
 whole_small places n lt =
     let one = one-le-pow places 10 (omega arith) in
     div_below n (10 ^ places) (2 ^ 64) (omega arith) (omega (arith, one))
@@ -44,8 +44,10 @@ size_is places n lt =
     record {
       whole = decimal w;
       fraction = last_digits places n;
-      text_is = ap (λ (r : List ℕ). decimal w ++ r) (fraction_is places n);
-      some = d.some;
+      behind = fraction_of places n;
+      text_is = refl;
+      behind_is = fraction_is places n;
+      some = omega (arith, d.some);
       whole_digits = d.digits;
       fraction_digits = last_are places n;
       exact =
@@ -53,7 +55,7 @@ size_is places n lt =
           ∙ ap (λ (k : ℕ). n * 10 ^ k) (sym (last_long places n));
     }
 
-digit_low : (c : ℕ) → is_digit c ≡ true → 48 ≤ c
+pub digit_low : (c : ℕ) → is_digit c ≡ true → 48 ≤ c
 digit_low c h = leb-true 48 c (and_parts (leb 48 c) (leb c 57) h).0
 
 digit_high : (c : ℕ) → is_digit c ≡ true → c ≤ 57
@@ -73,7 +75,8 @@ word_digit : (c : ℕ) → is_digit c ≡ true → goes_on Word c ≡ true
 word_digit c h =
     let low = digit_low c h in
     let a = ne_eqb c 32 (λ e. omega arith) in
-    rw a refl
+    let b = ne_eqb c 9 (λ e. omega arith) in
+    rw (a, b) refl
 
 digits_in : (class : Class) → ((c : ℕ) → is_digit c ≡ true → goes_on class c ≡ true) → (ds : List ℕ)
     → AreDigits ds → AreIn class ds
@@ -113,13 +116,14 @@ plain_digit c cs h =
     let high = digit_high c h in
     let minus = ne_eqb c 45 (λ e. omega arith) in
     let plus = ne_eqb c 43 (λ e. omega arith) in
-    let n = ne_eqb c 78 (λ e. omega arith) in
-    let i = ne_eqb c 73 (λ e. omega arith) in
+    let n = ne_eqb c 110 (λ e. omega arith) in
+    let i = ne_eqb c 105 (λ e. omega arith) in
+    let small = lt-ltb c 65 (omega arith) in
     record {
       unsigned = rw (minus, plus) refl;
       positive = minus;
-      ordinary = rw (n, plus, minus, i) refl;
-      negative = rw i refl;
+      ordinary = rw (minus, plus, small, n, i) refl;
+      negative = rw (small, i) refl;
     }
 
 plain_front : (ds rest : List ℕ) → 0 < length ds → AreDigits ds → Plain (ds ++ rest)

@@ -1,10 +1,22 @@
--- The sample that is read of a line that was written.
-use Rattle.std.specs.Prelude.{ℕ, ℤ, not, false, ◌+◌, length, filter}
-use Rattle.labels.specs.Labels.{Labels}
+-- The sample that is read of a line that was written, and what is read of a whole text.
+use Rattle.std.specs.Prelude.{◌≡◌, ◌^◌, ◌<◌, ◌≤◌, ℕ, ℤ, T, not, true, false, List, []}
+use Rattle.std.specs.Prelude.{◌+◌, length, filter}
+use Rattle.std.specs.Prelude.{unsigned_abs}
+use Rattle.std.specs.FinMap.Entries.{is_sorted}
+use Rattle.std.specs.List.{AllByRecursion}
+use Rattle.labels.specs.Contents.{Content, is_time}
+use Rattle.labels.specs.Labels.{Labels, point_cmp}
+use Rattle.labels.specs.LabelSets.{IsLabelSet}
+use Rattle.labels.specs.Rows.{Row, AreRows, points_of}
 use Rattle.metrics_writer.specs.Numbers.{number_text}
-use Rattle.metrics_writer.specs.Series.{is_name_label, metric_of}
+use Rattle.metrics_writer.specs.Series.{is_metric, is_name_label, metric_of, text_of}
 use Rattle.open_metrics.specs.Lines.{Sampled}
+use Rattle.open_metrics.specs.declared.comments.Format.TheVariants.{OpenMetrics}
 use Rattle.open_metrics.specs.declared.numbers.Value.TheVariants.{Parts}
+use Rattle.exposition.specs.Faults.{are_utf8}
+use Rattle.exposition.specs.Reading.{Said, IsText}
+use Rattle.exposition.specs.Rows.{put_each}
+use Rattle.exposition.specs.Runs.{count_of}
 
 -- the labels that do not name the metric
 abbrev pub others_of : Labels → Labels
@@ -20,3 +32,33 @@ sample_of places labels s = record {
   from_value = length (number_text places s.1) + (1 + length (number_text 3 s.0));
   from_time = length (number_text 3 s.0);
 }
+
+-- a sample whose time is one, and whose value is not -2^63
+pub record IsWritten (s : ℤ × ℤ) : Type 0 where
+  pub time : is_time s.0 ≡ true
+  pub value : unsigned_abs s.1 < 2 ^ 63
+
+-- a row that can be written: its label set is one of UTF-8 texts and names a metric
+pub record IsWritable (row : Row) : Type 0 where
+  pub label_set : IsLabelSet row.0
+  pub metric : is_metric (metric_of row.0) ≡ true
+  pub utf8 : are_utf8 row.0 ≡ true
+  pub samples : AllByRecursion IsWritten row.1
+
+-- the samples of rows, of which the last stands at each point, and no others
+abbrev pub said_of : List Row → Said
+said_of rows = record {
+  content = put_each [] (points_of rows);
+  count = count_of rows;
+  others = [];
+}
+
+-- the text that is written for rows says their samples
+abbrev pub AreReadAgain : Type 0
+AreReadAgain = (places : ℕ) (rows : List Row) → places ≤ 9 → AllByRecursion IsWritable rows
+    → IsText OpenMetrics places (text_of places rows) (said_of rows)
+
+-- the samples of the rows of a content are the content
+abbrev pub AreAllSaid : Type 0
+AreAllSaid = (rows : List Row) (c : Content) → T (is_sorted point_cmp c) → AreRows rows c
+    → put_each [] (points_of rows) ≡ c

@@ -10,7 +10,7 @@ ghost use Rattle.open_metrics.specs.Grammar.{IsSample};
 ghost use Rattle.open_metrics.specs.Numbers.{number_at};
 ghost use Rattle.open_metrics.specs.declared.comments.Format.TheVariants.{OpenMetrics};
 ghost use Rattle.open_metrics.specs.declared.numbers.Value.TheVariants.{Parts};
-ghost use Rattle.metrics_laws.specs.Read.{sample_of};
+ghost use Rattle.metrics_laws.specs.Read.{AreAllSaid, AreReadAgain, sample_of};
 
 /// A number that is written is read again, exactly.
 pub fn numbers_are_read_again()
@@ -27,4 +27,14 @@ pub fn lines_are_read_again()
         → (line : List ℕ)
         × (line_text places (series_text labels) s ≡ line ++ 10 ∷ [])
         × IsSample OpenMetrics places line (sample_of places labels s) }
+{}
+
+/// The text that is written for rows says exactly their samples. So what reads it gives them.
+pub fn texts_are_read_again()
+    ensures { AreReadAgain }
+{}
+
+/// The samples that are read of the rows of a content are the content.
+pub fn contents_are_read_again()
+    ensures { AreAllSaid }
 {}

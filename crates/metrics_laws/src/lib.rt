@@ -1,9 +1,13 @@
-//! Laws of OpenMetrics text: what `metrics_writer` writes, `open_metrics` reads again.
+//! Laws of OpenMetrics text: what `metrics_writer` writes, `open_metrics` and `exposition` read
+//! again.
 //!
-//! [`numbers_are_read_again`] says it of numbers, [`lines_are_read_again`] of the line of a sample.
-//! Each law is the contract of a function that does nothing.
+//! [`numbers_are_read_again`] says it of numbers, [`lines_are_read_again`] of the line of a sample,
+//! [`texts_are_read_again`] of a whole text, and [`contents_are_read_again`] of the samples that it
+//! says. Each law is the contract of a function that does nothing.
 #![tactic(auto)]
 
 mod laws;
 
-pub use laws::{lines_are_read_again, numbers_are_read_again};
+pub use laws::{
+    contents_are_read_again, lines_are_read_again, numbers_are_read_again, texts_are_read_again,
+};

@@ -14,10 +14,10 @@ use Rattle.open_metrics.specs.Comments.{comment_at}
 use Rattle.open_metrics.specs.Grammar.{IfSampled, IsSample, IsName}
 use Rattle.open_metrics.specs.Lines.{Sampled, Meaning, nothing, sampled, meaning_in}
 use Rattle.open_metrics.specs.Lines.{of_comment}
-use Rattle.open_metrics.specs.Lines.{line_at, sample_at}
+use Rattle.open_metrics.specs.Lines.{line_at, line_in, sample_at}
 use Rattle.open_metrics.specs.Outcome.{Gives}
-use Rattle.open_metrics.specs.Tokens.{goes_on}
-use Rattle.open_metrics.proofs.Again.{sample_again}
+use Rattle.open_metrics.specs.Tokens.{after_blanks, goes_on}
+use Rattle.open_metrics.proofs.Again.{begins_with, sample_again}
 use Rattle.open_metrics.proofs.Taken.{sample_takes}
 
 no_sample : (ends : Bool) (P : Sampled → Type 0) → IfSampled (of_comment ends) P
@@ -25,33 +25,40 @@ no_sample true P = tt
 no_sample false P = tt
 
 empty_takes : (format : Format) (places : ℕ) (m : Meaning) (P : Sampled → Type 0)
-    → line_at format places [] ≡ Ok m → IfSampled m P
-unfolding line_at
+    → line_in format places [] ≡ Ok m → IfSampled m P
+unfolding line_in
 empty_takes OpenMetrics places m P h = absurd cc
 empty_takes Prometheus places m P h =
     subst (λ (x : Meaning). IfSampled x P) (same_value nothing m h) tt
 
-line_takes : (format : Format) (places : ℕ) (line : List ℕ) (m : Meaning)
-    → line_at format places line ≡ Ok m → IfSampled m (IsSample format places line)
-unfolding line_at
-line_takes format places [] m h = empty_takes format places m (IsSample format places []) h
-line_takes format places (c ∷ rest) m h =
+begun_takes : (format : Format) (places : ℕ) (begun : List ℕ) (m : Meaning)
+    (P : Sampled → Type 0) → ((s : Sampled) → sample_at format places begun ≡ Ok s → P s)
+    → line_in format places begun ≡ Ok m → IfSampled m P
+unfolding line_in
+begun_takes format places [] m P takes h = empty_takes format places m P h
+begun_takes format places (c ∷ rest) m P takes h =
     elim (cases_Bool (eqb c 35)) [
       | inl e ↦
           let a = bind_ok (comment_at format rest) _ m (rw e at h) in
-          subst (λ (x : Meaning). IfSampled x (IsSample format places (c ∷ rest)))
-          (same_value (of_comment a.0) m a.2) (no_sample a.0 (IsSample format places (c ∷ rest)))
+          subst (λ (x : Meaning). IfSampled x P) (same_value (of_comment a.0) m a.2)
+          (no_sample a.0 P)
       | inr e ↦
           let a = bind_ok (sample_at format places (c ∷ rest)) _ m (rw e at h) in
-          subst (λ (x : Meaning). IfSampled x (IsSample format places (c ∷ rest)))
-          (same_value (sampled a.0) m a.2) (sample_takes format places (c ∷ rest) a.0 a.1)
+          subst (λ (x : Meaning). IfSampled x P) (same_value (sampled a.0) m a.2)
+          (takes a.0 a.1)
     ]
+
+line_takes : (format : Format) (places : ℕ) (line : List ℕ) (m : Meaning)
+    → line_at format places line ≡ Ok m → IfSampled m (IsSample format places line)
+line_takes format places line m h =
+    begun_takes format places (after_blanks format line) m (IsSample format places line)
+    (sample_takes format places line) h
 
 -- a line that begins with the name of a metric is no comment
 no_comment : (format : Format) (places : ℕ) (name rest : List ℕ) → IsName Metric name
-    → line_at format places (name ++ rest)
+    → line_in format places (name ++ rest)
     ≡ (sample_at format places (name ++ rest) >>= λ s. Ok (sampled s))
-unfolding line_at
+unfolding line_in
 no_comment format places [] rest is = absurd (let b = is.begun in cc)
 no_comment format places (c ∷ cs) rest is =
     elim (cases_Bool (eqb c 35)) [
@@ -60,15 +67,16 @@ no_comment format places (c ∷ cs) rest is =
       | inr e ↦ rw e refl
     ]
 
-line_again : (format : Format) (places : ℕ) (line : List ℕ) (s : Sampled)
+pub line_again : (format : Format) (places : ℕ) (line : List ℕ) (s : Sampled)
     → IsSample format places line s → line_at format places line ≡ Ok (sampled s)
 line_again format places line s is =
     let one = sample_again format places line s is in
+    let begun = begins_with format places line s is in
     let other = no_comment format places s.name is.from_labels is.name_is in
-    ap (line_at format places) is.line_is
+    ap (line_in format places) begun
     ∙ (other
     ∙ ap (λ (r : Result Sampled Fault). r >>= λ x. Ok (sampled x))
-    (ap (sample_at format places) (sym is.line_is) ∙ one))
+    (ap (sample_at format places) (sym begun) ∙ one))
 
 pub found_in : (format : Format) (places : ℕ) (line : List ℕ) (r : Result Line Fault)
     → Gives meaning_in r (line_at format places line)

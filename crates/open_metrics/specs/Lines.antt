@@ -17,7 +17,7 @@ use Rattle.open_metrics.specs.declared.tokens.Class.TheVariants.{Metric, Word}
 use Rattle.open_metrics.specs.Comments.{comment_at}
 use Rattle.open_metrics.specs.Labels.{Pair, labels_at, pairs_in}
 use Rattle.open_metrics.specs.Numbers.{number_at}
-use Rattle.open_metrics.specs.Tokens.{byte_at, front, behind, name_at}
+use Rattle.open_metrics.specs.Tokens.{after_blanks, byte_at, front, behind, gap_at, name_at}
 
 -- a sample, without where it lies in memory: the name of its metric, its labels, its value, its
 -- time in milliseconds, whether an exemplar stands behind it, and how many bytes of the line stand
@@ -98,10 +98,10 @@ tail_at format (c ∷ rest) = tail_in format (c ∷ rest)
 unfoldable pub sample_at : Format → ℕ → List ℕ → Result Sampled Fault
 sample_at format places line = do
   name ← name_at Metric Name line
-  labels ← labels_at name.1
-  value_text ← byte_at 32 BadValue labels.1
+  labels ← labels_at format name.1
+  value_text ← gap_at format BadValue labels.1
   value ← value_at places value_text
-  time_text ← byte_at 32 Time value.1
+  time_text ← gap_at format Time value.1
   time ← time_at format time_text
   exemplar ← tail_at format time.1
   Ok (record {
@@ -123,9 +123,12 @@ abbrev pub of_comment : Bool → Meaning
 of_comment true = end
 of_comment false = nothing
 
--- what a line says, or its first fault
-unfoldable pub line_at : Format → ℕ → List ℕ → Result Meaning Fault
-line_at format places [] = empty_in format
-line_at format places (c ∷ rest) =
+unfoldable pub line_in : Format → ℕ → List ℕ → Result Meaning Fault
+line_in format places [] = empty_in format
+line_in format places (c ∷ rest) =
     if c == 35 then (comment_at format rest >>= λ ends. Ok (of_comment ends))
     else (sample_at format places (c ∷ rest) >>= λ sample. Ok (sampled sample))
+
+-- what a line says, or its first fault
+abbrev pub line_at : Format → ℕ → List ℕ → Result Meaning Fault
+line_at format places line = line_in format places (after_blanks format line)

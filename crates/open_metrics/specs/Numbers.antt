@@ -3,7 +3,7 @@ use Rattle.std.specs.Prelude.{ℕ, zero, suc, ℤ, pos, negsuc, ◌+◌, ◌-◌
 use Rattle.std.specs.Prelude.{true}
 use Rattle.std.specs.Prelude.{false, nat_le, List, [], ◌∷◌, length, codes, Option, None, Some}
 use Rattle.std.specs.Prelude.{option_and_then, option_map, Result, Ok, Err, if◌then◌else◌}
-use Rattle.std.specs.Str.{bytes_eq}
+use Rattle.std.specs.Str.{str_eq_ignore_ascii_case}
 use Rattle.wire.specs.Outcome.{◌>>=◌}
 use Rattle.decimal_text.specs.declared.error.DecimalError.{DecimalError}
 use Rattle.decimal_text.specs.declared.error.DecimalError.TheVariants.{Form, Finer, Large}
@@ -69,11 +69,12 @@ value_of minus (Err Form) = None
 value_of minus (Err Finer) = Some Other
 value_of minus (Err Large) = Some Other
 
--- NaN and the infinities
+-- NaN and the infinities, in letters of either case
 abbrev pub is_special : List ℕ → Bool
 is_special text =
-    bytes_eq text (codes "NaN") || (bytes_eq text (codes "+Inf")
-    || (bytes_eq text (codes "-Inf") || bytes_eq text (codes "Inf")))
+    str_eq_ignore_ascii_case text (codes "nan")
+    || (str_eq_ignore_ascii_case (unsigned_of text) (codes "inf")
+    || str_eq_ignore_ascii_case (unsigned_of text) (codes "infinity"))
 
 -- a sign, a mantissa and an exponent
 unfoldable pub signed_at : List ℕ → ℕ → Option Value

@@ -10,7 +10,7 @@
 //! ```
 //!
 //! It stands on `wire`, for what an answer says against reading, and on `decimal_text`. The formats
-//! are those of OpenMetrics 1.0 and of Prometheus's exposition format 0.0.4, with single spaces.
+//! are those of OpenMetrics 1.0, with single spaces, and of Prometheus's exposition format 0.0.4.
 #![tactic(auto)]
 
 mod comments;

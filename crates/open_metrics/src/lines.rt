@@ -2,7 +2,8 @@
 
 ghost use Rattle.std.specs.Prelude.{◌≡◌, ◌≤◌, IfOk, Ok};
 ghost use Rattle.open_metrics.specs.Grammar.{IfSampled, IsSample};
-ghost use Rattle.open_metrics.specs.Lines.{empty_in, exemplar_at, line_at, meaning_in, of_comment};
+ghost use Rattle.open_metrics.specs.Lines.{empty_in, exemplar_at, line_at, line_in, meaning_in};
+ghost use Rattle.open_metrics.specs.Lines.{of_comment};
 ghost use Rattle.open_metrics.specs.Lines.{sample_at, sample_in, tail_at, tail_in, time_at};
 ghost use Rattle.open_metrics.specs.Lines.{Sampled, sampled, time_places, value_at};
 ghost use Rattle.open_metrics.specs.Outcome.{Gives};
@@ -11,7 +12,7 @@ use crate::comments::{Format, read_comment};
 use crate::error::{Fault, Reason};
 use crate::labels::{Label, cut_labels};
 use crate::numbers::{Value, number};
-use crate::tokens::{Class, cut_byte, cut_name, cut_word};
+use crate::tokens::{Class, cut_byte, cut_gap, cut_name, cut_word, skip_blanks};
 use std::alloc::Global;
 
 /// A sample, as a line writes it.
@@ -119,10 +120,10 @@ fn read_sample(
     ensures { Gives sample_in result (sample_at format places line.now) }
 {
     let (name, rest) = cut_name(Class::Metric, Reason::Name, line)?;
-    let (labels, rest) = cut_labels(alloc, rest)?;
-    let value_text = cut_byte(b' ', Reason::Value, rest)?;
+    let (labels, rest) = cut_labels(alloc, format, rest)?;
+    let value_text = cut_gap(format, Reason::Value, rest)?;
     let (value, rest) = cut_value(places, value_text)?;
-    let time_text = cut_byte(b' ', Reason::Time, rest)?;
+    let time_text = cut_gap(format, Reason::Time, rest)?;
     let (t, rest) = cut_time(format, time_text)?;
     let exemplar = read_tail(format, rest)?;
     Ok(SampleLine {
@@ -151,10 +152,10 @@ fn of_comment<'a>(ends: bool) -> Line<'a>
     if ends { Line::End } else { Line::Nothing }
 }
 
-#[tactic(auto, unfolding(crate::specs::Lines::line_at))]
-fn line_of(alloc: Global, format: Format, places: u32, line: &[u8]) -> Result<Line<'_>, Fault>
+#[tactic(auto, unfolding(crate::specs::Lines::line_in))]
+fn line_in(alloc: Global, format: Format, places: u32, line: &[u8]) -> Result<Line<'_>, Fault>
     requires { places ≤ 9 }
-    ensures { Gives meaning_in result (line_at format places line.now) }
+    ensures { Gives meaning_in result (line_in format places line.now) }
 {
     let Some((first, rest)) = line.split_first() else {
         return read_empty(format);
@@ -165,6 +166,13 @@ fn line_of(alloc: Global, format: Format, places: u32, line: &[u8]) -> Result<Li
     }
     let sample = read_sample(alloc, format, places, line)?;
     Ok(Line::Sample(sample))
+}
+
+fn line_of(alloc: Global, format: Format, places: u32, line: &[u8]) -> Result<Line<'_>, Fault>
+    requires { places ≤ 9 }
+    ensures { Gives meaning_in result (line_at format places line.now) }
+{
+    line_in(alloc, format, places, skip_blanks(format, line))
 }
 
 /// What a line says, without the end of the line; values are counted in parts of which 10^places

@@ -1,6 +1,7 @@
 //! Numbers, read exactly.
 
 ghost use Rattle.std.specs.Prelude.{◌≡◌, ◌≤◌, ◌<◌, ◌+◌, ◌^◌, ℤ, IfOk, IfSome, unsigned_abs};
+ghost use Rattle.std.specs.Str.{str_eq_ignore_ascii_case};
 ghost use Rattle.wire.specs.Outcome.{Answers};
 ghost use Rattle.open_metrics.specs.Numbers.{exponent_at, is_minus, is_special, number_at};
 ghost use Rattle.open_metrics.specs.Numbers.{scaled_at, signed_at, small_at, tenth, tenths};
@@ -133,11 +134,18 @@ fn value_of(minus: bool, size: Result<u64, DecimalError>) -> Option<Value>
     }
 }
 
+// Whether two texts are the same but for the case of their letters.
+fn is_word(text: &[u8], word: &[u8]) -> bool
+    ensures { result ≡ str_eq_ignore_ascii_case text.now word.now }
+{
+    text.eq_ignore_ascii_case(word)
+}
+
 fn is_special(text: &[u8]) -> bool
     ensures { result ≡ is_special text.now }
 {
-    text == b"NaN".as_slice()
-        || (text == b"+Inf".as_slice() || (text == b"-Inf".as_slice() || text == b"Inf".as_slice()))
+    let size = unsigned(text);
+    is_word(text, b"nan") || (is_word(size, b"inf") || is_word(size, b"infinity"))
 }
 
 #[tactic(auto, unfolding(crate::specs::Numbers::signed_at))]
@@ -154,8 +162,9 @@ fn signed(text: &[u8], places: u32) -> Option<Value>
 /// The number that a text writes, in parts of which 10^places make one, or `None` where it writes
 /// no number.
 ///
-/// The text is `NaN`, `Inf`, `+Inf`, `-Inf`, or a sign or none, digits, perhaps a point and digits,
-/// and perhaps `e` or `E` and an exponent, whose size is at most 999. Nothing is rounded.
+/// The text is `nan`, or a sign or none and `inf` or `infinity`, in letters of either case; or a
+/// sign or none, digits, perhaps with a point before, among or behind them, and perhaps `e` or `E`
+/// and an exponent, whose size is at most 999. Nothing is rounded.
 #[tactic(auto, unfolding(crate::specs::Numbers::number_at))]
 pub fn number(text: &[u8], places: u32) -> Option<Value>
     requires { places ≤ 9 }

@@ -2,9 +2,10 @@
 
 ghost use Rattle.std.specs.Prelude.{◌≡◌, ◌≤◌, length};
 ghost use Rattle.open_metrics.specs.Outcome.{Gives};
-ghost use Rattle.open_metrics.specs.Tokens.{behind, byte_at, count_front, front, goes_on, in_name};
-ghost use Rattle.open_metrics.specs.Tokens.{is_begun, name_at};
+ghost use Rattle.open_metrics.specs.Tokens.{after_blanks, behind, blanks_at, byte_at, count_front};
+ghost use Rattle.open_metrics.specs.Tokens.{front, gap_at, goes_on, in_name, is_begun, name_at};
 
+use crate::comments::Format;
 use crate::error::{Fault, Reason};
 
 /// Which bytes a word may have.
@@ -18,8 +19,10 @@ pub enum Class {
     Digit,
     /// All but `e` and `E`.
     Mantissa,
-    /// All but a space.
+    /// All but blanks.
     Word,
+    /// Blanks: spaces and tabs.
+    Blank,
 }
 
 fn in_name(c: u8) -> bool
@@ -36,7 +39,8 @@ fn goes_on(class: Class, c: u8) -> bool
         Class::Label => in_name(c),
         Class::Digit => c.is_ascii_digit(),
         Class::Mantissa => !(c == b'e' || c == b'E'),
-        Class::Word => c != b' ',
+        Class::Word => !(c == b' ' || c == b'\t'),
+        Class::Blank => c == b' ' || c == b'\t',
     }
 }
 
@@ -61,6 +65,16 @@ pub fn cut_word(class: Class, bytes: &[u8]) -> (&[u8], &[u8])
     ensures rest { result.1.now ≡ behind class bytes.now }
 {
     bytes.split_at(front_len(class, bytes))
+}
+
+/// What stands behind blanks, which the older text may have.
+pub fn skip_blanks(format: Format, bytes: &[u8]) -> &[u8]
+    ensures { result.now ≡ after_blanks format bytes.now }
+{
+    match format {
+        Format::OpenMetrics => bytes,
+        Format::Prometheus => cut_word(Class::Blank, bytes).1,
+    }
 }
 
 fn is_begun(name: &[u8]) -> bool
@@ -96,4 +110,27 @@ pub fn cut_byte(c: u8, reason: Reason, bytes: &[u8]) -> Result<&[u8], Fault>
         return Err(Fault::At(reason, bytes.len()));
     }
     Ok(rest)
+}
+
+#[tactic(auto, unfolding(crate::specs::Tokens::blanks_at))]
+fn cut_blanks(reason: Reason, bytes: &[u8]) -> Result<&[u8], Fault>
+    ensures { Gives (λ x. x.now) result (blanks_at reason bytes.now) }
+{
+    let Some((first, rest)) = bytes.split_first() else {
+        return Err(Fault::At(reason, 0));
+    };
+    if !goes_on(Class::Blank, *first) {
+        return Err(Fault::At(reason, bytes.len()));
+    }
+    Ok(cut_word(Class::Blank, rest).1)
+}
+
+/// What stands after a space, in the older text after blanks.
+pub fn cut_gap(format: Format, reason: Reason, bytes: &[u8]) -> Result<&[u8], Fault>
+    ensures { Gives (λ x. x.now) result (gap_at format reason bytes.now) }
+{
+    match format {
+        Format::OpenMetrics => cut_byte(b' ', reason, bytes),
+        Format::Prometheus => cut_blanks(reason, bytes),
+    }
 }

@@ -51,11 +51,12 @@ impl SourceError {
 impl fmt::Display for SourceError {
     fn fmt<W: fmt::Write>(&self, f: &mut fmt::Formatter<W>) -> fmt::Result {
         match self {
+            SourceError::Memory => write!(f, "no memory"),
             SourceError::Unreadable(segment) => write!(f, "segment {segment} cannot be read"),
-            error => {
-                let code = error.code();
-                write!(f, "{code}")
-            }
+            SourceError::Index(error) => write!(f, "{error}"),
+            SourceError::Tombstones(error) => write!(f, "{error}"),
+            SourceError::Chunk(error) => write!(f, "{error}"),
+            SourceError::Xor(error) => write!(f, "{error}"),
         }
     }
 }

@@ -17,5 +17,5 @@ returns g c =
     c.args.range c.args.meta.now bytes.bytes.index.items bytes.bytes.chunks.items
     bytes.bytes.tombstones.items c.in_ok-write_block.ensures.ok refl c.min.ensures.range
     c.as_bytes.ensures.value c.as_slice.ensures.value c.as_slice-2.ensures.value
-    c.as_slice-3.ensures.value c.requires.said
+    c.as_slice-3.ensures.value c.requires.said c.requires.within
     (bytes.ensures.block c.args.range c.min.ensures.range c.requires.within)

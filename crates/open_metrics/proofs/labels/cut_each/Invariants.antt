@@ -7,5 +7,5 @@ use Rattle.open_metrics.proofs.labels.cut_each.Given as goal
 
 abbrev pub invariant-loop-counter : goal.invariant-loop-counter
 invariant-loop-counter l =
-    with_front (pairs_in l.labels.items) (until_end next_at Many (l.count - l.counter) l.rest)
-    ≡ until_end next_at Many l.count l.bytes
+    with_front (pairs_in l.labels.items) (until_end (next_at l.format) Many (l.count - l.counter) l.rest)
+    ≡ until_end (next_at l.format) Many l.count l.bytes

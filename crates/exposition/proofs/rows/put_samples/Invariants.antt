@@ -1,7 +1,7 @@
 use Rattle.std.proofs.Common.{take}
 use Rattle.exposition.specs.Rows.{ArePut}
-use Rattle.exposition.proofs.rows.push_samples.Given as goal
+use Rattle.exposition.proofs.rows.put_samples.Given as goal
 
 abbrev pub invariant-loop-sample : goal.invariant-loop-sample
 invariant-loop-sample l =
-    ArePut l.labels (take l.sample-index l.samples) l.initial.runs.items l.runs.items
+    ArePut l.labels (take l.sample-index l.samples) l.initial.runs l.runs
