@@ -8,73 +8,73 @@ use cover::Interval;
 use page_claims::count_in;
 use page_layout::range_of;
 use page_text::Tag;
-use std::alloc::AllocError;
 
 /// How many groups there are at most.
 const GROUPS: usize = 20;
 
-fn heads(pen: &mut Pen, layers: &[(usize, u32)]) -> Result<(), AllocError> {
-    pen.plain(Tag::TableHead)?;
-    pen.plain(Tag::Tr)?;
-    head_cell(pen, "n", "Intervals")?;
-    head_cell(pen, "n", "from")?;
-    head_cell(pen, "n", "until")?;
+fn heads(pen: &mut Pen, layers: &[(usize, u32)]) {
+    pen.open(Tag::TableHead);
+    pen.open(Tag::Tr);
+    head_cell(pen, "n", "Intervals");
+    head_cell(pen, "n", "from");
+    head_cell(pen, "n", "until");
     for layer in layers {
-        open_head(pen, "col", "n")?;
-        chip(pen, layer.0)?;
-        pen.word(" ")?;
-        slot_name(pen, layer.0)?;
-        pen.close()?;
+        open_head(pen, "col", "n");
+        chip(pen, layer.0);
+        pen.word(" ");
+        slot_name(pen, layer.0);
+        pen.close();
     }
-    pen.close()?;
-    pen.close()
+    pen.close();
+    pen.close();
 }
 
-fn group_head(pen: &mut Pen, first: usize, last: usize) -> Result<(), AllocError> {
-    open_head(pen, "row", "n")?;
-    pen.counted((first as u64).saturating_add(1))?;
-    pen.word(" to ")?;
-    pen.counted(last as u64)?;
-    pen.close()
+fn group_head(pen: &mut Pen, first: usize, last: usize) {
+    open_head(pen, "row", "n");
+    pen.counted((first as u64).saturating_add(1));
+    pen.word(" to ");
+    pen.counted(last as u64);
+    pen.close();
 }
 
-fn group(pen: &mut Pen, intervals: &[Interval], layers: &[(usize, u32)]) -> Result<(), AllocError> {
+fn group(pen: &mut Pen, intervals: &[Interval], layers: &[(usize, u32)]) {
     if let (Some(first), Some(last)) = (intervals.first(), intervals.last()) {
-        pen.number_cell(u64::from(first.from.number()))?;
-        pen.number_cell(last.until)?;
+        pen.number_cell(u64::from(first.from.number()));
+        pen.number_cell(last.until);
     }
     for layer in layers {
-        pen.counted_cell(count_in(intervals, layer.0) as u64)?;
+        pen.counted_cell(count_in(intervals, layer.0) as u64);
     }
-    Ok(())
 }
 
 /// How many intervals of each group have each verdict.
-pub(crate) fn groups(pen: &mut Pen, intervals: &[Interval]) -> Result<(), AllocError> {
+pub(crate) fn groups(pen: &mut Pen, intervals: &[Interval]) {
     let groups = intervals.len().min(GROUPS);
-    let layers = layers_of(pen.alloc(), intervals)?;
-    pen.plain(Tag::Details)?;
+    let Ok(layers) = layers_of(pen.alloc(), intervals) else {
+        return pen.fail();
+    };
+    pen.open(Tag::Details);
     word(
         pen,
         Tag::Summary,
         "The strip as a table: groups of intervals",
-    )?;
-    pen.begin(Tag::Div, "scroll")?;
-    pen.begin(Tag::Table, "iv")?;
-    heads(pen, layers.as_slice())?;
-    pen.plain(Tag::TableBody)?;
-    pen.line()?;
+    );
+    pen.begin(Tag::Div, "scroll");
+    pen.begin(Tag::Table, "iv");
+    heads(pen, layers.as_slice());
+    pen.open(Tag::TableBody);
+    pen.line();
     for at in 0..groups {
         let (from, until) = range_of(at, groups, intervals.len());
-        pen.plain(Tag::Tr)?;
-        group_head(pen, from, until)?;
-        group(pen, &intervals[from..until], layers.as_slice())?;
-        pen.close()?;
-        pen.line()?;
+        pen.open(Tag::Tr);
+        group_head(pen, from, until);
+        group(pen, &intervals[from..until], layers.as_slice());
+        pen.close();
+        pen.line();
     }
-    pen.close()?;
-    pen.close()?;
-    pen.close()?;
-    pen.close()?;
-    pen.line()
+    pen.close();
+    pen.close();
+    pen.close();
+    pen.close();
+    pen.line();
 }

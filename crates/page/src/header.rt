@@ -14,47 +14,47 @@ use labels::LabelSet;
 use page_claims::{Place, checks_of};
 use page_text::{Attribute, Key, Tag};
 use postings::PartName;
-use std::alloc::AllocError;
 
 /// The name of a part.
-pub(crate) fn part_name(pen: &mut Pen, name: PartName) -> Result<(), AllocError> {
+pub(crate) fn part_name(pen: &mut Pen, name: PartName) {
     match name {
         PartName::Head => pen.word("head"),
         PartName::Block(number) => {
-            pen.word("block ")?;
+            pen.word("block ");
             pen.number(number as u64)
         }
     }
 }
 
 /// A link to the article of the part at a place.
-pub(crate) fn part_link(pen: &mut Pen, at: usize, name: PartName) -> Result<(), AllocError> {
-    pen.open_with(Tag::A, Attribute::Named(Key::Href, "#p", at as u64))?;
-    part_name(pen, name)?;
-    pen.close()
+pub(crate) fn part_link(pen: &mut Pen, at: usize, name: PartName) {
+    pen.with(Attribute::Named(Key::Href, "#p", at as u64));
+    pen.open(Tag::A);
+    part_name(pen, name);
+    pen.close();
 }
 
 /// What the intervals say.
-fn intervals_say(pen: &mut Pen, view: &View<'_>) -> Result<(), AllocError> {
+fn intervals_say(pen: &mut Pen, view: &View<'_>) {
     let searched = view.shown.told.answers.len() as u64;
     let matches = view.count(MATCH);
     let reasons = view.intervals.saturating_sub(matches);
     if searched == 1 {
-        pen.word("All series of the searched part lie in ")?;
+        pen.word("All series of the searched part lie in ");
     } else {
-        pen.word("All series of the ")?;
-        pen.counted(searched)?;
-        pen.word(" searched parts lie in ")?;
+        pen.word("All series of the ");
+        pen.counted(searched);
+        pen.word(" searched parts lie in ");
     }
-    plural(pen, view.intervals, " interval", " intervals")?;
-    pen.word(", without a hole. ")?;
-    pen.plain(Tag::B)?;
-    plural(pen, matches, " is", " are")?;
-    pen.close()?;
-    matches_say(pen, view, matches)?;
-    pen.plain(Tag::B)?;
-    plural(pen, reasons, " gives", " give")?;
-    pen.close()?;
+    plural(pen, view.intervals, " interval", " intervals");
+    pen.word(", without a hole. ");
+    pen.open(Tag::B);
+    plural(pen, matches, " is", " are");
+    pen.close();
+    matches_say(pen, view, matches);
+    pen.open(Tag::B);
+    plural(pen, reasons, " gives", " give");
+    pen.close();
     pen.word(if reasons == 1 {
         " the reason why none of its series is a row. "
     } else {
@@ -63,13 +63,13 @@ fn intervals_say(pen: &mut Pen, view: &View<'_>) -> Result<(), AllocError> {
 }
 
 /// What becomes of the matches.
-fn matches_say(pen: &mut Pen, view: &View<'_>, matches: u64) -> Result<(), AllocError> {
+fn matches_say(pen: &mut Pen, view: &View<'_>, matches: u64) {
     let told = view.shown.told;
     pen.word(if matches == 1 {
         " one matching series"
     } else {
         " one matching series each"
-    })?;
+    });
     if told.answers.len() == 1 {
         return pen.word(if matches == 1 {
             ": the row. "
@@ -77,98 +77,90 @@ fn matches_say(pen: &mut Pen, view: &View<'_>, matches: u64) -> Result<(), Alloc
             ": the rows. "
         });
     }
-    pen.word(": they merge into the ")?;
-    plural(pen, told.rows.len() as u64, " row. ", " rows. ")
+    pen.word(": they merge into the ");
+    plural(pen, told.rows.len() as u64, " row. ", " rows. ");
 }
 
-fn counts(pen: &mut Pen, view: &View<'_>) -> Result<(), AllocError> {
+fn counts(pen: &mut Pen, view: &View<'_>) {
     let told = view.shown.told;
     let searched = told.answers.len() as u64;
-    pen.plain(Tag::P)?;
+    pen.open(Tag::P);
     if searched == 0 {
-        pen.word("No part was searched. ")?;
+        pen.word("No part was searched. ");
     } else if view.intervals == 0 {
-        pen.word("The searched parts have no series. ")?;
+        pen.word("The searched parts have no series. ");
     } else {
-        intervals_say(pen, view)?;
+        intervals_say(pen, view);
     }
     match (told.places.len() as u64).saturating_sub(searched) {
-        0 => pen.word("No part was skipped.")?,
-        1 => pen.word("1 part was skipped: its times do not meet the range.")?,
+        0 => pen.word("No part was skipped."),
+        1 => pen.word("1 part was skipped: its times do not meet the range."),
         skipped => {
-            pen.counted(skipped)?;
-            pen.word(" parts were skipped: their times do not meet the range.")?;
+            pen.counted(skipped);
+            pen.word(" parts were skipped: their times do not meet the range.");
         }
     }
-    pen.close()
+    pen.close();
 }
 
 /// The checks that an answer does not pass, each with the first place.
-fn failing(
-    pen: &mut Pen,
-    view: &View<'_>,
-    at: usize,
-    answer: &PartAnswer,
-) -> Result<(), AllocError> {
+fn failing(pen: &mut Pen, view: &View<'_>, at: usize, answer: &PartAnswer) {
     let matchers = view.matchers().len();
     for (check, holds) in sayings(checks_of(answer, matchers)) {
         if !holds {
-            pen.plain(Tag::Item)?;
-            part_link(pen, at, answer.part)?;
-            pen.word(": not so: “")?;
-            pen.word(text_of(check))?;
-            pen.word("” But ")?;
-            seen(pen, check, answer, matchers)?;
-            pen.word(".")?;
-            pen.close()?;
+            pen.open(Tag::Item);
+            part_link(pen, at, answer.part);
+            pen.word(": not so: “");
+            pen.word(text_of(check));
+            pen.word("” But ");
+            seen(pen, check, answer, matchers);
+            pen.word(".");
+            pen.close();
         }
     }
-    Ok(())
 }
 
-fn all_failing(pen: &mut Pen, view: &View<'_>) -> Result<(), AllocError> {
+fn all_failing(pen: &mut Pen, view: &View<'_>) {
     let mut answers = view.shown.told.answers.as_slice();
     for (at, place) in view.shown.told.places.iter().enumerate() {
         if let Place::Searched = *place {
             if let Some((answer, later)) = answers.split_first() {
                 answers = later;
-                failing(pen, view, at, answer)?;
+                failing(pen, view, at, answer);
             }
         }
     }
-    Ok(())
 }
 
 /// The lines of the auditor that name a flaw or a refusal.
-fn faults(pen: &mut Pen, view: &View<'_>) -> Result<(), AllocError> {
+fn faults(pen: &mut Pen, view: &View<'_>) {
     for line in view.shown.lines {
         if line.judgement.is_fault() {
-            pen.plain(Tag::Item)?;
-            pen.word("The auditor found a flaw: ")?;
-            auditor_line(pen, line)?;
-            pen.close()?;
+            pen.open(Tag::Item);
+            pen.word("The auditor found a flaw: ");
+            auditor_line(pen, line);
+            pen.close();
         }
     }
-    Ok(())
 }
 
 /// What does not hold, each with the first place.
-fn failures(pen: &mut Pen, view: &View<'_>) -> Result<(), AllocError> {
-    pen.plain(Tag::Ul)?;
-    all_failing(pen, view)?;
-    faults(pen, view)?;
+fn failures(pen: &mut Pen, view: &View<'_>) {
+    pen.open(Tag::Ul);
+    all_failing(pen, view);
+    faults(pen, view);
     if !view.claim.is_merged {
         word(
             pen,
             Tag::Item,
             "The rows of the answer are not the merged rows of the parts.",
-        )?;
+        );
     }
-    pen.close()
+    pen.close();
 }
 
 /// What stands below the claim: counts, or what does not hold.
-pub(crate) fn details(pen: &mut Pen, view: &View<'_>) -> Result<(), AllocError> {
+pub(crate) fn details(pen: &mut Pen, view: &View<'_>) {
     if view.claim.is_shown {
         counts(pen, view)
     } else {
@@ -177,80 +169,84 @@ pub(crate) fn details(pen: &mut Pen, view: &View<'_>) -> Result<(), AllocError> 
 }
 
 /// A line of the auditor, as it prints it.
-pub(crate) fn auditor_text(pen: &mut Pen, line: &Line) -> Result<(), AllocError> {
+pub(crate) fn auditor_text(pen: &mut Pen, line: &Line) {
     let alloc = pen.alloc();
-    let text = format!(in alloc; "{line}")?;
-    long_text(pen, text.as_str(), 120)
+    let Ok(text) = format!(in alloc; "{line}") else {
+        return pen.fail();
+    };
+    long_text(pen, text.as_str(), 120);
 }
 
-fn auditor_line(pen: &mut Pen, line: &Line) -> Result<(), AllocError> {
-    pen.plain(Tag::Code)?;
-    auditor_text(pen, line)?;
-    pen.close()
+fn auditor_line(pen: &mut Pen, line: &Line) {
+    pen.open(Tag::Code);
+    auditor_text(pen, line);
+    pen.close();
 }
 
 /// The searched parts that the auditor did not judge.
-fn unjudged(pen: &mut Pen, view: &View<'_>) -> Result<(), AllocError> {
+fn unjudged(pen: &mut Pen, view: &View<'_>) {
     let mut named = false;
     for answer in view.shown.told.answers.as_slice() {
         if judgement_of(view.shown.lines, answer.part).is_none() {
-            pen.word(if named { ", " } else { " Not judged: " })?;
-            part_name(pen, answer.part)?;
+            pen.word(if named { ", " } else { " Not judged: " });
+            part_name(pen, answer.part);
             named = true;
         }
     }
-    if named { pen.word(".") } else { Ok(()) }
+    if named {
+        pen.word(".");
+    }
 }
 
-fn judged(pen: &mut Pen, view: &View<'_>) -> Result<(), AllocError> {
+fn judged(pen: &mut Pen, view: &View<'_>) {
     if view.shown.lines.is_empty() {
-        return Ok(());
+        return;
     }
-    pen.begin(Tag::P, "audit")?;
-    word(pen, Tag::B, "The auditor said:")?;
+    pen.begin(Tag::P, "audit");
+    word(pen, Tag::B, "The auditor said:");
     let mut first = true;
     for line in view.shown.lines {
-        pen.word(if first { " " } else { " · " })?;
+        pen.word(if first { " " } else { " · " });
         first = false;
-        auditor_line(pen, line)?;
+        auditor_line(pen, line);
     }
-    pen.word(".")?;
-    pen.begin(Tag::Span, "mute")?;
-    unjudged(pen, view)?;
-    pen.close()?;
-    pen.close()?;
-    pen.line()
+    pen.word(".");
+    pen.begin(Tag::Span, "mute");
+    unjudged(pen, view);
+    pen.close();
+    pen.close();
+    pen.line();
 }
 
-fn rejected(pen: &mut Pen, view: &View<'_>, places: &[usize]) -> Result<(), AllocError> {
+fn rejected(pen: &mut Pen, view: &View<'_>, places: &[usize]) {
     let mut first = true;
     for at in places {
         pen.word(if first {
             "It is not in the answer, since "
         } else {
             " and "
-        })?;
+        });
         first = false;
-        chip(pen, at.saturating_add(1).min(UNKNOWN))?;
+        chip(pen, at.saturating_add(1).min(UNKNOWN));
         if let Some(failed) = view.matchers().get(*at) {
-            pen.word(" ")?;
-            matcher(pen, failed)?;
+            pen.word(" ");
+            matcher(pen, failed);
         }
     }
     pen.word(if places.len() == 1 {
         " rejects"
     } else {
         " reject"
-    })?;
-    pen.word(" these labels, whatever the store holds.")
+    });
+    pen.word(" these labels, whatever the store holds.");
 }
 
 /// What is said of the label set that somebody asks about.
-fn said(pen: &mut Pen, view: &View<'_>, asked: &Asked) -> Result<(), AllocError> {
+fn said(pen: &mut Pen, view: &View<'_>, asked: &Asked) {
     match asked {
         Asked::Row(at) => {
-            pen.word("It is in the answer, as row ")?;
-            pen.counted((*at as u64).saturating_add(1))?;
+            pen.word("It is in the answer, as row ");
+            pen.counted((*at as u64).saturating_add(1));
             pen.word(".")
         }
         Asked::Rejected(places) => rejected(pen, view, places.as_slice()),
@@ -262,95 +258,87 @@ fn said(pen: &mut Pen, view: &View<'_>, asked: &Asked) -> Result<(), AllocError>
     }
 }
 
-fn about(
-    pen: &mut Pen,
-    view: &View<'_>,
-    labels: &LabelSet,
-    asked: &Asked,
-) -> Result<(), AllocError> {
-    pen.begin(Tag::Div, "about")?;
-    pen.plain(Tag::P)?;
-    word(pen, Tag::B, "Asked about")?;
-    pen.word(" ")?;
-    series(pen, labels)?;
-    pen.close()?;
-    pen.plain(Tag::P)?;
-    said(pen, view, asked)?;
-    pen.close()?;
-    pen.close()?;
-    pen.line()
+fn about(pen: &mut Pen, view: &View<'_>, labels: &LabelSet, asked: &Asked) {
+    pen.begin(Tag::Div, "about");
+    pen.open(Tag::P);
+    word(pen, Tag::B, "Asked about");
+    pen.word(" ");
+    series(pen, labels);
+    pen.close();
+    pen.open(Tag::P);
+    said(pen, view, asked);
+    pen.close();
+    pen.close();
+    pen.line();
 }
 
-fn open_number(pen: &mut Pen, href: &'static str) -> Result<(), AllocError> {
-    pen.plain(Tag::Div)?;
-    pen.plain(Tag::Term)?;
-    pen.open_with(Tag::A, Attribute::Word(Key::Href, href))
+fn open_number(pen: &mut Pen, href: &'static str) {
+    pen.open(Tag::Div);
+    pen.open(Tag::Term);
+    pen.with(Attribute::Word(Key::Href, href));
+    pen.open(Tag::A);
 }
 
-fn close_number(pen: &mut Pen, n: u64) -> Result<(), AllocError> {
-    pen.close()?;
-    pen.close()?;
-    pen.plain(Tag::DescriptionText)?;
-    pen.counted(n)?;
-    pen.close()?;
-    pen.close()
+fn close_number(pen: &mut Pen, n: u64) {
+    pen.close();
+    pen.close();
+    pen.open(Tag::DescriptionText);
+    pen.counted(n);
+    pen.close();
+    pen.close();
 }
 
-fn number(pen: &mut Pen, n: u64, href: &'static str, what: &'static str) -> Result<(), AllocError> {
-    open_number(pen, href)?;
-    pen.word(what)?;
-    close_number(pen, n)
+fn number(pen: &mut Pen, n: u64, href: &'static str, what: &'static str) {
+    open_number(pen, href);
+    pen.word(what);
+    close_number(pen, n);
 }
 
-fn searched_number(pen: &mut Pen, view: &View<'_>) -> Result<(), AllocError> {
+fn searched_number(pen: &mut Pen, view: &View<'_>) {
     let told = view.shown.told;
-    open_number(pen, "#time")?;
-    pen.word("of ")?;
-    plural(pen, told.places.len() as u64, " part", " parts")?;
-    pen.word(" searched")?;
-    close_number(pen, told.answers.len() as u64)
+    open_number(pen, "#time");
+    pen.word("of ");
+    plural(pen, told.places.len() as u64, " part", " parts");
+    pen.word(" searched");
+    close_number(pen, told.answers.len() as u64);
 }
 
-fn numbers(pen: &mut Pen, view: &View<'_>) -> Result<(), AllocError> {
+fn numbers(pen: &mut Pen, view: &View<'_>) {
     let told = view.shown.told;
     let mut separators = 0u64;
     for answer in told.answers.as_slice() {
         separators = separators.saturating_add(answer.cover.separators.len() as u64);
     }
-    pen.begin(Tag::DescriptionList, "nums")?;
-    number(pen, told.rows.len() as u64, "#rows", "series")?;
-    number(pen, view.samples, "#rows", "samples")?;
-    searched_number(pen, view)?;
-    number(pen, view.intervals, "#cert", "intervals")?;
-    number(pen, separators, "#cert", "separators")?;
-    pen.close()?;
-    pen.line()
+    pen.begin(Tag::DescriptionList, "nums");
+    number(pen, told.rows.len() as u64, "#rows", "series");
+    number(pen, view.samples, "#rows", "samples");
+    searched_number(pen, view);
+    number(pen, view.intervals, "#cert", "intervals");
+    number(pen, separators, "#cert", "separators");
+    pen.close();
+    pen.line();
 }
 
 /// The head of a page: what was asked.
-pub(crate) fn heading(pen: &mut Pen, view: &View<'_>) -> Result<(), AllocError> {
-    pen.plain(Tag::Header)?;
-    classed(pen, Tag::P, "kicker", "Audited answer")?;
-    pen.plain(Tag::H1)?;
-    pen.plain(Tag::Code)?;
-    long_text(pen, view.shown.selector, 4096)?;
-    pen.close()?;
-    pen.close()?;
-    pen.line()?;
-    range(pen, view.shown.query.from(), view.shown.query.to())?;
-    pen.close()?;
-    pen.line()
+pub(crate) fn heading(pen: &mut Pen, view: &View<'_>) {
+    pen.open(Tag::Header);
+    classed(pen, Tag::P, "kicker", "Audited answer");
+    pen.open(Tag::H1);
+    pen.open(Tag::Code);
+    long_text(pen, view.shown.selector, 4096);
+    pen.close();
+    pen.close();
+    pen.line();
+    range(pen, view.shown.query.from(), view.shown.query.to());
+    pen.close();
+    pen.line();
 }
 
 /// What the auditor said, what is said of a label set, and counts.
-pub(crate) fn summary(
-    pen: &mut Pen,
-    view: &View<'_>,
-    asked: Option<&Asked>,
-) -> Result<(), AllocError> {
-    judged(pen, view)?;
+pub(crate) fn summary(pen: &mut Pen, view: &View<'_>, asked: Option<&Asked>) {
+    judged(pen, view);
     if let (Some(labels), Some(asked)) = (view.shown.about, asked) {
-        about(pen, view, labels, asked)?;
+        about(pen, view, labels, asked);
     }
-    numbers(pen, view)
+    numbers(pen, view);
 }

@@ -6,7 +6,7 @@ use crate::shown::View;
 use crate::words::{classed, open_section, word};
 use page_claims::{Checks, checks_of};
 use page_text::Tag;
-use std::alloc::AllocError;
+use std::alloc::{AllocError, Global};
 
 const CERTIFICATE: &str =
     "Every series of a part has a number, its reference. A certificate cuts the numbers, from the \
@@ -40,22 +40,22 @@ const REASONS: [&str; 3] = [
      would be a box of its own, marked ✓, and a row.",
 ];
 
-fn titled(pen: &mut Pen, title: &'static str, text: &'static str) -> Result<(), AllocError> {
-    word(pen, Tag::H3, title)?;
-    word(pen, Tag::P, text)
+fn titled(pen: &mut Pen, title: &'static str, text: &'static str) {
+    word(pen, Tag::H3, title);
+    word(pen, Tag::P, text);
 }
 
-fn left(pen: &mut Pen) -> Result<(), AllocError> {
-    pen.plain(Tag::Div)?;
-    word(pen, Tag::H3, "“Why is my series not here?”")?;
-    pen.plain(Tag::Ol)?;
+fn left(pen: &mut Pen) {
+    pen.open(Tag::Div);
+    word(pen, Tag::H3, "“Why is my series not here?”");
+    pen.open(Tag::Ol);
     for reason in REASONS {
-        word(pen, Tag::Item, reason)?;
+        word(pen, Tag::Item, reason);
     }
-    pen.close()?;
-    titled(pen, "What a certificate is", CERTIFICATE)?;
-    titled(pen, "Spans and numbers", SPANS)?;
-    pen.close()
+    pen.close();
+    titled(pen, "What a certificate is", CERTIFICATE);
+    titled(pen, "Spans and numbers", SPANS);
+    pen.close();
 }
 
 /// The checks that all parts pass.
@@ -78,20 +78,20 @@ fn all_checks(view: &View<'_>) -> Checks {
     all
 }
 
-fn check(pen: &mut Pen, saying: &'static str, holds: bool) -> Result<(), AllocError> {
-    pen.plain(Tag::Item)?;
+fn check(pen: &mut Pen, saying: &'static str, holds: bool) {
+    pen.open(Tag::Item);
     if holds {
-        classed(pen, Tag::B, "yes", "✓")?;
+        classed(pen, Tag::B, "yes", "✓");
     } else {
-        classed(pen, Tag::B, "no", "✗")?;
+        classed(pen, Tag::B, "no", "✗");
     }
-    pen.word(" ")?;
-    pen.word(saying)?;
-    pen.close()
+    pen.word(" ");
+    pen.word(saying);
+    pen.close();
 }
 
 /// Who checks that reasons are true.
-fn reasons(pen: &mut Pen, view: &View<'_>) -> Result<(), AllocError> {
+fn reasons(pen: &mut Pen, view: &View<'_>) {
     if view.shown.lines.is_empty() {
         titled(pen, "Not checked here", UNCHECKED)
     } else {
@@ -99,56 +99,64 @@ fn reasons(pen: &mut Pen, view: &View<'_>) -> Result<(), AllocError> {
     }
 }
 
-fn right(pen: &mut Pen, view: &View<'_>) -> Result<(), AllocError> {
-    pen.plain(Tag::Div)?;
-    word(pen, Tag::H3, "Checked while this page was made")?;
-    pen.begin(Tag::Ul, "checks")?;
+fn right(pen: &mut Pen, view: &View<'_>) {
+    pen.open(Tag::Div);
+    word(pen, Tag::H3, "Checked while this page was made");
+    pen.begin(Tag::Ul, "checks");
     for (one, holds) in sayings(all_checks(view)) {
-        check(pen, text_of(one), holds)?;
+        check(pen, text_of(one), holds);
     }
     let merged = "The rows of the answer are the merged rows of the parts.";
-    check(pen, merged, view.claim.is_merged)?;
-    pen.close()?;
-    reasons(pen, view)?;
-    pen.plain(Tag::Pre)?;
+    check(pen, merged, view.claim.is_merged);
+    pen.close();
+    reasons(pen, view);
+    pen.open(Tag::Pre);
     word(
         pen,
         Tag::Code,
         "auditor --selector SELECTOR --from N --to N DIR... < REPLY",
-    )?;
-    pen.close()?;
-    pen.close()
+    );
+    pen.close();
+    pen.close();
 }
 
-/// Which reply the page shows: its length and its SHA-256.
-fn reply(pen: &mut Pen, view: &View<'_>) -> Result<(), AllocError> {
-    let mut digits = Vec::new(view.alloc);
-    for byte in view.shown.digest {
+/// The hexadecimal digits of bytes.
+fn digits_of(alloc: Global, bytes: [u8; 32]) -> Result<Vec<char>, AllocError> {
+    let mut digits = Vec::new(alloc);
+    for byte in bytes {
         for digit in [byte / 16, byte % 16] {
             let code = if digit < 10 { 48 + digit } else { 87 + digit };
             digits.push(char::from(code))?;
         }
     }
-    pen.begin(Tag::P, "note")?;
-    pen.word("This page shows a reply of ")?;
-    pen.counted(view.shown.length)?;
-    pen.word(" bytes; their SHA-256 is ")?;
-    pen.plain(Tag::Code)?;
-    pen.text(digits)?;
-    pen.close()?;
-    pen.word(".")?;
-    pen.close()?;
-    pen.line()
+    Ok(digits)
+}
+
+/// Which reply the page shows: its length and its SHA-256.
+fn reply(pen: &mut Pen, view: &View<'_>) {
+    let Ok(digits) = digits_of(view.alloc, view.shown.digest) else {
+        return pen.fail();
+    };
+    pen.begin(Tag::P, "note");
+    pen.word("This page shows a reply of ");
+    pen.counted(view.shown.length);
+    pen.word(" bytes; their SHA-256 is ");
+    pen.open(Tag::Code);
+    pen.text(digits);
+    pen.close();
+    pen.word(".");
+    pen.close();
+    pen.line();
 }
 
 /// The last section.
-pub(crate) fn help(pen: &mut Pen, view: &View<'_>) -> Result<(), AllocError> {
-    open_section(pen, "help", "What this page shows, and what it does not")?;
-    pen.begin(Tag::Div, "cols")?;
-    left(pen)?;
-    right(pen, view)?;
-    pen.close()?;
-    reply(pen, view)?;
-    pen.close()?;
-    pen.line()
+pub(crate) fn help(pen: &mut Pen, view: &View<'_>) {
+    open_section(pen, "help", "What this page shows, and what it does not");
+    pen.begin(Tag::Div, "cols");
+    left(pen);
+    right(pen, view);
+    pen.close();
+    reply(pen, view);
+    pen.close();
+    pen.line();
 }

@@ -10,7 +10,6 @@ use labels::{Row, SeriesRef};
 use page_claims::shown_of;
 use page_text::Tag;
 use postings::PartName;
-use std::alloc::AllocError;
 
 fn is_of(subject: Subject, name: PartName) -> bool {
     match (subject, name) {
@@ -42,18 +41,18 @@ pub(crate) fn table_of<'a>(tables: &'a [BlockTable], name: PartName) -> Option<&
 }
 
 /// The judgement of a searched part.
-pub(crate) fn judgement(pen: &mut Pen, view: &View<'_>, name: PartName) -> Result<(), AllocError> {
+pub(crate) fn judgement(pen: &mut Pen, view: &View<'_>, name: PartName) {
     if view.shown.lines.is_empty() {
-        return Ok(());
+        return;
     }
-    pen.begin(Tag::P, "note")?;
+    pen.begin(Tag::P, "note");
     match judgement_of(view.shown.lines, name) {
-        None => pen.word("The auditor did not judge this part: it was given no block for it.")?,
-        Some(Judgement::Valid) => pen.word("The auditor judged this part: it is valid.")?,
-        Some(_) => pen.word("The auditor names a flaw of this part: see above.")?,
+        None => pen.word("The auditor did not judge this part: it was given no block for it."),
+        Some(Judgement::Valid) => pen.word("The auditor judged this part: it is valid."),
+        Some(_) => pen.word("The auditor names a flaw of this part: see above."),
     }
-    pen.close()?;
-    pen.line()
+    pen.close();
+    pen.line();
 }
 
 /// Most series of an interval that are named.
@@ -70,21 +69,16 @@ fn series_in<'a>(table: &'a Table, interval: &Interval) -> &'a [(SeriesRef, Row)
 }
 
 /// The first series of an interval, by the auditor's table of the block.
-pub(crate) fn first_series(
-    pen: &mut Pen,
-    table: &Table,
-    interval: &Interval,
-) -> Result<(), AllocError> {
+pub(crate) fn first_series(pen: &mut Pen, table: &Table, interval: &Interval) {
     let (shown, rest) = shown_of(series_in(table, interval), MOST_SERIES);
     let mut first = true;
     for one in shown {
-        pen.word(if first { ": " } else { ", " })?;
+        pen.word(if first { ": " } else { ", " });
         first = false;
-        series(pen, one.1.labels())?;
+        series(pen, one.1.labels());
     }
     if !rest.is_empty() {
-        pen.word(" and ")?;
-        plural(pen, rest.len() as u64, " more", " more")?;
+        pen.word(" and ");
+        plural(pen, rest.len() as u64, " more", " more");
     }
-    Ok(())
 }

@@ -8,20 +8,19 @@ use crate::words::{classed, head_cell, open_section, word};
 use page_claims::SLOTS;
 use page_layout::share;
 use page_text::{Attribute, Key, Tag};
-use std::alloc::AllocError;
 
 /// What a slot says of each series of its intervals.
-fn meaning(pen: &mut Pen, view: &View<'_>, slot: usize) -> Result<(), AllocError> {
+fn meaning(pen: &mut Pen, view: &View<'_>, slot: usize) {
     match slot {
         MATCH => {
-            pen.word("Every matcher accepts it and it has a sample in the range: ")?;
-            word(pen, Tag::B, "a row")?;
+            pen.word("Every matcher accepts it and it has a sample in the range: ");
+            word(pen, Tag::B, "a row");
             pen.word(".")
         }
         NONE => pen.word("It has no sample in the range."),
         _ => match view.matchers().get(slot.saturating_sub(1)) {
             Some(failed) => {
-                pen.word("It fails ")?;
+                pen.word("It fails ");
                 matcher(pen, failed)
             }
             None => classed(pen, Tag::B, "no", "The selector has no such matcher."),
@@ -30,40 +29,36 @@ fn meaning(pen: &mut Pen, view: &View<'_>, slot: usize) -> Result<(), AllocError
 }
 
 /// A share in tenths of a percent, rounded down; never 0 for something, nor all for less.
-fn percent(pen: &mut Pen, n: u64, of: u64) -> Result<(), AllocError> {
-    pen.begin(Tag::Span, "pct")?;
+fn percent(pen: &mut Pen, n: u64, of: u64) {
+    pen.begin(Tag::Span, "pct");
     let tenths = share(n, of, 1000);
     if n == 0 {
-        pen.word("0 %")?;
+        pen.word("0 %");
     } else if n >= of {
-        pen.word("100 %")?;
+        pen.word("100 %");
     } else if tenths == 0 {
-        pen.word("< 0.1 %")?;
+        pen.word("< 0.1 %");
     } else {
-        pen.number(tenths / 10)?;
-        pen.word(".")?;
-        pen.number(tenths % 10)?;
-        pen.word(" %")?;
+        pen.number(tenths / 10);
+        pen.word(".");
+        pen.number(tenths % 10);
+        pen.word(" %");
     }
-    pen.close()
+    pen.close();
 }
 
-fn bar(pen: &mut Pen, slot: usize, n: u64, of: u64) -> Result<(), AllocError> {
-    open_small(pen, "bar", 100, 12)?;
-    let track = vec![in pen.alloc();
-        Attribute::Word(Key::Class, "track"),
-        Attribute::Number(Key::Width, 100),
-        Attribute::Number(Key::Height, 12),
-    ]?;
-    pen.leaf(Tag::Rect, track)?;
+fn bar(pen: &mut Pen, slot: usize, n: u64, of: u64) {
+    open_small(pen, "bar", 100, 12);
+    pen.with(Attribute::Word(Key::Class, "track"));
+    pen.with(Attribute::Number(Key::Width, 100));
+    pen.with(Attribute::Number(Key::Height, 12));
+    pen.leaf(Tag::Rect);
     let width = if n == 0 { 0 } else { share(n, of, 100).max(1) };
-    let filled = vec![in pen.alloc();
-        plain_fill(slot),
-        Attribute::Number(Key::Width, width),
-        Attribute::Number(Key::Height, 12),
-    ]?;
-    pen.leaf(Tag::Rect, filled)?;
-    pen.close()
+    pen.with(plain_fill(slot));
+    pen.with(Attribute::Number(Key::Width, width));
+    pen.with(Attribute::Number(Key::Height, 12));
+    pen.leaf(Tag::Rect);
+    pen.close();
 }
 
 /// How many references the intervals of a slot span that have an end, and how many have none.
@@ -85,23 +80,23 @@ fn span_of(view: &View<'_>, slot: usize) -> (u64, u64) {
     (sum, open)
 }
 
-fn span(pen: &mut Pen, view: &View<'_>, slot: usize) -> Result<(), AllocError> {
+fn span(pen: &mut Pen, view: &View<'_>, slot: usize) {
     let (sum, open) = span_of(view, slot);
-    pen.begin(Tag::Td, "n")?;
+    pen.begin(Tag::Td, "n");
     if sum > 0 || open == 0 {
-        pen.counted(sum)?;
+        pen.counted(sum);
     }
     if sum > 0 && open > 0 {
-        pen.word(" + ")?;
+        pen.word(" + ");
     }
     if open > 1 {
-        pen.counted(open)?;
-        pen.word(" × ")?;
+        pen.counted(open);
+        pen.word(" × ");
     }
     if open > 0 {
-        pen.word("open end")?;
+        pen.word("open end");
     }
-    pen.close()
+    pen.close();
 }
 
 /// The name of the radio button that shows a slot alone.
@@ -127,89 +122,86 @@ fn radio_label(slot: usize) -> Attribute {
     }
 }
 
-fn radio(pen: &mut Pen, slot: usize) -> Result<(), AllocError> {
-    pen.begin(Tag::Td, "hl")?;
-    let attributes = vec![in pen.alloc();
-        Attribute::Word(Key::Type, "radio"),
-        Attribute::Word(Key::Name, "s"),
-        radio_name(slot),
-        radio_label(slot),
-    ]?;
-    pen.leaf(Tag::Input, attributes)?;
-    pen.close()
+fn radio(pen: &mut Pen, slot: usize) {
+    pen.begin(Tag::Td, "hl");
+    pen.with(Attribute::Word(Key::Type, "radio"));
+    pen.with(Attribute::Word(Key::Name, "s"));
+    pen.with(radio_name(slot));
+    pen.with(radio_label(slot));
+    pen.leaf(Tag::Input);
+    pen.close();
 }
 
-fn row(pen: &mut Pen, view: &View<'_>, slot: usize, n: u64) -> Result<(), AllocError> {
-    pen.plain(Tag::Tr)?;
-    pen.open_with(Tag::Th, Attribute::Word(Key::Scope, "row"))?;
-    chip(pen, slot)?;
-    pen.word(" ")?;
-    slot_name(pen, slot)?;
-    pen.close()?;
-    pen.plain(Tag::Td)?;
-    meaning(pen, view, slot)?;
-    pen.close()?;
-    pen.counted_cell(n)?;
-    pen.begin(Tag::Td, "wide")?;
-    bar(pen, slot, n, view.intervals)?;
-    pen.word(" ")?;
-    percent(pen, n, view.intervals)?;
-    pen.close()?;
-    span(pen, view, slot)?;
-    radio(pen, slot)?;
-    pen.close()?;
-    pen.line()
+fn row(pen: &mut Pen, view: &View<'_>, slot: usize, n: u64) {
+    pen.open(Tag::Tr);
+    pen.with(Attribute::Word(Key::Scope, "row"));
+    pen.open(Tag::Th);
+    chip(pen, slot);
+    pen.word(" ");
+    slot_name(pen, slot);
+    pen.close();
+    pen.open(Tag::Td);
+    meaning(pen, view, slot);
+    pen.close();
+    pen.counted_cell(n);
+    pen.begin(Tag::Td, "wide");
+    bar(pen, slot, n, view.intervals);
+    pen.word(" ");
+    percent(pen, n, view.intervals);
+    pen.close();
+    span(pen, view, slot);
+    radio(pen, slot);
+    pen.close();
+    pen.line();
 }
 
-fn show_all(pen: &mut Pen) -> Result<(), AllocError> {
-    pen.begin(Tag::Th, "hl")?;
-    pen.word("Show ")?;
-    pen.plain(Tag::Label)?;
-    let attributes = vec![in pen.alloc();
-        Attribute::Word(Key::Type, "radio"),
-        Attribute::Word(Key::Name, "s"),
-        Attribute::Word(Key::Id, "s-all"),
-        Attribute::Word(Key::Checked, ""),
-    ]?;
-    pen.leaf(Tag::Input, attributes)?;
-    pen.word(" all")?;
-    pen.close()?;
-    pen.close()
+fn show_all(pen: &mut Pen) {
+    pen.begin(Tag::Th, "hl");
+    pen.word("Show ");
+    pen.open(Tag::Label);
+    pen.with(Attribute::Word(Key::Type, "radio"));
+    pen.with(Attribute::Word(Key::Name, "s"));
+    pen.with(Attribute::Word(Key::Id, "s-all"));
+    pen.with(Attribute::Word(Key::Checked, ""));
+    pen.leaf(Tag::Input);
+    pen.word(" all");
+    pen.close();
+    pen.close();
 }
 
-fn heads(pen: &mut Pen) -> Result<(), AllocError> {
-    pen.plain(Tag::TableHead)?;
-    pen.plain(Tag::Tr)?;
-    head_cell(pen, "", "Verdict")?;
-    head_cell(pen, "", "What it says of each series of its interval")?;
-    head_cell(pen, "n", "Intervals")?;
-    head_cell(pen, "wide", "Share of intervals")?;
-    head_cell(pen, "n", "Span of references")?;
-    show_all(pen)?;
-    pen.close()?;
-    pen.close()
+fn heads(pen: &mut Pen) {
+    pen.open(Tag::TableHead);
+    pen.open(Tag::Tr);
+    head_cell(pen, "", "Verdict");
+    head_cell(pen, "", "What it says of each series of its interval");
+    head_cell(pen, "n", "Intervals");
+    head_cell(pen, "wide", "Share of intervals");
+    head_cell(pen, "n", "Span of references");
+    show_all(pen);
+    pen.close();
+    pen.close();
 }
 
 /// The key.
-pub(crate) fn key(pen: &mut Pen, view: &View<'_>) -> Result<(), AllocError> {
-    open_section(pen, "why", "Why a series is in the answer, or not")?;
-    pen.begin(Tag::Div, "scroll")?;
-    pen.begin(Tag::Table, "key")?;
-    heads(pen)?;
-    pen.plain(Tag::TableBody)?;
-    pen.line()?;
+pub(crate) fn key(pen: &mut Pen, view: &View<'_>) {
+    open_section(pen, "why", "Why a series is in the answer, or not");
+    pen.begin(Tag::Div, "scroll");
+    pen.begin(Tag::Table, "key");
+    heads(pen);
+    pen.open(Tag::TableBody);
+    pen.line();
     for slot in 0..SLOTS {
         let n = view.count(slot);
         let there = slot == MATCH || slot == NONE || slot <= view.matchers().len();
         if there || n > 0 {
-            row(pen, view, slot, n)?;
+            row(pen, view, slot, n);
         }
     }
-    pen.close()?;
-    pen.close()?;
-    pen.close()?;
+    pen.close();
+    pen.close();
+    pen.close();
     let note = "A span counts reference numbers, not series: numbers in between may be unused.";
-    classed(pen, Tag::P, "note", note)?;
-    pen.close()?;
-    pen.line()
+    classed(pen, Tag::P, "note", note);
+    pen.close();
+    pen.line();
 }

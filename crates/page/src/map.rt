@@ -99,15 +99,9 @@ fn half_of(spot: &Spot) -> usize {
     }
 }
 
-fn run(
-    pen: &mut Pen,
-    scale: Scale,
-    its: usize,
-    columns: (u64, u64),
-    height: u64,
-) -> Result<(), AllocError> {
+fn run(pen: &mut Pen, scale: Scale, its: usize, columns: (u64, u64), height: u64) {
     if its >= SLOTS {
-        return Ok(());
+        return;
     }
     let x = share(columns.0, COLUMNS, scale.closed);
     let end = share(columns.1, COLUMNS, scale.closed);
@@ -117,11 +111,11 @@ fn run(
         width: end.saturating_sub(x),
         height,
     };
-    rect(pen, fill(its), area)
+    rect(pen, fill(its), area);
 }
 
 /// Equal neighbours as one rectangle.
-fn runs(pen: &mut Pen, scale: Scale, spots: &[Spot], halves: bool) -> Result<(), AllocError> {
+fn runs(pen: &mut Pen, scale: Scale, spots: &[Spot], halves: bool) {
     let height = if halves { 7 } else { 13 };
     let (mut its, mut start) = (SLOTS, 0u64);
     for (at, spot) in spots.iter().enumerate() {
@@ -131,36 +125,36 @@ fn runs(pen: &mut Pen, scale: Scale, spots: &[Spot], halves: bool) -> Result<(),
             whole_of(spot)
         };
         if next != its {
-            run(pen, scale, its, (start, at as u64), height)?;
+            run(pen, scale, its, (start, at as u64), height);
             its = next;
             start = at as u64;
         }
     }
-    run(pen, scale, its, (start, spots.len() as u64), height)
+    run(pen, scale, its, (start, spots.len() as u64), height);
 }
 
 /// What stands above a map.
-fn captions(pen: &mut Pen, scale: Scale) -> Result<(), AllocError> {
-    open_text(pen, Attribute::Word(Key::Class, "cap"), 0, 11, "start")?;
+fn captions(pen: &mut Pen, scale: Scale) {
+    open_text(pen, Attribute::Word(Key::Class, "cap"), 0, 11, "start");
     if scale.closed > 0 {
-        pen.word("to scale: references ")?;
-        pen.number(scale.from)?;
-        pen.word(" to ")?;
-        pen.number(scale.from.saturating_add(scale.span))?;
-        pen.word(", then the open end")?;
+        pen.word("to scale: references ");
+        pen.number(scale.from);
+        pen.word(" to ");
+        pen.number(scale.from.saturating_add(scale.span));
+        pen.word(", then the open end");
     } else {
-        pen.word("references: one interval")?;
+        pen.word("references: one interval");
     }
-    pen.close()?;
+    pen.close();
     open_text(
         pen,
         Attribute::Word(Key::Class, "cap"),
         FULL as u64,
         11,
         "end",
-    )?;
-    pen.word("below: a box for each interval")?;
-    pen.close()
+    );
+    pen.word("below: a box for each interval");
+    pen.close();
 }
 
 /// The part of a map from a place to another.
@@ -173,30 +167,32 @@ fn band(x: u64, end: u64) -> Area {
     }
 }
 
-fn map_strip(pen: &mut Pen, strip: &Strip<'_>, scale: Scale) -> Result<(), AllocError> {
-    captions(pen, scale)?;
-    pen.begin(Tag::G, "map")?;
+fn map_strip(pen: &mut Pen, strip: &Strip<'_>, scale: Scale) {
+    captions(pen, scale);
+    pen.begin(Tag::G, "map");
     rect(
         pen,
         Attribute::Word(Key::Class, "hole"),
         band(0, FULL as u64),
-    )?;
-    let spots = spots_of(pen.alloc(), scale, strip.intervals)?;
-    runs(pen, scale, spots.as_slice(), false)?;
-    runs(pen, scale, spots.as_slice(), true)?;
+    );
+    let Ok(spots) = spots_of(pen.alloc(), scale, strip.intervals) else {
+        return pen.fail();
+    };
+    runs(pen, scale, spots.as_slice(), false);
+    runs(pen, scale, spots.as_slice(), true);
     if let Some(last) = strip.intervals.last() {
         let open = band(scale.closed, FULL as u64);
-        rect(pen, fill(slot_of(last.verdict)), open)?;
+        rect(pen, fill(slot_of(last.verdict)), open);
     }
     if scale.closed > 0 {
-        class_line(pen, "brk", (scale.closed, 14), (scale.closed, 33))?;
+        class_line(pen, "brk", (scale.closed, 14), (scale.closed, 33));
     }
-    pen.close()?;
-    pen.line()
+    pen.close();
+    pen.line();
 }
 
 /// The lines from the map to the boxes: to each if they are at most 64, else at both ends.
-fn fan(pen: &mut Pen, strip: &Strip<'_>, scale: Scale) -> Result<(), AllocError> {
+fn fan(pen: &mut Pen, strip: &Strip<'_>, scale: Scale) {
     pen.begin(
         Tag::G,
         if strip.columns <= 32 {
@@ -204,24 +200,24 @@ fn fan(pen: &mut Pen, strip: &Strip<'_>, scale: Scale) -> Result<(), AllocError>
         } else {
             "fan fine"
         },
-    )?;
+    );
     for (at, interval) in strip.intervals.iter().enumerate() {
         if at < strip.columns && (at == 0 || strip.columns <= 64) {
             let from = scale.place(u64::from(interval.from.number()));
             let to = edge(at, strip.columns, FULL) as u64;
-            line(pen, (from, 30), (to, strip.top))?;
+            line(pen, (from, 30), (to, strip.top));
         }
     }
-    line(pen, (FULL as u64, 30), (FULL as u64, strip.top))?;
-    pen.close()?;
-    pen.line()
+    line(pen, (FULL as u64, 30), (FULL as u64, strip.top));
+    pen.close();
+    pen.line();
 }
 
 /// The map and its lines.
-pub(crate) fn draw_map(pen: &mut Pen, strip: &Strip<'_>) -> Result<(), AllocError> {
+pub(crate) fn draw_map(pen: &mut Pen, strip: &Strip<'_>) {
     let Some(scale) = scale_of(strip.intervals) else {
-        return Ok(());
+        return;
     };
-    map_strip(pen, strip, scale)?;
-    fan(pen, strip, scale)
+    map_strip(pen, strip, scale);
+    fan(pen, strip, scale);
 }

@@ -1,27 +1,35 @@
 //! A pen, by which the sections of a page are written.
 
-ghost use Rattle.std.specs.Prelude.{◌≡◌, ◌++◌, IfOk, OnOk};
+ghost use Rattle.std.specs.Prelude.{◌≡◌, ◌++◌, false, IfOk};
 ghost use Rattle.page_text.specs.Growing.{printed};
 ghost use Rattle.page_text.specs.Nesting.{IsContent};
 ghost use Rattle.page.specs.Cells.{number_text, counted_text, value_text, bounds_text};
 
 use crate::cells;
 use labels::SeriesRef;
-use page_text::{Attribute, Piece, Tag, Tree};
+use page_text::{Attribute, Key, Piece, Tag, Tree};
 use std::alloc::{AllocError, Global};
+use std::mem;
 
-/// A tree that grows. Its calls say what a cell with a number of the reply prints, and that the
-/// pieces become a tree. Nothing above needs what else a section prints, and a proof that carries
-/// no print is short.
+/// A tree that grows. It notes if memory ran out, and only `finish` tells it: what is written after
+/// that is lost.
+///
+/// Its calls say what a cell with a number of the reply prints, and that the pieces become a tree.
+/// Nothing above needs what else a section prints, and a proof that carries no print is short.
 #[derive(Drop)]
 pub(crate) struct Pen {
     tree: Tree,
+    /// The attributes of the element that begins next.
+    attributes: Vec<Attribute>,
+    failed: bool,
 }
 
 impl Pen {
     pub(crate) fn new(alloc: Global) -> Pen {
         Pen {
             tree: Tree::new(alloc),
+            attributes: Vec::new(alloc),
+            failed: false,
         }
     }
 
@@ -29,109 +37,138 @@ impl Pen {
         self.tree.alloc()
     }
 
+    /// Notes that memory ran out.
+    pub(crate) fn fail(&mut self) {
+        self.failed = true;
+    }
+
+    fn note(&mut self, done: Result<(), AllocError>) {
+        if done.is_err() {
+            self.failed = true;
+        }
+    }
+
+    /// Gives an attribute to the element that begins next.
+    pub(crate) fn with(&mut self, attribute: Attribute) {
+        if self.attributes.push(attribute).is_err() {
+            self.failed = true;
+        }
+    }
+
+    fn take_attributes(&mut self) -> Vec<Attribute> {
+        let none = Vec::new(self.tree.alloc());
+        mem::replace(&mut self.attributes, none)
+    }
+
     /// Begins an element.
-    pub(crate) fn open(&mut self, tag: Tag, attributes: Vec<Attribute>) -> Result<(), AllocError> {
-        self.tree.open(tag, attributes)
+    pub(crate) fn open(&mut self, tag: Tag) {
+        let attributes = self.take_attributes();
+        let done = self.tree.open(tag, attributes);
+        self.note(done);
     }
 
     /// An element that holds nothing.
-    pub(crate) fn leaf(&mut self, tag: Tag, attributes: Vec<Attribute>) -> Result<(), AllocError> {
-        self.tree.leaf(tag, attributes)
-    }
-
-    /// Begins an element with one attribute.
-    pub(crate) fn open_with(&mut self, tag: Tag, attribute: Attribute) -> Result<(), AllocError> {
-        let attributes = vec![in self.tree.alloc(); attribute]?;
-        self.tree.open(tag, attributes)
-    }
-
-    pub(crate) fn close(&mut self) -> Result<(), AllocError> {
-        self.tree.close()
-    }
-
-    pub(crate) fn word(&mut self, word: &'static str) -> Result<(), AllocError> {
-        self.tree.word(word)
-    }
-
-    pub(crate) fn text(&mut self, chars: Vec<char>) -> Result<(), AllocError> {
-        self.tree.text(chars)
-    }
-
-    pub(crate) fn number(&mut self, n: u64) -> Result<(), AllocError> {
-        self.tree.number(n)
-    }
-
-    pub(crate) fn integer(&mut self, n: i64) -> Result<(), AllocError> {
-        self.tree.integer(n)
-    }
-
-    pub(crate) fn counted(&mut self, n: u64) -> Result<(), AllocError> {
-        self.tree.counted(n)
-    }
-
-    pub(crate) fn line(&mut self) -> Result<(), AllocError> {
-        self.tree.line()
-    }
-
-    /// Begins an element with no attribute.
-    pub(crate) fn plain(&mut self, tag: Tag) -> Result<(), AllocError> {
-        cells::plain(&mut self.tree, tag)
-    }
-
-    /// An element with no attribute that holds nothing.
-    pub(crate) fn empty(&mut self, tag: Tag) -> Result<(), AllocError> {
-        let alloc = self.tree.alloc();
-        self.tree.leaf(tag, Vec::new(alloc))
+    pub(crate) fn leaf(&mut self, tag: Tag) {
+        let attributes = self.take_attributes();
+        let done = self.tree.leaf(tag, attributes);
+        self.note(done);
     }
 
     /// Begins an element of a class.
-    pub(crate) fn begin(&mut self, tag: Tag, class: &'static str) -> Result<(), AllocError> {
-        cells::begin(&mut self.tree, tag, class)
+    pub(crate) fn begin(&mut self, tag: Tag, class: &'static str) {
+        self.with(Attribute::Word(Key::Class, class));
+        self.open(tag);
     }
 
     /// Begins a cell of a class, with a label for tables that show no head.
-    pub(crate) fn labelled(
-        &mut self,
-        class: &'static str,
-        label: &'static str,
-    ) -> Result<(), AllocError> {
-        cells::labelled(&mut self.tree, class, label)
+    pub(crate) fn labelled(&mut self, class: &'static str, label: &'static str) {
+        self.with(Attribute::Word(Key::Class, class));
+        self.with(Attribute::Word(Key::DataLabel, label));
+        self.open(Tag::Td);
+    }
+
+    pub(crate) fn close(&mut self) {
+        let done = self.tree.close();
+        self.note(done);
+    }
+
+    pub(crate) fn word(&mut self, word: &'static str) {
+        let done = self.tree.word(word);
+        self.note(done);
+    }
+
+    pub(crate) fn text(&mut self, chars: Vec<char>) {
+        let done = self.tree.text(chars);
+        self.note(done);
+    }
+
+    pub(crate) fn number(&mut self, n: u64) {
+        let done = self.tree.number(n);
+        self.note(done);
+    }
+
+    pub(crate) fn integer(&mut self, n: i64) {
+        let done = self.tree.integer(n);
+        self.note(done);
+    }
+
+    pub(crate) fn counted(&mut self, n: u64) {
+        let done = self.tree.counted(n);
+        self.note(done);
+    }
+
+    pub(crate) fn line(&mut self) {
+        let done = self.tree.line();
+        self.note(done);
     }
 
     /// The cell of a table that holds a number with commas.
-    pub(crate) fn counted_cell(&mut self, n: u64) -> Result<(), AllocError>
-        ensures { OnOk result (printed self.new.tree ≡ printed self.old.tree ++ counted_text n) }
+    pub(crate) fn counted_cell(&mut self, n: u64)
+        ensures { self.new.failed ≡ false
+            → printed self.new.tree ≡ printed self.old.tree ++ counted_text n }
     {
-        cells::counted_cell(&mut self.tree, n)
+        if cells::counted_cell(&mut self.tree, n).is_err() {
+            self.failed = true;
+        }
     }
 
     /// The cell of a table that holds a number of the reply.
-    pub(crate) fn number_cell(&mut self, n: u64) -> Result<(), AllocError>
-        ensures { OnOk result (printed self.new.tree ≡ printed self.old.tree ++ number_text n) }
+    pub(crate) fn number_cell(&mut self, n: u64)
+        ensures { self.new.failed ≡ false
+            → printed self.new.tree ≡ printed self.old.tree ++ number_text n }
     {
-        cells::number_cell(&mut self.tree, n)
+        if cells::number_cell(&mut self.tree, n).is_err() {
+            self.failed = true;
+        }
     }
 
     /// A cell with a value of the reply.
-    pub(crate) fn value(&mut self, label: &'static str, n: i64) -> Result<(), AllocError>
-        ensures { OnOk result
-            (printed self.new.tree ≡ printed self.old.tree ++ value_text label.now n) }
+    pub(crate) fn value(&mut self, label: &'static str, n: i64)
+        ensures { self.new.failed ≡ false
+            → printed self.new.tree ≡ printed self.old.tree ++ value_text label.now n }
     {
-        cells::value(&mut self.tree, label, n)
+        if cells::value(&mut self.tree, label, n).is_err() {
+            self.failed = true;
+        }
     }
 
     /// An interval, as `[2, 4)`.
-    pub(crate) fn bounds(&mut self, from: SeriesRef, until: u64) -> Result<(), AllocError>
-        ensures { OnOk result
-            (printed self.new.tree ≡ printed self.old.tree ++ bounds_text from until) }
+    pub(crate) fn bounds(&mut self, from: SeriesRef, until: u64)
+        ensures { self.new.failed ≡ false
+            → printed self.new.tree ≡ printed self.old.tree ++ bounds_text from until }
     {
-        cells::bounds(&mut self.tree, from, until)
+        if cells::bounds(&mut self.tree, from, until).is_err() {
+            self.failed = true;
+        }
     }
 
     /// Ends every element that is open, and gives the pieces.
     pub(crate) fn finish(self) -> Result<Vec<Piece>, AllocError>
         ensures { IfOk result (λ pieces. IsContent pieces.items) }
     {
+        if self.failed {
+            return Err(AllocError);
+        }
         self.tree.finish()
     }
 }

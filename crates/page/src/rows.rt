@@ -11,7 +11,6 @@ use labels::{LabelSet, Row};
 use page_claims::{figures_of, row_with, shown_of};
 use page_text::Tag;
 use postings::PartName;
-use std::alloc::AllocError;
 
 /// Most rows that are shown.
 const MOST_ROWS: usize = 50;
@@ -20,7 +19,7 @@ const MOST_ROWS: usize = 50;
 const MOST_PARTS: u64 = 6;
 
 /// The name of a part; behind another name, of a block its number alone.
-fn later_name(pen: &mut Pen, name: PartName, later: bool) -> Result<(), AllocError> {
+fn later_name(pen: &mut Pen, name: PartName, later: bool) {
     match name {
         PartName::Block(number) if later => pen.number(number as u64),
         _ => part_name(pen, name),
@@ -28,90 +27,90 @@ fn later_name(pen: &mut Pen, name: PartName, later: bool) -> Result<(), AllocErr
 }
 
 /// The parts that list a row.
-fn parts(pen: &mut Pen, view: &View<'_>, labels: &LabelSet) -> Result<(), AllocError> {
+fn parts(pen: &mut Pen, view: &View<'_>, labels: &LabelSet) {
     let mut named = 0u64;
-    pen.labelled("pt", "parts")?;
+    pen.labelled("pt", "parts");
     for answer in view.shown.told.answers.as_slice() {
         if row_with(answer.rows.as_slice(), labels).is_some() {
             if named > 0 && named < MOST_PARTS {
-                pen.word(", ")?;
+                pen.word(", ");
             }
             if named < MOST_PARTS {
-                later_name(pen, answer.part, named > 0)?;
+                later_name(pen, answer.part, named > 0);
             }
             named = named.saturating_add(1);
         }
     }
     if named > MOST_PARTS {
-        pen.word(" +")?;
-        pen.counted(named.saturating_sub(MOST_PARTS))?;
+        pen.word(" +");
+        pen.counted(named.saturating_sub(MOST_PARTS));
     }
-    pen.close()
+    pen.close();
 }
 
-fn row(pen: &mut Pen, view: &View<'_>, at: usize, row: &Row) -> Result<(), AllocError> {
-    pen.plain(Tag::Tr)?;
-    open_head(pen, "row", "n")?;
-    pen.counted((at as u64).saturating_add(1))?;
-    pen.close()?;
-    pen.begin(Tag::Td, "s")?;
-    series(pen, row.labels())?;
-    pen.close()?;
-    pen.begin(Tag::Td, "sp")?;
+fn row(pen: &mut Pen, view: &View<'_>, at: usize, row: &Row) {
+    pen.open(Tag::Tr);
+    open_head(pen, "row", "n");
+    pen.counted((at as u64).saturating_add(1));
+    pen.close();
+    pen.begin(Tag::Td, "s");
+    series(pen, row.labels());
+    pen.close();
+    pen.begin(Tag::Td, "sp");
     let figures = figures_of(row.samples());
     if let (Some(axis), Some(figures)) = (view.axis, figures) {
-        spark(pen, axis, row.samples(), figures)?;
+        spark(pen, axis, row.samples(), figures);
     }
-    pen.close()?;
-    pen.labelled("n", "samples")?;
-    pen.counted(row.samples().len() as u64)?;
-    pen.close()?;
+    pen.close();
+    pen.labelled("n", "samples");
+    pen.counted(row.samples().len() as u64);
+    pen.close();
     if let Some(figures) = figures {
-        pen.value("first", figures.first)?;
-        pen.value("last", figures.last)?;
-        pen.value("least", figures.least)?;
-        pen.value("greatest", figures.greatest)?;
+        pen.value("first", figures.first);
+        pen.value("last", figures.last);
+        pen.value("least", figures.least);
+        pen.value("greatest", figures.greatest);
     }
-    parts(pen, view, row.labels())?;
-    pen.close()?;
-    pen.line()
+    parts(pen, view, row.labels());
+    pen.close();
+    pen.line();
 }
 
-fn heads(pen: &mut Pen, view: &View<'_>) -> Result<(), AllocError> {
-    pen.plain(Tag::TableHead)?;
-    pen.plain(Tag::Tr)?;
-    head_cell(pen, "n", "No.")?;
-    head_cell(pen, "", "Series")?;
-    pen.begin(Tag::Th, "sp")?;
+fn heads(pen: &mut Pen, view: &View<'_>) {
+    pen.open(Tag::TableHead);
+    pen.open(Tag::Tr);
+    head_cell(pen, "n", "No.");
+    head_cell(pen, "", "Series");
+    pen.begin(Tag::Th, "sp");
     if let Some(axis) = view.axis {
-        axis_text(pen, axis, false)?;
+        axis_text(pen, axis, false);
     }
-    pen.close()?;
-    head_cell(pen, "n", "Samples")?;
-    head_cell(pen, "n", "First")?;
-    head_cell(pen, "n", "Last")?;
-    head_cell(pen, "n", "Least")?;
-    head_cell(pen, "n", "Greatest")?;
-    head_cell(pen, "", "Parts")?;
-    pen.close()?;
-    pen.close()
+    pen.close();
+    head_cell(pen, "n", "Samples");
+    head_cell(pen, "n", "First");
+    head_cell(pen, "n", "Last");
+    head_cell(pen, "n", "Least");
+    head_cell(pen, "n", "Greatest");
+    head_cell(pen, "", "Parts");
+    pen.close();
+    pen.close();
 }
 
-fn left_out(pen: &mut Pen, rest: &[Row]) -> Result<(), AllocError> {
+fn left_out(pen: &mut Pen, rest: &[Row]) {
     if rest.is_empty() {
-        return Ok(());
+        return;
     }
-    pen.begin(Tag::P, "left")?;
+    pen.begin(Tag::P, "left");
     plural(
         pen,
         rest.len() as u64,
         " more series is",
         " more series are",
-    )?;
-    pen.word(" left out of this table, with ")?;
-    plural(pen, samples_in(rest), " sample.", " samples.")?;
-    pen.close()?;
-    pen.line()
+    );
+    pen.word(" left out of this table, with ");
+    plural(pen, samples_in(rest), " sample.", " samples.");
+    pen.close();
+    pen.line();
 }
 
 const NOTE: &str =
@@ -121,27 +120,28 @@ const NOTE: &str =
      three times the row’s mean step apart.";
 
 /// The section of the rows.
-pub(crate) fn rows(pen: &mut Pen, view: &View<'_>) -> Result<(), AllocError> {
+pub(crate) fn rows(pen: &mut Pen, view: &View<'_>) {
     let all = view.shown.told.rows.as_slice();
     let (shown, rest) = shown_of(all, MOST_ROWS);
-    open_section(pen, "rows", "The rows of the answer")?;
+    open_section(pen, "rows", "The rows of the answer");
     if shown.is_empty() {
-        word(pen, Tag::P, "No series answers.")?;
-        pen.close()?;
-        return pen.line();
+        word(pen, Tag::P, "No series answers.");
+        pen.close();
+        pen.line();
+        return;
     }
-    pen.begin(Tag::Table, "rows")?;
-    heads(pen, view)?;
-    pen.plain(Tag::TableBody)?;
-    pen.line()?;
+    pen.begin(Tag::Table, "rows");
+    heads(pen, view);
+    pen.open(Tag::TableBody);
+    pen.line();
     for (at, one) in shown.iter().enumerate() {
-        row(pen, view, at, one)?;
+        row(pen, view, at, one);
     }
-    pen.close()?;
-    pen.close()?;
-    pen.line()?;
-    left_out(pen, rest)?;
-    classed(pen, Tag::P, "note", NOTE)?;
-    pen.close()?;
-    pen.line()
+    pen.close();
+    pen.close();
+    pen.line();
+    left_out(pen, rest);
+    classed(pen, Tag::P, "note", NOTE);
+    pen.close();
+    pen.line();
 }

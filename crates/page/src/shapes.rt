@@ -2,7 +2,6 @@
 
 use crate::pen::Pen;
 use page_text::{Attribute, Key, Tag};
-use std::alloc::AllocError;
 
 /// A rectangle: where it begins across and how wide it is, where it begins below and how high it
 /// is.
@@ -15,84 +14,56 @@ pub(crate) struct Area {
 }
 
 /// Begins a figure of a class, of this width and height, for eyes alone.
-pub(crate) fn open_small(
-    pen: &mut Pen,
-    class: &'static str,
-    width: u64,
-    height: u64,
-) -> Result<(), AllocError> {
-    let attributes = vec![in pen.alloc();
-        Attribute::Word(Key::Class, class),
-        Attribute::Number(Key::Width, width),
-        Attribute::Number(Key::Height, height),
-        Attribute::Word(Key::AriaHidden, "true"),
-    ]?;
-    pen.open(Tag::Svg, attributes)
+pub(crate) fn open_small(pen: &mut Pen, class: &'static str, width: u64, height: u64) {
+    pen.with(Attribute::Word(Key::Class, class));
+    pen.with(Attribute::Number(Key::Width, width));
+    pen.with(Attribute::Number(Key::Height, height));
+    pen.with(Attribute::Word(Key::AriaHidden, "true"));
+    pen.open(Tag::Svg);
 }
 
 /// Begins a figure of this height that is as wide as there is room, for eyes alone.
-pub(crate) fn open_wide(pen: &mut Pen, height: u64) -> Result<(), AllocError> {
-    let attributes = vec![in pen.alloc();
-        Attribute::Word(Key::Width, "100%"),
-        Attribute::Number(Key::Height, height),
-        Attribute::Word(Key::AriaHidden, "true"),
-    ]?;
-    pen.open(Tag::Svg, attributes)
+pub(crate) fn open_wide(pen: &mut Pen, height: u64) {
+    pen.with(Attribute::Word(Key::Width, "100%"));
+    pen.with(Attribute::Number(Key::Height, height));
+    pen.with(Attribute::Word(Key::AriaHidden, "true"));
+    pen.open(Tag::Svg);
 }
 
 /// A rectangle with what fills it.
-pub(crate) fn rect(pen: &mut Pen, fill: Attribute, area: Area) -> Result<(), AllocError> {
-    let attributes = vec![in pen.alloc();
-        fill,
-        Attribute::Share(Key::X, area.x),
-        Attribute::Number(Key::Y, area.y),
-        Attribute::Share(Key::Width, area.width),
-        Attribute::Number(Key::Height, area.height),
-    ]?;
-    pen.leaf(Tag::Rect, attributes)
+pub(crate) fn rect(pen: &mut Pen, fill: Attribute, area: Area) {
+    pen.with(fill);
+    pen.with(Attribute::Share(Key::X, area.x));
+    pen.with(Attribute::Number(Key::Y, area.y));
+    pen.with(Attribute::Share(Key::Width, area.width));
+    pen.with(Attribute::Number(Key::Height, area.height));
+    pen.leaf(Tag::Rect);
 }
 
 /// A line from one place to another.
-pub(crate) fn line(pen: &mut Pen, from: (u64, u64), to: (u64, u64)) -> Result<(), AllocError> {
-    let attributes = vec![in pen.alloc();
-        Attribute::Share(Key::X1, from.0),
-        Attribute::Number(Key::Y1, from.1),
-        Attribute::Share(Key::X2, to.0),
-        Attribute::Number(Key::Y2, to.1),
-    ]?;
-    pen.leaf(Tag::Line, attributes)
+pub(crate) fn line(pen: &mut Pen, from: (u64, u64), to: (u64, u64)) {
+    pen.with(Attribute::Share(Key::X1, from.0));
+    pen.with(Attribute::Number(Key::Y1, from.1));
+    pen.with(Attribute::Share(Key::X2, to.0));
+    pen.with(Attribute::Number(Key::Y2, to.1));
+    pen.leaf(Tag::Line);
 }
 
 /// A line of a class from one place to another.
-pub(crate) fn class_line(
-    pen: &mut Pen,
-    class: &'static str,
-    from: (u64, u64),
-    to: (u64, u64),
-) -> Result<(), AllocError> {
-    let attributes = vec![in pen.alloc();
-        Attribute::Word(Key::Class, class),
-        Attribute::Share(Key::X1, from.0),
-        Attribute::Number(Key::Y1, from.1),
-        Attribute::Share(Key::X2, to.0),
-        Attribute::Number(Key::Y2, to.1),
-    ]?;
-    pen.leaf(Tag::Line, attributes)
+pub(crate) fn class_line(pen: &mut Pen, class: &'static str, from: (u64, u64), to: (u64, u64)) {
+    pen.with(Attribute::Word(Key::Class, class));
+    pen.with(Attribute::Share(Key::X1, from.0));
+    pen.with(Attribute::Number(Key::Y1, from.1));
+    pen.with(Attribute::Share(Key::X2, to.0));
+    pen.with(Attribute::Number(Key::Y2, to.1));
+    pen.leaf(Tag::Line);
 }
 
 /// Begins a text of a figure, of a class, at a place.
-pub(crate) fn open_text(
-    pen: &mut Pen,
-    class: Attribute,
-    x: u64,
-    y: u64,
-    anchor: &'static str,
-) -> Result<(), AllocError> {
-    let attributes = vec![in pen.alloc();
-        class,
-        Attribute::Share(Key::X, x),
-        Attribute::Number(Key::Y, y),
-        Attribute::Word(Key::TextAnchor, anchor),
-    ]?;
-    pen.open(Tag::Text, attributes)
+pub(crate) fn open_text(pen: &mut Pen, class: Attribute, x: u64, y: u64, anchor: &'static str) {
+    pen.with(class);
+    pen.with(Attribute::Share(Key::X, x));
+    pen.with(Attribute::Number(Key::Y, y));
+    pen.with(Attribute::Word(Key::TextAnchor, anchor));
+    pen.open(Tag::Text);
 }

@@ -137,35 +137,31 @@ fn dots_of(alloc: Global, bars: &[Bar], samples: &[Sample]) -> Result<Vec<Move>,
     Ok(moves)
 }
 
-fn path(pen: &mut Pen, class: &'static str, moves: Vec<Move>) -> Result<(), AllocError> {
+fn path(pen: &mut Pen, class: &'static str, moves: Result<Vec<Move>, AllocError>) {
+    let Ok(moves) = moves else {
+        return pen.fail();
+    };
     if moves.is_empty() {
-        return Ok(());
+        return;
     }
-    let attributes = vec![in pen.alloc();
-        Attribute::Word(Key::Class, class),
-        Attribute::Path(moves),
-    ]?;
-    pen.leaf(Tag::Path, attributes)
+    pen.with(Attribute::Word(Key::Class, class));
+    pen.with(Attribute::Path(moves));
+    pen.leaf(Tag::Path);
 }
 
 /// The samples of a row over an axis, from its own least value to its own greatest.
-pub(crate) fn spark(
-    pen: &mut Pen,
-    axis: (i64, i64),
-    samples: &[Sample],
-    figures: Figures,
-) -> Result<(), AllocError> {
+pub(crate) fn spark(pen: &mut Pen, axis: (i64, i64), samples: &[Sample], figures: Figures) {
     let alloc = pen.alloc();
-    let bars = bars_of(alloc, axis, samples, figures)?;
-    let frame = vec![in pen.alloc();
-        Attribute::Number(Key::Width, 180),
-        Attribute::Number(Key::Height, 32),
-        Attribute::Word(Key::ViewBox, "-2 -2 184 32"),
-        Attribute::Word(Key::PreserveAspectRatio, "none"),
-        Attribute::Word(Key::AriaHidden, "true"),
-    ]?;
-    pen.open(Tag::Svg, frame)?;
-    path(pen, "ln", lines_of(alloc, bars.as_slice(), samples)?)?;
-    path(pen, "dt", dots_of(alloc, bars.as_slice(), samples)?)?;
-    pen.close()
+    let Ok(bars) = bars_of(alloc, axis, samples, figures) else {
+        return pen.fail();
+    };
+    pen.with(Attribute::Number(Key::Width, 180));
+    pen.with(Attribute::Number(Key::Height, 32));
+    pen.with(Attribute::Word(Key::ViewBox, "-2 -2 184 32"));
+    pen.with(Attribute::Word(Key::PreserveAspectRatio, "none"));
+    pen.with(Attribute::Word(Key::AriaHidden, "true"));
+    pen.open(Tag::Svg);
+    path(pen, "ln", lines_of(alloc, bars.as_slice(), samples));
+    path(pen, "dt", dots_of(alloc, bars.as_slice(), samples));
+    pen.close();
 }

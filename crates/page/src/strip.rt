@@ -86,41 +86,42 @@ pub(crate) fn layers_of(
 }
 
 /// How many intervals have each verdict, in words.
-pub(crate) fn summary(pen: &mut Pen, intervals: &[Interval]) -> Result<(), AllocError> {
-    let layers = layers_of(pen.alloc(), intervals)?;
+pub(crate) fn summary(pen: &mut Pen, intervals: &[Interval]) {
+    let Ok(layers) = layers_of(pen.alloc(), intervals) else {
+        return pen.fail();
+    };
     let mut first = true;
     for layer in layers.as_slice() {
         let (slot, count) = *layer;
         if !first {
-            pen.word(", ")?;
+            pen.word(", ");
         }
         first = false;
-        pen.counted(u64::from(count))?;
-        pen.word(" ")?;
-        said(pen, slot)?;
+        pen.counted(u64::from(count));
+        pen.word(" ");
+        said(pen, slot);
     }
-    Ok(())
 }
 
-fn hover(pen: &mut Pen, column: &Column<'_>) -> Result<(), AllocError> {
-    pen.plain(Tag::Title)?;
+fn hover(pen: &mut Pen, column: &Column<'_>) {
+    pen.open(Tag::Title);
     if let (Some(first), Some(last)) = (column.intervals.first(), column.intervals.last()) {
         if column.intervals.len() == 1 {
-            pen.bounds(first.from, first.until)?;
-            pen.word(" ")?;
-            said(pen, slot_of(first.verdict))?;
+            pen.bounds(first.from, first.until);
+            pen.word(" ");
+            said(pen, slot_of(first.verdict));
         } else {
-            pen.word("intervals ")?;
-            pen.counted((column.from as u64).saturating_add(1))?;
-            pen.word(" to ")?;
-            pen.counted((column.from as u64).saturating_add(column.intervals.len() as u64))?;
-            pen.word(", ")?;
-            pen.bounds(first.from, last.until)?;
-            pen.word(": ")?;
-            summary(pen, column.intervals)?;
+            pen.word("intervals ");
+            pen.counted((column.from as u64).saturating_add(1));
+            pen.word(" to ");
+            pen.counted((column.from as u64).saturating_add(column.intervals.len() as u64));
+            pen.word(", ");
+            pen.bounds(first.from, last.until);
+            pen.word(": ");
+            summary(pen, column.intervals);
         }
     }
-    pen.close()
+    pen.close();
 }
 
 /// Whether a hole or an overlap is in a column or behind it.
@@ -140,11 +141,11 @@ fn is_broken(column: &Column<'_>) -> bool {
     }
 }
 
-fn gap(pen: &mut Pen, strip: &Strip<'_>, column: &Column<'_>) -> Result<(), AllocError> {
+fn gap(pen: &mut Pen, strip: &Strip<'_>, column: &Column<'_>) {
     let (mut x, mut width) = (column.x, column.width);
     if let (Some(only), false) = (column.intervals.first(), strip.is_aggregated()) {
         if only.until >= column.next {
-            return Ok(());
+            return;
         }
         width = (column.width / 3).min(150);
         x = column.x.saturating_add(column.width.saturating_sub(width));
@@ -155,7 +156,7 @@ fn gap(pen: &mut Pen, strip: &Strip<'_>, column: &Column<'_>) -> Result<(), Allo
         width,
         height: strip.height,
     };
-    rect(pen, Attribute::Word(Key::Class, "gap"), area)
+    rect(pen, Attribute::Word(Key::Class, "gap"), area);
 }
 
 fn middle(column: &Column<'_>) -> u64 {
@@ -168,30 +169,25 @@ fn is_lettered(strip: &Strip<'_>, at: usize) -> bool {
     strip.is_aggregated() && every > 0 && at % every == strip.columns / 8
 }
 
-fn layer_letter(
-    pen: &mut Pen,
-    strip: &Strip<'_>,
-    slot: usize,
-    place: (u64, u64),
-) -> Result<(), AllocError> {
+fn layer_letter(pen: &mut Pen, strip: &Strip<'_>, slot: usize, place: (u64, u64)) {
     let class = if strip.is_aggregated() || strip.columns <= 32 {
         letter_class(slot)
     } else {
         wide_letter_class(slot)
     };
-    open_text(pen, class, place.0, place.1, "middle")?;
-    letter(pen, slot)?;
-    pen.close()
+    open_text(pen, class, place.0, place.1, "middle");
+    letter(pen, slot);
+    pen.close();
 }
 
 /// The letter of a box that holds one interval.
-fn box_letter(pen: &mut Pen, strip: &Strip<'_>, column: &Column<'_>) -> Result<(), AllocError> {
+fn box_letter(pen: &mut Pen, strip: &Strip<'_>, column: &Column<'_>) {
     match column.intervals.first() {
         Some(only) if strip.columns <= 64 && !strip.is_aggregated() => {
             let y = strip.top.saturating_add(strip.height / 2).saturating_add(6);
             layer_letter(pen, strip, slot_of(only.verdict), (middle(column), y))
         }
-        _ => Ok(()),
+        _ => {}
     }
 }
 
@@ -231,8 +227,10 @@ fn stack_of(
     Ok(stack)
 }
 
-fn layers(pen: &mut Pen, strip: &Strip<'_>, column: &Column<'_>) -> Result<(), AllocError> {
-    let stack = stack_of(pen.alloc(), strip, column)?;
+fn layers(pen: &mut Pen, strip: &Strip<'_>, column: &Column<'_>) {
+    let Ok(stack) = stack_of(pen.alloc(), strip, column) else {
+        return pen.fail();
+    };
     for layer in stack.as_slice() {
         let area = Area {
             x: column.x,
@@ -240,88 +238,85 @@ fn layers(pen: &mut Pen, strip: &Strip<'_>, column: &Column<'_>) -> Result<(), A
             width: column.width,
             height: layer.height,
         };
-        rect(pen, fill(layer.slot), area)?;
+        rect(pen, fill(layer.slot), area);
     }
-    Ok(())
 }
 
 /// The letters of the high layers of a column of several intervals.
-fn layer_letters(pen: &mut Pen, strip: &Strip<'_>, column: &Column<'_>) -> Result<(), AllocError> {
-    let stack = stack_of(pen.alloc(), strip, column)?;
+fn layer_letters(pen: &mut Pen, strip: &Strip<'_>, column: &Column<'_>) {
+    let Ok(stack) = stack_of(pen.alloc(), strip, column) else {
+        return pen.fail();
+    };
     for layer in stack.as_slice() {
         if layer.height >= 14 {
             let y = layer.y.saturating_add(layer.height / 2).saturating_add(5);
-            layer_letter(pen, strip, layer.slot, (middle(column), y))?;
+            layer_letter(pen, strip, layer.slot, (middle(column), y));
         }
     }
-    Ok(())
 }
 
 /// What stands over the columns of several intervals: letters, and a line at half the height.
-fn over_columns(pen: &mut Pen, strip: &Strip<'_>) -> Result<(), AllocError> {
+fn over_columns(pen: &mut Pen, strip: &Strip<'_>) {
     if !strip.is_aggregated() {
-        return Ok(());
+        return;
     }
     for at in 0..strip.columns {
         if is_lettered(strip, at) {
-            layer_letters(pen, strip, &strip.column(at))?;
+            layer_letters(pen, strip, &strip.column(at));
         }
     }
     let y = strip.top.saturating_add(strip.height / 2);
-    class_line(pen, "half", (0, y), (FULL as u64, y))?;
-    pen.line()
+    class_line(pen, "half", (0, y), (FULL as u64, y));
+    pen.line();
 }
 
-fn draw(pen: &mut Pen, strip: &Strip<'_>, column: &Column<'_>) -> Result<(), AllocError> {
-    pen.plain(Tag::G)?;
-    hover(pen, column)?;
-    layers(pen, strip, column)?;
+fn draw(pen: &mut Pen, strip: &Strip<'_>, column: &Column<'_>) {
+    pen.open(Tag::G);
+    hover(pen, column);
+    layers(pen, strip, column);
     if is_broken(column) {
-        gap(pen, strip, column)?;
+        gap(pen, strip, column);
     }
-    box_letter(pen, strip, column)?;
-    pen.close()?;
-    pen.line()
+    box_letter(pen, strip, column);
+    pen.close();
+    pen.line();
 }
 
-fn cuts(pen: &mut Pen, strip: &Strip<'_>) -> Result<(), AllocError> {
+fn cuts(pen: &mut Pen, strip: &Strip<'_>) {
     let few = strip.columns <= 32;
-    pen.begin(Tag::G, if few { "cut" } else { "cut fine" })?;
+    pen.begin(Tag::G, if few { "cut" } else { "cut fine" });
     for at in 1..strip.columns {
         let x = edge(at, strip.columns, FULL) as u64;
         line(
             pen,
             (x, strip.top),
             (x, strip.top.saturating_add(strip.height)),
-        )?;
+        );
     }
-    pen.close()?;
-    pen.line()
+    pen.close();
+    pen.line();
 }
 
 /// A tick at a place below the strip: a triangle if there are few.
-fn tick(pen: &mut Pen, strip: &Strip<'_>, x: u64) -> Result<(), AllocError> {
+fn tick(pen: &mut Pen, strip: &Strip<'_>, x: u64) {
     let y = below(strip);
     if strip.columns <= 32 && !strip.is_aggregated() {
-        let attributes = vec![in pen.alloc();
-            Attribute::Share(Key::X, x),
-            Attribute::Number(Key::Y, y),
-            Attribute::Number(Key::Width, 12),
-            Attribute::Number(Key::Height, 10),
-            Attribute::Word(Key::Overflow, "visible"),
-        ]?;
-        pen.open(Tag::Svg, attributes)?;
-        let triangle = vec![in pen.alloc(); Attribute::Word(Key::D, "M0 0l5 9H-5z")]?;
-        pen.leaf(Tag::Path, triangle)?;
-        return pen.close();
+        pen.with(Attribute::Share(Key::X, x));
+        pen.with(Attribute::Number(Key::Y, y));
+        pen.with(Attribute::Number(Key::Width, 12));
+        pen.with(Attribute::Number(Key::Height, 10));
+        pen.with(Attribute::Word(Key::Overflow, "visible"));
+        pen.open(Tag::Svg);
+        pen.with(Attribute::Word(Key::D, "M0 0l5 9H-5z"));
+        pen.leaf(Tag::Path);
+        pen.close();
+        return;
     }
-    let attributes = vec![in pen.alloc();
-        Attribute::Share(Key::X, x),
-        Attribute::Number(Key::Y, y),
-        Attribute::Word(Key::Width, "1.5"),
-        Attribute::Number(Key::Height, 7),
-    ]?;
-    pen.leaf(Tag::Rect, attributes)
+    pen.with(Attribute::Share(Key::X, x));
+    pen.with(Attribute::Number(Key::Y, y));
+    pen.with(Attribute::Word(Key::Width, "1.5"));
+    pen.with(Attribute::Number(Key::Height, 7));
+    pen.leaf(Tag::Rect);
 }
 
 /// Where ticks stand.
@@ -333,9 +328,9 @@ fn below(strip: &Strip<'_>) -> u64 {
 const MOST_TICKS: u64 = 4;
 
 /// The ticks of the separators that lie in the interval of a box.
-fn box_ticks(pen: &mut Pen, strip: &Strip<'_>, column: &Column<'_>) -> Result<(), AllocError> {
+fn box_ticks(pen: &mut Pen, strip: &Strip<'_>, column: &Column<'_>) {
     let Some(only) = column.intervals.first() else {
-        return Ok(());
+        return;
     };
     let from = u64::from(only.from.number());
     let span = only.until.saturating_sub(from);
@@ -345,10 +340,9 @@ fn box_ticks(pen: &mut Pen, strip: &Strip<'_>, column: &Column<'_>) -> Result<()
         if from <= number && number < only.until && drawn < MOST_TICKS {
             drawn += 1;
             let across = share(number.saturating_sub(from), span, column.width);
-            tick(pen, strip, column.x.saturating_add(across))?;
+            tick(pen, strip, column.x.saturating_add(across));
         }
     }
-    Ok(())
 }
 
 /// How many separators lie in a column's intervals.
@@ -367,7 +361,7 @@ fn separators_in(strip: &Strip<'_>, column: &Column<'_>) -> u64 {
 }
 
 /// One tick where a column has as many separators as intervals, else a red bar.
-fn column_tick(pen: &mut Pen, strip: &Strip<'_>, column: &Column<'_>) -> Result<(), AllocError> {
+fn column_tick(pen: &mut Pen, strip: &Strip<'_>, column: &Column<'_>) {
     if separators_in(strip, column) == column.intervals.len() as u64 {
         return tick(pen, strip, column.x);
     }
@@ -377,11 +371,11 @@ fn column_tick(pen: &mut Pen, strip: &Strip<'_>, column: &Column<'_>) -> Result<
         width: column.width,
         height: 7,
     };
-    rect(pen, Attribute::Word(Key::Class, "gap"), area)
+    rect(pen, Attribute::Word(Key::Class, "gap"), area);
 }
 
 /// The ticks of the separators.
-fn ticks(pen: &mut Pen, strip: &Strip<'_>) -> Result<(), AllocError> {
+fn ticks(pen: &mut Pen, strip: &Strip<'_>) {
     pen.begin(
         Tag::G,
         if strip.is_aggregated() {
@@ -389,17 +383,17 @@ fn ticks(pen: &mut Pen, strip: &Strip<'_>) -> Result<(), AllocError> {
         } else {
             "sep"
         },
-    )?;
+    );
     for at in 0..strip.columns {
         let column = strip.column(at);
         if strip.is_aggregated() {
-            column_tick(pen, strip, &column)?;
+            column_tick(pen, strip, &column);
         } else {
-            box_ticks(pen, strip, &column)?;
+            box_ticks(pen, strip, &column);
         }
     }
-    pen.close()?;
-    pen.line()
+    pen.close();
+    pen.line();
 }
 
 /// How many digits a number has.
@@ -416,25 +410,25 @@ fn digits(n: u64) -> u64 {
 }
 
 /// Begins a number below a strip.
-fn open_number(pen: &mut Pen, x: u64, y: u64, anchor: &'static str) -> Result<(), AllocError> {
-    open_text(pen, Attribute::Word(Key::Class, "no-i"), x, y, anchor)
+fn open_number(pen: &mut Pen, x: u64, y: u64, anchor: &'static str) {
+    open_text(pen, Attribute::Word(Key::Class, "no-i"), x, y, anchor);
 }
 
 /// Where the last interval ends.
-fn last_number(pen: &mut Pen, strip: &Strip<'_>, y: u64) -> Result<(), AllocError> {
-    open_number(pen, FULL as u64, y, "end")?;
+fn last_number(pen: &mut Pen, strip: &Strip<'_>, y: u64) {
+    open_number(pen, FULL as u64, y, "end");
     match strip.intervals.last() {
-        Some(last) if last.until != END => pen.number(last.until)?,
-        _ => pen.word("end")?,
+        Some(last) if last.until != END => pen.number(last.until),
+        _ => pen.word("end"),
     }
-    pen.close()
+    pen.close();
 }
 
 /// Where columns begin, wherever there is room for the number.
-fn numbers(pen: &mut Pen, strip: &Strip<'_>) -> Result<(), AllocError> {
+fn numbers(pen: &mut Pen, strip: &Strip<'_>) {
     let y = strip.top.saturating_add(strip.height).saturating_add(26);
     let mut free = 0u64;
-    pen.begin(Tag::G, "num")?;
+    pen.begin(Tag::G, "num");
     for at in 0..strip.columns {
         let column = strip.column(at);
         let Some(first) = column.intervals.first() else {
@@ -447,53 +441,53 @@ fn numbers(pen: &mut Pen, strip: &Strip<'_>) -> Result<(), AllocError> {
             continue;
         }
         let anchor = if at == 0 { "start" } else { "middle" };
-        open_number(pen, column.x, y, anchor)?;
-        pen.number(number)?;
-        pen.close()?;
+        open_number(pen, column.x, y, anchor);
+        pen.number(number);
+        pen.close();
         free = column
             .x
             .saturating_add(width.saturating_sub(half))
             .saturating_add(60);
     }
-    last_number(pen, strip, y)?;
-    pen.close()
+    last_number(pen, strip, y);
+    pen.close();
 }
 
 /// The boxes or columns of a strip, the lines between them, the ticks and the numbers.
-pub(crate) fn draw_strip(pen: &mut Pen, strip: &Strip<'_>) -> Result<(), AllocError> {
+pub(crate) fn draw_strip(pen: &mut Pen, strip: &Strip<'_>) {
     let area = Area {
         x: 0,
         y: strip.top,
         width: 10_000,
         height: strip.height,
     };
-    rect(pen, Attribute::Word(Key::Class, "hole"), area)?;
-    pen.line()?;
+    rect(pen, Attribute::Word(Key::Class, "hole"), area);
+    pen.line();
     for at in 0..strip.columns {
-        draw(pen, strip, &strip.column(at))?;
+        draw(pen, strip, &strip.column(at));
     }
-    over_columns(pen, strip)?;
+    over_columns(pen, strip);
     if strip.columns <= 120 {
-        cuts(pen, strip)?;
+        cuts(pen, strip);
     }
-    ticks(pen, strip)?;
-    numbers(pen, strip)
+    ticks(pen, strip);
+    numbers(pen, strip);
 }
 
 /// A caption of a figure.
-pub(crate) fn caption(pen: &mut Pen, strip: &Strip<'_>) -> Result<(), AllocError> {
-    open_text(pen, Attribute::Word(Key::Class, "cap"), 0, 11, "start")?;
+pub(crate) fn caption(pen: &mut Pen, strip: &Strip<'_>) {
+    open_text(pen, Attribute::Word(Key::Class, "cap"), 0, 11, "start");
     if strip.is_aggregated() && strip.columns > 0 {
         let each = strip.intervals.len() / strip.columns;
-        pen.word("each column: ")?;
-        pen.counted(each as u64)?;
+        pen.word("each column: ");
+        pen.counted(each as u64);
         if strip.intervals.len() % strip.columns > 0 {
-            pen.word(" or ")?;
-            pen.counted((each as u64).saturating_add(1))?;
+            pen.word(" or ");
+            pen.counted((each as u64).saturating_add(1));
         }
-        pen.word(" intervals, in order; heights: how many of each verdict")?;
+        pen.word(" intervals, in order; heights: how many of each verdict");
     } else {
-        pen.word("a box for each interval")?;
+        pen.word("a box for each interval");
     }
-    pen.close()
+    pen.close();
 }

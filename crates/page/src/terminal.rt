@@ -13,7 +13,6 @@ use matchers::Matcher;
 use page_claims::{Place, SLOTS, checks_of, slot_of};
 use page_layout::range_of;
 use postings::PartName;
-use std::alloc::AllocError;
 
 /// Most letters of a line.
 const WIDTH: usize = 76;
@@ -21,16 +20,16 @@ const WIDTH: usize = 76;
 /// Most lines of a selector.
 const MOST_LINES: u64 = 54;
 
-fn matcher_text(pen: &mut Pen, matcher: &Matcher) -> Result<(), AllocError> {
-    long_text(pen, matcher.name(), 24)?;
-    pen.word(op_text(matcher.op()))?;
-    pen.word("\"")?;
-    long_text(pen, matcher.text(), 24)?;
-    pen.word("\"")
+fn matcher_text(pen: &mut Pen, matcher: &Matcher) {
+    long_text(pen, matcher.name(), 24);
+    pen.word(op_text(matcher.op()));
+    pen.word("\"");
+    long_text(pen, matcher.text(), 24);
+    pen.word("\"");
 }
 
 /// The letter of a slot: one character for each.
-fn letter(pen: &mut Pen, slot: usize) -> Result<(), AllocError> {
+fn letter(pen: &mut Pen, slot: usize) {
     match slot {
         MATCH => pen.word("✓"),
         NONE => pen.word("."),
@@ -45,29 +44,28 @@ fn letter(pen: &mut Pen, slot: usize) -> Result<(), AllocError> {
     }
 }
 
-fn key_line(pen: &mut Pen, view: &View<'_>, slot: usize, n: u64) -> Result<(), AllocError> {
-    pen.word("  ")?;
-    letter(pen, slot)?;
-    pen.word("  ")?;
-    plural(pen, n, " interval  ", " intervals  ")?;
-    slot_name(pen, slot)?;
+fn key_line(pen: &mut Pen, view: &View<'_>, slot: usize, n: u64) {
+    pen.word("  ");
+    letter(pen, slot);
+    pen.word("  ");
+    plural(pen, n, " interval  ", " intervals  ");
+    slot_name(pen, slot);
     if slot != MATCH && slot != NONE {
         if let Some(failed) = view.matchers().get(slot.saturating_sub(1)) {
-            pen.word(": ")?;
-            matcher_text(pen, failed)?;
+            pen.word(": ");
+            matcher_text(pen, failed);
         }
     }
-    pen.line()
+    pen.line();
 }
 
-fn key(pen: &mut Pen, view: &View<'_>) -> Result<(), AllocError> {
+fn key(pen: &mut Pen, view: &View<'_>) {
     for slot in 0..SLOTS {
         let n = view.count(slot);
         if slot == MATCH || slot == NONE || slot <= view.matchers().len() || n > 0 {
-            key_line(pen, view, slot, n)?;
+            key_line(pen, view, slot, n);
         }
     }
-    Ok(())
 }
 
 /// The slot that stands for a column: match if it has one, else its first.
@@ -85,24 +83,21 @@ fn slot_for(intervals: &[Interval]) -> usize {
 }
 
 /// A letter for each interval, or for each of some columns of them.
-fn letters(pen: &mut Pen, intervals: &[Interval]) -> Result<(), AllocError> {
+fn letters(pen: &mut Pen, intervals: &[Interval]) {
     let columns = intervals.len().min(WIDTH);
     if columns == 0 {
-        return Ok(());
+        return;
     }
-    pen.word("  ")?;
+    pen.word("  ");
     for at in 0..columns {
         let (from, until) = range_of(at, columns, intervals.len());
-        letter(pen, slot_for(&intervals[from..until]))?;
+        letter(pen, slot_for(&intervals[from..until]));
     }
-    pen.line()?;
+    pen.line();
     if columns < intervals.len() {
-        pen.word(
-            "  a letter for several intervals: ✓ if one of them is a match, else their first",
-        )?;
-        pen.line()?;
+        pen.word("  a letter for several intervals: ✓ if one of them is a match, else their first");
+        pen.line();
     }
-    Ok(())
 }
 
 /// What a check that does not hold would have said, in few words.
@@ -115,148 +110,139 @@ fn short_text(check: Check) -> &'static str {
     }
 }
 
-fn flaws(pen: &mut Pen, view: &View<'_>, answer: &PartAnswer) -> Result<(), AllocError> {
+fn flaws(pen: &mut Pen, view: &View<'_>, answer: &PartAnswer) {
     let matchers = view.matchers().len();
     for (check, holds) in sayings(checks_of(answer, matchers)) {
         if !holds {
-            pen.word(short_text(check))?;
-            pen.line()?;
-            pen.word("    ")?;
-            seen(pen, check, answer, matchers)?;
-            pen.line()?;
+            pen.word(short_text(check));
+            pen.line();
+            pen.word("    ");
+            seen(pen, check, answer, matchers);
+            pen.line();
         }
     }
-    Ok(())
 }
 
-fn part(pen: &mut Pen, view: &View<'_>, answer: &PartAnswer) -> Result<(), AllocError> {
+fn part(pen: &mut Pen, view: &View<'_>, answer: &PartAnswer) {
     let intervals = answer.cover.certificate.as_slice();
-    part_name(pen, answer.part)?;
-    pen.word(": ")?;
-    plural(pen, intervals.len() as u64, " interval", " intervals")?;
+    part_name(pen, answer.part);
+    pen.word(": ");
+    plural(pen, intervals.len() as u64, " interval", " intervals");
     if let (Some(first), Some(last)) = (intervals.first(), intervals.last()) {
-        pen.word(" from ")?;
-        pen.number(u64::from(first.from.number()))?;
-        pen.word(" to ")?;
+        pen.word(" from ");
+        pen.number(u64::from(first.from.number()));
+        pen.word(" to ");
         if last.until == END {
-            pen.word("the end")?;
+            pen.word("the end");
         } else {
-            pen.number(last.until)?;
+            pen.number(last.until);
         }
     }
-    pen.line()?;
-    letters(pen, intervals)?;
-    flaws(pen, view, answer)
+    pen.line();
+    letters(pen, intervals);
+    flaws(pen, view, answer);
 }
 
-fn parts(pen: &mut Pen, view: &View<'_>) -> Result<(), AllocError> {
+fn parts(pen: &mut Pen, view: &View<'_>) {
     let mut answers = view.shown.told.answers.as_slice();
     for place in view.shown.told.places.as_slice() {
         match *place {
             Place::Skipped(number) => {
-                part_name(pen, PartName::Block(number))?;
-                pen.word(": skipped, outside the range")?;
-                pen.line()?;
+                part_name(pen, PartName::Block(number));
+                pen.word(": skipped, outside the range");
+                pen.line();
             }
             Place::Searched => {
                 if let Some((answer, later)) = answers.split_first() {
                     answers = later;
-                    part(pen, view, answer)?;
+                    part(pen, view, answer);
                 }
             }
         }
     }
-    Ok(())
 }
 
 /// The matchers that do not accept the label set that somebody asks about.
-fn rejecting(pen: &mut Pen, view: &View<'_>, places: &[usize]) -> Result<(), AllocError> {
-    pen.word("The series is not in the answer: these reject it, whatever the store holds.")?;
-    pen.line()?;
+fn rejecting(pen: &mut Pen, view: &View<'_>, places: &[usize]) {
+    pen.word("The series is not in the answer: these reject it, whatever the store holds.");
+    pen.line();
     for at in places {
         if let Some(failed) = view.matchers().get(*at) {
-            pen.word("  ")?;
-            letter(pen, at.saturating_add(1).min(UNKNOWN))?;
-            pen.word("  ")?;
-            matcher_text(pen, failed)?;
-            pen.line()?;
+            pen.word("  ");
+            letter(pen, at.saturating_add(1).min(UNKNOWN));
+            pen.word("  ");
+            matcher_text(pen, failed);
+            pen.line();
         }
     }
-    Ok(())
 }
 
-fn about(pen: &mut Pen, view: &View<'_>, asked: &Asked) -> Result<(), AllocError> {
+fn about(pen: &mut Pen, view: &View<'_>, asked: &Asked) {
     match asked {
         Asked::Row(at) => {
-            pen.word("The series is in the answer, as row ")?;
-            pen.counted((*at as u64).saturating_add(1))?;
-            pen.word(".")?;
+            pen.word("The series is in the answer, as row ");
+            pen.counted((*at as u64).saturating_add(1));
+            pen.word(".");
             pen.line()
         }
         Asked::Rejected(places) => rejecting(pen, view, places.as_slice()),
         Asked::Accepted => {
-            pen.word("Every matcher accepts these labels, and they are no row: if the")?;
-            pen.line()?;
-            pen.word("certificate is right, no part holds a sample of them in the range.")?;
+            pen.word("Every matcher accepts these labels, and they are no row: if the");
+            pen.line();
+            pen.word("certificate is right, no part holds a sample of them in the range.");
             pen.line()
         }
     }
 }
 
 /// What is wrong with the rows of all, and what the auditor found.
-fn faults(pen: &mut Pen, view: &View<'_>) -> Result<(), AllocError> {
+fn faults(pen: &mut Pen, view: &View<'_>) {
     if !view.claim.is_merged {
-        pen.word("  ✗ the rows of the answer are not the merged rows of the parts")?;
-        pen.line()?;
+        pen.word("  ✗ the rows of the answer are not the merged rows of the parts");
+        pen.line();
     }
     for line in view.shown.lines {
         if line.judgement.is_fault() {
-            pen.word("  ✗ the auditor found a flaw: ")?;
-            auditor_text(pen, line)?;
-            pen.line()?;
+            pen.word("  ✗ the auditor found a flaw: ");
+            auditor_text(pen, line);
+            pen.line();
         }
     }
-    Ok(())
 }
 
 /// A text from outside, broken into lines.
-fn broken_text(pen: &mut Pen, text: &str) -> Result<(), AllocError> {
+fn broken_text(pen: &mut Pen, text: &str) {
     let alloc = pen.alloc();
     let mut chars = Vec::new(alloc);
     let (mut lines, mut left) = (0u64, 0u64);
     for c in text.chars() {
         if chars.len() == WIDTH && lines < MOST_LINES {
-            pen.text(chars)?;
-            pen.line()?;
+            pen.text(chars);
+            pen.line();
             chars = Vec::new(alloc);
             lines = lines.saturating_add(1);
         }
-        if chars.len() < WIDTH {
-            chars.push(c)?;
-        } else {
+        if chars.len() == WIDTH {
             left = left.saturating_add(1);
+        } else if chars.push(c).is_err() {
+            return pen.fail();
         }
     }
-    pen.text(chars)?;
-    left_box(pen, left, " character", " characters")?;
-    pen.line()
+    pen.text(chars);
+    left_box(pen, left, " character", " characters");
+    pen.line();
 }
 
 /// The question, the key, a strip of letters for each part, and the sentence about a series.
-pub(crate) fn terminal(
-    pen: &mut Pen,
-    view: &View<'_>,
-    asked: Option<&Asked>,
-) -> Result<(), AllocError> {
-    broken_text(pen, view.shown.selector)?;
-    faults(pen, view)?;
-    pen.line()?;
-    key(pen, view)?;
-    pen.line()?;
-    parts(pen, view)?;
+pub(crate) fn terminal(pen: &mut Pen, view: &View<'_>, asked: Option<&Asked>) {
+    broken_text(pen, view.shown.selector);
+    faults(pen, view);
+    pen.line();
+    key(pen, view);
+    pen.line();
+    parts(pen, view);
     if let Some(asked) = asked {
-        pen.line()?;
-        about(pen, view, asked)?;
+        pen.line();
+        about(pen, view, asked);
     }
-    Ok(())
 }

@@ -65,8 +65,11 @@ fn most_of(columns: &[u64], most: u64) -> u64 {
     greatest
 }
 
-/// The greatest number of rows in a column of a part or of the answer.
-fn most_rows(view: &View<'_>, axis: (i64, i64)) -> Result<u64, AllocError> {
+/// The greatest number of rows in a column of a part or of the answer; 0 if there is no time.
+fn most_rows(view: &View<'_>) -> Result<u64, AllocError> {
+    let Some(axis) = view.axis else {
+        return Ok(0);
+    };
     let rows = view.shown.told.rows.as_slice();
     let mut most = most_of(columns_of(view.alloc, axis, rows)?.as_slice(), 0);
     for answer in view.shown.told.answers.as_slice() {
@@ -151,17 +154,17 @@ fn place_of(axis: (i64, i64), t: i64) -> u64 {
 }
 
 /// The numbers of an axis: of all its ticks, or of the first and the last.
-pub(crate) fn axis_text(pen: &mut Pen, axis: (i64, i64), all: bool) -> Result<(), AllocError> {
+pub(crate) fn axis_text(pen: &mut Pen, axis: (i64, i64), all: bool) {
     let alloc = pen.alloc();
-    let ticks = ticks_of(alloc, axis)?;
+    let Ok(ticks) = ticks_of(alloc, axis) else {
+        return pen.fail();
+    };
     let step = step_of(axis);
-    let attributes = vec![in pen.alloc();
-        Attribute::Word(Key::Width, "100%"),
-        Attribute::Number(Key::Height, 16),
-        Attribute::Word(Key::AriaHidden, "true"),
-        Attribute::Word(Key::Class, "ax"),
-    ]?;
-    pen.open(Tag::Svg, attributes)?;
+    pen.with(Attribute::Word(Key::Width, "100%"));
+    pen.with(Attribute::Number(Key::Height, 16));
+    pen.with(Attribute::Word(Key::AriaHidden, "true"));
+    pen.with(Attribute::Word(Key::Class, "ax"));
+    pen.open(Tag::Svg);
     for (at, t) in ticks.iter().enumerate() {
         if all || at == 0 || at.saturating_add(1) == ticks.len() {
             let x = place_of(axis, *t);
@@ -172,12 +175,12 @@ pub(crate) fn axis_text(pen: &mut Pen, axis: (i64, i64), all: bool) -> Result<()
             } else {
                 "middle"
             };
-            open_text(pen, Attribute::Word(Key::Class, "at"), x, 12, anchor)?;
-            tick(pen, *t, step)?;
-            pen.close()?;
+            open_text(pen, Attribute::Word(Key::Class, "at"), x, 12, anchor);
+            tick(pen, *t, step);
+            pen.close();
         }
     }
-    pen.close()
+    pen.close();
 }
 
 /// How high a bar of so many rows is, rounded up, where the most has 22 units.
@@ -224,217 +227,203 @@ fn moves_of(alloc: Global, columns: &[u64], most: u64) -> Result<Vec<Move>, Allo
 }
 
 /// The ticks of an axis behind bars, and the line that these stand on.
-fn grid(pen: &mut Pen, axis: (i64, i64)) -> Result<(), AllocError> {
-    let ticks = ticks_of(pen.alloc(), axis)?;
+fn grid(pen: &mut Pen, axis: (i64, i64)) {
+    let Ok(ticks) = ticks_of(pen.alloc(), axis) else {
+        return pen.fail();
+    };
     for t in ticks.as_slice() {
         let x = place_of(axis, *t);
-        class_line(pen, "grid", (x, 0), (x, 30))?;
+        class_line(pen, "grid", (x, 0), (x, 30));
     }
-    class_line(pen, "base", (0, 26), (10_000, 26))
+    class_line(pen, "base", (0, 26), (10_000, 26));
 }
 
-fn bar_path(pen: &mut Pen, columns: &[u64], most: u64) -> Result<(), AllocError> {
-    let moves = moves_of(pen.alloc(), columns, most)?;
-    let frame = vec![in pen.alloc();
-        Attribute::Number(Key::Y, 4),
-        Attribute::Word(Key::Width, "100%"),
-        Attribute::Number(Key::Height, 22),
-        Attribute::Word(Key::ViewBox, "0 0 120 22"),
-        Attribute::Word(Key::PreserveAspectRatio, "none"),
-    ]?;
-    pen.open(Tag::Svg, frame)?;
-    let path = vec![in pen.alloc(); Attribute::Word(Key::Class, "bars"), Attribute::Path(moves)]?;
-    pen.leaf(Tag::Path, path)?;
-    pen.close()
+fn bar_path(pen: &mut Pen, columns: &[u64], most: u64) {
+    let Ok(moves) = moves_of(pen.alloc(), columns, most) else {
+        return pen.fail();
+    };
+    pen.with(Attribute::Number(Key::Y, 4));
+    pen.with(Attribute::Word(Key::Width, "100%"));
+    pen.with(Attribute::Number(Key::Height, 22));
+    pen.with(Attribute::Word(Key::ViewBox, "0 0 120 22"));
+    pen.with(Attribute::Word(Key::PreserveAspectRatio, "none"));
+    pen.open(Tag::Svg);
+    pen.with(Attribute::Word(Key::Class, "bars"));
+    pen.with(Attribute::Path(moves));
+    pen.leaf(Tag::Path);
+    pen.close();
 }
 
-fn bars(pen: &mut Pen, axis: (i64, i64), rows: &[Row], most: u64) -> Result<(), AllocError> {
-    let columns = columns_of(pen.alloc(), axis, rows)?;
-    open_wide(pen, 30)?;
-    grid(pen, axis)?;
-    bar_path(pen, columns.as_slice(), most)?;
-    pen.close()
+fn bars(pen: &mut Pen, axis: (i64, i64), rows: &[Row], most: u64) {
+    let Ok(columns) = columns_of(pen.alloc(), axis, rows) else {
+        return pen.fail();
+    };
+    open_wide(pen, 30);
+    grid(pen, axis);
+    bar_path(pen, columns.as_slice(), most);
+    pen.close();
 }
 
-fn cells(
-    pen: &mut Pen,
-    view: &View<'_>,
-    rows: &[Row],
-    intervals: u64,
-    most: u64,
-) -> Result<(), AllocError> {
-    pen.begin(Tag::Td, "when")?;
+fn cells(pen: &mut Pen, view: &View<'_>, rows: &[Row], intervals: u64, most: u64) {
+    pen.begin(Tag::Td, "when");
     if let Some(axis) = view.axis {
-        bars(pen, axis, rows, most)?;
+        bars(pen, axis, rows, most);
     }
-    pen.close()?;
-    pen.begin(Tag::Td, "n iw")?;
-    pen.counted(intervals)?;
-    pen.close()?;
-    pen.counted_cell(rows.len() as u64)?;
-    pen.counted_cell(samples_in(rows))?;
-    pen.begin(Tag::Td, "fl")?;
+    pen.close();
+    pen.begin(Tag::Td, "n iw");
+    pen.counted(intervals);
+    pen.close();
+    pen.counted_cell(rows.len() as u64);
+    pen.counted_cell(samples_in(rows));
+    pen.begin(Tag::Td, "fl");
     match times_of(rows) {
-        Some((from, to)) => ends(pen, from, to)?,
-        None => pen.word("no sample")?,
+        Some((from, to)) => ends(pen, from, to),
+        None => pen.word("no sample"),
     }
-    pen.close()?;
-    pen.close()?;
-    pen.line()
+    pen.close();
+    pen.close();
+    pen.line();
 }
 
-fn open_row(pen: &mut Pen, class: &'static str) -> Result<(), AllocError> {
-    pen.begin(Tag::Tr, class)?;
-    pen.open_with(Tag::Th, Attribute::Word(Key::Scope, "row"))
+fn open_row(pen: &mut Pen, class: &'static str) {
+    pen.begin(Tag::Tr, class);
+    pen.with(Attribute::Word(Key::Scope, "row"));
+    pen.open(Tag::Th);
 }
 
-fn part_row(
-    pen: &mut Pen,
-    view: &View<'_>,
-    at: usize,
-    answer: &PartAnswer,
-    most: u64,
-) -> Result<(), AllocError> {
-    open_row(pen, "searched")?;
-    part_link(pen, at, answer.part)?;
-    pen.close()?;
+fn part_row(pen: &mut Pen, view: &View<'_>, at: usize, answer: &PartAnswer, most: u64) {
+    open_row(pen, "searched");
+    part_link(pen, at, answer.part);
+    pen.close();
     let intervals = answer.cover.certificate.len() as u64;
-    cells(pen, view, answer.rows.as_slice(), intervals, most)
+    cells(pen, view, answer.rows.as_slice(), intervals, most);
 }
 
-fn skipped_row(pen: &mut Pen, at: usize, number: usize) -> Result<(), AllocError> {
-    open_row(pen, "unsearched")?;
-    part_link(pen, at, PartName::Block(number))?;
-    pen.close()?;
-    pen.begin(Tag::Td, "when")?;
-    open_wide(pen, 30)?;
-    let hatched = vec![in pen.alloc();
-        Attribute::Word(Key::Class, "skipped"),
-        Attribute::Number(Key::X, 0),
-        Attribute::Number(Key::Y, 3),
-        Attribute::Word(Key::Width, "100%"),
-        Attribute::Number(Key::Height, 24),
-    ]?;
-    pen.leaf(Tag::Rect, hatched)?;
-    pen.close()?;
-    pen.close()?;
-    let wide = vec![in pen.alloc();
-        Attribute::Word(Key::Class, "skipw"),
-        Attribute::Number(Key::Colspan, 4),
-    ]?;
-    pen.open(Tag::Td, wide)?;
-    pen.word("skipped: outside the range")?;
-    pen.close()?;
-    pen.close()?;
-    pen.line()
+fn skipped_row(pen: &mut Pen, at: usize, number: usize) {
+    open_row(pen, "unsearched");
+    part_link(pen, at, PartName::Block(number));
+    pen.close();
+    pen.begin(Tag::Td, "when");
+    open_wide(pen, 30);
+    pen.with(Attribute::Word(Key::Class, "skipped"));
+    pen.with(Attribute::Number(Key::X, 0));
+    pen.with(Attribute::Number(Key::Y, 3));
+    pen.with(Attribute::Word(Key::Width, "100%"));
+    pen.with(Attribute::Number(Key::Height, 24));
+    pen.leaf(Tag::Rect);
+    pen.close();
+    pen.close();
+    pen.with(Attribute::Word(Key::Class, "skipw"));
+    pen.with(Attribute::Number(Key::Colspan, 4));
+    pen.open(Tag::Td);
+    pen.word("skipped: outside the range");
+    pen.close();
+    pen.close();
+    pen.line();
 }
 
-fn axis_note(
-    pen: &mut Pen,
-    view: &View<'_>,
-    axis: (i64, i64),
-    most: u64,
-) -> Result<(), AllocError> {
+fn axis_note(pen: &mut Pen, view: &View<'_>, axis: (i64, i64), most: u64) {
     let (from, to) = (view.shown.query.from(), view.shown.query.to());
-    pen.begin(Tag::P, "note")?;
-    pen.word("All figures of time, here and in the rows, go from ")?;
-    when(pen, axis.0)?;
-    pen.word(" to ")?;
-    when(pen, axis.1)?;
+    pen.begin(Tag::P, "note");
+    pen.word("All figures of time, here and in the rows, go from ");
+    when(pen, axis.0);
+    pen.word(" to ");
+    when(pen, axis.1);
     pen.word(if axis.0 == from && axis.1 == to {
         ", the range of the query"
     } else {
         ", the first and the last sample, as the range of the query is much wider"
-    })?;
+    });
     pen.word(
         ". The height over each of 120 equal times is the number of rows with a sample in it; full \
          height is ",
-    )?;
-    plural(pen, most, " row.", " rows.")?;
-    pen.close()?;
-    pen.line()
+    );
+    plural(pen, most, " row.", " rows.");
+    pen.close();
+    pen.line();
 }
 
-fn heads(pen: &mut Pen, view: &View<'_>) -> Result<(), AllocError> {
-    pen.plain(Tag::TableHead)?;
-    pen.plain(Tag::Tr)?;
-    head_cell(pen, "", "Part")?;
-    pen.begin(Tag::Th, "when")?;
+fn heads(pen: &mut Pen, view: &View<'_>) {
+    pen.open(Tag::TableHead);
+    pen.open(Tag::Tr);
+    head_cell(pen, "", "Part");
+    pen.begin(Tag::Th, "when");
     if let Some(axis) = view.axis {
-        axis_text(pen, axis, true)?;
+        axis_text(pen, axis, true);
     }
-    pen.close()?;
-    head_cell(pen, "n iw", "Intervals")?;
-    head_cell(pen, "n", "Rows")?;
-    head_cell(pen, "n", "Samples")?;
-    head_cell(pen, "fl", "First and last sample")?;
-    pen.close()?;
-    pen.close()
+    pen.close();
+    head_cell(pen, "n iw", "Intervals");
+    head_cell(pen, "n", "Rows");
+    head_cell(pen, "n", "Samples");
+    head_cell(pen, "fl", "First and last sample");
+    pen.close();
+    pen.close();
 }
 
-fn part_rows(pen: &mut Pen, view: &View<'_>, most: u64) -> Result<(), AllocError> {
+fn part_rows(pen: &mut Pen, view: &View<'_>, most: u64) {
     let mut answers = view.shown.told.answers.as_slice();
     for (at, place) in view.shown.told.places.iter().enumerate() {
         match *place {
-            Place::Skipped(number) => skipped_row(pen, at, number)?,
+            Place::Skipped(number) => skipped_row(pen, at, number),
             Place::Searched => {
                 if let Some((answer, later)) = answers.split_first() {
                     answers = later;
-                    part_row(pen, view, at, answer, most)?;
+                    part_row(pen, view, at, answer, most);
                 }
             }
         }
     }
-    Ok(())
 }
 
 /// How many samples stand in more than one part.
-fn twice(pen: &mut Pen, view: &View<'_>) -> Result<(), AllocError> {
+fn twice(pen: &mut Pen, view: &View<'_>) {
     let mut listed = 0u64;
     for answer in view.shown.told.answers.as_slice() {
         listed = listed.saturating_add(samples_in(answer.rows.as_slice()));
     }
     let more = listed.saturating_sub(view.samples);
     if more == 0 {
-        return Ok(());
+        return;
     }
-    pen.begin(Tag::P, "note")?;
-    pen.word("The parts list ")?;
-    plural(pen, listed, " sample", " samples")?;
-    pen.word(", the answer ")?;
-    pen.counted(view.samples)?;
-    pen.word(": ")?;
-    plural(pen, more, " sample stands", " samples stand")?;
-    pen.word(" in more than one part, and of these the later part’s counts.")?;
-    pen.close()?;
-    pen.line()
+    pen.begin(Tag::P, "note");
+    pen.word("The parts list ");
+    plural(pen, listed, " sample", " samples");
+    pen.word(", the answer ");
+    pen.counted(view.samples);
+    pen.word(": ");
+    plural(pen, more, " sample stands", " samples stand");
+    pen.word(" in more than one part, and of these the later part’s counts.");
+    pen.close();
+    pen.line();
 }
 
 /// The section of times.
-pub(crate) fn time(pen: &mut Pen, view: &View<'_>) -> Result<(), AllocError> {
+pub(crate) fn time(pen: &mut Pen, view: &View<'_>) {
     let rows = view.shown.told.rows.as_slice();
-    let mut most = 0;
-    let title = "Which part has samples of the answer, and when";
-    open_section(pen, "time", title)?;
+    let Ok(most) = most_rows(view) else {
+        return pen.fail();
+    };
+    open_section(
+        pen,
+        "time",
+        "Which part has samples of the answer, and when",
+    );
     match view.axis {
-        Some(axis) => {
-            most = most_rows(view, axis)?;
-            axis_note(pen, view, axis, most)?;
-        }
-        None => classed(pen, Tag::P, "note", "The answer has no sample.")?,
+        Some(axis) => axis_note(pen, view, axis, most),
+        None => classed(pen, Tag::P, "note", "The answer has no sample."),
     }
-    pen.begin(Tag::Table, "time")?;
-    heads(pen, view)?;
-    pen.plain(Tag::TableBody)?;
-    pen.line()?;
-    part_rows(pen, view, most)?;
-    open_row(pen, "sum")?;
-    pen.word("answer")?;
-    pen.close()?;
-    cells(pen, view, rows, view.intervals, most)?;
-    pen.close()?;
-    pen.close()?;
-    twice(pen, view)?;
-    pen.close()?;
-    pen.line()
+    pen.begin(Tag::Table, "time");
+    heads(pen, view);
+    pen.open(Tag::TableBody);
+    pen.line();
+    part_rows(pen, view, most);
+    open_row(pen, "sum");
+    pen.word("answer");
+    pen.close();
+    cells(pen, view, rows, view.intervals, most);
+    pen.close();
+    pen.close();
+    twice(pen, view);
+    pen.close();
+    pen.line();
 }

@@ -3,7 +3,6 @@
 use crate::pen::Pen;
 use crate::words::classed;
 use page_text::Tag;
-use std::alloc::AllocError;
 
 /// A day and a time of it, in UTC.
 #[derive(Clone, Copy)]
@@ -56,116 +55,116 @@ pub(crate) fn civil_of(t: i64) -> Option<Civil> {
     })
 }
 
-fn two(pen: &mut Pen, n: u64) -> Result<(), AllocError> {
+fn two(pen: &mut Pen, n: u64) {
     if n < 10 {
-        pen.word("0")?;
+        pen.word("0");
     }
-    pen.number(n)
+    pen.number(n);
 }
 
-fn three(pen: &mut Pen, n: u64) -> Result<(), AllocError> {
+fn three(pen: &mut Pen, n: u64) {
     if n < 100 {
-        pen.word("0")?;
+        pen.word("0");
     }
-    two(pen, n)
+    two(pen, n);
 }
 
-fn hour_and_minute(pen: &mut Pen, second: u64) -> Result<(), AllocError> {
-    two(pen, second / 3600)?;
-    pen.word(":")?;
-    two(pen, second / 60 % 60)
+fn hour_and_minute(pen: &mut Pen, second: u64) {
+    two(pen, second / 3600);
+    pen.word(":");
+    two(pen, second / 60 % 60);
 }
 
-fn month_and_day(pen: &mut Pen, at: Civil) -> Result<(), AllocError> {
-    two(pen, at.month)?;
-    pen.word("-")?;
-    two(pen, at.day)
+fn month_and_day(pen: &mut Pen, at: Civil) {
+    two(pen, at.month);
+    pen.word("-");
+    two(pen, at.day);
 }
 
-fn utc(pen: &mut Pen, at: Civil) -> Result<(), AllocError> {
-    pen.number(at.year)?;
-    pen.word("-")?;
-    month_and_day(pen, at)?;
-    pen.word(" ")?;
-    hour_and_minute(pen, at.second)?;
-    pen.word(":")?;
-    two(pen, at.second % 60)?;
+fn utc(pen: &mut Pen, at: Civil) {
+    pen.number(at.year);
+    pen.word("-");
+    month_and_day(pen, at);
+    pen.word(" ");
+    hour_and_minute(pen, at.second);
+    pen.word(":");
+    two(pen, at.second % 60);
     if at.millisecond > 0 {
-        pen.word(".")?;
-        three(pen, at.millisecond)?;
+        pen.word(".");
+        three(pen, at.millisecond);
     }
-    Ok(())
 }
 
 /// A time, for people first if it is one of theirs.
-pub(crate) fn when(pen: &mut Pen, t: i64) -> Result<(), AllocError> {
-    pen.begin(Tag::B, "t")?;
+pub(crate) fn when(pen: &mut Pen, t: i64) {
+    pen.begin(Tag::B, "t");
     let Some(at) = civil_of(t) else {
-        pen.integer(t)?;
-        return pen.close();
+        pen.integer(t);
+        pen.close();
+        return;
     };
-    utc(pen, at)?;
-    pen.close()?;
-    pen.word(" ")?;
-    pen.begin(Tag::Span, "ms")?;
-    pen.integer(t)?;
-    pen.close()
+    utc(pen, at);
+    pen.close();
+    pen.word(" ");
+    pen.begin(Tag::Span, "ms");
+    pen.integer(t);
+    pen.close();
 }
 
 /// A time at a tick of an axis whose ticks are so many milliseconds apart.
-pub(crate) fn tick(pen: &mut Pen, t: i64, step: u64) -> Result<(), AllocError> {
+pub(crate) fn tick(pen: &mut Pen, t: i64, step: u64) {
     let Some(at) = civil_of(t) else {
-        return pen.integer(t);
+        pen.integer(t);
+        return;
     };
     if step >= 86_400_000 {
         return month_and_day(pen, at);
     }
-    hour_and_minute(pen, at.second)?;
+    hour_and_minute(pen, at.second);
     if step >= 60_000 {
-        return Ok(());
+        return;
     }
-    pen.word(":")?;
-    two(pen, at.second % 60)
+    pen.word(":");
+    two(pen, at.second % 60);
 }
 
 /// The first and the last of some times.
-pub(crate) fn ends(pen: &mut Pen, from: i64, to: i64) -> Result<(), AllocError> {
-    when(pen, from)?;
+pub(crate) fn ends(pen: &mut Pen, from: i64, to: i64) {
+    when(pen, from);
     if from < to {
-        pen.empty(Tag::Break)?;
-        when(pen, to)?;
+        pen.leaf(Tag::Break);
+        when(pen, to);
     }
-    Ok(())
 }
 
 /// The times of a query.
-pub(crate) fn range(pen: &mut Pen, from: i64, to: i64) -> Result<(), AllocError> {
+pub(crate) fn range(pen: &mut Pen, from: i64, to: i64) {
     let (first, last) = (from == labels::MIN_TIME, to == labels::MAX_TIME);
-    pen.begin(Tag::P, "range")?;
+    pen.begin(Tag::P, "range");
     if first && last {
-        pen.word("all times")?;
+        pen.word("all times");
     } else {
-        pen.word("from ")?;
+        pen.word("from ");
         if first {
-            pen.word("the beginning")?;
+            pen.word("the beginning");
         } else {
-            when(pen, from)?;
+            when(pen, from);
         }
-        pen.word(" to ")?;
+        pen.word(" to ");
         if last {
-            pen.word("the end")?;
+            pen.word("the end");
         } else {
-            when(pen, to)?;
+            when(pen, to);
         }
     }
     let utc = civil_of(from).is_some() || civil_of(to).is_some();
-    pen.word(" ")?;
+    pen.word(" ");
     let unit = if utc {
         "(milliseconds, both ends included, UTC)"
     } else {
         "(milliseconds, both ends included)"
     };
-    classed(pen, Tag::Span, "mute", unit)?;
-    pen.close()?;
-    pen.line()
+    classed(pen, Tag::Span, "mute", unit);
+    pen.close();
+    pen.line();
 }

@@ -7,7 +7,6 @@ use cover::Verdict;
 use labels::LabelSet;
 use matchers::{Matcher, Op};
 use page_text::{Attribute, Key, Tag};
-use std::alloc::AllocError;
 
 /// The slot of a match.
 pub(crate) const MATCH: usize = 0;
@@ -69,7 +68,7 @@ pub(crate) fn row_class(slot: usize) -> Attribute {
 }
 
 /// The letter of a slot.
-pub(crate) fn letter(pen: &mut Pen, slot: usize) -> Result<(), AllocError> {
+pub(crate) fn letter(pen: &mut Pen, slot: usize) {
     match slot {
         MATCH => pen.word("✓"),
         NONE => pen.word("∅"),
@@ -79,48 +78,44 @@ pub(crate) fn letter(pen: &mut Pen, slot: usize) -> Result<(), AllocError> {
 }
 
 /// A box with the fill and the letter of a slot.
-pub(crate) fn chip(pen: &mut Pen, slot: usize) -> Result<(), AllocError> {
-    open_small(pen, "chip", 22, 18)?;
-    let filled = vec![in pen.alloc();
-        plain_fill(slot),
-        Attribute::Number(Key::Width, 22),
-        Attribute::Number(Key::Height, 18),
-        Attribute::Number(Key::Rx, 2),
-    ]?;
-    pen.leaf(Tag::Rect, filled)?;
-    let lettered = vec![in pen.alloc();
-        letter_class(slot),
-        Attribute::Number(Key::X, 11),
-        Attribute::Word(Key::Y, "13.5"),
-        Attribute::Word(Key::TextAnchor, "middle"),
-    ]?;
-    pen.open(Tag::Text, lettered)?;
-    letter(pen, slot)?;
-    pen.close()?;
-    pen.close()
+pub(crate) fn chip(pen: &mut Pen, slot: usize) {
+    open_small(pen, "chip", 22, 18);
+    pen.with(plain_fill(slot));
+    pen.with(Attribute::Number(Key::Width, 22));
+    pen.with(Attribute::Number(Key::Height, 18));
+    pen.with(Attribute::Number(Key::Rx, 2));
+    pen.leaf(Tag::Rect);
+    pen.with(letter_class(slot));
+    pen.with(Attribute::Number(Key::X, 11));
+    pen.with(Attribute::Word(Key::Y, "13.5"));
+    pen.with(Attribute::Word(Key::TextAnchor, "middle"));
+    pen.open(Tag::Text);
+    letter(pen, slot);
+    pen.close();
+    pen.close();
 }
 
 /// What a slot says, in a few words.
-pub(crate) fn said(pen: &mut Pen, slot: usize) -> Result<(), AllocError> {
+pub(crate) fn said(pen: &mut Pen, slot: usize) {
     match slot {
         MATCH => pen.word("match"),
         NONE => pen.word("no sample in the range"),
         UNKNOWN => pen.word("rejected by a matcher that is not there"),
         _ => {
-            pen.word("rejected by ")?;
+            pen.word("rejected by ");
             pen.number(slot.saturating_sub(1) as u64)
         }
     }
 }
 
 /// The name of a slot.
-pub(crate) fn slot_name(pen: &mut Pen, slot: usize) -> Result<(), AllocError> {
+pub(crate) fn slot_name(pen: &mut Pen, slot: usize) {
     match slot {
         MATCH => pen.word("match"),
         NONE => pen.word("none"),
         UNKNOWN => pen.word("no such matcher"),
         _ => {
-            pen.word("matcher ")?;
+            pen.word("matcher ");
             pen.number(slot.saturating_sub(1) as u64)
         }
     }
@@ -137,22 +132,22 @@ pub(crate) fn op_text(op: Op) -> &'static str {
 }
 
 /// A matcher, as selectors write it.
-pub(crate) fn matcher(pen: &mut Pen, matcher: &Matcher) -> Result<(), AllocError> {
-    pen.plain(Tag::Code)?;
-    name(pen, matcher.name())?;
-    pen.word(op_text(matcher.op()))?;
-    quoted(pen, matcher.text())?;
-    pen.close()
+pub(crate) fn matcher(pen: &mut Pen, matcher: &Matcher) {
+    pen.open(Tag::Code);
+    name(pen, matcher.name());
+    pen.word(op_text(matcher.op()));
+    quoted(pen, matcher.text());
+    pen.close();
 }
 
 /// Why the series of an interval are no rows, or the row.
-pub(crate) fn why(pen: &mut Pen, verdict: Verdict, matchers: &[Matcher]) -> Result<(), AllocError> {
+pub(crate) fn why(pen: &mut Pen, verdict: Verdict, matchers: &[Matcher]) {
     match verdict {
         Verdict::Match => pen.word("is a row of the answer"),
         Verdict::NoSample => pen.word("no sample in the range"),
         Verdict::Rejected(at) => match matchers.get(at) {
             Some(failed) => {
-                pen.word("fails ")?;
+                pen.word("fails ");
                 matcher(pen, failed)
             }
             None => pen.word("no such matcher"),
@@ -182,20 +177,20 @@ fn is_plain_name(text: &str) -> bool {
     true
 }
 
-fn pair(pen: &mut Pen, label: &str, value: &str, last: bool) -> Result<(), AllocError> {
-    pen.begin(Tag::Span, "lb")?;
-    name(pen, label)?;
-    pen.word("=")?;
-    pen.begin(Tag::Span, "v")?;
-    quoted(pen, value)?;
-    pen.close()?;
+fn pair(pen: &mut Pen, label: &str, value: &str, last: bool) {
+    pen.begin(Tag::Span, "lb");
+    name(pen, label);
+    pen.word("=");
+    pen.begin(Tag::Span, "v");
+    quoted(pen, value);
+    pen.close();
     if !last {
-        pen.word(",")?;
+        pen.word(",");
     }
-    pen.close()
+    pen.close();
 }
 
-fn pairs(pen: &mut Pen, labels: &LabelSet, named: bool) -> Result<(), AllocError> {
+fn pairs(pen: &mut Pen, labels: &LabelSet, named: bool) {
     let all = if named {
         labels.len().saturating_sub(1)
     } else {
@@ -203,33 +198,33 @@ fn pairs(pen: &mut Pen, labels: &LabelSet, named: bool) -> Result<(), AllocError
     };
     let most = all.min(MOST_LABELS);
     let mut shown = 0usize;
-    pen.word("{")?;
+    pen.word("{");
     for at in 0..labels.len() {
         let (label, value) = labels.pair(at);
         if shown < most && !(named && label == "__name__") {
             if shown > 0 {
-                pen.empty(Tag::Wbr)?;
+                pen.leaf(Tag::Wbr);
             }
             shown += 1;
-            pair(pen, label, value, shown == most)?;
+            pair(pen, label, value, shown == most);
         }
     }
-    left_box(pen, all.saturating_sub(most) as u64, " label", " labels")?;
-    pen.word("}")
+    left_box(pen, all.saturating_sub(most) as u64, " label", " labels");
+    pen.word("}");
 }
 
 /// A series, as selectors write it.
-pub(crate) fn series(pen: &mut Pen, labels: &LabelSet) -> Result<(), AllocError> {
+pub(crate) fn series(pen: &mut Pen, labels: &LabelSet) {
     let metric = labels.value("__name__");
     let named = is_plain_name(metric);
-    pen.begin(Tag::Code, "lbs")?;
+    pen.begin(Tag::Code, "lbs");
     if named {
-        pen.plain(Tag::B)?;
-        name(pen, metric)?;
-        pen.close()?;
+        pen.open(Tag::B);
+        name(pen, metric);
+        pen.close();
     }
     if !named || labels.len() > 1 {
-        pairs(pen, labels, named)?;
+        pairs(pen, labels, named);
     }
-    pen.close()
+    pen.close();
 }

@@ -61,7 +61,7 @@ fn heading_of(alloc: Global, view: &View<'_>) -> Result<Vec<Piece>, AllocError>
     ensures { IfOk result (λ pieces. IsContent pieces.items) }
 {
     let mut pen = Pen::new(alloc);
-    heading(&mut pen, view)?;
+    heading(&mut pen, view);
     pen.finish()
 }
 
@@ -70,7 +70,7 @@ fn details_of(alloc: Global, view: &View<'_>) -> Result<Vec<Piece>, AllocError>
     ensures { IfOk result (λ pieces. IsContent pieces.items) }
 {
     let mut pen = Pen::new(alloc);
-    details(&mut pen, view)?;
+    details(&mut pen, view);
     pen.finish()
 }
 
@@ -83,14 +83,14 @@ fn sections_of(
     ensures { IfOk result (λ pieces. IsContent pieces.items) }
 {
     let mut pen = Pen::new(alloc);
-    summary(&mut pen, view, asked)?;
-    pen.plain(Tag::Main)?;
-    pen.line()?;
-    key(&mut pen, view)?;
-    certificates(&mut pen, view)?;
-    time(&mut pen, view)?;
-    rows(&mut pen, view)?;
-    help(&mut pen, view)?;
+    summary(&mut pen, view, asked);
+    pen.open(Tag::Main);
+    pen.line();
+    key(&mut pen, view);
+    certificates(&mut pen, view);
+    time(&mut pen, view);
+    rows(&mut pen, view);
+    help(&mut pen, view);
     pen.finish()
 }
 
@@ -193,7 +193,7 @@ fn lines_of(alloc: Global, view: &View<'_>, asked: Option<&Asked>) -> Result<Vec
     ensures { IfOk result (λ pieces. IsContent pieces.items) }
 {
     let mut pen = Pen::new(alloc);
-    terminal(&mut pen, view, asked)?;
+    terminal(&mut pen, view, asked);
     pen.finish()
 }
 
