@@ -28,6 +28,9 @@ pub struct Counts {
     width: u64,
     slots: Vec<Slot>,
     of_series: Vec<u64>,
+    /// Where the counts of the series begin that are not 0, and where they end.
+    first: usize,
+    behind: usize,
     of_input: Vec<u64>,
     samples: u64,
     series: u64,
@@ -44,9 +47,9 @@ fn zeros(alloc: Global, count: usize) -> Result<Vec<u64>, AllocError> {
     Ok(zeros)
 }
 
-// The most of each place, of one series more, whose counts are 0 again.
-fn raise(most: &mut [u64], of_series: &mut [u64]) {
-    for at in 0..most.len().min(of_series.len()) {
+// The most of each of some places, of one series more, whose counts are 0 again.
+fn raise(most: &mut [u64], of_series: &mut [u64], first: usize, behind: usize) {
+    for at in first..behind.min(most.len()).min(of_series.len()) {
         most[at] = most[at].max(of_series[at]);
         of_series[at] = 0;
     }
@@ -73,6 +76,8 @@ impl Counts {
             width,
             slots,
             of_series: zeros(alloc, count)?,
+            first: count,
+            behind: 0,
             of_input: zeros(alloc, count)?,
             samples: 0,
             series: 0,
@@ -95,6 +100,8 @@ impl Counts {
         let end = self.place_of(last);
         self.samples = self.samples.saturating_add(count);
         self.largest = self.largest.max(count);
+        self.first = self.first.min(begin);
+        self.behind = self.behind.max(begin.saturating_add(1));
         if let Some(slot) = self.slots.get_mut(begin) {
             slot.begun = slot.begun.saturating_add(count);
         }
@@ -111,7 +118,14 @@ impl Counts {
     /// The next series follows.
     pub fn end_series(&mut self) {
         self.series = self.series.saturating_add(1);
-        raise(self.of_input.as_mut_slice(), self.of_series.as_mut_slice());
+        raise(
+            self.of_input.as_mut_slice(),
+            self.of_series.as_mut_slice(),
+            self.first,
+            self.behind,
+        );
+        self.first = self.of_series.len();
+        self.behind = 0;
     }
 
     /// The next input follows.
