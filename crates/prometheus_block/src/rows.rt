@@ -100,7 +100,7 @@ fn push_row<S: ReadSegments>(
         tombstones: wanted.tombstones,
         reference: wanted.index.reference_at(at),
     };
-    let mut kept = Vec::new(alloc);
+    let mut kept = Vec::with_capacity(alloc, floats.len())?;
     if let Err(error) = keep_samples(&mut kept, tally, &asked, floats.as_slice()) {
         return Err(RowsError::Value(at, error));
     }

@@ -7,7 +7,7 @@ pub returns-then-has_none-clause-found : goal.returns-then-has_none-clause-found
 returns-then-has_none-clause-found g c = λ s e.
     let series = c.args.wanted.now.index.now.series in
     row_after _ c.args.wanted.now s _ _ _ _ c.in_ok-floats.floats.items _ c.chunks_at.result.now _
-    _ _ c.in_default.ensures.ok c.as_slice.ensures.value c.new-kept.ensures.items
+    _ _ c.in_default.ensures.ok c.as_slice.ensures.value c.in_ok-kept.ensures.items
     (at_series (λ (x : Series). x.chunks) series c.args.at _ s c.chunks_at.ensures e)
     c.in_ok-floats.ensures.found
     (record {
@@ -23,7 +23,7 @@ pub returns-clause-found : goal.returns-clause-found
 returns-clause-found g c = λ s e.
     let series = c.args.wanted.now.index.now.series in
     row_after _ c.args.wanted.now s _ _ _ _ c.in_ok-floats.floats.items _ c.chunks_at.result.now _
-    _ _ c.in_default.ensures.ok c.as_slice.ensures.value c.new-kept.ensures.items
+    _ _ c.in_default.ensures.ok c.as_slice.ensures.value c.in_ok-kept.ensures.items
     (at_series (λ (x : Series). x.chunks) series c.args.at _ s c.chunks_at.ensures e)
     c.in_ok-floats.ensures.found
     (record {
