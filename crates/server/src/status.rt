@@ -9,12 +9,14 @@ use std::sync::atomic::{AtomicBool, Ordering};
 use std::thread::sleep;
 use std::time::{Clock, Duration, Instant};
 
-/// How long the listener of the status port is left alone where nobody asks, in milliseconds.
+/// How long the listener of the status port is left alone if nobody asks, in milliseconds.
 const PAUSE: u64 = 20;
 
-/// For how many seconds a client of the status port may give or take no byte, and after how many no
-/// more of its request is read.
-const SILENCE: u64 = 2;
+/// For how many milliseconds a client of the status port may give or take no byte.
+const SILENCE: u64 = 300;
+
+/// After how many milliseconds no read of a request begins: it takes a second at most.
+const LATEST: u64 = 700;
 
 /// The most bytes of a request that are read.
 const MOST: usize = 8192;
@@ -31,8 +33,8 @@ pub(crate) trait Report {
     /// What was counted so far.
     fn counts(&self) -> Counts;
 
-    /// How things stand now.
-    fn state(&mut self) -> State;
+    /// How things stand now, if that is known.
+    fn state(&mut self) -> Option<State>;
 }
 
 /// What a client asks for.
@@ -77,10 +79,10 @@ fn answer_of<S: Report>(
     report: &mut S,
 ) -> Result<(&'static str, Vec<u8>), AllocError> {
     let (line, text) = match asked {
-        Asked::Metrics => {
-            let text = metrics(alloc, &report.counts(), &report.state())?;
-            return Ok(("200 OK", text));
-        }
+        Asked::Metrics => match report.state() {
+            Some(state) => return Ok(("200 OK", metrics(alloc, &report.counts(), &state)?)),
+            None => ("503 Service Unavailable", "not known\n"),
+        },
         Asked::Healthy => ("200 OK", "healthy\n"),
         Asked::Ready if report.is_ready() => ("200 OK", "ready\n"),
         Asked::Ready => ("503 Service Unavailable", "not ready\n"),
@@ -105,8 +107,13 @@ fn reply_of<S: Report>(alloc: Global, asked: Asked, report: &mut S) -> Result<Ve
     Ok(reply)
 }
 
-/// Reads the head of a request, or its first bytes where it is long or slow.
-fn read_head(rt: &impl Clock, alloc: Global, stream: &TcpStream) -> io::Result<Vec<u8>> {
+/// Reads the head of a request, or its first bytes if it is long or slow or if all is over.
+fn read_head(
+    rt: &impl Clock,
+    alloc: Global,
+    stream: &TcpStream,
+    over: &AtomicBool,
+) -> io::Result<Vec<u8>> {
     let mut reader = stream;
     let mut head = Vec::new(alloc);
     let mut piece = [0u8; 512];
@@ -116,32 +123,35 @@ fn read_head(rt: &impl Clock, alloc: Global, stream: &TcpStream) -> io::Result<V
             break;
         };
         head.extend_from_slice(&piece[..count])?;
-        let is_late = start.elapsed(rt)? > Duration::from_secs(SILENCE);
-        if count == 0 || is_late || head.len() >= MOST || has_end(head.as_slice()) {
+        let is_late = start.elapsed(rt)? > Duration::from_millis(LATEST);
+        let is_ended = count == 0 || head.len() >= MOST || has_end(head.as_slice());
+        if is_ended || is_late || over.load(Ordering::SeqCst) {
             break;
         }
     }
     Ok(head)
 }
 
-/// Answers one client.
+/// Answers one client. What was no request in time is not read on.
 fn answer<S: Report>(
     rt: &impl Clock,
     alloc: Global,
     stream: &TcpStream,
+    over: &AtomicBool,
     report: &mut S,
 ) -> io::Result<()> {
-    let limit = Some(Duration::from_secs(SILENCE));
+    let limit = Some(Duration::from_millis(SILENCE));
     stream.set_nonblocking(false)?;
     stream.set_read_timeout(limit)?;
     stream.set_write_timeout(limit)?;
-    let head = read_head(rt, alloc, stream)?;
+    let head = read_head(rt, alloc, stream, over)?;
     let asked = asked_in(head.as_slice());
     let reply = reply_of(alloc, asked, report)?;
     let mut writer = stream;
     writer.write_all(reply.as_slice())?;
-    let is_refused = matches!(asked, Asked::NoPath | Asked::NoMethod | Asked::NoRequest);
-    end(rt, stream, is_refused);
+    if asked != Asked::NoRequest {
+        end(rt, stream, asked == Asked::NoMethod);
+    }
     Ok(())
 }
 
@@ -159,7 +169,7 @@ pub(crate) fn answer_status<R: Clock, S: Report>(
         }
         match listener.accept() {
             Ok((stream, _peer)) => {
-                let _ = answer(rt, alloc, &stream, report);
+                let _ = answer(rt, alloc, &stream, over, report);
             }
             Err(_) => sleep(rt, Duration::from_millis(PAUSE)),
         }
