@@ -124,7 +124,7 @@ impl Tally {
             delete,
             cut,
             other,
-            refusals: Cells::new(alloc, 12)?,
+            refusals: Cells::new(alloc, 11)?,
             batches: AtomicU64::new(0),
             deletions: AtomicU64::new(0),
             cuts: AtomicU64::new(0),
