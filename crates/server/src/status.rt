@@ -45,9 +45,9 @@ enum Asked {
     Ready,
     /// There is no such path.
     NoPath,
-    /// A path is asked for by another method than `GET`.
+    /// A path is asked for by another method than `GET` and `HEAD`.
     NoMethod,
-    /// The head of the request did not end in time, or is too long.
+    /// What came begins with no line of a request, did not end in time, or is too long.
     NoRequest,
 }
 
@@ -56,17 +56,57 @@ fn has_end(head: &[u8]) -> bool {
     head.windows(4).any(|four| four == b"\r\n\r\n".as_slice())
 }
 
+/// What stands before the first of these bytes, and what stands behind it.
+fn parted(text: &[u8], byte: u8) -> Option<(&[u8], &[u8])> {
+    match text.iter().position(|one| *one == byte) {
+        Some(place) => Some((&text[..place], &text[place + 1..])),
+        None => None,
+    }
+}
+
+/// The path of a target: what stands before its query.
+fn path_in(target: &[u8]) -> &[u8] {
+    match parted(target, b'?') {
+        Some((path, _query)) => path,
+        None => target,
+    }
+}
+
+/// What is asked for by `GET` or `HEAD`.
+fn asked_at(path: &[u8]) -> Asked {
+    if path == b"/metrics".as_slice() {
+        Asked::Metrics
+    } else if path == b"/healthy".as_slice() {
+        Asked::Healthy
+    } else if path == b"/ready".as_slice() {
+        Asked::Ready
+    } else {
+        Asked::NoPath
+    }
+}
+
+/// Whether the client wants no body.
+fn is_bare(head: &[u8]) -> bool {
+    head.starts_with(b"HEAD ")
+}
+
 fn asked_in(head: &[u8]) -> Asked {
     if !has_end(head) {
+        return Asked::NoRequest;
+    }
+    let Some((line, _fields)) = parted(head, b'\r') else {
+        return Asked::NoRequest;
+    };
+    let Some((method, rest)) = parted(line, b' ') else {
+        return Asked::NoRequest;
+    };
+    let Some((target, version)) = parted(rest, b' ') else {
+        return Asked::NoRequest;
+    };
+    if method.is_empty() || target.is_empty() || !version.starts_with(b"HTTP/1.") {
         Asked::NoRequest
-    } else if head.starts_with(b"GET /metrics ") {
-        Asked::Metrics
-    } else if head.starts_with(b"GET /healthy ") {
-        Asked::Healthy
-    } else if head.starts_with(b"GET /ready ") {
-        Asked::Ready
-    } else if head.starts_with(b"GET ") {
-        Asked::NoPath
+    } else if method == b"GET".as_slice() || is_bare(head) {
+        asked_at(path_in(target))
     } else {
         Asked::NoMethod
     }
@@ -93,17 +133,32 @@ fn answer_of<S: Report>(
     Ok((line, Vec::from_slice(alloc, text.as_bytes())?))
 }
 
-/// The head of a reply with this status line and a body of this length.
-fn head_of(alloc: Global, line: &str, length: usize) -> Result<String, AllocError> {
-    format!(in alloc; "HTTP/1.1 {line}\r\n{FIELDS}Content-Length: {length}\r\n\r\n")
+/// The field that says which methods there are, in the reply to another one.
+fn allow_of(asked: Asked) -> &'static str {
+    match asked {
+        Asked::NoMethod => "Allow: GET, HEAD\r\n",
+        _ => "",
+    }
 }
 
-/// The whole reply.
-fn reply_of<S: Report>(alloc: Global, asked: Asked, report: &mut S) -> Result<Vec<u8>, AllocError> {
+/// The head of a reply with this status line and a body of this length.
+fn head_of(alloc: Global, line: &str, allow: &str, length: usize) -> Result<String, AllocError> {
+    format!(in alloc; "HTTP/1.1 {line}\r\n{FIELDS}{allow}Content-Length: {length}\r\n\r\n")
+}
+
+/// The whole reply, which has no body if the client wants none.
+fn reply_of<S: Report>(
+    alloc: Global,
+    asked: Asked,
+    is_bare: bool,
+    report: &mut S,
+) -> Result<Vec<u8>, AllocError> {
     let (line, body) = answer_of(alloc, asked, report)?;
-    let head = head_of(alloc, line, body.len())?;
+    let head = head_of(alloc, line, allow_of(asked), body.len())?;
     let mut reply = Vec::from_slice(alloc, head.as_bytes())?;
-    reply.extend_from_slice(body.as_slice())?;
+    if !is_bare {
+        reply.extend_from_slice(body.as_slice())?;
+    }
     Ok(reply)
 }
 
@@ -146,7 +201,7 @@ fn answer<S: Report>(
     stream.set_write_timeout(limit)?;
     let head = read_head(rt, alloc, stream, over)?;
     let asked = asked_in(head.as_slice());
-    let reply = reply_of(alloc, asked, report)?;
+    let reply = reply_of(alloc, asked, is_bare(head.as_slice()), report)?;
     let mut writer = stream;
     writer.write_all(reply.as_slice())?;
     if asked != Asked::NoRequest {
