@@ -22,7 +22,7 @@ name_of families.Resident = codes "process_resident_memory_bytes"
 name_of families.Build = codes "fuzzledge_build_info"
 
 unfoldable pub help_of : Family → List ℕ
-help_of families.Requests = codes "Requests that were replied to, by path and status."
+help_of families.Requests = codes "Requests for which a reply was made, by path and status."
 help_of families.Refusals = codes "Refusals of requests, by code."
 help_of families.Events = codes "Events that the store accepted, by kind."
 help_of families.Samples = codes "Samples of the batches that the store accepted."

@@ -12,8 +12,8 @@ pub struct Counts {
     pub cut: PathCounts,
     /// Requests of no path, and what was no request.
     pub other: PathCounts,
-    /// Refusals, `H1` to `H12` in turn.
-    pub refusals: [u64; 12],
+    /// Refusals by number, in the order of [`refusal_numbers`].
+    pub refusals: [u64; 11],
     /// Batches, deletions and cuts that the store accepted.
     pub batches: u64,
     pub deletions: u64,
@@ -50,7 +50,7 @@ impl Counts {
             delete: PathCounts::none(),
             cut: PathCounts::none(),
             other: PathCounts::none(),
-            refusals: [0; 12],
+            refusals: [0; 11],
             batches: 0,
             deletions: 0,
             cuts: 0,
@@ -101,12 +101,12 @@ pub fn statuses() -> &'static [u64]
     &[200, 400, 403, 404, 405, 409, 413, 431, 503]
 }
 
-/// The numbers of refusals, each in its place of [`Counts::refusals`].
+/// The numbers of refusals, each in its place of [`Counts::refusals`]: there is no `H11`.
 #[tactic(auto, unfolding(crate::specs::Bounds::refusals))]
 pub fn refusal_numbers() -> &'static [u64]
     ensures { result.now ≡ refusals }
 {
-    &[1, 2, 3, 4, 5, 6, 7, 8, 9, 10, 11, 12]
+    &[1, 2, 3, 4, 5, 6, 7, 8, 9, 10, 12]
 }
 
 /// The bounds of a histogram, in microseconds: the last count of [`Times::counts`] is of what lies

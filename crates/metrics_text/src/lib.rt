@@ -5,7 +5,7 @@
 //! seconds with six digits behind the point, and the counts of a histogram are cumulative.
 //!
 //! ```text
-//! # HELP fuzzledge_samples_accepted_total Samples of batches that the store accepted.
+//! # HELP fuzzledge_samples_accepted_total Samples of the batches that the store accepted.
 //! # TYPE fuzzledge_samples_accepted_total counter
 //! fuzzledge_samples_accepted_total 12
 //! ```

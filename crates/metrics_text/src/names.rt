@@ -58,7 +58,7 @@ pub(crate) fn help_of(family: Family) -> &'static str
     ensures { result.now ≡ help_of family }
 {
     match family {
-        Family::Requests => "Requests that were replied to, by path and status.",
+        Family::Requests => "Requests for which a reply was made, by path and status.",
         Family::Refusals => "Refusals of requests, by code.",
         Family::Events => "Events that the store accepted, by kind.",
         Family::Samples => "Samples of the batches that the store accepted.",

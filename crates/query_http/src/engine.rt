@@ -1,6 +1,6 @@
 //! Serving one connection: a request is read, done and replied to.
 
-ghost use Rattle.std.specs.Prelude.{◌≡◌, [], Some, IfOk, IfErr, IfSome, OnErr, IsErrOf};
+ghost use Rattle.std.specs.Prelude.{◌≡◌, [], Some, None, IfOk, IfErr, IfSome, OnErr, IsErrOf};
 ghost use Rattle.requests.specs.Edge.{HasGrown};
 ghost use Rattle.requests.specs.Admitting.{MeansUnder, IsBarred};
 ghost use Rattle.requests.specs.Fitting.{IsFit};
@@ -133,13 +133,17 @@ fn serve_next<J: Naming, C: Wait + Drop, R: Inlet, W: Outlet>(
     ensures bounded { IsBounded buffers.new }
     ensures noted { (status : Status) → result ≡ Served.Replied status
         → buffers.new.note.status ≡ Some status }
+    ensures unnoted { IsSilent result → buffers.new.note.status ≡ None }
 {
     buffers.note = Note::none();
     let made = reply_to(rt, alloc, rules, buffers, reader, pass, seat, committer);
     buffers.trim_all();
     let reply = match made {
         Ok(reply) => reply,
-        Err(served) => return served,
+        Err(served) => {
+            buffers.note.status = None;
+            return served;
+        }
     };
     buffers.note.status = Some(reply.status);
     let served = match write_whole(writer, reply.text()) {
@@ -157,7 +161,7 @@ fn serve_next<J: Naming, C: Wait + Drop, R: Inlet, W: Outlet>(
 /// reads as [`read_admitted_into`] does, so that a request that the rules do not admit is refused
 /// and changes nothing (`barred`), and waits as [`Committer::commit`] does. What the buffers held
 /// before plays no part, and of each at most [`MOST_KEPT`](crate::MOST_KEPT) bytes are kept. They
-/// note the status of the reply (`noted`).
+/// note the status of the reply (`noted`), and none if no reply was made (`unnoted`).
 pub fn serve_one_with<J: Naming, C: Wait + Drop, R: Inlet, W: Outlet>(
     rt: &impl Wait,
     alloc: Global,
@@ -180,6 +184,7 @@ pub fn serve_one_with<J: Naming, C: Wait + Drop, R: Inlet, W: Outlet>(
     ensures bounded { IsBounded buffers.new }
     ensures noted { (status : Status) → result ≡ Served.Replied status
         → buffers.new.note.status ≡ Some status }
+    ensures unnoted { IsSilent result → buffers.new.note.status ≡ None }
     ensures barred { IfSome (R.input reader.old) (λ bytes. IsBarred rules.now bytes
         → IsIdle (worker pass.old seat.old) (worker pass.new seat.new)) }
 {

@@ -91,6 +91,7 @@ impl Note {
         ensures path { result.path ≡ Some (path_of request.now) }
         ensures refusal { result.refusal ≡ None }
         ensures samples { result.samples ≡ samples_of request.now }
+        ensures status { result.status ≡ None }
     {
         Note {
             path: Some(path_of(request)),
@@ -105,6 +106,7 @@ impl Note {
         ensures path { result.path ≡ path }
         ensures refusal { result.refusal ≡ Some (number_of refusal.now) }
         ensures samples { result.samples ≡ 0 }
+        ensures status { result.status ≡ None }
     {
         Note {
             path,

@@ -149,7 +149,6 @@ impl<R: Clock + Eprint> Connections for Sockets<'_, R> {
     ghost past = { λ _. None };
 
     fn accept(&mut self) -> Option<(SocketReader, SocketWriter)> {
-        self.tally.set_busy(false);
         for _ in 0..u64::MAX {
             match self.try_accept() {
                 Ok(Some(connection)) => {
@@ -172,5 +171,6 @@ impl<R: Clock + Eprint> Connections for Sockets<'_, R> {
         if let Served::Replied(status) = served {
             end(self.rt, writer.stream(), status != Status::Done);
         }
+        self.tally.set_busy(false);
     }
 }

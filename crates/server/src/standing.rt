@@ -14,7 +14,7 @@ use std::time::Clock;
 
 /// What knows how much memory the process occupies.
 pub trait Memory {
-    /// In bytes; 0 where it is not known.
+    /// In bytes; 0 if it is not known.
     fn resident(&self) -> u64;
 }
 
@@ -29,7 +29,7 @@ pub struct Watch<'a, M> {
     pub kit: &'static str,
 }
 
-/// A head that nobody asked for yet.
+/// How a server stands with an empty head and no block.
 fn state_of<M: Memory>(watch: &Watch<'_, M>, workers: u64, busy: u64) -> State {
     State {
         series: 0,
@@ -59,8 +59,8 @@ impl<M: Memory> Report for Opening<'_, '_, M> {
         Counts::none()
     }
 
-    fn state(&mut self) -> State {
-        state_of(self.watch, 0, 0)
+    fn state(&mut self) -> Option<State> {
+        Some(state_of(self.watch, 0, 0))
     }
 }
 
@@ -75,23 +75,23 @@ pub fn report_opening<R: Clock, M: Memory>(
     answer_status(rt, alloc, watch.listener, over, &mut report);
 }
 
-/// How many series and samples a head has: its series are numbered from 1.
-fn head_counts(alloc: Global, snapshot: &Snapshot) -> (u64, u64) {
+/// How many series and samples a head has, if there is memory to count them: its series are numbered
+/// from 1.
+fn head_counts(alloc: Global, snapshot: &Snapshot) -> Option<(u64, u64)> {
     let (mut series, mut samples) = (0u64, 0u64);
     for number in 1..u32::MAX {
         let reference = SeriesRef::new(number);
         if snapshot.head().labels_of(reference).is_none() {
             break;
         }
+        let head = snapshot.head();
+        let Ok(all) = head.samples_of(alloc, reference, MIN_TIME, MAX_TIME) else {
+            return None;
+        };
         series = series.saturating_add(1);
-        if let Ok(all) = snapshot
-            .head()
-            .samples_of(alloc, reference, MIN_TIME, MAX_TIME)
-        {
-            samples = samples.saturating_add(all.len() as u64);
-        }
+        samples = samples.saturating_add(all.len() as u64);
     }
-    (series, samples)
+    Some((series, samples))
 }
 
 /// How a server stands whose blocks are open.
@@ -126,22 +126,24 @@ impl<M: Memory, J: Naming> Report for Open<'_, '_, M, J> {
         counts
     }
 
-    fn state(&mut self) -> State {
+    fn state(&mut self) -> Option<State> {
         let state = state_of(self.watch, self.tallies.len() as u64, self.busy());
         let Some(pass) = self.pass.as_mut() else {
-            return state;
+            return None;
         };
         let Ok(snapshot) = pass.snapshot() else {
-            return state;
+            return None;
         };
-        let (series, samples) = head_counts(self.alloc, &snapshot);
-        State {
+        let Some((series, samples)) = head_counts(self.alloc, &snapshot) else {
+            return None;
+        };
+        Some(State {
             series,
             samples,
             floor: snapshot.floor(),
             blocks: snapshot.blocks().len() as u64,
             ..state
-        }
+        })
     }
 }
 

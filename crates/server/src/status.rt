@@ -9,12 +9,14 @@ use std::sync::atomic::{AtomicBool, Ordering};
 use std::thread::sleep;
 use std::time::{Clock, Duration, Instant};
 
-/// How long the listener of the status port is left alone where nobody asks, in milliseconds.
+/// How long the listener of the status port is left alone if nobody asks, in milliseconds.
 const PAUSE: u64 = 20;
 
-/// For how many seconds a client of the status port may give or take no byte, and after how many no
-/// more of its request is read.
-const SILENCE: u64 = 2;
+/// For how many milliseconds a client of the status port may give or take no byte.
+const SILENCE: u64 = 300;
+
+/// After how many milliseconds no read of a request begins: it takes a second at most.
+const LATEST: u64 = 700;
 
 /// The most bytes of a request that are read.
 const MOST: usize = 8192;
@@ -31,8 +33,8 @@ pub(crate) trait Report {
     /// What was counted so far.
     fn counts(&self) -> Counts;
 
-    /// How things stand now.
-    fn state(&mut self) -> State;
+    /// How things stand now, if that is known.
+    fn state(&mut self) -> Option<State>;
 }
 
 /// What a client asks for.
@@ -43,9 +45,9 @@ enum Asked {
     Ready,
     /// There is no such path.
     NoPath,
-    /// A path is asked for by another method than `GET`.
+    /// A path is asked for by another method than `GET` and `HEAD`.
     NoMethod,
-    /// The head of the request did not end in time, or is too long.
+    /// What came begins with no line of a request, did not end in time, or is too long.
     NoRequest,
 }
 
@@ -54,17 +56,57 @@ fn has_end(head: &[u8]) -> bool {
     head.windows(4).any(|four| four == b"\r\n\r\n".as_slice())
 }
 
+/// What stands before the first of these bytes, and what stands behind it.
+fn parted(text: &[u8], byte: u8) -> Option<(&[u8], &[u8])> {
+    match text.iter().position(|one| *one == byte) {
+        Some(place) => Some((&text[..place], &text[place + 1..])),
+        None => None,
+    }
+}
+
+/// The path of a target: what stands before its query.
+fn path_in(target: &[u8]) -> &[u8] {
+    match parted(target, b'?') {
+        Some((path, _query)) => path,
+        None => target,
+    }
+}
+
+/// What is asked for by `GET` or `HEAD`.
+fn asked_at(path: &[u8]) -> Asked {
+    if path == b"/metrics".as_slice() {
+        Asked::Metrics
+    } else if path == b"/healthy".as_slice() {
+        Asked::Healthy
+    } else if path == b"/ready".as_slice() {
+        Asked::Ready
+    } else {
+        Asked::NoPath
+    }
+}
+
+/// Whether the client wants no body.
+fn is_bare(head: &[u8]) -> bool {
+    head.starts_with(b"HEAD ")
+}
+
 fn asked_in(head: &[u8]) -> Asked {
     if !has_end(head) {
+        return Asked::NoRequest;
+    }
+    let Some((line, _fields)) = parted(head, b'\r') else {
+        return Asked::NoRequest;
+    };
+    let Some((method, rest)) = parted(line, b' ') else {
+        return Asked::NoRequest;
+    };
+    let Some((target, version)) = parted(rest, b' ') else {
+        return Asked::NoRequest;
+    };
+    if method.is_empty() || target.is_empty() || !version.starts_with(b"HTTP/1.") {
         Asked::NoRequest
-    } else if head.starts_with(b"GET /metrics ") {
-        Asked::Metrics
-    } else if head.starts_with(b"GET /healthy ") {
-        Asked::Healthy
-    } else if head.starts_with(b"GET /ready ") {
-        Asked::Ready
-    } else if head.starts_with(b"GET ") {
-        Asked::NoPath
+    } else if method == b"GET".as_slice() || is_bare(head) {
+        asked_at(path_in(target))
     } else {
         Asked::NoMethod
     }
@@ -77,10 +119,10 @@ fn answer_of<S: Report>(
     report: &mut S,
 ) -> Result<(&'static str, Vec<u8>), AllocError> {
     let (line, text) = match asked {
-        Asked::Metrics => {
-            let text = metrics(alloc, &report.counts(), &report.state())?;
-            return Ok(("200 OK", text));
-        }
+        Asked::Metrics => match report.state() {
+            Some(state) => return Ok(("200 OK", metrics(alloc, &report.counts(), &state)?)),
+            None => ("503 Service Unavailable", "not known\n"),
+        },
         Asked::Healthy => ("200 OK", "healthy\n"),
         Asked::Ready if report.is_ready() => ("200 OK", "ready\n"),
         Asked::Ready => ("503 Service Unavailable", "not ready\n"),
@@ -91,22 +133,42 @@ fn answer_of<S: Report>(
     Ok((line, Vec::from_slice(alloc, text.as_bytes())?))
 }
 
-/// The head of a reply with this status line and a body of this length.
-fn head_of(alloc: Global, line: &str, length: usize) -> Result<String, AllocError> {
-    format!(in alloc; "HTTP/1.1 {line}\r\n{FIELDS}Content-Length: {length}\r\n\r\n")
+/// The field that says which methods there are, in the reply to another one.
+fn allow_of(asked: Asked) -> &'static str {
+    match asked {
+        Asked::NoMethod => "Allow: GET, HEAD\r\n",
+        _ => "",
+    }
 }
 
-/// The whole reply.
-fn reply_of<S: Report>(alloc: Global, asked: Asked, report: &mut S) -> Result<Vec<u8>, AllocError> {
+/// The head of a reply with this status line and a body of this length.
+fn head_of(alloc: Global, line: &str, allow: &str, length: usize) -> Result<String, AllocError> {
+    format!(in alloc; "HTTP/1.1 {line}\r\n{FIELDS}{allow}Content-Length: {length}\r\n\r\n")
+}
+
+/// The whole reply, which has no body if the client wants none.
+fn reply_of<S: Report>(
+    alloc: Global,
+    asked: Asked,
+    is_bare: bool,
+    report: &mut S,
+) -> Result<Vec<u8>, AllocError> {
     let (line, body) = answer_of(alloc, asked, report)?;
-    let head = head_of(alloc, line, body.len())?;
+    let head = head_of(alloc, line, allow_of(asked), body.len())?;
     let mut reply = Vec::from_slice(alloc, head.as_bytes())?;
-    reply.extend_from_slice(body.as_slice())?;
+    if !is_bare {
+        reply.extend_from_slice(body.as_slice())?;
+    }
     Ok(reply)
 }
 
-/// Reads the head of a request, or its first bytes where it is long or slow.
-fn read_head(rt: &impl Clock, alloc: Global, stream: &TcpStream) -> io::Result<Vec<u8>> {
+/// Reads the head of a request, or its first bytes if it is long or slow or if all is over.
+fn read_head(
+    rt: &impl Clock,
+    alloc: Global,
+    stream: &TcpStream,
+    over: &AtomicBool,
+) -> io::Result<Vec<u8>> {
     let mut reader = stream;
     let mut head = Vec::new(alloc);
     let mut piece = [0u8; 512];
@@ -116,32 +178,35 @@ fn read_head(rt: &impl Clock, alloc: Global, stream: &TcpStream) -> io::Result<V
             break;
         };
         head.extend_from_slice(&piece[..count])?;
-        let is_late = start.elapsed(rt)? > Duration::from_secs(SILENCE);
-        if count == 0 || is_late || head.len() >= MOST || has_end(head.as_slice()) {
+        let is_late = start.elapsed(rt)? > Duration::from_millis(LATEST);
+        let is_ended = count == 0 || head.len() >= MOST || has_end(head.as_slice());
+        if is_ended || is_late || over.load(Ordering::SeqCst) {
             break;
         }
     }
     Ok(head)
 }
 
-/// Answers one client.
+/// Answers one client. What was no request in time is not read on.
 fn answer<S: Report>(
     rt: &impl Clock,
     alloc: Global,
     stream: &TcpStream,
+    over: &AtomicBool,
     report: &mut S,
 ) -> io::Result<()> {
-    let limit = Some(Duration::from_secs(SILENCE));
+    let limit = Some(Duration::from_millis(SILENCE));
     stream.set_nonblocking(false)?;
     stream.set_read_timeout(limit)?;
     stream.set_write_timeout(limit)?;
-    let head = read_head(rt, alloc, stream)?;
+    let head = read_head(rt, alloc, stream, over)?;
     let asked = asked_in(head.as_slice());
-    let reply = reply_of(alloc, asked, report)?;
+    let reply = reply_of(alloc, asked, is_bare(head.as_slice()), report)?;
     let mut writer = stream;
     writer.write_all(reply.as_slice())?;
-    let is_refused = matches!(asked, Asked::NoPath | Asked::NoMethod | Asked::NoRequest);
-    end(rt, stream, is_refused);
+    if asked != Asked::NoRequest {
+        end(rt, stream, asked == Asked::NoMethod);
+    }
     Ok(())
 }
 
@@ -159,7 +224,7 @@ pub(crate) fn answer_status<R: Clock, S: Report>(
         }
         match listener.accept() {
             Ok((stream, _peer)) => {
-                let _ = answer(rt, alloc, &stream, report);
+                let _ = answer(rt, alloc, &stream, over, report);
             }
             Err(_) => sleep(rt, Duration::from_millis(PAUSE)),
         }

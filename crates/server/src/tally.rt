@@ -124,7 +124,7 @@ impl Tally {
             delete,
             cut,
             other,
-            refusals: Cells::new(alloc, 12)?,
+            refusals: Cells::new(alloc, 11)?,
             batches: AtomicU64::new(0),
             deletions: AtomicU64::new(0),
             cuts: AtomicU64::new(0),
@@ -186,7 +186,7 @@ impl Tally {
         self.busy.store(busy, Ordering::Relaxed);
     }
 
-    /// 1 where the worker serves a connection, else 0.
+    /// 1 if the worker serves a connection, else 0.
     pub(crate) fn busy(&self) -> u64 {
         read(&self.busy)
     }
