@@ -266,7 +266,7 @@ fn counts_of(alloc: Global, shifts: &[Shift<'_>]) -> Result<Vec<u64>, AllocError
 {
     let mut counts = Vec::new(alloc);
     for shift in shifts {
-        counts.push(shift.served)?;
+        counts.push(shift.served())?;
     }
     Ok(counts)
 }

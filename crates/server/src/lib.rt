@@ -17,7 +17,7 @@
 //! ```
 //! let rules = Rules::none();
 //! let shift = work(rt, alloc, &rules, connections, &mut pass, &mut seat, &committer, 9);
-//! assert_eq!(rt; shift.served, 2);
+//! assert_eq!(rt; shift.served(), 2);
 //! ```
 //!
 //! It stands on `query_http` for what a connection gets, on `requests` for readers and on

@@ -143,7 +143,7 @@ fn all_served(shifts: Vec<Shift<'_>>, requests: u64) -> Result<Vec<Shift<'_>>, S
     ensures same { IfOk result (λ all. all.items ≡ shifts.entry.items) }
     ensures each { IfOk result (λ all. All (λ s. s.served ≡ requests) all.items) }
 {
-    if shifts.iter().all(|shift| shift.served == requests) {
+    if shifts.iter().all(|shift| shift.served() == requests) {
         Ok(shifts)
     } else {
         Err(ServeError::NoListener)

@@ -12,13 +12,27 @@ use snapshots::{Committer, Naming, Pass, Seat};
 use std::alloc::Global;
 use std::sync::Wait;
 
-/// What a worker has done when it ends.
+/// What a worker has done when it ends: only [`work`] makes one.
 #[derive(Clone, Copy)]
 pub struct Shift<'a> {
-    /// How many connections it served.
-    pub served: u64,
+    served: u64,
+    rules: &'a Rules,
+}
+
+impl<'a> Shift<'a> {
+    /// How many connections the worker served.
+    pub fn served(&self) -> u64
+        ensures { result ≡ self.now.served }
+    {
+        self.served
+    }
+
     /// Under which rules.
-    pub rules: &'a Rules,
+    pub fn rules(&self) -> &'a Rules
+        ensures { result.now ≡ self.now.rules.now }
+    {
+        self.rules
+    }
 }
 
 /// Serves connections one after another, at most so many: fewer only where no more will come.

@@ -98,7 +98,7 @@ fn work_alone<J: Naming, R: Wait>(
     let shift = work(
         rt, alloc, &rules, texts, &mut pass, &mut seat, &committer, most,
     );
-    Some(shift.served)
+    Some(shift.served())
 }
 
 /// How many of these connections one worker of an empty store serves, with room for so many, and
@@ -177,7 +177,7 @@ fn work_on_two<J: Naming, R: Wait + Abort>(
         &committer,
         9,
     );
-    assert_eq!(rt; shift.served, 2);
+    assert_eq!(rt; shift.served(), 2);
     Some(())
 }
 
