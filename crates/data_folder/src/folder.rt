@@ -8,7 +8,7 @@ ghost use Rattle.data_folder.specs.Folders.{Left, LeavesOthers, MayGrow, MayLeav
 use journal::MediumError;
 use std::alloc::Global;
 
-/// Folder by their names.
+/// Files by their names.
 ///
 /// Of files that do not tell their bytes, as those of the system, any bytes may be those that a
 /// name shows; then the clauses say nothing of values. After a sync, a cut or a replacement that
