@@ -14,9 +14,8 @@ use Rattle.event_text.specs.Reading.{event_of}
 use Rattle.event_text.specs.Spelling.{event_text, Spells}
 use Rattle.std.specs.Prelude.{Err}
 use Rattle.journal.specs.Contents.{contents_in}
-use Rattle.journal.specs.Records.{file_of, Recovers}
 use Rattle.event_journal.specs.Finding.{same_texts}
-use Rattle.event_journal.specs.Holding.{IsKept, Spell, Stands, texts_of}
+use Rattle.event_journal.specs.Holding.{IsKept, Spell, texts_of}
 use Rattle.event_journal.specs.Outcome.{MayRefuse, RefusesAt}
 use Rattle.event_journal.proofs.Kept.{all_last, kept_of, texts_last}
 
@@ -119,19 +118,8 @@ refuses_at vs i d content events error lt is so_far f = record {
   refused = f;
 }
 
--- a file whose contents spell events stands for them
-pub stands_so : (file : List ℕ) (contents : List (List ℕ)) (events : List Event)
-    → Recovers file contents → Spell contents events → Stands file events
-stands_so file contents events r s =
-    record { each = s.each; recovers = subst (Recovers file) s.texts r }
-
-pub len_so : (contents : List (List ℕ)) (events : List Event) (len : ℕ) → Spell contents events
-    → len ≡ length (file_of contents) → len ≡ length (file_of (texts_of events))
-len_so contents events len s e =
-    e ∙ ap (λ (x : List (List ℕ)). length (file_of x)) s.texts
-
 -- contents spell one list of events
 pub same_events : (contents : List (List ℕ)) (found events : List Event) → Spell contents found
-    → contents ≡ texts_of events → AllByRecursion IsKept events → found ≡ events
-same_events contents found events s e each =
-    same_texts found events s.each each (sym s.texts ∙ e)
+    → Spell contents events → found ≡ events
+same_events contents found events s t =
+    same_texts found events s.each t.each (sym s.texts ∙ t.texts)

@@ -1,6 +1,6 @@
 //! The events that contents spell.
 
-ghost use Rattle.std.specs.Prelude.{◌≡◌, ◌++◌, ◌∷◌, [], ℕ, List, Err, IfOk, IfErr, OnOk, OnErr};
+ghost use Rattle.std.specs.Prelude.{◌≡◌, ◌×◌, ◌++◌, ◌∷◌, [], ℕ, List, Err, IfOk, IfErr, OnOk, OnErr};
 ghost use Rattle.head.specs.Worlds.{Event as Change};
 ghost use Rattle.event_text.specs.Outcome.{FollowsFrom};
 ghost use Rattle.event_text.specs.Reading.{event_of};
@@ -8,7 +8,7 @@ ghost use Rattle.event_text.specs.Spelling.{Spells};
 ghost use Rattle.journal.specs.Contents.{contents_in};
 ghost use Rattle.wire.specs.Spelling.{IsBytes};
 ghost use Rattle.event_journal.specs.Holding.{Spell, Stands};
-ghost use Rattle.event_journal.specs.Outcome.{MayRefuse, RefusesAt};
+ghost use Rattle.event_journal.specs.Outcome.{GivesEvents, MayRefuse, RefusesAt};
 
 use event_text::{EventError, TextError, read_event};
 use head::Event;
@@ -41,10 +41,13 @@ fn push_event(alloc: Global, events: &mut Vec<Event>, content: &[u8]) -> Result<
 }
 
 /// The events that contents spell, or the first content that is refused.
-pub(crate) fn events_of(alloc: Global, contents: &[Vec<u8>]) -> Result<Vec<Event>, Refused>
+pub fn read_events(alloc: Global, contents: &[Vec<u8>]) -> Result<Vec<Event>, Refused>
+    // What is answered is what the contents spell.
     ensures found { IfOk result (λ events. Spell (contents_in contents.now) events.items) }
+    // Contents that spell some events give these, unless memory runs out or a matcher is refused.
     ensures only { (events : List Change) → Spell (contents_in contents.now) events
-        → IfErr result (λ refused. MayRefuse events refused.error) }
+        → GivesEvents events result }
+    // A refusal tells which content is wrong, and how.
     ensures refused { IfErr result (λ refused.
         RefusesAt (contents_in contents.now) refused.at refused.error) }
 {
@@ -59,8 +62,8 @@ pub(crate) fn events_of(alloc: Global, contents: &[Vec<u8>]) -> Result<Vec<Event
     Ok(events)
 }
 
-/// One file stands for one list of events.
+/// One file stands for one list of events, after the same contents.
 pub fn one_list()
-    ensures { (file : List ℕ) (a b : List Change) → IsBytes file → Stands file a → Stands file b
-        → a ≡ b }
+    ensures { (file : List ℕ) (f g : List (List ℕ)) (a b : List Change) → IsBytes file
+        → Stands f file a → Stands g file b → (f ≡ g) × (a ≡ b) }
 {}
