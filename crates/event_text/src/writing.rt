@@ -18,8 +18,8 @@ use matchers::{Matcher, Op};
 use std::alloc::AllocError;
 use wire::{put_bytes, put_u8, put_uvarint, put_varint};
 
-/// Appends a number of things.
-fn put_count(out: &mut Vec<u8>, count: usize) -> Result<(), AllocError>
+/// Appends how many things there are.
+pub fn put_count(out: &mut Vec<u8>, count: usize) -> Result<(), AllocError>
     ensures text { OnOk result (out.new.items ≡ out.old.items ++ uvarint count) }
     ensures small { count < 2 ^ 64 }
 {

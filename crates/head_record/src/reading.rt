@@ -1,0 +1,175 @@
+//! Reading a head.
+
+ghost use Rattle.std.specs.Prelude.{◌≡◌, ◌++◌, ℕ, List, IfOk};
+ghost use Rattle.event_text.specs.Outcome.{Gives};
+ghost use Rattle.event_text.specs.Reading.{each_at};
+ghost use Rattle.journal.specs.Contents.{contents_in};
+ghost use Rattle.head_record.specs.Outcome.{Begins, Gives as GivesHead, GivesSaved};
+ghost use Rattle.head_record.specs.Reading.{each_series, head_of, opening_at, opening_of, place_at};
+ghost use Rattle.head_record.specs.Reading.{series_at, series_of};
+ghost use Rattle.head_record.specs.Saved.{Saved};
+ghost use Rattle.head_record.specs.Spelling.{head_texts, IsSaved, SpellEach, SpellsOpening};
+ghost use Rattle.head_record.specs.Spelling.{SpellsSeries};
+ghost use Rattle.head_record.specs.Views.{opening_in};
+
+use crate::error::RefusedHead;
+use crate::parts::OpeningParts;
+use crate::saved::{BlockPlace, HeadRecord, SavedSeries};
+use event_text::{TextError, labels_of, sample_of, samples_of};
+use labels::Sample;
+use std::alloc::Global;
+use wire::Cut;
+
+#[tactic(auto, unfolding(crate::specs::Reading::place_at))]
+fn place_of(bytes: &[u8]) -> Result<(BlockPlace, &[u8]), TextError>
+    ensures { Gives (λ x. (x.0, x.1.now)) result (place_at bytes.now) }
+{
+    let mut cut = Cut::new(bytes);
+    let folder = cut.uvarint().or(Err(TextError::Field))?;
+    let tombstones = cut.uvarint().or(Err(TextError::Field))?;
+    Ok((BlockPlace::new(folder, tombstones), cut.rest()))
+}
+
+fn places_of(alloc: Global, bytes: &[u8], count: u64) -> Result<(Vec<BlockPlace>, &[u8]), TextError>
+    ensures { Gives (λ x. (x.0.items, x.1.now)) result (each_at place_at count bytes.now) }
+{
+    let mut places = Vec::new(alloc);
+    let mut rest = bytes;
+    for counter in 0..count {
+        let (place, after) = place_of(rest)?;
+        places.push(place)?;
+        rest = after;
+    }
+    Ok((places, rest))
+}
+
+#[tactic(
+    auto,
+    unfolding(crate::specs::Reading::opening_at, event_text::specs::Reading::many_at)
+)]
+fn opening_at(alloc: Global, bytes: &[u8]) -> Result<(OpeningParts, &[u8]), TextError>
+    ensures { Gives (λ x. (opening_in x.0, x.1.now)) result (opening_at bytes.now) }
+{
+    let mut cut = Cut::new(bytes);
+    let floor = cut.varint().or(Err(TextError::Field))?;
+    let count = cut.uvarint().or(Err(TextError::Field))?;
+    let (places, rest) = places_of(alloc, cut.rest(), count)?;
+    let mut cut = Cut::new(rest);
+    let count = cut.uvarint().or(Err(TextError::Field))?;
+    let opening = OpeningParts {
+        floor,
+        places,
+        count,
+    };
+    Ok((opening, cut.rest()))
+}
+
+#[tactic(auto, unfolding(crate::specs::Reading::opening_of))]
+fn opening_of(alloc: Global, content: &[u8]) -> Result<OpeningParts, TextError>
+    ensures exact { Gives opening_in result (opening_of content.now) }
+    ensures found { IfOk result (λ o. SpellsOpening content.now (opening_in o)) }
+{
+    let mut cut = Cut::new(content);
+    let kind = cut.u8().or(Err(TextError::Kind))?;
+    if kind != 16 {
+        return Err(TextError::Kind);
+    }
+    let (opening, rest) = opening_at(alloc, cut.rest())?;
+    if rest.len() > 0 {
+        return Err(TextError::Rest);
+    }
+    Ok(opening)
+}
+
+#[tactic(
+    auto,
+    unfolding(crate::specs::Reading::series_at, event_text::specs::Reading::many_at)
+)]
+fn series_at(alloc: Global, bytes: &[u8]) -> Result<(SavedSeries, &[u8]), TextError>
+    ensures { Gives (λ x. (x.0, x.1.now)) result (series_at bytes.now) }
+{
+    let (labels, rest) = labels_of(alloc, bytes)?;
+    let (time, value, rest) = sample_of(rest)?;
+    let mut cut = Cut::new(rest);
+    let count = cut.uvarint().or(Err(TextError::Field))?;
+    let (samples, rest) = samples_of(alloc, cut.rest(), count)?;
+    let series = SavedSeries::new(labels, samples, Sample::new(time, value));
+    Ok((series, rest))
+}
+
+#[tactic(auto, unfolding(crate::specs::Reading::series_of))]
+fn series_of(alloc: Global, content: &[u8]) -> Result<SavedSeries, TextError>
+    ensures exact { Gives (λ h. h) result (series_of content.now) }
+    ensures found { IfOk result (λ h. SpellsSeries content.now h) }
+{
+    let mut cut = Cut::new(content);
+    let kind = cut.u8().or(Err(TextError::Kind))?;
+    if kind != 17 {
+        return Err(TextError::Kind);
+    }
+    let (series, rest) = series_at(alloc, cut.rest())?;
+    if rest.len() > 0 {
+        return Err(TextError::Rest);
+    }
+    Ok(series)
+}
+
+/// The series that contents spell, of which the first has the number 1.
+fn each_series(alloc: Global, contents: &[Vec<u8>]) -> Result<Vec<SavedSeries>, RefusedHead>
+    ensures exact { GivesHead (λ v. v.items) result
+        (each_series 1 (contents_in contents.now)) }
+    ensures found { IfOk result (λ v. SpellEach (contents_in contents.now) v.items) }
+{
+    let mut series = Vec::new(alloc);
+    for content in contents {
+        let at = series.len() + 1;
+        let one = match series_of(alloc, content) {
+            Ok(one) => one,
+            Err(error) => return Err(RefusedHead { at, error }),
+        };
+        if series.push(one).is_err() {
+            return Err(RefusedHead {
+                at,
+                error: TextError::Memory,
+            });
+        }
+    }
+    Ok(series)
+}
+
+/// What the first contents of a journal save, and how many they are; or the first of them that is
+/// refused.
+#[tactic(auto, unfolding(crate::specs::Reading::head_of, crate::specs::Reading::with_series))]
+pub fn read_head(
+    alloc: Global,
+    contents: &[Vec<u8>],
+) -> Result<(HeadRecord, usize), RefusedHead>
+    // What is read stands in front.
+    ensures found { IfOk result (λ x. Begins (contents_in contents.now) x.0 x.1) }
+    // What stands in front is read, unless memory runs out.
+    ensures only { (saved : Saved) (rest : List (List ℕ)) → IsSaved saved
+        → contents_in contents.now ≡ head_texts saved ++ rest → GivesSaved saved result }
+    // Which fault it is, and where.
+    ensures exact { GivesHead (λ x. x) result (head_of (contents_in contents.now)) }
+{
+    let Some((first, others)) = contents.split_first() else {
+        return Err(RefusedHead {
+            at: 0,
+            error: TextError::Kind,
+        });
+    };
+    let opening = match opening_of(alloc, first) {
+        Ok(opening) => opening,
+        Err(error) => return Err(RefusedHead { at: 0, error }),
+    };
+    if (others.len() as u64) < opening.count {
+        return Err(RefusedHead {
+            at: contents.len(),
+            error: TextError::Kind,
+        });
+    }
+    let count = opening.count as usize;
+    let series = each_series(alloc, others.split_at(count).0)?;
+    let head = HeadRecord::new(opening.floor, opening.places, series);
+    Ok((head, count + 1))
+}
