@@ -1,10 +1,10 @@
 -- Contents one after another, each the text of an event.
-use Rattle.std.proofs.Common.{◌≡◌, inl, inr, ℕ, zero, suc, ◌+◌, ◌<◌, List, [], ◌∷◌, ◌++◌, map}
-use Rattle.std.proofs.Common.{length, take, drop, get_or, refl, sym, ap, subst, ◌∙◌, arith, Vec}
+use Rattle.std.proofs.Common.{◌≡◌, inl, inr, ℕ, zero, suc, ◌<◌, List, [], ◌∷◌, ◌++◌, length, take}
+use Rattle.std.proofs.Common.{drop, get_or, refl, sym, ap, subst, ◌∙◌, arith, Vec}
+use Rattle.std.specs.Prelude.{Err}
 use Rattle.std.specs.declared.alloc.Global.{Global}
 use Rattle.std.specs.List.{AllByRecursion}
-use Rattle.std.proofs.lemmas.List.{append-nil, length-map, take-append-drop, map-append}
-use Rattle.std.proofs.lemmas.Grind.{take_at_read}
+use Rattle.std.proofs.lemmas.List.{length-map, take-append-drop, map-append}
 use Rattle.std.proofs.Math.Seq.{drop-cons}
 use Rattle.head.specs.Worlds.{Event}
 use Rattle.event_text.specs.declared.error.EventError.{EventError}
@@ -12,44 +12,16 @@ use Rattle.event_text.specs.declared.error.EventError.TheVariants.{Text, Matcher
 use Rattle.event_text.specs.Outcome.{FollowsFrom}
 use Rattle.event_text.specs.Reading.{event_of}
 use Rattle.event_text.specs.Spelling.{event_text, Spells}
-use Rattle.std.specs.Prelude.{Err}
 use Rattle.journal.specs.Contents.{contents_in}
 use Rattle.event_journal.specs.Finding.{same_texts}
 use Rattle.event_journal.specs.Holding.{IsKept, Spell, texts_of}
 use Rattle.event_journal.specs.Outcome.{MayRefuse, RefusesAt}
-use Rattle.event_journal.proofs.Kept.{all_last, kept_of, texts_last}
 
 abbrev Bytes : Type 0
 Bytes = Vec ℕ Global
 
 abbrev no_bytes : List Bytes
 no_bytes = []
-
-contents_last : (vs : List Bytes) (v : Bytes)
-    → contents_in (vs ++ v ∷ []) ≡ contents_in vs ++ v.items ∷ []
-contents_last vs v = map-append (λ (w : Bytes). w.items) vs (v ∷ [])
-
-pub spell_none : Spell (contents_in []) []
-spell_none = record { texts = refl; each = tt }
-
--- one content more
-pub spell_more : (vs : List Bytes) (i : ℕ) (d : Bytes) (content : List ℕ) (events new : List Event)
-    (e : Event) → i < length vs → content ≡ (get_or vs i d).items
-    → Spell (contents_in (take i vs)) events
-    → Spells content e → new ≡ events ++ e ∷ []
-    → Spell (contents_in (take (i + 1) vs)) new
-spell_more vs i d content events new e lt is so_far s more =
-    let v = get_or vs i d in
-    let texts : contents_in (take (i + 1) vs) ≡ texts_of (events ++ e ∷ []) =
-    ap contents_in (take_at_read vs i d lt).1
-    ∙ contents_last (take i vs) v
-    ∙ ap (λ (x : List (List ℕ)). x ++ v.items ∷ []) so_far.texts
-    ∙ ap (λ (x : List ℕ). texts_of events ++ x ∷ []) (sym is ∙ s.text)
-    ∙ sym (texts_last events e) in
-    subst (Spell (contents_in (take (i + 1) vs))) (sym more) (record {
-      texts = texts;
-      each = all_last events e so_far.each (kept_of content e s);
-    })
 
 whole : (vs : List Bytes) (i : ℕ) → length vs ≡ i → take i vs ≡ vs
 whole [] i e = subst (λ (n : ℕ). take n no_bytes ≡ no_bytes) e refl
@@ -114,7 +86,7 @@ refuses_at vs i d content events error lt is so_far f = record {
       ∙ ap (λ (x : List Bytes). take i vs ++ x) (drop-cons vs i d lt))
       ∙ map-append (λ (w : Bytes). w.items) (take i vs) (get_or vs i d ∷ drop (suc i) vs)
       ∙ ap (λ (x : List ℕ). contents_in (take i vs) ++ x ∷ contents_in (drop (suc i) vs)) (sym is);
-  place = sym (ap length so_far.texts ∙ length-map event_text events);
+  place = sym (ap length so_far.texts ∙ length-map events event_text);
   refused = f;
 }
 

@@ -1,6 +1,6 @@
 //! The events that contents spell.
 
-ghost use Rattle.std.specs.Prelude.{◌≡◌, ◌×◌, ◌++◌, ◌∷◌, [], ℕ, List, Err, IfOk, IfErr, OnOk, OnErr};
+ghost use Rattle.std.specs.Prelude.{◌≡◌, ◌++◌, ◌∷◌, [], ℕ, List, Err, IfOk, IfErr, OnOk, OnErr};
 ghost use Rattle.head.specs.Worlds.{Event as Change};
 ghost use Rattle.event_text.specs.Outcome.{FollowsFrom};
 ghost use Rattle.event_text.specs.Reading.{event_of};

@@ -1,24 +1,68 @@
 -- What the first contents of a journal save.
-use Rattle.std.proofs.Common.{◌≡◌, ℕ, zero, suc, ◌+◌, ◌<◌, ◌≤◌, false, true, List, [], ◌∷◌, ◌++◌, map}
-use Rattle.std.proofs.Common.{length, take, drop, Result, Ok, Err, refl, sym, ap, subst, ◌∙◌, arith}
+use Rattle.std.proofs.Common.{◌≡◌, ℕ, zero, suc, ◌+◌, ◌<◌, ◌≤◌, Bool, true, false, List, [], ◌∷◌}
+use Rattle.std.proofs.Common.{◌++◌, map, length, take, drop, Result, Ok, Err, refl, sym, ap, subst}
+use Rattle.std.proofs.Common.{◌∙◌, arith}
 use Rattle.std.specs.Prelude.{nat_lt}
 use Rattle.std.specs.List.{AllByRecursion}
 use Rattle.std.proofs.lemmas.Bool.{false_from_ne_true}
 use Rattle.std.proofs.lemmas.Bool.Decides.{nat_tests}
 use Rattle.std.proofs.lemmas.List.{length-append, length-map, take-append-drop}
+use Rattle.wire.specs.Outcome.{◌>>=◌, Fails}
 use Rattle.head.specs.Heads.{HeadSeries}
 use Rattle.event_text.specs.declared.error.TextError.{TextError}
 use Rattle.event_text.specs.declared.error.TextError.TheVariants.{Memory, Kind, Field, Labels, Runs}
 use Rattle.event_text.specs.declared.error.TextError.TheVariants.{Bounds, Rest}
-use Rattle.wire.specs.Outcome.{Fails}
+use Rattle.event_text.specs.Outcome as text
 use Rattle.head_record.specs.declared.error.RefusedHead.{RefusedHead}
 use Rattle.head_record.specs.Outcome.{Begins, Gives, GivesSaved, is_memory}
-use Rattle.head_record.specs.Reading.{each_series, head_of, opening_of, series_of, with_series}
+use Rattle.head_record.specs.Reading.{each_series, head_of, opening_of, with_series}
 use Rattle.head_record.specs.Saved.{Saved}
 use Rattle.head_record.specs.Spelling.{Opening, head_texts, opening_content, opening_of_saved}
 use Rattle.head_record.specs.Spelling.{series_content, IsOpening, IsSaved, IsSeries, SpellEach}
 use Rattle.head_record.specs.Spelling.{SpellsOpening}
+use Rattle.head_record.proofs.Loops.{map_fails}
 use Rattle.head_record.proofs.Texts.{opening_read, series_read}
+
+-- the refusals, by what stands in front
+
+abbrev refusal : RefusedHead → Result (Saved × ℕ) RefusedHead
+refusal r = Err r
+
+pub first_refused : (contents : List (List ℕ)) (first : List ℕ) (others : List (List ℕ))
+    (f : TextError) → contents ≡ first ∷ others → Fails text.is_memory f (opening_of first)
+    → Fails is_memory (record { at = 0; error = f }) (head_of contents)
+unfolding head_of
+first_refused contents first others f is h =
+    map_fails (text.is_memory f) _ _ (λ (read : opening_of first ≡ Err f).
+    ap head_of is ∙ rw read refl) h
+
+pub too_few : (contents : List (List ℕ)) (first : List ℕ) (others : List (List ℕ)) (o : Opening)
+    → contents ≡ first ∷ others → opening_of first ≡ Ok o → nat_lt (length others) o.count ≡ true
+    → head_of contents ≡ Err (record { at = length contents; error = Kind })
+unfolding head_of with_series
+too_few contents first others o is read few =
+    let n : length others + 1 ≡ length contents = omega (arith, ap length is) in
+    ap head_of is ∙ (rw (read, few) refl
+    ∙ ap (λ (k : ℕ). refusal (record { at = k; error = Kind })) n)
+
+pub series_refused : (contents : List (List ℕ)) (first : List ℕ) (others : List (List ℕ))
+    (o : Opening) (r : RefusedHead)
+    → contents ≡ first ∷ others → opening_of first ≡ Ok o → nat_lt (length others) o.count ≡ false
+    → Fails is_memory r (each_series 1 (take o.count others)) → Fails is_memory r (head_of contents)
+unfolding head_of with_series
+series_refused contents first others o r is read enough h =
+    map_fails (is_memory r) _ _ (λ (one : each_series 1 (take o.count others) ≡ Err r).
+    ap head_of is ∙ rw (read, enough, one) refl) h
+
+pub all_read : (contents : List (List ℕ)) (first : List ℕ) (others : List (List ℕ)) (o : Opening)
+    (hs : List HeadSeries)
+    → contents ≡ first ∷ others → opening_of first ≡ Ok o → nat_lt (length others) o.count ≡ false
+    → each_series 1 (take o.count others) ≡ Ok hs
+    → head_of contents
+    ≡ Ok (record { floor = o.floor; places = o.places; head = hs }, o.count + 1)
+unfolding head_of with_series
+all_read contents first others o hs is read enough each =
+    ap head_of is ∙ rw (read, enough, each) refl
 
 -- series that stand in front are read
 each_read : (at : ℕ) (hs : List HeadSeries) → AllByRecursion IsSeries hs

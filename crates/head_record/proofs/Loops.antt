@@ -1,24 +1,26 @@
 -- Reading series one after the other, as a loop does.
-use Rattle.std.proofs.Common.{◌≡◌, ℕ, zero, suc, ◌+◌, ◌≤◌, ◌<◌, List, [], ◌∷◌, ◌++◌, Result, Ok, Err}
-use Rattle.std.proofs.Common.{map, length, take, drop, get_or, refl, sym, ap, subst, ◌∙◌, append_assoc}
-use Rattle.std.proofs.Common.{arith, Vec}
+use Rattle.std.proofs.Common.{◌≡◌, Bool, true, false, ℕ, zero, suc, ◌+◌, ◌<◌, List, [], ◌∷◌, ◌++◌}
+use Rattle.std.proofs.Common.{Result, Ok, Err, map, length, take, drop, get_or, refl, sym, ap, subst}
+use Rattle.std.proofs.Common.{◌∙◌, append_assoc, arith, Vec}
+use Rattle.std.specs.Prelude.{⊤, MatchBool}
 use Rattle.std.specs.declared.alloc.Global.{Global}
 use Rattle.std.specs.List.{AllByRecursion}
-use Rattle.std.proofs.lemmas.List.{append-nil, map-append}
+use Rattle.std.proofs.lemmas.List.{append-nil, length-append, map-append}
 use Rattle.std.proofs.lemmas.Grind.{take_at_read}
 use Rattle.std.proofs.Math.Seq.{drop-cons}
-use Rattle.wire.specs.Outcome.{◌>>=◌}
+use Rattle.wire.specs.Outcome.{◌>>=◌, Fails}
 use Rattle.head.specs.Heads.{HeadSeries}
 use Rattle.event_text.specs.declared.error.TextError.{TextError}
-use Rattle.event_text.specs.declared.error.TextError.TheVariants.{Memory, Kind, Field, Labels, Runs}
-use Rattle.event_text.specs.declared.error.TextError.TheVariants.{Bounds, Rest}
 use Rattle.event_text.specs.Outcome as text
-use Rattle.wire.specs.Outcome.{Fails}
 use Rattle.journal.specs.Contents.{contents_in}
 use Rattle.head_record.specs.declared.error.RefusedHead.{RefusedHead}
 use Rattle.head_record.specs.Outcome.{is_memory}
 use Rattle.head_record.specs.Reading.{each_series, series_of}
 use Rattle.head_record.specs.Spelling.{series_content, IsSeries, SpellEach, SpellsSeries}
+
+pub map_fails : (b : Bool) (P Q : Type 0) → (P → Q) → MatchBool b ⊤ P → MatchBool b ⊤ Q
+map_fails true P Q f h = tt
+map_fails false P Q f h = f h
 
 abbrev Bytes : Type 0
 Bytes = Vec ℕ Global
@@ -45,22 +47,27 @@ next : (at : ℕ) (vs : List Bytes) (i : ℕ) (d : Bytes) → i < length vs
     ≡ each_series at ((get_or vs i d).items ∷ contents_in (drop (suc i) vs))
 next at vs i d lt = ap (λ (x : List Bytes). each_series at (contents_in x)) (drop-cons vs i d lt)
 
-pub goes_on : (vs : List Bytes) (i at : ℕ) (d : Bytes) (content : List ℕ)
+pub goes_on : (vs : List Bytes) (i : ℕ) (d : Bytes) (content : List ℕ)
     (front new : List HeadSeries) (h : HeadSeries) (total : Result (List HeadSeries) RefusedHead)
     → i < length vs → content ≡ (get_or vs i d).items → series_of content ≡ Ok h
     → new ≡ front ++ h ∷ []
-    → with_front front (each_series at (contents_in (drop i vs))) ≡ total
-    → with_front new (each_series (at + 1) (contents_in (drop (i + 1) vs))) ≡ total
+    → with_front front (each_series (length front + 1) (contents_in (drop i vs))) ≡ total
+    → with_front new (each_series (length new + 1) (contents_in (drop (i + 1) vs))) ≡ total
 unfolding each_series
-goes_on vs i at d content front new h total lt is read more so_far =
+goes_on vs i d content front new h total lt is read more so_far =
+    let at = length front + 1 in
     let k : suc i ≡ i + 1 = omega arith in
+    let n : length new + 1 ≡ at + 1 = omega (arith, ap length more, length-append front (h ∷ [])) in
     let here : series_of (get_or vs i d).items ≡ Ok h = ap series_of (sym is) ∙ read in
     let later = each_series (at + 1) (contents_in (drop (suc i) vs)) in
     let one : with_front front (each_series at (contents_in (drop i vs)))
         ≡ with_front (front ++ h ∷ []) later =
         ap (with_front front) (next at vs i d lt) ∙ rw here (regroup front h later) in
-    subst (λ (n : ℕ). with_front new (each_series (at + 1) (contents_in (drop n vs))) ≡ total) k
-    (subst (λ (x : List HeadSeries). with_front x later ≡ total) (sym more) (sym one ∙ so_far))
+    let two : with_front new later ≡ total =
+        ap (λ (x : List HeadSeries). with_front x later) more ∙ (sym one ∙ so_far) in
+    subst (λ (m : ℕ). with_front new (each_series m (contents_in (drop (i + 1) vs))) ≡ total) (sym n)
+    (subst (λ (m : ℕ). with_front new (each_series (at + 1) (contents_in (drop m vs))) ≡ total) k
+    two)
 
 stopped : (vs : List Bytes) (i at : ℕ) (d : Bytes) (content : List ℕ) (front : List HeadSeries)
     (f : TextError) (total : Result (List HeadSeries) RefusedHead)
@@ -80,19 +87,9 @@ pub ends : (vs : List Bytes) (i at : ℕ) (d : Bytes) (content : List ℕ) (fron
     → i < length vs → content ≡ (get_or vs i d).items → Fails text.is_memory f (series_of content)
     → with_front front (each_series at (contents_in (drop i vs))) ≡ total
     → Fails is_memory (record { at = at; error = f }) total
-ends vs i at d content front Memory total lt is h so_far = tt
-ends vs i at d content front Kind total lt is h so_far =
-    stopped vs i at d content front Kind total lt is h so_far
-ends vs i at d content front Field total lt is h so_far =
-    stopped vs i at d content front Field total lt is h so_far
-ends vs i at d content front Labels total lt is h so_far =
-    stopped vs i at d content front Labels total lt is h so_far
-ends vs i at d content front Runs total lt is h so_far =
-    stopped vs i at d content front Runs total lt is h so_far
-ends vs i at d content front Bounds total lt is h so_far =
-    stopped vs i at d content front Bounds total lt is h so_far
-ends vs i at d content front Rest total lt is h so_far =
-    stopped vs i at d content front Rest total lt is h so_far
+ends vs i at d content front f total lt is h so_far =
+    map_fails (text.is_memory f) _ _
+    (λ read. stopped vs i at d content front f total lt is read so_far) h
 
 nothing_left : (vs : List Bytes) (i : ℕ) → length vs ≡ i → drop i vs ≡ no_bytes
 nothing_left [] i e = subst (λ (n : ℕ). drop n no_bytes ≡ no_bytes) e refl
@@ -111,9 +108,6 @@ is_done vs i at front total is so_far =
     sym so_far ∙ one
 
 -- and that they are those of the contents
-
-pub spell_none : SpellEach (contents_in []) []
-spell_none = record { texts = refl; each = tt }
 
 all_last : (hs : List HeadSeries) (h : HeadSeries) → AllByRecursion IsSeries hs → IsSeries h
     → AllByRecursion IsSeries (hs ++ h ∷ [])

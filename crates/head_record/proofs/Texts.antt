@@ -1,28 +1,31 @@
 -- What is read is the one text of its value, and each text is read.
-use Rattle.std.proofs.Common.{◌≡◌, ℕ, ◌<◌, zero, suc, true, false, eqb, Bool, List, [], ◌∷◌, ◌++◌}
-use Rattle.std.proofs.Common.{length, Result, Ok, Err, refl, sym, ap, subst, ◌∙◌, append_assoc, arith}
+use Rattle.std.proofs.Common.{◌≡◌, ℕ, eqb, List, [], ◌∷◌, ◌++◌, Result, Ok, Err, refl, sym, ap}
+use Rattle.std.proofs.Common.{subst, ◌∙◌, append_assoc}
+use Rattle.std.specs.Prelude.{IfOk}
 use Rattle.std.proofs.lemmas.Bool.{eqb-true}
 use Rattle.std.proofs.lemmas.List.{append-nil}
 use Rattle.wire.specs.Spelling.{uvarint, varint, IsBytes}
-use Rattle.wire.specs.Reading.{uvarint_at, varint_at}
+use Rattle.wire.specs.Reading.{byte_at, uvarint_at, varint_at}
 use Rattle.wire.specs.Outcome.{or_refused}
 use Rattle.wire.proofs.Laws.{uvarint_takes, uvarint_again}
 use Rattle.wire.proofs.Signed.{varint_takes, varint_again}
 use Rattle.wire.proofs.Steps.{bind_ok, refused_ok, passed, same_value, rest_fits}
 use Rattle.head.specs.Heads.{HeadSeries}
 use Rattle.event_text.specs.declared.error.TextError.{TextError}
-use Rattle.event_text.specs.declared.error.TextError.TheVariants.{Kind, Field, Rest}
+use Rattle.event_text.specs.declared.error.TextError.TheVariants.{Kind, Field}
+use Rattle.event_text.specs.Outcome.{Gives}
 use Rattle.event_text.specs.Spelling.{many_text, labels_text, sample_text, IsSample}
 use Rattle.event_text.specs.Reading.{many_at, labels_at, sample_at}
 use Rattle.event_text.proofs.Labelled.{is_label_set, are_labels_when}
 use Rattle.event_text.proofs.Texts.{EachAgain, EachTakes, IsSet, Takes, labels_again, labels_takes}
 use Rattle.event_text.proofs.Texts.{many_again, many_takes, sample_again, sample_takes}
-use Rattle.head_record.specs.Reading.{after_kind, ended, opening_at, opening_of, place_at}
-use Rattle.head_record.specs.Reading.{series_at, series_of}
-use Rattle.head_record.specs.Saved.{Place}
-use Rattle.head_record.specs.Spelling.{Opening, opening_content, opening_kind, opening_text}
-use Rattle.head_record.specs.Spelling.{place_text, series_content, series_kind, series_text}
+use Rattle.head_record.specs.declared.parts.OpeningParts.{OpeningParts}
+use Rattle.head_record.specs.Reading.{ended, opening_at, opening_of, opening_whole, place_at}
+use Rattle.head_record.specs.Reading.{series_at, series_of, series_whole}
+use Rattle.head_record.specs.Spelling.{Opening, opening_content, opening_text, place_text}
+use Rattle.head_record.specs.Spelling.{series_content, series_text}
 use Rattle.head_record.specs.Spelling.{IsOpening, IsPlace, IsSeries, SpellsOpening, SpellsSeries}
+use Rattle.head_record.specs.Views.{opening_in}
 
 -- one part more in front
 joined : (a b x rest : List ℕ) → x ≡ b ++ rest → a ++ x ≡ (a ++ b) ++ rest
@@ -123,13 +126,12 @@ series_again h rest i =
 
 -- all of a content
 
-kind_takes : (kind : ℕ) (content bytes : List ℕ) → after_kind kind content ≡ Ok bytes
-    → content ≡ kind ∷ bytes
-kind_takes kind [] bytes h = absurd cc
-kind_takes kind (b ∷ rest) bytes h =
-    let p = passed (eqb b kind) Kind (Ok rest) bytes h in
-    ap (λ (k : ℕ). k ∷ rest) (eqb-true b kind p.0)
-    ∙ ap (λ (y : List ℕ). kind ∷ y) (same_value rest bytes p.1)
+byte_takes : (bytes : List ℕ) (x : ℕ × List ℕ) → byte_at bytes ≡ Ok x → bytes ≡ x.0 ∷ x.1
+byte_takes [] x h = absurd cc
+byte_takes (b ∷ bytes) x h =
+    let made : ℕ × List ℕ = (b, bytes) in
+    let same : made ≡ x = cc in
+    ap (λ (p : ℕ × List ℕ). p.0 ∷ p.1) same
 
 record Ended {A : Type 0} (a b : A) (rest : List ℕ) : Type 0 where
   same : a ≡ b
@@ -139,50 +141,78 @@ end_takes : {A : Type 0} (a b : A) (rest : List ℕ) → ended a rest ≡ Ok b �
 end_takes a b [] h = record { same = same_value a b h; nothing = refl }
 end_takes a b (r ∷ rest) h = absurd cc
 
-ends : (kind : ℕ) (content bytes text rest : List ℕ) → content ≡ kind ∷ bytes
+-- a content of a kind, by what stands after it
+content_is : (kind k : ℕ) (content bytes text rest : List ℕ) → content ≡ k ∷ bytes → k ≡ kind
     → bytes ≡ text ++ rest → rest ≡ [] → content ≡ kind ∷ text
-ends kind content bytes text rest is front nothing =
-    is ∙ ap (λ (y : List ℕ). kind ∷ y)
-    (front ∙ (ap (λ (y : List ℕ). text ++ y) nothing ∙ append-nil text))
+content_is kind k content bytes text rest is e front nothing =
+    is ∙ (ap (λ (n : ℕ). n ∷ bytes) e
+    ∙ ap (λ (y : List ℕ). kind ∷ y)
+    (front ∙ (ap (λ (y : List ℕ). text ++ y) nothing ∙ append-nil text)))
 
-pub opening_found : (content : List ℕ) (o : Opening) → IsBytes content
+opening_found : (content : List ℕ) (o : Opening) → IsBytes content
     → opening_of content ≡ Ok o → SpellsOpening content o
-unfolding opening_of
+unfolding opening_of opening_whole
 opening_found content o fits h =
-    let k = bind_ok (after_kind opening_kind content) _ o h in
-    let x = bind_ok (opening_at k.0) _ o k.2 in
+    let k = bind_ok (or_refused Kind (byte_at content)) _ o h in
+    let p = passed (eqb k.0.0 16) Kind (opening_whole k.0.1) o k.2 in
+    let x = bind_ok (opening_at k.0.1) _ o p.1 in
     let e = end_takes x.0.0 o x.0.1 x.2 in
-    let front = kind_takes opening_kind content k.0 k.1 in
-    let one = opening_takes k.0 x.0 (rest_fits content (opening_kind ∷ []) k.0 fits front) x.1 in
+    let front = byte_takes content k.0 (refused_ok Kind (byte_at content) k.0 k.1) in
+    let one = opening_takes k.0.1 x.0 (rest_fits content (k.0.0 ∷ []) k.0.1 fits front) x.1 in
     subst (SpellsOpening content) e.same (record {
-      text = ends opening_kind content k.0 (opening_text x.0.0) x.0.1 front one.front e.nothing;
+      text = content_is 16 k.0.0 content k.0.1 (opening_text x.0.0) x.0.1 front
+          (eqb-true k.0.0 16 p.0) one.front e.nothing;
       fits = one.fits;
     })
 
 pub opening_read : (o : Opening) → IsOpening o → opening_of (opening_content o) ≡ Ok o
-unfolding opening_of
+unfolding opening_of opening_whole
 opening_read o h =
     let one : opening_at (opening_text o) ≡ Ok (o, []) =
         ap opening_at (sym (append-nil (opening_text o))) ∙ opening_again o [] h in
     rw one refl
 
-pub series_found : (content : List ℕ) (h : HeadSeries) → IsBytes content
+series_found : (content : List ℕ) (h : HeadSeries) → IsBytes content
     → series_of content ≡ Ok h → SpellsSeries content h
-unfolding series_of
+unfolding series_of series_whole
 series_found content o fits h =
-    let k = bind_ok (after_kind series_kind content) _ o h in
-    let x = bind_ok (series_at k.0) _ o k.2 in
+    let k = bind_ok (or_refused Kind (byte_at content)) _ o h in
+    let p = passed (eqb k.0.0 17) Kind (series_whole k.0.1) o k.2 in
+    let x = bind_ok (series_at k.0.1) _ o p.1 in
     let e = end_takes x.0.0 o x.0.1 x.2 in
-    let front = kind_takes series_kind content k.0 k.1 in
-    let one = series_takes k.0 x.0 (rest_fits content (series_kind ∷ []) k.0 fits front) x.1 in
+    let front = byte_takes content k.0 (refused_ok Kind (byte_at content) k.0 k.1) in
+    let one = series_takes k.0.1 x.0 (rest_fits content (k.0.0 ∷ []) k.0.1 fits front) x.1 in
     subst (SpellsSeries content) e.same (record {
-      text = ends series_kind content k.0 (series_text x.0.0) x.0.1 front one.front e.nothing;
+      text = content_is 17 k.0.0 content k.0.1 (series_text x.0.0) x.0.1 front
+          (eqb-true k.0.0 17 p.0) one.front e.nothing;
       fits = one.fits;
     })
 
 pub series_read : (h : HeadSeries) → IsSeries h → series_of (series_content h) ≡ Ok h
-unfolding series_of
+unfolding series_of series_whole
 series_read h i =
     let one : series_at (series_text h) ≡ Ok (h, []) =
         ap series_at (sym (append-nil (series_text h))) ∙ series_again h [] i in
     rw one refl
+
+-- what a function returned, seen by view, is spelled by the content
+
+found_of : {X Y : Type 0} (view : X → Y) (P : Y → Type 0) (result : Result X TextError)
+    (read : Result Y TextError) → ((y : Y) → read ≡ Ok y → P y) → Gives view result read
+    → IfOk result (λ (x : X). P (view x))
+found_of view P (Ok x) read f g = f (view x) g
+found_of view P (Err e) read f g = tt
+
+pub opening_is : (content : List ℕ) (result : Result OpeningParts TextError) → IsBytes content
+    → Gives opening_in result (opening_of content)
+    → IfOk result (λ (o : OpeningParts). SpellsOpening content (opening_in o))
+opening_is content result fits g =
+    found_of opening_in (SpellsOpening content) result (opening_of content)
+    (λ o h. opening_found content o fits h) g
+
+pub series_is : (content : List ℕ) (result : Result HeadSeries TextError) → IsBytes content
+    → Gives (λ (h : HeadSeries). h) result (series_of content)
+    → IfOk result (λ (h : HeadSeries). SpellsSeries content h)
+series_is content result fits g =
+    found_of (λ (h : HeadSeries). h) (SpellsSeries content) result (series_of content)
+    (λ h e. series_found content h fits e) g

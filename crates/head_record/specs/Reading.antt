@@ -1,7 +1,7 @@
 -- Reading what was saved: the value, or the first fault and the content that has it.
 use Rattle.std.specs.Prelude.{ℕ, List, [], ◌∷◌, length, take, Result, Ok, Err, nat_lt, ◌+◌, ◌==◌}
 use Rattle.std.specs.Prelude.{if◌then◌else◌}
-use Rattle.wire.specs.Reading.{uvarint_at, varint_at}
+use Rattle.wire.specs.Reading.{byte_at, uvarint_at, varint_at}
 use Rattle.wire.specs.Outcome.{◌>>=◌, or_refused}
 use Rattle.head.specs.Heads.{HeadSeries}
 use Rattle.event_text.specs.declared.error.TextError.{TextError}
@@ -9,7 +9,7 @@ use Rattle.event_text.specs.declared.error.TextError.TheVariants.{Kind, Field, R
 use Rattle.event_text.specs.Reading.{labels_at, many_at, sample_at}
 use Rattle.head_record.specs.declared.error.RefusedHead.{RefusedHead}
 use Rattle.head_record.specs.Saved.{Place, Saved}
-use Rattle.head_record.specs.Spelling.{Opening, opening_kind, series_kind}
+use Rattle.head_record.specs.Spelling.{Opening}
 
 unfoldable pub place_at : List ℕ → Result (Place × List ℕ) TextError
 place_at bytes = do
@@ -36,22 +36,27 @@ abbrev pub ended : {A : Type 0} → A → List ℕ → Result A TextError
 ended a [] = Ok a
 ended a (b ∷ rest) = Err Rest
 
--- the bytes after the kind
-abbrev pub after_kind : ℕ → List ℕ → Result (List ℕ) TextError
-after_kind kind [] = Err Kind
-after_kind kind (b ∷ bytes) = if b == kind then Ok bytes else Err Kind
-
-unfoldable pub opening_of : List ℕ → Result Opening TextError
-opening_of content = do
-  bytes ← after_kind opening_kind content
+-- all of the bytes after a kind
+unfoldable pub opening_whole : List ℕ → Result Opening TextError
+opening_whole bytes = do
   x ← opening_at bytes
   ended x.0 x.1
 
-unfoldable pub series_of : List ℕ → Result HeadSeries TextError
-series_of content = do
-  bytes ← after_kind series_kind content
+unfoldable pub series_whole : List ℕ → Result HeadSeries TextError
+series_whole bytes = do
   x ← series_at bytes
   ended x.0 x.1
+
+-- a content begins by its kind
+unfoldable pub opening_of : List ℕ → Result Opening TextError
+opening_of content = do
+  kind ← or_refused Kind (byte_at content)
+  if kind.0 == 16 then opening_whole kind.1 else Err Kind
+
+unfoldable pub series_of : List ℕ → Result HeadSeries TextError
+series_of content = do
+  kind ← or_refused Kind (byte_at content)
+  if kind.0 == 17 then series_whole kind.1 else Err Kind
 
 -- the refusal of the content at a place
 abbrev pub refused_at : {A : Type 0} → ℕ → Result A TextError → Result A RefusedHead

@@ -1,12 +1,15 @@
 //! Reading a head.
 
-ghost use Rattle.std.specs.Prelude.{◌≡◌, ◌++◌, ℕ, List, IfOk};
-ghost use Rattle.event_text.specs.Outcome.{Gives};
+ghost use Rattle.std.specs.Prelude.{◌≡◌, ◌++◌, ◌∷◌, [], ℕ, List, Ok, IfOk, IfErr, OnOk};
+ghost use Rattle.wire.specs.Outcome.{Fails};
+ghost use Rattle.head.specs.Heads.{HeadSeries};
+ghost use Rattle.event_text.specs.Outcome.{Gives, is_memory};
 ghost use Rattle.event_text.specs.Reading.{each_at};
 ghost use Rattle.journal.specs.Contents.{contents_in};
 ghost use Rattle.head_record.specs.Outcome.{Begins, Gives as GivesHead, GivesSaved};
-ghost use Rattle.head_record.specs.Reading.{each_series, head_of, opening_at, opening_of, place_at};
-ghost use Rattle.head_record.specs.Reading.{series_at, series_of};
+ghost use Rattle.head_record.specs.Reading.{each_series, head_of, opening_at, opening_of};
+ghost use Rattle.head_record.specs.Reading.{opening_whole, place_at, series_at, series_of};
+ghost use Rattle.head_record.specs.Reading.{series_whole};
 ghost use Rattle.head_record.specs.Saved.{Saved};
 ghost use Rattle.head_record.specs.Spelling.{head_texts, IsSaved, SpellEach, SpellsOpening};
 ghost use Rattle.head_record.specs.Spelling.{SpellsSeries};
@@ -64,21 +67,34 @@ fn opening_at(alloc: Global, bytes: &[u8]) -> Result<(OpeningParts, &[u8]), Text
     Ok((opening, cut.rest()))
 }
 
-#[tactic(auto, unfolding(crate::specs::Reading::opening_of))]
-fn opening_of(alloc: Global, content: &[u8]) -> Result<OpeningParts, TextError>
-    ensures exact { Gives opening_in result (opening_of content.now) }
-    ensures found { IfOk result (λ o. SpellsOpening content.now (opening_in o)) }
+#[tactic(auto, unfolding(crate::specs::Reading::opening_whole))]
+fn opening_whole(alloc: Global, bytes: &[u8]) -> Result<OpeningParts, TextError>
+    ensures { Gives opening_in result (opening_whole bytes.now) }
 {
-    let mut cut = Cut::new(content);
-    let kind = cut.u8().or(Err(TextError::Kind))?;
-    if kind != 16 {
-        return Err(TextError::Kind);
-    }
-    let (opening, rest) = opening_at(alloc, cut.rest())?;
+    let (opening, rest) = opening_at(alloc, bytes)?;
     if rest.len() > 0 {
         return Err(TextError::Rest);
     }
     Ok(opening)
+}
+
+#[tactic(auto, unfolding(crate::specs::Reading::opening_of))]
+fn opening_of(alloc: Global, content: &[u8]) -> Result<OpeningParts, TextError>
+    ensures { Gives opening_in result (opening_of content.now) }
+{
+    let mut cut = Cut::new(content);
+    let kind = cut.u8().or(Err(TextError::Kind))?;
+    match kind {
+        16 => opening_whole(alloc, cut.rest()),
+        _ => Err(TextError::Kind),
+    }
+}
+
+fn read_opening(alloc: Global, content: &[u8]) -> Result<OpeningParts, TextError>
+    ensures exact { Gives opening_in result (opening_of content.now) }
+    ensures found { IfOk result (λ o. SpellsOpening content.now (opening_in o)) }
+{
+    opening_of(alloc, content)
 }
 
 #[tactic(
@@ -97,21 +113,53 @@ fn series_at(alloc: Global, bytes: &[u8]) -> Result<(SavedSeries, &[u8]), TextEr
     Ok((series, rest))
 }
 
-#[tactic(auto, unfolding(crate::specs::Reading::series_of))]
-fn series_of(alloc: Global, content: &[u8]) -> Result<SavedSeries, TextError>
-    ensures exact { Gives (λ h. h) result (series_of content.now) }
-    ensures found { IfOk result (λ h. SpellsSeries content.now h) }
+#[tactic(auto, unfolding(crate::specs::Reading::series_whole))]
+fn series_whole(alloc: Global, bytes: &[u8]) -> Result<SavedSeries, TextError>
+    ensures { Gives (λ h. h) result (series_whole bytes.now) }
 {
-    let mut cut = Cut::new(content);
-    let kind = cut.u8().or(Err(TextError::Kind))?;
-    if kind != 17 {
-        return Err(TextError::Kind);
-    }
-    let (series, rest) = series_at(alloc, cut.rest())?;
+    let (series, rest) = series_at(alloc, bytes)?;
     if rest.len() > 0 {
         return Err(TextError::Rest);
     }
     Ok(series)
+}
+
+#[tactic(auto, unfolding(crate::specs::Reading::series_of))]
+fn series_of(alloc: Global, content: &[u8]) -> Result<SavedSeries, TextError>
+    ensures { Gives (λ h. h) result (series_of content.now) }
+{
+    let mut cut = Cut::new(content);
+    let kind = cut.u8().or(Err(TextError::Kind))?;
+    match kind {
+        17 => series_whole(alloc, cut.rest()),
+        _ => Err(TextError::Kind),
+    }
+}
+
+fn read_series(alloc: Global, content: &[u8]) -> Result<SavedSeries, TextError>
+    ensures exact { Gives (λ h. h) result (series_of content.now) }
+    ensures found { IfOk result (λ h. SpellsSeries content.now h) }
+{
+    series_of(alloc, content)
+}
+
+/// Adds the series that a content spells.
+fn push_series(
+    alloc: Global,
+    series: &mut Vec<SavedSeries>,
+    content: &[u8],
+) -> Result<(), TextError>
+    ensures ok { OnOk result ((h : HeadSeries) × SpellsSeries content.now h
+        × (series_of content.now ≡ Ok h) × (series.new.items ≡ series.old.items ++ h ∷ [])) }
+    ensures failed { IfErr result (λ e. Fails is_memory e (series_of content.now)) }
+{
+    match read_series(alloc, content) {
+        Ok(one) => match series.push(one) {
+            Ok(()) => Ok(()),
+            Err(_) => Err(TextError::Memory),
+        },
+        Err(error) => Err(error),
+    }
 }
 
 /// The series that contents spell, of which the first has the number 1.
@@ -122,16 +170,15 @@ fn each_series(alloc: Global, contents: &[Vec<u8>]) -> Result<Vec<SavedSeries>, 
 {
     let mut series = Vec::new(alloc);
     for content in contents {
-        let at = series.len() + 1;
-        let one = match series_of(alloc, content) {
-            Ok(one) => one,
-            Err(error) => return Err(RefusedHead { at, error }),
-        };
-        if series.push(one).is_err() {
-            return Err(RefusedHead {
-                at,
-                error: TextError::Memory,
-            });
+        let before = series.len();
+        match push_series(alloc, &mut series, content) {
+            Ok(()) => {}
+            Err(error) => {
+                return Err(RefusedHead {
+                    at: before + 1,
+                    error,
+                });
+            }
         }
     }
     Ok(series)
@@ -158,7 +205,7 @@ pub fn read_head(
             error: TextError::Kind,
         });
     };
-    let opening = match opening_of(alloc, first) {
+    let opening = match read_opening(alloc, first) {
         Ok(opening) => opening,
         Err(error) => return Err(RefusedHead { at: 0, error }),
     };
@@ -169,7 +216,11 @@ pub fn read_head(
         });
     }
     let count = opening.count as usize;
-    let series = each_series(alloc, others.split_at(count).0)?;
+    let (own, _events) = others.split_at(count);
+    let series = match each_series(alloc, own) {
+        Ok(series) => series,
+        Err(refused) => return Err(refused),
+    };
     let head = HeadRecord::new(opening.floor, opening.places, series);
     Ok((head, count + 1))
 }

@@ -7,8 +7,7 @@ use Rattle.head_record.proofs.reading.each_series.Given as goal
 
 abbrev pub invariant-loop-content : goal.invariant-loop-content
 invariant-loop-content l =
-    (with_front l.series.items (each_series (l.content-index + 1)
+    (with_front l.series.items (each_series (length l.series.items + 1)
     (contents_in (drop l.content-index l.contents)))
     ≡ each_series 1 (contents_in l.contents))
     × SpellEach (contents_in (take l.content-index l.contents)) l.series.items
-    × (length l.series.items ≡ l.content-index)

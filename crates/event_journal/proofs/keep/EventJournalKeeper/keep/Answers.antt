@@ -1,8 +1,8 @@
-use Rattle.event_journal.proofs.Kept.{finding, on_err, on_ok}
+use Rattle.event_journal.proofs.Kept.{finding}
 use Rattle.event_journal.proofs.keep.EventJournalKeeper.keep.Goals as goal
 
-pub append-requires-held : goal.append-requires-held
-append-requires-held g c = let h = c.requires.held in (h.1.0, h.0, h.1.1)
+pub append-requires-clause-held : goal.append-requires-clause-held
+append-requires-clause-held g c = let h = c.requires.held in (h.1.0, h.0, h.1.1)
 
 pub returns-in-Ok-clause-ok : goal.returns-in-Ok-clause-ok
 returns-in-Ok-clause-ok g c events e h s = (h.0, c.in-Ok.ensures.ok h.0 events e h.1 s)
