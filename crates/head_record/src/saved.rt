@@ -18,6 +18,8 @@ impl Model for BlockPlace {
     ghost Value = { ℕ × ℕ };
 
     ghost view = { λ p. (p.folder, p.tombstones) };
+
+    ghost inverse = { λ p. record { folder = p.0; tombstones = p.1 } };
 }
 
 impl BlockPlace {
