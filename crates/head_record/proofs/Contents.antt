@@ -144,7 +144,7 @@ only_saved contents result saved rest g h is =
     (ap head_of is ∙ (head_read saved rest h
     ∙ ap (λ (n : ℕ). Ok (saved, n)) (sym (length-texts saved)))) g
 
-with_count : Opening → ℕ → Opening
+abbrev with_count : Opening → ℕ → Opening
 with_count o k = record { floor = o.floor; places = o.places; count = k }
 
 length_take : (n : ℕ) (xs : List (List ℕ)) → n ≤ length xs → length (take n xs) ≡ n

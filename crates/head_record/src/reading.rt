@@ -24,13 +24,13 @@ use std::alloc::Global;
 use wire::Cut;
 
 #[tactic(auto, unfolding(crate::specs::Reading::place_at))]
-fn place_of(bytes: &[u8]) -> Result<(BlockPlace, &[u8]), TextError>
-    ensures { Gives (λ x. (x.0, x.1.now)) result (place_at bytes.now) }
+fn place_of(bytes: &[u8]) -> Result<(u64, u64, &[u8]), TextError>
+    ensures { Gives (λ x. ((x.0, x.1), x.2.now)) result (place_at bytes.now) }
 {
     let mut cut = Cut::new(bytes);
     let folder = cut.uvarint().or(Err(TextError::Field))?;
     let tombstones = cut.uvarint().or(Err(TextError::Field))?;
-    Ok((BlockPlace::new(folder, tombstones), cut.rest()))
+    Ok((folder, tombstones, cut.rest()))
 }
 
 fn places_of(alloc: Global, bytes: &[u8], count: u64) -> Result<(Vec<BlockPlace>, &[u8]), TextError>
@@ -39,8 +39,8 @@ fn places_of(alloc: Global, bytes: &[u8], count: u64) -> Result<(Vec<BlockPlace>
     let mut places = Vec::new(alloc);
     let mut rest = bytes;
     for counter in 0..count {
-        let (place, after) = place_of(rest)?;
-        places.push(place)?;
+        let (folder, tombstones, after) = place_of(rest)?;
+        places.push(BlockPlace::new(folder, tombstones))?;
         rest = after;
     }
     Ok((places, rest))
