@@ -184,19 +184,10 @@ fn each_series(alloc: Global, contents: &[Vec<u8>]) -> Result<Vec<SavedSeries>, 
     Ok(series)
 }
 
-/// What the first contents of a journal save, and how many they are; or the first of them that is
-/// refused.
+/// What the first contents save, and how many they are.
 #[tactic(auto, unfolding(crate::specs::Reading::head_of, crate::specs::Reading::with_series))]
-pub fn read_head(
-    alloc: Global,
-    contents: &[Vec<u8>],
-) -> Result<(HeadRecord, usize), RefusedHead>
-    // What is read stands in front.
+fn head_of(alloc: Global, contents: &[Vec<u8>]) -> Result<(HeadRecord, usize), RefusedHead>
     ensures found { IfOk result (λ x. Begins (contents_in contents.now) x.0 x.1) }
-    // What stands in front is read, unless memory runs out.
-    ensures only { (saved : Saved) (rest : List (List ℕ)) → IsSaved saved
-        → contents_in contents.now ≡ head_texts saved ++ rest → GivesSaved saved result }
-    // Which fault it is, and where.
     ensures exact { GivesHead (λ x. x) result (head_of (contents_in contents.now)) }
 {
     let Some((first, others)) = contents.split_first() else {
@@ -223,4 +214,21 @@ pub fn read_head(
     };
     let head = HeadRecord::new(opening.floor, opening.places, series);
     Ok((head, count + 1))
+}
+
+/// What the first contents of a journal save, and how many they are; or the first of them that is
+/// refused.
+pub fn read_head(
+    alloc: Global,
+    contents: &[Vec<u8>],
+) -> Result<(HeadRecord, usize), RefusedHead>
+    // What is read stands in front.
+    ensures found { IfOk result (λ x. Begins (contents_in contents.now) x.0 x.1) }
+    // What stands in front is read, unless memory runs out.
+    ensures only { (saved : Saved) (rest : List (List ℕ)) → IsSaved saved
+        → contents_in contents.now ≡ head_texts saved ++ rest → GivesSaved saved result }
+    // Which fault it is, and where.
+    ensures exact { GivesHead (λ x. x) result (head_of (contents_in contents.now)) }
+{
+    head_of(alloc, contents)
 }
