@@ -28,41 +28,68 @@ use Rattle.head_record.proofs.Texts.{opening_read, series_read}
 abbrev refusal : RefusedHead → Result (Saved × ℕ) RefusedHead
 refusal r = Err r
 
-pub first_refused : (contents : List (List ℕ)) (first : List ℕ) (others : List (List ℕ))
-    (f : TextError) → contents ≡ first ∷ others → Fails text.is_memory f (opening_of first)
-    → Fails is_memory (record { at = 0; error = f }) (head_of contents)
+abbrev with_count : Opening → ℕ → Opening
+with_count o k = record { floor = o.floor; places = o.places; count = k }
+
+length_take : (n : ℕ) (xs : List (List ℕ)) → n ≤ length xs → length (take n xs) ≡ n
+length_take zero xs le = refl
+length_take (suc n) [] le = absurd (omega (arith, le))
+length_take (suc n) (x ∷ xs) le = ap suc (length_take n xs (omega (arith, le)))
+
+dropped : (x : List ℕ) (xs : List (List ℕ)) (n : ℕ) → drop (n + 1) (x ∷ xs) ≡ drop n xs
+dropped x xs n = let e : n + 1 ≡ suc n = omega arith in rw e refl
+
+long : (others : List (List ℕ)) (o : Opening) → nat_lt (length others) o.count ≡ false
+    → o.count ≤ length others
+long others o h = grind (arith, nat_tests)
+
+abbrev saved_ok : Opening → List HeadSeries → ℕ → Result (Saved × ℕ) RefusedHead
+saved_ok o hs k = Ok (record { floor = o.floor; places = o.places; head = hs }, k)
+
+pub first_refused : (first : List ℕ) (others : List (List ℕ)) (f : TextError)
+    → Fails text.is_memory f (opening_of first)
+    → Fails is_memory (record { at = 0; error = f }) (head_of (first ∷ others))
 unfolding head_of
-first_refused contents first others f is h =
-    map_fails (text.is_memory f) _ _ (λ (read : opening_of first ≡ Err f).
-    ap head_of is ∙ rw read refl) h
+first_refused first others f h =
+    map_fails (text.is_memory f) _ _ (λ (read : opening_of first ≡ Err f). rw read refl) h
 
-pub too_few : (contents : List (List ℕ)) (first : List ℕ) (others : List (List ℕ)) (o : Opening)
-    → contents ≡ first ∷ others → opening_of first ≡ Ok o → nat_lt (length others) o.count ≡ true
-    → head_of contents ≡ Err (record { at = length contents; error = Kind })
-unfolding head_of with_series
-too_few contents first others o is read few =
-    let n : length others + 1 ≡ length contents = omega (arith, ap length is) in
-    ap head_of is ∙ (rw (read, few) refl
-    ∙ ap (λ (k : ℕ). refusal (record { at = k; error = Kind })) n)
+pub first_read : (first : List ℕ) (others : List (List ℕ)) (o : Opening)
+    (result : Result (Saved × ℕ) RefusedHead) → opening_of first ≡ Ok o
+    → Gives (λ (x : Saved × ℕ). x) result (with_series o others)
+    → Gives (λ (x : Saved × ℕ). x) result (head_of (first ∷ others))
+unfolding head_of
+first_read first others o result read g =
+    let same : head_of (first ∷ others) ≡ with_series o others = rw read refl in
+    subst (λ (r : Result (Saved × ℕ) RefusedHead). Gives (λ (x : Saved × ℕ). x) result r)
+    (sym same) g
 
-pub series_refused : (contents : List (List ℕ)) (first : List ℕ) (others : List (List ℕ))
-    (o : Opening) (r : RefusedHead)
-    → contents ≡ first ∷ others → opening_of first ≡ Ok o → nat_lt (length others) o.count ≡ false
-    → Fails is_memory r (each_series 1 (take o.count others)) → Fails is_memory r (head_of contents)
-unfolding head_of with_series
-series_refused contents first others o r is read enough h =
-    map_fails (is_memory r) _ _ (λ (one : each_series 1 (take o.count others) ≡ Err r).
-    ap head_of is ∙ rw (read, enough, one) refl) h
+pub too_few : (others : List (List ℕ)) (o : Opening) (at : ℕ)
+    → nat_lt (length others) o.count ≡ true → at ≡ length others + 1
+    → with_series o others ≡ Err (record { at = at; error = Kind })
+unfolding with_series
+too_few others o at few is =
+    rw few (ap (λ (k : ℕ). refusal (record { at = k; error = Kind })) (sym is))
 
-pub all_read : (contents : List (List ℕ)) (first : List ℕ) (others : List (List ℕ)) (o : Opening)
-    (hs : List HeadSeries)
-    → contents ≡ first ∷ others → opening_of first ≡ Ok o → nat_lt (length others) o.count ≡ false
-    → each_series 1 (take o.count others) ≡ Ok hs
-    → head_of contents
-    ≡ Ok (record { floor = o.floor; places = o.places; head = hs }, o.count + 1)
-unfolding head_of with_series
-all_read contents first others o hs is read enough each =
-    ap head_of is ∙ rw (read, enough, each) refl
+pub series_refused : (others own : List (List ℕ)) (o : Opening) (r : RefusedHead)
+    → nat_lt (length others) o.count ≡ false → own ≡ take o.count others
+    → Fails is_memory r (each_series 1 own) → Fails is_memory r (with_series o others)
+unfolding with_series
+series_refused others own o r enough is h =
+    map_fails (is_memory r) _ _ (λ (one : each_series 1 own ≡ Err r).
+    let here : each_series 1 (take o.count others) ≡ Err r = ap (each_series 1) (sym is) ∙ one in
+    rw (enough, here) refl) h
+
+pub all_read : (others own : List (List ℕ)) (o : Opening) (hs : List HeadSeries) (count : ℕ)
+    → nat_lt (length others) o.count ≡ false → own ≡ take o.count others
+    → each_series 1 own ≡ Ok hs → count ≡ length own + 1
+    → with_series o others ≡ Ok (record { floor = o.floor; places = o.places; head = hs }, count)
+unfolding with_series
+all_read others own o hs count enough is each counted =
+    let here : each_series 1 (take o.count others) ≡ Ok hs =
+        ap (each_series 1) (sym is) ∙ each in
+    let n : o.count + 1 ≡ count =
+        omega (arith, counted, ap length is, length_take o.count others (long others o enough)) in
+    rw (enough, here) (ap (λ (k : ℕ). saved_ok o hs k) n)
 
 -- series that stand in front are read
 each_read : (at : ℕ) (hs : List HeadSeries) → AllByRecursion IsSeries hs
@@ -144,38 +171,28 @@ only_saved contents result saved rest g h is =
     (ap head_of is ∙ (head_read saved rest h
     ∙ ap (λ (n : ℕ). Ok (saved, n)) (sym (length-texts saved)))) g
 
-abbrev with_count : Opening → ℕ → Opening
-with_count o k = record { floor = o.floor; places = o.places; count = k }
-
-length_take : (n : ℕ) (xs : List (List ℕ)) → n ≤ length xs → length (take n xs) ≡ n
-length_take zero xs le = refl
-length_take (suc n) [] le = absurd (omega (arith, le))
-length_take (suc n) (x ∷ xs) le = ap suc (length_take n xs (omega (arith, le)))
-
-dropped : (x : List ℕ) (xs : List (List ℕ)) (n : ℕ) → drop (n + 1) (x ∷ xs) ≡ drop n xs
-dropped x xs n = let e : n + 1 ≡ suc n = omega arith in rw e refl
-
 -- an opening and series that are read stand in front
-pub begins : (contents : List (List ℕ)) (first : List ℕ) (others : List (List ℕ)) (o : Opening)
-    (count : ℕ) (head : List HeadSeries) → contents ≡ first ∷ others → SpellsOpening first o
-    → count ≡ o.count → count ≤ length others → SpellEach (take count others) head
-    → Begins contents (record { floor = o.floor; places = o.places; head = head }) (count + 1)
-begins contents first others o count head is s counted le each =
+pub begins : (first : List ℕ) (others own : List (List ℕ)) (o : Opening) (count : ℕ)
+    (head : List HeadSeries) → SpellsOpening first o
+    → nat_lt (length others) o.count ≡ false → own ≡ take o.count others → SpellEach own head
+    → count ≡ length own + 1
+    → Begins (first ∷ others) (record { floor = o.floor; places = o.places; head = head }) count
+begins first others own o count head s enough is each counted =
     let saved : Saved = record { floor = o.floor; places = o.places; head = head } in
-    let n : length head ≡ count =
-        sym (length-map head series_content) ∙ (sym (ap length each.texts)
-        ∙ length_take count others le) in
-    let opening : o ≡ opening_of_saved saved =
-        ap (λ (k : ℕ). with_count o k) (sym counted ∙ sym n) in
-    let texts : contents ≡ head_texts saved ++ drop count others =
-        is
-        ∙ (ap (λ (x : List ℕ). x ∷ others) (s.text ∙ ap opening_content opening)
+    let m : length own ≡ o.count =
+        ap length is ∙ length_take o.count others (long others o enough) in
+    let n : length head ≡ o.count =
+        sym (length-map head series_content) ∙ (sym (ap length each.texts) ∙ m) in
+    let opening : o ≡ opening_of_saved saved = ap (λ (k : ℕ). with_count o k) (sym n) in
+    let last : count ≡ o.count + 1 = omega (arith, counted, m) in
+    let texts : first ∷ others ≡ head_texts saved ++ drop o.count others =
+        ap (λ (x : List ℕ). x ∷ others) (s.text ∙ ap opening_content opening)
         ∙ ap (λ (x : List (List ℕ)). opening_content (opening_of_saved saved) ∷ x)
-        (sym (take-append-drop count others)
-        ∙ ap (λ (x : List (List ℕ)). x ++ drop count others) each.texts)) in
+        (sym (take-append-drop o.count others)
+        ∙ ap (λ (x : List (List ℕ)). x ++ drop o.count others) (sym is ∙ each.texts)) in
     record {
       front = texts ∙ ap (λ (x : List (List ℕ)). head_texts saved ++ x)
-          (sym (ap (drop (count + 1)) is ∙ dropped first others count));
-      all = sym (length-texts saved ∙ ap (λ (k : ℕ). k + 1) n);
+          (sym (ap (λ (k : ℕ). drop k (first ∷ others)) last ∙ dropped first others o.count));
+      all = last ∙ (ap (λ (k : ℕ). k + 1) (sym n) ∙ sym (length-texts saved));
       fits = record { opening = subst IsOpening opening s.fits; series = each.each };
     }

@@ -1,6 +1,7 @@
 //! Reading a head.
 
-ghost use Rattle.std.specs.Prelude.{◌≡◌, ◌++◌, ◌∷◌, [], ℕ, List, Ok, IfOk, IfErr, OnOk};
+ghost use Rattle.std.specs.Prelude.{◌≡◌, ◌++◌, ◌∷◌, [], ℕ, List, false, Ok, IfOk, IfErr, OnOk};
+ghost use Rattle.std.specs.Prelude.{length, nat_lt, take};
 ghost use Rattle.wire.specs.Outcome.{Fails};
 ghost use Rattle.head.specs.Heads.{HeadSeries};
 ghost use Rattle.event_text.specs.Outcome.{Gives, is_memory};
@@ -9,7 +10,7 @@ ghost use Rattle.journal.specs.Contents.{contents_in};
 ghost use Rattle.head_record.specs.Outcome.{Begins, Gives as GivesHead, GivesSaved};
 ghost use Rattle.head_record.specs.Reading.{each_series, head_of, opening_at, opening_of};
 ghost use Rattle.head_record.specs.Reading.{opening_whole, place_at, series_at, series_of};
-ghost use Rattle.head_record.specs.Reading.{series_whole};
+ghost use Rattle.head_record.specs.Reading.{series_whole, with_series};
 ghost use Rattle.head_record.specs.Saved.{Saved};
 ghost use Rattle.head_record.specs.Spelling.{head_texts, IsSaved, SpellEach, SpellsOpening};
 ghost use Rattle.head_record.specs.Spelling.{SpellsSeries};
@@ -184,36 +185,77 @@ fn each_series(alloc: Global, contents: &[Vec<u8>]) -> Result<Vec<SavedSeries>, 
     Ok(series)
 }
 
+/// Whether fewer contents stand here than the opening says series.
+fn are_few(opening: &OpeningParts, others: &[Vec<u8>]) -> bool
+    ensures { result ≡ nat_lt (length (contents_in others.now)) opening.now.count }
+{
+    (others.len() as u64) < opening.count
+}
+
+/// The contents of the series that the opening says, which are there.
+fn own_contents(opening: &OpeningParts, others: &[Vec<u8>]) -> &[Vec<u8>]
+    requires { nat_lt (length (contents_in others.now)) opening.now.count ≡ false }
+    ensures own { contents_in result.now ≡ take opening.now.count (contents_in others.now) }
+{
+    others.split_at(opening.count as usize).0
+}
+
+/// What an opening and the series after it save, and how many contents these are with it.
+fn with_series(
+    alloc: Global,
+    opening: OpeningParts,
+    others: &[Vec<u8>],
+) -> Result<(HeadRecord, usize), RefusedHead>
+    ensures found { (first : List ℕ) → SpellsOpening first (opening_in opening)
+        → IfOk result (λ x. Begins (first ∷ contents_in others.now) x.0 x.1) }
+    ensures exact { GivesHead (λ x. x) result
+        (with_series (opening_in opening) (contents_in others.now)) }
+{
+    if are_few(&opening, others) {
+        return Err(RefusedHead {
+            at: others.len() + 1,
+            error: TextError::Kind,
+        });
+    }
+    let own = own_contents(&opening, others);
+    match each_series(alloc, own) {
+        Ok(series) => {
+            let count = own.len() + 1;
+            let head = HeadRecord::new(opening.floor, opening.places, series);
+            Ok((head, count))
+        }
+        Err(refused) => Err(refused),
+    }
+}
+
+/// What the first content and those after it save, and how many they are.
+fn head_after(
+    alloc: Global,
+    first: &[u8],
+    others: &[Vec<u8>],
+) -> Result<(HeadRecord, usize), RefusedHead>
+    ensures found { IfOk result (λ x. Begins (first.now ∷ contents_in others.now) x.0 x.1) }
+    ensures exact { GivesHead (λ x. x) result (head_of (first.now ∷ contents_in others.now)) }
+{
+    match read_opening(alloc, first) {
+        Ok(opening) => with_series(alloc, opening, others),
+        Err(error) => Err(RefusedHead { at: 0, error }),
+    }
+}
+
 /// What the first contents save, and how many they are.
-#[tactic(auto, unfolding(crate::specs::Reading::head_of, crate::specs::Reading::with_series))]
+#[tactic(auto, unfolding(crate::specs::Reading::head_of))]
 fn head_of(alloc: Global, contents: &[Vec<u8>]) -> Result<(HeadRecord, usize), RefusedHead>
     ensures found { IfOk result (λ x. Begins (contents_in contents.now) x.0 x.1) }
     ensures exact { GivesHead (λ x. x) result (head_of (contents_in contents.now)) }
 {
-    let Some((first, others)) = contents.split_first() else {
-        return Err(RefusedHead {
+    match contents.split_first() {
+        Some((first, others)) => head_after(alloc, first, others),
+        None => Err(RefusedHead {
             at: 0,
             error: TextError::Kind,
-        });
-    };
-    let opening = match read_opening(alloc, first) {
-        Ok(opening) => opening,
-        Err(error) => return Err(RefusedHead { at: 0, error }),
-    };
-    if (others.len() as u64) < opening.count {
-        return Err(RefusedHead {
-            at: contents.len(),
-            error: TextError::Kind,
-        });
+        }),
     }
-    let count = opening.count as usize;
-    let (own, _events) = others.split_at(count);
-    let series = match each_series(alloc, own) {
-        Ok(series) => series,
-        Err(refused) => return Err(refused),
-    };
-    let head = HeadRecord::new(opening.floor, opening.places, series);
-    Ok((head, count + 1))
 }
 
 /// What the first contents of a journal save, and how many they are; or the first of them that is
