@@ -139,3 +139,9 @@ pub spell_whole : (vs : List Bytes) (i : ℕ) (hs : List HeadSeries) → length 
     → SpellEach (contents_in (take i vs)) hs → SpellEach (contents_in vs) hs
 spell_whole vs i hs is s =
     subst (λ (x : List Bytes). SpellEach (contents_in x) hs) (whole vs i is) s
+
+pub taken : (vs : List Bytes) (n : ℕ) → contents_in (take n vs) ≡ take n (contents_in vs)
+taken [] zero = refl
+taken [] (suc n) = refl
+taken (v ∷ vs) zero = refl
+taken (v ∷ vs) (suc n) = ap (λ (x : List (List ℕ)). v.items ∷ x) (taken vs n)

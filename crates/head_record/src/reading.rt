@@ -193,7 +193,8 @@ fn are_few(opening: &OpeningParts, others: &[Vec<u8>]) -> bool
 }
 
 /// The contents of the series that the opening says, which are there.
-fn own_contents(opening: &OpeningParts, others: &[Vec<u8>]) -> &[Vec<u8>]
+#[tactic(auto, using(crate::proofs::Loops::taken))]
+fn own_contents<'a>(opening: &OpeningParts, others: &'a [Vec<u8>]) -> &'a [Vec<u8>]
     requires { nat_lt (length (contents_in others.now)) opening.now.count ≡ false }
     ensures own { contents_in result.now ≡ take opening.now.count (contents_in others.now) }
 {
