@@ -5,7 +5,7 @@ use Rattle.std.proofs.Common.{◌∙◌, append_assoc, arith, Vec}
 use Rattle.std.specs.Prelude.{⊤, MatchBool}
 use Rattle.std.specs.declared.alloc.Global.{Global}
 use Rattle.std.specs.List.{AllByRecursion}
-use Rattle.std.proofs.lemmas.List.{append-nil, length-append, map-append}
+use Rattle.std.proofs.lemmas.List.{append-nil, length-append, length-map, map-append}
 use Rattle.std.proofs.lemmas.Grind.{take_at_read}
 use Rattle.std.proofs.Math.Seq.{drop-cons}
 use Rattle.wire.specs.Outcome.{◌>>=◌, Fails}
@@ -145,3 +145,6 @@ taken [] zero = refl
 taken [] (suc n) = refl
 taken (v ∷ vs) zero = refl
 taken (v ∷ vs) (suc n) = ap (λ (x : List (List ℕ)). v.items ∷ x) (taken vs n)
+
+pub sized : (vs : List Bytes) (n : ℕ) → n ≡ length vs + 1 → n ≡ length (contents_in vs) + 1
+sized vs n e = omega (arith, e, length-map vs (λ (w : Bytes). w.items))

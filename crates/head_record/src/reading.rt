@@ -196,7 +196,7 @@ fn are_few(opening: &OpeningParts, others: &[Vec<u8>]) -> bool
 #[tactic(auto, using(crate::proofs::Loops::taken))]
 fn own_contents<'a>(opening: &OpeningParts, others: &'a [Vec<u8>]) -> &'a [Vec<u8>]
     requires { nat_lt (length (contents_in others.now)) opening.now.count ≡ false }
-    ensures own { contents_in result.now ≡ take opening.now.count (contents_in others.now) }
+    ensures { contents_in result.now ≡ take opening.now.count (contents_in others.now) }
 {
     others.split_at(opening.count as usize).0
 }
