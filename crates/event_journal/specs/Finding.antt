@@ -57,7 +57,7 @@ pub one_list : (file : List ℕ) (f g : List (List ℕ)) (a b : List Event) → 
     → Stands f file a → Stands g file b → (f ≡ g) × (a ≡ b)
 one_list file f g a b fits h i =
     let p = one_parting f g a b h.before i.before
-        (one_reading file (contents_with f a) (contents_with g b) fits h.recovers i.recovers) in
+    (one_reading file (contents_with f a) (contents_with g b) fits h.recovers i.recovers) in
     (p.0, same_texts a b h.each i.each p.1)
 
 pub found_in : (front g : List (List ℕ)) (events found : List Event) (left : List ℕ) → IsBytes left

@@ -86,9 +86,9 @@ pub all_read : (others own : List (List ℕ)) (o : Opening) (hs : List HeadSerie
 unfolding with_series
 all_read others own o hs count enough is each counted =
     let here : each_series 1 (take o.count others) ≡ Ok hs =
-        ap (each_series 1) (sym is) ∙ each in
+    ap (each_series 1) (sym is) ∙ each in
     let n : o.count + 1 ≡ count =
-        omega (arith, counted, ap length is, length_take o.count others (long others o enough)) in
+    omega (arith, counted, ap length is, length_take o.count others (long others o enough)) in
     rw (enough, here) (ap (λ (k : ℕ). saved_ok o hs k) n)
 
 -- series that stand in front are read
@@ -111,11 +111,11 @@ enough : (hs : List HeadSeries) (rest : List (List ℕ))
     → nat_lt (length (map series_content hs ++ rest)) (length hs) ≡ false
 enough hs rest =
     let n : length (map series_content hs ++ rest) ≡ length hs + length rest =
-        length-append (map series_content hs) rest
-        ∙ ap (λ (k : ℕ). k + length rest) (length-map hs series_content) in
+    length-append (map series_content hs) rest
+    ∙ ap (λ (k : ℕ). k + length rest) (length-map hs series_content) in
     false_from_ne_true _ (λ t. absurd (
-      let lt : length (map series_content hs ++ rest) < length hs = grind (arith, nat_tests) in
-      omega (arith, n, lt)
+    let lt : length (map series_content hs ++ rest) < length hs = grind (arith, nat_tests) in
+    omega (arith, n, lt)
     ))
 
 -- what is saved, and stands in front, is read
@@ -180,16 +180,16 @@ pub begins : (first : List ℕ) (others own : List (List ℕ)) (o : Opening) (co
 begins first others own o count head s enough is each counted =
     let saved : Saved = record { floor = o.floor; places = o.places; head = head } in
     let m : length own ≡ o.count =
-        ap length is ∙ length_take o.count others (long others o enough) in
+    ap length is ∙ length_take o.count others (long others o enough) in
     let n : length head ≡ o.count =
-        sym (length-map head series_content) ∙ (sym (ap length each.texts) ∙ m) in
+    sym (length-map head series_content) ∙ (sym (ap length each.texts) ∙ m) in
     let opening : o ≡ opening_of_saved saved = ap (λ (k : ℕ). with_count o k) (sym n) in
     let last : count ≡ o.count + 1 = omega (arith, counted, m) in
     let texts : first ∷ others ≡ head_texts saved ++ drop o.count others =
-        ap (λ (x : List ℕ). x ∷ others) (s.text ∙ ap opening_content opening)
-        ∙ ap (λ (x : List (List ℕ)). opening_content (opening_of_saved saved) ∷ x)
-        (sym (take-append-drop o.count others)
-        ∙ ap (λ (x : List (List ℕ)). x ++ drop o.count others) (sym is ∙ each.texts)) in
+    ap (λ (x : List ℕ). x ∷ others) (s.text ∙ ap opening_content opening)
+    ∙ ap (λ (x : List (List ℕ)). opening_content (opening_of_saved saved) ∷ x)
+    (sym (take-append-drop o.count others)
+    ∙ ap (λ (x : List (List ℕ)). x ++ drop o.count others) (sym is ∙ each.texts)) in
     record {
       front = texts ∙ ap (λ (x : List (List ℕ)). head_texts saved ++ x)
           (sym (ap (λ (k : ℕ). drop k (first ∷ others)) last ∙ dropped first others o.count));

@@ -61,10 +61,10 @@ goes_on vs i d content front new h total lt is read more so_far =
     let here : series_of (get_or vs i d).items ≡ Ok h = ap series_of (sym is) ∙ read in
     let later = each_series (at + 1) (contents_in (drop (suc i) vs)) in
     let one : with_front front (each_series at (contents_in (drop i vs)))
-        ≡ with_front (front ++ h ∷ []) later =
-        ap (with_front front) (next at vs i d lt) ∙ rw here (regroup front h later) in
+    ≡ with_front (front ++ h ∷ []) later =
+    ap (with_front front) (next at vs i d lt) ∙ rw here (regroup front h later) in
     let two : with_front new later ≡ total =
-        ap (λ (x : List HeadSeries). with_front x later) more ∙ (sym one ∙ so_far) in
+    ap (λ (x : List HeadSeries). with_front x later) more ∙ (sym one ∙ so_far) in
     subst (λ (m : ℕ). with_front new (each_series m (contents_in (drop (i + 1) vs))) ≡ total) (sym n)
     (subst (λ (m : ℕ). with_front new (each_series (at + 1) (contents_in (drop m vs))) ≡ total) k
     two)
@@ -78,8 +78,8 @@ unfolding each_series
 stopped vs i at d content front f total lt is read so_far =
     let here : series_of (get_or vs i d).items ≡ Err f = ap series_of (sym is) ∙ read in
     let one : with_front front (each_series at (contents_in (drop i vs)))
-        ≡ Err (record { at = at; error = f }) =
-        ap (with_front front) (next at vs i d lt) ∙ rw here refl in
+    ≡ Err (record { at = at; error = f }) =
+    ap (with_front front) (next at vs i d lt) ∙ rw here refl in
     sym so_far ∙ one
 
 pub ends : (vs : List Bytes) (i at : ℕ) (d : Bytes) (content : List ℕ) (front : List HeadSeries)
@@ -102,9 +102,9 @@ pub is_done : (vs : List Bytes) (i at : ℕ) (front : List HeadSeries)
 unfolding each_series
 is_done vs i at front total is so_far =
     let one : with_front front (each_series at (contents_in (drop i vs))) ≡ Ok front =
-        ap (λ (x : List Bytes). with_front front (each_series at (contents_in x)))
-            (nothing_left vs i is)
-        ∙ ap (λ (x : List HeadSeries). Ok x) (append-nil front) in
+    ap (λ (x : List Bytes). with_front front (each_series at (contents_in x)))
+    (nothing_left vs i is)
+    ∙ ap (λ (x : List HeadSeries). Ok x) (append-nil front) in
     sym so_far ∙ one
 
 -- and that they are those of the contents
@@ -122,11 +122,11 @@ pub spell_more : (vs : List Bytes) (i : ℕ) (d : Bytes) (content : List ℕ)
 spell_more vs i d content hs new h lt is so_far s more =
     let v = get_or vs i d in
     let texts : contents_in (take (i + 1) vs) ≡ map_series (hs ++ h ∷ []) =
-        ap contents_in (take_at_read vs i d lt).1
-        ∙ (map-append (λ (w : Bytes). w.items) (take i vs) (v ∷ [])
-        ∙ (ap (λ (x : List (List ℕ)). x ++ v.items ∷ []) so_far.texts
-        ∙ (ap (λ (x : List ℕ). map_series hs ++ x ∷ []) (sym is ∙ s.text)
-        ∙ sym (map-append series_content hs (h ∷ []))))) in
+    ap contents_in (take_at_read vs i d lt).1
+    ∙ (map-append (λ (w : Bytes). w.items) (take i vs) (v ∷ [])
+    ∙ (ap (λ (x : List (List ℕ)). x ++ v.items ∷ []) so_far.texts
+    ∙ (ap (λ (x : List ℕ). map_series hs ++ x ∷ []) (sym is ∙ s.text)
+    ∙ sym (map-append series_content hs (h ∷ []))))) in
     subst (SpellEach (contents_in (take (i + 1) vs))) (sym more)
     (record { texts = texts; each = all_last hs h so_far.each s.fits })
 

@@ -66,9 +66,9 @@ opening_takes bytes x fits h =
     let f_fits = rest_fits bytes (varint f.0.0) f.0.1 fits one.0 in
     let two = many_takes place_at place_text IsPlace place_takes f.0.1 p.0 f_fits p.1 in
     let three = uvarint_takes p.0.1 n.0.0 n.0.1 two.behind
-        (refused_ok Field (uvarint_at p.0.1) n.0 n.1) in
+    (refused_ok Field (uvarint_at p.0.1) n.0 n.1) in
     let made : Opening × List ℕ =
-        (record { floor = f.0.0; places = p.0.0; count = n.0.0 }, n.0.1) in
+    (record { floor = f.0.0; places = p.0.0; count = n.0.0 }, n.0.1) in
     let places = many_text place_text p.0.0 in
     subst (Takes opening_text IsOpening bytes) (same_value made x n.2) (record {
       front = one.0 ∙ joined (varint f.0.0) (places ++ uvarint n.0.0) f.0.1 n.0.1
@@ -83,7 +83,7 @@ opening_again o rest h =
     let places = many_text place_text o.places in
     let one = varint_again o.floor (places ++ (uvarint o.count ++ rest)) h.floor in
     let two = many_again place_at place_text IsPlace place_again o.places (uvarint o.count ++ rest)
-        h.places in
+    h.places in
     let three = uvarint_again o.count rest h.count in
     ap opening_at (parted (varint o.floor) places (uvarint o.count) rest)
     ∙ rw (one, two, three) refl
@@ -98,7 +98,7 @@ series_takes bytes x fits h =
     let two = sample_takes l.0.1 n.0 one.behind n.1 in
     let three = many_takes sample_at sample_text IsSample sample_takes n.0.1 s.0 two.behind s.1 in
     let made : HeadSeries × List ℕ =
-        (record { labels = l.0.0; samples = s.0.0; newest = n.0.0 }, s.0.1) in
+    (record { labels = l.0.0; samples = s.0.0; newest = n.0.0 }, s.0.1) in
     let samples = many_text sample_text s.0.0 in
     subst (Takes series_text IsSeries bytes) (same_value made x s.2) (record {
       front = one.front ∙ joined (labels_text l.0.0) (sample_text n.0.0 ++ samples) l.0.1 s.0.1
@@ -116,7 +116,7 @@ series_again : EachAgain series_at series_text IsSeries
 unfolding series_at series_text
 series_again h rest i =
     let set : IsSet h.labels =
-        record { pairs = i.pairs; named = are_labels_when h.labels i.label_set } in
+    record { pairs = i.pairs; named = are_labels_when h.labels i.label_set } in
     let samples = many_text sample_text h.samples in
     let one = labels_again h.labels (sample_text h.newest ++ (samples ++ rest)) set in
     let two = sample_again h.newest (samples ++ rest) i.newest in
@@ -169,7 +169,7 @@ pub opening_read : (o : Opening) → IsOpening o → opening_of (opening_content
 unfolding opening_of opening_whole
 opening_read o h =
     let one : opening_at (opening_text o) ≡ Ok (o, []) =
-        ap opening_at (sym (append-nil (opening_text o))) ∙ opening_again o [] h in
+    ap opening_at (sym (append-nil (opening_text o))) ∙ opening_again o [] h in
     rw one refl
 
 series_found : (content : List ℕ) (h : HeadSeries) → IsBytes content
@@ -192,7 +192,7 @@ pub series_read : (h : HeadSeries) → IsSeries h → series_of (series_content 
 unfolding series_of series_whole
 series_read h i =
     let one : series_at (series_text h) ≡ Ok (h, []) =
-        ap series_at (sym (append-nil (series_text h))) ∙ series_again h [] i in
+    ap series_at (sym (append-nil (series_text h))) ∙ series_again h [] i in
     rw one refl
 
 -- what a function returned, seen by view, is spelled by the content

@@ -47,10 +47,7 @@ fn places_of(alloc: Global, bytes: &[u8], count: u64) -> Result<(Vec<BlockPlace>
     Ok((places, rest))
 }
 
-#[tactic(
-    auto,
-    unfolding(crate::specs::Reading::opening_at, event_text::specs::Reading::many_at)
-)]
+#[tactic(auto, unfolding(crate::specs::Reading::opening_at, event_text::specs::Reading::many_at))]
 fn opening_at(alloc: Global, bytes: &[u8]) -> Result<(OpeningParts, &[u8]), TextError>
     ensures { Gives (λ x. (opening_in x.0, x.1.now)) result (opening_at bytes.now) }
 {
@@ -98,10 +95,7 @@ fn read_opening(alloc: Global, content: &[u8]) -> Result<OpeningParts, TextError
     opening_of(alloc, content)
 }
 
-#[tactic(
-    auto,
-    unfolding(crate::specs::Reading::series_at, event_text::specs::Reading::many_at)
-)]
+#[tactic(auto, unfolding(crate::specs::Reading::series_at, event_text::specs::Reading::many_at))]
 fn series_at(alloc: Global, bytes: &[u8]) -> Result<(SavedSeries, &[u8]), TextError>
     ensures { Gives (λ x. (x.0, x.1.now)) result (series_at bytes.now) }
 {
@@ -261,10 +255,7 @@ fn head_of(alloc: Global, contents: &[Vec<u8>]) -> Result<(HeadRecord, usize), R
 
 /// What the first contents of a journal save, and how many they are; or the first of them that is
 /// refused.
-pub fn read_head(
-    alloc: Global,
-    contents: &[Vec<u8>],
-) -> Result<(HeadRecord, usize), RefusedHead>
+pub fn read_head(alloc: Global, contents: &[Vec<u8>]) -> Result<(HeadRecord, usize), RefusedHead>
     // What is read stands in front.
     ensures found { IfOk result (λ x. Begins (contents_in contents.now) x.0 x.1) }
     // What stands in front is read, unless memory runs out.

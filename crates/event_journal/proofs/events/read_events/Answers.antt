@@ -33,6 +33,6 @@ returns-clause-only c events s =
     let vs = c.args.contents.now in
     let i = c.loop-content.content-index in
     let past : length vs ≡ i =
-        omega (arith, c.loop-content-test.false, c.loop-content.auto.content-index-end) in
+    omega (arith, c.loop-content-test.false, c.loop-content.auto.content-index-end) in
     same_events (contents_in vs) c.loop-content.events.items events
     (spell_whole vs i c.loop-content.events.items past c.loop-content.invariant) s

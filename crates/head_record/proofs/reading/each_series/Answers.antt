@@ -40,7 +40,7 @@ returns-clause-exact c =
     let vs = c.args.contents.now in
     let l = c.loop-content in
     let past : length vs ≡ l.content-index =
-        omega (arith, c.loop-content-test.false, l.auto.content-index-end) in
+    omega (arith, c.loop-content-test.false, l.auto.content-index-end) in
     is_done vs l.content-index (length l.series.items + 1) l.series.items
     (each_series 1 (contents_in vs)) past l.invariant.0
 
@@ -49,5 +49,5 @@ returns-clause-found c =
     let vs = c.args.contents.now in
     let l = c.loop-content in
     let past : length vs ≡ l.content-index =
-        omega (arith, c.loop-content-test.false, l.auto.content-index-end) in
+    omega (arith, c.loop-content-test.false, l.auto.content-index-end) in
     spell_whole vs l.content-index l.series.items past l.invariant.1

@@ -22,8 +22,12 @@ returns-in-Err-clause-exact c =
 pub returns-in-Ok-clause-exact : goal.returns-in-Ok-clause-exact
 returns-in-Ok-clause-exact c =
     let n = length c.own_contents-own.result.now + 1 in
+    let o = opening_in c.args.opening in
+    let saved : Saved =
+    record { floor = o.floor; places = o.places; head = c.in-Ok.series.items } in
+    let made : c.new-head.result ≡ saved = search rules in
     subst (λ (x : Saved). with_series (opening_in c.args.opening) (contents_in c.args.others.now)
-    ≡ Ok (x, n)) (sym c.new-head.ensures)
+    ≡ Ok (x, n)) (sym made)
     (all_read (contents_in c.args.others.now) (contents_in c.own_contents-own.result.now)
     (opening_in c.args.opening) c.in-Ok.series.items n
     (sym c.are_few.ensures ∙ c.if-are_few.false) c.own_contents-own.ensures c.in-Ok.ensures.exact
@@ -32,8 +36,12 @@ returns-in-Ok-clause-exact c =
 pub returns-in-Ok-clause-found : goal.returns-in-Ok-clause-found
 returns-in-Ok-clause-found c first s =
     let n = length c.own_contents-own.result.now + 1 in
+    let o = opening_in c.args.opening in
+    let saved : Saved =
+    record { floor = o.floor; places = o.places; head = c.in-Ok.series.items } in
+    let made : c.new-head.result ≡ saved = search rules in
     subst (λ (x : Saved). Begins (first ∷ contents_in c.args.others.now) x n)
-    (sym c.new-head.ensures)
+    (sym made)
     (begins first (contents_in c.args.others.now) (contents_in c.own_contents-own.result.now)
     (opening_in c.args.opening) n c.in-Ok.series.items s
     (sym c.are_few.ensures ∙ c.if-are_few.false) c.own_contents-own.ensures c.in-Ok.ensures.found

@@ -7,8 +7,7 @@ use Rattle.event_journal.proofs.keep.EventJournal.resume.Goals as goal
 
 pub cut_end-requires : goal.cut_end-requires
 cut_end-requires g c =
-    let r = c.requires in
-    (
+    let r = c.requires in (
       contents_with r.0 r.1,
       r.2.file,
       r.2.stands.recovers,

@@ -6,8 +6,7 @@ use Rattle.event_journal.proofs.keep.EventJournalKeeper.close.Goals as goal
 pub returns-clause-held : goal.returns-clause-held
 returns-clause-held g c events e h =
     let m = g.M.Medium in
-    let j = c.args.self.now.journal in
-    (
+    let j = c.args.self.now.journal in (
       h.0,
       given_up m.shows m.kept m.sound m.moment m.left_since g.met.M.Medium.only_now
           g.met.M.Medium.earlier h.0 j.medium j.len j.closed events e c.requires h.1,
