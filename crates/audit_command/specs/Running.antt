@@ -62,7 +62,8 @@ IsWordsFault app words (fault.Words error) = IsAmong (kind_of error) (fault_of a
 IsWordsFault app words fault.Memory = Unit {0}
 IsWordsFault app words _ = ⊥
 
--- how words that `clap` does not take may end: the text that they ask for was written; or by a fault
+-- how words that `clap` does not take may end: the text that they ask for was written; or by a
+-- fault
 abbrev pub IsNoAudit : List Text → Result Outcome Fault → Type 0
 IsNoAudit words (Ok Done) = AskForText auditor_app words
 IsNoAudit words (Ok Flawed) = ⊥

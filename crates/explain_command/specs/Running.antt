@@ -43,7 +43,8 @@ pub data IsEnd (reads : Host) (input : Option (List ℕ)) (words : List Text)
       → IsEnd reads input words old new end
   by_memory : end ≡ Err (Audit faults.Memory) → Keeps old new → IsEnd reads input words old new end
 
--- how words that `clap` does not take may end: the text that they ask for was written; or by a fault
+-- how words that `clap` does not take may end: the text that they ask for was written; or by a
+-- fault
 abbrev pub IsNoPage : List Text → Result Bool Fault → Type 0
 IsNoPage words (Ok true) = audits.AskForText explain_app words
 IsNoPage words (Ok false) = ⊥

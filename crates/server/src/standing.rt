@@ -75,8 +75,8 @@ pub fn report_opening<R: Clock, M: Memory>(
     answer_status(rt, alloc, watch.listener, over, &mut report);
 }
 
-/// How many series and samples a head has, if there is memory to count them: its series are numbered
-/// from 1.
+/// How many series and samples a head has, if there is memory to count them: its series are
+/// numbered from 1.
 fn head_counts(alloc: Global, snapshot: &Snapshot) -> Option<(u64, u64)> {
     let (mut series, mut samples) = (0u64, 0u64);
     for number in 1..u32::MAX {
