@@ -30,8 +30,10 @@ pub record IsTaken (words : List Text) : Type 0 where
 abbrev pub IsDone : Host → Line → Option (List ℕ) → Option (List ℕ) → Outcome → Type 0
 IsDone reads Demo old new Done =
     WritesAnswerAfter demo_events (demo_query (pos 0) (pos 100)) old new
-IsDone reads (Select s r) old new Done = WritesSelection reads (paths_of r.directories.items) s old new
-IsDone reads (Check r) old new outcome = IsChecked reads (paths_of r.directories.items) old new outcome
+IsDone reads (Select s r) old new Done =
+    WritesSelection reads (paths_of r.directories.items) s old new
+IsDone reads (Check r) old new outcome =
+    IsChecked reads (paths_of r.directories.items) old new outcome
 IsDone reads (Serve serving r) old new Done =
     IsListening reads serving (paths_of r.directories.items) old new
 IsDone reads line old new other = ⊥
