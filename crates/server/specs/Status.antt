@@ -1,7 +1,7 @@
 -- What the status port is asked, and what it replies.
 use Rattle.std.specs.Prelude.{◌≡◌, ◌⊎◌, ℕ, ◌+◌, Bool, true, false, not, ◌&&◌, ◌||◌, ◌==◌, List}
 use Rattle.std.specs.Prelude.{◌++◌, length, take, drop, Option, None, Some, position, codes, decimal}
-use Rattle.std.specs.Prelude.{if◌then◌else◌}
+use Rattle.std.specs.Prelude.{nat_eq, if◌then◌else◌}
 use Rattle.std.specs.List.{starts_with}
 use Rattle.std.specs.Str.{bytes_eq}
 use Rattle.metrics_text.specs.Families.{metrics_text}
@@ -41,7 +41,7 @@ asked_at path =
 abbrev pub is_line : List ℕ → List ℕ → List ℕ → Bool
 is_line method target version =
     not (length method == 0) && (not (length target == 0)
-    && starts_with (λ (a b : ℕ). a == b) version (codes "HTTP/1."))
+    && starts_with nat_eq version (codes "HTTP/1."))
 
 -- whether a path takes this method
 abbrev pub is_taken : List ℕ → Bool
