@@ -1,7 +1,7 @@
 -- What the status port is asked, and what it replies.
 use Rattle.std.specs.Prelude.{◌≡◌, ◌⊎◌, ℕ, ◌+◌, Bool, true, false, not, ◌&&◌, ◌||◌, ◌==◌, List}
-use Rattle.std.specs.Prelude.{◌++◌, length, take, drop, Option, None, Some, position, codes, decimal}
-use Rattle.std.specs.Prelude.{nat_eq, if◌then◌else◌}
+use Rattle.std.specs.Prelude.{[], ◌∷◌, ◌++◌, length, take, drop, Option, None, Some, position, codes}
+use Rattle.std.specs.Prelude.{decimal, nat_eq, if◌then◌else◌}
 use Rattle.std.specs.List.{starts_with}
 use Rattle.std.specs.Str.{bytes_eq}
 use Rattle.metrics_text.specs.Families.{metrics_text}
@@ -70,9 +70,15 @@ asked_in_head (Some parts) = asked_in_line (parted 32 parts.0)
 abbrev pub asked_by : List ℕ → Asked
 asked_by head = asked_in_head (parted 13 head)
 
--- what came asks for this, or is no request
-abbrev pub IsAskedBy : List ℕ → Asked → Type 0
-IsAskedBy head asked = (asked ≡ NoRequest) ⊎ (asked ≡ asked_by head)
+-- whether an empty line stands somewhere in the bytes
+abbrev pub has_end : List ℕ → Bool
+has_end [] = false
+has_end (byte ∷ bytes) =
+    if starts_with nat_eq (byte ∷ bytes) (codes "\r\n\r\n") then true else has_end bytes
+
+-- what is asked for by what came
+abbrev pub asked_in : List ℕ → Asked
+asked_in bytes = if has_end bytes then asked_by bytes else NoRequest
 
 -- the status of a reply that tells no counts
 abbrev pub plain_line : Asked → Bool → List ℕ

@@ -3,7 +3,7 @@
 ghost use Rattle.std.specs.Prelude.{◌≡◌, Bool, IfOk, IfSome, option_map, string_bytes};
 ghost use Rattle.server.specs.Status.{parted, path_in, asked_at, is_line, is_taken, asked_of};
 ghost use Rattle.server.specs.Status.{asked_by, plain_line, plain_body, TellsCounts, IsPlain};
-ghost use Rattle.server.specs.Status.{IsAnswer, IsAskedBy, allow_of, head_text, IsReply};
+ghost use Rattle.server.specs.Status.{IsAnswer, allow_of, asked_in, has_end, head_text, IsReply};
 
 use crate::ending::end;
 use metrics_text::{Counts, State, metrics};
@@ -57,8 +57,17 @@ enum Asked {
 }
 
 /// Whether the end of a head has come.
-fn has_end(head: &[u8]) -> bool {
-    head.windows(4).any(|four| four == b"\r\n\r\n".as_slice())
+fn has_end(head: &[u8]) -> bool
+    ensures { result ≡ has_end head.now }
+{
+    let mut left = head;
+    'tails: while let Some((_byte, rest)) = left.split_first() {
+        if left.starts_with(b"\r\n\r\n") {
+            return true;
+        }
+        left = rest;
+    }
+    false
 }
 
 /// What stands before the first of these bytes, and what stands behind it.
@@ -145,7 +154,7 @@ fn asked_by(head: &[u8]) -> Asked
 
 /// What is asked for by what came.
 fn asked_in(head: &[u8]) -> Asked
-    ensures { IsAskedBy head.now result }
+    ensures { result ≡ asked_in head.now }
 {
     if has_end(head) {
         asked_by(head)
