@@ -117,6 +117,7 @@ pub(crate) fn claims_in(buf: &[u8]) -> Option<Claims<'_>>
 
 /// The path that the head at the front of some bytes names, whatever its method; none if they begin
 /// with no head of at most 64 fields, or it names none of the four.
+#[tactic(auto, using(crate::proofs::PathTexts::parsed_path, crate::proofs::PathTexts::unparsed_path, crate::proofs::PathTexts::refused_path))]
 pub fn path_in(buf: &[u8]) -> Option<Path>
     ensures value { IfSome result (NamesPath buf.now) }
     ensures found { FindsPath buf.now result }
