@@ -1,6 +1,7 @@
 //! The status port: what the server tells of itself.
 
-ghost use Rattle.std.specs.Prelude.{◌≡◌, Bool, IfOk, IfSome, option_map, string_bytes};
+ghost use Rattle.std.specs.Prelude.{◌≡◌, ◌==◌, Bool, IfOk, IfSome, option_map, position};
+ghost use Rattle.std.specs.Prelude.{string_bytes};
 ghost use Rattle.server.specs.Status.{parted, path_in, asked_at, is_line, is_taken, asked_of};
 ghost use Rattle.server.specs.Status.{asked_by, plain_line, plain_body, TellsCounts, IsPlain};
 ghost use Rattle.server.specs.Status.{IsAnswer, allow_of, asked_in, has_end, head_text, IsReply};
@@ -70,11 +71,18 @@ fn has_end(head: &[u8]) -> bool
     false
 }
 
+/// The first place of a byte.
+fn place_of(text: &[u8], byte: u8) -> Option<usize>
+    ensures { result ≡ position (λ one. one == byte) text.now }
+{
+    text.iter().position(|one| *one == byte)
+}
+
 /// What stands before the first of these bytes, and what stands behind it.
 fn parted(text: &[u8], byte: u8) -> Option<(&[u8], &[u8])>
     ensures { option_map (λ parts. (parts.0.now, parts.1.now)) result ≡ parted byte text.now }
 {
-    match text.iter().position(|one| *one == byte) {
+    match place_of(text, byte) {
         Some(place) => Some((&text[..place], &text[place + 1..])),
         None => None,
     }
