@@ -69,7 +69,7 @@ serving: ## runs the server and asks it with curl: the session of the README, sl
 package: ## builds a Debian package of the programs, man pages, completions, documents and the example (needs dpkg-deb, binutils and python3)
 	@RT="$(RT)" packaging/make
 
-pages: ## compares the help texts, the man pages and the documents, and runs the examples of the man pages
+pages: ## compares the help texts, the man pages, the documents and the completions, and runs the examples of the man pages
 	@RT="$(RT)" tests/pages
 
 .PHONY: progress

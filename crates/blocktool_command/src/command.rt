@@ -45,15 +45,19 @@ pub(crate) const FROM: &str = "The first time that is kept, in milliseconds [def
 
 pub(crate) const TO: &str = "The last time that is kept, in milliseconds [default: 2^62 - 1]";
 
-const PROMETHEUS: &str =
-    "Example: blocktool from-prometheus --decimals 3 --rest drop --into mine data/01HX*
+const ABOUT: &str =
+    "Exit status: 0 done; 1 refused, with the reason on standard error; 2 a fault of the words;
+3 cannot read or write; 4 no memory
 
-Each BLOCK is a directory with index, chunks/ and tombstones, as Prometheus and promtool write it,
-or a folder that holds such blocks, as a server's data: they are taken in the order of their times,
-and other directories in it are told and passed over. The outputs are OUT/0001, OUT/0002 and so on,
-at most 63, one range of times after another. Of two samples of one series at one time that of the
-later BLOCK is kept. OUT must be empty or not be there. Each output is made under another name,
-synced, and then renamed.
+Example: blocktool from-prometheus --into mine data/01HX*";
+
+const PROMETHEUS: &str =
+    "Each BLOCK is a directory with index, chunks/ and tombstones, as Prometheus and promtool write
+it, or a folder that holds such blocks, as a server's data: they are taken in the order of their
+times, and other directories in it are told and passed over. The outputs are OUT/0001, OUT/0002 and
+so on, at most 63, one range of times after another. Of two samples of one series at one time that
+of the later BLOCK is kept. OUT must be empty or not be there. Each output is made under another
+name, synced, and then renamed.
 
 For each output a line is printed, and then one that tells every sample that was read in one count:
   OUT/0001: 10 series 1200 samples, 1700006400000 to 1700008185001
@@ -63,17 +67,32 @@ A value is kept as a whole number of parts, of which 10^N make one. --rest round
 the nearest such number, of two the even one, and drops NaN, infinities and 2^63 parts and more.
 Stale markers are no samples. Histograms are left.
 
+A BLOCK is refused with the first check that fails, and a value that is not kept with its place:
+  B2        meta.json, of a block in a folder
+  I1 to I15 the index
+  T1 to T4  the tombstones
+  C1 to C4, C6 to C8
+            a file of chunks/, or a chunk
+  X1 to X7  the data of a chunk
+
+docs/IMPORTING.md of the project explains each code.
+
 Exit status: 0 done; 1 refused, with the place on standard error; 2 a fault of the words; 3 cannot
-read or write; 4 no memory";
+read or write; 4 no memory
 
-const ABOUT_REWRITE: &str = "Example: blocktool rewrite --into whole mine/0001 mine/0002
+Example: blocktool from-prometheus --decimals 3 --rest drop --into mine data/01HX*";
 
-The outputs are OUT/0001, OUT/0002 and so on, at most 63, one range of times after another, without
-the samples that are deleted. Of two samples of one series at one time that of the later DIR is
-kept. All DIR must have values of as many digits. The rows of all are in memory at once.
+const ABOUT_REWRITE: &str =
+    "The outputs are OUT/0001, OUT/0002 and so on, at most 63, one range of times after another,
+without the samples that are deleted. Of two samples of one series at one time that of the later DIR
+is kept. All DIR must have values of as many digits. The rows of all are in memory at once.
 
-Exit status: 0 done; 1 refused, with the code on standard error; 2 a fault of the words; 3 cannot
-read or write; 4 no memory";
+A DIR is refused as by `querier check`: B2, I1 to I15, C1 to C8, T1 to T5, B1.
+
+Exit status: 0 done; 1 refused, with the reason on standard error; 2 a fault of the words; 3 cannot
+read or write; 4 no memory
+
+Example: blocktool rewrite --into whole mine/0001 mine/0002";
 
 const ABOUT_LIST: &str =
     "For each DIR, in the order given, a line is printed, and one for each name of its labels:
@@ -82,8 +101,12 @@ const ABOUT_LIST: &str =
 
 The range is that of meta.json; the samples are those that are not deleted.
 
+A DIR is refused as by `querier check`: B2, I1 to I15, C1 to C8, T1 to T5, B1.
+
 Exit status: 0 done; 1 refused, with the code on standard error; 2 a fault of the words; 3 cannot
-read or write; 4 no memory";
+read or write; 4 no memory
+
+Example: blocktool list mine/0001 mine/0002";
 
 /// What `--version` tells behind the name.
 const VERSION: &str = "0.1.0 (rattle-kit-13f)";
@@ -175,6 +198,7 @@ fn blocktool<'a>(alloc: Global) -> Result<Command<'a>, AllocError> {
     Command::new(alloc, "blocktool")
         .bin_name("blocktool")?
         .about("Makes blocks for `querier` and `auditor` out of other programs' data")
+        .after_help(ABOUT)
         .version(VERSION)
         .no_binary_name(true)
         .subcommand_required(true)

@@ -97,6 +97,10 @@ impl fmt::Display for Fault {
     fn fmt<W: fmt::Write>(&self, f: &mut fmt::Formatter<W>) -> fmt::Result {
         match self {
             Fault::Words(error) => write!(f, "{error}"),
+            Fault::Source(directory, SourceError::Unreadable(number)) => {
+                let place = number.saturating_add(1);
+                write!(f, "cannot read {directory}/chunks/{place:06}")
+            }
             Fault::Source(directory, error) => write!(f, "refused {error} ({directory})"),
             Fault::Block(directory, error) => write!(f, "refused {error} ({directory})"),
             Fault::Digits(directory) => {

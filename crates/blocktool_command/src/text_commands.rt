@@ -15,42 +15,49 @@ const FORMATS: [&str; 2] = ["openmetrics", "prometheus"];
 
 const EITHER: [&str; 2] = ["refuse", "drop"];
 
-const ABOUT_FROM: &str = "Example: blocktool from-openmetrics --decimals 3 --into mine backfill.om
-
-FILE, or standard input, is OpenMetrics text, whose times are in seconds and which ends with
+const ABOUT_FROM: &str =
+    "FILE, or standard input, is OpenMetrics text, whose times are in seconds and which ends with
 `# EOF`, or with --format prometheus the older text of Prometheus, whose times are in milliseconds.
 Each sample needs a time. Of two samples of one series at one time that of the later line is kept.
-The first line that is wrong is refused with its code, a sentence, line and column: P1 to P12, L1 to
-L3.
 Exemplars are left; no text has stale markers. The text and its rows are in memory at once.
 
 The outputs, the values and the last line are those of `blocktool from-prometheus`, but for
 `--rest round`.
 
+The first line that is wrong is refused, with its code, a sentence, line and column:
+  P1 to P12 the line, or the end of the text
+  L1 to L3  its labels
+
+docs/FORMATS.md of the project explains each code.
+
 Exit status: 0 done; 1 refused, with the place on standard error; 2 a fault of the words; 3 cannot
-read or write; 4 no memory";
+read or write; 4 no memory
 
-const ABOUT_ROWS: &str = "Example: blocktool from-rows --into mine rows.json
+Example: blocktool from-openmetrics --decimals 3 --into mine backfill.om";
 
-FILE, or standard input, is a reply as `querier select` prints it, of which the merged rows are
-taken, or a list of rows, as the body of `POST /write`. Of two samples of one series at one time the
-later is kept. Values are taken as they stand, in parts of which 10^N make one. All rows are in
+const ABOUT_ROWS: &str =
+    "FILE, or standard input, is a reply as `querier select` prints it, of which the merged rows
+are taken, or a list of rows, as the body of `POST /write`. Of two samples of one series at one time
+the later is kept. Values are taken as they stand, in parts of which 10^N make one. All rows are in
 memory at once.
 
 The outputs and the last line are those of `blocktool from-prometheus`.
 
 Exit status: 0 done; 1 refused: no rows; 2 a fault of the words; 3 cannot read or write; 4 no
-memory";
+memory
 
-const ABOUT_TO: &str = "Example: querier select 'up' mine/* | blocktool to-openmetrics >up.om
+Example: blocktool from-rows --into mine rows.json";
 
-FILE, or standard input, is a reply as `querier select` prints it. Its merged rows are written as
-OpenMetrics text, which `promtool tsdb create-blocks-from openmetrics` reads: a line for each
+const ABOUT_TO: &str =
+    "FILE, or standard input, is a reply as `querier select` prints it. Its merged rows are written
+as OpenMetrics text, which `promtool tsdb create-blocks-from openmetrics` reads: a line for each
 sample, its time in seconds, its value a decimal with N digits after the point. Give the N with
 which the blocks were made.
 
 Exit status: 0 done; 1 refused: no reply, or a series without the name of a metric; 2 a fault of the
-words; 3 cannot read or write; 4 no memory";
+words; 3 cannot read or write; 4 no memory
+
+Example: querier select 'up' mine/* | blocktool to-openmetrics --decimals 3 >up.om";
 
 fn file<'a>(alloc: Global, help: &'a str) -> Arg<'a> {
     Arg::new(alloc, "file").value_name("FILE").help(help)

@@ -1,12 +1,15 @@
 -- What was written of the directories so far, and of one more.
-use Rattle.std.proofs.Common.{◌≡◌, ℕ, ◌+◌, ◌<◌, List, [], ◌∷◌, ◌++◌, Option, None, Some, Bool, true, false, refl, sym, ap, subst, ◌∙◌, take, drop, length, get_or, map, append_assoc, Bor}
+use Rattle.std.proofs.Common.{◌≡◌, ℕ, ◌+◌, ◌<◌, List, [], ◌∷◌, ◌++◌, Option, None, Some, Bool, true}
+use Rattle.std.proofs.Common.{false, refl, sym, ap, subst, ◌∙◌, take, drop, length, get_or, map}
+use Rattle.std.proofs.Common.{append_assoc, Bor}
 use Rattle.std.specs.Prelude.{◌||◌, if◌then◌else◌}
 use Rattle.std.specs.List.{AllByRecursion, flat_map, list_any}
 use Rattle.std.specs.Io.KnownBytes.{Appends, Keeps}
 use Rattle.std.proofs.lemmas.List.{append-nil, map-append, take-append-drop}
 use Rattle.std.proofs.lemmas.List.Folds.{list_any-append}
 use Rattle.std.proofs.lemmas.Grind.{flat_map-append}
-use Rattle.commands.specs.Checking.{Judged, IsJudgedAt, IsChecked, IsCheckFault, IsCutAt, judgement_line, is_refused, outcome_of}
+use Rattle.commands.specs.Checking.{Judged, IsJudgedAt, IsChecked, IsCheckFault, IsCutAt}
+use Rattle.commands.specs.Checking.{judgement_line, is_refused, outcome_of}
 use Rattle.commands.specs.Reading.{Host, IsDirectoryFault, paths_of}
 use Rattle.commands.proofs.Paths.{paths_of_more, parts_of_paths}
 use Rattle.commands.specs.Selecting.{KeepsAt}

@@ -1,9 +1,12 @@
 -- Which file is the first that cannot be read.
 use Rattle.std.proofs.Common.{◌≡◌, ℕ, List, ◌∷◌, ◌++◌}
 use Rattle.std.specs.List.{AllByRecursion}
-use Rattle.commands.specs.Reading.{Host, IsRead, IsFound, IsFileFault, IsReadingFault, IsDirectoryFault, reading_order}
+use Rattle.commands.specs.Reading.{Host, IsRead, IsFound, IsFileFault, IsReadingFault}
+use Rattle.commands.specs.Reading.{IsDirectoryFault, reading_order}
 use Rattle.commands.specs.declared.fault.Fault.{Fault}
-use Rattle.commands.specs.declared.fault.Fault.TheVariants.{Words, Refused, CannotRead, CannotWrite, CannotListen, NoListener, NoThread, Memory}
+use Rattle.commands.specs.declared.fault.Fault.TheVariants.{Words, Refused, CannotRead, CannotWrite}
+use Rattle.commands.specs.declared.fault.Fault.TheVariants.{CannotListen, NoListener, NoThread}
+use Rattle.commands.specs.declared.fault.Fault.TheVariants.{Memory}
 use Rattle.commands.specs.declared.files.FileName.{FileName}
 
 -- a file that was read can be read

@@ -1,12 +1,15 @@
 -- What `Block::open` says of files is what is judged of them.
-use Rattle.std.proofs.Common.{◌≡◌, ℕ, ℤ, Option, None, Some, Result, Ok, Err, refl, sym, ap, ap₂, subst, ◌∙◌, length}
+use Rattle.std.proofs.Common.{◌≡◌, ℕ, ℤ, Option, None, Some, Result, Ok, Err, refl, sym, ap, ap₂}
+use Rattle.std.proofs.Common.{subst, ◌∙◌, length}
 use Rattle.std.specs.Prelude.{IfOk}
 use Rattle.labels.specs.Parts.{Part}
 use Rattle.block.specs.Blocks.{Shown, sample_count}
 use Rattle.block.specs.Metas.{or_meta, range_said}
 use Rattle.block.specs.Outcome.{Fails}
 use Rattle.block.specs.declared.error.BlockError.{BlockError}
-use Rattle.block.specs.declared.error.BlockError.TheVariants.{Memory, Meta, Index, Chunks, Tombstones, UnknownSeries, OutsideRange}
+use Rattle.block.specs.declared.error.BlockError.TheVariants.{Memory, Meta, Index, Chunks}
+use Rattle.block.specs.declared.error.BlockError.TheVariants.{Tombstones, UnknownSeries}
+use Rattle.block.specs.declared.error.BlockError.TheVariants.{OutsideRange}
 use Rattle.commands.specs.Judging.{block_in, judgement_of, IsSpelledAs, IsRefusalOf, IsJudged}
 use Rattle.commands.specs.Reading.{Files}
 use Rattle.commands.specs.declared.judgement.Judgement.{Judgement}

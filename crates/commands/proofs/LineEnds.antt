@@ -9,7 +9,8 @@ use Rattle.commands.specs.Reading.{Host, paths_of}
 use Rattle.commands.specs.DemoAnswer.{by_writing}
 use Rattle.commands.specs.Selecting.{KeepsAt, by_selection}
 use Rattle.commands.specs.ServingRuns.{by_directories}
-use Rattle.commands.specs.Running.{IsTaken, IsLineFault, IsLineEnd, IsEnd, IsEarlyLine, KeepsAtEnd, status_at}
+use Rattle.commands.specs.Running.{IsTaken, IsLineFault, IsLineEnd, IsEnd, IsEarlyLine, KeepsAtEnd}
+use Rattle.commands.specs.Running.{status_at}
 use Rattle.commands.specs.declared.command.Line.{Line}
 use Rattle.commands.specs.declared.command.Line.TheVariants.{Demo, Select, Check, Serve}
 use Rattle.commands.specs.declared.fault.Fault.{Fault}

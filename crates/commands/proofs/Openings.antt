@@ -1,5 +1,6 @@
 -- The blocks of the directories so far, and of one more; and which directory is the first at fault.
-use Rattle.std.proofs.Common.{◌≡◌, ℕ, ◌+◌, ◌<◌, ℤ, List, [], ◌∷◌, ◌++◌, append_assoc, refl, sym, ap, subst, ◌∙◌, take, drop, length, get_or, map, arith, Bor}
+use Rattle.std.proofs.Common.{◌≡◌, ℕ, ◌+◌, ◌<◌, ℤ, List, [], ◌∷◌, ◌++◌, append_assoc, refl, sym, ap}
+use Rattle.std.proofs.Common.{subst, ◌∙◌, take, drop, length, get_or, map, arith, Bor}
 use Rattle.std.specs.List.{AllZip}
 use Rattle.std.proofs.lemmas.List.{map-append, length-map, take-append-drop}
 use Rattle.std.proofs.lemmas.Slice.Zip.{AllZip-long}
@@ -15,11 +16,15 @@ use Rattle.snapshots.specs.declared.error.OpenError.TheVariants as store
 use Rattle.commands.specs.Checking.{IsJudgedAt}
 use Rattle.commands.specs.Faults.{block_fault}
 use Rattle.commands.specs.Judging.{block_in, bytes_of, IsSpelledAs}
-use Rattle.commands.specs.Opening.{IsBlockAt, AreBlocksAt, IsBlockFault, IsFirstFault, IsOpeningFault}
+use Rattle.commands.specs.Opening.{IsBlockAt, AreBlocksAt, IsBlockFault, IsFirstFault}
+use Rattle.commands.specs.Opening.{IsOpeningFault}
 use Rattle.commands.specs.Reading.{Host, AreRead, IsReadingFault, paths_of}
 use Rattle.commands.specs.declared.fault.Fault.{Fault}
-use Rattle.commands.specs.declared.fault.Fault.TheVariants.{Words, Refused, CannotRead, CannotWrite, CannotListen, NoListener, NoThread, Memory}
-use Rattle.commands.specs.declared.fault.Refusal.TheVariants.{Labels, Matcher, Selector, Query, Commit, Block, Open, Snapshot}
+use Rattle.commands.specs.declared.fault.Fault.TheVariants.{Words, Refused, CannotRead, CannotWrite}
+use Rattle.commands.specs.declared.fault.Fault.TheVariants.{CannotListen, NoListener, NoThread}
+use Rattle.commands.specs.declared.fault.Fault.TheVariants.{Memory}
+use Rattle.commands.specs.declared.fault.Refusal.TheVariants.{Labels, Matcher, Selector, Query}
+use Rattle.commands.specs.declared.fault.Refusal.TheVariants.{Commit, Block, Open, Snapshot}
 use Rattle.commands.specs.declared.files.BlockFiles.{BlockFiles}
 use Rattle.commands.specs.declared.judgement.Judgement.TheVariants as judgement
 use Rattle.commands.proofs.Judgements.{said_part, refused_files}

@@ -1,6 +1,8 @@
 -- Directories as bytes, one by one.
-use Rattle.std.proofs.Common.{◌≡◌, ℕ, ◌+◌, ◌<◌, List, [], ◌∷◌, ◌++◌, sym, ap, subst, ◌∙◌, take, drop, length, get_or, Bor}
-use Rattle.std.proofs.lemmas.List.{length-map, take-map, take-append-drop, map_more, drop_more, get_or-map}
+use Rattle.std.proofs.Common.{◌≡◌, ℕ, ◌+◌, ◌<◌, List, [], ◌∷◌, ◌++◌, sym, ap, subst, ◌∙◌, take}
+use Rattle.std.proofs.Common.{drop, length, get_or, Bor}
+use Rattle.std.proofs.lemmas.List.{length-map, take-map, take-append-drop, map_more, drop_more}
+use Rattle.std.proofs.lemmas.List.{get_or-map}
 use Rattle.commands.specs.Reading.{paths_of}
 
 pub paths_of_more : (texts : List (Bor (List ℕ))) (i : ℕ) (d : Bor (List ℕ)) → i < length texts

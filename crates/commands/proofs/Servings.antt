@@ -7,6 +7,7 @@ use Rattle.snapshots.specs.declared.error.OpenError.{OpenError}
 use Rattle.snapshots.specs.declared.error.OpenError.TheVariants as store
 use Rattle.server.specs.declared.error.ServeError.{ServeError}
 use Rattle.server.specs.declared.error.ServeError.TheVariants as late
+use Rattle.server.specs.Shifts.{EachServed, served_in}
 use Rattle.server.specs.declared.worker.Shift.{Shift}
 use Rattle.commands.specs.Faults.{open_fault, serve_fault}
 use Rattle.commands.specs.ServingRuns.{IsStoreFault, IsLateFault, passes_of}
@@ -36,8 +37,7 @@ ended_early late.Memory = tt
 
 -- how many connections each worker served, of what each has done
 pub all_counted : (shifts : List Shift) (counts : List ℕ) (n : ℕ)
-    → counts ≡ map (λ (s : Shift). s.served) shifts → All (λ (s : Shift). s.served ≡ n) shifts
-    → All (λ (m : ℕ). m ≡ n) counts
+    → counts ≡ map served_in shifts → EachServed n shifts → All (λ (m : ℕ). m ≡ n) counts
 all_counted shifts counts n e each =
     subst (λ (ms : List ℕ). All (λ (m : ℕ). m ≡ n) ms) (sym e)
-    (All-map (λ (m : ℕ). m ≡ n) (λ (s : Shift). s.served) shifts each)
+    (All-map (λ (m : ℕ). m ≡ n) served_in shifts each)

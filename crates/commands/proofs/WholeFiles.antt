@@ -1,11 +1,13 @@
 -- What is judged of the first bytes of files that are longer than they may be is what would be
 -- judged of all their bytes.
-use Rattle.std.proofs.Common.{◌≡◌, ℕ, ◌+◌, ℤ, List, take, Option, Result, Ok, Err, refl, sym, ap, subst, ◌∙◌}
+use Rattle.std.proofs.Common.{◌≡◌, ℕ, ◌+◌, ℤ, List, take, Option, Result, Ok, Err, refl, sym, ap}
+use Rattle.std.proofs.Common.{subst, ◌∙◌}
 use Rattle.labels.specs.Parts.{Part}
 use Rattle.block.specs.Metas.{or_meta, range_said}
 use Rattle.block.specs.declared.error.BlockError.{BlockError}
 use Rattle.block.proofs.LongFiles.{meta_first, block_first, spelled_first, spelled_of_first}
-use Rattle.commands.specs.Judging.{bytes_of, block_in, judgement_of, IsSpelledAs, IsSpelled, IsJudged}
+use Rattle.commands.specs.Judging.{bytes_of, block_in, judgement_of, IsSpelledAs, IsSpelled}
+use Rattle.commands.specs.Judging.{IsJudged}
 use Rattle.commands.specs.Reading.{Host, Files, AreRead, AreFilesAt}
 use Rattle.commands.specs.declared.files.BlockFiles.{BlockFiles}
 use Rattle.commands.specs.declared.judgement.Judgement.{Judgement}

@@ -51,8 +51,8 @@ IsWatchFault serving (CannotListen port) =
 IsWatchFault serving other = ⊥
 
 -- why a store over blocks is not served: there are not 1 to 64 workers (63 if they are watched),
--- the store has no room for so many readers, the port cannot be listened on, or memory or the writer
--- failed
+-- the store has no room for so many readers, the port cannot be listened on, or memory or the
+-- writer failed
 abbrev pub IsStoreFault : Serving → Fault → Type 0
 IsStoreFault serving (Refused (Open store.BadPasses)) = ¬ IsRoom (passes_of serving) serving.workers
 IsStoreFault serving (Refused (Open store.Unavailable)) = Unit {0}

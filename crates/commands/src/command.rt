@@ -176,7 +176,7 @@ the file, save an end of a line; and each request that has an `Origin`, or whose
 127.0.0.1, localhost or [::1], is refused with H12. With --read-only, a POST is of no path (H3).
 
 With --status-port, a second listener answers GET /metrics in the text format of Prometheus, GET
-/healthy, and GET /ready, which is 503 until the blocks are open. There are at most 63 workers then.
+/healthy, and GET /ready, which is 503 until the blocks are open. Then 64 workers are refused (O2).
 
 Exit status: 0 each worker has ended; 1 the directories are refused, as by `select`; 2 a fault of
 the words; 3 a file cannot be read, a port cannot be listened on, the line cannot be written, a

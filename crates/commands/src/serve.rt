@@ -12,6 +12,7 @@ ghost use Rattle.commands.specs.ServingRuns.{IsServeFault, IsServingFault, IsWat
 ghost use Rattle.commands.specs.Guarding.{AreRulesOf};
 ghost use Rattle.commands.specs.Opening.{AreBlocksAt, IsOpeningFault};
 ghost use Rattle.std.specs.Thread.{IsSync};
+ghost use Rattle.server.specs.Shifts.{AreUnder, EachServed, served_in};
 ghost use Rattle.snapshots.specs.Seats.{IsRoom};
 ghost use Rattle.commands.specs.declared.fault.Fault.TheVariants.{CannotListen};
 
@@ -121,8 +122,8 @@ fn run_workers<
     terms: Terms,
 ) -> Result<Vec<Shift<'a>>, ServeError>
     ensures all { IfOk result (λ shifts. vec_len shifts ≡ workers.entry) }
-    ensures each { IfOk result (λ shifts. All (λ s. s.served ≡ terms.requests) shifts.items) }
-    ensures ruled { IfOk result (λ shifts. All (λ s. s.rules.now ≡ rules.now) shifts.items) }
+    ensures each { IfOk result (λ shifts. EachServed terms.requests shifts.items) }
+    ensures ruled { IfOk result (λ shifts. AreUnder rules.now shifts.items) }
 {
     let Some(asked) = beside else {
         return server::serve(rt, alloc, workers, listener, rules, terms);
@@ -169,9 +170,8 @@ fn serve_blocks<
     requires asked { AreRulesOf (F.may_read files.now) serving rules.now }
     ensures ok { OnOk result (TellsPort (W.contents out.old) (W.contents out.new)) }
     ensures workers { IfOk result (λ shifts. vec_len shifts ≡ serving.entry.workers) }
-    ensures served { IfOk result (λ shifts.
-        All (λ s. s.served ≡ serving.entry.requests) shifts.items) }
-    ensures ruled { IfOk result (λ shifts. All (λ s. s.rules.now ≡ rules.now) shifts.items) }
+    ensures served { IfOk result (λ shifts. EachServed serving.entry.requests shifts.items) }
+    ensures ruled { IfOk result (λ shifts. AreUnder rules.now shifts.items) }
     ensures err { IfErr result (λ fault.
         IsServingFault serving.entry (W.contents out.old) (W.contents out.new) fault) }
 {
@@ -262,7 +262,7 @@ fn open_beside<R: Threads + Clock + Sync, F: ReadFiles>(
 
 /// How many connections each worker served.
 fn counts_of(alloc: Global, shifts: &[Shift<'_>]) -> Result<Vec<u64>, AllocError>
-    ensures { IfOk result (λ counts. counts.items ≡ map (λ s. s.served) shifts.now) }
+    ensures { IfOk result (λ counts. counts.items ≡ map served_in shifts.now) }
 {
     let mut counts = Vec::new(alloc);
     for shift in shifts {

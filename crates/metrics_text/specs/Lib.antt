@@ -1,4 +1,5 @@
 pub mod Bounds
+pub mod Counting
 pub mod Families
 pub mod Names
 pub mod Numbers

@@ -1,7 +1,8 @@
 //! What is counted.
 
-ghost use Rattle.std.specs.Prelude.{◌≡◌, ◌<◌, count_by, nat_lt};
+ghost use Rattle.std.specs.Prelude.{◌≡◌, ◌<◌, ◌==◌, count_by, nat_lt, position};
 ghost use Rattle.metrics_text.specs.Bounds.{bounds, statuses, refusals};
+ghost use Rattle.metrics_text.specs.Counting.{IsNothing, IsUnasked};
 
 /// What was counted of a server's requests since it began.
 #[derive(Clone, Copy, Debug, PartialEq, Eq, Drop)]
@@ -12,7 +13,7 @@ pub struct Counts {
     pub cut: PathCounts,
     /// Requests of no path, and what was no request.
     pub other: PathCounts,
-    /// Refusals by number, in the order of [`refusal_numbers`].
+    /// Refusals by number, by their [`place_of_refusal`].
     pub refusals: [u64; 11],
     /// Batches, deletions and cuts that the store accepted.
     pub batches: u64,
@@ -27,7 +28,7 @@ pub struct Counts {
 /// What was counted of the requests of one path.
 #[derive(Clone, Copy, Debug, PartialEq, Eq, Drop)]
 pub struct PathCounts {
-    /// Replies by status, in the order of [`statuses`].
+    /// Replies by status, by their [`place_of_status`].
     pub replies: [u64; 9],
     pub times: Times,
 }
@@ -43,7 +44,9 @@ pub struct Times {
 
 impl Counts {
     /// Nothing was counted.
-    pub fn none() -> Counts {
+    pub fn none() -> Counts
+        ensures { IsNothing result }
+    {
         Counts {
             select: PathCounts::none(),
             write: PathCounts::none(),
@@ -61,7 +64,9 @@ impl Counts {
 }
 
 impl PathCounts {
-    fn none() -> PathCounts {
+    fn none() -> PathCounts
+        ensures { IsUnasked result }
+    {
         let times = Times {
             counts: [0; 11],
             microseconds: 0,
@@ -95,7 +100,7 @@ pub struct State {
 
 /// The statuses of replies, each in its place of [`PathCounts::replies`].
 #[tactic(auto, unfolding(crate::specs::Bounds::statuses))]
-pub fn statuses() -> &'static [u64]
+pub(crate) fn statuses() -> &'static [u64]
     ensures { result.now ≡ statuses }
 {
     &[200, 400, 403, 404, 405, 409, 413, 431, 503]
@@ -103,16 +108,30 @@ pub fn statuses() -> &'static [u64]
 
 /// The numbers of refusals, each in its place of [`Counts::refusals`]: there is no `H11`.
 #[tactic(auto, unfolding(crate::specs::Bounds::refusals))]
-pub fn refusal_numbers() -> &'static [u64]
+pub(crate) fn refusal_numbers() -> &'static [u64]
     ensures { result.now ≡ refusals }
 {
     &[1, 2, 3, 4, 5, 6, 7, 8, 9, 10, 12]
 }
 
+/// The place of a status in [`PathCounts::replies`], if replies have it.
+pub fn place_of_status(number: u64) -> Option<usize>
+    ensures { result ≡ position (λ one. one == number) statuses }
+{
+    statuses().iter().position(|one| *one == number)
+}
+
+/// The place of a refusal in [`Counts::refusals`], if there is one with this number: 3 is `H3`.
+pub fn place_of_refusal(number: u64) -> Option<usize>
+    ensures { result ≡ position (λ one. one == number) refusals }
+{
+    refusal_numbers().iter().position(|one| *one == number)
+}
+
 /// The bounds of a histogram, in microseconds: the last count of [`Times::counts`] is of what lies
 /// above each of them.
 #[tactic(auto, unfolding(crate::specs::Bounds::bounds))]
-pub fn bounds() -> &'static [u64]
+pub(crate) fn bounds() -> &'static [u64]
     ensures { result.now ≡ bounds }
 {
     &[

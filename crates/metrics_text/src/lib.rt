@@ -22,5 +22,5 @@ mod names;
 mod numbers;
 mod rows;
 
-pub use counts::{Counts, PathCounts, State, Times, bounds, place_in, refusal_numbers, statuses};
+pub use counts::{Counts, PathCounts, State, Times, place_in, place_of_refusal, place_of_status};
 pub use families::metrics;

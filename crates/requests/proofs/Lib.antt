@@ -14,3 +14,4 @@ pub mod AdmittedTexts
 pub mod FitTexts
 pub mod Endings
 pub mod TakenTexts
+pub mod PathTexts

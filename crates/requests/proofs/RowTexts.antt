@@ -1,6 +1,7 @@
 -- What the parts of written rows give the whole.
 use Rattle.std.proofs.Common.{◌≡◌, ℕ, ℤ, ◌+◌, ◌<◌, add-one, List, [], ◌∷◌, ◌++◌, length, map, drop}
-use Rattle.std.proofs.Common.{suc, drop-cons, get_or, true, Option, None, Some, option_map, refl, sym}
+use Rattle.std.proofs.Common.{suc, drop-cons, get_or, true, Option, None, Some, option_map, refl}
+use Rattle.std.proofs.Common.{sym}
 use Rattle.std.proofs.Common.{ap, ◌∙◌, append_assoc, ne_eqb, String, Global, string_bytes}
 use Rattle.std.specs.Prelude.{option_and_then}
 use Rattle.std.proofs.lemmas.List.{map-append, length-append, length-map}

@@ -6,7 +6,7 @@ ghost use Rattle.httparse.specs.Grammar.{RequestHead, ReadsRequest};
 ghost use Rattle.httparse.specs.Spans.{IsHeaderWithin, header_bytes};
 ghost use Rattle.requests.specs.Fields.{is_named, field_values, has_field, is_decimal, length_in};
 ghost use Rattle.requests.specs.Fields.{length_asked, IsHeadIn};
-ghost use Rattle.requests.specs.Noting.{NamesPath};
+ghost use Rattle.requests.specs.Noting.{NamesPath, FindsPath};
 ghost use Rattle.requests.specs.QueryStrings.{only};
 ghost use Rattle.requests.specs.Heads.{BeginsWithHead};
 ghost use Rattle.guard.specs.Hosts.{claimed};
@@ -115,9 +115,12 @@ pub(crate) fn claims_in(buf: &[u8]) -> Option<Claims<'_>>
     }
 }
 
-/// The path that the head at the front of some bytes names, whatever its method.
+/// The path that the head at the front of some bytes names, whatever its method; none if they begin
+/// with no head of at most 64 fields, or it names none of the four.
+#[tactic(auto, using(crate::proofs::PathTexts::parsed_path, crate::proofs::PathTexts::unparsed_path, crate::proofs::PathTexts::refused_path))]
 pub fn path_in(buf: &[u8]) -> Option<Path>
-    ensures { IfSome result (NamesPath buf.now) }
+    ensures value { IfSome result (NamesPath buf.now) }
+    ensures found { FindsPath buf.now result }
 {
     let mut headers = [EMPTY_HEADER_SPAN; 64];
     match parse_request(buf, &mut headers) {

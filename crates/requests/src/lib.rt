@@ -4,9 +4,9 @@
 //! [`read_request`] reads one [`Request`] from an [`Inlet`], or answers the first refusal that its
 //! bytes meet; [`read_admitted_into`] does so with a buffer that the caller keeps, and refuses a
 //! head that [`guard::Rules`] do not admit. The contract speaks of the whole input and never of the
-//! pieces that it came in: `specs/Reading.antt` says what the bytes mean, head by head and body by body. A
-//! request that it answers is fit for a store: a batch has at most 4,096 samples, each at a time, a
-//! deletion has a range and at most 16 matchers, a cut is at a time.
+//! pieces that it came in: `specs/Reading.antt` says what the bytes mean, head by head and body by
+//! body. A request that it answers is fit for a store: a batch has at most 4,096 samples, each at a
+//! time, a deletion has a range and at most 16 matchers, a cut is at a time.
 //!
 //! A [`Refusal`] is one of `H1` to `H10` or `H12`; its `reply` is the whole text that answers it.
 //!

@@ -1,2 +1,3 @@
 pub mod Farther
+pub mod Replies
 pub mod Sequences

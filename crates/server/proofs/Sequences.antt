@@ -1,10 +1,12 @@
 -- A connection more, after those that were served.
-use Rattle.std.proofs.Common.{◌≡◌, ℕ, ◌+◌, List, [], ◌∷◌, ◌++◌, Option, None, Some, refl, sym, ap, subst, ◌∙◌, map, append_assoc, append-nil, length-append}
+use Rattle.std.proofs.Common.{◌≡◌, ℕ, ◌+◌, List, [], ◌∷◌, ◌++◌, Option, None, Some, refl, sym, ap}
+use Rattle.std.proofs.Common.{subst, ◌∙◌, map, append_assoc, append-nil, length-append}
 use Rattle.std.proofs.lemmas.List.{map-append}
 use Rattle.head.specs.Heads.{SnapshotParts}
 use Rattle.guard.specs.declared.rules.Rules.{Rules}
 use Rattle.query_http.specs.Serving.{Worker}
-use Rattle.server.specs.Sessions.{Session, Ending, IsServed, AreServed, Arrives, AreFirstToCome, AreAdded}
+use Rattle.server.specs.Sessions.{Session, Ending, IsServed, AreServed, Arrives, AreFirstToCome}
+use Rattle.server.specs.Sessions.{AreAdded}
 use Rattle.server.specs.Working.{Works}
 
 served_more : (rules : Rules) (opening : SnapshotParts) (before between after : Worker)
@@ -17,7 +19,8 @@ served_more rules opening before between after (t ∷ ss) s h one =
     (h.0, h.1, served_more rules opening h.0 between after ss s h.2 one)
 
 first_more : (coming mid left : Option (List (List ℕ))) (ss : List Session) (s : Session)
-    → AreFirstToCome coming mid ss → Arrives mid left s.input → AreFirstToCome coming left (ss ++ s ∷ [])
+    → AreFirstToCome coming mid ss → Arrives mid left s.input
+    → AreFirstToCome coming left (ss ++ s ∷ [])
 first_more None mid left ss s h here = tt
 first_more (Some old) None left ss s h here = absurd (cc h.1)
 first_more (Some old) (Some mid) left ss s h here =

@@ -1,10 +1,10 @@
 //! A store and its workers, each in a thread of its own.
 
 ghost use Rattle.std.specs.Prelude.{◌≡◌, ◌≤◌, ◌<◌, length, map, vec_len, IfOk, IfErr};
-ghost use Rattle.std.specs.List.{All};
 ghost use Rattle.std.specs.Thread.{IsSync};
 ghost use Rattle.head.specs.Blocks.{part_in, opening_of};
 ghost use Rattle.snapshots.specs.Seats.{IsRoom};
+ghost use Rattle.server.specs.Shifts.{AreUnder, EachServed};
 ghost use Rattle.snapshots.specs.declared.error.OpenError.TheVariants.{BadPasses, Limit};
 
 use crate::error::ServeError;
@@ -141,7 +141,7 @@ fn work_at<'a, J: Naming, C: Wait + Drop, R: Wait + Clock + Eprint>(
 /// served fewer has lost its listener.
 fn all_served(shifts: Vec<Shift<'_>>, requests: u64) -> Result<Vec<Shift<'_>>, ServeError>
     ensures same { IfOk result (λ all. all.items ≡ shifts.entry.items) }
-    ensures each { IfOk result (λ all. All (λ s. s.served ≡ requests) all.items) }
+    ensures each { IfOk result (λ all. EachServed requests all.items) }
 {
     if shifts.iter().all(|shift| shift.served() == requests) {
         Ok(shifts)
@@ -186,8 +186,8 @@ fn run_all<
     terms: Terms,
 ) -> Result<Vec<Shift<'a>>, ServeError>
     ensures all { IfOk result (λ shifts. vec_len shifts ≡ vec_len places) }
-    ensures each { IfOk result (λ shifts. All (λ s. s.served ≡ terms.requests) shifts.items) }
-    ensures ruled { IfOk result (λ shifts. All (λ s. s.rules.now ≡ rules.now) shifts.items) }
+    ensures each { IfOk result (λ shifts. EachServed terms.requests shifts.items) }
+    ensures ruled { IfOk result (λ shifts. AreUnder rules.now shifts.items) }
 {
     if !can_make(rt, places.len()) {
         return Err(ServeError::NoThread);
@@ -222,8 +222,8 @@ pub fn serve<
     terms: Terms,
 ) -> Result<Vec<Shift<'a>>, ServeError>
     ensures all { IfOk result (λ shifts. vec_len shifts ≡ workers) }
-    ensures each { IfOk result (λ shifts. All (λ s. s.served ≡ terms.requests) shifts.items) }
-    ensures ruled { IfOk result (λ shifts. All (λ s. s.rules.now ≡ rules.now) shifts.items) }
+    ensures each { IfOk result (λ shifts. EachServed terms.requests shifts.items) }
+    ensures ruled { IfOk result (λ shifts. AreUnder rules.now shifts.items) }
 {
     let Workers {
         committer,
@@ -261,8 +261,8 @@ pub fn serve_watched<
     watch: &Watch<'_, M>,
 ) -> Result<Vec<Shift<'a>>, ServeError>
     ensures all { IfOk result (λ shifts. vec_len shifts ≡ workers) }
-    ensures each { IfOk result (λ shifts. All (λ s. s.served ≡ terms.requests) shifts.items) }
-    ensures ruled { IfOk result (λ shifts. All (λ s. s.rules.now ≡ rules.now) shifts.items) }
+    ensures each { IfOk result (λ shifts. EachServed terms.requests shifts.items) }
+    ensures ruled { IfOk result (λ shifts. AreUnder rules.now shifts.items) }
 {
     let Workers {
         committer,
@@ -277,9 +277,8 @@ pub fn serve_watched<
     let here = || -> Result<Vec<Shift<'_>>, ServeError>
         requires { IsSync R.row }
         ensures all { IfOk result (λ shifts. vec_len shifts ≡ vec_len places) }
-        ensures each { IfOk result (λ shifts. All (λ s. s.served ≡ terms.requests) shifts.items) }
-        ensures ruled { IfOk result (λ shifts.
-            All (λ s. s.rules.now ≡ rules.entry.now) shifts.items) }
+        ensures each { IfOk result (λ shifts. EachServed terms.requests shifts.items) }
+        ensures ruled { IfOk result (λ shifts. AreUnder rules.entry.now shifts.items) }
     {
         let shifts = run_all(rt, alloc, shared, places, listener, rules, terms);
         ended.store(true, Ordering::SeqCst);

@@ -51,6 +51,10 @@ struct Opening<'a, 'b, M> {
 }
 
 impl<M: Memory> Report for Opening<'_, '_, M> {
+    ghost use Rattle.std.specs.Prelude.{false};
+
+    ghost ready = { λ _. false };
+
     fn is_ready(&self) -> bool {
         false
     }
@@ -114,6 +118,10 @@ impl<M: Memory, J: Naming> Open<'_, '_, M, J> {
 }
 
 impl<M: Memory, J: Naming> Report for Open<'_, '_, M, J> {
+    ghost use Rattle.std.specs.Prelude.{true};
+
+    ghost ready = { λ _. true };
+
     fn is_ready(&self) -> bool {
         true
     }

@@ -1,5 +1,11 @@
 //! The status port: what the server tells of itself.
 
+ghost use Rattle.std.specs.Prelude.{◌≡◌, ◌==◌, Bool, IfOk, IfSome, option_map, position};
+ghost use Rattle.std.specs.Prelude.{string_bytes};
+ghost use Rattle.server.specs.Status.{parted, path_in, asked_at, is_line, is_taken, asked_of};
+ghost use Rattle.server.specs.Status.{asked_by, plain_line, plain_body, TellsCounts, IsPlain};
+ghost use Rattle.server.specs.Status.{IsAnswer, allow_of, asked_in, has_end, head_text, IsReply};
+
 use crate::ending::end;
 use metrics_text::{Counts, State, metrics};
 use std::alloc::{AllocError, Global};
@@ -21,14 +27,14 @@ const LATEST: u64 = 700;
 /// The most bytes of a request that are read.
 const MOST: usize = 8192;
 
-/// The fields of a reply, but for its length.
-const FIELDS: &str =
-    "Content-Type: text/plain; version=0.0.4; charset=utf-8\r\nConnection: close\r\n";
-
 /// Who knows how a server stands.
 pub(crate) trait Report {
     /// Whether the blocks are open.
-    fn is_ready(&self) -> bool;
+    ghost ready: { Self → Bool };
+
+    /// Whether the blocks are open.
+    fn is_ready(&self) -> bool
+        ensures { result ≡ ready self.now };
 
     /// What was counted so far.
     fn counts(&self) -> Counts;
@@ -52,20 +58,40 @@ enum Asked {
 }
 
 /// Whether the end of a head has come.
-fn has_end(head: &[u8]) -> bool {
-    head.windows(4).any(|four| four == b"\r\n\r\n".as_slice())
+fn has_end(head: &[u8]) -> bool
+    ensures { result ≡ has_end head.now }
+{
+    let mut left = head;
+    'tails: while let Some((_byte, rest)) = left.split_first() {
+        if left.starts_with(b"\r\n\r\n") {
+            return true;
+        }
+        left = rest;
+    }
+    false
+}
+
+/// The first place of a byte.
+fn place_of(text: &[u8], byte: u8) -> Option<usize>
+    ensures { result ≡ position (λ one. one == byte) text.now }
+{
+    text.iter().position(|one| *one == byte)
 }
 
 /// What stands before the first of these bytes, and what stands behind it.
-fn parted(text: &[u8], byte: u8) -> Option<(&[u8], &[u8])> {
-    match text.iter().position(|one| *one == byte) {
+fn parted(text: &[u8], byte: u8) -> Option<(&[u8], &[u8])>
+    ensures { option_map (λ parts. (parts.0.now, parts.1.now)) result ≡ parted byte text.now }
+{
+    match place_of(text, byte) {
         Some(place) => Some((&text[..place], &text[place + 1..])),
         None => None,
     }
 }
 
 /// The path of a target: what stands before its query.
-fn path_in(target: &[u8]) -> &[u8] {
+fn path_in(target: &[u8]) -> &[u8]
+    ensures { result.now ≡ path_in target.now }
+{
     match parted(target, b'?') {
         Some((path, _query)) => path,
         None => target,
@@ -73,7 +99,9 @@ fn path_in(target: &[u8]) -> &[u8] {
 }
 
 /// What is asked for by `GET` or `HEAD`.
-fn asked_at(path: &[u8]) -> Asked {
+fn asked_at(path: &[u8]) -> Asked
+    ensures { result ≡ asked_at path.now }
+{
     if path == b"/metrics".as_slice() {
         Asked::Metrics
     } else if path == b"/healthy".as_slice() {
@@ -90,10 +118,36 @@ fn is_bare(head: &[u8]) -> bool {
     head.starts_with(b"HEAD ")
 }
 
-fn asked_in(head: &[u8]) -> Asked {
-    if !has_end(head) {
-        return Asked::NoRequest;
+/// Whether these are the parts of the first line of a request.
+fn is_line(method: &[u8], target: &[u8], version: &[u8]) -> bool
+    ensures { result ≡ is_line method.now target.now version.now }
+{
+    !method.is_empty() && !target.is_empty() && version.starts_with(b"HTTP/1.")
+}
+
+/// Whether a path takes this method.
+fn is_taken(method: &[u8]) -> bool
+    ensures { result ≡ is_taken method.now }
+{
+    method == b"GET".as_slice() || method == b"HEAD".as_slice()
+}
+
+fn asked_of(method: &[u8], target: &[u8], version: &[u8]) -> Asked
+    ensures { result ≡ asked_of method.now target.now version.now }
+{
+    if !is_line(method, target, version) {
+        Asked::NoRequest
+    } else if is_taken(method) {
+        asked_at(path_in(target))
+    } else {
+        Asked::NoMethod
     }
+}
+
+/// What the first line of a head asks for.
+fn asked_by(head: &[u8]) -> Asked
+    ensures { result ≡ asked_by head.now }
+{
     let Some((line, _fields)) = parted(head, b'\r') else {
         return Asked::NoRequest;
     };
@@ -103,38 +157,84 @@ fn asked_in(head: &[u8]) -> Asked {
     let Some((target, version)) = parted(rest, b' ') else {
         return Asked::NoRequest;
     };
-    if method.is_empty() || target.is_empty() || !version.starts_with(b"HTTP/1.") {
-        Asked::NoRequest
-    } else if method == b"GET".as_slice() || is_bare(head) {
-        asked_at(path_in(target))
+    asked_of(method, target, version)
+}
+
+/// What is asked for by what came.
+fn asked_in(head: &[u8]) -> Asked
+    ensures { result ≡ asked_in head.now }
+{
+    if has_end(head) {
+        asked_by(head)
     } else {
-        Asked::NoMethod
+        Asked::NoRequest
     }
 }
 
-/// The status line and the body of what is asked for.
-fn answer_of<S: Report>(
-    alloc: Global,
-    asked: Asked,
-    report: &mut S,
-) -> Result<(&'static str, Vec<u8>), AllocError> {
-    let (line, text) = match asked {
-        Asked::Metrics => match report.state() {
-            Some(state) => return Ok(("200 OK", metrics(alloc, &report.counts(), &state)?)),
-            None => ("503 Service Unavailable", "not known\n"),
-        },
+/// The status line and the body of a reply without counts.
+fn plain_answer(asked: Asked, is_ready: bool) -> (&'static str, &'static str)
+    ensures line { result.0.now ≡ plain_line asked is_ready }
+    ensures body { result.1.now ≡ plain_body asked is_ready }
+{
+    match asked {
+        Asked::Metrics => ("503 Service Unavailable", "not known\n"),
         Asked::Healthy => ("200 OK", "healthy\n"),
-        Asked::Ready if report.is_ready() => ("200 OK", "ready\n"),
+        Asked::Ready if is_ready => ("200 OK", "ready\n"),
         Asked::Ready => ("503 Service Unavailable", "not ready\n"),
         Asked::NoPath => ("404 Not Found", "no such path\n"),
         Asked::NoMethod => ("405 Method Not Allowed", "not this method\n"),
         Asked::NoRequest => ("400 Bad Request", "no request\n"),
-    };
+    }
+}
+
+fn told_answer(
+    alloc: Global,
+    asked: Asked,
+    is_ready: bool,
+) -> Result<(&'static str, Vec<u8>), AllocError>
+    ensures { IfOk result (λ told. IsPlain asked is_ready told.0.now told.1.items) }
+{
+    let (line, text) = plain_answer(asked, is_ready);
     Ok((line, Vec::from_slice(alloc, text.as_bytes())?))
 }
 
+/// The status line and the body of what was counted, if it is known how things stand.
+fn counts_answer<S: Report>(
+    alloc: Global,
+    report: &mut S,
+) -> Result<Option<(&'static str, Vec<u8>)>, AllocError>
+    ensures { IfOk result (λ found. IfSome found (λ told. TellsCounts told.0.now told.1.items)) }
+{
+    let Some(state) = report.state() else {
+        return Ok(None);
+    };
+    let text = metrics(alloc, &report.counts(), &state)?;
+    Ok(Some(("200 OK", text)))
+}
+
+/// The status line and the body of what is asked for.
+#[tactic(auto, using(crate::proofs::Replies::plain_answered))]
+fn answer_of<S: Report>(
+    alloc: Global,
+    asked: Asked,
+    report: &mut S,
+) -> Result<(&'static str, Vec<u8>), AllocError>
+    ensures { IfOk result (λ told.
+        IsAnswer asked (S.ready report.old) told.0.now told.1.items) }
+{
+    let is_ready = report.is_ready();
+    if let Asked::Metrics = asked {
+        if let Some(told) = counts_answer(alloc, report)? {
+            return Ok(told);
+        }
+    }
+    told_answer(alloc, asked, is_ready)
+}
+
 /// The field that says which methods there are, in the reply to another one.
-fn allow_of(asked: Asked) -> &'static str {
+fn allow_of(asked: Asked) -> &'static str
+    ensures { result.now ≡ allow_of asked }
+{
     match asked {
         Asked::NoMethod => "Allow: GET, HEAD\r\n",
         _ => "",
@@ -142,20 +242,27 @@ fn allow_of(asked: Asked) -> &'static str {
 }
 
 /// The head of a reply with this status line and a body of this length.
-fn head_of(alloc: Global, line: &str, allow: &str, length: usize) -> Result<String, AllocError> {
-    format!(in alloc; "HTTP/1.1 {line}\r\n{FIELDS}{allow}Content-Length: {length}\r\n\r\n")
+fn head_of(alloc: Global, line: &str, allow: &str, length: usize) -> Result<String, AllocError>
+    ensures { IfOk result (λ text. string_bytes text ≡ head_text line.now allow.now length) }
+{
+    format!(in alloc;
+        "HTTP/1.1 {line}\r\nContent-Type: text/plain; version=0.0.4; charset=utf-8\r\n\
+         Connection: close\r\n{allow}Content-Length: {length}\r\n\r\n"
+    )
 }
 
 /// The whole reply, which has no body if the client wants none.
+#[tactic(auto, using(crate::proofs::Replies::answer_replied))]
 fn reply_of<S: Report>(
     alloc: Global,
     asked: Asked,
     is_bare: bool,
     report: &mut S,
-) -> Result<Vec<u8>, AllocError> {
+) -> Result<Vec<u8>, AllocError>
+    ensures { IfOk result (λ reply. IsReply asked is_bare (S.ready report.old) reply.items) }
+{
     let (line, body) = answer_of(alloc, asked, report)?;
-    let head = head_of(alloc, line, allow_of(asked), body.len())?;
-    let mut reply = Vec::from_slice(alloc, head.as_bytes())?;
+    let mut reply = head_of(alloc, line, allow_of(asked), body.len())?.into_bytes();
     if !is_bare {
         reply.extend_from_slice(body.as_slice())?;
     }

@@ -1,6 +1,9 @@
 //! What a worker counts, while others read it.
 
-use metrics_text::{Counts, PathCounts, Times, place_in, refusal_numbers, statuses};
+ghost use Rattle.std.specs.Prelude.{◌≡◌};
+ghost use Rattle.server.specs.Counting.{event_at, event_of, refusal_told};
+
+use metrics_text::{Counts, PathCounts, Times, place_in, place_of_refusal, place_of_status};
 use query_http::Note;
 use requests::{Path, Status};
 use std::alloc::{AllocError, Global};
@@ -64,8 +67,7 @@ impl PathTally {
 
     /// Counts a reply with this status, of a request that took so long.
     fn count(&self, status: Status, microseconds: u64) {
-        let number = status.number() as u64;
-        if let Some(place) = statuses().iter().position(|one| *one == number) {
+        if let Some(place) = place_of_status(status.number() as u64) {
             self.replies.count(place);
         }
         self.times.count(place_in(microseconds));
@@ -100,13 +102,47 @@ pub struct Tally {
     busy: AtomicU64,
 }
 
+/// An event that the store accepted.
+#[derive(Clone, Copy, Debug, PartialEq, Eq, Drop)]
+enum Event {
+    /// So many samples.
+    Batch(u64),
+    Deletion,
+    Cutting,
+    Nothing,
+}
+
 /// The number of the refusal that a connection got, if it got one: what came is refused, or the
 /// status of the reply says which refusal of a store it is.
-fn refusal_of(note: Note, status: Status) -> Option<u64> {
+fn refusal_of(note: Note, status: Status) -> Option<u64>
+    ensures { result ≡ refusal_told note.refusal status }
+{
     match status {
         Status::Conflict => Some(9),
         Status::ServiceUnavailable => Some(10),
         _ => note.refusal,
+    }
+}
+
+/// The event that a request of a path publishes, with so many samples.
+fn event_at(path: Option<Path>, samples: u64) -> Event
+    ensures { result ≡ event_at path samples }
+{
+    match path {
+        Some(Path::Write) => Event::Batch(samples),
+        Some(Path::Delete) => Event::Deletion,
+        Some(Path::Cut) => Event::Cutting,
+        Some(Path::Select) | None => Event::Nothing,
+    }
+}
+
+/// The event that was accepted on a connection of which this was noted.
+fn event_of(note: Note, status: Status) -> Event
+    ensures { result ≡ event_of note status }
+{
+    match status {
+        Status::Done => event_at(note.path, note.samples),
+        _ => Event::Nothing,
     }
 }
 
@@ -144,22 +180,22 @@ impl Tally {
         }
     }
 
-    /// Counts the event that was accepted on a connection.
-    fn count_event(&self, note: Note) {
-        match note.path {
-            Some(Path::Write) => {
+    /// Counts an event.
+    fn count_event(&self, event: Event) {
+        match event {
+            Event::Batch(samples) => {
                 add(&self.batches, 1);
-                add(&self.samples, note.samples);
+                add(&self.samples, samples);
             }
-            Some(Path::Delete) => add(&self.deletions, 1),
-            Some(Path::Cut) => add(&self.cuts, 1),
-            Some(Path::Select) | None => {}
+            Event::Deletion => add(&self.deletions, 1),
+            Event::Cutting => add(&self.cuts, 1),
+            Event::Nothing => {}
         }
     }
 
     /// Counts a refusal with this number.
     fn count_refusal(&self, number: u64) {
-        if let Some(place) = refusal_numbers().iter().position(|one| *one == number) {
+        if let Some(place) = place_of_refusal(number) {
             self.refusals.count(place);
         }
     }
@@ -175,9 +211,7 @@ impl Tally {
         if let Some(number) = refusal_of(note, status) {
             self.count_refusal(number);
         }
-        if status == Status::Done {
-            self.count_event(note);
-        }
+        self.count_event(event_of(note, status));
     }
 
     /// Says whether the worker serves a connection.

@@ -1,7 +1,7 @@
 use Rattle.std.proofs.Common.{◌≡◌, ◌++◌, map, drop}
+use Rattle.server.specs.Shifts.{served_in}
 use Rattle.commands.proofs.serve.counts_of.Given as goal
 
 abbrev pub invariant-loop-shift : goal.invariant-loop-shift
 invariant-loop-shift l =
-    l.counts.items ++ map (λ s. s.served) (drop l.shift-index l.shifts)
-    ≡ map (λ s. s.served) l.shifts
+    l.counts.items ++ map served_in (drop l.shift-index l.shifts) ≡ map served_in l.shifts

@@ -1,5 +1,6 @@
 use Rattle.std.proofs.Common.{◌<◌, arith, length, ◌∙◌}
-use Rattle.query_http.proofs.Written.{on_err, written_front, appends_kept, appends_none, written_more}
+use Rattle.query_http.proofs.Written.{on_err, written_front, appends_kept, appends_none}
+use Rattle.query_http.proofs.Written.{written_more}
 use Rattle.query_http.proofs.outlet.write_whole.Goals as goal
 
 pub returns-in_err-taken-clause-err : goal.returns-in_err-taken-clause-err
