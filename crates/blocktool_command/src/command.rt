@@ -37,9 +37,9 @@ pub(crate) enum Line<'a> {
     ToOpenMetrics(ReplyIn<'a>),
 }
 
-const CHOICES: [&str; 2] = ["refuse", "drop"];
+pub(crate) const CHOICES: [&str; 2] = ["refuse", "drop"];
 
-const RESTS: [&str; 3] = ["refuse", "drop", "round"];
+pub(crate) const RESTS: [&str; 3] = ["refuse", "drop", "round"];
 
 pub(crate) const FROM: &str = "The first time that is kept, in milliseconds [default: -2^62]";
 
@@ -103,7 +103,12 @@ pub(crate) fn time<'a>(alloc: Global, name: &'a str, help: &'a str) -> Arg<'a> {
         .help(help)
 }
 
-fn choice<'a>(alloc: Global, name: &'a str, choices: &'a [&'a str], help: &'a str) -> Arg<'a> {
+pub(crate) fn choice<'a>(
+    alloc: Global,
+    name: &'a str,
+    choices: &'a [&'a str],
+    help: &'a str,
+) -> Arg<'a> {
     Arg::new(alloc, name)
         .long(name)
         .value_name("WHAT")

@@ -76,6 +76,7 @@ fn said_in(alloc: Global, rows: &[Row]) -> Result<Said, AllocError>
             rows: runs_of(alloc, rows)?,
         },
         others: Vec::new(alloc),
+        rounded: Vec::new(alloc),
     })
 }
 

@@ -1,7 +1,8 @@
 //! The words of the commands that read and write text.
 
 use crate::command::{
-    ABOUT_REST, ABOUT_STALE, FROM, Line, TO, digits, digits_in, into, options_in, time,
+    ABOUT_REST, ABOUT_STALE, CHOICES, FROM, Line, RESTS, TO, choice, digits, digits_in, into,
+    options_in, time,
 };
 use crate::from_openmetrics::TextIn;
 use crate::target::Target;
@@ -13,8 +14,6 @@ use std::alloc::{AllocError, Global};
 
 const FORMATS: [&str; 2] = ["openmetrics", "prometheus"];
 
-const EITHER: [&str; 2] = ["refuse", "drop"];
-
 const ABOUT_FROM: &str = "Example: blocktool from-openmetrics --decimals 3 --into mine backfill.om
 
 FILE, or standard input, is OpenMetrics text, whose times are in seconds and which ends with
@@ -24,8 +23,8 @@ The first line that is wrong is refused with its code, a sentence, line and colu
 L3.
 Exemplars are left; no text has stale markers. The text and its rows are in memory at once.
 
-The outputs, the values and the last line are those of `blocktool from-prometheus`, but for
-`--rest round`.
+The outputs, the values and the last line are those of `blocktool from-prometheus`; values are read
+as the text writes them, with no double between.
 
 Exit status: 0 done; 1 refused, with the place on standard error; 2 a fault of the words; 3 cannot
 read or write; 4 no memory";
@@ -64,14 +63,6 @@ fn format<'a>(alloc: Global) -> Arg<'a> {
         .help("The format of the text [default: openmetrics]")
 }
 
-fn either<'a>(alloc: Global, name: &'a str, help: &'a str) -> Arg<'a> {
-    Arg::new(alloc, name)
-        .long(name)
-        .value_name("WHAT")
-        .value_parser(ValueParser::from(EITHER.as_slice()))
-        .help(help)
-}
-
 fn format_in(found: &ArgMatches<'_>) -> Format {
     if found.get_str("format") == Some("prometheus") {
         Format::Prometheus
@@ -85,8 +76,8 @@ pub(crate) fn from_openmetrics<'a>(alloc: Global) -> Result<Command<'a>, AllocEr
         .about("Makes blocks out of OpenMetrics text")
         .after_help(ABOUT_FROM)
         .arg(digits(alloc))?
-        .arg(either(alloc, "rest", ABOUT_REST))?
-        .arg(either(alloc, "stale", ABOUT_STALE))?
+        .arg(choice(alloc, "rest", RESTS.as_slice(), ABOUT_REST))?
+        .arg(choice(alloc, "stale", CHOICES.as_slice(), ABOUT_STALE))?
         .arg(time(alloc, "from", FROM))?
         .arg(time(alloc, "to", TO))?
         .arg(into(alloc))?

@@ -13,6 +13,7 @@ use Rattle.metrics_writer.specs.Series.{is_metric, is_name_label, metric_of, tex
 use Rattle.open_metrics.specs.Lines.{Sampled}
 use Rattle.open_metrics.specs.declared.comments.Format.TheVariants.{OpenMetrics}
 use Rattle.open_metrics.specs.declared.numbers.Value.TheVariants.{Parts}
+use Rattle.exposition.specs.declared.text.Fractions.{Fractions}
 use Rattle.exposition.specs.Faults.{are_utf8}
 use Rattle.exposition.specs.Reading.{Said, IsText}
 use Rattle.exposition.specs.Rows.{put_each}
@@ -51,12 +52,14 @@ said_of rows = record {
   content = put_each [] (points_of rows);
   count = count_of rows;
   others = [];
+  rounded = [];
 }
 
--- the text that is written for rows says their samples
+-- the text that is written for rows says their samples, whether fractions are rounded or not
 abbrev pub AreReadAgain : Type 0
-AreReadAgain = (places : ℕ) (rows : List Row) → places ≤ 9 → AllByRecursion IsWritable rows
-    → IsText OpenMetrics places (text_of places rows) (said_of rows)
+AreReadAgain = (places : ℕ) (fractions : Fractions) (rows : List Row) → places ≤ 9
+    → AllByRecursion IsWritable rows
+    → IsText OpenMetrics places fractions (text_of places rows) (said_of rows)
 
 -- the samples of the rows of a content are the content
 abbrev pub AreAllSaid : Type 0
