@@ -19,6 +19,7 @@ use Rattle.decimal_text.specs.Decimals.{is_digit, AreDigits, value_from, IsDecim
 use Rattle.decimal_text.specs.Reading.{digits_at}
 use Rattle.decimal_text.specs.Rounded.{IsRounded, IsNearest}
 use Rattle.decimal_text.specs.Tenths.{limit, capped, grown, with_next, cut_after, cut_of, padded}
+use Rattle.decimal_text.specs.Tenths.{unread}
 use Rattle.decimal_text.specs.Tenths.{is_up, nearest_of, is_exact, rounded_at, of_cut, keep_of}
 use Rattle.decimal_text.specs.Tenths.{nearest_at}
 use Rattle.decimal_text.proofs.Laws.{ten, ten_some, digit_small, digit_large, value_append, behind}
@@ -34,6 +35,7 @@ capped_large : (n : ℕ) → limit ≤ n → capped n ≡ limit
 capped_large n le = rw (le-ltb n limit le) refl
 
 capped_grown : (n e : ℕ) → grown (capped n) e ≡ capped (n * 10 + e)
+unfolding grown
 capped_grown n e =
     elim (cases_lt n limit) [
       | inl lt ↦ ap (λ (m : ℕ). grown m e) (capped_small n lt)
@@ -90,8 +92,8 @@ kept_one value count keep c cut lt s =
     ap (λ (k : ℕ). 10 ^ k) (let z : count - keep ≡ 0 = omega arith in z) in
     let after : 10 ^ (count + 1 - keep) ≡ 1 =
     ap (λ (k : ℕ). 10 ^ k) (let z : count + 1 - keep ≡ 0 = omega arith in z) in
-    let small = s.small in
-    let none : s.rest ≡ 0 = omega (arith, before, small) in
+    let small : s.rest < 1 = subst (λ (u : ℕ). s.rest < u) before s.small in
+    let none : s.rest ≡ 0 = omega (arith, small) in
     let whole : value ≡ s.kept =
     s.parts ∙ (ap (λ (u : ℕ). s.kept * u + s.rest) before ∙ omega (arith, none)) in
     let some : eqb cut.left 0 ≡ false = ne_eqb cut.left 0 (λ h. omega (arith, left)) in
@@ -153,7 +155,7 @@ all_stand value count keep (c ∷ cs) cut are s =
     (all_stand (value * 10 + (c - 48)) (count + 1) keep cs (with_next cut c) are.1
     (one_stands value count keep c cut are.0 s))
 
-none_stands : (keep : ℕ) → Stands 0 0 keep (record { tenths = 0; left = keep; more = false })
+none_stands : (keep : ℕ) → Stands 0 0 keep (unread keep)
 none_stands keep =
     let unit : 10 ^ (0 - keep) ≡ 1 =
     ap (λ (k : ℕ). 10 ^ k) (let z : 0 - keep ≡ 0 = omega arith in z) in
@@ -167,18 +169,20 @@ none_stands keep =
       more = refl;
     }
 
-both_stand : (whole fraction : List ℕ) (keep : ℕ) → AreDigits whole → AreDigits fraction
-    → Stands (value_from 0 (whole ++ fraction)) (length whole + length fraction) keep
-    (cut_of whole fraction keep)
-both_stand whole fraction keep a b =
-    let one = all_stand 0 0 keep whole (record { tenths = 0; left = keep; more = false }) a
-    (none_stands keep) in
-    let two = all_stand (value_from 0 whole) (0 + length whole) keep fraction _ b one in
+both_stand : (whole fraction : List ℕ) (places shift : ℕ) → AreDigits whole → AreDigits fraction
+    → Stands (value_from 0 (whole ++ fraction)) (length whole + length fraction)
+    (keep_of whole places shift) (cut_of whole fraction places shift)
+unfolding cut_of
+both_stand whole fraction places shift a b =
+    let keep = keep_of whole places shift in
+    let front = cut_after (unread keep) whole in
+    let all = cut_after front fraction in
+    let one = all_stand 0 0 keep whole (unread keep) a (none_stands keep) in
+    let two = all_stand (value_from 0 whole) (0 + length whole) keep fraction front b one in
     let same : 0 + length whole + length fraction ≡ length whole + length fraction = omega arith in
-    subst (λ (v : ℕ). Stands v (length whole + length fraction) keep
-    (cut_of whole fraction keep)) (sym (value_append 0 whole fraction))
-    (subst (λ (n : ℕ). Stands (value_from (value_from 0 whole) fraction) n keep
-    (cut_of whole fraction keep)) same two)
+    subst (λ (v : ℕ). Stands v (length whole + length fraction) keep all)
+    (sym (value_append 0 whole fraction))
+    (subst (λ (n : ℕ). Stands (value_from (value_from 0 whole) fraction) n keep all) same two)
 
 -- ---- tenths
 
@@ -218,8 +222,8 @@ kept_tenths value wide long places shift cut some le s =
     let power : suc places ≡ zeros + (long + shift) = omega arith in
     let unit : 10 ^ (wide + long - keep) ≡ 1 =
     ap (λ (k : ℕ). 10 ^ k) (let z : wide + long - keep ≡ 0 = omega arith in z) in
-    let small = s.small in
-    let none : s.rest ≡ 0 = omega (arith, unit, small) in
+    let small : s.rest < 1 = subst (λ (u : ℕ). s.rest < u) unit s.small in
+    let none : s.rest ≡ 0 = omega (arith, small) in
     let whole : value ≡ s.kept =
     s.parts ∙ (ap (λ (u : ℕ). s.kept * u + s.rest) unit ∙ omega (arith, none)) in
     let split : value * 10 ^ suc places ≡ value * 10 ^ zeros * 10 ^ (long + shift) =
@@ -286,20 +290,9 @@ text_tenths value wide long places shift cut some below s =
     let count = wide + long in
     let keep = wide + places + 1 - shift in
     elim (cases_lt keep count) [
-      | inr le ↦ kept_tenths value wide long places shift cut some le s
       | inl lt ↦
           let d = count - keep in
           elim (cases_lt (wide + places + 1) shift) [
-            | inr within ↦
-                let sum : long + shift ≡ d + suc places = omega arith in
-                let unit : 10 ^ (long + shift) ≡ 10 ^ d * 10 ^ suc places =
-                ap (λ (k : ℕ). 10 ^ k) sum ∙ pow-add 10 d (suc places) in
-                let same : s.kept * 10 ^ (long + shift) ≡ s.kept * 10 ^ d * 10 ^ suc places =
-                ap (λ (u : ℕ). s.kept * u) unit
-                ∙ sym (mul_assoc s.kept (10 ^ d) (10 ^ suc places)) in
-                let high : 10 ^ d * 10 ^ suc places ≤ 10 ^ (long + shift) = omega (arith, unit) in
-                cut_tenths value count keep places (10 ^ (long + shift)) cut s (omega arith) same
-                high
             | inl far ↦
                 let whole : d ≡ count = omega arith in
                 let value_below : value < 10 ^ d =
@@ -318,7 +311,18 @@ text_tenths value wide long places shift cut some below s =
                 ap (λ (k : ℕ). k * 10 ^ d * 10 ^ suc places) none ∙ omega arith in
                 cut_tenths value count keep places (10 ^ (long + shift)) cut s (omega arith)
                 (zero_left ∙ sym zero_right) high
+            | inr within ↦
+                let sum : long + shift ≡ d + suc places = omega arith in
+                let unit : 10 ^ (long + shift) ≡ 10 ^ d * 10 ^ suc places =
+                ap (λ (k : ℕ). 10 ^ k) sum ∙ pow-add 10 d (suc places) in
+                let same : s.kept * 10 ^ (long + shift) ≡ s.kept * 10 ^ d * 10 ^ suc places =
+                ap (λ (u : ℕ). s.kept * u) unit
+                ∙ sym (mul_assoc s.kept (10 ^ d) (10 ^ suc places)) in
+                let high : 10 ^ d * 10 ^ suc places ≤ 10 ^ (long + shift) = omega (arith, unit) in
+                cut_tenths value count keep places (10 ^ (long + shift)) cut s (omega arith) same
+                high
           ]
+      | inr le ↦ kept_tenths value wide long places shift cut some le s
     ]
 
 -- ---- the nearest
@@ -370,6 +374,7 @@ cut_up top u q g r some small many few e =
 
 nearest_is : (top u t : ℕ) (more : Bool) (r : ℕ) → 1 ≤ u → r < u → top * 10 ≡ t * u + r
     → more ≡ not (eqb r 0) → IsNearestWhole top u (nearest_of t more)
+unfolding nearest_of is_up
 nearest_is top u t more r some small e is =
     let q = t / 10 in
     let g = t % 10 in
@@ -420,6 +425,7 @@ same_part top u q r none e = omega (arith, none, e)
 
 exact_is : (top u t : ℕ) (more : Bool) (r : ℕ) → top * 10 ≡ t * u + r → more ≡ not (eqb r 0)
     → is_exact t more ≡ true → top ≡ nearest_of t more * u
+unfolding is_exact nearest_of is_up
 exact_is top u t more r e is h =
     let p = and_parts (eqb (t % 10) 0) (not more) h in
     let none = eqb-true (t % 10) 0 p.0 in
@@ -439,6 +445,7 @@ not_next top u q g r some small few e h =
 -- something stands behind the parts
 some_behind : (u t : ℕ) (more : Bool) (r : ℕ) → 1 ≤ u → more ≡ not (eqb r 0)
     → is_exact t more ≡ false → 0 < t % 10 * u + r
+unfolding is_exact
 some_behind u t more r some is h =
     elim (and_cases (eqb (t % 10) 0) (not more) h) [
       | inl digit ↦
@@ -452,6 +459,7 @@ some_behind u t more r some is h =
 
 inexact_is : (top u t : ℕ) (more : Bool) (r : ℕ) → 1 ≤ u → r < u → top * 10 ≡ t * u + r
     → more ≡ not (eqb r 0) → is_exact t more ≡ false → top ≡ nearest_of t more * u → ⊥
+unfolding nearest_of
 inexact_is top u t more r some small e is h same =
     let q = t / 10 in
     let g = t % 10 in
@@ -483,10 +491,13 @@ tenths_round top u tenths more some x lt =
     (x.parts ∙ ap (λ (t : ℕ). t * u + x.rest) (sym same)) x.more_is
 
 limit_refused : (more : Bool) (n : Nearest) → rounded_at limit more ≡ Ok n → ⊥
-limit_refused more n h = absurd cc
+unfolding rounded_at nearest_of is_up
+limit_refused more n h =
+    absurd (let g : ◌≡◌ {A = Result Nearest DecimalError} (Err Large) (Ok n) = h in cc)
 
 tenths_take : (top u tenths : ℕ) (more : Bool) (n : Nearest) → 1 ≤ u → Tenths top u tenths more
     → rounded_at tenths more ≡ Ok n → IsRounded top u n
+unfolding rounded_at
 tenths_take top u tenths more n some x h =
     elim (cases_lt x.count limit) [
       | inl lt ↦
@@ -536,6 +547,7 @@ too_large top u r n count le e some lt x =
 
 tenths_again : (top u tenths : ℕ) (more : Bool) (n : Nearest) → 1 ≤ u → Tenths top u tenths more
     → n.size < 2 ^ 63 → IsRounded top u n → rounded_at tenths more ≡ Ok n
+unfolding rounded_at
 tenths_again top u tenths more n some x small y =
     elim (cases_lt x.count limit) [
       | inl lt ↦
@@ -557,22 +569,19 @@ both_digits : (xs ys : List ℕ) → AreDigits xs → AreDigits ys → AreDigits
 both_digits [] ys a b = b
 both_digits (x ∷ xs) ys a b = (a.0, both_digits xs ys a.1 b)
 
-abbrev cut_in : List ℕ → List ℕ → ℕ → ℕ → Cut
-cut_in whole fraction places shift = cut_of whole fraction (keep_of whole places shift)
-
 digits_tenths : (whole fraction : List ℕ) (places shift : ℕ) → AreDigits whole
     → AreDigits fraction → 0 < length whole + length fraction
     → Tenths (value_from 0 (whole ++ fraction) * 10 ^ places) (10 ^ (length fraction + shift))
-    (padded (cut_in whole fraction places shift).left (cut_in whole fraction places shift).tenths)
-    (cut_in whole fraction places shift).more
+    (padded (cut_of whole fraction places shift).left (cut_of whole fraction places shift).tenths)
+    (cut_of whole fraction places shift).more
 digits_tenths whole fraction places shift a b some =
     let all = whole ++ fraction in
     let small = (behind 0 all (both_digits whole fraction a b)).small in
     let below : value_from 0 all < 10 ^ (length whole + length fraction) =
     subst (λ (k : ℕ). value_from 0 all < 10 ^ k) (length-append whole fraction) small in
     text_tenths (value_from 0 all) (length whole) (length fraction) places shift
-    (cut_in whole fraction places shift) some below
-    (both_stand whole fraction (keep_of whole places shift) a b)
+    (cut_of whole fraction places shift) some below
+    (both_stand whole fraction places shift a b)
 
 nearest_takes : (text : List ℕ) (places shift : ℕ) (n : Nearest)
     → nearest_at text places shift ≡ Ok n → IsNearest text places shift n

@@ -11,7 +11,7 @@ pub record IsRounded (top unit : ℕ) (n : Nearest) : Type 0 where
   pub exact : n.exact ≡ true → top ≡ n.size * unit
   pub inexact : n.exact ≡ false → top ≡ n.size * unit → ⊥
 
--- the same of the number that the text writes, times 10 ^ places, and by 10 ^ shift
+-- the same of the number that the text writes, times 10 ^ places and divided by 10 ^ shift
 pub record IsNearest (text : List ℕ) (places shift : ℕ) (n : Nearest) : Type 0 where
   pub whole : List ℕ
   pub fraction : List ℕ

@@ -18,7 +18,7 @@ abbrev pub capped : ℕ → ℕ
 capped n = if nat_lt n limit then n else limit
 
 -- a number with one more digit
-abbrev pub grown : ℕ → ℕ → ℕ
+unfoldable pub grown : ℕ → ℕ → ℕ
 grown n digit = capped (n * 10 + digit)
 
 -- a digit more: it is kept while some are left, and else it is told whether it is other than 0
@@ -31,10 +31,17 @@ unfoldable pub cut_after : Cut → List ℕ → Cut
 cut_after cut [] = cut
 cut_after cut (c ∷ cs) = cut_after (with_next cut c) cs
 
--- the digits in front and those after the point, of which so many are kept
-abbrev pub cut_of : List ℕ → List ℕ → ℕ → Cut
-cut_of whole fraction keep =
-    cut_after (cut_after (record { tenths = 0; left = keep; more = false }) whole) fraction
+-- how many digits stand before the point and up to the tenths of parts
+abbrev pub keep_of : List ℕ → ℕ → ℕ → ℕ
+keep_of whole places shift = length whole + places + 1 - shift
+
+abbrev pub unread : ℕ → Cut
+unread keep = record { tenths = 0; left = keep; more = false }
+
+-- the digits in front and those after the point
+unfoldable pub cut_of : List ℕ → List ℕ → ℕ → ℕ → Cut
+cut_of whole fraction places shift =
+    cut_after (cut_after (unread (keep_of whole places shift)) whole) fraction
 
 -- as many zeros more
 unfoldable pub padded : ℕ → ℕ → ℕ
@@ -42,18 +49,18 @@ padded zero n = n
 padded (suc zeros) n = padded zeros (grown n 0)
 
 -- whether tenths, of which a rest stands behind if there is more, are nearer to the next part
-abbrev pub is_up : ℕ → Bool → Bool
+unfoldable pub is_up : ℕ → Bool → Bool
 is_up tenths more =
     nat_lt 5 (tenths % 10)
     || (tenths % 10 == 5 && (more || tenths / 10 % 2 == 1))
 
-abbrev pub nearest_of : ℕ → Bool → ℕ
+unfoldable pub nearest_of : ℕ → Bool → ℕ
 nearest_of tenths more = if is_up tenths more then tenths / 10 + 1 else tenths / 10
 
-abbrev pub is_exact : ℕ → Bool → Bool
+unfoldable pub is_exact : ℕ → Bool → Bool
 is_exact tenths more = tenths % 10 == 0 && not more
 
-abbrev pub rounded_at : ℕ → Bool → Result Nearest DecimalError
+unfoldable pub rounded_at : ℕ → Bool → Result Nearest DecimalError
 rounded_at tenths more =
     if nat_lt (nearest_of tenths more) (2 ^ 63)
     then Ok (record { size = nearest_of tenths more; exact = is_exact tenths more })
@@ -62,10 +69,5 @@ rounded_at tenths more =
 abbrev pub of_cut : Cut → Result Nearest DecimalError
 of_cut cut = rounded_at (padded cut.left cut.tenths) cut.more
 
--- how many digits stand before the point and up to the tenths of parts
-abbrev pub keep_of : List ℕ → ℕ → ℕ → ℕ
-keep_of whole places shift = length whole + places + 1 - shift
-
 unfoldable pub nearest_at : List ℕ → ℕ → ℕ → Result Nearest DecimalError
-nearest_at text places shift =
-    digits_at text >>= λ d. of_cut (cut_of d.0 d.1 (keep_of d.0 places shift))
+nearest_at text places shift = digits_at text >>= λ d. of_cut (cut_of d.0 d.1 places shift)

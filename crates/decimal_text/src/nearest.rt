@@ -5,7 +5,7 @@ ghost use Rattle.wire.specs.Outcome.{Answers};
 ghost use Rattle.decimal_text.specs.Rounded.{IsNearest};
 ghost use Rattle.decimal_text.specs.Tenths.{cut_after, cut_of, grown, is_exact, is_up, keep_of};
 ghost use Rattle.decimal_text.specs.Tenths.{limit, nearest_at, nearest_of, of_cut, padded};
-ghost use Rattle.decimal_text.specs.Tenths.{rounded_at, with_next};
+ghost use Rattle.decimal_text.specs.Tenths.{rounded_at, unread, with_next};
 ghost use Rattle.decimal_text.specs.declared.nearest.Nearest.{Nearest};
 
 use crate::error::DecimalError;
@@ -31,8 +31,8 @@ struct Cut {
     more: bool,
 }
 
-/// The nearest whole number to the number that a text writes, in parts of which 10^places make one,
-/// by 10^shift; of two that are as near it is the even one.
+/// The whole number nearest to the number that a text writes, times 10^places and divided by
+/// 10^shift; of two that are as near it is the even one.
 ///
 /// The text is that of [`decimal`](crate::decimal), and is refused for its form, or because the
 /// nearest is 2^63 or more. It takes time in proportion to the text's length and the places, and no
@@ -56,9 +56,9 @@ fn read_nearest(text: &[u8], places: u32, shift: u32) -> Result<Nearest, Decimal
     ensures bound { IfOk result (λ n. n.size < 2 ^ 63) }
 {
     let (whole, fraction) = digits_of(text)?;
-    let cut = cut_of(whole, fraction, keep_of(whole, places, shift));
-    let size = of_cut(cut)?;
-    Ok(size)
+    let cut = cut_of(whole, fraction, places, shift);
+    let n = of_cut(cut)?;
+    Ok(n)
 }
 
 // How many digits are kept: those of the parts, and one behind them.
@@ -68,15 +68,23 @@ fn keep_of(whole: &[u8], places: u32, shift: u32) -> u64
     (whole.len() as u64 + u64::from(places) + 1).saturating_sub(u64::from(shift))
 }
 
-fn cut_of(whole: &[u8], fraction: &[u8], keep: u64) -> Cut
-    ensures exact { result ≡ cut_of whole.now fraction.now keep }
+fn unread(keep: u64) -> Cut
+    ensures exact { result ≡ unread keep }
     ensures bound { result.tenths ≤ limit }
 {
-    let none = Cut {
+    Cut {
         tenths: 0,
         left: keep,
         more: false,
-    };
+    }
+}
+
+#[tactic(auto, unfolding(crate::specs::Tenths::cut_of))]
+fn cut_of(whole: &[u8], fraction: &[u8], places: u32, shift: u32) -> Cut
+    ensures exact { result ≡ cut_of whole.now fraction.now places shift }
+    ensures bound { result.tenths ≤ limit }
+{
+    let none = unread(keep_of(whole, places, shift));
     cut_after(cut_after(none, whole), fraction)
 }
 
@@ -113,6 +121,7 @@ fn with_next(cut: Cut, c: u8) -> Cut
 }
 
 // A number with one digit more, up to the limit.
+#[tactic(auto, unfolding(crate::specs::Tenths::grown))]
 fn grown(n: u128, digit: u8) -> u128
     requires { n ≤ limit }
     ensures exact { result ≡ grown n digit }
@@ -144,10 +153,13 @@ fn of_cut(cut: Cut) -> Result<Nearest, DecimalError>
     ensures exact { Answers (λ n. n) result (of_cut cut) }
     ensures bound { IfOk result (λ n. n.size < 2 ^ 63) }
 {
-    rounded(padded(cut.tenths, cut.left), cut.more)
+    let tenths = padded(cut.tenths, cut.left);
+    let n = rounded(tenths, cut.more)?;
+    Ok(n)
 }
 
 // Tenths as parts, where a rest stands behind them if there is more.
+#[tactic(auto, unfolding(crate::specs::Tenths::rounded_at))]
 fn rounded(tenths: u128, more: bool) -> Result<Nearest, DecimalError>
     requires { tenths ≤ limit }
     ensures exact { Answers (λ n. n) result (rounded_at tenths more) }
@@ -163,6 +175,7 @@ fn rounded(tenths: u128, more: bool) -> Result<Nearest, DecimalError>
     })
 }
 
+#[tactic(auto, unfolding(crate::specs::Tenths::nearest_of))]
 fn nearest_of(tenths: u128, more: bool) -> u128
     requires { tenths ≤ limit }
     ensures { result ≡ nearest_of tenths more }
@@ -174,6 +187,7 @@ fn nearest_of(tenths: u128, more: bool) -> u128
     }
 }
 
+#[tactic(auto, unfolding(crate::specs::Tenths::is_up))]
 fn is_up(tenths: u128, more: bool) -> bool
     ensures { result ≡ is_up tenths more }
 {
@@ -181,6 +195,7 @@ fn is_up(tenths: u128, more: bool) -> bool
     (last > 5) | ((last == 5) & (more | (tenths / 10 % 2 == 1)))
 }
 
+#[tactic(auto, unfolding(crate::specs::Tenths::is_exact))]
 fn is_exact(tenths: u128, more: bool) -> bool
     ensures { result ≡ is_exact tenths more }
 {
