@@ -12,6 +12,7 @@ use crate::fault::Fault;
 use crate::listed::Listed;
 use crate::said::{Said, write_said};
 use crate::target::Target;
+use crate::teller::Teller;
 use crate::texts::{name_of, read_text};
 use block_outputs::Stretch;
 use exposition::{Exposition, Fractions, Left, ReadError};
@@ -167,19 +168,26 @@ fn said_by(
 }
 
 /// Makes blocks out of a text, in which the later line wins.
-pub(crate) fn from_openmetrics<R: Files + AllocGlobal + Clone + Drop, I: Read, W: Write>(
+pub(crate) fn from_openmetrics<
+    R: Files + AllocGlobal + Clone + Drop,
+    I: Read,
+    W: Write,
+    E: Write,
+>(
     alloc: Global,
     rt: &R,
     options: &Options<'_>,
     text_in: TextIn<'_>,
     input: &mut I,
     out: &mut W,
+    teller: &mut Teller<'_, E>,
 ) -> Result<(), Fault> {
+    teller.is_at("reading the text")?;
     let text = read_text(alloc, rt, text_in.file, input)?;
     let said = said_by(alloc, options, text_in, text.as_slice())?;
     let target = Target {
         into: options.into,
         digits: options.policy.digits.number(),
     };
-    write_said(alloc, rt, said, options.times, &target, out)
+    write_said(alloc, rt, said, options.times, &target, out, teller)
 }

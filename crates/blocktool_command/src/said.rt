@@ -9,6 +9,7 @@ use crate::input::Input;
 use crate::listed::Listed;
 use crate::plan::{make_outputs, plan_for};
 use crate::target::{Target, make_folder, send};
+use crate::teller::Teller;
 use block_folder::HostDisk;
 use block_outputs::{Counts, Stretch};
 use exposition::Left;
@@ -101,16 +102,18 @@ fn inputs_of(alloc: Global, said: Said) -> Result<Vec<Said>, AllocError>
 }
 
 /// Makes blocks of what was said in a range of times.
-pub(crate) fn write_said<R: Files + AllocGlobal + Clone + Drop, W: Write>(
+pub(crate) fn write_said<R: Files + AllocGlobal + Clone + Drop, W: Write, E: Write>(
     alloc: Global,
     rt: &R,
     said: Said,
     times: Stretch,
     target: &Target<'_>,
     out: &mut W,
+    teller: &mut Teller<'_, E>,
 ) -> Result<(), Fault> {
     let inputs = inputs_of(alloc, said)?;
     let plan = plan_for(alloc, inputs.as_slice(), times)?;
+    teller.is_at("writing the outputs")?;
     make_folder(alloc, rt, target.into)?;
     let mut disk = HostDisk::new(rt);
     let summary = make_outputs(alloc, inputs.as_slice(), &plan, &mut disk, target, out)?;

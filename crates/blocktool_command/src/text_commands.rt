@@ -1,9 +1,6 @@
 //! The words of the commands that read and write text.
 
-use crate::command::{
-    ABOUT_REST, ABOUT_STALE, CHOICES, FROM, Line, RESTS, TO, choice, digits, digits_in, into,
-    options_in, time,
-};
+use crate::command::{Line, digits, digits_in, into, options_in, with_options};
 use crate::from_openmetrics::TextIn;
 use crate::target::Target;
 use crate::to_openmetrics::ReplyIn;
@@ -72,15 +69,10 @@ fn format_in(found: &ArgMatches<'_>) -> Format {
 }
 
 pub(crate) fn from_openmetrics<'a>(alloc: Global) -> Result<Command<'a>, AllocError> {
-    Command::new(alloc, "from-openmetrics")
+    let command = Command::new(alloc, "from-openmetrics")
         .about("Makes blocks out of OpenMetrics text")
-        .after_help(ABOUT_FROM)
-        .arg(digits(alloc))?
-        .arg(choice(alloc, "rest", RESTS.as_slice(), ABOUT_REST))?
-        .arg(choice(alloc, "stale", CHOICES.as_slice(), ABOUT_STALE))?
-        .arg(time(alloc, "from", FROM))?
-        .arg(time(alloc, "to", TO))?
-        .arg(into(alloc))?
+        .after_help(ABOUT_FROM);
+    with_options(alloc, command)?
         .arg(format(alloc))?
         .arg(file(alloc, "A file with text [default: standard input]"))
 }

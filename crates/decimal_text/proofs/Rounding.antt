@@ -19,7 +19,7 @@ use Rattle.decimal_text.specs.Decimals.{is_digit, AreDigits, value_from, IsDecim
 use Rattle.decimal_text.specs.Reading.{digits_at}
 use Rattle.decimal_text.specs.Rounded.{IsRounded, IsNearest}
 use Rattle.decimal_text.specs.Tenths.{limit, capped, grown, with_next, cut_after, cut_of, padded}
-use Rattle.decimal_text.specs.Tenths.{unread}
+use Rattle.decimal_text.specs.Tenths.{as_parts, unread}
 use Rattle.decimal_text.specs.Tenths.{is_up, nearest_of, is_exact, rounded_at, of_cut, keep_of}
 use Rattle.decimal_text.specs.Tenths.{nearest_at}
 use Rattle.decimal_text.proofs.Laws.{ten, ten_some, digit_small, digit_large, value_append, behind}
@@ -473,7 +473,7 @@ inexact_is top u t more r some small e is h same =
 
 rounds : (top u t : ℕ) (more : Bool) (r : ℕ) → 1 ≤ u → r < u → top * 10 ≡ t * u + r
     → more ≡ not (eqb r 0)
-    → IsRounded top u (record { size = nearest_of t more; exact = is_exact t more })
+    → IsRounded top u (as_parts t more)
 rounds top u t more r some small e is = record {
   nearest = nearest_is top u t more r some small e is;
   exact = λ h. exact_is top u t more r e is h;
@@ -484,7 +484,7 @@ rounds top u t more r some small e is = record {
 
 tenths_round : (top u tenths : ℕ) (more : Bool) → 1 ≤ u → (x : Tenths top u tenths more)
     → x.count < limit
-    → IsRounded top u (record { size = nearest_of tenths more; exact = is_exact tenths more })
+    → IsRounded top u (as_parts tenths more)
 tenths_round top u tenths more some x lt =
     let same : tenths ≡ x.count = x.size ∙ capped_small x.count lt in
     rounds top u tenths more x.rest some x.small
@@ -501,12 +501,8 @@ unfolding rounded_at
 tenths_take top u tenths more n some x h =
     elim (cases_lt x.count limit) [
       | inl lt ↦
-          let made : Nearest = record {
-            size = nearest_of tenths more;
-            exact = is_exact tenths more;
-          } in
           let p = passed (ltb (nearest_of tenths more) (2 ^ 63)) Large _ n h in
-          subst (IsRounded top u) (same_value made n p.1) (tenths_round top u tenths more some x lt)
+          subst (IsRounded top u) (same_value (as_parts tenths more) n p.1) (tenths_round top u tenths more some x lt)
       | inr le ↦
           absurd (limit_refused more n
           (subst (λ (t : ℕ). rounded_at t more ≡ Ok n) (x.size ∙ capped_large x.count le) h))
@@ -551,10 +547,7 @@ unfolding rounded_at
 tenths_again top u tenths more n some x small y =
     elim (cases_lt x.count limit) [
       | inl lt ↦
-          let made : Nearest = record {
-            size = nearest_of tenths more;
-            exact = is_exact tenths more;
-          } in
+          let made = as_parts tenths more in
           let own : IsRounded top u made = tenths_round top u tenths more some x lt in
           let same : nearest_of tenths more ≡ n.size =
           nearest_only top u (nearest_of tenths more) n.size some own.nearest y.nearest in

@@ -60,11 +60,12 @@ nearest_of tenths more = if is_up tenths more then tenths / 10 + 1 else tenths /
 unfoldable pub is_exact : ℕ → Bool → Bool
 is_exact tenths more = tenths % 10 == 0 && not more
 
+abbrev pub as_parts : ℕ → Bool → Nearest
+as_parts tenths more = record { size = nearest_of tenths more; exact = is_exact tenths more }
+
 unfoldable pub rounded_at : ℕ → Bool → Result Nearest DecimalError
 rounded_at tenths more =
-    if nat_lt (nearest_of tenths more) (2 ^ 63)
-    then Ok (record { size = nearest_of tenths more; exact = is_exact tenths more })
-    else Err Large
+    if nat_lt (nearest_of tenths more) (2 ^ 63) then Ok (as_parts tenths more) else Err Large
 
 abbrev pub of_cut : Cut → Result Nearest DecimalError
 of_cut cut = rounded_at (padded cut.left cut.tenths) cut.more
