@@ -11,7 +11,7 @@ use Rattle.decimal_text.specs.declared.error.DecimalError.TheVariants.{Finer}
 use Rattle.decimal_text.specs.Decimals.{is_digit}
 use Rattle.decimal_text.specs.Reading.{digits_in_front, with_digit, whole_at, part_at, parts_at}
 use Rattle.decimal_text.specs.Tenths.{cut_after, grown, padded, with_next}
-use Rattle.decimal_text.specs.declared.nearest.Cut.{Cut}
+use Rattle.decimal_text.specs.declared.rounding.Cut.{Cut}
 
 next : (s : List ℕ) (i : ℕ) → i < length s → drop i s ≡ get_or s i 0 ∷ drop (i + 1) s
 next s i lt = rw (add-one, drop-cons s i 0) refl

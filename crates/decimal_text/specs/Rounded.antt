@@ -1,7 +1,7 @@
 -- Decimal texts, rounded to whole numbers of parts.
 use Rattle.std.specs.Prelude.{◌≡◌, ℕ, ◌+◌, ◌*◌, ◌^◌, Bool, true, false, List, ◌++◌, length}
 use Rattle.doubles.specs.Rounded.{IsNearestWhole}
-use Rattle.decimal_text.specs.declared.nearest.Nearest.{Nearest}
+use Rattle.decimal_text.specs.declared.rounding.Nearest.{Nearest}
 use Rattle.decimal_text.specs.Decimals.{AreDigitsOf, value_from}
 
 -- of all whole numbers n is the nearest to top / unit, of two that are as near the even one; and it

@@ -6,8 +6,8 @@ use Rattle.std.specs.Prelude.{Result, Ok, Err}
 use Rattle.wire.specs.Outcome.{◌>>=◌}
 use Rattle.decimal_text.specs.declared.error.DecimalError.{DecimalError}
 use Rattle.decimal_text.specs.declared.error.DecimalError.TheVariants.{Large}
-use Rattle.decimal_text.specs.declared.nearest.Cut.{Cut}
-use Rattle.decimal_text.specs.declared.nearest.Nearest.{Nearest}
+use Rattle.decimal_text.specs.declared.rounding.Cut.{Cut}
+use Rattle.decimal_text.specs.declared.rounding.Nearest.{Nearest}
 use Rattle.decimal_text.specs.Reading.{digits_at}
 
 -- the tenths of 2^63 parts: larger numbers are all alike

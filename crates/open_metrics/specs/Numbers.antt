@@ -5,7 +5,7 @@ use Rattle.std.specs.Prelude.{option_and_then, option_map, Result, Ok, Err, ifâ—
 use Rattle.std.specs.Str.{str_eq_ignore_ascii_case}
 use Rattle.decimal_text.specs.declared.error.DecimalError.{DecimalError}
 use Rattle.decimal_text.specs.declared.error.DecimalError.TheVariants.{Form, Finer, Large}
-use Rattle.decimal_text.specs.declared.nearest.Nearest.{Nearest}
+use Rattle.decimal_text.specs.declared.rounding.Nearest.{Nearest}
 use Rattle.decimal_text.specs.Reading.{decimal_at}
 use Rattle.decimal_text.specs.Tenths.{nearest_at}
 use Rattle.open_metrics.specs.declared.numbers.Value.{Value}

@@ -8,7 +8,7 @@ ghost use Rattle.open_metrics.specs.Numbers.{of_nearest, scaled_at, signed_at, s
 ghost use Rattle.open_metrics.specs.Numbers.{unsigned_of, value_of, with_sign};
 
 use crate::tokens::{Class, cut_word, front_len};
-use decimal_text::{DecimalError, Nearest, decimal, nearest};
+use decimal_text::{DecimalError, Nearest, decimal, rounded};
 
 /// What the text of a number says.
 #[derive(Clone, Copy, Debug, PartialEq, Eq, Drop)]
@@ -81,10 +81,10 @@ fn scaled(mantissa: &[u8], places: u32, down: bool, size: u32) -> Result<Nearest
     ensures bound { IfOk result (λ n. n.size < 2 ^ 63) }
 {
     if down {
-        let n = nearest(mantissa, places, size)?;
+        let n = rounded(mantissa, places, size)?;
         return Ok(n);
     }
-    let n = nearest(mantissa, places + size, 0)?;
+    let n = rounded(mantissa, places + size, 0)?;
     Ok(n)
 }
 

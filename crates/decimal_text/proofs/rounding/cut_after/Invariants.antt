@@ -1,6 +1,6 @@
 use Rattle.std.proofs.Common.{◌≡◌, ◌≤◌, drop}
 use Rattle.decimal_text.specs.Tenths.{cut_after, limit}
-use Rattle.decimal_text.proofs.nearest.cut_after.Given as goal
+use Rattle.decimal_text.proofs.rounding.cut_after.Given as goal
 
 abbrev pub invariant-loop-c : goal.invariant-loop-c
 invariant-loop-c l = record {

@@ -1,6 +1,6 @@
 use Rattle.std.proofs.Common.{◌≡◌, ◌≤◌, ◌-◌}
 use Rattle.decimal_text.specs.Tenths.{limit, padded}
-use Rattle.decimal_text.proofs.nearest.padded.Given as goal
+use Rattle.decimal_text.proofs.rounding.padded.Given as goal
 
 abbrev pub invariant-loop : goal.invariant-loop
 invariant-loop l = record {

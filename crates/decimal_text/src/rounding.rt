@@ -6,7 +6,7 @@ ghost use Rattle.decimal_text.specs.Rounded.{IsNearest};
 ghost use Rattle.decimal_text.specs.Tenths.{cut_after, cut_of, grown, is_exact, is_up, keep_of};
 ghost use Rattle.decimal_text.specs.Tenths.{limit, nearest_at, nearest_of, of_cut, padded};
 ghost use Rattle.decimal_text.specs.Tenths.{rounded_at, unread, with_next};
-ghost use Rattle.decimal_text.specs.declared.nearest.Nearest.{Nearest};
+ghost use Rattle.decimal_text.specs.declared.rounding.Nearest.{Nearest};
 
 use crate::error::DecimalError;
 use crate::number::digits_of;
@@ -37,7 +37,7 @@ struct Cut {
 /// The text is that of [`decimal`](crate::decimal), and is refused for its form, or because the
 /// nearest is 2^63 or more. It takes time in proportion to the text's length and the places, and no
 /// memory.
-pub fn nearest(text: &[u8], places: u32, shift: u32) -> Result<Nearest, DecimalError>
+pub fn rounded(text: &[u8], places: u32, shift: u32) -> Result<Nearest, DecimalError>
     // The first check that fails is answered; if none does, what reading gives.
     ensures exact { Answers (λ n. n) result (nearest_at text.now places shift) }
     // What is given is the nearest to the number that the text writes.
@@ -47,11 +47,11 @@ pub fn nearest(text: &[u8], places: u32, shift: u32) -> Result<Nearest, DecimalE
     ensures only { (n : Nearest) → n.size < 2 ^ 63 → IsNearest text.now places shift n
         → result ≡ Ok n }
 {
-    read_nearest(text, places, shift)
+    read_rounded(text, places, shift)
 }
 
 #[tactic(auto, unfolding(crate::specs::Tenths::nearest_at))]
-fn read_nearest(text: &[u8], places: u32, shift: u32) -> Result<Nearest, DecimalError>
+fn read_rounded(text: &[u8], places: u32, shift: u32) -> Result<Nearest, DecimalError>
     ensures exact { Answers (λ n. n) result (nearest_at text.now places shift) }
     ensures bound { IfOk result (λ n. n.size < 2 ^ 63) }
 {
@@ -154,13 +154,13 @@ fn of_cut(cut: Cut) -> Result<Nearest, DecimalError>
     ensures bound { IfOk result (λ n. n.size < 2 ^ 63) }
 {
     let tenths = padded(cut.tenths, cut.left);
-    let n = rounded(tenths, cut.more)?;
+    let n = to_parts(tenths, cut.more)?;
     Ok(n)
 }
 
 // Tenths as parts, where a rest stands behind them if there is more.
 #[tactic(auto, unfolding(crate::specs::Tenths::rounded_at))]
-fn rounded(tenths: u128, more: bool) -> Result<Nearest, DecimalError>
+fn to_parts(tenths: u128, more: bool) -> Result<Nearest, DecimalError>
     requires { tenths ≤ limit }
     ensures exact { Answers (λ n. n) result (rounded_at tenths more) }
     ensures bound { IfOk result (λ n. n.size < 2 ^ 63) }

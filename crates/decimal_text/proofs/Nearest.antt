@@ -13,8 +13,8 @@ use Rattle.doubles.specs.Rounded.{IsNearestWhole}
 use Rattle.doubles.proofs.Wholes.{nearest_only}
 use Rattle.decimal_text.specs.declared.error.DecimalError.{DecimalError}
 use Rattle.decimal_text.specs.declared.error.DecimalError.TheVariants.{Large}
-use Rattle.decimal_text.specs.declared.nearest.Cut.{Cut}
-use Rattle.decimal_text.specs.declared.nearest.Nearest.{Nearest}
+use Rattle.decimal_text.specs.declared.rounding.Cut.{Cut}
+use Rattle.decimal_text.specs.declared.rounding.Nearest.{Nearest}
 use Rattle.decimal_text.specs.Decimals.{is_digit, AreDigits, value_from, IsDecimal}
 use Rattle.decimal_text.specs.Reading.{digits_at}
 use Rattle.decimal_text.specs.Rounded.{IsRounded, IsNearest}

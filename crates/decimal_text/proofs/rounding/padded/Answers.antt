@@ -1,6 +1,6 @@
 use Rattle.std.proofs.Common.{◌-◌, sym, ◌∙◌, arith}
 use Rattle.decimal_text.proofs.Loops.{zeros_go, zeros_end}
-use Rattle.decimal_text.proofs.nearest.padded.Goals as goal
+use Rattle.decimal_text.proofs.rounding.padded.Goals as goal
 
 pub loop-preserved : goal.loop-preserved
 loop-preserved c =

@@ -1,6 +1,6 @@
 use Rattle.std.proofs.Common.{sym, ◌∙◌, arith}
 use Rattle.decimal_text.proofs.Loops.{cut_goes, cut_ends}
-use Rattle.decimal_text.proofs.nearest.cut_after.Goals as goal
+use Rattle.decimal_text.proofs.rounding.cut_after.Goals as goal
 
 pub loop-c-preserved : goal.loop-c-preserved
 loop-c-preserved c =
