@@ -4,7 +4,7 @@ use Rattle.std.proofs.Common.{false, not, ◌&&◌, ◌||◌, eqb, ltb, List, []
 use Rattle.std.proofs.Common.{Ok, Err, refl, sym, ap, subst, ◌∙◌, inl, inr, arith, length-append}
 use Rattle.std.specs.Prelude.{IfOk}
 use Rattle.std.proofs.lemmas.Bool.{lt-ltb, le-ltb, eqb-true, eqb-false, eq-eqb, ne_eqb, and_parts}
-use Rattle.std.proofs.lemmas.Bool.{and_cases, cases_Bool, cases_eq, cases_lt}
+use Rattle.std.proofs.lemmas.Bool.{and_cases, cases_Bool, cases_eq, cases_lt, ltb-true}
 use Rattle.std.proofs.Math.Nat.{pow-le-pow_right, mul_assoc, add-mul}
 use Rattle.std.proofs.lemmas.Nat.{mul-le, mod_below, div-add-mod', pow-add}
 use Rattle.wire.specs.Outcome.{Answers}
@@ -592,6 +592,18 @@ nearest_takes text places shift n h =
           tenths_take _ (10 ^ (length d.0.1 + shift)) _ _ n (ten_some (length d.0.1 + shift)) tenths
           d.2;
     }
+
+-- what is read is below 2^63
+pub nearest_small : (text : List ℕ) (places shift : ℕ) (n : Nearest)
+    → nearest_at text places shift ≡ Ok n → n.size < 2 ^ 63
+unfolding nearest_at rounded_at
+nearest_small text places shift n h =
+    let d = bind_ok (digits_at text) _ n h in
+    let cut = cut_of d.0.0 d.0.1 places shift in
+    let tenths = padded cut.left cut.tenths in
+    let p = passed (ltb (nearest_of tenths cut.more) (2 ^ 63)) Large _ n d.2 in
+    subst (λ (x : Nearest). x.size < 2 ^ 63) (same_value (as_parts tenths cut.more) n p.1)
+    (ltb-true (nearest_of tenths cut.more) (2 ^ 63) p.0)
 
 nearest_again : (text : List ℕ) (places shift : ℕ) (n : Nearest) → n.size < 2 ^ 63
     → IsNearest text places shift n → nearest_at text places shift ≡ Ok n

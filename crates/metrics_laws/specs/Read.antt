@@ -3,14 +3,15 @@ use Rattle.std.specs.Prelude.{◌≡◌, ◌^◌, ◌<◌, ◌≤◌, ℕ, ℤ, 
 use Rattle.std.specs.Prelude.{◌+◌, length, filter}
 use Rattle.std.specs.Prelude.{unsigned_abs}
 use Rattle.std.specs.FinMap.Entries.{is_sorted}
-use Rattle.std.specs.List.{AllByRecursion}
+use Rattle.std.specs.List.{AllByRecursion, list_all}
 use Rattle.labels.specs.Contents.{Content, is_time}
 use Rattle.labels.specs.Labels.{Labels, point_cmp}
 use Rattle.labels.specs.LabelSets.{IsLabelSet}
 use Rattle.labels.specs.Rows.{Row, AreRows, points_of}
 use Rattle.metrics_writer.specs.Numbers.{number_text}
-use Rattle.metrics_writer.specs.Series.{is_metric, is_name_label, metric_of, text_of}
+use Rattle.metrics_writer.specs.Series.{is_metric, is_name_label, is_of_metric, metric_of, text_of}
 use Rattle.open_metrics.specs.Lines.{Sampled}
+use Rattle.open_metrics.specs.declared.comments.Format.{Format}
 use Rattle.open_metrics.specs.declared.comments.Format.TheVariants.{OpenMetrics}
 use Rattle.open_metrics.specs.declared.numbers.Value.TheVariants.{Parts}
 use Rattle.exposition.specs.declared.text.Fractions.{Fractions}
@@ -65,3 +66,13 @@ AreReadAgain = (places : ℕ) (fractions : Fractions) (rows : List Row) → plac
 abbrev pub AreAllSaid : Type 0
 AreAllSaid = (rows : List Row) (c : Content) → T (is_sorted point_cmp c) → AreRows rows c
     → put_each [] (points_of rows) ≡ c
+
+-- the rows of what a text says, whichever its format: each names a metric, and the text that is
+-- written for them says the same samples
+abbrev pub AreWrittenAgain : Type 0
+AreWrittenAgain = (format : Format) (places : ℕ) (fractions : Fractions) (text : List ℕ)
+    (said : Said) (rows : List Row) → IsText format places fractions text said
+    → AreRows rows said.content
+    → (list_all is_of_metric rows ≡ true)
+    × IsText OpenMetrics places fractions (text_of places rows)
+    (record { content = said.content; count = count_of rows; others = []; rounded = [] })
