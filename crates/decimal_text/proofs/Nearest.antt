@@ -589,8 +589,8 @@ nearest_takes text places shift n h =
       fraction = d.0.1;
       digits = digits;
       rounded =
-          tenths_take _ (10 ^ (length d.0.1 + shift)) _ _ n (ten_some (length d.0.1 + shift)) tenths
-          d.2;
+          tenths_take _ (10 ^ (length d.0.1 + shift)) _ _ n (ten_some (length d.0.1 + shift))
+          tenths d.2;
     }
 
 -- what is read is below 2^63

@@ -23,7 +23,8 @@ use Rattle.exposition.specs.Reading.{Said, AddsLine, AddAll, texts_in, unsaid}
 use Rattle.exposition.specs.Refusing.{IfRefused, IsFirstWrong, IsFor}
 use Rattle.exposition.specs.Series.{IsNoUtf8}
 
-all_last : (format : Format) (places : ℕ) (f : Fractions) (n : ℕ) (lines : List (List ℕ)) (line : List ℕ) (a b c : Said)
+all_last : (format : Format) (places : ℕ) (f : Fractions) (n : ℕ) (lines : List (List ℕ))
+    (line : List ℕ) (a b c : Said)
     → AddAll format places f n lines a b → AddsLine format places f (n + length lines) line b c
     → AddAll format places f n (lines ++ line ∷ []) a c
 all_last format places f n [] line a b c all one =
@@ -49,8 +50,8 @@ taken lines n lt =
     ∙ length-take-le n lines (omega (arith, lt))
 
 -- one line more, the first of which has the number 1
-pub all_more : (format : Format) (places : ℕ) (f : Fractions) (lines : List (Bor (List ℕ))) (n number : ℕ)
-    (d : Bor (List ℕ)) (a b c : Said) → n < length lines → number ≡ n + 1
+pub all_more : (format : Format) (places : ℕ) (f : Fractions) (lines : List (Bor (List ℕ)))
+    (n number : ℕ) (d : Bor (List ℕ)) (a b c : Said) → n < length lines → number ≡ n + 1
     → AddAll format places f 1 (texts_in (take n lines)) a b
     → AddsLine format places f number (get_or lines n d).now b c
     → AddAll format places f 1 (texts_in (take (n + 1) lines)) a c
@@ -64,8 +65,8 @@ all_more format places f lines n number d a b c lt is all one =
     (subst (λ (k : ℕ). AddsLine format places f k (get_or lines n d).now b c) same one))
 
 -- a line that is wrong, behind lines that say something
-wrong_here : (format : Format) (places : ℕ) (f : Fractions) (lines : List (Bor (List ℕ))) (n number : ℕ)
-    (d : Bor (List ℕ)) (said : Said) (r : Refusal) → n < length lines → number ≡ n + 1
+wrong_here : (format : Format) (places : ℕ) (f : Fractions) (lines : List (Bor (List ℕ)))
+    (n number : ℕ) (d : Bor (List ℕ)) (said : Said) (r : Refusal) → n < length lines → number ≡ n + 1
     → AddAll format places f 1 (texts_in (take n lines)) unsaid said
     → IsFor number (line_fault format places (get_or lines n d).now) r
     → IsFirstWrong format places f (texts_in lines) r
@@ -89,8 +90,8 @@ one_pair labels n x lt at =
     ((take_at_read labels n x lt).1 ∙ ap (λ (y : Label). take n labels ++ y ∷ []) (sym at))
     ∙ map-append pair_in (take n labels) (x ∷ [])
 
-pub first_wrong : (e : ReadError) (format : Format) (places : ℕ) (f : Fractions) (lines : List (Bor (List ℕ)))
-    (n number : ℕ) (d : Bor (List ℕ)) (said : Said) → n < length lines → number ≡ n + 1
+pub first_wrong : (e : ReadError) (format : Format) (places : ℕ) (f : Fractions)
+    (lines : List (Bor (List ℕ))) (n number : ℕ) (d : Bor (List ℕ)) (said : Said) → n < length lines → number ≡ n + 1
     → AddAll format places f 1 (texts_in (take n lines)) unsaid said
     → IfRefused e (IsFor number (line_fault format places (get_or lines n d).now))
     → IfRefused e (IsFirstWrong format places f (texts_in lines))

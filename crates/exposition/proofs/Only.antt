@@ -139,28 +139,28 @@ line_once format places f n line old a b p q =
     adds_once f n line q.meaning old a b
     (subst (λ (m : Meaning). Adds f n line m old a) same p.adds) q.adds
 
-all_once : (format : Format) (places : ℕ) (f : Fractions) (n : ℕ) (lines : List (List ℕ)) (old a b : Said)
-    → AddAll format places f n lines old a → AddAll format places f n lines old b → a ≡ b
+all_once : (format : Format) (places : ℕ) (f : Fractions) (n : ℕ) (lines : List (List ℕ))
+    (old a b : Said) → AddAll format places f n lines old a → AddAll format places f n lines old b → a ≡ b
 all_once format places f n [] old a b p q = p ∙ sym q
 all_once format places f n (line ∷ lines) old a b p q =
     let same = line_once format places f n line old p.0 q.0 p.1 q.1 in
     all_once format places f (n + 1) lines q.0 a b
     (subst (λ (x : Said). AddAll format places f (n + 1) lines x a) same p.2) q.2
 
-no_fault : (f : Fractions) (n : ℕ) (line : List ℕ) (m : Meaning) (old new : Said) → Adds f n line m old new
-    → meaning_fault line (Ok m) ≡ None
+no_fault : (f : Fractions) (n : ℕ) (line : List ℕ) (m : Meaning) (old new : Said)
+    → Adds f n line m old new → meaning_fault line (Ok m) ≡ None
 no_fault f n line nothing old new p = refl
 no_fault f n line end old new p = absurd p
 no_fault f n line (sampled s) old new p = p.faultless
 
-line_faultless : (format : Format) (places : ℕ) (f : Fractions) (n : ℕ) (line : List ℕ) (old new : Said)
-    → AddsLine format places f n line old new → line_fault format places line ≡ None
+line_faultless : (format : Format) (places : ℕ) (f : Fractions) (n : ℕ) (line : List ℕ)
+    (old new : Said) → AddsLine format places f n line old new → line_fault format places line ≡ None
 line_faultless format places f n line old new p =
     ap (meaning_fault line) p.read ∙ no_fault f n line p.meaning old new p.adds
 
 -- a line among those that say something has no fault
-among : (format : Format) (places : ℕ) (f : Fractions) (n : ℕ) (before : List (List ℕ)) (line : List ℕ)
-    (after : List (List ℕ)) (old new : Said)
+among : (format : Format) (places : ℕ) (f : Fractions) (n : ℕ) (before : List (List ℕ))
+    (line : List ℕ) (after : List (List ℕ)) (old new : Said)
     → AddAll format places f n (before ++ line ∷ after) old new
     → line_fault format places line ≡ None
 among format places f n [] line after old new p = line_faultless format places f n line old p.0 p.1
@@ -177,8 +177,8 @@ not_endless Prometheus all lines r p cut = p
 no_place : {A : Type 0} (x : A) (o : Option A) → o ≡ Some x → o ≡ None → ⊥
 no_place x o e f = absurd (let g : Some x ≡ None = sym e ∙ f in cc)
 
-not_refused : (format : Format) (places : ℕ) (f : Fractions) (text : List ℕ) (said : Said) (r : Refusal)
-    → IsText format places f text said → IsRefused format places f text r → ⊥
+not_refused : (format : Format) (places : ℕ) (f : Fractions) (text : List ℕ) (said : Said)
+    (r : Refusal) → IsText format places f text said → IsRefused format places f text r → ⊥
 not_refused format places f text said r is (inl p) =
     not_endless format (lines_in text) is.lines r p is.cut
 not_refused format places f text said r is (inr p) =
@@ -195,8 +195,8 @@ text_once format places f text a b p q =
     all_once format places f 1 q.lines unsaid a b
     (subst (λ (ls : List (List ℕ)). AddAll format places f 1 ls unsaid a) same p.says) q.says
 
-pub only_in : (format : Format) (places : ℕ) (f : Fractions) (text : List ℕ) (r : Result Exposition ReadError)
-    (said : Said) → IfOk r (λ e. IsText format places f text (told_in e))
+pub only_in : (format : Format) (places : ℕ) (f : Fractions) (text : List ℕ)
+    (r : Result Exposition ReadError) (said : Said) → IfOk r (λ e. IsText format places f text (told_in e))
     → IfErr r (λ e. IfRefused e (IsRefused format places f text))
     → IsText format places f text said → Gives told_in r (Ok said)
 only_in format places f text (Ok e) said found refused is =

@@ -10,12 +10,13 @@ use Rattle.exposition.specs.declared.text.Gathered.{Gathered}
 use Rattle.exposition.specs.Reading.{AddAll, IsCutInto, IsText, lines_in, said_in, told_by, unsaid}
 use Rattle.exposition.specs.Refusing.{IfRefused, IsFirstWrong, IsRefused, MissesEnd}
 
-pub text_read : (format : Format) (places : ℕ) (f : Fractions) (text : List ℕ) (lines : List (List ℕ))
-    (g : Gathered) (rows : List Row) → IsCutInto format (lines_in text) lines
+pub text_read : (format : Format) (places : ℕ) (f : Fractions) (text : List ℕ)
+    (lines : List (List ℕ)) (g : Gathered) (rows : List Row) → IsCutInto format (lines_in text) lines
     → AddAll format places f 1 lines unsaid (said_in g) → rows ≡ reverse g.runs
     → IsText format places f text (told_by rows g.others.items g.rounded.items)
 text_read format places f text lines g rows cut says is =
-    subst (λ (rs : List Row). IsText format places f text (told_by rs g.others.items g.rounded.items)) (sym is)
+    subst (λ (rs : List Row). IsText format places f text
+    (told_by rs g.others.items g.rounded.items)) (sym is)
     (record { lines = lines; cut = cut; says = says })
 
 pub end_missing : (e : ReadError) (format : Format) (places : ℕ) (f : Fractions) (text : List ℕ)

@@ -22,8 +22,8 @@ use Rattle.exposition.specs.Faults.{column_of, pairs_of_sample, sample_fault}
 use Rattle.exposition.specs.Runs.{content_of, count_of}
 
 -- what lines say: the samples that have a number of parts, of which the later stands; how many such
--- lines there are; the other samples with their places, in their order; and the places of those that
--- were rounded to a number of parts
+-- lines there are; the other samples with their places, in their order; and the places of those
+-- that were rounded to a number of parts
 pub record Said : Type 0 where
   pub content : Content
   pub count : ℕ
@@ -58,8 +58,8 @@ IsBeside place old new =
     (new.content ≡ old.content) × (new.count ≡ old.count)
     × (new.others ≡ old.others ++ place ∷ []) × (new.rounded ≡ old.rounded)
 
--- the nearest number of parts to a value that is none: it is put over the samples before and told as
--- rounded, or the value is told beside them
+-- the nearest number of parts to a value that is none: it is put over the samples before, and told
+-- as rounded, or the value is told beside them
 abbrev pub AddsNear : Fractions → ℤ → Labels → Left → Said → Said → Type 0
 AddsNear Rounded v labels place old new =
     IsPutOver v labels place old new × (new.rounded ≡ old.rounded ++ place ∷ [])

@@ -75,8 +75,8 @@ adds_both places f n [] ys a b c p q =
 adds_both places f n (x ∷ xs) ys a b c p q =
     (p.0, p.1, adds_both places f (n + 1) xs ys p.0 b c p.2 q)
 
-added_both : (places : ℕ) (f : Fractions) (one two : List ℕ) (a b c : Said) → Added places f one a b
-    → Added places f two b c → Added places f (one ++ two) a c
+added_both : (places : ℕ) (f : Fractions) (one two : List ℕ) (a b c : Said)
+    → Added places f one a b → Added places f two b c → Added places f (one ++ two) a c
 added_both places f one two a b c p q = record {
   lines = p.lines ++ q.lines;
   text_is =
@@ -113,8 +113,8 @@ points_both old xs ys =
 small_time : (t : ℤ) → is_time t ≡ true → unsigned_abs t < 2 ^ 63
 small_time t h = grind arith
 
-sample_added : (places : ℕ) (f : Fractions) (row : Row) (s : ℤ × ℤ) (old : Said) → IsWritable row → IsWritten s
-    → Added places f (line_text places (series_text row.0) s) old
+sample_added : (places : ℕ) (f : Fractions) (row : Row) (s : ℤ × ℤ) (old : Said)
+    → IsWritable row → IsWritten s → Added places f (line_text places (series_text row.0) s) old
     (with_points old (((row.0, s.0), s.1) ∷ []))
 unfolding line_text
 sample_added places f row s old is written =
@@ -148,8 +148,8 @@ sample_added places f row s old is written =
       );
     }
 
-samples_added : (places : ℕ) (f : Fractions) (row : Row) (ss : List (ℤ × ℤ)) (old : Said) → IsWritable row
-    → AllByRecursion IsWritten ss
+samples_added : (places : ℕ) (f : Fractions) (row : Row) (ss : List (ℤ × ℤ)) (old : Said)
+    → IsWritable row → AllByRecursion IsWritten ss
     → Added places f (flat_map (line_text places (series_text row.0)) ss) old
     (with_points old (points_in row.0 ss))
 samples_added places f row [] old is all =
@@ -170,8 +170,8 @@ row_added : (places : ℕ) (f : Fractions) (row : Row) (old : Said) → IsWritab
 unfolding row_text
 row_added places f row old is = samples_added places f row row.1 old is is.samples
 
-rows_added : (places : ℕ) (f : Fractions) (rows : List Row) (old : Said) → AllByRecursion IsWritable rows
-    → Added places f (rows_text places rows) old (with_points old (points_of rows))
+rows_added : (places : ℕ) (f : Fractions) (rows : List Row) (old : Said)
+    → AllByRecursion IsWritable rows → Added places f (rows_text places rows) old (with_points old (points_of rows))
 unfolding rows_text
 rows_added places f [] old all =
     subst (Added places f [] old)

@@ -8,8 +8,8 @@ pub loop-line-preserved : goal.loop-line-preserved
 loop-line-preserved c =
     let l = c.loop-line in (
       omega (arith, l.invariant.0),
-      all_more c.args.format c.args.places c.args.fractions c.args.lines.now l.line-index l.number _ unsaid
-          (said_in l.gathered) (said_in c.add_line.new.gathered) c.loop-line-test.true
+      all_more c.args.format c.args.places c.args.fractions c.args.lines.now l.line-index l.number
+          _ unsaid (said_in l.gathered) (said_in c.add_line.new.gathered) c.loop-line-test.true
           l.invariant.0 l.invariant.1 c.in_ok-add_line.ensures.adds,
     )
 
