@@ -578,7 +578,7 @@ digits_tenths whole fraction places shift a b some =
 
 nearest_takes : (text : List ℕ) (places shift : ℕ) (n : Nearest)
     → nearest_at text places shift ≡ Ok n → IsNearest text places shift n
-unfolding nearest_at
+unfolding nearest_at of_cut
 nearest_takes text places shift n h =
     let d = bind_ok (digits_at text) _ n h in
     let digits = digits_take text d.0 d.1 in
@@ -596,7 +596,7 @@ nearest_takes text places shift n h =
 -- what is read is below 2^63
 pub nearest_small : (text : List ℕ) (places shift : ℕ) (n : Nearest)
     → nearest_at text places shift ≡ Ok n → n.size < 2 ^ 63
-unfolding nearest_at rounded_at
+unfolding nearest_at of_cut rounded_at
 nearest_small text places shift n h =
     let d = bind_ok (digits_at text) _ n h in
     let cut = cut_of d.0.0 d.0.1 places shift in
@@ -607,7 +607,7 @@ nearest_small text places shift n h =
 
 nearest_again : (text : List ℕ) (places shift : ℕ) (n : Nearest) → n.size < 2 ^ 63
     → IsNearest text places shift n → nearest_at text places shift ≡ Ok n
-unfolding nearest_at
+unfolding nearest_at of_cut
 nearest_again text places shift n lt x =
     let tenths = digits_tenths x.whole x.fraction places shift x.digits.whole_digits
     x.digits.fraction_digits x.digits.some in

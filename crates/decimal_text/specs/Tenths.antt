@@ -67,7 +67,7 @@ unfoldable pub rounded_at : ℕ → Bool → Result Nearest DecimalError
 rounded_at tenths more =
     if nat_lt (nearest_of tenths more) (2 ^ 63) then Ok (as_parts tenths more) else Err Large
 
-abbrev pub of_cut : Cut → Result Nearest DecimalError
+unfoldable pub of_cut : Cut → Result Nearest DecimalError
 of_cut cut = rounded_at (padded cut.left cut.tenths) cut.more
 
 unfoldable pub nearest_at : List ℕ → ℕ → ℕ → Result Nearest DecimalError

@@ -148,6 +148,7 @@ fn padded(tenths: u128, zeros: u64) -> u128
     n
 }
 
+#[tactic(auto, unfolding(crate::specs::Tenths::of_cut))]
 fn of_cut(cut: Cut) -> Result<Nearest, DecimalError>
     requires { cut.tenths ≤ limit }
     ensures exact { Answers (λ n. n) result (of_cut cut) }
