@@ -111,13 +111,13 @@ pub cut_ends : (s : List ℕ) (i : ℕ) (cut : Cut) → length s ≤ i → cut_a
 unfolding cut_after
 cut_ends s i cut le = ap (cut_after cut) (gone s i le)
 
-pub zeros_go : (zeros at n m : ℕ) → at < zeros → m ≡ grown n 0
-    → padded (zeros - (at + 1)) m ≡ padded (zeros - at) n
+pub zeros_go : (count at n m : ℕ) → at < count → m ≡ grown n 0
+    → padded (count - (at + 1)) m ≡ padded (count - at) n
 unfolding padded
-zeros_go zeros at n m lt e =
-    ap (padded (zeros - (at + 1))) e
-    ∙ sym (ap (λ (k : ℕ). padded k n) (left_suc zeros at lt))
+zeros_go count at n m lt e =
+    ap (padded (count - (at + 1))) e
+    ∙ sym (ap (λ (k : ℕ). padded k n) (left_suc count at lt))
 
-pub zeros_end : (zeros n : ℕ) → zeros ≡ 0 → padded zeros n ≡ n
+pub zeros_end : (count n : ℕ) → count ≡ 0 → padded count n ≡ n
 unfolding padded
-zeros_end zeros n e = ap (λ (k : ℕ). padded k n) e
+zeros_end count n e = ap (λ (k : ℕ). padded k n) e

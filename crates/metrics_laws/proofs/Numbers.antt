@@ -10,7 +10,7 @@ use Rattle.std.proofs.lemmas.Nat.{div_below}
 use Rattle.std.proofs.Math.Nat.{one-le-pow}
 use Rattle.decimal_text.specs.Decimals.{is_digit, AreDigits, value_from, IsFraction, IsDecimal}
 use Rattle.decimal_text.specs.Tenths.{nearest_at}
-use Rattle.decimal_text.proofs.Nearest.{exactly_again}
+use Rattle.decimal_text.proofs.NearestParts.{exactly_again}
 use Rattle.metrics_writer.specs.Numbers.{last_digits, fraction_of, size_text, number_text}
 use Rattle.open_metrics.specs.declared.numbers.Value.TheVariants.{Parts}
 use Rattle.open_metrics.specs.declared.tokens.Class.{Class}

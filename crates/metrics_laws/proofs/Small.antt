@@ -6,7 +6,7 @@ use Rattle.std.proofs.lemmas.Bool.{cases_Bool}
 use Rattle.decimal_text.specs.declared.error.DecimalError.{DecimalError}
 use Rattle.decimal_text.specs.declared.error.DecimalError.TheVariants.{Form, Finer, Large}
 use Rattle.decimal_text.specs.declared.rounding.Nearest.{Nearest}
-use Rattle.decimal_text.proofs.Nearest.{nearest_small}
+use Rattle.decimal_text.proofs.NearestParts.{nearest_small}
 use Rattle.open_metrics.specs.declared.numbers.Value.{Value}
 use Rattle.open_metrics.specs.declared.numbers.Value.TheVariants.{Parts, Near, Other}
 use Rattle.open_metrics.specs.declared.tokens.Class.TheVariants.{Mantissa}

@@ -1,4 +1,4 @@
-use Rattle.decimal_text.proofs.Nearest.{found_in, only_in}
+use Rattle.decimal_text.proofs.NearestParts.{found_in, only_in}
 use Rattle.decimal_text.proofs.rounding.rounded.Goals as goal
 
 pub returns-clause-found : goal.returns-clause-found

@@ -414,7 +414,9 @@ nearest_is top u t more r some small e is =
 
 no_more : (r : ℕ) (more : Bool) → more ≡ not (eqb r 0) → not more ≡ true → r ≡ 0
 no_more zero more e h = refl
-no_more (suc r) more e h = absurd (let f : not more ≡ false = ap not e in cc)
+no_more (suc r) more e h =
+    let some : eqb (suc r) 0 ≡ false = ne_eqb (suc r) 0 (λ z. omega (arith, z)) in
+    absurd (let f : not more ≡ false = ap not (e ∙ ap not some) in cc)
 
 some_more : (r : ℕ) (more : Bool) → more ≡ not (eqb r 0) → not more ≡ false → 0 < r
 some_more zero more e h = absurd (let f : not more ≡ true = ap not e in cc)
