@@ -1,6 +1,6 @@
 -- Digits that are cut off, and the nearest whole number.
 use Rattle.std.proofs.Common.{◌≡◌, ℕ, zero, suc, ◌+◌, ◌-◌, ◌*◌, ◌/◌, ◌%◌, ◌^◌, ◌<◌, ◌≤◌, Bool, true}
-use Rattle.std.proofs.Common.{false, not, ◌&&◌, ◌||◌, eqb, ltb, List, [], ◌∷◌, ◌++◌, length, Result}
+use Rattle.std.proofs.Common.{false, not, ◌||◌, eqb, ltb, List, [], ◌∷◌, ◌++◌, length, Result}
 use Rattle.std.proofs.Common.{Ok, Err, refl, sym, ap, subst, ◌∙◌, inl, inr, arith, length-append}
 use Rattle.std.specs.Prelude.{IfOk}
 use Rattle.std.proofs.lemmas.Bool.{lt-ltb, le-ltb, eqb-true, eqb-false, eq-eqb, ne_eqb, and_parts}
@@ -74,13 +74,21 @@ more_step : (rest c : ℕ) → 48 ≤ c
 more_step rest c low =
     elim (cases_eq rest 0) [
       | inl none ↦ elim (cases_eq c 48) [
-        | inl e ↦ rw (eq-eqb rest 0 none, eq-eqb c 48 e,
-            eq-eqb (rest * 10 + (c - 48)) 0 (omega arith)) refl
-        | inr ne ↦ rw (eq-eqb rest 0 none, ne_eqb c 48 ne,
-            ne_eqb (rest * 10 + (c - 48)) 0 (λ h. omega arith)) refl
+        | inl e ↦ rw (
+          eq-eqb rest 0 none,
+          eq-eqb c 48 e,
+          eq-eqb (rest * 10 + (c - 48)) 0 (omega arith),
+        ) refl
+        | inr ne ↦ rw (
+          eq-eqb rest 0 none,
+          ne_eqb c 48 ne,
+          ne_eqb (rest * 10 + (c - 48)) 0 (λ h. omega arith),
+        ) refl
       ]
-      | inr some ↦ rw (ne_eqb rest 0 some,
-          ne_eqb (rest * 10 + (c - 48)) 0 (λ h. omega arith)) refl
+      | inr some ↦ rw (
+        ne_eqb rest 0 some,
+        ne_eqb (rest * 10 + (c - 48)) 0 (λ h. omega arith),
+      ) refl
     ]
 
 kept_one : (value count keep c : ℕ) (cut : Cut) → count < keep → Stands value count keep cut

@@ -1,5 +1,5 @@
 -- Decimal texts, rounded to whole numbers of parts.
-use Rattle.std.specs.Prelude.{◌≡◌, ℕ, ◌+◌, ◌*◌, ◌^◌, Bool, true, false, List, ◌++◌, length}
+use Rattle.std.specs.Prelude.{◌≡◌, ℕ, ◌+◌, ◌*◌, ◌^◌, true, false, List, ◌++◌, length}
 use Rattle.doubles.specs.Rounded.{IsNearestWhole}
 use Rattle.decimal_text.specs.declared.rounding.Nearest.{Nearest}
 use Rattle.decimal_text.specs.Decimals.{AreDigitsOf, value_from}
