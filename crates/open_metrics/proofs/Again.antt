@@ -6,7 +6,6 @@ use Rattle.std.proofs.Common.{refl, sym, ap, subst, ◌∙◌, append_assoc, inl
 use Rattle.std.proofs.lemmas.Bool.{cases_Bool, eqb-true}
 use Rattle.std.proofs.lemmas.List.{take_at, drop_at}
 use Rattle.std.specs.List.{AllByRecursion}
-use Rattle.wire.specs.Outcome.{◌>>=◌}
 use Rattle.open_metrics.specs.declared.comments.Format.{Format}
 use Rattle.open_metrics.specs.declared.comments.Format.TheVariants.{OpenMetrics, Prometheus}
 use Rattle.open_metrics.specs.declared.error.Fault.{Fault}
