@@ -1,8 +1,7 @@
 -- Lines, one after the other.
 use Rattle.std.specs.Prelude.{◌≡◌, ℕ, ◌+◌, ◌<◌, List, [], ◌∷◌, ◌++◌, length, take, get_or}
-use Rattle.std.specs.Prelude.{refl, suc, drop, true, false, ◌&&◌, Option, None, Some, IfSome}
+use Rattle.std.specs.Prelude.{refl, suc, drop, true, false, Option, None, Some, IfSome}
 use Rattle.std.specs.Borrow.{Bor}
-use Rattle.std.specs.List.{list_all}
 use Rattle.std.proofs.Math.Seq.{split_at}
 use Rattle.std.proofs.lemmas.List.Folds.{list_all_at, list_all-append, list_all-map}
 use Rattle.std.proofs.Common.{sym, ap, subst, ◌∙◌, append_assoc, arith}

@@ -1,5 +1,5 @@
 -- A text says one thing.
-use Rattle.std.specs.Prelude.{◌≡◌, ◌⊎◌, ◌≢◌, ℕ, ℤ, suc, ◌+◌, ◌<◌, T, List, [], ◌∷◌, ◌++◌, length, get_or}
+use Rattle.std.specs.Prelude.{◌≡◌, ◌≢◌, ℕ, ℤ, suc, ◌+◌, T, List, [], ◌∷◌, ◌++◌, get_or}
 use Rattle.std.specs.Prelude.{Option, None, Some, Result, Ok, Err, IfOk, IfErr, refl}
 use Rattle.std.specs.List.{AllByRecursion}
 use Rattle.std.specs.Str.{bytes_eq}
@@ -12,7 +12,7 @@ use Rattle.std.proofs.lemmas.Bool.{cases_Bool}
 use Rattle.std.proofs.lemmas.List.Elements.{recursion_from_All}
 use Rattle.wire.proofs.Steps.{same_value}
 use Rattle.labels.specs.Labels.{Labels, IsByName, text_cmp, value_of}
-use Rattle.labels.specs.LabelSets.{IsLabelSet, IsMadeOf}
+use Rattle.labels.specs.LabelSets.{IsMadeOf}
 use Rattle.labels.proofs.Texts.{text_total, text_exact, bytes_turn}
 use Rattle.labels.proofs.Times.{both_T, T_of}
 use Rattle.open_metrics.specs.declared.comments.Format.{Format}
@@ -31,7 +31,7 @@ use Rattle.exposition.specs.declared.text.Left.{Left}
 use Rattle.exposition.specs.Faults.{line_fault, meaning_fault}
 use Rattle.exposition.specs.Reading.{Said, AddsValue, AddsSample, Adds, AddsLine, AddAll, IsText}
 use Rattle.exposition.specs.Reading.{IsBeside, IsCutInto, IsPutOver, lines_in, told_in, unsaid}
-use Rattle.exposition.specs.Refusing.{Gives, IfRefused, IsRefused, MissesEnd, HasWrong}
+use Rattle.exposition.specs.Refusing.{Gives, IfRefused, IsRefused, MissesEnd}
 use Rattle.exposition.proofs.Endings.{end_of, one_cut}
 
 -- LABEL SETS

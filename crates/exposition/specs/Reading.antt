@@ -5,7 +5,7 @@ use Rattle.std.specs.Borrow.{Bor}
 use Rattle.std.specs.List.{slice_split}
 use Rattle.std.specs.FinMap.Entries.{put}
 use Rattle.labels.specs.Contents.{Content}
-use Rattle.labels.specs.Labels.{Labels, Point, point_cmp}
+use Rattle.labels.specs.Labels.{Labels, point_cmp}
 use Rattle.labels.specs.LabelSets.{IsMadeOf}
 use Rattle.labels.specs.Rows.{Row}
 use Rattle.open_metrics.specs.declared.comments.Format.{Format}

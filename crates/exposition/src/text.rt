@@ -119,9 +119,7 @@ fn add_near(
     match fractions {
         Fractions::Beside => gathered.others.push(place)?,
         Fractions::Rounded => {
-            gathered
-                .runs
-                .put(alloc, labels, Sample::new(place.t, v))?;
+            gathered.runs.put(alloc, labels, Sample::new(place.t, v))?;
             gathered.rounded.push(place)?;
         }
     }
