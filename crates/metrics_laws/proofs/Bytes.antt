@@ -5,7 +5,7 @@ use Rattle.std.specs.Prelude.{decimal, unsigned_abs, IsTrue}
 use Rattle.std.specs.List.{AllByRecursion}
 use Rattle.std.proofs.lemmas.Bool.{cases_Bool, eqb-true, ne_eqb}
 use Rattle.std.proofs.lemmas.List.Elements.{recursion_from_All}
-use Rattle.decimal_text.specs.Decimals.{is_digit, AreDigits}
+use Rattle.decimal_text.specs.Decimals.{AreDigits}
 use Rattle.labels.specs.Labels.{Labels}
 use Rattle.labels.specs.LabelSets.{IsLabelSet}
 use Rattle.labels.specs.Names.{is_name}

@@ -1,6 +1,6 @@
 -- Numbers that are read are below 2^63 in size.
-use Rattle.std.proofs.Common.{◌≡◌, ℕ, zero, suc, ◌+◌, ◌<◌, ◌^◌, ℤ, pos, negsuc, Bool, true, false, List}
-use Rattle.std.proofs.Common.{Option, None, Some, Result, Ok, Err, refl, sym, ap, subst, ◌∙◌, inl, inr}
+use Rattle.std.proofs.Common.{◌≡◌, ℕ, zero, suc, ◌+◌, ◌<◌, ◌^◌, Bool, true, false, List}
+use Rattle.std.proofs.Common.{Option, None, Some, Result, Ok, Err, refl, subst, inl, inr}
 use Rattle.std.specs.Prelude.{unsigned_abs, option_and_then}
 use Rattle.std.proofs.lemmas.Bool.{cases_Bool}
 use Rattle.decimal_text.specs.declared.error.DecimalError.{DecimalError}

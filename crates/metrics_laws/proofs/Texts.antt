@@ -1,9 +1,9 @@
 -- Texts that are written are read again.
-use Rattle.std.proofs.Common.{◌≡◌, ℕ, suc, ◌+◌, ◌<◌, ◌≤◌, ◌^◌, ℤ, Bool, true, false, eqb, ◌&&◌, List}
-use Rattle.std.proofs.Common.{[], ◌∷◌, ◌++◌, length, Ok, None, refl, sym, ap, subst, ◌∙◌, inr, arith}
+use Rattle.std.proofs.Common.{◌≡◌, ℕ, ◌+◌, ◌<◌, ◌^◌, ℤ, true, false, eqb, List}
+use Rattle.std.proofs.Common.{[], ◌∷◌, ◌++◌, length, refl, sym, ap, subst, ◌∙◌, inr, arith}
 use Rattle.std.proofs.Common.{append_assoc, length-append}
 use Rattle.std.specs.Prelude.{T, codes, unsigned_abs}
-use Rattle.std.specs.List.{AllByRecursion, flat_map, slice_split}
+use Rattle.std.specs.List.{AllByRecursion, flat_map}
 use Rattle.std.specs.Ordering.{is_lt, ordering_reverse}
 use Rattle.std.specs.declared.cmp.Ordering.{Ordering}
 use Rattle.std.specs.declared.cmp.Ordering.TheVariants.{Less, Equal, Greater}
@@ -12,20 +12,18 @@ use Rattle.std.proofs.lemmas.List.{append-nil, append_cancel_right}
 use Rattle.std.proofs.lemmas.List.Elements.{All-from_recursion}
 use Rattle.std.proofs.lemmas.List.Splits.{slice_split_at}
 use Rattle.labels.specs.Contents.{Content, is_time}
-use Rattle.labels.specs.Labels.{Labels, Point, point_cmp}
+use Rattle.labels.specs.Labels.{Point, point_cmp}
 use Rattle.labels.specs.Rows.{Row, points_in, points_of}
-use Rattle.labels.proofs.ContentLaws.{length-points_in}
 use Rattle.labels.proofs.OrderLaws.{point_total}
 use Rattle.labels.proofs.Times.{first_T, second_T}
-use Rattle.metrics_writer.specs.Series.{metric_of, series_text, fields_text, line_text, row_text}
+use Rattle.metrics_writer.specs.Series.{series_text, fields_text, line_text, row_text}
 use Rattle.metrics_writer.specs.Series.{rows_text, text_of}
 use Rattle.open_metrics.specs.declared.comments.Format.TheVariants.{OpenMetrics}
 use Rattle.open_metrics.specs.Lines.{sampled}
 use Rattle.open_metrics.proofs.Whole.{line_again as read_again}
 use Rattle.exposition.specs.declared.text.Fractions.{Fractions}
-use Rattle.exposition.specs.Reading.{Said, AddsLine, AddAll, IsText, eof, lines_in, unsaid}
+use Rattle.exposition.specs.Reading.{Said, AddAll, IsText, eof, lines_in, unsaid}
 use Rattle.exposition.specs.Rows.{put_each}
-use Rattle.exposition.specs.Runs.{count_of}
 use Rattle.exposition.proofs.Only.{same_said}
 use Rattle.metrics_laws.specs.Read.{sample_of, IsWritten, IsWritable, said_of}
 use Rattle.metrics_laws.proofs.Bytes.{IsLine, both_lines, series_line, fields_line}

@@ -1,6 +1,6 @@
 -- Samples that are read can be written.
-use Rattle.std.specs.Prelude.{◌≡◌, ◌≢◌, ℕ, ◌+◌, ◌<◌, ◌≤◌, ◌^◌, ℤ, Bool, true, false, not, ◌&&◌, T, List}
-use Rattle.std.specs.Prelude.{[], ◌∷◌, ◌++◌, Option, None, Some, Ok, refl, unsigned_abs, IsPermutation}
+use Rattle.std.specs.Prelude.{◌≡◌, ℕ, ◌+◌, ◌<◌, ◌^◌, ℤ, true, not, ◌&&◌, T, List}
+use Rattle.std.specs.Prelude.{[], ◌∷◌, ◌++◌, Option, None, Some, refl, unsigned_abs}
 use Rattle.std.proofs.Common.{sym, ap, subst, ◌∙◌, inl, inr}
 use Rattle.std.specs.Char.{is_ascii_digit}
 use Rattle.std.specs.List.{AllByRecursion, list_all}
@@ -30,7 +30,7 @@ use Rattle.exposition.specs.declared.text.Fractions.{Fractions}
 use Rattle.exposition.specs.declared.text.Fractions.TheVariants.{Beside, Rounded}
 use Rattle.exposition.specs.declared.text.Left.{Left}
 use Rattle.exposition.specs.Faults.{are_utf8, is_utf8_pair, or_time, pairs_fault, pairs_of_sample}
-use Rattle.exposition.specs.Reading.{Said, AddsValue, AddsSample, Adds, AddsLine, AddAll, IsText}
+use Rattle.exposition.specs.Reading.{Said, AddsValue, AddsSample, Adds, AddAll, IsText}
 use Rattle.exposition.specs.Reading.{place_of, unsaid}
 use Rattle.exposition.specs.Runs.{count_of}
 use Rattle.metrics_laws.specs.Read.{IsWritten, IsWritable}
