@@ -4,8 +4,9 @@
     read_block.py compare DIGITS REST TOLD TSDB.. -- BLOCK..  the blocks hold what `promtool tsdb dump` prints of each TSDB,
                                                               the later wins, times 10^DIGITS, other values dropped or
                                                               rounded; the counts in TOLD are right
-    read_block.py text DIGITS TOLD TEXT -- BLOCK..            the blocks hold the samples that a text writes, read as decimals;
-                                                              of two at one time that of the later line; the counts are right
+    read_block.py text DIGITS REST TOLD TEXT -- BLOCK..       the blocks hold the samples that a text writes, read as decimals,
+                                                              other values dropped or rounded; of two at one time that of the
+                                                              later line; the counts are right
     read_block.py reply BLOCK..                               prints the rows of the blocks as a reply
     read_block.py same DIGITS TSDB -- BLOCK..                 `promtool tsdb dump` of the TSDB prints the blocks' samples
     read_block.py delete BLOCK                                deletes of each third series the times of its second quarter
@@ -122,6 +123,13 @@ def texts(folder, large):
                               for i in range(400)]) for s in range(3)])
     write("fractions", [("f", [('{i="%d"}' % s, "%.*f" % (s, random.uniform(-1000, 1000)), start + i * 15)
                                for s in range(11) for i in range(200)])])
+    # numbers that no double is, around what is kept and what is rounded
+    far = ["0.5", "1.5", "2.5", "-0.5", "-2.5", "0." + "4" + "9" * 40, "0.5" + "0" * 40 + "1", "1e-400", "1e400", "-1e300", "7e-999",
+           "123456789012345678901234567890e-25", "10000000000000000000e-19", "1" * 900 + "e-899", "0." + "0" * 500 + "25e501",
+           "9223372036854775807", "9223372036854775807.4999", "9223372036854775807.5", "-9223372036854775807.5",
+           "-9223372036854775808", "92233720368547758.075e2", "922337203685477580.755", "5e-1", ".5e0", "25E-1", "+35.e-1", "0e999",
+           "0" * 40 + ".5", "0.0000000005", "0.0000000015", "-0.00000000050000001", "NaN", "-Inf", "-0", "-0.2"]
+    write("far", [("far", [('{k="%02d"}' % k, v, "%d.%03d" % (start + i * 13, i * 8)) for k, v in enumerate(far) for i in range(2)])])
     many("thousand", 1000, 120)
     if large:
         many("many", 10000, 120)
@@ -148,12 +156,17 @@ def counts_in(told):
     return counts
 
 
+def rounded_in(told):
+    return int(re.search(r"(\d+) rounded", open(told).read()).group(1))
+
+
 ESCAPES = {"\\\\": "\\", '\\"': '"', "\\n": "\n"}
 
 
-def written(path, digits):
-    """The samples that a text writes in its lines, how many are at a time that a later line has too, and how many are left."""
-    out, hidden, left = {}, 0, 0
+def written(path, digits, rest):
+    """The samples that a text writes in its lines, how many are at a time that a later line has too, how many are left, and
+    how many are rounded."""
+    out, hidden, left, rounded = {}, 0, 0, 0
     for line in open(path, encoding="utf-8").read().split("\n"):
         if line.startswith("#") or not line: continue
         name = re.match("[a-zA-Z_:][a-zA-Z0-9_:]*", line)[0]
@@ -161,21 +174,26 @@ def written(path, digits):
         labels = [(a, re.sub(r"\\.", lambda m: ESCAPES[m[0]], b[1:-1])) for a, b in LAB.findall(line)]
         key = tuple(sorted([("__name__", name)] + [pair for pair in labels if pair[1]]))
         x = Decimal(v)
-        if x.is_finite(): x = x.scaleb(digits)
-        if not x.is_finite() or x != x.to_integral_value() or not -2**63 < x < 2**63: left += 1; continue
+        if not x.is_finite(): left += 1; continue
+        x = Fraction(x) * 10**digits
+        # the nearest whole number, of two the even one
+        n = round(x)
+        if (n != x and rest != "round") or abs(n) >= 2**63: left += 1; continue
+        rounded += n != x
         at = int(Decimal(t).scaleb(3))
         hidden += at in out.setdefault(key, {})
-        out[key][at] = int(x)
-    return {key: sorted(samples.items()) for key, samples in out.items()}, hidden, left
+        out[key][at] = n
+    return {key: sorted(samples.items()) for key, samples in out.items()}, hidden, left, rounded
 
 
-def compare_text(digits, told, text, folders):
-    want, hidden, left = written(text, digits)
+def compare_text(digits, rest, told, text, folders):
+    want, hidden, left, rounded = written(text, digits, rest)
     got = rows_of(folders)
     assert want == got, [(k, want.get(k), got.get(k)) for k in set(want) | set(got) if want.get(k) != got.get(k)][:2]
     counts = counts_in(told)
     assert (counts["hidden"], counts["of other"]) == (hidden, left), (counts, hidden, left)
-    print("the same:", counts["kept"], "samples of", len(got), "series as the text writes;", left, "left out")
+    assert rounded_in(told) == rounded, (rounded_in(told), rounded)
+    print("the same:", counts["kept"], "samples of", len(got), "series as the text writes;", left, "left out,", rounded, "rounded")
 
 
 def reply(folders):
@@ -221,7 +239,7 @@ def compare(digits, rest, told, tsdbs, folders):
     counts = counts_in(told)
     assert counts["kept"] == count and counts["hidden"] == given - count, (counts, count, given)
     assert counts["stale"] + counts["of other"] == left, (counts, left)
-    assert int(re.search(r"(\d+) rounded", open(told).read()).group(1)) == rounded, rounded
+    assert rounded_in(told) == rounded, rounded
     print("the same:", count, "samples of", len(got), "series in", len(folders), "blocks;", left, "left out,", rounded, "rounded")
 
 
@@ -294,7 +312,7 @@ if __name__ == "__main__":
         cut = sys.argv.index("--")
         compare(int(sys.argv[2]), sys.argv[3], sys.argv[4], sys.argv[5:cut], sys.argv[cut + 1:])
     elif sys.argv[1] == "text":
-        compare_text(int(sys.argv[2]), sys.argv[3], sys.argv[4], sys.argv[6:])
+        compare_text(int(sys.argv[2]), sys.argv[3], sys.argv[4], sys.argv[5], sys.argv[7:])
     elif sys.argv[1] == "reply":
         reply(sys.argv[2:])
     elif sys.argv[1] == "same":

@@ -3,18 +3,19 @@ use Rattle.std.specs.Prelude.{◌≡◌, ℕ, List, Option, None, Some, refl}
 use Rattle.std.proofs.Common.{Global, inl, inr}
 use Rattle.std.specs.declared.string.String.{String}
 use Rattle.imported_values.specs.declared.policy.Rest.{Rest}
-use Rattle.imported_values.specs.declared.policy.Rest.TheVariants.{Drop}
 use Rattle.open_metrics.specs.declared.comments.Format.{Format}
 use Rattle.exposition.specs.declared.error.ReadError.{ReadError}
 use Rattle.exposition.specs.declared.error.ReadError.TheVariants.{Refused}
 use Rattle.exposition.specs.declared.error.Refusal.{Refusal}
+use Rattle.exposition.specs.declared.text.Fractions.{Fractions}
 use Rattle.exposition.specs.declared.text.Left.{Left}
 use Rattle.exposition.specs.Refusing.{IfRefused, IsRefused}
 use Rattle.block_outputs.specs.declared.tiles.Stretch.{Stretch}
 use Rattle.blocktool_command.specs.declared.fault.Fault.{Fault}
 use Rattle.blocktool_command.specs.declared.fault.Fault.TheVariants.{Memory, Other, Text}
 use Rattle.blocktool_command.specs.declared.said.Said.{Said}
-use Rattle.blocktool_command.specs.Texts.{AreAllowed, IsOtherRefused, IsSaidBy, IsTextRefused}
+use Rattle.blocktool_command.specs.Texts.{AreAllowed, AreLeftOut, IsOtherRefused, IsSaidBy}
+use Rattle.blocktool_command.specs.Texts.{IsTextRefused}
 use Rattle.blocktool_command.specs.Texts.{IsToldFor, IsToldOf, IsToldRefused, first_within}
 
 pub text_told : (name : String Global) (r : Refusal) → IsToldFor (Refused r) (Text name r)
@@ -29,9 +30,9 @@ other_told name left = inr (name, refl)
 pub no_other_told : (left : Left) → IsToldOf left Memory
 no_other_told left = inl refl
 
-pub dropped_allowed : (rest : Rest) (times : Stretch) (others : List Left) → rest ≡ Drop
+pub left_out_allowed : (rest : Rest) (times : Stretch) (others : List Left) → AreLeftOut rest
     → AreAllowed rest times others
-dropped_allowed rest times others is = inl is
+left_out_allowed rest times others is = inl is
 
 pub none_allowed : (rest : Rest) (times : Stretch) (others : List Left)
     → first_within times.from times.to others ≡ None → AreAllowed rest times others
@@ -42,16 +43,17 @@ pub first_refused : (times : Stretch) (others : List Left) (left : Left) (e : Fa
     → IsOtherRefused times others e
 first_refused times others left e is told = (left, is, told)
 
-pub text_refused : (format : Format) (places : ℕ) (text : List ℕ) (error : ReadError) (e : Fault)
-    → IfRefused error (IsRefused format places text) → IsToldFor error e
-    → IsToldRefused format places text e
-text_refused format places text error e is told = (error, is, told)
+pub text_refused : (format : Format) (places : ℕ) (f : Fractions) (text : List ℕ)
+    (error : ReadError) (e : Fault) → IfRefused error (IsRefused format places f text)
+    → IsToldFor error e → IsToldRefused format places f text e
+text_refused format places f text error e is told = (error, is, told)
 
-pub refused_by_text : (format : Format) (places : ℕ) (text : List ℕ) (times : Stretch)
-    (e : Fault) → IsToldRefused format places text e → IsTextRefused format places text times e
-refused_by_text format places text times e is = inl is
+pub refused_by_text : (format : Format) (places : ℕ) (f : Fractions) (text : List ℕ)
+    (times : Stretch) (e : Fault) → IsToldRefused format places f text e
+    → IsTextRefused format places f text times e
+refused_by_text format places f text times e is = inl is
 
-pub refused_by_other : (format : Format) (places : ℕ) (text : List ℕ) (times : Stretch)
-    (said : Said) (e : Fault) → IsSaidBy format places text said
-    → IsOtherRefused times said.others.items e → IsTextRefused format places text times e
-refused_by_other format places text times said e is other = inr (said, is, other)
+pub refused_by_other : (format : Format) (places : ℕ) (f : Fractions) (text : List ℕ)
+    (times : Stretch) (said : Said) (e : Fault) → IsSaidBy format places f text said
+    → IsOtherRefused times said.others.items e → IsTextRefused format places f text times e
+refused_by_other format places f text times said e is other = inr (said, is, other)

@@ -12,11 +12,13 @@ use Rattle.labels.specs.Rows.{Row, points_of}
 use Rattle.labels.specs.Parts.{laid_over}
 use Rattle.prometheus_block.specs.declared.keeping.Tally.{Tally}
 use Rattle.imported_values.specs.declared.policy.Rest.{Rest}
-use Rattle.imported_values.specs.declared.policy.Rest.TheVariants.{Drop}
+use Rattle.imported_values.specs.declared.policy.Rest.TheVariants.{Drop, Refuse, Round}
 use Rattle.open_metrics.specs.declared.comments.Format.{Format}
 use Rattle.exposition.specs.declared.error.ReadError.{ReadError}
 use Rattle.exposition.specs.declared.error.ReadError.TheVariants.{Refused}
 use Rattle.exposition.specs.declared.error.Refusal.{Refusal}
+use Rattle.exposition.specs.declared.text.Fractions.{Fractions}
+use Rattle.exposition.specs.declared.text.Fractions.TheVariants.{Beside, Rounded}
 use Rattle.exposition.specs.declared.text.Left.{Left}
 use Rattle.exposition.specs.Reading.{IsText, told_by}
 use Rattle.exposition.specs.Refusing.{IfRefused, IsRefused}
@@ -54,7 +56,7 @@ is_list text = unwrap_or (option_map (λ d. is_some (as_array d)) (read_text tex
 abbrev pub AreRowsSaid : List ℕ → List Row → Type 0
 AreRowsSaid text rows = AreRowsOfReply (if is_list text then around text else text) rows
 
--- how many samples with other values lie in a closed range
+-- how many samples lie in a closed range
 abbrev pub count_within : ℤ → ℤ → List Left → ℕ
 count_within from to others = length (filter (λ (o : Left). in_range from to o.t) others)
 
@@ -62,10 +64,22 @@ count_within from to others = length (filter (λ (o : Left). in_range from to o.
 abbrev pub first_within : ℤ → ℤ → List Left → Option Left
 first_within from to others = find (λ (o : Left). in_range from to o.t) others
 
+-- whether fractions are rounded, as a policy asks
+abbrev pub fractions_of : Rest → Fractions
+fractions_of Refuse = Beside
+fractions_of Drop = Beside
+fractions_of Round = Rounded
+
+-- samples with other values are left out: those that are not rounded, too
+abbrev pub AreLeftOut : Rest → Type 0
+AreLeftOut Refuse = ⊥
+AreLeftOut Drop = Unit {0}
+AreLeftOut Round = Unit {0}
+
 -- samples with other values are left out, or none lies in a closed range
 abbrev pub AreAllowed : Rest → Stretch → List Left → Type 0
 AreAllowed rest times others =
-    (rest ≡ Drop) ⊎ (first_within times.from times.to others ≡ None)
+    AreLeftOut rest ⊎ (first_within times.from times.to others ≡ None)
 
 -- this sample is told, if memory did not run out
 abbrev pub IsToldOf : Left → Fault → Type 0
@@ -82,19 +96,22 @@ IsToldFor error e = (e ≡ Memory)
     ⊎ ((name : String Global) × (r : Refusal) × (e ≡ Text name r) × (error ≡ Refused r))
 
 -- why a text is refused is told, if memory did not run out
-abbrev pub IsToldRefused : Format → ℕ → List ℕ → Fault → Type 0
-IsToldRefused format places text e =
-    (error : ReadError) × IfRefused error (IsRefused format places text) × IsToldFor error e
+abbrev pub IsToldRefused : Format → ℕ → Fractions → List ℕ → Fault → Type 0
+IsToldRefused format places fractions text e =
+    (error : ReadError) × IfRefused error (IsRefused format places fractions text)
+    × IsToldFor error e
 
 -- what a text says, in rows whose times ascend
-pub record IsSaidBy (format : Format) (places : ℕ) (text : List ℕ) (said : Said) : Type 0 where
-  pub is_text : IsText format places text (told_by said.listed.rows.items said.others.items)
+pub record IsSaidBy (format : Format) (places : ℕ) (fractions : Fractions) (text : List ℕ)
+    (said : Said) : Type 0 where
+  pub is_text : IsText format places fractions text
+      (told_by said.listed.rows.items said.others.items said.rounded.items)
   pub rise : AreRising said.listed.rows.items
 
 -- why a text is refused is told, or the first sample with another value in the range that it says
-abbrev pub IsTextRefused : Format → ℕ → List ℕ → Stretch → Fault → Type 0
-IsTextRefused format places text times e = IsToldRefused format places text e
-    ⊎ ((said : Said) × IsSaidBy format places text said
+abbrev pub IsTextRefused : Format → ℕ → Fractions → List ℕ → Stretch → Fault → Type 0
+IsTextRefused format places fractions text times e = IsToldRefused format places fractions text e
+    ⊎ ((said : Said) × IsSaidBy format places fractions text said
     × IsOtherRefused times said.others.items e)
 
 -- what was said, and an input of nothing behind it
@@ -102,18 +119,26 @@ abbrev pub AreInputsOf : Said → List Said → Type 0
 AreInputsOf said [] = ⊥
 AreInputsOf said (a ∷ []) = ⊥
 AreInputsOf said (a ∷ b ∷ []) =
-    (a ≡ said) × (b.listed.rows.items ≡ []) × (b.others.items ≡ [])
+    (a ≡ said) × (b.listed.rows.items ≡ []) × (b.others.items ≡ []) × (b.rounded.items ≡ [])
 AreInputsOf said (a ∷ b ∷ c ∷ more) = ⊥
 
+-- counts with the samples of other values that lie in a range, and those that were rounded
+abbrev pub IsTold : List Left → List Left → Stretch → Tally → Tally → Type 0
+IsTold others rounded times old new =
+    new ≡ record old {
+      rest = capped (old.rest + count_within times.from times.to others);
+      rounded = capped (old.rounded + count_within times.from times.to rounded);
+    }
+
 -- a text gives the rows of a range, each of whose samples is kept, and counts the samples with
--- other values that lie in it
-abbrev pub IsGivenByText : List Row → List Left → Stretch → List Row → Tally → Tally → Type 0
-IsGivenByText all others times rows old new =
-    (mid : Tally) × IsGivenByRows all times rows old mid
-    × (new ≡ record mid { rest = capped (mid.rest + count_within times.from times.to others) })
+-- other values that lie in it, and those that were rounded
+abbrev pub IsGivenByText : List Row → List Left → List Left → Stretch → List Row → Tally → Tally
+    → Type 0
+IsGivenByText all others rounded times rows old new =
+    (mid : Tally) × IsGivenByRows all times rows old mid × IsTold others rounded times mid new
 
 -- a text gives of a range exactly what its rows hold in it, of which the first counts
 abbrev pub TextsGiveTheirContent : Type 0
-TextsGiveTheirContent = (all : List Row) (others : List Left) (s : Stretch) (rows : List Row)
-    (old new : Tally) → IsGivenByText all others s rows old new
+TextsGiveTheirContent = (all : List Row) (others rounded : List Left) (s : Stretch)
+    (rows : List Row) (old new : Tally) → IsGivenByText all others rounded s rows old new
     → laid_over (points_of rows) [] ≡ restricted s.from s.to (content_of_rows all)

@@ -41,9 +41,9 @@ const CHOICES: [&str; 2] = ["refuse", "drop"];
 
 const RESTS: [&str; 3] = ["refuse", "drop", "round"];
 
-pub(crate) const FROM: &str = "The first time that is kept, in milliseconds [default: -2^62]";
+const FROM: &str = "The first time that is kept, in milliseconds [default: -2^62]";
 
-pub(crate) const TO: &str = "The last time that is kept, in milliseconds [default: 2^62 - 1]";
+const TO: &str = "The last time that is kept, in milliseconds [default: 2^62 - 1]";
 
 const ABOUT: &str =
     "Exit status: 0 done; 1 refused, with the reason on standard error; 2 a fault of the words;
@@ -113,12 +113,12 @@ const VERSION: &str = "0.1.0 (rattle-kit-13f)";
 
 const ABOUT_DIGITS: &str = "How many digits after the point are kept, 0 to 9 [default: 0]";
 
-pub(crate) const ABOUT_REST: &str =
+const ABOUT_REST: &str =
     "What is done with values that need more digits, NaN and infinities [default: refuse]";
 
-pub(crate) const ABOUT_STALE: &str = "What is done with stale markers [default: drop]";
+const ABOUT_STALE: &str = "What is done with stale markers [default: drop]";
 
-pub(crate) fn time<'a>(alloc: Global, name: &'a str, help: &'a str) -> Arg<'a> {
+fn time<'a>(alloc: Global, name: &'a str, help: &'a str) -> Arg<'a> {
     Arg::new(alloc, name)
         .long(name)
         .value_name("T")
@@ -158,17 +158,25 @@ fn blocks<'a>(alloc: Global) -> Arg<'a> {
         .help("A block of Prometheus, or a folder that holds some")
 }
 
-fn from_prometheus<'a>(alloc: Global) -> Result<Command<'a>, AllocError> {
-    Command::new(alloc, "from-prometheus")
-        .about("Makes blocks out of blocks of Prometheus")
-        .after_help(PROMETHEUS)
+/// A command with the options of an import.
+pub(crate) fn with_options<'a>(
+    alloc: Global,
+    command: Command<'a>,
+) -> Result<Command<'a>, AllocError> {
+    command
         .arg(digits(alloc))?
         .arg(choice(alloc, "rest", RESTS.as_slice(), ABOUT_REST))?
         .arg(choice(alloc, "stale", CHOICES.as_slice(), ABOUT_STALE))?
         .arg(time(alloc, "from", FROM))?
         .arg(time(alloc, "to", TO))?
-        .arg(into(alloc))?
-        .arg(blocks(alloc))
+        .arg(into(alloc))
+}
+
+fn from_prometheus<'a>(alloc: Global) -> Result<Command<'a>, AllocError> {
+    let command = Command::new(alloc, "from-prometheus")
+        .about("Makes blocks out of blocks of Prometheus")
+        .after_help(PROMETHEUS);
+    with_options(alloc, command)?.arg(blocks(alloc))
 }
 
 fn directories<'a>(alloc: Global) -> Arg<'a> {

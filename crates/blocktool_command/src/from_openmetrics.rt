@@ -2,8 +2,8 @@
 
 ghost use Rattle.std.specs.Prelude.{◌≡◌, ◌≤◌, IfErr, IfOk, OnOk};
 ghost use Rattle.std.specs.Bool.{OnTrue};
-ghost use Rattle.imported_values.specs.declared.policy.Rest.TheVariants.{Drop};
-ghost use Rattle.blocktool_command.specs.Texts.{AreAllowed, first_within, IsOtherRefused};
+ghost use Rattle.blocktool_command.specs.Texts.{AreAllowed, AreLeftOut, first_within};
+ghost use Rattle.blocktool_command.specs.Texts.{fractions_of, IsOtherRefused};
 ghost use Rattle.blocktool_command.specs.Texts.{IsSaidBy, IsTextRefused, IsToldFor, IsToldOf};
 ghost use Rattle.blocktool_command.specs.Texts.{IsToldRefused};
 
@@ -12,10 +12,11 @@ use crate::fault::Fault;
 use crate::listed::Listed;
 use crate::said::{Said, write_said};
 use crate::target::Target;
+use crate::teller::Teller;
 use crate::texts::{name_of, read_text};
 use block_outputs::Stretch;
-use exposition::{Exposition, Left, ReadError};
-use imported_values::Rest;
+use exposition::{Exposition, Fractions, Left, ReadError};
+use imported_values::{Policy, Rest};
 use open_metrics::Format;
 use std::alloc::{AllocError, Global};
 use std::io::{Read, Write};
@@ -53,12 +54,21 @@ fn other(alloc: Global, file: Option<&str>, left: Left) -> Fault
     }
 }
 
-fn are_dropped(rest: Rest) -> bool
-    ensures { OnTrue result (rest ≡ Drop) }
+fn fractions_of(rest: Rest) -> Fractions
+    ensures { result ≡ fractions_of rest }
 {
     match rest {
-        Rest::Drop => true,
-        Rest::Refuse | Rest::Round => false,
+        Rest::Round => Fractions::Rounded,
+        Rest::Refuse | Rest::Drop => Fractions::Beside,
+    }
+}
+
+fn are_left_out(rest: Rest) -> bool
+    ensures { OnTrue result (AreLeftOut rest) }
+{
+    match rest {
+        Rest::Drop | Rest::Round => true,
+        Rest::Refuse => false,
     }
 }
 
@@ -70,7 +80,7 @@ fn first_within(others: &[Left], times: Stretch) -> Option<Left>
 }
 
 /// Refuses the first of samples with other values in the range, unless they are to be left out.
-#[tactic(auto, using(crate::proofs::Told::dropped_allowed, crate::proofs::Told::none_allowed, crate::proofs::Told::first_refused))]
+#[tactic(auto, using(crate::proofs::Told::left_out_allowed, crate::proofs::Told::none_allowed, crate::proofs::Told::first_refused))]
 fn check_others(
     alloc: Global,
     file: Option<&str>,
@@ -81,7 +91,7 @@ fn check_others(
         (AreAllowed options.now.policy.rest options.now.times others.now) }
     ensures refused { IfErr result (IsOtherRefused options.now.times others.now) }
 {
-    if are_dropped(options.policy.rest) {
+    if are_left_out(options.policy.rest) {
         return Ok(());
     }
     match first_within(others, options.times) {
@@ -92,18 +102,47 @@ fn check_others(
 
 // What a text says.
 #[tactic(auto, using(crate::proofs::Told::text_refused))]
-fn read_said(alloc: Global, places: u32, text_in: TextIn<'_>, text: &[u8]) -> Result<Said, Fault>
+fn read_said(
+    alloc: Global,
+    places: u32,
+    fractions: Fractions,
+    text_in: TextIn<'_>,
+    text: &[u8],
+) -> Result<Said, Fault>
     requires { places ≤ 9 }
-    ensures found { IfOk result (IsSaidBy text_in.entry.format places text.now) }
-    ensures refused { IfErr result (IsToldRefused text_in.entry.format places text.now) }
+    ensures found { IfOk result (IsSaidBy text_in.entry.format places fractions text.now) }
+    ensures refused { IfErr result
+        (IsToldRefused text_in.entry.format places fractions text.now) }
 {
-    match exposition::read_text(alloc, text_in.format, places, text) {
-        Ok(Exposition { rows, others }) => Ok(Said {
+    match exposition::read_text(alloc, text_in.format, places, fractions, text) {
+        Ok(Exposition {
+            rows,
+            others,
+            rounded,
+        }) => Ok(Said {
             listed: Listed { rows },
             others,
+            rounded,
         }),
         Err(error) => Err(refused(alloc, text_in.file, error)),
     }
+}
+
+// The same as a policy asks for it.
+fn said_as(
+    alloc: Global,
+    policy: Policy,
+    text_in: TextIn<'_>,
+    text: &[u8],
+) -> Result<Said, Fault>
+    ensures found { IfOk result
+        (IsSaidBy text_in.entry.format policy.digits (fractions_of policy.rest) text.now) }
+    ensures refused { IfErr result
+        (IsToldRefused text_in.entry.format policy.digits (fractions_of policy.rest) text.now) }
+{
+    let places = policy.digits.number();
+    let said = read_said(alloc, places, fractions_of(policy.rest), text_in, text)?;
+    Ok(said)
 }
 
 #[tactic(auto, using(crate::proofs::Told::refused_by_text, crate::proofs::Told::refused_by_other))]
@@ -114,33 +153,41 @@ fn said_by(
     text: &[u8],
 ) -> Result<Said, Fault>
     // What is given is what the text says.
-    ensures found { IfOk result
-        (IsSaidBy text_in.entry.format options.now.policy.digits text.now) }
+    ensures found { IfOk result (IsSaidBy text_in.entry.format options.now.policy.digits
+        (fractions_of options.now.policy.rest) text.now) }
     ensures allowed { IfOk result (λ said.
         AreAllowed options.now.policy.rest options.now.times said.others.items) }
     // The text's refusal is told, or that of its first value that is not allowed.
     ensures refused { IfErr result (IsTextRefused text_in.entry.format
-        options.now.policy.digits text.now options.now.times) }
+        options.now.policy.digits (fractions_of options.now.policy.rest) text.now
+        options.now.times) }
 {
-    let said = read_said(alloc, options.policy.digits.number(), text_in, text)?;
+    let said = said_as(alloc, options.policy, text_in, text)?;
     check_others(alloc, text_in.file, options, said.others.as_slice())?;
     Ok(said)
 }
 
 /// Makes blocks out of a text, in which the later line wins.
-pub(crate) fn from_openmetrics<R: Files + AllocGlobal + Clone + Drop, I: Read, W: Write>(
+pub(crate) fn from_openmetrics<
+    R: Files + AllocGlobal + Clone + Drop,
+    I: Read,
+    W: Write,
+    E: Write,
+>(
     alloc: Global,
     rt: &R,
     options: &Options<'_>,
     text_in: TextIn<'_>,
     input: &mut I,
     out: &mut W,
+    teller: &mut Teller<'_, E>,
 ) -> Result<(), Fault> {
+    teller.is_at("reading the text")?;
     let text = read_text(alloc, rt, text_in.file, input)?;
     let said = said_by(alloc, options, text_in, text.as_slice())?;
     let target = Target {
         into: options.into,
         digits: options.policy.digits.number(),
     };
-    write_said(alloc, rt, said, options.times, &target, out)
+    write_said(alloc, rt, said, options.times, &target, out, teller)
 }

@@ -8,6 +8,7 @@ use crate::fault::Fault;
 use crate::listed::Listed;
 use crate::said::{Said, write_said};
 use crate::target::Target;
+use crate::teller::Teller;
 use crate::texts::read_text;
 use crate::to_openmetrics::reply_of;
 use block_outputs::Stretch;
@@ -76,18 +77,21 @@ fn said_in(alloc: Global, rows: &[Row]) -> Result<Said, AllocError>
             rows: runs_of(alloc, rows)?,
         },
         others: Vec::new(alloc),
+        rounded: Vec::new(alloc),
     })
 }
 
 /// Makes blocks out of rows, of which the later win.
-pub(crate) fn from_rows<R: Files + AllocGlobal + Clone + Drop, I: Read, W: Write>(
+pub(crate) fn from_rows<R: Files + AllocGlobal + Clone + Drop, I: Read, W: Write, E: Write>(
     alloc: Global,
     rt: &R,
     target: &Target<'_>,
     file: Option<&str>,
     input: &mut I,
     out: &mut W,
+    teller: &mut Teller<'_, E>,
 ) -> Result<(), Fault> {
+    teller.is_at("reading the rows")?;
     let text = read_text(alloc, rt, file, input)?;
     let rows = rows_in(alloc, text.as_slice())?;
     let said = said_in(alloc, rows.as_slice())?;
@@ -95,5 +99,5 @@ pub(crate) fn from_rows<R: Files + AllocGlobal + Clone + Drop, I: Read, W: Write
         from: MIN_TIME,
         to: MAX_TIME,
     };
-    write_said(alloc, rt, said, whole, target, out)
+    write_said(alloc, rt, said, whole, target, out, teller)
 }

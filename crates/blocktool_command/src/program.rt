@@ -27,13 +27,15 @@ fn execute<R: Files + AllocGlobal + Clone + Drop, I: Read, W: Write, E: Write>(
             from_prometheus(alloc, rt, &options, blocks.as_slice(), out, teller)
         }
         Ok(Line::Rewrite(into, directories)) => {
-            rewrite(alloc, rt, into, directories.as_slice(), out)
+            rewrite(alloc, rt, into, directories.as_slice(), out, teller)
         }
         Ok(Line::List(directories)) => list(alloc, rt, directories.as_slice(), out),
         Ok(Line::FromOpenMetrics(options, text_in)) => {
-            from_openmetrics(alloc, rt, &options, text_in, input, out)
+            from_openmetrics(alloc, rt, &options, text_in, input, out, teller)
         }
-        Ok(Line::FromRows(target, file)) => from_rows(alloc, rt, &target, file, input, out),
+        Ok(Line::FromRows(target, file)) => {
+            from_rows(alloc, rt, &target, file, input, out, teller)
+        }
         Ok(Line::ToOpenMetrics(reply_in)) => to_openmetrics(alloc, rt, &reply_in, input, out),
         Err(error) if matches!(error.kind(), ErrorKind::OutOfMemory) => Err(Fault::Memory),
         Err(error) if error.use_stderr() => Err(Fault::Words(error)),

@@ -5,6 +5,7 @@ use crate::listed::Listed;
 use crate::own::{Opened, open_own};
 use crate::plan::{make_outputs, plan_for};
 use crate::target::{Target, make_folder, send};
+use crate::teller::Teller;
 use block_folder::HostDisk;
 use block_outputs::Stretch;
 use labels::{MAX_TIME, MIN_TIME};
@@ -49,19 +50,22 @@ fn open_all<R: Files + AllocGlobal>(
 }
 
 /// Makes blocks of the samples of blocks that are not deleted, of which the later wins.
-pub(crate) fn rewrite<R: Files + AllocGlobal + Clone + Drop, W: Write>(
+pub(crate) fn rewrite<R: Files + AllocGlobal + Clone + Drop, W: Write, E: Write>(
     alloc: Global,
     rt: &R,
     into: &str,
     directories: &[&str],
     out: &mut W,
+    teller: &mut Teller<'_, E>,
 ) -> Result<(), Fault> {
+    teller.is_at("reading the blocks")?;
     let inputs = open_all(alloc, rt, directories)?;
     let whole = Stretch {
         from: MIN_TIME,
         to: MAX_TIME,
     };
     let plan = plan_for(alloc, inputs.listed.as_slice(), whole)?;
+    teller.is_at("writing the outputs")?;
     make_folder(alloc, rt, into)?;
     let target = Target {
         into,

@@ -2,13 +2,14 @@
 
 ghost use Rattle.std.specs.Prelude.{◌≡◌, IfOk};
 ghost use Rattle.blocktool_command.specs.Texts.{AreInputsOf, count_within, IsGivenByText};
-ghost use Rattle.blocktool_command.specs.Texts.{TextsGiveTheirContent};
+ghost use Rattle.blocktool_command.specs.Texts.{IsTold, TextsGiveTheirContent};
 
 use crate::fault::Fault;
 use crate::input::Input;
 use crate::listed::Listed;
 use crate::plan::{make_outputs, plan_for};
 use crate::target::{Target, make_folder, send};
+use crate::teller::Teller;
 use block_folder::HostDisk;
 use block_outputs::{Counts, Stretch};
 use exposition::Left;
@@ -18,21 +19,33 @@ use std::alloc::{AllocError, Global};
 use std::io::Write;
 use std::rt::Files;
 
-/// Rows whose times ascend, of which the first counts, and samples with other values.
+/// Rows whose times ascend, of which the first counts, samples with other values, and those of the
+/// rows that were rounded.
 #[derive(Drop)]
 pub(crate) struct Said {
     pub(crate) listed: Listed,
     pub(crate) others: Vec<Left>,
+    pub(crate) rounded: Vec<Left>,
 }
 
-// How many samples with other values lie in a range.
-fn others_within(said: &Said, times: Stretch) -> u64
-    ensures { result ≡ count_within times.from times.to said.now.others.items }
+// How many samples lie in a range.
+fn count_within(samples: &[Left], times: Stretch) -> u64
+    ensures { result ≡ count_within times.from times.to samples.now }
 {
-    said.others
+    samples
         .iter()
-        .filter(|other| times.has(other.t))
+        .filter(|sample| times.has(sample.t))
         .count() as u64
+}
+
+// Counts what of samples with other values, and of those that were rounded, lies in a range.
+fn tell(said: &Said, times: Stretch, tally: &mut Tally)
+    ensures { IsTold said.now.others.items said.now.rounded.items times tally.old tally.new }
+{
+    let rest = count_within(said.others.as_slice(), times);
+    let rounded = count_within(said.rounded.as_slice(), times);
+    tally.rest = tally.rest.saturating_add(rest);
+    tally.rounded = tally.rounded.saturating_add(rounded);
 }
 
 // The rows in a range; the samples with other values that lie in it are counted.
@@ -43,16 +56,17 @@ fn rows_said(
     tally: &mut Tally,
 ) -> Result<Vec<Row>, Fault>
     ensures { IfOk result (λ rows. IsGivenByText said.now.listed.rows.items
-        said.now.others.items times rows.items tally.old tally.new) }
+        said.now.others.items said.now.rounded.items times rows.items tally.old tally.new) }
 {
     let rows = said.listed.rows_in(alloc, times, tally)?;
-    tally.rest = tally.rest.saturating_add(others_within(said, times));
+    tell(said, times, tally);
     Ok(rows)
 }
 
 impl Input for Said {
     ghost may_give = { λ said times rows old new.
-        IsGivenByText said.listed.rows.items said.others.items times rows old new };
+        IsGivenByText said.listed.rows.items said.others.items said.rounded.items times rows old
+        new };
 
     fn rows_in(&self, alloc: Global, times: Stretch, tally: &mut Tally) -> Result<Vec<Row>, Fault> {
         rows_said(alloc, self, times, tally)
@@ -82,21 +96,24 @@ fn inputs_of(alloc: Global, said: Said) -> Result<Vec<Said>, AllocError>
             rows: Vec::new(alloc),
         },
         others: Vec::new(alloc),
+        rounded: Vec::new(alloc),
     })?;
     Ok(inputs)
 }
 
 /// Makes blocks of what was said in a range of times.
-pub(crate) fn write_said<R: Files + AllocGlobal + Clone + Drop, W: Write>(
+pub(crate) fn write_said<R: Files + AllocGlobal + Clone + Drop, W: Write, E: Write>(
     alloc: Global,
     rt: &R,
     said: Said,
     times: Stretch,
     target: &Target<'_>,
     out: &mut W,
+    teller: &mut Teller<'_, E>,
 ) -> Result<(), Fault> {
     let inputs = inputs_of(alloc, said)?;
     let plan = plan_for(alloc, inputs.as_slice(), times)?;
+    teller.is_at("writing the outputs")?;
     make_folder(alloc, rt, target.into)?;
     let mut disk = HostDisk::new(rt);
     let summary = make_outputs(alloc, inputs.as_slice(), &plan, &mut disk, target, out)?;

@@ -1,8 +1,6 @@
 //! The words of the commands that read and write text.
 
-use crate::command::{
-    ABOUT_REST, ABOUT_STALE, FROM, Line, TO, digits, digits_in, into, options_in, time,
-};
+use crate::command::{Line, digits, digits_in, into, options_in, with_options};
 use crate::from_openmetrics::TextIn;
 use crate::target::Target;
 use crate::to_openmetrics::ReplyIn;
@@ -13,16 +11,14 @@ use std::alloc::{AllocError, Global};
 
 const FORMATS: [&str; 2] = ["openmetrics", "prometheus"];
 
-const EITHER: [&str; 2] = ["refuse", "drop"];
-
 const ABOUT_FROM: &str =
     "FILE, or standard input, is OpenMetrics text, whose times are in seconds and which ends with
 `# EOF`, or with --format prometheus the older text of Prometheus, whose times are in milliseconds.
 Each sample needs a time. Of two samples of one series at one time that of the later line is kept.
 Exemplars are left; no text has stale markers. The text and its rows are in memory at once.
 
-The outputs, the values and the last line are those of `blocktool from-prometheus`, but for
-`--rest round`.
+The outputs, the values and the last line are those of `blocktool from-prometheus`; values are read
+as the text writes them, with no double between.
 
 The first line that is wrong is refused, with its code, a sentence, line and column:
   P1 to P12 the line, or the end of the text
@@ -71,14 +67,6 @@ fn format<'a>(alloc: Global) -> Arg<'a> {
         .help("The format of the text [default: openmetrics]")
 }
 
-fn either<'a>(alloc: Global, name: &'a str, help: &'a str) -> Arg<'a> {
-    Arg::new(alloc, name)
-        .long(name)
-        .value_name("WHAT")
-        .value_parser(ValueParser::from(EITHER.as_slice()))
-        .help(help)
-}
-
 fn format_in(found: &ArgMatches<'_>) -> Format {
     if found.get_str("format") == Some("prometheus") {
         Format::Prometheus
@@ -88,15 +76,10 @@ fn format_in(found: &ArgMatches<'_>) -> Format {
 }
 
 pub(crate) fn from_openmetrics<'a>(alloc: Global) -> Result<Command<'a>, AllocError> {
-    Command::new(alloc, "from-openmetrics")
+    let command = Command::new(alloc, "from-openmetrics")
         .about("Makes blocks out of OpenMetrics text")
-        .after_help(ABOUT_FROM)
-        .arg(digits(alloc))?
-        .arg(either(alloc, "rest", ABOUT_REST))?
-        .arg(either(alloc, "stale", ABOUT_STALE))?
-        .arg(time(alloc, "from", FROM))?
-        .arg(time(alloc, "to", TO))?
-        .arg(into(alloc))?
+        .after_help(ABOUT_FROM);
+    with_options(alloc, command)?
         .arg(format(alloc))?
         .arg(file(alloc, "A file with text [default: standard input]"))
 }

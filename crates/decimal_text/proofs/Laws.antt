@@ -2,7 +2,7 @@
 use Rattle.std.proofs.Common.{◌≡◌, ℕ, zero, suc, ◌+◌, ◌-◌, ◌*◌, ◌^◌, ◌<◌, ◌≤◌, true, false, eqb}
 use Rattle.std.proofs.Common.{ltb, leb, ◌&&◌, List, [], ◌∷◌, ◌++◌, length, take, drop, Result, Ok}
 use Rattle.std.proofs.Common.{Err, refl, sym, ap, subst, ◌∙◌, inl, inr, arith}
-use Rattle.std.proofs.lemmas.Bool.{lt-ltb, eqb-true, eqb-false, eq-eqb, ne_eqb, and_parts}
+use Rattle.std.proofs.lemmas.Bool.{lt-ltb, eqb-true, eq-eqb, ne_eqb, and_parts}
 use Rattle.std.proofs.lemmas.Bool.{cases_Bool, leb-true}
 use Rattle.std.proofs.Math.Nat.{pow-suc, one-le-pow, mul_assoc, le_of_mul-le-mul_right}
 use Rattle.std.proofs.lemmas.Nat.{mul-le, same_from_place}
@@ -13,15 +13,16 @@ use Rattle.wire.specs.Outcome.{Answers}
 use Rattle.wire.proofs.Steps.{bind_ok, passed, not_failed, same_value}
 use Rattle.decimal_text.specs.declared.error.DecimalError.{DecimalError}
 use Rattle.decimal_text.specs.declared.error.DecimalError.TheVariants.{Form, Finer, Large}
-use Rattle.decimal_text.specs.Decimals.{is_digit, AreDigits, value_from, IsFraction, IsDecimal}
-use Rattle.decimal_text.specs.Reading.{digits_in_front, fraction_at, with_digit, whole_at, parts_at}
-use Rattle.decimal_text.specs.Reading.{decimal_at}
+use Rattle.decimal_text.specs.Decimals.{is_digit, AreDigits, AreDigitsOf, value_from, IsFraction}
+use Rattle.decimal_text.specs.Decimals.{IsDecimal}
+use Rattle.decimal_text.specs.Reading.{digits_in_front, digits_at, fraction_at, with_digit}
+use Rattle.decimal_text.specs.Reading.{whole_at, parts_at, decimal_at}
 
 -- a power of ten
-ten : (k : ℕ) → 10 ^ suc k ≡ 10 ^ k * 10
+pub ten : (k : ℕ) → 10 ^ suc k ≡ 10 ^ k * 10
 ten k = pow-suc 10 k
 
-ten_some : (k : ℕ) → 1 ≤ 10 ^ k
+pub ten_some : (k : ℕ) → 1 ≤ 10 ^ k
 ten_some k = one-le-pow k 10 (omega arith)
 
 with_digit_is : (n d m : ℕ) → with_digit n d ≡ Ok m → m ≡ n * 10 + d
@@ -127,7 +128,7 @@ none_of zero zero h = absurd (omega (arith, h))
 none_of zero (suc m) h = rw (ne_eqb (suc m) 0 (λ e. omega (arith, e))) refl
 none_of (suc n) m h = rw (ne_eqb (suc n) 0 (λ e. omega (arith, e))) refl
 
-value_append : (n : ℕ) (xs ys : List ℕ) → value_from n (xs ++ ys) ≡ value_from (value_from n xs) ys
+pub value_append : (n : ℕ) (xs ys : List ℕ) → value_from n (xs ++ ys) ≡ value_from (value_from n xs) ys
 value_append n [] ys = refl
 value_append n (x ∷ xs) ys = value_append (n * 10 + (x - 48)) xs ys
 
@@ -140,52 +141,63 @@ digits_within (c ∷ cs) =
       | inr e ↦ rw e (omega arith)
     ]
 
-pub decimal_takes : (text : List ℕ) (places m : ℕ) → decimal_at text places ≡ Ok m
-    → IsDecimal text places m
-unfolding decimal_at
-decimal_takes text places m h =
+pub digits_take : (text : List ℕ) (d : List ℕ × List ℕ) → digits_at text ≡ Ok d
+    → AreDigitsOf text d.0 d.1
+unfolding digits_at
+digits_take text d h =
     let whole = take (digits_in_front text) text in
     let rest = drop (digits_in_front text) text in
-    let f = bind_ok (fraction_at rest) _ m h in
-    let t = not_failed (eqb (digits_in_front text) 0 && eqb (length f.0) 0) Form _ m f.2 in
-    let n = bind_ok (whole_at 0 whole) _ m t.1 in
+    let f = bind_ok (fraction_at rest) _ d h in
+    let t = not_failed (eqb (digits_in_front text) 0 && eqb (length f.0) 0) Form _ d f.2 in
     let front = fraction_takes rest f.0 f.1 in
-    let value = whole_takes 0 whole n.0 n.1 in
-    let parts = parts_take n.0 places f.0 m n.2 in
     let within = digits_within text in
     let long : length whole ≡ digits_in_front text = simp length-take (grind arith) in
     let some = some_of (digits_in_front text) (length f.0) t.0 in
-    record {
-      whole = whole;
-      fraction = f.0;
+    let made : List ℕ × List ℕ = (whole, f.0) in
+    subst (λ (x : List ℕ × List ℕ). AreDigitsOf text x.0 x.1) (same_value made d t.1)
+    (record {
       behind = rest;
       text_is = sym (take-append-drop (digits_in_front text) text);
       behind_is = front.text;
       some = omega (arith, some, long);
       whole_digits = digits_front text;
       fraction_digits = front.digits;
+    })
+
+pub decimal_takes : (text : List ℕ) (places m : ℕ) → decimal_at text places ≡ Ok m
+    → IsDecimal text places m
+unfolding decimal_at
+decimal_takes text places m h =
+    let d = bind_ok (digits_at text) _ m h in
+    let n = bind_ok (whole_at 0 d.0.0) _ m d.2 in
+    let value = whole_takes 0 d.0.0 n.0 n.1 in
+    let parts = parts_take n.0 places d.0.1 m n.2 in
+    record {
+      whole = d.0.0;
+      fraction = d.0.1;
+      digits = digits_take text d.0 d.1;
       exact =
-          ap (λ (x : ℕ). x * 10 ^ places) (value_append 0 whole f.0
-          ∙ ap (λ (k : ℕ). value_from k f.0) (sym value)) ∙ parts;
+          ap (λ (x : ℕ). x * 10 ^ places) (value_append 0 d.0.0 d.0.1
+          ∙ ap (λ (k : ℕ). value_from k d.0.1) (sym value)) ∙ parts;
     }
 
 -- ---- what is said
 
-digit_small : (c : ℕ) → is_digit c ≡ true → c - 48 < 10
+pub digit_small : (c : ℕ) → is_digit c ≡ true → c - 48 < 10
 digit_small c h =
     let p = and_parts (leb 48 c) (leb c 57) h in
     let a = leb-true c 57 p.1 in
     omega arith
 
-digit_large : (c : ℕ) → is_digit c ≡ true → 48 ≤ c
+pub digit_large : (c : ℕ) → is_digit c ≡ true → 48 ≤ c
 digit_large c h = leb-true 48 c (and_parts (leb 48 c) (leb c 57) h).0
 
 -- digits behind a number
-record Behind (n : ℕ) (cs : List ℕ) : Type 0 where
-  is : value_from n cs ≡ n * 10 ^ length cs + value_from 0 cs
-  small : value_from 0 cs < 10 ^ length cs
+pub record Behind (n : ℕ) (cs : List ℕ) : Type 0 where
+  pub is : value_from n cs ≡ n * 10 ^ length cs + value_from 0 cs
+  pub small : value_from 0 cs < 10 ^ length cs
 
-behind : (n : ℕ) (cs : List ℕ) → AreDigits cs → Behind n cs
+pub behind : (n : ℕ) (cs : List ℕ) → AreDigits cs → Behind n cs
 behind n [] digits = record { is = omega arith; small = omega arith }
 behind n (c ∷ cs) digits =
     let d = c - 48 in
@@ -335,36 +347,38 @@ drop_front : (ws rest : List ℕ) → drop (length ws) (ws ++ rest) ≡ rest
 drop_front [] rest = grind arith
 drop_front (w ∷ ws) rest = drop_front ws rest
 
+pub digits_again : (text whole fraction : List ℕ) → AreDigitsOf text whole fraction
+    → digits_at text ≡ Ok (whole, fraction)
+unfolding digits_at
+digits_again text whole fraction x =
+    let rest = x.behind in
+    let n =
+    digits_of_digits whole rest x.whole_digits (digits_of_fraction fraction rest x.behind_is) in
+    let count : digits_in_front text ≡ length whole = ap digits_in_front x.text_is ∙ n in
+    let no = none_of (length whole) (length fraction) x.some in
+    let front : take (length whole) text ≡ whole = ap (take (length whole)) x.text_is ∙ take_front whole rest in
+    let back : drop (length whole) text ≡ rest = ap (drop (length whole)) x.text_is ∙ drop_front whole rest in
+    rw (count, back, fraction_again fraction rest x.behind_is x.fraction_digits, no, front) refl
+
 pub decimal_again : (text : List ℕ) (places m : ℕ) → m < 2 ^ 63 → IsDecimal text places m
     → decimal_at text places ≡ Ok m
 unfolding decimal_at
 decimal_again text places m lt x =
-    let rest = x.behind in
-    let n =
-    digits_of_digits x.whole rest x.whole_digits (digits_of_fraction x.fraction rest x.behind_is) in
-    let count : digits_in_front text ≡ length x.whole = ap digits_in_front x.text_is ∙ n in
-    let no = none_of (length x.whole) (length x.fraction) x.some in
-    let front : take (length x.whole) text ≡ x.whole = ap (take (length x.whole)) x.text_is ∙ take_front x.whole rest in
-    let back : drop (length x.whole) text ≡ rest = ap (drop (length x.whole)) x.text_is ∙ drop_front x.whole rest in
     let v = value_from 0 x.whole in
     let parts : value_from v x.fraction * 10 ^ places ≡ m * 10 ^ length x.fraction =
     ap (λ (k : ℕ). k * 10 ^ places) (sym (value_append 0 x.whole x.fraction)) ∙ x.exact in
     let k = length x.fraction in
-    let b = behind v x.fraction x.fraction_digits in
+    let b = behind v x.fraction x.digits.fraction_digits in
     let is = b.is in
     let one = ten_some places in
     let grown = mul-le (value_from v x.fraction) 1 (value_from v x.fraction) (10 ^ places) (omega arith) one in
     let within : v * 10 ^ k ≤ m * 10 ^ k = omega (arith, parts, grown) in
     let few : v ≤ m = le_of_mul-le-mul_right within (ten_some k) in
     rw (
-      count,
-      back,
-      fraction_again x.fraction rest x.behind_is x.fraction_digits,
-      no,
-      front,
-      whole_again 0 x.whole x.whole_digits (omega arith),
+      digits_again text x.whole x.fraction x.digits,
+      whole_again 0 x.whole x.digits.whole_digits (omega arith),
     )
-    (parts_again v places x.fraction m x.fraction_digits lt parts)
+    (parts_again v places x.fraction m x.digits.fraction_digits lt parts)
 
 -- what a call that answers so has found
 pub found_in : (text : List ℕ) (places : ℕ) (r : Result ℕ DecimalError)

@@ -10,6 +10,8 @@ use Rattle.decimal_text.specs.declared.error.DecimalError.{DecimalError}
 use Rattle.decimal_text.specs.declared.error.DecimalError.TheVariants.{Finer}
 use Rattle.decimal_text.specs.Decimals.{is_digit}
 use Rattle.decimal_text.specs.Reading.{digits_in_front, with_digit, whole_at, part_at, parts_at}
+use Rattle.decimal_text.specs.Tenths.{cut_after, grown, padded, with_next}
+use Rattle.decimal_text.specs.declared.rounding.Cut.{Cut}
 
 next : (s : List ℕ) (i : ℕ) → i < length s → drop i s ≡ get_or s i 0 ∷ drop (i + 1) s
 next s i lt = rw (add-one, drop-cons s i 0) refl
@@ -97,3 +99,25 @@ pad_fails left at n f lt e =
 pub pad_ends : (left n : ℕ) → left ≡ 0 → parts_at n left [] ≡ Ok n
 unfolding parts_at
 pad_ends left n e = ap (λ (k : ℕ). parts_at n k []) e
+
+pub cut_goes : (s : List ℕ) (i : ℕ) (cut more : Cut) → i < length s
+    → more ≡ with_next cut (get_or s i 0)
+    → cut_after more (drop (i + 1) s) ≡ cut_after cut (drop i s)
+unfolding cut_after
+cut_goes s i cut more lt e =
+    ap (λ (x : Cut). cut_after x (drop (i + 1) s)) e ∙ sym (ap (cut_after cut) (next s i lt))
+
+pub cut_ends : (s : List ℕ) (i : ℕ) (cut : Cut) → length s ≤ i → cut_after cut (drop i s) ≡ cut
+unfolding cut_after
+cut_ends s i cut le = ap (cut_after cut) (gone s i le)
+
+pub zeros_go : (count at n m : ℕ) → at < count → m ≡ grown n 0
+    → padded (count - (at + 1)) m ≡ padded (count - at) n
+unfolding padded
+zeros_go count at n m lt e =
+    ap (padded (count - (at + 1))) e
+    ∙ sym (ap (λ (k : ℕ). padded k n) (left_suc count at lt))
+
+pub zeros_end : (count n : ℕ) → count ≡ 0 → padded count n ≡ n
+unfolding padded
+zeros_end count n e = ap (λ (k : ℕ). padded k n) e

@@ -19,14 +19,18 @@ value_from n (c ∷ cs) = value_from (n * 10 + (c - 48)) cs
 abbrev pub IsFraction : List ℕ → List ℕ → Type 0
 IsFraction digits text = (text ≡ 46 ∷ digits) ⊎ ((digits ≡ []) × (text ≡ []))
 
--- the text is that of size / 10 ^ places: digits, perhaps with a point before, among or behind them
-pub record IsDecimal (text : List ℕ) (places size : ℕ) : Type 0 where
-  pub whole : List ℕ
-  pub fraction : List ℕ
+-- a text by its digits: a point may stand before, among or behind them
+pub record AreDigitsOf (text whole fraction : List ℕ) : Type 0 where
   pub behind : List ℕ
   pub text_is : text ≡ whole ++ behind
   pub behind_is : IsFraction fraction behind
   pub some : 0 < length whole + length fraction
   pub whole_digits : AreDigits whole
   pub fraction_digits : AreDigits fraction
+
+-- the text is that of size / 10 ^ places
+pub record IsDecimal (text : List ℕ) (places size : ℕ) : Type 0 where
+  pub whole : List ℕ
+  pub fraction : List ℕ
+  pub digits : AreDigitsOf text whole fraction
   pub exact : value_from 0 (whole ++ fraction) * 10 ^ places ≡ size * 10 ^ length fraction

@@ -1,3 +1,5 @@
 pub mod Codes
 pub mod Decimals
 pub mod Reading
+pub mod Rounded
+pub mod Tenths

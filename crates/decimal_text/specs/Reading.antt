@@ -17,6 +17,13 @@ fraction_at [] = Ok []
 fraction_at (c ∷ cs) =
     if c == 46 && digits_in_front cs == length cs then Ok cs else Err Form
 
+-- the digits in front and those after the point: at least one in all
+unfoldable pub digits_at : List ℕ → Result (List ℕ × List ℕ) DecimalError
+digits_at text =
+    fraction_at (drop (digits_in_front text) text) >>= λ fraction.
+    if digits_in_front text == 0 && length fraction == 0 then Err Form
+    else Ok (take (digits_in_front text) text, fraction)
+
 -- a number with one more digit
 abbrev pub with_digit : ℕ → ℕ → Result ℕ DecimalError
 with_digit n digit = if nat_lt (n * 10 + digit) (2 ^ 63) then Ok (n * 10 + digit) else Err Large
@@ -39,6 +46,4 @@ parts_at n (suc places) (c ∷ cs) = with_digit n (c - 48) >>= λ m. parts_at m 
 
 unfoldable pub decimal_at : List ℕ → ℕ → Result ℕ DecimalError
 decimal_at text places =
-    fraction_at (drop (digits_in_front text) text) >>= λ fraction.
-    if digits_in_front text == 0 && length fraction == 0 then Err Form else
-    (whole_at 0 (take (digits_in_front text) text) >>= λ n. parts_at n places fraction)
+    digits_at text >>= λ d. whole_at 0 d.0 >>= λ n. parts_at n places d.1

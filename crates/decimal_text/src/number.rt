@@ -4,8 +4,8 @@ ghost use Rattle.std.specs.Prelude.{◌≡◌, ◌<◌, ◌≤◌, ◌+◌, ◌-
 ghost use Rattle.std.specs.Prelude.{Ok};
 ghost use Rattle.wire.specs.Outcome.{Answers};
 ghost use Rattle.decimal_text.specs.Decimals.{is_digit, IsDecimal};
-ghost use Rattle.decimal_text.specs.Reading.{digits_in_front, fraction_at, with_digit, whole_at};
-ghost use Rattle.decimal_text.specs.Reading.{part_at, parts_at, decimal_at};
+ghost use Rattle.decimal_text.specs.Reading.{digits_in_front, digits_at, fraction_at, with_digit};
+ghost use Rattle.decimal_text.specs.Reading.{whole_at, part_at, parts_at, decimal_at};
 
 use crate::error::DecimalError;
 
@@ -32,11 +32,7 @@ fn read_decimal(text: &[u8], places: u32) -> Result<u64, DecimalError>
     ensures exact { Answers (λ n. n) result (decimal_at text.now places) }
     ensures bound { IfOk result (λ n. n < 2 ^ 63) }
 {
-    let (whole, rest) = text.split_at(digits_in_front(text));
-    let fraction = fraction_of(rest)?;
-    if whole.is_empty() && fraction.is_empty() {
-        return Err(DecimalError::Form);
-    }
+    let (whole, fraction) = digits_of(text)?;
     let value = whole_of(whole)?;
     let size = parts_of(value, places, fraction)?;
     Ok(size)
@@ -77,6 +73,19 @@ fn fraction_of(rest: &[u8]) -> Result<&[u8], DecimalError>
         return Err(DecimalError::Form);
     }
     Ok(digits)
+}
+
+/// The digits in front, and those after the point: at least one in all.
+#[tactic(auto, unfolding(crate::specs::Reading::digits_at))]
+pub fn digits_of(text: &[u8]) -> Result<(&[u8], &[u8]), DecimalError>
+    ensures { Answers (λ d. (d.0.now, d.1.now)) result (digits_at text.now) }
+{
+    let (whole, rest) = text.split_at(digits_in_front(text));
+    let fraction = fraction_of(rest)?;
+    if whole.is_empty() && fraction.is_empty() {
+        return Err(DecimalError::Form);
+    }
+    Ok((whole, fraction))
 }
 
 // A number with one digit more.

@@ -1,8 +1,7 @@
 -- Lines, one after the other.
 use Rattle.std.specs.Prelude.{◌≡◌, ℕ, ◌+◌, ◌<◌, List, [], ◌∷◌, ◌++◌, length, take, get_or}
-use Rattle.std.specs.Prelude.{refl, suc, drop, true, false, ◌&&◌, Option, None, Some, IfSome}
+use Rattle.std.specs.Prelude.{refl, suc, drop, true, false, Option, None, Some, IfSome}
 use Rattle.std.specs.Borrow.{Bor}
-use Rattle.std.specs.List.{list_all}
 use Rattle.std.proofs.Math.Seq.{split_at}
 use Rattle.std.proofs.lemmas.List.Folds.{list_all_at, list_all-append, list_all-map}
 use Rattle.std.proofs.Common.{sym, ap, subst, ◌∙◌, append_assoc, arith}
@@ -17,28 +16,30 @@ use Rattle.exposition.specs.declared.error.ReadError.{ReadError}
 use Rattle.exposition.specs.declared.error.ReadError.TheVariants.{Memory, Refused}
 use Rattle.exposition.specs.declared.error.Refusal.{Refusal}
 use Rattle.exposition.specs.declared.series.NoLabels.{NoLabels}
+use Rattle.exposition.specs.declared.text.Fractions.{Fractions}
 use Rattle.exposition.specs.Faults.{are_utf8, is_utf8_pair, line_fault}
 use Rattle.exposition.specs.Reading.{Said, AddsLine, AddAll, texts_in, unsaid}
 use Rattle.exposition.specs.Refusing.{IfRefused, IsFirstWrong, IsFor}
 use Rattle.exposition.specs.Series.{IsNoUtf8}
 
-all_last : (format : Format) (places n : ℕ) (lines : List (List ℕ)) (line : List ℕ) (a b c : Said)
-    → AddAll format places n lines a b → AddsLine format places (n + length lines) line b c
-    → AddAll format places n (lines ++ line ∷ []) a c
-all_last format places n [] line a b c all one =
+all_last : (format : Format) (places : ℕ) (f : Fractions) (n : ℕ) (lines : List (List ℕ))
+    (line : List ℕ) (a b c : Said)
+    → AddAll format places f n lines a b → AddsLine format places f (n + length lines) line b c
+    → AddAll format places f n (lines ++ line ∷ []) a c
+all_last format places f n [] line a b c all one =
     let none : n + length {A = List ℕ} [] ≡ n = omega arith in (
       c,
-      subst (λ (k : ℕ). AddsLine format places k line a c) none
-          (subst (λ (x : Said). AddsLine format places (n + length {A = List ℕ} []) line x c) all
+      subst (λ (k : ℕ). AddsLine format places f k line a c) none
+          (subst (λ (x : Said). AddsLine format places f (n + length {A = List ℕ} []) line x c) all
           one),
       refl,
     )
-all_last format places n (l ∷ ls) line a b c all one =
+all_last format places f n (l ∷ ls) line a b c all one =
     let moved : n + length (l ∷ ls) ≡ n + 1 + length ls = omega arith in (
       all.0,
       all.1,
-      all_last format places (n + 1) ls line all.0 b c all.2
-          (subst (λ (k : ℕ). AddsLine format places k line b c) moved one),
+      all_last format places f (n + 1) ls line all.0 b c all.2
+          (subst (λ (k : ℕ). AddsLine format places f k line b c) moved one),
     )
 
 taken : (lines : List (Bor (List ℕ))) (n : ℕ) → n < length lines
@@ -48,27 +49,27 @@ taken lines n lt =
     ∙ length-take-le n lines (omega (arith, lt))
 
 -- one line more, the first of which has the number 1
-pub all_more : (format : Format) (places : ℕ) (lines : List (Bor (List ℕ))) (n number : ℕ)
-    (d : Bor (List ℕ)) (a b c : Said) → n < length lines → number ≡ n + 1
-    → AddAll format places 1 (texts_in (take n lines)) a b
-    → AddsLine format places number (get_or lines n d).now b c
-    → AddAll format places 1 (texts_in (take (n + 1) lines)) a c
-all_more format places lines n number d a b c lt is all one =
+pub all_more : (format : Format) (places : ℕ) (f : Fractions) (lines : List (Bor (List ℕ)))
+    (n number : ℕ) (d : Bor (List ℕ)) (a b c : Said) → n < length lines → number ≡ n + 1
+    → AddAll format places f 1 (texts_in (take n lines)) a b
+    → AddsLine format places f number (get_or lines n d).now b c
+    → AddAll format places f 1 (texts_in (take (n + 1) lines)) a c
+all_more format places f lines n number d a b c lt is all one =
     let long = taken lines n lt in
     let same : number ≡ 1 + length (texts_in (take n lines)) = omega (arith, is, long) in
-    subst (λ (ls : List (List ℕ)). AddAll format places 1 ls a c)
+    subst (λ (ls : List (List ℕ)). AddAll format places f 1 ls a c)
     (sym (ap texts_in (take_at_read lines n d lt).1
     ∙ map-append (λ (x : Bor (List ℕ)). x.now) (take n lines) (get_or lines n d ∷ [])))
-    (all_last format places 1 (texts_in (take n lines)) (get_or lines n d).now a b c all
-    (subst (λ (k : ℕ). AddsLine format places k (get_or lines n d).now b c) same one))
+    (all_last format places f 1 (texts_in (take n lines)) (get_or lines n d).now a b c all
+    (subst (λ (k : ℕ). AddsLine format places f k (get_or lines n d).now b c) same one))
 
 -- a line that is wrong, behind lines that say something
-wrong_here : (format : Format) (places : ℕ) (lines : List (Bor (List ℕ))) (n number : ℕ)
-    (d : Bor (List ℕ)) (said : Said) (r : Refusal) → n < length lines → number ≡ n + 1
-    → AddAll format places 1 (texts_in (take n lines)) unsaid said
+wrong_here : (format : Format) (places : ℕ) (f : Fractions) (lines : List (Bor (List ℕ)))
+    (n number : ℕ) (d : Bor (List ℕ)) (said : Said) (r : Refusal) → n < length lines → number ≡ n + 1
+    → AddAll format places f 1 (texts_in (take n lines)) unsaid said
     → IsFor number (line_fault format places (get_or lines n d).now) r
-    → IsFirstWrong format places (texts_in lines) r
-wrong_here format places lines n number d said r lt is all wrong = record {
+    → IsFirstWrong format places f (texts_in lines) r
+wrong_here format places f lines n number d said r lt is all wrong = record {
   before = texts_in (take n lines);
   line = (get_or lines n d).now;
   after = texts_in (drop (suc n) lines);
@@ -88,14 +89,14 @@ one_pair labels n x lt at =
     ((take_at_read labels n x lt).1 ∙ ap (λ (y : Label). take n labels ++ y ∷ []) (sym at))
     ∙ map-append pair_in (take n labels) (x ∷ [])
 
-pub first_wrong : (e : ReadError) (format : Format) (places : ℕ) (lines : List (Bor (List ℕ)))
-    (n number : ℕ) (d : Bor (List ℕ)) (said : Said) → n < length lines → number ≡ n + 1
-    → AddAll format places 1 (texts_in (take n lines)) unsaid said
+pub first_wrong : (e : ReadError) (format : Format) (places : ℕ) (f : Fractions)
+    (lines : List (Bor (List ℕ))) (n number : ℕ) (d : Bor (List ℕ)) (said : Said) → n < length lines → number ≡ n + 1
+    → AddAll format places f 1 (texts_in (take n lines)) unsaid said
     → IfRefused e (IsFor number (line_fault format places (get_or lines n d).now))
-    → IfRefused e (IsFirstWrong format places (texts_in lines))
-first_wrong Memory format places lines n number d said lt is all wrong = tt
-first_wrong (Refused r) format places lines n number d said lt is all wrong =
-    wrong_here format places lines n number d said r lt is all wrong
+    → IfRefused e (IsFirstWrong format places f (texts_in lines))
+first_wrong Memory format places f lines n number d said lt is all wrong = tt
+first_wrong (Refused r) format places f lines n number d said lt is all wrong =
+    wrong_here format places f lines n number d said r lt is all wrong
 
 -- the pair of one label more
 pub pairs_more : (first so_far new : List Pair) (labels : List Label) (n : ℕ) (x : Label)

@@ -1,5 +1,5 @@
 -- Where a sample is refused, and why.
-use Rattle.std.specs.Prelude.{◌≡◌, ℕ, Bool, true, false, List, Option, None, Some, IfSome, refl}
+use Rattle.std.specs.Prelude.{◌≡◌, ℕ, true, false, List, Option, None, Some, IfSome, refl}
 use Rattle.std.proofs.Common.{sym, ap, subst, ◌∙◌}
 use Rattle.labels.specs.Contents.{is_time}
 use Rattle.open_metrics.specs.Lines.{Sampled}
@@ -7,7 +7,6 @@ use Rattle.exposition.specs.declared.error.Cause.{Cause}
 use Rattle.exposition.specs.declared.error.Cause.TheVariants.{Time}
 use Rattle.exposition.specs.declared.error.ReadError.{ReadError}
 use Rattle.exposition.specs.declared.error.ReadError.TheVariants.{Memory, Refused}
-use Rattle.exposition.specs.declared.error.Refusal.{Refusal}
 use Rattle.exposition.specs.declared.series.NoLabels.{NoLabels}
 use Rattle.exposition.specs.Faults.{column_of, or_time, pairs_fault, pairs_of_sample, sample_fault}
 use Rattle.exposition.specs.Refusing.{IfRefused, IsFor}

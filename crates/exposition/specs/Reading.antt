@@ -5,50 +5,73 @@ use Rattle.std.specs.Borrow.{Bor}
 use Rattle.std.specs.List.{slice_split}
 use Rattle.std.specs.FinMap.Entries.{put}
 use Rattle.labels.specs.Contents.{Content}
-use Rattle.labels.specs.Labels.{Labels, Point, point_cmp}
+use Rattle.labels.specs.Labels.{Labels, point_cmp}
 use Rattle.labels.specs.LabelSets.{IsMadeOf}
 use Rattle.labels.specs.Rows.{Row}
 use Rattle.open_metrics.specs.declared.comments.Format.{Format}
 use Rattle.open_metrics.specs.declared.comments.Format.TheVariants.{OpenMetrics, Prometheus}
 use Rattle.open_metrics.specs.declared.numbers.Value.{Value}
-use Rattle.open_metrics.specs.declared.numbers.Value.TheVariants.{Parts, Other}
+use Rattle.open_metrics.specs.declared.numbers.Value.TheVariants.{Parts, Near, Other}
 use Rattle.open_metrics.specs.Lines.{Sampled, Meaning, nothing, end, sampled, line_at}
 use Rattle.exposition.specs.declared.text.Exposition.{Exposition}
+use Rattle.exposition.specs.declared.text.Fractions.{Fractions}
+use Rattle.exposition.specs.declared.text.Fractions.TheVariants.{Beside, Rounded}
 use Rattle.exposition.specs.declared.text.Gathered.{Gathered}
 use Rattle.exposition.specs.declared.text.Left.{Left}
 use Rattle.exposition.specs.Faults.{column_of, pairs_of_sample, sample_fault}
 use Rattle.exposition.specs.Runs.{content_of, count_of}
 
--- what lines say: the samples whose values are whole numbers of parts, of which the later stands;
--- how many such lines there are; and the other samples with their places, in their order
+-- what lines say: the samples that have a number of parts, of which the later stands; how many such
+-- lines there are; the other samples with their places, in their order; and the places of those
+-- that were rounded to a number of parts
 pub record Said : Type 0 where
   pub content : Content
   pub count : ℕ
   pub others : List Left
+  pub rounded : List Left
 
--- what rows hold, of which the first counts, and others
-abbrev pub told_by : List Row → List Left → Said
-told_by rows others = record {
+-- what rows hold, of which the first counts, other samples, and those that were rounded
+abbrev pub told_by : List Row → List Left → List Left → Said
+told_by rows others rounded = record {
   content = content_of rows;
   count = count_of rows;
   others = others;
+  rounded = rounded;
 }
 
 abbrev pub told_in : Exposition → Said
-told_in e = told_by e.rows.items e.others.items
+told_in e = told_by e.rows.items e.others.items e.rounded.items
 
 -- the same of runs, of which the last counts
 abbrev pub said_in : Gathered → Said
-said_in g = told_by (reverse g.runs) g.others.items
+said_in g = told_by (reverse g.runs) g.others.items g.rounded.items
 
--- a whole number of parts is put over the samples before; another value is told beside them
-abbrev pub AddsValue : Value → Labels → Left → Said → Said → Type 0
-AddsValue (Parts v) labels place old new =
+-- a number of parts is put over the samples before
+abbrev pub IsPutOver : ℤ → Labels → Left → Said → Said → Type 0
+IsPutOver v labels place old new =
     (new.content ≡ put point_cmp (labels, place.t) v old.content)
     × (new.count ≡ old.count + 1) × (new.others ≡ old.others)
-AddsValue Other labels place old new =
+
+-- a value is told beside the samples
+abbrev pub IsBeside : Left → Said → Said → Type 0
+IsBeside place old new =
     (new.content ≡ old.content) × (new.count ≡ old.count)
-    × (new.others ≡ old.others ++ place ∷ [])
+    × (new.others ≡ old.others ++ place ∷ []) × (new.rounded ≡ old.rounded)
+
+-- the nearest number of parts to a value that is none: it is put over the samples before, and told
+-- as rounded, or the value is told beside them
+abbrev pub AddsNear : Fractions → ℤ → Labels → Left → Said → Said → Type 0
+AddsNear Rounded v labels place old new =
+    IsPutOver v labels place old new × (new.rounded ≡ old.rounded ++ place ∷ [])
+AddsNear Beside v labels place old new = IsBeside place old new
+
+-- a whole number of parts is put over the samples before; another value may be rounded, or is told
+-- beside them
+abbrev pub AddsValue : Fractions → Value → Labels → Left → Said → Said → Type 0
+AddsValue fractions (Parts v) labels place old new =
+    IsPutOver v labels place old new × (new.rounded ≡ old.rounded)
+AddsValue fractions (Near v) labels place old new = AddsNear fractions v labels place old new
+AddsValue fractions Other labels place old new = IsBeside place old new
 
 -- the time of a sample, and where its value stands
 abbrev pub place_of : ℕ → List ℕ → Sampled → Left
@@ -59,34 +82,35 @@ place_of number line s = record {
 }
 
 -- the line of a sample: its labels are those of the line and the name of the metric
-pub record AddsSample (number : ℕ) (line : List ℕ) (s : Sampled) (old new : Said) : Type 0 where
+pub record AddsSample (fractions : Fractions) (number : ℕ) (line : List ℕ) (s : Sampled)
+    (old new : Said) : Type 0 where
   pub faultless : sample_fault line s ≡ None
   pub labels : Labels
   pub made : IsMadeOf labels (pairs_of_sample s)
-  pub adds : AddsValue s.value labels (place_of number line s) old new
+  pub adds : AddsValue fractions s.value labels (place_of number line s) old new
 
-abbrev pub Adds : ℕ → List ℕ → Meaning → Said → Said → Type 0
-Adds number line nothing old new = new ≡ old
-Adds number line end old new = ⊥
-Adds number line (sampled s) old new = AddsSample number line s old new
+abbrev pub Adds : Fractions → ℕ → List ℕ → Meaning → Said → Said → Type 0
+Adds fractions number line nothing old new = new ≡ old
+Adds fractions number line end old new = ⊥
+Adds fractions number line (sampled s) old new = AddsSample fractions number line s old new
 
 -- what the line with this number adds to what those before it say
-pub record AddsLine (format : Format) (places number : ℕ) (line : List ℕ) (old new : Said)
-    : Type 0 where
+pub record AddsLine (format : Format) (places : ℕ) (fractions : Fractions) (number : ℕ)
+    (line : List ℕ) (old new : Said) : Type 0 where
   pub meaning : Meaning
   pub read : line_at format places line ≡ Ok meaning
-  pub adds : Adds number line meaning old new
+  pub adds : Adds fractions number line meaning old new
 
 -- what lines add, one after the other, the first of which has this number
-abbrev pub AddAll : Format → ℕ → ℕ → List (List ℕ) → Said → Said → Type 0
-AddAll format places number [] old new = new ≡ old
-AddAll format places number (line ∷ lines) old new =
-    (mid : Said) × AddsLine format places number line old mid
-    × AddAll format places (number + 1) lines mid new
+abbrev pub AddAll : Format → ℕ → Fractions → ℕ → List (List ℕ) → Said → Said → Type 0
+AddAll format places fractions number [] old new = new ≡ old
+AddAll format places fractions number (line ∷ lines) old new =
+    (mid : Said) × AddsLine format places fractions number line old mid
+    × AddAll format places fractions (number + 1) lines mid new
 
 -- what no line says
 abbrev pub unsaid : Said
-unsaid = record { content = []; count = 0; others = [] }
+unsaid = record { content = []; count = 0; others = []; rounded = [] }
 
 -- what stands between the ends of lines
 abbrev pub lines_in : List ℕ → List (List ℕ)
@@ -110,7 +134,8 @@ pub record IsCutInto (format : Format) (all lines : List (List ℕ)) : Type 0 wh
   pub ends : IsEnd format ending
 
 -- the text is lines that say this, and its end
-pub record IsText (format : Format) (places : ℕ) (text : List ℕ) (said : Said) : Type 0 where
+pub record IsText (format : Format) (places : ℕ) (fractions : Fractions) (text : List ℕ)
+    (said : Said) : Type 0 where
   pub lines : List (List ℕ)
   pub cut : IsCutInto format (lines_in text) lines
-  pub says : AddAll format places 1 lines unsaid said
+  pub says : AddAll format places fractions 1 lines unsaid said

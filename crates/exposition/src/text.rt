@@ -4,7 +4,8 @@ ghost use Rattle.std.specs.Prelude.{◌≡◌, ◌≤◌, None, Ok, IfErr, IfOk,
 ghost use Rattle.open_metrics.specs.Lines.{line_at, meaning_in, sample_in};
 ghost use Rattle.exposition.specs.Faults.{line_fault, meaning_fault, pairs_fault};
 ghost use Rattle.exposition.specs.Faults.{pairs_of_sample, sample_fault};
-ghost use Rattle.exposition.specs.Reading.{Adds, AddAll, AddsLine, AddsSample, AddsValue, IsText};
+ghost use Rattle.exposition.specs.Reading.{Adds, AddAll, AddsLine, AddsNear, AddsSample};
+ghost use Rattle.exposition.specs.Reading.{AddsValue, IsText};
 ghost use Rattle.exposition.specs.Reading.{Said, place_of, said_in, texts_in, told_in, unsaid};
 ghost use Rattle.exposition.specs.Refusing.{Gives, IfRefused, IsFirstWrong, IsFor, IsRefused};
 ghost use Rattle.exposition.specs.Runs.{AreRising};
@@ -18,6 +19,15 @@ use crate::series::{NoLabels, label_set};
 use labels::{LabelSet, Row, Sample, is_time};
 use open_metrics::{Fault, Format, Line, SampleLine, Value, read_line};
 use std::alloc::{AllocError, Global};
+
+/// What becomes of values that are no whole numbers of parts, but have a nearest one.
+#[derive(Clone, Copy, Debug, PartialEq, Eq, Drop)]
+pub enum Fractions {
+    /// They are told beside the rows.
+    Beside,
+    /// They stand in the rows as the nearest number of parts, of two the even one.
+    Rounded,
+}
 
 /// A sample whose value is no whole number of parts, and where its value stands.
 #[derive(Clone, Copy, Debug, PartialEq, Eq, Drop)]
@@ -36,8 +46,11 @@ pub struct Exposition {
     /// Rows whose times ascend. A label set may have several: what stands in a row counts before
     /// what stands in rows behind it.
     pub rows: Vec<Row>,
-    /// The samples whose values are no whole numbers of parts, in the order of their lines.
+    /// The samples that do not stand in the rows, in the order of their lines: their values are no
+    /// whole numbers of parts, or are 2^63 parts and more in size.
     pub others: Vec<Left>,
+    /// The samples whose values were rounded, in the order of their lines.
+    pub rounded: Vec<Left>,
 }
 
 /// What lines say.
@@ -45,6 +58,7 @@ pub struct Exposition {
 struct Gathered {
     runs: Runs,
     others: Vec<Left>,
+    rounded: Vec<Left>,
 }
 
 fn left_in(at: Numbered<'_>, sample: &SampleLine<'_>) -> Left
@@ -90,18 +104,42 @@ fn labels_of(
     Ok(labels)
 }
 
+// Adds a value that is no whole number of parts, and the nearest.
+fn add_near(
+    alloc: Global,
+    fractions: Fractions,
+    gathered: &mut Gathered,
+    labels: &LabelSet,
+    v: i64,
+    place: Left,
+) -> Result<(), AllocError>
+    ensures { OnOk result
+        (AddsNear fractions v labels.now place (said_in gathered.old) (said_in gathered.new)) }
+{
+    match fractions {
+        Fractions::Beside => gathered.others.push(place)?,
+        Fractions::Rounded => {
+            gathered.runs.put(alloc, labels, Sample::new(place.t, v))?;
+            gathered.rounded.push(place)?;
+        }
+    }
+    Ok(())
+}
+
 fn add_value(
     alloc: Global,
+    fractions: Fractions,
     gathered: &mut Gathered,
     labels: &LabelSet,
     value: Value,
     place: Left,
 ) -> Result<(), AllocError>
     ensures { OnOk result
-        (AddsValue value labels.now place (said_in gathered.old) (said_in gathered.new)) }
+        (AddsValue fractions value labels.now place (said_in gathered.old) (said_in gathered.new)) }
 {
     match value {
         Value::Parts(v) => gathered.runs.put(alloc, labels, Sample::new(place.t, v))?,
+        Value::Near(v) => add_near(alloc, fractions, gathered, labels, v, place)?,
         Value::Other => gathered.others.push(place)?,
     }
     Ok(())
@@ -109,36 +147,38 @@ fn add_value(
 
 fn add_sample(
     alloc: Global,
+    fractions: Fractions,
     gathered: &mut Gathered,
     sample: &SampleLine<'_>,
     at: Numbered<'_>,
 ) -> Result<(), ReadError>
-    ensures adds { OnOk result (AddsSample at.entry.number at.entry.line.now (sample_in sample.now)
-        (said_in gathered.old) (said_in gathered.new)) }
+    ensures adds { OnOk result (AddsSample fractions at.entry.number at.entry.line.now
+        (sample_in sample.now) (said_in gathered.old) (said_in gathered.new)) }
     ensures wrong { IfErr result (λ e. IfRefused e
         (IsFor at.entry.number (sample_fault at.entry.line.now (sample_in sample.now)))) }
 {
     let labels = labels_of(alloc, at, sample)?;
     let place = left_in(at, sample);
-    add_value(alloc, gathered, &labels, sample.value, place)?;
+    add_value(alloc, fractions, gathered, &labels, sample.value, place)?;
     Ok(())
 }
 
 fn add_read(
     alloc: Global,
+    fractions: Fractions,
     gathered: &mut Gathered,
     read: Line<'_>,
     at: Numbered<'_>,
 ) -> Result<(), ReadError>
-    ensures adds { OnOk result (Adds at.entry.number at.entry.line.now (meaning_in read.entry)
-        (said_in gathered.old) (said_in gathered.new)) }
+    ensures adds { OnOk result (Adds fractions at.entry.number at.entry.line.now
+        (meaning_in read.entry) (said_in gathered.old) (said_in gathered.new)) }
     ensures wrong { IfErr result (λ e. IfRefused e
         (IsFor at.entry.number (meaning_fault at.entry.line.now (Ok (meaning_in read.entry))))) }
 {
     match read {
         Line::Nothing => Ok(()),
         Line::End => Err(refused(at.number, 1, Cause::End)),
-        Line::Sample(sample) => add_sample(alloc, gathered, &sample, at),
+        Line::Sample(sample) => add_sample(alloc, fractions, gathered, &sample, at),
     }
 }
 
@@ -167,17 +207,18 @@ fn add_line(
     alloc: Global,
     format: Format,
     places: u32,
+    fractions: Fractions,
     gathered: &mut Gathered,
     at: Numbered<'_>,
 ) -> Result<(), ReadError>
     requires { places ≤ 9 }
-    ensures adds { OnOk result (AddsLine format places at.entry.number at.entry.line.now
-        (said_in gathered.old) (said_in gathered.new)) }
+    ensures adds { OnOk result (AddsLine format places fractions at.entry.number
+        at.entry.line.now (said_in gathered.old) (said_in gathered.new)) }
     ensures wrong { IfErr result (λ e. IfRefused e
         (IsFor at.entry.number (line_fault format places at.entry.line.now))) }
 {
     let read = line_of(alloc, format, places, at)?;
-    add_read(alloc, gathered, read, at)?;
+    add_read(alloc, fractions, gathered, read, at)?;
     Ok(())
 }
 
@@ -185,22 +226,24 @@ fn gather(
     alloc: Global,
     format: Format,
     places: u32,
+    fractions: Fractions,
     lines: &[&[u8]],
 ) -> Result<Gathered, ReadError>
     requires { places ≤ 9 }
     ensures adds { IfOk result (λ g.
-        AddAll format places 1 (texts_in lines.now) unsaid (said_in g)) }
+        AddAll format places fractions 1 (texts_in lines.now) unsaid (said_in g)) }
     ensures wrong { IfErr result (λ e. IfRefused e
-        (IsFirstWrong format places (texts_in lines.now))) }
+        (IsFirstWrong format places fractions (texts_in lines.now))) }
 {
     let mut gathered = Gathered {
         runs: Runs::new(alloc),
         others: Vec::new(alloc),
+        rounded: Vec::new(alloc),
     };
     let mut number = 1u64;
     for line in lines {
         let at = Numbered { number, line };
-        add_line(alloc, format, places, &mut gathered, at)?;
+        add_line(alloc, format, places, fractions, &mut gathered, at)?;
         number += 1;
     }
     Ok(gathered)
@@ -211,22 +254,30 @@ fn read_lines(
     alloc: Global,
     format: Format,
     places: u32,
+    fractions: Fractions,
     text: &[u8],
 ) -> Result<Exposition, ReadError>
     requires { places ≤ 9 }
-    ensures found { IfOk result (λ e. IsText format places text.now (told_in e)) }
+    ensures found { IfOk result (λ e. IsText format places fractions text.now (told_in e)) }
     ensures rise { IfOk result (λ e. AreRising e.rows.items) }
-    ensures refused { IfErr result (λ e. IfRefused e (IsRefused format places text.now)) }
+    ensures refused { IfErr result
+        (λ e. IfRefused e (IsRefused format places fractions text.now)) }
 {
     let lines = lines_of(alloc, format, text)?;
-    let Gathered { runs, others } = gather(alloc, format, places, lines.as_slice())?;
+    let Gathered {
+        runs,
+        others,
+        rounded,
+    } = gather(alloc, format, places, fractions, lines.as_slice())?;
     Ok(Exposition {
         rows: runs.into_rows(),
         others,
+        rounded,
     })
 }
 
-/// The samples of a text in rows; values are counted in parts of which 10^places make one.
+/// The samples of a text in rows; values are counted in parts of which 10^places make one, and
+/// fractions of these are rounded, or told beside the rows.
 ///
 /// A text of OpenMetrics without its end is refused, and then the first line that is wrong. It
 /// takes time in proportion to the text.
@@ -234,17 +285,19 @@ pub fn read_text(
     alloc: Global,
     format: Format,
     places: u32,
+    fractions: Fractions,
     text: &[u8],
 ) -> Result<Exposition, ReadError>
     requires { places ≤ 9 }
     // Line by line, the text says the samples that the rows hold and the others, and no more.
-    ensures found { IfOk result (λ e. IsText format places text.now (told_in e)) }
+    ensures found { IfOk result (λ e. IsText format places fractions text.now (told_in e)) }
     ensures rise { IfOk result (λ e. AreRising e.rows.items) }
     // The end that is missing is told, or the first line that is wrong: its number, where, and why.
-    ensures refused { IfErr result (λ e. IfRefused e (IsRefused format places text.now)) }
+    ensures refused { IfErr result
+        (λ e. IfRefused e (IsRefused format places fractions text.now)) }
     // A text that says something gives it, unless memory runs out.
-    ensures only { (said : Said) → IsText format places text.now said
+    ensures only { (said : Said) → IsText format places fractions text.now said
         → Gives told_in result (Ok said) }
 {
-    read_lines(alloc, format, places, text)
+    read_lines(alloc, format, places, fractions, text)
 }

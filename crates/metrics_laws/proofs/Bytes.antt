@@ -1,11 +1,11 @@
 -- Lines that are written have no end of a line among their bytes.
 use Rattle.std.proofs.Common.{◌≡◌, ℕ, zero, suc, ◌<◌, ◌/◌, ◌^◌, ℤ, pos, negsuc, true, false, eqb, List}
-use Rattle.std.proofs.Common.{[], ◌∷◌, ◌++◌, refl, subst, inl, inr, arith}
+use Rattle.std.proofs.Common.{[], ◌∷◌, ◌++◌, refl, sym, subst, ◌∙◌, inl, inr, arith}
 use Rattle.std.specs.Prelude.{decimal, unsigned_abs, IsTrue}
 use Rattle.std.specs.List.{AllByRecursion}
 use Rattle.std.proofs.lemmas.Bool.{cases_Bool, eqb-true, ne_eqb}
 use Rattle.std.proofs.lemmas.List.Elements.{recursion_from_All}
-use Rattle.decimal_text.specs.Decimals.{is_digit, AreDigits}
+use Rattle.decimal_text.specs.Decimals.{AreDigits}
 use Rattle.labels.specs.Labels.{Labels}
 use Rattle.labels.specs.LabelSets.{IsLabelSet}
 use Rattle.labels.specs.Names.{is_name}
@@ -52,29 +52,21 @@ unfolding number_text
 number_line places (pos n) lt = size_line places n lt
 number_line places (negsuc n) lt = (refl, size_line places (suc n) lt)
 
-metric_byte : (c : ℕ) → goes_on Metric c ≡ true → eqb c 10 ≡ false
-metric_byte c h =
+-- the end of a line is not in a word that it does not go on with
+word_byte : (class : Class) → goes_on class 10 ≡ false → (c : ℕ) → goes_on class c ≡ true
+    → eqb c 10 ≡ false
+word_byte class none c h =
     elim (cases_Bool (eqb c 10)) [
-      | inl e ↦ absurd (let f : goes_on Metric 10 ≡ true =
-          subst (λ (x : ℕ). goes_on Metric x ≡ true) (eqb-true c 10 e) h in cc)
+      | inl e ↦ absurd (let f : goes_on class 10 ≡ true =
+          subst (λ (x : ℕ). goes_on class x ≡ true) (eqb-true c 10 e) h in
+          let g : true ≡ false = sym f ∙ none in cc)
       | inr e ↦ e
     ]
 
-metric_line : (name : List ℕ) → AreIn Metric name → IsLine name
-metric_line [] are = tt
-metric_line (c ∷ cs) are = (metric_byte c are.0, metric_line cs are.1)
-
-label_byte : (c : ℕ) → goes_on Label c ≡ true → eqb c 10 ≡ false
-label_byte c h =
-    elim (cases_Bool (eqb c 10)) [
-      | inl e ↦ absurd (let f : goes_on Label 10 ≡ true =
-          subst (λ (x : ℕ). goes_on Label x ≡ true) (eqb-true c 10 e) h in cc)
-      | inr e ↦ e
-    ]
-
-label_line : (name : List ℕ) → AreIn Label name → IsLine name
-label_line [] are = tt
-label_line (c ∷ cs) are = (label_byte c are.0, label_line cs are.1)
+word_line : (class : Class) → goes_on class 10 ≡ false → (word : List ℕ) → AreIn class word
+    → IsLine word
+word_line class none [] are = tt
+word_line class none (c ∷ cs) are = (word_byte class none c are.0, word_line class none cs are.1)
 
 escape_line : (c : ℕ) → IsLine (escape c)
 escape_line c =
@@ -99,7 +91,7 @@ unfolding pair_text
 pair_line p named =
     both_lines (p.0 ++ (61 ∷ 34 ∷ escaped_text p.1)) (34 ∷ [])
     (both_lines p.0 (61 ∷ 34 ∷ escaped_text p.1)
-    (label_line p.0 (label_name p.0 named).in_class) (refl, (refl, escaped_line p.1)))
+    (word_line Label refl p.0 (label_name p.0 named).in_class) (refl, (refl, escaped_line p.1)))
     (refl, tt)
 
 label_text_line : (mark : ℕ) (p : Pair) → eqb mark 10 ≡ false → is_name p.0 ≡ true
@@ -138,7 +130,7 @@ pub series_line : (labels : Labels) → IsLabelSet labels → is_metric (metric_
 unfolding series_text
 series_line labels set metric =
     both_lines (metric_of labels) (labels_text 123 labels)
-    (metric_line (metric_of labels) (metric_name (metric_of labels) metric).in_class)
+    (word_line Metric refl (metric_of labels) (metric_name (metric_of labels) metric).in_class)
     (labels_line 123 labels refl (recursion_from_All _ labels set.named))
 
 pub fields_line : (places : ℕ) (s : ℤ × ℤ) → unsigned_abs s.0 < 2 ^ 63 → unsigned_abs s.1 < 2 ^ 63

@@ -9,8 +9,8 @@ use Rattle.std.proofs.lemmas.List.{append-nil}
 use Rattle.std.proofs.lemmas.Nat.{div_below}
 use Rattle.std.proofs.Math.Nat.{one-le-pow}
 use Rattle.decimal_text.specs.Decimals.{is_digit, AreDigits, value_from, IsFraction, IsDecimal}
-use Rattle.decimal_text.specs.Reading.{decimal_at}
-use Rattle.decimal_text.proofs.Laws.{decimal_again}
+use Rattle.decimal_text.specs.Tenths.{nearest_at}
+use Rattle.decimal_text.proofs.NearestParts.{exactly_again}
 use Rattle.metrics_writer.specs.Numbers.{last_digits, fraction_of, size_text, number_text}
 use Rattle.open_metrics.specs.declared.numbers.Value.TheVariants.{Parts}
 use Rattle.open_metrics.specs.declared.tokens.Class.{Class}
@@ -44,12 +44,14 @@ size_is places n lt =
     record {
       whole = decimal w;
       fraction = last_digits places n;
-      behind = fraction_of places n;
-      text_is = refl;
-      behind_is = fraction_is places n;
-      some = omega (arith, d.some);
-      whole_digits = d.digits;
-      fraction_digits = last_are places n;
+      digits = record {
+        behind = fraction_of places n;
+        text_is = refl;
+        behind_is = fraction_is places n;
+        some = omega (arith, d.some);
+        whole_digits = d.digits;
+        fraction_digits = last_are places n;
+      };
       exact =
           ap (λ (x : ℕ). x * 10 ^ places) value
           ∙ ap (λ (k : ℕ). n * 10 ^ k) (sym (last_long places n));
@@ -140,7 +142,7 @@ plain_size places n lt =
 record Mantissas (body : List ℕ) (places n : ℕ) : Type 0 where
   front_is : front Mantissa body ≡ body
   behind_is : behind Mantissa body ≡ []
-  decimal_is : decimal_at body (places + 0) ≡ Ok n
+  number_is : nearest_at body (places + 0) 0 ≡ Ok (record { size = n; exact = true })
 
 mantissa_size : (places n : ℕ) → n < 2 ^ 63 → Mantissas (size_text places n) places n
 mantissa_size places n lt =
@@ -153,20 +155,22 @@ mantissa_size places n lt =
           are tt);
       behind_is =
           subst (λ (b : List ℕ). behind Mantissa b ≡ []) nil (behind_again Mantissa body [] are tt);
-      decimal_is = ap (decimal_at body) same ∙ decimal_again body places n lt (size_is places n lt);
+      number_is =
+          ap (λ (k : ℕ). nearest_at body k 0) same
+          ∙ exactly_again body places n lt (size_is places n lt);
     }
 
 positive_again : (body : List ℕ) (places n : ℕ) → Plain body → Mantissas body places n
     → number_at body places ≡ Some (Parts (pos n))
 unfolding number_at signed_at exponent_at scaled_at
 positive_again body places n p m =
-    rw (p.ordinary, p.unsigned, p.positive, m.front_is, m.behind_is) (rw m.decimal_is refl)
+    rw (p.ordinary, p.unsigned, p.positive, m.front_is, m.behind_is) (rw m.number_is refl)
 
 negative_again : (body : List ℕ) (places n : ℕ) → Plain body → Mantissas body places n
     → number_at (45 ∷ body) places ≡ Some (Parts (with_sign true n))
 unfolding number_at signed_at exponent_at scaled_at
 negative_again body places n p m =
-    rw (p.negative, m.front_is, m.behind_is) (rw m.decimal_is refl)
+    rw (p.negative, m.front_is, m.behind_is) (rw m.number_is refl)
 
 pub number_again : (places : ℕ) (v : ℤ) → unsigned_abs v < 2 ^ 63
     → number_at (number_text places v) places ≡ Some (Parts v)

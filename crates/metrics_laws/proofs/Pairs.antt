@@ -11,7 +11,7 @@ use Rattle.std.proofs.lemmas.List.Sorted.{IsPermutation-cons, IsPermutation-midd
 use Rattle.std.proofs.lemmas.List.Sorted.{IsPermutation-refl, IsPermutation-sym}
 use Rattle.std.proofs.lemmas.List.Sorted.{IsPermutation-trans, All-permutation, length_permutation}
 use Rattle.std.proofs.lemmas.List.Sums.{AllPass-from_list_all, list_all-from_AllPass}
-use Rattle.labels.specs.Labels.{Labels, value_of}
+use Rattle.labels.specs.Labels.{Labels}
 use Rattle.labels.specs.LabelSets.{IsLabelSet, IsMadeOf, are_named, has_value, refusal_of, repeats}
 use Rattle.labels.specs.LabelSets.{same_name, with_values}
 use Rattle.labels.specs.Names.{is_name}

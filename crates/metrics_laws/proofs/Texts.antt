@@ -1,9 +1,9 @@
 -- Texts that are written are read again.
-use Rattle.std.proofs.Common.{◌≡◌, ℕ, suc, ◌+◌, ◌<◌, ◌≤◌, ◌^◌, ℤ, Bool, true, false, eqb, ◌&&◌, List}
-use Rattle.std.proofs.Common.{[], ◌∷◌, ◌++◌, length, Ok, None, refl, sym, ap, subst, ◌∙◌, inr, arith}
+use Rattle.std.proofs.Common.{◌≡◌, ℕ, ◌+◌, ◌<◌, ◌^◌, ℤ, true, false, eqb, List}
+use Rattle.std.proofs.Common.{[], ◌∷◌, ◌++◌, length, refl, sym, ap, subst, ◌∙◌, inr, arith}
 use Rattle.std.proofs.Common.{append_assoc, length-append}
 use Rattle.std.specs.Prelude.{T, codes, unsigned_abs}
-use Rattle.std.specs.List.{AllByRecursion, flat_map, slice_split}
+use Rattle.std.specs.List.{AllByRecursion, flat_map}
 use Rattle.std.specs.Ordering.{is_lt, ordering_reverse}
 use Rattle.std.specs.declared.cmp.Ordering.{Ordering}
 use Rattle.std.specs.declared.cmp.Ordering.TheVariants.{Less, Equal, Greater}
@@ -12,19 +12,19 @@ use Rattle.std.proofs.lemmas.List.{append-nil, append_cancel_right}
 use Rattle.std.proofs.lemmas.List.Elements.{All-from_recursion}
 use Rattle.std.proofs.lemmas.List.Splits.{slice_split_at}
 use Rattle.labels.specs.Contents.{Content, is_time}
-use Rattle.labels.specs.Labels.{Labels, Point, point_cmp}
+use Rattle.labels.specs.Labels.{Point, point_cmp}
 use Rattle.labels.specs.Rows.{Row, points_in, points_of}
-use Rattle.labels.proofs.ContentLaws.{length-points_in}
 use Rattle.labels.proofs.OrderLaws.{point_total}
 use Rattle.labels.proofs.Times.{first_T, second_T}
-use Rattle.metrics_writer.specs.Series.{metric_of, series_text, fields_text, line_text, row_text}
+use Rattle.metrics_writer.specs.Series.{series_text, fields_text, line_text, row_text}
 use Rattle.metrics_writer.specs.Series.{rows_text, text_of}
 use Rattle.open_metrics.specs.declared.comments.Format.TheVariants.{OpenMetrics}
 use Rattle.open_metrics.specs.Lines.{sampled}
 use Rattle.open_metrics.proofs.Whole.{line_again as read_again}
-use Rattle.exposition.specs.Reading.{Said, AddsLine, AddAll, IsText, eof, lines_in, unsaid}
+use Rattle.exposition.specs.declared.text.Fractions.{Fractions}
+use Rattle.exposition.specs.Reading.{Said, AddAll, IsText, eof, lines_in, unsaid}
 use Rattle.exposition.specs.Rows.{put_each}
-use Rattle.exposition.specs.Runs.{count_of}
+use Rattle.exposition.proofs.Only.{same_said}
 use Rattle.metrics_laws.specs.Read.{sample_of, IsWritten, IsWritable, said_of}
 use Rattle.metrics_laws.proofs.Bytes.{IsLine, both_lines, series_line, fields_line}
 use Rattle.metrics_laws.proofs.Lines.{line_again}
@@ -59,34 +59,34 @@ split_again (line ∷ lines) rest are =
     ∙ ap (λ (ls : List (List ℕ)). line ∷ ls) (split_again lines rest are.1))
 
 -- lines that add samples, whichever number the first has
-record Added (places : ℕ) (text : List ℕ) (old new : Said) : Type 0 where
+record Added (places : ℕ) (f : Fractions) (text : List ℕ) (old new : Said) : Type 0 where
   lines : List (List ℕ)
   text_is : text ≡ joined lines
   are : AreLines lines
-  adds : (n : ℕ) → AddAll OpenMetrics places n lines old new
+  adds : (n : ℕ) → AddAll OpenMetrics places f n lines old new
 
-adds_both : (places n : ℕ) (xs ys : List (List ℕ)) (a b c : Said)
-    → AddAll OpenMetrics places n xs a b → ((m : ℕ) → AddAll OpenMetrics places m ys b c)
-    → AddAll OpenMetrics places n (xs ++ ys) a c
-adds_both places n [] ys a b c p q =
-    subst (λ (x : Said). AddAll OpenMetrics places n ys x c) p (q n)
-adds_both places n (x ∷ xs) ys a b c p q =
-    (p.0, p.1, adds_both places (n + 1) xs ys p.0 b c p.2 q)
+adds_both : (places : ℕ) (f : Fractions) (n : ℕ) (xs ys : List (List ℕ)) (a b c : Said)
+    → AddAll OpenMetrics places f n xs a b → ((m : ℕ) → AddAll OpenMetrics places f m ys b c)
+    → AddAll OpenMetrics places f n (xs ++ ys) a c
+adds_both places f n [] ys a b c p q =
+    subst (λ (x : Said). AddAll OpenMetrics places f n ys x c) p (q n)
+adds_both places f n (x ∷ xs) ys a b c p q =
+    (p.0, p.1, adds_both places f (n + 1) xs ys p.0 b c p.2 q)
 
-added_both : (places : ℕ) (one two : List ℕ) (a b c : Said) → Added places one a b
-    → Added places two b c → Added places (one ++ two) a c
-added_both places one two a b c p q = record {
+added_both : (places : ℕ) (f : Fractions) (one two : List ℕ) (a b c : Said)
+    → Added places f one a b → Added places f two b c → Added places f (one ++ two) a c
+added_both places f one two a b c p q = record {
   lines = p.lines ++ q.lines;
   text_is =
       ap (λ (t : List ℕ). t ++ two) p.text_is
       ∙ (ap (λ (t : List ℕ). joined p.lines ++ t) q.text_is
       ∙ sym (joined_both p.lines q.lines));
   are = lines_both p.lines q.lines p.are q.are;
-  adds = λ n. adds_both places n p.lines q.lines a b c (p.adds n) q.adds;
+  adds = λ n. adds_both places f n p.lines q.lines a b c (p.adds n) q.adds;
 }
 
-added_none : (places : ℕ) (a : Said) → Added places [] a a
-added_none places a = record { lines = []; text_is = refl; are = tt; adds = λ n. refl }
+added_none : (places : ℕ) (f : Fractions) (a : Said) → Added places f [] a a
+added_none places f a = record { lines = []; text_is = refl; are = tt; adds = λ n. refl }
 
 -- what was said before, and samples after it
 abbrev with_points : Said → Content → Said
@@ -94,14 +94,8 @@ with_points old points = record {
   content = put_each old.content points;
   count = old.count + length points;
   others = old.others;
+  rounded = old.rounded;
 }
-
-same_said : (a b : Said) → a.content ≡ b.content → a.count ≡ b.count → a.others ≡ b.others
-    → a ≡ b
-same_said a b e f g =
-    ap (λ x. record { content = x; count = a.count; others = a.others }) e
-    ∙ (ap (λ x. record { content = b.content; count = x; others = a.others }) f
-    ∙ ap (λ x. record { content = b.content; count = b.count; others = x }) g)
 
 put_both : (c : Content) (xs ys : List (Point × ℤ))
     → put_each c (xs ++ ys) ≡ put_each (put_each c xs) ys
@@ -112,16 +106,16 @@ points_both : (old : Said) (xs ys : Content)
     → with_points (with_points old xs) ys ≡ with_points old (xs ++ ys)
 points_both old xs ys =
     same_said (with_points (with_points old xs) ys) (with_points old (xs ++ ys))
-    (sym (put_both old.content xs ys)) (omega (arith, length-append xs ys)) refl
+    (sym (put_both old.content xs ys)) (omega (arith, length-append xs ys)) refl refl
 
 small_time : (t : ℤ) → is_time t ≡ true → unsigned_abs t < 2 ^ 63
 small_time t h = grind arith
 
-sample_added : (places : ℕ) (row : Row) (s : ℤ × ℤ) (old : Said) → IsWritable row → IsWritten s
-    → Added places (line_text places (series_text row.0) s) old
+sample_added : (places : ℕ) (f : Fractions) (row : Row) (s : ℤ × ℤ) (old : Said)
+    → IsWritable row → IsWritten s → Added places f (line_text places (series_text row.0) s) old
     (with_points old (((row.0, s.0), s.1) ∷ []))
 unfolding line_text
-sample_added places row s old is written =
+sample_added places f row s old is written =
     let small = small_time s.0 written.time in
     let line = line_again places row.0 s is.label_set is.metric small written.value in
     let text = series_text row.0 ++ fields_text places s in
@@ -145,55 +139,55 @@ sample_added places row s old is written =
                 rw (no_pairs_fault row.0 is.label_set is.metric is.utf8, written.time) refl;
             labels = row.0;
             made = (pairs_are row.0 is.label_set is.metric).made;
-            adds = (refl, refl, refl);
+            adds = ((refl, refl, refl), refl);
           };
         },
         refl,
       );
     }
 
-samples_added : (places : ℕ) (row : Row) (ss : List (ℤ × ℤ)) (old : Said) → IsWritable row
-    → AllByRecursion IsWritten ss
-    → Added places (flat_map (line_text places (series_text row.0)) ss) old
+samples_added : (places : ℕ) (f : Fractions) (row : Row) (ss : List (ℤ × ℤ)) (old : Said)
+    → IsWritable row → AllByRecursion IsWritten ss
+    → Added places f (flat_map (line_text places (series_text row.0)) ss) old
     (with_points old (points_in row.0 ss))
-samples_added places row [] old is all =
-    subst (Added places [] old)
-    (same_said old (with_points old []) refl (omega arith) refl) (added_none places old)
-samples_added places row (s ∷ ss) old is all =
+samples_added places f row [] old is all =
+    subst (Added places f [] old)
+    (same_said old (with_points old []) refl (omega arith) refl refl) (added_none places f old)
+samples_added places f row (s ∷ ss) old is all =
     let one = ((row.0, s.0), s.1) ∷ [] in
-    subst (Added places (flat_map (line_text places (series_text row.0)) (s ∷ ss)) old)
+    subst (Added places f (flat_map (line_text places (series_text row.0)) (s ∷ ss)) old)
     (points_both old one (points_in row.0 ss))
-    (added_both places (line_text places (series_text row.0) s)
+    (added_both places f (line_text places (series_text row.0) s)
     (flat_map (line_text places (series_text row.0)) ss) old (with_points old one)
     (with_points (with_points old one) (points_in row.0 ss))
-    (sample_added places row s old is all.0)
-    (samples_added places row ss (with_points old one) is all.1))
+    (sample_added places f row s old is all.0)
+    (samples_added places f row ss (with_points old one) is all.1))
 
-row_added : (places : ℕ) (row : Row) (old : Said) → IsWritable row
-    → Added places (row_text places row) old (with_points old (points_in row.0 row.1))
+row_added : (places : ℕ) (f : Fractions) (row : Row) (old : Said) → IsWritable row
+    → Added places f (row_text places row) old (with_points old (points_in row.0 row.1))
 unfolding row_text
-row_added places row old is = samples_added places row row.1 old is is.samples
+row_added places f row old is = samples_added places f row row.1 old is is.samples
 
-rows_added : (places : ℕ) (rows : List Row) (old : Said) → AllByRecursion IsWritable rows
-    → Added places (rows_text places rows) old (with_points old (points_of rows))
+rows_added : (places : ℕ) (f : Fractions) (rows : List Row) (old : Said)
+    → AllByRecursion IsWritable rows → Added places f (rows_text places rows) old (with_points old (points_of rows))
 unfolding rows_text
-rows_added places [] old all =
-    subst (Added places [] old)
-    (same_said old (with_points old []) refl (omega arith) refl) (added_none places old)
-rows_added places (row ∷ rows) old all =
+rows_added places f [] old all =
+    subst (Added places f [] old)
+    (same_said old (with_points old []) refl (omega arith) refl refl) (added_none places f old)
+rows_added places f (row ∷ rows) old all =
     let one = points_in row.0 row.1 in
-    subst (Added places (rows_text places (row ∷ rows)) old)
+    subst (Added places f (rows_text places (row ∷ rows)) old)
     (points_both old one (points_of rows))
-    (added_both places (row_text places row) (rows_text places rows) old (with_points old one)
-    (with_points (with_points old one) (points_of rows)) (row_added places row old all.0)
-    (rows_added places rows (with_points old one) all.1))
+    (added_both places f (row_text places row) (rows_text places rows) old (with_points old one)
+    (with_points (with_points old one) (points_of rows)) (row_added places f row old all.0)
+    (rows_added places f rows (with_points old one) all.1))
 
-pub texts_again : (places : ℕ) (rows : List Row) → AllByRecursion IsWritable rows
-    → IsText OpenMetrics places (text_of places rows) (said_of rows)
-texts_again places rows all =
-    let all_added = rows_added places rows unsaid all in
+pub texts_again : (places : ℕ) (f : Fractions) (rows : List Row) → AllByRecursion IsWritable rows
+    → IsText OpenMetrics places f (text_of places rows) (said_of rows)
+texts_again places f rows all =
+    let all_added = rows_added places f rows unsaid all in
     let is =
-    same_said (with_points unsaid (points_of rows)) (said_of rows) refl (omega arith) refl in
+    same_said (with_points unsaid (points_of rows)) (said_of rows) refl (omega arith) refl refl in
     record {
       lines = all_added.lines;
       cut = record {
@@ -203,7 +197,7 @@ texts_again places rows all =
             ∙ split_again all_added.lines (codes "# EOF\n") all_added.are;
         ends = inr refl;
       };
-      says = subst (λ (x : Said). AddAll OpenMetrics places 1 all_added.lines unsaid x) is
+      says = subst (λ (x : Said). AddAll OpenMetrics places f 1 all_added.lines unsaid x) is
           (all_added.adds 1);
     }
 

@@ -3,16 +3,18 @@ use Rattle.std.specs.Prelude.{◌≡◌, ◌^◌, ◌<◌, ◌≤◌, ℕ, ℤ, 
 use Rattle.std.specs.Prelude.{◌+◌, length, filter}
 use Rattle.std.specs.Prelude.{unsigned_abs}
 use Rattle.std.specs.FinMap.Entries.{is_sorted}
-use Rattle.std.specs.List.{AllByRecursion}
+use Rattle.std.specs.List.{AllByRecursion, list_all}
 use Rattle.labels.specs.Contents.{Content, is_time}
 use Rattle.labels.specs.Labels.{Labels, point_cmp}
 use Rattle.labels.specs.LabelSets.{IsLabelSet}
 use Rattle.labels.specs.Rows.{Row, AreRows, points_of}
 use Rattle.metrics_writer.specs.Numbers.{number_text}
-use Rattle.metrics_writer.specs.Series.{is_metric, is_name_label, metric_of, text_of}
+use Rattle.metrics_writer.specs.Series.{is_metric, is_name_label, is_of_metric, metric_of, text_of}
 use Rattle.open_metrics.specs.Lines.{Sampled}
+use Rattle.open_metrics.specs.declared.comments.Format.{Format}
 use Rattle.open_metrics.specs.declared.comments.Format.TheVariants.{OpenMetrics}
 use Rattle.open_metrics.specs.declared.numbers.Value.TheVariants.{Parts}
+use Rattle.exposition.specs.declared.text.Fractions.{Fractions}
 use Rattle.exposition.specs.Faults.{are_utf8}
 use Rattle.exposition.specs.Reading.{Said, IsText}
 use Rattle.exposition.specs.Rows.{put_each}
@@ -51,14 +53,26 @@ said_of rows = record {
   content = put_each [] (points_of rows);
   count = count_of rows;
   others = [];
+  rounded = [];
 }
 
--- the text that is written for rows says their samples
+-- the text that is written for rows says their samples, whether fractions are rounded or not
 abbrev pub AreReadAgain : Type 0
-AreReadAgain = (places : ℕ) (rows : List Row) → places ≤ 9 → AllByRecursion IsWritable rows
-    → IsText OpenMetrics places (text_of places rows) (said_of rows)
+AreReadAgain = (places : ℕ) (fractions : Fractions) (rows : List Row) → places ≤ 9
+    → AllByRecursion IsWritable rows
+    → IsText OpenMetrics places fractions (text_of places rows) (said_of rows)
 
 -- the samples of the rows of a content are the content
 abbrev pub AreAllSaid : Type 0
 AreAllSaid = (rows : List Row) (c : Content) → T (is_sorted point_cmp c) → AreRows rows c
     → put_each [] (points_of rows) ≡ c
+
+-- the rows of what a text says, whichever its format: each names a metric, and the text that is
+-- written for them says the same samples
+abbrev pub AreWrittenAgain : Type 0
+AreWrittenAgain = (format : Format) (places : ℕ) (fractions : Fractions) (text : List ℕ)
+    (said : Said) (rows : List Row) → IsText format places fractions text said
+    → AreRows rows said.content
+    → (list_all is_of_metric rows ≡ true)
+    × IsText OpenMetrics places fractions (text_of places rows)
+    (record { content = said.content; count = count_of rows; others = []; rounded = [] })

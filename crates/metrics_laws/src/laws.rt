@@ -10,7 +10,7 @@ ghost use Rattle.open_metrics.specs.Grammar.{IsSample};
 ghost use Rattle.open_metrics.specs.Numbers.{number_at};
 ghost use Rattle.open_metrics.specs.declared.comments.Format.TheVariants.{OpenMetrics};
 ghost use Rattle.open_metrics.specs.declared.numbers.Value.TheVariants.{Parts};
-ghost use Rattle.metrics_laws.specs.Read.{AreAllSaid, AreReadAgain, sample_of};
+ghost use Rattle.metrics_laws.specs.Read.{AreAllSaid, AreReadAgain, AreWrittenAgain, sample_of};
 
 /// A number that is written is read again, exactly.
 pub fn numbers_are_read_again()
@@ -37,4 +37,10 @@ pub fn texts_are_read_again()
 /// The samples that are read of the rows of a content are the content.
 pub fn contents_are_read_again()
     ensures { AreAllSaid }
+{}
+
+/// The samples that a text of either format says can be written, and the text that is written for
+/// their rows says the same.
+pub fn samples_are_written_again()
+    ensures { AreWrittenAgain }
 {}

@@ -16,7 +16,8 @@
 //! assert_eq!(rt; text.as_slice(), b"up{job=\"a\"} 1 1700000000.250\n# EOF\n");
 //! ```
 //!
-//! It stands on `labels`, and on `itoa` for digits. The format is OpenMetrics 1.0.
+//! It stands on `labels`, on `doubles` for powers of ten, and on `itoa` for digits. The format is
+//! OpenMetrics 1.0.
 #![tactic(auto)]
 
 mod numbers;

@@ -4,6 +4,7 @@ ghost use Rattle.std.specs.Prelude.{◌≡◌, ◌≤◌, ◌^◌, ◌++◌, ℕ
 ghost use Rattle.metrics_writer.specs.Numbers.{digit_at, fraction_of, last_digits};
 ghost use Rattle.metrics_writer.specs.Numbers.{number_text, size_text};
 
+use doubles::power;
 use itoa::write_digits;
 use std::alloc::AllocError;
 
@@ -44,25 +45,6 @@ fn append_fraction(out: &mut Vec<u8>, places: u32, n: u64) -> Result<(), AllocEr
     }
     out.push(b'.')?;
     append_last(out, places, n)
-}
-
-fn power(places: u32) -> u64
-    requires { places ≤ 9 }
-    ensures is { result ≡ 10 ^ places }
-    ensures some { 1 ≤ result }
-{
-    match places {
-        0 => 1,
-        1 => 10,
-        2 => 100,
-        3 => 1000,
-        4 => 10_000,
-        5 => 100_000,
-        6 => 1_000_000,
-        7 => 10_000_000,
-        8 => 100_000_000,
-        _ => 1_000_000_000,
-    }
 }
 
 #[tactic(auto, unfolding(crate::specs::Numbers::size_text))]

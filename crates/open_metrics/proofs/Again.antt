@@ -6,7 +6,6 @@ use Rattle.std.proofs.Common.{refl, sym, ap, subst, ◌∙◌, append_assoc, inl
 use Rattle.std.proofs.lemmas.Bool.{cases_Bool, eqb-true}
 use Rattle.std.proofs.lemmas.List.{take_at, drop_at}
 use Rattle.std.specs.List.{AllByRecursion}
-use Rattle.wire.specs.Outcome.{◌>>=◌}
 use Rattle.open_metrics.specs.declared.comments.Format.{Format}
 use Rattle.open_metrics.specs.declared.comments.Format.TheVariants.{OpenMetrics, Prometheus}
 use Rattle.open_metrics.specs.declared.error.Fault.{Fault}
@@ -27,7 +26,8 @@ use Rattle.open_metrics.specs.Numbers.{number_at, signed_at, exponent_at, scaled
 use Rattle.open_metrics.specs.Texts.{char_at, escape_at, text_at, until_end}
 use Rattle.open_metrics.specs.Tokens.{after_blanks, blanks_at, byte_at, gap_at, goes_on}
 use Rattle.open_metrics.specs.Tokens.{count_front, front, behind, name_at}
-use Rattle.decimal_text.specs.Reading.{decimal_at, digits_in_front, fraction_at}
+use Rattle.decimal_text.specs.Reading.{digits_at, digits_in_front, fraction_at}
+use Rattle.decimal_text.specs.Tenths.{nearest_at}
 
 -- no byte goes on with a word here
 abbrev pub Stops : Class → List ℕ → Type 0
@@ -359,7 +359,7 @@ stops_labels format labels gap rest bytes is (inr spells) =
 -- a number has a byte
 number_begins : (value : List ℕ) (places : ℕ) (v : Value) (rest : List ℕ)
     → number_at value places ≡ Some v → AreIn Word value → Begins (value ++ rest)
-unfolding number_at signed_at exponent_at scaled_at count_front decimal_at fraction_at
+unfolding number_at signed_at exponent_at scaled_at count_front nearest_at digits_at fraction_at
     digits_in_front
 number_begins [] places v rest is are = absurd cc
 number_begins (c ∷ cs) places v rest is are = not_both Word refl refl c are.0

@@ -1,6 +1,5 @@
 pub mod Again
 pub mod Items
 pub mod Taken
-pub mod Tenths
 pub mod Whole
 pub mod Words

@@ -13,7 +13,7 @@ use Rattle.open_metrics.specs.declared.error.Fault.TheVariants.{At}
 use Rattle.open_metrics.specs.declared.error.Reason.{Reason}
 use Rattle.open_metrics.specs.declared.error.Reason.TheVariants as reason
 use Rattle.open_metrics.specs.declared.numbers.Value.{Value}
-use Rattle.open_metrics.specs.declared.numbers.Value.TheVariants.{Parts, Other}
+use Rattle.open_metrics.specs.declared.numbers.Value.TheVariants.{Parts, Near, Other}
 use Rattle.open_metrics.specs.declared.tokens.Class.{Class}
 use Rattle.open_metrics.specs.declared.tokens.Class.TheVariants.{Metric, Label, Word, Blank}
 use Rattle.open_metrics.specs.Grammar.{AreBlanks, AreIn, IsGap, IsName, escape_then, text_then}
@@ -457,6 +457,7 @@ time_of_word : (format : Format) (bytes : List ℕ) (read : Option Value) (x : �
     → number_at (front Word bytes) (time_places format) ≡ read
     → or_time (behind Word bytes) (length bytes) read ≡ Ok x → Timed format bytes x
 time_of_word format bytes None x e h = absurd cc
+time_of_word format bytes (Some (Near t)) x e h = absurd cc
 time_of_word format bytes (Some Other) x e h = absurd cc
 time_of_word format bytes (Some (Parts t)) x e h =
     let made : ℤ × List ℕ = (t, behind Word bytes) in

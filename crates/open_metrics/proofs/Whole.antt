@@ -48,7 +48,7 @@ begun_takes format places (c ∷ rest) m P takes h =
           (takes a.0 a.1)
     ]
 
-line_takes : (format : Format) (places : ℕ) (line : List ℕ) (m : Meaning)
+pub line_takes : (format : Format) (places : ℕ) (line : List ℕ) (m : Meaning)
     → line_at format places line ≡ Ok m → IfSampled m (IsSample format places line)
 line_takes format places line m h =
     begun_takes format places (after_blanks format line) m (IsSample format places line)

@@ -12,7 +12,7 @@ use Rattle.open_metrics.specs.declared.lines.Line.{Line}
 use Rattle.open_metrics.specs.declared.lines.Line.TheVariants.{Nothing, End, Sample}
 use Rattle.open_metrics.specs.declared.lines.SampleLine.{SampleLine}
 use Rattle.open_metrics.specs.declared.numbers.Value.{Value}
-use Rattle.open_metrics.specs.declared.numbers.Value.TheVariants.{Parts, Other}
+use Rattle.open_metrics.specs.declared.numbers.Value.TheVariants.{Parts, Near, Other}
 use Rattle.open_metrics.specs.declared.tokens.Class.TheVariants.{Metric, Word}
 use Rattle.open_metrics.specs.Comments.{comment_at}
 use Rattle.open_metrics.specs.Labels.{Pair, labels_at, pairs_in}
@@ -69,6 +69,7 @@ time_places Prometheus = 0
 
 abbrev pub or_time : List ℕ → ℕ → Option Value → Result (ℤ × List ℕ) Fault
 or_time rest left None = Err (At Time left)
+or_time rest left (Some (Near t)) = Err (At Time left)
 or_time rest left (Some Other) = Err (At Time left)
 or_time rest left (Some (Parts t)) = Ok (t, rest)
 

@@ -1,15 +1,15 @@
 -- The number that a text writes, in parts of which a power of ten make one.
-use Rattle.std.specs.Prelude.{ℕ, zero, suc, ℤ, pos, negsuc, ◌+◌, ◌-◌, ◌/◌, ◌%◌, ◌==◌, ◌||◌, Bool}
-use Rattle.std.specs.Prelude.{true}
-use Rattle.std.specs.Prelude.{false, nat_le, List, [], ◌∷◌, length, codes, Option, None, Some}
+use Rattle.std.specs.Prelude.{ℕ, zero, suc, ℤ, pos, negsuc, ◌+◌, ◌==◌, ◌||◌, Bool, true, false}
+use Rattle.std.specs.Prelude.{nat_le, List, [], ◌∷◌, length, codes, Option, None, Some}
 use Rattle.std.specs.Prelude.{option_and_then, option_map, Result, Ok, Err, if◌then◌else◌}
 use Rattle.std.specs.Str.{str_eq_ignore_ascii_case}
-use Rattle.wire.specs.Outcome.{◌>>=◌}
 use Rattle.decimal_text.specs.declared.error.DecimalError.{DecimalError}
 use Rattle.decimal_text.specs.declared.error.DecimalError.TheVariants.{Form, Finer, Large}
+use Rattle.decimal_text.specs.declared.rounding.Nearest.{Nearest}
 use Rattle.decimal_text.specs.Reading.{decimal_at}
+use Rattle.decimal_text.specs.Tenths.{nearest_at}
 use Rattle.open_metrics.specs.declared.numbers.Value.{Value}
-use Rattle.open_metrics.specs.declared.numbers.Value.TheVariants.{Parts, Other}
+use Rattle.open_metrics.specs.declared.numbers.Value.TheVariants.{Parts, Near, Other}
 use Rattle.open_metrics.specs.declared.tokens.Class.TheVariants.{Digit, Mantissa}
 use Rattle.open_metrics.specs.Tokens.{count_front, front, behind}
 
@@ -36,21 +36,10 @@ unfoldable pub exponent_at : List ℕ → Option (Bool × ℕ)
 exponent_at [] = Some (false, 0)
 exponent_at (c ∷ cs) = option_map (λ n. (is_minus cs, n)) (small_at (unsigned_of cs))
 
--- a tenth, and that of a tenth, and so on
-abbrev pub tenth : ℕ → Result ℕ DecimalError
-tenth n = if n % 10 == 0 then Ok (n / 10) else Err Finer
-
-unfoldable pub tenths : ℕ → ℕ → Result ℕ DecimalError
-tenths zero n = Ok n
-tenths (suc k) n = tenth n >>= λ m. tenths k m
-
 -- the size of a mantissa with an exponent, in parts of which 10^places make one
-unfoldable pub scaled_at : List ℕ → ℕ → Bool → ℕ → Result ℕ DecimalError
+unfoldable pub scaled_at : List ℕ → ℕ → Bool → ℕ → Result Nearest DecimalError
 scaled_at mantissa places down e =
-    if down then
-    (if nat_le e places then decimal_at mantissa (places - e)
-    else (decimal_at mantissa 0 >>= λ n. tenths (e - places) n))
-    else decimal_at mantissa (places + e)
+    if down then nearest_at mantissa places e else nearest_at mantissa (places + e) 0
 
 -- the number of this size below 0
 abbrev pub negative : ℕ → ℤ
@@ -62,9 +51,14 @@ abbrev pub with_sign : Bool → ℕ → ℤ
 with_sign true n = negative n
 with_sign false n = pos n
 
+-- a whole number of parts, or the nearest to one that is none
+abbrev pub of_nearest : Bool → Nearest → Value
+of_nearest minus n =
+    if n.exact then Parts (with_sign minus n.size) else Near (with_sign minus n.size)
+
 -- a size below 2^63, another number, or no number
-abbrev pub value_of : Bool → Result ℕ DecimalError → Option Value
-value_of minus (Ok n) = Some (Parts (with_sign minus n))
+abbrev pub value_of : Bool → Result Nearest DecimalError → Option Value
+value_of minus (Ok n) = Some (of_nearest minus n)
 value_of minus (Err Form) = None
 value_of minus (Err Finer) = Some Other
 value_of minus (Err Large) = Some Other

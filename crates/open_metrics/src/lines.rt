@@ -74,6 +74,7 @@ fn cut_time(format: Format, bytes: &[u8]) -> Result<(i64, &[u8]), Fault>
     let (word, rest) = cut_word(Class::Word, bytes);
     match number(word, time_places(format)) {
         Some(Value::Parts(t)) => Ok((t, rest)),
+        Some(Value::Near(_)) => Err(Fault::At(Reason::Time, bytes.len())),
         Some(Value::Other) => Err(Fault::At(Reason::Time, bytes.len())),
         None => Err(Fault::At(Reason::Time, bytes.len())),
     }

@@ -4,18 +4,20 @@ ghost use Rattle.std.specs.Prelude.{◌≡◌, ◌≤◌, ◌<◌, ◌+◌, ◌^
 ghost use Rattle.std.specs.Str.{str_eq_ignore_ascii_case};
 ghost use Rattle.wire.specs.Outcome.{Answers};
 ghost use Rattle.open_metrics.specs.Numbers.{exponent_at, is_minus, is_special, number_at};
-ghost use Rattle.open_metrics.specs.Numbers.{scaled_at, signed_at, small_at, tenth, tenths};
+ghost use Rattle.open_metrics.specs.Numbers.{of_nearest, scaled_at, signed_at, small_at};
 ghost use Rattle.open_metrics.specs.Numbers.{unsigned_of, value_of, with_sign};
 
 use crate::tokens::{Class, cut_word, front_len};
-use decimal_text::{DecimalError, decimal};
+use decimal_text::{DecimalError, Nearest, decimal, rounded};
 
 /// What the text of a number says.
 #[derive(Clone, Copy, Debug, PartialEq, Eq, Drop)]
 pub enum Value {
     /// This whole number of parts, below 2^63 in size.
     Parts(i64),
-    /// No whole number of parts, one of 2^63 and more in size, a NaN or an infinity.
+    /// No whole number of parts. This is the nearest, of two the even one, below 2^63 in size.
+    Near(i64),
+    /// A number whose nearest whole number of parts is 2^63 or more in size, a NaN or an infinity.
     Other,
 }
 
@@ -70,48 +72,20 @@ fn exponent(text: &[u8]) -> Option<(bool, u32)>
     Some((is_minus(rest), size))
 }
 
-fn tenth(n: u64) -> Result<u64, DecimalError>
-    ensures exact { Answers (λ m. m) result (tenth n) }
-    ensures less { IfOk result (λ m. m ≤ n) }
-{
-    if n % 10 != 0 {
-        return Err(DecimalError::Finer);
-    }
-    Ok(n / 10)
-}
-
-// A number without so many zeros at its end.
-fn tenths(n: u64, zeros: u32) -> Result<u64, DecimalError>
-    requires { n < 2 ^ 63 }
-    ensures exact { Answers (λ m. m) result (tenths zeros n) }
-    ensures bound { IfOk result (λ m. m < 2 ^ 63) }
-{
-    let mut m = n;
-    for _ in 0..zeros {
-        m = tenth(m)?;
-    }
-    Ok(m)
-}
-
 // The size of a mantissa with an exponent, in parts of which 10^places make one.
 #[tactic(auto, unfolding(crate::specs::Numbers::scaled_at))]
-fn scaled(mantissa: &[u8], places: u32, down: bool, size: u32) -> Result<u64, DecimalError>
+fn scaled(mantissa: &[u8], places: u32, down: bool, size: u32) -> Result<Nearest, DecimalError>
     requires places { places ≤ 9 }
     requires size { size ≤ 999 }
     ensures exact { Answers (λ n. n) result (scaled_at mantissa.now places down size) }
-    ensures bound { IfOk result (λ n. n < 2 ^ 63) }
+    ensures bound { IfOk result (λ n. n.size < 2 ^ 63) }
 {
-    if !down {
-        let n = decimal(mantissa, places + size)?;
+    if down {
+        let n = rounded(mantissa, places, size)?;
         return Ok(n);
     }
-    if size <= places {
-        let n = decimal(mantissa, places - size)?;
-        return Ok(n);
-    }
-    let n = decimal(mantissa, 0)?;
-    let m = tenths(n, size - places)?;
-    Ok(m)
+    let n = rounded(mantissa, places + size, 0)?;
+    Ok(n)
 }
 
 fn with_sign(minus: bool, size: u64) -> i64
@@ -122,12 +96,24 @@ fn with_sign(minus: bool, size: u64) -> i64
     if minus { -(size as i64) } else { size as i64 }
 }
 
-fn value_of(minus: bool, size: Result<u64, DecimalError>) -> Option<Value>
-    requires { IfOk size (λ n. n < 2 ^ 63) }
+fn of_nearest(minus: bool, n: Nearest) -> Value
+    requires { n.size < 2 ^ 63 }
+    ensures { result ≡ of_nearest minus n }
+{
+    let value = with_sign(minus, n.size);
+    if n.exact {
+        Value::Parts(value)
+    } else {
+        Value::Near(value)
+    }
+}
+
+fn value_of(minus: bool, size: Result<Nearest, DecimalError>) -> Option<Value>
+    requires { IfOk size (λ n. n.size < 2 ^ 63) }
     ensures { result ≡ value_of minus size }
 {
     match size {
-        Ok(size) => Some(Value::Parts(with_sign(minus, size))),
+        Ok(n) => Some(of_nearest(minus, n)),
         Err(DecimalError::Form) => None,
         Err(DecimalError::Finer) => Some(Value::Other),
         Err(DecimalError::Large) => Some(Value::Other),
@@ -164,7 +150,8 @@ fn signed(text: &[u8], places: u32) -> Option<Value>
 ///
 /// The text is `nan`, or a sign or none and `inf` or `infinity`, in letters of either case; or a
 /// sign or none, digits, perhaps with a point before, among or behind them, and perhaps `e` or `E`
-/// and an exponent, whose size is at most 999. Nothing is rounded.
+/// and an exponent, whose size is at most 999. It is read exactly: if it is no whole number of
+/// parts, the nearest is given as such.
 #[tactic(auto, unfolding(crate::specs::Numbers::number_at))]
 pub fn number(text: &[u8], places: u32) -> Option<Value>
     requires { places ≤ 9 }

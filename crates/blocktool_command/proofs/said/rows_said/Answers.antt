@@ -1,5 +1,4 @@
-use Rattle.std.proofs.Common.{rules}
 use Rattle.blocktool_command.proofs.said.rows_said.Goals as goal
 
 pub returns : goal.returns
-returns c = (_, c.in_ok-rows.ensures, search rules)
+returns c = (_, c.in_ok-rows.ensures, c.tell.ensures)

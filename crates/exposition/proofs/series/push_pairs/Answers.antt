@@ -1,6 +1,6 @@
 use Rattle.std.proofs.lemmas.Result.{err_from_is_err_and}
 use Rattle.labels.specs.Pairs.{pairs_of}
-use Rattle.exposition.proofs.AllLines.{no_utf8, pairs_more, utf8_less, utf8_more}
+use Rattle.exposition.proofs.AllLines.{no_utf8, pairs_more, utf8_more}
 use Rattle.exposition.proofs.series.push_pairs.Goals as goal
 
 pub loop-label-preserved : goal.loop-label-preserved
