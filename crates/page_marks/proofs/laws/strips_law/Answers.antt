@@ -1,0 +1,11 @@
+use Rattle.page_marks.proofs.Laws.{stack, columns_add, verdicts_add}
+use Rattle.page_marks.proofs.laws.strips_law.Goals as goal
+
+pub returns-clause-stacks : goal.returns-clause-stacks
+returns-clause-stacks c = stack
+
+pub returns-clause-columns : goal.returns-clause-columns
+returns-clause-columns c = columns_add
+
+pub returns-clause-verdicts : goal.returns-clause-verdicts
+returns-clause-verdicts c = verdicts_add
