@@ -13,11 +13,12 @@ use Rattle.page_layout.proofs.Edges.{edge_next, top_more, top_full}
 use Rattle.page_marks.specs.Columns.{column_of}
 use Rattle.page_marks.specs.Gathering.{total}
 use Rattle.page_marks.specs.Tiles.{kinds_below, count_below, level, IsStack}
-use Rattle.page_marks.proofs.Stacks.{one_if, kinds_more, kinds_few}
+use Rattle.page_marks.proofs.Stacks.{one_if, kinds_none, kinds_more, kinds_few}
 use Rattle.page_marks.proofs.Stacks.{below_none, below_more, below_all}
 
 -- the slots of a list have all that it has
 slots_sum : (is : List Interval) (n : ℕ) → total (λ slot. count_in slot is) n ≡ count_below is n
+unfolding total
 slots_sum is zero = sym (below_none is)
 slots_sum is (suc n) =
     ap (λ (t : ℕ). t + count_in n is) (slots_sum is n)
@@ -39,6 +40,7 @@ longer a b h = omega arith
 columns_sum : (slot columns : ℕ) (is : List Interval) (m : ℕ) → 0 < columns
     → total (λ at. count_in slot (column_of columns is at)) m
     ≡ count_in slot (take (edge columns (length is) m) is)
+unfolding total
 columns_sum slot columns is zero some =
     sym (ap (λ (n : ℕ). count_in slot (take n is)) (none_before columns (length is)))
 columns_sum slot columns is (suc m) some =
@@ -94,7 +96,7 @@ stack height is some high =
     let kinds : ℕ = kinds_below is 19 in
     let room : ℕ = height - kinds_below is 19 in
     record {
-      bottom = ap (λ (c : ℕ). top 0 c (length is) room) (below_none is)
+      bottom = ap₂ (λ (k c : ℕ). top k c (length is) room) (kinds_none is) (below_none is)
           ∙ top_none (length is) room;
       full = ap (λ (c : ℕ). top kinds c (length is) room) (below_all is)
           ∙ top_full kinds (length is) room some

@@ -17,14 +17,20 @@ at_most_one : (b : Bool) → one_if b ≤ 1
 at_most_one true = let h : 1 ≤ 1 = omega arith in h
 at_most_one false = let h : 0 ≤ 1 = omega arith in h
 
+pub kinds_none : (is : List Interval) → kinds_below is 0 ≡ 0
+unfolding kinds_below
+kinds_none is = refl
+
 pub kinds_more : (is : List Interval) (n : ℕ)
     → kinds_below is (n + 1) ≡ kinds_below is n + one_if (nat_lt 0 (count_in n is))
+unfolding kinds_below
 kinds_more is n = ap (λ (m : ℕ). kinds_below is m) (add-one n)
 
 few_more : (k n o : ℕ) → k ≤ n → o ≤ 1 → k + o ≤ suc n
 few_more k n o h one = omega arith
 
 pub kinds_few : (is : List Interval) (n : ℕ) → kinds_below is n ≤ n
+unfolding kinds_below
 kinds_few is zero = let h : 0 ≤ 0 = omega arith in h
 kinds_few is (suc n) =
     few_more (kinds_below is n) n (one_if (nat_lt 0 (count_in n is))) (kinds_few is n)
@@ -94,6 +100,7 @@ below_all (i ∷ is) =
     add_one (one_if (nat_lt (slot_of i.verdict) 19)) (count_below is 19) (length is)
     (ap one_if (lt-ltb (slot_of i.verdict) 19 (slot_few i.verdict))) (below_all is)
 
-pub ruleset kinds = (kinds_more)
+pub ruleset kinds = (kinds_none, kinds_more)
 
-pub ruleset stacks = (kinds_more, kinds_few, below_none, below_more, below_within)
+pub ruleset stacks =
+    (kinds_none, kinds_more, kinds_few, below_none, below_more, below_within)

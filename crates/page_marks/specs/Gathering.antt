@@ -3,11 +3,11 @@ use Rattle.std.specs.Prelude.{ℕ, zero, suc, ◌+◌, List, [], ◌++◌}
 use Rattle.page_text.specs.declared.mark.Mark.{Mark}
 
 -- the marks that the first numbers give, from 0
-abbrev pub gather : (ℕ → List Mark) → ℕ → List Mark
+unfoldable pub gather : (ℕ → List Mark) → ℕ → List Mark
 gather f zero = []
 gather f (suc n) = gather f n ++ f n
 
 -- the sum of what the first numbers give, from 0
-abbrev pub total : (ℕ → ℕ) → ℕ → ℕ
+unfoldable pub total : (ℕ → ℕ) → ℕ → ℕ
 total f zero = 0
 total f (suc n) = total f n + f n

@@ -9,7 +9,7 @@ use Rattle.page_text.specs.declared.mark.Mark.TheVariants.{Tile}
 use Rattle.page_marks.specs.Gathering.{gather}
 
 -- how many of the first slots occur
-abbrev pub kinds_below : List Interval → ℕ → ℕ
+unfoldable pub kinds_below : List Interval → ℕ → ℕ
 kinds_below is zero = 0
 kinds_below is (suc n) = kinds_below is n + (if nat_lt 0 (count_in n is) then 1 else 0)
 
