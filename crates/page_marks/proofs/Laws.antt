@@ -1,6 +1,6 @@
 -- What columns and layers make of the counts.
 use Rattle.std.proofs.Common.{◌≡◌, ℕ, zero, suc, ◌+◌, ◌-◌, ◌*◌, ◌/◌, ◌<◌, ◌≤◌, List, ◌++◌, length}
-use Rattle.std.proofs.Common.{take, ap, ap₂, sym, subst, ◌∙◌, add-one, arith, le-ltb, lt-ltb}
+use Rattle.std.proofs.Common.{take, Bool, ap, ap₂, sym, subst, ◌∙◌, add-one, arith, le-ltb, lt-ltb}
 use Rattle.std.specs.Prelude.{slice_range}
 use Rattle.std.proofs.Math.Nat.{div-le_of_le-mul, mul-div_cancel_left}
 use Rattle.std.proofs.Math.Seq.{take-add, take-length}
@@ -76,7 +76,7 @@ one_kind : (is : List Interval) (slot : ℕ) → 0 < count_in slot is
     → kinds_below is (slot + 1) ≡ kinds_below is slot + 1
 one_kind is slot some =
     kinds_more is slot
-    ∙ ap (λ b. kinds_below is slot + one_if b) (lt-ltb 0 (count_in slot is) some)
+    ∙ ap (λ (b : Bool). kinds_below is slot + one_if b) (lt-ltb 0 (count_in slot is) some)
 
 no_kind : (is : List Interval) (slot : ℕ) → count_in slot is ≡ 0
     → kinds_below is (slot + 1) ≡ kinds_below is slot
@@ -84,7 +84,7 @@ no_kind is slot none =
     let h : count_in slot is ≤ 0 = omega arith in
     let e : kinds_below is slot + 0 ≡ kinds_below is slot = omega arith in
     kinds_more is slot
-    ∙ ap (λ b. kinds_below is slot + one_if b) (le-ltb 0 (count_in slot is) h)
+    ∙ ap (λ (b : Bool). kinds_below is slot + one_if b) (le-ltb 0 (count_in slot is) h)
     ∙ e
 
 none_more : (is : List Interval) (slot : ℕ) → count_in slot is ≡ 0
