@@ -30,11 +30,16 @@ number_marks answers rows =
     Count Rows (length rows) ∷ Count Samples (samples_in rows) ∷ Count Parts (length answers)
     ∷ Count Intervals (intervals_in answers) ∷ Count Separators (separators_in answers) ∷ []
 
--- the row of a slot in the key: of match, of no sample, of the matchers that the selector has, and
--- of each verdict that occurs
+-- whether a slot has a row in the key: match, no sample, the matchers that the selector has, and
+-- each verdict that occurs
+abbrev pub has_row : ℕ → ℕ → ℕ → Bool
+has_row matchers slot count =
+    slot == 0 || (slot == 18 || (nat_le slot matchers || nat_lt 0 count))
+
+-- the row of a slot in the key, if it has one
 unfoldable pub key_mark : ℕ → List PartAnswer → ℕ → List Mark
 key_mark matchers answers slot =
-    if (slot == 0 || slot == 18 || nat_le slot matchers) || nat_lt 0 (count_all slot answers)
+    if has_row matchers slot (count_all slot answers)
     then Count (Verdict slot) (count_all slot answers) ∷ []
     else []
 

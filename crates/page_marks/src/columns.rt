@@ -131,16 +131,24 @@ fn append_group_at(
     append_group(marks, intervals, column_of(intervals, GROUPS, at))
 }
 
+#[tactic(auto, using(crate::proofs::Steps::steps))]
+fn append_all_groups(marks: &mut Vec<Mark>, intervals: &[Interval]) -> Result<(), AllocError>
+    ensures { OnOk result (marks.new.items
+        ≡ marks.old.items ++ gather (group_marks intervals.now) 20) }
+{
+    for at in 0..GROUPS {
+        append_group_at(marks, intervals, at)?;
+    }
+    Ok(())
+}
+
 /// Appends the groups of more than 240 intervals.
-#[tactic(auto, using(crate::proofs::Steps::steps), unfolding(crate::specs::Columns::groups_marks))]
+#[tactic(auto, unfolding(crate::specs::Columns::groups_marks))]
 pub(crate) fn append_groups(marks: &mut Vec<Mark>, intervals: &[Interval]) -> Result<(), AllocError>
     ensures { OnOk result (marks.new.items ≡ marks.old.items ++ groups_marks intervals.now) }
 {
     if intervals.len() <= 240 {
         return Ok(());
     }
-    for at in 0..GROUPS {
-        append_group_at(marks, intervals, at)?;
-    }
-    Ok(())
+    append_all_groups(marks, intervals)
 }

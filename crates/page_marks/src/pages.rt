@@ -1,10 +1,11 @@
 //! Which counts and tiles a page has below its claim.
 
-ghost use Rattle.std.specs.Prelude.{◌≡◌, ◌++◌, ◌∷◌, [], IfOk, OnOk};
+ghost use Rattle.std.specs.Prelude.{◌≡◌, ◌++◌, ◌∷◌, [], if◌then◌else◌, IfOk, OnOk};
 ghost use Rattle.std.specs.List.{flat_map};
 ghost use Rattle.page_text.specs.declared.mark.Mark.TheVariants.{Count};
 ghost use Rattle.page_marks.specs.Gathering.{gather};
-ghost use Rattle.page_marks.specs.Pages.{intervals_in, separators_in, number_marks, key_mark};
+ghost use Rattle.page_marks.specs.Pages.{intervals_in, separators_in, number_marks, has_row};
+ghost use Rattle.page_marks.specs.Pages.{key_mark};
 ghost use Rattle.page_marks.specs.Pages.{figure_marks, body_marks, part_marks, sums, part_sums};
 ghost use Rattle.page_marks.specs.Pages.{upper_marks, lower_marks, page_marks};
 
@@ -55,11 +56,21 @@ fn append_numbers(
     ensures { OnOk result (marks.new.items
         ≡ marks.old.items ++ number_marks answers.now rows.now) }
 {
+    let samples = samples_in(rows)?;
+    let intervals = intervals_in(answers)?;
+    let separators = separators_in(answers)?;
     append_count(marks, Subject::Rows, rows.len() as u64)?;
-    append_count(marks, Subject::Samples, samples_in(rows)?)?;
+    append_count(marks, Subject::Samples, samples)?;
     append_count(marks, Subject::Parts, answers.len() as u64)?;
-    append_count(marks, Subject::Intervals, intervals_in(answers)?)?;
-    append_count(marks, Subject::Separators, separators_in(answers)?)
+    append_count(marks, Subject::Intervals, intervals)?;
+    append_count(marks, Subject::Separators, separators)
+}
+
+/// Whether a slot has a row in the key.
+fn has_row(matchers: usize, slot: usize, count: u64) -> bool
+    ensures { result ≡ has_row matchers slot count }
+{
+    slot == 0 || slot == 18 || slot <= matchers || count > 0
 }
 
 /// Appends the row of a slot in the key, if it has one.
@@ -74,11 +85,10 @@ fn append_key_mark(
         ≡ marks.old.items ++ key_mark matchers answers.now slot) }
 {
     let count = count_all(answers, slot)?;
-    if slot == 0 || slot == 18 || slot <= matchers || count > 0 {
-        append_count(marks, Subject::Verdict(slot), count)
-    } else {
-        Ok(())
+    if !has_row(matchers, slot, count) {
+        return Ok(());
     }
+    append_count(marks, Subject::Verdict(slot), count)
 }
 
 #[tactic(auto, using(crate::proofs::Steps::steps))]
@@ -107,6 +117,13 @@ fn append_figure(marks: &mut Vec<Mark>, intervals: &[Interval], few: bool) -> Re
     append_strip(marks, intervals, columns_of(intervals.len(), few), few)
 }
 
+/// How many intervals a table shows, of few parts or of many.
+fn most_of(few: bool) -> usize
+    ensures { result ≡ (if few then 100 else 20) }
+{
+    if few { 100 } else { 20 }
+}
+
 /// Appends the figure and the tables of a part that has series.
 #[tactic(auto, unfolding(crate::specs::Pages::body_marks))]
 fn append_body(marks: &mut Vec<Mark>, intervals: &[Interval], few: bool) -> Result<(), AllocError>
@@ -117,7 +134,7 @@ fn append_body(marks: &mut Vec<Mark>, intervals: &[Interval], few: bool) -> Resu
     }
     append_figure(marks, intervals, few)?;
     append_groups(marks, intervals)?;
-    append_table(marks, intervals, if few { 100 } else { 20 })
+    append_table(marks, intervals, most_of(few))
 }
 
 /// Appends a part.
@@ -145,9 +162,10 @@ fn append_parts(marks: &mut Vec<Mark>, answers: &[PartAnswer], few: bool) -> Res
 fn append_sums(marks: &mut Vec<Mark>, intervals: u64, rows: &[Row]) -> Result<(), AllocError>
     ensures { OnOk result (marks.new.items ≡ marks.old.items ++ sums intervals rows.now) }
 {
+    let samples = samples_in(rows)?;
     append_count(marks, Subject::Intervals, intervals)?;
     append_count(marks, Subject::Rows, rows.len() as u64)?;
-    append_count(marks, Subject::Samples, samples_in(rows)?)
+    append_count(marks, Subject::Samples, samples)
 }
 
 #[tactic(auto, unfolding(crate::specs::Pages::part_sums))]
@@ -194,8 +212,9 @@ fn append_lower(
     ensures { OnOk result (marks.new.items
         ≡ marks.old.items ++ lower_marks answers.now rows.now) }
 {
+    let intervals = intervals_in(answers)?;
     append_all_sums(marks, answers)?;
-    append_sums(marks, intervals_in(answers)?, rows)?;
+    append_sums(marks, intervals, rows)?;
     append_rows(marks, rows)
 }
 

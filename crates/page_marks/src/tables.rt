@@ -21,7 +21,8 @@ pub const MOST_ROWS: usize = 50;
 fn append_place(marks: &mut Vec<Mark>, at: usize) -> Result<(), AllocError>
     ensures { OnOk result (marks.new.items ≡ marks.old.items ++ place at) }
 {
-    Ok(marks.push(Mark::Count(Subject::Place, sum_of(1, at)?))?)
+    let place = sum_of(1, at)?;
+    Ok(marks.push(Mark::Count(Subject::Place, place))?)
 }
 
 #[tactic(auto, using(crate::proofs::Steps::steps))]
@@ -72,11 +73,12 @@ pub(crate) fn samples_in(rows: &[Row]) -> Result<u64, AllocError>
 }
 
 /// Appends a row at a place, from 0, and how many samples it has.
+#[tactic(auto, unfolding(crate::specs::Tables::place))]
 fn append_row(marks: &mut Vec<Mark>, at: usize, row: &Row) -> Result<(), AllocError>
     ensures { OnOk result (marks.new.items ≡ marks.old.items
         ++ Count Place (1 + at) ∷ Count Samples (length row.now.1) ∷ []) }
 {
-    marks.push(Mark::Count(Subject::Place, sum_of(1, at)?))?;
+    append_place(marks, at)?;
     Ok(marks.push(Mark::Count(Subject::Samples, row.samples().len() as u64))?)
 }
 
@@ -98,8 +100,9 @@ fn append_left_rows(marks: &mut Vec<Mark>, rest: &[Row]) -> Result<(), AllocErro
     if rest.is_empty() {
         return Ok(());
     }
+    let samples = samples_in(rest)?;
     marks.push(Mark::Count(Subject::Rows, rest.len() as u64))?;
-    Ok(marks.push(Mark::Count(Subject::Samples, samples_in(rest)?))?)
+    Ok(marks.push(Mark::Count(Subject::Samples, samples))?)
 }
 
 /// Appends a table that shows the first rows.

@@ -42,7 +42,15 @@ fn append_mark(marks: &mut Vec<Mark>, piece: &Piece) -> Result<(), AllocError>
 {
     match piece {
         Piece::Mark(mark) => Ok(marks.push(*mark)?),
-        _ => Ok(()),
+        Piece::Open(_, _)
+        | Piece::Leaf(_, _)
+        | Piece::Close(_)
+        | Piece::Word(_)
+        | Piece::Text(_)
+        | Piece::Number(_)
+        | Piece::Integer(_)
+        | Piece::Counted(_)
+        | Piece::Line => Ok(()),
     }
 }
 

@@ -153,7 +153,7 @@ fn append_fill(out: &mut Vec<u8>, slot: usize) -> Result<(), AllocError>
         18 => out.extend_from_slice(b"c vn"),
         _ => {
             out.extend_from_slice(b"c v")?;
-            append_number(out, slot as u64 - 1)
+            append_number(out, slot.saturating_sub(1) as u64)
         }
     }
 }
