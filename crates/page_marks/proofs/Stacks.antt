@@ -82,6 +82,12 @@ below_within (i ∷ is) n =
     within_more (one_if (nat_lt (slot_of i.verdict) n)) (count_below is n) (length is)
     (at_most_one (nat_lt (slot_of i.verdict) n)) (below_within is n)
 
+pub below_room : (is : List Interval) (n : ℕ) → count_below is n + count_in n is ≤ length is
+below_room is n =
+    let e = below_more is n in
+    let h = below_within is (n + 1) in
+    omega (arith, e, h)
+
 slot_few : (v : Verdict) → slot_of v < 19
 slot_few Match = let h : 0 < 19 = omega arith in h
 slot_few NoSample = let h : 18 < 19 = omega arith in h
@@ -103,4 +109,4 @@ below_all (i ∷ is) =
 pub ruleset kinds = (kinds_none, kinds_more)
 
 pub ruleset stacks =
-    (kinds_none, kinds_more, kinds_few, below_none, below_more, below_within)
+    (kinds_none, kinds_more, kinds_few, below_none, below_more, below_within, below_room)
