@@ -1,10 +1,12 @@
 -- What columns and layers make of the counts.
-use Rattle.std.proofs.Common.{◌≡◌, ℕ, zero, suc, ◌+◌, ◌-◌, ◌*◌, ◌/◌, ◌<◌, ◌≤◌, List, ◌++◌, length}
+use Rattle.std.proofs.Common.{◌≡◌, ℕ, zero, suc, ◌+◌, ◌-◌, ◌*◌, ◌/◌, ◌<◌, ◌≤◌, List, [], ◌∷◌}
+use Rattle.std.proofs.Common.{◌++◌, length, zero-add, add_assoc}
 use Rattle.std.proofs.Common.{take, Bool, ap, ap₂, sym, subst, ◌∙◌, add-one, arith, le-ltb, lt-ltb}
 use Rattle.std.specs.Prelude.{slice_range}
 use Rattle.std.proofs.Math.Nat.{div-le_of_le-mul, mul-div_cancel_left}
 use Rattle.std.proofs.Math.Seq.{take-add, take-length}
 use Rattle.cover.specs.declared.certificate.Interval.{Interval}
+use Rattle.labels.specs.Rows.{Row}
 use Rattle.page_claims.specs.Counting.{count_in}
 use Rattle.page_claims.proofs.Counted.{count_append}
 use Rattle.page_layout.specs.Columns.{edge}
@@ -12,6 +14,7 @@ use Rattle.page_layout.specs.Layers.{top}
 use Rattle.page_layout.proofs.Edges.{edge_next, top_more, top_full}
 use Rattle.page_marks.specs.Columns.{column_of}
 use Rattle.page_marks.specs.Gathering.{total}
+use Rattle.page_marks.specs.Tables.{samples_in}
 use Rattle.page_marks.specs.Tiles.{kinds_below, count_below, level, IsStack}
 use Rattle.page_marks.proofs.Stacks.{one_if, kinds_none, kinds_more, kinds_few}
 use Rattle.page_marks.proofs.Stacks.{below_none, below_more, below_all}
@@ -60,6 +63,12 @@ columns_add slot columns is some =
     columns_sum slot columns is columns some
     ∙ ap (λ (n : ℕ). count_in slot (take n is)) (mul-div_cancel_left (length is) some)
     ∙ ap (λ (l : List Interval). count_in slot l) (take-length is)
+
+pub samples_append : (xs ys : List Row) → samples_in (xs ++ ys) ≡ samples_in xs + samples_in ys
+samples_append [] ys = sym (zero-add (samples_in ys))
+samples_append (x ∷ xs) ys =
+    ap (λ (n : ℕ). length x.1 + n) (samples_append xs ys)
+    ∙ sym (add_assoc (length x.1) (samples_in xs) (samples_in ys))
 
 top_none : (total room : ℕ) → top 0 0 total room ≡ 0
 top_none total room =

@@ -3,7 +3,7 @@
 //! A strip shares the intervals of a part among columns ([`columns_of`]). A column has a tile for
 //! each verdict that occurs in it ([`tiles_of`]), one on the other: they fill its height, and each
 //! has at least one unit. The counts of the columns sum to those of the part, and those of all
-//! verdicts to the intervals ([`strips_law`]). [`page_marks`] lists the counts and the tiles of a
+//! verdicts to the intervals ([`marks_law`]). [`page_marks`] lists the counts and the tiles of a
 //! whole page in their order, those of what its tables leave out too; so a page that was drawn can
 //! be held to the reply that it shows.
 //!
@@ -25,7 +25,7 @@ mod tallies;
 mod tiles;
 
 pub use columns::{FULL, GROUPS, columns_of};
-pub use laws::strips_law;
+pub use laws::marks_law;
 pub use pages::page_marks;
 pub use tables::MOST_ROWS;
 pub use tallies::tallies_of;

@@ -1,5 +1,5 @@
-use Rattle.page_marks.proofs.Laws.{stack, columns_add, verdicts_add}
-use Rattle.page_marks.proofs.laws.strips_law.Goals as goal
+use Rattle.page_marks.proofs.Laws.{stack, columns_add, verdicts_add, samples_append}
+use Rattle.page_marks.proofs.laws.marks_law.Goals as goal
 
 pub returns-clause-stacks : goal.returns-clause-stacks
 returns-clause-stacks c = stack
@@ -9,3 +9,6 @@ returns-clause-columns c = columns_add
 
 pub returns-clause-verdicts : goal.returns-clause-verdicts
 returns-clause-verdicts c = verdicts_add
+
+pub returns-clause-samples : goal.returns-clause-samples
+returns-clause-samples c = samples_append
