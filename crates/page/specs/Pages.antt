@@ -8,7 +8,7 @@ use Rattle.labels.specs.Rows.{AreRows}
 use Rattle.auditor.specs.Listing.{last_listed}
 use Rattle.page_claims.specs.Claiming.{IsShown, are_judged}
 use Rattle.page_claims.specs.declared.claim.Claim.{Claim}
-use Rattle.page_marks.specs.Pages.{page_marks}
+use Rattle.page_marks.specs.Pages.{page_marks, text_marks}
 use Rattle.page_style.specs.declared.front.TheConstants.{FRONT}
 use Rattle.page_text.specs.Marks.{marks_in}
 use Rattle.page_text.specs.Nesting.{IsContent}
@@ -55,6 +55,10 @@ abbrev pub wanted_marks : Shown → List Mark
 wanted_marks s =
     page_marks (length s.query.now.matchers) s.told.now.answers.items s.told.now.rows.items
 
+-- the counts that what is shown has in a text
+abbrev pub wanted_counts : Shown → List Mark
+wanted_counts s = text_marks (length s.query.now.matchers) s.told.now.answers.items
+
 -- what begins each page
 unfoldable pub page_front : List ℕ
 page_front = flat_map (λ t. t.now) FRONT
@@ -89,6 +93,7 @@ pub record IsTextOf (s : Shown) (page : Page) : Type 0 where
   pub sections : IsContent page.sections.items
   pub claim : IsClaimOf s page.claim
   pub asked : IsSaidOf s page.asked
+  pub marks : marks_in page.sections.items ≡ wanted_counts s
   pub bytes : page.bytes.items
       ≡ plain_claim (saying_of s page.claim) ++ plain_text page.sections.items
   pub few : length page.bytes.items ≤ 268435456

@@ -5,7 +5,8 @@ ghost use Rattle.page_text.specs.Marks.{marks_in};
 ghost use Rattle.page_text.specs.Nesting.{IsContent};
 ghost use Rattle.page_text.specs.Plain.{plain_text};
 ghost use Rattle.page.specs.Pages.{IsClaimOf, IsSaidOf, IsPageOf, IsTextOf};
-ghost use Rattle.page.specs.Pages.{page_front, page_top, page_rest, page_bytes, wanted_marks};
+ghost use Rattle.page.specs.Pages.{page_front, page_top, page_rest, page_bytes};
+ghost use Rattle.page.specs.Pages.{wanted_marks, wanted_counts};
 ghost use Rattle.page.specs.Saying.{plain_claim};
 
 use crate::asked::{Asked, ask};
@@ -20,9 +21,9 @@ use crate::shown::{Shown, View, axis_of, samples_in};
 use crate::terminal::terminal;
 use crate::time::time;
 use page_claims::{Claim, find_claim};
-use page_marks::page_marks;
+use page_marks::{page_marks, text_marks};
 use page_style::{append_back, append_front};
-use page_text::{Piece, Tag, marks_of, print, print_plain, same_marks};
+use page_text::{Mark, Piece, Tag, marks_of, print, print_plain, same_marks};
 use std::alloc::{AllocError, Global};
 
 /// What all sections need.
@@ -96,16 +97,29 @@ fn sections_of(
     pen.finish()
 }
 
-/// Whether pieces have the counts and the tiles that what is shown gives: others are refused as if
-/// there were no memory for them.
-fn check_marks(alloc: Global, pieces: &[Piece], shown: &Shown<'_>) -> Result<(), AllocError>
-    ensures { IfOk result (λ _. marks_in pieces.now ≡ wanted_marks shown.now) }
+/// The counts and the tiles that what is shown has below the claim.
+fn wanted_marks(alloc: Global, shown: &Shown<'_>) -> Result<Vec<Mark>, AllocError>
+    ensures { IfOk result (λ marks. marks.items ≡ wanted_marks shown.now) }
 {
-    let drawn = marks_of(alloc, pieces)?;
     let matchers = shown.query.matchers().len();
     let (answers, rows) = (shown.told.answers.as_slice(), shown.told.rows.as_slice());
-    let wanted = page_marks(alloc, matchers, answers, rows)?;
-    if same_marks(drawn.as_slice(), wanted.as_slice()) {
+    page_marks(alloc, matchers, answers, rows)
+}
+
+/// The counts that what is shown has in a text.
+fn wanted_counts(alloc: Global, shown: &Shown<'_>) -> Result<Vec<Mark>, AllocError>
+    ensures { IfOk result (λ marks. marks.items ≡ wanted_counts shown.now) }
+{
+    let matchers = shown.query.matchers().len();
+    text_marks(alloc, matchers, shown.told.answers.as_slice())
+}
+
+/// Whether pieces have these marks: others are refused as if there were no memory for them.
+fn check_marks(alloc: Global, pieces: &[Piece], wanted: &[Mark]) -> Result<(), AllocError>
+    ensures { IfOk result (λ _. marks_in pieces.now ≡ wanted.now) }
+{
+    let drawn = marks_of(alloc, pieces)?;
+    if same_marks(drawn.as_slice(), wanted) {
         Ok(())
     } else {
         Err(AllocError)
@@ -197,7 +211,8 @@ pub fn write_page(alloc: Global, shown: &Shown<'_>) -> Result<Page, AllocError>
     let heading = heading_of(alloc, &view)?;
     let details = details_of(alloc, &view)?;
     let sections = sections_of(alloc, &view, asked.as_ref())?;
-    check_marks(alloc, sections.as_slice(), shown)?;
+    let wanted = wanted_marks(alloc, shown)?;
+    check_marks(alloc, sections.as_slice(), wanted.as_slice())?;
     let saying = saying_of(shown, view.claim);
     let bytes = bytes_of(
         alloc,
@@ -249,6 +264,8 @@ pub fn write_text(alloc: Global, shown: &Shown<'_>) -> Result<Page, AllocError>
     let view = view_of(alloc, shown)?;
     let asked = asked_of(alloc, shown)?;
     let lines = lines_of(alloc, &view, asked.as_ref())?;
+    let wanted = wanted_counts(alloc, shown)?;
+    check_marks(alloc, lines.as_slice(), wanted.as_slice())?;
     let bytes = plain_of(alloc, saying_of(shown, view.claim), lines.as_slice())?;
     Ok(Page {
         heading: Vec::new(alloc),

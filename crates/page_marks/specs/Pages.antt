@@ -1,4 +1,4 @@
--- Which counts and tiles a page has below its claim, in their order.
+-- Which counts and tiles a page has below its claim, and which counts a text has, in their order.
 use Rattle.std.specs.Prelude.{ℕ, ◌+◌, ◌==◌, ◌||◌, Bool, nat_lt, nat_le, List, [], ◌∷◌, ◌++◌, length}
 use Rattle.std.specs.Prelude.{if◌then◌else◌}
 use Rattle.std.specs.List.{flat_map}
@@ -78,6 +78,15 @@ upper_marks matchers answers rows =
 unfoldable pub lower_marks : List PartAnswer → List Row → List Mark
 lower_marks answers rows =
     flat_map part_sums answers ++ sums (intervals_in answers) rows ++ row_marks rows
+
+-- how many intervals a part has
+unfoldable pub part_count : PartAnswer → List Mark
+part_count a = Count Intervals (length a.cover.certificate.items) ∷ []
+
+-- a text for a terminal: the key, and how many intervals each part has
+abbrev pub text_marks : ℕ → List PartAnswer → List Mark
+text_marks matchers answers =
+    gather (key_mark matchers answers) 19 ++ flat_map part_count answers
 
 -- a page below its claim
 abbrev pub page_marks : ℕ → List PartAnswer → List Row → List Mark

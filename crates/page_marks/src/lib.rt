@@ -4,8 +4,8 @@
 //! each verdict that occurs in it ([`tiles_of`]), one on the other: they fill its height, and each
 //! has at least one unit. The counts of the columns sum to those of the part, and those of all
 //! verdicts to the intervals ([`marks_law`]). [`page_marks`] lists the counts and the tiles of a
-//! whole page in their order, those of what its tables leave out too; so a page that was drawn can
-//! be held to the reply that it shows.
+//! whole page in their order, those of what its tables leave out too, and [`text_marks`] the counts
+//! of a text; so what was drawn can be held to the reply that it shows.
 //!
 //! ```
 //! let wanted = page_marks(alloc, query.matchers().len(), answers, rows)?;
@@ -26,7 +26,7 @@ mod tiles;
 
 pub use columns::{FULL, GROUPS, columns_of};
 pub use laws::marks_law;
-pub use pages::page_marks;
+pub use pages::{page_marks, text_marks};
 pub use tables::MOST_ROWS;
 pub use tallies::tallies_of;
 pub use tiles::{Frame, tiles_of};

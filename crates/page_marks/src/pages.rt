@@ -1,4 +1,4 @@
-//! Which counts and tiles a page has below its claim.
+//! Which counts and tiles a page has below its claim, and which counts a text has.
 
 ghost use Rattle.std.specs.Prelude.{◌≡◌, ◌++◌, ◌∷◌, [], if◌then◌else◌, IfOk, OnOk};
 ghost use Rattle.std.specs.List.{flat_map};
@@ -8,6 +8,7 @@ ghost use Rattle.page_marks.specs.Pages.{intervals_in, separators_in, number_mar
 ghost use Rattle.page_marks.specs.Pages.{key_mark};
 ghost use Rattle.page_marks.specs.Pages.{figure_marks, body_marks, part_marks, sums, part_sums};
 ghost use Rattle.page_marks.specs.Pages.{upper_marks, lower_marks, page_marks};
+ghost use Rattle.page_marks.specs.Pages.{part_count, text_marks};
 
 use crate::columns::{append_groups, append_strip, columns_of};
 use crate::tables::{append_rows, append_table, samples_in};
@@ -233,5 +234,41 @@ pub fn page_marks(
     let mut marks = Vec::new(alloc);
     append_upper(&mut marks, matchers, answers, rows)?;
     append_lower(&mut marks, answers, rows)?;
+    Ok(marks)
+}
+
+#[tactic(auto, unfolding(crate::specs::Pages::part_count))]
+fn append_part_count(marks: &mut Vec<Mark>, answer: &PartAnswer) -> Result<(), AllocError>
+    ensures { OnOk result (marks.new.items ≡ marks.old.items ++ part_count answer.now) }
+{
+    append_count(
+        marks,
+        Subject::Intervals,
+        answer.cover.certificate.len() as u64,
+    )
+}
+
+fn append_part_counts(marks: &mut Vec<Mark>, answers: &[PartAnswer]) -> Result<(), AllocError>
+    ensures { OnOk result (marks.new.items
+        ≡ marks.old.items ++ flat_map part_count answers.now) }
+{
+    for answer in answers {
+        append_part_count(marks, answer)?;
+    }
+    Ok(())
+}
+
+/// The counts that a text for a terminal has of an answer: those of the key, and how many intervals
+/// each part has; of a selector of so many matchers.
+pub fn text_marks(
+    alloc: Global,
+    matchers: usize,
+    answers: &[PartAnswer],
+) -> Result<Vec<Mark>, AllocError>
+    ensures { IfOk result (λ marks. marks.items ≡ text_marks matchers answers.now) }
+{
+    let mut marks = Vec::new(alloc);
+    append_key(&mut marks, matchers, answers)?;
+    append_part_counts(&mut marks, answers)?;
     Ok(marks)
 }
