@@ -10,8 +10,8 @@ use Rattle.page_marks.specs.Gathering.{gather}
 use Rattle.page_marks.specs.Tallies.{tallies}
 
 -- the row of a table at a place, from 0
-unfoldable pub place : ℕ → List Mark
-place at = Count Place (1 + at) ∷ []
+unfoldable pub place_mark : ℕ → List Mark
+place_mark at = Count Place (1 + at) ∷ []
 
 -- what a table of intervals leaves out: how many, and how many of each verdict
 unfoldable pub left_intervals : List Interval → List Mark
@@ -21,7 +21,7 @@ left_intervals is =
 -- a table that shows the first intervals, at most so many
 unfoldable pub table_marks : ℕ → List Interval → List Mark
 table_marks most is =
-    gather place (min most (length is)) ++ left_intervals (drop (min most (length is)) is)
+    gather place_mark (min most (length is)) ++ left_intervals (drop (min most (length is)) is)
 
 -- how many samples rows have
 abbrev pub samples_in : List Row → ℕ

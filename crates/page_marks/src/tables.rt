@@ -4,7 +4,7 @@ ghost use Rattle.std.specs.Prelude.{◌≡◌, ◌+◌, ◌++◌, ◌∷◌, [],
 ghost use Rattle.page_text.specs.declared.mark.Mark.TheVariants.{Count};
 ghost use Rattle.page_text.specs.declared.mark.Subject.TheVariants.{Place, Samples};
 ghost use Rattle.page_marks.specs.Gathering.{gather};
-ghost use Rattle.page_marks.specs.Tables.{place, left_intervals, table_marks};
+ghost use Rattle.page_marks.specs.Tables.{place_mark, left_intervals, table_marks};
 ghost use Rattle.page_marks.specs.Tables.{samples_in, rows_from, left_rows, row_marks};
 
 use crate::tallies::{append_tallies, sum_of};
@@ -17,9 +17,9 @@ use std::alloc::AllocError;
 pub const MOST_ROWS: usize = 50;
 
 /// Appends the row of a table at a place, from 0.
-#[tactic(auto, unfolding(crate::specs::Tables::place))]
+#[tactic(auto, unfolding(crate::specs::Tables::place_mark))]
 fn append_place(marks: &mut Vec<Mark>, at: usize) -> Result<(), AllocError>
-    ensures { OnOk result (marks.new.items ≡ marks.old.items ++ place at) }
+    ensures { OnOk result (marks.new.items ≡ marks.old.items ++ place_mark at) }
 {
     let place = sum_of(1, at)?;
     Ok(marks.push(Mark::Count(Subject::Place, place))?)
@@ -27,7 +27,7 @@ fn append_place(marks: &mut Vec<Mark>, at: usize) -> Result<(), AllocError>
 
 #[tactic(auto, using(crate::proofs::Steps::steps))]
 fn append_places(marks: &mut Vec<Mark>, rows: usize) -> Result<(), AllocError>
-    ensures { OnOk result (marks.new.items ≡ marks.old.items ++ gather place rows) }
+    ensures { OnOk result (marks.new.items ≡ marks.old.items ++ gather place_mark rows) }
 {
     for at in 0..rows {
         append_place(marks, at)?;
@@ -73,7 +73,7 @@ pub(crate) fn samples_in(rows: &[Row]) -> Result<u64, AllocError>
 }
 
 /// Appends a row at a place, from 0, and how many samples it has.
-#[tactic(auto, unfolding(crate::specs::Tables::place))]
+#[tactic(auto, unfolding(crate::specs::Tables::place_mark))]
 fn append_row(marks: &mut Vec<Mark>, at: usize, row: &Row) -> Result<(), AllocError>
     ensures { OnOk result (marks.new.items ≡ marks.old.items
         ++ Count Place (1 + at) ∷ Count Samples (length row.now.1) ∷ []) }
