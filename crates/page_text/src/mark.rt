@@ -1,6 +1,6 @@
 //! Marks: what a tree tells of itself.
 
-ghost use Rattle.std.specs.Prelude.{◌≡◌, IsTrue, IfOk};
+ghost use Rattle.std.specs.Prelude.{◌≡◌, ◌++◌, IsTrue, IfOk, OnOk};
 ghost use Rattle.page_text.specs.Marks.{mark_in, marks_in};
 
 use crate::piece::Piece;
