@@ -1,3 +1,3 @@
-pub mod Laws
 pub mod Stacks
 pub mod Steps
+pub mod Sums

@@ -1,4 +1,4 @@
-use Rattle.page_marks.proofs.Laws.{stack, columns_add, verdicts_add, samples_append}
+use Rattle.page_marks.proofs.Sums.{stack, columns_add, verdicts_add, samples_append}
 use Rattle.page_marks.proofs.laws.marks_law.Goals as goal
 
 pub returns-clause-stacks : goal.returns-clause-stacks
