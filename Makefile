@@ -16,7 +16,7 @@ TESTS_OF := selection_tests:labels,pages,matchers,postings \
 	import_tests:xor_reader,doubles,decimal_text,prometheus_block \
 	journal_tests:journal,event_text \
 	tests/importing:imported_values,time_cuts,block_folder,block_outputs,open_metrics,metrics_writer,exposition,blocktool_command,blocktool \
-	tests/pages-html:page_layout,page_style,page_text,page_claims,page,explain_command,explain
+	tests/pages-html:page_layout,page_style,page_text,page_claims,page_marks,page,explain_command,explain
 # The crate or the script with the tests of a crate, or nothing.
 tests_of = $(if $(filter %_tests,$(1)),$(1),$(word 1,$(subst :, ,$(foreach it,$(TESTS_OF),$(if \
 	$(filter $(1),$(subst $(comma), ,$(word 2,$(subst :, ,$(it))))),$(it))))))

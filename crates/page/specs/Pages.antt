@@ -1,6 +1,6 @@
 -- What a page is: what it claims, what it says of a label set that somebody asks about, and what it
 -- prints.
-use Rattle.std.specs.Prelude.{◌≡◌, ◌==◌, ◌++◌, ◌↔◌, ◌&&◌, ℕ, Bool, not, nat_lt, List}
+use Rattle.std.specs.Prelude.{◌≡◌, ◌==◌, ◌≤◌, ◌++◌, ◌↔◌, ◌&&◌, ℕ, Bool, not, nat_lt, List}
 use Rattle.std.specs.Prelude.{Option, None, IsTrue, IsSomeAnd, MatchOption, length, codes}
 use Rattle.std.specs.Prelude.{if◌then◌else◌}
 use Rattle.std.specs.List.{flat_map}
@@ -8,10 +8,13 @@ use Rattle.labels.specs.Rows.{AreRows}
 use Rattle.auditor.specs.Listing.{last_listed}
 use Rattle.page_claims.specs.Claiming.{IsShown, are_judged}
 use Rattle.page_claims.specs.declared.claim.Claim.{Claim}
+use Rattle.page_marks.specs.Pages.{page_marks, text_marks}
 use Rattle.page_style.specs.declared.front.TheConstants.{FRONT}
+use Rattle.page_text.specs.Marks.{marks_in}
 use Rattle.page_text.specs.Nesting.{IsContent}
 use Rattle.page_text.specs.Plain.{plain_text}
 use Rattle.page_text.specs.Printing.{page_text}
+use Rattle.page_text.specs.declared.mark.Mark.{Mark}
 use Rattle.page_text.specs.declared.piece.Piece.{Piece}
 use Rattle.page.specs.declared.asked.Asked.{Asked}
 use Rattle.page.specs.declared.claim_text.Saying.{Saying}
@@ -47,6 +50,15 @@ IsSaidOf s said =
     MatchOption s.about (said ≡ None) (λ labels. IsSomeAnd said
     (λ asked. IsSaid s.query.now.matchers s.told.now.rows.items labels.now asked))
 
+-- the counts and the tiles that what is shown has below the claim
+abbrev pub wanted_marks : Shown → List Mark
+wanted_marks s =
+    page_marks (length s.query.now.matchers) s.told.now.answers.items s.told.now.rows.items
+
+-- the counts that what is shown has in a text
+abbrev pub wanted_counts : Shown → List Mark
+wanted_counts s = text_marks (length s.query.now.matchers) s.told.now.answers.items
+
 -- what begins each page
 unfoldable pub page_front : List ℕ
 page_front = flat_map (λ t. t.now) FRONT
@@ -63,21 +75,25 @@ page_rest details sections =
 unfoldable pub page_bytes : Saying → List Piece → List Piece → List Piece → List ℕ
 page_bytes saying heading details sections = page_top saying heading ++ page_rest details sections
 
--- the print of trees, and the claim between them
+-- the print of trees, and the claim between them; below it the counts and the tiles of the reply
 pub record IsPageOf (s : Shown) (page : Page) : Type 0 where
   pub heading : IsContent page.heading.items
   pub details : IsContent page.details.items
   pub sections : IsContent page.sections.items
   pub claim : IsClaimOf s page.claim
   pub asked : IsSaidOf s page.asked
+  pub marks : marks_in page.sections.items ≡ wanted_marks s
   pub bytes : page.bytes.items
       ≡ page_bytes (saying_of s page.claim) page.heading.items page.details.items
       page.sections.items
+  pub few : length page.bytes.items ≤ 268435456
 
 -- the claim, and the texts and numbers of a tree
 pub record IsTextOf (s : Shown) (page : Page) : Type 0 where
   pub sections : IsContent page.sections.items
   pub claim : IsClaimOf s page.claim
   pub asked : IsSaidOf s page.asked
+  pub marks : marks_in page.sections.items ≡ wanted_counts s
   pub bytes : page.bytes.items
       ≡ plain_claim (saying_of s page.claim) ++ plain_text page.sections.items
+  pub few : length page.bytes.items ≤ 268435456

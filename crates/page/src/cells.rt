@@ -8,7 +8,7 @@ ghost use Rattle.page.specs.Cells.{class_front, labelled_front, number_text, cou
 ghost use Rattle.page.specs.Cells.{value_text, bounds_text};
 
 use labels::SeriesRef;
-use page_text::{Attribute, Key, Tag, Tree};
+use page_text::{Attribute, Key, Mark, Subject, Tag, Tree};
 use std::alloc::AllocError;
 
 /// Begins an element with no attribute.
@@ -31,14 +31,14 @@ pub(crate) fn begin(tree: &mut Tree, tag: Tag, class: &'static str) -> Result<()
     tree.open(tag, vec![in alloc; Attribute::Word(Key::Class, class)]?)
 }
 
-/// The cell of a table that holds a number with commas.
+/// The cell of a table that holds a count.
 #[tactic(auto, unfolding(crate::specs::Cells::counted_text))]
-pub(crate) fn counted_cell(tree: &mut Tree, n: u64) -> Result<(), AllocError>
+pub(crate) fn count_cell(tree: &mut Tree, subject: Subject, n: u64) -> Result<(), AllocError>
     ensures printed { OnOk result (printed tree.new ≡ printed tree.old ++ counted_text n) }
     ensures inside { OnOk result (open_tags tree.new ≡ open_tags tree.old) }
 {
     begin(tree, Tag::Td, "n")?;
-    tree.counted(n)?;
+    tree.mark(Mark::Count(subject, n))?;
     tree.close()
 }
 

@@ -12,7 +12,7 @@ use auditor::Line;
 use cover::PartAnswer;
 use labels::LabelSet;
 use page_claims::{Place, checks_of};
-use page_text::{Attribute, Key, Tag};
+use page_text::{Attribute, Key, Subject, Tag};
 use postings::PartName;
 
 /// The name of a part.
@@ -279,19 +279,19 @@ fn open_number(pen: &mut Pen, href: &'static str) {
     pen.open(Tag::A);
 }
 
-fn close_number(pen: &mut Pen, n: u64) {
+fn close_number(pen: &mut Pen, subject: Subject, n: u64) {
     pen.close();
     pen.close();
     pen.open(Tag::DescriptionText);
-    pen.counted(n);
+    pen.count(subject, n);
     pen.close();
     pen.close();
 }
 
-fn number(pen: &mut Pen, n: u64, href: &'static str, what: &'static str) {
+fn number(pen: &mut Pen, subject: Subject, n: u64, href: &'static str, what: &'static str) {
     open_number(pen, href);
     pen.word(what);
-    close_number(pen, n);
+    close_number(pen, subject, n);
 }
 
 fn searched_number(pen: &mut Pen, view: &View<'_>) {
@@ -300,7 +300,7 @@ fn searched_number(pen: &mut Pen, view: &View<'_>) {
     pen.word("of ");
     plural(pen, told.places.len() as u64, " part", " parts");
     pen.word(" searched");
-    close_number(pen, told.answers.len() as u64);
+    close_number(pen, Subject::Parts, told.answers.len() as u64);
 }
 
 fn numbers(pen: &mut Pen, view: &View<'_>) {
@@ -310,11 +310,18 @@ fn numbers(pen: &mut Pen, view: &View<'_>) {
         separators = separators.saturating_add(answer.cover.separators.len() as u64);
     }
     pen.begin(Tag::DescriptionList, "nums");
-    number(pen, told.rows.len() as u64, "#rows", "series");
-    number(pen, view.samples, "#rows", "samples");
+    let rows = told.rows.len() as u64;
+    number(pen, Subject::Rows, rows, "#rows", "series");
+    number(pen, Subject::Samples, view.samples, "#rows", "samples");
     searched_number(pen, view);
-    number(pen, view.intervals, "#cert", "intervals");
-    number(pen, separators, "#cert", "separators");
+    number(
+        pen,
+        Subject::Intervals,
+        view.intervals,
+        "#cert",
+        "intervals",
+    );
+    number(pen, Subject::Separators, separators, "#cert", "separators");
     pen.close();
     pen.line();
 }

@@ -7,7 +7,7 @@ use crate::verdicts::{MATCH, NONE, UNKNOWN, chip, matcher, plain_fill, slot_name
 use crate::words::{classed, head_cell, open_section, word};
 use page_claims::SLOTS;
 use page_layout::share;
-use page_text::{Attribute, Key, Tag};
+use page_text::{Attribute, Key, Subject, Tag};
 
 /// What a slot says of each series of its intervals.
 fn meaning(pen: &mut Pen, view: &View<'_>, slot: usize) {
@@ -143,7 +143,7 @@ fn row(pen: &mut Pen, view: &View<'_>, slot: usize, n: u64) {
     pen.open(Tag::Td);
     meaning(pen, view, slot);
     pen.close();
-    pen.counted_cell(n);
+    pen.count_cell(Subject::Verdict(slot), n);
     pen.begin(Tag::Td, "wide");
     bar(pen, slot, n, view.intervals);
     pen.word(" ");

@@ -4,7 +4,9 @@
 //! [`write_page`] makes the page as the pieces of trees, in which texts from outside (the selector,
 //! label names and values) are texts alone, and prints them between a constant front and a constant
 //! end; [`write_text`] writes the same for a terminal. The claim between them is that of
-//! `page_claims::find_claim`, and what is said of a label set is [`ask`]'s.
+//! `page_claims::find_claim`, and what is said of a label set is [`ask`]'s. What was drawn below
+//! the claim is read back before it is handed out: its counts and tiles are those of the reply
+//! (`page_marks`).
 //!
 //! ```
 //! let (tables, lines, about) = (&[], &[], None);
@@ -13,8 +15,8 @@
 //! let page = write_page(alloc, &shown)?;
 //! ```
 //!
-//! It stands on `page_claims`, `page_layout`, `page_style` and `page_text`, and on the types of the
-//! crates below them.
+//! It stands on `page_claims`, `page_layout`, `page_marks`, `page_style` and `page_text`, and on
+//! the types of the crates below them.
 #![tactic(auto)]
 
 mod asked;
@@ -44,4 +46,4 @@ mod write;
 pub use asked::{Asked, ask};
 pub use claim_text::Saying;
 pub use shown::Shown;
-pub use write::{Page, write_page, write_text};
+pub use write::{MOST_BYTES, Page, write_page, write_text};

@@ -2,11 +2,12 @@
 
 use crate::pen::Pen;
 use crate::shapes::{Area, class_line, line, open_text, rect};
-use crate::strip::{FULL, Strip};
+use crate::strip::Strip;
 use crate::verdicts::{MATCH, fill};
 use cover::Interval;
 use page_claims::{SLOTS, slot_of};
 use page_layout::{edge, share};
+use page_marks::FULL;
 use page_text::{Attribute, Key, Tag};
 use std::alloc::{AllocError, Global};
 

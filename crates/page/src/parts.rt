@@ -8,25 +8,15 @@ use crate::pen::Pen;
 use crate::sayings::{sayings, seen, text_of};
 use crate::shapes::open_small;
 use crate::shown::View;
-use crate::strip::{END, Strip, caption, draw_strip, layers_of, summary};
+use crate::strip::{END, Strip, caption, draw_strip, summary};
 use crate::verdicts::{chip, row_class, slot_name, why};
-use crate::words::{classed, head_cell, open_section, plural, word};
+use crate::words::{classed, head_cell, open_section, plural, plural_of, word};
 use cover::{Interval, PartAnswer, Verdict};
 use labels::SeriesRef;
 use page_claims::{Checks, Place, checks_of, shown_of, slot_of};
-use page_text::{Attribute, Key, Tag};
+use page_marks::{columns_of, tallies_of};
+use page_text::{Attribute, Key, Mark, Subject, Tag};
 use postings::PartName;
-
-/// How many columns a strip of so many intervals has.
-fn columns_of(intervals: usize, few: bool) -> usize {
-    if intervals <= 240 {
-        intervals
-    } else if few {
-        240
-    } else {
-        60
-    }
-}
 
 fn strip_of<'a>(answer: &'a PartAnswer, few: bool) -> Strip<'a> {
     let intervals = answer.cover.certificate.as_slice();
@@ -52,7 +42,13 @@ fn figure_title(pen: &mut Pen, shown: &Strip<'_>, name: PartName) {
     pen.close();
     pen.open(Tag::Description);
     let intervals = shown.intervals.len() as u64;
-    plural(pen, intervals, " interval: ", " intervals: ");
+    plural_of(
+        pen,
+        Subject::Intervals,
+        intervals,
+        " interval: ",
+        " intervals: ",
+    );
     summary(pen, shown.intervals);
     pen.word(". The table below has the same.");
     pen.close();
@@ -81,20 +77,22 @@ fn figure(pen: &mut Pen, shown: &Strip<'_>, name: PartName) {
 }
 
 fn head(pen: &mut Pen, answer: &PartAnswer) {
-    let Ok(layers) = layers_of(pen.alloc(), answer.cover.certificate.as_slice()) else {
+    let Ok(tallies) = tallies_of(pen.alloc(), answer.cover.certificate.as_slice()) else {
         return pen.fail();
     };
     pen.open(Tag::H3);
     part_name(pen, answer.part);
     pen.word(" ");
     pen.begin(Tag::Span, "counts");
-    for layer in layers.as_slice() {
-        pen.open(Tag::Span);
-        chip(pen, layer.0);
-        pen.word(" ");
-        pen.counted(u64::from(layer.1));
-        pen.close();
-        pen.word(" ");
+    for tally in tallies.as_slice() {
+        if let Mark::Count(Subject::Verdict(slot), _) = *tally {
+            pen.open(Tag::Span);
+            chip(pen, slot);
+            pen.word(" ");
+            pen.mark(*tally);
+            pen.close();
+            pen.word(" ");
+        }
     }
     pen.close();
     pen.close();
@@ -232,7 +230,7 @@ fn interval_row(
     let from = u64::from(interval.from.number());
     pen.with(row_class(slot));
     pen.open(Tag::Tr);
-    pen.counted_cell((at as u64).saturating_add(1));
+    pen.count_cell(Subject::Place, (at as u64).saturating_add(1));
     pen.number_cell(from);
     pen.number_cell(interval.until);
     span(pen, from, interval.until);
@@ -285,29 +283,15 @@ fn left_out(pen: &mut Pen, rest: &[Interval]) {
     }
     pen.begin(Tag::P, "left");
     let (one, many) = (" more interval is", " more intervals are");
-    plural(pen, rest.len() as u64, one, many);
+    plural_of(pen, Subject::Intervals, rest.len() as u64, one, many);
     pen.word(" left out of this table: ");
     summary(pen, rest);
     pen.word(". The strip and the counts have all of them.");
     pen.close();
 }
 
-fn table(pen: &mut Pen, view: &View<'_>, answer: &PartAnswer) {
-    let intervals = answer.cover.certificate.as_slice();
-    let most: usize = if view.few { 100 } else { 20 };
-    let (shown, rest) = shown_of(intervals, most);
-    if intervals.len() <= 16 {
-        pen.with(Attribute::Word(Key::Open, ""));
-        pen.open(Tag::Details);
-    } else {
-        pen.open(Tag::Details);
-    }
-    table_summary(pen, shown.len(), intervals.len());
-    pen.begin(Tag::Div, "scroll");
-    pen.begin(Tag::Table, "iv");
-    heads(pen);
-    pen.open(Tag::TableBody);
-    pen.line();
+/// The rows of intervals, and of holes and overlaps between them.
+fn interval_rows(pen: &mut Pen, view: &View<'_>, answer: &PartAnswer, shown: &[Interval]) {
     let mut before = None;
     for (at, interval) in shown.iter().enumerate() {
         if let Some(until) = before {
@@ -316,6 +300,23 @@ fn table(pen: &mut Pen, view: &View<'_>, answer: &PartAnswer) {
         before = Some(interval.until);
         interval_row(pen, view, answer, at, interval);
     }
+}
+
+fn table(pen: &mut Pen, view: &View<'_>, answer: &PartAnswer) {
+    let intervals = answer.cover.certificate.as_slice();
+    let most: usize = if view.few { 100 } else { 20 };
+    let (shown, rest) = shown_of(intervals, most);
+    if intervals.len() <= 16 {
+        pen.with(Attribute::Word(Key::Open, ""));
+    }
+    pen.open(Tag::Details);
+    table_summary(pen, shown.len(), intervals.len());
+    pen.begin(Tag::Div, "scroll");
+    pen.begin(Tag::Table, "iv");
+    heads(pen);
+    pen.open(Tag::TableBody);
+    pen.line();
+    interval_rows(pen, view, answer, shown);
     pen.close();
     pen.close();
     pen.close();

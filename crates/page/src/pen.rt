@@ -7,7 +7,7 @@ ghost use Rattle.page.specs.Cells.{number_text, counted_text, value_text, bounds
 
 use crate::cells;
 use labels::SeriesRef;
-use page_text::{Attribute, Key, Piece, Tag, Tree};
+use page_text::{Attribute, Key, Mark, Piece, Subject, Tag, Tree};
 use std::alloc::{AllocError, Global};
 use std::mem;
 
@@ -117,17 +117,28 @@ impl Pen {
         self.note(done);
     }
 
+    /// A count or a tile, of which the page tells.
+    pub(crate) fn mark(&mut self, mark: Mark) {
+        let done = self.tree.mark(mark);
+        self.note(done);
+    }
+
+    /// A number with commas, and what it counts.
+    pub(crate) fn count(&mut self, subject: Subject, n: u64) {
+        self.mark(Mark::Count(subject, n));
+    }
+
     pub(crate) fn line(&mut self) {
         let done = self.tree.line();
         self.note(done);
     }
 
-    /// The cell of a table that holds a number with commas.
-    pub(crate) fn counted_cell(&mut self, n: u64)
+    /// The cell of a table that holds a count.
+    pub(crate) fn count_cell(&mut self, subject: Subject, n: u64)
         ensures { self.new.failed ≡ false
             → printed self.new.tree ≡ printed self.old.tree ++ counted_text n }
     {
-        if cells::counted_cell(&mut self.tree, n).is_err() {
+        if cells::count_cell(&mut self.tree, subject, n).is_err() {
             self.failed = true;
         }
     }

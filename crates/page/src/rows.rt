@@ -6,14 +6,12 @@ use crate::shown::{View, samples_in};
 use crate::spark::spark;
 use crate::time::axis_text;
 use crate::verdicts::series;
-use crate::words::{classed, head_cell, open_head, open_section, plural, word};
+use crate::words::{classed, head_cell, open_head, open_section, plural_of, word};
 use labels::{LabelSet, Row};
 use page_claims::{figures_of, row_with, shown_of};
-use page_text::Tag;
+use page_marks::MOST_ROWS;
+use page_text::{Subject, Tag};
 use postings::PartName;
-
-/// Most rows that are shown.
-const MOST_ROWS: usize = 50;
 
 /// Most parts of a row that are named.
 const MOST_PARTS: u64 = 6;
@@ -51,7 +49,7 @@ fn parts(pen: &mut Pen, view: &View<'_>, labels: &LabelSet) {
 fn row(pen: &mut Pen, view: &View<'_>, at: usize, row: &Row) {
     pen.open(Tag::Tr);
     open_head(pen, "row", "n");
-    pen.counted((at as u64).saturating_add(1));
+    pen.count(Subject::Place, (at as u64).saturating_add(1));
     pen.close();
     pen.begin(Tag::Td, "s");
     series(pen, row.labels());
@@ -63,7 +61,7 @@ fn row(pen: &mut Pen, view: &View<'_>, at: usize, row: &Row) {
     }
     pen.close();
     pen.labelled("n", "samples");
-    pen.counted(row.samples().len() as u64);
+    pen.count(Subject::Samples, row.samples().len() as u64);
     pen.close();
     if let Some(figures) = figures {
         pen.value("first", figures.first);
@@ -101,14 +99,11 @@ fn left_out(pen: &mut Pen, rest: &[Row]) {
         return;
     }
     pen.begin(Tag::P, "left");
-    plural(
-        pen,
-        rest.len() as u64,
-        " more series is",
-        " more series are",
-    );
+    let (one, many) = (" more series is", " more series are");
+    plural_of(pen, Subject::Rows, rest.len() as u64, one, many);
     pen.word(" left out of this table, with ");
-    plural(pen, samples_in(rest), " sample.", " samples.");
+    let samples = samples_in(rest);
+    plural_of(pen, Subject::Samples, samples, " sample.", " samples.");
     pen.close();
     pen.line();
 }

@@ -4,16 +4,14 @@ ghost use Rattle.std.specs.Prelude.{◌<◌};
 
 use crate::pen::Pen;
 use crate::shapes::{Area, class_line, line, open_text, rect};
-use crate::verdicts::{fill, letter, letter_class, said, wide_letter_class};
+use crate::verdicts::{letter, letter_class, said, wide_letter_class};
 use cover::Interval;
 use labels::SeriesRef;
-use page_claims::{SLOTS, count_in, slot_of};
-use page_layout::{edge, heights, range_of, share};
-use page_text::{Attribute, Key, Tag};
+use page_claims::slot_of;
+use page_layout::{edge, range_of, share};
+use page_marks::{FULL, Frame, tallies_of, tiles_of};
+use page_text::{Attribute, Key, Mark, Subject, Tag};
 use std::alloc::{AllocError, Global};
-
-/// The width of a strip.
-pub(crate) const FULL: usize = 10_000;
 
 /// The end of all references.
 pub(crate) const END: u64 = 4_294_967_296;
@@ -70,36 +68,22 @@ impl<'a> Strip<'a> {
     }
 }
 
-/// How many intervals have each verdict that occurs, in the order of the layers.
-pub(crate) fn layers_of(
-    alloc: Global,
-    intervals: &[Interval],
-) -> Result<Vec<(usize, u32)>, AllocError> {
-    let mut layers = Vec::new(alloc);
-    for slot in 0..SLOTS {
-        let count = count_in(intervals, slot);
-        if count > 0 {
-            layers.push((slot, u32::try_from(count).unwrap_or(u32::MAX)))?;
-        }
-    }
-    Ok(layers)
-}
-
 /// How many intervals have each verdict, in words.
 pub(crate) fn summary(pen: &mut Pen, intervals: &[Interval]) {
-    let Ok(layers) = layers_of(pen.alloc(), intervals) else {
+    let Ok(tallies) = tallies_of(pen.alloc(), intervals) else {
         return pen.fail();
     };
     let mut first = true;
-    for layer in layers.as_slice() {
-        let (slot, count) = *layer;
-        if !first {
-            pen.word(", ");
+    for tally in tallies.as_slice() {
+        if let Mark::Count(Subject::Verdict(slot), _) = *tally {
+            if !first {
+                pen.word(", ");
+            }
+            first = false;
+            pen.mark(*tally);
+            pen.word(" ");
+            said(pen, slot);
         }
-        first = false;
-        pen.counted(u64::from(count));
-        pen.word(" ");
-        said(pen, slot);
     }
 }
 
@@ -191,66 +175,47 @@ fn box_letter(pen: &mut Pen, strip: &Strip<'_>, column: &Column<'_>) {
     }
 }
 
-/// A layer of a column: its slot, where it stands below the top, and how high it is.
-#[derive(Clone, Copy)]
-struct Layer {
-    slot: usize,
-    y: u64,
-    height: u64,
-}
-
-/// The layers of a column, from the bottom.
-fn stack_of(
+/// The tiles of a column, from the bottom.
+fn tiles_in(
     alloc: Global,
     strip: &Strip<'_>,
     column: &Column<'_>,
-) -> Result<Vec<Layer>, AllocError> {
-    let layers = layers_of(alloc, column.intervals)?;
-    let mut stack = Vec::new(alloc);
-    let mut counts = Vec::new(alloc);
-    for layer in layers.as_slice() {
-        counts.push(layer.1)?;
-    }
-    if counts.len() as u64 > strip.height || strip.height > 1000 {
-        return Ok(stack);
-    }
-    let heights = heights(alloc, counts.as_slice(), strip.height)?;
-    let mut y = strip.top.saturating_add(strip.height);
-    for (layer, height) in layers.iter().zip(heights.iter()) {
-        y = y.saturating_sub(*height);
-        stack.push(Layer {
-            slot: layer.0,
-            y,
-            height: *height,
-        })?;
-    }
-    Ok(stack)
+) -> Result<Vec<Mark>, AllocError> {
+    let frame = Frame {
+        x: column.x,
+        width: column.width,
+        foot: strip.top.saturating_add(strip.height),
+        height: strip.height.min(1000),
+    };
+    tiles_of(alloc, column.intervals, frame)
 }
 
-fn layers(pen: &mut Pen, strip: &Strip<'_>, column: &Column<'_>) {
-    let Ok(stack) = stack_of(pen.alloc(), strip, column) else {
+fn tiles(pen: &mut Pen, strip: &Strip<'_>, column: &Column<'_>) {
+    let Ok(tiles) = tiles_in(pen.alloc(), strip, column) else {
         return pen.fail();
     };
-    for layer in stack.as_slice() {
-        let area = Area {
-            x: column.x,
-            y: layer.y,
-            width: column.width,
-            height: layer.height,
-        };
-        rect(pen, fill(layer.slot), area);
+    for tile in tiles.as_slice() {
+        pen.mark(*tile);
     }
 }
 
-/// The letters of the high layers of a column of several intervals.
-fn layer_letters(pen: &mut Pen, strip: &Strip<'_>, column: &Column<'_>) {
-    let Ok(stack) = stack_of(pen.alloc(), strip, column) else {
+/// The letters of the high tiles of a column of several intervals.
+fn tile_letters(pen: &mut Pen, strip: &Strip<'_>, column: &Column<'_>) {
+    let Ok(tiles) = tiles_in(pen.alloc(), strip, column) else {
         return pen.fail();
     };
-    for layer in stack.as_slice() {
-        if layer.height >= 14 {
-            let y = layer.y.saturating_add(layer.height / 2).saturating_add(5);
-            layer_letter(pen, strip, layer.slot, (middle(column), y));
+    for tile in tiles.as_slice() {
+        match *tile {
+            Mark::Tile {
+                slot,
+                y,
+                height,
+                ..
+            } if height >= 14 => {
+                let y = y.saturating_add(height / 2).saturating_add(5);
+                layer_letter(pen, strip, slot, (middle(column), y))
+            }
+            _ => {}
         }
     }
 }
@@ -262,7 +227,7 @@ fn over_columns(pen: &mut Pen, strip: &Strip<'_>) {
     }
     for at in 0..strip.columns {
         if is_lettered(strip, at) {
-            layer_letters(pen, strip, &strip.column(at));
+            tile_letters(pen, strip, &strip.column(at));
         }
     }
     let y = strip.top.saturating_add(strip.height / 2);
@@ -273,7 +238,7 @@ fn over_columns(pen: &mut Pen, strip: &Strip<'_>) {
 fn draw(pen: &mut Pen, strip: &Strip<'_>, column: &Column<'_>) {
     pen.open(Tag::G);
     hover(pen, column);
-    layers(pen, strip, column);
+    tiles(pen, strip, column);
     if is_broken(column) {
         gap(pen, strip, column);
     }

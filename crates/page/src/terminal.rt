@@ -7,11 +7,12 @@ use crate::sayings::{Check, sayings, seen};
 use crate::shown::View;
 use crate::strip::END;
 use crate::verdicts::{MATCH, NONE, UNKNOWN, op_text, slot_name};
-use crate::words::{left_box, long_text, plural};
+use crate::words::{left_box, long_text, plural_of};
 use cover::{Interval, PartAnswer};
 use matchers::Matcher;
 use page_claims::{Place, SLOTS, checks_of, slot_of};
 use page_layout::range_of;
+use page_text::Subject;
 use postings::PartName;
 
 /// Most letters of a line.
@@ -48,7 +49,13 @@ fn key_line(pen: &mut Pen, view: &View<'_>, slot: usize, n: u64) {
     pen.word("  ");
     letter(pen, slot);
     pen.word("  ");
-    plural(pen, n, " interval  ", " intervals  ");
+    plural_of(
+        pen,
+        Subject::Verdict(slot),
+        n,
+        " interval  ",
+        " intervals  ",
+    );
     slot_name(pen, slot);
     if slot != MATCH && slot != NONE {
         if let Some(failed) = view.matchers().get(slot.saturating_sub(1)) {
@@ -127,7 +134,8 @@ fn part(pen: &mut Pen, view: &View<'_>, answer: &PartAnswer) {
     let intervals = answer.cover.certificate.as_slice();
     part_name(pen, answer.part);
     pen.word(": ");
-    plural(pen, intervals.len() as u64, " interval", " intervals");
+    let count = intervals.len() as u64;
+    plural_of(pen, Subject::Intervals, count, " interval", " intervals");
     if let (Some(first), Some(last)) = (intervals.first(), intervals.last()) {
         pen.word(" from ");
         pen.number(u64::from(first.from.number()));

@@ -10,7 +10,7 @@ use cover::PartAnswer;
 use labels::{Row, Sample};
 use page_claims::Place;
 use page_layout::share;
-use page_text::{Attribute, Key, Move, Tag};
+use page_text::{Attribute, Key, Move, Subject, Tag};
 use postings::PartName;
 use std::alloc::{AllocError, Global};
 
@@ -271,10 +271,10 @@ fn cells(pen: &mut Pen, view: &View<'_>, rows: &[Row], intervals: u64, most: u64
     }
     pen.close();
     pen.begin(Tag::Td, "n iw");
-    pen.counted(intervals);
+    pen.count(Subject::Intervals, intervals);
     pen.close();
-    pen.counted_cell(rows.len() as u64);
-    pen.counted_cell(samples_in(rows));
+    pen.count_cell(Subject::Rows, rows.len() as u64);
+    pen.count_cell(Subject::Samples, samples_in(rows));
     pen.begin(Tag::Td, "fl");
     match times_of(rows) {
         Some((from, to)) => ends(pen, from, to),

@@ -1,7 +1,7 @@
 //! Short ways to grow a tree.
 
 use crate::pen::Pen;
-use page_text::{Attribute, Key, Tag, is_invisible};
+use page_text::{Attribute, Key, Subject, Tag, is_invisible};
 use std::alloc::{AllocError, Global};
 
 /// An element with no attribute that holds a constant.
@@ -42,6 +42,18 @@ pub(crate) fn head_cell(pen: &mut Pen, class: &'static str, text: &'static str) 
 /// A number of things, with the word for one and for more.
 pub(crate) fn plural(pen: &mut Pen, n: u64, one: &'static str, many: &'static str) {
     pen.counted(n);
+    pen.word(if n == 1 { one } else { many });
+}
+
+/// How many there are of something that the page counts, with the word for one and for more.
+pub(crate) fn plural_of(
+    pen: &mut Pen,
+    subject: Subject,
+    n: u64,
+    one: &'static str,
+    many: &'static str,
+) {
+    pen.count(subject, n);
     pen.word(if n == 1 { one } else { many });
 }
 

@@ -1,10 +1,12 @@
 //! Pages.
 
-ghost use Rattle.std.specs.Prelude.{◌≡◌, ◌++◌, IfOk, OnOk};
+ghost use Rattle.std.specs.Prelude.{◌≡◌, ◌≤◌, ◌++◌, length, IfOk, OnOk};
+ghost use Rattle.page_text.specs.Marks.{marks_in};
 ghost use Rattle.page_text.specs.Nesting.{IsContent};
 ghost use Rattle.page_text.specs.Plain.{plain_text};
 ghost use Rattle.page.specs.Pages.{IsClaimOf, IsSaidOf, IsPageOf, IsTextOf};
 ghost use Rattle.page.specs.Pages.{page_front, page_top, page_rest, page_bytes};
+ghost use Rattle.page.specs.Pages.{wanted_marks, wanted_counts};
 ghost use Rattle.page.specs.Saying.{plain_claim};
 
 use crate::asked::{Asked, ask};
@@ -19,8 +21,9 @@ use crate::shown::{Shown, View, axis_of, samples_in};
 use crate::terminal::terminal;
 use crate::time::time;
 use page_claims::{Claim, find_claim};
+use page_marks::{page_marks, text_marks};
 use page_style::{append_back, append_front};
-use page_text::{Piece, Tag, print, print_plain};
+use page_text::{Mark, Piece, Tag, marks_of, print, print_plain, same_marks};
 use std::alloc::{AllocError, Global};
 
 /// What all sections need.
@@ -94,6 +97,38 @@ fn sections_of(
     pen.finish()
 }
 
+/// The counts and the tiles that what is shown has below the claim.
+fn wanted_marks(alloc: Global, shown: &Shown<'_>) -> Result<Vec<Mark>, AllocError>
+    ensures { IfOk result (λ marks. marks.items ≡ wanted_marks shown.now) }
+{
+    let matchers = shown.query.matchers().len();
+    let (answers, rows) = (shown.told.answers.as_slice(), shown.told.rows.as_slice());
+    page_marks(alloc, matchers, answers, rows)
+}
+
+/// The counts that what is shown has in a text.
+fn wanted_counts(alloc: Global, shown: &Shown<'_>) -> Result<Vec<Mark>, AllocError>
+    ensures { IfOk result (λ marks. marks.items ≡ wanted_counts shown.now) }
+{
+    let matchers = shown.query.matchers().len();
+    text_marks(alloc, matchers, shown.told.answers.as_slice())
+}
+
+/// Whether pieces have these marks: others are refused as if there were no memory for them.
+fn check_marks(alloc: Global, pieces: &[Piece], wanted: &[Mark]) -> Result<(), AllocError>
+    ensures { IfOk result (λ _. marks_in pieces.now ≡ wanted.now) }
+{
+    let drawn = marks_of(alloc, pieces)?;
+    if same_marks(drawn.as_slice(), wanted) {
+        Ok(())
+    } else {
+        Err(AllocError)
+    }
+}
+
+/// Most bytes of a page: what would make it more is refused as if there were no memory for it.
+pub const MOST_BYTES: usize = 268_435_456;
+
 /// A page: what it claims; what it says of the label set that somebody asks about; and its bytes.
 /// Above the claim, with it and below it stand pieces that are trees, in which texts from outside
 /// are texts alone; a text for a terminal has those below it alone.
@@ -145,12 +180,16 @@ fn bytes_of(
     details: &[Piece],
     sections: &[Piece],
 ) -> Result<Vec<u8>, AllocError>
-    ensures { IfOk result (λ bytes. bytes.items
+    ensures text { IfOk result (λ bytes. bytes.items
         ≡ page_bytes saying heading.now details.now sections.now) }
+    ensures few { IfOk result (λ bytes. length bytes.items ≤ 268435456) }
 {
     let mut bytes = Vec::new(alloc);
     append_top(&mut bytes, saying, heading)?;
     append_rest(&mut bytes, details, sections)?;
+    if bytes.len() > MOST_BYTES {
+        return Err(AllocError);
+    }
     Ok(bytes)
 }
 
@@ -158,10 +197,12 @@ fn bytes_of(
 /// question, reply, tables and lines.
 ///
 /// It claims that no series is missing exactly if each part passes the checks that need no series,
-/// the rows are the merged rows of the parts, and no line of the auditor names a flaw. It takes
-/// time in proportion to the reply, and a sort's for the merge; and memory for at most 4,000,000
-/// pieces each above the claim, with it and below it: however many intervals, rows and samples
-/// there are, only so many are drawn.
+/// the rows are the merged rows of the parts, and no line of the auditor names a flaw. Below the
+/// claim it shows exactly the counts and the tiles that the reply gives (`page_marks`).
+///
+/// It has at most 268,435,456 bytes, and at most 4,000,000 pieces each above the claim, with it and
+/// below it, however many intervals, rows and samples there are. It takes time in proportion to the
+/// reply, and a sort's for the merge.
 pub fn write_page(alloc: Global, shown: &Shown<'_>) -> Result<Page, AllocError>
     ensures { IfOk result (λ page. IsPageOf shown.now page) }
 {
@@ -170,6 +211,8 @@ pub fn write_page(alloc: Global, shown: &Shown<'_>) -> Result<Page, AllocError>
     let heading = heading_of(alloc, &view)?;
     let details = details_of(alloc, &view)?;
     let sections = sections_of(alloc, &view, asked.as_ref())?;
+    let wanted = wanted_marks(alloc, shown)?;
+    check_marks(alloc, sections.as_slice(), wanted.as_slice())?;
     let saying = saying_of(shown, view.claim);
     let bytes = bytes_of(
         alloc,
@@ -199,23 +242,30 @@ fn lines_of(alloc: Global, view: &View<'_>, asked: Option<&Asked>) -> Result<Vec
 
 /// The claim, and the texts and numbers of the lines.
 fn plain_of(alloc: Global, saying: Saying, lines: &[Piece]) -> Result<Vec<u8>, AllocError>
-    ensures { IfOk result (λ bytes. bytes.items ≡ plain_claim saying ++ plain_text lines.now) }
+    ensures text { IfOk result (λ bytes. bytes.items
+        ≡ plain_claim saying ++ plain_text lines.now) }
+    ensures few { IfOk result (λ bytes. length bytes.items ≤ 268435456) }
 {
     let mut bytes = Vec::new(alloc);
     append_plain_claim(&mut bytes, saying)?;
     print_plain(&mut bytes, lines)?;
+    if bytes.len() > MOST_BYTES {
+        return Err(AllocError);
+    }
     Ok(bytes)
 }
 
 /// The same for a terminal: the claim, the question, the key, a letter for each interval of each
 /// part, and the sentence about a series. Lines are at most 80 characters wide, names and values of
-/// more than 24 characters aside.
+/// more than 24 characters aside. It has at most 268,435,456 bytes.
 pub fn write_text(alloc: Global, shown: &Shown<'_>) -> Result<Page, AllocError>
     ensures { IfOk result (λ page. IsTextOf shown.now page) }
 {
     let view = view_of(alloc, shown)?;
     let asked = asked_of(alloc, shown)?;
     let lines = lines_of(alloc, &view, asked.as_ref())?;
+    let wanted = wanted_counts(alloc, shown)?;
+    check_marks(alloc, lines.as_slice(), wanted.as_slice())?;
     let bytes = plain_of(alloc, saying_of(shown, view.claim), lines.as_slice())?;
     Ok(Page {
         heading: Vec::new(alloc),

@@ -5,12 +5,7 @@ use Rattle.std.proofs.Math.Nat.{mul-le-mul, mul-le-mul_right, mul-le-mul_left, d
 use Rattle.std.proofs.Math.Nat.{add-mul, one-mul, mul_comm}
 use Rattle.std.proofs.Math.Nat.{le-div_iff_mul-le, div-mul-le_self, mul-div_cancel_left}
 use Rattle.page_layout.specs.Columns.{edge, IsIn, IsPartition}
-use Rattle.page_layout.specs.Layers.{top, IsSeen}
-use Rattle.std.proofs.Common.{List, [], ◌∷◌, ◌++◌, length, take, get_or}
-use Rattle.std.specs.List.{All, sum}
-use Rattle.std.proofs.lemmas.Grind.{common_steps}
-use Rattle.std.proofs.lemmas.List.Elements.{All-append}
-use Rattle.std.proofs.lemmas.List.Sums.{sum_by_push, fold_more}
+use Rattle.page_layout.specs.Layers.{top}
 
 -- a product of two numbers of 64 bits has 128
 pub product_fits : (a b : ℕ) → a < 2 ^ 64 → b < 2 ^ 64 → a * b < 2 ^ 128
@@ -61,21 +56,6 @@ pub top_full : (layers total room : ℕ) → 0 < total → top layers total tota
 top_full layers total room some =
     let e : total * room / total ≡ room = mul-div_cancel_left room some in
     omega arith
-
-pub sum_next : (xs : List ℕ) (i : ℕ) → i < length xs
-    → sum (take (i + 1) xs) ≡ sum (take i xs) + get_or xs i 0
-sum_next xs i within = fold_more (λ (a x : ℕ). a + x) 0 xs i 0 within
-
-pub sum_more : (xs : List ℕ) (x : ℕ) → sum (xs ++ x ∷ []) ≡ sum xs + x
-sum_more xs x = sum_by_push (λ (n : ℕ). n) xs x
-
-pub seen_more : (xs : List ℕ) (x : ℕ) → All IsSeen xs → 1 ≤ x → All IsSeen (xs ++ x ∷ [])
-seen_more xs x seen one = All-append IsSeen xs (x ∷ []) seen (single one)
-  where
-    single : 1 ≤ x → All IsSeen (x ∷ [])
-    single one = λ k d h. grind (arith, common_steps, one)
-
-pub ruleset layered = (product_fits, share_le, top_more, top_full, sum_more, seen_more)
 
 -- one is at most the other, or above it
 either : (m n : ℕ) → (m ≤ n) ⊎ (n < m)

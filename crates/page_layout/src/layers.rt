@@ -1,15 +1,12 @@
 //! Layers of a column.
 
-ghost use Rattle.std.specs.Prelude.{◌≡◌, ◌<◌, ◌≤◌, ◌+◌, ◌^◌, length, IfOk};
-ghost use Rattle.std.specs.List.{All, sum};
-ghost use Rattle.page_layout.specs.Layers.{top, IsSeen};
+ghost use Rattle.std.specs.Prelude.{◌≡◌, ◌<◌, ◌≤◌, ◌+◌, ◌^◌, ℕ};
+ghost use Rattle.page_layout.specs.Layers.{top};
 
-use std::alloc::{AllocError, Global};
-
-/// How high the layers are up to one, this included: one unit for each, and of what is left of the
-/// height the share that the things below and in it have.
+/// How high the layers of a column are up to one, this included: one unit for each, and of what is
+/// left of the height (`room`) the share that the things below and in it have of all (`total`).
 #[tactic(auto, using(crate::proofs::Edges::edges))]
-fn top(layers: u64, things: u64, total: u64, room: u64) -> u64
+pub fn top(layers: u64, things: u64, total: u64, room: u64) -> u64
     requires some { 0 < total }
     requires within { things ≤ total }
     requires few { layers + room < 2 ^ 63 }
@@ -19,41 +16,11 @@ fn top(layers: u64, things: u64, total: u64, room: u64) -> u64
     layers + (things as u128 * room as u128 / total as u128) as u64
 }
 
-/// The sum of numbers.
-fn sum_of(counts: &[u32]) -> u64
-    requires { length counts.now < 2 ^ 32 }
-    ensures { result ≡ sum counts.now }
-{
-    let mut total = 0;
-    for count in counts {
-        total += u64::from(*count);
-    }
-    total
-}
-
-/// The heights of the layers of a column, from the bottom: they sum to its height, and each is at
-/// least 1. `counts` says how many things each layer has. No layer, if there is no thing.
-#[tactic(auto, using(crate::proofs::Edges::layered))]
-pub fn heights(alloc: Global, counts: &[u32], height: u64) -> Result<Vec<u64>, AllocError>
-    requires room { length counts.now ≤ height }
-    requires small { height < 2 ^ 32 }
-    ensures whole { 0 < sum counts.now → IfOk result (λ heights. sum heights.items ≡ height) }
-    ensures each { 0 < sum counts.now
-        → IfOk result (λ heights. length heights.items ≡ length counts.now) }
-    ensures seen { IfOk result (λ heights. All IsSeen heights.items) }
-{
-    let total = sum_of(counts);
-    if total == 0 {
-        return Ok(Vec::new(alloc));
-    }
-    let room = height - counts.len() as u64;
-    let mut heights = Vec::with_capacity(alloc, counts.len())?;
-    let (mut below, mut done) = (0, 0);
-    for count in counts {
-        below += u64::from(*count);
-        let end = top(heights.len() as u64 + 1, below, total, room);
-        heights.push(end - done)?;
-        done = end;
-    }
-    Ok(heights)
-}
+/// The laws of layers: a layer more is at least one unit more, so that one thing among thousands is
+/// still a line; and all layers are as high as there is room, besides a unit for each.
+pub fn layers_law()
+    ensures seen { (layers below things total room : ℕ) → 0 < total → below ≤ things
+        → top layers below total room + 1 ≤ top (layers + 1) things total room }
+    ensures full { (layers total room : ℕ) → 0 < total
+        → top layers total total room ≡ layers + room }
+{}

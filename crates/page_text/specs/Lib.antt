@@ -1,5 +1,6 @@
 pub mod Escaping
 pub mod Growing
+pub mod Marks
 pub mod Markup
 pub mod Nesting
 pub mod Plain

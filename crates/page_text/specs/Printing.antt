@@ -1,6 +1,6 @@
 -- The print of a page: of each piece in turn.
-use Rattle.std.specs.Prelude.{ℕ, ◌/◌, ◌%◌, ◌==◌, ◌&&◌, nat_lt, List, [], ◌∷◌, ◌++◌, length, codes}
-use Rattle.std.specs.Prelude.{decimal, if◌then◌else◌}
+use Rattle.std.specs.Prelude.{ℕ, ◌-◌, ◌/◌, ◌%◌, ◌==◌, ◌&&◌, nat_lt, List, [], ◌∷◌, ◌++◌, length}
+use Rattle.std.specs.Prelude.{codes, decimal, if◌then◌else◌}
 use Rattle.std.specs.Fmt.{signed_decimal}
 use Rattle.std.specs.List.{flat_map}
 use Rattle.page_text.specs.declared.attribute.Attribute.{Attribute}
@@ -9,6 +9,8 @@ use Rattle.page_text.specs.declared.attribute.Move.{Move}
 use Rattle.page_text.specs.declared.attribute.Move.TheVariants as moves
 use Rattle.page_text.specs.declared.attribute.Key.{Key}
 use Rattle.page_text.specs.declared.attribute.Key.TheVariants as keys
+use Rattle.page_text.specs.declared.mark.Mark.{Mark}
+use Rattle.page_text.specs.declared.mark.Mark.TheVariants as marks
 use Rattle.page_text.specs.declared.piece.Piece.{Piece}
 use Rattle.page_text.specs.declared.piece.Piece.TheVariants as pieces
 use Rattle.page_text.specs.declared.tag.Tag.{Tag}
@@ -74,6 +76,33 @@ head_text tag attributes end =
 unfoldable pub close_text : Tag → List ℕ
 close_text tag = codes "</" ++ tag_name tag ++ codes ">"
 
+-- the class of what a verdict fills: match, an unknown matcher, no sample, else a matcher
+unfoldable pub fill_text : ℕ → List ℕ
+fill_text slot =
+    if slot == 0 then codes "c vm"
+    else if slot == 17 then codes "c gap"
+    else if slot == 18 then codes "c vn"
+    else codes "c v" ++ decimal (slot - 1)
+
+unfoldable pub tile_front : ℕ → List ℕ
+tile_front slot = codes "<rect class=\"" ++ fill_text slot
+
+unfoldable pub tile_place : ℕ → ℕ → List ℕ
+tile_place x y = codes "\" x=\"" ++ share_text x ++ codes "\" y=\"" ++ decimal y
+
+unfoldable pub tile_size : ℕ → ℕ → List ℕ
+tile_size width height =
+    codes "\" width=\"" ++ share_text width ++ codes "\" height=\"" ++ decimal height
+
+-- a rectangle with the fill of a verdict, where it stands, and how wide and high it is
+unfoldable pub tile_text : ℕ → ℕ → ℕ → ℕ → ℕ → List ℕ
+tile_text slot x y width height =
+    tile_front slot ++ tile_place x y ++ tile_size width height ++ codes "\"/>"
+
+abbrev pub mark_text : Mark → List ℕ
+mark_text (marks.Count subject n) = counted n
+mark_text (marks.Tile slot x y width height) = tile_text slot x y width height
+
 unfoldable pub piece_text : Piece → List ℕ
 piece_text (pieces.Open tag attributes) = head_text tag attributes.items (codes ">")
 piece_text (pieces.Leaf tag attributes) = head_text tag attributes.items (codes "/>")
@@ -83,6 +112,7 @@ piece_text (pieces.Text chars) = leaf_text chars.items
 piece_text (pieces.Number n) = decimal n
 piece_text (pieces.Integer n) = signed_decimal n
 piece_text (pieces.Counted n) = counted n
+piece_text (pieces.Mark mark) = mark_text mark
 piece_text pieces.Line = codes "\n"
 
 -- the print of a page

@@ -8,6 +8,9 @@
 //! changes what is read, and never an element or an attribute. [`print_plain`] writes its texts and
 //! numbers alone, for a terminal.
 //!
+//! A [`Mark`] is a piece that the tree tells of: a number with what it counts, or a rectangle that
+//! a verdict fills. [`marks_of`] reads them back, so that whoever draws can be held to a list.
+//!
 //! ```
 //! let mut tree = Tree::new(alloc);
 //! tree.open(Tag::Code, Vec::new(alloc))?;
@@ -21,6 +24,7 @@
 
 mod attribute;
 mod escape;
+mod mark;
 mod numbers;
 mod piece;
 mod plain;
@@ -30,6 +34,7 @@ mod tree;
 
 pub use attribute::{Attribute, Key, Move};
 pub use escape::is_invisible;
+pub use mark::{Mark, Subject, marks_of, same_marks};
 pub use piece::Piece;
 pub use plain::print_plain;
 pub use printing::print;

@@ -1,6 +1,7 @@
 //! Pieces of pages.
 
 use crate::attribute::Attribute;
+use crate::mark::Mark;
 use crate::tag::Tag;
 
 /// A piece of a page. Texts from outside stand in `Text` alone: all else is a number or a constant
@@ -23,6 +24,8 @@ pub enum Piece {
     Integer(i64),
     /// A number in decimal, with a comma before each three digits but the first.
     Counted(u64),
+    /// A number or a rectangle that the tree tells of.
+    Mark(Mark),
     /// The end of a line.
     Line,
 }

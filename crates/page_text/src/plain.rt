@@ -3,9 +3,10 @@
 ghost use Rattle.std.specs.Prelude.{◌≡◌, ◌++◌, OnOk};
 ghost use Rattle.std.specs.List.{flat_map};
 ghost use Rattle.page_text.specs.Plain.{code_front, code_end, code_text, seen_char, plain_piece};
-ghost use Rattle.page_text.specs.Plain.{plain_text};
+ghost use Rattle.page_text.specs.Plain.{plain_mark, plain_text};
 
 use crate::escape::{append_high_digits, append_low_digits, is_invisible};
+use crate::mark::Mark;
 use crate::numbers::{append_counted, append_integer, append_number};
 use crate::piece::Piece;
 use std::alloc::AllocError;
@@ -58,6 +59,15 @@ fn append_text(out: &mut Vec<u8>, chars: &[char]) -> Result<(), AllocError>
     Ok(())
 }
 
+fn append_plain_mark(out: &mut Vec<u8>, mark: Mark) -> Result<(), AllocError>
+    ensures { OnOk result (out.new.items ≡ out.old.items ++ plain_mark mark) }
+{
+    match mark {
+        Mark::Count(_, n) => append_counted(out, n),
+        Mark::Tile { .. } => Ok(()),
+    }
+}
+
 #[tactic(auto, unfolding(crate::specs::Plain::plain_piece))]
 fn append_piece(out: &mut Vec<u8>, piece: &Piece) -> Result<(), AllocError>
     ensures { OnOk result (out.new.items ≡ out.old.items ++ plain_piece piece.now) }
@@ -69,6 +79,7 @@ fn append_piece(out: &mut Vec<u8>, piece: &Piece) -> Result<(), AllocError>
         Piece::Number(n) => append_number(out, *n),
         Piece::Integer(n) => append_integer(out, *n),
         Piece::Counted(n) => append_counted(out, *n),
+        Piece::Mark(mark) => append_plain_mark(out, *mark),
         Piece::Line => Ok(out.push(b'\n')?),
     }
 }

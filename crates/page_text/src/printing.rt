@@ -6,9 +6,12 @@ ghost use Rattle.page_text.specs.Markup.{key_name};
 ghost use Rattle.page_text.specs.Printing.{place_text, move_text, value_front};
 ghost use Rattle.page_text.specs.Printing.{open_attribute, attribute_text, head_text};
 ghost use Rattle.page_text.specs.Printing.{close_text, piece_text, page_text};
+ghost use Rattle.page_text.specs.Printing.{fill_text, tile_front, tile_place, tile_size, tile_text};
+ghost use Rattle.page_text.specs.Printing.{mark_text};
 
 use crate::attribute::{Attribute, Key, Move, key_name};
 use crate::escape::{append_leaf, append_word};
+use crate::mark::Mark;
 use crate::numbers::{append_counted, append_integer, append_number, append_share};
 use crate::piece::Piece;
 use crate::tag::{Tag, tag_name};
@@ -139,6 +142,75 @@ fn append_close(out: &mut Vec<u8>, tag: Tag) -> Result<(), AllocError>
     Ok(out.push(b'>')?)
 }
 
+/// Appends the class of what a verdict fills.
+#[tactic(auto, unfolding(crate::specs::Printing::fill_text))]
+fn append_fill(out: &mut Vec<u8>, slot: usize) -> Result<(), AllocError>
+    ensures { OnOk result (out.new.items ≡ out.old.items ++ fill_text slot) }
+{
+    match slot {
+        0 => out.extend_from_slice(b"c vm"),
+        17 => out.extend_from_slice(b"c gap"),
+        18 => out.extend_from_slice(b"c vn"),
+        _ => {
+            out.extend_from_slice(b"c v")?;
+            append_number(out, slot.saturating_sub(1) as u64)
+        }
+    }
+}
+
+/// Appends what begins a tile, and what fills it.
+#[tactic(auto, unfolding(crate::specs::Printing::tile_front))]
+fn append_tile_front(out: &mut Vec<u8>, slot: usize) -> Result<(), AllocError>
+    ensures { OnOk result (out.new.items ≡ out.old.items ++ tile_front slot) }
+{
+    out.extend_from_slice(b"<rect class=\"")?;
+    append_fill(out, slot)
+}
+
+/// Appends where a tile stands.
+#[tactic(auto, unfolding(crate::specs::Printing::tile_place))]
+fn append_tile_place(out: &mut Vec<u8>, x: u64, y: u64) -> Result<(), AllocError>
+    ensures { OnOk result (out.new.items ≡ out.old.items ++ tile_place x y) }
+{
+    out.extend_from_slice(b"\" x=\"")?;
+    append_share(out, x)?;
+    out.extend_from_slice(b"\" y=\"")?;
+    append_number(out, y)
+}
+
+/// Appends how wide and how high a tile is.
+#[tactic(auto, unfolding(crate::specs::Printing::tile_size))]
+fn append_tile_size(out: &mut Vec<u8>, width: u64, height: u64) -> Result<(), AllocError>
+    ensures { OnOk result (out.new.items ≡ out.old.items ++ tile_size width height) }
+{
+    out.extend_from_slice(b"\" width=\"")?;
+    append_share(out, width)?;
+    out.extend_from_slice(b"\" height=\"")?;
+    append_number(out, height)
+}
+
+/// Appends a mark.
+#[tactic(auto, unfolding(crate::specs::Printing::tile_text))]
+fn append_mark(out: &mut Vec<u8>, mark: Mark) -> Result<(), AllocError>
+    ensures { OnOk result (out.new.items ≡ out.old.items ++ mark_text mark) }
+{
+    match mark {
+        Mark::Count(_, n) => append_counted(out, n),
+        Mark::Tile {
+            slot,
+            x,
+            y,
+            width,
+            height,
+        } => {
+            append_tile_front(out, slot)?;
+            append_tile_place(out, x, y)?;
+            append_tile_size(out, width, height)?;
+            out.extend_from_slice(b"\"/>")
+        }
+    }
+}
+
 #[tactic(auto, unfolding(crate::specs::Printing::piece_text))]
 fn append_piece(out: &mut Vec<u8>, piece: &Piece) -> Result<(), AllocError>
     ensures { OnOk result (out.new.items ≡ out.old.items ++ piece_text piece.now) }
@@ -152,6 +224,7 @@ fn append_piece(out: &mut Vec<u8>, piece: &Piece) -> Result<(), AllocError>
         Piece::Number(n) => append_number(out, *n),
         Piece::Integer(n) => append_integer(out, *n),
         Piece::Counted(n) => append_counted(out, *n),
+        Piece::Mark(mark) => append_mark(out, *mark),
         Piece::Line => Ok(out.push(b'\n')?),
     }
 }

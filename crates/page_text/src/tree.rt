@@ -4,10 +4,11 @@ ghost use Rattle.std.specs.Prelude.{◌≡◌, ◌+◌, ◌≤◌, ◌++◌, ◌
 ghost use Rattle.std.specs.Prelude.{reverse, IfOk, OnOk};
 ghost use Rattle.std.specs.Fmt.{signed_decimal};
 ghost use Rattle.page_text.specs.Escaping.{word_text, leaf_text};
-ghost use Rattle.page_text.specs.Printing.{counted, head_text, piece_text};
+ghost use Rattle.page_text.specs.Printing.{counted, head_text, mark_text, piece_text};
 ghost use Rattle.page_text.specs.Nesting.{left_open, KeepsOpen, IsContent};
 
 use crate::attribute::Attribute;
+use crate::mark::Mark;
 use crate::piece::Piece;
 use crate::tag::Tag;
 use std::alloc::{AllocError, Global};
@@ -167,6 +168,16 @@ impl Tree {
         ensures inside { OnOk result (open_tags self.new ≡ open_tags self.old) }
     {
         self.push(Piece::Counted(n))
+    }
+
+    /// Adds a number or a rectangle that the tree tells of.
+    #[tactic(auto, unfolding(crate::specs::Printing::piece_text))]
+    pub fn mark(&mut self, mark: Mark) -> Result<(), AllocError>
+        ensures printed { OnOk result (printed self.new ≡ printed self.old
+            ++ mark_text mark) }
+        ensures inside { OnOk result (open_tags self.new ≡ open_tags self.old) }
+    {
+        self.push(Piece::Mark(mark))
     }
 
     /// Ends a line.

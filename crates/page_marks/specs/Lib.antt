@@ -1,0 +1,6 @@
+pub mod Columns
+pub mod Gathering
+pub mod Pages
+pub mod Tables
+pub mod Tallies
+pub mod Tiles
