@@ -1,7 +1,7 @@
 -- Products, quotients of them, and what columns make of them.
 use Rattle.std.proofs.Common.{◌≡◌, ℕ, zero, suc, ◌+◌, ◌-◌, ◌*◌, ◌/◌, ◌<◌, ◌≤◌, ◌^◌, arith}
 use Rattle.std.proofs.Common.{◌⊎◌, inl, inr, ap, ◌∙◌, add-one, ◌%◌}
-use Rattle.std.proofs.Math.Nat.{mul-le-mul, mul-le-mul_right, mul-le-mul_left, div-le_of_le-mul}
+use Rattle.std.proofs.Math.Nat.{mul-le-mul, mul-le-mul_right, div-le_of_le-mul}
 use Rattle.std.proofs.Math.Nat.{add-mul, one-mul, mul_comm}
 use Rattle.std.proofs.Math.Nat.{le-div_iff_mul-le, div-mul-le_self, mul-div_cancel_left}
 use Rattle.page_layout.specs.Columns.{edge, IsIn, IsPartition}

@@ -15,7 +15,7 @@ use Rattle.page_layout.proofs.Edges.{edge_next, top_more, top_full}
 use Rattle.page_marks.specs.Columns.{column_of}
 use Rattle.page_marks.specs.Gathering.{total}
 use Rattle.page_marks.specs.Tables.{samples_in}
-use Rattle.page_marks.specs.Tiles.{kinds_below, count_below, level, IsStack}
+use Rattle.page_marks.specs.Tiles.{kinds_below, count_below, IsStack}
 use Rattle.page_marks.proofs.Stacks.{one_if, kinds_none, kinds_more, kinds_few}
 use Rattle.page_marks.proofs.Stacks.{below_none, below_more, below_all}
 

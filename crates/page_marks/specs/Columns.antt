@@ -1,5 +1,5 @@
 -- The columns of a strip, and the groups of its table.
-use Rattle.std.specs.Prelude.{ℕ, ◌+◌, ◌-◌, ◌==◌, ◌&&◌, Bool, nat_lt, nat_le, List, [], ◌∷◌, ◌++◌}
+use Rattle.std.specs.Prelude.{ℕ, ◌+◌, ◌-◌, Bool, nat_lt, nat_le, List, [], ◌++◌}
 use Rattle.std.specs.Prelude.{length, slice_range, if◌then◌else◌}
 use Rattle.cover.specs.declared.certificate.Interval.{Interval}
 use Rattle.page_layout.specs.Columns.{edge}

@@ -7,7 +7,6 @@ use Rattle.page_text.specs.declared.attribute.Attribute.{Attribute}
 use Rattle.page_text.specs.declared.attribute.Attribute.TheVariants as attributes
 use Rattle.page_text.specs.declared.attribute.Move.{Move}
 use Rattle.page_text.specs.declared.attribute.Move.TheVariants as moves
-use Rattle.page_text.specs.declared.attribute.Key.{Key}
 use Rattle.page_text.specs.declared.attribute.Key.TheVariants as keys
 use Rattle.page_text.specs.declared.mark.Mark.{Mark}
 use Rattle.page_text.specs.declared.mark.Mark.TheVariants as marks
