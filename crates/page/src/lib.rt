@@ -5,8 +5,8 @@
 //! label names and values) are texts alone, and prints them between a constant front and a constant
 //! end; [`write_text`] writes the same for a terminal. The claim between them is that of
 //! `page_claims::find_claim`, and what is said of a label set is [`ask`]'s. What was drawn below
-//! the claim is read back before it is handed out: its counts and tiles are those of the reply
-//! (`page_marks`).
+//! the claim is read back before it is handed out: its marks (counts and tiles) are those of the
+//! reply (`page_marks`).
 //!
 //! ```
 //! let (tables, lines, about) = (&[], &[], None);

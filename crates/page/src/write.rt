@@ -198,7 +198,8 @@ fn bytes_of(
 ///
 /// It claims that no series is missing exactly if each part passes the checks that need no series,
 /// the rows are the merged rows of the parts, and no line of the auditor names a flaw. Below the
-/// claim it shows exactly the counts and the tiles that the reply gives (`page_marks`).
+/// claim its marks, the counts and tiles that it tells of, are exactly those of the reply
+/// (`page_marks`).
 ///
 /// It has at most 268,435,456 bytes, and at most 4,000,000 pieces each above the claim, with it and
 /// below it, however many intervals, rows and samples there are. It takes time in proportion to the
