@@ -1,5 +1,5 @@
 -- What a head that is admitted, or is not, gives the whole.
-use Rattle.std.proofs.Common.{◌≡◌, ◌+◌, ◌≤◌, ℕ, List, ◌++◌, length, Option, None, Some, IfSome}
+use Rattle.std.proofs.Common.{◌≡◌, ◌≤◌, ℕ, List, ◌++◌, length, Option, None, Some, IfSome}
 use Rattle.std.proofs.Common.{Result, Ok, Err, inl, inr, refl, sym, ap, ◌∙◌, subst, arith}
 use Rattle.std.proofs.Common.{length-append, true, false, codes}
 use Rattle.std.specs.Prelude.{Bool, ◌&&◌, if◌then◌else◌}

@@ -1,18 +1,16 @@
 -- How many bytes are taken for a request.
-use Rattle.std.proofs.Common.{◌≡◌, ◌≢◌, ◌+◌, ◌-◌, ◌≤◌, ◌⊎◌, ℕ, true, false, List, [], ◌++◌, length}
+use Rattle.std.proofs.Common.{◌≡◌, ◌+◌, ◌-◌, ◌≤◌, ◌⊎◌, ℕ, false, List, [], ◌++◌, length}
 use Rattle.std.proofs.Common.{Option, None, Some, Result, Ok, Err, IfOk, inl, inr, refl, sym, ap}
-use Rattle.std.proofs.Common.{◌∙◌, arith, nat_lt, true≢false, length-append}
+use Rattle.std.proofs.Common.{◌∙◌, arith, true≢false, length-append}
 use Rattle.std.proofs.KnownBytes.{Consumes-trans}
 use Rattle.std.specs.Io.KnownBytes.{Consumes}
 use Rattle.requests.specs.declared.request.Request.{Request}
 use Rattle.requests.specs.declared.request.Request.TheVariants as asks
 use Rattle.requests.specs.declared.request.ReadError.{ReadError}
-use Rattle.requests.specs.declared.refusal.Refusal.{Refusal}
 use Rattle.requests.specs.declared.target.Path.{Path}
 use Rattle.requests.specs.declared.target.Path.TheVariants.{Select, Write, Delete, Cut}
 use Rattle.requests.specs.Edge.{TakesAtMost, IsReadInto}
-use Rattle.requests.specs.Fields.{allowed, length_in, length_alone, length_told, length_asked}
-use Rattle.requests.specs.Fields.{is_decimal, has_field}
+use Rattle.requests.specs.Fields.{allowed, length_asked}
 use Rattle.requests.specs.Reading.{BodyMeans, most_taken}
 use Rattle.requests.specs.Requests.{Told}
 use Rattle.requests.specs.Targets.{takes_query}
