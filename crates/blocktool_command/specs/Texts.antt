@@ -70,7 +70,7 @@ fractions_of Refuse = Beside
 fractions_of Drop = Beside
 fractions_of Round = Rounded
 
--- samples with other values are left out: those that are not rounded, too
+-- samples with other values are left out; of Round those that have no nearest number of parts
 abbrev pub AreLeftOut : Rest → Type 0
 AreLeftOut Refuse = ⊥
 AreLeftOut Drop = Unit {0}

@@ -159,7 +159,7 @@ fn of_cut(cut: Cut) -> Result<Nearest, DecimalError>
     Ok(n)
 }
 
-// Tenths as parts, where a rest stands behind them if there is more.
+// Tenths as parts; if there is more, a rest stands behind the tenths.
 #[tactic(auto, unfolding(crate::specs::Tenths::rounded_at))]
 fn to_parts(tenths: u128, more: bool) -> Result<Nearest, DecimalError>
     requires { tenths ≤ limit }

@@ -29,7 +29,7 @@ pub enum Fractions {
     Rounded,
 }
 
-/// A sample whose value is no whole number of parts, and where its value stands.
+/// The time of a sample whose value is not kept as it is written, and where its value stands.
 #[derive(Clone, Copy, Debug, PartialEq, Eq, Drop)]
 pub struct Left {
     /// Its time, in milliseconds.

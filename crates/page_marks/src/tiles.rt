@@ -102,8 +102,9 @@ pub(crate) fn append_tiles(
     Ok(())
 }
 
-/// The tiles of a column of intervals, from the bottom, in the order of their slots. They fill the
-/// height, and each has at least one unit, if the height is at least 19.
+/// The tiles of a column of intervals, from the bottom, in the order of their slots. If there
+/// are intervals and the height is at least 19, they fill it, each with at least one unit; their
+/// foot is to be at least the height.
 pub fn tiles_of(
     alloc: Global,
     intervals: &[Interval],
