@@ -6,14 +6,38 @@ use labels::{Row, Sample};
 use series_merge::merge;
 use std::alloc::Global;
 
-/// A row of the job of this name, with samples at these times.
-fn row(alloc: Global, job: &str, samples: &[(i64, i64)]) -> Option<Row> {
-    let labels = labels(alloc, "", job, "")?;
+/// The job of a row, and its samples with their times.
+type Listed = (&'static str, &'static [(i64, i64)]);
+
+/// A row lists `b` before `a`, times that fall and repeat, and a row lists nothing.
+const FIRST: &[Listed] = &[
+    ("b", &[(20, 1), (10, 2), (20, 3)]),
+    ("a", &[]),
+    ("a", &[(5, 7)]),
+];
+
+/// One time of `b` again.
+const SECOND: &[Listed] = &[("b", &[(10, 9)])];
+
+fn samples_of(alloc: Global, samples: &[(i64, i64)]) -> Option<Vec<Sample>> {
     let mut listed = Vec::new(alloc);
     for (t, v) in samples {
         listed.push(Sample::new(*t, *v)).ok()?;
     }
-    Some(Row::new(labels, listed))
+    Some(listed)
+}
+
+fn row_of(alloc: Global, row: &Listed) -> Option<Row> {
+    let (labels, samples) = labels(alloc, "", row.0, "").zip(samples_of(alloc, row.1))?;
+    Some(Row::new(labels, samples))
+}
+
+fn rows_of(alloc: Global, listed: &[Listed]) -> Option<Vec<Row>> {
+    let mut rows = Vec::new(alloc);
+    for row in listed {
+        rows.push(row_of(alloc, row)?).ok()?;
+    }
+    Some(rows)
 }
 
 /// An answer that lists these rows, without a certificate.
@@ -30,34 +54,52 @@ fn listing(alloc: Global, rows: Vec<Row>) -> PartAnswer {
     }
 }
 
-/// Two answers: the first lists `b` before `a`, times that fall and repeat, and a row of nothing;
-/// the second has one time of `b` again.
 fn answers(alloc: Global) -> Option<Vec<PartAnswer>> {
-    let b = row(alloc, "b", &[(20, 1), (10, 2), (20, 3)])?;
-    let none = row(alloc, "a", &[])?;
-    let a = row(alloc, "a", &[(5, 7)])?;
-    let first = listing(alloc, Vec::from_array(alloc, [b, none, a]).ok()?);
-    let again = row(alloc, "b", &[(10, 9)])?;
-    let second = listing(alloc, Vec::from_array(alloc, [again]).ok()?);
-    Vec::from_array(alloc, [first, second]).ok()
+    let mut answers = Vec::new(alloc);
+    for listed in &[FIRST, SECOND] {
+        answers.push(listing(alloc, rows_of(alloc, listed)?)).ok()?;
+    }
+    Some(answers)
 }
 
-/// Whether a row has this job and these samples.
-fn is_row(row: Option<&Row>, job: &str, samples: &[Sample]) -> bool {
-    match row {
-        Some(row) => row.labels().value("job") == job && row.samples() == samples,
-        None => false,
+/// What is merged of the two.
+const MERGED: &[Listed] = &[("a", &[(5, 7)]), ("b", &[(10, 9), (20, 1)])];
+
+fn are_samples(samples: &[Sample], want: &[(i64, i64)]) -> bool {
+    if samples.len() != want.len() {
+        return false;
     }
+    for (sample, (t, v)) in samples.iter().zip(want) {
+        if sample.t() != *t || sample.v() != *v {
+            return false;
+        }
+    }
+    true
+}
+
+fn is_row(row: &Row, want: &Listed) -> bool {
+    row.labels().value("job") == want.0 && are_samples(row.samples(), want.1)
+}
+
+fn are_rows(rows: &[Row], want: &[Listed]) -> bool {
+    if rows.len() != want.len() {
+        return false;
+    }
+    for (row, one) in rows.iter().zip(want) {
+        if !is_row(row, one) {
+            return false;
+        }
+    }
+    true
+}
+
+fn merged(alloc: Global) -> Option<Vec<Row>> {
+    let answers = answers(alloc)?;
+    merge(alloc, answers.as_slice()).ok()
 }
 
 #[test]
 fn rows_in_any_order_are_merged(rt: HostRuntime) {
-    let alloc = rt.alloc();
-    let answers = answers(alloc).expect(&rt, "the answers are made");
-    let rows = merge(alloc, answers.as_slice()).ok();
-    let rows = rows.expect(&rt, "they are merged");
-    assert!(rt; rows.len() == 2);
-    assert!(rt; is_row(rows.get(0), "a", &[Sample::new(5, 7)]));
-    let later = [Sample::new(10, 9), Sample::new(20, 1)];
-    assert!(rt; is_row(rows.get(1), "b", &later));
+    let rows = merged(rt.alloc()).expect(&rt, "the answers are merged");
+    assert!(rt; are_rows(&rows, MERGED));
 }

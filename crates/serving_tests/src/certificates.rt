@@ -2,38 +2,35 @@
 //! matcher, and how often lists move. Others stand in `case_files`.
 
 use crate::counting::Counting;
-use crate::searches::{blocks, with_six};
-use cover::{Interval, PartCover, Verdict, certificate_laws, cover, cover_with_moves};
-use head::Snapshot;
+use crate::searches::six;
+use cover::{Interval, Moves, PartCover, Verdict, certificate_laws, cover, cover_with_moves};
+use head::HeadView;
 use labels::SeriesRef;
 use matchers::{Query, Selector};
 use postings::Source;
 use std::alloc::Global;
-use std::process::Abort;
-
-/// A store of the six series in a head, each with a sample at 10.
-fn six(alloc: Global) -> Option<Snapshot> {
-    with_six(alloc, &blocks(alloc, 0)?, 10)
-}
 
 /// What the example of `cover` does.
-fn cover_six(rt: &impl Abort, alloc: Global, part: &impl Source) -> Option<()> {
-    let query = Query::new(Selector::parse(alloc, r#"up{job="a"}"#).ok()?, 0, 100).ok()?;
-    let found = cover(alloc, part, &query).ok()?;
+fn cover_six(alloc: Global, part: &impl Source) -> Option<PartCover> {
+    let query = query(alloc, r#"up{job="a"}"#, 0, 100)?;
+    cover(alloc, part, &query).ok()
+}
+
+/// What it looks at.
+fn has_run(found: &PartCover) -> bool {
     let run = Interval {
         from: SeriesRef::new(2),
         until: 4,
         verdict: Verdict::Rejected(1),
     };
-    assert_eq!(rt; found.certificate.get(1), Some(&run));
-    assert_eq!(rt; found.separators.len(), 4);
-    Some(())
+    found.certificate.get(1) == Some(&run) && found.separators.len() == 4
 }
 
 #[test]
 fn the_example_of_the_first_page_of_cover(rt: HostRuntime) {
     let six = six(rt.alloc()).expect(&rt, "there is memory");
-    cover_six(&rt, rt.alloc(), &six.head()).expect(&rt, "the six series are covered");
+    let found = cover_six(rt.alloc(), &six.head()).expect(&rt, "the six series are covered");
+    assert!(rt; has_run(&found));
     certificate_laws();
 }
 
@@ -63,26 +60,34 @@ fn has(part: &PartCover, count: usize, last: Verdict) -> bool {
     }
 }
 
-/// Whether the certificate is so long and ends so, and the moves that are told are those that were
-/// made; a seek to where a list stands already is told, and moves no list.
-fn tells_all_moves(alloc: Global, row: &(&str, i64, i64, usize, Verdict)) -> Option<bool> {
-    let six = six(alloc)?;
-    let counting = Counting::new(six.head());
+/// Whether the moves that are told are those that were made; a seek to where a list stands already
+/// is told, and moves no list.
+fn are_all(moves: &Moves, counting: &Counting<&HeadView>) -> bool {
+    counting.moves.get() <= moves.of_lists && moves.of_live == counting.live_moves.get()
+}
+
+/// Whether the certificate of this head is so long and ends so, and all moves are told.
+fn tells_all_moves(
+    alloc: Global,
+    head: &HeadView,
+    row: &(&str, i64, i64, usize, Verdict),
+) -> Option<bool> {
     let query = query(alloc, row.0, row.1, row.2)?;
+    let counting = Counting::new(head);
     let (part, moves) = cover_with_moves(alloc, &&counting, &query).ok()?;
     Some(
         has(&part, row.3, row.4)
-            && counting.moves.get() <= moves.of_lists
-            && moves.of_live == counting.live_moves.get()
+            && are_all(&moves, &counting)
             && part.moves == moves.of_lists.saturating_add(moves.of_live),
     )
 }
 
 #[test]
 fn no_list_moves_uncounted(rt: HostRuntime) {
+    let six = six(rt.alloc()).expect(&rt, "there is memory");
     for row in COUNTED {
         assert!(rt;
-            tells_all_moves(rt.alloc(), row) == Some(true),
+            tells_all_moves(rt.alloc(), six.head(), row) == Some(true),
             "{} from {}",
             row.0,
             row.1

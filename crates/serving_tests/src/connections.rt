@@ -160,19 +160,41 @@ const SESSION: &[(&[u8], &[u8])] = &[
     (SELECT, NONE_SELECTED),
 ];
 
-/// Whether each request of the session gets its reply; nothing where no store was opened.
+/// Whether a request gets this reply.
+fn is_replied<J: Naming, R: Wait + Drop>(
+    rt: &impl Wait,
+    alloc: Global,
+    store: &mut EmptyStore<J, R>,
+    input: &[u8],
+    text: &[u8],
+) -> bool {
+    match serve_again(rt, alloc, store, input) {
+        Some((Served::Replied(_), bytes)) => bytes.as_slice() == text,
+        _ => false,
+    }
+}
+
+/// Whether each request of the session gets its reply.
+fn are_replied<J: Naming, R: Wait + Drop>(
+    rt: &impl Wait,
+    alloc: Global,
+    store: &mut EmptyStore<J, R>,
+) -> bool {
+    for (input, text) in SESSION {
+        if !is_replied(rt, alloc, store, input, text) {
+            return false;
+        }
+    }
+    true
+}
+
+/// The same of a store that is opened for it; nothing where none was opened.
 fn is_session<J: Naming, R: Wait>(rt: &R, alloc: Global, store: Store) -> Option<bool>
     requires book { store.seen.book ≡ J.book }
     requires opening { opening_of [] ≡ J.opening }
 {
     let mut store = open_empty::<J, &R>(rt, alloc, store)?;
-    for (input, text) in SESSION {
-        match serve_again(rt, alloc, &mut store, input) {
-            Some((Served::Replied(_), bytes)) if bytes.as_slice() == *text => {}
-            _ => return Some(false),
-        }
-    }
-    Some(true)
+    Some(are_replied(rt, alloc, &mut store))
 }
 
 /// The same of a new store, which is opened again where that was refused memory.

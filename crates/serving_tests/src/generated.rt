@@ -49,15 +49,28 @@ fn samples(k: u64, x: u64) -> [i64; 4] {
     ]
 }
 
-/// Appends a row: its first label tells its place in the order of rows.
-fn put_row(text: &mut String, k: u64, x: u64) -> Result<(), AllocError> {
+/// Appends the labels of a row: the first tells its place in the order of rows.
+fn put_labels(text: &mut String, k: u64, x: u64) -> Result<(), AllocError> {
     let place = k.saturating_add(10);
     let (a, b, c) = (piece(x), piece(next(x)), piece(next(next(x))));
-    let [t, v, u, w] = samples(k, x);
     write!(
         text,
-        "{{\"labels\":{{\"at\":\"{place}\",\"text\":\"{a}{b}{c}\"}},\"samples\":[[{t},{v}],[{u},{w}]]}}"
+        "\"labels\":{{\"at\":\"{place}\",\"text\":\"{a}{b}{c}\"}}"
     )
+}
+
+fn put_samples(text: &mut String, k: u64, x: u64) -> Result<(), AllocError> {
+    let [t, v, u, w] = samples(k, x);
+    write!(text, "\"samples\":[[{t},{v}],[{u},{w}]]")
+}
+
+/// Appends a row.
+fn put_row(text: &mut String, k: u64, x: u64) -> Result<(), AllocError> {
+    text.push('{')?;
+    put_labels(text, k, x)?;
+    text.push(',')?;
+    put_samples(text, k, x)?;
+    text.push('}')
 }
 
 /// The rows as a list.
@@ -83,16 +96,25 @@ const SELECT: &[u8] =
 const DONE: &[u8] =
     b"HTTP/1.1 200 OK\r\nContent-Type: application/json\r\nContent-Length: 11\r\nConnection: close\r\n\r\n{\"ok\":true}";
 
-/// Whether these rows, posted to an empty store as a batch, which is accepted, are the rows with
-/// which the reply to the query ends.
-fn are_read_back(rt: &impl Wait, alloc: Global, rows: &str) -> Option<bool> {
+/// Whether the batch is accepted, and the reply to the query ends with these rows.
+fn end_with(replies: &[u8], rows: &[u8]) -> bool {
+    match replies.strip_suffix(b"}") {
+        Some(front) => replies.starts_with(DONE) && front.ends_with(rows),
+        None => false,
+    }
+}
+
+/// A request that posts these rows as a batch.
+fn posted(alloc: Global, rows: &str) -> Result<String, AllocError> {
     let len = rows.len();
-    let input = format!(in alloc;
-        "POST /write HTTP/1.1\r\nContent-Length: {len}\r\n\r\n{rows}"
-    ).ok()?;
+    format!(in alloc; "POST /write HTTP/1.1\r\nContent-Length: {len}\r\n\r\n{rows}")
+}
+
+/// Whether these rows, posted to an empty store, are read back from it.
+fn are_read_back(rt: &impl Wait, alloc: Global, rows: &str) -> Option<bool> {
+    let input = posted(alloc, rows).ok()?;
     let (_, replies) = serve_texts(rt, alloc, &[input.as_bytes(), SELECT], 2)?;
-    let front = replies.strip_suffix(b"}")?;
-    Some(replies.starts_with(DONE) && front.ends_with(rows.as_bytes()))
+    Some(end_with(&replies, rows.as_bytes()))
 }
 
 /// The rows of a reply are those that were written, byte for byte; so posted again to an empty

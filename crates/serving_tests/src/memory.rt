@@ -78,7 +78,21 @@ impl<'a> Connections for Texts<'a> {
     }
 }
 
-/// The work of one worker with a store of its own: how many connections it served.
+/// The work of one worker: how many connections it served.
+fn work_in<J: Naming, R: Wait + Drop>(
+    rt: &impl Wait,
+    alloc: Global,
+    store: &mut EmptyStore<J, R>,
+    texts: &mut Texts<'_>,
+    most: u64,
+) -> u64 {
+    let rules = Rules::none();
+    let (pass, seat) = (&mut store.pass, &mut store.seat);
+    let shift = work(rt, alloc, &rules, texts, pass, seat, &store.committer, most);
+    shift.served()
+}
+
+/// The same with a store of its own.
 fn work_alone<J: Naming, R: Wait>(
     rt: &R,
     alloc: Global,
@@ -89,16 +103,17 @@ fn work_alone<J: Naming, R: Wait>(
     requires book { store.seen.book ≡ J.book }
     requires opening { opening_of [] ≡ J.opening }
 {
-    let EmptyStore {
-        committer,
-        mut pass,
-        mut seat,
-    } = open_empty::<J, &R>(rt, alloc, store)?;
-    let rules = Rules::none();
-    let shift = work(
-        rt, alloc, &rules, texts, &mut pass, &mut seat, &committer, most,
-    );
-    Some(shift.served())
+    let mut store = open_empty::<J, &R>(rt, alloc, store)?;
+    Some(work_in(rt, alloc, &mut store, texts, most))
+}
+
+/// All that was written to these connections.
+fn written(alloc: Global, past: &[Ended]) -> Option<Vec<u8>> {
+    let mut all = Vec::new(alloc);
+    for ended in past {
+        all.extend_from_slice(&ended.written).ok()?;
+    }
+    Some(all)
 }
 
 /// How many of these connections one worker of an empty store serves, with room for so many, and
@@ -116,12 +131,8 @@ pub fn serve_texts<R: Wait>(
         past: Vec::new(alloc),
         kept_all: true,
     };
-    let count = work_alone::<Brand, R>(rt, alloc, Store::new(), &mut texts, most)?;
-    let mut all = Vec::new(alloc);
-    for ended in &texts.past {
-        all.extend_from_slice(&ended.written).ok()?;
-    }
-    Some((count, all))
+    let count = work_alone::<Brand, R>(rt, alloc, Store::new(), &mut texts, most);
+    count.zip(written(alloc, &texts.past))
 }
 
 /// A batch, a connection that says nothing, the query of the batch, and a path that is none.
@@ -151,52 +162,12 @@ fn a_worker_serves_one_connection_after_another(rt: HostRuntime) {
     assert!(rt; serves(&rt, rt.alloc(), 1, 1, &REPLIES[..101]));
 }
 
-/// What the example of `server` does, with the worker of an empty store.
-fn work_on_two<J: Naming, R: Wait + Abort>(
-    rt: &R,
-    alloc: Global,
-    store: Store,
-    connections: &mut Texts<'_>,
-) -> Option<()>
-    requires book { store.seen.book ≡ J.book }
-    requires opening { opening_of [] ≡ J.opening }
-{
-    let EmptyStore {
-        committer,
-        mut pass,
-        mut seat,
-    } = open_empty::<J, &R>(rt, alloc, store)?;
-    let rules = Rules::none();
-    let shift = work(
-        rt,
-        alloc,
-        &rules,
-        connections,
-        &mut pass,
-        &mut seat,
-        &committer,
-        9,
-    );
-    assert_eq!(rt; shift.served(), 2);
-    Some(())
-}
-
 /// A path that is none, and a connection that says nothing.
 const TWO: &[&[u8]] = &[b"GET /none HTTP/1.1\r\n\r\n", b""];
 
-/// The same with a store that is just opened.
-fn work_on_none<R: Wait + Abort>(rt: &R, alloc: Global) -> Option<()> {
-    let mut texts = Texts {
-        alloc,
-        all: TWO,
-        next: 0,
-        past: Vec::new(alloc),
-        kept_all: true,
-    };
-    work_on_two::<Brand, R>(rt, alloc, Store::new(), &mut texts)
-}
-
+/// What the example of `server` does, with the worker of an empty store.
 #[test]
 fn the_example_of_the_first_page_of_server(rt: HostRuntime) {
-    work_on_none(&rt, rt.alloc()).expect(&rt, "the store opens");
+    let served = serve_texts(&rt, rt.alloc(), TWO, 9);
+    assert!(rt; matches!(served, Some((2, _))));
 }

@@ -4,7 +4,8 @@
 use crate::counting::Counting;
 use answers::{AuditedAnswer, answer, answer_by_workers, body};
 use block_search::{Gate, search, search_part};
-use head::{Event, Snapshot, apply};
+use cover::PartAnswer;
+use head::{Event, HeadView, Snapshot, apply};
 use labels::{LabelSet, Sample, is_time};
 use matchers::{Query, Selector};
 use postings::PartName;
@@ -12,7 +13,7 @@ use std::alloc::{AllocError, Global};
 use std::sync::atomic::{AtomicU64, Ordering};
 use std::thread::{Threads, yield_now};
 
-const SERIES: [(&str, &str, &str); 6] = [
+const SERIES: &[(&str, &str, &str)] = &[
     ("up", "a", ""),
     ("up", "b", ""),
     ("up", "b", "x"),
@@ -21,19 +22,37 @@ const SERIES: [(&str, &str, &str); 6] = [
     ("up", "a", "x"),
 ];
 
-pub fn labels(alloc: Global, name: &str, job: &str, zone: &str) -> Option<LabelSet> {
-    let mut pairs = Vec::new(alloc);
-    for (name, value) in [("__name__", name), ("job", job), ("zone", zone)] {
-        let name = String::from_str(alloc, name).ok()?;
-        pairs
-            .push((name, String::from_str(alloc, value).ok()?))
-            .ok()?;
+fn pair_of(alloc: Global, name: &str, value: &str) -> Result<(String, String), AllocError> {
+    let name = String::from_str(alloc, name)?;
+    Ok((name, String::from_str(alloc, value)?))
+}
+
+fn pairs_of(alloc: Global, pairs: &[(&str, &str)]) -> Result<Vec<(String, String)>, AllocError> {
+    let mut made = Vec::new(alloc);
+    for (name, value) in pairs {
+        made.push(pair_of(alloc, name, value)?)?;
     }
-    LabelSet::new(alloc, pairs).ok()
+    Ok(made)
+}
+
+pub fn labels(alloc: Global, name: &str, job: &str, zone: &str) -> Option<LabelSet> {
+    let pairs = [("__name__", name), ("job", job), ("zone", zone)];
+    LabelSet::new(alloc, pairs_of(alloc, &pairs).ok()?).ok()
+}
+
+/// Adds a sample of a series.
+fn push(
+    alloc: Global,
+    samples: &mut Vec<(LabelSet, Sample)>,
+    series: (&str, &str, &str),
+    sample: Sample,
+) -> Option<()> {
+    let labels = labels(alloc, series.0, series.1, series.2)?;
+    samples.push((labels, sample)).ok()
 }
 
 /// The snapshot after a batch of these samples.
-fn after(alloc: Global, at: &Snapshot, samples: Vec<(LabelSet, Sample)>) -> Option<Snapshot> {
+pub fn after(alloc: Global, at: &Snapshot, samples: Vec<(LabelSet, Sample)>) -> Option<Snapshot> {
     if !Event::is_batch(&samples) {
         return None;
     }
@@ -43,21 +62,24 @@ fn after(alloc: Global, at: &Snapshot, samples: Vec<(LabelSet, Sample)>) -> Opti
 /// The snapshot after a sample more of each of the six series, at this time.
 pub fn with_six(alloc: Global, at: &Snapshot, t: i64) -> Option<Snapshot> {
     let mut samples = Vec::new(alloc);
-    for (name, job, zone) in SERIES {
-        let labels = labels(alloc, name, job, zone)?;
-        samples.push((labels, Sample::new(t, t))).ok()?;
+    for series in SERIES {
+        push(alloc, &mut samples, *series, Sample::new(t, t))?;
     }
     after(alloc, at, samples)
+}
+
+/// Adds a sample at time 10 of the series `up` whose job is this number.
+fn push_numbered(alloc: Global, samples: &mut Vec<(LabelSet, Sample)>, number: u32) -> Option<()> {
+    let job = format!(in alloc; "{number}").ok()?;
+    push(alloc, samples, ("up", job.as_str(), ""), Sample::new(10, 1))
 }
 
 /// The snapshot after a sample more, at time 10, of each of so many series `up` whose jobs are
 /// numbers.
 fn with_many(alloc: Global, at: &Snapshot, count: u32) -> Option<Snapshot> {
     let mut samples = Vec::new(alloc);
-    for n in 0..count {
-        let job = format!(in alloc; "{n}").ok()?;
-        let labels = labels(alloc, "up", job.as_str(), "")?;
-        samples.push((labels, Sample::new(10, 1))).ok()?;
+    for number in 0..count {
+        push_numbered(alloc, &mut samples, number)?;
     }
     after(alloc, at, samples)
 }
@@ -70,15 +92,24 @@ fn cut(alloc: Global, snapshot: &Snapshot, t: i64) -> Option<Snapshot> {
     apply(alloc, snapshot, &Event::cut(t)).ok()
 }
 
+/// The snapshot after a sample more of each of the six series, and a cut right after it.
+fn with_block(alloc: Global, at: &Snapshot, t: i64) -> Option<Snapshot> {
+    let more = with_six(alloc, at, t)?;
+    cut(alloc, &more, t.saturating_add(5))
+}
+
 /// As many blocks of the six series, ten milliseconds apart, and an empty head.
 pub fn blocks(alloc: Global, count: u32) -> Option<Snapshot> {
     let mut snapshot = Snapshot::opening(alloc, Vec::new(alloc)).ok()?;
     for n in 0..count {
-        let t = i64::from(n).saturating_mul(10);
-        let more = with_six(alloc, &snapshot, t)?;
-        snapshot = cut(alloc, &more, t.saturating_add(5))?;
+        snapshot = with_block(alloc, &snapshot, i64::from(n).saturating_mul(10))?;
     }
     Some(snapshot)
+}
+
+/// A store of the six series in a head, each with a sample at 10.
+pub fn six(alloc: Global) -> Option<Snapshot> {
+    with_six(alloc, &blocks(alloc, 0)?, 10)
 }
 
 /// A block of 4,000 series, and a head of the six.
@@ -97,23 +128,20 @@ pub fn query(alloc: Global, selector: &str) -> Option<Query> {
 /// lists moved no more often than is told, and how many rows there are.
 type Walk = (u64, u64, bool, usize);
 
-/// Whether a search over the six series in a head walks so.
-fn walks(alloc: Global, selector: &str, want: &Walk) -> Option<bool> {
-    let snapshot = with_six(alloc, &blocks(alloc, 0)?, 10)?;
-    let counting = Counting::new(snapshot.head());
+/// What was walked until this answer.
+fn walked(counting: &Counting<&HeadView>, answer: &PartAnswer) -> Walk {
+    let (lists, live) = (counting.moves.get(), counting.live_moves.get());
+    let within = lists.saturating_add(live) <= answer.cover.moves;
+    let (lent, told) = (counting.lists.get(), counting.values.get());
+    (lent, told, within, answer.rows.len())
+}
+
+/// What a search over a head walks.
+fn walk_of(alloc: Global, head: &HeadView, selector: &str) -> Option<Walk> {
     let query = query(alloc, selector)?;
+    let counting = Counting::new(head);
     let answer = search_part(alloc, PartName::Head, &&counting, &query).ok()?;
-    let made = counting
-        .moves
-        .get()
-        .saturating_add(counting.live_moves.get());
-    let within = made <= answer.cover.moves;
-    Some(
-        counting.lists.get() == want.0
-            && counting.values.get() == want.1
-            && within == want.2
-            && answer.rows.len() == want.3,
-    )
+    Some(walked(&counting, &answer))
 }
 
 const WALKS: &[(&str, Walk)] = &[
@@ -126,11 +154,10 @@ const WALKS: &[(&str, Walk)] = &[
 
 #[test]
 fn a_search_walks_no_other_list(rt: HostRuntime) {
+    let six = six(rt.alloc()).expect(&rt, "there is memory");
     for (selector, want) in WALKS {
-        assert!(rt;
-            matches!(walks(rt.alloc(), selector, want), Some(true)),
-            "{selector}"
-        );
+        let walk = walk_of(rt.alloc(), six.head(), selector);
+        assert!(rt; walk == Some(*want), "{selector}");
     }
 }
 
@@ -140,26 +167,43 @@ fn text_of(alloc: Global, answer: Result<AuditedAnswer, AllocError>) -> Option<V
     body(alloc, &answer.parts, &answer.rows).ok()
 }
 
+/// Whether these are one text, of so many bytes at least.
+fn are_one(one: Option<Vec<u8>>, other: Option<Vec<u8>>, least: usize) -> bool {
+    match one.zip(other) {
+        Some((one, other)) => one.as_slice() == other.as_slice() && one.len() > least,
+        None => false,
+    }
+}
+
+/// Whether this text was made.
+pub fn is_text(made: Option<Vec<u8>>, want: &str) -> bool {
+    match made {
+        Some(text) => text.as_slice() == want.as_bytes(),
+        None => false,
+    }
+}
+
 /// Whether workers answer `up` with the text that one thread gives, and it is longer than so many
 /// rows: each stands in it twice, of forty bytes at least.
 fn is_answered<R: Threads + Sync>(
     rt: &R,
     alloc: Global,
-    snapshot: &Snapshot,
+    snapshot: Option<Snapshot>,
     rows: usize,
-) -> Option<bool> {
-    let query = query(alloc, "up")?;
-    let one = text_of(alloc, answer(alloc, snapshot, &query))?;
-    let many = text_of(alloc, answer_by_workers(rt, alloc, snapshot, &query))?;
-    Some(one.as_slice() == many.as_slice() && many.len() > rows.saturating_mul(80))
+) -> bool {
+    let Some((snapshot, query)) = snapshot.zip(query(alloc, "up")) else {
+        return false;
+    };
+    let one = text_of(alloc, answer(alloc, &snapshot, &query));
+    let many = text_of(alloc, answer_by_workers(rt, alloc, &snapshot, &query));
+    are_one(one, many, rows.saturating_mul(80))
 }
 
 #[test]
 fn workers_answer_as_one_thread_does_over_63_blocks_and_over_a_block_and_a_head(rt: HostRuntime) {
-    let many = blocks(rt.alloc(), 63).expect(&rt, "63 blocks are made");
-    assert!(rt; matches!(is_answered(&rt, rt.alloc(), &many, 63 * 4), Some(true)));
-    let two = block_and_head(rt.alloc()).expect(&rt, "a block and a head are made");
-    assert!(rt; matches!(is_answered(&rt, rt.alloc(), &two, 4_000 + 4), Some(true)));
+    let alloc = rt.alloc();
+    assert!(rt; is_answered(&rt, alloc, blocks(alloc, 63), 63 * 4));
+    assert!(rt; is_answered(&rt, alloc, block_and_head(alloc), 4_000 + 4));
 }
 
 pub const ONE: &str = r#"down{job="a"}"#;
@@ -167,17 +211,26 @@ pub const ONE: &str = r#"down{job="a"}"#;
 const MERGED: &str =
     r#""rows":[{"labels":{"__name__":"down","job":"a"},"samples":[[0,0],[10,10]]}]}"#;
 
-/// The text of the answer over two blocks. The blocks, the query and the text are each made again
-/// where memory was refused.
+/// Two blocks, made again where memory was refused.
+fn blocks_again(alloc: Global) -> Option<Snapshot> {
+    match blocks(alloc, 2) {
+        None => blocks(alloc, 2),
+        made => made,
+    }
+}
+
+/// The query, made again where memory was refused.
+fn query_again(alloc: Global) -> Option<Query> {
+    match query(alloc, ONE) {
+        None => query(alloc, ONE),
+        made => made,
+    }
+}
+
+/// The text of the answer over the two blocks. The blocks, the query and the text are each made
+/// again where memory was refused.
 fn text_again<R: Threads + Sync>(rt: &R, alloc: Global) -> Option<Vec<u8>> {
-    let snapshot = match blocks(alloc, 2) {
-        None => blocks(alloc, 2)?,
-        Some(snapshot) => snapshot,
-    };
-    let query = match query(alloc, ONE) {
-        None => query(alloc, ONE)?,
-        Some(query) => query,
-    };
+    let (snapshot, query) = blocks_again(alloc).zip(query_again(alloc))?;
     match text_of(alloc, answer_by_workers(rt, alloc, &snapshot, &query)) {
         None => text_of(alloc, answer_by_workers(rt, alloc, &snapshot, &query)),
         text => text,
@@ -217,15 +270,19 @@ impl Gate for Meeting {
     }
 }
 
+/// How many answers a search of two blocks and a head gives.
+fn count_searched<R: Threads + Sync>(rt: &R, alloc: Global, gate: &Meeting) -> Option<usize> {
+    let (store, query) = blocks(alloc, 2).zip(query(alloc, "up"))?;
+    let answers = search(rt, alloc, &store, &query, gate).ok()?;
+    Some(answers.len())
+}
+
 #[test]
 fn the_second_part_is_searched_beside_the_first(rt: HostRuntime) {
     let gate = Meeting {
         second: AtomicU64::new(0),
         met: AtomicU64::new(0),
     };
-    let store = blocks(rt.alloc(), 2).expect(&rt, "two blocks are made");
-    let query = query(rt.alloc(), "up").expect(&rt, "there is memory");
-    let answers = search(&rt, rt.alloc(), &store, &query, &gate).ok();
-    assert!(rt; answers.expect(&rt, "there is memory").len() == 3);
+    assert!(rt; count_searched(&rt, rt.alloc(), &gate) == Some(3));
     assert!(rt; gate.met.load(Ordering::SeqCst) == 1);
 }

@@ -15,6 +15,11 @@ pub struct EmptyStore<J: Naming, R: Wait + Drop> {
     pub seat: Seat<J>,
 }
 
+/// The last of a list.
+pub fn last<T: Drop>(mut list: Vec<T>) -> Option<T> {
+    list.pop()
+}
+
 pub fn open_empty<J: Naming, R: Wait + Drop>(
     rt: R,
     alloc: Global,
@@ -24,8 +29,8 @@ pub fn open_empty<J: Naming, R: Wait + Drop>(
     requires opening { opening_of [] ≡ J.opening }
 {
     let opened = store.open::<J, R>(rt, alloc, Vec::new(alloc), 1, 1);
-    let (committer, mut passes, mut seats) = opened.ok()?;
-    let (pass, seat) = passes.pop().zip(seats.pop())?;
+    let (committer, passes, seats) = opened.ok()?;
+    let (pass, seat) = last(passes).zip(last(seats))?;
     Some(EmptyStore {
         committer,
         pass,

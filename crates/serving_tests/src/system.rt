@@ -14,7 +14,52 @@ use std::sync::Wait;
 use std::thread::{Threads, join};
 use std::time::{Clock, Duration};
 
-/// All replies to these requests, asked one after another while so many clients stay silent.
+fn connect<R: Net<Stream = TcpStream>>(rt: &R, port: u16) -> Option<TcpStream> {
+    TcpStream::connect(rt, ("127.0.0.1", port)).ok()
+}
+
+/// As many clients that say nothing.
+fn connect_silent<R: Net<Stream = TcpStream>>(
+    rt: &R,
+    alloc: Global,
+    port: u16,
+    count: usize,
+) -> Option<Vec<TcpStream>> {
+    let mut waiting = Vec::new(alloc);
+    for _ in 0..count {
+        waiting.push(connect(rt, port)?).ok()?;
+    }
+    Some(waiting)
+}
+
+/// Adds the reply to a request.
+fn ask<R: Net<Stream = TcpStream>>(
+    rt: &R,
+    port: u16,
+    request: &[u8],
+    replies: &mut Vec<u8>,
+) -> Option<()> {
+    let mut stream = connect(rt, port)?;
+    stream.write_all(request).ok()?;
+    let _count = stream.read_to_end(replies).ok()?;
+    Some(())
+}
+
+/// All replies to these requests, asked one after another.
+fn ask_each<R: Net<Stream = TcpStream>>(
+    rt: &R,
+    alloc: Global,
+    port: u16,
+    requests: &[&[u8]],
+) -> Option<Vec<u8>> {
+    let mut replies = Vec::new(alloc);
+    for request in requests {
+        ask(rt, port, request, &mut replies)?;
+    }
+    Some(replies)
+}
+
+/// The same, while so many clients stay silent.
 fn ask_all<R: Net<Stream = TcpStream>>(
     rt: &R,
     alloc: Global,
@@ -22,21 +67,25 @@ fn ask_all<R: Net<Stream = TcpStream>>(
     silent: usize,
     requests: &[&[u8]],
 ) -> Option<Vec<u8>> {
-    let mut waiting = Vec::new(alloc);
-    for _ in 0..silent {
-        let stream = TcpStream::connect(rt, ("127.0.0.1", port)).ok()?;
-        waiting.push(stream).ok()?;
-    }
-    let mut replies = Vec::new(alloc);
-    for request in requests {
-        let mut stream = TcpStream::connect(rt, ("127.0.0.1", port)).ok()?;
-        stream.write_all(request).ok()?;
-        let _count = stream.read_to_end(&mut replies).ok()?;
-    }
-    Some(replies)
+    let _waiting = connect_silent(rt, alloc, port, silent)?;
+    ask_each(rt, alloc, port, requests)
 }
 
-/// Whether the workers all ended, and the replies to these requests, asked by a thread beside them.
+/// Whether the workers all ended.
+fn serve_all<
+    J: Naming + Send + Sync,
+    C: Wait + Drop + Send + Sync,
+    R: Threads + Wait + Clock + Eprint + Sync,
+>(rt: &R, alloc: Global, workers: Workers<J, C>, listener: &TcpListener) -> bool {
+    let terms = Terms {
+        requests: 2,
+        idle: Some(Duration::from_secs(1)),
+    };
+    let rules = Rules::none();
+    serve(rt, alloc, workers, listener, &rules, terms).is_ok()
+}
+
+/// The replies to these requests, asked by a thread beside the workers, if these all ended.
 fn serve_beside<
     J: Naming + Send + Sync,
     C: Wait + Drop + Send + Sync,
@@ -48,18 +97,21 @@ fn serve_beside<
     listener: &TcpListener,
     port: u16,
     asked: (usize, &[&[u8]]),
-) -> (bool, Option<Vec<u8>>) {
-    let terms = Terms {
-        requests: 2,
-        idle: Some(Duration::from_secs(1)),
-    };
+) -> Option<Vec<u8>> {
     let (silent, requests) = asked;
-    let rules = Rules::none();
-    join(
+    let (served, replies) = join(
         rt,
-        || serve(rt, alloc, workers, listener, &rules, terms).is_ok(),
+        || serve_all(rt, alloc, workers, listener),
         || ask_all(rt, alloc, port, silent, requests),
-    )
+    );
+    if served { replies } else { None }
+}
+
+fn port_of(listener: &TcpListener) -> Option<u16> {
+    match listener.local_addr() {
+        Ok(address) => Some(address.port()),
+        Err(_) => None,
+    }
 }
 
 /// The replies to these requests by two workers of an empty store, of two connections each, while
@@ -72,17 +124,14 @@ fn replies_of_two<
     alloc: Global,
     store: Store,
     listener: &TcpListener,
-    silent: usize,
-    requests: &[&[u8]],
+    asked: (usize, &[&[u8]]),
 ) -> Option<Vec<u8>>
     requires book { store.seen.book ≡ J.book }
     requires opening { opening_of [] ≡ J.opening }
 {
-    let port = listener.local_addr().ok()?.port();
+    let port = port_of(listener)?;
     let workers = Workers::<J, &R>::open(rt, alloc, store, Vec::new(alloc), 2, 2).ok()?;
-    let asked = (silent, requests);
-    let (served, replies) = serve_beside(rt, alloc, workers, listener, port, asked);
-    if served { replies } else { None }
+    serve_beside(rt, alloc, workers, listener, port, asked)
 }
 
 const WRITE: &[u8] =
@@ -94,10 +143,14 @@ const CUT: &[u8] = b"POST /cut HTTP/1.1\r\nContent-Length: 9\r\n\r\n{\"at\":31}"
 
 const SELECT: &[u8] = b"GET /select?selector=up&from=31&to=100 HTTP/1.1\r\n\r\n";
 
+const ASKED: &[&[u8]] = &[WRITE, NOWHERE, CUT, SELECT];
+
 /// The replies of a store to which a sample is written and then cut away, and to a path that is
 /// none.
 const REPLIES: &[u8] =
     b"HTTP/1.1 200 OK\r\nContent-Type: application/json\r\nContent-Length: 11\r\nConnection: close\r\n\r\n{\"ok\":true}HTTP/1.1 404 Not Found\r\nContent-Type: application/json\r\nContent-Length: 16\r\nConnection: close\r\n\r\n{\"refused\":\"H3\"}HTTP/1.1 200 OK\r\nContent-Type: application/json\r\nContent-Length: 11\r\nConnection: close\r\n\r\n{\"ok\":true}HTTP/1.1 200 OK\r\nContent-Type: application/json\r\nContent-Length: 112\r\nConnection: close\r\n\r\n{\"parts\":[{\"part\":\"block 0\",\"skipped\":true},{\"intervals\":[],\"part\":\"head\",\"rows\":[],\"separators\":[]}],\"rows\":[]}";
+
+const ASKED_TWICE: &[&[u8]] = &[NOWHERE, NOWHERE];
 
 /// Two replies to a path that is none.
 const NOWHERE_TWICE: &[u8] =
@@ -107,11 +160,10 @@ fn is_replied<R: Threads + Wait + Clock + Eprint + Net<Stream = TcpStream> + Syn
     rt: &R,
     alloc: Global,
     listener: &TcpListener,
-    silent: usize,
-    requests: &[&[u8]],
+    asked: (usize, &[&[u8]]),
     want: &[u8],
 ) -> bool {
-    match replies_of_two::<Brand, R>(rt, alloc, Store::new(), listener, silent, requests) {
+    match replies_of_two::<Brand, R>(rt, alloc, Store::new(), listener, asked) {
         Some(replies) => replies.as_slice() == want,
         None => false,
     }
@@ -123,8 +175,6 @@ fn is_replied<R: Threads + Wait + Clock + Eprint + Net<Stream = TcpStream> + Syn
 fn two_workers_serve_one_store_and_silent_clients_hold_none_for_ever(rt: HostRuntime) {
     let listener = TcpListener::bind(&rt, "127.0.0.1:0").ok();
     let listener = listener.expect(&rt, "a port is free");
-    let requests = [WRITE, NOWHERE, CUT, SELECT];
-    assert!(rt; is_replied(&rt, rt.alloc(), &listener, 0, &requests, REPLIES));
-    let requests = [NOWHERE, NOWHERE];
-    assert!(rt; is_replied(&rt, rt.alloc(), &listener, 2, &requests, NOWHERE_TWICE));
+    assert!(rt; is_replied(&rt, rt.alloc(), &listener, (0, ASKED), REPLIES));
+    assert!(rt; is_replied(&rt, rt.alloc(), &listener, (2, ASKED_TWICE), NOWHERE_TWICE));
 }

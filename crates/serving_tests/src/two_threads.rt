@@ -3,7 +3,8 @@
 ghost use Rattle.std.specs.Prelude.{◌≡◌, []};
 ghost use Rattle.head.specs.Blocks.{opening_of};
 
-use crate::searches::{labels, query};
+use crate::searches::{is_text, labels, query};
+use crate::store::last;
 use answers::{ask, body};
 use labels::Sample;
 use snapshots::{Appender, Committer, Naming, Pass, Receipt, Seat, Store};
@@ -55,30 +56,59 @@ fn appender_of(alloc: Global, wanted: &[Wanted]) -> Option<Appender> {
     Some(appender)
 }
 
+/// What a thread commits, and from which seat.
+type Job<J> = (Seat<J>, Appender);
+
 fn commit_as<J: Naming, C: Wait + Drop>(
     rt: &impl Wait,
     committer: &Committer<J, C>,
-    mut seat: Seat<J>,
-    appender: Appender,
+    job: Job<J>,
 ) -> Option<Receipt<J>> {
+    let (mut seat, appender) = job;
     committer.commit(rt, &mut seat, appender).ok()
 }
 
-/// The receipts of two threads, each of which commits one of the batches.
+/// The receipts of two threads, each of which does one of the jobs.
 fn commit_both<J: Naming + Send + Sync, C: Wait + Drop + Send + Sync, R: Threads + Wait + Sync>(
     rt: &R,
     committer: &Committer<J, C>,
-    seats: (Seat<J>, Seat<J>),
-    batches: (Appender, Appender),
+    first: Job<J>,
+    second: Job<J>,
 ) -> Option<(Receipt<J>, Receipt<J>)> {
-    let (first_seat, second_seat) = seats;
-    let (first_batch, second_batch) = batches;
     let (first, second) = join(
         rt,
-        || commit_as(rt, committer, first_seat, first_batch),
-        || commit_as(rt, committer, second_seat, second_batch),
+        || commit_as(rt, committer, first),
+        || commit_as(rt, committer, second),
     );
     first.zip(second)
+}
+
+/// The job of the last of these seats.
+fn job_of<J: Naming>(alloc: Global, seats: &mut Vec<Seat<J>>, wanted: &[Wanted]) -> Option<Job<J>> {
+    seats.pop().zip(appender_of(alloc, wanted))
+}
+
+/// The receipts of both batches, each committed from one of two seats.
+fn receipts_of_both<
+    J: Naming + Send + Sync,
+    C: Wait + Drop + Send + Sync,
+    R: Threads + Wait + Sync,
+>(
+    rt: &R,
+    alloc: Global,
+    committer: &Committer<J, C>,
+    mut seats: Vec<Seat<J>>,
+) -> Option<(Receipt<J>, Receipt<J>)> {
+    let first = job_of(alloc, &mut seats, FIRST)?;
+    let second = job_of(alloc, &mut seats, SECOND)?;
+    commit_both::<J, C, R>(rt, committer, first, second)
+}
+
+/// The text that the pass answers with.
+fn text_asked<J: Naming>(alloc: Global, pass: &mut Pass<J>) -> Option<Vec<u8>> {
+    let query = query(alloc, ASKED)?;
+    let answer = ask(alloc, pass, &query).ok()?;
+    body(alloc, &answer.parts, &answer.rows).ok()
 }
 
 /// Whether the pass, once it learnt both receipts, answers as their order says.
@@ -86,19 +116,16 @@ fn is_answered<J: Naming>(
     alloc: Global,
     pass: &mut Pass<J>,
     receipts: &(Receipt<J>, Receipt<J>),
-) -> Option<bool> {
+) -> bool {
     let (first, second) = receipts;
     pass.learn(first);
     pass.learn(second);
-    let query = query(alloc, ASKED)?;
-    let answer = ask(alloc, pass, &query).ok()?;
-    let text = body(alloc, &answer.parts, &answer.rows).ok()?;
     let want = if first.events() < second.events() {
         FIRST_THEN_SECOND
     } else {
         SECOND_THEN_FIRST
     };
-    Some(text.as_slice() == want.as_bytes())
+    is_text(text_asked(alloc, pass), want)
 }
 
 fn is_answered_after_both<J: Naming + Send + Sync, R: Threads + Wait + Sync>(
@@ -109,13 +136,11 @@ fn is_answered_after_both<J: Naming + Send + Sync, R: Threads + Wait + Sync>(
     requires book { store.seen.book ≡ J.book }
     requires opening { opening_of [] ≡ J.opening }
 {
-    let batches = appender_of(alloc, FIRST).zip(appender_of(alloc, SECOND))?;
     let opened = store.open::<J, &R>(rt, alloc, Vec::new(alloc), 1, 2);
-    let (committer, mut passes, mut seats) = opened.ok()?;
-    let mut pass = passes.pop()?;
-    let seats = seats.pop().zip(seats.pop())?;
-    let receipts = commit_both::<J, &R, R>(rt, &committer, seats, batches)?;
-    is_answered(alloc, &mut pass, &receipts)
+    let (committer, passes, seats) = opened.ok()?;
+    let receipts = receipts_of_both::<J, &R, R>(rt, alloc, &committer, seats);
+    let (mut pass, receipts) = last(passes).zip(receipts)?;
+    Some(is_answered(alloc, &mut pass, &receipts))
 }
 
 #[test]
