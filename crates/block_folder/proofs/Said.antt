@@ -1,6 +1,5 @@
 -- The range that a text says.
 use Rattle.std.specs.Prelude.{◌≡◌, ℕ, ℤ, Bool, true, false, List, Option, Some, None, Result, Ok}
-use Rattle.std.specs.Prelude.{Err, refl}
 use Rattle.std.proofs.Common.{ap, ◌∙◌}
 use Rattle.std.specs.Bool.{OnTrue}
 use Rattle.block.specs.declared.error.BlockError.{BlockError}

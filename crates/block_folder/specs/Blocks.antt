@@ -5,7 +5,7 @@ use Rattle.block_folder.specs.declared.folder.Files.{Files}
 use Rattle.block_folder.specs.declared.folder.Paths.{Paths}
 use Rattle.block_folder.specs.declared.folder.FolderError.{FolderError}
 use Rattle.block_folder.specs.declared.folder.FolderError.TheVariants.{Memory, Disk}
-use Rattle.block_folder.specs.Steps.{Call, Make, Write, Sync, Rename, Did, DoesUpToOne}
+use Rattle.block_folder.specs.Steps.{Call, Make, Write, Sync, Rename, Did, DoesUpToOne, whole}
 
 -- the path of a name in a directory
 abbrev pub path_in : List ℕ → List ℕ → List ℕ
@@ -26,7 +26,7 @@ abbrev pub calls_at : Place → Paths → Files → List Call
 calls_at place paths files =
     Make place.unfinished.now
     ∷ Make paths.chunks_folder.now
-    ∷ Write paths.chunks.now files.chunks.now
+    ∷ Write paths.chunks.now (whole files.chunks.now)
     ∷ Write paths.index.now files.index.now
     ∷ Write paths.tombstones.now files.tombstones.now
     ∷ Write paths.meta.now files.meta.now
@@ -41,7 +41,7 @@ abbrev pub calls_of : Place → Files → List Call
 calls_of place files =
     Make place.unfinished.now
     ∷ Make (path_in place.unfinished.now (codes "chunks"))
-    ∷ Write (path_in place.unfinished.now (codes "chunks/000001")) files.chunks.now
+    ∷ Write (path_in place.unfinished.now (codes "chunks/000001")) (whole files.chunks.now)
     ∷ Write (path_in place.unfinished.now (codes "index")) files.index.now
     ∷ Write (path_in place.unfinished.now (codes "tombstones")) files.tombstones.now
     ∷ Write (path_in place.unfinished.now (codes "meta.json")) files.meta.now

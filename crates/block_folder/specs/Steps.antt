@@ -1,6 +1,6 @@
 -- The steps by which a block's directory is written.
-use Rattle.std.specs.Prelude.{◌≡◌, ℕ, Bool, true, false, List, [], ◌∷◌, ◌++◌, map, codes}
-use Rattle.std.specs.Borrow.{Bor}
+use Rattle.std.specs.Prelude.{◌≡◌, ℕ, Bool, true, false, List, Vec, [], ◌∷◌, ◌++◌, map}
+use Rattle.std.specs.List.{flat_map}
 use Rattle.block_folder.specs.declared.step.Step.{Step}
 use Rattle.block_folder.specs.declared.step.Step.TheVariants as step
 
@@ -12,10 +12,15 @@ pub data Call : Type 0 where
   Sync : List ℕ → Call
   Rename : List ℕ → List ℕ → Call
 
+-- the bytes of pieces, laid end to end
+abbrev pub whole : {Z : Type 0} → List (Vec ℕ Z) → List ℕ
+whole pieces = flat_map (λ piece. piece.items) pieces
+
 -- the call that a step asks for
 abbrev pub call_of : Step → Call
 call_of (step.Make path) = Make path.now
 call_of (step.Write path bytes) = Write path.now bytes.now
+call_of (step.WritePieces path pieces) = Write path.now (whole pieces.now)
 call_of (step.Sync path) = Sync path.now
 call_of (step.Rename from to) = Rename from.now to.now
 

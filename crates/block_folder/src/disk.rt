@@ -2,7 +2,7 @@
 
 ghost use Rattle.std.specs.Prelude.{◌∷◌, [], List, OnOk, OnErr};
 ghost use Rattle.block_folder.specs.Steps.{Did, DoesAll, DoesUpToOne, Make, Write as WriteFile};
-ghost use Rattle.block_folder.specs.Steps.{Sync, Rename};
+ghost use Rattle.block_folder.specs.Steps.{Sync, Rename, whole};
 
 use std::fs::{self, File, OpenFile};
 use std::io::{self, Write};
@@ -29,6 +29,13 @@ pub trait Disk {
         ensures err { OnErr result
             (DoesUpToOne did (WriteFile path.now bytes.now ∷ []) self.old self.new) };
 
+    /// Writes a file of pieces, one after another, where nothing stands, and syncs it.
+    fn write_pieces(&mut self, path: &str, pieces: &[Vec<u8>]) -> Result<(), DiskError>
+        ensures ok { OnOk result
+            (DoesAll did (WriteFile path.now (whole pieces.now) ∷ []) self.old self.new) }
+        ensures err { OnErr result
+            (DoesUpToOne did (WriteFile path.now (whole pieces.now) ∷ []) self.old self.new) };
+
     /// Syncs a directory: what was made and renamed in it stays.
     fn sync(&mut self, path: &str) -> Result<(), DiskError>
         ensures ok { OnOk result (DoesAll did (Sync path.now ∷ []) self.old self.new) }
@@ -44,6 +51,14 @@ pub trait Disk {
 fn write_new<R: Files>(rt: &R, path: &str, bytes: &[u8]) -> io::Result<()> {
     let mut file = File::create_new(rt, path)?;
     file.write_all(bytes)?;
+    file.sync_all()
+}
+
+fn write_new_pieces<R: Files>(rt: &R, path: &str, pieces: &[Vec<u8>]) -> io::Result<()> {
+    let mut file = File::create_new(rt, path)?;
+    for piece in pieces {
+        file.write_all(piece.as_slice())?;
+    }
     file.sync_all()
 }
 
@@ -73,6 +88,10 @@ impl<'a, R: Files> Disk for HostDisk<'a, R> {
 
     fn write(&mut self, path: &str, bytes: &[u8]) -> Result<(), DiskError> {
         write_new(self.rt, path, bytes).or(Err(DiskError))
+    }
+
+    fn write_pieces(&mut self, path: &str, pieces: &[Vec<u8>]) -> Result<(), DiskError> {
+        write_new_pieces(self.rt, path, pieces).or(Err(DiskError))
     }
 
     fn sync(&mut self, path: &str) -> Result<(), DiskError> {

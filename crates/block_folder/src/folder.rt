@@ -15,8 +15,8 @@ pub struct Files<'a> {
     pub meta: &'a [u8],
     /// The file `index`.
     pub index: &'a [u8],
-    /// The file `chunks/000001`.
-    pub chunks: &'a [u8],
+    /// The file `chunks/000001`: these pieces, one after another.
+    pub chunks: &'a [Vec<u8>],
     /// The file `tombstones`.
     pub tombstones: &'a [u8],
 }
@@ -82,7 +82,7 @@ fn write_at<'a, D: Disk>(
     let steps = [
         Step::Make(place.unfinished),
         Step::Make(paths.chunks_folder),
-        Step::Write(paths.chunks, files.chunks),
+        Step::WritePieces(paths.chunks, files.chunks),
         Step::Write(paths.index, files.index),
         Step::Write(paths.tombstones, files.tombstones),
         Step::Write(paths.meta, files.meta),

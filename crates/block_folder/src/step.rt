@@ -12,6 +12,8 @@ pub enum Step<'a> {
     Make(&'a str),
     /// Write a file with these bytes, and sync it.
     Write(&'a str, &'a [u8]),
+    /// Write a file of these pieces, one after another, and sync it.
+    WritePieces(&'a str, &'a [Vec<u8>]),
     /// Sync a directory.
     Sync(&'a str),
     /// Give a directory another name.
@@ -25,6 +27,7 @@ fn do_step<D: Disk>(disk: &mut D, step: Step<'_>) -> Result<(), DiskError>
     match step {
         Step::Make(path) => disk.make(path),
         Step::Write(path, bytes) => disk.write(path, bytes),
+        Step::WritePieces(path, pieces) => disk.write_pieces(path, pieces),
         Step::Sync(path) => disk.sync(path),
         Step::Rename(from, to) => disk.rename(from, to),
     }

@@ -1,25 +1,26 @@
 -- The files of a block of rows.
-use Rattle.std.specs.Prelude.{◌≡◌, ℕ, ℤ, List, Some}
-use Rattle.std.proofs.Common.{sym, ap, subst, ◌∙◌}
+use Rattle.std.specs.Prelude.{◌≡◌, ℕ, ℤ, List, Vec, Some}
+use Rattle.std.proofs.Common.{Global, sym, ap, subst, ◌∙◌}
 use Rattle.labels.specs.Rows.{Row}
 use Rattle.block.specs.Metas.{range_said}
 use Rattle.block.specs.Ranges.{IsRange}
 use Rattle.block_folder.specs.declared.folder.Place.{Place}
 use Rattle.block_folder.specs.declared.folder.Files.{Files}
 use Rattle.block_folder.specs.Blocks.{calls_of}
-use Rattle.block_folder.specs.Steps.{Did, DoesAll}
+use Rattle.block_folder.specs.Steps.{Did, DoesAll, whole}
 use Rattle.block_writer.specs.SpellRows.{AreWithin, SpellRows}
 use Rattle.block_outputs.specs.Writing.{WritesBlock}
 
 -- what was called for the files of rows
 pub block_written : {D : Type 0} (did : D → List Did → Type 0) (into : List ℕ) (rows : List Row)
     (old new : D) (place : Place) (files : Files) (range : ℤ × ℤ)
-    (meta index chunks tombstones : List ℕ) → DoesAll did (calls_of place files) old new
+    (meta index tombstones : List ℕ) (chunks : List (Vec ℕ Global))
+    → DoesAll did (calls_of place files) old new
     → place.parent.now ≡ into → IsRange range → files.meta.now ≡ meta → files.index.now ≡ index
     → files.chunks.now ≡ chunks → files.tombstones.now ≡ tombstones → range_said meta ≡ Some range
-    → AreWithin range rows → SpellRows range index chunks tombstones rows
+    → AreWithin range rows → SpellRows range index (whole chunks) tombstones rows
     → WritesBlock did into rows old new
-block_written did into rows old new place files range meta index chunks tombstones done parent is m
+block_written did into rows old new place files range meta index tombstones chunks done parent is m
     i c t said within spelled = record {
       place = place;
       parent = parent;
@@ -29,8 +30,10 @@ block_written did into rows old new place files range meta index chunks tombston
       files = files;
       said = ap range_said m ∙ said;
       spelled =
-          subst (λ (x : List ℕ). SpellRows range x files.chunks.now files.tombstones.now rows) (sym i)
-          (subst (λ (x : List ℕ). SpellRows range index x files.tombstones.now rows) (sym c)
-          (subst (λ (x : List ℕ). SpellRows range index chunks x rows) (sym t) spelled));
+          subst (λ (x : List ℕ).
+          SpellRows range x (whole files.chunks.now) files.tombstones.now rows) (sym i)
+          (subst (λ (x : List (Vec ℕ Global)).
+          SpellRows range index (whole x) files.tombstones.now rows) (sym c)
+          (subst (λ (x : List ℕ). SpellRows range index (whole chunks) x rows) (sym t) spelled));
       called = done;
     }

@@ -7,7 +7,7 @@ use Rattle.block.specs.Ranges.{IsRange, covers}
 use Rattle.block_folder.specs.declared.folder.Place.{Place}
 use Rattle.block_folder.specs.declared.folder.Files.{Files}
 use Rattle.block_folder.specs.Blocks.{calls_of}
-use Rattle.block_folder.specs.Steps.{Did, DoesAll}
+use Rattle.block_folder.specs.Steps.{Did, DoesAll, whole}
 use Rattle.block_writer.specs.SpellRows.{AreWithin, SpellRows}
 
 -- how many samples rows have
@@ -39,7 +39,7 @@ pub record WritesBlock {D : Type 0} (did : D → List Did → Type 0) (into : Li
   pub within : AreWithin range rows
   pub files : Files
   pub said : range_said files.meta.now ≡ Some range
-  pub spelled : SpellRows range files.index.now files.chunks.now files.tombstones.now rows
+  pub spelled : SpellRows range files.index.now (whole files.chunks.now) files.tombstones.now rows
   pub called : DoesAll did (calls_of place files) old new
 
 -- the same calls were made as before

@@ -149,6 +149,7 @@ impl Counts {
         i64::try_from(end.saturating_sub(1)).unwrap_or(self.whole.to)
     }
 
+    /// The last time of each tile but the last, in which all later times are.
     fn ends(&self, alloc: Global) -> Result<Vec<i64>, OutputError> {
         let mut ends = Vec::new(alloc);
         let mut place = 0u64;
@@ -157,6 +158,7 @@ impl Counts {
             place = place.saturating_add(*count as u64);
             ends.push(self.end_of(place))?;
         }
+        let _ = ends.pop();
         Ok(ends)
     }
 

@@ -11,7 +11,7 @@ ghost use Rattle.block_outputs.specs.Writing.{Writes, WritesBlock};
 use crate::error::OutputError;
 use block::Range;
 use block_folder::{Disk, Files, Place, meta_text, write_block};
-use block_writer::{PartRows, write};
+use block_writer::{PartRows, write_pieces};
 use labels::{Row, Sample};
 use std::alloc::{AllocError, Global};
 
@@ -133,16 +133,16 @@ fn write_in<D: Disk>(
     names: &Names<'_>,
     range: Range,
     meta: &str,
-    rows: &PartRows,
+    rows: PartRows,
 ) -> Result<(), OutputError>
-    requires within { AreWithin range rows.now }
+    requires within { AreWithin range rows }
     requires said { range_said meta.now ≡ Some range }
     ensures { OnOk result
-        (WritesBlock D.did names.now.into.now rows.now disk.old disk.new) }
+        (WritesBlock D.did names.now.into.now rows disk.old disk.new) }
 {
     // For the proof alone: the call says that the range begins below its end.
     let _ = range.min();
-    let bytes = write(alloc, rows)?;
+    let bytes = write_pieces(alloc, rows)?;
     let place = Place {
         parent: names.into,
         block: names.block,
@@ -161,20 +161,21 @@ fn write_in<D: Disk>(
 /// Writes rows as the block `INTO/NNNN` of this number, and gives its name and what it has; where
 /// there is no row nothing is written. Values are said to have so many digits after the point.
 /// `TooLarge` where the rows are more than a block may have, or the last time is the greatest of
-/// all; `Disk` where a call of the disk fails, after which no further is made.
+/// all; `Disk` where a call of the disk fails, after which no further is made. The rows are let go
+/// while their chunks are written.
 pub fn write_output<D: Disk>(
     alloc: Global,
     disk: &mut D,
     into: &str,
     number: usize,
     digits: u32,
-    rows: &PartRows,
+    rows: PartRows,
 ) -> Result<Option<Output>, OutputError>
     // Nothing is told of no rows alone.
-    ensures none { IfOk result (λ output. IfNone output (rows.now ≡ [])) }
+    ensures none { IfOk result (λ output. IfNone output (rows ≡ [])) }
     // What was called of the disk are the calls for a block of exactly the rows, which are no more
     // than a block may have; or none for no row.
-    ensures written { OnOk result (Writes D.did into.now rows.now disk.old disk.new) }
+    ensures written { OnOk result (Writes D.did into.now rows disk.old disk.new) }
 {
     if rows.rows().is_empty() {
         return Ok(None);

@@ -3,9 +3,11 @@ pub mod Bodied
 pub mod Building
 pub mod Carried
 pub mod Consistent
+pub mod Found
 pub mod Giving
 pub mod Held
 pub mod InOrder
+pub mod InPieces
 pub mod InUseLaws
 pub mod IndexLaw
 pub mod LaidOut

@@ -1,5 +1,5 @@
 -- What the rows of a part use: texts, and pairs of a name and a value.
-use Rattle.std.specs.Prelude.{ℕ, List, [], ◌∷◌}
+use Rattle.std.specs.Prelude.{◌⊎◌, ℕ, List, [], ◌∷◌}
 use Rattle.std.specs.List.{flat_map, Contains}
 use Rattle.std.specs.List.Sorted.{IsStrictlySortedBy}
 use Rattle.std.specs.declared.cmp.Ordering.{Ordering}
@@ -23,3 +23,14 @@ pub record HoldsEachOnce {X : Type 0} (cmp : X → X → Ordering) (all each : L
   pub ascending : IsStrictlySortedBy cmp each
   pub in_use : (x : X) → Contains each x → Contains all x
   pub held : (x : X) → Contains all x → Contains each x
+
+-- exactly those of a list, in whichever order and however often
+pub record HoldsThose {X : Type 0} (all each : List X) : Type 0 where
+  pub in_use : (x : X) → Contains each x → Contains all x
+  pub held : (x : X) → Contains all x → Contains each x
+
+-- exactly those of two lists
+pub record HoldsAlso {X : Type 0} (old added new : List X) : Type 0 where
+  pub kept : (x : X) → Contains old x → Contains new x
+  pub more : (x : X) → Contains added x → Contains new x
+  pub only : (x : X) → Contains new x → Contains old x ⊎ Contains added x

@@ -18,6 +18,10 @@ piece_text samples = chunk_text plain (batch_text samples)
 abbrev pub series_text : List (ℤ × ℤ) → List ℕ
 series_text samples = flat_map piece_text (pieces (length samples) samples)
 
+-- the chunks of the series of rows
+abbrev pub rows_text : List Row → List ℕ
+rows_text rows = flat_map (λ (row : Row). series_text row.1) rows
+
 -- magic and version, and the chunks of the series, one series after another, nothing between
 abbrev pub chunks_text : List Row → List ℕ
 chunks_text rows =

@@ -12,14 +12,16 @@ ghost use Rattle.block_writer.specs.Written.{limit};
 
 use crate::chunks::first_piece;
 use crate::file_length::chunk_len;
-use crate::symbols::number_of;
+use crate::near::NearLabels;
+use crate::symbols::number_near;
 use index_reader::Chunk;
 use labels::{LabelSet, Row, Sample};
 use std::alloc::{AllocError, Global};
 use wire::{put_uvarint, put_varint};
 
 /// Appends the body of a row's entry, whose chunks stand from a place of the chunks file on, and
-/// gives the place after them.
+/// gives the place after them. The symbols of its labels are looked for where those of the row
+/// before stand.
 #[tactic(auto, unfolding(crate::specs::EntryBodies::body_of))]
 pub fn put_body(
     alloc: Global,
@@ -27,6 +29,7 @@ pub fn put_body(
     symbols: &[&str],
     row: &Row,
     at: usize,
+    near: &mut NearLabels,
 ) -> Result<usize, AllocError>
     requires ascending { IsStrictlySortedBy text_cmp (bytes_of symbols.now) }
     requires within { at + length (series_text row.now.1) ≤ limit }
@@ -34,13 +37,18 @@ pub fn put_body(
         ≡ out.old.items ++ body_of (bytes_of symbols.now) at row.now) }
     ensures behind { IfOk result (λ place. place ≡ at + length (series_text row.now.1)) }
 {
-    put_labels(out, symbols, row.labels())?;
+    put_labels(out, symbols, row.labels(), near)?;
     let (chunks, behind) = chunks_of(alloc, row.samples(), at)?;
     put_chunks(out, &chunks)?;
     Ok(behind)
 }
 
-fn put_labels(out: &mut Vec<u8>, symbols: &[&str], labels: &LabelSet) -> Result<(), AllocError>
+fn put_labels(
+    out: &mut Vec<u8>,
+    symbols: &[&str],
+    labels: &LabelSet,
+    near: &mut NearLabels,
+) -> Result<(), AllocError>
     requires { IsStrictlySortedBy text_cmp (bytes_of symbols.now) }
     ensures { OnOk result (out.new.items
         ≡ out.old.items ++ labels_text (bytes_of symbols.now) labels.now) }
@@ -48,8 +56,12 @@ fn put_labels(out: &mut Vec<u8>, symbols: &[&str], labels: &LabelSet) -> Result<
     put_uvarint(out, labels.len() as u64)?;
     for i in 0..labels.len() {
         let (name, value) = labels.pair(i);
-        put_uvarint(out, number_of(symbols, name) as u64)?;
-        put_uvarint(out, number_of(symbols, value) as u64)?;
+        let name_at = number_near(symbols, near.names.guess(i), name);
+        let value_at = number_near(symbols, near.values.guess(i), value);
+        put_uvarint(out, name_at as u64)?;
+        put_uvarint(out, value_at as u64)?;
+        near.names.keep(i, name_at)?;
+        near.values.keep(i, value_at)?;
     }
     Ok(())
 }

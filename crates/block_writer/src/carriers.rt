@@ -1,6 +1,7 @@
 //! Which series carry each pair.
 
-ghost use Rattle.std.specs.Prelude.{◌≡◌, ◌<◌, [], length, vec_len, OnOk, IfOk};
+ghost use Rattle.std.specs.Prelude.{◌≡◌, ◌<◌, [], length, vec_len, slice_get, Some, OnOk, IfOk};
+ghost use Rattle.std.specs.Bool.{OnTrue};
 ghost use Rattle.std.specs.List.{All, Contains};
 ghost use Rattle.std.specs.List.Sorted.{IsStrictlySortedBy};
 ghost use Rattle.labels.specs.Labels.{pair_cmp};
@@ -9,12 +10,14 @@ ghost use Rattle.block_writer.specs.InUse.{pairs_in, HoldsEachOnce};
 ghost use Rattle.block_writer.specs.EntryBodies.{place_among};
 ghost use Rattle.block_writer.specs.IndexText.{given_at, lists_in, lists_of, IsGivenTo};
 
+use crate::near::Near;
+use crate::symbols::is_same;
 use labels::{LabelSet, Row};
 use std::alloc::{AllocError, Global};
 
 /// The references of the rows that carry each pair, in the order of the rows. It goes over the rows
 /// once, and finds the place of each of their pairs in time in proportion to the logarithm of the
-/// count of pairs.
+/// count of pairs, or at once if the row before has the pair at the same place.
 pub fn lists_of(
     alloc: Global,
     pairs: &[(&str, &str)],
@@ -27,8 +30,9 @@ pub fn lists_of(
         lists_in v.items ≡ lists_of (texts_of pairs.now) rows.now references.now) }
 {
     let mut lists = empty_lists(alloc, pairs.len())?;
+    let mut near = Near::new(alloc);
     for (i, row) in rows.iter().enumerate() {
-        put_row(&mut lists, pairs, row.labels(), references[i])?;
+        put_row(&mut lists, pairs, row.labels(), references[i], &mut near)?;
     }
     Ok(lists)
 }
@@ -50,6 +54,7 @@ fn put_row(
     pairs: &[(&str, &str)],
     labels: &LabelSet,
     reference: u32,
+    near: &mut Near,
 ) -> Result<(), AllocError>
     requires ascending { IsStrictlySortedBy pair_cmp (texts_of pairs.now) }
     requires held { All (Contains (texts_of pairs.now)) labels.now }
@@ -59,7 +64,9 @@ fn put_row(
     ensures each { vec_len lists.new ≡ vec_len lists.old }
 {
     for i in 0..labels.len() {
-        put_at(lists, place_of(pairs, labels.pair(i)), reference)?;
+        let place = place_near(pairs, near.guess(i), labels.pair(i));
+        near.keep(i, place)?;
+        put_at(lists, place, reference)?;
     }
     Ok(())
 }
@@ -81,4 +88,35 @@ fn place_of(pairs: &[(&str, &str)], pair: (&str, &str)) -> usize
         ≡ place_among pair_cmp (texts_of pairs.now) (pair.entry.0.now, pair.entry.1.now) }
 {
     pairs.partition_point(|held| held.cmp(&pair).is_lt())
+}
+
+// The same as `place_of`, where the pair at a place is looked at first.
+fn place_near(pairs: &[(&str, &str)], guess: usize, pair: (&str, &str)) -> usize
+    requires { IsStrictlySortedBy pair_cmp (texts_of pairs.now) }
+    ensures { result
+        ≡ place_among pair_cmp (texts_of pairs.now) (pair.entry.0.now, pair.entry.1.now) }
+{
+    if stands_at(pairs, guess, pair) {
+        return guess;
+    }
+    place_of(pairs, pair)
+}
+
+// Whether a pair is the one at a place.
+fn stands_at(pairs: &[(&str, &str)], at: usize, pair: (&str, &str)) -> bool
+    ensures { OnTrue result
+        (slice_get (texts_of pairs.now) at ≡ Some (pair.entry.0.now, pair.entry.1.now)) }
+{
+    if at >= pairs.len() {
+        return false;
+    }
+    let (name, value) = pair_at(pairs, at);
+    is_same(name, pair.0) & is_same(value, pair.1)
+}
+
+fn pair_at<'a>(pairs: &[(&'a str, &'a str)], at: usize) -> (&'a str, &'a str)
+    requires { at < length pairs.now }
+    ensures { slice_get (texts_of pairs.now) at ≡ Some (result.0.now, result.1.now) }
+{
+    pairs[at]
 }

@@ -11,7 +11,7 @@ use labels::Sample;
 use std::alloc::{AllocError, Global};
 use wire::put_bytes;
 
-const HEAD: [u8; 8] = [0x85, 0xBD, 0x40, 0xDD, 0x01, 0x00, 0x00, 0x00];
+pub(crate) const HEAD: [u8; 8] = [0x85, 0xBD, 0x40, 0xDD, 0x01, 0x00, 0x00, 0x00];
 
 /// How many samples a chunk has, where it is not the last of its series.
 pub(crate) const PIECE: usize = 120;
@@ -31,7 +31,8 @@ pub(crate) fn chunks_file(alloc: Global, rows: &PartRows) -> Result<Vec<u8>, All
     Ok(file)
 }
 
-fn put_series(out: &mut Vec<u8>, samples: &[Sample]) -> Result<(), AllocError>
+/// Appends the chunks of a series.
+pub(crate) fn put_series(out: &mut Vec<u8>, samples: &[Sample]) -> Result<(), AllocError>
     ensures text { OnOk result (out.new.items ≡ out.old.items ++ series_text samples.now) }
     ensures typed { OnOk result (All IsOf64Bits samples.now) }
 {

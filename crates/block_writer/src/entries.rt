@@ -13,6 +13,7 @@ ghost use Rattle.block_writer.specs.Written.{limit, IsReason};
 use crate::body::put_body;
 use crate::error::WriteError;
 use crate::limits::MAX_LEN;
+use crate::near::NearLabels;
 use labels::Row;
 use std::alloc::{AllocError, Global};
 use wire::{crc32c, put_be32, put_bytes, put_uvarint};
@@ -36,9 +37,10 @@ pub fn put_entries(
     let mut references = Vec::new(alloc);
     let mut place = 8;
     let mut body = Vec::new(alloc);
+    let mut near = NearLabels::new(alloc);
     for row in rows {
         body.clear();
-        place = put_body(alloc, &mut body, symbols, row, place)?;
+        place = put_body(alloc, &mut body, symbols, row, place, &mut near)?;
         pad(out)?;
         if out.len() > MAX_LEN {
             return Err(WriteError::Limit);

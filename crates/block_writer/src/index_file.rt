@@ -25,6 +25,9 @@ use wire::{put_be32, put_bytes};
 
 const HEAD: [u8; 5] = [0xBA, 0xAA, 0xD7, 0x00, 0x02];
 
+/// How many bytes an index mostly has for each series, with its part of the lists.
+const ROOM: usize = 160;
+
 /// The bytes of the index of rows whose chunks file is no longer than 1 GiB: exactly the symbols in
 /// use, each once; the series in the order of the rows, each at a multiple of 16; the postings of
 /// the empty pair and of exactly the pairs in use. `N1` where it would be longer than 1,073,741,824
@@ -39,8 +42,8 @@ pub(crate) fn index_file(alloc: Global, rows: &PartRows) -> Result<Vec<u8>, Writ
     ensures part { OnOk result (IsTrue (are_part_rows rows.now)) }
 {
     let rows = rows.rows();
-    let symbols = symbols_of(alloc, rows)?;
     let pairs = pairs_of(alloc, rows)?;
+    let symbols = symbols_of(alloc, rows, &pairs)?;
     let file = spell_index(alloc, &symbols, &pairs, rows)?;
     if file.len() > MAX_LEN {
         return Err(WriteError::Limit);
@@ -62,7 +65,7 @@ fn spell_index(
     ensures reason { IfErr result
         (IsReason (index_text (bytes_of symbols.now) (texts_of pairs.now) rows.now)) }
 {
-    let mut file = start_of(alloc, symbols)?;
+    let mut file = start_of(alloc, symbols, rows.len())?;
     let series = file.len();
     let references = put_entries(alloc, &mut file, symbols, rows)?;
     let lists = lists_of(alloc, pairs, rows, &references)?;
@@ -70,13 +73,13 @@ fn spell_index(
     Ok(file)
 }
 
-// What stands before the series.
-fn start_of(alloc: Global, symbols: &[&str]) -> Result<Vec<u8>, WriteError>
+// What stands before the series, with room for so many.
+fn start_of(alloc: Global, symbols: &[&str], series: usize) -> Result<Vec<u8>, WriteError>
     ensures text { IfOk result (λ file. file.items ≡ start_text (bytes_of symbols.now)) }
     ensures reason { IfErr result (IsReason (start_text (bytes_of symbols.now))) }
 {
     let content = symbols_content(alloc, symbols)?;
-    let mut file = Vec::new(alloc);
+    let mut file = Vec::with_capacity(alloc, series.saturating_mul(ROOM))?;
     put_bytes(&mut file, &HEAD)?;
     put_frame(&mut file, &content)?;
     pad(&mut file)?;

@@ -8,7 +8,8 @@
 //! (`N1`) only where one of the two files would be longer than 1 GiB; how long the chunks file will
 //! be is told before, of rows by `PartRows::chunks_len`, and of one series by [`series_len`]. What
 //! it gives is a block with exactly these rows, in each range that has their times
-//! (`SpellRowsAnywhere`), so `Block::open` refuses it for want of memory alone.
+//! (`SpellRowsAnywhere`), so `Block::open` refuses it for want of memory alone. [`write_pieces`]
+//! gives the same files, the chunks file in pieces, which take the room of the rows.
 //!
 //! ```
 //! let pairs = [("__name__", "up"), ("job", "a")];
@@ -34,6 +35,7 @@
 mod body;
 mod carriers;
 mod chunk;
+mod chunk_pieces;
 mod chunks;
 mod entries;
 mod error;
@@ -41,6 +43,7 @@ mod file_length;
 mod files;
 mod index_file;
 mod limits;
+mod near;
 mod part_rows;
 mod sections;
 mod symbols;
@@ -48,6 +51,6 @@ mod tombstones_file;
 
 pub use error::WriteError;
 pub use file_length::series_len;
-pub use files::{BlockBytes, write};
+pub use files::{BlockBytes, BlockPieces, write, write_pieces};
 pub use limits::MAX_LEN;
 pub use part_rows::PartRows;

@@ -49,6 +49,13 @@ impl PartRows {
     {
         self.rows.as_slice()
     }
+
+    /// The rows as a list of one's own.
+    pub fn into_rows(self) -> Vec<Row>
+        ensures { result.items ≡ self }
+    {
+        self.rows
+    }
 }
 
 fn rise(rows: &[Row]) -> bool

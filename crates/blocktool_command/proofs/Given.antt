@@ -1,5 +1,6 @@
 -- Lists that inputs give, and outputs, one after another.
-use Rattle.std.specs.Prelude.{◌≡◌, ◌≢◌, ◌⊎◌, ℕ, ◌+◌, ◌<◌, List, Vec, [], ◌∷◌, ◌++◌, length, take}
+use Rattle.std.specs.Prelude.{◌≡◌, ◌≢◌, ◌⊎◌, ℕ, ◌+◌, ◌<◌, ◌≤◌, Bool, true, false, List, Vec, []}
+use Rattle.std.specs.Prelude.{◌∷◌, ◌++◌, length, take}
 use Rattle.std.specs.Prelude.{get_or, refl}
 use Rattle.std.proofs.Common.{sym, ap, subst, ◌∙◌, arith, inl, inr}
 use Rattle.std.proofs.Common.{Global}
@@ -13,6 +14,7 @@ use Rattle.block_outputs.specs.Joined.{lists_in}
 use Rattle.block_outputs.specs.Writing.{samples_in, IsStill, Writes}
 use Rattle.blocktool_command.specs.declared.conversion.Account.{Account}
 use Rattle.blocktool_command.specs.Conversion.{Gives, AreGiven, IsConverted, AreConvertedFrom}
+use Rattle.blocktool_command.specs.Conversion.{IsJoinedOf}
 use Rattle.blocktool_command.specs.Conversion.{samples_in_all}
 
 given_last : {I : Type 0} (gives : Gives I) (inputs : List I) (input : I) (times : Stretch)
@@ -86,6 +88,27 @@ converted_last gives did inputs into (t ∷ ss) s (x ∷ outputs) rows old mid n
   converted_last gives did inputs into ss s outputs rows h.0 mid new h.1 b c h.3
       g,
 )
+
+-- of inputs that were lent
+pub converted_by : {I D : Type 0} (gives : Gives I) (did : D → List Did → Type 0)
+    (inputs lent : List I) (into : List ℕ) (s : Stretch) (rows : List Row) (old new : Account)
+    (a b : D) → lent ≡ inputs → IsJoinedOf gives lent s rows old new → Writes did into rows a b
+    → IsConverted gives did inputs into s rows old new a b
+converted_by {I} gives did inputs lent into s rows old new a b same joined written = record {
+  joined = subst (λ (is : List I). IsJoinedOf gives is s rows old new) same joined;
+  written = written;
+}
+
+pub converted_as : {I D : Type 0} (gives : Gives I) (did : D → List Did → Type 0)
+    (inputs left : List I) (into : List ℕ) (s : Stretch) (rows : List Row) (old new : Account)
+    (a b : D) → left ≡ inputs → IsConverted gives did left into s rows old new a b
+    → IsConverted gives did inputs into s rows old new a b
+converted_as {I} gives did inputs left into s rows old new a b same h =
+    subst (λ (is : List I). IsConverted gives did is into s rows old new a b) same h
+
+pub not_last : (b : Bool) (n m : ℕ) → (b ≡ true → m ≤ n) → n < m → b ≡ false
+not_last true n m h lt = absurd (omega (arith, h refl, lt))
+not_last false n m h lt = refl
 
 -- the output of one range more
 pub converted_more : {I D : Type 0} (gives : Gives I) (did : D → List Did → Type 0)

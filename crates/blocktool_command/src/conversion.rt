@@ -1,8 +1,9 @@
 //! The outputs of several inputs.
 
-ghost use Rattle.std.specs.Prelude.{◌≡◌, List, IfOk, OnOk};
+ghost use Rattle.std.specs.Prelude.{◌≡◌, ◌+◌, ◌<◌, ◌≤◌, true, false, List, length, IfOk, OnOk};
 ghost use Rattle.labels.specs.Rows.{Row as RowValue};
 ghost use Rattle.block_outputs.specs.Joined.{lists_in};
+ghost use Rattle.block_outputs.specs.Writing.{Writes};
 ghost use Rattle.blocktool_command.specs.Conversion.{AreGiven, IsJoinedOf, IsConverted};
 ghost use Rattle.blocktool_command.specs.Conversion.{AreConverted, samples_in_all, capped};
 
@@ -73,24 +74,19 @@ fn rows_joined<I: Input>(
     Ok(rows)
 }
 
-/// Writes the output of a range and its line; nothing where there is no row. `outputs` counts them.
-fn convert_one<I: Input, D: Disk, W: Write>(
+/// Writes rows as the output of the next number, and its line; nothing where there is no row.
+fn write_rows<D: Disk, W: Write>(
     alloc: Global,
-    inputs: &[I],
-    times: Stretch,
+    rows: PartRows,
     disk: &mut D,
     target: &Target<'_>,
-    account: &mut Account,
     outputs: &mut usize,
     out: &mut W,
 ) -> Result<(), Fault>
-    ensures { OnOk result ((rows : List RowValue)
-        × IsConverted I.may_give D.did inputs.now target.now.into.now times rows
-        account.old account.new disk.old disk.new) }
+    ensures { OnOk result (Writes D.did target.now.into.now rows disk.old disk.new) }
 {
-    let rows = rows_joined(alloc, inputs, times, account)?;
     let number = outputs.saturating_add(1);
-    let written = match write_output(alloc, disk, target.into, number, target.digits, &rows) {
+    let written = match write_output(alloc, disk, target.into, number, target.digits, rows) {
         Ok(written) => written,
         Err(error) => return Err(target.fault(alloc, number, error)),
     };
@@ -102,11 +98,52 @@ fn convert_one<I: Input, D: Disk, W: Write>(
     Ok(())
 }
 
-/// Writes the outputs of ranges of times, one after another, and the line of each, and gives what
-/// became of the samples.
-pub(crate) fn convert<I: Input, D: Disk, W: Write>(
+/// Lets the inputs go where they are needed no more.
+fn let_go<I: Drop>(inputs: &mut Vec<I>, is_last: bool)
+    ensures { is_last ≡ false → inputs.new.items ≡ inputs.old.items }
+{
+    if is_last {
+        inputs.clear();
+    }
+}
+
+/// Writes the output of a range and its line; nothing where there is no row. `outputs` counts them.
+/// Where it is the last the inputs are let go before it is written.
+fn convert_one<I: Input + Drop, D: Disk, W: Write>(
     alloc: Global,
-    inputs: &[I],
+    inputs: &mut Vec<I>,
+    times: Stretch,
+    is_last: bool,
+    disk: &mut D,
+    target: &Target<'_>,
+    account: &mut Account,
+    outputs: &mut usize,
+    out: &mut W,
+) -> Result<(), Fault>
+    ensures converted { OnOk result ((rows : List RowValue)
+        × IsConverted I.may_give D.did inputs.old.items target.now.into.now times rows
+        account.old account.new disk.old disk.new) }
+    ensures kept { OnOk result (is_last ≡ false → inputs.new.items ≡ inputs.old.items) }
+{
+    let rows = rows_joined(alloc, inputs.as_slice(), times, account)?;
+    let_go(inputs, is_last);
+    write_rows(alloc, rows, disk, target, outputs, out)?;
+    Ok(())
+}
+
+/// Whether a place is the last.
+fn is_last_of(at: usize, tiles: &[Stretch]) -> bool
+    requires { at < length tiles.now }
+    ensures { result ≡ true → length tiles.now ≤ at + 1 }
+{
+    at + 1 >= tiles.len()
+}
+
+/// Writes the outputs of ranges of times, one after another, and the line of each, and gives what
+/// became of the samples. The inputs are let go before the last is written.
+pub(crate) fn convert<I: Input + Drop, D: Disk, W: Write>(
+    alloc: Global,
+    inputs: Vec<I>,
     tiles: &[Stretch],
     disk: &mut D,
     target: &Target<'_>,
@@ -114,7 +151,7 @@ pub(crate) fn convert<I: Input, D: Disk, W: Write>(
 ) -> Result<Account, Fault>
     // Each output has exactly the rows of what the inputs hold together in its range, in which the
     // later input wins; nothing else is written.
-    ensures { IfOk result (λ account. AreConverted I.may_give D.did inputs.now
+    ensures { IfOk result (λ account. AreConverted I.may_give D.did inputs.items
         target.now.into.now tiles.now account disk.old disk.new) }
 {
     let mut account = Account {
@@ -128,12 +165,14 @@ pub(crate) fn convert<I: Input, D: Disk, W: Write>(
         },
         hidden: 0,
     };
+    let mut left = inputs;
     let mut outputs = 0usize;
-    for times in tiles {
+    for at in 0..tiles.len() {
         convert_one(
             alloc,
-            inputs,
-            *times,
+            &mut left,
+            tiles[at],
+            is_last_of(at, tiles),
             disk,
             target,
             &mut account,

@@ -47,7 +47,7 @@ pub(crate) fn from_prometheus<R: Files + AllocGlobal + Clone + Drop, W: Write, E
         digits: options.policy.digits.number(),
     };
     let mut disk = HostDisk::new(rt);
-    let summary = make_outputs(alloc, sources.as_slice(), &plan, &mut disk, &target, out)?;
+    let summary = make_outputs(alloc, sources, &plan, &mut disk, &target, out)?;
     let line = summary.line_of(alloc, target.digits)?;
     send(out, line.as_str())?;
     Ok(())

@@ -64,16 +64,17 @@ pub(crate) fn plan_for<I: Input>(alloc: Global, inputs: &[I], times: Stretch) ->
 }
 
 /// Writes the outputs that are planned, and the line of each, and gives what became of the samples.
-pub(crate) fn make_outputs<I: Input, D: Disk, W: Write>(
+/// The inputs are let go before the last is written.
+pub(crate) fn make_outputs<I: Input + Drop, D: Disk, W: Write>(
     alloc: Global,
-    inputs: &[I],
+    inputs: Vec<I>,
     plan: &Plan,
     disk: &mut D,
     target: &Target<'_>,
     out: &mut W,
 ) -> Result<Summary, Fault>
     // The outputs are those of the planned times, and each sample that was counted is told once.
-    ensures { IfOk result (λ summary. Makes I.may_give D.did inputs.now target.now.into.now
+    ensures { IfOk result (λ summary. Makes I.may_give D.did inputs.items target.now.into.now
         plan.now.tiles.items plan.now.counted summary disk.old disk.new) }
 {
     let account = convert(alloc, inputs, plan.tiles.as_slice(), disk, target, out)?;

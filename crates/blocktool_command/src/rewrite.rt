@@ -72,8 +72,7 @@ pub(crate) fn rewrite<R: Files + AllocGlobal + Clone + Drop, W: Write, E: Write>
         digits: inputs.digits.unwrap_or(0),
     };
     let mut disk = HostDisk::new(rt);
-    let listed = inputs.listed.as_slice();
-    let summary = make_outputs(alloc, listed, &plan, &mut disk, &target, out)?;
+    let summary = make_outputs(alloc, inputs.listed, &plan, &mut disk, &target, out)?;
     let line = summary.line_of(alloc, target.digits)?;
     send(out, line.as_str())?;
     Ok(())

@@ -116,7 +116,7 @@ pub(crate) fn write_said<R: Files + AllocGlobal + Clone + Drop, W: Write, E: Wri
     teller.is_at("writing the outputs")?;
     make_folder(alloc, rt, target.into)?;
     let mut disk = HostDisk::new(rt);
-    let summary = make_outputs(alloc, inputs.as_slice(), &plan, &mut disk, target, out)?;
+    let summary = make_outputs(alloc, inputs, &plan, &mut disk, target, out)?;
     let line = summary.line_of(alloc, target.digits)?;
     send(out, line.as_str())?;
     Ok(())

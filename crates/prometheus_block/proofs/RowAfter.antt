@@ -1,10 +1,12 @@
 -- The row of one series more.
 use Rattle.std.proofs.Common.{◌≡◌, ℕ, suc, ◌+◌, ◌<◌, ℤ, List, [], ◌∷◌, ◌++◌, length, take, get_or}
 use Rattle.std.proofs.Common.{Option, Some, map, refl, sym, ap, subst, ◌∙◌, append_assoc, arith}
+use Rattle.std.proofs.Common.{reverse}
 use Rattle.std.specs.Prelude.{slice_get, option_map, ◌==◌, true, false}
 use Rattle.std.proofs.lemmas.Bool.{eqb-true, eqb-false}
-use Rattle.std.proofs.lemmas.List.{append-nil}
-use Rattle.std.proofs.lemmas.Option.{slice_get-map, slice_get-get_or}
+use Rattle.std.proofs.lemmas.List.{append-nil, map-append, reverse-append, reverse-reverse}
+use Rattle.std.proofs.lemmas.List.Elements.{All-head, All-push, All-tail}
+use Rattle.std.proofs.lemmas.Option.{slice_get-map, slice_get-get_or, get_or_from_slice_get}
 use Rattle.std.proofs.lemmas.Grind.{take_at_read}
 use Rattle.labels.specs.Labels.{Labels}
 use Rattle.labels.specs.Rows.{Row}
@@ -13,10 +15,12 @@ use Rattle.index_reader.specs.Indexes.{Series}
 use Rattle.xor_reader.specs.Grammar.{Sample}
 use Rattle.prometheus_block.specs.declared.keeping.Asked.{Asked}
 use Rattle.prometheus_block.specs.declared.keeping.Tally.{Tally}
+use Rattle.prometheus_block.specs.declared.rows.KeptSeries.{KeptSeries}
 use Rattle.prometheus_block.specs.declared.rows.Wanted.{Wanted}
 use Rattle.prometheus_block.specs.Keeping.{Keeps}
 use Rattle.prometheus_block.specs.Series.{Segments, AreSamplesIn}
-use Rattle.prometheus_block.specs.Rows.{IsAskedOf, IsRowAfter, AreRowsOf, row_if}
+use Rattle.prometheus_block.specs.Rows.{IsAskedOf, IsRowAfter, AreRowsOf, ArePlaced, row_if}
+use Rattle.prometheus_block.specs.Rows.{no_series, row_kept, rows_kept}
 
 own : (reads : Segments) (wanted : Wanted) (s : Series) (old new : List Row)
     (counts counted : Tally) → (r : IsRowAfter reads wanted s old new counts counted)
@@ -116,3 +120,90 @@ a_row labels wanted view [] row old new seen h e r p =
 a_row labels wanted view (x ∷ kept) row old new seen h e r p =
     p ∙ (ap (λ (y : Row). old ++ y ∷ []) r
     ∙ ap (λ (l : Labels). old ++ (l, x ∷ kept) ∷ []) e)
+
+-- ---- what is kept of series, and its rows
+
+-- one more has the row that follows
+pub a_kept_row : (series : List Series) (s : Series) (at : ℕ) (view samples : List (ℤ × ℤ))
+    (old new : List KeptSeries) (kept : KeptSeries) → slice_get series at ≡ Some s → kept.at ≡ at
+    → kept.samples.items ≡ samples → view ≡ samples → (length view == 0) ≡ false
+    → new ≡ old ++ kept ∷ []
+    → rows_kept series new ≡ rows_kept series old ++ row_if s.labels samples
+a_kept_row series s at view samples old new kept here place same seen some pushed =
+    let labels : Labels = (get_or series kept.at no_series).labels in
+    a_row labels s.labels view samples (row_kept series kept) (rows_kept series old)
+    (rows_kept series new) seen some
+    (ap (λ (i : ℕ). (get_or series i no_series).labels) place
+    ∙ ap (λ (x : Series). x.labels) (get_or_from_slice_get series at s no_series here))
+    (λ j. (labels, same j))
+    (ap (λ (ks : List KeptSeries). rows_kept series ks) pushed
+    ∙ map-append (row_kept series) old (kept ∷ []))
+
+pub one_more_placed : (series : List Series) (at : ℕ) (old new : List KeptSeries)
+    (kept : KeptSeries) → at < length series → kept.at ≡ at → new ≡ old ++ kept ∷ []
+    → ArePlaced series old → ArePlaced series new
+one_more_placed series at old new kept lt place pushed all =
+    subst (ArePlaced series) (sym pushed)
+    (All-push (λ (k : KeptSeries). k.at < length series) old kept all (omega (arith, lt, place)))
+
+kept_taken : (left after : List KeptSeries) (kept : KeptSeries) → left ≡ after ++ kept ∷ []
+    → reverse left ≡ kept ∷ reverse after
+kept_taken left after kept e =
+    ap (λ (ks : List KeptSeries). reverse ks) e ∙ reverse-append after (kept ∷ [])
+
+placed_taken : (series : List Series) (left after : List KeptSeries) (kept : KeptSeries)
+    → left ≡ after ++ kept ∷ [] → ArePlaced series (reverse left)
+    → ArePlaced series (kept ∷ reverse after)
+placed_taken series left after kept e all =
+    subst (ArePlaced series) (kept_taken left after kept e) all
+
+pub placed_next : (series : List Series) (left after : List KeptSeries) (kept : KeptSeries)
+    → left ≡ after ++ kept ∷ [] → ArePlaced series (reverse left) → kept.at < length series
+placed_next series left after kept e all =
+    All-head (λ (k : KeptSeries). k.at < length series) kept (reverse after)
+    (placed_taken series left after kept e all)
+
+pub placed_rest : (series : List Series) (left after : List KeptSeries) (kept : KeptSeries)
+    → left ≡ after ++ kept ∷ [] → ArePlaced series (reverse left)
+    → ArePlaced series (reverse after)
+placed_rest series left after kept e all =
+    All-tail (λ (k : KeptSeries). k.at < length series) kept (reverse after)
+    (placed_taken series left after kept e all)
+
+pub turned_placed : (series : List Series) (all left : List KeptSeries) → left ≡ reverse all
+    → ArePlaced series all → ArePlaced series (reverse left)
+turned_placed series all left turned h =
+    subst (ArePlaced series)
+    (sym (ap (λ (ks : List KeptSeries). reverse ks) turned ∙ reverse-reverse all)) h
+
+pub turned_rows : (series : List Series) (all left : List KeptSeries) (rows : List Row)
+    → left ≡ reverse all → rows ≡ [] → rows ++ rows_kept series (reverse left)
+    ≡ rows_kept series all
+turned_rows series all left rows turned none =
+    ap (λ (rs : List Row). rs ++ rows_kept series (reverse left)) none
+    ∙ ap (λ (ks : List KeptSeries). rows_kept series ks)
+    (ap (λ (ks : List KeptSeries). reverse ks) turned ∙ reverse-reverse all)
+
+pub next_row : (series : List Series) (rows next : List Row) (left after : List KeptSeries)
+    (kept : KeptSeries) (row : Row) (labels : Labels) (whole : List Row)
+    → left ≡ after ++ kept ∷ [] → kept.at < length series
+    → slice_get (map (λ (s : Series). s.labels) series) kept.at ≡ Some labels
+    → row ≡ (labels, kept.samples.items) → next ≡ rows ++ row ∷ []
+    → rows ++ rows_kept series (reverse left) ≡ whole
+    → next ++ rows_kept series (reverse after) ≡ whole
+next_row series rows next left after kept row labels whole taken lt here is pushed so_far =
+    let same : labels ≡ (get_or series kept.at no_series).labels =
+    at_series (λ (s : Series). s.labels) series kept.at labels (get_or series kept.at no_series)
+    here (slice_get-get_or series kept.at no_series lt) in
+    ap (λ (rs : List Row). rs ++ rows_kept series (reverse after))
+    (pushed ∙ ap (λ (r : Row). rows ++ r ∷ []) (is ∙ (λ j. (same j, kept.samples.items))))
+    ∙ append_assoc rows (row_kept series kept ∷ []) (rows_kept series (reverse after))
+    ∙ ap (λ (ks : List KeptSeries). rows ++ rows_kept series ks)
+    (sym (kept_taken left after kept taken))
+    ∙ so_far
+
+pub no_kept_left : (series : List Series) (rows : List Row) (left : List KeptSeries)
+    (whole : List Row) → length left ≡ 0 → rows ++ rows_kept series (reverse left) ≡ whole
+    → rows ≡ whole
+no_kept_left series rows [] whole none so_far = sym (append-nil rows) ∙ so_far
+no_kept_left series rows (kept ∷ left) whole none so_far = absurd (omega (arith, none))

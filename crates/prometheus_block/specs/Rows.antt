@@ -1,5 +1,6 @@
 -- The rows of a block, by what its files hold.
-use Rattle.std.specs.Prelude.{◌≡◌, ℕ, ℤ, List, [], ◌∷◌, ◌++◌}
+use Rattle.std.specs.Prelude.{◌≡◌, ℕ, ◌<◌, ℤ, List, [], ◌∷◌, ◌++◌, length, map, get_or}
+use Rattle.std.specs.List.{All}
 use Rattle.labels.specs.Labels.{Labels}
 use Rattle.labels.specs.Parts.{within}
 use Rattle.labels.specs.Rows.{Row}
@@ -7,6 +8,7 @@ use Rattle.index_reader.specs.Indexes.{Series}
 use Rattle.xor_reader.specs.Grammar.{Sample}
 use Rattle.prometheus_block.specs.declared.keeping.Asked.{Asked}
 use Rattle.prometheus_block.specs.declared.keeping.Tally.{Tally}
+use Rattle.prometheus_block.specs.declared.rows.KeptSeries.{KeptSeries}
 use Rattle.prometheus_block.specs.declared.rows.Wanted.{Wanted}
 use Rattle.prometheus_block.specs.Keeping.{Keeps}
 use Rattle.prometheus_block.specs.Series.{Segments, AreSamplesIn}
@@ -46,3 +48,19 @@ AreRowsOf reads wanted [] rows counts counted = (rows ≡ []) × (counted ≡ co
 AreRowsOf reads wanted (s ∷ ss) rows counts counted =
     (first rest : List Row) × (mid : Tally) × (rows ≡ first ++ rest)
     × IsRowAfter reads wanted s [] first counts mid × AreRowsOf reads wanted ss rest mid counted
+
+-- what stands where no series does
+abbrev pub no_series : Series
+no_series = record { reference = 0; labels = []; chunks = [] }
+
+-- the row of what is kept of a series
+abbrev pub row_kept : List Series → KeptSeries → Row
+row_kept series kept = ((get_or series kept.at no_series).labels, kept.samples.items)
+
+-- the rows of what is kept of series
+abbrev pub rows_kept : List Series → List KeptSeries → List Row
+rows_kept series all = map (row_kept series) all
+
+-- the places are those of series
+abbrev pub ArePlaced : List Series → List KeptSeries → Type 0
+ArePlaced series all = All (λ (kept : KeptSeries). kept.at < length series) all

@@ -3,7 +3,7 @@
 ghost use Rattle.std.specs.Prelude.{◌≡◌, ◌<◌, ◌==◌, length, slice_get, Some, IfOk, OnOk};
 ghost use Rattle.index_reader.specs.Indexes.{Series};
 ghost use Rattle.prometheus_block.specs.Series.{IsHeld};
-ghost use Rattle.prometheus_block.specs.Rows.{AreRowsOf, IsRowAfter};
+ghost use Rattle.prometheus_block.specs.Rows.{AreRowsOf, IsRowAfter, ArePlaced, rows_kept};
 
 use crate::error::SourceError;
 use crate::keeping::{Asked, KeepError, Tally, Times, keep_samples};
@@ -57,7 +57,8 @@ pub struct Wanted<'a> {
 
 /// The rows of a block: for each series of its index in their order, those of its samples in the
 /// range that no deletion deletes and whose values the policy keeps; a series without one has no
-/// row. Each sample of the chunks that meet the range is told in one count of the tally.
+/// row. Each sample of the chunks that meet the range is told in one count of the tally. Label sets
+/// are made once all samples are read and no segment is held any more.
 pub fn read_rows<S: ReadSegments>(
     alloc: Global,
     files: &S,
@@ -67,22 +68,46 @@ pub fn read_rows<S: ReadSegments>(
     ensures found { IfOk result (λ rows. AreRowsOf (S.may_read files.now) wanted.now
         wanted.now.index.now.series rows.items tally.old tally.new) }
 {
-    let mut held = Held::new();
-    let mut rows = Vec::new(alloc);
-    for at in 0..wanted.index.len() {
-        push_row(alloc, files, &mut held, wanted, at, &mut rows, tally)?;
-    }
+    let kept = keep_all(alloc, files, wanted, tally)?;
+    let rows = rows_of(alloc, wanted.index, kept)?;
     Ok(rows)
 }
 
-// Appends the row of the series at a place, if it has one.
-fn push_row<S: ReadSegments>(
+/// What is kept of a series: its place in the index, and the samples.
+#[derive(Drop)]
+pub(crate) struct KeptSeries {
+    pub(crate) at: usize,
+    pub(crate) samples: Vec<Sample>,
+}
+
+// What is kept of each series that has some. No segment is held any more.
+fn keep_all<S: ReadSegments>(
+    alloc: Global,
+    files: &S,
+    wanted: &Wanted<'_>,
+    tally: &mut Tally,
+) -> Result<Vec<KeptSeries>, RowsError>
+    ensures found { IfOk result (λ kept. AreRowsOf (S.may_read files.now) wanted.now
+        wanted.now.index.now.series (rows_kept wanted.now.index.now.series kept.items)
+        tally.old tally.new) }
+    ensures placed { IfOk result (λ kept. ArePlaced wanted.now.index.now.series kept.items) }
+{
+    let mut held = Held::new();
+    let mut all = Vec::new(alloc);
+    for at in 0..wanted.index.len() {
+        keep_series(alloc, files, &mut held, wanted, at, &mut all, tally)?;
+    }
+    Ok(all)
+}
+
+// Appends what is kept of the series at a place, if there is any.
+fn keep_series<S: ReadSegments>(
     alloc: Global,
     files: &S,
     held: &mut Held,
     wanted: &Wanted<'_>,
     at: usize,
-    rows: &mut Vec<Row>,
+    all: &mut Vec<KeptSeries>,
     tally: &mut Tally,
 ) -> Result<(), RowsError>
     requires held { IsHeld (S.may_read files.now) held.old }
@@ -90,8 +115,11 @@ fn push_row<S: ReadSegments>(
     ensures held { IsHeld (S.may_read files.now) held.new }
     ensures found { OnOk result
         ((s : Series) → slice_get wanted.now.index.now.series at ≡ Some s
-        → IsRowAfter (S.may_read files.now) wanted.now s rows.old.items rows.new.items
-        tally.old tally.new) }
+        → IsRowAfter (S.may_read files.now) wanted.now s
+        (rows_kept wanted.now.index.now.series all.old.items)
+        (rows_kept wanted.now.index.now.series all.new.items) tally.old tally.new) }
+    ensures placed { OnOk result (ArePlaced wanted.now.index.now.series all.old.items
+        → ArePlaced wanted.now.index.now.series all.new.items) }
 {
     let floats = read_series(alloc, files, held, wanted.index.chunks_at(at), wanted.times)?;
     let asked = Asked {
@@ -100,16 +128,30 @@ fn push_row<S: ReadSegments>(
         tombstones: wanted.tombstones,
         reference: wanted.index.reference_at(at),
     };
-    let mut kept = Vec::with_capacity(alloc, floats.len())?;
-    if let Err(error) = keep_samples(&mut kept, tally, &asked, floats.as_slice()) {
+    let mut samples = Vec::with_capacity(alloc, floats.len())?;
+    if let Err(error) = keep_samples(&mut samples, tally, &asked, floats.as_slice()) {
         return Err(RowsError::Value(at, error));
     }
-    if has_none(&kept) {
+    if has_none(&samples) {
         return Ok(());
     }
-    let labels = wanted.index.labels_at(alloc, at)?;
-    rows.push(Row::new(labels, kept))?;
+    all.push(KeptSeries { at, samples })?;
     Ok(())
+}
+
+// The rows of what is kept of series.
+fn rows_of(alloc: Global, index: &Index, kept: Vec<KeptSeries>) -> Result<Vec<Row>, RowsError>
+    requires { ArePlaced index.now.series kept.items }
+    ensures { IfOk result (λ rows. rows.items ≡ rows_kept index.now.series kept.items) }
+{
+    let mut rows = Vec::with_capacity(alloc, kept.len())?;
+    let mut left = kept;
+    left.reverse();
+    while let Some(series) = left.pop() {
+        let labels = index.labels_at(alloc, series.at)?;
+        rows.push(Row::new(labels, series.samples))?;
+    }
+    Ok(rows)
 }
 
 fn has_none(samples: &[Sample]) -> bool

@@ -6,7 +6,7 @@ pub returns : goal.returns
 returns g c =
     let names = c.args.names.now in
     let bytes = c.in_ok-bytes in
-    block_written g.D.Disk.did names.into.now c.args.rows.now c.args.disk.now c.write_block.new.disk
+    block_written g.D.Disk.did names.into.now c.args.rows c.args.disk.now c.write_block.new.disk
     (record { parent = names.into; block = names.block; unfinished = names.unfinished })
     (record {
       meta = c.as_bytes.result;
@@ -14,8 +14,8 @@ returns g c =
       chunks = c.as_slice-2.result;
       tombstones = c.as_slice-3.result;
     })
-    c.args.range c.args.meta.now bytes.bytes.index.items bytes.bytes.chunks.items
-    bytes.bytes.tombstones.items c.in_ok-write_block.ensures.ok refl c.min.ensures.range
+    c.args.range c.args.meta.now bytes.bytes.index.items bytes.bytes.tombstones.items
+    bytes.bytes.chunks.items c.in_ok-write_block.ensures.ok refl c.min.ensures.range
     c.as_bytes.ensures.value c.as_slice.ensures.value c.as_slice-2.ensures.value
     c.as_slice-3.ensures.value c.requires.said c.requires.within
     (bytes.ensures.block c.args.range c.min.ensures.range c.requires.within)

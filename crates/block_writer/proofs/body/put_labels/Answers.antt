@@ -13,5 +13,5 @@ loop-i-preserved c =
     (drop_at c.args.labels.now c.loop-i.i (c.pair.result.0.now, c.pair.result.1.now) c.pair.ensures)
     (two_numbers c.loop-i.out.items c.put_uvarint-in-loop-i.new.out.items
     c.put_uvarint-in-loop-i-2.new.out.items _ _ _ _ c.in_ok-put_uvarint-2.ensures.ok
-    c.in_ok-put_uvarint-3.ensures.ok c.number_of.ensures c.number_of-in-loop-i.ensures)
+    c.in_ok-put_uvarint-3.ensures.ok c.number_near-name_at.ensures c.number_near-value_at.ensures)
     c.loop-i.invariant

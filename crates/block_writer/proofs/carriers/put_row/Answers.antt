@@ -21,7 +21,7 @@ put_at-requires c =
     omega (
       arith,
       there.0,
-      c.place_of.ensures,
+      c.place_near-place.ensures,
       c.requires.each,
       c.loop-i.invariant.0,
       c.loop-i.lists.ok.0,
@@ -58,7 +58,7 @@ loop-i-preserved c =
           c.args.labels.now c.loop-i.i q _
           (drop_at c.args.labels.now c.loop-i.i q c.pair.ensures)
           (added pairs c.args.reference before (map (λ x. x.items) c.put_at.new.lists.items)
-          c.place_of.result q c.requires.ascending held c.place_of.ensures long
+          c.place_near-place.result q c.requires.ascending held c.place_near-place.ensures long
           c.in_ok-put_at.ensures.added k lt)
           (c.loop-i.invariant.1 k lt),
     )

@@ -1,5 +1,4 @@
-use Rattle.std.proofs.Common.{◌≡◌, ◌+◌, ◌*◌, ◌/◌, ◌%◌, ◌<◌, ap, arith}
-use Rattle.std.proofs.lemmas.Bool.{cases_lt}
+use Rattle.std.proofs.Common.{◌+◌, ◌*◌, ◌/◌, ◌%◌, ◌<◌, ap, arith}
 use Rattle.block_writer.proofs.Sizes.{whole_series, parted_series, chunk_small}
 use Rattle.block_writer.proofs.file_length.series_len.Goals as goal
 

@@ -1,14 +1,10 @@
-use Rattle.std.proofs.Common.{◌&&◌}
-use Rattle.std.specs.Str.{bytes_eq}
 use Rattle.labels.specs.Labels.{pair_cmp}
-use Rattle.labels.proofs.Texts.{pair_exact, pair_total}
-use Rattle.block_writer.proofs.Held.{held_once, pair_ties}
+use Rattle.block_writer.proofs.Found.{once_of_those}
 use Rattle.block_writer.proofs.symbols.pairs_of.Goals as goal
 
-pub returns : goal.returns
-returns c =
-    held_once (λ x. (x.0.now, x.1.now)) pair_cmp pair_total pair_exact
-    (λ x y. bytes_eq x.0.now y.0.now && bytes_eq x.1.now y.1.now) pair_ties
-    c.in_ok-pairs.pairs.items c.sort_unstable.new.self.items c.dedup.new.self.items _
-    c.in_ok-pairs.ensures c.sort_unstable.ensures.permutation c.sort_unstable.ensures.sorted
-    c.dedup.ensures.filtered
+pub returns-clause-held : goal.returns-clause-held
+returns-clause-held c =
+    once_of_those pair_cmp _ _ _ c.in_ok-pairs.ensures.held c.keep_once.ensures
+
+pub returns-clause-typed : goal.returns-clause-typed
+returns-clause-typed c = c.in_ok-pairs.ensures.typed

@@ -1,13 +1,12 @@
-use Rattle.std.proofs.Common.{arith}
-use Rattle.prometheus_block.proofs.RowAfter.{one_more_row}
+use Rattle.std.proofs.Common.{List, sym, subst}
+use Rattle.labels.specs.Rows.{Row}
+use Rattle.prometheus_block.specs.Rows.{AreRowsOf}
 use Rattle.prometheus_block.proofs.rows.read_rows.Goals as goal
 
-pub loop-at-preserved : goal.loop-at-preserved
-loop-at-preserved g c =
-    let l = c.loop-at in
-    record {
-      held = c.in_ok-push_row.ensures.held;
-      rows = one_more_row _ c.args.wanted.now c.args.wanted.now.index.now.series l.at _ _ _ _ _
-          (omega (arith, c.loop-at-test.true, c.len-at-end.ensures)) l.invariant.rows
-          c.in_ok-push_row.ensures.found;
-    }
+pub returns : goal.returns
+returns g c = record {
+  found =
+      subst (λ (rs : List Row). AreRowsOf (g.S.ReadSegments.may_read c.args.files.now)
+      c.args.wanted.now c.args.wanted.now.index.now.series rs c.args.tally.now
+      c.keep_all.new.tally) (sym c.in_ok-rows.ensures) c.in_ok-kept.ensures.found;
+}

@@ -1,8 +1,7 @@
-use Rattle.std.proofs.Common.{◌≡◌, ◌+◌, ◌≤◌, length, take, get_or, sym, ap, subst, ◌∙◌, arith}
-use Rattle.std.specs.List.{flat_map}
+use Rattle.std.proofs.Common.{length, sym, ap, arith}
 use Rattle.labels.specs.Rows.{Row}
-use Rattle.block_writer.specs.Writing.{chunks_text, series_text}
-use Rattle.block_writer.proofs.Sizes.{series_big, rows_big, rows_on, all_rows}
+use Rattle.block_writer.specs.Writing.{chunks_text}
+use Rattle.block_writer.proofs.Sizes.{series_big, rows_big}
 use Rattle.block_writer.proofs.part_rows.PartRows.chunks_len.Goals as goal
 
 pub returns-then-count-gt-MAX_LEN-clause-long : goal.returns-then-count-gt-MAX_LEN-clause-long
