@@ -3,3 +3,4 @@ pub mod AfterCommas
 pub mod Audited
 pub mod Headline
 pub mod Refusals
+pub mod Kept

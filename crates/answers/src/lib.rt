@@ -24,6 +24,7 @@ mod body_text;
 mod brackets;
 mod error;
 mod headline;
+mod kept;
 mod number;
 mod parts;
 mod plain;
@@ -34,6 +35,7 @@ mod strings;
 
 pub use audited::{AuditedAnswer, answer, answer_by_workers};
 pub use block_search::AnsweredPart;
-pub use body_text::{body, body_after};
+pub use body_text::{answer_text, append_text, body, length_of};
 pub use error::AskError;
 pub use headline::ask;
+pub use kept::AnswerText;
