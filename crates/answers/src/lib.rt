@@ -5,7 +5,8 @@
 //! content restricted to the matchers and the range. [`answer`] gives it of a snapshot. [`ask`]
 //! puts a query to a store that others change meanwhile: its answer is that of the next snapshot of
 //! a pass, after all events that the pass had seen or been told of. [`body`] is the text of an
-//! answer, as compact JSON, byte for byte.
+//! answer, as compact JSON, byte for byte; [`answer_text`] keeps it so that rows that it tells
+//! twice stand in memory once.
 //!
 //! Of a `snapshot` whose head has one sample, 1 at time 10, of the series `up`:
 //!

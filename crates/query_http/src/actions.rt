@@ -76,10 +76,10 @@ fn answer_reply(
 {
     let at_hand = buffers.take_answer(alloc);
     let text = answer_text(alloc, at_hand, answer.parts.as_slice(), answer.rows.as_slice())?;
-    let length = length_of(&text);
+    let size = length_of(&text);
     let mut head = buffers.take_head(alloc);
-    append_success_head(&mut head, length)?;
-    if length <= SHORT {
+    append_success_head(&mut head, size)?;
+    if size <= SHORT {
         return joined_reply(buffers, head, text);
     }
     Ok(Reply {

@@ -13,15 +13,15 @@ put_together head body text len e l is =
     ap (λ (s : List ℕ). s ++ body) (e ∙ ap success_head l)
     ∙ ap (λ (s : List ℕ). reply_text Done s) is
 
-pub returns-then-length-le65536-clause-spelled : goal.returns-then-length-le65536-clause-spelled
-returns-then-length-le65536-clause-spelled c =
+pub returns-then-size-le65536-clause-spelled : goal.returns-then-size-le65536-clause-spelled
+returns-then-size-le65536-clause-spelled c =
     let body = whole_of c.in_ok-text.text in
     let text = body_text c.args.answer.now.parts.items c.args.answer.now.rows.items in
     IfOk-weaker c.joined_reply.result _ _
-    (λ r h. h ∙ put_together _ body text c.length_of-length.result
+    (λ r h. h ∙ put_together _ body text c.length_of-size.result
     (c.in_ok-append_success_head.ensures
-    ∙ ap (λ (s : List ℕ). s ++ success_head c.length_of-length.result) c.take_head-head.ensures)
-    c.length_of-length.ensures
+    ∙ ap (λ (s : List ℕ). s ++ success_head c.length_of-size.result) c.take_head-head.ensures)
+    c.length_of-size.ensures
     (c.in_ok-text.ensures
     ∙ ap₂ (λ parts rows. body_text parts rows) c.as_slice.ensures.value c.as_slice-2.ensures.value))
     c.joined_reply.ensures.spelled
@@ -30,9 +30,9 @@ pub returns-clause-spelled : goal.returns-clause-spelled
 returns-clause-spelled c =
     let body = whole_of c.in_ok-text.text in
     let text = body_text c.args.answer.now.parts.items c.args.answer.now.rows.items in
-    put_together _ body text c.length_of-length.result
+    put_together _ body text c.length_of-size.result
     (c.in_ok-append_success_head.ensures
-    ∙ ap (λ (s : List ℕ). s ++ success_head c.length_of-length.result) c.take_head-head.ensures)
-    c.length_of-length.ensures
+    ∙ ap (λ (s : List ℕ). s ++ success_head c.length_of-size.result) c.take_head-head.ensures)
+    c.length_of-size.ensures
     (c.in_ok-text.ensures
     ∙ ap₂ (λ parts rows. body_text parts rows) c.as_slice.ensures.value c.as_slice-2.ensures.value)
