@@ -12,9 +12,9 @@
 //!
 //! ```
 //! let query = Query::new(Selector::parse(alloc, "up").ok()?, 0, 20).ok()?;
-//! let AuditedAnswer { parts, rows } = answer(alloc, snapshot, &query).ok()?;
-//! assert_eq!(rt; (parts.len(), rows.len()), (1, 1));
-//! let text = body(alloc, &parts, &rows).ok()?;
+//! let found = answer(alloc, snapshot, &query).ok()?;
+//! assert_eq!(rt; (found.parts().len(), found.rows().len()), (1, 1));
+//! let text = body(alloc, found.parts(), found.rows()).ok()?;
 //! let end = br#""rows":[{"labels":{"__name__":"up"},"samples":[[10,1]]}]}"#;
 //! assert!(rt; text.ends_with(end));
 //! ```

@@ -18,7 +18,7 @@ use std::thread::Threads;
 pub fn line_of(alloc: Global, answer: &AuditedAnswer) -> Result<Vec<u8>, AllocError>
     ensures { IfOk result (λ line. line.items ≡ line_text answer.now) }
 {
-    let mut line = body(alloc, answer.parts.as_slice(), answer.rows.as_slice())?;
+    let mut line = body(alloc, answer.parts(), answer.rows())?;
     line.push(b'\n')?;
     Ok(line)
 }
@@ -27,12 +27,7 @@ pub fn line_of(alloc: Global, answer: &AuditedAnswer) -> Result<Vec<u8>, AllocEr
 fn text_of(alloc: Global, answer: &AuditedAnswer) -> Result<AnswerText, AllocError>
     ensures { IfOk result (λ text. whole_of text ++ codes "\n" ≡ line_text answer.now) }
 {
-    answer_text(
-        alloc,
-        Vec::new(alloc),
-        answer.parts.as_slice(),
-        answer.rows.as_slice(),
-    )
+    answer_text(alloc, Vec::new(alloc), answer.parts(), answer.rows())
 }
 
 /// Writes the audited answer to a query as one line, and nothing else. Each part is searched by a

@@ -13,6 +13,7 @@ ghost use Rattle.requests.specs.declared.status.Status.TheVariants.{Done, Confli
 ghost use Rattle.query_http.specs.Reply.{text_of};
 ghost use Rattle.answers.specs.Body.{body_text};
 ghost use Rattle.answers.specs.Kept.{whole_of};
+ghost use Rattle.answers.specs.MergedRows.{rows_of};
 ghost use Rattle.query_http.specs.Serving.{worker, IsIdle, IsReplyOfRefusal, conflict_body};
 ghost use Rattle.query_http.specs.Serving.{IsQueryReply, IsEventReply, IsRequestReply};
 ghost use Rattle.query_http.specs.Serving.{refused_at as place_refused};
@@ -72,10 +73,10 @@ fn answer_reply(
 ) -> Result<Reply, AllocError>
     ensures number { IfOk result (λ r. r.status ≡ Done) }
     ensures spelled { IfOk result (λ r. (text_of r)
-        ≡ reply_text Done (body_text answer.now.parts.items answer.now.rows.items)) }
+        ≡ reply_text Done (body_text answer.now.parts.items (rows_of answer.now))) }
 {
     let at_hand = buffers.take_answer(alloc);
-    let text = answer_text(alloc, at_hand, answer.parts.as_slice(), answer.rows.as_slice())?;
+    let text = answer_text(alloc, at_hand, answer.parts(), answer.rows())?;
     let size = length_of(&text);
     let mut head = buffers.take_head(alloc);
     append_success_head(&mut head, size)?;

@@ -2,7 +2,7 @@
 //! and the reply that no client can cause.
 
 use crate::searches::{ONE, blocks, query};
-use answers::{AuditedAnswer, answer, body};
+use answers::{answer, body};
 use block_search::search_one_by_one;
 use head::{Event, Snapshot, apply};
 use labels::{LabelSet, Sample};
@@ -57,9 +57,9 @@ fn the_example_of_the_first_page_of_series_merge(rt: HostRuntime) -> Result<(), 
 /// What the example of `answers` does.
 fn answer_one_sample(rt: &impl Abort, alloc: Global, snapshot: &Snapshot) -> Option<()> {
     let query = Query::new(Selector::parse(alloc, "up").ok()?, 0, 20).ok()?;
-    let AuditedAnswer { parts, rows } = answer(alloc, snapshot, &query).ok()?;
-    assert_eq!(rt; (parts.len(), rows.len()), (1, 1));
-    let text = body(alloc, &parts, &rows).ok()?;
+    let found = answer(alloc, snapshot, &query).ok()?;
+    assert_eq!(rt; (found.parts().len(), found.rows().len()), (1, 1));
+    let text = body(alloc, found.parts(), found.rows()).ok()?;
     let end = br#""rows":[{"labels":{"__name__":"up"},"samples":[[10,1]]}]}"#;
     assert!(rt; text.ends_with(end));
     Some(())

@@ -137,7 +137,7 @@ fn a_search_walks_no_other_list(rt: HostRuntime) {
 /// The text of an answer.
 fn text_of(alloc: Global, answer: Result<AuditedAnswer, AllocError>) -> Option<Vec<u8>> {
     let answer = answer.ok()?;
-    body(alloc, &answer.parts, &answer.rows).ok()
+    body(alloc, answer.parts(), answer.rows()).ok()
 }
 
 /// Whether workers answer `up` with the text that one thread gives, and it is longer than so many

@@ -92,7 +92,7 @@ fn is_answered<J: Naming>(
     pass.learn(second);
     let query = query(alloc, ASKED)?;
     let answer = ask(alloc, pass, &query).ok()?;
-    let text = body(alloc, &answer.parts, &answer.rows).ok()?;
+    let text = body(alloc, answer.parts(), answer.rows()).ok()?;
     let want = if first.events() < second.events() {
         FIRST_THEN_SECOND
     } else {

@@ -8,5 +8,5 @@ pub returns : goal.returns
 returns c =
     IfOk-weaker c.answer_text.result _ _
     (λ text is. ap (λ s. s ++ codes "\n") (is
-    ∙ ap₂ (λ parts rows. body_text parts rows) c.as_slice.ensures.value c.as_slice-2.ensures.value))
+    ∙ ap₂ (λ parts rows. body_text parts rows) c.parts.ensures c.rows.ensures))
     c.answer_text.ensures

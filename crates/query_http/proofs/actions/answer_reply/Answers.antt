@@ -4,6 +4,7 @@ use Rattle.requests.specs.Replies.{reply_text, success_head}
 use Rattle.requests.specs.declared.status.Status.TheVariants.{Done}
 use Rattle.answers.specs.Body.{body_text}
 use Rattle.answers.specs.Kept.{whole_of}
+use Rattle.answers.specs.MergedRows.{rows_of}
 use Rattle.query_http.proofs.actions.answer_reply.Goals as goal
 
 -- the first bytes of a reply, and the body behind them
@@ -16,23 +17,23 @@ put_together head body text len e l is =
 pub returns-then-size-le65536-clause-spelled : goal.returns-then-size-le65536-clause-spelled
 returns-then-size-le65536-clause-spelled c =
     let body = whole_of c.in_ok-text.text in
-    let text = body_text c.args.answer.now.parts.items c.args.answer.now.rows.items in
+    let text = body_text c.args.answer.now.parts.items (rows_of c.args.answer.now) in
     IfOk-weaker c.joined_reply.result _ _
     (λ r h. h ∙ put_together _ body text c.length_of-size.result
     (c.in_ok-append_success_head.ensures
     ∙ ap (λ (s : List ℕ). s ++ success_head c.length_of-size.result) c.take_head-head.ensures)
     c.length_of-size.ensures
     (c.in_ok-text.ensures
-    ∙ ap₂ (λ parts rows. body_text parts rows) c.as_slice.ensures.value c.as_slice-2.ensures.value))
+    ∙ ap₂ (λ parts rows. body_text parts rows) c.parts.ensures c.rows.ensures))
     c.joined_reply.ensures.spelled
 
 pub returns-clause-spelled : goal.returns-clause-spelled
 returns-clause-spelled c =
     let body = whole_of c.in_ok-text.text in
-    let text = body_text c.args.answer.now.parts.items c.args.answer.now.rows.items in
+    let text = body_text c.args.answer.now.parts.items (rows_of c.args.answer.now) in
     put_together _ body text c.length_of-size.result
     (c.in_ok-append_success_head.ensures
     ∙ ap (λ (s : List ℕ). s ++ success_head c.length_of-size.result) c.take_head-head.ensures)
     c.length_of-size.ensures
     (c.in_ok-text.ensures
-    ∙ ap₂ (λ parts rows. body_text parts rows) c.as_slice.ensures.value c.as_slice-2.ensures.value)
+    ∙ ap₂ (λ parts rows. body_text parts rows) c.parts.ensures c.rows.ensures)
