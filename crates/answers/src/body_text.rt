@@ -44,8 +44,7 @@ fn with_rows(bytes: Vec<u8>, rows: &[Row]) -> Result<AnswerText, AllocError>
     let mut bytes = bytes;
     bytes.reserve(room_of_rows(rows))?;
     append_rows(&mut bytes, rows)?;
-    let again = Spot { from: 0, until: 0 };
-    Ok(AnswerText { bytes, again })
+    Ok(AnswerText::new(bytes, Spot { from: 0, until: 0 }))
 }
 
 /// About as many bytes as an answer takes: an interval with its separator 80.
@@ -82,7 +81,7 @@ pub fn answer_text(
     bytes.reserve(room_of(parts))?;
     let spot = append_front(alloc, &mut bytes, parts, rows)?;
     match spot {
-        Some(again) => Ok(AnswerText { bytes, again }),
+        Some(again) => Ok(AnswerText::new(bytes, again)),
         None => with_rows(bytes, rows),
     }
 }

@@ -1,6 +1,6 @@
 //! The text of an answer, kept so that rows that it tells twice stand in memory once.
 
-ghost use Rattle.std.specs.Prelude.{◌≡◌, ◌≤◌, slice_range, vec_len};
+ghost use Rattle.std.specs.Prelude.{◌≡◌, ◌≤◌, length, slice_range};
 
 /// From which place up to which some bytes of a text go.
 #[derive(Clone, Copy)]
@@ -18,10 +18,20 @@ pub struct AnswerText {
     pub(crate) bytes: Vec<u8>,
     pub(crate) again: Spot,
     ghost rises: { again.from ≤ again.until },
-    ghost within: { again.until ≤ vec_len bytes },
+    ghost within: { again.until ≤ length bytes.items },
 }
 
 impl AnswerText {
+    /// The text of these first bytes, of which some come once more.
+    pub(crate) fn new(bytes: Vec<u8>, again: Spot) -> AnswerText
+        requires rises { again.from ≤ again.until }
+        requires within { again.until ≤ length bytes.items }
+        ensures bytes { result.bytes.items ≡ bytes.items }
+        ensures again { result.again ≡ again }
+    {
+        AnswerText { bytes, again }
+    }
+
     /// The first bytes.
     pub fn first(&self) -> &[u8]
         ensures { result.now ≡ self.now.bytes.items }
