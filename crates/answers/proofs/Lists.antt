@@ -34,7 +34,7 @@ first_and_rest data_of x xs =
 pub no_items : {A : Type 0} (data_of : A → Data) (xs : List A) → length xs ≡ 0
     → 91 ∷ 93 ∷ [] ≡ compact_text (list_data data_of xs)
 no_items data_of [] e = refl
-no_items data_of (x ∷ xs) e = absurd (omega arith)
+no_items data_of (x ∷ xs) e = absurd (omega (arith, e))
 
 -- what stands between brackets after `old`
 pub bracketed : (old later new : List ℕ) (n first last : ℕ) → n ≡ length old → new ≡ old ++ later

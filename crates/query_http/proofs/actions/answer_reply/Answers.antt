@@ -14,8 +14,8 @@ put_together head body text len e l is =
     ap (λ (s : List ℕ). s ++ body) (e ∙ ap success_head l)
     ∙ ap (λ (s : List ℕ). reply_text Done s) is
 
-pub returns-then-size-le65536-clause-spelled : goal.returns-then-size-le65536-clause-spelled
-returns-then-size-le65536-clause-spelled c =
+pub returns-then-size-le-SHORT-clause-spelled : goal.returns-then-size-le-SHORT-clause-spelled
+returns-then-size-le-SHORT-clause-spelled c =
     let body = whole_of c.in_ok-text.text in
     let text = body_text c.args.answer.now.parts.items (rows_of c.args.answer.now) in
     IfOk-weaker c.joined_reply.result _ _
