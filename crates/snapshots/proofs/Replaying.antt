@@ -5,11 +5,11 @@ use mathlib.Core.List.{IsPrefix}
 use Rattle.head.specs.Kept.{KeepsBlocks, frame_of}
 use Rattle.head.specs.Removing.{survives}
 use Rattle.head.proofs.Deleting.{frames_kept}
-use Rattle.head.specs.Refusals.{Refusal}
-use Rattle.head.specs.Worlds.{World, Event, batch, deletion, cut, stepped, replayed_from, replayed}
+use Rattle.head.proofs.Replays.{replayed_from-snoc}
+use Rattle.head.specs.Worlds.{Event, batch, deletion, cut, stepped, replayed}
 use Rattle.head.specs.Heads.{BlockPart, SnapshotParts, world_of}
 use Rattle.head.specs.declared.error.CommitError.{CommitError}
-use Rattle.head.specs.declared.error.CommitError.TheVariants.{OutOfBounds, OutOfOrder, Duplicate, Limit, CutTooLow, TooManyParts, Seat, Memory}
+use Rattle.head.specs.declared.error.CommitError.TheVariants.{OutOfBounds, OutOfOrder, Duplicate, Limit, CutTooLow, TooManyParts, Seat, Journal, Memory}
 use Rattle.matchers.specs.Views.{MatcherView}
 use Rattle.snapshots.specs.declared.entry.Entry.{Entry}
 use Rattle.logbook.specs.Pages.{Book}
@@ -18,12 +18,6 @@ use Rattle.snapshots.specs.Replays.{events_in, IsAfter, Steps, Leads, KeepsFrame
 use Rattle.snapshots.specs.Seats.{SeatView, IsMetBy}
 use Rattle.snapshots.specs.Views.{Edition, Ledger}
 use Rattle.snapshots.proofs.Prefixes.{prefix_self, prefix_trans}
-
-replayed_from-snoc : (r : Result World Refusal) (es : List Event) (e : Event) (v : World)
-    → replayed_from r es ≡ Ok v → replayed_from r (es ++ e ∷ []) ≡ stepped v e
-replayed_from-snoc r [] e v is = ap (λ (s : Result World Refusal). replayed_from s (e ∷ [])) is
-replayed_from-snoc (Err x) (f ∷ es) e v is = absurd (cc is)
-replayed_from-snoc (Ok w) (f ∷ es) e v is = replayed_from-snoc (stepped w f) es e v is
 
 -- an event leaves the blocks that there were first, each with its frame
 keeps_frames : (event : Event) (s t : SnapshotParts)
@@ -115,3 +109,5 @@ deletion_refused opening seat CutTooLow ms from to refused =
     absurd (cc ((refused (λ same. absurd (cc same)) (λ same. absurd (cc same))).step))
 deletion_refused opening seat TooManyParts ms from to refused =
     absurd (cc ((refused (λ same. absurd (cc same)) (λ same. absurd (cc same))).step))
+deletion_refused opening seat Journal ms from to refused =
+    absurd ((refused (λ same. absurd (cc same)) (λ same. absurd (cc same))).step)
