@@ -94,10 +94,7 @@ fn series_of_saved(
     let mut draft = Draft::new(alloc, PagedList::new(alloc)?);
     let mut order = Order::new(alloc)?;
     for series in saved {
-        match add_saved(alloc, &mut draft, &mut order, floor, series) {
-            Ok(()) => {}
-            Err(error) => return Err(error),
-        }
+        add_saved(alloc, &mut draft, &mut order, floor, series)?;
     }
     Ok((draft.into_list(alloc)?, order))
 }
@@ -116,10 +113,7 @@ fn head_of_saved(
     if saved.len() > MAX_SERIES {
         return Err(ResumeError::Unsound);
     }
-    let (series, order) = match series_of_saved(alloc, floor, saved) {
-        Ok(made) => made,
-        Err(error) => return Err(error),
-    };
+    let (series, order) = series_of_saved(alloc, floor, saved)?;
     let index = HeadView::empty(alloc)?.index_of(alloc, &series)?;
     Ok(HeadView::of(series, order, index, 0))
 }
@@ -142,10 +136,7 @@ impl Snapshot {
         if !may_have(floor, blocks.as_slice()) {
             return Err(ResumeError::Unsound);
         }
-        let head = match head_of_saved(alloc, floor, saved) {
-            Ok(head) => head,
-            Err(error) => return Err(error),
-        };
+        let head = head_of_saved(alloc, floor, saved)?;
         Ok(Snapshot {
             floor,
             head,

@@ -1,3 +1,4 @@
+use Rattle.std.proofs.lemmas.Result.{err_from_is_err_and}
 use Rattle.std.proofs.Common.{◌≡◌, ◌<◌, ◌∷◌, ◌++◌, ◌+◌, [], ℕ, ℤ, List, length, take, get_or, map, sym, ap, subst, ◌∙◌, arith, rules, to_z, of_z, w64}
 use Rattle.std.proofs.lemmas.List.{take_more, take_all, map-append, length-take-le}
 use Rattle.labels.specs.Labels.{Labels}
@@ -30,8 +31,8 @@ add_saved-requires c =
       few = omega (arith, inside, c.requires, count, length-each c.loop-series.draft, length-take-le i hs (omega (arith, inside)));
     }
 
-pub returns-in-Err-clause-refused : goal.returns-in-Err-clause-refused
-returns-in-Err-clause-refused c =
+pub returns-in_err-add_saved-clause-refused : goal.returns-in_err-add_saved-clause-refused
+returns-in_err-add_saved-clause-refused c =
     let floor = to_z w64 (of_z w64 c.args.floor) in
     let floor_is : floor ≡ c.args.floor = search rules in
     let hs : List HeadSeries = c.args.saved.now in
@@ -42,7 +43,8 @@ returns-in-Err-clause-refused c =
     λ sound. subst (λ (x : HeadSeries). MayJoin floor (series_in_each c.loop-series.draft) x) (sym c.series-item.is)
     (subst (λ (xs : List HeadSeries). MayJoin floor xs (get_or hs i h)) (sym c.loop-series.invariant.same)
     (each_joins floor hs i h inside (subst (λ (z : ℤ). IsSoundHead z hs) (sym floor_is) sound))) in
-    denies_more c.in-Err.error (MayJoin floor (series_in_each c.loop-series.draft) h) (IsSoundHead c.args.floor hs) f c.in-Err.ensures.refused
+    let p = err_from_is_err_and c.from_residual-in_err-add_saved.result c.from_residual-in_err-add_saved.ensures.1 in
+    rw (p.1, p.2) (denies_more c.in_err-add_saved.field-0.0 (MayJoin floor (series_in_each c.loop-series.draft) h) (IsSoundHead c.args.floor hs) f c.in_err-add_saved.ensures.refused)
 
 pub loop-series-preserved : goal.loop-series-preserved
 loop-series-preserved c =
@@ -54,14 +56,14 @@ loop-series-preserved c =
     let more : take i hs ++ h ∷ [] ≡ take (i + 1) hs = sym (take_more hs i h inside ∙ ap (λ (x : HeadSeries). take i hs ++ x ∷ []) (sym c.series-item.is)) in
     record {
       same =
-          ap (λ (ss : List Slot). series_in_each ss) c.in-Ok.ensures.added
+          ap (λ (ss : List Slot). series_in_each ss) c.in_ok-add_saved.ensures.added
           ∙ map-append series_in c.loop-series.draft (Own h ∷ [])
           ∙ ap (λ (xs : List HeadSeries). xs ++ h ∷ []) c.loop-series.invariant.same
           ∙ more;
-      ordered = c.in-Ok.ensures.ordered;
+      ordered = c.in_ok-add_saved.ensures.ordered;
       sound = subst (λ (xs : List HeadSeries). IsSoundHead floor xs) more
           (sound_joined floor (take i hs) h c.loop-series.invariant.sound
-          (subst (λ (xs : List HeadSeries). MayJoin floor xs h) c.loop-series.invariant.same c.in-Ok.ensures.joins));
+          (subst (λ (xs : List HeadSeries). MayJoin floor xs h) c.loop-series.invariant.same c.in_ok-add_saved.ensures.joins));
     }
 
 pub returns-clause-same : goal.returns-clause-same
