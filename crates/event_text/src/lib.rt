@@ -15,6 +15,9 @@
 //! assert!(rt; read_event(rt.alloc(), &text).is_ok());
 //! ```
 //!
+//! A head that is kept beside events is spelled by the same words: [`put_count`], [`put_labels`],
+//! [`put_sample`], [`labels_of`], [`sample_of`], [`samples_of`].
+//!
 //! It stands on `wire` for numbers, and on `head` for what an event is. The form is this project's
 //! own, and is in docs/FORMATS.md.
 #![tactic(auto)]
@@ -27,5 +30,7 @@ mod runs;
 mod writing;
 
 pub use error::{EventError, TextError};
-pub use reading::read_event;
-pub use writing::{one_spelling, put_batch, put_cut, put_deletion};
+pub use reading::{labels_of, read_event, sample_of, samples_of};
+pub use writing::{
+    one_spelling, put_batch, put_count, put_cut, put_deletion, put_labels, put_sample,
+};

@@ -68,8 +68,9 @@ fn pairs_of(
     Ok((pairs, rest))
 }
 
+/// The label set in front of bytes, and the bytes after it.
 #[tactic(auto, unfolding(crate::specs::Reading::labels_at, crate::specs::Reading::many_at))]
-fn labels_of(alloc: Global, bytes: &[u8]) -> Result<(LabelSet, &[u8]), TextError>
+pub fn labels_of(alloc: Global, bytes: &[u8]) -> Result<(LabelSet, &[u8]), TextError>
     ensures { Gives (λ x. (x.0, x.1.now)) result (labels_at bytes.now) }
 {
     let mut cut = Cut::new(bytes);
@@ -81,8 +82,9 @@ fn labels_of(alloc: Global, bytes: &[u8]) -> Result<(LabelSet, &[u8]), TextError
     Ok((LabelSet::of_sorted_texts(alloc, pairs.as_slice())?, rest))
 }
 
+/// The time and the value in front of bytes, and the bytes after them.
 #[tactic(auto, unfolding(crate::specs::Reading::sample_at))]
-fn sample_of(bytes: &[u8]) -> Result<(i64, i64, &[u8]), TextError>
+pub fn sample_of(bytes: &[u8]) -> Result<(i64, i64, &[u8]), TextError>
     ensures { Gives (λ x. ((x.0, x.1), x.2.now)) result (sample_at bytes.now) }
 {
     let mut cut = Cut::new(bytes);
@@ -91,7 +93,8 @@ fn sample_of(bytes: &[u8]) -> Result<(i64, i64, &[u8]), TextError>
     Ok((time, value, cut.rest()))
 }
 
-fn samples_of(alloc: Global, bytes: &[u8], count: u64) -> Result<(Vec<Sample>, &[u8]), TextError>
+/// So many samples in front of bytes, and the bytes after them.
+pub fn samples_of(alloc: Global, bytes: &[u8], count: u64) -> Result<(Vec<Sample>, &[u8]), TextError>
     ensures { Gives (λ x. (x.0.items, x.1.now)) result (each_at sample_at count bytes.now) }
 {
     let mut samples = Vec::new(alloc);

@@ -18,8 +18,8 @@ use matchers::{Matcher, Op};
 use std::alloc::AllocError;
 use wire::{put_bytes, put_u8, put_uvarint, put_varint};
 
-/// Appends a number of things.
-fn put_count(out: &mut Vec<u8>, count: usize) -> Result<(), AllocError>
+/// Appends how many things there are.
+pub fn put_count(out: &mut Vec<u8>, count: usize) -> Result<(), AllocError>
     ensures text { OnOk result (out.new.items ≡ out.old.items ++ uvarint count) }
     ensures small { count < 2 ^ 64 }
 {
@@ -43,8 +43,9 @@ fn put_pair(out: &mut Vec<u8>, name: &str, value: &str) -> Result<(), AllocError
     put_string(out, value)
 }
 
+/// Appends a label set. Where memory runs out, some of it may stand there.
 #[tactic(auto, unfolding(crate::specs::Spelling::labels_text))]
-fn put_labels(out: &mut Vec<u8>, labels: &LabelSet) -> Result<(), AllocError>
+pub fn put_labels(out: &mut Vec<u8>, labels: &LabelSet) -> Result<(), AllocError>
     ensures text { OnOk result (out.new.items ≡ out.old.items ++ labels_text labels.now) }
     ensures spelled { OnOk result (AreMany IsPair labels.now × IsLabelSet labels.now) }
 {
@@ -56,8 +57,9 @@ fn put_labels(out: &mut Vec<u8>, labels: &LabelSet) -> Result<(), AllocError>
     Ok(())
 }
 
+/// Appends a time and a value. Where memory runs out, some of it may stand there.
 #[tactic(auto, unfolding(crate::specs::Spelling::sample_text))]
-fn put_sample(out: &mut Vec<u8>, sample: Sample) -> Result<(), AllocError>
+pub fn put_sample(out: &mut Vec<u8>, sample: Sample) -> Result<(), AllocError>
     ensures text { OnOk result (out.new.items ≡ out.old.items ++ sample_text sample) }
     ensures spelled { OnOk result (IsSample sample) }
 {

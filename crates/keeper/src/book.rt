@@ -1,6 +1,7 @@
 //! A book: the published events, each kept before it was published.
 
 ghost use Rattle.std.specs.Prelude.{◌≡◌, ◌++◌, ◌∷◌, [], OnOk, OnErr, IfErr};
+ghost use Rattle.event_text.specs.Spelling.{Spells};
 ghost use Rattle.keeper.specs.Finding.{FindsAll};
 
 use crate::error::KeepError;
@@ -9,15 +10,17 @@ use head::Event;
 use std::alloc::Global;
 use std::marker::Model;
 
-/// Keeps an event for good, and then publishes it. An `Err` changes nothing, and gives the event
-/// back.
+/// Keeps an event for good, by its text, and then publishes it. An `Err` changes nothing, and gives
+/// the event back.
 pub fn keep_and_publish<K: Keeper>(
     alloc: Global,
     keeper: &mut K,
     events: &mut Vec<Event>,
     event: Event,
+    text: &[u8],
 ) -> Result<(), (Event, KeepError)>
-    requires { K.holds keeper.old events.old.items }
+    requires held { K.holds keeper.old events.old.items }
+    requires spelled { Spells text.now event }
     // What is kept is what is published.
     ensures held { K.holds keeper.new events.new.items }
     ensures ok { OnOk result (events.new.items ≡ events.old.items ++ event ∷ []) }
@@ -30,7 +33,7 @@ pub fn keep_and_publish<K: Keeper>(
     if events.reserve(1).is_err() {
         return Err((event, KeepError::Memory));
     }
-    if let Err(error) = keeper.keep(alloc, &event) {
+    if let Err(error) = keeper.keep(alloc, text) {
         return Err((event, error));
     }
     match events.push(event) {
@@ -71,12 +74,14 @@ impl<K: Keeper + Drop> Book<K> {
         }
     }
 
-    /// Keeps an event, and then publishes it. An `Err` changes nothing, and gives the event back.
-    pub fn step(&mut self, event: Event) -> Result<(), (Event, KeepError)>
+    /// Keeps an event, by its text, and then publishes it. An `Err` changes nothing, and gives the
+    /// event back.
+    pub fn step(&mut self, event: Event, text: &[u8]) -> Result<(), (Event, KeepError)>
+        requires { Spells text.now event }
         ensures ok { OnOk result (self.new ≡ self.old ++ event ∷ []) }
         ensures err { OnErr result (self.new ≡ self.old) }
         ensures returned { IfErr result (λ e. e.0 ≡ event) }
     {
-        keep_and_publish(self.alloc, &mut self.keeper, &mut self.events, event)
+        keep_and_publish(self.alloc, &mut self.keeper, &mut self.events, event, text)
     }
 }

@@ -1,14 +1,15 @@
 //! Where the events of a store are kept before they are published.
 //!
-//! A [`Keeper`] keeps one event after another for good. Its clauses speak of the events that it
-//! holds, and of what a start finds after a crash at any moment: all that was kept, and at most one
-//! event more. [`keep_and_publish`] is the order in which a store goes: an event is kept, and then
-//! published, so nothing that anyone has seen is lost by a crash; a [`Book`] goes by it, and holds
-//! at every return exactly what is kept. [`NoKeeper`] is for a store in memory alone: it holds any
-//! events, and says nothing of crashes.
+//! A [`Keeper`] keeps one event after another for good, by its text. Its clauses speak of the
+//! events that it holds, and of what a start finds after a crash at any moment: all that was kept,
+//! and at most one event more. [`keep_and_publish`] is the order in which a store goes: an event is
+//! kept, and then published, so nothing that anyone has seen is lost by a crash; a [`Book`] goes by
+//! it, and holds at every return exactly what is kept. [`NoKeeper`] is for a store in memory alone:
+//! it holds any events, and says nothing of crashes.
 //!
-//! It stands on `head`, for what an event is. That a change is written before it is shown is the
-//! rule of write-ahead logs (ARIES; PostgreSQL and SQLite keep it).
+//! It stands on `head`, for what an event is, and on `event_text`, for its text. That a change is
+//! written before it is shown is the rule of write-ahead logs (ARIES; PostgreSQL and SQLite keep
+//! it).
 #![tactic(auto)]
 
 mod book;

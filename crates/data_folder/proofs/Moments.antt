@@ -1,0 +1,55 @@
+-- What a crash leaves, call by call.
+use Rattle.std.proofs.Common.{inl, inr, ⊎_elim, ℕ, List, Option, Some, arith, Ok}
+use Rattle.std.proofs.Common.{Err, Result}
+use Rattle.std.specs.Prelude.{OnOk}
+use Rattle.journal.specs.Media.{MayLeave}
+use Rattle.journal.specs.Media as media
+use Rattle.data_folder.specs.Folders.{Elapses, Left, LeavesOnly, LeavesOthers, MayGrow}
+use Rattle.data_folder.specs.JournalFile.{journal_name, JournalLeft}
+use Rattle.data_folder.specs.JournalLaws.{left_now}
+
+module _ {F : Type 0} (shows : F → List ℕ → Option (List ℕ) → Type 0)
+    (kept : F → List ℕ → ℕ → Type 0) (left_since : F → ℕ → Left → Type 0) where
+  -- time goes on for the journal as for the folder
+  pub journal_time : (old new : F) (before now : ℕ) (after : List ℕ → List ℕ) (count : ℕ → ℕ)
+      → Elapses before now (left_since old) (left_since new)
+      (LeavesOthers shows kept journal_name journal_name old
+      (MayGrow shows kept old journal_name after count))
+      → (bytes : List ℕ) (n : ℕ) → shows old journal_name (Some bytes) → kept old journal_name n
+      → media.Elapses before now (JournalLeft left_since old) (JournalLeft left_since new)
+      (MayLeave (count n) (after bytes))
+  journal_time old new before now after count e bytes n shown durable = record {
+    later = e.later;
+    nothing_else = λ t left le had. ⊎_elim (λ past. inl (had.0, past, had.2))
+        (λ during. inr (left_now (count n) (after bytes) left (had.0 journal_name) had.2
+        (during.own bytes n shown durable)))
+        (e.nothing_else t had.0 le had.1);
+    keeps = λ t left le had. (had.0, e.keeps t had.0 le had.1, had.2);
+  }
+
+module _ {F : Type 0} (moment : F → ℕ) (left_since : F → ℕ → Left → Type 0) where
+  -- before the first call
+  pub started : (old : F) (P : Left → Type 0) → ((left : Left) → left_since old (moment old) left
+      → P left) → LeavesOnly moment left_since old old P
+  started old P here = record {
+    later = omega arith;
+    each = here;
+    before = λ t left le had. inl had;
+  }
+
+  -- one call more, after which a crash leaves what has P
+  pub goes_on : (old mid new : F) (P may_leave : Left → Type 0)
+      → LeavesOnly moment left_since old mid P
+      → Elapses (moment mid) (moment new) (left_since mid) (left_since new) may_leave
+      → ((left : Left) → may_leave left → P left) → LeavesOnly moment left_since old new P
+  goes_on old mid new P may_leave so_far time here = record {
+    later = omega (arith, so_far.later, time.later);
+    each = λ left had. ⊎_elim (so_far.each left) (here left)
+        (time.nothing_else (moment old) left so_far.later had);
+    before = λ t left le had. ⊎_elim (so_far.before t left le) (λ now. inr (here left now))
+        (time.nothing_else t left (omega (arith, le, so_far.later)) had);
+  }
+
+pub on_ok : {A E : Type 0} (r : Result A E) (P Q : Type 0) → (P → Q) → OnOk r P → OnOk r Q
+on_ok (Ok x) P Q f p = f p
+on_ok (Err e) P Q f p = tt

@@ -1,0 +1,9 @@
+use Rattle.std.proofs.Common.{ℕ, List, min}
+use Rattle.data_folder.proofs.Moments.{journal_time}
+use Rattle.data_folder.proofs.journal_file.JournalFileMedium.cut.Goals as goal
+
+pub returns-clause-time : goal.returns-clause-time
+returns-clause-time g c old n shown durable =
+    let f = g.F.Folder in
+    journal_time f.shows f.kept f.left_since c.args.self.now.folder c.cut.new.self _ _
+    (λ (x : List ℕ). x) (λ (k : ℕ). min c.args.len k) c.cut.ensures.time old n shown durable

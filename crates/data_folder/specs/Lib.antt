@@ -1,0 +1,5 @@
+pub mod Folders
+pub mod JournalFile
+pub mod JournalLaws
+pub mod Rolls
+pub mod States

@@ -1,0 +1,20 @@
+//! The folder of a durable store, and what a crash leaves of it.
+//!
+//! [`Folder`] is a folder of files: its calls make, append to, replace and remove them, and its
+//! meaning tells what is found under each name after a crash at any moment of any call. One file
+//! decides what the store is, the journal: [`JournalFile`] is the medium that a `Journal` is
+//! written to. [`roll`] begins the journal anew: the next journal is written whole under a name of
+//! its own, and then takes the journal's name. A crash at any moment of a roll leaves the old
+//! journal or the new one, and each file that either of them names.
+//!
+//! It stands on `journal` for records and media. That a file is replaced by a rename after it was
+//! synced, and the folder synced after that, is what SQLite, LevelDB and Prometheus do.
+#![tactic(auto)]
+
+mod folder;
+mod journal_file;
+mod rolling;
+
+pub use folder::Folder;
+pub use journal_file::JournalFile;
+pub use rolling::{RollError, roll};

@@ -1,0 +1,76 @@
+//! A journal that is begun anew.
+
+ghost use Rattle.std.specs.Prelude.{◌≡◌, ℕ, List, true, false, Err, OnOk, OnErr, IsErrOf};
+ghost use Rattle.std.specs.List.{AllByRecursion};
+ghost use Rattle.journal.specs.Records.{file_of, IsContent};
+ghost use Rattle.data_folder.specs.Folders.{LeavesOnly};
+ghost use Rattle.data_folder.specs.Rolls.{IsJournalText, Keeps};
+ghost use Rattle.data_folder.specs.States.{AreThere, IsApart, IsOldOrNew, Named};
+
+use crate::folder::Folder;
+use crate::journal_file::JournalFile;
+use journal::Journal;
+
+/// Why a journal is not begun anew.
+#[derive(Clone, Copy, Debug, PartialEq, Eq, Drop)]
+pub enum RollError {
+    /// The journal is closed.
+    Closed,
+    /// The next journal could not be written. The journal goes on.
+    NotWritten,
+    /// The next journal could not take the journal's name. The journal is closed: a start finds it
+    /// as it was, or the next one.
+    Lost,
+}
+
+/// Begins the journal anew by a text that is a whole journal. No event may be kept meanwhile.
+pub fn roll<F: Folder + Drop>(
+    journal: &mut Journal<JournalFile<F>>,
+    text: &[u8],
+) -> Result<(), RollError>
+    requires kept { journal.old.closed ≡ false → (contents : List (List ℕ))
+        × Keeps F.shows F.kept F.sound contents journal.old.medium.folder journal.old.len }
+    requires whole { (contents : List (List ℕ)) × IsJournalText contents text.now }
+    ensures ok { OnOk result ((new : List (List ℕ)) → IsJournalText new text.now
+        → Keeps F.shows F.kept F.sound new journal.new.medium.folder journal.new.len) }
+    ensures open { OnOk result (journal.new.closed ≡ false) }
+    // Where it goes on, it has what it had.
+    ensures err { OnErr result ((contents : List (List ℕ))
+        → Keeps F.shows F.kept F.sound contents journal.old.medium.folder journal.old.len
+        → journal.new.closed ≡ false
+        → Keeps F.shows F.kept F.sound contents journal.new.medium.folder journal.new.len) }
+    ensures closed { IsErrOf result RollError.Closed → journal.old.closed ≡ true }
+    ensures not_written { IsErrOf result RollError.NotWritten
+        → (journal.new.closed ≡ false) × (F.failed journal.new.medium.folder ≡ true) }
+    ensures lost { IsErrOf result RollError.Lost → F.failed journal.new.medium.folder ≡ true }
+    // All other files stay.
+    ensures files { (files : List Named) → AllByRecursion IsApart files
+        → AreThere F.shows F.kept files journal.old.medium.folder
+        → AreThere F.shows F.kept files journal.new.medium.folder }
+    // A crash at any moment of the call leaves the journal as it was or the new one, whole, and all
+    // other files.
+    ensures any_moment { (old new : List (List ℕ)) (files : List Named)
+        → Keeps F.shows F.kept F.sound old journal.old.medium.folder journal.old.len
+        → IsJournalText new text.now
+        → AllByRecursion IsApart files
+        → AreThere F.shows F.kept files journal.old.medium.folder
+        → LeavesOnly F.moment F.left_since journal.old.medium.folder journal.new.medium.folder
+        (IsOldOrNew files old new) }
+{
+    if journal.closed {
+        return Err(RollError::Closed);
+    }
+    match journal.medium.folder.write("journal.next", text) {
+        Err(_) => Err(RollError::NotWritten),
+        Ok(()) => match journal.medium.folder.replace("journal.next", "journal") {
+            Err(_) => {
+                journal.closed = true;
+                Err(RollError::Lost)
+            }
+            Ok(()) => {
+                journal.len = text.len();
+                Ok(())
+            }
+        },
+    }
+}
