@@ -70,7 +70,7 @@ fn a_whole_journal_is_spelled_so(rt: HostRuntime) -> Result<(), Fail> {
     let alloc = rt.alloc();
     let found = recover(alloc, FILE)?;
     assert_eq!(rt; file_text(alloc, &found.contents)?.as_slice(), FILE);
-    let none = Vec::new(alloc);
+    let none: Vec<Vec<u8>> = Vec::new(alloc);
     assert_eq!(rt; file_text(alloc, &none)?.as_slice(), &FILE[..5]);
     Ok(())
 }
