@@ -3,12 +3,13 @@ use Rattle.std.proofs.Common.{◌≡◌, ◌≢◌, inl, inr, ⊎_elim, ℕ, Boo
 use Rattle.std.proofs.Common.{◌∷◌, Option, Some, length, subst, ap, ◌∙◌, arith}
 use Rattle.std.specs.List.{AllByRecursion}
 use Rattle.std.proofs.lemmas.List.{take_all}
+use Rattle.journal.specs.Group.{IsJournalText}
 use Rattle.journal.specs.Records.{file_of, IsContent}
 use Rattle.journal.proofs.Keeping.{itself}
 use Rattle.data_folder.specs.Folders.{Elapses, HasFile, IsOneOf, KeepsOthers, Left, LeavesOnly}
 use Rattle.data_folder.specs.Folders.{LeavesOthers, MayLeaveOf}
 use Rattle.data_folder.specs.JournalFile.{journal_name, next_name}
-use Rattle.data_folder.specs.Rolls.{IsJournalText, Keeps}
+use Rattle.data_folder.specs.Rolls.{Keeps}
 use Rattle.data_folder.specs.States.{AreThere, HasFiles, HasJournal, IsApart, IsOldOrNew, Named}
 use Rattle.data_folder.proofs.Moments.{goes_on, started}
 

@@ -5,11 +5,6 @@ use Rattle.journal.specs.Records.{file_of, IsContent}
 use Rattle.data_folder.specs.Folders.{HasFile}
 use Rattle.data_folder.specs.JournalFile.{journal_name}
 
--- the text is a journal of these contents
-pub record IsJournalText (contents : List (List ℕ)) (text : List ℕ) : Type 0 where
-  pub each : AllByRecursion IsContent contents
-  pub whole : text ≡ file_of contents
-
 -- the file `journal` has exactly these contents, all of them for good
 pub record Keeps {F : Type 0} (shows : F → List ℕ → Option (List ℕ) → Type 0)
     (kept : F → List ℕ → ℕ → Type 0) (sound : F → Bool) (contents : List (List ℕ))

@@ -2,9 +2,9 @@
 
 ghost use Rattle.std.specs.Prelude.{◌≡◌, ℕ, List, true, false, Err, OnOk, OnErr, IsErrOf};
 ghost use Rattle.std.specs.List.{AllByRecursion};
-ghost use Rattle.journal.specs.Records.{file_of, IsContent};
+ghost use Rattle.journal.specs.Group.{IsJournalText};
 ghost use Rattle.data_folder.specs.Folders.{LeavesOnly};
-ghost use Rattle.data_folder.specs.Rolls.{IsJournalText, Keeps};
+ghost use Rattle.data_folder.specs.Rolls.{Keeps};
 ghost use Rattle.data_folder.specs.States.{AreThere, IsApart, IsOldOrNew, Named};
 
 use crate::folder::Folder;

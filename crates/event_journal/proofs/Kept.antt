@@ -1,56 +1,88 @@
--- One event more.
-use Rattle.std.proofs.Common.{◌≡◌, ◌⊎◌, inl, inr, ⊎_elim, ℕ, ◌≤◌, Bool, true, false, List, []}
-use Rattle.std.proofs.Common.{◌∷◌, ◌++◌, length, Result, Ok, Err, refl, sym, ap, subst, ◌∙◌}
-use Rattle.std.proofs.Common.{append_assoc, arith}
+-- Events more.
+use Rattle.std.proofs.Common.{◌≡◌, ◌⊎◌, inl, inr, ⊎_elim, ℕ, zero, suc, ◌≤◌, Bool, true, false}
+use Rattle.std.proofs.Common.{List, [], ◌∷◌, ◌++◌, length, take, Result, Ok, Err, refl, sym, ap}
+use Rattle.std.proofs.Common.{subst, ◌∙◌, append_assoc, arith}
 use Rattle.std.specs.Prelude.{OnOk, OnErr}
 use Rattle.std.specs.List.{AllByRecursion}
-use Rattle.std.proofs.lemmas.List.{map-append}
+use Rattle.std.proofs.lemmas.List.{append-nil, map-append, take_all}
 use Rattle.wire.specs.Spelling.{IsBytes}
 use Rattle.head.specs.Worlds.{Event}
-use Rattle.event_text.specs.Spelling.{event_text, Spells}
-use Rattle.journal.specs.Media.{HasAll, IsBeforeOrAfter, Keeps, LeavesOnly, MayLeave}
+use Rattle.event_text.specs.Spelling.{event_text}
+use Rattle.journal.specs.declared.error.JournalError.{JournalError}
+use Rattle.journal.specs.declared.error.JournalError.TheVariants as journal
+use Rattle.journal.specs.Group.{HasSomeMore}
+use Rattle.journal.specs.Media.{HasAll, Keeps, LeavesOnly, MayLeave}
 use Rattle.journal.specs.Records.{file_of, Recovers}
 use Rattle.journal.proofs.Keeping.{at_rest}
 use Rattle.journal.proofs.Moments.{started, weaker}
-use Rattle.keeper.specs.Finding.{FindsAll, IsAllOrOneMore}
-use Rattle.event_journal.specs.Finding.{found_in}
-use Rattle.event_journal.specs.Holding.{AreInFront, FoundSince, Holds, IsKept, Stands}
-use Rattle.event_journal.specs.Holding.{StandsOrOneMore, contents_with, texts_of}
+use Rattle.keeper.specs.declared.error.KeepError.{KeepError}
+use Rattle.keeper.specs.declared.error.KeepError.TheVariants.{Closed}
+use Rattle.keeper.specs.Errors.{keep_error}
+use Rattle.keeper.specs.Finding.{IsAllAndSome}
+use Rattle.keeper.specs.Together.{IsKept, texts_of}
+use Rattle.keeper.proofs.Texts.{only_closed}
+use Rattle.event_journal.specs.Finding.{found_some}
+use Rattle.event_journal.specs.Holding.{AreInFront, FoundSince, Holds, Stands, StandsAndMore}
+use Rattle.event_journal.specs.Holding.{StandsAndSome, contents_with}
 
-pub texts_last : (events : List Event) (e : Event)
-    → texts_of (events ++ e ∷ []) ≡ texts_of events ++ event_text e ∷ []
-texts_last events e = map-append event_text events (e ∷ [])
+contents_joined : (front : List (List ℕ)) (events more : List Event)
+    → contents_with front (events ++ more) ≡ contents_with front events ++ texts_of more
+contents_joined front events more =
+    ap (λ (x : List (List ℕ)). front ++ x) (map-append event_text events more)
+    ∙ sym (append_assoc front (texts_of events) (texts_of more))
 
-contents_last : (front : List (List ℕ)) (events : List Event) (e : Event)
-    → contents_with front (events ++ e ∷ []) ≡ contents_with front events ++ event_text e ∷ []
-contents_last front events e =
-    ap (λ (x : List (List ℕ)). front ++ x) (texts_last events e)
-    ∙ sym (append_assoc front (texts_of events) (event_text e ∷ []))
+all_joined : (events more : List Event) → AllByRecursion IsKept events
+    → AllByRecursion IsKept more → AllByRecursion IsKept (events ++ more)
+all_joined [] more h i = i
+all_joined (e ∷ events) more h i = (h.0, all_joined events more h.1 i)
 
-pub all_last : (events : List Event) (e : Event) → AllByRecursion IsKept events → IsKept e
-    → AllByRecursion IsKept (events ++ e ∷ [])
-all_last [] e h i = (i, tt)
-all_last (d ∷ ds) e h i = (h.0, all_last ds e h.1 i)
+front_of : (events more : List Event) → AllByRecursion IsKept (events ++ more)
+    → AllByRecursion IsKept events
+front_of [] more h = tt
+front_of (e ∷ events) more h = (h.0, front_of events more h.1)
 
-pub kept_of : (text : List ℕ) (e : Event) → Spells text e → IsKept e
-kept_of text e s = record { spelled = s.spelled; bounded = s.bounded }
+texts_taken : (n : ℕ) (more : List Event) → take n (texts_of more) ≡ texts_of (take n more)
+texts_taken zero more = refl
+texts_taken (suc n) [] = refl
+texts_taken (suc n) (e ∷ more) = ap (λ (x : List (List ℕ)). event_text e ∷ x) (texts_taken n more)
 
--- what is left with one text more stands for one event more
-pub stands_after : (front : List (List ℕ)) (events : List Event) (e : Event) (text left : List ℕ)
-    → AreInFront front → AllByRecursion IsKept events → Spells text e
-    → IsBeforeOrAfter (contents_with front events) text left → StandsOrOneMore front events left
-stands_after front events e text left before each s (inl r) =
-    inl (record { before = before; each = each; recovers = r })
-stands_after front events e text left before each s (inr r) =
-    inr (
-      e,
+all_taken : (n : ℕ) (more : List Event) → AllByRecursion IsKept more
+    → AllByRecursion IsKept (take n more)
+all_taken zero more h = tt
+all_taken (suc n) [] h = tt
+all_taken (suc n) (e ∷ more) h = (h.0, all_taken n more h.1)
+
+-- what is left with a few texts more stands for a few events more
+pub stands_after : (front : List (List ℕ)) (events more : List Event) (left : List ℕ)
+    → AreInFront front → AllByRecursion IsKept events → AllByRecursion IsKept more
+    → HasSomeMore (contents_with front events) (texts_of more) left
+    → StandsAndSome front events more left
+stands_after front events more left before each others s =
+    let few = take s.0 more in
+    let contents : contents_with front events ++ take s.0 (texts_of more)
+    ≡ contents_with front (events ++ few) =
+    ap (λ (x : List (List ℕ)). contents_with front events ++ x) (texts_taken s.0 more)
+    ∙ sym (contents_joined front events few) in (
+      s.0,
       record {
         before = before;
-        each = all_last events e each (kept_of text e s);
-        recovers = subst (Recovers left) (sym (contents_last front events e))
-            (subst (λ (x : List ℕ). Recovers left (contents_with front events ++ x ∷ [])) s.text r);
+        each = all_joined events few each (all_taken s.0 more others);
+        recovers = subst (λ (x : List (List ℕ)). Recovers left x) contents s.1;
       },
     )
+
+nothing_more : (front : List (List ℕ)) (events : List Event) (left : List ℕ)
+    → Stands front left events → StandsAndMore front events left
+nothing_more front events left s =
+    ([], subst (λ (x : List Event). Stands front left x) (sym (append-nil events)) s)
+
+all_of_them : (front : List (List ℕ)) (events more : List Event) (left : List ℕ)
+    → Stands front left (events ++ more) → StandsAndSome front events more left
+all_of_them front events more left s = (
+  length more,
+  subst (λ (x : List Event). Stands front left (events ++ x))
+      (sym (take_all (length more) more (omega arith))) s,
+)
 
 -- a closed journal is not open
 pub not_both : {A : Type 0} (b : Bool) → b ≡ true → b ≡ false → A
@@ -62,11 +94,6 @@ by_was : (was closed : Bool) (P Q : Type 0) → (was ≡ false → P) → (was �
     → (P → closed ≡ false → Q) → closed ≡ false → Q
 by_was true closed P Q held same k f = not_both closed (same refl) f
 by_was false closed P Q held same k f = k (held refl) f
-
-front_of : (events : List Event) (e : Event) → AllByRecursion IsKept (events ++ e ∷ [])
-    → AllByRecursion IsKept events
-front_of [] e h = tt
-front_of (d ∷ ds) e h = (h.0, front_of ds e h.1)
 
 module _ {M : Type 0} (shows : M → List ℕ → Type 0) (kept : M → ℕ → Type 0) (sound : M → Bool)
     (moment : M → ℕ) (left_since : M → ℕ → List ℕ → Type 0)
@@ -100,39 +127,47 @@ module _ {M : Type 0} (shows : M → List ℕ → Type 0) (kept : M → ℕ → 
     before = before;
     each = each;
     keeps = λ _. k;
-    survives = λ left may. inl (resting front m len events left before each k may);
+    survives = λ left may. nothing_more front events left
+        (resting front m len events left before each k may);
   }
 
-  -- after a call that kept one event more
-  pub holds_more : (front : List (List ℕ)) (m : M) (len : ℕ) (closed : Bool) (events : List Event)
-      (e : Event) (text : List ℕ) → AreInFront front → AllByRecursion IsKept events
-      → Spells text e
-      → Keeps shows kept sound (contents_with front events ++ text ∷ []) m len
-      → HoldsHere front m len closed (events ++ e ∷ [])
-  holds_more front m len closed events e text before each s k =
-      holds_open front m len closed (events ++ e ∷ []) before
-      (all_last events e each (kept_of text e s))
+  -- after a call that kept events more
+  pub holds_more : (front : List (List ℕ)) (m : M) (len : ℕ) (closed : Bool)
+      (events more : List Event) → AreInFront front → AllByRecursion IsKept events
+      → AllByRecursion IsKept more
+      → Keeps shows kept sound (contents_with front events ++ texts_of more) m len
+      → HoldsHere front m len closed (events ++ more)
+  holds_more front m len closed events more before each others k =
+      holds_open front m len closed (events ++ more) before
+      (all_joined events more each others)
       (subst (λ (x : List (List ℕ)). Keeps shows kept sound x m len)
-      (sym (contents_last front events e))
-      (subst (λ (x : List ℕ). Keeps shows kept sound (contents_with front events ++ x ∷ []) m len)
-      s.text k))
+      (sym (contents_joined front events more)) k)
+
+  -- during a call of an open journal
+  pub in_flight : (front : List (List ℕ)) (old new : M) (len : ℕ) (closed : Bool)
+      (events more : List Event) → HoldsHere front old len closed events
+      → AllByRecursion IsKept more
+      → LeavesOnly moment left_since old new
+      (HasSomeMore (contents_with front events) (texts_of more))
+      → LeavesOnly moment left_since old new (StandsAndSome front events more)
+  in_flight front old new len closed events more h others moments =
+      weaker moment left_since old new
+      (HasSomeMore (contents_with front events) (texts_of more)) (StandsAndSome front events more)
+      (λ left s. stands_after front events more left h.before h.each others s) moments
 
   -- during a call, by whether the journal was closed
   pub any_moment : (front : List (List ℕ)) (old new : M) (len : ℕ) (closed : Bool)
-      (events : List Event) (e : Event) (text : List ℕ) → HoldsHere front old len closed events
-      → Spells text e → (closed ≡ true → new ≡ old)
-      → (Keeps shows kept sound (contents_with front events) old len
-      → LeavesOnly moment left_since old new (IsBeforeOrAfter (contents_with front events) text))
-      → LeavesOnly moment left_since old new (StandsOrOneMore front events)
-  any_moment front old new len true events e text h s same moments =
-      subst (λ (m : M). LeavesOnly moment left_since old m (StandsOrOneMore front events))
+      (events more : List Event) → HoldsHere front old len closed events
+      → (closed ≡ true → new ≡ old)
+      → (closed ≡ false → LeavesOnly moment left_since old new (StandsAndSome front events more))
+      → LeavesOnly moment left_since old new (StandsAndMore front events)
+  any_moment front old new len true events more h same moments =
+      subst (λ (m : M). LeavesOnly moment left_since old m (StandsAndMore front events))
       (sym (same refl))
-      (started moment left_since old (StandsOrOneMore front events) h.survives)
-  any_moment front old new len false events e text h s same moments =
-      weaker moment left_since old new (IsBeforeOrAfter (contents_with front events) text)
-      (StandsOrOneMore front events)
-      (λ left. stands_after front events e text left h.before h.each s)
-      (moments (h.keeps refl))
+      (started moment left_since old (StandsAndMore front events) h.survives)
+  any_moment front old new len false events more h same moments =
+      weaker moment left_since old new (StandsAndSome front events more)
+      (StandsAndMore front events) (λ left s. (take s.0 more, s.1)) (moments refl)
 
   -- after a call that kept nothing
   pub holds_on : (front : List (List ℕ)) (old new : M) (len more : ℕ) (was closed : Bool)
@@ -140,7 +175,7 @@ module _ {M : Type 0} (shows : M → List ℕ → Type 0) (kept : M → ℕ → 
       → (was ≡ true → closed ≡ true)
       → (Keeps shows kept sound (contents_with front events) old len → closed ≡ false
       → Keeps shows kept sound (contents_with front events) new more)
-      → LeavesOnly moment left_since old new (StandsOrOneMore front events)
+      → LeavesOnly moment left_since old new (StandsAndMore front events)
       → HoldsHere front new more closed events
   holds_on front old new len more was closed events h same k moments = record {
     before = h.before;
@@ -151,32 +186,43 @@ module _ {M : Type 0} (shows : M → List ℕ → Type 0) (kept : M → ℕ → 
   }
 
   -- what a start finds
-  pub finding : (front : List (List ℕ)) (old new : M) (events : List Event)
-      → LeavesOnly moment left_since old new (StandsOrOneMore front events)
+  pub finding : (front : List (List ℕ)) (old new : M) (events more : List Event)
+      → LeavesOnly moment left_since old new (StandsAndSome front events more)
       → (moment old ≤ moment new)
       × ((found : List Event) → FoundSince left_since new (moment old) found
-      → IsAllOrOneMore events found)
+      → IsAllAndSome events more found)
       × ((t : ℕ) (found : List Event) → t ≤ moment old → FoundSince left_since new t found
-      → FoundSince left_since old t found ⊎ IsAllOrOneMore events found)
-  finding front old new events m = (
+      → FoundSince left_since old t found ⊎ IsAllAndSome events more found)
+  finding front old new events more m = (
     m.later,
-    λ found had. found_in front had.3.0 events found had.0 had.2 (m.each had.0 had.1) had.3.1,
+    λ found had. found_some front had.3.0 events more found had.0 had.2 (m.each had.0 had.1)
+        had.3.1,
     λ t found le had. ⊎_elim (λ before. inl (had.0, before, had.2, had.3))
-        (λ p. inr (found_in front had.3.0 events found had.0 had.2 p had.3.1))
+        (λ p. inr (found_some front had.3.0 events more found had.0 had.2 p had.3.1))
         (m.before t had.0 le had.1),
   )
 
-  -- the event that was kept last is given up
-  pub given_up : (front : List (List ℕ)) (m : M) (len : ℕ) (was : Bool) (events : List Event)
-      (e : Event) → was ≡ false → HoldsHere front m len was (events ++ e ∷ [])
+  -- the events that were kept last are given up
+  pub given_up : (front : List (List ℕ)) (m : M) (len : ℕ) (was : Bool) (events more : List Event)
+      → was ≡ false → HoldsHere front m len was (events ++ more)
       → HoldsHere front m len true events
-  given_up front m len was events e opened h = record {
+  given_up front m len was events more opened h = record {
     before = h.before;
-    each = front_of events e h.each;
+    each = front_of events more h.each;
     keeps = λ f. not_both true refl f;
-    survives = λ left may.
-        inr (e, resting front m len (events ++ e ∷ []) left h.before h.each (h.keeps opened) may);
+    survives = λ left may. (
+      more,
+      resting front m len (events ++ more) left h.before h.each (h.keeps opened) may,
+    );
   }
+
+  pub giving_up : (front : List (List ℕ)) (m : M) (len : ℕ) (was : Bool) (events more : List Event)
+      → was ≡ false → HoldsHere front m len was (events ++ more)
+      → LeavesOnly moment left_since m m (StandsAndSome front events more)
+  giving_up front m len was events more opened h =
+      started moment left_since m (StandsAndSome front events more)
+      (λ left may. all_of_them front events more left
+      (resting front m len (events ++ more) left h.before h.each (h.keeps opened) may))
 
 pub on_err : {A E : Type 0} (r : Result A E) (P Q : Type 0) → (P → Q) → OnErr r P → OnErr r Q
 on_err (Ok x) P Q f p = tt
@@ -191,3 +237,22 @@ pub was_open : {A E : Type 0} (b : Bool) (r : Result A E) (x : A) (e : E) → r 
     → (b ≡ true → r ≡ Err e) → b ≡ false
 was_open {A} {E} true r x e h f = absurd (let a : r ≡ Err e = f refl in cc)
 was_open false r x e h f = refl
+
+abbrev refused : {X : Type 0} → JournalError → Result X JournalError
+refused e = Err e
+
+abbrev failed : {X : Type 0} → KeepError → Result X KeepError
+failed k = Err k
+
+-- what a closed journal says
+pub says_closed : {X Y : Type 0} (e : JournalError) (k : KeepError) → k ≡ keep_error e
+    → refused {X} e ≡ Err journal.Closed → failed {Y} k ≡ Err Closed
+says_closed {X} {Y} e k is closed =
+    let same : e ≡ journal.Closed = cc in
+    ap (λ (x : KeepError). failed {Y} x) (is ∙ ap keep_error same)
+
+pub told_closed : {X Y A : Type 0} (e : JournalError) (k : KeepError) → k ≡ keep_error e
+    → failed {Y} k ≡ Err Closed → (refused {X} e ≡ Err journal.Closed → A) → A
+told_closed {X} {Y} e k is told then =
+    let same : k ≡ Closed = cc in
+    then (ap (λ (x : JournalError). refused {X} x) (only_closed e (sym is ∙ same)))

@@ -14,8 +14,9 @@ use Rattle.event_text.specs.Reading.{event_of}
 use Rattle.event_text.specs.Spelling.{event_text, Spells}
 use Rattle.journal.specs.Contents.{contents_in}
 use Rattle.event_journal.specs.Finding.{same_texts}
-use Rattle.event_journal.specs.Holding.{IsKept, Spell, texts_of}
+use Rattle.event_journal.specs.Holding.{Spell}
 use Rattle.event_journal.specs.Outcome.{MayRefuse, RefusesAt}
+use Rattle.keeper.specs.Together.{IsKept, texts_of}
 
 abbrev Bytes : Type 0
 Bytes = Vec ℕ Global

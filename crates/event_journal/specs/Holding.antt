@@ -1,22 +1,12 @@
 -- Which events a file stands for, and which a journal holds.
-use Rattle.std.specs.Prelude.{◌≡◌, ◌⊎◌, ℕ, Bool, true, false, ◌&&◌, nat_le, List, [], ◌∷◌, ◌++◌, map}
-use Rattle.std.specs.Prelude.{length}
+use Rattle.std.specs.Prelude.{◌≡◌, ℕ, Bool, true, false, ◌&&◌, nat_le, List, [], ◌∷◌, ◌++◌, length}
+use Rattle.std.specs.Prelude.{take}
 use Rattle.std.specs.List.{AllByRecursion}
 use Rattle.wire.specs.Spelling.{IsBytes}
-use Rattle.head.specs.Batches.{IsEvent}
 use Rattle.head.specs.Worlds.{Event}
-use Rattle.event_text.specs.Spelling.{event_text, HasSpelling}
 use Rattle.journal.specs.Media.{HasAll, Keeps}
 use Rattle.journal.specs.Records.{file_of, Recovers}
-
--- an event that has a text, within its bounds
-pub record IsKept (e : Event) : Type 0 where
-  pub spelled : HasSpelling e
-  pub bounded : IsEvent e
-
--- the contents that events are spelled in
-abbrev pub texts_of : List Event → List (List ℕ)
-texts_of events = map event_text events
+use Rattle.keeper.specs.Together.{IsKept, texts_of}
 
 -- the contents are the texts of these events
 pub record Spell (contents : List (List ℕ)) (events : List Event) : Type 0 where
@@ -43,13 +33,16 @@ pub record Stands (front : List (List ℕ)) (file : List ℕ) (events : List Eve
   pub each : AllByRecursion IsKept events
   pub recovers : Recovers file (contents_with front events)
 
--- the file stands for these events, or for these and one more
-abbrev pub StandsOrOneMore : List (List ℕ) → List Event → List ℕ → Type 0
-StandsOrOneMore front events file =
-    Stands front file events ⊎ ((e : Event) × Stands front file (events ++ e ∷ []))
+-- the file stands for these events, and more
+abbrev pub StandsAndMore : List (List ℕ) → List Event → List ℕ → Type 0
+StandsAndMore front events file = (more : List Event) × Stands front file (events ++ more)
+
+-- the file stands for these events, and the first few of some more
+abbrev pub StandsAndSome : List (List ℕ) → List Event → List Event → List ℕ → Type 0
+StandsAndSome front events more file = (few : ℕ) × Stands front file (events ++ take few more)
 
 -- A journal that is not closed keeps exactly these events after these contents. A crash now leaves
--- a file of these, or of these and one event more.
+-- a file of these, and of more at most if it is closed.
 pub record Holds {M : Type 0} (shows : M → List ℕ → Type 0) (kept : M → ℕ → Type 0)
     (sound : M → Bool) (moment : M → ℕ) (left_since : M → ℕ → List ℕ → Type 0)
     (front : List (List ℕ)) (medium : M) (len : ℕ) (closed : Bool) (events : List Event)
@@ -58,7 +51,7 @@ pub record Holds {M : Type 0} (shows : M → List ℕ → Type 0) (kept : M → 
   pub each : AllByRecursion IsKept events
   pub keeps : closed ≡ false → Keeps shows kept sound (contents_with front events) medium len
   pub survives : (left : List ℕ) → left_since medium (moment medium) left
-      → StandsOrOneMore front events left
+      → StandsAndMore front events left
 
 -- what a start might find in a file that a crash left at some moment from that one on
 abbrev pub FoundSince : {M : Type 0} → (M → ℕ → List ℕ → Type 0) → M → ℕ → List Event → Type 0

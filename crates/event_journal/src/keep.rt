@@ -1,31 +1,14 @@
 //! Events in a journal.
 
-ghost use Rattle.std.specs.Prelude.{◌≡◌, ◌++◌, ◌∷◌, [], ℕ, List, true, false, Err, IfOk, OnOk};
-ghost use Rattle.std.specs.Prelude.{OnErr, IsErrOf, MatchResult};
+ghost use Rattle.std.specs.Prelude.{◌≡◌, ◌++◌, [], ℕ, List, true, false, Err, IfOk, OnOk, OnErr};
+ghost use Rattle.std.specs.Prelude.{IsErrOf, MatchResult};
 ghost use Rattle.head.specs.Worlds.{Event as Change};
-ghost use Rattle.event_text.specs.Spelling.{Spells};
 ghost use Rattle.journal.specs.Media.{HasAll, LeavesOnly};
-ghost use Rattle.event_journal.specs.Holding.{HasEvents, Holds, Stands, StandsOrOneMore};
+ghost use Rattle.keeper.specs.Together.{SpellTogether};
+ghost use Rattle.event_journal.specs.Holding.{HasEvents, Holds, Stands, StandsAndSome};
 
 use journal::{Journal, JournalError, Medium, MediumError, cut_end};
-use keeper::{KeepError, Keeper};
-use std::alloc::Global;
-
-fn keep_error(error: JournalError) -> KeepError
-    ensures closed { error ≡ JournalError.Closed → result ≡ KeepError.Closed }
-    ensures told { result ≡ KeepError.Closed → error ≡ JournalError.Closed }
-{
-    match error {
-        JournalError::Memory => KeepError::Memory,
-        JournalError::Size => KeepError::TooLong,
-        JournalError::Closed => KeepError::Closed,
-        JournalError::Magic
-        | JournalError::Version
-        | JournalError::Checksum(_)
-        | JournalError::Length(_)
-        | JournalError::Medium => KeepError::Failed,
-    }
-}
+use keeper::{KeepError, Keeper, keep_error};
 
 /// Keeps events in a journal.
 #[derive(Drop)]
@@ -80,44 +63,47 @@ impl<M: Medium + Drop> EventJournal<M> {
         }
     }
 
-    /// Keeps the event that a text is of, for good. It takes one write and one sync. `J5` to `J7`
-    /// as `Journal::append` has them.
-    pub fn append(&mut self, alloc: Global, text: &[u8]) -> Result<(), JournalError>
+    /// Keeps several events, for good, by their records. It takes one write and one sync. `J5` to
+    /// `J7` as `Journal::append_records` has them.
+    pub fn append(&mut self, records: &[u8]) -> Result<(), JournalError>
         requires held { (front : List (List ℕ)) × (events : List Change)
             × Holds M.shows M.kept M.sound M.moment M.left_since front
             self.old.journal.medium self.old.journal.len self.old.journal.closed events }
-        requires spelled { (e : Change) × Spells text.now e }
-        ensures ok { OnOk result ((front : List (List ℕ)) (events : List Change) (e : Change)
+        requires spelled { (more : List Change) × SpellTogether records.now more }
+        ensures ok { OnOk result ((front : List (List ℕ)) (events more : List Change)
             → Holds M.shows M.kept M.sound M.moment M.left_since front
             self.old.journal.medium self.old.journal.len self.old.journal.closed events
-            → Spells text.now e
+            → SpellTogether records.now more
             → Holds M.shows M.kept M.sound M.moment M.left_since front
             self.new.journal.medium self.new.journal.len self.new.journal.closed
-            (events ++ e ∷ [])) }
+            (events ++ more)) }
         ensures err { OnErr result ((front : List (List ℕ)) (events : List Change)
             → Holds M.shows M.kept M.sound M.moment M.left_since front
             self.old.journal.medium self.old.journal.len self.old.journal.closed events
             → Holds M.shows M.kept M.sound M.moment M.left_since front
             self.new.journal.medium self.new.journal.len self.new.journal.closed events) }
-        // A crash at any moment of the call leaves a file of all that was kept, and of at most one
-        // event more: so a start finds such a list, whatever is left.
-        ensures any_moment { (front : List (List ℕ)) (events : List Change)
+        // A crash at any moment of the call leaves a file of all that was kept, and of the first few
+        // of these: so a start finds such a list, whatever is left.
+        ensures any_moment { (front : List (List ℕ)) (events more : List Change)
             → Holds M.shows M.kept M.sound M.moment M.left_since front
             self.old.journal.medium self.old.journal.len self.old.journal.closed events
+            → SpellTogether records.now more → self.old.journal.closed ≡ false
             → LeavesOnly M.moment M.left_since self.old.journal.medium self.new.journal.medium
-            (StandsOrOneMore front events) }
+            (StandsAndSome front events more) }
         ensures open { OnOk result (self.new.journal.closed ≡ false) }
-        ensures closed { self.old.journal.closed ≡ true → result ≡ Err JournalError.Closed }
+        ensures closed { self.old.journal.closed ≡ true → (result ≡ Err JournalError.Closed)
+            × (self.new ≡ self.old) }
         ensures told { IsErrOf result JournalError.Closed → self.old.journal.closed ≡ true }
     {
-        self.journal.append(alloc, text)
+        self.journal.append_records(records)
     }
 }
 
 impl<M: Medium + Drop> Keeper for EventJournal<M> {
-    ghost use Rattle.std.specs.Prelude.{ℕ, List};
-    ghost use Rattle.event_journal.specs.Holding.{FoundSince, Holds};
-    ghost use Rattle.event_journal.specs.Finding.{found_in};
+    ghost use Rattle.std.specs.Prelude.{ℕ, List, length};
+    ghost use Rattle.journal.specs.Records.{file_of};
+    ghost use Rattle.event_journal.specs.Holding.{FoundSince, Holds, contents_with};
+    ghost use Rattle.event_journal.specs.Finding.{found_more, found_settled};
 
     ghost holds = { λ j events. (front : List (List ℕ))
         × Holds M.shows M.kept M.sound M.moment M.left_since front
@@ -133,8 +119,8 @@ impl<M: Medium + Drop> Keeper for EventJournal<M> {
         false
     }
 
-    fn keep(&mut self, alloc: Global, text: &[u8]) -> Result<(), KeepError> {
-        match self.append(alloc, text) {
+    fn keep(&mut self, records: &[u8]) -> Result<(), KeepError> {
+        match self.append(records) {
             Ok(()) => Ok(()),
             Err(error) => Err(keep_error(error)),
         }
@@ -144,6 +130,13 @@ impl<M: Medium + Drop> Keeper for EventJournal<M> {
         self.journal.closed = true;
     }
 
-    ghost now = { λ j events found held had. found_in held.0 had.3.0 events found had.0 had.2
+    ghost now = { λ j events found held had. found_more held.0 had.3.0 events found had.0 had.2
         (held.1.survives had.0 had.1) had.3.1 };
+
+    ghost settled = { λ j events found held opened had.
+        found_settled held.0 had.3.0 events found had.0 had.2 held.1.before held.1.each
+        (held.1.keeps opened).each
+        (M.only_now j.journal.medium (file_of (contents_with held.0 events))
+        (length (file_of (contents_with held.0 events))) had.0 (held.1.keeps opened).has.all
+        (held.1.keeps opened).has.durable had.1) had.3.1 };
 }

@@ -7,7 +7,7 @@
 ghost use Rattle.std.specs.Prelude.{IfOk};
 ghost use Rattle.journal.specs.Media.{IsJournal};
 
-use journal::{Journal, JournalError, Medium, MemoryMedium, recover};
+use journal::{Journal, JournalError, Medium, MemoryMedium, file_text, push_record, recover};
 use std::alloc::Global;
 use std::test::Fail;
 
@@ -50,6 +50,28 @@ fn contents_are_written_so(rt: HostRuntime) -> Result<(), Fail> {
     journal.append(alloc, &ONES)?;
     assert_eq!(rt; journal.medium.bytes(), FILE);
     assert_eq!(rt; journal.medium.synced(), 114);
+    Ok(())
+}
+
+#[test]
+fn several_are_spelled_so(rt: HostRuntime) -> Result<(), Fail> {
+    let alloc = rt.alloc();
+    let mut records = Vec::new(alloc);
+    push_record(&mut records, DIGITS)?;
+    push_record(&mut records, &ZEROS)?;
+    push_record(&mut records, &ONES)?;
+    assert_eq!(rt; records.as_slice(), &FILE[5..]);
+    assert_eq!(rt; push_record(&mut records, b""), Err(JournalError::Size));
+    Ok(())
+}
+
+#[test]
+fn a_whole_journal_is_spelled_so(rt: HostRuntime) -> Result<(), Fail> {
+    let alloc = rt.alloc();
+    let found = recover(alloc, FILE)?;
+    assert_eq!(rt; file_text(alloc, &found.contents)?.as_slice(), FILE);
+    let none: Vec<Vec<u8>> = Vec::new(alloc);
+    assert_eq!(rt; file_text(alloc, &none)?.as_slice(), &FILE[..5]);
     Ok(())
 }
 

@@ -1,16 +1,15 @@
 //! Where events are kept before they are published.
 
-ghost use Rattle.std.specs.Prelude.{◌≡◌, ◌++◌, ◌∷◌, [], ℕ, Bool, List, true, false, Err, OnOk};
-ghost use Rattle.std.specs.Prelude.{OnErr, IsErrOf};
+ghost use Rattle.std.specs.Prelude.{◌≡◌, ◌++◌, ℕ, Bool, List, true, false, Err, OnOk, OnErr};
+ghost use Rattle.std.specs.Prelude.{IsErrOf};
 ghost use Rattle.head.specs.Worlds.{Event as Change};
-ghost use Rattle.event_text.specs.Spelling.{Spells};
-ghost use Rattle.keeper.specs.Finding.{FindsAll, IsAllOrOneMore};
+ghost use Rattle.keeper.specs.Finding.{FindsOnly, IsAllAndMore, IsAllAndSome};
+ghost use Rattle.keeper.specs.Together.{SpellTogether};
 
 use crate::error::KeepError;
-use std::alloc::Global;
 
-/// Keeps events for good, each before it is published. It is handed the text of an event, which
-/// can be made before a lock is taken.
+/// Keeps events for good, each before it is published. It is handed their records, which can be
+/// made before a lock is taken.
 pub trait Keeper {
     /// These are the events that it keeps.
     ghost holds: { Self → List Change → Type 0 };
@@ -28,35 +27,40 @@ pub trait Keeper {
     fn is_idle(&self) -> bool
         ensures { result ≡ true → (events : List Change) → holds self.now events };
 
-    /// Keeps one event more, for good. After an `Err` it keeps what it kept.
-    fn keep(&mut self, alloc: Global, text: &[u8]) -> Result<(), KeepError>
+    /// Keeps several events more, for good, by their records. After an `Err` it keeps what it kept.
+    fn keep(&mut self, records: &[u8]) -> Result<(), KeepError>
         requires held { (events : List Change) × holds self.old events }
-        requires spelled { (e : Change) × Spells text.now e }
-        ensures ok { OnOk result ((events : List Change) (e : Change) → holds self.old events
-            → Spells text.now e → holds self.new (events ++ e ∷ [])) }
+        requires spelled { (more : List Change) × SpellTogether records.now more }
+        ensures ok { OnOk result ((events more : List Change) → holds self.old events
+            → SpellTogether records.now more → holds self.new (events ++ more)) }
         ensures err { OnErr result ((events : List Change) → holds self.old events
             → holds self.new events) }
-        // A crash at any moment of the call leaves all that it kept, and at most one event more.
-        ensures any_moment { (events : List Change) → holds self.old events
-            → FindsAll moment found_since self.old self.new events }
-        // It is open after `Ok`, and says that it is closed where it is, and nowhere else.
+        // A crash at any moment of the call leaves all that it kept, and the first few of these.
+        ensures any_moment { (events more : List Change) → holds self.old events
+            → SpellTogether records.now more → closed self.old ≡ false
+            → FindsOnly moment found_since self.old self.new (IsAllAndSome events more) }
+        // It is open after `Ok`. Where it is closed it says so, and nowhere else, and does nothing.
         ensures open { OnOk result (closed self.new ≡ false) }
-        ensures closed { closed self.old ≡ true → result ≡ Err KeepError.Closed }
+        ensures closed { closed self.old ≡ true → (result ≡ Err KeepError.Closed)
+            × (self.new ≡ self.old) }
         ensures told { IsErrOf result KeepError.Closed → closed self.old ≡ true };
 
-    /// The event that was kept last is not published: it takes nothing more, and a start may find
-    /// that event or not.
+    /// The events that were kept last are not published: it takes nothing more, and a start may
+    /// find these events or not.
     fn close(&mut self)
         requires { closed self.old ≡ false }
-        ensures held { (events : List Change) (e : Change) → holds self.old (events ++ e ∷ [])
+        ensures held { (events more : List Change) → holds self.old (events ++ more)
             → holds self.new events }
-        ensures any_moment { (events : List Change) (e : Change)
-            → holds self.old (events ++ e ∷ [])
-            → FindsAll moment found_since self.old self.new events };
+        ensures any_moment { (events more : List Change) → holds self.old (events ++ more)
+            → FindsOnly moment found_since self.old self.new (IsAllAndSome events more) };
 
-    /// A crash at this moment leaves all that it keeps, and at most one event more.
+    /// A crash at this moment leaves all that it keeps.
     ghost now: { (k : Self) (events found : List Change) → holds k events
-        → found_since k (moment k) found → IsAllOrOneMore events found };
+        → found_since k (moment k) found → IsAllAndMore events found };
+
+    /// While it is open, a crash between two calls leaves exactly what it keeps.
+    ghost settled: { (k : Self) (events found : List Change) → holds k events → closed k ≡ false
+        → found_since k (moment k) found → found ≡ events };
 }
 
 /// Keeps nothing beside what is in memory. Of crashes it says nothing.
@@ -78,11 +82,13 @@ impl Keeper for NoKeeper {
         true
     }
 
-    fn keep(&mut self, _alloc: Global, _text: &[u8]) -> Result<(), KeepError> {
+    fn keep(&mut self, _records: &[u8]) -> Result<(), KeepError> {
         Ok(())
     }
 
     fn close(&mut self) {}
 
     ghost now = { λ k events found held none. absurd none };
+
+    ghost settled = { λ k events found held opened none. absurd none };
 }
