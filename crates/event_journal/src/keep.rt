@@ -115,7 +115,7 @@ impl<M: Medium + Drop> Keeper for EventJournal<M> {
 
     ghost found_since = { λ j t found. FoundSince M.left_since j.journal.medium t found };
 
-    fn is_idle(&self) -> bool {
+    fn is_idle() -> bool {
         false
     }
 

@@ -22,6 +22,7 @@ use crate::seat::Seat;
 use crate::version::{Grows, Version};
 use block::Block;
 use head::{MAX_BLOCKS, Snapshot};
+use keeper::NoKeeper;
 use left_right::reader::Factory;
 use logbook::{Seen, Start, Word};
 use std::alloc::{AllocError, Global};
@@ -154,7 +155,8 @@ impl Store {
             return Err(OpenError::Memory);
         };
         let desk = press.factory().another();
-        let committer = Committer::of(Book::of(rt, alloc, end, log, counts, press));
+        let book = Book::of(rt, alloc, end, log, counts, press, NoKeeper);
+        let committer = Committer::of(alloc, book);
         let Ok(desk) = desk else {
             return Err(OpenError::Unavailable);
         };
