@@ -50,6 +50,17 @@ module _ {F : Type 0} (moment : F → ℕ) (left_since : F → ℕ → Left → 
         (time.nothing_else t left (omega (arith, le, so_far.later)) had);
   }
 
+  -- one run of calls after another
+  pub joined : (old mid new : F) (P : Left → Type 0) → LeavesOnly moment left_since old mid P
+      → LeavesOnly moment left_since mid new P → LeavesOnly moment left_since old new P
+  joined old mid new P first second = record {
+    later = omega (arith, first.later, second.later);
+    each = λ left had. ⊎_elim (first.each left) (λ p. p)
+        (second.before (moment old) left first.later had);
+    before = λ t left le had. ⊎_elim (first.before t left le) (λ p. inr p)
+        (second.before t left (omega (arith, le, first.later)) had);
+  }
+
 pub on_ok : {A E : Type 0} (r : Result A E) (P Q : Type 0) → (P → Q) → OnOk r P → OnOk r Q
 on_ok (Ok x) P Q f p = f p
 on_ok (Err e) P Q f p = tt

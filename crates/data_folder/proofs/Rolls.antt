@@ -1,6 +1,6 @@
 -- A journal that is begun anew.
 use Rattle.std.proofs.Common.{◌≡◌, ◌≢◌, inl, inr, ⊎_elim, ℕ, Bool, true, List, []}
-use Rattle.std.proofs.Common.{◌∷◌, Option, Some, length, subst, ap, ◌∙◌, arith}
+use Rattle.std.proofs.Common.{◌∷◌, Option, None, Some, length, subst, ap, ◌∙◌, arith}
 use Rattle.std.specs.List.{AllByRecursion}
 use Rattle.std.proofs.lemmas.List.{take_all}
 use Rattle.journal.specs.Group.{IsJournalText}
@@ -10,18 +10,19 @@ use Rattle.data_folder.specs.Folders.{Elapses, HasFile, IsOneOf, KeepsOthers, Le
 use Rattle.data_folder.specs.Folders.{LeavesOthers, MayLeaveOf}
 use Rattle.data_folder.specs.JournalFile.{journal_name, next_name}
 use Rattle.data_folder.specs.Rolls.{Keeps}
-use Rattle.data_folder.specs.States.{AreThere, HasFiles, HasJournal, IsApart, IsOldOrNew, Named}
+use Rattle.data_folder.specs.States.{AreThere, HasFiles, HasJournal, IsApart, IsNoneOrNew}
+use Rattle.data_folder.specs.States.{IsOldOrNew, Named}
 use Rattle.data_folder.proofs.Moments.{goes_on, started}
 
 -- a file that is there for good is left whole
-whole_left : (bytes : List ℕ) (found : Option (List ℕ))
+pub whole_left : (bytes : List ℕ) (found : Option (List ℕ))
     → MayLeaveOf (length bytes) (Some bytes) found
     → found ≡ Some bytes
 whole_left bytes found m =
     m.1 ∙ ap (λ (x : List ℕ). Some x) (m.2.front ∙ take_all m.2.n bytes m.2.kept)
 
 -- a whole file is the journal of its contents
-journal_whole : (contents : List (List ℕ)) (left : Left) → AllByRecursion IsContent contents
+pub journal_whole : (contents : List (List ℕ)) (left : Left) → AllByRecursion IsContent contents
     → left journal_name ≡ Some (file_of contents) → HasJournal contents left
 journal_whole contents left each is = (file_of contents, is, itself contents each)
 
@@ -190,3 +191,45 @@ module _ {F : Type 0} (shows : F → List ℕ → Option (List ℕ) → Type 0)
       (still_kept shows kept sound old mid contents len differ others s h) t next apart
       (still_there shows kept sound next_name next_name old mid files
       (λ file away. (away.1, away.1)) others apart there))
+
+  -- the first journal of a folder
+
+  none_left : (f : F) (new : List (List ℕ)) (left : Left) → MayLeaveOf 0 None (left journal_name)
+      → IsNoneOrNew new left
+  none_left f new left none = inl none
+
+  pub none_yet : (f : F) (new : List (List ℕ)) → shows f journal_name None
+      → kept f journal_name 0 → LeavesOnly moment left_since f f (IsNoneOrNew new)
+  none_yet f new shown durable =
+      started moment left_since f (IsNoneOrNew new)
+      (λ left had. none_left f new left (only_now f journal_name None 0 left shown durable had))
+
+  pub first_written : (old mid : F) (new : List (List ℕ)) (P : Left → Type 0)
+      → Elapses (moment old) (moment mid) (left_since old) (left_since mid)
+      (LeavesOthers shows kept next_name next_name old P)
+      → shows old journal_name None → kept old journal_name 0
+      → LeavesOnly moment left_since old mid (IsNoneOrNew new)
+  first_written old mid new P time shown durable =
+      goes_on moment left_since old old mid (IsNoneOrNew new)
+      (LeavesOthers shows kept next_name next_name old P) (none_yet old new shown durable) time
+      (λ left l. none_left old new left (l.others journal_name None 0 differ differ shown durable))
+
+  pub first_begun : (old mid after : F) (new : List (List ℕ)) (text : List ℕ) (P : Left → Type 0)
+      → Elapses (moment old) (moment mid) (left_since old) (left_since mid)
+      (LeavesOthers shows kept next_name next_name old P)
+      → KeepsOthers shows kept next_name next_name old mid
+      → HasFile shows kept next_name text mid
+      → Elapses (moment mid) (moment after) (left_since mid) (left_since after)
+      (LeavesOthers shows kept next_name journal_name mid
+      (IsOneOf shows kept mid next_name journal_name))
+      → IsJournalText new text → shows old journal_name None → kept old journal_name 0
+      → LeavesOnly moment left_since old after (IsNoneOrNew new)
+  first_begun old mid after new text P first others next second t shown durable =
+      goes_on moment left_since old mid after (IsNoneOrNew new)
+      (LeavesOthers shows kept next_name journal_name mid
+      (IsOneOf shows kept mid next_name journal_name))
+      (first_written old mid new P first shown durable) second
+      (λ left l. ⊎_elim (none_left old new left)
+      (λ is. inr (journal_whole new left t.each (is ∙ ap (λ (x : List ℕ). Some x) t.whole)))
+      (l.own None 0 text (others.same journal_name None differ differ shown)
+      (others.durable journal_name 0 differ differ durable) next))

@@ -40,6 +40,19 @@ pub record KeepsOthers {F : Type 0} (shows : F → List ℕ → Option (List ℕ
   pub durable : (name : List ℕ) (n : ℕ) → name ≢ a → name ≢ b → kept old name n
       → kept new name n
 
+-- all names have what they had, as much of it for good
+pub record KeepsAll {F : Type 0} (shows : F → List ℕ → Option (List ℕ) → Type 0)
+    (kept : F → List ℕ → ℕ → Type 0) (old new : F) : Type 0 where
+  pub same : (name : List ℕ) (x : Option (List ℕ)) → shows old name x → shows new name x
+  pub durable : (name : List ℕ) (n : ℕ) → kept old name n → kept new name n
+
+-- a crash leaves of all names what it may leave
+abbrev pub LeavesAll : {F : Type 0} → (F → List ℕ → Option (List ℕ) → Type 0)
+    → (F → List ℕ → ℕ → Type 0) → F → Left → Type 0
+LeavesAll shows kept old left =
+    (name : List ℕ) (x : Option (List ℕ)) (n : ℕ) → shows old name x → kept old name n
+    → MayLeaveOf n x (left name)
+
 -- a crash leaves of names other than these two what it may leave, and what it leaves has P
 pub record LeavesOthers {F : Type 0} (shows : F → List ℕ → Option (List ℕ) → Type 0)
     (kept : F → List ℕ → ℕ → Type 0) (a b : List ℕ) (old : F) (P : Left → Type 0)

@@ -3,3 +3,4 @@ pub mod JournalFile
 pub mod JournalLaws
 pub mod Rolls
 pub mod States
+pub mod Sweeping

@@ -1,5 +1,5 @@
 -- What a crash leaves of a store: a journal, and the files that its head names.
-use Rattle.std.specs.Prelude.{◌≡◌, ◌≢◌, ◌⊎◌, ℕ, List, Option, Some}
+use Rattle.std.specs.Prelude.{◌≡◌, ◌≢◌, ◌⊎◌, ℕ, List, Option, None, Some}
 use Rattle.std.specs.List.{AllByRecursion}
 use Rattle.journal.specs.Records.{Recovers}
 use Rattle.data_folder.specs.Folders.{HasFile, Left}
@@ -32,3 +32,12 @@ HasJournal contents left =
 pub record IsOldOrNew (named : List Named) (old new : List (List ℕ)) (left : Left) : Type 0 where
   pub files : HasFiles named left
   pub journal : HasJournal old left ⊎ HasJournal new left
+
+-- what is left has these files, and a journal of these contents
+pub record HasStore (named : List Named) (contents : List (List ℕ)) (left : Left) : Type 0 where
+  pub files : HasFiles named left
+  pub journal : HasJournal contents left
+
+-- what a crash leaves while the first journal is written: none, or this one, whole
+abbrev pub IsNoneOrNew : List (List ℕ) → Left → Type 0
+IsNoneOrNew new left = (left journal_name ≡ None) ⊎ HasJournal new left

@@ -2,13 +2,14 @@
 
 ghost use Rattle.std.specs.Prelude.{◌≡◌, ◌≢◌, ◌≤◌, ◌++◌, ℕ, Bool, List, Option, None, Some, true};
 ghost use Rattle.std.specs.Prelude.{length, take, min, OnOk, OnErr, IfOk};
-ghost use Rattle.data_folder.specs.Folders.{Elapses, HasFile, IsFound, IsOneOf, KeepsOthers};
-ghost use Rattle.data_folder.specs.Folders.{Left, LeavesOthers, MayGrow, MayLeaveOf};
+ghost use Rattle.data_folder.specs.Folders.{Elapses, HasFile, IsFound, IsOneOf, KeepsAll};
+ghost use Rattle.data_folder.specs.Folders.{KeepsOthers, Left, LeavesAll, LeavesOthers, MayGrow};
+ghost use Rattle.data_folder.specs.Folders.{MayLeaveOf};
 
 use journal::MediumError;
 use std::alloc::Global;
 
-/// Files by their names.
+/// Files by their names. A name may have slashes: then it stands in a folder of this one.
 ///
 /// Of files that do not tell their bytes, as those of the system, any bytes may be those that a
 /// name shows; then the clauses say nothing of values. After a sync, a cut or a replacement that
@@ -77,8 +78,8 @@ pub trait Folder {
             (left_since self.new) (LeavesOthers shows kept name.now name.now self.old
             (MayGrow shows kept self.old name.now (λ old. old) (λ n. min len n))) };
 
-    /// Writes a whole file in the place of what the name has, and syncs it and the folder. After an
-    /// `Err` nothing is known of this name.
+    /// Writes a whole file in the place of what the name has, and syncs it and the folders above it.
+    /// After an `Err` nothing is known of this name.
     fn write(&mut self, name: &str, bytes: &[u8]) -> Result<(), MediumError>
         requires { sound self.old ≡ true }
         ensures written { OnOk result (HasFile shows kept name.now bytes.now self.new) }
@@ -129,6 +130,28 @@ pub trait Folder {
         ensures time { Elapses (moment self.old) (moment self.new) (left_since self.old)
             (left_since self.new) (LeavesOthers shows kept name.now name.now self.old
             (MayGrow shows kept self.old name.now (λ old. old) (λ n. n))) };
+
+    /// Makes a folder in this one, if it is not there. Nothing is said of it: what is written into it
+    /// is there for good with all the folders above it.
+    fn make(&mut self, folder: &str) -> Result<(), MediumError>
+        requires { sound self.old ≡ true }
+        ensures all { KeepsAll shows kept self.old self.new }
+        ensures sound { sound self.new ≡ true }
+        ensures failed { OnErr result (failed self.new ≡ true) }
+        ensures lasting { failed self.old ≡ true → failed self.new ≡ true }
+        ensures time { Elapses (moment self.old) (moment self.new) (left_since self.old)
+            (left_since self.new) (LeavesAll shows kept self.old) };
+
+    /// What stands in a folder, by its names there, in no order; none where the folder is not there.
+    /// Nothing is said of what they are.
+    fn names(&mut self, alloc: Global, folder: &str) -> Result<Vec<String>, MediumError>
+        requires { sound self.old ≡ true }
+        ensures all { KeepsAll shows kept self.old self.new }
+        ensures sound { sound self.new ≡ true }
+        ensures failed { OnErr result (failed self.new ≡ true) }
+        ensures lasting { failed self.old ≡ true → failed self.new ≡ true }
+        ensures time { Elapses (moment self.old) (moment self.new) (left_since self.old)
+            (left_since self.new) (LeavesAll shows kept self.old) };
 
     /// At this moment, a crash leaves of each name what it may leave.
     ghost only_now: { (f : Self) (name : List ℕ) (x : Option (List ℕ)) (n : ℕ) (left : Left)

@@ -3,7 +3,8 @@
 use crate::folder::Folder;
 use journal::{Medium, MediumError};
 
-const JOURNAL: &str = "journal";
+/// The name of the journal.
+pub(crate) const JOURNAL: &str = "journal";
 
 /// The file `journal` of a folder.
 #[derive(Drop)]

@@ -1,15 +1,20 @@
 //! A journal that is begun anew.
 
-ghost use Rattle.std.specs.Prelude.{◌≡◌, ℕ, List, true, false, Err, OnOk, OnErr, IsErrOf};
+ghost use Rattle.std.specs.Prelude.{◌≡◌, ℕ, List, None, true, false, Err, IfOk, IfErr, OnOk, OnErr};
+ghost use Rattle.std.specs.Prelude.{IsErrOf, MatchResult};
 ghost use Rattle.std.specs.List.{AllByRecursion};
 ghost use Rattle.journal.specs.Group.{IsJournalText};
 ghost use Rattle.data_folder.specs.Folders.{LeavesOnly};
+ghost use Rattle.data_folder.specs.JournalFile.{journal_name};
 ghost use Rattle.data_folder.specs.Rolls.{Keeps};
-ghost use Rattle.data_folder.specs.States.{AreThere, IsApart, IsOldOrNew, Named};
+ghost use Rattle.data_folder.specs.States.{AreThere, IsApart, IsNoneOrNew, IsOldOrNew, Named};
 
 use crate::folder::Folder;
-use crate::journal_file::JournalFile;
-use journal::Journal;
+use crate::journal_file::{JOURNAL, JournalFile};
+use journal::{Journal, MediumError};
+
+/// The journal in the making.
+const NEXT: &str = "journal.next";
 
 /// Why a journal is not begun anew.
 #[derive(Clone, Copy, Debug, PartialEq, Eq, Drop)]
@@ -60,9 +65,9 @@ pub fn roll<F: Folder + Drop>(
     if journal.closed {
         return Err(RollError::Closed);
     }
-    match journal.medium.folder.write("journal.next", text) {
+    match journal.medium.folder.write(NEXT, text) {
         Err(_) => Err(RollError::NotWritten),
-        Ok(()) => match journal.medium.folder.replace("journal.next", "journal") {
+        Ok(()) => match journal.medium.folder.replace(NEXT, JOURNAL) {
             Err(_) => {
                 journal.closed = true;
                 Err(RollError::Lost)
@@ -71,6 +76,38 @@ pub fn roll<F: Folder + Drop>(
                 journal.len = text.len();
                 Ok(())
             }
+        },
+    }
+}
+
+/// Begins the journal of a folder that has none, by a text that is a whole journal. An `Err` gives
+/// the folder back: a start finds no journal in it, or this one.
+pub fn begin<F: Folder + Drop>(
+    folder: F,
+    text: &[u8],
+) -> Result<Journal<JournalFile<F>>, (MediumError, F)>
+    requires sound { F.sound folder ≡ true }
+    requires none { F.shows folder journal_name None × F.kept folder journal_name 0 }
+    requires whole { (contents : List (List ℕ)) × IsJournalText contents text.now }
+    ensures keeps { IfOk result (λ j. (new : List (List ℕ)) → IsJournalText new text.now
+        → Keeps F.shows F.kept F.sound new j.medium.folder j.len) }
+    ensures open { IfOk result (λ j. j.closed ≡ false) }
+    ensures failed { IfErr result (λ e. F.failed e.1 ≡ true) }
+    // A crash at any moment of the call leaves no journal, or this one, whole.
+    ensures any_moment { (new : List (List ℕ)) → IsJournalText new text.now → MatchResult result
+        (λ j. LeavesOnly F.moment F.left_since folder j.medium.folder (IsNoneOrNew new))
+        (λ e. LeavesOnly F.moment F.left_since folder e.1 (IsNoneOrNew new)) }
+{
+    let mut folder = folder;
+    match folder.write(NEXT, text) {
+        Err(error) => Err((error, folder)),
+        Ok(()) => match folder.replace(NEXT, JOURNAL) {
+            Err(error) => Err((error, folder)),
+            Ok(()) => Ok(Journal {
+                medium: JournalFile { folder },
+                len: text.len(),
+                closed: false,
+            }),
         },
     }
 }

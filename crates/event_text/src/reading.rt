@@ -12,14 +12,14 @@ ghost use Rattle.event_text.specs.Reading.{event_of, is_event, labels_at, matche
 ghost use Rattle.event_text.specs.Reading.{pair_at, run_at};
 ghost use Rattle.event_text.specs.Reading.{sample_at, text_at};
 ghost use Rattle.event_text.specs.Spelling.{Spells};
-ghost use Rattle.event_text.specs.Views.{event_in, matcher_in, matchers_in, run_in, runs_in};
+ghost use Rattle.event_text.specs.Views.{event_in, matcher_in, matchers_in};
 
 use crate::error::{EventError, TextError};
 use crate::label_check::are_labels;
-use crate::parts::{EventParts, MatcherParts, RunParts};
+use crate::parts::{EventParts, MatcherParts};
 use crate::runs::{batch_in, differ};
 use head::Event;
-use labels::{LabelSet, Sample, is_time};
+use labels::{LabelSet, Row, Sample, is_time};
 use matchers::{MAX_MATCHERS, Matcher, MatcherError, Op, is_query_range};
 use std::alloc::Global;
 use wire::Cut;
@@ -108,8 +108,8 @@ pub fn samples_of(alloc: Global, bytes: &[u8], count: u64) -> Result<(Vec<Sample
 }
 
 #[tactic(auto, unfolding(crate::specs::Reading::run_at, crate::specs::Reading::many_at))]
-fn run_of(alloc: Global, bytes: &[u8]) -> Result<(RunParts, &[u8]), TextError>
-    ensures { Gives (λ x. (run_in x.0, x.1.now)) result (run_at bytes.now) }
+fn run_of(alloc: Global, bytes: &[u8]) -> Result<(Row, &[u8]), TextError>
+    ensures { Gives (λ x. (x.0, x.1.now)) result (run_at bytes.now) }
 {
     let (labels, rest) = labels_of(alloc, bytes)?;
     let mut cut = Cut::new(rest);
@@ -118,11 +118,11 @@ fn run_of(alloc: Global, bytes: &[u8]) -> Result<(RunParts, &[u8]), TextError>
     if samples.len() == 0 {
         return Err(TextError::Runs);
     }
-    Ok((RunParts { labels, samples }, rest))
+    Ok((Row::new(labels, samples), rest))
 }
 
-fn runs_of(alloc: Global, bytes: &[u8], count: u64) -> Result<(Vec<RunParts>, &[u8]), TextError>
-    ensures { Gives (λ x. (runs_in x.0.items, x.1.now)) result (each_at run_at count bytes.now) }
+fn runs_of(alloc: Global, bytes: &[u8], count: u64) -> Result<(Vec<Row>, &[u8]), TextError>
+    ensures { Gives (λ x. (x.0.items, x.1.now)) result (each_at run_at count bytes.now) }
 {
     let mut runs = Vec::new(alloc);
     let mut rest = bytes;

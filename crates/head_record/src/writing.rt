@@ -1,16 +1,15 @@
 //! Writing a head.
 
 ghost use Rattle.std.specs.Prelude.{◌≡◌, ◌++◌, OnOk, IfOk};
-ghost use Rattle.event_text.specs.Spelling.{many_text, sample_text, AreMany, IsSample};
+ghost use Rattle.event_text.specs.Spelling.{many_text, AreMany};
 ghost use Rattle.head_record.specs.Spelling.{head_texts, opening_content, opening_of_saved};
 ghost use Rattle.head_record.specs.Spelling.{place_text, series_content};
 ghost use Rattle.head_record.specs.Spelling.{IsOpening, IsPlace, IsSaved, IsSeries};
 ghost use Rattle.journal.specs.Contents.{contents_in};
 
 use crate::saved::{BlockPlace, HeadRecord};
-use event_text::{put_count, put_labels, put_sample};
+use event_text::{put_count, put_each_sample, put_labels, put_sample};
 use head::SavedSeries;
-use labels::Sample;
 use std::alloc::{AllocError, Global};
 use wire::{put_u8, put_uvarint, put_varint};
 
@@ -30,18 +29,6 @@ fn put_places(out: &mut Vec<u8>, places: &[BlockPlace]) -> Result<(), AllocError
     put_count(out, places.len())?;
     for place in places {
         put_place(out, *place)?;
-    }
-    Ok(())
-}
-
-fn put_samples(out: &mut Vec<u8>, samples: &[Sample]) -> Result<(), AllocError>
-    ensures text { OnOk result (out.new.items
-        ≡ out.old.items ++ many_text sample_text samples.now) }
-    ensures spelled { OnOk result (AreMany IsSample samples.now) }
-{
-    put_count(out, samples.len())?;
-    for sample in samples {
-        put_sample(out, *sample)?;
     }
     Ok(())
 }
@@ -66,7 +53,7 @@ fn put_series(out: &mut Vec<u8>, series: &SavedSeries) -> Result<(), AllocError>
     put_u8(out, 17)?;
     put_labels(out, series.labels())?;
     put_sample(out, series.newest())?;
-    put_samples(out, series.samples())
+    put_each_sample(out, series.samples())
 }
 
 /// The contents that a journal of this head begins with: one for the floor and the blocks, and one

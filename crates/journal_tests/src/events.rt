@@ -1,8 +1,8 @@
 //! Events spelled by hand: numbers of seven bits a byte as the encoding page of protobuf has them,
 //! signed ones by its zigzag (0, -1, 1, -2 are 0, 1, 2, 3; so 300 is 600, which is D8 04).
 
-use event_text::{EventError, TextError, put_batch, put_cut, put_deletion, read_event};
-use labels::{LabelSet, Sample};
+use event_text::{EventError, TextError, put_batch, put_cut, put_deletion, put_rows, read_event};
+use labels::{LabelSet, Row, Sample};
 use matchers::{Matcher, MatcherError, Op};
 use std::alloc::Global;
 use std::test::Fail;
@@ -31,6 +31,33 @@ fn batch(alloc: Global) -> Result<Vec<(LabelSet, Sample)>, Fail> {
     Ok(samples)
 }
 
+/// The same in rows; `cut_up`: the first row in two, and an empty one.
+fn rows(alloc: Global, cut_up: bool) -> Result<Vec<Row>, Fail> {
+    let up = LabelSet::of_sorted_texts(alloc, &[("__name__", "up")])?;
+    let job = LabelSet::of_sorted_texts(alloc, &[("__name__", "up"), ("job", "a")])?;
+    let mut first = Vec::new(alloc);
+    let mut second = Vec::new(alloc);
+    first.push(Sample::new(0, 7))?;
+    if cut_up {
+        second.push(Sample::new(300, -1))?;
+    } else {
+        first.push(Sample::new(300, -1))?;
+    }
+    let mut third = Vec::new(alloc);
+    third.push(Sample::new(-2, 0))?;
+    let mut last = Vec::new(alloc);
+    last.push(Sample::new(301, 1))?;
+    let mut rows = Vec::new(alloc);
+    rows.push(Row::new(up.try_clone()?, first))?;
+    if cut_up {
+        rows.push(Row::new(up.try_clone()?, second))?;
+        rows.push(Row::new(job.try_clone()?, Vec::new(alloc)))?;
+    }
+    rows.push(Row::new(job, third))?;
+    rows.push(Row::new(up, last))?;
+    Ok(rows)
+}
+
 fn matcher(alloc: Global, name: &str, op: Op, text: &str) -> Result<Matcher, Fail> {
     let name = String::from_str(alloc, name)?;
     let text = String::from_str(alloc, text)?;
@@ -52,6 +79,17 @@ fn a_batch_is_written_by_runs(rt: HostRuntime) -> Result<(), Fail> {
     let mut text = Vec::new(alloc);
     put_batch(&mut text, &batch(alloc)?)?;
     assert_eq!(rt; text.as_slice(), BATCH);
+    Ok(())
+}
+
+#[test]
+fn rows_have_the_text_of_their_batch(rt: HostRuntime) -> Result<(), Fail> {
+    let alloc = rt.alloc();
+    for cut_up in [false, true] {
+        let mut text = Vec::new(alloc);
+        put_rows(alloc, &mut text, &rows(alloc, cut_up)?)?;
+        assert_eq!(rt; text.as_slice(), BATCH);
+    }
     Ok(())
 }
 

@@ -4,7 +4,7 @@ use Rattle.wire.specs.Spelling.{uvarint}
 use Rattle.event_text.specs.Spelling.{sample_text, IsSample}
 use Rattle.event_text.proofs.Spelled.{all_next, all_whole}
 use Rattle.event_text.proofs.Writes.{item_more}
-use Rattle.head_record.proofs.writing.put_samples.Goals as goal
+use Rattle.event_text.proofs.writing.put_each_sample.Goals as goal
 
 pub loop-sample-preserved : goal.loop-sample-preserved
 loop-sample-preserved c =

@@ -2,7 +2,7 @@ use Rattle.std.proofs.Common.{◌≡◌, ◌++◌, length, take}
 use Rattle.std.specs.List.{flat_map, AllByRecursion}
 use Rattle.wire.specs.Spelling.{uvarint}
 use Rattle.event_text.specs.Spelling.{sample_text, IsSample}
-use Rattle.head_record.proofs.writing.put_samples.Given as goal
+use Rattle.event_text.proofs.writing.put_each_sample.Given as goal
 
 abbrev pub invariant-loop-sample : goal.invariant-loop-sample
 invariant-loop-sample l =
