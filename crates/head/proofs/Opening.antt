@@ -96,7 +96,7 @@ below_by_ends floor bs ends inside = record { none = λ l t high. none_in_blocks
 pub time_of_max : (r t m : ℤ) → r ≡ int_max t m → is_time t ≡ true → is_time m ≡ true → is_time r ≡ true
 time_of_max r t m is e f = ap is_time is ∙ elim (int_lt m t) as (λ b. is_time (cond b t m) ≡ true) [ true ↦ e | false ↦ f ]
 
-not_above : (m floor : ℤ) → int_lt floor m ≡ false → int_le m floor ≡ true
+pub not_above : (m floor : ℤ) → int_lt floor m ≡ false → int_le m floor ≡ true
 not_above m floor e = grind (arith, ints)
 
 -- no range ends above the floor

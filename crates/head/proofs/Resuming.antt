@@ -11,7 +11,7 @@ use Rattle.std.proofs.lemmas.List.{length-map}
 use Rattle.std.proofs.lemmas.List.Elements.{All-cons, All-nil}
 use Rattle.labels.specs.Labels.{Labels, labels_cmp, same_labels}
 use Rattle.labels.specs.Contents.{in_range, is_time}
-use Rattle.labels.specs.declared.sample.TheConstants.{MIN_TIME}
+use Rattle.labels.specs.declared.sample.TheConstants.{MAX_TIME, MIN_TIME}
 use Rattle.labels.proofs.OrderLaws.{same_turn}
 use Rattle.labels.proofs.Times.{both_T, first_T, second_T, T_of}
 use Rattle.block.specs.Blocks.{Shown}
@@ -23,12 +23,16 @@ use Rattle.head.specs.Taking.{place_from}
 use Rattle.head.specs.declared.error.ResumeError.{ResumeError}
 use Rattle.head.specs.declared.error.ResumeError.TheVariants.{Unsound, Memory}
 use Rattle.head.proofs.Leaving.{sound_place}
-use Rattle.head.proofs.Opening.{below_by_ends, end_after, end_is, ends_by, not_below}
+use Rattle.head.proofs.Opening.{below_by_ends, end_after, end_is, ends_by, not_above, not_below}
 use Rattle.head.proofs.Ordered.{absent_before, place_first}
 
 true_of : (b : Bool) → T b → b ≡ true
 true_of true h = refl
 true_of false h = absurd h
+
+false_of : (b : Bool) → not b ≡ true → b ≡ false
+false_of true e = sym e
+false_of false e = refl
 
 and_left : (x y : Bool) → (x && y) ≡ true → x ≡ true
 and_left true y h = refl
@@ -150,9 +154,6 @@ sound_joined floor head h sound may = sound_more floor 0 head h sound may.sound 
 lesser : (a b c : ℤ) → int_le a c ≡ true → int_le b c ≡ true → int_le (int_max a b) c ≡ true
 lesser a b c e f = grind (arith, ints)
 
-not_under : (m floor : ℤ) → not (int_lt floor m) ≡ true → int_le m floor ≡ true
-not_under m floor e = grind (arith, ints)
-
 end_by : (floor from : ℤ) (bs : List Shown) → int_le from floor ≡ true → EndBy floor (map part_in bs) → int_le (end_after from bs) floor ≡ true
 end_by floor from [] low ends = low
 end_by floor from (b ∷ bs) low ends = end_by floor (int_max from b.range.1) bs (lesser from b.range.1 floor low ends.0) ends.1
@@ -177,7 +178,8 @@ pub standing_passes : (floor : ℤ) (blocks : List Shown) (head : List HeadSerie
 standing_passes floor blocks head sound =
     let few = nat_le (length blocks) 63 in
     let time = is_time floor in
-    let low : int_le MIN_TIME floor ≡ true = not_under MIN_TIME floor (and_left (not (int_lt floor MIN_TIME)) _ sound.time) in
+    let timed : (not (int_lt floor MIN_TIME) && not (int_lt MAX_TIME floor)) ≡ true = sound.time in
+    let low : int_le MIN_TIME floor ≡ true = not_above MIN_TIME floor (false_of (int_lt floor MIN_TIME) (and_left (not (int_lt floor MIN_TIME)) (not (int_lt MAX_TIME floor)) timed)) in
     and_both (few && time) (int_le (opening_floor (map part_in blocks)) floor)
     (and_both few time (at_most (length blocks) 63 (subst (λ n. n ≤ 63) (length-map blocks part_in) sound.few)) sound.time)
     (ap (λ e. int_le e floor) (end_is MIN_TIME blocks) ∙ end_by floor MIN_TIME blocks low sound.ends)

@@ -191,13 +191,13 @@ impl HeadView {
     /// What is saved of each series, in order of creation; also of a series without a sample. It
     /// copies the samples; the texts of the label sets are shared.
     pub fn saved(&self, alloc: Global) -> Result<Vec<SavedSeries>, AllocError>
-        ensures all { IfOk result (λ saved. saved.items ≡ series_of self.now) }
-        ensures few { IfOk result (λ saved. length saved.items ≤ MAX_SERIES) }
+        ensures all { IfOk result (λ all. all.items ≡ series_of self.now) }
+        ensures few { IfOk result (λ all. length all.items ≤ MAX_SERIES) }
     {
-        let mut saved = Vec::with_capacity(alloc, self.series.len())?;
+        let mut all = Vec::with_capacity(alloc, self.series.len())?;
         for place in 0..self.series.len() {
-            saved.push(self.series.at(place).saved(alloc)?)?;
+            all.push(self.series.at(place).saved(alloc)?)?;
         }
-        Ok(saved)
+        Ok(all)
     }
 }
