@@ -100,11 +100,7 @@ fn series_of_saved(
 }
 
 /// The head of these series.
-fn head_of_saved(
-    alloc: Global,
-    floor: i64,
-    saved: &[SavedSeries],
-) -> Result<HeadView, ResumeError>
+fn head_of_saved(alloc: Global, floor: i64, saved: &[SavedSeries]) -> Result<HeadView, ResumeError>
     ensures series { IfOk result (λ head. series_of head ≡ saved.now) }
     ensures copied { IfOk result (λ head. copied_of head ≡ 0) }
     ensures sound { OnOk result (IsSoundHead floor saved.now) }

@@ -20,7 +20,10 @@ fn what_was_saved_is_resumed(rt: HostRuntime) {
     let six = six_series(alloc).expect(&rt, "both batches are accepted");
     let again = resumed(alloc, &six).expect(&rt, "what was saved is sound");
     assert!(rt; is_text(shown(alloc, &again), AFTER_BOTH));
-    assert_eq!(rt; (again.head().series_count(), again.head_samples()), (6, 12));
+    assert_eq!(rt;
+        (again.head().series_count(), again.head_samples()),
+        (6, 12)
+    );
     assert_eq!(rt; again.floor(), six.floor());
 }
 
@@ -78,11 +81,18 @@ fn is_judged(alloc: Global, row: &(i64, &[i64], i64, &str)) -> Option<bool> {
 fn what_no_snapshot_has_is_refused(rt: HostRuntime) {
     let alloc = rt.alloc();
     for row in SAVED {
-        assert!(rt; is_judged(alloc, row) == Some(true), "floor {}, newest {}", row.0, row.2);
+        assert!(rt;
+            is_judged(alloc, row) == Some(true),
+            "floor {}, newest {}",
+            row.0,
+            row.2
+        );
     }
     let first = saved_at(alloc, &[10], 10).expect(&rt, "memory");
     let second = saved_at(alloc, &[20], 20).expect(&rt, "memory");
-    let both = Vec::from_array(alloc, [first, second]).ok().expect(&rt, "memory");
+    let both = Vec::from_array(alloc, [first, second])
+        .ok()
+        .expect(&rt, "memory");
     assert_eq!(rt; refusal_of(alloc, 0, &both), "J17");
 }
 
