@@ -1,7 +1,8 @@
 -- One event more after a replay.
-use Rattle.std.specs.Prelude.{◌≡◌, ◌<◌, ◌+◌, ℕ, zero, suc, List, [], ◌∷◌, ◌++◌, Some, Result, Ok, Err, length, slice_get, slice_index_or, take, refl}
-use Rattle.std.proofs.Common.{sym, ap, ◌∙◌, arith}
+use Rattle.std.specs.Prelude.{◌≡◌, ◌<◌, ◌+◌, ℕ, List, [], ◌∷◌, ◌++◌, Result, Ok, Err, length, slice_index_or, take, refl}
+use Rattle.std.proofs.Common.{sym, ap, ◌∙◌}
 use Rattle.std.proofs.lemmas.List.{take_more}
+use Rattle.std.proofs.lemmas.Option.{slice_get_read}
 use Rattle.head.specs.Outcomes.{IsStepRefusal}
 use Rattle.head.specs.Refusals.{Refusal}
 use Rattle.head.specs.Replaying.{RefusesAt}
@@ -21,11 +22,6 @@ replayed_more w v next events at event inside is before step =
     ∙ replayed_from-snoc (Ok w) (take at events) event v before
     ∙ step
 
-stands_at : (events : List Event) (at : ℕ) (d : Event) → at < length events → slice_get events at ≡ Some (slice_index_or events at d)
-stands_at [] at d inside = absurd (omega arith)
-stands_at (x ∷ xs) zero d inside = refl
-stands_at (x ∷ xs) (suc at) d inside = stands_at xs at d (omega arith)
-
 -- the event at a place is refused
 pub refuses_at : (w v : World) (events : List Event) (at : ℕ) (event : Event) (error : CommitError) → at < length events → event ≡ slice_index_or events at event → replayed w (take at events) ≡ Ok v
     → IsStepRefusal error (stepped v event) → RefusesAt w events at error
@@ -33,6 +29,6 @@ refuses_at w v events at event error inside is before refusal = record {
   world = v;
   before = before;
   event = event;
-  there = stands_at events at event inside ∙ ap (λ (e : Event). Some e) (sym is);
+  there = slice_get_read events (length events) at event refl inside is;
   refused = refusal;
 }

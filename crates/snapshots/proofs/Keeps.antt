@@ -54,7 +54,7 @@ pub held_more : {K : Type 0} (holds : K → List Event → Type 0) (old new : K)
 held_more holds old new bytes f events event held (inl spells) = f events (event ∷ []) held spells
 held_more holds old new bytes f events event held (inr none) = none.0 new (events ++ event ∷ [])
 
-none_taken : (few : ℕ) → take few ([] {A = Event}) ≡ []
+none_taken : (few : ℕ) → take {A = Event} few [] ≡ []
 none_taken zero = refl
 none_taken (suc few) = refl
 
@@ -66,9 +66,11 @@ module _ {K : Type 0} (moment : K → ℕ) (found_since : K → ℕ → List Eve
   pub joined : (old mid new : K) (P : List Event → Type 0) → FindsOnly moment found_since old mid P → FindsOnly moment found_since mid new P → FindsOnly moment found_since old new P
   joined old mid new P first second = record {
     later = let a = first.later in let b = second.later in omega arith;
-    each = λ found had. ⊎_elim (λ past. first.each found past) (λ (p : P found). p) (second.before (moment old) found first.later had);
+    each = λ found had.
+        ⊎_elim (λ (past : found_since mid (moment old) found). first.each found past) (λ (p : P found). p)
+        (second.before (moment old) found first.later had);
     before = λ t found le had.
-        ⊎_elim (λ past. first.before t found le past) (λ (p : P found). inr p)
+        ⊎_elim (λ (past : found_since mid t found). first.before t found le past) (λ (p : P found). inr p)
         (second.before t found (let a = first.later in omega arith) had);
   }
 
