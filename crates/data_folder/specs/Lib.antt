@@ -1,4 +1,5 @@
 pub mod Folders
+pub mod Hosts
 pub mod JournalFile
 pub mod JournalLaws
 pub mod Rolls

@@ -7,14 +7,24 @@
 //! its own, and then takes the journal's name. A crash at any moment of a roll leaves the old
 //! journal or the new one, and each file that either of them names.
 //!
+//! [`begin`] begins the first journal of a folder, and [`sweep`] removes files that no journal
+//! names. [`HostFolder`] is a folder of the host, of whose files no clause tells; [`MemoryFolder`]
+//! is for tests, and stops at some call.
+//!
 //! It stands on `journal` for records and media. That a file is replaced by a rename after it was
 //! synced, and the folder synced after that, is what SQLite, LevelDB and Prometheus do.
 #![tactic(auto)]
 
 mod folder;
+mod host_folder;
 mod journal_file;
+mod memory_folder;
 mod rolling;
+mod sweeping;
 
 pub use folder::Folder;
+pub use host_folder::HostFolder;
 pub use journal_file::JournalFile;
-pub use rolling::{RollError, roll};
+pub use memory_folder::MemoryFolder;
+pub use rolling::{RollError, begin, roll};
+pub use sweeping::sweep;

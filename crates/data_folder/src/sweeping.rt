@@ -1,6 +1,6 @@
 //! Files that no journal names.
 
-ghost use Rattle.std.specs.Prelude.{◌≡◌, true};
+ghost use Rattle.std.specs.Prelude.{◌≡◌, ◌≤◌, true};
 ghost use Rattle.data_folder.specs.Sweeping.{KeepsStore, is_among, is_kept, names_in};
 
 use crate::folder::Folder;
@@ -24,17 +24,22 @@ fn is_kept(names: &[String], name: &str) -> bool
     name == JOURNAL || is_among(names, name)
 }
 
-/// Removes a file, unless it is the journal or one of those to be kept. Whether that was done.
-fn remove_litter<F: Folder>(folder: &mut F, name: &str, kept: &[String]) -> bool
+/// Removes a file, unless it is the journal or one of those to be kept. How many could not be
+/// removed.
+fn remove_litter<F: Folder>(folder: &mut F, name: &str, kept: &[String]) -> usize
     requires { F.sound folder.old ≡ true }
+    ensures few { result ≤ 1 }
     ensures sound { F.sound folder.new ≡ true }
     ensures kept { KeepsStore F.shows F.kept F.sound F.moment F.left_since
         (names_in kept.now) folder.old folder.new }
 {
     if is_kept(kept, name) {
-        return true;
+        return 0;
     }
-    folder.remove(name).is_ok()
+    match folder.remove(name) {
+        Ok(()) => 0,
+        Err(_) => 1,
+    }
 }
 
 /// Removes the files of these names that are not among those to be kept, and never the journal. How
@@ -50,9 +55,7 @@ pub fn sweep<F: Folder>(folder: &mut F, names: &[String], kept: &[String]) -> us
 {
     let mut left = 0;
     for name in names {
-        if !remove_litter(folder, name.as_str(), kept) {
-            left += 1;
-        }
+        left += remove_litter(folder, name.as_str(), kept);
     }
     left
 }

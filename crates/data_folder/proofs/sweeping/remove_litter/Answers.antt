@@ -10,8 +10,16 @@ returns-then-is_kept-clause-kept g c =
     nothing_removed f.shows f.kept f.sound f.moment f.left_since g.met.F.Folder.only_now
     (names_in c.args.kept.now) c.args.folder.now
 
-pub returns-clause-kept : goal.returns-clause-kept
-returns-clause-kept g c =
+pub returns-in-Ok-clause-kept : goal.returns-in-Ok-clause-kept
+returns-in-Ok-clause-kept g c =
+    let f = g.F.Folder in
+    one_removed f.shows f.kept f.sound f.moment f.left_since g.met.F.Folder.only_now
+    c.args.name.now (names_in c.args.kept.now) c.args.folder.now c.remove.new.self
+    (λ (left : Left). Unit {0}) (sym c.is_kept.ensures ∙ c.if-is_kept.false)
+    c.remove.ensures.others c.remove.ensures.sound c.remove.ensures.time
+
+pub returns-in-Err-clause-kept : goal.returns-in-Err-clause-kept
+returns-in-Err-clause-kept g c =
     let f = g.F.Folder in
     one_removed f.shows f.kept f.sound f.moment f.left_since g.met.F.Folder.only_now
     c.args.name.now (names_in c.args.kept.now) c.args.folder.now c.remove.new.self

@@ -12,3 +12,15 @@ loop-name-init g c =
       kept = nothing_removed f.shows f.kept f.sound f.moment f.left_since g.met.F.Folder.only_now
           (names_in c.args.kept.now) c.args.folder.now;
     }
+
+pub loop-name-preserved : goal.loop-name-preserved
+loop-name-preserved g c =
+    let f = g.F.Folder in
+    let l = c.loop-name in
+    record {
+      sound = c.remove_litter.ensures.sound;
+      few = omega (arith, l.invariant.few, c.remove_litter.ensures.few);
+      kept = then_kept f.shows f.kept f.sound f.moment f.left_since g.met.F.Folder.only_now
+          (names_in c.args.kept.now) c.args.folder.now l.folder c.remove_litter.new.folder
+          l.invariant.kept c.remove_litter.ensures.kept;
+    }
