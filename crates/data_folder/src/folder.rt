@@ -123,13 +123,12 @@ pub trait Folder {
     fn read(&mut self, alloc: Global, name: &str) -> Result<Option<Vec<u8>>, MediumError>
         requires { sound self.old ≡ true }
         ensures found { IfOk result (λ found. IsFound shows kept name.now found self.new) }
-        ensures others { KeepsOthers shows kept name.now name.now self.old self.new }
+        ensures all { KeepsAll shows kept self.old self.new }
         ensures sound { OnOk result (sound self.new ≡ true) }
         ensures failed { OnErr result (failed self.new ≡ true) }
         ensures lasting { failed self.old ≡ true → failed self.new ≡ true }
         ensures time { Elapses (moment self.old) (moment self.new) (left_since self.old)
-            (left_since self.new) (LeavesOthers shows kept name.now name.now self.old
-            (MayGrow shows kept self.old name.now (λ old. old) (λ n. n))) };
+            (left_since self.new) (LeavesAll shows kept self.old) };
 
     /// Makes a folder in this one, if it is not there. Nothing is said of it: what is written into it
     /// is there for good with all the folders above it.

@@ -351,15 +351,13 @@ impl Folder for MemoryFolder {
 
     fn read(&mut self, alloc: Global, name: &str) -> Result<Option<Vec<u8>>, MediumError> {
         let _ = self.settle(name);
-        match self.bytes(name) {
-            Some(bytes) => match bytes.to_vec(alloc) {
-                Ok(bytes) => Ok(Some(bytes)),
-                Err(_) => {
-                    self.failed = true;
-                    Err(MediumError)
-                }
-            },
-            None => Ok(None),
+        match copy_of(alloc, &self.files, name) {
+            Ok(found) => Ok(found),
+            Err(_) => {
+                self.lost = true;
+                self.failed = true;
+                Err(MediumError)
+            }
         }
     }
 
@@ -383,6 +381,14 @@ impl Folder for MemoryFolder {
     ghost only_now = { λ f name x n left shown kept had. absurd had };
 
     ghost earlier = { λ f t u left le fits had. had };
+}
+
+/// What a name has.
+fn copy_of(alloc: Global, files: &[Kept], name: &str) -> Result<Option<Vec<u8>>, AllocError> {
+    match place_of(files, name) {
+        Some(at) => Ok(Some(files[at].bytes.to_vec(alloc)?)),
+        None => Ok(None),
+    }
 }
 
 /// What stands in a folder, by its names there: of a file in a folder in it the whole rest of its

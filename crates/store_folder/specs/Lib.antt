@@ -1,0 +1,4 @@
+pub mod Blocks
+pub mod Journals
+pub mod Replays
+pub mod States

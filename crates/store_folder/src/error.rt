@@ -1,0 +1,26 @@
+//! Why a store is not started.
+
+use event_journal::Refused;
+use head::CommitError;
+use head_record::RefusedHead;
+use journal::JournalError;
+
+/// Why the file of a journal is not read: the first fault.
+#[derive(Clone, Copy, Debug, PartialEq, Eq, Drop)]
+pub enum ReadError {
+    /// `J1` to `J4`: it is no journal, or damaged; or no memory was left.
+    Journal(JournalError),
+    /// `J8` to `J10`, `J13`: it does not begin with a head.
+    Head(RefusedHead),
+    /// `J8` to `J14`: a content after the head is no event; its number counts from the head's end.
+    Event(Refused),
+}
+
+/// An event that is refused after those before it, by its number from 0.
+#[derive(Clone, Copy, Debug, PartialEq, Eq, Drop)]
+pub struct RefusedEvent {
+    /// How many events stand before it.
+    pub at: usize,
+    /// Why: of a journal that a store wrote, only that no memory was left.
+    pub error: CommitError,
+}
