@@ -4,9 +4,10 @@ use Rattle.std.proofs.Common.{Err, Result}
 use Rattle.std.specs.Prelude.{OnOk}
 use Rattle.journal.specs.Media.{MayLeave}
 use Rattle.journal.specs.Media as media
-use Rattle.data_folder.specs.Folders.{Elapses, Left, LeavesOnly, LeavesOthers, MayGrow}
+use Rattle.data_folder.specs.Folders.{Elapses, KeepsOthers, Left, LeavesOnly, LeavesOthers}
+use Rattle.data_folder.specs.Folders.{MayGrow}
 use Rattle.data_folder.specs.JournalFile.{journal_name, JournalLeft}
-use Rattle.data_folder.specs.JournalLaws.{left_now}
+use Rattle.data_folder.specs.JournalLaws.{StaysBeside, left_now}
 
 module _ {F : Type 0} (shows : F → List ℕ → Option (List ℕ) → Type 0)
     (kept : F → List ℕ → ℕ → Type 0) (left_since : F → ℕ → Left → Type 0) where
@@ -25,6 +26,24 @@ module _ {F : Type 0} (shows : F → List ℕ → Option (List ℕ) → Type 0)
         (during.own bytes n shown durable)))
         (e.nothing_else t had.0 le had.1);
     keeps = λ t left le had. (had.0, e.keeps t had.0 le had.1, had.2);
+  }
+
+module _ {F : Type 0} (shows : F → List ℕ → Option (List ℕ) → Type 0)
+    (kept : F → List ℕ → ℕ → Type 0) (moment : F → ℕ) (left_since : F → ℕ → Left → Type 0) where
+  -- all that is beside the journal stays
+  pub journal_beside : (old new : F) (P : Left → Type 0)
+      → KeepsOthers shows kept journal_name journal_name old new
+      → Elapses (moment old) (moment new) (left_since old) (left_since new)
+      (LeavesOthers shows kept journal_name journal_name old P)
+      → StaysBeside shows kept moment left_since old new
+  journal_beside old new P k time = record {
+    later = time.later;
+    same = λ name x away shown. k.same name x away away shown;
+    durable = λ name n away durable. k.durable name n away away durable;
+    before = λ t left le had. ⊎_elim (λ past. inl past)
+        (λ during. inr (λ name x n away shown durable.
+        during.others name x n away away shown durable))
+        (time.nothing_else t left le had);
   }
 
 module _ {F : Type 0} (moment : F → ℕ) (left_since : F → ℕ → Left → Type 0) where

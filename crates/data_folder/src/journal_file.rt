@@ -16,7 +16,7 @@ pub struct JournalFile<F: Folder + Drop> {
 impl<F: Folder + Drop> Medium for JournalFile<F> {
     ghost use Rattle.std.specs.Prelude.{Some};
     ghost use Rattle.data_folder.specs.JournalFile.{journal_name, JournalLeft};
-    ghost use Rattle.data_folder.specs.JournalLaws.{left_now};
+    ghost use Rattle.data_folder.specs.JournalLaws.{StaysBeside, all_stays, left_now, then_stays};
 
     ghost shows = { λ m bytes. F.shows m.folder journal_name (Some bytes) };
 
@@ -29,6 +29,14 @@ impl<F: Folder + Drop> Medium for JournalFile<F> {
     ghost moment = { λ m. F.moment m.folder };
 
     ghost left_since = { λ m t bytes. JournalLeft F.left_since m.folder t bytes };
+
+    ghost beside = { λ a b.
+        StaysBeside F.shows F.kept F.moment F.left_since a.folder b.folder };
+
+    ghost stays = { λ m. all_stays F.shows F.kept F.moment F.left_since m.folder };
+
+    ghost goes_on = { λ a b c first second.
+        then_stays F.shows F.kept F.moment F.left_since a.folder b.folder c.folder first second };
 
     ghost only_now = { λ m bytes n left shown kept had.
         left_now n bytes left (had.0 journal_name) had.2

@@ -29,6 +29,7 @@ pub fn cut_end<M: Medium>(medium: &mut M, len: usize) -> Result<(), MediumError>
     ensures any_moment { (contents : List (List ℕ)) (file : List ℕ) → Recovers file contents
         → HasAll M.shows M.kept M.sound file medium.old → len ≡ length (file_of contents)
         → LeavesOnly M.moment M.left_since medium.old medium.new (λ left. Recovers left contents) }
+    ensures beside { M.beside medium.old medium.new }
 {
     medium.cut(len)
 }
@@ -132,6 +133,8 @@ impl<M: Medium + Drop> Journal<M> {
         ensures lost { self.new.closed ≡ true → (self.old.closed ≡ true)
             ⊎ (M.failed self.new.medium ≡ true) }
         ensures other { IsOfKeeping result }
+        // What is beside the journal stays.
+        ensures beside { M.beside self.old.medium self.new.medium }
     {
         if self.closed {
             return Err(JournalError::Closed);
@@ -182,6 +185,8 @@ impl<M: Medium + Drop> Journal<M> {
         ensures lost { self.new.closed ≡ true → (self.old.closed ≡ true)
             ⊎ (M.failed self.new.medium ≡ true) }
         ensures other { IsOfKeeping result }
+        // What is beside the journal stays.
+        ensures beside { M.beside self.old.medium self.new.medium }
     {
         if self.closed {
             return Err(JournalError::Closed);

@@ -59,3 +59,9 @@ returns-then-self-gt-MAX_LEN-clause-any_moment g c contents more k are =
     untouched m.shows m.kept m.sound m.moment m.left_since g.met.M.Medium.only_now
     c.args.self.now.medium c.args.self.now.len contents (HasSomeMore contents more)
     (λ left r. none_more contents more left r) k
+
+pub returns-then-self-clause-beside : goal.returns-then-self-clause-beside
+returns-then-self-clause-beside g c = g.met.M.Medium.stays c.args.self.now.medium
+
+pub returns-then-self-gt-MAX_LEN-clause-beside : goal.returns-then-self-gt-MAX_LEN-clause-beside
+returns-then-self-gt-MAX_LEN-clause-beside g c = g.met.M.Medium.stays c.args.self.now.medium
