@@ -1,29 +1,20 @@
 -- Events more.
-use Rattle.std.proofs.Common.{◌≡◌, ◌⊎◌, inl, inr, ⊎_elim, ℕ, zero, suc, ◌≤◌, Bool, true, false}
+use Rattle.std.proofs.Common.{◌≡◌, ℕ, zero, suc, ◌≤◌, Bool, true, false}
 use Rattle.std.proofs.Common.{List, [], ◌∷◌, ◌++◌, length, take, Result, Ok, Err, refl, sym, ap}
 use Rattle.std.proofs.Common.{subst, ◌∙◌, append_assoc, arith}
 use Rattle.std.specs.Prelude.{OnOk, OnErr}
 use Rattle.std.specs.List.{AllByRecursion}
 use Rattle.std.proofs.lemmas.List.{append-nil, map-append, take_all}
-use Rattle.wire.specs.Spelling.{IsBytes}
 use Rattle.head.specs.Worlds.{Event}
 use Rattle.event_text.specs.Spelling.{event_text}
-use Rattle.journal.specs.declared.error.JournalError.{JournalError}
-use Rattle.journal.specs.declared.error.JournalError.TheVariants as journal
 use Rattle.journal.specs.Group.{HasSomeMore}
 use Rattle.journal.specs.Media.{HasAll, Keeps, LeavesOnly, MayLeave}
 use Rattle.journal.specs.Records.{file_of, Recovers}
 use Rattle.journal.proofs.Keeping.{at_rest}
 use Rattle.journal.proofs.Moments.{started, weaker}
-use Rattle.keeper.specs.declared.error.KeepError.{KeepError}
-use Rattle.keeper.specs.declared.error.KeepError.TheVariants.{Closed}
-use Rattle.keeper.specs.Errors.{keep_error}
-use Rattle.keeper.specs.Finding.{IsAllAndSome}
 use Rattle.keeper.specs.Together.{IsKept, texts_of}
-use Rattle.keeper.proofs.Texts.{only_closed}
-use Rattle.event_journal.specs.Finding.{found_some}
-use Rattle.event_journal.specs.Holding.{AreInFront, FoundSince, Holds, Stands, StandsAndMore}
-use Rattle.event_journal.specs.Holding.{StandsAndSome, contents_with}
+use Rattle.event_journal.specs.Holding.{AreInFront, Holds, Stands, StandsAndMore, StandsAndSome}
+use Rattle.event_journal.specs.Holding.{contents_with}
 
 contents_joined : (front : List (List ℕ)) (events more : List Event)
     → contents_with front (events ++ more) ≡ contents_with front events ++ texts_of more
@@ -185,23 +176,6 @@ module _ {M : Type 0} (shows : M → List ℕ → Type 0) (kept : M → ℕ → 
         (earlier new (moment old) (moment new) left moments.later (omega arith) may);
   }
 
-  -- what a start finds
-  pub finding : (front : List (List ℕ)) (old new : M) (events more : List Event)
-      → LeavesOnly moment left_since old new (StandsAndSome front events more)
-      → (moment old ≤ moment new)
-      × ((found : List Event) → FoundSince left_since new (moment old) found
-      → IsAllAndSome events more found)
-      × ((t : ℕ) (found : List Event) → t ≤ moment old → FoundSince left_since new t found
-      → FoundSince left_since old t found ⊎ IsAllAndSome events more found)
-  finding front old new events more m = (
-    m.later,
-    λ found had. found_some front had.3.0 events more found had.0 had.2 (m.each had.0 had.1)
-        had.3.1,
-    λ t found le had. ⊎_elim (λ before. inl (had.0, before, had.2, had.3))
-        (λ p. inr (found_some front had.3.0 events more found had.0 had.2 p had.3.1))
-        (m.before t had.0 le had.1),
-  )
-
   -- the events that were kept last are given up
   pub given_up : (front : List (List ℕ)) (m : M) (len : ℕ) (was : Bool) (events more : List Event)
       → was ≡ false → HoldsHere front m len was (events ++ more)
@@ -237,22 +211,3 @@ pub was_open : {A E : Type 0} (b : Bool) (r : Result A E) (x : A) (e : E) → r 
     → (b ≡ true → r ≡ Err e) → b ≡ false
 was_open {A} {E} true r x e h f = absurd (let a : r ≡ Err e = f refl in cc)
 was_open false r x e h f = refl
-
-abbrev refused : {X : Type 0} → JournalError → Result X JournalError
-refused e = Err e
-
-abbrev failed : {X : Type 0} → KeepError → Result X KeepError
-failed k = Err k
-
--- what a closed journal says
-pub says_closed : {X Y : Type 0} (e : JournalError) (k : KeepError) → k ≡ keep_error e
-    → refused {X} e ≡ Err journal.Closed → failed {Y} k ≡ Err Closed
-says_closed {X} {Y} e k is closed =
-    let same : e ≡ journal.Closed = cc in
-    ap (λ (x : KeepError). failed {Y} x) (is ∙ ap keep_error same)
-
-pub told_closed : {X Y A : Type 0} (e : JournalError) (k : KeepError) → k ≡ keep_error e
-    → failed {Y} k ≡ Err Closed → (refused {X} e ≡ Err journal.Closed → A) → A
-told_closed {X} {Y} e k is told then =
-    let same : k ≡ Closed = cc in
-    then (ap (λ (x : JournalError). refused {X} x) (only_closed e (sym is ∙ same)))

@@ -1,18 +1,13 @@
 -- What a start finds in a file of texts.
-use Rattle.std.specs.Prelude.{◌≡◌, ℕ, Bool, true, false, List, [], ◌∷◌, ◌++◌, length, take, refl}
-use Rattle.std.proofs.Common.{sym, ap, subst, ◌∙◌}
+use Rattle.std.specs.Prelude.{◌≡◌, ℕ, Bool, true, false, List, [], ◌∷◌, ◌++◌, refl}
+use Rattle.std.proofs.Common.{ap, subst, ◌∙◌}
 use Rattle.std.specs.List.{AllByRecursion}
 use Rattle.wire.specs.Spelling.{IsBytes}
 use Rattle.head.specs.Worlds.{Event, batch, deletion, cut}
 use Rattle.event_text.specs.Spelling.{event_text}
 use Rattle.event_text.proofs.Events.{one_text}
-use Rattle.journal.proofs.Keeping.{at_rest}
 use Rattle.journal.proofs.Scans.{one_reading}
-use Rattle.journal.specs.Media.{MayLeave}
-use Rattle.journal.specs.Records.{file_of, IsContent}
-use Rattle.event_journal.specs.Holding.{begins_event, AreInFront, Stands, StandsAndMore}
-use Rattle.event_journal.specs.Holding.{StandsAndSome, contents_with}
-use Rattle.keeper.specs.Finding.{IsAllAndMore, IsAllAndSome}
+use Rattle.event_journal.specs.Holding.{begins_event, AreInFront, Stands, contents_with}
 use Rattle.keeper.specs.Together.{IsKept, texts_of}
 
 pub same_texts : (a b : List Event) → AllByRecursion IsKept a → AllByRecursion IsKept b
@@ -63,29 +58,3 @@ one_list file f g a b fits h i =
     let p = one_parting f g a b h.before i.before
     (one_reading file (contents_with f a) (contents_with g b) fits h.recovers i.recovers) in
     (p.0, same_texts a b h.each i.each p.1)
-
-pub found_more : (front g : List (List ℕ)) (events found : List Event) (left : List ℕ)
-    → IsBytes left → StandsAndMore front events left → Stands g left found
-    → IsAllAndMore events found
-found_more front g events found left fits s f =
-    (s.0, (one_list left g front found (events ++ s.0) fits f s.1).1)
-
-pub found_some : (front g : List (List ℕ)) (events more found : List Event) (left : List ℕ)
-    → IsBytes left → StandsAndSome front events more left → Stands g left found
-    → IsAllAndSome events more found
-found_some front g events more found left fits s f =
-    (s.0, (one_list left g front found (events ++ take s.0 more) fits f s.1).1)
-
--- while all of a file is there for good
-pub found_settled : (front g : List (List ℕ)) (events found : List Event) (left : List ℕ)
-    → IsBytes left → AreInFront front → AllByRecursion IsKept events
-    → AllByRecursion IsContent (contents_with front events)
-    → MayLeave (length (file_of (contents_with front events)))
-    (file_of (contents_with front events)) left
-    → Stands g left found → found ≡ events
-found_settled front g events found left fits before each contents m f =
-    (one_list left g front found events fits f (record {
-      before = before;
-      each = each;
-      recovers = at_rest (contents_with front events) left contents m;
-    })).1

@@ -2,7 +2,6 @@
 use Rattle.std.specs.Prelude.{◌≡◌, ℕ, Bool, true, false, ◌&&◌, nat_le, List, [], ◌∷◌, ◌++◌, length}
 use Rattle.std.specs.Prelude.{take}
 use Rattle.std.specs.List.{AllByRecursion}
-use Rattle.wire.specs.Spelling.{IsBytes}
 use Rattle.head.specs.Worlds.{Event}
 use Rattle.journal.specs.Media.{HasAll, Keeps}
 use Rattle.journal.specs.Records.{file_of, Recovers}
@@ -52,12 +51,6 @@ pub record Holds {M : Type 0} (shows : M → List ℕ → Type 0) (kept : M → 
   pub keeps : closed ≡ false → Keeps shows kept sound (contents_with front events) medium len
   pub survives : (left : List ℕ) → left_since medium (moment medium) left
       → StandsAndMore front events left
-
--- what a start might find in a file that a crash left at some moment from that one on
-abbrev pub FoundSince : {M : Type 0} → (M → ℕ → List ℕ → Type 0) → M → ℕ → List Event → Type 0
-FoundSince left_since medium t found =
-    (left : List ℕ) × left_since medium t left × IsBytes left
-    × ((front : List (List ℕ)) × Stands front left found)
 
 -- the medium has a file of these events after these contents, whose records end after so many
 -- bytes, and the file is on it for good

@@ -8,7 +8,6 @@ ghost use Rattle.keeper.specs.Together.{SpellTogether};
 ghost use Rattle.event_journal.specs.Holding.{HasEvents, Holds, Stands, StandsAndSome};
 
 use journal::{Journal, JournalError, Medium, MediumError, cut_end};
-use keeper::{KeepError, Keeper, keep_error};
 
 /// Keeps events in a journal.
 #[derive(Drop)]
@@ -49,6 +48,8 @@ impl<M: Medium + Drop> EventJournal<M> {
             (λ left. Stands front left events))
             (λ e. LeavesOnly M.moment M.left_since medium e.1
             (λ left. Stands front left events)) }
+        ensures beside { MatchResult result (λ j. M.beside medium j.journal.medium)
+            (λ e. M.beside medium e.1) }
     {
         let mut medium = medium;
         match cut_end(&mut medium, len) {
@@ -94,49 +95,29 @@ impl<M: Medium + Drop> EventJournal<M> {
         ensures closed { self.old.journal.closed ≡ true → (result ≡ Err JournalError.Closed)
             × (self.new ≡ self.old) }
         ensures told { IsErrOf result JournalError.Closed → self.old.journal.closed ≡ true }
+        // What is beside the journal stays.
+        ensures beside { M.beside self.old.journal.medium self.new.journal.medium }
     {
         self.journal.append_records(records)
     }
-}
 
-impl<M: Medium + Drop> Keeper for EventJournal<M> {
-    ghost use Rattle.std.specs.Prelude.{ℕ, List, length};
-    ghost use Rattle.journal.specs.Records.{file_of};
-    ghost use Rattle.event_journal.specs.Holding.{FoundSince, Holds, contents_with};
-    ghost use Rattle.event_journal.specs.Finding.{found_more, found_settled};
-
-    ghost holds = { λ j events. (front : List (List ℕ))
-        × Holds M.shows M.kept M.sound M.moment M.left_since front
-        j.journal.medium j.journal.len j.journal.closed events };
-
-    ghost closed = { λ j. j.journal.closed };
-
-    ghost moment = { λ j. M.moment j.journal.medium };
-
-    ghost found_since = { λ j t found. FoundSince M.left_since j.journal.medium t found };
-
-    fn is_idle(&self) -> bool {
-        false
-    }
-
-    fn keep(&mut self, records: &[u8]) -> Result<(), KeepError> {
-        match self.append(records) {
-            Ok(()) => Ok(()),
-            Err(error) => Err(keep_error(error)),
-        }
-    }
-
-    fn close(&mut self) {
+    /// Gives up the events that were kept last, and takes nothing more: a start may find them or not.
+    pub fn close(&mut self)
+        requires { self.old.journal.closed ≡ false }
+        ensures held { (front : List (List ℕ)) (events more : List Change)
+            → Holds M.shows M.kept M.sound M.moment M.left_since front
+            self.old.journal.medium self.old.journal.len self.old.journal.closed
+            (events ++ more)
+            → Holds M.shows M.kept M.sound M.moment M.left_since front
+            self.new.journal.medium self.new.journal.len self.new.journal.closed events }
+        ensures any_moment { (front : List (List ℕ)) (events more : List Change)
+            → Holds M.shows M.kept M.sound M.moment M.left_since front
+            self.old.journal.medium self.old.journal.len self.old.journal.closed
+            (events ++ more)
+            → LeavesOnly M.moment M.left_since self.old.journal.medium self.new.journal.medium
+            (StandsAndSome front events more) }
+        ensures beside { M.beside self.old.journal.medium self.new.journal.medium }
+    {
         self.journal.closed = true;
     }
-
-    ghost now = { λ j events found held had. found_more held.0 had.3.0 events found had.0 had.2
-        (held.1.survives had.0 had.1) had.3.1 };
-
-    ghost settled = { λ j events found held opened had.
-        found_settled held.0 had.3.0 events found had.0 had.2 held.1.before held.1.each
-        (held.1.keeps opened).each
-        (M.only_now j.journal.medium (file_of (contents_with held.0 events))
-        (length (file_of (contents_with held.0 events))) had.0 (held.1.keeps opened).has.all
-        (held.1.keeps opened).has.durable had.1) had.3.1 };
 }

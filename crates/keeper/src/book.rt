@@ -1,7 +1,7 @@
 //! A book: the published events, each kept before it was published.
 
 ghost use Rattle.std.specs.Prelude.{◌≡◌, ◌++◌, false, OnOk, OnErr};
-ghost use Rattle.keeper.specs.Finding.{FindsOnly, IsAllAndMore, IsAllAndSome};
+ghost use Rattle.keeper.specs.Finding.{FindsOnly, IsOfAllAndMore, IsOfAllAndSome};
 ghost use Rattle.keeper.specs.Together.{SpellTogether};
 
 use crate::error::KeepError;
@@ -24,13 +24,14 @@ pub fn keep_and_publish<K: Keeper>(
     ensures ok { OnOk result (events.new.items ≡ events.old.items ++ more.old.items) }
     ensures err { OnErr result (events.new.items ≡ events.old.items) }
     ensures returned { OnErr result (more.new.items ≡ more.old.items) }
-    // After a crash at any moment of the call, a start finds all that was published before it.
+    // After a crash at any moment of the call, a start finds the world of all that was published
+    // before it.
     ensures any_moment { FindsOnly K.moment K.found_since keeper.old keeper.new
-        (IsAllAndMore events.old.items) }
-    // Beyond them it finds at most the first few of these, unless the keeper was closed before.
+        (IsOfAllAndMore K.first events.old.items) }
+    // Beyond it at most the first few of these are in it, unless the keeper was closed before.
     ensures in_flight { K.closed keeper.old ≡ false
         → FindsOnly K.moment K.found_since keeper.old keeper.new
-        (IsAllAndSome events.old.items more.old.items) }
+        (IsOfAllAndSome K.first events.old.items more.old.items) }
 {
     events.reserve(more.len())?;
     keeper.keep(records)?;

@@ -1,8 +1,8 @@
 //! Where the events of a store are kept before they are published.
 //!
 //! A [`Keeper`] keeps events for good, several at a time, by their records ([`push_text`]). Its
-//! clauses speak of the events that it holds, and of what a start finds after a crash at any
-//! moment: all that was kept, and at most the first few of those that were being kept.
+//! clauses speak of the events that it holds, and of the world that a start finds after a crash at
+//! any moment: that of all that was kept, and at most of the first few that were being kept.
 //! [`keep_and_publish`] is the order in which a store goes: events are kept, and then published, so
 //! nothing that anyone has seen is lost by a crash; a [`Book`] goes by it, and holds at every return
 //! exactly what is kept. [`NoKeeper`] is for a store in memory alone: it holds any events, and says

@@ -2,16 +2,22 @@
 
 ghost use Rattle.std.specs.Prelude.{◌≡◌, ◌++◌, ℕ, Bool, List, true, false, Err, OnOk, OnErr};
 ghost use Rattle.std.specs.Prelude.{IsErrOf};
-ghost use Rattle.head.specs.Worlds.{Event as Change};
-ghost use Rattle.keeper.specs.Finding.{FindsOnly, IsAllAndMore, IsAllAndSome};
+ghost use Rattle.head.specs.Worlds.{Event as Change, World};
+ghost use Rattle.keeper.specs.Finding.{FindsOnly, IsOfAll, IsOfAllAndMore, IsOfAllAndSome};
 ghost use Rattle.keeper.specs.Together.{SpellTogether};
 
 use crate::error::KeepError;
 
 /// Keeps events for good, each before it is published. It is handed their records, which can be
 /// made before a lock is taken.
+///
+/// What a start finds is told by its world, since what is kept may be begun anew: a head then says
+/// the world of the events before it, and these are gone.
 pub trait Keeper {
-    /// These are the events that it keeps.
+    /// The world before all events.
+    ghost first: { World };
+
+    /// These are the events that it keeps, in order, those before a head among them.
     ghost holds: { Self → List Change → Type 0 };
 
     /// Whether it takes nothing more.
@@ -20,8 +26,8 @@ pub trait Keeper {
     /// The moment, as a number that does not fall.
     ghost moment: { Self → ℕ };
 
-    /// What a start might find after a crash at some moment from that one on.
-    ghost found_since: { Self → ℕ → List Change → Type 0 };
+    /// The world that a start might find after a crash at some moment from that one on.
+    ghost found_since: { Self → ℕ → World → Type 0 };
 
     /// Whether it keeps nothing, so that no text need be made: it holds any events.
     fn is_idle(&self) -> bool
@@ -38,7 +44,8 @@ pub trait Keeper {
         // A crash at any moment of the call leaves all that it kept, and the first few of these.
         ensures any_moment { (events more : List Change) → holds self.old events
             → SpellTogether records.now more → closed self.old ≡ false
-            → FindsOnly moment found_since self.old self.new (IsAllAndSome events more) }
+            → FindsOnly moment found_since self.old self.new
+            (IsOfAllAndSome first events more) }
         // It is open after `Ok`. Where it is closed it says so, and nowhere else, and does nothing.
         ensures open { OnOk result (closed self.new ≡ false) }
         ensures closed { closed self.old ≡ true → (result ≡ Err KeepError.Closed)
@@ -52,15 +59,16 @@ pub trait Keeper {
         ensures held { (events more : List Change) → holds self.old (events ++ more)
             → holds self.new events }
         ensures any_moment { (events more : List Change) → holds self.old (events ++ more)
-            → FindsOnly moment found_since self.old self.new (IsAllAndSome events more) };
+            → FindsOnly moment found_since self.old self.new
+            (IsOfAllAndSome first events more) };
 
     /// A crash at this moment leaves all that it keeps.
-    ghost now: { (k : Self) (events found : List Change) → holds k events
-        → found_since k (moment k) found → IsAllAndMore events found };
+    ghost now: { (k : Self) (events : List Change) (w : World) → holds k events
+        → found_since k (moment k) w → IsOfAllAndMore first events w };
 
     /// While it is open, a crash between two calls leaves exactly what it keeps.
-    ghost settled: { (k : Self) (events found : List Change) → holds k events → closed k ≡ false
-        → found_since k (moment k) found → found ≡ events };
+    ghost settled: { (k : Self) (events : List Change) (w : World) → holds k events
+        → closed k ≡ false → found_since k (moment k) w → IsOfAll first events w };
 }
 
 /// Keeps nothing beside what is in memory. Of crashes it says nothing.
@@ -68,7 +76,11 @@ pub trait Keeper {
 pub struct NoKeeper;
 
 impl Keeper for NoKeeper {
-    ghost use Rattle.std.specs.Prelude.{false};
+    ghost use Rattle.std.specs.Prelude.{false, []};
+    ghost use Rattle.head.specs.Blocks.{opening_of};
+    ghost use Rattle.head.specs.Heads.{world_of};
+
+    ghost first = { world_of (opening_of []) };
 
     ghost holds = { λ k events. Unit {0} };
 
@@ -76,7 +88,7 @@ impl Keeper for NoKeeper {
 
     ghost moment = { λ k. 0 };
 
-    ghost found_since = { λ k t found. ⊥ };
+    ghost found_since = { λ k t w. ⊥ };
 
     fn is_idle(&self) -> bool {
         true
@@ -88,7 +100,7 @@ impl Keeper for NoKeeper {
 
     fn close(&mut self) {}
 
-    ghost now = { λ k events found held none. absurd none };
+    ghost now = { λ k events w held none. absurd none };
 
-    ghost settled = { λ k events found held opened none. absurd none };
+    ghost settled = { λ k events w held opened none. absurd none };
 }
