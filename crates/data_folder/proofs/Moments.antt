@@ -23,7 +23,7 @@ module _ {F : Type 0} (shows : F → List ℕ → Option (List ℕ) → Type 0)
     later = e.later;
     nothing_else = λ t left le had. ⊎_elim (λ past. inl (had.0, past, had.2))
         (λ during. inr (left_now (count n) (after bytes) left (had.0 journal_name) had.2
-        (during.own bytes n shown durable)))
+        (during.1.own bytes n shown durable)))
         (e.nothing_else t had.0 le had.1);
     keeps = λ t left le had. (had.0, e.keeps t had.0 le had.1, had.2);
   }
@@ -40,9 +40,10 @@ module _ {F : Type 0} (shows : F → List ℕ → Option (List ℕ) → Type 0)
     later = time.later;
     same = λ name x away shown. k.same name x away away shown;
     durable = λ name n away durable. k.durable name n away away durable;
+    keeps = time.keeps;
     before = λ t left le had. ⊎_elim (λ past. inl past)
-        (λ during. inr (λ name x n away shown durable.
-        during.others name x n away away shown durable))
+        (λ during. inr (during.0, λ name x n away shown durable.
+        during.1.others name x n away away shown durable))
         (time.nothing_else t left le had);
   }
 
@@ -63,9 +64,9 @@ module _ {F : Type 0} (moment : F → ℕ) (left_since : F → ℕ → Left → 
       → ((left : Left) → may_leave left → P left) → LeavesOnly moment left_since old new P
   goes_on old mid new P may_leave so_far time here = record {
     later = omega (arith, so_far.later, time.later);
-    each = λ left had. ⊎_elim (so_far.each left) (here left)
+    each = λ left had. ⊎_elim (so_far.each left) (λ now. here left now.1)
         (time.nothing_else (moment old) left so_far.later had);
-    before = λ t left le had. ⊎_elim (so_far.before t left le) (λ now. inr (here left now))
+    before = λ t left le had. ⊎_elim (so_far.before t left le) (λ now. inr (here left now.1))
         (time.nothing_else t left (omega (arith, le, so_far.later)) had);
   }
 

@@ -14,13 +14,13 @@ MayLeaveOf n None found = found ≡ None
 MayLeaveOf n (Some bytes) found =
     (left : List ℕ) × (found ≡ Some left) × MayLeave n bytes left
 
--- Time goes on: a crash since t might have left what it might have left before, or what it may
--- leave during this call.
+-- Time goes on: a crash since t might have left what it might have left before, or it comes during
+-- this call, and leaves what it may leave then.
 pub record Elapses (before now : ℕ) (past since : ℕ → Left → Type 0)
     (may_leave : Left → Type 0) : Type 0 where
   pub later : before ≤ now
   pub nothing_else : (t : ℕ) (left : Left) → t ≤ before → since t left
-      → past t left ⊎ may_leave left
+      → past t left ⊎ (since before left × may_leave left)
   pub keeps : (t : ℕ) (left : Left) → t ≤ before → past t left → since t left
 
 -- A crash at any moment since old leaves files that have P.

@@ -30,8 +30,11 @@ pub record StaysBeside {F : Type 0} (shows : F → List ℕ → Option (List ℕ
       → shows new name x
   pub durable : (name : List ℕ) (n : ℕ) → name ≢ journal_name → kept old name n
       → kept new name n
+  pub keeps : (t : ℕ) (left : Left) → t ≤ moment old → left_since old t left
+      → left_since new t left
   pub before : (t : ℕ) (left : Left) → t ≤ moment old → left_since new t left
-      → left_since old t left ⊎ LeavesBeside shows kept old left
+      → left_since old t left
+      ⊎ (left_since new (moment old) left × LeavesBeside shows kept old left)
 
 pub all_stays : {F : Type 0} (shows : F → List ℕ → Option (List ℕ) → Type 0)
     (kept : F → List ℕ → ℕ → Type 0) (moment : F → ℕ) (left_since : F → ℕ → Left → Type 0)
@@ -40,19 +43,30 @@ all_stays shows kept moment left_since f = record {
   later = omega arith;
   same = λ name x away shown. shown;
   durable = λ name n away durable. durable;
+  keeps = λ t left le had. had;
   before = λ t left le had. inl had;
 }
 
 pub then_stays : {F : Type 0} (shows : F → List ℕ → Option (List ℕ) → Type 0)
     (kept : F → List ℕ → ℕ → Type 0) (moment : F → ℕ) (left_since : F → ℕ → Left → Type 0)
-    (a b c : F) → StaysBeside shows kept moment left_since a b
+    → ((f : F) (t u : ℕ) (left : Left) → t ≤ u → u ≤ moment f → left_since f u left
+    → left_since f t left)
+    → (a b c : F) → StaysBeside shows kept moment left_since a b
     → StaysBeside shows kept moment left_since b c → StaysBeside shows kept moment left_since a c
-then_stays shows kept moment left_since a b c first second = record {
+then_stays shows kept moment left_since earlier a b c first second = record {
   later = omega (arith, first.later, second.later);
   same = λ name x away shown. second.same name x away (first.same name x away shown);
   durable = λ name n away durable. second.durable name n away (first.durable name n away durable);
-  before = λ t left le had. ⊎_elim (first.before t left le)
-      (λ beside. inr (λ name x n away shown durable. beside name x n away
-      (first.same name x away shown) (first.durable name n away durable)))
+  keeps = λ t left le had. second.keeps t left (omega (arith, le, first.later))
+      (first.keeps t left le had);
+  before = λ t left le had. ⊎_elim
+      (λ past. ⊎_elim (λ old. inl old)
+      (λ now. inr (second.keeps (moment a) left first.later now.0, now.1))
+      (first.before t left le past))
+      (λ now. inr (
+        earlier c (moment a) (moment b) left first.later second.later now.0,
+        λ name x n away shown durable. now.1 name x n away (first.same name x away shown)
+            (first.durable name n away durable),
+      ))
       (second.before t left (omega (arith, le, first.later)) had);
 }

@@ -36,7 +36,9 @@ impl<F: Folder + Drop> Medium for JournalFile<F> {
     ghost stays = { λ m. all_stays F.shows F.kept F.moment F.left_since m.folder };
 
     ghost goes_on = { λ a b c first second.
-        then_stays F.shows F.kept F.moment F.left_since a.folder b.folder c.folder first second };
+        then_stays F.shows F.kept F.moment F.left_since
+        (λ f t u left le fits had. F.earlier f t u left le fits had)
+        a.folder b.folder c.folder first second };
 
     ghost only_now = { λ m bytes n left shown kept had.
         left_now n bytes left (had.0 journal_name) had.2
