@@ -20,6 +20,9 @@ pub trait Keeper {
     /// These are the events that it keeps, in order, those before a head among them.
     ghost holds: { Self → List Change → Type 0 };
 
+    /// It keeps the first events and then the second ones, which it was handed last.
+    ghost kept_last: { Self → List Change → List Change → Type 0 };
+
     /// Whether it takes nothing more.
     ghost closed: { Self → Bool };
 
@@ -39,6 +42,8 @@ pub trait Keeper {
         requires spelled { (more : List Change) × SpellTogether records.now more }
         ensures ok { OnOk result ((events more : List Change) → holds self.old events
             → SpellTogether records.now more → holds self.new (events ++ more)) }
+        ensures last { OnOk result ((events more : List Change) → holds self.old events
+            → SpellTogether records.now more → kept_last self.new events more) }
         ensures err { OnErr result ((events : List Change) → holds self.old events
             → holds self.new events) }
         // A crash at any moment of the call leaves all that it kept, and the first few of these.
@@ -56,9 +61,9 @@ pub trait Keeper {
     /// find these events or not.
     fn close(&mut self)
         requires { closed self.old ≡ false }
-        ensures held { (events more : List Change) → holds self.old (events ++ more)
+        ensures held { (events more : List Change) → kept_last self.old events more
             → holds self.new events }
-        ensures any_moment { (events more : List Change) → holds self.old (events ++ more)
+        ensures any_moment { (events more : List Change) → kept_last self.old events more
             → FindsOnly moment found_since self.old self.new
             (IsOfAllAndSome first events more) };
 
@@ -83,6 +88,8 @@ impl Keeper for NoKeeper {
     ghost first = { world_of (opening_of []) };
 
     ghost holds = { λ k events. Unit {0} };
+
+    ghost kept_last = { λ k events more. Unit {0} };
 
     ghost closed = { λ k. false };
 

@@ -1,3 +1,4 @@
 pub mod Blocks
 pub mod Contents
+pub mod Keeping
 pub mod Replays

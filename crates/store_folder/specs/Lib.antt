@@ -1,4 +1,7 @@
 pub mod Blocks
+pub mod Holding
 pub mod Journals
+pub mod KeeperLaws
 pub mod Replays
 pub mod States
+pub mod StoreLaws

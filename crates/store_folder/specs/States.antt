@@ -1,6 +1,7 @@
 -- When what lies in a folder is a store.
-use Rattle.std.specs.Prelude.{◌≡◌, ℕ, List, [], ◌∷◌, Ok}
+use Rattle.std.specs.Prelude.{◌≡◌, ℕ, List, [], ◌∷◌, Ok, Some}
 use Rattle.std.specs.List.{AllByRecursion}
+use Rattle.wire.specs.Spelling.{IsBytes}
 use Rattle.data_folder.specs.Folders.{Left}
 use Rattle.data_folder.specs.States.{HasFiles, HasJournal}
 use Rattle.event_journal.specs.Holding.{contents_with}
@@ -41,3 +42,14 @@ pub record IsState (saved : Saved) (parts : List BlockPart) (events : List Event
 -- and this is its world
 abbrev pub HasWorld : Saved → List BlockPart → List Event → World → Type 0
 HasWorld saved blocks events w = replayed (world_of (started saved blocks)) events ≡ Ok w
+
+-- files of bytes
+abbrev pub AreBytes : Left → Type 0
+AreBytes left = (name bytes : List ℕ) → left name ≡ Some bytes → IsBytes bytes
+
+-- what a start that finds this makes of it: a store, and its world
+abbrev pub StartsWith : Left → World → Type 0
+StartsWith left w =
+    AreBytes left
+    × ((saved : Saved) × (parts : List BlockPart) × (events : List Event)
+    × IsState saved parts events left × HasWorld saved parts events w)

@@ -3,7 +3,8 @@
 //! A store is one journal and the files of the blocks that its head names. [`read_journal`] gives
 //! the head and the events of a journal's file, or the first fault, `J1` to `J14`; [`replay`] applies
 //! the events to the snapshot that the head says, and [`open_block`] opens the files of a block. What
-//! lies in a folder and is a store is `IsState`, in `specs/States.antt`.
+//! lies in a folder and is a store is `IsState`, in `specs/States.antt`. A [`StoreKeeper`] keeps the
+//! events of a running store there.
 //!
 //! It stands on `data_folder` for the folder, on `head_record` and `event_journal` for what a journal
 //! has, and on `head` for snapshots and the step of an event.
@@ -12,9 +13,11 @@
 mod blocks;
 mod error;
 mod journals;
+mod keeping;
 mod replaying;
 
 pub use blocks::{BlockBytes, open_block};
 pub use error::{ReadError, RefusedEvent};
 pub use journals::{FoundJournal, read_journal};
+pub use keeping::{Beginning, StoreKeeper};
 pub use replaying::replay;
