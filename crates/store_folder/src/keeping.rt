@@ -5,12 +5,20 @@ ghost use Rattle.head.specs.Worlds.{World};
 use data_folder::{Folder, JournalFile};
 use event_journal::EventJournal;
 use keeper::{KeepError, Keeper, keep_error};
-use std::marker::PhantomData;
+use std::marker::{Brand, PhantomData};
 
 /// The world before all events of a store.
 pub trait Beginning {
     /// This world.
     ghost first: { World };
+}
+
+impl Beginning for Brand {
+    ghost use Rattle.std.specs.Prelude.{[]};
+    ghost use Rattle.head.specs.Blocks.{opening_of};
+    ghost use Rattle.head.specs.Heads.{world_of};
+
+    ghost first = { world_of (opening_of []) };
 }
 
 /// Keeps the events of a store in the journal of its folder, beside the blocks that the journal's
