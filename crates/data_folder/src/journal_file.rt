@@ -4,7 +4,7 @@ use crate::folder::Folder;
 use journal::{Medium, MediumError};
 
 /// The name of the journal.
-pub(crate) const JOURNAL: &str = "journal";
+pub const JOURNAL: &str = "journal";
 
 /// The file `journal` of a folder.
 #[derive(Drop)]

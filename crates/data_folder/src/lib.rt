@@ -24,7 +24,7 @@ mod sweeping;
 
 pub use folder::Folder;
 pub use host_folder::HostFolder;
-pub use journal_file::JournalFile;
+pub use journal_file::{JOURNAL, JournalFile};
 pub use memory_folder::MemoryFolder;
 pub use rolling::{RollError, begin, roll};
 pub use sweeping::sweep;

@@ -1,4 +1,5 @@
 pub mod Blocks
 pub mod Contents
+pub mod Files
 pub mod Keeping
 pub mod Replays

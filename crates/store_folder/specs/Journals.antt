@@ -1,5 +1,5 @@
 -- What the file of a store's journal stands for, and what reading one answers.
-use Rattle.std.specs.Prelude.{◌≡◌, ℕ, List, Result, Ok, Err, Vec}
+use Rattle.std.specs.Prelude.{◌≡◌, ℕ, List, Result, Ok, Err, Vec, length}
 use Rattle.std.specs.declared.alloc.Global.{Global}
 use Rattle.std.specs.List.{AllByRecursion}
 use Rattle.head.specs.Worlds.{Event}
@@ -9,6 +9,7 @@ use Rattle.event_journal.specs.Outcome.{MayRefuse}
 use Rattle.head_record.specs.Saved.{Saved}
 use Rattle.head_record.specs.Spelling.{head_texts, IsSaved}
 use Rattle.journal.specs.declared.error.JournalError.TheVariants.{Memory as NoRecord}
+use Rattle.journal.specs.Records.{file_of}
 use Rattle.keeper.specs.Together.{IsKept}
 use Rattle.store_folder.specs.declared.error.ReadError.{ReadError}
 use Rattle.store_folder.specs.declared.error.ReadError.TheVariants as errors
@@ -42,3 +43,8 @@ GivesContents saved events (Err e) = MayRefuseJournal events e
 abbrev pub GivesJournal : Saved → List Event → Result FoundJournal ReadError → Type 0
 GivesJournal saved events (Ok j) = (j.head ≡ saved) × (j.events.items ≡ events)
 GivesJournal saved events (Err e) = MayRefuseJournal events e
+
+-- what was found in the file is what it stands for, and so many bytes long
+pub record IsFoundJournal (file : List ℕ) (j : FoundJournal) : Type 0 where
+  pub is : IsJournalOf file j.head j.events.items
+  pub counted : j.len ≡ length (file_of (contents_with (head_texts j.head) j.events.items))

@@ -6,7 +6,6 @@ use Rattle.data_folder.specs.Folders.{Left, MayLeaveOf}
 use Rattle.data_folder.specs.JournalFile.{journal_name}
 use Rattle.data_folder.specs.JournalLaws.{left_now}
 use Rattle.event_journal.specs.Holding.{contents_with}
-use Rattle.head.specs.Heads.{world_of}
 use Rattle.head.specs.Worlds.{Event, World, replayed}
 use Rattle.head_record.specs.Spelling.{head_texts}
 use Rattle.journal.specs.Records.{file_of}

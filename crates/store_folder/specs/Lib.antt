@@ -1,4 +1,5 @@
 pub mod Blocks
+pub mod Finding
 pub mod Holding
 pub mod Journals
 pub mod KeeperLaws

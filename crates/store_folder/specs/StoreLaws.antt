@@ -1,7 +1,7 @@
 -- What a start finds of a store.
-use Rattle.std.specs.Prelude.{◌≡◌, ◌≢◌, ℕ, ℤ, Bool, false, List, [], ◌∷◌, ◌++◌, Option, Some, Result}
-use Rattle.std.specs.Prelude.{Ok, Err, codes, length, refl}
-use Rattle.std.proofs.Common.{sym, ap, subst, ◌∙◌, append_assoc}
+use Rattle.std.specs.Prelude.{◌≡◌, ◌≢◌, ◌+◌, ℕ, ℤ, List, [], ◌∷◌, ◌++◌, Option, Some, Result, Ok}
+use Rattle.std.specs.Prelude.{Err, codes, length, refl}
+use Rattle.std.proofs.Common.{get_or, sym, ap, subst, ◌∙◌, arith}
 use Rattle.std.specs.List.{AllByRecursion}
 use Rattle.std.proofs.lemmas.List.{append-nil, take_all}
 use Rattle.wire.specs.Spelling.{IsBytes}
@@ -13,10 +13,10 @@ use Rattle.data_folder.specs.Folders.{Left, MayLeaveOf}
 use Rattle.data_folder.specs.JournalFile.{journal_name}
 use Rattle.data_folder.specs.States.{AreThere, HasFiles, Named}
 use Rattle.event_journal.specs.Finding.{one_list}
-use Rattle.event_journal.specs.Holding.{Stands, contents_with}
+use Rattle.event_journal.specs.Holding.{Stands}
 use Rattle.head.specs.Heads.{BlockPart, world_of}
 use Rattle.head.specs.Refusals.{Refusal}
-use Rattle.head.specs.Worlds.{Event, World, replayed, replayed_from}
+use Rattle.head.specs.Worlds.{Event, World, replayed, replayed_from, stepped}
 use Rattle.head_record.specs.declared.error.RefusedHead.{RefusedHead}
 use Rattle.head_record.specs.Reading.{head_of}
 use Rattle.head_record.specs.Saved.{Place, Saved}
@@ -142,7 +142,7 @@ joined_from (Ok u) [] late v w one two =
     ap (λ (x : World). replayed x late) (same_world u v one) ∙ two
 joined_from (Err f) [] late v w one two = absurd cc
 joined_from (Ok u) (e ∷ early) late v w one two =
-    joined_from _ early late v w one two
+    joined_from (stepped u e) early late v w one two
 joined_from (Err f) (e ∷ early) late v w one two = absurd cc
 
 -- A start finds the world of the early events, and of those that stand after the head.
@@ -189,7 +189,8 @@ whole_left bytes found m =
     m.1 ∙ ap (λ (x : List ℕ). Some x) (m.2.front ∙ take_all m.2.n bytes m.2.kept)
 
 not_the_journal : (rest : List ℕ) → codes "blocks/" ++ rest ≢ journal_name
-not_the_journal rest e = cc
+not_the_journal rest e =
+    absurd (let n : 98 ≡ 106 = ap (λ (xs : List ℕ). get_or xs 0 0) e in omega (arith, n))
 
 -- no file of a block is the journal
 

@@ -1,12 +1,19 @@
 //! The files of a block.
 
-ghost use Rattle.std.specs.Prelude.{IfOk};
+ghost use Rattle.std.specs.Prelude.{◌≡◌, ◌++◌, IfOk, OnOk, codes, decimal, map, string_bytes, true};
+ghost use Rattle.data_folder.specs.Folders.{HasFile, KeepsAll};
+ghost use Rattle.data_folder.specs.States.{AreThere};
 ghost use Rattle.head.specs.Blocks.{part_in};
 ghost use Rattle.head.specs.Heads.{BlockPart};
-ghost use Rattle.store_folder.specs.Blocks.{files_in, GivesBlock, SpellBlock};
+ghost use Rattle.store_folder.specs.Blocks.{BlockFiles, files_in, name_in, named_files};
+ghost use Rattle.store_folder.specs.Blocks.{GivesBlock, SpellBlock};
+ghost use Rattle.store_folder.specs.Holding.{AreAt};
 
+use crate::error::BlockFault;
 use block::{Block, BlockError, Range};
-use std::alloc::Global;
+use data_folder::Folder;
+use head_record::BlockPlace;
+use std::alloc::{AllocError, Global};
 
 /// The bytes of the files of a block.
 #[derive(Drop)]
@@ -64,4 +71,143 @@ pub fn open_block(alloc: Global, files: BlockBytes) -> Result<Block, BlockError>
         tombstones,
     } = files;
     open_files(alloc, &meta, &index, chunks, &tombstones)
+}
+
+/// The name of a file of the block with this number.
+fn name_in(alloc: Global, number: u64, name: &str) -> Result<String, AllocError>
+    ensures { IfOk result (λ text. string_bytes text ≡ name_in number name.now) }
+{
+    format!(in alloc; "blocks/{number}/{name}")
+}
+
+/// The name of an edition of a block's deletions, in its folder.
+fn edition_name(alloc: Global, edition: u64) -> Result<String, AllocError>
+    ensures { IfOk result (λ text. string_bytes text ≡ codes "tombstones." ++ decimal edition) }
+{
+    format!(in alloc; "tombstones.{edition}")
+}
+
+/// The bytes of a file, which has to be there.
+fn read_file<F: Folder>(alloc: Global, folder: &mut F, name: &str) -> Result<Vec<u8>, BlockFault>
+    requires { F.sound folder.old ≡ true }
+    ensures found { IfOk result (λ bytes.
+        HasFile F.shows F.kept name.now bytes.items folder.new) }
+    ensures sound { OnOk result (F.sound folder.new ≡ true) }
+    ensures all { KeepsAll F.shows F.kept folder.old folder.new }
+{
+    match folder.read(alloc, name) {
+        Ok(found) => match found {
+            Some(bytes) => Ok(bytes),
+            None => Err(BlockFault::Missing),
+        },
+        Err(_) => Err(BlockFault::Medium),
+    }
+}
+
+/// The bytes of a file of the block with this number.
+fn read_in<F: Folder>(
+    alloc: Global,
+    folder: &mut F,
+    number: u64,
+    name: &str,
+) -> Result<Vec<u8>, BlockFault>
+    requires { F.sound folder.old ≡ true }
+    ensures found { IfOk result (λ bytes.
+        HasFile F.shows F.kept (name_in number name.now) bytes.items folder.new) }
+    ensures sound { OnOk result (F.sound folder.new ≡ true) }
+    ensures all { KeepsAll F.shows F.kept folder.old folder.new }
+{
+    match name_in(alloc, number, name) {
+        Ok(path) => read_file(alloc, folder, path.as_str()),
+        Err(_) => Err(BlockFault::Memory),
+    }
+}
+
+/// The deletions of a block in this edition.
+fn read_edition<F: Folder>(
+    alloc: Global,
+    folder: &mut F,
+    place: BlockPlace,
+) -> Result<Vec<u8>, BlockFault>
+    requires { F.sound folder.old ≡ true }
+    ensures found { IfOk result (λ bytes. HasFile F.shows F.kept
+        (name_in place.0 (codes "tombstones." ++ decimal place.1)) bytes.items folder.new) }
+    ensures sound { OnOk result (F.sound folder.new ≡ true) }
+    ensures all { KeepsAll F.shows F.kept folder.old folder.new }
+{
+    match edition_name(alloc, place.tombstones()) {
+        Ok(name) => read_in(alloc, folder, place.folder(), name.as_str()),
+        Err(_) => Err(BlockFault::Memory),
+    }
+}
+
+/// The bytes of the files of the block at a place.
+fn read_files<F: Folder>(
+    alloc: Global,
+    folder: &mut F,
+    place: BlockPlace,
+) -> Result<BlockBytes, BlockFault>
+    requires { F.sound folder.old ≡ true }
+    ensures found { IfOk result (λ files.
+        AreThere F.shows F.kept (named_files place (files_in files)) folder.new) }
+    ensures sound { OnOk result (F.sound folder.new ≡ true) }
+    ensures all { KeepsAll F.shows F.kept folder.old folder.new }
+{
+    let number = place.folder();
+    let meta = read_in(alloc, folder, number, "meta.json")?;
+    let index = read_in(alloc, folder, number, "index")?;
+    let chunks = read_in(alloc, folder, number, "chunks/000001")?;
+    let tombstones = read_edition(alloc, folder, place)?;
+    Ok(BlockBytes {
+        meta,
+        index,
+        chunks,
+        tombstones,
+    })
+}
+
+/// The block at a place.
+fn read_block<F: Folder>(
+    alloc: Global,
+    folder: &mut F,
+    place: BlockPlace,
+) -> Result<Block, BlockFault>
+    requires { F.sound folder.old ≡ true }
+    ensures found { IfOk result (λ b. (files : BlockFiles) × SpellBlock files (part_in b)
+        × AreThere F.shows F.kept (named_files place files) folder.new) }
+    ensures sound { OnOk result (F.sound folder.new ≡ true) }
+    ensures all { KeepsAll F.shows F.kept folder.old folder.new }
+{
+    match read_files(alloc, folder, place) {
+        Ok(files) => match open_block(alloc, files) {
+            Ok(block) => Ok(block),
+            Err(error) => Err(BlockFault::Refused(error)),
+        },
+        Err(fault) => Err(fault),
+    }
+}
+
+/// The blocks at these places, in their order; or why the first that is not opened is not.
+pub fn read_blocks<F: Folder>(
+    alloc: Global,
+    folder: &mut F,
+    places: &[BlockPlace],
+) -> Result<Vec<Block>, BlockFault>
+    requires { F.sound folder.old ≡ true }
+    ensures found { IfOk result (λ blocks.
+        AreAt F.shows F.kept places.now (map part_in blocks.items) folder.new) }
+    ensures sound { OnOk result (F.sound folder.new ≡ true) }
+    ensures all { KeepsAll F.shows F.kept folder.old folder.new }
+{
+    let mut blocks = Vec::new(alloc);
+    for place in places {
+        match read_block(alloc, folder, *place) {
+            Ok(block) => match blocks.push(block) {
+                Ok(()) => {}
+                Err(_) => return Err(BlockFault::Memory),
+            },
+            Err(fault) => return Err(fault),
+        }
+    }
+    Ok(blocks)
 }

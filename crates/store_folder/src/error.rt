@@ -1,5 +1,6 @@
 //! Why a store is not started.
 
+use block::BlockError;
 use event_journal::Refused;
 use head::CommitError;
 use head_record::RefusedHead;
@@ -14,6 +15,30 @@ pub enum ReadError {
     Head(RefusedHead),
     /// `J8` to `J14`: a content after the head is no event; its number counts from the head's end.
     Event(Refused),
+}
+
+/// Why a block that the head names is not opened.
+#[derive(Clone, Copy, Debug, PartialEq, Eq, Drop)]
+pub enum BlockFault {
+    /// No memory is left.
+    Memory,
+    /// The folder could not be read.
+    Medium,
+    /// A file of it is not there.
+    Missing,
+    /// Its files are refused, for this cause.
+    Refused(BlockError),
+}
+
+/// Why the store of a folder is not read.
+#[derive(Clone, Copy, Debug, PartialEq, Eq, Drop)]
+pub enum StartError {
+    /// The journal could not be read.
+    Medium,
+    /// The journal is refused.
+    Journal(ReadError),
+    /// A block is not opened.
+    Block(BlockFault),
 }
 
 /// An event that is refused after those before it, by its number from 0.

@@ -1,6 +1,7 @@
 //! The folder of a durable store: what a start reads of it, and what a roll writes.
 //!
-//! A store is one journal and the files of the blocks that its head names. [`read_journal`] gives
+//! A store is one journal and the files of the blocks that its head names. [`read_store`] gives what
+//! a folder has of one, and [`read_blocks`] the blocks at places. [`read_journal`] gives
 //! the head and the events of a journal's file, or the first fault, `J1` to `J14`; [`replay`] applies
 //! the events to the snapshot that the head says, and [`open_block`] opens the files of a block. What
 //! lies in a folder and is a store is `IsState`, in `specs/States.antt`. A [`StoreKeeper`] keeps the
@@ -14,10 +15,12 @@ mod blocks;
 mod error;
 mod journals;
 mod keeping;
+mod reading;
 mod replaying;
 
-pub use blocks::{BlockBytes, open_block};
-pub use error::{ReadError, RefusedEvent};
+pub use blocks::{BlockBytes, open_block, read_blocks};
+pub use error::{BlockFault, ReadError, RefusedEvent, StartError};
 pub use journals::{FoundJournal, read_journal};
 pub use keeping::{Beginning, StoreKeeper};
+pub use reading::{FoundStore, read_store};
 pub use replaying::replay;

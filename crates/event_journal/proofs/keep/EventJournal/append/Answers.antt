@@ -58,4 +58,4 @@ returns-clause-err g c =
 pub returns-clause-closed : goal.returns-clause-closed
 returns-clause-closed g c t =
     let k = c.append_records.ensures.closed t in
-    (k.0, ap (λ (x : Journal g.row.M.Denot). record { journal = x }) k.1)
+    (k.0, ap (λ (x : Journal g.row.M.Denot). record (c.args.self.now) { journal = x }) k.1)

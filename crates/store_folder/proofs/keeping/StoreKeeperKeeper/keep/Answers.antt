@@ -1,4 +1,6 @@
 use Rattle.std.proofs.Common.{ap}
+use Rattle.data_folder.specs.declared.journal_file.JournalFile.{JournalFile}
+use Rattle.event_journal.specs.declared.keep.EventJournal.{EventJournal}
 use Rattle.store_folder.proofs.Keeping.{last_kept, says_closed, store_finds, store_more}
 use Rattle.store_folder.proofs.Keeping.{store_stays, told_closed}
 use Rattle.head_record.specs.Spelling.{head_texts}
@@ -61,7 +63,8 @@ pub returns-in-Err-clause-closed : goal.returns-in-Err-clause-closed
 returns-in-Err-clause-closed g c t =
     let k = c.in-Err.ensures.closed t in (
       says_closed c.in-Err.error c.keep_error.result c.keep_error.ensures k.0,
-      ap (λ x. record c.args.self.now { events = x }) k.1,
+      ap (λ (x : EventJournal (JournalFile g.row.F.Denot)). record (c.args.self.now) { events = x })
+          k.1,
     )
 
 pub returns-in-Err-clause-told : goal.returns-in-Err-clause-told

@@ -1,0 +1,26 @@
+use Rattle.store_folder.proofs.Files.{file_stays, then_kept}
+use Rattle.store_folder.proofs.blocks.read_files.Goals as goal
+
+pub returns-clause-found : goal.returns-clause-found
+returns-clause-found g c =
+    let f = g.F.Folder in
+    let on = file_stays f.shows f.kept in
+    let second = c.read_in-2.ensures.all in
+    let third = c.read_in-3.ensures.all in
+    let fourth = c.read_edition.ensures.all in (
+      on _ _ _ _ fourth (on _ _ _ _ third (on _ _ _ _ second c.in_ok-meta.ensures.found)),
+      (
+        on _ _ _ _ fourth (on _ _ _ _ third c.in_ok-index.ensures.found),
+        (
+          on _ _ _ _ fourth c.in_ok-chunks.ensures.found,
+          (c.in_ok-tombstones.ensures.found, tt),
+        ),
+      ),
+    )
+
+pub returns-clause-all : goal.returns-clause-all
+returns-clause-all g c =
+    let f = g.F.Folder in
+    let on = then_kept f.shows f.kept in
+    on _ _ _ (on _ _ _ (on _ _ _ c.read_in.ensures.all c.read_in-2.ensures.all)
+    c.read_in-3.ensures.all) c.read_edition.ensures.all
