@@ -49,12 +49,12 @@ abbrev failed : {X : Type 0} → KeepError → Result X KeepError
 failed k = Err k
 
 pub too_long : {X Y A : Type 0} (e : JournalError) (k : KeepError) → k ≡ keep_error e
-    → (e ≡ journal.Memory) ⊎ (e ≡ journal.Size) → failed {X} k ≡ Err TooLong
-    → (refused {Y} e ≡ Err journal.Size → A) → A
+    → (e ≡ journal.Memory) ⊎ (e ≡ journal.Size) → failed {X = X} k ≡ Err TooLong
+    → (refused {X = Y} e ≡ Err journal.Size → A) → A
 too_long {X} e k is (inl m) long then =
-    absurd (let a : failed {X} Memory ≡ Err TooLong =
-    ap (λ (x : KeepError). failed {X} x) (sym (is ∙ ap keep_error m)) ∙ long in cc)
-too_long {X} {Y} e k is (inr s) long then = then (ap (λ (x : JournalError). refused {Y} x) s)
+    absurd (let a : failed {X = X} Memory ≡ Err TooLong =
+    ap (λ (x : KeepError). failed {X = X} x) (sym (is ∙ ap keep_error m)) ∙ long in cc)
+too_long {X} {Y} e k is (inr s) long then = then (ap (λ (x : JournalError). refused {X = Y} x) s)
 
 -- only a closed journal says so
 pub only_closed : (e : JournalError) → keep_error e ≡ Closed → e ≡ journal.Closed

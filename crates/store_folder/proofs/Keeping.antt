@@ -32,16 +32,16 @@ failed k = Err k
 
 -- what a closed journal says
 pub says_closed : {X Y : Type 0} (e : JournalError) (k : KeepError) → k ≡ keep_error e
-    → refused {X} e ≡ Err journal.Closed → failed {Y} k ≡ Err Closed
+    → refused {X = X} e ≡ Err journal.Closed → failed {X = Y} k ≡ Err Closed
 says_closed {X} {Y} e k is closed =
     let same : e ≡ journal.Closed = cc in
-    ap (λ (x : KeepError). failed {Y} x) (is ∙ ap keep_error same)
+    ap (λ (x : KeepError). failed {X = Y} x) (is ∙ ap keep_error same)
 
 pub told_closed : {X Y A : Type 0} (e : JournalError) (k : KeepError) → k ≡ keep_error e
-    → failed {Y} k ≡ Err Closed → (refused {X} e ≡ Err journal.Closed → A) → A
+    → failed {X = Y} k ≡ Err Closed → (refused {X = X} e ≡ Err journal.Closed → A) → A
 told_closed {X} {Y} e k is told then =
     let same : k ≡ Closed = cc in
-    then (ap (λ (x : JournalError). refused {X} x) (only_closed e (sym is ∙ same)))
+    then (ap (λ (x : JournalError). refused {X = X} x) (only_closed e (sym is ∙ same)))
 
 module _ {F : Type 0} (shows : F → List ℕ → Option (List ℕ) → Type 0)
     (kept : F → List ℕ → ℕ → Type 0) (sound : F → Bool) (moment : F → ℕ)

@@ -33,12 +33,12 @@ refused e = Err e
 
 -- a content that fits is refused for want of memory alone
 memory_alone : {X : Type 0} (e : JournalError) (content : List ℕ) → (e ≡ Memory) ⊎ (e ≡ Size)
-    → (refused {X} e ≡ Err Size → is_length (length content) ≡ false) → IsContent content
+    → (refused {X = X} e ≡ Err Size → is_length (length content) ≡ false) → IsContent content
     → e ≡ Memory
 memory_alone e content (inl m) long fits = m
 memory_alone {X} e content (inr s) long fits =
     let no : is_length (length content) ≡ false =
-    long (ap (λ (x : JournalError). refused {X} x) s) in
+    long (ap (λ (x : JournalError). refused {X = X} x) s) in
     absurd (let a : true ≡ false = sym fits.sized ∙ no in cc)
 
 pub returns-in-Err-clause-only : goal.returns-in-Err-clause-only

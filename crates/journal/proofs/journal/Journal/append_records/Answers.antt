@@ -37,8 +37,8 @@ returns-in-TakenBack-clause-any_moment g c contents more k are =
     (λ left l. some_more old.len contents more c.args.records.now left k.each are k.counted l)
     (c.in-TakenBack.ensures.any_moment (file_of contents) k.has k.counted)
 
-pub returns-clause-any_moment : goal.returns-clause-any_moment
-returns-clause-any_moment g c contents more k are =
+pub returns-in-Lost-clause-any_moment : goal.returns-in-Lost-clause-any_moment
+returns-in-Lost-clause-any_moment g c contents more k are =
     let m = g.M.Medium in
     let old = c.args.self.now in
     weaker m.moment m.left_since old.medium c.write.new.medium
