@@ -50,4 +50,4 @@ pub use error::WriteError;
 pub use file_length::series_len;
 pub use files::{BlockBytes, write};
 pub use limits::MAX_LEN;
-pub use part_rows::PartRows;
+pub use part_rows::{PartRows, times_rise};

@@ -75,7 +75,8 @@ fn is_series(row: &Row) -> bool
     !row.samples().is_empty() && times_rise(row.samples())
 }
 
-fn times_rise(samples: &[Sample]) -> bool
+/// Whether the times of samples ascend strictly.
+pub fn times_rise(samples: &[Sample]) -> bool
     ensures { result ≡ is_sorted int_cmp samples.now }
 {
     samples.is_sorted_by(|a, b| is_earlier(*a, *b))

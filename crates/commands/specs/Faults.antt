@@ -62,6 +62,7 @@ commit_place commit.Limit = None
 commit_place commit.CutTooLow = None
 commit_place commit.TooManyParts = None
 commit_place commit.Seat = None
+commit_place commit.Journal = None
 commit_place commit.Memory = None
 
 -- the place of the fault, where a refusal has one
@@ -147,6 +148,7 @@ commit_fault commit.Limit = Refused (Commit commit.Limit)
 commit_fault commit.CutTooLow = Refused (Commit commit.CutTooLow)
 commit_fault commit.TooManyParts = Refused (Commit commit.TooManyParts)
 commit_fault commit.Seat = Refused (Commit commit.Seat)
+commit_fault commit.Journal = Refused (Commit commit.Journal)
 commit_fault commit.Memory = Memory
 
 -- the fault that a refused block makes

@@ -27,7 +27,7 @@ pub enum Refusal {
     Selector(SelectorError),
     /// A query: `Q1`, `Q2`.
     Query(QueryError),
-    /// An event: `E1` to `E7`.
+    /// An event: `E1` to `E8`.
     Commit(CommitError),
     /// The files of a block: `B1`, `B2`, `I1` to `I15`, `C1` to `C8`, `T1` to `T5`.
     Block(BlockError),

@@ -94,7 +94,11 @@ pub fn sample_of(bytes: &[u8]) -> Result<(i64, i64, &[u8]), TextError>
 }
 
 /// So many samples in front of bytes, and the bytes after them.
-pub fn samples_of(alloc: Global, bytes: &[u8], count: u64) -> Result<(Vec<Sample>, &[u8]), TextError>
+pub fn samples_of(
+    alloc: Global,
+    bytes: &[u8],
+    count: u64,
+) -> Result<(Vec<Sample>, &[u8]), TextError>
     ensures { Gives (λ x. (x.0.items, x.1.now)) result (each_at sample_at count bytes.now) }
 {
     let mut samples = Vec::new(alloc);

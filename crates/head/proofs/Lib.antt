@@ -32,3 +32,5 @@ pub mod Fitting
 pub mod CutSteps
 pub mod Leaving
 pub mod WorkedRows
+pub mod Replays
+pub mod Resuming

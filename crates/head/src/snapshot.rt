@@ -14,7 +14,7 @@ use crate::cut::cut_at;
 use crate::deletion::snapshot_without;
 use crate::draft::{Draft, Samples, add_each};
 use crate::error::CommitError;
-use crate::event::{Event, Kind};
+use crate::event::{Event, EventView};
 use crate::head::HeadView;
 use crate::row_batch::RowBatch;
 use block::Block;
@@ -46,10 +46,11 @@ impl Model for Snapshot {
 
 ghost use Rattle.head.specs.Blocks.{part_in, opening_of, opening_floor, EachInside, part_names};
 ghost use Rattle.head.specs.Shown.{series_of, copied_of};
+ghost use Rattle.head.specs.Counts.{sample_count};
 ghost use Rattle.std.specs.Prelude.{[], map};
 
 /// The greatest end of the blocks' ranges, or the smallest time where there is no block.
-fn floor_of(blocks: &[Block]) -> i64
+pub(crate) fn floor_of(blocks: &[Block]) -> i64
     ensures floor { result ≡ opening_floor (map part_in blocks.now) }
     ensures time { is_time result ≡ true }
     ensures inside { EachInside blocks.now }
@@ -116,6 +117,13 @@ impl Snapshot {
         self.floor
     }
 
+    /// How many samples the head has. It looks at each series, and at no sample.
+    pub fn head_samples(&self) -> u64
+        ensures { result ≡ sample_count self.now.head }
+    {
+        self.head.sample_count()
+    }
+
     /// The head.
     pub fn head(&self) -> &HeadView
         ensures series { series_of result.now ≡ self.now.head }
@@ -158,12 +166,12 @@ pub fn apply(alloc: Global, at: &Snapshot, event: &Event) -> Result<Snapshot, Co
     ensures kept { IfOk result (λ s. KeepsBlocks event.now at.now s.blocks) }
     ensures copied { IfOk result (λ s. CopiesFew event.now s.copied) }
 {
-    match event.kind() {
-        Kind::Batch(samples) => snapshot_with(alloc, at, Samples::Pairs(samples.as_slice())),
-        Kind::Deletion(matchers, from, to) => {
-            Ok(snapshot_without(alloc, at, matchers.as_slice(), *from, *to)?)
+    match event.view() {
+        EventView::Batch(samples) => snapshot_with(alloc, at, Samples::Pairs(samples)),
+        EventView::Deletion(matchers, from, to) => {
+            Ok(snapshot_without(alloc, at, matchers, from, to)?)
         }
-        Kind::Cut(time) => cut_at(alloc, at, *time),
+        EventView::Cut(time) => cut_at(alloc, at, time),
     }
 }
 

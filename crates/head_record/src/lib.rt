@@ -20,5 +20,5 @@ mod writing;
 pub use error::RefusedHead;
 pub use laws::{heads_are_in_front, start_of_save};
 pub use reading::read_head;
-pub use saved::{BlockPlace, HeadRecord, SavedSeries};
+pub use saved::{BlockPlace, HeadRecord};
 pub use writing::head_contents;

@@ -18,8 +18,9 @@ ghost use Rattle.head_record.specs.Views.{opening_in};
 
 use crate::error::RefusedHead;
 use crate::parts::OpeningParts;
-use crate::saved::{BlockPlace, HeadRecord, SavedSeries};
+use crate::saved::{BlockPlace, HeadRecord};
 use event_text::{TextError, labels_of, sample_of, samples_of};
+use head::SavedSeries;
 use labels::Sample;
 use std::alloc::Global;
 use wire::Cut;

@@ -7,8 +7,9 @@ ghost use Rattle.head_record.specs.Spelling.{place_text, series_content};
 ghost use Rattle.head_record.specs.Spelling.{IsOpening, IsPlace, IsSaved, IsSeries};
 ghost use Rattle.journal.specs.Contents.{contents_in};
 
-use crate::saved::{BlockPlace, HeadRecord, SavedSeries};
+use crate::saved::{BlockPlace, HeadRecord};
 use event_text::{put_count, put_each_sample, put_labels, put_sample};
+use head::SavedSeries;
 use std::alloc::{AllocError, Global};
 use wire::{put_u8, put_uvarint, put_varint};
 

@@ -32,9 +32,10 @@ pub trait Keeper {
     /// The world that a start might find after a crash at some moment from that one on.
     ghost found_since: { Self → ℕ → World → Type 0 };
 
-    /// Whether it keeps nothing, so that no text need be made: it holds any events.
-    fn is_idle(&self) -> bool
-        ensures { result ≡ true → (events : List Change) → holds self.now events };
+    /// Whether keepers of this kind keep nothing, so that no record need be made: they hold any
+    /// events.
+    fn is_idle() -> bool
+        ensures { result ≡ true → (k : Self) (events : List Change) → holds k events };
 
     /// Keeps several events more, for good, by their records. After an `Err` it keeps what it kept.
     fn keep(&mut self, records: &[u8]) -> Result<(), KeepError>
@@ -97,7 +98,7 @@ impl Keeper for NoKeeper {
 
     ghost found_since = { λ k t w. ⊥ };
 
-    fn is_idle(&self) -> bool {
+    fn is_idle() -> bool {
         true
     }
 

@@ -8,7 +8,7 @@ use Rattle.head.specs.Heads.{SnapshotParts}
 use Rattle.head.specs.Worlds.{Event}
 use Rattle.head.specs.declared.error.CommitError.{CommitError}
 use Rattle.head.specs.declared.error.CommitError.TheVariants.{Memory}
-use Rattle.snapshots.specs.Replays.{IsRefusedAfter, IsOfSeatOrMemory}
+use Rattle.snapshots.specs.Replays.{IsRefusedAfter, IsOfStore}
 use Rattle.snapshots.specs.Seats.{SeatView}
 use Rattle.snapshots.specs.Views.{Known}
 use Rattle.snapshots.proofs.Prefixes.{prefix_self}
@@ -54,12 +54,10 @@ answer_replied opening query before after answer (Ok r) h number spelled =
     inl (record { answer = answer; headline = h; number = number; spelled = spelled })
 answer_replied opening query before after answer (Err e) h number spelled = tt
 
--- of a refusal that is the seat's or memory's no more is said
-pub seat_refused : (opening : SnapshotParts) (seat : SeatView) (event : Event) (error : CommitError)
-    → IsOfSeatOrMemory error
-    → IsRefusedAfter opening seat error event
-seat_refused opening seat event error (inl e) other no_memory = absurd (other e)
-seat_refused opening seat event error (inr e) other no_memory = absurd (no_memory e)
+-- of a refusal that is the store's no more is said
+pub store_refused : (opening : SnapshotParts) (seat : SeatView) (event : Event)
+    (error : CommitError) → IsOfStore error → IsRefusedAfter opening seat error event
+store_refused opening seat event error of other = absurd (other of)
 
 pub conflict_replied : {E : Type 0} (opening : SnapshotParts) (event : Event)
     (before after : Worker) (error : CommitError) (result : Result Reply E)

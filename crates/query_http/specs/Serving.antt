@@ -74,6 +74,7 @@ refused_at commit_error.Limit = None
 refused_at commit_error.CutTooLow = None
 refused_at commit_error.TooManyParts = None
 refused_at commit_error.Seat = None
+refused_at commit_error.Journal = None
 refused_at commit_error.Memory = None
 
 -- what is said of an event that the store refuses

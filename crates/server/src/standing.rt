@@ -2,8 +2,7 @@
 
 use crate::status::{Report, answer_status};
 use crate::tally::Tally;
-use head::Snapshot;
-use labels::{MAX_TIME, MIN_TIME, SeriesRef};
+use labels::MIN_TIME;
 use metrics_text::{Counts, State};
 use snapshots::{Naming, Pass};
 use std::alloc::Global;
@@ -75,29 +74,9 @@ pub fn report_opening<R: Clock, M: Memory>(
     answer_status(rt, alloc, watch.listener, over, &mut report);
 }
 
-/// How many series and samples a head has, if there is memory to count them: its series are
-/// numbered from 1.
-fn head_counts(alloc: Global, snapshot: &Snapshot) -> Option<(u64, u64)> {
-    let (mut series, mut samples) = (0u64, 0u64);
-    for number in 1..u32::MAX {
-        let reference = SeriesRef::new(number);
-        if snapshot.head().labels_of(reference).is_none() {
-            break;
-        }
-        let head = snapshot.head();
-        let Ok(all) = head.samples_of(alloc, reference, MIN_TIME, MAX_TIME) else {
-            return None;
-        };
-        series = series.saturating_add(1);
-        samples = samples.saturating_add(all.len() as u64);
-    }
-    Some((series, samples))
-}
-
 /// How a server stands whose blocks are open.
 #[derive(Drop)]
 struct Open<'a, 'b, M, J: Naming> {
-    alloc: Global,
     watch: &'a Watch<'b, M>,
     pass: Option<Pass<J>>,
     tallies: Vec<Arc<Tally>>,
@@ -134,12 +113,9 @@ impl<M: Memory, J: Naming> Report for Open<'_, '_, M, J> {
         let Ok(snapshot) = pass.snapshot() else {
             return None;
         };
-        let Some((series, samples)) = head_counts(self.alloc, &snapshot) else {
-            return None;
-        };
         Some(State {
-            series,
-            samples,
+            series: snapshot.head().series_count() as u64,
+            samples: snapshot.head_samples(),
             floor: snapshot.floor(),
             blocks: snapshot.blocks().len() as u64,
             ..state
@@ -157,7 +133,6 @@ pub(crate) fn report_open<R: Clock, M: Memory, J: Naming>(
     tallies: Vec<Arc<Tally>>,
 ) {
     let mut report = Open {
-        alloc,
         watch,
         pass,
         tallies,

@@ -3,6 +3,5 @@ pub mod Finding
 pub mod Holding
 pub mod Journals
 pub mod KeeperLaws
-pub mod Replays
 pub mod States
 pub mod StoreLaws

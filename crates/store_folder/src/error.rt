@@ -2,7 +2,6 @@
 
 use block::BlockError;
 use event_journal::Refused;
-use head::CommitError;
 use head_record::RefusedHead;
 use journal::JournalError;
 
@@ -39,13 +38,4 @@ pub enum StartError {
     Journal(ReadError),
     /// A block is not opened.
     Block(BlockFault),
-}
-
-/// An event that is refused after those before it, by its number from 0.
-#[derive(Clone, Copy, Debug, PartialEq, Eq, Drop)]
-pub struct RefusedEvent {
-    /// How many events stand before it.
-    pub at: usize,
-    /// Why: of a journal that a store wrote, only that no memory was left.
-    pub error: CommitError,
 }

@@ -49,7 +49,7 @@ impl<N: Beginning, F: Folder + Drop> Keeper for StoreKeeper<N, F> {
 
     ghost found_since = { λ k t w. FoundSince F.left_since k.events.journal.medium.folder t w };
 
-    fn is_idle(&self) -> bool {
+    fn is_idle() -> bool {
         false
     }
 

@@ -2,6 +2,7 @@
 //! answered stand in `case_files`.
 
 mod events;
+mod starts;
 
 use crate::rows::{
     AFTER_BOTH, Wanted, after, counted, empty, holds, is_text, put_labels, samples_in, shown,

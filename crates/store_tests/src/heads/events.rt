@@ -55,6 +55,7 @@ const CODES: &[(CommitError, &str)] = &[
     (CommitError::CutTooLow, "E5"),
     (CommitError::TooManyParts, "E6"),
     (CommitError::Seat, "E7"),
+    (CommitError::Journal, "E8"),
     (CommitError::Memory, "memory"),
 ];
 
