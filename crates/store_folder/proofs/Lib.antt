@@ -1,5 +1,6 @@
-pub mod Blocks
 pub mod Contents
 pub mod Files
-pub mod Keeping
+pub mod Kept
+pub mod OpenedBlocks
 pub mod Replays
+pub mod Starts

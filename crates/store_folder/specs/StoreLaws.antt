@@ -183,7 +183,7 @@ found_store first w saved parts early late bytes left head begins lie has stands
 
 -- files that are there for good are left
 
-whole_left : (bytes : List ℕ) (found : Option (List ℕ))
+pub whole_left : (bytes : List ℕ) (found : Option (List ℕ))
     → MayLeaveOf (length bytes) (Some bytes) found → found ≡ Some bytes
 whole_left bytes found m =
     m.1 ∙ ap (λ (x : List ℕ). Some x) (m.2.front ∙ take_all m.2.n bytes m.2.kept)

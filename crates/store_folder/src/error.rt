@@ -2,6 +2,7 @@
 
 use block::BlockError;
 use event_journal::Refused;
+use head::{RefusedEvent, ResumeError};
 use head_record::RefusedHead;
 use journal::JournalError;
 
@@ -29,13 +30,19 @@ pub enum BlockFault {
     Refused(BlockError),
 }
 
-/// Why the store of a folder is not read.
+/// Why a store is not started.
 #[derive(Clone, Copy, Debug, PartialEq, Eq, Drop)]
 pub enum StartError {
-    /// The journal could not be read.
+    /// No memory is left.
+    Memory,
+    /// The journal could not be read or written.
     Medium,
     /// The journal is refused.
     Journal(ReadError),
     /// A block is not opened.
     Block(BlockFault),
+    /// `J17`: no snapshot has what the head and the blocks say.
+    Head(ResumeError),
+    /// `J18`: an event is refused.
+    Event(RefusedEvent),
 }

@@ -1,10 +1,12 @@
 //! The folder of a durable store: what a start reads of it, and what a roll writes.
 //!
 //! A store is one journal and the files of the blocks that its head names: `IsState`, in
-//! `specs/States.antt`. [`read_store`] gives what a folder has of one, [`read_blocks`] the blocks at
-//! places, and [`open_block`] the block that files spell. [`read_journal`] gives the head and the
-//! events of a journal's file, or the first fault, `J1` to `J14`. A [`StoreKeeper`] keeps the events
-//! of a running store there.
+//! `specs/States.antt`. [`read_store`] gives what a folder has of one, and [`resume_store`] goes on
+//! with it; [`StoreKeeper::create`] begins one. A [`StoreKeeper`] keeps the events of a running store
+//! there.
+//!
+//! [`read_journal`] gives the head and the events of a journal's file, or the first fault, `J1` to
+//! `J14`; [`read_blocks`] gives the blocks at places, and [`open_block`] the block that files spell.
 //!
 //! It stands on `data_folder` for the folder, on `head_record` and `event_journal` for what a journal
 //! has, and on `head` for snapshots and the step of an event.
@@ -15,9 +17,11 @@ mod error;
 mod journals;
 mod keeping;
 mod reading;
+mod starting;
 
 pub use blocks::{BlockBytes, open_block, read_blocks};
 pub use error::{BlockFault, ReadError, StartError};
 pub use journals::{FoundJournal, read_journal};
 pub use keeping::{Beginning, StoreKeeper};
 pub use reading::{FoundStore, read_store};
+pub use starting::resume_store;

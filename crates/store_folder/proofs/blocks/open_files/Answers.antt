@@ -1,5 +1,5 @@
 use Rattle.store_folder.specs.Blocks.{BlockFiles}
-use Rattle.store_folder.proofs.Blocks.{ok_and, only_block, only_range, opened}
+use Rattle.store_folder.proofs.OpenedBlocks.{ok_and, only_block, only_range, opened}
 use Rattle.store_folder.proofs.blocks.open_files.Goals as goal
 
 pub returns-in-Ok-clause-found : goal.returns-in-Ok-clause-found

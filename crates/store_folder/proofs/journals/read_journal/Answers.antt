@@ -3,7 +3,7 @@ use Rattle.event_journal.specs.Holding.{contents_with}
 use Rattle.head_record.specs.Spelling.{head_texts}
 use Rattle.journal.specs.Contents.{contents_in}
 use Rattle.journal.specs.Records.{file_of}
-use Rattle.store_folder.proofs.Blocks.{ok_and}
+use Rattle.store_folder.proofs.OpenedBlocks.{ok_and}
 use Rattle.store_folder.proofs.Contents.{contents_of, journal_of, ok_weaker}
 use Rattle.store_folder.proofs.journals.read_journal.Goals as goal
 

@@ -1,5 +1,5 @@
 use Rattle.head_record.specs.Spelling.{head_texts}
-use Rattle.store_folder.proofs.Keeping.{given_up, store_finds}
+use Rattle.store_folder.proofs.Kept.{given_up, store_finds}
 use Rattle.store_folder.proofs.keeping.StoreKeeperKeeper.close.Goals as goal
 
 pub returns-clause-held : goal.returns-clause-held

@@ -1,8 +1,8 @@
 use Rattle.std.proofs.Common.{ap}
 use Rattle.data_folder.specs.declared.journal_file.JournalFile.{JournalFile}
 use Rattle.event_journal.specs.declared.keep.EventJournal.{EventJournal}
-use Rattle.store_folder.proofs.Keeping.{last_kept, says_closed, store_finds, store_more}
-use Rattle.store_folder.proofs.Keeping.{store_stays, told_closed}
+use Rattle.store_folder.proofs.Kept.{last_kept, says_closed, store_finds, store_more}
+use Rattle.store_folder.proofs.Kept.{store_stays, told_closed}
 use Rattle.head_record.specs.Spelling.{head_texts}
 use Rattle.store_folder.proofs.keeping.StoreKeeperKeeper.keep.Goals as goal
 

@@ -3,7 +3,7 @@ use Rattle.labels.specs.Rows.{Row}
 use Rattle.head.specs.BatchRows.{batch_of_rows}
 use Rattle.head.specs.Worlds.{batch}
 use Rattle.event_text.specs.Spelling.{event_text, HasSpelling}
-use Rattle.event_text.proofs.texts.text_of_rows.Goals as goal
+use Rattle.event_text.proofs.spell.text_of_rows.Goals as goal
 
 pub returns : goal.returns
 returns c =

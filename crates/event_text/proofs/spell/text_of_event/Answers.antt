@@ -1,7 +1,7 @@
 use Rattle.std.proofs.Common.{◌≡◌, ◌++◌, ℕ, List, [], ap, ◌∙◌, rules}
 use Rattle.head.specs.Worlds.{Event}
 use Rattle.event_text.specs.Spelling.{event_text}
-use Rattle.event_text.proofs.texts.text_of_event.Goals as goal
+use Rattle.event_text.proofs.spell.text_of_event.Goals as goal
 
 pub returns : goal.returns
 returns c =
