@@ -1,3 +1,7 @@
+use Rattle.std.proofs.Common.{ℕ, subst}
+use Rattle.std.specs.Prelude.{codes}
+use Rattle.data_folder.specs.Folders.{HasFile}
+use Rattle.store_folder.specs.Blocks.{name_in}
 use Rattle.store_folder.proofs.Files.{file_stays, then_kept}
 use Rattle.store_folder.proofs.blocks.read_files.Goals as goal
 
@@ -5,14 +9,22 @@ pub returns-clause-found : goal.returns-clause-found
 returns-clause-found g c =
     let f = g.F.Folder in
     let on = file_stays f.shows f.kept in
+    let end = c.read_edition.new.folder in
     let second = c.read_in-2.ensures.all in
     let third = c.read_in-3.ensures.all in
     let fourth = c.read_edition.ensures.all in (
-      on _ _ _ _ fourth (on _ _ _ _ third (on _ _ _ _ second c.in_ok-meta.ensures.found)),
+      subst (λ (k : ℕ).
+          HasFile f.shows f.kept (name_in k (codes "meta.json")) c.in_ok-meta.meta.items end)
+          c.folder.ensures
+          (on _ _ _ _ fourth (on _ _ _ _ third (on _ _ _ _ second c.in_ok-meta.ensures.found))),
       (
-        on _ _ _ _ fourth (on _ _ _ _ third c.in_ok-index.ensures.found),
+        subst (λ (k : ℕ).
+            HasFile f.shows f.kept (name_in k (codes "index")) c.in_ok-index.index.items end)
+            c.folder.ensures (on _ _ _ _ fourth (on _ _ _ _ third c.in_ok-index.ensures.found)),
         (
-          on _ _ _ _ fourth c.in_ok-chunks.ensures.found,
+          subst (λ (k : ℕ). HasFile f.shows f.kept (name_in k (codes "chunks/000001"))
+              c.in_ok-chunks.chunks.items end)
+              c.folder.ensures (on _ _ _ _ fourth c.in_ok-chunks.ensures.found),
           (c.in_ok-tombstones.ensures.found, tt),
         ),
       ),

@@ -1,0 +1,10 @@
+use Rattle.std.proofs.Common.{ℕ, List, subst, sym}
+use Rattle.data_folder.specs.Folders.{HasFile}
+use Rattle.data_folder.specs.JournalFile.{journal_name}
+use Rattle.store_folder.proofs.reading.with_found.Goals as goal
+
+pub with_file-requires-clause-has : goal.with_file-requires-clause-has
+with_file-requires-clause-has g c =
+    let f = g.F.Folder in
+    subst (λ (bytes : List ℕ). HasFile f.shows f.kept journal_name bytes c.args.folder.now)
+    (sym c.deref.ensures.value) c.requires.has
