@@ -19,7 +19,7 @@ use Rattle.keeper.specs.declared.error.KeepError.TheVariants.{Closed}
 use Rattle.keeper.specs.Errors.{keep_error}
 use Rattle.keeper.specs.Finding.{IsOfAllAndSome}
 use Rattle.keeper.proofs.Texts.{only_closed}
-use Rattle.store_folder.specs.Holding.{AreAt, FoundSince, HoldsStore, KeptLast}
+use Rattle.store_folder.specs.Holding.{AreAt, FoundSince, HoldsAfterHead, KeptLast}
 use Rattle.store_folder.specs.KeeperLaws.{regrouped}
 use Rattle.store_folder.specs.States.{StartsWith, started}
 use Rattle.store_folder.specs.StoreLaws.{blocks_left, blocks_stay, found_store}
@@ -30,13 +30,7 @@ refused e = Err e
 abbrev failed : {X : Type 0} → KeepError → Result X KeepError
 failed k = Err k
 
--- what a closed journal says
-pub says_closed : {X Y : Type 0} (e : JournalError) (k : KeepError) → k ≡ keep_error e
-    → refused {X = X} e ≡ Err journal.Closed → failed {X = Y} k ≡ Err Closed
-says_closed {X} {Y} e k is closed =
-    let same : e ≡ journal.Closed = cc in
-    ap (λ (x : KeepError). failed {X = Y} x) (is ∙ ap keep_error same)
-
+-- it says so where its journal does
 pub told_closed : {X Y A : Type 0} (e : JournalError) (k : KeepError) → k ≡ keep_error e
     → failed {X = Y} k ≡ Err Closed → (refused {X = X} e ≡ Err journal.Closed → A) → A
 told_closed {X} {Y} e k is told then =
@@ -58,7 +52,7 @@ module _ {F : Type 0} (shows : F → List ℕ → Option (List ℕ) → Type 0)
 
   abbrev HoldsAll : World → JournalFile F → ℕ → Bool → List Event → Type 0
   HoldsAll first m len closed events =
-      HoldsStore shows kept sound moment left_since first m len closed events
+      HoldsAfterHead shows kept sound moment left_since first m len closed events
 
   -- after a call that kept events more
   pub store_more : (first : World) (old new : JournalFile F) (len more_len : ℕ)

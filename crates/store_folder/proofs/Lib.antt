@@ -3,4 +3,5 @@ pub mod Files
 pub mod Kept
 pub mod OpenedBlocks
 pub mod Replays
+pub mod Rolls
 pub mod Starts

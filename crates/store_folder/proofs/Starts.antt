@@ -25,6 +25,7 @@ use Rattle.head.specs.declared.error.ResumeError.{ResumeError}
 use Rattle.head_record.specs.Saved.{Saved}
 use Rattle.head_record.specs.Spelling.{head_texts, IsSaved}
 use Rattle.head_record.proofs.Worlds.{in_front}
+use Rattle.journal.specs.declared.error.JournalError.{JournalError}
 use Rattle.journal.specs.Contents.{contents_in}
 use Rattle.journal.specs.Group.{IsJournalText}
 use Rattle.journal.specs.Media as media
@@ -34,7 +35,7 @@ use Rattle.store_folder.specs.declared.error.StartError.{StartError}
 use Rattle.store_folder.specs.declared.error.StartError.TheVariants as errors
 use Rattle.store_folder.specs.declared.journals.FoundJournal.{FoundJournal}
 use Rattle.store_folder.specs.Finding.{IsFoundStore}
-use Rattle.store_folder.specs.Holding.{FoundSince, HoldsStore}
+use Rattle.store_folder.specs.Holding.{FoundSince, HoldsAfterHead}
 use Rattle.store_folder.specs.Starting.{DeniesStart, IsNoneOrNothing, IsRefusedEvent, StartFinds}
 use Rattle.store_folder.specs.Starting.{nothing_saved}
 use Rattle.store_folder.specs.States.{HasWorld, IsState, started}
@@ -163,7 +164,7 @@ module _ {F : Type 0} (shows : F → List ℕ → Option (List ℕ) → Type 0)
       → first ≡ world_of (started j.head parts)
       → StaysBeside shows kept moment left_since f m.folder
       → HoldsHere (head_texts j.head) m len closed j.events.items
-      → HoldsStore shows kept sound moment left_since first m len closed j.events.items
+      → HoldsAfterHead shows kept sound moment left_since first m len closed j.events.items
   holds_found first f m len closed j parts h begins beside holds = record {
     saved = j.head;
     parts = parts;
@@ -204,17 +205,17 @@ module _ {F : Type 0} (shows : F → List ℕ → Option (List ℕ) → Type 0)
 
 -- a store that begins
 
-abbrev new_contents : List (List ℕ)
-new_contents = contents_with (head_texts nothing_saved) []
-
-pub first_journal : (contents given : List (Vec ℕ Global)) (head : Saved) (text : List ℕ)
-    → given ≡ contents → contents_in contents ≡ head_texts head → head ≡ nothing_saved
-    → IsJournalText (contents_in given) text → IsJournalText new_contents text
-first_journal contents given head text same texts is h =
-    subst (λ (cs : List (List ℕ)). IsJournalText cs text)
+-- the text of the contents of a head is that of a journal of this head
+pub head_text : (contents given : List (Vec ℕ Global)) (head : Saved)
+    (r : Result (Vec ℕ Global) JournalError) → given ≡ contents
+    → contents_in contents ≡ head_texts head
+    → IfOk r (λ text. IsJournalText (contents_in given) text.items)
+    → IfOk r (λ text. IsJournalText (contents_with (head_texts head) []) text.items)
+head_text contents given head (Ok text) same texts h =
+    subst (λ (cs : List (List ℕ)). IsJournalText cs text.items)
     (ap (λ (vs : List (Vec ℕ Global)). contents_in vs) same
-    ∙ (texts ∙ (ap (λ (x : Saved). head_texts x) is ∙ sym (append-nil (head_texts nothing_saved)))))
-    h
+    ∙ (texts ∙ sym (append-nil (head_texts head)))) h
+head_text contents given head (Err e) same texts h = tt
 
 is_nothing : (left : Left) → IsSaved nothing_saved
     → IsNoneOrNew (contents_with (head_texts nothing_saved) []) left → IsNoneOrNothing left
@@ -254,7 +255,7 @@ module _ {F : Type 0} (shows : F → List ℕ → Option (List ℕ) → Type 0)
   pub holds_nothing : (first : World) (m : JournalFile F) (len : ℕ) (closed : Bool)
       → first ≡ world_of (opening_of []) → IsSaved nothing_saved
       → rolls.Keeps shows kept sound (contents_with (head_texts nothing_saved) []) m.folder len
-      → HoldsStore shows kept sound moment left_since first m len closed []
+      → HoldsAfterHead shows kept sound moment left_since first m len closed []
   holds_nothing first m len closed begins saved k = record {
     saved = nothing_saved;
     parts = [];

@@ -1,5 +1,5 @@
 -- When a folder keeps the events of a store.
-use Rattle.std.specs.Prelude.{◌≡◌, ℕ, Bool, List, [], ◌∷◌, ◌++◌, Option, Some, Ok}
+use Rattle.std.specs.Prelude.{◌≡◌, ◌⊎◌, ℕ, Bool, true, List, [], ◌∷◌, ◌++◌, Option, Some, Ok}
 use Rattle.data_folder.specs.declared.journal_file.JournalFile.{JournalFile}
 use Rattle.data_folder.specs.Folders.{Left}
 use Rattle.data_folder.specs.JournalFile.{journal_name, JournalLeft}
@@ -9,6 +9,7 @@ use Rattle.head.specs.Heads.{BlockPart, world_of}
 use Rattle.head.specs.Worlds.{Event, World, replayed}
 use Rattle.head_record.specs.Saved.{Place, Saved}
 use Rattle.head_record.specs.Spelling.{head_texts, IsSaved}
+use Rattle.keeper.specs.Finding.{IsOfAllAndMore}
 use Rattle.store_folder.specs.Blocks.{BlockFiles, SpellBlock, named_files}
 use Rattle.store_folder.specs.States.{StartsWith, started}
 
@@ -24,7 +25,7 @@ AreAt shows kept (p ∷ places) (b ∷ blocks) f =
 
 -- Events since the first world: the head of the journal says the world of the early ones, and the
 -- late ones stand after it. The folder has the blocks that the head names.
-pub record HoldsStore {F : Type 0} (shows : F → List ℕ → Option (List ℕ) → Type 0)
+pub record HoldsAfterHead {F : Type 0} (shows : F → List ℕ → Option (List ℕ) → Type 0)
     (kept : F → List ℕ → ℕ → Type 0) (sound : F → Bool) (moment : F → ℕ)
     (left_since : F → ℕ → Left → Type 0) (first : World) (m : JournalFile F) (len : ℕ)
     (closed : Bool) (events : List Event) : Type 0 where
@@ -64,3 +65,19 @@ pub record KeptLast {F : Type 0} (shows : F → List ℕ → Option (List ℕ) �
 -- the world that a start might find after a crash at some moment from that one on
 abbrev pub FoundSince : {F : Type 0} → (F → ℕ → Left → Type 0) → F → ℕ → World → Type 0
 FoundSince left_since f t w = (left : Left) × left_since f t left × StartsWith left w
+
+-- The journal was lost on the way to a new head: nothing more is taken, and a start finds the world
+-- of these events.
+pub record IsLost {F : Type 0} (moment : F → ℕ) (left_since : F → ℕ → Left → Type 0)
+    (first : World) (m : JournalFile F) (closed : Bool) (events : List Event) : Type 0 where
+  pub is_closed : closed ≡ true
+  pub finds : (w : World) → FoundSince left_since m.folder (moment m.folder) w
+      → IsOfAllAndMore first events w
+
+-- the folder keeps these events, or a start finds their world and nothing more is taken
+abbrev pub HoldsStore : {F : Type 0} → (F → List ℕ → Option (List ℕ) → Type 0)
+    → (F → List ℕ → ℕ → Type 0) → (F → Bool) → (F → ℕ) → (F → ℕ → Left → Type 0) → World
+    → JournalFile F → ℕ → Bool → List Event → Type 0
+HoldsStore shows kept sound moment left_since first m len closed events =
+    HoldsAfterHead shows kept sound moment left_since first m len closed events
+    ⊎ IsLost moment left_since first m closed events

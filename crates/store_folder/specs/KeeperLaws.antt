@@ -1,6 +1,6 @@
 -- What a start finds of a store that is kept in a folder, between two calls.
-use Rattle.std.specs.Prelude.{◌≡◌, ℕ, Bool, false, List, ◌++◌, Option, Some, Ok, length}
-use Rattle.std.proofs.Common.{sym, ap, subst, ◌∙◌, append_assoc}
+use Rattle.std.specs.Prelude.{◌≡◌, ℕ, Bool, true, false, List, ◌++◌, Option, Some, Ok, length}
+use Rattle.std.proofs.Common.{inl, inr, sym, ap, subst, ◌∙◌, append_assoc}
 use Rattle.data_folder.specs.declared.journal_file.JournalFile.{JournalFile}
 use Rattle.data_folder.specs.Folders.{Left, MayLeaveOf}
 use Rattle.data_folder.specs.JournalFile.{journal_name}
@@ -11,7 +11,7 @@ use Rattle.head_record.specs.Spelling.{head_texts}
 use Rattle.journal.specs.Records.{file_of}
 use Rattle.journal.proofs.Keeping.{at_rest}
 use Rattle.keeper.specs.Finding.{IsOfAll, IsOfAllAndMore}
-use Rattle.store_folder.specs.Holding.{FoundSince, HoldsStore}
+use Rattle.store_folder.specs.Holding.{FoundSince, HoldsAfterHead, HoldsStore}
 use Rattle.store_folder.specs.StoreLaws.{blocks_left, found_store}
 
 -- the early events, those after the head, and more
@@ -30,11 +30,11 @@ module _ {F : Type 0} (shows : F → List ℕ → Option (List ℕ) → Type 0)
     (only_now : (f : F) (name : List ℕ) (x : Option (List ℕ)) (n : ℕ) (left : Left) → shows f name x
     → kept f name n → left_since f (moment f) left → MayLeaveOf n x (left name)) where
   -- all that was kept, and more if the journal is closed
-  pub now_found : (first : World) (m : JournalFile F) (len : ℕ) (closed : Bool)
+  now_after_head : (first : World) (m : JournalFile F) (len : ℕ) (closed : Bool)
       (events : List Event) (w : World)
-      → HoldsStore shows kept sound moment left_since first m len closed events
+      → HoldsAfterHead shows kept sound moment left_since first m len closed events
       → FoundSince left_since m.folder (moment m.folder) w → IsOfAllAndMore first events w
-  now_found first m len closed events w h had =
+  now_after_head first m len closed events w h had =
       let left = had.0 in
       let state = had.2.1.3 in
       let bytes = state.journal.0 in
@@ -48,12 +48,12 @@ module _ {F : Type 0} (shows : F → List ℕ → Option (List ℕ) → Type 0)
       )
 
   -- exactly that while it is open
-  pub settled_found : (first : World) (m : JournalFile F) (len : ℕ) (closed : Bool)
+  settled_after_head : (first : World) (m : JournalFile F) (len : ℕ) (closed : Bool)
       (events : List Event) (w : World)
-      → HoldsStore shows kept sound moment left_since first m len closed events
+      → HoldsAfterHead shows kept sound moment left_since first m len closed events
       → closed ≡ false → FoundSince left_since m.folder (moment m.folder) w
       → IsOfAll first events w
-  settled_found first m len closed events w h opened had =
+  settled_after_head first m len closed events w h opened had =
       let left = had.0 in
       let state = had.2.1.3 in
       let bytes = state.journal.0 in
@@ -72,3 +72,28 @@ module _ {F : Type 0} (shows : F → List ℕ → Option (List ℕ) → Type 0)
         each = h.journal.each;
         recovers = at_rest contents bytes k.each front;
       }) had.2)
+
+  pub now_found : (first : World) (m : JournalFile F) (len : ℕ) (closed : Bool)
+      (events : List Event) (w : World)
+      → HoldsStore shows kept sound moment left_since first m len closed events
+      → FoundSince left_since m.folder (moment m.folder) w → IsOfAllAndMore first events w
+  now_found first m len closed events w (inl h) had =
+      now_after_head first m len closed events w h had
+  now_found first m len closed events w (inr lost) had = lost.finds w had
+
+  pub open_head : (first : World) (m : JournalFile F) (len : ℕ) (closed : Bool)
+      (events : List Event)
+      → HoldsStore shows kept sound moment left_since first m len closed events → closed ≡ false
+      → HoldsAfterHead shows kept sound moment left_since first m len closed events
+  open_head first m len closed events (inl h) opened = h
+  open_head first m len closed events (inr lost) opened =
+      absurd (let a : true ≡ false = sym lost.is_closed ∙ opened in cc)
+
+  pub settled_found : (first : World) (m : JournalFile F) (len : ℕ) (closed : Bool)
+      (events : List Event) (w : World)
+      → HoldsStore shows kept sound moment left_since first m len closed events
+      → closed ≡ false → FoundSince left_since m.folder (moment m.folder) w
+      → IsOfAll first events w
+  settled_found first m len closed events w h opened had =
+      settled_after_head first m len closed events w
+      (open_head first m len closed events h opened) opened had

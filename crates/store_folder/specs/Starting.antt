@@ -17,7 +17,6 @@ use Rattle.store_folder.specs.States.{IsState, started}
 
 -- why a snapshot is not made of a head, its blocks and the events after it
 abbrev pub DeniesStart : Saved → List BlockPart → List Event → StartError → Type 0
-DeniesStart saved parts events errors.Memory = ⊥
 DeniesStart saved parts events errors.Medium = ⊥
 DeniesStart saved parts events (errors.Journal e) = ⊥
 DeniesStart saved parts events (errors.Block e) = ⊥

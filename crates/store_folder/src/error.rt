@@ -1,6 +1,7 @@
 //! Why a store is not started.
 
 use block::BlockError;
+use data_folder::RollError;
 use event_journal::Refused;
 use head::{RefusedEvent, ResumeError};
 use head_record::RefusedHead;
@@ -33,11 +34,9 @@ pub enum BlockFault {
 /// Why a store is not started.
 #[derive(Clone, Copy, Debug, PartialEq, Eq, Drop)]
 pub enum StartError {
-    /// No memory is left.
-    Memory,
     /// The journal could not be read or written.
     Medium,
-    /// The journal is refused.
+    /// The journal is refused, or no memory was left for it.
     Journal(ReadError),
     /// A block is not opened.
     Block(BlockFault),
@@ -45,4 +44,13 @@ pub enum StartError {
     Head(ResumeError),
     /// `J18`: an event is refused.
     Event(RefusedEvent),
+}
+
+/// Why a journal does not begin with a new head.
+#[derive(Clone, Copy, Debug, PartialEq, Eq, Drop)]
+pub enum RollFault {
+    /// `J5`: what is saved of a series is too long; or no memory was left. The journal goes on.
+    Text(JournalError),
+    /// The next journal was not written, or could not take the journal's name.
+    Folder(RollError),
 }

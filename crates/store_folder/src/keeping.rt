@@ -54,6 +54,9 @@ impl<N: Beginning, F: Folder + Drop> Keeper for StoreKeeper<N, F> {
     }
 
     fn keep(&mut self, records: &[u8]) -> Result<(), KeepError> {
+        if self.events.journal.closed {
+            return Err(KeepError::Closed);
+        }
         match self.events.append(records) {
             Ok(()) => Ok(()),
             Err(error) => Err(keep_error(error)),

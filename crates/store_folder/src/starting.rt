@@ -1,15 +1,12 @@
 //! How a store goes on, and how one begins.
 
-ghost use Rattle.std.specs.Prelude.{◌≡◌, ◌⊎◌, List, [], None, Ok, IfOk, IfErr, MatchResult, OnOk};
+ghost use Rattle.std.specs.Prelude.{◌≡◌, ◌⊎◌, List, [], None, Ok, IfOk, IfErr, MatchResult};
 ghost use Rattle.std.specs.Prelude.{false, map, true};
 ghost use Rattle.data_folder.specs.Folders.{LeavesOnly};
 ghost use Rattle.data_folder.specs.JournalFile.{journal_name};
-ghost use Rattle.event_journal.specs.Holding.{contents_with};
 ghost use Rattle.head.specs.Blocks.{opening_of, part_in};
 ghost use Rattle.head.specs.Heads.{BlockPart, world_of};
 ghost use Rattle.head.specs.Worlds.{replayed};
-ghost use Rattle.head_record.specs.Spelling.{head_texts, IsSaved};
-ghost use Rattle.journal.specs.Group.{IsJournalText};
 ghost use Rattle.store_folder.specs.Finding.{IsFoundStore};
 ghost use Rattle.store_folder.specs.Holding.{HoldsStore};
 ghost use Rattle.store_folder.specs.Starting.{DeniesStart, IsNoneOrNothing, IsRefusedEvent};
@@ -17,6 +14,7 @@ ghost use Rattle.store_folder.specs.Starting.{StartFinds, nothing_saved};
 ghost use Rattle.store_folder.specs.States.{HasWorld, started};
 
 use crate::error::{ReadError, StartError};
+use crate::heads::head_journal;
 use crate::journals::FoundJournal;
 use crate::keeping::{Beginning, StoreKeeper};
 use crate::reading::FoundStore;
@@ -24,8 +22,8 @@ use block::Block;
 use data_folder::{Folder, JournalFile, begin};
 use event_journal::EventJournal;
 use head::{Event, Snapshot, replay};
-use head_record::{HeadRecord, head_contents};
-use journal::{MediumError, file_text};
+use head_record::HeadRecord;
+use journal::MediumError;
 use labels::MIN_TIME;
 use std::alloc::Global;
 use std::marker::PhantomData;
@@ -62,7 +60,41 @@ fn snapshot_of(
     }
 }
 
+/// What is saved of a store that has nothing.
+fn nothing(alloc: Global) -> HeadRecord
+    ensures { result ≡ nothing_saved }
+{
+    HeadRecord::new(MIN_TIME, Vec::new(alloc), Vec::new(alloc))
+}
+
 impl<N: Beginning, F: Folder + Drop> StoreKeeper<N, F> {
+    /// Begins the journal of a folder that has none: no blocks, no series, and no events. An `Err`
+    /// gives the folder back: a start finds no journal in it, or this one.
+    pub fn create(alloc: Global, folder: F) -> Result<StoreKeeper<N, F>, (StartError, F)>
+        requires sound { F.sound folder ≡ true }
+        requires none { F.shows folder journal_name None × F.kept folder journal_name 0 }
+        requires first { N.first ≡ world_of (opening_of []) }
+        ensures holds { IfOk result (λ k. HoldsStore F.shows F.kept F.sound F.moment F.left_since
+            N.first k.events.journal.medium k.events.journal.len k.events.journal.closed []) }
+        ensures open { IfOk result (λ k. k.events.journal.closed ≡ false) }
+        ensures any_moment { MatchResult result
+            (λ k. LeavesOnly F.moment F.left_since folder k.events.journal.medium.folder
+            IsNoneOrNothing)
+            (λ e. LeavesOnly F.moment F.left_since folder e.1 IsNoneOrNothing) }
+    {
+        let text = match head_journal(alloc, &nothing(alloc)) {
+            Ok(text) => text,
+            Err(error) => return Err((StartError::Journal(ReadError::Journal(error)), folder)),
+        };
+        match begin(folder, &text) {
+            Ok(journal) => Ok(StoreKeeper {
+                events: EventJournal { journal },
+                of: PhantomData,
+            }),
+            Err((_, folder)) => Err((StartError::Medium, folder)),
+        }
+    }
+
     /// Goes on after the events of a journal, whose torn end is cut off. An `Err` gives the folder
     /// back where that fails.
     fn resume(
@@ -136,57 +168,5 @@ pub fn resume_store<N: Beginning, F: Folder + Drop>(
     match StoreKeeper::resume(folder, journal) {
         Ok(keeper) => Ok((snapshot, keeper)),
         Err((_, folder)) => Err((StartError::Medium, folder)),
-    }
-}
-
-/// What is saved of a store that has nothing.
-fn nothing(alloc: Global) -> HeadRecord
-    ensures { result ≡ nothing_saved }
-{
-    HeadRecord::new(MIN_TIME, Vec::new(alloc), Vec::new(alloc))
-}
-
-/// The text of the journal of a store that has nothing.
-fn first_text(alloc: Global) -> Result<Vec<u8>, StartError>
-    ensures text { IfOk result (λ text. IsJournalText (contents_with (head_texts nothing_saved) [])
-        text.items) }
-    ensures saved { OnOk result (IsSaved nothing_saved) }
-{
-    let contents = match head_contents(alloc, &nothing(alloc)) {
-        Ok(contents) => contents,
-        Err(_) => return Err(StartError::Memory),
-    };
-    match file_text(alloc, &contents) {
-        Ok(text) => Ok(text),
-        Err(error) => Err(StartError::Journal(ReadError::Journal(error))),
-    }
-}
-
-impl<N: Beginning, F: Folder + Drop> StoreKeeper<N, F> {
-    /// Begins the journal of a folder that has none: no blocks, no series, and no events. An `Err`
-    /// gives the folder back: a start finds no journal in it, or this one.
-    pub fn create(alloc: Global, folder: F) -> Result<StoreKeeper<N, F>, (StartError, F)>
-        requires sound { F.sound folder ≡ true }
-        requires none { F.shows folder journal_name None × F.kept folder journal_name 0 }
-        requires first { N.first ≡ world_of (opening_of []) }
-        ensures holds { IfOk result (λ k. HoldsStore F.shows F.kept F.sound F.moment F.left_since
-            N.first k.events.journal.medium k.events.journal.len k.events.journal.closed []) }
-        ensures open { IfOk result (λ k. k.events.journal.closed ≡ false) }
-        ensures any_moment { MatchResult result
-            (λ k. LeavesOnly F.moment F.left_since folder k.events.journal.medium.folder
-            IsNoneOrNothing)
-            (λ e. LeavesOnly F.moment F.left_since folder e.1 IsNoneOrNothing) }
-    {
-        let text = match first_text(alloc) {
-            Ok(text) => text,
-            Err(error) => return Err((error, folder)),
-        };
-        match begin(folder, &text) {
-            Ok(journal) => Ok(StoreKeeper {
-                events: EventJournal { journal },
-                of: PhantomData,
-            }),
-            Err((_, folder)) => Err((StartError::Medium, folder)),
-        }
     }
 }
