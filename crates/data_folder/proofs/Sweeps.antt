@@ -31,32 +31,32 @@ not_both false t f = absurd cc
 
 pub not_journal : (names : List (List ℕ)) (name : List ℕ) → is_kept names name ≡ false
     → journal_name ≢ name
-not_journal names name no is =
+not_journal names name apart is =
     let same : bytes_eq name journal_name ≡ true =
     (bytes_eq-Decides name journal_name).1 (sym is) in
     not_both (bytes_eq name journal_name) same
-    (or_left (bytes_eq name journal_name) (is_among names name) no)
+    (or_left (bytes_eq name journal_name) (is_among names name) apart)
 
 not_file : (names : List (List ℕ)) (name : List ℕ) (file : Named)
     → is_kept names name ≡ false → is_among names file.0 ≡ true → file.0 ≢ name
-not_file names name file no among is =
+not_file names name file apart among is =
     not_both (is_among names name)
     (subst (λ (x : List ℕ). is_among names x ≡ true) is among)
-    (or_right (bytes_eq name journal_name) (is_among names name) no)
+    (or_right (bytes_eq name journal_name) (is_among names name) apart)
 
 module _ {F : Type 0} (shows : F → List ℕ → Option (List ℕ) → Type 0)
     (kept : F → List ℕ → ℕ → Type 0) (sound : F → Bool) where
   still_there : (name : List ℕ) (names : List (List ℕ)) (old new : F) (files : List Named)
       → is_kept names name ≡ false → KeepsOthers shows kept name name old new
       → AreAmong names files → AreThere shows kept files old → AreThere shows kept files new
-  still_there name names old new [] no k among there = tt
-  still_there name names old new (file ∷ files) no k among there =
-      let away = not_file names name file no among.0 in (
+  still_there name names old new [] apart k among there = tt
+  still_there name names old new (file ∷ files) apart k among there =
+      let away = not_file names name file apart among.0 in (
         record {
           shown = k.same file.0 (Some file.1) away away there.0.shown;
           durable = k.durable file.0 (length file.1) away away there.0.durable;
         },
-        still_there name names old new files no k among.1 there.1,
+        still_there name names old new files apart k among.1 there.1,
       )
 
   still_kept : (name : List ℕ) (old new : F) (contents : List (List ℕ)) (len : ℕ)
@@ -76,13 +76,13 @@ module _ {F : Type 0} (shows : F → List ℕ → Option (List ℕ) → Type 0)
       (files : List Named) → is_kept names name ≡ false
       → LeavesOthers shows kept name name old P left → AreAmong names files
       → AreThere shows kept files old → HasFiles files left
-  files_left name names old P left [] no l among there = tt
-  files_left name names old P left (file ∷ files) no l among there =
-      let away = not_file names name file no among.0 in (
+  files_left name names old P left [] apart l among there = tt
+  files_left name names old P left (file ∷ files) apart l among there =
+      let away = not_file names name file apart among.0 in (
         whole_left file.1 (left file.0)
             (l.others file.0 (Some file.1) (length file.1) away away there.0.shown
             there.0.durable),
-        files_left name names old P left files no l among.1 there.1,
+        files_left name names old P left files apart l among.1 there.1,
       )
 
 module _ {F : Type 0} (shows : F → List ℕ → Option (List ℕ) → Type 0)
@@ -126,17 +126,17 @@ module _ {F : Type 0} (shows : F → List ℕ → Option (List ℕ) → Type 0)
       → Elapses (moment old) (moment new) (left_since old) (left_since new)
       (LeavesOthers shows kept name name old P)
       → KeepsStore shows kept sound moment left_since names old new
-  one_removed name names old new P no k s time =
-      let away = not_journal names name no in
+  one_removed name names old new P apart k s time =
+      let away = not_journal names name apart in
       record {
         journal = λ contents len h. still_kept shows kept sound name old new contents len away k s h;
         files = λ files among there.
-            still_there shows kept sound name names old new files no k among there;
+            still_there shows kept sound name names old new files apart k among there;
         any_moment = λ contents files len h among there.
             goes_on moment left_since old old new (HasStore files contents)
             (LeavesOthers shows kept name name old P) (at_rest old contents files len h there) time
             (λ left l. record {
-              files = files_left shows kept sound name names old P left files no l among there;
+              files = files_left shows kept sound name names old P left files apart l among there;
               journal = journal_whole contents left h.each
                   (whole_left (file_of contents) (left journal_name)
                   (l.others journal_name (Some (file_of contents)) (length (file_of contents)) away

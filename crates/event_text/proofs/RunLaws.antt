@@ -295,21 +295,21 @@ pub filled_go_on : (rows : List Run) (i : ℕ) (row : Run) (samples : List (ℤ 
     → i < length rows → row ≡ get_or rows i row → samples ≡ row.1 → b ≡ (length samples == 0)
     → b ≡ false → list_all is_filled (drop i rows) ≡ whole
     → list_all is_filled (drop (i + 1) rows) ≡ whole
-filled_go_on rows i row samples b whole lt read is e no so_far =
+filled_go_on rows i row samples b whole lt read is e full so_far =
     let one : list_all is_filled (drop i rows) ≡ list_all is_filled (drop (i + 1) rows) =
     ap (list_all is_filled) (from_read rows i row lt read)
     ∙ and_true (is_filled row) (list_all is_filled (drop (i + 1) rows))
-    (filled_is row samples b is e ∙ ap not no) in
+    (filled_is row samples b is e ∙ ap not full) in
     sym one ∙ so_far
 
 pub filled_stop : (rows : List Run) (i : ℕ) (row : Run) (samples : List (ℤ × ℤ)) (b whole : Bool)
     → i < length rows → row ≡ get_or rows i row → samples ≡ row.1 → b ≡ (length samples == 0)
     → b ≡ true → list_all is_filled (drop i rows) ≡ whole → false ≡ whole
-filled_stop rows i row samples b whole lt read is e yes so_far =
+filled_stop rows i row samples b whole lt read is e bare so_far =
     let one : list_all is_filled (drop i rows) ≡ false =
     ap (list_all is_filled) (from_read rows i row lt read)
     ∙ and_false (is_filled row) (list_all is_filled (drop (i + 1) rows))
-    (filled_is row samples b is e ∙ ap not yes) in
+    (filled_is row samples b is e ∙ ap not bare) in
     sym one ∙ so_far
 
 pub filled_end : (rows : List Run) (i : ℕ) (whole : Bool) → length rows ≤ i

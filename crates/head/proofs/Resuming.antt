@@ -54,8 +54,8 @@ few_of n m h = grind (arith, nat_tests)
 
 -- a refusal of what is asked for less denies what is asked for more
 pub denies_more : (e : ResumeError) (P Q : Type 0) → (Q → P) → Denies e P → Denies e Q
-denies_more Unsound P Q f no = λ q. no (f q)
-denies_more Memory P Q f no = tt
+denies_more Unsound P Q f denied = λ q. denied (f q)
+denies_more Memory P Q f denied = tt
 
 -- samples that pass two tests
 

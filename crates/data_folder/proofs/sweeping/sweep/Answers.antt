@@ -18,9 +18,9 @@ loop-name-preserved g c =
     let f = g.F.Folder in
     let l = c.loop-name in
     record {
-      sound = c.remove_litter.ensures.sound;
-      few = omega (arith, l.invariant.few, c.remove_litter.ensures.few);
+      sound = c.remove_litter-left.ensures.sound;
+      few = omega (arith, l.invariant.few, c.remove_litter-left.ensures.few);
       kept = then_kept f.shows f.kept f.sound f.moment f.left_since g.met.F.Folder.only_now
-          (names_in c.args.kept.now) c.args.folder.now l.folder c.remove_litter.new.folder
-          l.invariant.kept c.remove_litter.ensures.kept;
+          (names_in c.args.kept.now) c.args.folder.now l.folder c.remove_litter-left.new.folder
+          l.invariant.kept c.remove_litter-left.ensures.kept;
     }
