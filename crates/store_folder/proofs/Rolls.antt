@@ -5,7 +5,7 @@ use Rattle.std.specs.Prelude.{codes}
 use Rattle.std.specs.List.{AllByRecursion}
 use Rattle.std.proofs.lemmas.List.{append-nil}
 use Rattle.data_folder.specs.declared.journal_file.JournalFile.{JournalFile}
-use Rattle.data_folder.specs.Folders.{Left, LeavesOnly, MayLeaveOf}
+use Rattle.data_folder.specs.Folders.{HasFile, Left, LeavesOnly, MayLeaveOf}
 use Rattle.data_folder.specs.JournalFile.{journal_name, next_name, JournalLeft}
 use Rattle.data_folder.specs.JournalLaws.{left_now}
 use Rattle.data_folder.specs.Rolls as rolls
@@ -69,8 +69,8 @@ module _ {F : Type 0} (shows : F → List ℕ → Option (List ℕ) → Type 0)
   there_at [] (b ∷ parts) f at = absurd at
   there_at (p ∷ places) [] f at = absurd at
   there_at (p ∷ places) (b ∷ parts) f at =
-      joined _ (named_files p at.0.0) (files_at places parts f at.1) at.0.2
-      (there_at places parts f at.1)
+      joined (λ (file : Named). HasFile shows kept file.0 file.1 f) (named_files p at.0.0)
+      (files_at places parts f at.1) at.0.2 (there_at places parts f at.1)
 
   apart_at : (places : List Place) (parts : List BlockPart) (f : F)
       (at : AreAt shows kept places parts f)
@@ -89,7 +89,9 @@ module _ {F : Type 0} (shows : F → List ℕ → Option (List ℕ) → Type 0)
   lie_at [] (b ∷ parts) f left at h = absurd at
   lie_at (p ∷ places) [] f left at h = absurd at
   lie_at (p ∷ places) (b ∷ parts) f left at h =
-      let split = parted _ (named_files p at.0.0) (files_at places parts f at.1) h in
+      let split =
+      parted (λ (file : Named). left file.0 ≡ Some file.1) (named_files p at.0.0)
+      (files_at places parts f at.1) h in
       ((at.0.0, at.0.1, split.0), lie_at places parts f left at.1 split.1)
 
   -- the blocks stay, where all files apart from the journals do
@@ -114,8 +116,8 @@ module _ {F : Type 0} (shows : F → List ℕ → Option (List ℕ) → Type 0)
       (first : AreAt shows kept a old f) (second : AreAt shows kept b new f)
       → AreThere shows kept (files_of_both a b old new f first second) f
   there_both a b old new f first second =
-      joined _ (files_at a old f first) (files_at b new f second) (there_at a old f first)
-      (there_at b new f second)
+      joined (λ (file : Named). HasFile shows kept file.0 file.1 f) (files_at a old f first)
+      (files_at b new f second) (there_at a old f first) (there_at b new f second)
 
   pub apart_both : (a b : List Place) (old new : List BlockPart) (f : F)
       (first : AreAt shows kept a old f) (second : AreAt shows kept b new f)
@@ -220,7 +222,8 @@ module _ {F : Type 0} (shows : F → List ℕ → Option (List ℕ) → Type 0)
       → StartsWith left w → IsOfAll first events w
   finds_one first w old len was saved parts events left h m head is found =
       let split =
-      parted _ (files_at shows kept h.saved.places h.parts old.folder h.blocks)
+      parted (λ (file : Named). left file.0 ≡ Some file.1)
+      (files_at shows kept h.saved.places h.parts old.folder h.blocks)
       (files_at shows kept saved.places parts old.folder m.blocks) is.files in
       ⊎_elim
       (λ had. subst (λ (x : List Event). IsOfAll first x w) (sym h.all)
