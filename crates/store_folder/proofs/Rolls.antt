@@ -20,7 +20,7 @@ use Rattle.head_record.proofs.Worlds.{in_front}
 use Rattle.keeper.specs.Finding.{IsOfAll}
 use Rattle.keeper.specs.Together.{IsKept}
 use Rattle.store_folder.specs.Blocks.{BlockFiles, named_files}
-use Rattle.store_folder.specs.Holding.{AreAt, FoundSince, HoldsAfterHead, HoldsStore}
+use Rattle.store_folder.specs.Holding.{AreAt, FoundSince, HoldsAfterHead, HoldsAt, HoldsStore}
 use Rattle.store_folder.specs.KeeperLaws.{open_head, settled_found}
 use Rattle.store_folder.specs.Rolls.{MayRoll}
 use Rattle.store_folder.specs.Starting.{StartFinds}
@@ -29,12 +29,12 @@ use Rattle.store_folder.specs.StoreLaws.{found_store}
 
 -- lists, one after another
 
-joined : {A : Type 0} (P : A → Type 0) (xs ys : List A) → AllByRecursion P xs
+pub joined : {A : Type 0} (P : A → Type 0) (xs ys : List A) → AllByRecursion P xs
     → AllByRecursion P ys → AllByRecursion P (xs ++ ys)
 joined P [] ys h i = i
 joined P (x ∷ xs) ys h i = (h.0, joined P xs ys h.1 i)
 
-parted : {A : Type 0} (P : A → Type 0) (xs ys : List A) → AllByRecursion P (xs ++ ys)
+pub parted : {A : Type 0} (P : A → Type 0) (xs ys : List A) → AllByRecursion P (xs ++ ys)
     → AllByRecursion P xs × AllByRecursion P ys
 parted P [] ys h = (tt, h)
 parted P (x ∷ xs) ys h = let rest = parted P xs ys h.1 in ((h.0, rest.0), rest.1)
@@ -54,7 +54,7 @@ all_apart p files = (apart _ _, (apart _ _, (apart _ _, (apart _ _, tt))))
 module _ {F : Type 0} (shows : F → List ℕ → Option (List ℕ) → Type 0)
     (kept : F → List ℕ → ℕ → Type 0) where
   -- all files of the blocks
-  abbrev files_at : (places : List Place) (parts : List BlockPart) (f : F)
+  abbrev pub files_at : (places : List Place) (parts : List BlockPart) (f : F)
       → AreAt shows kept places parts f → List Named
   files_at [] [] f at = []
   files_at [] (b ∷ parts) f at = absurd at
@@ -62,7 +62,7 @@ module _ {F : Type 0} (shows : F → List ℕ → Option (List ℕ) → Type 0)
   files_at (p ∷ places) (b ∷ parts) f at =
       named_files p at.0.0 ++ files_at places parts f at.1
 
-  there_at : (places : List Place) (parts : List BlockPart) (f : F)
+  pub there_at : (places : List Place) (parts : List BlockPart) (f : F)
       (at : AreAt shows kept places parts f)
       → AreThere shows kept (files_at places parts f at) f
   there_at [] [] f at = tt
@@ -82,7 +82,7 @@ module _ {F : Type 0} (shows : F → List ℕ → Option (List ℕ) → Type 0)
       joined IsApart (named_files p at.0.0) (files_at places parts f at.1) (all_apart p at.0.0)
       (apart_at places parts f at.1)
 
-  lie_at : (places : List Place) (parts : List BlockPart) (f : F) (left : Left)
+  pub lie_at : (places : List Place) (parts : List BlockPart) (f : F) (left : Left)
       (at : AreAt shows kept places parts f)
       → HasFiles (files_at places parts f at) left → LieAt places parts left
   lie_at [] [] f left at h = tt
@@ -126,7 +126,7 @@ module _ {F : Type 0} (shows : F → List ℕ → Option (List ℕ) → Type 0)
       joined IsApart (files_at a old f first) (files_at b new f second) (apart_at a old f first)
       (apart_at b new f second)
 
-stands_in : (saved : Saved) (events : List Event) (left : Left)
+pub stands_in : (saved : Saved) (events : List Event) (left : Left)
     (h : HasJournal (contents_with (head_texts saved) events) left)
     → AllByRecursion IsKept events → Stands (head_texts saved) h.0 events
 stands_in saved events left h each = record {
@@ -167,7 +167,7 @@ module _ {F : Type 0} (shows : F → List ℕ → Option (List ℕ) → Type 0)
       }
 
   -- a journal of a head and events after it
-  after_head : (first : World) (m : JournalFile F) (len : ℕ) (closed : Bool) (saved : Saved)
+  pub after_head : (first : World) (m : JournalFile F) (len : ℕ) (closed : Bool) (saved : Saved)
       (parts : List BlockPart) (events early late : List Event) → events ≡ early ++ late
       → IsSaved saved → AllByRecursion IsKept late
       → replayed first early ≡ Ok (world_of (started saved parts))
@@ -204,11 +204,13 @@ module _ {F : Type 0} (shows : F → List ℕ → Option (List ℕ) → Type 0)
       → KeepsHere (contents_with (head_texts saved) []) new new_len
       → ((files : List Named) → AllByRecursion IsApart files → AreThere shows kept files old.folder
       → AreThere shows kept files new.folder)
-      → HoldsStore shows kept sound moment left_since first new new_len closed events
-  rolled first old new len new_len was closed saved parts events m head k stay =
-      inl (after_head first new new_len closed saved parts events events [] (sym (append-nil events))
-      head tt m.world k
-      (blocks_rolled shows kept saved.places parts old.folder new.folder stay m.blocks))
+      → HoldsAt shows kept sound moment left_since first new new_len closed events saved.places
+  rolled first old new len new_len was closed saved parts events m head k stay = (
+    after_head first new new_len closed saved parts events events [] (sym (append-nil events)) head
+        tt m.world k
+        (blocks_rolled shows kept saved.places parts old.folder new.folder stay m.blocks),
+    refl,
+  )
 
   -- what is left meanwhile
 

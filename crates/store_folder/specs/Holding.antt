@@ -66,6 +66,14 @@ pub record KeptLast {F : Type 0} (shows : F → List ℕ → Option (List ℕ) �
 abbrev pub FoundSince : {F : Type 0} → (F → ℕ → Left → Type 0) → F → ℕ → World → Type 0
 FoundSince left_since f t w = (left : Left) × left_since f t left × StartsWith left w
 
+-- the same, and the blocks that the head names lie at these places
+abbrev pub HoldsAt : {F : Type 0} → (F → List ℕ → Option (List ℕ) → Type 0)
+    → (F → List ℕ → ℕ → Type 0) → (F → Bool) → (F → ℕ) → (F → ℕ → Left → Type 0) → World
+    → JournalFile F → ℕ → Bool → List Event → List Place → Type 0
+HoldsAt shows kept sound moment left_since first m len closed events places =
+    (h : HoldsAfterHead shows kept sound moment left_since first m len closed events)
+    × (h.saved.places ≡ places)
+
 -- The journal was lost on the way to a new head: nothing more is taken, and a start finds the world
 -- of these events.
 pub record IsLost {F : Type 0} (moment : F → ℕ) (left_since : F → ℕ → Left → Type 0)

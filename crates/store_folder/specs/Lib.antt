@@ -7,3 +7,4 @@ pub mod Rolls
 pub mod Starting
 pub mod States
 pub mod StoreLaws
+pub mod Sweeps

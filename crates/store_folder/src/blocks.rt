@@ -74,14 +74,14 @@ pub fn open_block(alloc: Global, files: BlockBytes) -> Result<Block, BlockError>
 }
 
 /// The name of a file of the block with this number.
-fn name_in(alloc: Global, number: u64, name: &str) -> Result<String, AllocError>
+pub(crate) fn name_in(alloc: Global, number: u64, name: &str) -> Result<String, AllocError>
     ensures { IfOk result (λ text. string_bytes text ≡ name_in number name.now) }
 {
     format!(in alloc; "blocks/{number}/{name}")
 }
 
 /// The name of an edition of a block's deletions, in its folder.
-fn edition_name(alloc: Global, edition: u64) -> Result<String, AllocError>
+pub(crate) fn edition_name(alloc: Global, edition: u64) -> Result<String, AllocError>
     ensures { IfOk result (λ text. string_bytes text ≡ codes "tombstones." ++ decimal edition) }
 {
     format!(in alloc; "tombstones.{edition}")

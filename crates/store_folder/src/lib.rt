@@ -3,7 +3,8 @@
 //! A store is one journal and the files of the blocks that its head names: `IsState`, in
 //! `specs/States.antt`. [`read_store`] gives what a folder has of one, and [`resume_store`] goes on
 //! with it; [`StoreKeeper::create`] begins one. A [`StoreKeeper`] keeps the events of a running store
-//! there, and begins its journal anew with a new head ([`StoreKeeper::roll`]).
+//! there, begins its journal anew with a new head ([`StoreKeeper::roll`]), and removes files that are
+//! no longer the store's ([`StoreKeeper::sweep`]).
 //!
 //! [`read_journal`] gives the head and the events of a journal's file, or the first fault, `J1` to
 //! `J14`; [`read_blocks`] gives the blocks at places, and [`open_block`] the block that files spell.
@@ -20,6 +21,7 @@ mod keeping;
 mod reading;
 mod rolling;
 mod starting;
+mod sweeping;
 
 pub use blocks::{BlockBytes, open_block, read_blocks};
 pub use error::{BlockFault, ReadError, RollFault, StartError};

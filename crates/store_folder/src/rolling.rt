@@ -3,7 +3,7 @@
 ghost use Rattle.std.specs.Prelude.{◌≡◌, List, false, true, Err, OnOk};
 ghost use Rattle.head.specs.Heads.{BlockPart};
 ghost use Rattle.head.specs.Worlds.{Event as Change};
-ghost use Rattle.store_folder.specs.Holding.{HoldsStore};
+ghost use Rattle.store_folder.specs.Holding.{HoldsAt, HoldsStore};
 ghost use Rattle.store_folder.specs.Rolls.{MayRoll};
 ghost use Rattle.store_folder.specs.Starting.{StartFinds};
 
@@ -32,6 +32,14 @@ impl<N: Beginning, F: Folder + Drop> StoreKeeper<N, F> {
             → HoldsStore F.shows F.kept F.sound F.moment F.left_since N.first
             self.new.events.journal.medium self.new.events.journal.len
             self.new.events.journal.closed events }
+        // After `Ok` the head is the new one.
+        ensures places { OnOk result ((events : List Change) (parts : List BlockPart)
+            → MayRoll F.shows F.kept F.sound F.moment F.left_since N.first
+            self.old.events.journal.medium self.old.events.journal.len
+            self.old.events.journal.closed events head.now parts
+            → HoldsAt F.shows F.kept F.sound F.moment F.left_since N.first
+            self.new.events.journal.medium self.new.events.journal.len
+            self.new.events.journal.closed events head.now.places) }
         // After a crash at any moment of the call, a start finds the world of these events.
         ensures any_moment { (events : List Change) (parts : List BlockPart)
             → MayRoll F.shows F.kept F.sound F.moment F.left_since N.first

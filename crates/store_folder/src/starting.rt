@@ -8,7 +8,7 @@ ghost use Rattle.head.specs.Blocks.{opening_of, part_in};
 ghost use Rattle.head.specs.Heads.{BlockPart, world_of};
 ghost use Rattle.head.specs.Worlds.{replayed};
 ghost use Rattle.store_folder.specs.Finding.{IsFoundStore};
-ghost use Rattle.store_folder.specs.Holding.{HoldsStore};
+ghost use Rattle.store_folder.specs.Holding.{HoldsAt, HoldsStore};
 ghost use Rattle.store_folder.specs.Starting.{DeniesStart, IsNoneOrNothing, IsRefusedEvent};
 ghost use Rattle.store_folder.specs.Starting.{StartFinds, nothing_saved};
 ghost use Rattle.store_folder.specs.States.{HasWorld, started};
@@ -107,9 +107,9 @@ impl<N: Beginning, F: Folder + Drop> StoreKeeper<N, F> {
         ensures holds { IfOk result (λ k. (parts : List BlockPart)
             → IsFoundStore F.shows F.kept journal parts folder
             → N.first ≡ world_of (started journal.head parts)
-            → HoldsStore F.shows F.kept F.sound F.moment F.left_since N.first
+            → HoldsAt F.shows F.kept F.sound F.moment F.left_since N.first
             k.events.journal.medium k.events.journal.len k.events.journal.closed
-            journal.events.items) }
+            journal.events.items journal.head.places) }
         ensures open { IfOk result (λ k. k.events.journal.closed ≡ false) }
         ensures any_moment { (parts : List BlockPart)
             → IsFoundStore F.shows F.kept journal parts folder
@@ -150,6 +150,9 @@ pub fn resume_store<N: Beginning, F: Folder + Drop>(
     ensures holds { IfOk result (λ x. HoldsStore F.shows F.kept F.sound F.moment F.left_since
         N.first x.1.events.journal.medium x.1.events.journal.len x.1.events.journal.closed
         found.journal.events.items) }
+    ensures places { IfOk result (λ x. HoldsAt F.shows F.kept F.sound F.moment F.left_since
+        N.first x.1.events.journal.medium x.1.events.journal.len x.1.events.journal.closed
+        found.journal.events.items found.journal.head.places) }
     ensures open { IfOk result (λ x. x.1.events.journal.closed ≡ false) }
     ensures refused { IfErr result (λ e. (e.0 ≡ StartError.Medium)
         ⊎ DeniesStart found.journal.head (map part_in found.blocks.items)

@@ -17,6 +17,13 @@ returns-in-Ok-resume-clause-world g c =
 
 pub returns-in-Ok-resume-clause-holds : goal.returns-in-Ok-resume-clause-holds
 returns-in-Ok-resume-clause-holds g c =
+    let h =
+    c.in-Ok-resume.ensures.holds (map part_in c.args.found.blocks.items) c.requires.found
+    c.requires.first in
+    inl h.0
+
+pub returns-in-Ok-resume-clause-places : goal.returns-in-Ok-resume-clause-places
+returns-in-Ok-resume-clause-places g c =
     c.in-Ok-resume.ensures.holds (map part_in c.args.found.blocks.items) c.requires.found
     c.requires.first
 

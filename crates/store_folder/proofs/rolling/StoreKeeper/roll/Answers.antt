@@ -1,4 +1,4 @@
-use Rattle.std.proofs.Common.{◌≡◌, true, false, List, [], ℕ, refl, subst, sym, ◌∙◌}
+use Rattle.std.proofs.Common.{◌≡◌, true, false, List, [], ℕ, inl, subst, sym, ◌∙◌}
 use Rattle.event_journal.specs.Holding.{contents_with}
 use Rattle.head_record.specs.Spelling.{head_texts}
 use Rattle.journal.specs.Group.{IsJournalText}
@@ -26,8 +26,8 @@ roll-requires-clause-whole g c =
     let new = contents_with (head_texts c.args.head.now) [] in
     (new, subst (IsJournalText new) (sym c.deref.ensures.value) c.in-Ok.ensures.text)
 
-pub returns-in-Ok-roll-clause-held : goal.returns-in-Ok-roll-clause-held
-returns-in-Ok-roll-clause-held g c events parts m =
+pub returns-in-Ok-roll-clause-places : goal.returns-in-Ok-roll-clause-places
+returns-in-Ok-roll-clause-places g c events parts m =
     let f = g.F.Folder in
     let met = g.met.F.Folder in
     let old = c.args.self.now.events.journal in
@@ -39,6 +39,10 @@ returns-in-Ok-roll-clause-held g c events parts m =
     (c.in-Ok-roll.ensures.ok new
     (subst (IsJournalText new) (sym c.deref.ensures.value) c.in-Ok.ensures.text))
     c.in-Ok-roll.ensures.files
+
+pub returns-in-Ok-roll-clause-held : goal.returns-in-Ok-roll-clause-held
+returns-in-Ok-roll-clause-held g c events parts m =
+    let h = returns-in-Ok-roll-clause-places g c events parts m in inl h.0
 
 pub returns-in-Ok-roll-clause-any_moment : goal.returns-in-Ok-roll-clause-any_moment
 returns-in-Ok-roll-clause-any_moment g c events parts m opened =

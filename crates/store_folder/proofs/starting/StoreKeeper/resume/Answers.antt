@@ -1,4 +1,4 @@
-use Rattle.std.proofs.Common.{inl}
+use Rattle.std.proofs.Common.{refl}
 use Rattle.head_record.specs.Spelling.{head_texts}
 use Rattle.store_folder.proofs.Starts.{events_found, holds_found, resume_finds}
 use Rattle.store_folder.proofs.starting.StoreKeeper.resume.Goals as goal
@@ -19,12 +19,12 @@ returns-in-Ok-clause-holds g c parts h begins =
     let f = g.F.Folder in
     let j = c.args.journal in
     let new = c.in-Ok.events.journal in
-    inl (holds_found f.shows f.kept f.sound f.moment f.left_since g.met.F.Folder.only_now
+    (holds_found f.shows f.kept f.sound f.moment f.left_since g.met.F.Folder.only_now
     g.N.Beginning.first c.args.folder new.medium new.len new.closed j parts h begins
     c.in-Ok.ensures.beside
     (c.in-Ok.ensures.holds (head_texts j.head) j.events.items
     (events_found f.shows f.kept f.sound f.moment f.left_since g.met.F.Folder.only_now
-    (record { folder = c.args.folder }) j parts h c.requires.sound)))
+    (record { folder = c.args.folder }) j parts h c.requires.sound)), refl)
 
 pub returns-in-Ok-clause-any_moment : goal.returns-in-Ok-clause-any_moment
 returns-in-Ok-clause-any_moment g c parts h begins =
