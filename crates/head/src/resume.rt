@@ -133,10 +133,13 @@ impl Snapshot {
             return Err(ResumeError::Unsound);
         }
         let head = head_of_saved(alloc, floor, saved)?;
-        Ok(Snapshot {
-            floor,
-            head,
-            blocks: Arc::new(alloc, blocks)?,
-        })
+        match Arc::new(alloc, blocks) {
+            Ok(blocks) => Ok(Snapshot {
+                floor,
+                head,
+                blocks,
+            }),
+            Err(_) => Err(ResumeError::Memory),
+        }
     }
 }

@@ -25,7 +25,8 @@ fn push_files(
     names.push(name_in(alloc, number, "meta.json")?)?;
     names.push(name_in(alloc, number, "index")?)?;
     names.push(name_in(alloc, number, "chunks/000001")?)?;
-    names.push(name_in(alloc, number, edition.as_str())?)
+    names.push(name_in(alloc, number, edition.as_str())?)?;
+    Ok(())
 }
 
 /// The names of the files of the blocks at these places.

@@ -3,6 +3,7 @@ use Rattle.std.specs.declared.alloc.Global.{Global}
 use Rattle.std.specs.Prelude.{IfOk, codes, decimal}
 use Rattle.data_folder.specs.Folders.{HasFile}
 use Rattle.store_folder.specs.Blocks.{name_in}
+use Rattle.store_folder.proofs.Files.{none_changed}
 use Rattle.store_folder.proofs.blocks.read_edition.Goals as goal
 
 pub returns-in-Ok-clause-found : goal.returns-in-Ok-clause-found
@@ -16,3 +17,8 @@ returns-in-Ok-clause-found g c =
     (c.as_str.ensures.value ∙ (c.in-Ok.ensures
     ∙ ap (λ (n : ℕ). codes "tombstones." ++ decimal n) c.tombstones.ensures))
     c.read_in.ensures.found)
+
+pub returns-in-Err-clause-all : goal.returns-in-Err-clause-all
+returns-in-Err-clause-all g c =
+    let f = g.F.Folder in
+    none_changed f.shows f.kept c.args.folder.now

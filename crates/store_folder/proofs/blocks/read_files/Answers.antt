@@ -36,3 +36,21 @@ returns-clause-all g c =
     let on = then_kept f.shows f.kept in
     on _ _ _ (on _ _ _ (on _ _ _ c.read_in.ensures.all c.read_in-2.ensures.all)
     c.read_in-3.ensures.all) c.read_edition.ensures.all
+
+pub returns-in_err-index-clause-all : goal.returns-in_err-index-clause-all
+returns-in_err-index-clause-all g c =
+    let f = g.F.Folder in
+    then_kept f.shows f.kept _ _ _ c.read_in.ensures.all c.read_in-2.ensures.all
+
+pub returns-in_err-chunks-clause-all : goal.returns-in_err-chunks-clause-all
+returns-in_err-chunks-clause-all g c =
+    let f = g.F.Folder in
+    let on = then_kept f.shows f.kept in
+    on _ _ _ (on _ _ _ c.read_in.ensures.all c.read_in-2.ensures.all) c.read_in-3.ensures.all
+
+pub returns-in_err-tombstones-clause-all : goal.returns-in_err-tombstones-clause-all
+returns-in_err-tombstones-clause-all g c =
+    let f = g.F.Folder in
+    let on = then_kept f.shows f.kept in
+    on _ _ _ (on _ _ _ (on _ _ _ c.read_in.ensures.all c.read_in-2.ensures.all)
+    c.read_in-3.ensures.all) c.read_edition.ensures.all

@@ -1,7 +1,6 @@
 use Rattle.std.proofs.Common.{ℕ, List, ◌++◌, ap, ◌∙◌}
 use Rattle.std.specs.Prelude.{codes, decimal}
 use Rattle.data_folder.specs.Sweeping.{names_in}
-use Rattle.event_text.proofs.Spelled.{on_ok}
 use Rattle.store_folder.specs.Blocks.{name_in}
 use Rattle.store_folder.proofs.Litter.{four_more, name_more}
 use Rattle.store_folder.proofs.sweeping.push_files.Goals as goal
@@ -10,8 +9,7 @@ pub returns : goal.returns
 returns c =
     let p = c.args.place in
     let number = c.folder.ensures in
-    on_ok c.push-4.result _ _
-    (λ last. four_more (names_in c.args.names.now.items) (names_in c.push.new.self.items)
+    four_more (names_in c.args.names.now.items) (names_in c.push.new.self.items)
     (names_in c.push-2.new.self.items) (names_in c.push-3.new.self.items)
     (names_in c.push-4.new.self.items) (name_in p.0 (codes "meta.json"))
     (name_in p.0 (codes "index")) (name_in p.0 (codes "chunks/000001"))
@@ -22,9 +20,8 @@ returns c =
     ∙ ap (λ (k : ℕ). name_in k (codes "index")) number))
     (name_more _ _ _ _ c.in_ok-push-3.ensures.items (c.in_ok-name_in-3.ensures
     ∙ ap (λ (k : ℕ). name_in k (codes "chunks/000001")) number))
-    (name_more _ _ _ _ last (c.in_ok-name_in-4.ensures
+    (name_more _ _ _ _ c.in_ok-push-4.ensures.items (c.in_ok-name_in-4.ensures
     ∙ (ap (λ (n : List ℕ). name_in c.folder.result n) (c.as_str.ensures.value
     ∙ (c.in_ok-edition.ensures
     ∙ ap (λ (k : ℕ). codes "tombstones." ++ decimal k) c.tombstones.ensures))
-    ∙ ap (λ (k : ℕ). name_in k (codes "tombstones." ++ decimal p.1)) number))))
-    c.push-4.ensures.items
+    ∙ ap (λ (k : ℕ). name_in k (codes "tombstones." ++ decimal p.1)) number)))
