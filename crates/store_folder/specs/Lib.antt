@@ -3,6 +3,7 @@ pub mod Finding
 pub mod Holding
 pub mod Journals
 pub mod KeeperLaws
+pub mod Rewriting
 pub mod Rolls
 pub mod Starting
 pub mod States
