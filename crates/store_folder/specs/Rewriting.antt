@@ -1,5 +1,5 @@
 -- Blocks that are written anew, and their world.
-use Rattle.std.specs.Prelude.{◌≡◌, ◌+◌, ℕ, ℤ, List, [], ◌∷◌, ◌++◌, Ok, length, map, refl}
+use Rattle.std.specs.Prelude.{◌≡◌, ℕ, suc, ℤ, List, [], ◌∷◌, ◌++◌, Ok, length, map, refl}
 use Rattle.std.proofs.Common.{ap, subst, ◌∙◌}
 use Rattle.head.specs.Heads.{BlockPart, HeadSeries, SnapshotParts, head_part, newest_in, world_of}
 use Rattle.head.specs.Worlds.{Event, Newest, World, replayed}
@@ -34,7 +34,7 @@ same_count : (a b : List BlockPart) → HaveSame a b → length a ≡ length b
 same_count [] [] h = refl
 same_count [] (b ∷ bs) h = absurd h
 same_count (a ∷ as) [] h = absurd h
-same_count (a ∷ as) (b ∷ bs) h = ap (λ (n : ℕ). n + 1) (same_count as bs h.1)
+same_count (a ∷ as) (b ∷ bs) h = ap suc (same_count as bs h.1)
 
 abbrev world_with : Content → Newest → ℤ → ℕ → World
 world_with content newest floor blocks = record {
