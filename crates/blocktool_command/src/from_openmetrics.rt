@@ -115,11 +115,13 @@ fn read_said(
         (IsToldRefused text_in.entry.format places fractions text.now) }
 {
     match exposition::read_text(alloc, text_in.format, places, fractions, text) {
-        Ok(Exposition {
-            rows,
-            others,
-            rounded,
-        }) => Ok(Said {
+        Ok(
+            Exposition {
+                rows,
+                others,
+                rounded,
+            },
+        ) => Ok(Said {
             listed: Listed { rows },
             others,
             rounded,
@@ -129,12 +131,7 @@ fn read_said(
 }
 
 // The same as a policy asks for it.
-fn said_as(
-    alloc: Global,
-    policy: Policy,
-    text_in: TextIn<'_>,
-    text: &[u8],
-) -> Result<Said, Fault>
+fn said_as(alloc: Global, policy: Policy, text_in: TextIn<'_>, text: &[u8]) -> Result<Said, Fault>
     ensures found { IfOk result
         (IsSaidBy text_in.entry.format policy.digits (fractions_of policy.rest) text.now) }
     ensures refused { IfErr result
@@ -168,12 +165,7 @@ fn said_by(
 }
 
 /// Makes blocks out of a text, in which the later line wins.
-pub(crate) fn from_openmetrics<
-    R: Files + AllocGlobal + Clone + Drop,
-    I: Read,
-    W: Write,
-    E: Write,
->(
+pub(crate) fn from_openmetrics<R: Files + AllocGlobal + Clone + Drop, I: Read, W: Write, E: Write>(
     alloc: Global,
     rt: &R,
     options: &Options<'_>,

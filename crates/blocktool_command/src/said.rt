@@ -32,10 +32,7 @@ pub(crate) struct Said {
 fn count_within(samples: &[Left], times: Stretch) -> u64
     ensures { result ≡ count_within times.from times.to samples.now }
 {
-    samples
-        .iter()
-        .filter(|sample| times.has(sample.t))
-        .count() as u64
+    samples.iter().filter(|sample| times.has(sample.t)).count() as u64
 }
 
 // Counts what of samples with other values, and of those that were rounded, lies in a range.

@@ -50,7 +50,10 @@ fn halves_go_to_the_even_number(rt: HostRuntime) {
 
 #[test]
 fn far_points_are_read(rt: HostRuntime) {
-    assert_eq!(rt; rounded(b"123456789012345678901234567890", 0, 25), near(12346));
+    assert_eq!(rt;
+        rounded(b"123456789012345678901234567890", 0, 25),
+        near(12346)
+    );
     assert_eq!(rt; rounded(b"10000000000000000000", 0, 19), exactly(1));
     assert_eq!(rt; rounded(b"1", 9, 400), near(0));
     assert_eq!(rt; rounded(b"0", 999, 0), exactly(0));
