@@ -44,11 +44,15 @@ pub fn query(alloc: Global, from: i64) -> Option<Query> {
     Query::new(matchers, from, 100).ok()
 }
 
+fn copy_of(alloc: Global, row: &Row) -> Option<Row> {
+    let samples = row.samples().iter().copied().collect(alloc).ok()?;
+    Some(Row::new(row.labels().try_clone().ok()?, samples))
+}
+
 fn row_at(alloc: Global, table: &Table, reference: u32) -> Option<Row> {
     for (number, row) in table.series() {
         if number.number() == reference {
-            let samples = row.samples().iter().copied().collect(alloc).ok()?;
-            return Some(Row::new(row.labels().try_clone().ok()?, samples));
+            return copy_of(alloc, row);
         }
     }
     None
@@ -63,7 +67,7 @@ pub fn rows_at(alloc: Global, table: &Table, references: &[u32]) -> Option<Vec<R
     Some(rows)
 }
 
-fn cover_of(alloc: Global, intervals: Intervals, references: &[u32]) -> Option<PartCover> {
+fn certificate_of(alloc: Global, intervals: Intervals) -> Option<Vec<Interval>> {
     let mut certificate = Vec::new(alloc);
     for (from, until, verdict) in intervals {
         let interval = Interval {
@@ -73,10 +77,20 @@ fn cover_of(alloc: Global, intervals: Intervals, references: &[u32]) -> Option<P
         };
         certificate.push(interval).ok()?;
     }
+    Some(certificate)
+}
+
+fn separators_of(alloc: Global, references: &[u32]) -> Option<Vec<SeriesRef>> {
     let mut separators = Vec::new(alloc);
     for reference in references {
         separators.push(SeriesRef::new(*reference)).ok()?;
     }
+    Some(separators)
+}
+
+fn cover_of(alloc: Global, intervals: Intervals, references: &[u32]) -> Option<PartCover> {
+    let certificate = certificate_of(alloc, intervals);
+    let (certificate, separators) = certificate.zip(separators_of(alloc, references))?;
     Some(PartCover {
         certificate,
         separators,
@@ -87,8 +101,8 @@ fn cover_of(alloc: Global, intervals: Intervals, references: &[u32]) -> Option<P
 /// The answer that says this of the part.
 pub fn answer(alloc: Global, table: &Table, said: &Said) -> Option<PartAnswer> {
     let (intervals, separators, references) = *said;
-    let rows = rows_at(alloc, table, references)?;
-    let cover = cover_of(alloc, intervals, separators)?;
+    let rows = rows_at(alloc, table, references);
+    let (rows, cover) = rows.zip(cover_of(alloc, intervals, separators))?;
     Some(PartAnswer {
         part: PartName::Block(0),
         rows,

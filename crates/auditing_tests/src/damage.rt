@@ -82,20 +82,27 @@ fn put(bytes: &mut [u8], place: usize, byte: u8) -> u8 {
     }
 }
 
+/// Whether each other byte at a place of a file is told so.
+fn are_told_at(alloc: Global, file: usize, bytes: &mut [u8], place: usize, want: &str) -> bool {
+    for byte in 0..=255 {
+        let good = put(bytes, place, byte);
+        let told = told_with(alloc, file, bytes);
+        put(bytes, place, good);
+        if byte != good && told != want {
+            return false;
+        }
+    }
+    true
+}
+
 /// The first place of a file where another byte is told in another way, or its length.
 fn told_until(alloc: Global, file: usize) -> Option<usize> {
     let mut bytes = Vec::new(alloc);
     bytes.extend_from_slice(FILES.get(file)?).ok()?;
     let regions = CHANGED.get(file)?;
     for place in 0..bytes.len() {
-        let want = region_of(regions, place);
-        for byte in 0..=255 {
-            let good = put(&mut bytes, place, byte);
-            let told = told_with(alloc, file, &bytes);
-            put(&mut bytes, place, good);
-            if byte != good && told != want {
-                return Some(place);
-            }
+        if !are_told_at(alloc, file, &mut bytes, place, region_of(regions, place)) {
+            return Some(place);
         }
     }
     Some(bytes.len())

@@ -5,48 +5,51 @@ use audit_laws::{SoundAnswers, search_and_audit};
 use auditor::{BlockTable, Reply, judge, lines_text};
 use head::Snapshot;
 use matchers::{Query, Selector};
-use std::alloc::{AllocError, Global};
-use std::process::Abort;
+use std::alloc::Global;
+
+fn query_up(alloc: Global) -> Option<Query> {
+    Query::new(Selector::parse(alloc, "up").ok()?, 0, 100).ok()
+}
+
+const REPLY: &str = r#"{"parts":[],"rows":[{"labels":{"job":"a"},"samples":[[10,1]]}]}"#;
 
 /// What the example of `auditor` does.
-fn judge_a_reply(rt: &impl Abort, alloc: Global) -> Option<()> {
-    let query = Query::new(Selector::parse(alloc, "up").ok()?, 0, 100).ok()?;
-    let text = r#"{"parts":[],"rows":[{"labels":{"job":"a"},"samples":[[10,1]]}]}"#;
-    let reply = Reply::read(alloc, text.as_bytes()).ok()?;
+fn judge_a_reply(alloc: Global) -> Option<String> {
+    let (query, reply) = query_up(alloc).zip(Reply::read(alloc, REPLY.as_bytes()).ok())?;
     let lines = judge(alloc, &[BlockTable::Refused("I9")], &query, reply).ok()?;
-    let told = lines_text(alloc, &lines).ok()?;
-    assert_eq!(rt; told.as_str(), "block 0: refused I9\nrows: F10\n");
-    Some(())
+    lines_text(alloc, &lines).ok()
 }
 
 #[test]
 fn the_example_of_the_first_page_of_auditor(rt: HostRuntime) {
-    judge_a_reply(&rt, rt.alloc()).expect(&rt, "a reply is judged");
+    let told = judge_a_reply(rt.alloc()).expect(&rt, "a reply is judged");
+    assert!(rt; told.as_str() == "block 0: refused I9\nrows: F10\n");
+}
+
+/// Whether the example of `audit_command` ends so.
+fn is_valid(rt: &HostRuntime, words: &[String]) -> bool {
+    let mut reply = br#"{"parts":[],"rows":[]}"#.as_slice();
+    let mut out: Vec<u8> = Vec::new(rt.alloc());
+    let mut err: Vec<u8> = Vec::new(rt.alloc());
+    let ending = run(rt.alloc(), rt, words, &mut reply, &mut out, &mut err);
+    ending.status == 0 && err.is_empty() && out.as_slice() == b"rows: valid\n".as_slice()
 }
 
 #[test]
-fn the_example_of_the_first_page_of_audit_command(rt: HostRuntime) -> Result<(), AllocError> {
-    let alloc = rt.alloc();
-    let words = [String::from_str(alloc, "--selector=up")?];
-    let mut reply = br#"{"parts":[],"rows":[]}"#.as_slice();
-    let mut out: Vec<u8> = Vec::new(alloc);
-    let mut err: Vec<u8> = Vec::new(alloc);
-    let ending = run(alloc, &rt, &words, &mut reply, &mut out, &mut err);
-    assert_eq!(rt; (ending.status, err.len()), (0, 0));
-    assert_eq!(rt; out.as_slice(), b"rows: valid\n".as_slice());
-    Ok(())
+fn the_example_of_the_first_page_of_audit_command(rt: HostRuntime) {
+    let word = String::from_str(rt.alloc(), "--selector=up").ok();
+    let words = [word.expect(&rt, "there is memory")];
+    assert!(rt; is_valid(&rt, &words));
 }
 
 /// What the example of `audit_laws` does.
-fn audit_an_empty_snapshot(rt: &impl Abort, alloc: Global) -> Option<()> {
-    let query = Query::new(Selector::parse(alloc, "up").ok()?, 0, 100).ok()?;
-    let empty = Snapshot::opening(alloc, Vec::new(alloc)).ok()?;
-    let SoundAnswers { answers, rows } = search_and_audit(alloc, &empty, &query).ok()?;
-    assert_eq!(rt; (answers.len(), rows.len()), (1, 0));
-    Some(())
+fn audit_an_empty_snapshot(alloc: Global) -> Option<SoundAnswers> {
+    let (query, empty) = query_up(alloc).zip(Snapshot::opening(alloc, Vec::new(alloc)).ok())?;
+    search_and_audit(alloc, &empty, &query).ok()
 }
 
 #[test]
 fn the_example_of_the_first_page_of_audit_laws(rt: HostRuntime) {
-    audit_an_empty_snapshot(&rt, rt.alloc()).expect(&rt, "a snapshot is audited");
+    let sound = audit_an_empty_snapshot(rt.alloc()).expect(&rt, "a snapshot is audited");
+    assert!(rt; sound.answers.len() == 1 && sound.rows.is_empty());
 }

@@ -5,8 +5,9 @@ use crate::answers::{
     answer, query,
 };
 use crate::worked_block::{ALL_BUT_ONE, CHUNKS, INDEX, TOMBSTONES, table_of_files};
-use auditor::{Flaw, audit, audit_skip};
+use auditor::{Flaw, Table, audit, audit_skip};
 use cover::Verdict;
+use matchers::Query;
 use std::alloc::Global;
 
 /// What is said, and the flaw that is told.
@@ -292,6 +293,11 @@ const FLAWS: [&[Told]; 7] = [
     FROM_LYING_LISTS,
 ];
 
+fn audited(alloc: Global, table: &Table, query: &Query, said: &Said) -> Option<Result<(), Flaw>> {
+    let answer = answer(alloc, table, said)?;
+    Some(audit(alloc, table, query, &answer))
+}
+
 /// What an audit from a time to 100 answers, of the worked block with these deletions: of what is
 /// said of it, or that it is skipped where nothing is.
 fn told_of(
@@ -300,13 +306,10 @@ fn told_of(
     from: i64,
     said: Option<&Said>,
 ) -> Option<Result<(), Flaw>> {
-    let table = table_of_files(alloc, INDEX, CHUNKS, tombstones).ok()?;
-    let query = query(alloc, from)?;
+    let table = table_of_files(alloc, INDEX, CHUNKS, tombstones).ok();
+    let (table, query) = table.zip(query(alloc, from))?;
     match said {
-        Some(said) => {
-            let answer = answer(alloc, &table, said)?;
-            Some(audit(alloc, &table, &query, &answer))
-        }
+        Some(said) => audited(alloc, &table, &query, said),
         None => Some(audit_skip(alloc, &table, &query)),
     }
 }
@@ -350,17 +353,31 @@ const MATCHED_SILENT: Said = (
 
 const REST_SILENT: Said = (&[(4, 6, BY_NAME), (6, END, SILENT)], &[4, 6], NONE);
 
+/// The deletions, from when it is asked, what is said, and what is told.
+type Silence = (&'static [u8], i64, Option<&'static Said>, Result<(), Flaw>);
+
+const SILENCES: &[Silence] = &[
+    (ALL_BUT_ONE, 0, Some(&ALL_SILENT), Err(Flaw::NotSilent)),
+    (
+        ALL_BUT_ONE,
+        0,
+        Some(&MATCHED_SILENT),
+        Err(Flaw::NotMatching),
+    ),
+    (ALL_BUT_ONE, 0, Some(&REST_SILENT), Ok(())),
+    (TOMBSTONES, 20, Some(&ALL_SILENT), Ok(())),
+    (TOMBSTONES, 20, Some(&SOUND), Err(Flaw::NotMatching)),
+    (TOMBSTONES, 0, None, Err(Flaw::Hidden)),
+    (TOMBSTONES, 20, None, Ok(())),
+];
+
+fn is_told(alloc: Global, row: &Silence) -> bool {
+    told_of(alloc, row.0, row.1, row.2) == Some(row.3)
+}
+
 #[test]
 fn one_sample_in_the_range_is_no_silence_and_no_skip(rt: HostRuntime) {
-    let alloc = rt.alloc();
-    let silent = Some(Err(Flaw::NotSilent));
-    let unmatched = Some(Err(Flaw::NotMatching));
-    let hidden = Some(Err(Flaw::Hidden));
-    assert!(rt; told_of(alloc, ALL_BUT_ONE, 0, Some(&ALL_SILENT)) == silent);
-    assert!(rt; told_of(alloc, ALL_BUT_ONE, 0, Some(&MATCHED_SILENT)) == unmatched);
-    assert!(rt; told_of(alloc, ALL_BUT_ONE, 0, Some(&REST_SILENT)) == Some(Ok(())));
-    assert!(rt; told_of(alloc, TOMBSTONES, 20, Some(&ALL_SILENT)) == Some(Ok(())));
-    assert!(rt; told_of(alloc, TOMBSTONES, 20, Some(&SOUND)) == unmatched);
-    assert!(rt; told_of(alloc, TOMBSTONES, 0, None) == hidden);
-    assert!(rt; told_of(alloc, TOMBSTONES, 20, None) == Some(Ok(())));
+    for row in SILENCES {
+        assert!(rt; is_told(rt.alloc(), row), "from {}", row.1);
+    }
 }

@@ -13,10 +13,10 @@ use history::{Reply, Step, run};
 use labels::{LabelSet, Row, Sample, is_time};
 use matchers::{Query, Selector};
 use snapshots::{Appender, Committer, Naming, Pass, Receipt, Seat, Store};
-use std::alloc::Global;
+use std::alloc::{AllocError, Global};
 use std::marker::Brand;
 use std::sync::atomic::{AtomicU64, Ordering};
-use std::sync::{Mutex, Wait};
+use std::sync::{Arc, Mutex, Wait};
 use std::thread::{Threads, map_vec, yield_now};
 
 /// The numbers of the seats: those below commit.
@@ -109,18 +109,34 @@ impl<J: Naming> Board<J> {
     }
 }
 
-fn pair_of(alloc: Global, name: &str, value: &str) -> Option<(String, String)> {
-    let name = String::from_str(alloc, name).ok()?;
-    Some((name, String::from_str(alloc, value).ok()?))
+fn pair_of(alloc: Global, name: &str, value: &str) -> Result<(String, String), AllocError> {
+    let name = String::from_str(alloc, name)?;
+    Ok((name, String::from_str(alloc, value)?))
+}
+
+fn pairs_of(alloc: Global, pairs: &[(&str, &str)]) -> Result<Vec<(String, String)>, AllocError> {
+    let mut made = Vec::new(alloc);
+    for (name, value) in pairs {
+        made.push(pair_of(alloc, name, value)?)?;
+    }
+    Ok(made)
 }
 
 /// `up` of a job and a zone.
 fn labels_of(alloc: Global, job: &str, zone: &str) -> Option<LabelSet> {
-    let mut pairs = Vec::new(alloc);
-    pairs.push(pair_of(alloc, "__name__", "up")?).ok()?;
-    pairs.push(pair_of(alloc, "job", job)?).ok()?;
-    pairs.push(pair_of(alloc, "zone", zone)?).ok()?;
-    LabelSet::new(alloc, pairs).ok()
+    let pairs = [("__name__", "up"), ("job", job), ("zone", zone)];
+    LabelSet::new(alloc, pairs_of(alloc, &pairs).ok()?).ok()
+}
+
+/// Adds a sample of a job and a zone.
+fn push_sample(
+    alloc: Global,
+    batch: &mut Vec<(LabelSet, Sample)>,
+    series: (&str, &str),
+    sample: Sample,
+) -> Option<()> {
+    let labels = labels_of(alloc, series.0, series.1)?;
+    batch.push((labels, sample)).ok()
 }
 
 /// The four samples of a batch: two of each series, at times that follow one another.
@@ -129,11 +145,19 @@ fn batch_of(alloc: Global, seat: usize, at: i64) -> Option<Vec<(LabelSet, Sample
     let mut batch = Vec::new(alloc);
     let mut time = at;
     for zone in &ZONES {
-        let labels = labels_of(alloc, job, zone)?;
-        batch.push((labels, Sample::new(time, at))).ok()?;
+        push_sample(alloc, &mut batch, (*job, *zone), Sample::new(time, at))?;
         time = time.saturating_add(1);
     }
     Some(batch)
+}
+
+fn appender_of(alloc: Global, seat: usize, at: i64) -> Option<Appender> {
+    let batch = batch_of(alloc, seat, at)?;
+    let mut appender = Appender::new(alloc);
+    for (labels, sample) in batch {
+        appender.append(labels, sample).ok()?;
+    }
+    Some(appender)
 }
 
 fn query_of(alloc: Global, asked: Asked) -> Option<Query> {
@@ -153,15 +177,39 @@ fn commit<J: Naming, C: Wait + Drop>(
     seat: &mut Seat<J>,
     at: i64,
 ) -> Option<Option<Receipt<J>>> {
-    let mut appender = Appender::new(alloc);
-    for (labels, sample) in batch_of(alloc, seat.number(), at)? {
-        appender.append(labels, sample).ok()?;
-    }
+    let appender = appender_of(alloc, seat.number(), at)?;
     match committer.commit(rt, seat, appender) {
         Ok(receipt) => Some(Some(receipt)),
         Err((_, CommitError::OutOfBounds { at: _ })) if at < LAST_CUT => Some(None),
         Err(_) => None,
     }
+}
+
+fn delete<J: Naming, C: Wait + Drop>(
+    rt: &impl Wait,
+    alloc: Global,
+    committer: &Committer<J, C>,
+    seat: &mut Seat<J>,
+    at: i64,
+) -> Option<Receipt<J>> {
+    let matchers = Selector::parse(alloc, DELETED).ok()?;
+    let to = at.saturating_add(WIDTH);
+    if !Event::is_deletion(&matchers, at, to) {
+        return None;
+    }
+    committer.delete(rt, seat, matchers, at, to).ok()
+}
+
+fn cut<J: Naming, C: Wait + Drop>(
+    rt: &impl Wait,
+    committer: &Committer<J, C>,
+    seat: &mut Seat<J>,
+    at: i64,
+) -> Option<Receipt<J>> {
+    if !is_time(at) {
+        return None;
+    }
+    committer.cut(rt, seat, at).ok()
 }
 
 /// The receipt of a seat's event; none where a cut has passed it, and nothing where it is refused
@@ -173,23 +221,23 @@ fn change<J: Naming, C: Wait + Drop>(
     seat: &mut Seat<J>,
     at: i64,
 ) -> Option<Option<Receipt<J>>> {
-    let number = seat.number();
-    if number == DELETER {
-        let matchers = Selector::parse(alloc, DELETED).ok()?;
-        let to = at.saturating_add(WIDTH);
-        if !Event::is_deletion(&matchers, at, to) {
-            return None;
-        }
-        return Some(Some(committer.delete(rt, seat, matchers, at, to).ok()?));
+    match seat.number() {
+        DELETER => Some(Some(delete(rt, alloc, committer, seat, at)?)),
+        CUTTER => Some(Some(cut(rt, committer, seat, at)?)),
+        _ => commit(rt, alloc, committer, seat, at),
     }
-    if number == CUTTER {
-        return if is_time(at) {
-            Some(Some(committer.cut(rt, seat, at).ok()?))
-        } else {
-            None
-        };
-    }
-    commit(rt, alloc, committer, seat, at)
+}
+
+/// Keeps the receipt of an event of a seat's, at a time.
+fn keep<J: Naming>(
+    rt: &impl Wait,
+    board: &Board<J>,
+    done: &mut Vec<Done>,
+    event: (usize, i64),
+    receipt: Receipt<J>,
+) -> Option<()> {
+    done.push((receipt.events(), event.0, event.1)).ok()?;
+    board.keep(rt, receipt)
 }
 
 /// So many events of a seat's, and which of them were accepted; nothing where one was refused that
@@ -206,11 +254,22 @@ fn change_often<J: Naming, C: Wait + Drop>(
     for round in 0..rounds {
         let at = board.time_of(rt, seat.number(), round);
         if let Some(receipt) = change(rt, alloc, committer, seat, at)? {
-            done.push((receipt.events(), seat.number(), at)).ok()?;
-            board.keep(rt, receipt)?;
+            keep(rt, board, &mut done, (seat.number(), at), receipt)?;
         }
     }
     Some(done)
+}
+
+/// Asks once; none where an audit tells a flaw.
+fn ask<J: Naming, R: Threads + Wait + Sync>(
+    rt: &R,
+    alloc: Global,
+    pass: &mut Pass<J>,
+    query: &Query,
+) -> Option<()> {
+    let snapshot = pass.snapshot().ok()?;
+    let answers = search(rt, alloc, &snapshot, query, &OpenGate).ok()?;
+    audit_parts(alloc, &snapshot, query, &answers)
 }
 
 /// Asks until no other thread changes the store, and once more; none where an audit tells a flaw.
@@ -224,14 +283,41 @@ fn ask_often<J: Naming, R: Threads + Wait + Sync>(
     for _ in rt.forever() {
         let is_over = board.at_work.load(Ordering::SeqCst) == 0;
         board.tell(rt, pass);
-        let snapshot = pass.snapshot().ok()?;
-        let answers = search(rt, alloc, &snapshot, query, &OpenGate).ok()?;
-        audit_parts(alloc, &snapshot, query, &answers)?;
+        ask(rt, alloc, pass, query)?;
         if is_over {
             break;
         }
     }
     Some(())
+}
+
+fn ask_as<J: Naming, R: Threads + Wait + Sync>(
+    rt: &R,
+    alloc: Global,
+    board: &Board<J>,
+    place: usize,
+    mut pass: Pass<J>,
+) -> Option<Vec<Done>> {
+    let query = query_of(alloc, *ASKED.get(place)?)?;
+    ask_often(rt, alloc, board, &mut pass, &query)?;
+    Some(Vec::new(alloc))
+}
+
+fn change_as<J: Naming, C: Wait + Drop>(
+    rt: &impl Wait,
+    alloc: Global,
+    committer: &Committer<J, C>,
+    board: &Board<J>,
+    mut seat: Seat<J>,
+) -> Option<Vec<Done>> {
+    let rounds = if seat.number() < CUTTER {
+        COMMITS
+    } else {
+        CHANGES
+    };
+    let done = change_often(rt, alloc, committer, board, &mut seat, rounds);
+    board.at_work.fetch_sub(1, Ordering::SeqCst);
+    done
 }
 
 /// The events of an actor that were accepted: none of one that asks.
@@ -243,22 +329,17 @@ fn act<J: Naming, C: Wait + Drop, R: Threads + Wait + Sync>(
     actor: Actor<J>,
 ) -> Option<Vec<Done>> {
     match actor {
-        Actor::Asking(place, mut pass) => {
-            let query = query_of(alloc, *ASKED.get(place)?)?;
-            ask_often(rt, alloc, board, &mut pass, &query)?;
-            Some(Vec::new(alloc))
-        }
-        Actor::Changing(mut seat) => {
-            let rounds = if seat.number() < CUTTER {
-                COMMITS
-            } else {
-                CHANGES
-            };
-            let done = change_often(rt, alloc, committer, board, &mut seat, rounds);
-            board.at_work.fetch_sub(1, Ordering::SeqCst);
-            done
-        }
+        Actor::Asking(place, pass) => ask_as(rt, alloc, board, place, pass),
+        Actor::Changing(seat) => change_as(rt, alloc, committer, board, seat),
     }
+}
+
+fn changing<J: Naming>(alloc: Global, seats: Vec<Seat<J>>) -> Option<Vec<Actor<J>>> {
+    let mut actors = Vec::new(alloc);
+    for seat in seats {
+        actors.push(Actor::Changing(seat)).ok()?;
+    }
+    Some(actors)
 }
 
 /// The actors, those that change the store first.
@@ -267,14 +348,21 @@ fn actors_of<J: Naming>(
     seats: Vec<Seat<J>>,
     passes: Vec<Pass<J>>,
 ) -> Option<Vec<Actor<J>>> {
-    let mut actors = Vec::new(alloc);
-    for seat in seats {
-        actors.push(Actor::Changing(seat)).ok()?;
-    }
+    let mut actors = changing(alloc, seats)?;
     for (place, pass) in passes.into_iter().enumerate() {
         actors.push(Actor::Asking(place, pass)).ok()?;
     }
     Some(actors)
+}
+
+/// These events and those of all actors, in their order.
+fn sorted(before: Vec<Done>, told: Vec<Option<Vec<Done>>>) -> Option<Vec<Done>> {
+    let mut all = before;
+    for done in told {
+        all.append(&mut done?).ok()?;
+    }
+    all.sort().ok()?;
+    Some(all)
 }
 
 /// The events of all actors that were accepted, each actor in a thread of its own, and those that
@@ -292,12 +380,7 @@ fn act_at_once<J: Naming + Send + Sync, C: Wait + Drop + Send + Sync, R: Threads
         actors,
         &|actor: Actor<J>| -> Option<Vec<Done>> { act(rt, alloc, committer, board, actor) },
     );
-    let mut all = before;
-    for done in told.ok()? {
-        all.append(&mut done?).ok()?;
-    }
-    all.sort().ok()?;
-    Some(all)
+    sorted(before, told.ok()?)
 }
 
 /// Whether receipts have the numbers of so many events, from 1, each number once.
@@ -351,28 +434,38 @@ fn answered_by(alloc: Global, snapshot: &Snapshot) -> Option<SoundAnswers> {
     search_and_audit(alloc, snapshot, &query).ok()
 }
 
-/// Adds the steps of an accepted event.
-fn push_steps(alloc: Global, steps: &mut Vec<Step>, done: Done) -> Option<()> {
-    let (_, seat, at) = done;
-    if seat == CUTTER {
-        return if is_time(at) {
-            steps.push(Step::cut(seat, at)).ok()
-        } else {
-            None
-        };
+fn cut_of(at: i64) -> Option<Step> {
+    if is_time(at) {
+        Some(Step::cut(CUTTER, at))
+    } else {
+        None
     }
-    if seat == DELETER {
-        let matchers = Selector::parse(alloc, DELETED).ok()?;
-        let to = at.saturating_add(WIDTH);
-        if !Event::is_deletion(&matchers, at, to) {
-            return None;
-        }
-        return steps.push(Step::delete(seat, matchers, at, to)).ok();
+}
+
+fn deletion_of(alloc: Global, at: i64) -> Option<Step> {
+    let matchers = Selector::parse(alloc, DELETED).ok()?;
+    let to = at.saturating_add(WIDTH);
+    if !Event::is_deletion(&matchers, at, to) {
+        return None;
     }
+    Some(Step::delete(DELETER, matchers, at, to))
+}
+
+fn push_batch(alloc: Global, steps: &mut Vec<Step>, seat: usize, at: i64) -> Option<()> {
     for (labels, sample) in batch_of(alloc, seat, at)? {
         steps.push(Step::append(seat, labels, sample)).ok()?;
     }
     steps.push(Step::commit(seat)).ok()
+}
+
+/// Adds the steps of an accepted event.
+fn push_steps(alloc: Global, steps: &mut Vec<Step>, done: Done) -> Option<()> {
+    let (_, seat, at) = done;
+    match seat {
+        CUTTER => steps.push(cut_of(at)?).ok(),
+        DELETER => steps.push(deletion_of(alloc, at)?).ok(),
+        _ => push_batch(alloc, steps, seat, at),
+    }
 }
 
 /// The steps of accepted events in this order, and then a query for all rows.
@@ -386,40 +479,117 @@ fn steps_of(alloc: Global, done: &[Done]) -> Option<Vec<Step>> {
     Some(steps)
 }
 
-/// Whether accepted events, replayed in this order from an empty store, are all done, and give
-/// these rows.
-fn are_replayed(alloc: Global, done: &[Done], rows: &[Row]) -> Option<bool> {
+/// The replies to accepted events, replayed in this order from an empty store, and to the query.
+fn replies_to(alloc: Global, done: &[Done]) -> Option<Vec<Reply>> {
     let steps = steps_of(alloc, done)?;
     let opening = Snapshot::opening(alloc, Vec::new(alloc)).ok()?;
-    let replies = run(alloc, &opening, steps.as_slice()).ok()?;
-    match replies.as_slice().split_last()? {
-        (Reply::Rows(found), others) => {
-            for reply in others {
-                if !matches!(reply, Reply::Done) {
-                    return Some(false);
-                }
-            }
-            Some(same_rows(found.as_slice(), rows))
+    run(alloc, &opening, steps.as_slice()).ok()
+}
+
+fn are_done(replies: &[Reply]) -> bool {
+    for reply in replies {
+        if !matches!(reply, Reply::Done) {
+            return false;
         }
-        _ => None,
+    }
+    true
+}
+
+/// Whether these are done, and the last gives these rows.
+fn have_rows(replies: &[Reply], rows: &[Row]) -> bool {
+    match replies.split_last() {
+        Some((Reply::Rows(found), others)) => {
+            are_done(others) && same_rows(found.as_slice(), rows)
+        }
+        _ => false,
+    }
+}
+
+/// Whether accepted events, replayed in this order from an empty store, are all done, and give
+/// these rows.
+fn are_replayed(alloc: Global, done: &[Done], rows: &[Row]) -> bool {
+    match replies_to(alloc, done) {
+        Some(replies) => have_rows(replies.as_slice(), rows),
+        None => false,
+    }
+}
+
+/// Whether a spoiled answer is found.
+fn is_spoiled(alloc: Global, last: &Snapshot, answers: Vec<PartAnswer>) -> bool {
+    match query_of(alloc, EVERYTHING) {
+        Some(query) => finds_spoiled(alloc, last, &query, answers) == Some(true),
+        None => false,
+    }
+}
+
+/// Whether a snapshot shows the replay of these events, and a spoiled answer of it is found.
+fn is_replay(alloc: Global, last: &Snapshot, done: &[Done]) -> bool {
+    let Some(found) = answered_by(alloc, last) else {
+        return false;
+    };
+    are_replayed(alloc, done, found.rows.as_slice()) && is_spoiled(alloc, last, found.answers)
+}
+
+/// A snapshot that is held, and all that it answers.
+type Held = (Arc<Snapshot>, SoundAnswers);
+
+fn hold<J: Naming>(alloc: Global, pass: &mut Pass<J>) -> Option<Held> {
+    let snapshot = pass.snapshot().ok()?;
+    let shown = answered_by(alloc, &snapshot)?;
+    Some((snapshot, shown))
+}
+
+/// Whether a snapshot that was held answers what it answered.
+fn answers_again(alloc: Global, held: &Held) -> bool {
+    match answered_by(alloc, &held.0) {
+        Some(again) => same_answers(&again, &held.1),
+        None => false,
     }
 }
 
 /// Whether a pass shows the replay of these events, as many as there are, a spoiled answer is
 /// found, and a snapshot that was held answers what it answered.
-fn is_kept<J: Naming>(
+fn is_kept<J: Naming>(alloc: Global, pass: &mut Pass<J>, done: &[Done], held: &Held) -> bool {
+    match pass.snapshot() {
+        Ok(last) => {
+            is_replay(alloc, &last, done)
+                && are_numbered(done, pass.events())
+                && answers_again(alloc, held)
+        }
+        Err(_) => false,
+    }
+}
+
+/// How many events are accepted, those before and those of the actors, where all that is to hold
+/// does.
+fn count_kept<J: Naming + Send + Sync, C: Wait + Drop + Send + Sync, R: Threads + Wait + Sync>(
+    rt: &R,
     alloc: Global,
+    committer: &Committer<J, C>,
+    board: &Board<J>,
     pass: &mut Pass<J>,
-    done: &[Done],
-    held: &Snapshot,
-    shown: &SoundAnswers,
-) -> Option<bool> {
-    let last = pass.snapshot().ok()?;
-    let found = answered_by(alloc, &last)?;
-    let again = answered_by(alloc, held)?;
-    let replayed = are_replayed(alloc, done, found.rows.as_slice())?;
-    let spoiled = finds_spoiled(alloc, &last, &query_of(alloc, EVERYTHING)?, found.answers)?;
-    Some(replayed && spoiled && are_numbered(done, pass.events()) && same_answers(&again, shown))
+    held: &Held,
+    before: Vec<Done>,
+    actors: Vec<Actor<J>>,
+) -> Option<usize> {
+    let done = act_at_once(rt, alloc, committer, board, before, actors)?;
+    board.tell(rt, pass);
+    if is_kept(alloc, pass, &done, held) {
+        Some(done.len())
+    } else {
+        None
+    }
+}
+
+/// The first event, of the first seat.
+fn begin<J: Naming, C: Wait + Drop>(
+    rt: &impl Wait,
+    alloc: Global,
+    committer: &Committer<J, C>,
+    board: &Board<J>,
+    seats: &mut Vec<Seat<J>>,
+) -> Option<Vec<Done>> {
+    change_often(rt, alloc, committer, board, seats.first_mut()?, 1)
 }
 
 /// How many events of a store are accepted, where all that is to hold does.
@@ -436,15 +606,12 @@ fn count_accepted<J: Naming + Send + Sync, C: Wait + Drop + Send + Sync, R: Thre
         receipts: Mutex::new(Vec::new(alloc)),
     };
     let mut pass = passes.pop()?;
-    let before = change_often(rt, alloc, committer, &board, seats.first_mut()?, 1)?;
+    let before = begin(rt, alloc, committer, &board, &mut seats)?;
     board.tell(rt, &mut pass);
-    let held = pass.snapshot().ok()?;
-    let shown = answered_by(alloc, &held)?;
-    let actors = actors_of(alloc, seats, passes)?;
-    let done = act_at_once(rt, alloc, committer, &board, before, actors)?;
-    board.tell(rt, &mut pass);
-    let kept = is_kept(alloc, &mut pass, &done, &held, &shown)?;
-    if kept { Some(done.len()) } else { None }
+    let (held, actors) = hold(alloc, &mut pass).zip(actors_of(alloc, seats, passes))?;
+    count_kept(
+        rt, alloc, committer, &board, &mut pass, &held, before, actors,
+    )
 }
 
 fn accepted_by<J: Naming + Send + Sync, R: Threads + Wait + Sync>(

@@ -25,18 +25,25 @@ fn merge_again(alloc: Global, answers: &[PartAnswer], rows: &[Row]) -> Audited {
     }
 }
 
+/// Whether these rows are those of the answer, and not those of none.
+fn are_merged(alloc: Global, answer: PartAnswer, rows: &[Row]) -> bool {
+    merge_again(alloc, &[answer], rows).is_ok()
+        && merge_again(alloc, &[], rows) == Err(Flaw::WrongMerge)
+}
+
+fn audit_again(alloc: Global, table: &Table, query: &Query, answer: &PartAnswer) -> Audited {
+    match audit(alloc, table, query, answer) {
+        Err(Flaw::Memory) => audit(alloc, table, query, answer),
+        told => told,
+    }
+}
+
 /// Whether a sound answer is valid and its part is hidden, in one range, and not in another.
 fn are_judged(alloc: Global, table: &Table, answer: &PartAnswer) -> Option<bool> {
-    let early = query(alloc, 0)?;
-    let late = query(alloc, 20)?;
-    let hidden = Err(Flaw::Hidden);
-    let audited = match audit(alloc, table, &early, answer) {
-        Err(Flaw::Memory) => audit(alloc, table, &early, answer),
-        told => told,
-    };
+    let (early, late) = query(alloc, 0).zip(query(alloc, 20))?;
     Some(
-        audited.is_ok()
-            && skip_again(alloc, table, &early) == hidden
+        audit_again(alloc, table, &early, answer).is_ok()
+            && skip_again(alloc, table, &early) == Err(Flaw::Hidden)
             && skip_again(alloc, table, &late).is_ok(),
     )
 }
@@ -45,15 +52,9 @@ fn are_judged(alloc: Global, table: &Table, answer: &PartAnswer) -> Option<bool>
 /// those of none; `None` where the part, the answer or a query are refused memory.
 fn is_told(alloc: Global) -> Option<bool> {
     let table = table_of_files(alloc, INDEX, CHUNKS, TOMBSTONES).ok()?;
-    let answers = [answer(alloc, &table, &SOUND)?];
-    let rows = rows_at(alloc, &table, FOUND)?;
-    let judged = are_judged(alloc, &table, &answers[0])?;
-    let wrong = Err(Flaw::WrongMerge);
-    Some(
-        judged
-            && merge_again(alloc, &answers, rows.as_slice()).is_ok()
-            && merge_again(alloc, &[], rows.as_slice()) == wrong,
-    )
+    let (answer, rows) = answer(alloc, &table, &SOUND).zip(rows_at(alloc, &table, FOUND))?;
+    let judged = are_judged(alloc, &table, &answer)?;
+    Some(judged && are_merged(alloc, answer, rows.as_slice()))
 }
 
 #[test]

@@ -3,7 +3,7 @@
 use crate::answers::query;
 use crate::worked_block::{CHUNKS, INDEX, TOMBSTONES, table_of_files};
 use auditor::{BlockTable, Reply, ReplyError, judge, lines_text};
-use std::alloc::Global;
+use std::alloc::{AllocError, Global};
 
 const BAD: &[&str] = &[
     "",
@@ -99,14 +99,20 @@ fn other_texts_are_bad_replies(rt: HostRuntime) {
 /// Of each block its refusal, or that it is the worked block.
 type Known = &'static [Option<&'static str>];
 
+fn table_of(alloc: Global, refusal: Option<&'static str>) -> Option<BlockTable> {
+    match refusal {
+        Some(code) => Some(BlockTable::Refused(code)),
+        None => {
+            let table = table_of_files(alloc, INDEX, CHUNKS, TOMBSTONES).ok()?;
+            Some(BlockTable::Walked(table))
+        }
+    }
+}
+
 fn tables_of(alloc: Global, known: Known) -> Option<Vec<BlockTable>> {
     let mut tables = Vec::new(alloc);
     for refusal in known {
-        let table = match refusal {
-            Some(code) => BlockTable::Refused(*code),
-            None => BlockTable::Walked(table_of_files(alloc, INDEX, CHUNKS, TOMBSTONES).ok()?),
-        };
-        tables.push(table).ok()?;
+        tables.push(table_of(alloc, *refusal)?).ok()?;
     }
     Some(tables)
 }
@@ -120,20 +126,38 @@ type Lined = (
     &'static str,
 );
 
-/// Whether a reply has these lines, or is a bad reply where this says so.
-fn is_lined(alloc: Global, lined: &Lined) -> Option<bool> {
-    let (known, begin, middle, end, lines) = *lined;
-    let tables = tables_of(alloc, known)?;
+/// The lines of a reply to `up{job="a"}` from 0.
+fn lines_of(alloc: Global, tables: &[BlockTable], reply: Reply) -> Option<String> {
     let query = query(alloc, 0)?;
-    let text = format!(in alloc; "{begin}{middle}{end}").ok()?;
-    let reply = match Reply::read(alloc, text.as_bytes()) {
-        Ok(reply) => reply,
-        Err(ReplyError::BadReply) => return Some(lines == "bad reply"),
-        Err(ReplyError::Memory) => return None,
+    let told = judge(alloc, tables, &query, reply).ok()?;
+    lines_text(alloc, told.as_slice()).ok()
+}
+
+fn is_judged(alloc: Global, known: Known, reply: Reply, lines: &str) -> bool {
+    let Some(tables) = tables_of(alloc, known) else {
+        return false;
     };
-    let told = judge(alloc, tables.as_slice(), &query, reply).ok()?;
-    let told = lines_text(alloc, told.as_slice()).ok()?;
-    Some(told.as_str() == lines)
+    match lines_of(alloc, tables.as_slice(), reply) {
+        Some(told) => told.as_str() == lines,
+        None => false,
+    }
+}
+
+fn text_of(alloc: Global, lined: &Lined) -> Result<String, AllocError> {
+    let (_, begin, middle, end, _) = *lined;
+    format!(in alloc; "{begin}{middle}{end}")
+}
+
+/// Whether a reply has these lines, or is a bad reply where this says so.
+fn is_lined(alloc: Global, lined: &Lined) -> bool {
+    let Ok(text) = text_of(alloc, lined) else {
+        return false;
+    };
+    match Reply::read(alloc, text.as_bytes()) {
+        Ok(reply) => is_judged(alloc, lined.0, reply, lined.4),
+        Err(ReplyError::BadReply) => lined.4 == "bad reply",
+        Err(ReplyError::Memory) => false,
+    }
 }
 
 /// The answer of an empty store to `up{job="a"}`.
@@ -366,11 +390,7 @@ fn each_part_has_its_line_and_the_member_and_the_value_listed_last_stand(rt: Hos
     assert!(rt; EMPTY.len() == 78);
     for rows in [LINED, MEMBERS, MERGES] {
         for lined in rows {
-            assert!(rt;
-                matches!(is_lined(rt.alloc(), lined), Some(true)),
-                "{}",
-                lined.4
-            );
+            assert!(rt; is_lined(rt.alloc(), lined), "{}", lined.4);
         }
     }
 }

@@ -3,7 +3,7 @@
 use crate::host::Blocks;
 use crate::replies::{BEGIN, BLOCK, EMPTY, SKIPPED, UNSEPARATED};
 use audit_command::{Ending, run};
-use std::alloc::Global;
+use std::alloc::{AllocError, Global};
 use std::str;
 
 /// The text of a reply, in pieces.
@@ -247,13 +247,21 @@ struct Told {
     err: Vec<u8>,
 }
 
-fn told_by(alloc: Global, words: Words, reply: Text) -> Option<Told> {
+fn given_of(alloc: Global, words: Words) -> Result<Vec<String>, AllocError> {
     let mut given = Vec::new(alloc);
     for word in words {
-        given.push(String::from_str(alloc, word).ok()?).ok()?;
+        given.push(String::from_str(alloc, word)?)?;
     }
+    Ok(given)
+}
+
+fn text_of(alloc: Global, reply: Text) -> Result<String, AllocError> {
     let [begin, middle, end] = reply;
-    let text = format!(in alloc; "{begin}{middle}{end}").ok()?;
+    format!(in alloc; "{begin}{middle}{end}")
+}
+
+fn told_by(alloc: Global, words: Words, reply: Text) -> Option<Told> {
+    let (given, text) = given_of(alloc, words).ok().zip(text_of(alloc, reply).ok())?;
     let mut input = text.as_bytes();
     let mut out = Vec::new(alloc);
     let mut err = Vec::new(alloc);
@@ -342,21 +350,20 @@ fn is_refusal(told: &Told) -> bool {
     }
 }
 
-/// Whether a run says these lines, if not at first, where memory is refused, then when it is made
-/// again.
-fn is_run_again(alloc: Global) -> bool {
-    let first = told_by(alloc, ASKED, REPLY);
-    if let Some(told) = &first {
-        if told.ending.status == 0 {
-            return told.out.as_slice() == LINES;
-        }
-        if !is_refusal(told) {
-            return false;
-        }
-    }
+fn is_run(alloc: Global) -> bool {
     match told_by(alloc, ASKED, REPLY) {
         Some(told) => told.ending.status == 0 && told.out.as_slice() == LINES,
         None => false,
+    }
+}
+
+/// Whether a run says these lines, if not at first, where memory is refused, then when it is made
+/// again.
+fn is_run_again(alloc: Global) -> bool {
+    match told_by(alloc, ASKED, REPLY) {
+        Some(told) if told.ending.status == 0 => told.out.as_slice() == LINES,
+        Some(told) if !is_refusal(&told) => false,
+        _ => is_run(alloc),
     }
 }
 

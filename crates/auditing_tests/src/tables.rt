@@ -36,6 +36,34 @@ fn table_of(alloc: Global, snapshot: &Snapshot, part: PartName) -> Option<Table>
     }
 }
 
+/// 1 where a row that is left out of an answer is found, and 0 where the answer has no row; nothing
+/// where it is not found.
+fn count_spoiled(
+    alloc: Global,
+    snapshot: &Snapshot,
+    query: &Query,
+    mut answer: PartAnswer,
+) -> Option<u64> {
+    if answer.rows.pop().is_none() {
+        return Some(0);
+    }
+    let table = table_of(alloc, snapshot, answer.part)?;
+    match audit(alloc, &table, query, &answer) {
+        Err(Flaw::WrongRows) => Some(1),
+        _ => None,
+    }
+}
+
+fn audit_part(
+    alloc: Global,
+    snapshot: &Snapshot,
+    query: &Query,
+    answer: &PartAnswer,
+) -> Option<()> {
+    let table = table_of(alloc, snapshot, answer.part)?;
+    audit(alloc, &table, query, answer).ok()
+}
+
 /// Audits each of these answers; nothing where one has a flaw.
 pub fn audit_parts(
     alloc: Global,
@@ -44,8 +72,7 @@ pub fn audit_parts(
     answers: &[PartAnswer],
 ) -> Option<()> {
     for answer in answers {
-        let table = table_of(alloc, snapshot, answer.part)?;
-        audit(alloc, &table, query, answer).ok()?;
+        audit_part(alloc, snapshot, query, answer)?;
     }
     Some(())
 }
@@ -59,14 +86,8 @@ pub fn finds_spoiled(
     answers: Vec<PartAnswer>,
 ) -> Option<bool> {
     let mut found = 0u64;
-    for mut answer in answers {
-        let table = table_of(alloc, snapshot, answer.part)?;
-        if answer.rows.pop().is_some() {
-            match audit(alloc, &table, query, &answer) {
-                Err(Flaw::WrongRows) => found = found.saturating_add(1),
-                _ => return Some(false),
-            }
-        }
+    for answer in answers {
+        found = found.saturating_add(count_spoiled(alloc, snapshot, query, answer)?);
     }
     Some(found > 0)
 }

@@ -2,7 +2,7 @@
 //! spell.
 
 use auditor::{Table, WalkError};
-use labels::Sample;
+use labels::{LabelSet, Row, Sample, SeriesRef};
 use std::alloc::Global;
 
 /// The index.
@@ -71,20 +71,24 @@ pub fn table_of_files(
     Table::walk(alloc, index, copy, tombstones)
 }
 
+fn are_labels(labels: &LabelSet, name: &str, job: &str, zone: &str) -> bool {
+    labels.value("__name__") == name && labels.value("job") == job && labels.value("zone") == zone
+}
+
+fn is_series(one: &(SeriesRef, Row), want: &(u32, &str, &str, &str, i64)) -> bool {
+    let (reference, row) = one;
+    reference.number() == want.0
+        && are_labels(row.labels(), want.1, want.2, want.3)
+        && row.samples() == [Sample::new(10, want.4)].as_slice()
+}
+
 fn is_worked(table: &Table) -> bool {
     let series = table.series();
     if series.len() != SERIES.len() {
         return false;
     }
-    for (at, (number, name, job, zone, value)) in SERIES.iter().enumerate() {
-        let (reference, row) = &series[at];
-        let labels = row.labels();
-        if reference.number() != *number
-            || labels.value("__name__") != *name
-            || labels.value("job") != *job
-            || labels.value("zone") != *zone
-            || row.samples() != [Sample::new(10, *value)].as_slice()
-        {
+    for (one, want) in series.iter().zip(&SERIES) {
+        if !is_series(one, want) {
             return false;
         }
     }

@@ -1,19 +1,10 @@
 //! The example of the first page of `commands`.
 
-use commands::run::run;
-use std::alloc::AllocError;
+use crate::rows::is_given;
 
 #[test]
-fn the_example_of_the_first_page_of_commands(rt: HostRuntime) -> Result<(), AllocError> {
-    let alloc = rt.alloc();
-    let words = [
-        String::from_str(alloc, "select")?,
-        String::from_str(alloc, "{}")?,
-    ];
-    let mut out: Vec<u8> = Vec::new(alloc);
-    let mut err: Vec<u8> = Vec::new(alloc);
-    let ending = run(&rt, alloc, &rt, &words, &mut out, &mut err, false);
-    assert_eq!(rt; (ending.status, out.len()), (1, 0));
-    assert_eq!(rt; err.as_slice(), b"refused M6\n".as_slice());
-    Ok(())
+fn the_example_of_the_first_page_of_commands(rt: HostRuntime) {
+    let words = ["select", "{}"];
+    let row = (words.as_slice(), 1, "", "refused M6\n");
+    assert!(rt; is_given(&rt, rt.alloc(), &rt, &row));
 }

@@ -45,16 +45,12 @@ fn after_again(alloc: Global, at: &Snapshot, batch: &Batch) -> Option<Snapshot> 
     }
 }
 
-/// An empty store after these batches.
-fn store_of(alloc: Global, batches: &[Batch]) -> Option<Snapshot> {
-    let mut store = match Snapshot::opening(alloc, Vec::new(alloc)) {
-        Err(_) => Snapshot::opening(alloc, Vec::new(alloc)).ok()?,
-        Ok(store) => store,
-    };
-    for batch in batches {
-        store = after_again(alloc, &store, batch)?;
+/// An empty store.
+fn empty_again(alloc: Global) -> Option<Snapshot> {
+    match Snapshot::opening(alloc, Vec::new(alloc)) {
+        Err(_) => Snapshot::opening(alloc, Vec::new(alloc)).ok(),
+        Ok(store) => Some(store),
     }
-    Some(store)
 }
 
 /// The text of the answer of a store to `up{job="a"}` in a closed range of times.
@@ -79,14 +75,16 @@ fn tells(alloc: Global, store: &Snapshot, from: i64, to: i64, text: &str) -> boo
 /// Whether a store before the batches of the demo, after the first and after both answers as each
 /// of them should, once all three are there.
 fn answers_again(alloc: Global) -> Option<bool> {
-    let empty = store_of(alloc, &[])?;
+    let empty = empty_again(alloc)?;
     let one = after_again(alloc, &empty, &Batch::First)?;
     let two = after_again(alloc, &one, &Batch::Second)?;
-    Some(
-        tells(alloc, &empty, 0, 100, NOTHING)
-            && tells(alloc, &one, 0, 100, FIRST_ALONE)
-            && tells(alloc, &two, 0, 100, DEMO.trim_end()),
-    )
+    Some(tell(alloc, &empty, &one, &two))
+}
+
+fn tell(alloc: Global, empty: &Snapshot, one: &Snapshot, two: &Snapshot) -> bool {
+    tells(alloc, empty, 0, 100, NOTHING)
+        && tells(alloc, one, 0, 100, FIRST_ALONE)
+        && tells(alloc, two, 0, 100, DEMO.trim_end())
 }
 
 /// `tests/allocations` runs this test with each of its allocations refused in turn.
@@ -149,22 +147,43 @@ fn the_line_of_each_fault_has_its_cause_or_the_path_that_cannot_be_read(rt: Host
     assert!(rt; is_told(rt.alloc(), &fault, "cannot read a/index\n"));
 }
 
-#[test]
-fn a_writer_that_refuses_is_told_and_a_fault_that_cannot_be_told_keeps_its_status(rt: HostRuntime) {
+/// Whether a run whose first writer has no room says so.
+fn is_unwritten<
+    Q: Wait + Threads + Net<Listener = TcpListener, Stream = TcpStream> + Clock + Eprint + Sync,
+>(rt: &Q, alloc: Global) -> bool {
     let mut room = [0u8; 100];
     let mut out = room.as_mut_slice();
-    let mut err = Vec::new(rt.alloc());
-    let ending = ending_of(&rt, rt.alloc(), &DIRECTORIES, &["demo"], &mut out, &mut err);
-    assert!(rt; ending.expect(&rt, "there is memory").status == 3);
-    assert!(rt; err.as_slice() == b"cannot write\n".as_slice());
-    let mut out = Vec::new(rt.alloc());
+    let mut err = Vec::new(alloc);
+    match ending_of(rt, alloc, &DIRECTORIES, &["demo"], &mut out, &mut err) {
+        Some(ending) => ending.status == 3 && err.as_slice() == b"cannot write\n".as_slice(),
+        None => false,
+    }
+}
+
+/// Whether a run whose fault cannot be told keeps its status.
+fn is_untold<
+    Q: Wait + Threads + Net<Listener = TcpListener, Stream = TcpStream> + Clock + Eprint + Sync,
+>(rt: &Q, alloc: Global) -> bool {
+    let mut out = Vec::new(alloc);
     let mut room = [0u8; 5];
     let mut err = room.as_mut_slice();
-    let words = &["select", "{}"];
-    let ending = ending_of(&rt, rt.alloc(), &DIRECTORIES, words, &mut out, &mut err);
-    let ending = ending.expect(&rt, "there is memory");
-    assert!(rt; ending.status == 1 && ending.told.is_err());
-    assert!(rt; out.is_empty());
+    match ending_of(
+        rt,
+        alloc,
+        &DIRECTORIES,
+        &["select", "{}"],
+        &mut out,
+        &mut err,
+    ) {
+        Some(ending) => ending.status == 1 && ending.told.is_err() && out.is_empty(),
+        None => false,
+    }
+}
+
+#[test]
+fn a_writer_that_refuses_is_told_and_a_fault_that_cannot_be_told_keeps_its_status(rt: HostRuntime) {
+    assert!(rt; is_unwritten(&rt, rt.alloc()));
+    assert!(rt; is_untold(&rt, rt.alloc()));
 }
 
 /// The line of the answer to `up` over the blocks `a` and `b`.

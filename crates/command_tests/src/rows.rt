@@ -2,7 +2,7 @@
 
 use commands::ReadFiles;
 use commands::run::{Ending, run};
-use std::alloc::Global;
+use std::alloc::{AllocError, Global};
 use std::io::Write;
 use std::net::{Net, TcpListener, TcpStream};
 use std::sync::Wait;
@@ -12,6 +12,14 @@ use std::time::Clock;
 /// Words, the exit status, and what goes to the first and to the second writer.
 pub type Row<'a> = (&'a [&'a str], u8, &'a str, &'a str);
 
+fn given_of(alloc: Global, words: &[&str]) -> Result<Vec<String>, AllocError> {
+    let mut given = Vec::new(alloc);
+    for word in words {
+        given.push(String::from_str(alloc, word)?)?;
+    }
+    Ok(given)
+}
+
 /// How a run ends, which writes to these writers.
 pub fn ending_of<
     Q: Wait + Threads + Net<Listener = TcpListener, Stream = TcpStream> + Clock + Eprint + Sync,
@@ -19,10 +27,7 @@ pub fn ending_of<
     W: Write,
     E: Write,
 >(rt: &Q, alloc: Global, files: &F, words: &[&str], out: &mut W, err: &mut E) -> Option<Ending> {
-    let mut given = Vec::new(alloc);
-    for word in words {
-        given.push(String::from_str(alloc, word).ok()?).ok()?;
-    }
+    let given = given_of(alloc, words).ok()?;
     Some(run(rt, alloc, files, given.as_slice(), out, err, false))
 }
 

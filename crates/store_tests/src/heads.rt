@@ -78,15 +78,16 @@ const SEALED: &[(i64, u64, &str)] = &[
     (241, 1, " 240:240 241:7"),
 ];
 
+/// Whether the commit to a series of so many samples copied so many, and the series ends so.
+fn has_copied(alloc: Global, head: &HeadView, row: &(i64, u64, &str)) -> bool {
+    let range = (row.0.saturating_sub(1), row.0);
+    head.copied() == row.1 && is_text(samples_in(alloc, head, 1, range), row.2)
+}
+
 fn is_sealed(alloc: Global, row: &(i64, u64, &str)) -> Option<bool> {
     let snapshot = with_samples(alloc, row.0)?;
     let next = after(alloc, &snapshot, &[(1, row.0, 7)]).ok()?;
-    let last = samples_in(alloc, next.head(), 1, (row.0.saturating_sub(1), row.0)).ok()?;
-    Some(
-        counts_up(alloc, &snapshot, row.0)
-            && next.head().copied() == row.1
-            && last.as_str() == row.2,
-    )
+    Some(counts_up(alloc, &snapshot, row.0) && has_copied(alloc, next.head(), row))
 }
 
 #[test]
@@ -103,13 +104,18 @@ fn of_two_thousand(alloc: Global) -> Option<Snapshot> {
     after(alloc, &one, &samples).ok()
 }
 
-/// How many samples a series has at the times from 0 to 3,000.
-fn count_of(alloc: Global, snapshot: &Snapshot, number: u32) -> Option<usize> {
+/// Whether a series has so many samples at the times from 0 to 3,000.
+fn has(alloc: Global, snapshot: &Snapshot, number: u32, count: usize) -> bool {
     let series = SeriesRef::new(number);
     match snapshot.head().samples_of(alloc, series, 0, 3_000) {
-        Ok(found) => Some(found.len()),
-        Err(_) => None,
+        Ok(found) => found.len() == count,
+        Err(_) => false,
     }
+}
+
+/// Whether the two series have so many samples.
+fn have(alloc: Global, snapshot: &Snapshot, one: usize, two: usize) -> bool {
+    has(alloc, snapshot, 1, one) && has(alloc, snapshot, 2, two)
 }
 
 /// Batches to two series of 1,000 samples, each with two open chunks of 40, and how many samples
@@ -125,15 +131,15 @@ const TO_BOTH: &[(&[Wanted], u64, usize, usize)] = &[
     (&[(2, 2_000, 1)], 40, 1_000, 1_001),
 ];
 
-fn copies(alloc: Global, before: &Snapshot, row: &(&[Wanted], u64, usize, usize)) -> Option<bool> {
-    let next = after(alloc, before, row.0).ok()?;
-    Some(
-        next.head().copied() == row.1
-            && count_of(alloc, &next, 1)? == row.2
-            && count_of(alloc, &next, 2)? == row.3
-            && count_of(alloc, before, 1)? == 1_000
-            && count_of(alloc, before, 2)? == 1_000,
-    )
+fn copies(alloc: Global, before: &Snapshot, row: &(&[Wanted], u64, usize, usize)) -> bool {
+    match after(alloc, before, row.0) {
+        Ok(next) => {
+            next.head().copied() == row.1
+                && have(alloc, &next, row.2, row.3)
+                && have(alloc, before, 1_000, 1_000)
+        }
+        Err(_) => false,
+    }
 }
 
 #[test]
@@ -142,7 +148,7 @@ fn a_commit_copies_the_open_chunks_of_its_series_alone(rt: HostRuntime) {
     let two = of_two_thousand(alloc).expect(&rt, "both batches are accepted");
     assert_eq!(rt; two.head().copied(), 0);
     for row in TO_BOTH {
-        assert!(rt; copies(alloc, &two, row) == Some(true), "{}", row.1);
+        assert!(rt; copies(alloc, &two, row), "{}", row.1);
     }
 }
 
@@ -153,12 +159,15 @@ fn has_head_alone(alloc: Global, snapshot: &Snapshot) -> bool {
     }
 }
 
+fn is_empty(head: &HeadView) -> bool {
+    head.copied() == 0 && head.labels_of(SeriesRef::new(1)).is_none()
+}
+
 #[test]
 fn an_opening_has_an_empty_head(rt: HostRuntime) {
     let alloc = rt.alloc();
     let snapshot = empty(alloc).ok().expect(&rt, "it opens");
     assert!(rt; has_head_alone(alloc, &snapshot));
     assert!(rt; snapshot.block(0).is_none());
-    assert_eq!(rt; snapshot.head().copied(), 0);
-    assert!(rt; snapshot.head().labels_of(SeriesRef::new(1)).is_none());
+    assert!(rt; is_empty(snapshot.head()));
 }

@@ -21,6 +21,16 @@ enum Act {
     Ask,
 }
 
+fn addition(alloc: Global, actor: usize, number: usize, sample: Sample) -> Option<Step> {
+    let labels = set_of(alloc, number)?;
+    Some(Step::append(actor, labels, sample))
+}
+
+fn question(alloc: Global, actor: usize) -> Option<Step> {
+    let query = Query::new(job_a(alloc)?, 0, 100).ok()?;
+    Some(Step::query(actor, query))
+}
+
 fn deletion(alloc: Global, actor: usize, from: i64, to: i64) -> Option<Step> {
     let matchers = job_a(alloc)?;
     if !Event::is_deletion(&matchers, from, to) {
@@ -38,17 +48,11 @@ fn cut(actor: usize, at: i64) -> Option<Step> {
 
 fn step_of(alloc: Global, actor: usize, act: Act) -> Option<Step> {
     match act {
-        Act::Add(number, t, v) => {
-            let labels = set_of(alloc, number)?;
-            Some(Step::append(actor, labels, Sample::new(t, v)))
-        }
+        Act::Add(number, t, v) => addition(alloc, actor, number, Sample::new(t, v)),
         Act::Commit => Some(Step::commit(actor)),
         Act::Delete(from, to) => deletion(alloc, actor, from, to),
         Act::Cut(at) => cut(actor, at),
-        Act::Ask => {
-            let query = Query::new(job_a(alloc)?, 0, 100).ok()?;
-            Some(Step::query(actor, query))
-        }
+        Act::Ask => question(alloc, actor),
     }
 }
 
@@ -97,14 +101,24 @@ fn replies_to(alloc: Global, steps: &[Step]) -> Option<Vec<Reply>> {
     run(alloc, &opening, steps).ok()
 }
 
-/// The replies to the later of these steps in an empty store, each on a line.
-fn told_after(alloc: Global, before: &[(usize, Act)], acts: &[(usize, Act)]) -> Option<String> {
+fn steps_of(alloc: Global, before: &[(usize, Act)], acts: &[(usize, Act)]) -> Option<Vec<Step>> {
     let mut steps = Vec::new(alloc);
     push_steps(alloc, &mut steps, before)?;
     push_steps(alloc, &mut steps, acts)?;
-    let replies = replies_to(alloc, steps.as_slice())?;
-    let (_, later) = replies.as_slice().split_at(before.len().min(replies.len()));
-    text_of(alloc, later).ok()
+    Some(steps)
+}
+
+/// The text of the replies after so many.
+fn text_after(alloc: Global, replies: &[Reply], count: usize) -> Result<String, AllocError> {
+    let (_, later) = replies.split_at(count.min(replies.len()));
+    text_of(alloc, later)
+}
+
+/// The replies to the later of these steps in an empty store, each on a line.
+fn told_after(alloc: Global, before: &[(usize, Act)], acts: &[(usize, Act)]) -> Option<String> {
+    let steps = steps_of(alloc, before, acts)?;
+    let replies = replies_to(alloc, &steps)?;
+    text_after(alloc, &replies, before.len()).ok()
 }
 
 fn are_replied_to(alloc: Global, row: &Steps) -> bool {
@@ -131,15 +145,15 @@ fn many(alloc: Global, count: i64) -> Option<Vec<Step>> {
     Some(steps)
 }
 
+fn replies_to_many(alloc: Global, count: i64) -> Option<Vec<Reply>> {
+    let steps = many(alloc, count)?;
+    replies_to(alloc, &steps)
+}
+
 #[test]
 fn a_buffer_holds_4096_samples(rt: HostRuntime) {
-    let steps = many(rt.alloc(), 4_097).expect(&rt, "there is memory");
-    let replies = replies_to(rt.alloc(), steps.as_slice()).expect(&rt, "there is memory");
+    let replies = replies_to_many(rt.alloc(), 4_097).expect(&rt, "there is memory");
     assert!(rt; matches!(replies.get(4_095), Some(Reply::Done)));
-    assert!(rt;
-        matches!(
-            replies.get(4_096),
-            Some(Reply::NotAppended(AppendError::Full))
-        )
-    );
+    let full = replies.get(4_096);
+    assert!(rt; matches!(full, Some(Reply::NotAppended(AppendError::Full))));
 }

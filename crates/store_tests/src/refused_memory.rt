@@ -5,10 +5,10 @@
 ghost use Rattle.std.specs.Prelude.{◌≡◌, []};
 ghost use Rattle.head.specs.Blocks.{opening_of};
 
-use crate::rows::{Wanted, job_a, put_labels, put_samples, samples_of, set_of};
+use crate::rows::{Wanted, appender_of, job_a, put_labels, put_samples, samples_of};
 use block::Block;
-use head::{CommitError, Event, Snapshot};
-use labels::{Row, Sample, is_time};
+use head::{CommitError, Event, HeadView, Snapshot};
+use labels::{LabelSet, Row, Sample, SeriesRef, is_time};
 use matchers::{Matcher, Op};
 use snapshots::{Appender, Committer, Naming, Pass, Seat, Store};
 use std::alloc::{AllocError, Global};
@@ -91,19 +91,33 @@ enum Asked {
 
 /// A committer of an empty store, a pass and a seat.
 #[derive(Drop)]
-struct OneStore<J: Naming, R: Wait + Drop> {
-    committer: Committer<J, R>,
-    pass: Pass<J>,
-    seat: Seat<J>,
+pub struct OneStore<J: Naming, R: Wait + Drop> {
+    pub committer: Committer<J, R>,
+    pub pass: Pass<J>,
+    pub seat: Seat<J>,
 }
 
-fn appender_of(alloc: Global, wanted: &[Wanted]) -> Option<Appender> {
-    let mut appender = Appender::new(alloc);
-    for (number, t, v) in wanted {
-        let labels = set_of(alloc, *number)?;
-        appender.append(labels, Sample::new(*t, *v)).ok()?;
-    }
-    Some(appender)
+/// The last of a list.
+fn last<T: Drop>(mut list: Vec<T>) -> Option<T> {
+    list.pop()
+}
+
+pub fn open_one<J: Naming, R: Wait + Drop>(
+    rt: R,
+    alloc: Global,
+    store: Store,
+) -> Option<OneStore<J, R>>
+    requires book { store.seen.book ≡ J.book }
+    requires opening { opening_of [] ≡ J.opening }
+{
+    let opened = store.open::<J, R>(rt, alloc, Vec::new(alloc), 1, 1);
+    let (committer, passes, seats) = opened.ok()?;
+    let (pass, seat) = last(passes).zip(last(seats))?;
+    Some(OneStore {
+        committer,
+        pass,
+        seat,
+    })
 }
 
 fn asked_of(alloc: Global, step: Step) -> Option<Asked> {
@@ -122,17 +136,29 @@ fn asked_again(alloc: Global, step: Step) -> Option<Asked> {
     }
 }
 
+fn are_samples(alloc: Global, samples: &[(LabelSet, Sample)], wanted: &[Wanted]) -> bool {
+    match samples_of(alloc, wanted) {
+        Some(made) => samples == made.as_slice(),
+        None => false,
+    }
+}
+
+fn gathered(alloc: Global, samples: Vec<(LabelSet, Sample)>) -> Option<Appender> {
+    let mut appender = Appender::new(alloc);
+    for (labels, sample) in samples {
+        appender.append(labels, sample).ok()?;
+    }
+    Some(appender)
+}
+
 /// A batch that came back, gathered again; nothing where it is another.
 fn same_batch(alloc: Global, appender: Appender, wanted: &[Wanted]) -> Option<Asked> {
     let samples = appender.into_event().into_batch()?;
-    if samples.as_slice() != samples_of(alloc, wanted)?.as_slice() {
-        return None;
+    if are_samples(alloc, &samples, wanted) {
+        Some(Asked::Commit(gathered(alloc, samples)?))
+    } else {
+        None
     }
-    let mut again = Appender::new(alloc);
-    for (labels, sample) in samples {
-        again.append(labels, sample).ok()?;
-    }
-    Some(Asked::Commit(again))
 }
 
 /// Whether these are the one matcher of job `a`.
@@ -143,19 +169,42 @@ fn are_job_a(matchers: &[Matcher]) -> bool {
     }
 }
 
+/// Whether this is the deletion of a step.
+fn is_deletion(step: Step, matchers: &[Matcher], from: i64, to: i64) -> bool {
+    match step {
+        Step::Delete(first, last) => are_job_a(matchers) && from == first && to == last,
+        _ => false,
+    }
+}
+
+fn same_deletion(matchers: Vec<Matcher>, from: i64, to: i64, step: Step) -> Option<Asked> {
+    if is_deletion(step, &matchers, from, to) {
+        Some(Asked::Delete(matchers, from, to))
+    } else {
+        None
+    }
+}
+
+fn same_cut(at: i64, step: Step) -> Option<Asked> {
+    match step {
+        Step::Cut(time) if time == at => Some(Asked::Cut(at)),
+        _ => None,
+    }
+}
+
+fn same_commit(alloc: Global, appender: Appender, step: Step) -> Option<Asked> {
+    match step {
+        Step::Commit(wanted) => same_batch(alloc, appender, wanted),
+        _ => None,
+    }
+}
+
 /// What came back of a step, to be asked again; nothing where it is another thing.
 fn same(alloc: Global, asked: Asked, step: Step) -> Option<Asked> {
-    let is_whole = match (&asked, step) {
-        (Asked::Delete(matchers, from, to), Step::Delete(first, last)) => {
-            are_job_a(matchers.as_slice()) && *from == first && *to == last
-        }
-        (Asked::Cut(at), Step::Cut(time)) => *at == time,
-        _ => false,
-    };
-    match (asked, step) {
-        (Asked::Commit(appender), Step::Commit(wanted)) => same_batch(alloc, appender, wanted),
-        (asked, _) if is_whole => Some(asked),
-        _ => None,
+    match asked {
+        Asked::Commit(appender) => same_commit(alloc, appender, step),
+        Asked::Delete(matchers, from, to) => same_deletion(matchers, from, to, step),
+        Asked::Cut(at) => same_cut(at, step),
     }
 }
 
@@ -223,23 +272,36 @@ fn put_row(text: &mut String, row: &Row) -> Result<(), AllocError> {
     text.push('\n')
 }
 
+fn put_rows(text: &mut String, rows: &[(SeriesRef, Row)]) -> Result<(), AllocError> {
+    for (_, row) in rows {
+        put_row(text, row)?;
+    }
+    Ok(())
+}
+
 fn put_block(alloc: Global, text: &mut String, block: &Block) -> Result<(), AllocError> {
     text.push_str("block\n")?;
-    for (_, row) in &block.list_all(alloc)? {
-        put_row(text, row)?;
+    let rows = block.list_all(alloc)?;
+    put_rows(text, &rows)
+}
+
+fn put_head(alloc: Global, text: &mut String, head: &HeadView) -> Result<(), AllocError> {
+    text.push_str("head\n")?;
+    let rows = head.list_all(alloc)?;
+    put_rows(text, &rows)
+}
+
+fn put_blocks(alloc: Global, text: &mut String, snapshot: &Snapshot) -> Result<(), AllocError> {
+    for block in snapshot.blocks() {
+        put_block(alloc, text, block)?;
     }
     Ok(())
 }
 
 fn parts_of(alloc: Global, snapshot: &Snapshot) -> Result<String, AllocError> {
     let mut text = String::new(alloc);
-    for block in snapshot.blocks() {
-        put_block(alloc, &mut text, block)?;
-    }
-    text.push_str("head\n")?;
-    for (_, row) in &snapshot.head().list_all(alloc)? {
-        put_row(&mut text, row)?;
-    }
+    put_blocks(alloc, &mut text, snapshot)?;
+    put_head(alloc, &mut text, snapshot.head())?;
     Ok(text)
 }
 
@@ -316,6 +378,23 @@ fn number_of(made: Result<u64, (Asked, CommitError)>) -> Result<u64, CommitError
     }
 }
 
+/// Whether a step is made, and the store then shows what it should.
+fn is_step<J: Naming, R: Wait + Drop>(
+    rt: &impl Wait,
+    alloc: Global,
+    store: &mut OneStore<J, R>,
+    step: Step,
+    shown: (&str, &str),
+) -> bool {
+    match asked_again(alloc, step) {
+        Some(asked) => {
+            is_made(rt, alloc, store, (asked, step), shown.0)
+                && shows(alloc, &mut store.pass, shown.1)
+        }
+        None => false,
+    }
+}
+
 /// How many steps are made, up to the first after which the store shows another thing than it
 /// should.
 fn count_made<J: Naming, R: Wait + Drop>(
@@ -326,12 +405,7 @@ fn count_made<J: Naming, R: Wait + Drop>(
     let mut count = 0usize;
     let mut before = EMPTY;
     for (step, after) in STEPS {
-        let Some(asked) = asked_again(alloc, *step) else {
-            return count;
-        };
-        if !is_made(rt, alloc, store, (asked, *step), before)
-            || !shows(alloc, &mut store.pass, after)
-        {
+        if !is_step(rt, alloc, store, *step, (before, *after)) {
             return count;
         }
         before = *after;
@@ -345,14 +419,7 @@ fn count_in<J: Naming, R: Wait>(rt: &R, alloc: Global, store: Store) -> Option<u
     requires book { store.seen.book ≡ J.book }
     requires opening { opening_of [] ≡ J.opening }
 {
-    let opened = store.open::<J, &R>(rt, alloc, Vec::new(alloc), 1, 1);
-    let (committer, mut passes, mut seats) = opened.ok()?;
-    let (pass, seat) = passes.pop().zip(seats.pop())?;
-    let mut store = OneStore {
-        committer,
-        pass,
-        seat,
-    };
+    let mut store = open_one::<J, &R>(rt, alloc, store)?;
     Some(count_made(rt, alloc, &mut store))
 }
 

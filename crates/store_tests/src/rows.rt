@@ -3,6 +3,7 @@
 use head::{CommitError, Event, HeadView, Snapshot, apply};
 use labels::{LabelSet, Row, Sample, SeriesRef};
 use matchers::{Matcher, Op};
+use snapshots::Appender;
 use std::alloc::{AllocError, Global};
 
 /// The pairs of a label set.
@@ -59,22 +60,45 @@ fn pair_of(alloc: Global, pair: &(&str, &str)) -> Result<(String, String), Alloc
     Ok((name, String::from_str(alloc, pair.1)?))
 }
 
+fn pairs_of(alloc: Global, set: &[(&str, &str)]) -> Result<Vec<(String, String)>, AllocError> {
+    let mut pairs = Vec::new(alloc);
+    for pair in set {
+        pairs.push(pair_of(alloc, pair)?)?;
+    }
+    Ok(pairs)
+}
+
 /// The label set with this number, from 1.
 pub fn set_of(alloc: Global, number: usize) -> Option<LabelSet> {
-    let mut pairs = Vec::new(alloc);
-    for pair in *SETS.get(number.saturating_sub(1))? {
-        pairs.push(pair_of(alloc, pair).ok()?).ok()?;
-    }
-    LabelSet::new(alloc, pairs).ok()
+    let set = SETS.get(number.saturating_sub(1))?;
+    LabelSet::new(alloc, pairs_of(alloc, set).ok()?).ok()
+}
+
+fn sample_of(alloc: Global, wanted: &Wanted) -> Option<(LabelSet, Sample)> {
+    let set = set_of(alloc, wanted.0)?;
+    Some((set, Sample::new(wanted.1, wanted.2)))
 }
 
 pub fn samples_of(alloc: Global, wanted: &[Wanted]) -> Option<Vec<(LabelSet, Sample)>> {
     let mut samples = Vec::new(alloc);
-    for (number, t, v) in wanted {
-        let sample = (set_of(alloc, *number)?, Sample::new(*t, *v));
-        samples.push(sample).ok()?;
+    for one in wanted {
+        samples.push(sample_of(alloc, one)?).ok()?;
     }
     Some(samples)
+}
+
+fn append_one(alloc: Global, appender: &mut Appender, wanted: &Wanted) -> Option<()> {
+    let set = set_of(alloc, wanted.0)?;
+    appender.append(set, Sample::new(wanted.1, wanted.2)).ok()
+}
+
+/// An appender of these samples.
+pub fn appender_of(alloc: Global, wanted: &[Wanted]) -> Option<Appender> {
+    let mut appender = Appender::new(alloc);
+    for one in wanted {
+        append_one(alloc, &mut appender, one)?;
+    }
+    Some(appender)
 }
 
 /// A batch of these samples, where they are one.
@@ -172,12 +196,18 @@ fn put_row(text: &mut String, number: u32, row: &Row) -> Result<(), AllocError> 
     text.push('\n')
 }
 
+fn put_rows(text: &mut String, rows: &[(SeriesRef, Row)]) -> Result<(), AllocError> {
+    for (reference, row) in rows {
+        put_row(text, reference.number(), row)?;
+    }
+    Ok(())
+}
+
 /// A line for each series of the head: its number, its label set, and its samples with their times.
 pub fn shown(alloc: Global, snapshot: &Snapshot) -> Result<String, AllocError> {
+    let rows = snapshot.head().list_all(alloc)?;
     let mut text = String::new(alloc);
-    for (reference, row) in &snapshot.head().list_all(alloc)? {
-        put_row(&mut text, reference.number(), row)?;
-    }
+    put_rows(&mut text, &rows)?;
     Ok(text)
 }
 

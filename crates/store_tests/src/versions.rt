@@ -6,7 +6,7 @@ ghost use Rattle.head.specs.Blocks.{opening_of};
 mod passes;
 mod threads;
 
-use crate::rows::{AFTER_BOTH, AFTER_FIRST, FIRST, SECOND, Wanted, is_text, set_of, shown};
+use crate::rows::{AFTER_BOTH, AFTER_FIRST, FIRST, SECOND, appender_of, is_text, set_of, shown};
 use head::AppendError;
 use labels::{LabelSet, MAX_TIME, MIN_TIME, Sample};
 use snapshots::{
@@ -15,7 +15,6 @@ use snapshots::{
 use std::alloc::Global;
 use std::fmt::Display;
 use std::marker::Brand;
-use std::process::Abort;
 use std::sync::Wait;
 
 /// A committer of an empty store, two passes and two seats.
@@ -24,16 +23,6 @@ struct EmptyStore<J: Naming, R: Wait + Drop> {
     committer: Committer<J, R>,
     passes: (Pass<J>, Pass<J>),
     seats: (Seat<J>, Seat<J>),
-}
-
-/// An appender of these samples.
-fn appender_of(alloc: Global, wanted: &[Wanted]) -> Option<Appender> {
-    let mut appender = Appender::new(alloc);
-    for (number, t, v) in wanted {
-        let labels = set_of(alloc, *number)?;
-        appender.append(labels, Sample::new(*t, *v)).ok()?;
-    }
-    Some(appender)
 }
 
 /// The two last of a list, in their order.
@@ -61,74 +50,12 @@ fn open_empty<J: Naming, R: Wait + Drop>(
     })
 }
 
-/// What a pass shows, and how many events it has seen.
-fn look<J: Naming>(alloc: Global, pass: &mut Pass<J>) -> Option<(u64, String)> {
-    let snapshot = pass.snapshot().ok()?;
-    let text = shown(alloc, &snapshot).ok()?;
-    Some((pass.events(), text))
-}
-
-/// The receipts of two batches, each committed from a seat of its own.
-fn commit_both<J: Naming, R: Wait + Drop>(
-    rt: &impl Wait,
-    store: &mut EmptyStore<J, R>,
-    batches: (Appender, Appender),
-) -> Option<(Receipt<J>, Receipt<J>)> {
-    let (first, second) = batches;
-    let first = store.committer.commit(rt, &mut store.seats.0, first).ok()?;
-    let second = store.committer.commit(rt, &mut store.seats.1, second).ok()?;
-    Some((first, second))
-}
-
-/// What the numbers of two receipts and two seats are to be.
-fn tell_both<J: Naming>(
-    rt: &impl Abort,
-    receipts: &(Receipt<J>, Receipt<J>),
-    seats: &(Seat<J>, Seat<J>),
-) {
-    assert_eq!(rt; (receipts.0.events(), receipts.1.events()), (1, 2));
-    assert_eq!(rt; (seats.0.number(), seats.0.count()), (0, 1));
-    assert_eq!(rt; (seats.1.number(), seats.1.count()), (1, 1));
-}
-
-fn look_after_both<J: Naming, R: Wait + Drop>(
-    rt: &(impl Wait + Abort),
-    alloc: Global,
-    store: &mut EmptyStore<J, R>,
-) -> Option<(u64, String)> {
-    let batches = appender_of(alloc, FIRST).zip(appender_of(alloc, SECOND))?;
-    let receipts = commit_both(rt, store, batches)?;
-    tell_both(rt, &receipts, &store.seats);
-    assert_eq!(rt; store.passes.0.events(), 0);
-    store.passes.0.learn(&receipts.0);
-    store.passes.0.learn(&receipts.1);
-    look(alloc, &mut store.passes.0)
-}
-
-fn seen_by_a_pass<J: Naming, R: Wait + Abort>(
-    rt: &R,
-    alloc: Global,
-    store: Store,
-) -> Option<(u64, String)>
-    requires book { store.seen.book ≡ J.book }
-    requires opening { opening_of [] ≡ J.opening }
-{
-    let mut store = open_empty::<J, &R>(rt, alloc, store)?;
-    look_after_both(rt, alloc, &mut store)
-}
-
-/// Whether so many events and this text were seen.
-fn are_seen(seen: Option<(u64, String)>, events: u64, want: &str) -> bool {
-    match seen {
-        Some((count, text)) => count == events && text.as_str() == want,
-        None => false,
-    }
-}
-
-#[test]
-fn a_pass_sees_what_two_seats_committed(rt: HostRuntime) {
-    let seen = seen_by_a_pass::<Brand, _>(&rt, rt.alloc(), Store::new());
-    assert!(rt; are_seen(seen, 2, AFTER_BOTH));
+/// Whether a pass has seen so many events, and its snapshot shows this text.
+fn sees<J: Naming>(alloc: Global, pass: &mut Pass<J>, events: u64, want: &str) -> bool {
+    let Ok(snapshot) = pass.snapshot() else {
+        return false;
+    };
+    pass.events() == events && is_text(shown(alloc, &snapshot), want)
 }
 
 fn commit<J: Naming, R: Wait + Drop>(
@@ -140,84 +67,160 @@ fn commit<J: Naming, R: Wait + Drop>(
     committer.commit(rt, seat, appender?).ok()
 }
 
-/// The second seat commits after the pass learnt what the first committed.
-fn commit_after_learning<J: Naming, R: Wait + Drop>(
+/// The receipts of the two batches, each committed from a seat of its own.
+fn commit_both<J: Naming, R: Wait + Drop>(
+    rt: &impl Wait,
+    alloc: Global,
+    store: &mut EmptyStore<J, R>,
+) -> Option<(Receipt<J>, Receipt<J>)> {
+    let (first, second) = (appender_of(alloc, FIRST), appender_of(alloc, SECOND));
+    let first = commit(rt, &store.committer, &mut store.seats.0, first);
+    let second = commit(rt, &store.committer, &mut store.seats.1, second);
+    first.zip(second)
+}
+
+/// Whether the seat has this number, and has published one event.
+fn is_seat<J: Naming>(seat: &Seat<J>, number: usize) -> bool {
+    seat.number() == number && seat.count() == 1
+}
+
+/// Whether the receipts and the two seats have the numbers that they are to have.
+fn are_numbered<J: Naming>(
+    receipts: &(Receipt<J>, Receipt<J>),
+    seats: &(Seat<J>, Seat<J>),
+) -> bool {
+    receipts.0.events() == 1
+        && receipts.1.events() == 2
+        && is_seat(&seats.0, 0)
+        && is_seat(&seats.1, 1)
+}
+
+/// Whether a pass that had seen nothing sees both batches once it learnt these receipts.
+fn sees_both<J: Naming>(
+    alloc: Global,
+    pass: &mut Pass<J>,
+    receipts: &(Receipt<J>, Receipt<J>),
+) -> bool {
+    if pass.events() != 0 {
+        return false;
+    }
+    pass.learn(&receipts.0);
+    pass.learn(&receipts.1);
+    sees(alloc, pass, 2, AFTER_BOTH)
+}
+
+fn is_seen_by_a_pass<J: Naming, R: Wait>(rt: &R, alloc: Global, store: Store) -> Option<bool>
+    requires book { store.seen.book ≡ J.book }
+    requires opening { opening_of [] ≡ J.opening }
+{
+    let mut store = open_empty::<J, &R>(rt, alloc, store)?;
+    let receipts = commit_both(rt, alloc, &mut store)?;
+    Some(are_numbered(&receipts, &store.seats) && sees_both(alloc, &mut store.passes.0, &receipts))
+}
+
+#[test]
+fn a_pass_sees_what_two_seats_committed(rt: HostRuntime) {
+    let is_seen = is_seen_by_a_pass::<Brand, _>(&rt, rt.alloc(), Store::new());
+    assert!(rt; is_seen == Some(true));
+}
+
+/// The first seat commits, and the second pass learns of it.
+fn commit_and_learn<J: Naming, R: Wait + Drop>(
+    rt: &impl Wait,
+    alloc: Global,
+    store: &mut EmptyStore<J, R>,
+) -> Option<()> {
+    let batch = appender_of(alloc, &[(1, 10, 1)]);
+    let receipt = commit(rt, &store.committer, &mut store.seats.0, batch)?;
+    store.passes.1.learn(&receipt);
+    Some(())
+}
+
+/// The second seat commits: how many events there are then.
+fn commit_second<J: Naming, R: Wait + Drop>(
     rt: &impl Wait,
     alloc: Global,
     store: &mut EmptyStore<J, R>,
 ) -> Option<u64> {
-    let batch = appender_of(alloc, &[(1, 10, 1)]);
-    let first = commit(rt, &store.committer, &mut store.seats.0, batch)?;
-    store.passes.1.learn(&first);
     let batch = appender_of(alloc, &[(1, 20, 2)]);
-    let second = commit(rt, &store.committer, &mut store.seats.1, batch)?;
-    Some(second.events())
+    let receipt = commit(rt, &store.committer, &mut store.seats.1, batch)?;
+    Some(receipt.events())
 }
 
-/// What a snapshot from before both commits shows after them, and what the pass then shows.
-fn look_twice<J: Naming, R: Wait + Drop>(
+/// Whether a snapshot from before both commits shows nothing after them, and the pass then shows
+/// both.
+fn are_seen_later<J: Naming, R: Wait + Drop>(
     rt: &impl Wait,
     alloc: Global,
     store: &mut EmptyStore<J, R>,
-) -> Option<(String, u64, String)> {
+) -> Option<bool> {
     let before = store.passes.0.snapshot().ok()?;
-    if commit_after_learning(rt, alloc, store)? != 2 {
-        return None;
-    }
-    let (events, text) = look(alloc, &mut store.passes.1)?;
-    Some((shown(alloc, &before).ok()?, events, text))
+    commit_and_learn(rt, alloc, store)?;
+    Some(
+        commit_second(rt, alloc, store) == Some(2)
+            && sees(
+                alloc,
+                &mut store.passes.1,
+                2,
+                "1 __name__=up job=a 10:1 20:2\n",
+            )
+            && is_text(shown(alloc, &before), ""),
+    )
 }
 
-fn seen_after_another<J: Naming, R: Wait>(
-    rt: &R,
-    alloc: Global,
-    store: Store,
-) -> Option<(String, u64, String)>
+fn are_seen_after_another<J: Naming, R: Wait>(rt: &R, alloc: Global, store: Store) -> Option<bool>
     requires book { store.seen.book ≡ J.book }
     requires opening { opening_of [] ≡ J.opening }
 {
     let mut store = open_empty::<J, &R>(rt, alloc, store)?;
-    look_twice(rt, alloc, &mut store)
+    are_seen_later(rt, alloc, &mut store)
 }
 
 #[test]
 fn a_later_commit_hides_nothing_that_was_learnt(rt: HostRuntime) {
-    let seen = seen_after_another::<Brand, _>(&rt, rt.alloc(), Store::new());
-    let (before, events, text) = seen.expect(&rt, "both batches are committed");
-    assert_eq!(rt; before.as_str(), "");
-    assert_eq!(rt; events, 2);
-    assert_eq!(rt; text.as_str(), "1 __name__=up job=a 10:1 20:2\n");
+    let are_seen = are_seen_after_another::<Brand, _>(&rt, rt.alloc(), Store::new());
+    assert!(rt; are_seen == Some(true));
 }
 
-/// The second of two batches is refused, and is given back whole.
-fn commit_refused<J: Naming, R: Wait + Drop>(
-    rt: &(impl Wait + Abort),
+/// Whether a batch whose second sample is refused is given back whole, and the seat has published
+/// no event more.
+fn gives_back<J: Naming, R: Wait + Drop>(
+    rt: &impl Wait,
+    store: &mut EmptyStore<J, R>,
+    batch: Appender,
+) -> bool {
+    match store.committer.commit(rt, &mut store.seats.0, batch) {
+        Ok(_) => false,
+        Err((batch, refusal)) => {
+            refusal.code() == "E3" && batch.len() == 2 && store.seats.0.count() == 1
+        }
+    }
+}
+
+/// Whether the second of two batches is refused, and the pass shows the first.
+fn refuses_second<J: Naming, R: Wait + Drop>(
+    rt: &impl Wait,
     alloc: Global,
     store: &mut EmptyStore<J, R>,
-) -> Option<()> {
+) -> Option<bool> {
     let batch = appender_of(alloc, FIRST);
     commit(rt, &store.committer, &mut store.seats.0, batch)?;
     let batch = appender_of(alloc, &[(1, 30, 7), (2, 20, 9)])?;
-    let answer = store.committer.commit(rt, &mut store.seats.0, batch);
-    let (batch, refusal) = answer.err()?;
-    assert_eq!(rt; (refusal.code(), batch.len()), ("E3", 2));
-    assert_eq!(rt; store.seats.0.count(), 1);
-    Some(())
+    Some(gives_back(rt, store, batch) && sees(alloc, &mut store.passes.0, 1, AFTER_FIRST))
 }
 
-fn refused<J: Naming, R: Wait + Abort>(rt: &R, alloc: Global, store: Store) -> Option<(u64, String)>
+fn is_refused<J: Naming, R: Wait>(rt: &R, alloc: Global, store: Store) -> Option<bool>
     requires book { store.seen.book ≡ J.book }
     requires opening { opening_of [] ≡ J.opening }
 {
     let mut store = open_empty::<J, &R>(rt, alloc, store)?;
-    commit_refused(rt, alloc, &mut store)?;
-    look(alloc, &mut store.passes.0)
+    refuses_second(rt, alloc, &mut store)
 }
 
 #[test]
 fn a_refused_batch_changes_nothing(rt: HostRuntime) {
-    let seen = refused::<Brand, _>(&rt, rt.alloc(), Store::new());
-    assert!(rt; are_seen(seen, 1, AFTER_FIRST));
+    let is_refused = is_refused::<Brand, _>(&rt, rt.alloc(), Store::new());
+    assert!(rt; is_refused == Some(true));
 }
 
 /// The code of what is answered to a sample of this label set, which a refusal gives back.
@@ -236,18 +239,35 @@ fn append(appender: &mut Appender, set: &LabelSet, t: i64) -> &'static str {
     }
 }
 
+/// Whether samples at these times are each answered so.
+fn are_answered(appender: &mut Appender, set: &LabelSet, times: &[i64], want: &str) -> bool {
+    for t in times {
+        if append(appender, set, *t) != want {
+            return false;
+        }
+    }
+    true
+}
+
+/// Whether a sample at each of the times from 0, so many of them, is added.
+fn are_added(appender: &mut Appender, set: &LabelSet, count: i64) -> bool {
+    for t in 0..count {
+        if append(appender, set, t) != "ok" {
+            return false;
+        }
+    }
+    true
+}
+
 #[test]
 fn an_appender_holds_4096_samples_at_times(rt: HostRuntime) {
     let set = set_of(rt.alloc(), 1).expect(&rt, "it is a label set");
     let mut appender = Appender::new(rt.alloc());
     assert!(rt; appender.is_empty());
-    assert_eq!(rt; append(&mut appender, &set, MIN_TIME - 1), "A2");
-    assert_eq!(rt; append(&mut appender, &set, MAX_TIME + 1), "A2");
-    for t in 0..4_096 {
-        assert_eq!(rt; append(&mut appender, &set, t), "ok");
-    }
-    assert_eq!(rt; append(&mut appender, &set, MAX_TIME + 1), "A1");
-    assert_eq!(rt; appender.len(), 4_096);
+    assert!(rt; are_answered(&mut appender, &set, &[MIN_TIME - 1, MAX_TIME + 1], "A2"));
+    assert!(rt; are_added(&mut appender, &set, 4_096));
+    assert!(rt; are_answered(&mut appender, &set, &[MAX_TIME + 1], "A1"));
+    assert!(rt; appender.len() == 4_096);
 }
 
 /// Whether an error is told by this text.

@@ -3,10 +3,11 @@
 ghost use Rattle.std.specs.Prelude.{◌≡◌, []};
 ghost use Rattle.head.specs.Blocks.{opening_of};
 
-use super::{EmptyStore, appender_of, commit, commit_both, open_empty};
-use crate::rows::{FIRST, SECOND, counts, is_text, put_labels, put_samples, shown};
+use super::{EmptyStore, commit, commit_both, open_empty};
+use crate::rows::{appender_of, counts, is_text, put_labels, put_samples, shown};
 use block::Block;
 use head::Snapshot;
+use labels::{Row, SeriesRef};
 use snapshots::{Naming, Store};
 use std::alloc::{AllocError, Global};
 use std::marker::Brand;
@@ -16,15 +17,37 @@ use std::sync::{Arc, Wait};
 const IN_BLOCK: &str =
     " __name__=down job=a 10:4 20:4\n __name__=down job=b 10:5 20:5\n __name__=up job=a 10:1 20:1 30:7\n __name__=up job=a zone=x 10:6 20:6\n __name__=up job=b 10:2 20:2\n __name__=up job=b zone=x 10:3 20:3\n";
 
+fn put_row(text: &mut String, row: &Row) -> Result<(), AllocError> {
+    put_labels(text, row.labels())?;
+    put_samples(text, row.samples())?;
+    text.push('\n')
+}
+
+fn put_rows(text: &mut String, rows: &[(SeriesRef, Row)]) -> Result<(), AllocError> {
+    for (_, row) in rows {
+        put_row(text, row)?;
+    }
+    Ok(())
+}
+
 /// A line for each series of a block: its label set, and its samples with their times.
 fn in_block(alloc: Global, block: &Block) -> Result<String, AllocError> {
+    let rows = block.list_all(alloc)?;
     let mut text = String::new(alloc);
-    for (_, row) in &block.list_all(alloc)? {
-        put_labels(&mut text, row.labels())?;
-        put_samples(&mut text, row.samples())?;
-        text.push('\n')?;
-    }
+    put_rows(&mut text, &rows)?;
     Ok(text)
+}
+
+/// Commits a sample of the first series, which the pass learns of.
+fn commit_and_learn<J: Naming, R: Wait + Drop>(
+    rt: &impl Wait,
+    alloc: Global,
+    store: &mut EmptyStore<J, R>,
+) -> Option<()> {
+    let sample = appender_of(alloc, &[(1, 30, 7)]);
+    let receipt = commit(rt, &store.committer, &mut store.seats.0, sample)?;
+    store.passes.0.learn(&receipt);
+    Some(())
 }
 
 /// Commits the six series, and then one sample more, which the pass learns of; a cut right above
@@ -34,12 +57,9 @@ fn commit_and_cut<J: Naming, R: Wait + Drop>(
     alloc: Global,
     store: &mut EmptyStore<J, R>,
 ) -> Option<()> {
-    let batches = appender_of(alloc, FIRST).zip(appender_of(alloc, SECOND))?;
-    let _six = commit_both(rt, store, batches)?;
-    let sample = appender_of(alloc, &[(1, 30, 7)]);
-    let receipt = commit(rt, &store.committer, &mut store.seats.0, sample)?;
-    store.passes.0.learn(&receipt);
-    let _cut = store.committer.cut(rt, &mut store.seats.1, 31).ok()?;
+    commit_both(rt, alloc, store)?;
+    commit_and_learn(rt, alloc, store)?;
+    store.committer.cut(rt, &mut store.seats.1, 31).ok()?;
     Some(())
 }
 
@@ -52,13 +72,19 @@ fn seen_after_cut<J: Naming, R: Wait>(rt: &R, alloc: Global, store: Store) -> Op
     store.passes.0.snapshot().ok()
 }
 
+fn has_block(alloc: Global, snapshot: &Snapshot) -> bool {
+    match snapshot.block(0) {
+        Some(block) => is_text(in_block(alloc, block), IN_BLOCK),
+        None => false,
+    }
+}
+
 #[test]
 fn a_cut_hides_no_sample_that_was_learnt(rt: HostRuntime) {
     let alloc = rt.alloc();
     let seen = seen_after_cut::<Brand, _>(&rt, alloc, Store::new());
     let seen = seen.expect(&rt, "each event is published");
-    let block = seen.block(0).expect(&rt, "the cut made a block");
     assert!(rt; counts(&seen, &[13]));
-    assert!(rt; is_text(in_block(alloc, block), IN_BLOCK));
+    assert!(rt; has_block(alloc, &seen));
     assert!(rt; is_text(shown(alloc, &seen), ""));
 }

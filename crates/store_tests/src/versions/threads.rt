@@ -7,8 +7,8 @@ ghost use Rattle.head.specs.Blocks.{opening_of};
 ghost use Rattle.head.specs.Worlds.{batch};
 ghost use Rattle.snapshots.specs.Replays.{IsAfter, EndsWith};
 
-use super::{EmptyStore, appender_of, open_empty};
-use crate::rows::{AFTER_BOTH, AFTER_BOTH_TURNED, FIRST, SECOND, is_text, shown};
+use super::{EmptyStore, open_empty};
+use crate::rows::{AFTER_BOTH, AFTER_BOTH_TURNED, FIRST, SECOND, appender_of, is_text, shown};
 use head::Snapshot;
 use snapshots::{Appender, Committer, Naming, Pass, Receipt, Seat, Store};
 use std::alloc::Global;
@@ -128,8 +128,9 @@ fn committed_by_two<J: Naming + Send + Sync, R: Threads + Wait + Sync>(
         passes,
         seats,
     } = open_empty::<J, &R>(rt, alloc, store)?;
-    let seen = commit_both::<J, &R, R>(rt, &committer, seats, batches, passes)?;
-    let (first, second, one, two) = seen;
+    let (first, second, one, two) = commit_both::<J, &R, R>(
+        rt, &committer, seats, batches, passes,
+    )?;
     let is_a_first = first.events() < second.events();
     Some((
         first.events().saturating_add(second.events()),

@@ -3,5 +3,5 @@ use Rattle.head.specs.Blocks.{opening_of}
 use Rattle.store_tests.proofs.versions.a_refused_batch_changes_nothing.Given as goal
 
 -- the store that was just opened
-abbrev pub ghosts-refused : goal.ghosts-refused
-ghosts-refused g a = record { book = a.store.seen.book; opening = opening_of [] }
+abbrev pub ghosts-is_refused : goal.ghosts-is_refused
+ghosts-is_refused g a = record { book = a.store.seen.book; opening = opening_of [] }
