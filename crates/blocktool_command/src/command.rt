@@ -13,7 +13,7 @@ use labels::{MAX_TIME, MIN_TIME};
 use std::alloc::{AllocError, Global};
 
 /// How an import is made.
-#[derive(Clone, Copy, Debug, Drop)]
+#[derive(Clone, Copy, Drop)]
 pub(crate) struct Options<'a> {
     pub(crate) policy: Policy,
     pub(crate) times: Stretch,
@@ -21,7 +21,7 @@ pub(crate) struct Options<'a> {
 }
 
 /// What the words ask for.
-#[derive(Debug, Drop)]
+#[derive(Drop)]
 pub(crate) enum Line<'a> {
     /// Blocks out of the blocks of Prometheus in these directories.
     FromPrometheus(Options<'a>, Vec<&'a str>),
@@ -126,28 +126,25 @@ fn time<'a>(alloc: Global, name: &'a str, help: &'a str) -> Arg<'a> {
         .help(help)
 }
 
-fn choice<'a>(alloc: Global, name: &'a str, choices: &'a [&'a str], help: &'a str) -> Arg<'a> {
+/// An option `--NAME VALUE`.
+fn option<'a>(alloc: Global, name: &'a str, value: &'a str, help: &'a str) -> Arg<'a> {
     Arg::new(alloc, name)
         .long(name)
-        .value_name("WHAT")
-        .value_parser(ValueParser::from(choices))
+        .value_name(value)
         .help(help)
 }
 
+fn choice<'a>(alloc: Global, name: &'a str, choices: &'a [&'a str], help: &'a str) -> Arg<'a> {
+    option(alloc, name, "WHAT", help).value_parser(ValueParser::from(choices))
+}
+
 pub(crate) fn digits<'a>(alloc: Global) -> Arg<'a> {
-    Arg::new(alloc, "decimals")
-        .long("decimals")
-        .value_name("N")
-        .value_parser(ValueParser::unsigned(0, 9))
-        .help(ABOUT_DIGITS)
+    option(alloc, "decimals", "N", ABOUT_DIGITS).value_parser(ValueParser::unsigned(0, 9))
 }
 
 pub(crate) fn into<'a>(alloc: Global) -> Arg<'a> {
-    Arg::new(alloc, "into")
-        .long("into")
-        .value_name("OUT")
-        .required(true)
-        .help("The directory for the outputs: empty, or not there")
+    let help = "The directory for the outputs: empty, or not there";
+    option(alloc, "into", "OUT", help).required(true)
 }
 
 fn blocks<'a>(alloc: Global) -> Arg<'a> {
@@ -202,20 +199,34 @@ fn list<'a>(alloc: Global) -> Result<Command<'a>, AllocError> {
         .arg(directories(alloc))
 }
 
-fn blocktool<'a>(alloc: Global) -> Result<Command<'a>, AllocError> {
-    Command::new(alloc, "blocktool")
+/// The program, without its commands.
+fn named<'a>(alloc: Global) -> Result<Command<'a>, AllocError> {
+    let command = Command::new(alloc, "blocktool")
         .bin_name("blocktool")?
         .about("Makes blocks for `querier` and `auditor` out of other programs' data")
         .after_help(ABOUT)
         .version(VERSION)
         .no_binary_name(true)
-        .subcommand_required(true)
-        .subcommand(from_prometheus(alloc)?)?
-        .subcommand(rewrite(alloc)?)?
-        .subcommand(list(alloc)?)?
-        .subcommand(from_openmetrics(alloc)?)?
-        .subcommand(from_rows(alloc)?)?
-        .subcommand(to_openmetrics(alloc)?)
+        .subcommand_required(true);
+    Ok(command)
+}
+
+/// Adds a command, if there was memory for it.
+fn add<'a>(
+    command: Command<'a>,
+    other: Result<Command<'a>, AllocError>,
+) -> Result<Command<'a>, AllocError> {
+    command.subcommand(other?)
+}
+
+fn blocktool<'a>(alloc: Global) -> Result<Command<'a>, AllocError> {
+    let command = named(alloc)?;
+    let command = add(command, from_prometheus(alloc))?;
+    let command = add(command, rewrite(alloc))?;
+    let command = add(command, list(alloc))?;
+    let command = add(command, from_openmetrics(alloc))?;
+    let command = add(command, from_rows(alloc))?;
+    add(command, to_openmetrics(alloc))
 }
 
 fn time_in(found: &ArgMatches<'_>, name: &str, other: i64) -> i64 {

@@ -23,7 +23,7 @@ use std::io::{Read, Write};
 use std::rt::Files;
 
 /// A text: its format, and the file in which it is, if it is not standard input.
-#[derive(Clone, Copy, Debug, Drop)]
+#[derive(Clone, Copy, Drop)]
 pub(crate) struct TextIn<'a> {
     pub(crate) format: Format,
     pub(crate) file: Option<&'a str>,

@@ -8,7 +8,7 @@ use std::io::{self, ErrorKind, Write};
 use std::rt::Files;
 
 /// The directory for outputs, and how many digits after the point their values have.
-#[derive(Clone, Copy, Debug, Drop)]
+#[derive(Clone, Copy, Drop)]
 pub(crate) struct Target<'a> {
     pub(crate) into: &'a str,
     pub(crate) digits: u32,

@@ -16,7 +16,7 @@ use std::rt::Files;
 
 /// A reply: how many digits its values have, and the file in which it is, if it is not standard
 /// input.
-#[derive(Clone, Copy, Debug, Drop)]
+#[derive(Clone, Copy, Drop)]
 pub(crate) struct ReplyIn<'a> {
     pub(crate) digits: Digits,
     pub(crate) file: Option<&'a str>,

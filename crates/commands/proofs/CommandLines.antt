@@ -16,6 +16,9 @@ use Rattle.commands.specs.declared.command.Reading.{Reading}
 use Rattle.commands.specs.declared.command.Line.{Line}
 use Rattle.commands.specs.declared.command.Line.TheVariants.{Demo, Select, Check, Serve}
 use Rattle.commands.specs.declared.command.Serving.{Serving}
+use Rattle.std.specs.Prelude.{Result, Ok, Err, IfOk, IsOkAnd}
+use Rattle.clap.specs.Words.{App, AddsSubcommand, app_of, with_subcommand}
+use Rattle.clap.specs.declared.builder.command.Command.{Command}
 
 -- a text that was read is the number
 pub time_given : (f : Found) (name : Text) (other time shown : ℤ)
@@ -118,6 +121,15 @@ third_denied a b false rest e = refl
 third_denied false b true rest e = cc
 third_denied true false true rest e = cc
 third_denied true true true rest e = cc
+
+-- what is known of a subcommand, if there was memory for it, is known of what it is added to
+pub added_as : {E : Type 0} (old new : Command) (a b : App) (sub : Result Command E)
+    → app_of old ≡ a → IfOk sub (λ s. app_of s ≡ b) → b.top.is_plain ≡ true
+    → IsOkAnd sub (λ s. AddsSubcommand old s new) → app_of new ≡ with_subcommand a b.top
+added_as old new a b (Ok s) is known plain adds =
+    adds.shape (third_denied _ _ _ _ (ap (λ (x : App). x.top.is_plain) known ∙ plain))
+    ∙ ap₂ with_subcommand is (ap (λ (x : App). x.top) known)
+added_as old new a b (Err e) is known plain adds = absurd adds
 
 -- a name found is a subcommand found
 pub demo_found : (o : Option (Text × List Row))

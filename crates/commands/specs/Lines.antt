@@ -51,15 +51,23 @@ abbrev pub check_app : App
 check_app =
     with_rule (with_rule (new_app (codes "check")) (flag_rule (codes "quiet"))) blocks_rule
 
+-- the program, without its subcommands
+abbrev pub named_app : App
+named_app =
+    let app = new_app (codes "querier") in
+    record app {
+      top = record app.top {
+        has_version = true;
+        subcommand_required = true;
+        no_binary_name = true;
+      };
+    }
+
 -- the program, with `demo`, `check`, `select` and `serve`
 abbrev pub querier_app : App
 querier_app =
-    let app = new_app (codes "querier") in
-    let top =
-    record app.top { has_version = true; subcommand_required = true; no_binary_name = true } in
-    with_subcommand (with_subcommand (with_subcommand (with_subcommand (record app {
-      top = top;
-    }) (new_app (codes "demo")).top) check_app.top) select_app.top) serve_app.top
+    with_subcommand (with_subcommand (with_subcommand (with_subcommand named_app
+    (new_app (codes "demo")).top) check_app.top) select_app.top) serve_app.top
 
 -- the text is a signed number of 64 bits
 pub record IsNumber (text : List ℕ) : Type 0 where

@@ -1,7 +1,7 @@
 //! The command line.
 
 ghost use Rattle.std.specs.Prelude.{◌≡◌, ◌⊎◌, false, [], codes, map, option_map, unwrap_or};
-ghost use Rattle.std.specs.Prelude.{IfOk, IfErr};
+ghost use Rattle.std.specs.Prelude.{IfOk, IfErr, IsOkAnd};
 ghost use Rattle.commands.specs.ServingLines.{count_rule, port_rule, flag_rule, text_rule};
 ghost use Rattle.commands.specs.ServingLines.{counts_app, serve_app, IsCountIn, IsFlagIn};
 ghost use Rattle.commands.specs.ServingLines.{IsServingIn, IsReadingIn};
@@ -10,9 +10,11 @@ ghost use Rattle.clap.specs.Values.{kind_of};
 ghost use Rattle.clap.specs.Matches.{found_of};
 ghost use Rattle.clap.specs.Words.{app_of, new_app, rule_of, rows_of, one_of, first_of, all_of};
 ghost use Rattle.clap.specs.Words.{subcommand_of, subcommand_rows_of, fault_of, FailsBy};
+ghost use Rattle.clap.specs.Words.{AddsSubcommand};
 ghost use Rattle.commands.specs.OptionRules.{directories_rule};
 ghost use Rattle.commands.specs.Lines.{time_rule, selector_rule, blocks_rule, select_app};
-ghost use Rattle.commands.specs.Lines.{check_app, querier_app, IsTimeIn, IsSelectionIn};
+ghost use Rattle.commands.specs.Lines.{check_app, named_app, querier_app};
+ghost use Rattle.commands.specs.Lines.{IsTimeIn, IsSelectionIn};
 ghost use Rattle.commands.specs.Lines.{AreTakenByClap, AreRefusedByClap, IsFoundLine, IsLineOf};
 ghost use Rattle.commands.specs.Lines.{texts_of};
 
@@ -24,7 +26,7 @@ use std::alloc::{AllocError, Global};
 
 /// A selector, and a closed range of times in milliseconds, as they were written: neither is
 /// checked.
-#[derive(Clone, Copy, Debug, PartialEq, Eq, Drop)]
+#[derive(Clone, Copy, Drop)]
 pub struct Selection<'a> {
     pub selector: &'a str,
     pub from: i64,
@@ -32,7 +34,7 @@ pub struct Selection<'a> {
 }
 
 /// How a store is served, as it was written.
-#[derive(Clone, Copy, Debug, PartialEq, Eq, Drop)]
+#[derive(Clone, Copy, Drop)]
 pub struct Serving<'a> {
     /// The port of 127.0.0.1; 0 for any that is free.
     pub port: u64,
@@ -51,7 +53,7 @@ pub struct Serving<'a> {
 }
 
 /// What is read, as it was written.
-#[derive(Debug, Drop)]
+#[derive(Drop)]
 pub struct Reading<'a> {
     pub directories: Vec<&'a str>,
     /// Whether no terminal is told how far it is read.
@@ -59,7 +61,7 @@ pub struct Reading<'a> {
 }
 
 /// What the words ask for.
-#[derive(Debug, Drop)]
+#[derive(Drop)]
 pub enum Line<'a> {
     /// The answer to `up{job="a"}` over six series that two batches bring.
     Demo,
@@ -184,16 +186,23 @@ thread cannot be made, or the listener is gone; 4 no memory
 
 Example: querier serve --port 8080 data/0001 data/0002"#;
 
+/// An option `--NAME VALUE` with a text.
+fn text<'a>(alloc: Global, name: &'a str, value: &'a str, help: &'a str) -> Arg<'a>
+    ensures rule { rule_of result ≡ text_rule name.entry.now }
+    ensures global { result.global ≡ false }
+{
+    Arg::new(alloc, name)
+        .long(name)
+        .value_name(value)
+        .help(help)
+}
+
 /// An option `--NAME N` with a signed number of 64 bits.
 fn time<'a>(alloc: Global, name: &'a str, help: &'a str) -> Arg<'a>
     ensures rule { rule_of result ≡ time_rule name.entry.now }
     ensures global { result.global ≡ false }
 {
-    Arg::new(alloc, name)
-        .long(name)
-        .value_name("N")
-        .value_parser(value_parser!(i64))
-        .help(help)
+    text(alloc, name, "N", help).value_parser(value_parser!(i64))
 }
 
 fn selector<'a>(alloc: Global) -> Arg<'a>
@@ -218,11 +227,7 @@ fn count<'a>(
     ensures global { result.global ≡ false }
 {
     let (least, most) = range;
-    Arg::new(alloc, name)
-        .long(name)
-        .value_name(value)
-        .value_parser(ValueParser::unsigned(least, most))
-        .help(help)
+    text(alloc, name, value, help).value_parser(ValueParser::unsigned(least, most))
 }
 
 /// The port, which must be given.
@@ -230,12 +235,7 @@ fn port<'a>(alloc: Global) -> Arg<'a>
     ensures rule { rule_of result ≡ port_rule }
     ensures global { result.global ≡ false }
 {
-    Arg::new(alloc, "port")
-        .long("port")
-        .value_name("P")
-        .value_parser(ValueParser::unsigned(0, 65_535))
-        .required(true)
-        .help(PORT)
+    count(alloc, "port", "P", (0, 65_535), PORT).required(true)
 }
 
 /// An option `--NAME` without a value.
@@ -246,17 +246,6 @@ fn flag<'a>(alloc: Global, name: &'a str, help: &'a str) -> Arg<'a>
     Arg::new(alloc, name)
         .long(name)
         .action(ArgAction::SetTrue)
-        .help(help)
-}
-
-/// An option `--NAME VALUE` with a text.
-fn text<'a>(alloc: Global, name: &'a str, value: &'a str, help: &'a str) -> Arg<'a>
-    ensures rule { rule_of result ≡ text_rule name.entry.now }
-    ensures global { result.global ≡ false }
-{
-    Arg::new(alloc, name)
-        .long(name)
-        .value_name(value)
         .help(help)
 }
 
@@ -340,20 +329,38 @@ fn serve<'a>(alloc: Global) -> Result<Command<'a>, AllocError>
         .arg(directories(alloc))
 }
 
-fn querier<'a>(alloc: Global) -> Result<Command<'a>, AllocError>
-    ensures { IfOk result (λ command. app_of command ≡ querier_app) }
+/// The program, without its subcommands.
+fn named<'a>(alloc: Global) -> Result<Command<'a>, AllocError>
+    ensures { IfOk result (λ command. app_of command ≡ named_app) }
 {
-    Command::new(alloc, "querier")
+    let command = Command::new(alloc, "querier")
         .bin_name("querier")?
         .about("Answers selectors over series, with a certificate that shows each answer whole")
         .after_help(STATUSES)
         .version(VERSION)
         .no_binary_name(true)
-        .subcommand_required(true)
-        .subcommand(demo(alloc))?
-        .subcommand(check(alloc)?)?
-        .subcommand(select(alloc)?)?
-        .subcommand(serve(alloc)?)
+        .subcommand_required(true);
+    Ok(command)
+}
+
+/// Adds a subcommand, if there was memory for it.
+fn add<'a>(
+    command: Command<'a>,
+    other: Result<Command<'a>, AllocError>,
+) -> Result<Command<'a>, AllocError>
+    ensures { IfOk result (λ added. IsOkAnd other.entry
+        (λ subcommand. AddsSubcommand command.entry subcommand added)) }
+{
+    command.subcommand(other?)
+}
+
+fn querier<'a>(alloc: Global) -> Result<Command<'a>, AllocError>
+    ensures { IfOk result (λ command. app_of command ≡ querier_app) }
+{
+    let command = named(alloc)?.subcommand(demo(alloc))?;
+    let command = add(command, check(alloc))?;
+    let command = add(command, select(alloc))?;
+    add(command, serve(alloc))
 }
 
 /// The time that an option gives, or another where it is not used.
