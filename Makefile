@@ -7,12 +7,9 @@ CRATES := $(shell sed -e 's/\#.*//' -e 's/:.*//' -e '/^[[:space:]]*$$/d' crates.
 # Which crate, or script, has the tests of which crates; a crate of tests has its own.
 TESTS_OF := selection_tests:labels,pages,matchers,postings \
 	file_tests:wire,index_reader,chunk_reader,tombstones,block,block_writer \
-	store_tests:head,history,snapshots \
-	serving_tests:cover,block_search,series_merge,answers,requests,query_http,server \
+	store_tests:head,history,snapshots,cover,block_search,series_merge,answers,requests,query_http,server,commands,querier,auditor,audit_command,audit_laws,auditor_program \
 	tests/serving:guard \
 	tests/scraping:metrics_text \
-	command_tests:commands,querier \
-	auditing_tests:auditor,audit_command,audit_laws,auditor_program \
 	import_tests:xor_reader,doubles,decimal_text,prometheus_block \
 	journal_tests:journal,event_text \
 	tests/importing:imported_values,time_cuts,block_folder,block_outputs,open_metrics,metrics_writer,exposition,blocktool_command,blocktool \

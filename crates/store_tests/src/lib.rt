@@ -1,20 +1,16 @@
-//! Tests of the store from outside, of what needs types: what a head numbers and a commit copies,
-//! what several actors are answered, what passes see of versions that others publish, and changes
-//! that are refused memory. What is answered after changes stands in `case_files`.
+//! Tests from outside of what stands on a store: changes and what passes see of them (`changes`),
+//! searches and serving (`serving`), the subcommands of `querier` (`subcommands`), and the auditor
+//! (`audits`). What needs no types stands in `case_files`.
 //!
-//! They stand in a crate of their own, so that the gate proves `head`, `history` and `snapshots`
-//! once each and not a second time with their tests.
+//! They stand in one crate of their own: the gate proves each crate that they test once and not a
+//! second time with its tests, and what links a store takes minutes before its first function.
 #![tactic(auto)]
 
 #[cfg(test)]
-mod first_pages;
+mod audits;
 #[cfg(test)]
-mod heads;
+mod changes;
 #[cfg(test)]
-mod histories;
+mod serving;
 #[cfg(test)]
-mod refused_memory;
-#[cfg(test)]
-mod rows;
-#[cfg(test)]
-mod versions;
+mod subcommands;

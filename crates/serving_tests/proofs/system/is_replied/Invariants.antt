@@ -1,7 +1,0 @@
-use Rattle.std.specs.Prelude.{[]}
-use Rattle.head.specs.Blocks.{opening_of}
-use Rattle.serving_tests.proofs.system.is_replied.Given as goal
-
--- the store that was just opened
-abbrev pub ghosts-replies_of_two : goal.ghosts-replies_of_two
-ghosts-replies_of_two g a = record { book = a.store.seen.book; opening = opening_of [] }

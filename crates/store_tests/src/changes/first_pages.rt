@@ -1,0 +1,110 @@
+//! The examples of the first pages of `head`, `history` and `snapshots`.
+
+ghost use Rattle.std.specs.Prelude.{◌≡◌, []};
+ghost use Rattle.head.specs.Blocks.{opening_of};
+
+use crate::changes::refused_memory::{OneStore, open_one};
+use crate::changes::rows::empty;
+use head::{Event, HeadView, Snapshot, apply};
+use history::{Reply, Step, run};
+use labels::{LabelSet, Sample, SeriesRef};
+use matchers::{Query, Selector};
+use snapshots::{Appender, Naming, Store};
+use std::alloc::Global;
+use std::marker::Brand;
+use std::sync::{Arc, Wait};
+
+fn up(alloc: Global) -> Option<LabelSet> {
+    LabelSet::of_sorted_texts(alloc, &[("__name__", "up")]).ok()
+}
+
+fn one_sample(alloc: Global) -> Option<Vec<(LabelSet, Sample)>> {
+    let labels = up(alloc)?;
+    Vec::from_array(alloc, [(labels, Sample::new(10, 1))]).ok()
+}
+
+/// The snapshot that the example of `head` makes of an opening.
+fn apply_one_batch(alloc: Global, opening: &Snapshot) -> Option<Snapshot> {
+    let samples = one_sample(alloc)?;
+    if !Event::is_batch(&samples) {
+        return None;
+    }
+    apply(alloc, opening, &Event::batch(samples)).ok()
+}
+
+/// Whether the first series has so many samples.
+fn has(alloc: Global, head: &HeadView, count: usize) -> bool {
+    match head.samples_of(alloc, SeriesRef::new(1), 0, 30) {
+        Ok(found) => found.len() == count,
+        Err(_) => false,
+    }
+}
+
+/// Whether an opening is what it was after the example of `head`.
+fn has_no_series(opening: &Snapshot) -> bool {
+    opening.head().labels_of(SeriesRef::new(1)).is_none()
+}
+
+#[test]
+fn the_example_of_the_first_page_of_head(rt: HostRuntime) {
+    let alloc = rt.alloc();
+    let opening = empty(alloc).ok().expect(&rt, "there is memory");
+    let next = apply_one_batch(alloc, &opening).expect(&rt, "a batch is applied");
+    assert!(rt; has(alloc, next.head(), 1));
+    assert!(rt; has_no_series(&opening));
+}
+
+/// The steps of the example of `history`.
+fn three_steps(alloc: Global) -> Option<Vec<Step>> {
+    let query = Query::new(Selector::parse(alloc, "up").ok()?, 0, 30).ok()?;
+    let append = Step::append(1, up(alloc)?, Sample::new(10, 1));
+    Vec::from_array(alloc, [append, Step::commit(1), Step::query(2, query)]).ok()
+}
+
+fn run_steps(alloc: Global, steps: &[Step]) -> Option<Vec<Reply>> {
+    let opening = empty(alloc).ok()?;
+    run(alloc, &opening, steps).ok()
+}
+
+#[test]
+fn the_example_of_the_first_page_of_history(rt: HostRuntime) {
+    let steps = three_steps(rt.alloc()).expect(&rt, "there is memory");
+    let replies = run_steps(rt.alloc(), &steps).expect(&rt, "the steps are replied to");
+    assert!(rt; matches!(replies.get(1), Some(Reply::Done)));
+    assert!(rt; matches!(replies.get(2), Some(Reply::Rows(rows)) if rows.len() == 1));
+}
+
+fn appender_of_one(alloc: Global) -> Option<Appender> {
+    let labels = up(alloc)?;
+    let mut appender = Appender::new(alloc);
+    appender.append(labels, Sample::new(10, 1)).ok()?;
+    Some(appender)
+}
+
+/// What the example of `snapshots` does with a store that it opened.
+fn commit_and_learn<J: Naming, R: Wait + Drop>(
+    rt: &impl Wait,
+    alloc: Global,
+    store: &mut OneStore<J, R>,
+) -> Option<Arc<Snapshot>> {
+    let appender = appender_of_one(alloc)?;
+    let receipt = store.committer.commit(rt, &mut store.seat, appender).ok()?;
+    store.pass.learn(&receipt);
+    store.pass.snapshot().ok()
+}
+
+/// Whether the snapshot then has the sample, and the pass has seen one event.
+fn commit_and_look<J: Naming, R: Wait>(rt: &R, alloc: Global, store: Store) -> Option<bool>
+    requires book { store.seen.book ≡ J.book }
+    requires opening { opening_of [] ≡ J.opening }
+{
+    let mut store = open_one::<J, &R>(rt, alloc, store)?;
+    let snapshot = commit_and_learn(rt, alloc, &mut store)?;
+    Some(store.pass.events() == 1 && has(alloc, snapshot.head(), 1))
+}
+
+#[test]
+fn the_example_of_the_first_page_of_snapshots(rt: HostRuntime) {
+    let has_looked = commit_and_look::<Brand, _>(&rt, rt.alloc(), Store::new());
+    assert!(rt; has_looked == Some(true));
+}

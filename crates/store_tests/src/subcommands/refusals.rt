@@ -1,0 +1,225 @@
+//! Answers and runs that are refused memory, the lines of faults, and writers that refuse.
+
+use crate::subcommands::directories::DIRECTORIES;
+use crate::subcommands::rows::{Told, ending_of, is_given, told_by};
+use answers::{answer, body};
+use block::BlockError;
+use commands::{Fault, first_batch, query, second_batch};
+use head::{CommitError, Event, Snapshot, apply};
+use labels::LabelError;
+use matchers::{MatcherError, QueryError, SelectorError};
+use std::alloc::Global;
+use std::net::{Net, TcpListener, TcpStream};
+use std::sync::Wait;
+use std::thread::Threads;
+use std::time::Clock;
+
+const DEMO: &str =
+    "{\"parts\":[{\"intervals\":[{\"from\":1,\"until\":2,\"verdict\":\"match\"},{\"from\":2,\"until\":4,\"verdict\":1},{\"from\":4,\"until\":6,\"verdict\":0},{\"from\":6,\"until\":4294967296,\"verdict\":\"match\"}],\"part\":\"head\",\"rows\":[{\"labels\":{\"__name__\":\"up\",\"job\":\"a\"},\"samples\":[[10,1],[20,1]]},{\"labels\":{\"__name__\":\"up\",\"job\":\"a\",\"zone\":\"x\"},\"samples\":[[10,6],[20,6]]}],\"separators\":[1,2,4,6]}],\"rows\":[{\"labels\":{\"__name__\":\"up\",\"job\":\"a\"},\"samples\":[[10,1],[20,1]]},{\"labels\":{\"__name__\":\"up\",\"job\":\"a\",\"zone\":\"x\"},\"samples\":[[10,6],[20,6]]}]}\n";
+
+const NOTHING: &str =
+    "{\"parts\":[{\"intervals\":[],\"part\":\"head\",\"rows\":[],\"separators\":[]}],\"rows\":[]}";
+
+const FIRST_ALONE: &str =
+    "{\"parts\":[{\"intervals\":[{\"from\":1,\"until\":2,\"verdict\":\"match\"},{\"from\":2,\"until\":4294967296,\"verdict\":1}],\"part\":\"head\",\"rows\":[{\"labels\":{\"__name__\":\"up\",\"job\":\"a\"},\"samples\":[[10,1],[20,1]]}],\"separators\":[1,2]}],\"rows\":[{\"labels\":{\"__name__\":\"up\",\"job\":\"a\"},\"samples\":[[10,1],[20,1]]}]}";
+
+/// The two batches of the demo.
+enum Batch {
+    First,
+    Second,
+}
+
+/// The store after a batch more.
+fn after(alloc: Global, at: &Snapshot, batch: &Batch) -> Option<Snapshot> {
+    let appender = match batch {
+        Batch::First => first_batch(alloc),
+        Batch::Second => second_batch(alloc),
+    };
+    apply(alloc, at, &appender.ok()?.into_event()).ok()
+}
+
+fn after_again(alloc: Global, at: &Snapshot, batch: &Batch) -> Option<Snapshot> {
+    match after(alloc, at, batch) {
+        None => after(alloc, at, batch),
+        made => made,
+    }
+}
+
+/// An empty store.
+fn empty_again(alloc: Global) -> Option<Snapshot> {
+    match Snapshot::opening(alloc, Vec::new(alloc)) {
+        Err(_) => Snapshot::opening(alloc, Vec::new(alloc)).ok(),
+        Ok(store) => Some(store),
+    }
+}
+
+/// The text of the answer of a store to `up{job="a"}` in a closed range of times.
+fn text_of(alloc: Global, store: &Snapshot, from: i64, to: i64) -> Option<Vec<u8>> {
+    let query = query(alloc, from, to).ok()?;
+    let answer = answer(alloc, store, &query).ok()?;
+    body(alloc, answer.parts.as_slice(), answer.rows.as_slice()).ok()
+}
+
+/// Whether a store answers with this text, if not when first asked, then when asked again.
+fn tells(alloc: Global, store: &Snapshot, from: i64, to: i64, text: &str) -> bool {
+    let told = match text_of(alloc, store, from, to) {
+        None => text_of(alloc, store, from, to),
+        told => told,
+    };
+    match told {
+        Some(told) => told.as_slice() == text.as_bytes(),
+        None => false,
+    }
+}
+
+/// Whether a store before the batches of the demo, after the first and after both answers as each
+/// of them should, once all three are there.
+fn answers_again(alloc: Global) -> Option<bool> {
+    let empty = empty_again(alloc)?;
+    let one = after_again(alloc, &empty, &Batch::First)?;
+    let two = after_again(alloc, &one, &Batch::Second)?;
+    Some(tell(alloc, &empty, &one, &two))
+}
+
+fn tell(alloc: Global, empty: &Snapshot, one: &Snapshot, two: &Snapshot) -> bool {
+    tells(alloc, empty, 0, 100, NOTHING)
+        && tells(alloc, one, 0, 100, FIRST_ALONE)
+        && tells(alloc, two, 0, 100, DEMO.trim_end())
+}
+
+/// `tests/allocations` runs this test with each of its allocations refused in turn.
+#[test]
+fn a_call_refused_memory_changes_nothing_and_answers_when_made_again(rt: HostRuntime) {
+    assert!(rt; matches!(answers_again(rt.alloc()), Some(true)));
+}
+
+/// Why a call failed.
+enum Cause {
+    Labels(LabelError),
+    Matcher(MatcherError),
+    Selector(SelectorError),
+    Query(QueryError),
+    Commit(CommitError),
+    Block(BlockError),
+}
+
+fn fault_of(cause: &Cause) -> Fault {
+    match cause {
+        Cause::Labels(error) => (*error).into(),
+        Cause::Matcher(error) => (*error).into(),
+        Cause::Selector(error) => (*error).into(),
+        Cause::Query(error) => (*error).into(),
+        Cause::Commit(error) => (*error).into(),
+        Cause::Block(error) => (*error).into(),
+    }
+}
+
+/// Each cause, and the line of its fault.
+const LINES: &[(Cause, &str)] = &[
+    (Cause::Labels(LabelError::Repeated), "refused L2\n"),
+    (Cause::Matcher(MatcherError::BadName), "refused M1\n"),
+    (Cause::Query(QueryError::TooManyMatchers), "refused Q2\n"),
+    (
+        Cause::Commit(CommitError::Duplicate { at: 3 }),
+        "refused E3 at 3\n",
+    ),
+    (Cause::Commit(CommitError::Limit), "refused E4\n"),
+    (Cause::Labels(LabelError::Memory), "no memory\n"),
+    (Cause::Matcher(MatcherError::Memory), "no memory\n"),
+    (Cause::Selector(SelectorError::Memory), "no memory\n"),
+    (Cause::Commit(CommitError::Memory), "no memory\n"),
+    (Cause::Block(BlockError::Memory), "no memory\n"),
+];
+
+/// Whether a fault is told as this line.
+fn is_told(alloc: Global, fault: &Fault, line: &str) -> bool {
+    let mut told = Vec::new(alloc);
+    fault.tell(&mut told).is_ok() && told.as_slice() == line.as_bytes()
+}
+
+#[test]
+fn the_line_of_each_fault_has_its_cause_or_the_path_that_cannot_be_read(rt: HostRuntime) {
+    for (cause, line) in LINES {
+        assert!(rt; is_told(rt.alloc(), &fault_of(cause), line), "{line}");
+    }
+    let path = String::from_str(rt.alloc(), "a/index").ok();
+    let fault = Fault::CannotRead(path.expect(&rt, "there is memory"));
+    assert!(rt; is_told(rt.alloc(), &fault, "cannot read a/index\n"));
+}
+
+/// Whether a run whose first writer has no room says so.
+fn is_unwritten<
+    Q: Wait + Threads + Net<Listener = TcpListener, Stream = TcpStream> + Clock + Eprint + Sync,
+>(rt: &Q, alloc: Global) -> bool {
+    let mut room = [0u8; 100];
+    let mut out = room.as_mut_slice();
+    let mut err = Vec::new(alloc);
+    match ending_of(rt, alloc, &DIRECTORIES, &["demo"], &mut out, &mut err) {
+        Some(ending) => ending.status == 3 && err.as_slice() == b"cannot write\n".as_slice(),
+        None => false,
+    }
+}
+
+/// Whether a run whose fault cannot be told keeps its status.
+fn is_untold<
+    Q: Wait + Threads + Net<Listener = TcpListener, Stream = TcpStream> + Clock + Eprint + Sync,
+>(rt: &Q, alloc: Global) -> bool {
+    let mut out = Vec::new(alloc);
+    let mut room = [0u8; 5];
+    let mut err = room.as_mut_slice();
+    match ending_of(
+        rt,
+        alloc,
+        &DIRECTORIES,
+        &["select", "{}"],
+        &mut out,
+        &mut err,
+    ) {
+        Some(ending) => ending.status == 1 && ending.told.is_err() && out.is_empty(),
+        None => false,
+    }
+}
+
+#[test]
+fn a_writer_that_refuses_is_told_and_a_fault_that_cannot_be_told_keeps_its_status(rt: HostRuntime) {
+    assert!(rt; is_unwritten(&rt, rt.alloc()));
+    assert!(rt; is_untold(&rt, rt.alloc()));
+}
+
+/// The line of the answer to `up` over the blocks `a` and `b`.
+const A_THEN_B: &str =
+    "{\"parts\":[{\"intervals\":[{\"from\":3,\"until\":4294967296,\"verdict\":\"match\"}],\"part\":\"block 0\",\"rows\":[{\"labels\":{\"__name__\":\"up\",\"job\":\"a\"},\"samples\":[[10,1],[15,2]]}],\"separators\":[3]},{\"intervals\":[{\"from\":3,\"until\":4294967296,\"verdict\":\"match\"}],\"part\":\"block 1\",\"rows\":[{\"labels\":{\"__name__\":\"up\",\"job\":\"a\"},\"samples\":[[10,9]]}],\"separators\":[3]},{\"intervals\":[],\"part\":\"head\",\"rows\":[],\"separators\":[]}],\"rows\":[{\"labels\":{\"__name__\":\"up\",\"job\":\"a\"},\"samples\":[[10,9],[15,2]]}]}\n";
+
+/// How a run ends that was refused memory once, or whose writer was: it is told.
+fn is_refusal(told: &Told) -> bool {
+    match told.status {
+        3 => told.err.as_slice() == b"cannot write\n".as_slice(),
+        4 => told.out.is_empty() && told.err.as_slice() == b"no memory\n".as_slice(),
+        _ => false,
+    }
+}
+
+/// Whether a run with these words writes this line, if not at first, where memory is refused, then
+/// when it is made again.
+fn is_run_again<
+    Q: Wait + Threads + Net<Listener = TcpListener, Stream = TcpStream> + Clock + Eprint + Sync,
+>(rt: &Q, alloc: Global, words: &[&str], line: &str) -> bool {
+    match told_by(rt, alloc, &DIRECTORIES, words) {
+        Some(told) if told.status == 0 => told.out.as_slice() == line.as_bytes(),
+        Some(told) if !is_refusal(&told) => false,
+        _ => is_given(rt, alloc, &DIRECTORIES, &(words, 0, line, "")),
+    }
+}
+
+/// `tests/allocations` runs this test with each of its allocations refused in turn.
+#[test]
+fn a_program_refused_memory_says_so(rt: HostRuntime) {
+    assert!(rt; is_run_again(&rt, rt.alloc(), &["demo"], DEMO));
+}
+
+/// `tests/allocations` runs this test with each of its allocations refused in turn: those of two
+/// workers, of the merge and of the text.
+#[test]
+fn a_selection_refused_memory_says_so(rt: HostRuntime) {
+    assert!(rt; is_run_again(&rt, rt.alloc(), &["select", "up", "a", "b"], A_THEN_B));
+}
