@@ -5,6 +5,10 @@ use crate::subcommands::directories::{
 };
 use crate::subcommands::rows::is_given;
 use commands::ReadFiles;
+use std::net::{Net, TcpListener, TcpStream};
+use std::sync::Wait;
+use std::thread::Threads;
+use std::time::Clock;
 use std::{env, fs};
 
 /// A new folder among those for files that pass.
@@ -60,24 +64,30 @@ fn has_length(rt: &HostRuntime, most: usize, length: usize) -> bool {
 }
 
 /// Whether a check of a folder ends with this status and these texts.
-fn is_checked(rt: &HostRuntime, folder: &str, told: (u8, &str, &str)) -> bool {
+fn is_checked<
+    Q: Wait + Threads + Net<Listener = TcpListener, Stream = TcpStream> + Clock + Eprint + Sync,
+>(rt: &Q, files: &HostRuntime, folder: &str, told: (u8, &str, &str)) -> bool {
     let words = ["check", folder];
     let row = (words.as_slice(), told.0, told.1, told.2);
-    is_given(rt, rt.alloc(), rt, &row)
+    is_given(rt, files.alloc(), files, &row)
 }
 
 /// Whether a check of a folder finds a block in it.
-fn is_whole(rt: &HostRuntime, folder: &str) -> bool {
-    match format!(in rt.alloc(); "{folder}: ok 1 series 2 samples\n") {
-        Ok(line) => is_checked(rt, folder, (0, line.as_str(), "")),
+fn is_whole<
+    Q: Wait + Threads + Net<Listener = TcpListener, Stream = TcpStream> + Clock + Eprint + Sync,
+>(rt: &Q, files: &HostRuntime, folder: &str) -> bool {
+    match format!(in files.alloc(); "{folder}: ok 1 series 2 samples\n") {
+        Ok(line) => is_checked(rt, files, folder, (0, line.as_str(), "")),
         Err(_) => false,
     }
 }
 
 /// Whether a check of a folder finds no tombstones in it.
-fn is_torn(rt: &HostRuntime, folder: &str) -> bool {
-    match format!(in rt.alloc(); "cannot read {folder}/tombstones\n") {
-        Ok(line) => is_checked(rt, folder, (3, "", line.as_str())),
+fn is_torn<
+    Q: Wait + Threads + Net<Listener = TcpListener, Stream = TcpStream> + Clock + Eprint + Sync,
+>(rt: &Q, files: &HostRuntime, folder: &str) -> bool {
+    match format!(in files.alloc(); "cannot read {folder}/tombstones\n") {
+        Ok(line) => is_checked(rt, files, folder, (3, "", line.as_str())),
         Err(_) => false,
     }
 }
@@ -89,11 +99,11 @@ fn files_of_the_host_are_read(rt: HostRuntime) {
     let folder = folder.as_str();
     assert!(rt; env::set_current_dir(&rt, folder).is_ok());
     assert!(rt; write_files(&rt).is_some());
-    assert!(rt; is_whole(&rt, folder));
+    assert!(rt; is_whole(&rt, &rt, folder));
     for (most, length) in LENGTHS {
         assert!(rt; has_length(&rt, *most, *length), "{most}");
     }
     assert!(rt; fs::remove_file(&rt, "tombstones").is_ok());
-    assert!(rt; is_torn(&rt, folder));
+    assert!(rt; is_torn(&rt, &rt, folder));
     assert!(rt; fs::remove_dir_all(&rt, folder).is_ok());
 }
