@@ -6,12 +6,10 @@ GATE_JOBS ?= $(shell n=$$(nproc); echo $$((n < 4 ? n : 4)))
 CRATES := $(shell sed -e 's/\#.*//' -e 's/:.*//' -e '/^[[:space:]]*$$/d' crates.txt)
 # Which crate, or script, has the tests of which crates; a crate of tests has its own.
 TESTS_OF := selection_tests:labels,pages,matchers,postings \
-	file_tests:wire,index_reader,chunk_reader,tombstones,block,block_writer \
-	store_tests:head,history,snapshots,cover,block_search,series_merge,answers,requests,query_http,server,commands,querier,auditor,audit_command,audit_laws,auditor_program \
+	file_tests:wire,index_reader,chunk_reader,tombstones,block,block_writer,xor_reader,doubles,decimal_text,prometheus_block \
+	store_tests:head,history,snapshots,cover,block_search,series_merge,answers,requests,query_http,server,commands,querier,auditor,audit_command,audit_laws,auditor_program,journal,event_text \
 	tests/serving:guard \
 	tests/scraping:metrics_text \
-	import_tests:xor_reader,doubles,decimal_text,prometheus_block \
-	journal_tests:journal,event_text \
 	tests/importing:imported_values,time_cuts,block_folder,block_outputs,open_metrics,metrics_writer,exposition,blocktool_command,blocktool \
 	tests/pages-html:page_layout,page_style,page_text,page_claims,page_marks,page,explain_command,explain
 # The crate or the script with the tests of a crate, or nothing.

@@ -1,6 +1,7 @@
 //! Tests of the files of a block from outside, of what needs types: what their readers lend, files
-//! that are made by a rule or changed in each byte, and what the writer writes. Files with bytes
-//! changed, and what is said of each, stand in `case_files`.
+//! that are made by a rule or changed in each byte, what the writer writes, and what reads other
+//! programs' data (`imports`). Files with bytes changed, and what is said of each, stand in
+//! `case_files`.
 //!
 //! They stand in a crate of their own, so that the gate proves each reader once and not a second
 //! time with its tests.
@@ -20,6 +21,8 @@ mod draft;
 mod files;
 #[cfg(test)]
 mod first_pages;
+#[cfg(test)]
+mod imports;
 #[cfg(test)]
 mod indexes;
 #[cfg(test)]

@@ -1,6 +1,6 @@
 //! Sessions over a medium whose calls fail from the n-th on, and what each crash leaves of them.
 
-use crate::records::new_journal;
+use crate::journals::records::new_journal;
 use journal::{JournalError, recover};
 use std::alloc::Global;
 use std::test::Fail;

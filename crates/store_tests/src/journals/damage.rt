@@ -1,7 +1,7 @@
 //! A journal of three records, cut off anywhere, and with each of its bytes changed. A CRC-32C
 //! tells each change of one byte.
 
-use crate::records::FILE;
+use crate::journals::records::FILE;
 use journal::{JournalError, recover};
 use std::alloc::Global;
 use std::test::Fail;
