@@ -42,7 +42,7 @@ new-requires c =
 
 pub returns-in-Some : goal.returns-in-Some
 returns-in-Some c =
-    let front = c.append_front-spot.new.out.items in
+    let front = c.append_front.new.out.items in
     let rows = json_list row_data c.args.rows.now in
     told c.new.result front c.in-Some.again rows c.new.ensures.bytes c.new.ensures.again
     (rw c.in-Some.is at c.in_ok-spot.ensures.stands)
@@ -53,7 +53,7 @@ returns-in-Some c =
 
 pub returns-in-None : goal.returns-in-None
 returns-in-None c =
-    let front = c.append_front-spot.new.out.items in
+    let front = c.append_front.new.out.items in
     IfOk-weaker c.with_rows.result _ _
     (λ text is. is ∙ put_together c.args.parts.now c.args.rows.now front
     (c.in_ok-spot.ensures.text

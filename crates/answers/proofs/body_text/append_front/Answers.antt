@@ -11,7 +11,7 @@ returns-clause-text c =
     joined_3 c.args.out.now.items
     (codes "{\"parts\":") (compact_text (list_data part_data c.args.parts.now))
     (codes ",\"rows\":")
-    _ c.append_parts-spot.new.out.items _
+    _ c.append_parts.new.out.items _
     c.in_ok-extend_from_slice.ensures.items
     c.in_ok-spot.ensures.text
     c.in_ok-extend_from_slice-2.ensures.items

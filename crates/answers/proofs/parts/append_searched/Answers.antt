@@ -7,8 +7,8 @@ use Rattle.answers.proofs.Objects.{joined_3, joined_5, joined_9, searched_text}
 use Rattle.answers.proofs.Spots.{spot_later}
 use Rattle.answers.proofs.parts.append_searched.Goals as goal
 
-pub append_rows_of_part-spot-requires : goal.append_rows_of_part-spot-requires
-append_rows_of_part-spot-requires c =
+pub append_rows_of_part-requires : goal.append_rows_of_part-requires
+append_rows_of_part-requires c =
     let answer = c.args.answer.now in
     spot_later _ _ _ _ c.args.known
     (joined_5 c.args.out.now.items
@@ -37,7 +37,7 @@ returns-clause-text c =
     (codes ",\"separators\":")
     (compact_text (list_data natural answer.cover.separators.items)) (125 ∷ [])
     _ c.append_intervals.new.out.items _ c.append_string.new.out.items _
-    c.append_rows_of_part-spot.new.out.items _ c.append_references.new.out.items _
+    c.append_rows_of_part.new.out.items _ c.append_references.new.out.items _
     c.in_ok-extend_from_slice.ensures.items
     (c.in_ok-append_intervals.ensures
     ∙ ap (λ xs. c.extend_from_slice.new.self.items ++ compact_text (list_data interval_data xs))
@@ -61,7 +61,7 @@ pub returns-clause-stands : goal.returns-clause-stands
 returns-clause-stands c =
     let separators = c.args.answer.now.cover.separators.items in
     spot_later _ _ _ _ c.in_ok-spot.spot
-    (joined_3 c.append_rows_of_part-spot.new.out.items
+    (joined_3 c.append_rows_of_part.new.out.items
     (codes ",\"separators\":") (compact_text (list_data natural separators)) (125 ∷ [])
     _ c.append_references.new.out.items _
     c.in_ok-extend_from_slice-4.ensures.items
