@@ -1,5 +1,5 @@
 -- The rows of one part alone are those of all parts.
-use Rattle.std.proofs.Common.{◌≡◌, ℤ, T, Bool, true, false, cond, List, [], ◌∷◌, map, length, refl}
+use Rattle.std.proofs.Common.{◌≡◌, T, Bool, true, false, cond, List, [], ◌∷◌, map, length, refl}
 use Rattle.std.proofs.Common.{sym, ◌∙◌, ap, subst, arith}
 use Rattle.std.specs.Prelude.{◌==◌, ◌&&◌, not}
 use Rattle.std.specs.List.{AllZip, filter}

@@ -9,8 +9,8 @@ ghost use Rattle.answers.specs.AfterCommas.{interval_after_comma, part_after_com
 ghost use Rattle.answers.specs.AfterCommas.{after_commas};
 ghost use Rattle.answers.specs.Kept.{Stands};
 
-use crate::kept::Spot;
 use crate::brackets::close_list;
+use crate::kept::Spot;
 use crate::number::append_natural;
 use crate::row_text::append_rows_of_part;
 use crate::strings::append_string;

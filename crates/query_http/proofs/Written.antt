@@ -51,9 +51,11 @@ pub front_of_both : (a b : Option (List ℕ)) (first second : List ℕ) → Appe
     → AppendsFront a b (first ++ second)
 front_of_both a b first second h = record {
   front = h.front;
-  begins =
-      (h.begins.0 ++ second, ap (λ s. s ++ second) h.begins.1
-      ∙ append_assoc h.front h.begins.0 second);
+  begins = (
+    h.begins.0 ++ second,
+    ap (λ s. s ++ second) h.begins.1
+        ∙ append_assoc h.front h.begins.0 second,
+  );
   shorter = omega (arith, h.shorter, length-append first second);
   appends = h.appends;
 }
@@ -63,9 +65,11 @@ pub front_behind : (a b c : Option (List ℕ)) (first second : List ℕ) → App
     → AppendsFront b c second → AppendsFront a c (first ++ second)
 front_behind a b c first second p h = record {
   front = first ++ h.front;
-  begins =
-      (h.begins.0, ap (λ s. first ++ s) h.begins.1
-      ∙ sym (append_assoc first h.front h.begins.0));
+  begins = (
+    h.begins.0,
+    ap (λ s. first ++ s) h.begins.1
+        ∙ sym (append_assoc first h.front h.begins.0),
+  );
   shorter =
       omega (arith, h.shorter, length-append first h.front, length-append first second);
   appends = Appends-trans a b c first h.front p h.appends;

@@ -66,11 +66,7 @@ fn write_both<W: Outlet>(writer: &mut W, first: &[u8], second: &[u8]) -> Result<
 
 /// Writes a text, and that of an answer behind it; or a prefix of both together, where the writer
 /// fails. What the answer tells twice is written twice from where it stands.
-fn write_answer<W: Outlet>(
-    writer: &mut W,
-    head: &[u8],
-    answer: &AnswerText,
-) -> Result<(), Fault>
+fn write_answer<W: Outlet>(writer: &mut W, head: &[u8], answer: &AnswerText) -> Result<(), Fault>
     ensures ok { OnOk result
         (Appends (W.output writer.old) (W.output writer.new) (head.now ++ whole_of answer.now)) }
     ensures counted { OnOk result (W.failed_writes writer.new ≡ W.failed_writes writer.old) }

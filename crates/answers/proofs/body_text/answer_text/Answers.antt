@@ -1,10 +1,9 @@
-use Rattle.std.proofs.Common.{◌≡◌, ◌∷◌, ◌++◌, [], List, ℕ, ap, ap₂, sym, ◌∙◌, append_assoc}
+use Rattle.std.proofs.Common.{◌≡◌, ◌++◌, List, ℕ, ap, ap₂, sym, ◌∙◌, append_assoc}
 use Rattle.std.specs.Prelude.{codes, slice_range}
 use Rattle.std.proofs.lemmas.Result.{IfOk-weaker}
 use Rattle.labels.specs.Rows.{Row}
 use Rattle.block_search.specs.declared.answered.AnsweredPart.{AnsweredPart}
-use Rattle.serde_json.specs.Written.{compact_text}
-use Rattle.answers.specs.Body.{body_text, json_list, list_data, part_data, row_data}
+use Rattle.answers.specs.Body.{body_text, json_list, part_data, row_data}
 use Rattle.answers.specs.Kept.{Stands, whole_of}
 use Rattle.answers.specs.declared.kept.AnswerText.{AnswerText}
 use Rattle.answers.specs.declared.kept.Spot.{Spot}

@@ -1,4 +1,4 @@
-use Rattle.std.proofs.Common.{◌++◌, ℕ, length, ap, ◌∙◌, arith, length-append}
+use Rattle.std.proofs.Common.{◌++◌, length, ap, arith, length-append}
 use Rattle.std.specs.Prelude.{codes}
 use Rattle.answers.specs.Kept.{again_in}
 use Rattle.answers.proofs.body_text.length_of.Goals as goal

@@ -1,4 +1,4 @@
-use Rattle.std.proofs.Common.{◌∷◌, [], ◌++◌, List, ap, sym, ◌∙◌, append_assoc}
+use Rattle.std.proofs.Common.{◌∷◌, [], ◌++◌, ap, sym, ◌∙◌, append_assoc}
 use Rattle.serde_json.specs.Written.{compact_text}
 use Rattle.answers.specs.Body.{list_data, part_data}
 use Rattle.answers.specs.AfterCommas.{after_commas}

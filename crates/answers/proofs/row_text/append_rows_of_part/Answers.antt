@@ -1,4 +1,4 @@
-use Rattle.std.proofs.Common.{◌++◌, ap, sym, ◌∙◌, arith}
+use Rattle.std.proofs.Common.{◌++◌, ap, ◌∙◌, arith}
 use Rattle.answers.specs.Body.{json_list, row_data}
 use Rattle.answers.proofs.Spots.{spot_later, stands_last}
 use Rattle.answers.proofs.row_text.append_rows_of_part.Goals as goal

@@ -1,6 +1,4 @@
-use Rattle.std.proofs.Common.{subst}
 use Rattle.std.proofs.lemmas.Result.{on_ok_weaker, on_err_weaker}
-use Rattle.requests.specs.Edge.{HasGrown}
 use Rattle.query_http.proofs.Written.{on_err, both, front_of_both, front_behind}
 use Rattle.query_http.proofs.outlet.write_both.Goals as goal
 
