@@ -12,6 +12,7 @@ use Rattle.block_search.specs.Answered.{AreAnsweredParts}
 use Rattle.snapshots.specs.Replays.{IsAfter}
 use Rattle.snapshots.specs.Views.{Known}
 use Rattle.answers.specs.Audited.{selected_in}
+use Rattle.answers.specs.MergedRows.{rows_of}
 use Rattle.answers.specs.Headline.{IsHeadline}
 use Rattle.answers.specs.declared.audited.AuditedAnswer.{AuditedAnswer}
 
@@ -24,7 +25,7 @@ module _ (opening : SnapshotParts) (query : QueryView) (before after : Known)
     (answer : AuditedAnswer) where
   pub headline : (s : SnapshotParts) → IsPrefix before.seen after.seen
       → IsPrefix before.told after.seen → IsAfter opening after.seen s
-      → AreRows answer.rows.items (selected_in query s)
+      → AreRows (rows_of answer) (selected_in query s)
       → LosesNothing query s
       → AreAnsweredParts query s answer.parts.items
       → IsHeadline opening query before after answer
@@ -34,7 +35,7 @@ module _ (opening : SnapshotParts) (query : QueryView) (before after : Known)
     snapshot = s;
     replay = after_events;
     rows =
-        subst (λ (c : Content). AreRows answer.rows.items (selected_by query c))
+        subst (λ (c : Content). AreRows (rows_of answer) (selected_by query c))
         (world_content s) rows;
     whole = whole;
     parts = parts;

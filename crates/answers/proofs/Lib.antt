@@ -1,4 +1,6 @@
 pub mod Lists
 pub mod Objects
 pub mod MergedAnswers
+pub mod OnePart
 pub mod Headlines
+pub mod Spots

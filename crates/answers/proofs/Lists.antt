@@ -1,6 +1,6 @@
 -- The text of a list, as its items with commas before them.
 use Rattle.std.proofs.Common.{◌≡◌, ℕ, List, [], ◌∷◌, ◌++◌, true, map, length, take, drop, refl, sym}
-use Rattle.std.proofs.Common.{ap, ap₂, ◌∙◌, append_assoc}
+use Rattle.std.proofs.Common.{ap, ap₂, ◌∙◌, append_assoc, arith}
 use Rattle.std.proofs.Math.Seq.{take-append_seam, drop-append_seam}
 use Rattle.serde_json.specs.Data.{Data}
 use Rattle.serde_json.specs.View.{items_of}
@@ -22,6 +22,19 @@ opened_later data_of [] = refl
 opened_later data_of (x ∷ xs) =
     ap (λ s. 91 ∷ s) (append_assoc (compact_text (data_of x)) (after_commas data_of xs) (93 ∷ [])
     ∙ sym (ap (λ s. compact_text (data_of x) ++ s) (later_items data_of xs)))
+
+-- a list of one item, and of those behind it
+pub first_and_rest : {A : Type 0} (data_of : A → Data) (x : A) (xs : List A)
+    → 91 ∷ (compact_text (data_of x) ++ (after_commas data_of xs ++ 93 ∷ []))
+    ≡ compact_text (list_data data_of (x ∷ xs))
+first_and_rest data_of x xs =
+    ap (λ s. 91 ∷ (compact_text (data_of x) ++ s)) (sym (later_items data_of xs))
+
+-- a list of no items
+pub no_items : {A : Type 0} (data_of : A → Data) (xs : List A) → length xs ≡ 0
+    → 91 ∷ 93 ∷ [] ≡ compact_text (list_data data_of xs)
+no_items data_of [] e = refl
+no_items data_of (x ∷ xs) e = absurd (omega (arith, e))
 
 -- what stands between brackets after `old`
 pub bracketed : (old later new : List ℕ) (n first last : ℕ) → n ≡ length old → new ≡ old ++ later

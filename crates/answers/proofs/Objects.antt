@@ -116,8 +116,8 @@ pub interval_text : (i : Interval) → 44 ∷ compact_text (interval_data i)
 unfolding escape_byte
 interval_text i = refl
 
-pub searched_text : (a : PartAnswer) → 44 ∷ compact_text (searched_data a)
-    ≡ codes ",{\"intervals\":" ++ (compact_text (list_data interval_data a.cover.certificate.items)
+pub searched_text : (a : PartAnswer) → compact_text (searched_data a)
+    ≡ codes "{\"intervals\":" ++ (compact_text (list_data interval_data a.cover.certificate.items)
     ++ (codes ",\"part\":" ++ (quoted (name_text a.part)
     ++ (codes ",\"rows\":"
     ++ (compact_text (list_data row_data a.rows.items) ++ (codes ",\"separators\":"
@@ -125,8 +125,8 @@ pub searched_text : (a : PartAnswer) → 44 ∷ compact_text (searched_data a)
 unfolding escape_byte
 searched_text a = refl
 
-pub skipped_text : (name : PartName) → 44 ∷ compact_text (skipped_data name)
-    ≡ codes ",{\"part\":" ++ (quoted (name_text name) ++ codes ",\"skipped\":true}")
+pub skipped_text : (name : PartName) → compact_text (skipped_data name)
+    ≡ codes "{\"part\":" ++ (quoted (name_text name) ++ codes ",\"skipped\":true}")
 unfolding escape_byte
 skipped_text name = refl
 
@@ -140,6 +140,11 @@ whole_text parts rows = refl
 pub joined_3 : (old a b c n1 n2 n3 : List ℕ) → n1 ≡ old ++ a → n2 ≡ n1 ++ b → n3 ≡ n2 ++ c
     → n3 ≡ old ++ (a ++ (b ++ c))
 joined_3 old a b c n1 n2 n3 h1 h2 h3 = rw (h3, h2, h1) (simp append_assoc)
+
+-- four parts, one after another
+pub joined_4 : (old a b c d n1 n2 n3 n4 : List ℕ) → n1 ≡ old ++ a → n2 ≡ n1 ++ b → n3 ≡ n2 ++ c
+    → n4 ≡ n3 ++ d → n4 ≡ old ++ (a ++ (b ++ (c ++ d)))
+joined_4 old a b c d n1 n2 n3 n4 h1 h2 h3 h4 = rw (h4, h3, h2, h1) (simp append_assoc)
 
 -- five parts, one after another
 pub joined_5 : (old a b c d e n1 n2 n3 n4 n5 : List ℕ) → n1 ≡ old ++ a → n2 ≡ n1 ++ b → n3 ≡ n2 ++ c

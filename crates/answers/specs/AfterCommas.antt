@@ -6,11 +6,8 @@ use Rattle.serde_json.specs.Written.{compact_text}
 use Rattle.labels.specs.Labels.{Labels}
 use Rattle.labels.specs.Rows.{Row}
 use Rattle.cover.specs.declared.certificate.Interval.{Interval}
-use Rattle.cover.specs.declared.part_cover.PartAnswer.{PartAnswer}
-use Rattle.postings.specs.declared.part_name.PartName.{PartName}
 use Rattle.block_search.specs.declared.answered.AnsweredPart.{AnsweredPart}
-use Rattle.answers.specs.Body.{sample_data, row_data, interval_data, searched_data}
-use Rattle.answers.specs.Body.{skipped_data, part_data}
+use Rattle.answers.specs.Body.{sample_data, row_data, interval_data, part_data}
 
 -- each item with a comma before it
 abbrev pub after_commas : {A : Type 0} → (A → Data) → List A → List ℕ
@@ -27,14 +24,6 @@ row_after_comma r = codes "," ++ compact_text (row_data r)
 -- an interval with a comma before it
 abbrev pub interval_after_comma : Interval → List ℕ
 interval_after_comma i = codes "," ++ compact_text (interval_data i)
-
--- a part's answer with a comma before it
-abbrev pub searched_after_comma : PartAnswer → List ℕ
-searched_after_comma a = codes "," ++ compact_text (searched_data a)
-
--- that a part is skipped, with a comma before it
-abbrev pub skipped_after_comma : PartName → List ℕ
-skipped_after_comma name = codes "," ++ compact_text (skipped_data name)
 
 -- what is told of a part, with a comma before it
 abbrev pub part_after_comma : AnsweredPart → List ℕ

@@ -7,6 +7,7 @@ use Rattle.matchers.specs.Queries.{selected_by}
 use Rattle.head.specs.Heads.{SnapshotParts, parts_of}
 use Rattle.block_search.specs.Answered.{AreAnsweredParts}
 use Rattle.answers.specs.declared.audited.AuditedAnswer.{AuditedAnswer}
+use Rattle.answers.specs.MergedRows.{rows_of}
 
 -- the samples that a query asks of all parts of a snapshot
 abbrev pub selected_in : QueryView → SnapshotParts → Content
@@ -17,4 +18,4 @@ selected_in query snapshot = selected_by query (content_of (parts_of snapshot))
 pub record IsAudited (query : QueryView) (snapshot : SnapshotParts)
     (answer : AuditedAnswer) : Type 0 where
   pub each : AreAnsweredParts query snapshot answer.parts.items
-  pub rows : AreRows answer.rows.items (selected_in query snapshot)
+  pub rows : AreRows (rows_of answer) (selected_in query snapshot)

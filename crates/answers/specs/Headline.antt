@@ -9,6 +9,7 @@ use Rattle.block_search.specs.Answered.{AreAnsweredParts}
 use Rattle.snapshots.specs.Replays.{IsAfter}
 use Rattle.snapshots.specs.Views.{Known}
 use Rattle.answers.specs.declared.audited.AuditedAnswer.{AuditedAnswer}
+use Rattle.answers.specs.MergedRows.{rows_of}
 
 -- A pass asked a store that had opened with this snapshot. It knew `before` when it asked and
 -- `after` when it was answered. The list of events that it has seen then begins with what it
@@ -25,6 +26,6 @@ pub record IsHeadline (opening : SnapshotParts) (query : QueryView) (before afte
   pub told : IsPrefix before.told after.seen
   pub snapshot : SnapshotParts
   pub replay : IsAfter opening after.seen snapshot
-  pub rows : AreRows answer.rows.items (selected_by query (world_of snapshot).content)
+  pub rows : AreRows (rows_of answer) (selected_by query (world_of snapshot).content)
   pub whole : LosesNothing query snapshot
   pub parts : AreAnsweredParts query snapshot answer.parts.items

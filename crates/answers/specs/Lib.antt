@@ -1,5 +1,7 @@
 pub mod Body
 pub mod AfterCommas
+pub mod MergedRows
 pub mod Audited
 pub mod Headline
 pub mod Refusals
+pub mod Kept

@@ -1,11 +1,13 @@
 //! The answer of a snapshot to a query: what is told of each part, and the rows of all.
 
-ghost use Rattle.std.specs.Prelude.{IfOk, OnOk};
+ghost use Rattle.std.specs.Prelude.{◌≡◌, IfOk, OnOk};
 ghost use Rattle.labels.specs.Rows.{AreRows};
 ghost use Rattle.block_search.specs.Skipping.{LosesNothing};
 ghost use Rattle.block_search.specs.Answers.{AreAnswers};
 ghost use Rattle.block_search.specs.Answered.{AreAnsweredParts};
 ghost use Rattle.answers.specs.Audited.{selected_in};
+ghost use Rattle.answers.specs.MergedRows.{rows_told, first_rows, rows_of, AreMergedFrom};
+ghost use Rattle.answers.specs.MergedRows.{is_bare, are_bare, one_has_rows};
 
 use block_search::{AnsweredPart, OpenGate, answered_parts, search, search_one_by_one};
 use cover::PartAnswer;
@@ -16,11 +18,109 @@ use series_merge::merge;
 use std::alloc::{AllocError, Global};
 use std::thread::Threads;
 
+/// The rows of all parts.
+#[derive(Drop)]
+pub(crate) enum MergedRows {
+    /// At most one part has rows: they are that part's, and are not kept a second time.
+    OfOnePart,
+    /// The rows of several parts, merged.
+    Merged(Vec<Row>),
+}
+
 /// What is told of each part, in the order of the parts, and the rows of all of them.
 #[derive(Drop)]
 pub struct AuditedAnswer {
-    pub parts: Vec<AnsweredPart>,
-    pub rows: Vec<Row>,
+    pub(crate) parts: Vec<AnsweredPart>,
+    pub(crate) merged: MergedRows,
+}
+
+/// The rows that are told of a part.
+fn rows_told(part: &AnsweredPart) -> &[Row]
+    ensures { result.now ≡ rows_told part.now }
+{
+    match part {
+        AnsweredPart::Searched(answer) => answer.rows.as_slice(),
+        AnsweredPart::Skipped(_) => &[],
+    }
+}
+
+/// The rows of the first part that has any.
+fn first_rows(parts: &[AnsweredPart]) -> &[Row]
+    ensures { result.now ≡ first_rows parts.now }
+{
+    let mut rest = parts;
+    while let Some((first, later)) = rest.split_first() {
+        let rows = rows_told(first);
+        if !rows.is_empty() {
+            return rows;
+        }
+        rest = later;
+    }
+    &[]
+}
+
+impl AuditedAnswer {
+    /// What is told of each part, in the order of the parts.
+    pub fn parts(&self) -> &[AnsweredPart]
+        ensures { result.now ≡ self.now.parts.items }
+    {
+        self.parts.as_slice()
+    }
+
+    /// The rows of all parts. It takes no time.
+    pub fn rows(&self) -> &[Row]
+        ensures { result.now ≡ rows_of self.now }
+    {
+        match &self.merged {
+            MergedRows::OfOnePart => first_rows(self.parts.as_slice()),
+            MergedRows::Merged(rows) => rows.as_slice(),
+        }
+    }
+}
+
+fn is_bare(answer: &PartAnswer) -> bool
+    ensures { result ≡ is_bare answer.now }
+{
+    answer.rows.as_slice().is_empty()
+}
+
+/// Whether no answer has rows.
+fn are_bare(answers: &[PartAnswer]) -> bool
+    ensures { result ≡ are_bare answers.now }
+{
+    let mut rest = answers;
+    while let Some((first, later)) = rest.split_first() {
+        if !is_bare(first) {
+            return false;
+        }
+        rest = later;
+    }
+    true
+}
+
+/// Whether at most one answer has rows.
+fn one_has_rows(answers: &[PartAnswer]) -> bool
+    ensures { result ≡ one_has_rows answers.now }
+{
+    let mut rest = answers;
+    while let Some((first, later)) = rest.split_first() {
+        if !is_bare(first) {
+            return are_bare(later);
+        }
+        rest = later;
+    }
+    true
+}
+
+/// The rows of the answers of all parts. Those of one part alone are neither copied nor compared.
+fn merged_rows(alloc: Global, answers: &[PartAnswer]) -> Result<MergedRows, AllocError>
+    ensures { IfOk result (AreMergedFrom answers.now) }
+{
+    if one_has_rows(answers) {
+        return Ok(MergedRows::OfOnePart);
+    }
+    let rows = merge(alloc, answers)?;
+    Ok(MergedRows::Merged(rows))
 }
 
 /// The audited answer of a snapshot, given the answers of the parts that are searched.
@@ -33,11 +133,11 @@ fn audited_answer(
     requires each { AreAnswers query.now snapshot.now answers.items }
     requires whole { LosesNothing query.now snapshot.now }
     ensures each { IfOk result (λ a. AreAnsweredParts query.now snapshot.now a.parts.items) }
-    ensures rows { IfOk result (λ a. AreRows a.rows.items (selected_in query.now snapshot.now)) }
+    ensures rows { IfOk result (λ a. AreRows (rows_of a) (selected_in query.now snapshot.now)) }
 {
-    let rows = merge(alloc, answers.as_slice())?;
+    let merged = merged_rows(alloc, answers.as_slice())?;
     let parts = answered_parts(alloc, snapshot, answers)?;
-    Ok(AuditedAnswer { parts, rows })
+    Ok(AuditedAnswer { parts, merged })
 }
 
 /// The audited answer to a query, one part searched after another.
@@ -47,7 +147,7 @@ pub fn answer(
     query: &Query,
 ) -> Result<AuditedAnswer, AllocError>
     ensures each { IfOk result (λ a. AreAnsweredParts query.now snapshot.now a.parts.items) }
-    ensures rows { IfOk result (λ a. AreRows a.rows.items (selected_in query.now snapshot.now)) }
+    ensures rows { IfOk result (λ a. AreRows (rows_of a) (selected_in query.now snapshot.now)) }
     ensures whole { OnOk result (LosesNothing query.now snapshot.now) }
 {
     let answers = search_one_by_one(alloc, snapshot, query)?;
@@ -63,7 +163,7 @@ pub fn answer_by_workers<R: Threads + Sync>(
     query: &Query,
 ) -> Result<AuditedAnswer, AllocError>
     ensures each { IfOk result (λ a. AreAnsweredParts query.now snapshot.now a.parts.items) }
-    ensures rows { IfOk result (λ a. AreRows a.rows.items (selected_in query.now snapshot.now)) }
+    ensures rows { IfOk result (λ a. AreRows (rows_of a) (selected_in query.now snapshot.now)) }
     ensures whole { OnOk result (LosesNothing query.now snapshot.now) }
 {
     let answers = search(rt, alloc, snapshot, query, &OpenGate)?;

@@ -1,36 +1,50 @@
 //! The text of an answer, written straight into one vector of bytes.
 //!
-//! Each item of a list is written with a comma before it; the first comma then becomes the opening
-//! bracket.
+//! Each item of most lists is written with a comma before it; the first comma then becomes the
+//! opening bracket. The list of the parts begins with its bracket, since what stands behind it has a
+//! place that is known.
 
-ghost use Rattle.std.specs.Prelude.{◌≡◌, ◌≤◌, ◌++◌, OnOk, IfOk, drop, vec_len};
-ghost use Rattle.answers.specs.Body.{body_text};
+ghost use Rattle.std.specs.Prelude.{◌≡◌, ◌++◌, OnOk, IfOk, IfSome, codes, length};
+ghost use Rattle.answers.specs.Body.{body_text, json_list, part_data, row_data};
+ghost use Rattle.answers.specs.Kept.{Stands, whole_of};
 
+use crate::kept::{AnswerText, Spot};
 use crate::parts::append_parts;
-use crate::row_text::{RowText, room_of_rows, write_rows};
+use crate::row_text::room_of_rows;
+use crate::rows::append_rows;
 use block_search::AnsweredPart;
 use cover::PartAnswer;
 use labels::Row;
 use std::alloc::{AllocError, Global};
 
-/// Appends the text of an answer; that of its rows is written into a buffer first.
-fn append_body(
+/// Appends the text of an answer up to its rows. It says where the text of these stands in it, if
+/// it does.
+fn append_front(
     alloc: Global,
     out: &mut Vec<u8>,
-    row_buf: &mut Vec<u8>,
     parts: &[AnsweredPart],
     rows: &[Row],
-) -> Result<(), AllocError>
-    ensures { OnOk result (out.new.items ≡ out.old.items ++ body_text parts.now rows.now) }
+) -> Result<Option<Spot>, AllocError>
+    ensures text { OnOk result (out.new.items ≡ out.old.items
+        ++ (codes "{\"parts\":" ++ (json_list part_data parts.now ++ codes ",\"rows\":"))) }
+    ensures stands { IfOk result (λ spot.
+        IfSome spot (Stands out.new.items (json_list row_data rows.now))) }
 {
-    write_rows(row_buf, rows)?;
-    let text = RowText::new(rows, row_buf.as_slice());
     out.extend_from_slice(b"{\"parts\":")?;
-    append_parts(alloc, out, parts, &text)?;
+    let spot = append_parts(alloc, out, parts, rows)?;
     out.extend_from_slice(b",\"rows\":")?;
-    text.append(out)?;
-    out.push(b'}')?;
-    Ok(())
+    Ok(spot)
+}
+
+/// A text, with rows and a closing brace behind it.
+fn with_rows(bytes: Vec<u8>, rows: &[Row]) -> Result<AnswerText, AllocError>
+    ensures { IfOk result (λ text.
+        whole_of text ≡ bytes.items ++ (json_list row_data rows.now ++ codes "}")) }
+{
+    let mut bytes = bytes;
+    bytes.reserve(room_of_rows(rows))?;
+    append_rows(&mut bytes, rows)?;
+    Ok(AnswerText::new(bytes, Spot { from: 0, until: 0 }))
 }
 
 /// About as many bytes as an answer takes: an interval with its separator 80.
@@ -39,9 +53,9 @@ fn room_of_answer(answer: &PartAnswer) -> usize {
     room_of_rows(answer.rows.as_slice()).saturating_add(intervals)
 }
 
-/// About as many bytes as all of it takes.
-fn room_of(parts: &[AnsweredPart], rows: &[Row]) -> usize {
-    let mut room = room_of_rows(rows);
+/// About as many bytes as the parts take.
+fn room_of(parts: &[AnsweredPart]) -> usize {
+    let mut room = 256usize;
     for part in parts {
         room = room.saturating_add(match part {
             AnsweredPart::Searched(answer) => room_of_answer(answer),
@@ -51,27 +65,42 @@ fn room_of(parts: &[AnsweredPart], rows: &[Row]) -> usize {
     room
 }
 
-/// The text of the answer to a query as [`body`] gives it, after so many bytes of room, in a vector
-/// that the caller has at hand, whose bytes are dropped. The text of the rows is written into
-/// `row_buf` on the way; what that held is dropped too.
-pub fn body_after(
+/// The text of the answer to a query as [`body`] gives it, in a vector that the caller has at hand,
+/// whose bytes are dropped. Rows that are those of one part are written once, and stand once in
+/// memory.
+pub fn answer_text(
     alloc: Global,
     at_hand: Vec<u8>,
-    row_buf: &mut Vec<u8>,
-    room: usize,
     parts: &[AnsweredPart],
     rows: &[Row],
-) -> Result<Vec<u8>, AllocError>
-    ensures room { IfOk result (λ bytes. room ≤ vec_len bytes) }
-    ensures text { IfOk result (λ bytes. drop room bytes.items ≡ body_text parts.now rows.now) }
+) -> Result<AnswerText, AllocError>
+    ensures { IfOk result (λ text. whole_of text ≡ body_text parts.now rows.now) }
 {
-    let all = room_of(parts, rows).saturating_add(room);
-    let mut out = at_hand;
-    out.clear();
-    out.reserve(all)?;
-    out.resize(room, 0)?;
-    append_body(alloc, &mut out, row_buf, parts, rows)?;
-    Ok(out)
+    let mut bytes = at_hand;
+    bytes.clear();
+    bytes.reserve(room_of(parts))?;
+    let spot = append_front(alloc, &mut bytes, parts, rows)?;
+    match spot {
+        Some(again) => Ok(AnswerText::new(bytes, again)),
+        None => with_rows(bytes, rows),
+    }
+}
+
+/// How many bytes the text of an answer has.
+pub fn length_of(text: &AnswerText) -> usize
+    ensures { result ≡ length (whole_of text.now) }
+{
+    text.first().len() + text.again().len() + 1
+}
+
+/// Appends the text of an answer.
+pub fn append_text(out: &mut Vec<u8>, text: &AnswerText) -> Result<(), AllocError>
+    ensures { OnOk result (out.new.items ≡ out.old.items ++ whole_of text.now) }
+{
+    out.extend_from_slice(text.first())?;
+    out.extend_from_slice(text.again())?;
+    out.push(b'}')?;
+    Ok(())
 }
 
 /// The text of the answer to a query: what is told of each part, and the rows of all, as compact
@@ -81,6 +110,8 @@ pub fn body_after(
 pub fn body(alloc: Global, parts: &[AnsweredPart], rows: &[Row]) -> Result<Vec<u8>, AllocError>
     ensures { IfOk result (λ text. text.items ≡ body_text parts.now rows.now) }
 {
-    let mut row_buf = Vec::new(alloc);
-    body_after(alloc, Vec::new(alloc), &mut row_buf, 0, parts, rows)
+    let text = answer_text(alloc, Vec::new(alloc), parts, rows)?;
+    let mut out = Vec::with_capacity(alloc, length_of(&text))?;
+    append_text(&mut out, &text)?;
+    Ok(out)
 }

@@ -5,15 +5,16 @@
 //! content restricted to the matchers and the range. [`answer`] gives it of a snapshot. [`ask`]
 //! puts a query to a store that others change meanwhile: its answer is that of the next snapshot of
 //! a pass, after all events that the pass had seen or been told of. [`body`] is the text of an
-//! answer, as compact JSON, byte for byte.
+//! answer, as compact JSON, byte for byte; [`answer_text`] keeps it so that rows that it tells
+//! twice stand in memory once.
 //!
 //! Of a `snapshot` whose head has one sample, 1 at time 10, of the series `up`:
 //!
 //! ```
 //! let query = Query::new(Selector::parse(alloc, "up").ok()?, 0, 20).ok()?;
-//! let AuditedAnswer { parts, rows } = answer(alloc, snapshot, &query).ok()?;
-//! assert_eq!(rt; (parts.len(), rows.len()), (1, 1));
-//! let text = body(alloc, &parts, &rows).ok()?;
+//! let found = answer(alloc, snapshot, &query).ok()?;
+//! assert_eq!(rt; (found.parts().len(), found.rows().len()), (1, 1));
+//! let text = body(alloc, found.parts(), found.rows()).ok()?;
 //! let end = br#""rows":[{"labels":{"__name__":"up"},"samples":[[10,1]]}]}"#;
 //! assert!(rt; text.ends_with(end));
 //! ```
@@ -24,6 +25,7 @@ mod body_text;
 mod brackets;
 mod error;
 mod headline;
+mod kept;
 mod number;
 mod parts;
 mod plain;
@@ -34,6 +36,7 @@ mod strings;
 
 pub use audited::{AuditedAnswer, answer, answer_by_workers};
 pub use block_search::AnsweredPart;
-pub use body_text::{body, body_after};
+pub use body_text::{answer_text, append_text, body, length_of};
 pub use error::AskError;
 pub use headline::ask;
+pub use kept::AnswerText;

@@ -1,21 +1,22 @@
 //! The text of what is told of each part: its certificate, its rows and its separators, or that it
 //! is skipped.
 
-ghost use Rattle.std.specs.Prelude.{◌≡◌, ◌++◌, OnOk, IfOk, string_bytes};
+ghost use Rattle.std.specs.Prelude.{◌≡◌, ◌++◌, OnOk, IfOk, IfSome, string_bytes};
 ghost use Rattle.serde_json.specs.Written.{compact_text};
 ghost use Rattle.answers.specs.Body.{verdict_data, interval_data, json_list, natural};
-ghost use Rattle.answers.specs.Body.{name_text, part_data};
-ghost use Rattle.answers.specs.AfterCommas.{interval_after_comma, searched_after_comma};
-ghost use Rattle.answers.specs.AfterCommas.{skipped_after_comma, part_after_comma};
+ghost use Rattle.answers.specs.Body.{name_text, part_data, row_data, searched_data, skipped_data};
+ghost use Rattle.answers.specs.AfterCommas.{interval_after_comma, part_after_comma};
 ghost use Rattle.answers.specs.AfterCommas.{after_commas};
+ghost use Rattle.answers.specs.Kept.{Stands};
 
 use crate::brackets::close_list;
+use crate::kept::Spot;
 use crate::number::append_natural;
-use crate::row_text::RowText;
+use crate::row_text::append_rows_of_part;
 use crate::strings::append_string;
 use block_search::AnsweredPart;
 use cover::{Interval, PartAnswer, Verdict};
-use labels::SeriesRef;
+use labels::{Row, SeriesRef};
 use postings::PartName;
 use std::alloc::{AllocError, Global};
 
@@ -100,41 +101,65 @@ fn name_of(alloc: Global, part: PartName) -> Result<String, AllocError>
     }
 }
 
-/// Appends a comma and the answer of a part.
-fn append_searched_after_comma(
+/// Appends the answer of a part. It says where the text of the rows of all parts stands, if it does.
+fn append_searched(
     alloc: Global,
     out: &mut Vec<u8>,
     answer: &PartAnswer,
-    rows: &RowText<'_>,
-) -> Result<(), AllocError>
-    ensures { OnOk result (out.new.items ≡ out.old.items ++ searched_after_comma answer.now) }
+    rows: &[Row],
+    known: Option<Spot>,
+) -> Result<Option<Spot>, AllocError>
+    requires { IfSome known (Stands out.old.items (json_list row_data rows.now)) }
+    ensures text { OnOk result
+        (out.new.items ≡ out.old.items ++ compact_text (searched_data answer.now)) }
+    ensures stands { IfOk result (λ spot.
+        IfSome spot (Stands out.new.items (json_list row_data rows.now))) }
 {
     let name = name_of(alloc, answer.part)?;
-    out.extend_from_slice(b",{\"intervals\":")?;
+    out.extend_from_slice(b"{\"intervals\":")?;
     append_intervals(out, answer.cover.certificate.as_slice())?;
     out.extend_from_slice(b",\"part\":")?;
     append_string(out, name.as_str())?;
     out.extend_from_slice(b",\"rows\":")?;
-    rows.append_part(out, answer.rows.as_slice())?;
+    let spot = append_rows_of_part(out, answer.rows.as_slice(), rows, known)?;
     out.extend_from_slice(b",\"separators\":")?;
     append_references(out, answer.cover.separators.as_slice())?;
     out.push(b'}')?;
-    Ok(())
+    Ok(spot)
 }
 
-/// Appends a comma and that a part is skipped.
-fn append_skipped_after_comma(
-    alloc: Global,
-    out: &mut Vec<u8>,
-    name: PartName,
-) -> Result<(), AllocError>
-    ensures { OnOk result (out.new.items ≡ out.old.items ++ skipped_after_comma name) }
+/// Appends that a part is skipped.
+fn append_skipped(alloc: Global, out: &mut Vec<u8>, name: PartName) -> Result<(), AllocError>
+    ensures { OnOk result (out.new.items ≡ out.old.items ++ compact_text (skipped_data name)) }
 {
     let name = name_of(alloc, name)?;
-    out.extend_from_slice(b",{\"part\":")?;
+    out.extend_from_slice(b"{\"part\":")?;
     append_string(out, name.as_str())?;
     out.extend_from_slice(b",\"skipped\":true}")?;
     Ok(())
+}
+
+/// Appends what is told of a part.
+fn append_part(
+    alloc: Global,
+    out: &mut Vec<u8>,
+    part: &AnsweredPart,
+    rows: &[Row],
+    known: Option<Spot>,
+) -> Result<Option<Spot>, AllocError>
+    requires { IfSome known (Stands out.old.items (json_list row_data rows.now)) }
+    ensures text { OnOk result
+        (out.new.items ≡ out.old.items ++ compact_text (part_data part.now)) }
+    ensures stands { IfOk result (λ spot.
+        IfSome spot (Stands out.new.items (json_list row_data rows.now))) }
+{
+    match part {
+        AnsweredPart::Searched(answer) => append_searched(alloc, out, answer, rows, known),
+        AnsweredPart::Skipped(name) => {
+            append_skipped(alloc, out, *name)?;
+            Ok(known)
+        }
+    }
 }
 
 /// Appends a comma and what is told of a part.
@@ -142,14 +167,16 @@ fn append_part_after_comma(
     alloc: Global,
     out: &mut Vec<u8>,
     part: &AnsweredPart,
-    rows: &RowText<'_>,
-) -> Result<(), AllocError>
-    ensures { OnOk result (out.new.items ≡ out.old.items ++ part_after_comma part.now) }
+    rows: &[Row],
+    known: Option<Spot>,
+) -> Result<Option<Spot>, AllocError>
+    requires { IfSome known (Stands out.old.items (json_list row_data rows.now)) }
+    ensures text { OnOk result (out.new.items ≡ out.old.items ++ part_after_comma part.now) }
+    ensures stands { IfOk result (λ spot.
+        IfSome spot (Stands out.new.items (json_list row_data rows.now))) }
 {
-    match part {
-        AnsweredPart::Searched(answer) => append_searched_after_comma(alloc, out, answer, rows),
-        AnsweredPart::Skipped(name) => append_skipped_after_comma(alloc, out, *name),
-    }
+    out.push(b',')?;
+    append_part(alloc, out, part, rows, known)
 }
 
 /// Appends what is told of each part, with a comma before it.
@@ -157,26 +184,40 @@ fn append_parts_after_commas(
     alloc: Global,
     out: &mut Vec<u8>,
     parts: &[AnsweredPart],
-    rows: &RowText<'_>,
-) -> Result<(), AllocError>
-    ensures { OnOk result (out.new.items ≡ out.old.items ++ after_commas part_data parts.now) }
+    rows: &[Row],
+    known: Option<Spot>,
+) -> Result<Option<Spot>, AllocError>
+    requires { IfSome known (Stands out.old.items (json_list row_data rows.now)) }
+    ensures text { OnOk result (out.new.items ≡ out.old.items ++ after_commas part_data parts.now) }
+    ensures stands { IfOk result (λ spot.
+        IfSome spot (Stands out.new.items (json_list row_data rows.now))) }
 {
+    let mut spot = known;
     for part in parts {
-        append_part_after_comma(alloc, out, part, rows)?;
+        spot = append_part_after_comma(alloc, out, part, rows, spot)?;
     }
-    Ok(())
+    Ok(spot)
 }
 
-/// Appends what is told of each part as a list. The rows of all parts are known beside them.
+/// Appends what is told of each part as a list. It says where the text of the rows of all parts
+/// stands, if one part has just these rows.
 pub fn append_parts(
     alloc: Global,
     out: &mut Vec<u8>,
     parts: &[AnsweredPart],
-    rows: &RowText<'_>,
-) -> Result<(), AllocError>
-    ensures { OnOk result (out.new.items ≡ out.old.items ++ json_list part_data parts.now) }
+    rows: &[Row],
+) -> Result<Option<Spot>, AllocError>
+    ensures text { OnOk result (out.new.items ≡ out.old.items ++ json_list part_data parts.now) }
+    ensures stands { IfOk result (λ spot.
+        IfSome spot (Stands out.new.items (json_list row_data rows.now))) }
 {
-    let start = out.len();
-    append_parts_after_commas(alloc, out, parts, rows)?;
-    close_list(out, start, b'[', b']')
+    out.push(b'[')?;
+    let Some((first, rest)) = parts.split_first() else {
+        out.push(b']')?;
+        return Ok(None);
+    };
+    let spot = append_part(alloc, out, first, rows, None)?;
+    let spot = append_parts_after_commas(alloc, out, rest, rows, spot)?;
+    out.push(b']')?;
+    Ok(spot)
 }

@@ -1,9 +1,11 @@
-//! Rows with their text: those of all parts are told of once more in a part that alone has rows.
+//! The rows of a part, which are those of all parts if this one alone has any.
 
-ghost use Rattle.std.specs.Prelude.{◌≡◌, ◌++◌, OnOk};
+ghost use Rattle.std.specs.Prelude.{◌≡◌, ◌++◌, OnOk, IfOk, IfSome};
 ghost use Rattle.std.specs.Bool.{OnTrue};
 ghost use Rattle.answers.specs.Body.{row_data, json_list};
+ghost use Rattle.answers.specs.Kept.{Stands};
 
+use crate::kept::Spot;
 use crate::rows::append_rows;
 use labels::{LabelSet, Row, Sample};
 use std::alloc::AllocError;
@@ -64,47 +66,26 @@ fn are_same(a: &[Row], b: &[Row]) -> bool
     true
 }
 
-/// Writes the rows as a list into a buffer, whose content is dropped.
-pub fn write_rows(buf: &mut Vec<u8>, rows: &[Row]) -> Result<(), AllocError>
-    ensures { OnOk result (buf.new.items ≡ json_list row_data rows.now) }
+/// Appends the rows of a part as a list. If they are the rows of all parts, it says where their
+/// text stands now, and else where it was known to stand.
+pub(crate) fn append_rows_of_part(
+    out: &mut Vec<u8>,
+    part: &[Row],
+    rows: &[Row],
+    known: Option<Spot>,
+) -> Result<Option<Spot>, AllocError>
+    requires { IfSome known (Stands out.old.items (json_list row_data rows.now)) }
+    ensures text { OnOk result (out.new.items ≡ out.old.items ++ json_list row_data part.now) }
+    ensures stands { IfOk result (λ spot.
+        IfSome spot (Stands out.new.items (json_list row_data rows.now))) }
 {
-    buf.clear();
-    buf.reserve(room_of_rows(rows))?;
-    append_rows(buf, rows)
-}
-
-/// Rows with their text, which is written once.
-#[derive(Drop)]
-pub struct RowText<'a> {
-    rows: &'a [Row],
-    text: &'a [u8],
-    ghost spelled: { text.now ≡ json_list row_data rows.now },
-}
-
-impl<'a> RowText<'a> {
-    /// Rows with the text that [`write_rows`] wrote of them.
-    pub fn new(rows: &'a [Row], text: &'a [u8]) -> RowText<'a>
-        requires { text.now ≡ json_list row_data rows.now }
-        ensures { result.rows.now ≡ rows.now }
-    {
-        RowText { rows, text }
+    let from = out.len();
+    append_rows(out, part)?;
+    if are_same(part, rows) {
+        return Ok(Some(Spot {
+            from,
+            until: out.len(),
+        }));
     }
-
-    /// Appends the rows as a list.
-    pub fn append(&self, out: &mut Vec<u8>) -> Result<(), AllocError>
-        ensures { OnOk result (out.new.items
-            ≡ out.old.items ++ json_list row_data self.now.rows.now) }
-    {
-        out.extend_from_slice(self.text)
-    }
-
-    /// Appends the rows of a part as a list; where they are the same, their text is copied.
-    pub fn append_part(&self, out: &mut Vec<u8>, rows: &[Row]) -> Result<(), AllocError>
-        ensures { OnOk result (out.new.items ≡ out.old.items ++ json_list row_data rows.now) }
-    {
-        if are_same(rows, self.rows) {
-            return self.append(out);
-        }
-        append_rows(out, rows)
-    }
+    Ok(known)
 }

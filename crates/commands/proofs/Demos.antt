@@ -18,6 +18,7 @@ use Rattle.snapshots.specs.Views.{Known}
 use Rattle.snapshots.proofs.Prefixes.{prefix_trans}
 use Rattle.answers.specs.Headline.{IsHeadline}
 use Rattle.answers.specs.declared.audited.AuditedAnswer.{AuditedAnswer}
+use Rattle.answers.specs.MergedRows.{rows_of}
 use Rattle.answers.proofs.Headlines.{world_content}
 use Rattle.commands.specs.Demo.{first_event, second_event, demo_events}
 use Rattle.commands.specs.DemoAnswer.{IsAnswerAfter, IsCommitFault, IsDemoFault, by_commit}
@@ -71,7 +72,7 @@ module _ (opening : SnapshotParts) (query : QueryView) (before after : Known)
         ∙ (ap (replayed (world_of opening)) (sym events) ∙ h.replay.replay);
     audited = record {
       each = h.parts;
-      rows = subst (λ (c : Content). AreRows answer.rows.items (selected_by query c))
+      rows = subst (λ (c : Content). AreRows (rows_of answer) (selected_by query c))
           (sym (world_content h.snapshot)) h.rows;
     };
   }

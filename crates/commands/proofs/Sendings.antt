@@ -56,3 +56,24 @@ on_ok (Err e) p = tt
 pub on_err : {A B P : Type 0} (r : Result A B) → P → OnErr r P
 on_err (Ok x) p = tt
 on_err (Err e) p = p
+
+-- a prefix of a text is one of this with another behind it
+pub prefix_of_both : (old new : Option (List ℕ)) (first second : List ℕ)
+    → AppendsPrefix old new first → AppendsPrefix old new (first ++ second)
+prefix_of_both old new first second h = record {
+  front = h.front;
+  rest = h.rest ++ second;
+  parts = ap (λ (l : List ℕ). l ++ second) h.parts ∙ append_assoc h.front h.rest second;
+  appended = h.appended;
+}
+
+-- a text and a prefix of the next one
+pub prefix_behind : (old mid new : Option (List ℕ)) (first second : List ℕ) → Appends old mid first
+    → AppendsPrefix mid new second → AppendsPrefix old new (first ++ second)
+prefix_behind old mid new first second came h = record {
+  front = first ++ h.front;
+  rest = h.rest;
+  parts =
+      ap (λ (l : List ℕ). first ++ l) h.parts ∙ sym (append_assoc first h.front h.rest);
+  appended = appends_on old mid new first h.front came h.appended;
+}

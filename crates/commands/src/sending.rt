@@ -1,9 +1,11 @@
 //! Texts that are written whole, or up to where the writer fails.
 
-ghost use Rattle.std.specs.Prelude.{OnErr, OnOk};
+ghost use Rattle.std.specs.Prelude.{◌++◌, OnErr, OnOk, codes};
 ghost use Rattle.std.specs.Io.KnownBytes.{Appends};
+ghost use Rattle.answers.specs.Kept.{whole_of};
 ghost use Rattle.commands.specs.Sending.{AppendsPrefix};
 
+use answers::AnswerText;
 use std::io::{self, ErrorKind, Write};
 
 /// Writes a text whole; where the writer fails, a prefix of it was written.
@@ -33,4 +35,28 @@ pub fn send<W: Write>(out: &mut W, text: &[u8]) -> io::Result<()>
 {
     write_text(out, text)?;
     out.flush()
+}
+
+/// Writes two texts whole, one after the other; where the writer fails, a prefix of both together
+/// was written.
+fn write_both<W: Write>(out: &mut W, first: &[u8], second: &[u8]) -> io::Result<()>
+    ensures ok { OnOk result
+        (Appends (W.contents out.old) (W.contents out.new) (first.now ++ second.now)) }
+    ensures err { OnErr result
+        (AppendsPrefix (W.contents out.old) (W.contents out.new) (first.now ++ second.now)) }
+{
+    write_text(out, first)?;
+    write_text(out, second)
+}
+
+/// Writes the text of an answer and a line feed whole, and passes them on; where the writer fails,
+/// a prefix of them was written. What the answer tells twice is written twice from where it stands.
+pub(crate) fn send_answer<W: Write>(out: &mut W, answer: &AnswerText) -> io::Result<()>
+    ensures ok { OnOk result (Appends (W.contents out.old) (W.contents out.new)
+        (whole_of answer.now ++ codes "\n")) }
+    ensures err { OnErr result (AppendsPrefix (W.contents out.old) (W.contents out.new)
+        (whole_of answer.now ++ codes "\n")) }
+{
+    write_both(out, answer.first(), answer.again())?;
+    send(out, b"}\n")
 }

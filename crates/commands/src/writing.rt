@@ -1,12 +1,13 @@
 //! The line of an answer.
 
-ghost use Rattle.std.specs.Prelude.{◌≡◌, IfOk, IfErr, OnOk};
+ghost use Rattle.std.specs.Prelude.{◌≡◌, ◌++◌, IfOk, IfErr, OnOk, codes};
+ghost use Rattle.answers.specs.Kept.{whole_of};
 ghost use Rattle.commands.specs.Printed.{line_text};
 ghost use Rattle.commands.specs.Selecting.{IsWritingFault, KeepsAt, WritesAnswer};
 
 use crate::fault::Fault;
-use crate::sending::send;
-use answers::{AuditedAnswer, answer_by_workers, body};
+use crate::sending::send_answer;
+use answers::{AnswerText, AuditedAnswer, answer_by_workers, answer_text, body};
 use head::Snapshot;
 use matchers::Query;
 use std::alloc::{AllocError, Global};
@@ -17,9 +18,16 @@ use std::thread::Threads;
 pub fn line_of(alloc: Global, answer: &AuditedAnswer) -> Result<Vec<u8>, AllocError>
     ensures { IfOk result (λ line. line.items ≡ line_text answer.now) }
 {
-    let mut line = body(alloc, answer.parts.as_slice(), answer.rows.as_slice())?;
+    let mut line = body(alloc, answer.parts(), answer.rows())?;
     line.push(b'\n')?;
     Ok(line)
+}
+
+/// The text of an answer, as it is kept.
+fn text_of(alloc: Global, answer: &AuditedAnswer) -> Result<AnswerText, AllocError>
+    ensures { IfOk result (λ text. whole_of text ++ codes "\n" ≡ line_text answer.now) }
+{
+    answer_text(alloc, Vec::new(alloc), answer.parts(), answer.rows())
 }
 
 /// Writes the audited answer to a query as one line, and nothing else. Each part is searched by a
@@ -37,7 +45,7 @@ pub fn write_answer<T: Threads + Sync, W: Write>(
     ensures kept { IfErr result (λ fault. KeepsAt fault (W.contents out.old) (W.contents out.new)) }
 {
     let answer = answer_by_workers(rt, alloc, snapshot, query)?;
-    let line = line_of(alloc, &answer)?;
-    send(out, line.as_slice())?;
+    let text = text_of(alloc, &answer)?;
+    send_answer(out, &text)?;
     Ok(())
 }

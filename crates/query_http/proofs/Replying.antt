@@ -27,6 +27,7 @@ use Rattle.requests.specs.Replies.{cause_data, reply_text}
 use Rattle.query_http.specs.declared.reply.Reply.{Reply}
 use Rattle.answers.specs.declared.audited.AuditedAnswer.{AuditedAnswer}
 use Rattle.answers.specs.Headline.{IsHeadline}
+use Rattle.answers.specs.MergedRows.{rows_of}
 use Rattle.query_http.specs.Reply.{text_of}
 use Rattle.answers.specs.Body.{body_text}
 use Rattle.query_http.specs.Serving.{Worker, IsIdle, IsReplyOfRefusal, IsQueryReply, IsEventReply}
@@ -48,7 +49,7 @@ pub answer_replied : {E : Type 0} (opening : SnapshotParts) (query : QueryView)
     (before after : Known) (answer : AuditedAnswer) (result : Result Reply E)
     → IsHeadline opening query before after answer → IfOk result (λ r. r.status ≡ Done)
     → IfOk result (λ r.
-    text_of r ≡ reply_text Done (body_text answer.parts.items answer.rows.items))
+    text_of r ≡ reply_text Done (body_text answer.parts.items (rows_of answer)))
     → IfOk result (λ r. IsQueryReply opening query before after r.status (text_of r))
 answer_replied opening query before after answer (Ok r) h number spelled =
     inl (record { answer = answer; headline = h; number = number; spelled = spelled })

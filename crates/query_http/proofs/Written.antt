@@ -1,7 +1,8 @@
 -- What several writes leave, put together.
 use Rattle.std.proofs.Common.{ℕ, ◌+◌, ◌-◌, ◌<◌, ◌≤◌, List, [], append-nil, length, take, drop}
 use Rattle.std.proofs.Common.{Option, None, Some, Result, Ok, Err, OnErr, sym, ◌∙◌, subst}
-use Rattle.std.proofs.Common.{take-append-drop, length-drop, arith}
+use Rattle.std.proofs.Common.{take-append-drop, length-drop, length-append, arith, ◌++◌, ap}
+use Rattle.std.proofs.Common.{append_assoc}
 use Rattle.std.proofs.KnownBytes.{Appends-trans}
 use Rattle.std.proofs.Math.Seq.{take-add}
 use Rattle.std.proofs.lemmas.List.{take_rest, length-take-le}
@@ -44,3 +45,36 @@ pub written_more : (a b c : Option (List ℕ)) (d n : ℕ) (text : List ℕ) →
 written_more a b c d n text fits bound p q =
     let short : n ≤ length text - d = rw (take_rest text d, length-drop d text) at bound in
     (omega (arith, fits, short), appends_more a b c d n text p (rw (take_rest text d) at q))
+
+-- a prefix of a text is one of this with another behind it
+pub front_of_both : (a b : Option (List ℕ)) (first second : List ℕ) → AppendsFront a b first
+    → AppendsFront a b (first ++ second)
+front_of_both a b first second h = record {
+  front = h.front;
+  begins = (
+    h.begins.0 ++ second,
+    ap (λ s. s ++ second) h.begins.1
+        ∙ append_assoc h.front h.begins.0 second,
+  );
+  shorter = omega (arith, h.shorter, length-append first second);
+  appends = h.appends;
+}
+
+-- a text and a prefix of the next one
+pub front_behind : (a b c : Option (List ℕ)) (first second : List ℕ) → Appends a b first
+    → AppendsFront b c second → AppendsFront a c (first ++ second)
+front_behind a b c first second p h = record {
+  front = first ++ h.front;
+  begins = (
+    h.begins.0,
+    ap (λ s. first ++ s) h.begins.1
+        ∙ sym (append_assoc first h.front h.begins.0),
+  );
+  shorter =
+      omega (arith, h.shorter, length-append first h.front, length-append first second);
+  appends = Appends-trans a b c first h.front p h.appends;
+}
+
+pub both : (a b c : Option (List ℕ)) (first second : List ℕ) → Appends a b first
+    → Appends b c second → Appends a c (first ++ second)
+both a b c first second p q = Appends-trans a b c first second p q

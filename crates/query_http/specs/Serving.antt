@@ -28,6 +28,7 @@ use Rattle.requests.specs.Refusals.{status_of}
 use Rattle.requests.specs.Replies.{cause_data, reply_text, done_text, refusal_text}
 use Rattle.answers.specs.declared.audited.AuditedAnswer.{AuditedAnswer}
 use Rattle.answers.specs.Headline.{IsHeadline}
+use Rattle.answers.specs.MergedRows.{rows_of}
 use Rattle.answers.specs.Body.{body_text}
 use Rattle.query_http.specs.Writing.{AppendsFront}
 use Rattle.query_http.specs.declared.engine.Served.{Served}
@@ -58,7 +59,7 @@ pub record IsAnswerReply (opening : SnapshotParts) (query : QueryView) (before a
   pub answer : AuditedAnswer
   pub headline : IsHeadline opening query before after answer
   pub number : status ≡ Done
-  pub spelled : text ≡ reply_text Done (body_text answer.parts.items answer.rows.items)
+  pub spelled : text ≡ reply_text Done (body_text answer.parts.items (rows_of answer))
 
 -- the reply to a query: its answer, or that the store lends no snapshot
 abbrev pub IsQueryReply : SnapshotParts → QueryView → Known → Known → Status → List ℕ → Type 0

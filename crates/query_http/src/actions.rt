@@ -1,6 +1,6 @@
 //! What a request does to a store, and the reply that tells it.
 
-ghost use Rattle.std.specs.Prelude.{◌≡◌, ◌≢◌, IfOk, OnErr, IfErr, IsTrue};
+ghost use Rattle.std.specs.Prelude.{◌≡◌, ◌≢◌, ◌++◌, IfOk, OnErr, IfErr, IsTrue};
 ghost use mathlib.Core.List.{IsPrefix};
 ghost use Rattle.labels.specs.Contents.{is_time};
 ghost use Rattle.head.specs.BatchRows.{batch_of_rows};
@@ -12,17 +12,19 @@ ghost use Rattle.requests.specs.Replies.{reply_text, done_text};
 ghost use Rattle.requests.specs.declared.status.Status.TheVariants.{Done, Conflict};
 ghost use Rattle.query_http.specs.Reply.{text_of};
 ghost use Rattle.answers.specs.Body.{body_text};
+ghost use Rattle.answers.specs.Kept.{whole_of};
+ghost use Rattle.answers.specs.MergedRows.{rows_of};
 ghost use Rattle.query_http.specs.Serving.{worker, IsIdle, IsReplyOfRefusal, conflict_body};
 ghost use Rattle.query_http.specs.Serving.{IsQueryReply, IsEventReply, IsRequestReply};
 ghost use Rattle.query_http.specs.Serving.{refused_at as place_refused};
 
 use crate::buffers::Buffers;
 use crate::reply::Reply;
-use answers::{AskError, AuditedAnswer, ask, body_after};
+use answers::{AnswerText, AskError, AuditedAnswer, answer_text, append_text, ask, length_of};
 use head::CommitError;
 use labels::Row;
 use matchers::{Matcher, Query};
-use requests::{Cause, HEAD_ROOM, Refusal, Request, Status, done_reply, place_success_head};
+use requests::{Cause, Refusal, Request, Status, append_success_head, done_reply};
 use snapshots::{Committer, Naming, Pass, RowBatch, Seat};
 use std::alloc::{AllocError, Global};
 use std::sync::Wait;
@@ -44,6 +46,25 @@ fn change_reply(alloc: Global) -> Result<Reply, AllocError>
     Ok(Reply::new(Status::Done, text))
 }
 
+/// An answer of at most so many bytes is copied behind the first bytes of its reply, which then
+/// goes out in one piece.
+const SHORT: usize = 65_536;
+
+/// The reply of these first bytes and the answer behind them.
+fn joined_reply(
+    buffers: &mut Buffers,
+    head: Vec<u8>,
+    answer: AnswerText,
+) -> Result<Reply, AllocError>
+    ensures number { IfOk result (λ r. r.status ≡ Done) }
+    ensures spelled { IfOk result (λ r. text_of r ≡ head.items ++ whole_of answer) }
+{
+    let mut head = head;
+    append_text(&mut head, &answer)?;
+    buffers.answer = answer.into_bytes();
+    Ok(Reply::new(Status::Done, head))
+}
+
 /// The reply that carries an answer.
 fn answer_reply(
     alloc: Global,
@@ -52,17 +73,20 @@ fn answer_reply(
 ) -> Result<Reply, AllocError>
     ensures number { IfOk result (λ r. r.status ≡ Done) }
     ensures spelled { IfOk result (λ r. (text_of r)
-        ≡ reply_text Done (body_text answer.now.parts.items answer.now.rows.items)) }
+        ≡ reply_text Done (body_text answer.now.parts.items (rows_of answer.now))) }
 {
-    let parts = answer.parts.as_slice();
-    let rows = answer.rows.as_slice();
-    let at_hand = buffers.take_reply(alloc);
-    let mut bytes = body_after(alloc, at_hand, &mut buffers.rows, HEAD_ROOM, parts, rows)?;
-    let start = place_success_head(bytes.as_mut_slice(), HEAD_ROOM);
+    let at_hand = buffers.take_answer(alloc);
+    let text = answer_text(alloc, at_hand, answer.parts(), answer.rows())?;
+    let size = length_of(&text);
+    let mut head = buffers.take_head(alloc);
+    append_success_head(&mut head, size)?;
+    if size <= SHORT {
+        return joined_reply(buffers, head, text);
+    }
     Ok(Reply {
         status: Status::Done,
-        bytes,
-        start,
+        head,
+        answer: Some(text),
     })
 }
 

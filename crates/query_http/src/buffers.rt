@@ -1,17 +1,18 @@
 //! Room that is kept from connection to connection.
 
-ghost use Rattle.std.specs.Prelude.{◌≡◌, ◌≤◌, vec_capacity};
+ghost use Rattle.std.specs.Prelude.{◌≡◌, ◌≤◌, [], vec_capacity};
 ghost use Rattle.query_http.specs.Bounds.{IsBounded};
 
 use crate::note::Note;
+use crate::reply::Reply;
 use std::alloc::Global;
 use std::mem;
 
 /// The most bytes of room that each buffer keeps between two connections: 1 MiB.
 pub const MOST_KEPT: usize = 1_048_576;
 
-/// A worker's buffers: for the bytes of a request, for the text of the rows of an answer, and for
-/// the text of a reply; and what was noted of the last connection.
+/// A worker's buffers: for the bytes of a request, for the first bytes of a reply and for the text
+/// of an answer; and what was noted of the last connection.
 ///
 /// Each connection clears them first, so what they hold between two connections is only room: no
 /// clause speaks of it. A buffer that a connection left larger than [`MOST_KEPT`] is given back to
@@ -19,8 +20,8 @@ pub const MOST_KEPT: usize = 1_048_576;
 #[derive(Drop)]
 pub struct Buffers {
     pub(crate) request: Vec<u8>,
-    pub(crate) rows: Vec<u8>,
-    pub(crate) reply: Vec<u8>,
+    pub(crate) head: Vec<u8>,
+    pub(crate) answer: Vec<u8>,
     pub(crate) note: Note,
 }
 
@@ -34,6 +35,16 @@ fn trim(buf: &mut Vec<u8>)
     }
 }
 
+/// Keeps the room of some bytes in place of a buffer's, if it is more and no more than is kept.
+fn keep(buf: &mut Vec<u8>, bytes: Vec<u8>)
+    requires { vec_capacity buf.old ≤ MOST_KEPT }
+    ensures { vec_capacity buf.new ≤ MOST_KEPT }
+{
+    if buf.capacity() < bytes.capacity() && bytes.capacity() <= MOST_KEPT {
+        *buf = bytes;
+    }
+}
+
 impl Buffers {
     /// Buffers without memory.
     pub fn new(alloc: Global) -> Buffers
@@ -41,8 +52,8 @@ impl Buffers {
     {
         Buffers {
             request: Vec::new(alloc),
-            rows: Vec::new(alloc),
-            reply: Vec::new(alloc),
+            head: Vec::new(alloc),
+            answer: Vec::new(alloc),
             note: Note::none(),
         }
     }
@@ -59,23 +70,34 @@ impl Buffers {
         ensures { IsBounded self.new }
     {
         trim(&mut self.request);
-        trim(&mut self.rows);
-        trim(&mut self.reply);
+        trim(&mut self.head);
+        trim(&mut self.answer);
     }
 
-    /// Lends the buffer of the reply.
-    pub(crate) fn take_reply(&mut self, alloc: Global) -> Vec<u8> {
-        mem::replace(&mut self.reply, Vec::new(alloc))
+    /// Lends the buffer of a reply's first bytes, empty.
+    pub(crate) fn take_head(&mut self, alloc: Global) -> Vec<u8>
+        ensures { result.items ≡ [] }
+    {
+        let mut head = mem::replace(&mut self.head, Vec::new(alloc));
+        head.clear();
+        head
     }
 
-    /// Takes back what a reply was made in, if it is more than there is and no more than is kept.
-    pub(crate) fn give_reply(&mut self, bytes: Vec<u8>)
+    /// Lends the buffer of an answer.
+    pub(crate) fn take_answer(&mut self, alloc: Global) -> Vec<u8> {
+        mem::replace(&mut self.answer, Vec::new(alloc))
+    }
+
+    /// Takes back what a reply was made in, where that is more than there is and no more than is
+    /// kept.
+    pub(crate) fn give_reply(&mut self, reply: Reply)
         requires { IsBounded self.old }
         ensures bounded { IsBounded self.new }
         ensures note { self.new.note ≡ self.old.note }
     {
-        if self.reply.capacity() < bytes.capacity() && bytes.capacity() <= MOST_KEPT {
-            self.reply = bytes;
+        keep(&mut self.head, reply.head);
+        if let Some(answer) = reply.answer {
+            keep(&mut self.answer, answer.into_bytes());
         }
     }
 }

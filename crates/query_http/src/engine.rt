@@ -14,7 +14,7 @@ ghost use Rattle.query_http.specs.Serving.{IsRequestReply, IsReply};
 use crate::actions::{act, refusal_reply};
 use crate::buffers::Buffers;
 use crate::note::Note;
-use crate::outlet::{Outlet, write_whole};
+use crate::outlet::{Outlet, write_reply};
 use crate::reply::Reply;
 use guard::Rules;
 use requests::{Inlet, ReadError, Refusal, Request, Status, path_in, read_admitted_into};
@@ -146,11 +146,11 @@ fn serve_next<J: Naming, C: Wait + Drop, R: Inlet, W: Outlet>(
         }
     };
     buffers.note.status = Some(reply.status);
-    let served = match write_whole(writer, reply.text()) {
+    let served = match write_reply(writer, &reply) {
         Ok(()) => Served::Replied(reply.status),
         Err(_) => Served::WriteFault,
     };
-    buffers.give_reply(reply.bytes);
+    buffers.give_reply(reply);
     served
 }
 

@@ -1,11 +1,15 @@
 //! What a reply is written to.
 
-ghost use Rattle.std.specs.Prelude.{◌≡◌, ◌<◌, ◌≤◌, ℕ, List, Option, length};
+ghost use Rattle.std.specs.Prelude.{◌≡◌, ◌<◌, ◌≤◌, ◌++◌, ℕ, List, Option, length};
 ghost use Rattle.std.specs.Prelude.{IfOk, OnOk, OnErr};
 ghost use Rattle.std.specs.Io.KnownBytes.{WriteAppends, Appends};
 ghost use Rattle.requests.specs.Edge.{HasGrown};
+ghost use Rattle.answers.specs.Kept.{whole_of};
+ghost use Rattle.query_http.specs.Reply.{text_of};
 ghost use Rattle.query_http.specs.Writing.{AppendsFront};
 
+use crate::reply::Reply;
+use answers::AnswerText;
 use requests::Fault;
 
 /// What a reply is written to: it takes bytes in pieces of its own choice. A writer over memory
@@ -44,4 +48,50 @@ pub fn write_whole<W: Outlet>(writer: &mut W, text: &[u8]) -> Result<(), Fault>
         done += taken;
     }
     Ok(())
+}
+
+/// Writes two texts, one after the other; or a prefix of both together, where the writer fails.
+fn write_both<W: Outlet>(writer: &mut W, first: &[u8], second: &[u8]) -> Result<(), Fault>
+    ensures ok { OnOk result
+        (Appends (W.output writer.old) (W.output writer.new) (first.now ++ second.now)) }
+    ensures counted { OnOk result (W.failed_writes writer.new ≡ W.failed_writes writer.old) }
+    ensures err { OnErr result
+        (AppendsFront (W.output writer.old) (W.output writer.new) (first.now ++ second.now)) }
+    ensures failed { OnErr result
+        (HasGrown (W.failed_writes writer.old) (W.failed_writes writer.new)) }
+{
+    write_whole(writer, first)?;
+    write_whole(writer, second)
+}
+
+/// Writes a text, and that of an answer behind it; or a prefix of both together, where the writer
+/// fails. What the answer tells twice is written twice from where it stands.
+fn write_answer<W: Outlet>(writer: &mut W, head: &[u8], answer: &AnswerText) -> Result<(), Fault>
+    ensures ok { OnOk result
+        (Appends (W.output writer.old) (W.output writer.new) (head.now ++ whole_of answer.now)) }
+    ensures counted { OnOk result (W.failed_writes writer.new ≡ W.failed_writes writer.old) }
+    ensures err { OnErr result (AppendsFront (W.output writer.old) (W.output writer.new)
+        (head.now ++ whole_of answer.now)) }
+    ensures failed { OnErr result
+        (HasGrown (W.failed_writes writer.old) (W.failed_writes writer.new)) }
+{
+    write_both(writer, head, answer.first())?;
+    write_both(writer, answer.again(), b"}")
+}
+
+/// Writes a whole reply; or a prefix of it, where the writer fails.
+pub(crate) fn write_reply<W: Outlet>(writer: &mut W, reply: &Reply) -> Result<(), Fault>
+    ensures ok { OnOk result (Appends (W.output writer.old) (W.output writer.new)
+        (text_of reply.now)) }
+    ensures counted { OnOk result (W.failed_writes writer.new ≡ W.failed_writes writer.old) }
+    ensures err { OnErr result (AppendsFront (W.output writer.old) (W.output writer.new)
+        (text_of reply.now)) }
+    ensures failed { OnErr result
+        (HasGrown (W.failed_writes writer.old) (W.failed_writes writer.new)) }
+{
+    let head = reply.head.as_slice();
+    match &reply.answer {
+        Some(answer) => write_answer(writer, head, answer),
+        None => write_whole(writer, head),
+    }
 }

@@ -21,6 +21,10 @@ abbrev pub reply_text : Status → List ℕ → List ℕ
 reply_text status body =
     head_text (status_number status) (status_reason status) (length body) ++ body
 
+-- the lines of success before a body of so many bytes
+abbrev pub success_head : ℕ → List ℕ
+success_head len = head_text (status_number Done) (status_reason Done) len
+
 -- what is said of a change that was made
 abbrev pub done_data : Data
 done_data = object (member (codes "ok") (boolean true) no_members)

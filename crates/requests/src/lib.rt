@@ -10,9 +10,9 @@
 //!
 //! A [`Refusal`] is one of `H1` to `H10` or `H12`; its `reply` is the whole text that answers it.
 //!
-//! [`place_success_head`] puts before a body what makes it a reply, and [`done_reply`] is the one
-//! of a change that was made. The writing side and what is done with a request belong to the
-//! caller.
+//! [`append_success_head`] writes what stands before the body of a reply of success, and
+//! [`done_reply`] is the reply to a change that was made. The writing side and what is done with a
+//! request belong to the caller.
 //!
 //! ```
 //! #[derive(Drop)]
@@ -84,7 +84,7 @@ pub use admit::{read_admitted_into, read_request};
 pub use edge::{Fault, Inlet};
 pub use fields::path_in;
 pub use refusal::{Cause, Refusal};
-pub use reply::{HEAD_ROOM, done_reply, place_success_head};
+pub use reply::{append_success_head, done_reply};
 pub use request::{MAX_BATCH, ReadError, Request};
 pub use status::Status;
 pub use target::Path;

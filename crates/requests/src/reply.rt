@@ -1,11 +1,11 @@
 //! The text of a reply.
 
-ghost use Rattle.std.specs.Prelude.{◌≡◌, ◌≤◌, ◌+◌, ◌++◌, IfOk, drop, length, string_bytes};
+ghost use Rattle.std.specs.Prelude.{◌≡◌, ◌++◌, IfOk, OnOk, decimal, string_bytes};
 ghost use Rattle.serde_json.specs.View.{view};
 ghost use Rattle.serde_json.specs.Written.{compact_text};
 ghost use Rattle.requests.specs.Refusals.{told_cause, code_of, status_of, cause_of};
 ghost use Rattle.requests.specs.Replies.{refusal_data, cause_data, done_data, head_text};
-ghost use Rattle.requests.specs.Replies.{reply_text};
+ghost use Rattle.requests.specs.Replies.{reply_text, success_head};
 ghost use Rattle.requests.specs.Replies.{refusal_body, refusal_text, done_text};
 
 use crate::{Cause, Refusal, Status};
@@ -30,42 +30,24 @@ fn reply(alloc: Global, status: Status, body: &[u8]) -> Result<Vec<u8>, AllocErr
     Ok(text)
 }
 
-/// Writes a text so that it ends at `end`, and returns where it starts.
-fn place_text(text: &[u8], buf: &mut [u8], end: usize) -> usize
-    requires room { length text.now ≤ end }
-    requires within { end ≤ length buf.old }
-    ensures start { result + length text.now ≡ end }
-    ensures written { drop result buf.new ≡ text.now ++ drop end buf.old }
+fn append_number(out: &mut Vec<u8>, n: u64) -> Result<(), AllocError>
+    ensures { OnOk result (out.new.items ≡ out.old.items ++ decimal n) }
 {
-    let mut at = end;
-    let mut left = text.len();
-    while left > 0 {
-        left -= 1;
-        at -= 1;
-        buf[at] = text[left];
-    }
-    at
+    let mut buf = [0; 20];
+    let start = write_digits(n, &mut buf, 20);
+    out.extend_from_slice(&buf[start..])
 }
 
-/// The most bytes that a reply of success has before its body.
-pub const HEAD_ROOM: usize = 128;
-
-/// Writes what a reply of success has before its body, which goes from `end` to the end of the
-/// buffer, and returns where the reply starts.
-pub fn place_success_head(buf: &mut [u8], end: usize) -> usize
-    requires room { HEAD_ROOM ≤ end }
-    requires within { end ≤ length buf.old }
-    ensures start { result ≤ end }
-    ensures written { drop result buf.new ≡ reply_text Status.Done (drop end buf.old) }
+/// Appends what a reply of success has before a body of so many bytes.
+pub fn append_success_head(out: &mut Vec<u8>, len: usize) -> Result<(), AllocError>
+    ensures { OnOk result (out.new.items ≡ out.old.items ++ success_head len) }
 {
-    let len = (buf.len() - end) as u64;
-    let at = place_text(b"\r\nConnection: close\r\n\r\n", buf, end);
-    let at = write_digits(len, buf, at);
-    place_text(
+    out.extend_from_slice(
         b"HTTP/1.1 200 OK\r\nContent-Type: application/json\r\nContent-Length: ",
-        buf,
-        at,
-    )
+    )?;
+    append_number(out, len as u64)?;
+    out.extend_from_slice(b"\r\nConnection: close\r\n\r\n")?;
+    Ok(())
 }
 
 /// The reply to a change that was made: the body is `{"ok":true}`.

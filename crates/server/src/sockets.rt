@@ -72,12 +72,11 @@ fn fault_of(served: Served) -> Option<&'static str> {
     }
 }
 
-/// Sets the limits of a connection: a call that waits longer than `idle` fails, and what is written
-/// goes out at once.
+/// Sets the limits of a connection: a call that waits longer than `idle` fails. Nothing is set for
+/// the end of a reply to go out at once, since the writing side is ended right behind it.
 fn limit(stream: &TcpStream, idle: Option<Duration>) -> io::Result<()> {
     stream.set_read_timeout(idle)?;
-    stream.set_write_timeout(idle)?;
-    stream.set_nodelay(true)
+    stream.set_write_timeout(idle)
 }
 
 /// The two sides of a socket, if there is memory for them.

@@ -75,7 +75,7 @@ fn answer_one_sample(alloc: Global) -> Option<AuditedAnswer> {
 
 /// Whether the text of an answer ends with the one row.
 fn ends_with_row(alloc: Global, answer: &AuditedAnswer) -> bool {
-    match body(alloc, &answer.parts, &answer.rows) {
+    match body(alloc, answer.parts(), answer.rows()) {
         Ok(text) => {
             text.ends_with(br#""rows":[{"labels":{"__name__":"up"},"samples":[[10,1]]}]}"#)
         }
@@ -86,7 +86,7 @@ fn ends_with_row(alloc: Global, answer: &AuditedAnswer) -> bool {
 #[test]
 fn the_example_of_the_first_page_of_answers(rt: HostRuntime) {
     let answer = answer_one_sample(rt.alloc()).expect(&rt, "a head is answered");
-    assert!(rt; answer.parts.len() == 1 && answer.rows.len() == 1);
+    assert!(rt; answer.parts().len() == 1 && answer.rows().len() == 1);
     assert!(rt; ends_with_row(rt.alloc(), &answer));
 }
 

@@ -164,7 +164,7 @@ fn a_search_walks_no_other_list(rt: HostRuntime) {
 /// The text of an answer.
 fn text_of(alloc: Global, answer: Result<AuditedAnswer, AllocError>) -> Option<Vec<u8>> {
     let answer = answer.ok()?;
-    body(alloc, &answer.parts, &answer.rows).ok()
+    body(alloc, answer.parts(), answer.rows()).ok()
 }
 
 /// Whether these are one text, of so many bytes at least.

@@ -108,7 +108,7 @@ fn receipts_of_both<
 fn text_asked<J: Naming>(alloc: Global, pass: &mut Pass<J>) -> Option<Vec<u8>> {
     let query = query(alloc, ASKED)?;
     let answer = ask(alloc, pass, &query).ok()?;
-    body(alloc, &answer.parts, &answer.rows).ok()
+    body(alloc, answer.parts(), answer.rows()).ok()
 }
 
 /// Whether the pass, once it learnt both receipts, answers as their order says.

@@ -57,7 +57,7 @@ fn empty_again(alloc: Global) -> Option<Snapshot> {
 fn text_of(alloc: Global, store: &Snapshot, from: i64, to: i64) -> Option<Vec<u8>> {
     let query = query(alloc, from, to).ok()?;
     let answer = answer(alloc, store, &query).ok()?;
-    body(alloc, answer.parts.as_slice(), answer.rows.as_slice()).ok()
+    body(alloc, answer.parts(), answer.rows()).ok()
 }
 
 /// Whether a store answers with this text, if not when first asked, then when asked again.

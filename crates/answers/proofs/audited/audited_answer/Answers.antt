@@ -1,18 +1,12 @@
-use Rattle.std.proofs.Common.{ap, ◌∙◌, subst, map}
-use Rattle.labels.specs.Rows.{AreRows}
-use Rattle.block_search.specs.Skipping.{searched_parts}
-use Rattle.series_merge.specs.Merging.{merged_content}
-use Rattle.answers.proofs.MergedAnswers.{merged_is_selected, each_answers}
+use Rattle.std.proofs.Common.{subst}
+use Rattle.answers.specs.MergedRows.{AreMergedFrom}
+use Rattle.answers.proofs.OnePart.{rows_are_selected}
 use Rattle.answers.proofs.audited.audited_answer.Goals as goal
 
 pub returns-clause-rows : goal.returns-clause-rows
 returns-clause-rows c =
-    let query = c.args.query.now in
-    let asked = searched_parts query c.args.snapshot.now in
-    let answers = c.args.answers.items in
-    subst (AreRows c.in_ok-rows.rows.items)
-    (ap merged_content c.as_slice.ensures.value
-    ∙ merged_is_selected query (map (λ p. p.part) asked) answers
-    (each_answers query asked answers c.requires.each)
-    ∙ c.requires.whole)
-    c.in_ok-rows.ensures
+    rows_are_selected c.args.query.now c.args.snapshot.now c.args.answers.items
+    c.in_ok-parts.parts.items c.in_ok-merged.merged c.requires.each
+    (c.in_ok-parts.ensures c.args.query.now c.requires.each) c.requires.whole
+    (subst (λ answers. AreMergedFrom answers c.in_ok-merged.merged) c.as_slice.ensures.value
+    c.in_ok-merged.ensures)

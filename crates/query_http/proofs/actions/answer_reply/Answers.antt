@@ -1,24 +1,39 @@
-use Rattle.std.proofs.Common.{◌≡◌, drop, length, ap, ap₂, ◌∙◌, arith}
-use Rattle.std.proofs.lemmas.List.{with_items_is}
-use Rattle.requests.specs.Replies.{reply_text}
+use Rattle.std.proofs.Common.{◌≡◌, ◌++◌, ℕ, List, length, ap, ap₂, ◌∙◌}
+use Rattle.std.proofs.lemmas.Result.{IfOk-weaker}
+use Rattle.requests.specs.Replies.{reply_text, success_head}
 use Rattle.requests.specs.declared.status.Status.TheVariants.{Done}
 use Rattle.answers.specs.Body.{body_text}
+use Rattle.answers.specs.Kept.{whole_of}
+use Rattle.answers.specs.MergedRows.{rows_of}
 use Rattle.query_http.proofs.actions.answer_reply.Goals as goal
+
+-- the first bytes of a reply, and the body behind them
+put_together : (head body text : List ℕ) (len : ℕ) → head ≡ success_head len
+    → len ≡ length body → body ≡ text → head ++ body ≡ reply_text Done text
+put_together head body text len e l is =
+    ap (λ (s : List ℕ). s ++ body) (e ∙ ap success_head l)
+    ∙ ap (λ (s : List ℕ). reply_text Done s) is
+
+pub returns-then-size-le-SHORT-clause-spelled : goal.returns-then-size-le-SHORT-clause-spelled
+returns-then-size-le-SHORT-clause-spelled c =
+    let body = whole_of c.in_ok-text.text in
+    let text = body_text c.args.answer.now.parts.items (rows_of c.args.answer.now) in
+    IfOk-weaker c.joined_reply.result _ _
+    (λ r h. h ∙ put_together _ body text c.length_of-size.result
+    (c.in_ok-append_success_head.ensures
+    ∙ ap (λ (s : List ℕ). s ++ success_head c.length_of-size.result) c.take_head-head.ensures)
+    c.length_of-size.ensures
+    (c.in_ok-text.ensures
+    ∙ ap₂ (λ parts rows. body_text parts rows) c.parts.ensures c.rows.ensures))
+    c.joined_reply.ensures.spelled
 
 pub returns-clause-spelled : goal.returns-clause-spelled
 returns-clause-spelled c =
-    let start = c.place_success_head-start.result in
-    let buf = c.place_success_head-start.new.buf in
-    let len : length buf ≡ c.in_ok-bytes.bytes.len = omega (
-      arith,
-      c.place_success_head-start.auto.buf,
-      c.as_mut_slice.ensures.len,
-      ap length c.as_mut_slice.ensures.value,
-    ) in
-    ap (λ xs. drop start xs) (with_items_is c.in_ok-bytes.bytes buf len)
-    ∙ c.place_success_head-start.ensures.written
-    ∙ ap (λ body. reply_text Done body)
-    (ap (λ xs. drop 128 xs) c.as_mut_slice.ensures.value
-    ∙ c.in_ok-bytes.ensures.text
-    ∙ ap₂ (λ parts rows. body_text parts rows) c.as_slice-parts.ensures.value
-    c.as_slice-rows.ensures.value)
+    let body = whole_of c.in_ok-text.text in
+    let text = body_text c.args.answer.now.parts.items (rows_of c.args.answer.now) in
+    put_together _ body text c.length_of-size.result
+    (c.in_ok-append_success_head.ensures
+    ∙ ap (λ (s : List ℕ). s ++ success_head c.length_of-size.result) c.take_head-head.ensures)
+    c.length_of-size.ensures
+    (c.in_ok-text.ensures
+    ∙ ap₂ (λ parts rows. body_text parts rows) c.parts.ensures c.rows.ensures)

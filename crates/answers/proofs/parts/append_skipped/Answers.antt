@@ -3,12 +3,12 @@ use Rattle.std.specs.Prelude.{codes}
 use Rattle.json.specs.Print.{quoted}
 use Rattle.answers.specs.Body.{name_text}
 use Rattle.answers.proofs.Objects.{joined_3, skipped_text}
-use Rattle.answers.proofs.parts.append_skipped_after_comma.Goals as goal
+use Rattle.answers.proofs.parts.append_skipped.Goals as goal
 
 pub returns : goal.returns
 returns c =
     let name = c.args.name in
-    joined_3 c.args.out.now.items (codes ",{\"part\":") (quoted (name_text name))
+    joined_3 c.args.out.now.items (codes "{\"part\":") (quoted (name_text name))
     (codes ",\"skipped\":true}")
     _ c.append_string.new.out.items _
     c.in_ok-extend_from_slice.ensures.items
