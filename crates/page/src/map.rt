@@ -2,7 +2,7 @@
 
 use crate::pen::Pen;
 use crate::shapes::{Area, class_line, line, open_text, rect};
-use crate::strip::Strip;
+use crate::strip::{Strip, WIDE_COLUMNS};
 use crate::verdicts::{MATCH, fill};
 use cover::Interval;
 use page_claims::{SLOTS, slot_of};
@@ -196,7 +196,7 @@ fn map_strip(pen: &mut Pen, strip: &Strip<'_>, scale: Scale) {
 fn fan(pen: &mut Pen, strip: &Strip<'_>, scale: Scale) {
     pen.begin(
         Tag::G,
-        if strip.columns <= 32 {
+        if strip.columns <= WIDE_COLUMNS {
             "fan"
         } else {
             "fan fine"

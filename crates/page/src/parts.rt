@@ -8,13 +8,13 @@ use crate::pen::Pen;
 use crate::sayings::{sayings, seen, text_of};
 use crate::shapes::open_small;
 use crate::shown::View;
-use crate::strip::{END, Strip, caption, draw_strip, summary};
+use crate::strip::{END, Strip, WIDE_COLUMNS, caption, draw_strip, summary};
 use crate::verdicts::{chip, row_class, slot_name, why};
 use crate::words::{classed, head_cell, open_section, plural, plural_of, word};
 use cover::{Interval, PartAnswer, Verdict};
 use labels::SeriesRef;
 use page_claims::{Checks, Place, checks_of, shown_of, slot_of};
-use page_marks::{columns_of, tallies_of};
+use page_marks::{MOST_BOXES, columns_of, most_intervals, tallies_of};
 use page_text::{Attribute, Key, Mark, Subject, Tag};
 use postings::PartName;
 
@@ -116,10 +116,10 @@ fn flaws(pen: &mut Pen, answer: &PartAnswer, matchers: usize) {
 }
 
 /// What a tick of a separator looks like.
-fn tick_key(pen: &mut Pen, few: bool) {
+fn tick_key(pen: &mut Pen, wide: bool) {
     open_small(pen, "tickkey", 14, 12);
     pen.with(Attribute::Word(Key::Class, "sep"));
-    pen.with(Attribute::Word(Key::D, if few { "M7 1l5 9H2z" } else { "M6 1h2v9h-2z" }));
+    pen.with(Attribute::Word(Key::D, if wide { "M7 1l5 9H2z" } else { "M6 1h2v9h-2z" }));
     pen.leaf(Tag::Path);
     pen.close();
     pen.word(" ");
@@ -127,7 +127,7 @@ fn tick_key(pen: &mut Pen, few: bool) {
 
 fn least(pen: &mut Pen, answer: &PartAnswer, checks: Checks) {
     pen.begin(Tag::P, "least");
-    tick_key(pen, answer.cover.certificate.len() <= 32);
+    tick_key(pen, answer.cover.certificate.len() <= WIDE_COLUMNS);
     let separators = answer.cover.separators.len() as u64;
     plural(pen, separators, " separator, ", " separators, ");
     let intervals = answer.cover.certificate.len() as u64;
@@ -304,8 +304,7 @@ fn interval_rows(pen: &mut Pen, view: &View<'_>, answer: &PartAnswer, shown: &[I
 
 fn table(pen: &mut Pen, view: &View<'_>, answer: &PartAnswer) {
     let intervals = answer.cover.certificate.as_slice();
-    let most: usize = if view.few { 100 } else { 20 };
-    let (shown, rest) = shown_of(intervals, most);
+    let (shown, rest) = shown_of(intervals, most_intervals(view.few));
     if intervals.len() <= 16 {
         pen.with(Attribute::Word(Key::Open, ""));
     }
@@ -339,7 +338,7 @@ fn article(pen: &mut Pen, view: &View<'_>, at: usize, answer: &PartAnswer) {
     } else {
         figure(pen, &strip_of(answer, view.few), answer.part);
         least(pen, answer, checks);
-        if answer.cover.certificate.len() > 240 {
+        if answer.cover.certificate.len() > MOST_BOXES {
             groups(pen, answer.cover.certificate.as_slice());
         }
         table(pen, view, answer);

@@ -16,6 +16,9 @@ use std::alloc::{AllocError, Global};
 /// The end of all references.
 pub(crate) const END: u64 = 4_294_967_296;
 
+/// Most columns of a strip that are wide.
+pub(crate) const WIDE_COLUMNS: usize = 32;
+
 /// A strip: its intervals, in how many columns, from where and how high.
 #[derive(Drop)]
 pub(crate) struct Strip<'a> {
@@ -154,7 +157,7 @@ fn is_lettered(strip: &Strip<'_>, at: usize) -> bool {
 }
 
 fn layer_letter(pen: &mut Pen, strip: &Strip<'_>, slot: usize, place: (u64, u64)) {
-    let class = if strip.is_aggregated() || strip.columns <= 32 {
+    let class = if strip.is_aggregated() || strip.columns <= WIDE_COLUMNS {
         letter_class(slot)
     } else {
         wide_letter_class(slot)
@@ -248,8 +251,8 @@ fn draw(pen: &mut Pen, strip: &Strip<'_>, column: &Column<'_>) {
 }
 
 fn cuts(pen: &mut Pen, strip: &Strip<'_>) {
-    let few = strip.columns <= 32;
-    pen.begin(Tag::G, if few { "cut" } else { "cut fine" });
+    let wide = strip.columns <= WIDE_COLUMNS;
+    pen.begin(Tag::G, if wide { "cut" } else { "cut fine" });
     for at in 1..strip.columns {
         let x = edge(at, strip.columns, FULL) as u64;
         line(
@@ -262,10 +265,10 @@ fn cuts(pen: &mut Pen, strip: &Strip<'_>) {
     pen.line();
 }
 
-/// A tick at a place below the strip: a triangle if there are few.
+/// A tick at a place below the strip: a triangle if columns are wide.
 fn tick(pen: &mut Pen, strip: &Strip<'_>, x: u64) {
     let y = below(strip);
-    if strip.columns <= 32 && !strip.is_aggregated() {
+    if strip.columns <= WIDE_COLUMNS && !strip.is_aggregated() {
         pen.with(Attribute::Share(Key::X, x));
         pen.with(Attribute::Number(Key::Y, y));
         pen.with(Attribute::Number(Key::Width, 12));

@@ -21,7 +21,7 @@ use crate::shown::{Shown, View, axis_of, samples_in};
 use crate::terminal::terminal;
 use crate::time::time;
 use page_claims::{Claim, find_claim};
-use page_marks::{page_marks, text_marks};
+use page_marks::{FEW_PARTS, page_marks, text_marks};
 use page_style::{append_back, append_front};
 use page_text::{Mark, Piece, Tag, marks_of, print, print_plain, same_marks};
 use std::alloc::{AllocError, Global};
@@ -42,7 +42,7 @@ fn view_of<'a>(alloc: Global, shown: &'a Shown<'a>) -> Result<View<'a>, AllocErr
         claim,
         intervals,
         samples: samples_in(shown.told.rows.as_slice()),
-        few: shown.told.answers.len() <= 8,
+        few: shown.told.answers.len() <= FEW_PARTS,
         axis: axis_of(shown.query, shown.told),
     })
 }

@@ -16,7 +16,7 @@ use Rattle.page_marks.specs.Columns.{column_of}
 use Rattle.page_marks.specs.Gathering.{total}
 use Rattle.page_marks.specs.Tables.{samples_in}
 use Rattle.page_marks.specs.Tiles.{kinds_below, count_below, IsStack}
-use Rattle.page_marks.proofs.Stacks.{one_if, kinds_none, kinds_more, kinds_few}
+use Rattle.page_marks.proofs.Stacks.{one_if, kinds_none, kinds_more}
 use Rattle.page_marks.proofs.Stacks.{below_none, below_more, below_all}
 
 -- the slots of a list have all that it has
@@ -75,8 +75,8 @@ top_none total room =
     let e : 0 * room / total ≤ 0 = div-le_of_le-mul total (omega arith) in
     omega arith
 
-filled : (kinds height : ℕ) → kinds ≤ 19 → 19 ≤ height → kinds + (height - kinds) ≡ height
-filled kinds height few high = omega arith
+filled : (kinds height : ℕ) → kinds ≤ height → kinds + (height - kinds) ≡ height
+filled kinds height high = omega arith
 
 below_mono : (is : List Interval) (n : ℕ) → count_below is n ≤ count_below is (n + 1)
 below_mono is n = let e = below_more is n in omega (arith, e)
@@ -100,7 +100,8 @@ none_more : (is : List Interval) (slot : ℕ) → count_in slot is ≡ 0
     → count_below is (slot + 1) ≡ count_below is slot
 none_more is slot none = let e = below_more is slot in omega (arith, e, none)
 
-pub stack : (height : ℕ) (is : List Interval) → 0 < length is → 19 ≤ height → IsStack height is
+pub stack : (height : ℕ) (is : List Interval) → 0 < length is → kinds_below is 19 ≤ height
+    → IsStack height is
 stack height is some high =
     let kinds : ℕ = kinds_below is 19 in
     let room : ℕ = height - kinds_below is 19 in
@@ -109,7 +110,7 @@ stack height is some high =
           ∙ top_none (length is) room;
       full = ap (λ (c : ℕ). top kinds c (length is) room) (below_all is)
           ∙ top_full kinds (length is) room some
-          ∙ filled kinds height (kinds_few is 19) high;
+          ∙ filled kinds height high;
       seen = λ slot occurs.
           subst (λ (k : ℕ). top (kinds_below is slot) (count_below is slot) (length is) room + 1
           ≤ top k (count_below is (slot + 1)) (length is) room)

@@ -15,7 +15,10 @@ use std::alloc::AllocError;
 /// The width of a strip, in hundredths of a percent.
 pub const FULL: usize = 10_000;
 
-/// How many groups the table of a strip of more than 240 intervals has.
+/// Most intervals that a strip shows in a box each.
+pub const MOST_BOXES: usize = 240;
+
+/// How many groups the table of a strip of more intervals has.
 pub const GROUPS: usize = 20;
 
 /// How many columns a strip of so many intervals has, of few parts or of many.
@@ -23,7 +26,7 @@ pub fn columns_of(intervals: usize, few: bool) -> usize
     ensures value { result ≡ columns_of intervals few }
     ensures within { result ≤ intervals }
 {
-    if intervals <= 240 {
+    if intervals <= MOST_BOXES {
         intervals
     } else if few {
         240
@@ -147,7 +150,7 @@ fn append_all_groups(marks: &mut Vec<Mark>, intervals: &[Interval]) -> Result<()
 pub(crate) fn append_groups(marks: &mut Vec<Mark>, intervals: &[Interval]) -> Result<(), AllocError>
     ensures { OnOk result (marks.new.items ≡ marks.old.items ++ groups_marks intervals.now) }
 {
-    if intervals.len() <= 240 {
+    if intervals.len() <= MOST_BOXES {
         return Ok(());
     }
     append_all_groups(marks, intervals)

@@ -7,14 +7,14 @@ ghost use Rattle.page_claims.specs.Counting.{count_in};
 ghost use Rattle.page_marks.specs.Columns.{column_of};
 ghost use Rattle.page_marks.specs.Gathering.{total};
 ghost use Rattle.page_marks.specs.Tables.{samples_in};
-ghost use Rattle.page_marks.specs.Tiles.{IsStack};
+ghost use Rattle.page_marks.specs.Tiles.{kinds_below, IsStack};
 
-/// The laws of what a page shows: a column's layers fill its height, each of at least one unit; the
-/// counts of the columns sum to those of the part, and the counts of all verdicts to the intervals;
+/// The laws of what a page shows: a column's layers fill a height that has a unit for each of them,
+/// each with at least one; the counts of the columns sum to those of the part, and the counts of all verdicts to the intervals;
 /// the samples of the rows that are shown and of those that are left out are all.
 pub fn marks_law()
-    ensures stacks { (height : ℕ) (is : List Interval) → 0 < length is → 19 ≤ height
-        → IsStack height is }
+    ensures stacks { (height : ℕ) (is : List Interval) → 0 < length is
+        → kinds_below is 19 ≤ height → IsStack height is }
     ensures columns { (slot columns : ℕ) (is : List Interval) → 0 < columns
         → total (λ at. count_in slot (column_of columns is at)) columns ≡ count_in slot is }
     ensures verdicts { (is : List Interval) → total (λ slot. count_in slot is) 19 ≡ length is }

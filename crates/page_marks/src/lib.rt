@@ -24,9 +24,9 @@ mod tables;
 mod tallies;
 mod tiles;
 
-pub use columns::{FULL, GROUPS, columns_of};
+pub use columns::{FULL, GROUPS, MOST_BOXES, columns_of};
 pub use laws::marks_law;
-pub use pages::{page_marks, text_marks};
+pub use pages::{FEW_PARTS, most_intervals, page_marks, text_marks};
 pub use tables::MOST_ROWS;
 pub use tallies::tallies_of;
 pub use tiles::{Frame, tiles_of};

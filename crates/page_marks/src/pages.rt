@@ -118,8 +118,11 @@ fn append_figure(marks: &mut Vec<Mark>, intervals: &[Interval], few: bool) -> Re
     append_strip(marks, intervals, columns_of(intervals.len(), few), few)
 }
 
-/// How many intervals a table shows, of few parts or of many.
-fn most_of(few: bool) -> usize
+/// Most parts that are few.
+pub const FEW_PARTS: usize = 8;
+
+/// Most intervals that the table of a part shows, of few parts or of many.
+pub fn most_intervals(few: bool) -> usize
     ensures { result ≡ (if few then 100 else 20) }
 {
     if few { 100 } else { 20 }
@@ -135,7 +138,7 @@ fn append_body(marks: &mut Vec<Mark>, intervals: &[Interval], few: bool) -> Resu
     }
     append_figure(marks, intervals, few)?;
     append_groups(marks, intervals)?;
-    append_table(marks, intervals, most_of(few))
+    append_table(marks, intervals, most_intervals(few))
 }
 
 /// Appends a part.
@@ -200,7 +203,7 @@ fn append_upper(
 {
     append_numbers(marks, answers, rows)?;
     append_key(marks, matchers, answers)?;
-    append_parts(marks, answers, answers.len() <= 8)
+    append_parts(marks, answers, answers.len() <= FEW_PARTS)
 }
 
 /// Appends the table of times and that of the rows.

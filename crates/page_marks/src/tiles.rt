@@ -103,8 +103,8 @@ pub(crate) fn append_tiles(
 }
 
 /// The tiles of a column of intervals, from the bottom, in the order of their slots. If there
-/// are intervals and the height is at least 19, they fill it, each with at least one unit; their
-/// foot is to be at least the height.
+/// are intervals and the height has a unit for each verdict that occurs, they fill it, each with at
+/// least one unit; their foot is to be at least the height.
 pub fn tiles_of(
     alloc: Global,
     intervals: &[Interval],

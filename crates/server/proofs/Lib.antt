@@ -1,3 +1,4 @@
 pub mod Farther
+pub mod Heads
 pub mod Replies
 pub mod Sequences

@@ -2,6 +2,7 @@
 use Rattle.std.specs.Prelude.{◌≡◌, ◌⊎◌, ℕ, ◌+◌, Bool, true, false, not, ◌&&◌, ◌||◌, ◌==◌, List}
 use Rattle.std.specs.Prelude.{[], ◌∷◌, ◌++◌, length, take, drop, Option, None, Some, position, codes}
 use Rattle.std.specs.Prelude.{decimal, nat_eq, if◌then◌else◌}
+use Rattle.std.specs.Io.KnownBytes.{Appends}
 use Rattle.std.specs.List.{starts_with}
 use Rattle.std.specs.Str.{bytes_eq}
 use Rattle.metrics_text.specs.Families.{metrics_text}
@@ -145,3 +146,22 @@ abbrev pub IsReply : Asked → Bool → Bool → List ℕ → Type 0
 IsReply asked bare ready reply =
     (line body : List ℕ) × IsAnswer asked ready line body
     × (reply ≡ reply_text bare line (allow_of asked) body)
+
+-- whether a client wants no body: the method, which is the first word of what came, is `HEAD`
+abbrev pub is_bare : List ℕ → Bool
+is_bare bytes = starts_with nat_eq bytes (codes "HEAD ")
+
+-- the reply to what came, by whether the blocks are open
+abbrev pub IsReplyTo : List ℕ → Bool → List ℕ → Type 0
+IsReplyTo bytes ready reply = IsReply (asked_in bytes) (is_bare bytes) ready reply
+
+-- a reply to what came without its body, whose length it tells
+abbrev pub IsHeadOfReply : List ℕ → Bool → List ℕ → Type 0
+IsHeadOfReply bytes ready text =
+    (line allow body : List ℕ) × (text ≡ head_text line allow (length body))
+    × IsReplyTo bytes ready (text ++ body)
+
+-- exactly one reply to what came was written
+abbrev pub IsReplied : List ℕ → Bool → Option (List ℕ) → Option (List ℕ) → Type 0
+IsReplied bytes ready before after =
+    (reply : List ℕ) × IsReplyTo bytes ready reply × Appends before after reply

@@ -10,7 +10,7 @@
 //! connection, and play no part in the contract. [`Sockets`] are connections of the system, with
 //! limits of time: a client that is silent or gone costs its own connection and no other.
 //! [`serve_watched`] answers those beside that ask at a status port how the server stands
-//! ([`Watch`]): each worker counts in a [`Tally`] of its own.
+//! ([`Watch`]), each by [`answer_client`]: each worker counts in a [`Tally`] of its own.
 //!
 //! The loop of a worker over two `connections` in memory:
 //!
@@ -41,5 +41,6 @@ pub use pool::{Terms, Workers, serve, serve_watched};
 pub use socket::{SocketReader, SocketWriter};
 pub use sockets::Sockets;
 pub use standing::{Memory, Watch, report_opening};
+pub use status::{Report, answer_client, head_law};
 pub use tally::Tally;
 pub use worker::{Shift, work};

@@ -1,10 +1,12 @@
 //! The status port: what the server tells of itself.
 
-ghost use Rattle.std.specs.Prelude.{◌≡◌, ◌==◌, Bool, IfOk, IfSome, option_map, position};
-ghost use Rattle.std.specs.Prelude.{string_bytes};
+ghost use Rattle.std.specs.Prelude.{◌≡◌, ◌==◌, ◌++◌, ℕ, Bool, List, IfOk, IfSome, option_map};
+ghost use Rattle.std.specs.Prelude.{codes, position, string_bytes};
+ghost use Rattle.std.specs.Io.KnownBytes.{Consumes};
 ghost use Rattle.server.specs.Status.{parted, path_in, asked_at, is_line, is_taken, asked_of};
 ghost use Rattle.server.specs.Status.{asked_by, plain_line, plain_body, TellsCounts, IsPlain};
-ghost use Rattle.server.specs.Status.{IsAnswer, allow_of, asked_in, has_end, head_text, IsReply};
+ghost use Rattle.server.specs.Status.{IsAnswer, allow_of, asked_in, has_end, head_text, is_bare};
+ghost use Rattle.server.specs.Status.{IsReply, IsReplyTo, IsHeadOfReply, IsReplied};
 
 use crate::ending::end;
 use metrics_text::{Counts, State, metrics};
@@ -28,7 +30,7 @@ const LATEST: u64 = 700;
 const MOST: usize = 8192;
 
 /// Who knows how a server stands.
-pub(crate) trait Report {
+pub trait Report {
     /// Whether the blocks are open.
     ghost ready: { Self → Bool };
 
@@ -113,8 +115,10 @@ fn asked_at(path: &[u8]) -> Asked
     }
 }
 
-/// Whether the client wants no body.
-fn is_bare(head: &[u8]) -> bool {
+/// Whether the client wants no body: its method is `HEAD`.
+fn is_bare(head: &[u8]) -> bool
+    ensures { result ≡ is_bare head.now }
+{
     head.starts_with(b"HEAD ")
 }
 
@@ -269,14 +273,29 @@ fn reply_of<S: Report>(
     Ok(reply)
 }
 
+/// The reply to what came.
+fn reply_to<S: Report>(alloc: Global, head: &[u8], report: &mut S) -> Result<Vec<u8>, AllocError>
+    ensures { IfOk result (λ reply. IsReplyTo head.now (S.ready report.old) reply.items) }
+{
+    reply_of(alloc, asked_in(head), is_bare(head), report)
+}
+
+/// The law of `HEAD`: its reply is the head of a reply that `GET` gets.
+pub fn head_law()
+    ensures { (rest reply : List ℕ) (ready : Bool) → IsReplyTo (codes "HEAD " ++ rest) ready reply
+        → IsHeadOfReply (codes "GET " ++ rest) ready reply }
+{}
+
 /// Reads the head of a request, or its first bytes if it is long or slow or if all is over.
-fn read_head(
+fn read_head<R: Read>(
     rt: &impl Clock,
     alloc: Global,
-    stream: &TcpStream,
+    reader: &mut R,
     over: &AtomicBool,
-) -> io::Result<Vec<u8>> {
-    let mut reader = stream;
+) -> io::Result<Vec<u8>>
+    ensures { IfOk result (λ head.
+        Consumes (R.remaining reader.old) (R.remaining reader.new) head.items) }
+{
     let mut head = Vec::new(alloc);
     let mut piece = [0u8; 512];
     let start = Instant::now(rt)?;
@@ -294,7 +313,28 @@ fn read_head(
     Ok(head)
 }
 
-/// Answers one client. What was no request in time is not read on.
+/// Reads what one client asks, writes the reply to it, and gives what was read. A read ends with
+/// the head, or if that is long or slow or all is over.
+pub fn answer_client<R: Read, W: Write, S: Report>(
+    rt: &impl Clock,
+    alloc: Global,
+    reader: &mut R,
+    writer: &mut W,
+    over: &AtomicBool,
+    report: &mut S,
+) -> io::Result<Vec<u8>>
+    ensures asked { IfOk result (λ head.
+        Consumes (R.remaining reader.old) (R.remaining reader.new) head.items) }
+    ensures replied { IfOk result (λ head. IsReplied head.items (S.ready report.old)
+        (W.contents writer.old) (W.contents writer.new)) }
+{
+    let head = read_head(rt, alloc, reader, over)?;
+    let reply = reply_to(alloc, head.as_slice(), report)?;
+    writer.write_all(reply.as_slice())?;
+    Ok(head)
+}
+
+/// Answers one client of the system. What was no request in time is not read on.
 fn answer<S: Report>(
     rt: &impl Clock,
     alloc: Global,
@@ -306,11 +346,9 @@ fn answer<S: Report>(
     stream.set_nonblocking(false)?;
     stream.set_read_timeout(limit)?;
     stream.set_write_timeout(limit)?;
-    let head = read_head(rt, alloc, stream, over)?;
+    let (mut reader, mut writer) = (stream, stream);
+    let head = answer_client(rt, alloc, &mut reader, &mut writer, over, report)?;
     let asked = asked_in(head.as_slice());
-    let reply = reply_of(alloc, asked, is_bare(head.as_slice()), report)?;
-    let mut writer = stream;
-    writer.write_all(reply.as_slice())?;
     if asked != Asked::NoRequest {
         end(rt, stream, asked == Asked::NoMethod);
     }
