@@ -1,6 +1,6 @@
 //! Each flaw of an answer to `up{job="a"}`, 0 to 100, and which of two is told.
 
-use crate::audits::answers::{
+use crate::audits::answered::{
     BY_JOB, BY_NAME, END, FOUND, Intervals, MATCH, PLACES, SILENT, SOUND, SOUND_INTERVALS, Said,
     answer, query,
 };

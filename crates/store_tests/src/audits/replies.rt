@@ -1,6 +1,6 @@
 //! Replies as texts: texts that are none, and the lines of several.
 
-use crate::audits::answers::query;
+use crate::audits::answered::query;
 use crate::audits::worked_block::{CHUNKS, INDEX, TOMBSTONES, table_of_files};
 use auditor::{BlockTable, Reply, ReplyError, judge, lines_text};
 use std::alloc::{AllocError, Global};
