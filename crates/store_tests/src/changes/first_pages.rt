@@ -3,8 +3,8 @@
 ghost use Rattle.std.specs.Prelude.{◌≡◌, []};
 ghost use Rattle.head.specs.Blocks.{opening_of};
 
-use crate::changes::refused_memory::{OneStore, open_one};
 use crate::changes::rows::empty;
+use crate::serving::store::{EmptyStore, open_empty};
 use head::{Event, HeadView, Snapshot, apply};
 use history::{Reply, Step, run};
 use labels::{LabelSet, Sample, SeriesRef};
@@ -85,7 +85,7 @@ fn appender_of_one(alloc: Global) -> Option<Appender> {
 fn commit_and_learn<J: Naming, R: Wait + Drop>(
     rt: &impl Wait,
     alloc: Global,
-    store: &mut OneStore<J, R>,
+    store: &mut EmptyStore<J, R>,
 ) -> Option<Arc<Snapshot>> {
     let appender = appender_of_one(alloc)?;
     let receipt = store.committer.commit(rt, &mut store.seat, appender).ok()?;
@@ -98,7 +98,7 @@ fn commit_and_look<J: Naming, R: Wait>(rt: &R, alloc: Global, store: Store) -> O
     requires book { store.seen.book ≡ J.book }
     requires opening { opening_of [] ≡ J.opening }
 {
-    let mut store = open_one::<J, &R>(rt, alloc, store)?;
+    let mut store = open_empty::<J, &R>(rt, alloc, store)?;
     let snapshot = commit_and_learn(rt, alloc, &mut store)?;
     Some(store.pass.events() == 1 && has(alloc, snapshot.head(), 1))
 }

@@ -6,11 +6,12 @@ ghost use Rattle.std.specs.Prelude.{◌≡◌, []};
 ghost use Rattle.head.specs.Blocks.{opening_of};
 
 use crate::changes::rows::{Wanted, appender_of, job_a, put_labels, put_samples, samples_of};
+use crate::serving::store::{EmptyStore, open_empty};
 use block::Block;
 use head::{CommitError, Event, HeadView, Snapshot};
 use labels::{LabelSet, Row, Sample, SeriesRef, is_time};
 use matchers::{Matcher, Op};
-use snapshots::{Appender, Committer, Naming, Pass, Seat, Store};
+use snapshots::{Appender, Naming, Pass, Store};
 use std::alloc::{AllocError, Global};
 use std::marker::Brand;
 use std::sync::Wait;
@@ -87,37 +88,6 @@ enum Asked {
     Commit(Appender),
     Delete(Vec<Matcher>, i64, i64),
     Cut(i64),
-}
-
-/// A committer of an empty store, a pass and a seat.
-#[derive(Drop)]
-pub struct OneStore<J: Naming, R: Wait + Drop> {
-    pub committer: Committer<J, R>,
-    pub pass: Pass<J>,
-    pub seat: Seat<J>,
-}
-
-/// The last of a list.
-fn last<T: Drop>(mut list: Vec<T>) -> Option<T> {
-    list.pop()
-}
-
-pub fn open_one<J: Naming, R: Wait + Drop>(
-    rt: R,
-    alloc: Global,
-    store: Store,
-) -> Option<OneStore<J, R>>
-    requires book { store.seen.book ≡ J.book }
-    requires opening { opening_of [] ≡ J.opening }
-{
-    let opened = store.open::<J, R>(rt, alloc, Vec::new(alloc), 1, 1);
-    let (committer, passes, seats) = opened.ok()?;
-    let (pass, seat) = last(passes).zip(last(seats))?;
-    Some(OneStore {
-        committer,
-        pass,
-        seat,
-    })
 }
 
 fn asked_of(alloc: Global, step: Step) -> Option<Asked> {
@@ -211,7 +181,7 @@ fn same(alloc: Global, asked: Asked, step: Step) -> Option<Asked> {
 /// How many events the store has after a commit, or what came back.
 fn commit<J: Naming, R: Wait + Drop>(
     rt: &impl Wait,
-    store: &mut OneStore<J, R>,
+    store: &mut EmptyStore<J, R>,
     appender: Appender,
 ) -> Result<u64, (Asked, CommitError)> {
     match store.committer.commit(rt, &mut store.seat, appender) {
@@ -222,7 +192,7 @@ fn commit<J: Naming, R: Wait + Drop>(
 
 fn delete<J: Naming, R: Wait + Drop>(
     rt: &impl Wait,
-    store: &mut OneStore<J, R>,
+    store: &mut EmptyStore<J, R>,
     matchers: Vec<Matcher>,
     from: i64,
     to: i64,
@@ -241,7 +211,7 @@ fn delete<J: Naming, R: Wait + Drop>(
 
 fn cut<J: Naming, R: Wait + Drop>(
     rt: &impl Wait,
-    store: &mut OneStore<J, R>,
+    store: &mut EmptyStore<J, R>,
     at: i64,
 ) -> Result<u64, (Asked, CommitError)> {
     if !is_time(at) {
@@ -255,7 +225,7 @@ fn cut<J: Naming, R: Wait + Drop>(
 
 fn ask<J: Naming, R: Wait + Drop>(
     rt: &impl Wait,
-    store: &mut OneStore<J, R>,
+    store: &mut EmptyStore<J, R>,
     asked: Asked,
 ) -> Result<u64, (Asked, CommitError)> {
     match asked {
@@ -327,7 +297,7 @@ fn shows<J: Naming>(alloc: Global, pass: &mut Pass<J>, parts: &str) -> bool {
 /// Whether the store shows what it showed before a call, and the seat has published so many events.
 fn is_left<J: Naming, R: Wait + Drop>(
     alloc: Global,
-    store: &mut OneStore<J, R>,
+    store: &mut EmptyStore<J, R>,
     events: u64,
     before: &str,
 ) -> bool {
@@ -338,7 +308,7 @@ fn is_left<J: Naming, R: Wait + Drop>(
 fn is_made_again<J: Naming, R: Wait + Drop>(
     rt: &impl Wait,
     alloc: Global,
-    store: &mut OneStore<J, R>,
+    store: &mut EmptyStore<J, R>,
     back: (Asked, Step),
     before: &str,
 ) -> bool {
@@ -357,7 +327,7 @@ fn is_made_again<J: Naming, R: Wait + Drop>(
 fn is_made<J: Naming, R: Wait + Drop>(
     rt: &impl Wait,
     alloc: Global,
-    store: &mut OneStore<J, R>,
+    store: &mut EmptyStore<J, R>,
     asked: (Asked, Step),
     before: &str,
 ) -> bool {
@@ -382,7 +352,7 @@ fn number_of(made: Result<u64, (Asked, CommitError)>) -> Result<u64, CommitError
 fn is_step<J: Naming, R: Wait + Drop>(
     rt: &impl Wait,
     alloc: Global,
-    store: &mut OneStore<J, R>,
+    store: &mut EmptyStore<J, R>,
     step: Step,
     shown: (&str, &str),
 ) -> bool {
@@ -400,7 +370,7 @@ fn is_step<J: Naming, R: Wait + Drop>(
 fn count_made<J: Naming, R: Wait + Drop>(
     rt: &impl Wait,
     alloc: Global,
-    store: &mut OneStore<J, R>,
+    store: &mut EmptyStore<J, R>,
 ) -> usize {
     let mut count = 0usize;
     let mut before = EMPTY;
@@ -419,7 +389,7 @@ fn count_in<J: Naming, R: Wait>(rt: &R, alloc: Global, store: Store) -> Option<u
     requires book { store.seen.book ≡ J.book }
     requires opening { opening_of [] ≡ J.opening }
 {
-    let mut store = open_one::<J, &R>(rt, alloc, store)?;
+    let mut store = open_empty::<J, &R>(rt, alloc, store)?;
     Some(count_made(rt, alloc, &mut store))
 }
 

@@ -10,8 +10,9 @@ const PIECES: [&str; 16] = [
     "\u{7f}", "\u{2028}", "😀", "a",
 ];
 
-/// How many rows are made.
-const ROWS: u64 = 48;
+/// How many rows are made: so many that the text of the answer is long, and is written apart from
+/// the head of the reply.
+const ROWS: u64 = 640;
 
 /// The number after a number, in no order that is seen.
 fn next(x: u64) -> u64 {
@@ -51,7 +52,7 @@ fn samples(k: u64, x: u64) -> [i64; 4] {
 
 /// Appends the labels of a row: the first tells its place in the order of rows.
 fn put_labels(text: &mut String, k: u64, x: u64) -> Result<(), AllocError> {
-    let place = k.saturating_add(10);
+    let place = k.saturating_add(100);
     let (a, b, c) = (piece(x), piece(next(x)), piece(next(next(x))));
     write!(
         text,
