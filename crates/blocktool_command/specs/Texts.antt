@@ -85,10 +85,11 @@ AreAllowed rest times others =
 abbrev pub IsToldOf : Left → Fault → Type 0
 IsToldOf left e = (e ≡ Memory) ⊎ ((name : String Global) × (e ≡ Other name left))
 
--- the first of them in the range is told, if memory did not run out
-abbrev pub IsOtherRefused : Stretch → List Left → Fault → Type 0
-IsOtherRefused times others e =
-    (left : Left) × (first_within times.from times.to others ≡ Some left) × IsToldOf left e
+-- samples with other values are not left out, and the first of them in the range is told, if memory
+-- did not run out
+abbrev pub IsOtherRefused : Rest → Stretch → List Left → Fault → Type 0
+IsOtherRefused rest times others e = (rest ≡ Refuse) × (left : Left)
+    × (first_within times.from times.to others ≡ Some left) × IsToldOf left e
 
 -- the refusal of a text is told, if memory did not run out
 abbrev pub IsToldFor : ReadError → Fault → Type 0
@@ -108,11 +109,13 @@ pub record IsSaidBy (format : Format) (places : ℕ) (fractions : Fractions) (te
       (told_by said.listed.rows.items said.others.items said.rounded.items)
   pub rise : AreRising said.listed.rows.items
 
--- why a text is refused is told, or the first sample with another value in the range that it says
-abbrev pub IsTextRefused : Format → ℕ → Fractions → List ℕ → Stretch → Fault → Type 0
-IsTextRefused format places fractions text times e = IsToldRefused format places fractions text e
-    ⊎ ((said : Said) × IsSaidBy format places fractions text said
-    × IsOtherRefused times said.others.items e)
+-- why a text is refused is told; or, where such samples are not left out, the first sample with
+-- another value in the range that it says
+abbrev pub IsTextRefused : Format → ℕ → Rest → List ℕ → Stretch → Fault → Type 0
+IsTextRefused format places rest text times e =
+    IsToldRefused format places (fractions_of rest) text e
+    ⊎ ((said : Said) × IsSaidBy format places (fractions_of rest) text said
+    × IsOtherRefused rest times said.others.items e)
 
 -- what was said, and an input of nothing behind it
 abbrev pub AreInputsOf : Said → List Said → Type 0
