@@ -20,7 +20,7 @@ use Rattle.exposition.specs.declared.error.Refusal.{Refusal}
 use Rattle.exposition.specs.declared.text.Fractions.{Fractions}
 use Rattle.exposition.specs.declared.text.Fractions.TheVariants.{Beside, Rounded}
 use Rattle.exposition.specs.declared.text.Left.{Left}
-use Rattle.exposition.specs.Reading.{IsText, told_by}
+use Rattle.exposition.specs.Reading.{HasExemplars, IsText, told_by}
 use Rattle.exposition.specs.Refusing.{IfRefused, IsRefused}
 use Rattle.exposition.specs.Runs.{AreRising}
 use Rattle.block_outputs.specs.declared.tiles.Stretch.{Stretch}
@@ -102,12 +102,13 @@ IsToldRefused format places fractions text e =
     (error : ReadError) × IfRefused error (IsRefused format places fractions text)
     × IsToldFor error e
 
--- what a text says, in rows whose times ascend
+-- what a text says, in rows whose times ascend, and how many of its lines have an exemplar
 pub record IsSaidBy (format : Format) (places : ℕ) (fractions : Fractions) (text : List ℕ)
     (said : Said) : Type 0 where
   pub is_text : IsText format places fractions text
       (told_by said.listed.rows.items said.others.items said.rounded.items)
   pub rise : AreRising said.listed.rows.items
+  pub exemplars : HasExemplars format places text said.exemplars
 
 -- why a text is refused is told; or, where such samples are not left out, the first sample with
 -- another value in the range that it says

@@ -121,11 +121,13 @@ fn read_said(
                 rows,
                 others,
                 rounded,
+                exemplars,
             },
         ) => Ok(Said {
             listed: Listed { rows },
             others,
             rounded,
+            exemplars,
         }),
         Err(error) => Err(refused(alloc, text_in.file, error)),
     }
