@@ -10,9 +10,10 @@
     read_block.py reply BLOCK..                               prints the rows of the blocks as a reply
     read_block.py same DIGITS TSDB -- BLOCK..                 `promtool tsdb dump` of the TSDB prints the blocks' samples
     read_block.py delete BLOCK                                deletes of each third series the times of its second quarter
-    read_block.py change BLOCKTOOL TSDB DIR                   changes each byte of the block in TSDB: refused, or the same
+    read_block.py change BLOCKTOOL TSDB DIR                   flips each bit of the block in TSDB: refused, or the same
 """
-import ast, glob, json, os, random, re, shutil, struct, subprocess, sys
+import ast, glob, json, multiprocessing, os, random, re, shutil, struct, subprocess, sys
+from collections import Counter
 from decimal import Decimal
 from fractions import Fraction
 
@@ -282,27 +283,38 @@ def run(tool, source, out):
     return end.returncode
 
 
-def change(tool, tsdb, work):
-    source = glob.glob(tsdb + "/0*")[0]
-    out, copy = work + "/changed-out", work + "/changed"
-    assert run(tool, source, out) == 0
-    wanted = blocks(glob.glob(out + "/0*"))
-    ends = {}
+def change_part(part):
+    """Flips the bits of every so many bytes of each file in a copy of its own, and counts the exit statuses."""
+    tool, source, work, wanted, first, step = part
+    out, copy = f"{work}/changed-out-{first}", f"{work}/changed-{first}"
+    shutil.copytree(source, copy)
+    ends = Counter()
     for name in ["index", "chunks/000001", "tombstones"]:
         whole = open(f"{source}/{name}", "rb").read()
-        for at in range(len(whole)):
-            for flip in (1, 0x80, 0xFF):
-                shutil.rmtree(copy, ignore_errors=True)
-                shutil.copytree(source, copy)
+        for at in range(first, len(whole), step):
+            for flip in (1 << bit for bit in range(8)):
                 changed = bytearray(whole)
                 changed[at] ^= flip
                 open(f"{copy}/{name}", "wb").write(changed)
                 code = run(tool, copy, out)
-                ends[code] = ends.get(code, 0) + 1
+                ends[code] += 1
                 assert code in (0, 1, 3), (name, at, flip, code)
                 if code == 0:
                     assert blocks(glob.glob(out + "/0*")) == wanted, (name, at, flip)
-    print("changed bytes by exit status:", ends)
+        open(f"{copy}/{name}", "wb").write(whole)
+    assert run(tool, copy, out) == 0, "the copy is not what it was"
+    return ends
+
+
+def change(tool, tsdb, work):
+    source = glob.glob(tsdb + "/0*")[0]
+    out = work + "/changed-out"
+    assert run(tool, source, out) == 0
+    wanted = blocks(glob.glob(out + "/0*"))
+    step = os.cpu_count()
+    with multiprocessing.Pool(step) as pool:
+        ends = sum(pool.map(change_part, [(tool, source, work, wanted, first, step) for first in range(step)]), Counter())
+    print(ends.total(), "flipped bits by exit status:", dict(ends))
 
 
 if __name__ == "__main__":

@@ -20,7 +20,7 @@ use Rattle.exposition.specs.declared.error.Refusal.{Refusal}
 use Rattle.exposition.specs.declared.text.Fractions.{Fractions}
 use Rattle.exposition.specs.declared.text.Fractions.TheVariants.{Beside, Rounded}
 use Rattle.exposition.specs.declared.text.Left.{Left}
-use Rattle.exposition.specs.Reading.{IsText, told_by}
+use Rattle.exposition.specs.Reading.{HasExemplars, IsText, told_by}
 use Rattle.exposition.specs.Refusing.{IfRefused, IsRefused}
 use Rattle.exposition.specs.Runs.{AreRising}
 use Rattle.block_outputs.specs.declared.tiles.Stretch.{Stretch}
@@ -85,10 +85,11 @@ AreAllowed rest times others =
 abbrev pub IsToldOf : Left → Fault → Type 0
 IsToldOf left e = (e ≡ Memory) ⊎ ((name : String Global) × (e ≡ Other name left))
 
--- the first of them in the range is told, if memory did not run out
-abbrev pub IsOtherRefused : Stretch → List Left → Fault → Type 0
-IsOtherRefused times others e =
-    (left : Left) × (first_within times.from times.to others ≡ Some left) × IsToldOf left e
+-- samples with other values are not left out, and the first of them in the range is told, if memory
+-- did not run out
+abbrev pub IsOtherRefused : Rest → Stretch → List Left → Fault → Type 0
+IsOtherRefused rest times others e = (rest ≡ Refuse) × (left : Left)
+    × (first_within times.from times.to others ≡ Some left) × IsToldOf left e
 
 -- the refusal of a text is told, if memory did not run out
 abbrev pub IsToldFor : ReadError → Fault → Type 0
@@ -101,18 +102,21 @@ IsToldRefused format places fractions text e =
     (error : ReadError) × IfRefused error (IsRefused format places fractions text)
     × IsToldFor error e
 
--- what a text says, in rows whose times ascend
+-- what a text says, in rows whose times ascend, and how many of its lines have an exemplar
 pub record IsSaidBy (format : Format) (places : ℕ) (fractions : Fractions) (text : List ℕ)
     (said : Said) : Type 0 where
   pub is_text : IsText format places fractions text
       (told_by said.listed.rows.items said.others.items said.rounded.items)
   pub rise : AreRising said.listed.rows.items
+  pub exemplars : HasExemplars format places text said.exemplars
 
--- why a text is refused is told, or the first sample with another value in the range that it says
-abbrev pub IsTextRefused : Format → ℕ → Fractions → List ℕ → Stretch → Fault → Type 0
-IsTextRefused format places fractions text times e = IsToldRefused format places fractions text e
-    ⊎ ((said : Said) × IsSaidBy format places fractions text said
-    × IsOtherRefused times said.others.items e)
+-- why a text is refused is told; or, where such samples are not left out, the first sample with
+-- another value in the range that it says
+abbrev pub IsTextRefused : Format → ℕ → Rest → List ℕ → Stretch → Fault → Type 0
+IsTextRefused format places rest text times e =
+    IsToldRefused format places (fractions_of rest) text e
+    ⊎ ((said : Said) × IsSaidBy format places (fractions_of rest) text said
+    × IsOtherRefused rest times said.others.items e)
 
 -- what was said, and an input of nothing behind it
 abbrev pub AreInputsOf : Said → List Said → Type 0

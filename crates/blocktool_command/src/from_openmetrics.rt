@@ -1,11 +1,11 @@
 //! Blocks out of text.
 
-ghost use Rattle.std.specs.Prelude.{◌≡◌, ◌≤◌, IfErr, IfOk, OnOk};
-ghost use Rattle.std.specs.Bool.{OnTrue};
+ghost use Rattle.std.specs.Prelude.{◌≡◌, ◌≤◌, IfErr, IfOk, MatchBool, OnOk};
 ghost use Rattle.blocktool_command.specs.Texts.{AreAllowed, AreLeftOut, first_within};
 ghost use Rattle.blocktool_command.specs.Texts.{fractions_of, IsOtherRefused};
 ghost use Rattle.blocktool_command.specs.Texts.{IsSaidBy, IsTextRefused, IsToldFor, IsToldOf};
 ghost use Rattle.blocktool_command.specs.Texts.{IsToldRefused};
+ghost use Rattle.imported_values.specs.declared.policy.Rest.TheVariants.{Refuse};
 
 use crate::command::Options;
 use crate::fault::Fault;
@@ -64,7 +64,7 @@ fn fractions_of(rest: Rest) -> Fractions
 }
 
 fn are_left_out(rest: Rest) -> bool
-    ensures { OnTrue result (AreLeftOut rest) }
+    ensures { MatchBool result (AreLeftOut rest) (rest ≡ Refuse) }
 {
     match rest {
         Rest::Drop | Rest::Round => true,
@@ -89,7 +89,8 @@ fn check_others(
 ) -> Result<(), Fault>
     ensures allowed { OnOk result
         (AreAllowed options.now.policy.rest options.now.times others.now) }
-    ensures refused { IfErr result (IsOtherRefused options.now.times others.now) }
+    ensures refused { IfErr result
+        (IsOtherRefused options.now.policy.rest options.now.times others.now) }
 {
     if are_left_out(options.policy.rest) {
         return Ok(());
@@ -120,11 +121,13 @@ fn read_said(
                 rows,
                 others,
                 rounded,
+                exemplars,
             },
         ) => Ok(Said {
             listed: Listed { rows },
             others,
             rounded,
+            exemplars,
         }),
         Err(error) => Err(refused(alloc, text_in.file, error)),
     }
@@ -156,8 +159,7 @@ fn said_by(
         AreAllowed options.now.policy.rest options.now.times said.others.items) }
     // The text's refusal is told, or that of its first value that is not allowed.
     ensures refused { IfErr result (IsTextRefused text_in.entry.format
-        options.now.policy.digits (fractions_of options.now.policy.rest) text.now
-        options.now.times) }
+        options.now.policy.digits options.now.policy.rest text.now options.now.times) }
 {
     let said = said_as(alloc, options.policy, text_in, text)?;
     check_others(alloc, text_in.file, options, said.others.as_slice())?;

@@ -3,11 +3,11 @@
 use crate::command::Options;
 use crate::fault::Fault;
 use crate::folder::find_blocks;
-use crate::plan::{make_outputs, plan_for};
+use crate::plan::plan_for;
 use crate::prometheus::{Segments, Source, open_source};
-use crate::target::{Target, make_folder, send};
+use crate::target::Target;
 use crate::teller::Teller;
-use block_folder::HostDisk;
+use crate::writing::write_planned;
 use std::alloc::Global;
 use std::io::Write;
 use std::rt::Files;
@@ -40,15 +40,9 @@ pub(crate) fn from_prometheus<R: Files + AllocGlobal + Clone + Drop, W: Write, E
     let sources = open_all(alloc, rt, options, blocks.as_slice())?;
     teller.is_at("counting the samples")?;
     let plan = plan_for(alloc, sources.as_slice(), options.times)?;
-    teller.is_at("writing the outputs")?;
-    make_folder(alloc, rt, options.into)?;
     let target = Target {
         into: options.into,
         digits: options.policy.digits.number(),
     };
-    let mut disk = HostDisk::new(rt);
-    let summary = make_outputs(alloc, sources, &plan, &mut disk, &target, out)?;
-    let line = summary.line_of(alloc, target.digits)?;
-    send(out, line.as_str())?;
-    Ok(())
+    write_planned(alloc, rt, sources, &plan, &target, 0, out, teller)
 }

@@ -78,6 +78,7 @@ fn said_in(alloc: Global, rows: &[Row]) -> Result<Said, AllocError>
         },
         others: Vec::new(alloc),
         rounded: Vec::new(alloc),
+        exemplars: 0,
     })
 }
 

@@ -34,6 +34,7 @@ mod teller;
 mod text_commands;
 mod texts;
 mod to_openmetrics;
+mod writing;
 
 pub use fault::Fault;
 pub use laws::blocks_give_their_content;

@@ -3,10 +3,10 @@
 use crate::fault::Fault;
 use crate::listed::Listed;
 use crate::own::{Opened, open_own};
-use crate::plan::{make_outputs, plan_for};
-use crate::target::{Target, make_folder, send};
+use crate::plan::plan_for;
+use crate::target::Target;
 use crate::teller::Teller;
-use block_folder::HostDisk;
+use crate::writing::write_planned;
 use block_outputs::Stretch;
 use labels::{MAX_TIME, MIN_TIME};
 use std::alloc::{AllocError, Global};
@@ -65,15 +65,9 @@ pub(crate) fn rewrite<R: Files + AllocGlobal + Clone + Drop, W: Write, E: Write>
         to: MAX_TIME,
     };
     let plan = plan_for(alloc, inputs.listed.as_slice(), whole)?;
-    teller.is_at("writing the outputs")?;
-    make_folder(alloc, rt, into)?;
     let target = Target {
         into,
         digits: inputs.digits.unwrap_or(0),
     };
-    let mut disk = HostDisk::new(rt);
-    let summary = make_outputs(alloc, inputs.listed, &plan, &mut disk, &target, out)?;
-    let line = summary.line_of(alloc, target.digits)?;
-    send(out, line.as_str())?;
-    Ok(())
+    write_planned(alloc, rt, inputs.listed, &plan, &target, 0, out, teller)
 }

@@ -7,10 +7,10 @@ ghost use Rattle.blocktool_command.specs.Texts.{IsTold, TextsGiveTheirContent};
 use crate::fault::Fault;
 use crate::input::Input;
 use crate::listed::Listed;
-use crate::plan::{make_outputs, plan_for};
-use crate::target::{Target, make_folder, send};
+use crate::plan::plan_for;
+use crate::target::Target;
 use crate::teller::Teller;
-use block_folder::HostDisk;
+use crate::writing::write_planned;
 use block_outputs::{Counts, Stretch};
 use exposition::Left;
 use labels::Row;
@@ -20,12 +20,13 @@ use std::io::Write;
 use std::rt::Files;
 
 /// Rows whose times ascend, of which the first counts, samples with other values, and those of the
-/// rows that were rounded.
+/// rows that were rounded; and how many samples had an exemplar, which is left.
 #[derive(Drop)]
 pub(crate) struct Said {
     pub(crate) listed: Listed,
     pub(crate) others: Vec<Left>,
     pub(crate) rounded: Vec<Left>,
+    pub(crate) exemplars: u64,
 }
 
 // How many samples lie in a range.
@@ -94,6 +95,7 @@ fn inputs_of(alloc: Global, said: Said) -> Result<Vec<Said>, AllocError>
         },
         others: Vec::new(alloc),
         rounded: Vec::new(alloc),
+        exemplars: 0,
     })?;
     Ok(inputs)
 }
@@ -108,15 +110,10 @@ pub(crate) fn write_said<R: Files + AllocGlobal + Clone + Drop, W: Write, E: Wri
     out: &mut W,
     teller: &mut Teller<'_, E>,
 ) -> Result<(), Fault> {
+    let exemplars = said.exemplars;
     let inputs = inputs_of(alloc, said)?;
     let plan = plan_for(alloc, inputs.as_slice(), times)?;
-    teller.is_at("writing the outputs")?;
-    make_folder(alloc, rt, target.into)?;
-    let mut disk = HostDisk::new(rt);
-    let summary = make_outputs(alloc, inputs, &plan, &mut disk, target, out)?;
-    let line = summary.line_of(alloc, target.digits)?;
-    send(out, line.as_str())?;
-    Ok(())
+    write_planned(alloc, rt, inputs, &plan, target, exemplars, out, teller)
 }
 
 /// A law: a text gives of a range exactly what its rows hold in it, as a conversion asks of its

@@ -51,8 +51,13 @@ impl Summary {
         })
     }
 
-    /// The summary as a line.
-    pub(crate) fn line_of(&self, alloc: Global, digits: u32) -> Result<String, AllocError> {
+    /// The summary as a line, in which so many exemplars are told beside the histograms.
+    pub(crate) fn line_of(
+        &self,
+        alloc: Global,
+        digits: u32,
+        exemplars: u64,
+    ) -> Result<String, AllocError> {
         let Summary {
             read,
             kept,
@@ -67,7 +72,8 @@ impl Summary {
         format!(in alloc;
             "read {read} samples: {kept} kept, {stale} stale, {rest} of other values, \
              {deleted} deleted, {hidden} hidden, {outside} outside; \
-             {histograms} of histograms left; values times 10^{digits}, {rounded} rounded\n"
+             {histograms} of histograms, {exemplars} exemplars left; \
+             values times 10^{digits}, {rounded} rounded\n"
         )
     }
 }

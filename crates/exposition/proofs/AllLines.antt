@@ -1,12 +1,15 @@
 -- Lines, one after the other.
 use Rattle.std.specs.Prelude.{◌≡◌, ℕ, ◌+◌, ◌<◌, List, [], ◌∷◌, ◌++◌, length, take, get_or}
-use Rattle.std.specs.Prelude.{refl, suc, drop, true, false, Option, None, Some, IfSome}
+use Rattle.std.specs.Prelude.{◌≤◌, refl, suc, drop, filter, Bool, true, false, cond, Option, None}
+use Rattle.std.specs.Prelude.{Some, IfSome}
+use Rattle.std.specs.Int.{from_bool}
 use Rattle.std.specs.Borrow.{Bor}
 use Rattle.std.proofs.Math.Seq.{split_at}
 use Rattle.std.proofs.lemmas.List.Folds.{list_all_at, list_all-append, list_all-map}
-use Rattle.std.proofs.Common.{sym, ap, subst, ◌∙◌, append_assoc, arith}
+use Rattle.std.proofs.Common.{sym, ap, subst, ◌∙◌, append_assoc, length-append, arith}
 use Rattle.std.proofs.lemmas.Grind.{take_at_read}
 use Rattle.std.proofs.lemmas.List.{length-map, length-take-le, map-append}
+use Rattle.std.proofs.lemmas.List.Elements.{filter-append}
 use Rattle.open_metrics.specs.declared.comments.Format.{Format}
 use Rattle.open_metrics.specs.declared.labels.Label.{Label}
 use Rattle.open_metrics.specs.Labels.{Pair, pair_in, pairs_in}
@@ -18,7 +21,8 @@ use Rattle.exposition.specs.declared.error.Refusal.{Refusal}
 use Rattle.exposition.specs.declared.series.NoLabels.{NoLabels}
 use Rattle.exposition.specs.declared.text.Fractions.{Fractions}
 use Rattle.exposition.specs.Faults.{are_utf8, is_utf8_pair, line_fault}
-use Rattle.exposition.specs.Reading.{Said, AddsLine, AddAll, texts_in, unsaid}
+use Rattle.exposition.specs.Reading.{Said, AddsLine, AddAll, exemplars_in, has_exemplar, texts_in}
+use Rattle.exposition.specs.Reading.{unsaid}
 use Rattle.exposition.specs.Refusing.{IfRefused, IsFirstWrong, IsFor}
 use Rattle.exposition.specs.Series.{IsNoUtf8}
 
@@ -137,3 +141,39 @@ pub no_utf8 : (labels : List Label) (n : ℕ) (x : Label) (e : NoLabels) → n <
     → x ≡ get_or labels n x → IsNoUtf8 (is_utf8_pair (pair_in x)) e
     → IsNoUtf8 (are_utf8 (pairs_in labels)) e
 no_utf8 labels n x e lt at is = no_utf8_in labels n x e.cause lt at is
+
+one_exemplar : (has : Bool) (line : List ℕ) → length (cond has (line ∷ []) []) ≡ from_bool has
+one_exemplar true line = refl
+one_exemplar false line = refl
+
+exemplars_last : (format : Format) (places : ℕ) (lines : List (List ℕ)) (line : List ℕ)
+    → exemplars_in format places (lines ++ line ∷ [])
+    ≡ exemplars_in format places lines + from_bool (has_exemplar format places line)
+exemplars_last format places lines line =
+    let has = has_exemplar format places in
+    ap length (filter-append has lines (line ∷ []))
+    ∙ length-append (filter has lines) (filter has (line ∷ []))
+    ∙ ap (λ (n : ℕ). length (filter has lines) + n) (one_exemplar (has line) line)
+
+-- the exemplars of one line more
+pub exemplars_more : (format : Format) (places : ℕ) (lines : List (Bor (List ℕ))) (n count : ℕ)
+    (d : Bor (List ℕ)) (has : Bool) (one : ℕ) → n < length lines
+    → count ≡ exemplars_in format places (texts_in (take n lines))
+    → has ≡ has_exemplar format places (get_or lines n d).now → one ≡ from_bool has
+    → count + one ≡ exemplars_in format places (texts_in (take (n + 1) lines))
+exemplars_more format places lines n count d has one lt is told e =
+    let before = texts_in (take n lines) in
+    ap (λ (k : ℕ). k + one) is
+    ∙ ap (λ (k : ℕ). exemplars_in format places before + k) (e ∙ ap from_bool told)
+    ∙ sym (exemplars_last format places before (get_or lines n d).now)
+    ∙ ap (exemplars_in format places)
+    (sym (ap texts_in (take_at_read lines n d lt).1
+    ∙ map-append (λ (x : Bor (List ℕ)). x.now) (take n lines) (get_or lines n d ∷ [])))
+
+at_most_one : (has : Bool) → from_bool has ≤ 1
+at_most_one true = omega arith
+at_most_one false = omega arith
+
+pub exemplars_few : (has : Bool) (one n count : ℕ) → one ≡ from_bool has → count ≤ n
+    → count + one ≤ n + 1
+exemplars_few has one n count e le = omega (arith, le, e, at_most_one has)

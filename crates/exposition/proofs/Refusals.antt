@@ -7,7 +7,8 @@ use Rattle.exposition.specs.declared.error.ReadError.{ReadError}
 use Rattle.exposition.specs.declared.error.ReadError.TheVariants.{Memory, Refused}
 use Rattle.exposition.specs.declared.text.Fractions.{Fractions}
 use Rattle.exposition.specs.declared.text.Gathered.{Gathered}
-use Rattle.exposition.specs.Reading.{AddAll, IsCutInto, IsText, lines_in, said_in, told_by, unsaid}
+use Rattle.exposition.specs.Reading.{AddAll, HasExemplars, IsCutInto, IsText, exemplars_in, lines_in}
+use Rattle.exposition.specs.Reading.{said_in, told_by, unsaid}
 use Rattle.exposition.specs.Refusing.{IfRefused, IsFirstWrong, IsRefused, MissesEnd}
 
 pub text_read : (format : Format) (places : ℕ) (f : Fractions) (text : List ℕ)
@@ -29,3 +30,9 @@ pub line_wrong : (e : ReadError) (format : Format) (places : ℕ) (f : Fractions
     → IfRefused e (IsFirstWrong format places f lines) → IfRefused e (IsRefused format places f text)
 line_wrong Memory format places f text lines cut is = tt
 line_wrong (Refused r) format places f text lines cut is = inr (lines, cut, is)
+
+pub exemplars_read : (format : Format) (places : ℕ) (text : List ℕ) (lines : List (List ℕ))
+    (count : ℕ) → IsCutInto format (lines_in text) lines → count ≡ exemplars_in format places lines
+    → HasExemplars format places text count
+exemplars_read format places text lines count cut is =
+    record { lines = lines; cut = cut; counted = is }

@@ -1,6 +1,6 @@
 -- The samples of a text.
 use Rattle.std.specs.Prelude.{◌≡◌, ◌⊎◌, ◌==◌, ℕ, ◌+◌, ℤ, List, [], ◌∷◌, ◌++◌, map, reverse}
-use Rattle.std.specs.Prelude.{codes, None, Ok}
+use Rattle.std.specs.Prelude.{codes, Bool, false, filter, length, None, Result, Ok, Err}
 use Rattle.std.specs.Borrow.{Bor}
 use Rattle.std.specs.List.{slice_split}
 use Rattle.std.specs.FinMap.Entries.{put}
@@ -10,6 +10,7 @@ use Rattle.labels.specs.LabelSets.{IsMadeOf}
 use Rattle.labels.specs.Rows.{Row}
 use Rattle.open_metrics.specs.declared.comments.Format.{Format}
 use Rattle.open_metrics.specs.declared.comments.Format.TheVariants.{OpenMetrics, Prometheus}
+use Rattle.open_metrics.specs.declared.error.Fault.{Fault}
 use Rattle.open_metrics.specs.declared.numbers.Value.{Value}
 use Rattle.open_metrics.specs.declared.numbers.Value.TheVariants.{Parts, Near, Other}
 use Rattle.open_metrics.specs.Lines.{Sampled, Meaning, nothing, end, sampled, line_at}
@@ -139,3 +140,28 @@ pub record IsText (format : Format) (places : ℕ) (fractions : Fractions) (text
   pub lines : List (List ℕ)
   pub cut : IsCutInto format (lines_in text) lines
   pub says : AddAll format places fractions 1 lines unsaid said
+
+-- whether an exemplar stands behind the sample of what a line says
+abbrev pub is_exemplar : Meaning → Bool
+is_exemplar nothing = false
+is_exemplar end = false
+is_exemplar (sampled s) = s.exemplar
+
+abbrev pub has_exemplar_in : Result Meaning Fault → Bool
+has_exemplar_in (Ok meaning) = is_exemplar meaning
+has_exemplar_in (Err fault) = false
+
+-- whether a line has an exemplar behind its sample
+abbrev pub has_exemplar : Format → ℕ → List ℕ → Bool
+has_exemplar format places line = has_exemplar_in (line_at format places line)
+
+-- how many lines have one
+abbrev pub exemplars_in : Format → ℕ → List (List ℕ) → ℕ
+exemplars_in format places lines =
+    length (filter (λ (line : List ℕ). has_exemplar format places line) lines)
+
+-- so many lines of a text, before its end, have one
+pub record HasExemplars (format : Format) (places : ℕ) (text : List ℕ) (count : ℕ) : Type 0 where
+  pub lines : List (List ℕ)
+  pub cut : IsCutInto format (lines_in text) lines
+  pub counted : count ≡ exemplars_in format places lines

@@ -5,7 +5,8 @@ ghost use Rattle.open_metrics.specs.Lines.{line_at, meaning_in, sample_in};
 ghost use Rattle.exposition.specs.Faults.{line_fault, meaning_fault, pairs_fault};
 ghost use Rattle.exposition.specs.Faults.{pairs_of_sample, sample_fault};
 ghost use Rattle.exposition.specs.Reading.{Adds, AddAll, AddsLine, AddsNear, AddsSample};
-ghost use Rattle.exposition.specs.Reading.{AddsValue, IsText};
+ghost use Rattle.exposition.specs.Reading.{AddsValue, IsText, HasExemplars};
+ghost use Rattle.exposition.specs.Reading.{exemplars_in, has_exemplar, is_exemplar};
 ghost use Rattle.exposition.specs.Reading.{Said, place_of, said_in, texts_in, told_in, unsaid};
 ghost use Rattle.exposition.specs.Refusing.{Gives, IfRefused, IsFirstWrong, IsFor, IsRefused};
 ghost use Rattle.exposition.specs.Runs.{AreRising};
@@ -51,6 +52,8 @@ pub struct Exposition {
     pub others: Vec<Left>,
     /// The samples whose values were rounded, in the order of their lines.
     pub rounded: Vec<Left>,
+    /// How many lines have an exemplar behind their sample. No exemplar is kept.
+    pub exemplars: u64,
 }
 
 /// What lines say.
@@ -163,22 +166,27 @@ fn add_sample(
     Ok(())
 }
 
+// Adds what a line says, and tells whether an exemplar stands behind it.
 fn add_read(
     alloc: Global,
     fractions: Fractions,
     gathered: &mut Gathered,
     read: Line<'_>,
     at: Numbered<'_>,
-) -> Result<(), ReadError>
+) -> Result<bool, ReadError>
     ensures adds { OnOk result (Adds fractions at.entry.number at.entry.line.now
         (meaning_in read.entry) (said_in gathered.old) (said_in gathered.new)) }
+    ensures told { IfOk result (λ has. has ≡ is_exemplar (meaning_in read.entry)) }
     ensures wrong { IfErr result (λ e. IfRefused e
         (IsFor at.entry.number (meaning_fault at.entry.line.now (Ok (meaning_in read.entry))))) }
 {
     match read {
-        Line::Nothing => Ok(()),
+        Line::Nothing => Ok(false),
         Line::End => Err(refused(at.number, 1, Cause::End)),
-        Line::Sample(sample) => add_sample(alloc, fractions, gathered, &sample, at),
+        Line::Sample(sample) => {
+            add_sample(alloc, fractions, gathered, &sample, at)?;
+            Ok(sample.exemplar)
+        }
     }
 }
 
@@ -210,28 +218,32 @@ fn add_line(
     fractions: Fractions,
     gathered: &mut Gathered,
     at: Numbered<'_>,
-) -> Result<(), ReadError>
+) -> Result<bool, ReadError>
     requires { places ≤ 9 }
     ensures adds { OnOk result (AddsLine format places fractions at.entry.number
         at.entry.line.now (said_in gathered.old) (said_in gathered.new)) }
+    ensures told { IfOk result (λ has. has ≡ has_exemplar format places at.entry.line.now) }
     ensures wrong { IfErr result (λ e. IfRefused e
         (IsFor at.entry.number (line_fault format places at.entry.line.now))) }
 {
     let read = line_of(alloc, format, places, at)?;
-    add_read(alloc, fractions, gathered, read, at)?;
-    Ok(())
+    let has = add_read(alloc, fractions, gathered, read, at)?;
+    Ok(has)
 }
 
+// What lines say, and how many of them have an exemplar.
 fn gather(
     alloc: Global,
     format: Format,
     places: u32,
     fractions: Fractions,
     lines: &[&[u8]],
-) -> Result<Gathered, ReadError>
+) -> Result<(Gathered, u64), ReadError>
     requires { places ≤ 9 }
     ensures adds { IfOk result (λ g.
-        AddAll format places fractions 1 (texts_in lines.now) unsaid (said_in g)) }
+        AddAll format places fractions 1 (texts_in lines.now) unsaid (said_in g.0)) }
+    ensures counted { IfOk result
+        (λ g. g.1 ≡ exemplars_in format places (texts_in lines.now)) }
     ensures wrong { IfErr result (λ e. IfRefused e
         (IsFirstWrong format places fractions (texts_in lines.now))) }
 {
@@ -240,16 +252,18 @@ fn gather(
         others: Vec::new(alloc),
         rounded: Vec::new(alloc),
     };
+    let mut exemplars = 0u64;
     let mut number = 1u64;
     for line in lines {
         let at = Numbered { number, line };
-        add_line(alloc, format, places, fractions, &mut gathered, at)?;
+        let has = add_line(alloc, format, places, fractions, &mut gathered, at)?;
+        exemplars += u64::from(has);
         number += 1;
     }
-    Ok(gathered)
+    Ok((gathered, exemplars))
 }
 
-#[tactic(auto, using(crate::proofs::Refusals::text_read, crate::proofs::Refusals::end_missing, crate::proofs::Refusals::line_wrong))]
+#[tactic(auto, using(crate::proofs::Refusals::text_read, crate::proofs::Refusals::exemplars_read, crate::proofs::Refusals::end_missing, crate::proofs::Refusals::line_wrong))]
 fn read_lines(
     alloc: Global,
     format: Format,
@@ -260,19 +274,22 @@ fn read_lines(
     requires { places ≤ 9 }
     ensures found { IfOk result (λ e. IsText format places fractions text.now (told_in e)) }
     ensures rise { IfOk result (λ e. AreRising e.rows.items) }
+    ensures exemplars { IfOk result (λ e. HasExemplars format places text.now e.exemplars) }
     ensures refused { IfErr result
         (λ e. IfRefused e (IsRefused format places fractions text.now)) }
 {
     let lines = lines_of(alloc, format, text)?;
+    let (gathered, exemplars) = gather(alloc, format, places, fractions, lines.as_slice())?;
     let Gathered {
         runs,
         others,
         rounded,
-    } = gather(alloc, format, places, fractions, lines.as_slice())?;
+    } = gathered;
     Ok(Exposition {
         rows: runs.into_rows(),
         others,
         rounded,
+        exemplars,
     })
 }
 
@@ -292,6 +309,8 @@ pub fn read_text(
     // Line by line, the text says the samples that the rows hold and the others, and no more.
     ensures found { IfOk result (λ e. IsText format places fractions text.now (told_in e)) }
     ensures rise { IfOk result (λ e. AreRising e.rows.items) }
+    // The lines with an exemplar are counted.
+    ensures exemplars { IfOk result (λ e. HasExemplars format places text.now e.exemplars) }
     // The end that is missing is told, or the first line that is wrong: its number, where, and why.
     ensures refused { IfErr result
         (λ e. IfRefused e (IsRefused format places fractions text.now)) }

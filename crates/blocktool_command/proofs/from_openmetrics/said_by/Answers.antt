@@ -1,7 +1,7 @@
 use Rattle.std.proofs.Common.{List, subst}
 use Rattle.std.proofs.lemmas.Result.{err_from_is_err_and}
 use Rattle.exposition.specs.declared.text.Left.{Left}
-use Rattle.blocktool_command.specs.Texts.{IsOtherRefused, fractions_of}
+use Rattle.blocktool_command.specs.Texts.{IsOtherRefused}
 use Rattle.blocktool_command.proofs.Told.{refused_by_other, refused_by_text}
 use Rattle.blocktool_command.proofs.from_openmetrics.said_by.Goals as goal
 
@@ -11,8 +11,8 @@ returns-in_err-said-clause-refused c =
     let a = c.args in
     let policy = a.options.now.policy in
     let e = c.in_err-said.field-0.0 in
-    rw (p.1, p.2) (refused_by_text a.text_in.format policy.digits (fractions_of policy.rest)
-    a.text.now a.options.now.times e c.in_err-said.ensures.refused)
+    rw (p.1, p.2) (refused_by_text a.text_in.format policy.digits policy.rest a.text.now
+    a.options.now.times e c.in_err-said.ensures.refused)
 
 pub returns-in_err-check_others-clause-refused : goal.returns-in_err-check_others-clause-refused
 returns-in_err-check_others-clause-refused c =
@@ -22,7 +22,7 @@ returns-in_err-check_others-clause-refused c =
     let policy = a.options.now.policy in
     let e = c.in_err-check_others.field-0.0 in
     let said = c.in_ok-said.said in
-    rw (p.1, p.2) (refused_by_other a.text_in.format policy.digits (fractions_of policy.rest)
-    a.text.now a.options.now.times said e c.in_ok-said.ensures.found
-    (subst (λ (others : List Left). IsOtherRefused a.options.now.times others e)
+    rw (p.1, p.2) (refused_by_other a.text_in.format policy.digits policy.rest a.text.now
+    a.options.now.times said e c.in_ok-said.ensures.found
+    (subst (λ (others : List Left). IsOtherRefused policy.rest a.options.now.times others e)
     c.as_slice.ensures.value c.in_err-check_others.ensures.refused))
