@@ -245,27 +245,37 @@ fn an_answer_refused_memory_is_the_same_when_asked_for_again(rt: HostRuntime) {
     assert!(rt; text.ends_with(MERGED.as_bytes()));
 }
 
-/// Holds the first part until the second is reached, for at most so many turns.
+/// Holds the first part until another is reached, and each other until the first is, for at most so
+/// many turns: on one thread, whichever part comes first meets none.
 #[derive(Drop)]
 struct Meeting {
-    second: AtomicU64,
+    first: AtomicU64,
+    others: AtomicU64,
     met: AtomicU64,
 }
 
 const TURNS: u32 = 1_000_000;
 
+/// Whether a flag is set within so many turns.
+fn is_set(flag: &AtomicU64) -> bool {
+    for _ in 0..TURNS {
+        if flag.load(Ordering::SeqCst) == 1 {
+            return true;
+        }
+        yield_now();
+    }
+    false
+}
+
 impl Gate for Meeting {
     fn reached(&self, part: usize) {
-        if part > 0 {
-            self.second.store(1, Ordering::SeqCst);
-            return;
-        }
-        for _ in 0..TURNS {
-            if self.second.load(Ordering::SeqCst) == 1 {
-                self.met.store(1, Ordering::SeqCst);
-                return;
-            }
-            yield_now();
+        let (own, other) = match part {
+            0 => (&self.first, &self.others),
+            _ => (&self.others, &self.first),
+        };
+        own.store(1, Ordering::SeqCst);
+        if is_set(other) {
+            self.met.fetch_add(1, Ordering::SeqCst);
         }
     }
 }
@@ -278,11 +288,12 @@ fn count_searched<R: Threads + Sync>(rt: &R, alloc: Global, gate: &Meeting) -> O
 }
 
 #[test]
-fn the_second_part_is_searched_beside_the_first(rt: HostRuntime) {
+fn parts_are_searched_beside_each_other(rt: HostRuntime) {
     let gate = Meeting {
-        second: AtomicU64::new(0),
+        first: AtomicU64::new(0),
+        others: AtomicU64::new(0),
         met: AtomicU64::new(0),
     };
     assert!(rt; count_searched(&rt, rt.alloc(), &gate) == Some(3));
-    assert!(rt; gate.met.load(Ordering::SeqCst) == 1);
+    assert!(rt; gate.met.load(Ordering::SeqCst) == 3);
 }
