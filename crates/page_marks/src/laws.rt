@@ -10,8 +10,9 @@ ghost use Rattle.page_marks.specs.Tables.{samples_in};
 ghost use Rattle.page_marks.specs.Tiles.{kinds_below, IsStack};
 
 /// The laws of what a page shows: a column's layers fill a height that has a unit for each of them,
-/// each with at least one; the counts of the columns sum to those of the part, and the counts of all verdicts to the intervals;
-/// the samples of the rows that are shown and of those that are left out are all.
+/// each with at least one; the counts of the columns sum to those of the part, and the counts of
+/// all verdicts to the intervals; the samples of the rows that are shown and of those that are left
+/// out are all.
 pub fn marks_law()
     ensures stacks { (height : ℕ) (is : List Interval) → 0 < length is
         → kinds_below is 19 ≤ height → IsStack height is }
