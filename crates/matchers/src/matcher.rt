@@ -79,6 +79,18 @@ impl Test {
         }
     }
 
+    fn try_clone(&self) -> Result<Test, AllocError>
+        ensures op { IfOk result (λ t. op_of t ≡ op_of self.now) }
+        ensures text { IfOk result (λ t. text_of t ≡ text_of self.now) }
+    {
+        match self {
+            Test::Equal(text) => Ok(Test::Equal(text.clone()?)),
+            Test::NotEqual(text) => Ok(Test::NotEqual(text.clone()?)),
+            Test::Like(pattern) => Ok(Test::Like(pattern.try_clone()?)),
+            Test::NotLike(pattern) => Ok(Test::NotLike(pattern.try_clone()?)),
+        }
+    }
+
     fn text(&self) -> &str
         ensures { result.now ≡ text_of self.now }
     {
@@ -133,6 +145,15 @@ impl Matcher {
             return Err(MatcherError::BadName);
         }
         let test = Test::new(alloc, op, text)?;
+        Ok(Matcher { name, test })
+    }
+
+    /// An equal one, which shares what `regex` built of its pattern.
+    pub fn try_clone(&self) -> Result<Matcher, AllocError>
+        ensures { IfOk result (λ m. m ≡ self.now) }
+    {
+        let name = self.name.clone()?;
+        let test = self.test.try_clone()?;
         Ok(Matcher { name, test })
     }
 
