@@ -120,6 +120,17 @@ impl Model for Matcher {
         record { name = string_bytes m.name; op = op_of m.test; text = text_of m.test } };
 }
 
+/// An equal one, which shares what `regex` built of its pattern.
+impl Clone for Matcher {
+    ghost is_clone = { λ x y. y ≡ x };
+
+    fn clone(&self) -> Result<Matcher, AllocError> {
+        let name = self.name.clone()?;
+        let test = self.test.try_clone()?;
+        Ok(Matcher { name, test })
+    }
+}
+
 impl Matcher {
     /// The matcher of these.
     ///
@@ -145,15 +156,6 @@ impl Matcher {
             return Err(MatcherError::BadName);
         }
         let test = Test::new(alloc, op, text)?;
-        Ok(Matcher { name, test })
-    }
-
-    /// An equal one, which shares what `regex` built of its pattern.
-    pub fn try_clone(&self) -> Result<Matcher, AllocError>
-        ensures { IfOk result (λ m. m ≡ self.now) }
-    {
-        let name = self.name.clone()?;
-        let test = self.test.try_clone()?;
         Ok(Matcher { name, test })
     }
 

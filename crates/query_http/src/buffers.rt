@@ -5,6 +5,7 @@ ghost use Rattle.query_http.specs.Bounds.{IsBounded};
 
 use crate::note::Note;
 use crate::reply::Reply;
+use kept_selectors::KeptSelectors;
 use std::alloc::Global;
 use std::mem;
 
@@ -22,6 +23,7 @@ pub struct Buffers {
     pub(crate) request: Vec<u8>,
     pub(crate) head: Vec<u8>,
     pub(crate) answer: Vec<u8>,
+    pub(crate) selectors: KeptSelectors,
     pub(crate) note: Note,
 }
 
@@ -54,6 +56,7 @@ impl Buffers {
             request: Vec::new(alloc),
             head: Vec::new(alloc),
             answer: Vec::new(alloc),
+            selectors: KeptSelectors::new(alloc),
             note: Note::none(),
         }
     }
