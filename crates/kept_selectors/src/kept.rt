@@ -6,26 +6,40 @@ ghost use Rattle.matchers.specs.Selectors.{AreMade, IsAccepted, RefusedBy};
 
 use crate::answer::Kept;
 use matchers::{Matcher, Selector, SelectorError};
-use std::alloc::{AllocError, Global};
+use std::alloc::Global;
 
-/// The most texts that are kept.
-pub const MAX_KEPT: usize = 8;
+/// The most patterns of all texts that are kept.
+pub const MAX_KEPT_PATTERNS: usize = 8;
 
 /// The most bytes of a text that is kept.
 pub const MAX_KEPT_BYTES: usize = 1024;
 
-/// The texts of selectors that were read last, the last one at the end, and what they were read as.
+/// The texts of selectors that were asked for last, the last one at the end, and what they were
+/// read as.
 ///
-/// A text is kept if it has a `~`, as any with a pattern has, and at most [`MAX_KEPT_BYTES`]; of
-/// these the last [`MAX_KEPT`].
+/// Kept are texts with 1 to [`MAX_KEPT_PATTERNS`] patterns and at most [`MAX_KEPT_BYTES`] bytes:
+/// as many of the last ones as have together at most [`MAX_KEPT_PATTERNS`] patterns. A pattern is
+/// counted for each `~` of a text. What `regex` builds of one takes some 10 KB where it is a usual
+/// one, and at most 25 MB.
 #[derive(Drop)]
 pub struct KeptSelectors {
     texts: Vec<Kept>,
 }
 
-/// Whether a text is worth to be kept.
+/// How many patterns a text has at most.
+fn patterns_in(text: &str) -> usize {
+    let mut patterns = 0usize;
+    for byte in text.as_bytes() {
+        if *byte == b'~' {
+            patterns = patterns.saturating_add(1);
+        }
+    }
+    patterns
+}
+
+/// Whether a text is worth to be kept, and may be.
 fn is_kept(text: &str) -> bool {
-    text.len() <= MAX_KEPT_BYTES && text.contains('~')
+    text.len() <= MAX_KEPT_BYTES && matches!(patterns_in(text), 1..=MAX_KEPT_PATTERNS)
 }
 
 /// Reads a text anew, and gives what is to be kept of it.
@@ -66,13 +80,24 @@ impl KeptSelectors {
         None
     }
 
-    /// Puts what is kept of a text at the end, in place of the first one where there is no room.
-    fn put(&mut self, kept: Kept) -> Result<(), AllocError> {
-        if self.texts.len() >= MAX_KEPT {
+    /// How many patterns the texts have at most.
+    fn patterns(&self) -> usize {
+        let mut patterns = 0usize;
+        for kept in &self.texts {
+            patterns = patterns.saturating_add(patterns_in(kept.text()));
+        }
+        patterns
+    }
+
+    /// Lets go of the texts that were asked for longest ago, until there is room for a text.
+    fn make_room(&mut self, text: &str) {
+        let more = patterns_in(text);
+        for _ in 0..MAX_KEPT_PATTERNS {
+            if self.texts.is_empty() || self.patterns().saturating_add(more) <= MAX_KEPT_PATTERNS {
+                return;
+            }
             let _oldest = self.texts.remove(0);
         }
-        self.texts.push(kept)?;
-        Ok(())
     }
 
     /// What a text was read as, from what is kept or anew.
@@ -80,10 +105,11 @@ impl KeptSelectors {
         ensures ok { IfOk result (λ kept. kept ≡ text.now) }
         ensures err { IfErr result (λ e. RefusedBy text.now e) }
     {
-        match self.take(text) {
-            Some(kept) => Ok(kept),
-            None => read(alloc, text),
+        if let Some(kept) = self.take(text) {
+            return Ok(kept);
         }
+        self.make_room(text);
+        read(alloc, text)
     }
 
     fn parse_kept(&mut self, alloc: Global, text: &str) -> Result<Vec<Matcher>, SelectorError>
@@ -92,11 +118,12 @@ impl KeptSelectors {
     {
         let kept = self.kept_of(alloc, text)?;
         let answer = kept.answer(alloc);
-        self.put(kept)?;
+        self.texts.push(kept)?;
         answer
     }
 
-    /// The matchers of a text, or its refusal, as [`Selector::parse`] answers.
+    /// The matchers of a text, or its refusal, as [`Selector::parse`] answers. Of a text that is
+    /// kept nothing is built; it takes time in the length of the texts.
     pub fn parse(&mut self, alloc: Global, text: &str) -> Result<Vec<Matcher>, SelectorError>
         ensures ok { IfOk result (λ v. IsSelector text.now v.items) }
         ensures some { IfOk result (λ v. 0 < length v.items) }

@@ -18,4 +18,4 @@
 mod answer;
 mod kept;
 
-pub use kept::{KeptSelectors, MAX_KEPT, MAX_KEPT_BYTES};
+pub use kept::{KeptSelectors, MAX_KEPT_BYTES, MAX_KEPT_PATTERNS};

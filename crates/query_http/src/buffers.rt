@@ -13,7 +13,7 @@ use std::mem;
 pub const MOST_KEPT: usize = 1_048_576;
 
 /// A worker's buffers: for the bytes of a request, for the first bytes of a reply and for the text
-/// of an answer; and what was noted of the last connection.
+/// of an answer; what its last selectors were read as; and what was noted of the last connection.
 ///
 /// Each connection clears them first, so what they hold between two connections is only room: no
 /// clause speaks of it. A buffer that a connection left larger than [`MOST_KEPT`] is given back to
