@@ -15,8 +15,8 @@ pub const MOST_KEPT: usize = 1_048_576;
 /// A worker's buffers: for the bytes of a request, for the first bytes of a reply and for the text
 /// of an answer; what its last selectors were read as; and what was noted of the last connection.
 ///
-/// Each connection clears them first, so what they hold between two connections is only room: no
-/// clause speaks of it. A buffer that a connection left larger than [`MOST_KEPT`] is given back to
+/// Each connection clears the buffers first, so what they hold between two connections is only
+/// room; and no answer depends on the selectors that are kept: no clause speaks of either. A buffer that a connection left larger than [`MOST_KEPT`] is given back to
 /// the system.
 #[derive(Drop)]
 pub struct Buffers {

@@ -46,10 +46,10 @@ fn admit(rules: &Rules, buf: &[u8]) -> Result<(), Refusal>
 /// head that the rules do not admit is refused with `H12`, or with `H3` for a `POST` where there is
 /// none, before anything else is asked of it and before its body is read. `Fault` comes only where
 /// a read failed. The bytes of the request are read into the buffer, whose content is dropped first
-/// and plays no part in the answer. What a selector's text was read as before may be kept, and
-/// plays no part either. At most 8,192 bytes are taken from the input for a request
-/// without a body, and at most 1,048,576 more for one with a body. Beside that it takes memory for
-/// the values of the request, and time linear in the number of its bytes.
+/// and plays no part in the answer. Selectors that were read before may be kept, and that plays no
+/// part either. At most 8,192 bytes are taken from the input for a request without a body, and at
+/// most 1,048,576 more for one with a body. Beside that it takes memory for the values of the
+/// request, and time linear in the number of its bytes.
 pub fn read_admitted_into<R: Inlet>(
     alloc: Global,
     rules: &Rules,
