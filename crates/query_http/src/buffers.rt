@@ -16,8 +16,8 @@ pub const MOST_KEPT: usize = 1_048_576;
 /// of an answer; what its last selectors were read as; and what was noted of the last connection.
 ///
 /// Each connection clears the buffers first, so what they hold between two connections is only
-/// room; and no answer depends on the selectors that are kept: no clause speaks of either. A buffer that a connection left larger than [`MOST_KEPT`] is given back to
-/// the system.
+/// room; and no answer depends on the selectors that are kept: no clause speaks of either. A
+/// buffer that a connection left larger than [`MOST_KEPT`] is given back to the system.
 #[derive(Drop)]
 pub struct Buffers {
     pub(crate) request: Vec<u8>,
