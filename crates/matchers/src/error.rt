@@ -66,6 +66,17 @@ impl From<AllocError> for MatcherError {
     }
 }
 
+impl<T: Drop> From<AllocFailed<T>> for MatcherError {
+    ghost use Rattle.std.specs.Prelude.{◌≡◌};
+    ghost use Rattle.matchers.specs.declared.error.MatcherError.TheVariants.{Memory};
+
+    ghost from_gives = { λ _ e. e ≡ Memory };
+
+    fn from(_: AllocFailed<T>) -> MatcherError {
+        MatcherError::Memory
+    }
+}
+
 /// Why a query is refused; the first cause, in this order.
 #[derive(Clone, Copy, Debug, PartialEq, Eq, Drop)]
 pub enum QueryError {

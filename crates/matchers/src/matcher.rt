@@ -79,6 +79,18 @@ impl Test {
         }
     }
 
+    fn try_clone(&self) -> Result<Test, AllocError>
+        ensures op { IfOk result (λ t. op_of t ≡ op_of self.now) }
+        ensures text { IfOk result (λ t. text_of t ≡ text_of self.now) }
+    {
+        match self {
+            Test::Equal(text) => Ok(Test::Equal(text.clone()?)),
+            Test::NotEqual(text) => Ok(Test::NotEqual(text.clone()?)),
+            Test::Like(pattern) => Ok(Test::Like(pattern.try_clone()?)),
+            Test::NotLike(pattern) => Ok(Test::NotLike(pattern.try_clone()?)),
+        }
+    }
+
     fn text(&self) -> &str
         ensures { result.now ≡ text_of self.now }
     {
@@ -106,6 +118,17 @@ impl Model for Matcher {
 
     ghost view = { λ m.
         record { name = string_bytes m.name; op = op_of m.test; text = text_of m.test } };
+}
+
+/// An equal one, which shares what `regex` built of its pattern.
+impl Clone for Matcher {
+    ghost is_clone = { λ x y. y ≡ x };
+
+    fn clone(&self) -> Result<Matcher, AllocError> {
+        let name = self.name.clone()?;
+        let test = self.test.try_clone()?;
+        Ok(Matcher { name, test })
+    }
 }
 
 impl Matcher {

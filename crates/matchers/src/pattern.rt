@@ -9,19 +9,21 @@ use crate::MatcherError;
 use regex::Regex;
 use std::alloc::{AllocError, Global};
 use std::marker::Model;
+use std::sync::Arc;
 
 /// The most bytes of a pattern.
 pub const MAX_PATTERN_BYTES: usize = 256;
 
-/// A pattern, seen as its text.
+/// A pattern, seen as its text. What was built of it does not change, and is shared.
 #[derive(Drop)]
 pub struct Pattern {
     text: String,
-    regex: Regex,
+    regex: Arc<Regex>,
 }
 
 impl Model for Pattern {
     ghost use Rattle.std.specs.Prelude.{ℕ, List, string_bytes};
+    ghost use Rattle.std.specs.Arc.{arc_value};
 
     ghost Value = { List ℕ };
 
@@ -30,7 +32,8 @@ impl Model for Pattern {
 
     ghost view = { λ p. string_bytes p.text };
 
-    ghost invariant = { λ p. FindsFullMatches (regex_pattern p.regex) (string_bytes p.text) };
+    ghost invariant = { λ p.
+        FindsFullMatches (regex_pattern (arc_value p.regex)) (string_bytes p.text) };
 }
 
 /// The pattern between its anchors.
@@ -87,6 +90,16 @@ impl Pattern {
             return Err(MatcherError::PatternTooLong);
         }
         let regex = build_anchored(alloc, text.as_str())?;
+        let regex = Arc::new(alloc, regex)?;
+        Ok(Pattern { text, regex })
+    }
+
+    /// An equal one, which shares what was built.
+    pub fn try_clone(&self) -> Result<Pattern, AllocError>
+        ensures { IfOk result (λ p. p ≡ self.now) }
+    {
+        let text = self.text.clone()?;
+        let regex = Arc::try_clone(&self.regex)?;
         Ok(Pattern { text, regex })
     }
 

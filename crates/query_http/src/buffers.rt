@@ -5,6 +5,7 @@ ghost use Rattle.query_http.specs.Bounds.{IsBounded};
 
 use crate::note::Note;
 use crate::reply::Reply;
+use kept_selectors::KeptSelectors;
 use std::alloc::Global;
 use std::mem;
 
@@ -12,16 +13,17 @@ use std::mem;
 pub const MOST_KEPT: usize = 1_048_576;
 
 /// A worker's buffers: for the bytes of a request, for the first bytes of a reply and for the text
-/// of an answer; and what was noted of the last connection.
+/// of an answer; what its last selectors were read as; and what was noted of the last connection.
 ///
-/// Each connection clears them first, so what they hold between two connections is only room: no
-/// clause speaks of it. A buffer that a connection left larger than [`MOST_KEPT`] is given back to
-/// the system.
+/// Each connection clears the buffers first, so what they hold between two connections is only
+/// room; and no answer depends on the selectors that are kept: no clause speaks of either. A
+/// buffer that a connection left larger than [`MOST_KEPT`] is given back to the system.
 #[derive(Drop)]
 pub struct Buffers {
     pub(crate) request: Vec<u8>,
     pub(crate) head: Vec<u8>,
     pub(crate) answer: Vec<u8>,
+    pub(crate) selectors: KeptSelectors,
     pub(crate) note: Note,
 }
 
@@ -54,6 +56,7 @@ impl Buffers {
             request: Vec::new(alloc),
             head: Vec::new(alloc),
             answer: Vec::new(alloc),
+            selectors: KeptSelectors::new(alloc),
             note: Note::none(),
         }
     }

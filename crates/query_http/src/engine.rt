@@ -94,7 +94,14 @@ fn reply_to<J: Naming, C: Wait + Drop, R: Inlet>(
     ensures reads { IsErrOf result Served.ReadFault
         → HasGrown (R.failed_reads reader.old) (R.failed_reads reader.new) }
 {
-    match read_admitted_into(alloc, rules, reader, &mut buffers.request) {
+    let asked = read_admitted_into(
+        alloc,
+        rules,
+        reader,
+        &mut buffers.request,
+        &mut buffers.selectors,
+    );
+    match asked {
         Ok(request) => {
             buffers.note = Note::asked(&request);
             do_asked(rt, alloc, buffers, request, pass, seat, committer)

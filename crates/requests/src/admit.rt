@@ -14,6 +14,7 @@ use crate::head::read_head;
 use crate::read::read_after;
 use crate::{ReadError, Refusal, Request};
 use guard::{Denial, Rules};
+use kept_selectors::KeptSelectors;
 use std::alloc::Global;
 
 /// The refusal of a request that is not admitted: `H12`, or `H3` as of a path that is none.
@@ -45,14 +46,16 @@ fn admit(rules: &Rules, buf: &[u8]) -> Result<(), Refusal>
 /// head that the rules do not admit is refused with `H12`, or with `H3` for a `POST` where there is
 /// none, before anything else is asked of it and before its body is read. `Fault` comes only where
 /// a read failed. The bytes of the request are read into the buffer, whose content is dropped first
-/// and plays no part in the answer. At most 8,192 bytes are taken from the input for a request
-/// without a body, and at most 1,048,576 more for one with a body. Beside that it takes memory for
-/// the values of the request, and time linear in the number of its bytes.
+/// and plays no part in the answer. Selectors that were read before may be kept, and that plays no
+/// part either. At most 8,192 bytes are taken from the input for a request without a body, and at
+/// most 1,048,576 more for one with a body. Beside that it takes memory for the values of the
+/// request, and time linear in the number of its bytes.
 pub fn read_admitted_into<R: Inlet>(
     alloc: Global,
     rules: &Rules,
     reader: &mut R,
     buf: &mut Vec<u8>,
+    kept: &mut KeptSelectors,
 ) -> Result<Request, ReadError>
     ensures means { IfSome (R.input reader.old) (AnswersUnder rules.now result) }
     ensures few { IfOk result (λ request. TakesAtMost (most_taken request)
@@ -64,7 +67,7 @@ pub fn read_admitted_into<R: Inlet>(
     buf.clear();
     read_head(reader, buf)?;
     match admit(rules, buf.as_slice()) {
-        Ok(()) => read_after(alloc, reader, buf),
+        Ok(()) => read_after(alloc, reader, buf, kept),
         Err(refusal) => Err(ReadError::Refused(refusal)),
     }
 }
@@ -79,5 +82,6 @@ pub fn read_request<R: Inlet>(alloc: Global, reader: &mut R) -> Result<Request, 
     ensures failed { IsCountedFault result (R.failed_reads reader.old) (R.failed_reads reader.new) }
 {
     let mut buf = Vec::new(alloc);
-    read_admitted_into(alloc, &Rules::none(), reader, &mut buf)
+    let mut kept = KeptSelectors::new(alloc);
+    read_admitted_into(alloc, &Rules::none(), reader, &mut buf, &mut kept)
 }

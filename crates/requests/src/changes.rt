@@ -8,6 +8,7 @@ ghost use Rattle.requests.specs.Requests.{Told};
 use crate::select::matchers_of;
 use crate::values::{has_members, json_of, text_at, time_at};
 use crate::{ReadError, Refusal, Request};
+use kept_selectors::KeptSelectors;
 use serde_json::Value;
 use std::alloc::{AllocError, Global};
 
@@ -57,7 +58,11 @@ fn deletion_in(value: &Value) -> Option<(&str, i64, i64)>
 }
 
 /// The deletion that a body asks: `H7` where it is not of the form, then `H6`.
-pub fn delete(alloc: Global, body: &[u8]) -> Result<Request, ReadError>
+pub fn delete(
+    alloc: Global,
+    kept: &mut KeptSelectors,
+    body: &[u8],
+) -> Result<Request, ReadError>
     ensures { Told (DeleteMeans body.now) result }
 {
     let Some(value) = json_of(alloc, body)? else {
@@ -66,6 +71,6 @@ pub fn delete(alloc: Global, body: &[u8]) -> Result<Request, ReadError>
     let Some((text, from, to)) = deletion_in(&value) else {
         return Err(ReadError::Refused(Refusal::BadBody));
     };
-    let matchers = matchers_of(alloc, text)?;
+    let matchers = matchers_of(alloc, kept, text)?;
     Ok(Request::Delete { matchers, from, to })
 }

@@ -18,6 +18,7 @@ use crate::select::select;
 use crate::target::{Path, path_asked, query_text, takes_query};
 use crate::write::write;
 use crate::{ReadError, Refusal, Request};
+use kept_selectors::KeptSelectors;
 use std::alloc::Global;
 
 /// Reads until the buffer has so many bytes: `H7` where the input ends before.
@@ -42,12 +43,17 @@ fn read_body<R: Inlet>(reader: &mut R, buf: &mut Vec<u8>, end: usize) -> Result<
 }
 
 /// What a body asks of a path that takes one.
-fn body_request(alloc: Global, path: Path, body: &[u8]) -> Result<Request, ReadError>
+fn body_request(
+    alloc: Global,
+    kept: &mut KeptSelectors,
+    path: Path,
+    body: &[u8],
+) -> Result<Request, ReadError>
     ensures { Told (BodyMeans path body.now) result }
 {
     match path {
         Path::Write => write(alloc, body),
-        Path::Delete => delete(alloc, body),
+        Path::Delete => delete(alloc, kept, body),
         Path::Cut => cut(alloc, body),
         Path::Select => Err(ReadError::Refused(Refusal::BadBody)),
     }
@@ -65,6 +71,7 @@ pub(crate) fn read_after<R: Inlet>(
     alloc: Global,
     reader: &mut R,
     buf: &mut Vec<u8>,
+    kept: &mut KeptSelectors,
 ) -> Result<Request, ReadError>
     requires begins { BeginsWithHead buf.old.items }
     requires short { vec_len buf.old ≤ 8192 }
@@ -81,7 +88,7 @@ pub(crate) fn read_after<R: Inlet>(
         Err(refusal) => return Err(ReadError::Refused(refusal)),
     };
     if takes_query(path) {
-        return select(alloc, query_text(head.target));
+        return select(alloc, kept, query_text(head.target));
     }
     let start = head.end;
     let length = match head.length {
@@ -90,5 +97,5 @@ pub(crate) fn read_after<R: Inlet>(
     };
     let end = start + length;
     read_body(reader, buf, end)?;
-    body_request(alloc, path, &buf[start..end])
+    body_request(alloc, kept, path, &buf[start..end])
 }

@@ -10,7 +10,8 @@ ghost use Rattle.requests.specs.Requests.{Told};
 
 use crate::times::time_of;
 use crate::{ReadError, Refusal, Request};
-use matchers::{Matcher, Query, Selector, SelectorError};
+use kept_selectors::KeptSelectors;
+use matchers::{Matcher, Query, SelectorError};
 use std::alloc::{AllocError, Global};
 
 fn query_pairs(alloc: Global, query: &[u8]) -> Result<Vec<(String, String)>, AllocError>
@@ -56,11 +57,15 @@ fn asked_in<'p>(pairs: &'p [(String, String)]) -> Option<(&'p str, i64, i64)>
 }
 
 /// The matchers of a selector's text; `H6` where it is refused.
-pub fn matchers_of(alloc: Global, text: &str) -> Result<Vec<Matcher>, ReadError>
+pub fn matchers_of(
+    alloc: Global,
+    kept: &mut KeptSelectors,
+    text: &str,
+) -> Result<Vec<Matcher>, ReadError>
     ensures ok { IfOk result (λ v. IsAccepted text.now v.items) }
     ensures err { IfErr result (λ e. IsSelectorError text.now e) }
 {
-    match Selector::parse(alloc, text) {
+    match kept.parse(alloc, text) {
         Ok(matchers) => Ok(matchers),
         Err(SelectorError::Memory) => Err(ReadError::Memory),
         Err(error) => Err(ReadError::Refused(Refusal::BadSelector(error))),
@@ -68,14 +73,18 @@ pub fn matchers_of(alloc: Global, text: &str) -> Result<Vec<Matcher>, ReadError>
 }
 
 /// The query that a query string asks: `H5` where it is not of the form, then `H6`.
-pub fn select(alloc: Global, query: &[u8]) -> Result<Request, ReadError>
+pub fn select(
+    alloc: Global,
+    kept: &mut KeptSelectors,
+    query: &[u8],
+) -> Result<Request, ReadError>
     ensures { Told (SelectMeans query.now) result }
 {
     let pairs = query_pairs(alloc, query)?;
     let Some((text, from, to)) = asked_in(pairs.as_slice()) else {
         return Err(ReadError::Refused(Refusal::BadQuery));
     };
-    let matchers = matchers_of(alloc, text)?;
+    let matchers = matchers_of(alloc, kept, text)?;
     match Query::new(matchers, from, to) {
         Ok(query) => Ok(Request::Select(query)),
         // The range is one, and a selector has at most 16 matchers.
