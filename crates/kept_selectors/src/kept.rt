@@ -19,27 +19,38 @@ pub const MAX_KEPT_BYTES: usize = 1024;
 ///
 /// Kept are texts with 1 to [`MAX_KEPT_PATTERNS`] patterns and at most [`MAX_KEPT_BYTES`] bytes:
 /// as many of the last ones as have together at most [`MAX_KEPT_PATTERNS`] patterns. A pattern is
-/// counted for each `~` of a text. What `regex` builds of one takes some 10 KB where it is a usual
-/// one, and at most 25 MB.
+/// counted for each `~` of a text, and counts [`MAX_KEPT_PATTERNS`] times if the text may repeat
+/// something by its count, as `a{100}`. What `regex` builds of such a pattern takes at most 25 MB,
+/// and of another some 10 KB as a rule.
 #[derive(Drop)]
 pub struct KeptSelectors {
     texts: Vec<Kept>,
 }
 
-/// How many patterns a text has at most.
-fn patterns_in(text: &str) -> usize {
-    let mut patterns = 0usize;
-    for byte in text.as_bytes() {
-        if *byte == b'~' {
-            patterns = patterns.saturating_add(1);
+/// How often a byte stands in a text.
+fn count_of(byte: u8, text: &str) -> usize {
+    let mut count = 0usize;
+    for other in text.as_bytes() {
+        if *other == byte {
+            count = count.saturating_add(1);
         }
+    }
+    count
+}
+
+/// What a text counts among those that are kept: its patterns, each for as many as are kept at
+/// most if the text has a `{` beside that of the selector.
+fn weight_of(text: &str) -> usize {
+    let patterns = count_of(b'~', text);
+    if count_of(b'{', text) > 1 {
+        return patterns.saturating_mul(MAX_KEPT_PATTERNS);
     }
     patterns
 }
 
 /// Whether a text is worth to be kept, and may be.
 fn is_kept(text: &str) -> bool {
-    text.len() <= MAX_KEPT_BYTES && matches!(patterns_in(text), 1..=MAX_KEPT_PATTERNS)
+    text.len() <= MAX_KEPT_BYTES && matches!(weight_of(text), 1..=MAX_KEPT_PATTERNS)
 }
 
 /// Reads a text anew, and gives what is to be kept of it.
@@ -80,20 +91,20 @@ impl KeptSelectors {
         None
     }
 
-    /// How many patterns the texts have at most.
-    fn patterns(&self) -> usize {
-        let mut patterns = 0usize;
+    /// What the texts count together.
+    fn weight(&self) -> usize {
+        let mut weight = 0usize;
         for kept in &self.texts {
-            patterns = patterns.saturating_add(patterns_in(kept.text()));
+            weight = weight.saturating_add(weight_of(kept.text()));
         }
-        patterns
+        weight
     }
 
     /// Lets go of the texts that were asked for longest ago, until there is room for a text.
     fn make_room(&mut self, text: &str) {
-        let more = patterns_in(text);
+        let more = weight_of(text);
         for _ in 0..MAX_KEPT_PATTERNS {
-            if self.texts.is_empty() || self.patterns().saturating_add(more) <= MAX_KEPT_PATTERNS {
+            if self.texts.is_empty() || self.weight().saturating_add(more) <= MAX_KEPT_PATTERNS {
                 return;
             }
             let _oldest = self.texts.remove(0);
