@@ -1,5 +1,5 @@
 -- Which types of this crate threads may share: a caller's proof cites these where a worker reads a query.
-use denote.Param.Send.{IsSync, sendable}
+use denote.Param.Send.{IsSend, IsSync, sendable}
 use Rattle.std.proofs.Crossing as heap
 use Rattle.std.proofs.MapsCrossing as maps
 use Rattle.regex_hir.proofs.hir.Hir.TheLaws.TheKnot as hir
@@ -36,8 +36,29 @@ BuiltPattern-sync = search (sendable, maps.String-sync, heap.Vec-sync, Program-s
 pub Regex-sync : IsSync regex.the_field.row
 Regex-sync = search (sendable, BuiltPattern-sync) depth 60 fits 20000
 
+pub Dfa-send : IsSend dfa.the_field.row
+Dfa-send = search (sendable, heap.crosses) depth 60 fits 20000
+
+pub Plans-send : IsSend plans.the_field.row
+Plans-send = search (sendable, heap.crosses, hir.crosses) depth 60 fits 20000
+
+pub Signs-send : IsSend signs.the_field.row
+Signs-send = search (sendable, heap.crosses, hir.crosses) depth 60 fits 20000
+
+pub Bytes-send : IsSend bytes.the_field.row
+Bytes-send = search (sendable, heap.crosses) depth 60 fits 20000
+
+pub Program-send : IsSend program.the_field.row
+Program-send = search (sendable, heap.crosses, hir.crosses, Dfa-send, Plans-send, Signs-send, Bytes-send) depth 60 fits 20000
+
+pub BuiltPattern-send : IsSend pattern.the_field.row
+BuiltPattern-send = search (sendable, maps.String-send, heap.Vec-send, Program-send) depth 60 fits 20000
+
+pub Regex-send : IsSend regex.the_field.row
+Regex-send = search (sendable, BuiltPattern-send) depth 60 fits 20000
+
 pub Pattern-sync : IsSync own.the_field.row
-Pattern-sync = search (sendable, heap.Vec-sync, Regex-sync) depth 60 fits 20000
+Pattern-sync = search (sendable, heap.Vec-sync, heap.Arc-sync, Regex-send, Regex-sync) depth 60 fits 20000
 
 pub Test-sync : IsSync test.the_field.row
 Test-sync = search (sendable, heap.Vec-sync, Pattern-sync) depth 60 fits 20000
