@@ -52,7 +52,7 @@ pub Program-send : IsSend program.the_field.row
 Program-send = search (sendable, heap.crosses, hir.crosses, Dfa-send, Plans-send, Signs-send, Bytes-send) depth 60 fits 20000
 
 pub BuiltPattern-send : IsSend pattern.the_field.row
-BuiltPattern-send = search (sendable, maps.String-send, heap.Vec-send, Program-send) depth 60 fits 20000
+BuiltPattern-send = search (sendable, maps.String-send, heap.crosses, Program-send) depth 60 fits 20000
 
 pub Regex-send : IsSend regex.the_field.row
 Regex-send = search (sendable, BuiltPattern-send) depth 60 fits 20000
