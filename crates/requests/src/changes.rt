@@ -58,11 +58,7 @@ fn deletion_in(value: &Value) -> Option<(&str, i64, i64)>
 }
 
 /// The deletion that a body asks: `H7` where it is not of the form, then `H6`.
-pub fn delete(
-    alloc: Global,
-    kept: &mut KeptSelectors,
-    body: &[u8],
-) -> Result<Request, ReadError>
+pub fn delete(alloc: Global, kept: &mut KeptSelectors, body: &[u8]) -> Result<Request, ReadError>
     ensures { Told (DeleteMeans body.now) result }
 {
     let Some(value) = json_of(alloc, body)? else {

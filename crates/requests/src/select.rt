@@ -73,11 +73,7 @@ pub fn matchers_of(
 }
 
 /// The query that a query string asks: `H5` where it is not of the form, then `H6`.
-pub fn select(
-    alloc: Global,
-    kept: &mut KeptSelectors,
-    query: &[u8],
-) -> Result<Request, ReadError>
+pub fn select(alloc: Global, kept: &mut KeptSelectors, query: &[u8]) -> Result<Request, ReadError>
     ensures { Told (SelectMeans query.now) result }
 {
     let pairs = query_pairs(alloc, query)?;
