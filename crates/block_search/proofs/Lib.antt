@@ -10,3 +10,4 @@ pub mod Agreement
 pub mod Answering
 pub mod Gathered
 pub mod Told
+pub mod Collected

@@ -10,8 +10,11 @@ use Rattle.matchers.specs.Views.{QueryView}
 use Rattle.matchers.specs.Satisfies.{satisfies_all}
 use Rattle.cover.specs.Asking.{matching_references}
 use Rattle.cover.specs.Certificates.{matches_of}
+use Rattle.cover.specs.Covers.{IsCoverOf}
 use Rattle.cover.specs.declared.certificate.Interval.{Interval}
+use Rattle.cover.specs.declared.part_cover.PartAnswer.{PartAnswer}
 use Rattle.block_search.specs.Answering.{row_of_interval}
+use Rattle.block_search.specs.Answers.{IsPartAnswer}
 use Rattle.block_search.proofs.Found.{rows_found}
 use Rattle.block_search.proofs.Lookups.{rows_matched, length-found}
 use Rattle.block_search.proofs.PartRows.{AreRows-found}
@@ -44,3 +47,18 @@ module _ (query : QueryView) (part : Part) (is : IsPart part) (certificate : Lis
       ∙ ap length (e ∙ found)
       ∙ length-found (satisfies_all query.matchers) query.from query.to part
       ∙ sym (ap length matches)
+
+-- an answer whose rows are those of its certificate, sorted
+pub sorted_answer : (query : QueryView) (part : Part) → IsPart part → (answer : PartAnswer)
+    (rows : List Row) → IsCoverOf part query answer.cover → rows
+    ≡ filter_map (row_of_interval query.from query.to part) answer.cover.certificate.items
+    → IsPermutation rows answer.rows.items → IsSortedBy row_before answer.rows.items
+    → IsStableBy row_before rows answer.rows.items → IsPartAnswer query part answer
+sorted_answer query part is answer rows covers e moved up stable =
+    let certificate = answer.cover.certificate.items in
+    let sorted = answer.rows.items in
+    record {
+      rows = sorted_rows query part is certificate covers.matches rows sorted e moved up stable;
+      as_many = sorted_length query part is certificate covers.matches rows sorted e moved;
+      cover = covers;
+    }

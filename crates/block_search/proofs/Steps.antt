@@ -1,9 +1,9 @@
 -- One step more of a loop.
 use Rattle.std.proofs.Common.{◌≡◌, ℕ, ◌+◌, ◌<◌, List, [], ◌∷◌, ◌++◌, Option, None, Some, length}
-use Rattle.std.proofs.Common.{get_or, take, drop, refl, sym, ◌∙◌, ap}
+use Rattle.std.proofs.Common.{get_or, take, refl, sym, ◌∙◌, ap}
 use Rattle.std.specs.List.{filter_map, cons_option}
 use Rattle.std.specs.Option.{option_to_list}
-use Rattle.std.proofs.lemmas.List.{take_more, take-append-drop}
+use Rattle.std.proofs.lemmas.List.{take_more}
 use Rattle.std.proofs.lemmas.List.Elements.{filter_map-append}
 
 cons_nothing : {Y : Type 0} (o : Option Y) → cons_option o [] ≡ option_to_list o
@@ -22,11 +22,3 @@ filter_map_step h xs i x o old new lt is e inv moved =
     (sym (ap (λ p. cons_option p []) (sym e) ∙ cons_nothing o))
     ∙ sym (filter_map-append h (take i xs) (x ∷ []))
     ∙ ap (filter_map h) (ap (λ y. take i xs ++ y ∷ []) is ∙ sym (take_more xs i x lt))
-
--- what h gives of both parts of a list, one after the other
-pub filter_map_halves : {X Y : Type 0} (h : X → Option Y) (xs front back : List X) (n : ℕ)
-    (ys zs : List Y) → front ≡ take n xs → back ≡ drop n xs
-    → ys ≡ filter_map h front → zs ≡ filter_map h back → ys ++ zs ≡ filter_map h xs
-filter_map_halves h xs front back n ys zs early late e f =
-    (λ i. e i ++ f i) ∙ sym (filter_map-append h front back) ∙ ap (filter_map h)
-    ((λ i. early i ++ late i) ∙ take-append-drop n xs)

@@ -6,7 +6,7 @@
 //! one answer for each part that the query does not skip, in the order of the parts: the blocks and
 //! then the head. A block is skipped where its range has no time of the query's; it has no sample
 //! there, so nothing is lost. A part is a [`SearchedPart`]; [`search`] gives each part a worker,
-//! and the rows of a block's many matches several, with a [`Gate`] that learns of each part, and
+//! and the rows of a part's many matches several, with a [`Gate`] that learns of each part, and
 //! [`search_one_by_one`] goes through all in the calling thread: the two agree in all but the
 //! moves. [`answered_parts`] makes of the answers what is told of each part: its answer, or that it
 //! is skipped.
@@ -26,9 +26,9 @@
 #![tactic(auto)]
 
 mod answered;
-mod block_rows;
 mod gate;
 mod laws;
+mod many_rows;
 mod one_part;
 mod parts;
 mod skipping;

@@ -4,7 +4,7 @@
 ghost use Rattle.std.specs.Prelude.{◌≡◌, IfOk, option_map};
 ghost use Rattle.std.specs.List.{filter_map};
 ghost use Rattle.labels.specs.Parts.{IsPart, row_at, labels_in, samples_within};
-ghost use Rattle.block_search.specs.Answering.{row_within, row_of_interval};
+ghost use Rattle.block_search.specs.Answering.{row_within, row_of_interval, IsFoundRow};
 ghost use Rattle.block_search.specs.Answers.{IsPartAnswer};
 
 use block::BlockView;
@@ -70,8 +70,20 @@ fn matched_row<S: SearchedPart>(
     }
 }
 
+/// The same, as an iterator's `filter_map` takes it: nothing, a row, or that memory was refused.
+pub(crate) fn found_row<S: SearchedPart>(
+    alloc: Global,
+    source: &S,
+    interval: &Interval,
+    query: &Query,
+) -> Option<Result<Row, AllocError>>
+    ensures { IsFoundRow query.now.from query.now.to (S.part source.now) interval.now result }
+{
+    matched_row(alloc, source, interval, query).transpose()
+}
+
 /// The rows of the series that match, in the order of their references.
-pub(crate) fn matched_rows<S: SearchedPart>(
+fn matched_rows<S: SearchedPart>(
     alloc: Global,
     source: &S,
     certificate: &[Interval],

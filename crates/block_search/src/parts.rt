@@ -6,8 +6,8 @@ ghost use Rattle.block_search.specs.Skipping.{LosesNothing};
 ghost use Rattle.block_search.specs.Places.{part_at};
 ghost use Rattle.block_search.specs.Answers.{IsAnswerOf, AreAnswers};
 
-use crate::block_rows::search_block;
 use crate::gate::Gate;
+use crate::many_rows::{search_block, search_head};
 use crate::one_part::search_part;
 use crate::skipping::searched_places;
 use cover::PartAnswer;
@@ -33,7 +33,7 @@ pub(crate) fn search_place(
     }
 }
 
-/// The same, the rows of a block's many matches made by several threads.
+/// The same, the rows of many matches made by several threads.
 fn search_place_by<R: Threads + Sync>(
     rt: &R,
     alloc: Global,
@@ -45,7 +45,7 @@ fn search_place_by<R: Threads + Sync>(
 {
     match snapshot.block(place) {
         Some(block) => search_block(rt, alloc, PartName::Block(place), block, query),
-        None => search_place(alloc, snapshot, query, place),
+        None => search_head(rt, alloc, PartName::Head, snapshot.head(), query),
     }
 }
 
@@ -126,7 +126,7 @@ fn all_of(
 /// for the moves, by one worker for each part that is searched.
 ///
 /// The calling thread is one of the workers, so that a store without blocks starts none; where no
-/// thread can be started, it searches that worker's part too. A worker whose block has many matches
+/// thread can be started, it searches that worker's part too. A worker whose part has many matches
 /// shares out their rows over more threads. The gate learns of each part before it is searched, in
 /// the thread that does so. It takes as long as the search of its longest part, where there are as
 /// many processors as parts.

@@ -1,28 +1,18 @@
 use Rattle.std.proofs.Common.{ap, ◌∙◌}
 use Rattle.std.specs.List.{filter_map}
 use Rattle.block_search.specs.Answering.{row_of_interval}
-use Rattle.block_search.proofs.Sorted.{sorted_rows, sorted_length}
+use Rattle.block_search.proofs.Sorted.{sorted_answer}
 use Rattle.block_search.proofs.one_part.search_part.Goals as goal
 
 pub returns-clause-answers : goal.returns-clause-answers
 returns-clause-answers g c =
     let query = c.args.query.now in
     let part = g.S.Source.part c.args.source.now in
-    let is_part = g.met.S.Source.is_part c.args.source.now in
     let sort = c.in_ok-sort_rows.ensures in
-    let said = c.in_ok-cover.ensures in
-    let certificate = c.in_ok-cover.cover.certificate.items in
-    let rows = c.in_ok-rows.rows.items in
-    let sorted = c.sort_rows.new.rows.items in
-    let found = c.in_ok-rows.ensures ∙ ap (filter_map (row_of_interval query.from query.to part))
-    c.as_slice.ensures.value in
-    record {
-      rows = sorted_rows query part is_part certificate said.matches rows sorted found sort.moved
-          sort.sorted sort.stable;
-      as_many = sorted_length query part is_part certificate said.matches rows sorted found
-          sort.moved;
-      cover = said;
-    }
+    sorted_answer query part (g.met.S.Source.is_part c.args.source.now) _ c.in_ok-rows.rows.items
+    c.in_ok-cover.ensures
+    (c.in_ok-rows.ensures ∙ ap (filter_map (row_of_interval query.from query.to part))
+    c.as_slice.ensures.value) sort.moved sort.sorted sort.stable
 
 pub returns-clause-is_part : goal.returns-clause-is_part
 returns-clause-is_part g c = g.met.S.Source.is_part c.args.source.now
