@@ -43,6 +43,7 @@ mod checks;
 mod chunk;
 mod error;
 mod index;
+mod joining;
 mod keys;
 mod layout;
 mod lists;
@@ -51,6 +52,7 @@ mod pairs;
 mod postings;
 mod series;
 mod series_entries;
+mod sharing;
 mod symbols;
 
 pub use chunk::Chunk;
