@@ -12,13 +12,17 @@ use Rattle.index_reader.specs.declared.error.IndexError.{IndexError}
 use Rattle.index_reader.specs.declared.error.IndexError.TheVariants.{Memory}
 use Rattle.index_reader.specs.declared.series.Series.{Series}
 use Rattle.index_reader.specs.declared.series_entries.SeriesEntry as declared
-use Rattle.index_reader.specs.Layout.{Label, Body}
+use Rattle.index_reader.specs.declared.bodies.Bodies.{Bodies}
+use Rattle.index_reader.specs.CheckedFile.{bodies_seen}
+use Rattle.index_reader.specs.Layout.{Label, Body, SeriesEntry}
 use Rattle.index_reader.specs.Outcome.{Fails}
 use Rattle.index_reader.specs.Reading.Agreement.{entry_references}
 use Rattle.index_reader.specs.Reading.Flat.{AllIn, IsIn, CanMove, body_in, bodies_in, moved}
+use Rattle.index_reader.specs.Reading.Flat.{body_of_entry}
 use Rattle.index_reader.specs.Reading.Flat.{references_in_order}
 use Rattle.index_reader.specs.Reading.Steps.{each, behind_items}
 use Rattle.index_reader.specs.Seen.{entry_seen, entries_seen}
+use Rattle.index_reader.specs.Shared.{AreBodiesOf}
 use Rattle.wire.specs.Outcome.{◌>>=◌}
 use Rattle.index_reader.proofs.Eaches.{items_nil}
 use Rattle.index_reader.proofs.Growth.{bodies_grown}
@@ -144,14 +148,14 @@ each_append step (x ∷ xs) ys =
     behind_step (step x) (each step xs) (each step ys) (each step (xs ++ ys))
     (each_append step xs ys)
 
-pub fails_early : {A X : Type 0} (step : A → Result X IndexError) (e : IndexError)
+fails_early : {A X : Type 0} (step : A → Result X IndexError) (e : IndexError)
     (all xs ys : List A) → all ≡ xs ++ ys → Fails e (each step xs) → Fails e (each step all)
 fails_early step Memory all xs ys w f = tt
 fails_early {A} {X} step e all xs ys w f =
     ap (each step) w ∙ each_append step xs ys
     ∙ ap (λ (r : Result (List X) IndexError). r >>= λ zs. behind_items zs (each step ys)) f
 
-pub fails_late : {A X : Type 0} (step : A → Result X IndexError) (e : IndexError)
+fails_late : {A X : Type 0} (step : A → Result X IndexError) (e : IndexError)
     (all xs ys : List A) (front : List X) → all ≡ xs ++ ys → each step xs ≡ Ok front
     → Fails e (each step ys) → Fails e (each step all)
 fails_late step Memory all xs ys front w g f = tt
@@ -160,7 +164,7 @@ fails_late {A} {X} step e all xs ys front w g f =
     ∙ ap (λ (r : Result (List X) IndexError). r >>= λ zs. behind_items zs (each step ys)) g
     ∙ ap (behind_items front) f
 
-pub gives_both : {A X : Type 0} (step : A → Result X IndexError) (all xs ys : List A)
+gives_both : {A X : Type 0} (step : A → Result X IndexError) (all xs ys : List A)
     (front back whole : List X) → all ≡ xs ++ ys → each step xs ≡ Ok front → each step ys ≡ Ok back
     → whole ≡ front ++ back → each step all ≡ Ok whole
 gives_both {A} {X} step all xs ys front back whole w g g' e =
@@ -186,11 +190,35 @@ pub small_late : (all late : List declared.SeriesEntry) (n : ℕ) → late ≡ d
     → All (λ (e : declared.SeriesEntry). e.offset < 2 ^ 32) late
 small_late all late n e h = rw e (All-drop (λ (p : declared.SeriesEntry). p.offset < 2 ^ 32) n all h)
 
-pub references_both : (all early late : List declared.SeriesEntry) (n : ℕ) (xs ys whole : List ℕ)
-    → early ≡ take n all → late ≡ drop n all → xs ≡ entry_references (entries_seen early)
-    → ys ≡ entry_references (entries_seen late) → whole ≡ xs ++ ys
-    → whole ≡ entry_references (entries_seen all)
-references_both all early late n xs ys whole e l p q w =
-    w ∙ (λ i. p i ++ q i)
-    ∙ sym (map-append (λ p. p.offset / 16) (entries_seen early) (entries_seen late))
-    ∙ ap entry_references (sym (seen_both all early late n e l))
+pub fail_early : (symbols : List (List ℕ)) (all early late : List SeriesEntry) (e : IndexError)
+    → all ≡ early ++ late → AreBodiesOf symbols early (Err e) → AreBodiesOf symbols all (Err e)
+fail_early symbols all early late e w h = record {
+  exact = fails_early (body_of_entry symbols) e all early late w h.exact;
+  referred = tt;
+}
+
+pub fail_late : (symbols : List (List ℕ)) (all early late : List SeriesEntry) (front : Bodies)
+    (e : IndexError) → all ≡ early ++ late → AreBodiesOf symbols early (Ok front)
+    → AreBodiesOf symbols late (Err e) → AreBodiesOf symbols all (Err e)
+fail_late symbols all early late front e w h h' = record {
+  exact =
+      fails_late (body_of_entry symbols) e all early late (bodies_seen front) w h.exact h'.exact;
+  referred = tt;
+}
+
+pub are_both : (symbols : List (List ℕ)) (all early late : List SeriesEntry)
+    (front back whole : Bodies) → all ≡ early ++ late → AreBodiesOf symbols early (Ok front)
+    → AreBodiesOf symbols late (Ok back)
+    → bodies_seen whole ≡ bodies_seen front ++ bodies_seen back
+    → references_in_order whole.series.items
+    ≡ references_in_order front.series.items ++ references_in_order back.series.items
+    → AreBodiesOf symbols all (Ok whole)
+are_both symbols all early late front back whole w h h' e r = record {
+  exact =
+      gives_both (body_of_entry symbols) all early late (bodies_seen front) (bodies_seen back)
+      (bodies_seen whole) w h.exact h'.exact e;
+  referred =
+      r ∙ (λ i. h.referred i ++ h'.referred i)
+      ∙ sym (map-append (λ (p : SeriesEntry). p.offset / 16) early late)
+      ∙ ap entry_references (sym w);
+}

@@ -1,13 +1,9 @@
 //! The bodies of the series, read by one thread or shared out over several.
 
-ghost use Rattle.std.specs.Prelude.{◌≡◌, ◌<◌, ◌^◌, ⊤, All, IfOk};
+ghost use Rattle.std.specs.Prelude.{◌<◌, ◌^◌, ⊤, All};
 ghost use Rattle.std.specs.Thread.{IsSync};
-ghost use Rattle.index_reader.specs.CheckedFile.{bodies_seen};
-ghost use Rattle.index_reader.specs.Reading.Agreement.{entry_references};
-ghost use Rattle.index_reader.specs.Reading.Flat.{body_of_entry, references_in_order};
-ghost use Rattle.index_reader.specs.Outcome.{Gives};
 ghost use Rattle.index_reader.specs.Seen.{bytes_of, entries_seen};
-ghost use Rattle.index_reader.specs.Reading.Steps.{each};
+ghost use Rattle.index_reader.specs.Shared.{AreBodiesOf};
 
 use crate::bodies::{Bodies, bodies_of};
 use crate::error::IndexError;
@@ -32,10 +28,7 @@ fn bodies_among<R: Threads + Sync>(
     threads: usize,
 ) -> Result<Bodies, IndexError>
     requires { All (λ e. e.offset < 2 ^ 32) entries.now }
-    ensures exact { Gives bodies_seen result
-        (each (body_of_entry (bytes_of symbols.now.texts.items)) (entries_seen entries.now)) }
-    ensures referred { IfOk result (λ b. references_in_order b.series.items
-        ≡ entry_references (entries_seen entries.now)) }
+    ensures { AreBodiesOf (bytes_of symbols.now.texts.items) (entries_seen entries.now) result }
 {
     if threads < 2 || entries.len() < MANY {
         return bodies_of(alloc, symbols, entries);
@@ -45,19 +38,13 @@ fn bodies_among<R: Threads + Sync>(
     let (early, late) = entries.split_at(entries.len() / 2);
     let first = || -> Result<Bodies, IndexError>
         requires { IsSync R.row × All (λ e. e.offset < 2 ^ 32) early.now }
-        ensures exact { Gives bodies_seen result
-            (each (body_of_entry (bytes_of symbols.entry.now.texts.items))
-            (entries_seen early.entry.now)) }
-        ensures referred { IfOk result (λ b. references_in_order b.series.items
-            ≡ entry_references (entries_seen early.entry.now)) }
+        ensures { AreBodiesOf (bytes_of symbols.entry.now.texts.items)
+            (entries_seen early.entry.now) result }
     { bodies_among(rt, alloc, symbols, early, helpers) };
     let second = || -> Result<Bodies, IndexError>
         requires { IsSync R.row × All (λ e. e.offset < 2 ^ 32) late.now }
-        ensures exact { Gives bodies_seen result
-            (each (body_of_entry (bytes_of symbols.entry.now.texts.items))
-            (entries_seen late.entry.now)) }
-        ensures referred { IfOk result (λ b. references_in_order b.series.items
-            ≡ entry_references (entries_seen late.entry.now)) }
+        ensures { AreBodiesOf (bytes_of symbols.entry.now.texts.items)
+            (entries_seen late.entry.now) result }
     { bodies_among(rt, alloc, symbols, late, rest) };
     let (of_early, of_late) = join(rt, first, second);
     let front = of_early?;
@@ -80,10 +67,7 @@ pub trait Readers {
     ) -> Result<Bodies, IndexError>
         requires ready { is_ready self.now }
         requires small { All (λ e. e.offset < 2 ^ 32) entries.now }
-        ensures exact { Gives bodies_seen result
-            (each (body_of_entry (bytes_of symbols.now.texts.items)) (entries_seen entries.now)) }
-        ensures referred { IfOk result (λ b. references_in_order b.series.items
-            ≡ entry_references (entries_seen entries.now)) };
+        ensures { AreBodiesOf (bytes_of symbols.now.texts.items) (entries_seen entries.now) result };
 }
 
 /// The calling thread alone.
