@@ -5,14 +5,15 @@ ghost use Rattle.query_http.specs.Bounds.{IsBounded};
 
 use crate::note::Note;
 use crate::reply::Reply;
+use answers::{AnswerText, Rooms};
 use std::alloc::Global;
 use std::mem;
 
 /// The most bytes of room that each buffer keeps between two connections: 1 MiB.
 pub const MOST_KEPT: usize = 1_048_576;
 
-/// A worker's buffers: for the bytes of a request, for the first bytes of a reply and for the text
-/// of an answer; and what was noted of the last connection.
+/// A worker's buffers: for the bytes of a request, for the first bytes of a reply, for the rows of
+/// an answer and for the rest of it; and what was noted of the last connection.
 ///
 /// Each connection clears them first, so what they hold between two connections is only room: no
 /// clause speaks of it. A buffer that a connection left larger than [`MOST_KEPT`] is given back to
@@ -21,6 +22,7 @@ pub const MOST_KEPT: usize = 1_048_576;
 pub struct Buffers {
     pub(crate) request: Vec<u8>,
     pub(crate) head: Vec<u8>,
+    pub(crate) rows: Vec<u8>,
     pub(crate) answer: Vec<u8>,
     pub(crate) note: Note,
 }
@@ -37,8 +39,7 @@ fn trim(buf: &mut Vec<u8>)
 
 /// Keeps the room of some bytes in place of a buffer's, if it is more and no more than is kept.
 fn keep(buf: &mut Vec<u8>, bytes: Vec<u8>)
-    requires { vec_capacity buf.old ≤ MOST_KEPT }
-    ensures { vec_capacity buf.new ≤ MOST_KEPT }
+    ensures { vec_capacity buf.old ≤ MOST_KEPT → vec_capacity buf.new ≤ MOST_KEPT }
 {
     if buf.capacity() < bytes.capacity() && bytes.capacity() <= MOST_KEPT {
         *buf = bytes;
@@ -53,6 +54,7 @@ impl Buffers {
         Buffers {
             request: Vec::new(alloc),
             head: Vec::new(alloc),
+            rows: Vec::new(alloc),
             answer: Vec::new(alloc),
             note: Note::none(),
         }
@@ -71,6 +73,7 @@ impl Buffers {
     {
         trim(&mut self.request);
         trim(&mut self.head);
+        trim(&mut self.rows);
         trim(&mut self.answer);
     }
 
@@ -83,9 +86,27 @@ impl Buffers {
         head
     }
 
-    /// Lends the buffer of an answer.
-    pub(crate) fn take_answer(&mut self, alloc: Global) -> Vec<u8> {
-        mem::replace(&mut self.answer, Vec::new(alloc))
+    /// Lends the buffers of an answer.
+    pub(crate) fn take_rooms(&mut self, alloc: Global) -> Rooms {
+        Rooms {
+            text: mem::replace(&mut self.answer, Vec::new(alloc)),
+            rows: mem::replace(&mut self.rows, Vec::new(alloc)),
+        }
+    }
+
+    /// Takes back what an answer was written in, where that is more than there is and no more than
+    /// is kept.
+    pub(crate) fn give_answer(&mut self, answer: AnswerText)
+        ensures bounded { IsBounded self.old → IsBounded self.new }
+        ensures note { self.new.note ≡ self.old.note }
+    {
+        let mut pieces = answer.into_pieces();
+        if !pieces.is_empty() {
+            keep(&mut self.answer, pieces.swap_remove(0));
+        }
+        for piece in pieces {
+            keep(&mut self.rows, piece);
+        }
     }
 
     /// Takes back what a reply was made in, where that is more than there is and no more than is
@@ -97,7 +118,7 @@ impl Buffers {
     {
         keep(&mut self.head, reply.head);
         if let Some(answer) = reply.answer {
-            keep(&mut self.answer, answer.into_bytes());
+            self.give_answer(answer);
         }
     }
 }

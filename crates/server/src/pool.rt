@@ -107,7 +107,7 @@ impl<J: Naming, C: Wait + Drop> Workers<J, C> {
 }
 
 /// The work of one worker.
-fn work_at<'a, J: Naming, C: Wait + Drop, R: Wait + Clock + Eprint>(
+fn work_at<'a, J: Naming, C: Wait + Drop, R: Wait + Threads + Clock + Eprint + Sync>(
     rt: &R,
     alloc: Global,
     rules: &'a Rules,
@@ -196,6 +196,7 @@ fn run_all<
         rt,
         places,
         &|place: Place<J>| -> Shift<'_>
+            requires { IsSync R.row }
             ensures { result.rules.now ≡ rules.entry.now }
         { work_at(rt, alloc, rules, listener, committer, place, terms) },
     )?;
