@@ -34,6 +34,6 @@ returns g t c =
     ∙ run_halves c.args.first c.args.last.now rows c.split_at.result.0.now
     c.split_at.result.1.now half c.in_ok-pieces.pieces.items c.in_ok-more.more.items
     c.split_at.ensures.front c.split_at.ensures.back
-    (omega (arith, ap length c.split_at.ensures.front, c.if-threads-lt2-or-count-lt2.false, c.len-count.ensures))
-    (omega (arith, ap length c.split_at.ensures.back, c.if-threads-lt2-or-count-lt2.false, c.len-count.ensures))
+    (omega (arith, ap length c.split_at.ensures.front, c.if-count-lt2.false))
+    (omega (arith, ap length c.split_at.ensures.back, c.if-count-lt2.false))
     front back
