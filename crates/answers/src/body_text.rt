@@ -3,7 +3,7 @@
 //! Each item of a list is written with a comma before it; the first comma then becomes the opening
 //! bracket.
 
-ghost use Rattle.std.specs.Prelude.{◌≡◌, ◌++◌, ◌∷◌, OnOk, IfOk, IfSome, codes, length};
+ghost use Rattle.std.specs.Prelude.{◌≡◌, ◌+◌, ◌++◌, ◌∷◌, OnOk, IfOk, codes, length};
 ghost use Rattle.block_search.specs.declared.answered.AnsweredPart.TheVariants.{Searched};
 ghost use Rattle.answers.specs.AfterCommas.{after_commas, searched_front, searched_back};
 ghost use Rattle.answers.specs.AfterCommas.{with_bracket};
@@ -15,8 +15,9 @@ ghost use Rattle.answers.specs.MergedRows.{rows_of};
 use crate::audited::AuditedAnswer;
 use crate::brackets::open_list;
 use crate::kept::AnswerText;
-use crate::parts::{append_parts, append_parts_after_commas};
-use crate::parts::{append_searched_back, append_searched_front};
+use crate::parts::{
+    append_parts, append_parts_after_commas, append_searched_back, append_searched_front,
+};
 use crate::pieces::{room_of_rows, rows_in_pieces};
 use crate::rows::append_rows;
 use crate::told::{told_once, told_twice};
@@ -47,11 +48,7 @@ fn room_of(parts: &[AnsweredPart]) -> usize {
 }
 
 /// The text of an answer up to the rows of all parts, in room that is at hand.
-fn front_of_all(
-    alloc: Global,
-    room: Vec<u8>,
-    parts: &[AnsweredPart],
-) -> Result<Vec<u8>, AllocError>
+fn front_of_all(alloc: Global, room: Vec<u8>, parts: &[AnsweredPart]) -> Result<Vec<u8>, AllocError>
     ensures { IfOk result (λ text. text.items
         ≡ codes "{\"parts\":" ++ (json_list part_data parts.now ++ codes ",\"rows\":")) }
 {
@@ -175,24 +172,27 @@ pub fn answer_text<R: Threads + Sync>(
     }
 }
 
-/// How many bytes pieces have, or `None` where no number is large enough.
-fn length_in(pieces: &[Vec<u8>]) -> Option<usize>
-    ensures { IfSome result (λ n. n ≡ length (joined pieces.now)) }
+/// How many bytes pieces have behind so many others. Where no number is large enough, there is no
+/// memory.
+fn length_in(pieces: &[Vec<u8>], before: usize) -> Result<usize, AllocError>
+    ensures { IfOk result (λ n. n ≡ before + length (joined pieces.now)) }
 {
-    let mut length = 0usize;
+    let mut length = before;
     for piece in pieces {
-        length = length.checked_add(piece.len())?;
+        let Some(more) = length.checked_add(piece.len()) else {
+            return Err(AllocError);
+        };
+        length = more;
     }
-    Some(length)
+    Ok(length)
 }
 
-/// How many bytes the text of an answer has, or `None` where no number is large enough.
-pub fn length_of(text: &AnswerText) -> Option<usize>
-    ensures { IfSome result (λ n. n ≡ length (whole_of text.now)) }
+/// How many bytes the text of an answer has. Where no number is large enough, there is no memory.
+pub fn length_of(text: &AnswerText) -> Result<usize, AllocError>
+    ensures { IfOk result (λ n. n ≡ length (whole_of text.now)) }
 {
-    let first = length_in(text.first())?;
-    let again = length_in(text.again())?;
-    first.checked_add(again)?.checked_add(1)
+    let first = length_in(text.first(), 1)?;
+    length_in(text.again(), first)
 }
 
 fn append_pieces(out: &mut Vec<u8>, pieces: &[Vec<u8>]) -> Result<(), AllocError>

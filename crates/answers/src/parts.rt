@@ -112,14 +112,12 @@ pub(crate) fn append_searched_front(
     append_intervals(out, answer.cover.certificate.as_slice())?;
     out.extend_from_slice(b",\"part\":")?;
     append_string(out, name.as_str())?;
-    out.extend_from_slice(b",\"rows\":")
+    out.extend_from_slice(b",\"rows\":")?;
+    Ok(())
 }
 
 /// Appends what is told of a part behind its rows.
-pub(crate) fn append_searched_back(
-    out: &mut Vec<u8>,
-    answer: &PartAnswer,
-) -> Result<(), AllocError>
+pub(crate) fn append_searched_back(out: &mut Vec<u8>, answer: &PartAnswer) -> Result<(), AllocError>
     ensures { OnOk result (out.new.items ≡ out.old.items ++ searched_back answer.now) }
 {
     out.extend_from_slice(b",\"separators\":")?;
@@ -129,11 +127,7 @@ pub(crate) fn append_searched_back(
 }
 
 /// Appends the answer of a part.
-fn append_searched(
-    alloc: Global,
-    out: &mut Vec<u8>,
-    answer: &PartAnswer,
-) -> Result<(), AllocError>
+fn append_searched(alloc: Global, out: &mut Vec<u8>, answer: &PartAnswer) -> Result<(), AllocError>
     ensures { OnOk result (out.new.items ≡ out.old.items ++ compact_text (searched_data answer.now)) }
 {
     append_searched_front(alloc, out, answer)?;
@@ -153,11 +147,7 @@ fn append_skipped(alloc: Global, out: &mut Vec<u8>, name: PartName) -> Result<()
 }
 
 /// Appends what is told of a part.
-fn append_part(
-    alloc: Global,
-    out: &mut Vec<u8>,
-    part: &AnsweredPart,
-) -> Result<(), AllocError>
+fn append_part(alloc: Global, out: &mut Vec<u8>, part: &AnsweredPart) -> Result<(), AllocError>
     ensures { OnOk result (out.new.items ≡ out.old.items ++ compact_text (part_data part.now)) }
 {
     match part {

@@ -55,11 +55,7 @@ fn write_pieces<W: Write>(out: &mut W, pieces: &[Vec<u8>]) -> io::Result<()>
 
 /// Writes two lists of pieces whole, one after the other; where the writer fails, a prefix of both
 /// together was written.
-fn write_both<W: Write>(
-    out: &mut W,
-    first: &[Vec<u8>],
-    second: &[Vec<u8>],
-) -> io::Result<()>
+fn write_both<W: Write>(out: &mut W, first: &[Vec<u8>], second: &[Vec<u8>]) -> io::Result<()>
     ensures ok { OnOk result (Appends (W.contents out.old) (W.contents out.new)
         (joined first.now ++ joined second.now)) }
     ensures err { OnErr result (AppendsPrefix (W.contents out.old) (W.contents out.new)

@@ -79,9 +79,7 @@ fn answer_reply<R: Threads + Sync>(
 {
     let rooms = buffers.take_rooms(alloc);
     let text = answer_text(rt, alloc, rooms, answer)?;
-    let Some(size) = length_of(&text) else {
-        return Err(AllocError);
-    };
+    let size = length_of(&text)?;
     let mut head = buffers.take_head(alloc);
     append_success_head(&mut head, size)?;
     if size <= SHORT {

@@ -70,11 +70,7 @@ fn write_pieces<W: Outlet>(writer: &mut W, pieces: &[Vec<u8>]) -> Result<(), Fau
 }
 
 /// Writes a text, and pieces behind it; or a prefix of all together, where the writer fails.
-fn write_before<W: Outlet>(
-    writer: &mut W,
-    text: &[u8],
-    pieces: &[Vec<u8>],
-) -> Result<(), Fault>
+fn write_before<W: Outlet>(writer: &mut W, text: &[u8], pieces: &[Vec<u8>]) -> Result<(), Fault>
     ensures ok { OnOk result
         (Appends (W.output writer.old) (W.output writer.new) (text.now ++ joined pieces.now)) }
     ensures counted { OnOk result (W.failed_writes writer.new ≡ W.failed_writes writer.old) }
@@ -88,11 +84,7 @@ fn write_before<W: Outlet>(
 }
 
 /// Writes pieces, and a text behind them; or a prefix of all together, where the writer fails.
-fn write_behind<W: Outlet>(
-    writer: &mut W,
-    pieces: &[Vec<u8>],
-    text: &[u8],
-) -> Result<(), Fault>
+fn write_behind<W: Outlet>(writer: &mut W, pieces: &[Vec<u8>], text: &[u8]) -> Result<(), Fault>
     ensures ok { OnOk result
         (Appends (W.output writer.old) (W.output writer.new) (joined pieces.now ++ text.now)) }
     ensures counted { OnOk result (W.failed_writes writer.new ≡ W.failed_writes writer.old) }

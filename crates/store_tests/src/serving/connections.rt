@@ -190,7 +190,11 @@ fn are_replied<J: Naming, R: Wait + Drop>(
 }
 
 /// The same of a store that is opened for it; nothing where none was opened.
-fn is_session<J: Naming, R: Wait + Threads + Sync>(rt: &R, alloc: Global, store: Store) -> Option<bool>
+fn is_session<J: Naming, R: Wait + Threads + Sync>(
+    rt: &R,
+    alloc: Global,
+    store: Store,
+) -> Option<bool>
     requires book { store.seen.book ≡ J.book }
     requires opening { opening_of [] ≡ J.opening }
 {

@@ -1,6 +1,5 @@
 use Rattle.std.proofs.Common.{◌++◌, ap, ◌∙◌}
 use Rattle.std.specs.Prelude.{codes}
-use Rattle.std.proofs.lemmas.Result.{on_ok_weaker}
 use Rattle.json.specs.Print.{quoted}
 use Rattle.answers.specs.Body.{interval_data, json_list, name_text}
 use Rattle.answers.proofs.Objects.{joined_5}
@@ -9,8 +8,7 @@ use Rattle.answers.proofs.parts.append_searched_front.Goals as goal
 pub returns : goal.returns
 returns c =
     let answer = c.args.answer.now in
-    on_ok_weaker c.extend_from_slice-3.result
-    (λ last. joined_5 c.args.out.now.items
+    joined_5 c.args.out.now.items
     (codes "{\"intervals\":") (json_list interval_data answer.cover.certificate.items)
     (codes ",\"part\":") (quoted (name_text answer.part)) (codes ",\"rows\":")
     _ c.append_intervals.new.out.items _ c.append_string.new.out.items _
@@ -22,4 +20,4 @@ returns c =
     (c.in_ok-append_string.ensures
     ∙ ap (λ s. c.extend_from_slice-2.new.self.items ++ quoted s) (c.as_str.ensures.value
     ∙ c.in_ok-name.ensures))
-    last) c.extend_from_slice-3.ensures.items
+    c.in_ok-extend_from_slice-3.ensures.items

@@ -19,10 +19,10 @@ returns-then-size-le-SHORT-clause-spelled g c =
     let body = whole_of c.in_ok-text.text in
     let text = body_text c.args.answer.now.parts.items (rows_of c.args.answer.now) in
     IfOk-weaker c.joined_reply.result _ _
-    (λ r h. h ∙ put_together _ body text c.in-Some.size
+    (λ r h. h ∙ put_together _ body text c.in_ok-size.size
     (c.in_ok-append_success_head.ensures
-    ∙ ap (λ (s : List ℕ). s ++ success_head c.in-Some.size) c.take_head-head.ensures)
-    c.in-Some.ensures
+    ∙ ap (λ (s : List ℕ). s ++ success_head c.in_ok-size.size) c.take_head-head.ensures)
+    c.in_ok-size.ensures
     c.in_ok-text.ensures)
     c.joined_reply.ensures.spelled
 
@@ -30,8 +30,8 @@ pub returns-clause-spelled : goal.returns-clause-spelled
 returns-clause-spelled g c =
     let body = whole_of c.in_ok-text.text in
     let text = body_text c.args.answer.now.parts.items (rows_of c.args.answer.now) in
-    put_together _ body text c.in-Some.size
+    put_together _ body text c.in_ok-size.size
     (c.in_ok-append_success_head.ensures
-    ∙ ap (λ (s : List ℕ). s ++ success_head c.in-Some.size) c.take_head-head.ensures)
-    c.in-Some.ensures
+    ∙ ap (λ (s : List ℕ). s ++ success_head c.in_ok-size.size) c.take_head-head.ensures)
+    c.in_ok-size.ensures
     c.in_ok-text.ensures

@@ -1,5 +1,5 @@
-use Rattle.answers.specs.Joined.{joined}
 use Rattle.std.proofs.lemmas.Result.{on_ok_weaker, on_err_weaker}
+use Rattle.answers.specs.Joined.{joined}
 use Rattle.query_http.proofs.Written.{on_err, both, front_of_both, front_behind}
 use Rattle.query_http.proofs.outlet.write_behind.Goals as goal
 
@@ -14,7 +14,7 @@ pub returns-clause-ok : goal.returns-clause-ok
 returns-clause-ok g c =
     on_ok_weaker c.write_whole.result
     (λ p. both (g.W.Outlet.output c.args.writer.now) (g.W.Outlet.output c.write_pieces.new.writer)
-    (g.W.Outlet.output c.write_pieces.new.writer) (joined c.args.pieces.now) c.args.text.now
+    (g.W.Outlet.output c.write_whole.new.writer) (joined c.args.pieces.now) c.args.text.now
     c.in_ok-write_pieces.ensures.ok p)
     c.write_whole.ensures.ok
 
@@ -22,7 +22,7 @@ pub returns-clause-err : goal.returns-clause-err
 returns-clause-err g c =
     on_err_weaker c.write_whole.result
     (λ h. front_behind (g.W.Outlet.output c.args.writer.now)
-    (g.W.Outlet.output c.write_pieces.new.writer) (g.W.Outlet.output c.write_pieces.new.writer)
+    (g.W.Outlet.output c.write_pieces.new.writer) (g.W.Outlet.output c.write_whole.new.writer)
     (joined c.args.pieces.now) c.args.text.now c.in_ok-write_pieces.ensures.ok h)
     c.write_whole.ensures.err
 
