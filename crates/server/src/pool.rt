@@ -196,7 +196,6 @@ fn run_all<
         rt,
         places,
         &|place: Place<J>| -> Shift<'_>
-            requires { IsSync R.row }
             ensures { result.rules.now ≡ rules.entry.now }
         { work_at(rt, alloc, rules, listener, committer, place, terms) },
     )?;
