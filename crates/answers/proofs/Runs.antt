@@ -1,7 +1,6 @@
 -- The text of rows in pieces, and the text of an answer around it.
 use Rattle.std.proofs.Common.{◌≡◌, ◌<◌, ◌-◌, ℕ, List, [], ◌∷◌, ◌++◌, Vec, Global, length, take, drop, refl}
 use Rattle.std.proofs.Common.{sym, ap, ap₂, ◌∙◌, append_assoc, append-nil, arith, take-append-drop}
-use Rattle.std.proofs.Common.{length-append}
 use Rattle.std.specs.Prelude.{codes, flat_map, slice_range}
 use Rattle.std.proofs.lemmas.Grind.{flat_map-append}
 use Rattle.std.proofs.Math.Seq.{take-append_seam}
@@ -10,19 +9,17 @@ use Rattle.labels.specs.Rows.{Row}
 use Rattle.cover.specs.declared.part_cover.PartAnswer.{PartAnswer}
 use Rattle.block_search.specs.declared.answered.AnsweredPart.{AnsweredPart}
 use Rattle.block_search.specs.declared.answered.AnsweredPart.TheVariants.{Searched}
-use Rattle.answers.specs.Body.{body_text, json_list, list_data, part_data, row_data, searched_data}
+use Rattle.answers.specs.Body.{body_text, json_list, part_data, row_data, searched_data}
 use Rattle.answers.specs.Body.{interval_data, name_text}
 use Rattle.json.specs.Print.{quoted}
 use Rattle.answers.specs.AfterCommas.{after_commas, run_text, searched_front, searched_back}
 use Rattle.answers.specs.AfterCommas.{with_bracket}
 use Rattle.answers.specs.Joined.{joined}
+use Rattle.answers.specs.Kept.{whole_of}
+use Rattle.answers.specs.declared.kept.AnswerText.{AnswerText}
+use Rattle.answers.specs.declared.kept.Spot.{Spot}
 use Rattle.answers.proofs.Lists.{opened_later}
 use Rattle.answers.proofs.Objects.{searched_text, whole_text}
-
--- a first byte stays first where more comes behind
-pub bracket_kept : (first x : ℕ) (xs more : List ℕ) → with_bracket first ((x ∷ xs) ++ more)
-    ≡ with_bracket first (x ∷ xs) ++ more
-bracket_kept first x xs more = refl
 
 run_of_more : (first : ℕ) (xs ys : List Row) → 0 < length xs
     → run_text first (xs ++ ys) ≡ run_text first xs ++ after_commas row_data ys
@@ -43,12 +40,12 @@ joined_more xs ys = flat_map-append (λ (piece : Vec ℕ Global). piece.items) x
 
 -- a run of rows, as two runs in pieces
 pub run_halves : (first : ℕ) (last : List ℕ) (xs front back : List Row) (n : ℕ)
-    (ps qs : List (Vec ℕ Global)) → front ≡ take n xs → back ≡ drop n xs
+    (all ps qs : List (Vec ℕ Global)) → all ≡ ps ++ qs → front ≡ take n xs → back ≡ drop n xs
     → 0 < length front → 0 < length back
     → joined ps ≡ run_text first front ++ [] → joined qs ≡ run_text 44 back ++ last
-    → joined (ps ++ qs) ≡ run_text first xs ++ last
-run_halves first last xs front back n ps qs early late some more p q =
-    joined_more ps qs
+    → joined all ≡ run_text first xs ++ last
+run_halves first last xs front back n all ps qs is early late some more p q =
+    ap joined is ∙ joined_more ps qs
     ∙ ap₂ (λ (s t : List ℕ). s ++ t) (p ∙ append-nil (run_text first front))
     (q ∙ ap (λ s. s ++ last) (run_after_comma back more))
     ∙ sym (append_assoc (run_text first front) (after_commas row_data back) last)
@@ -134,6 +131,14 @@ all_spelled parts of_all front rows f r =
   where
     joined_all : (a b c d : List ℕ) → (a ++ (b ++ c)) ++ d ≡ a ++ (b ++ (c ++ d))
     joined_all a b c d = simp append_assoc
+
+-- the text that these pieces make
+pub whole_of_new : (text : AnswerText) (pieces : List (Vec ℕ Global)) (spot : Spot)
+    → text.pieces.items ≡ pieces → text.again ≡ spot
+    → whole_of text ≡ joined pieces ++ (joined (slice_range pieces spot.from spot.until) ++ codes "}")
+whole_of_new text pieces spot p s =
+    ap₂ (λ (ps : List (Vec ℕ Global)) (at : Spot).
+    joined ps ++ (joined (slice_range ps at.from at.until) ++ codes "}")) p s
 
 -- pieces of which nothing comes once more
 pub once_spelled : (pieces rows : List (Vec ℕ Global)) (text : Vec ℕ Global)

@@ -1,7 +1,7 @@
 use denote.Param.{param}
 use denote.Param.Send.{IsSend, IsSync, sendable}
 use Rattle.std.proofs.Crossing as heap
-use Rattle.std.proofs.Common.{rules, ◌≡◌, ◌/◌, ◌++◌, [], ◌∙◌, ap, ℕ, Vec, Global, length, arith}
+use Rattle.std.proofs.Common.{rules, ◌≡◌, ◌/◌, ◌++◌, [], ap, ℕ, Vec, Global, length, arith}
 use Rattle.std.proofs.lemmas.Result.{IfOk-at_ok}
 use Rattle.answers.specs.AfterCommas.{run_text}
 use Rattle.answers.specs.Joined.{joined}
@@ -30,9 +30,9 @@ returns g t c =
     let back = IfOk-at_ok (λ (pieces : Vec (Vec ℕ Global) Global).
     joined pieces.items ≡ run_text 44 c.split_at.result.1.now ++ c.args.last.now) c.in_ok-more.was
     c.join-early.ensures.second in
-    ap joined c.in_ok-append.ensures.items
-    ∙ run_halves c.args.first c.args.last.now rows c.split_at.result.0.now
-    c.split_at.result.1.now half c.in_ok-pieces.pieces.items c.in_ok-more.more.items
+    run_halves c.args.first c.args.last.now rows c.split_at.result.0.now
+    c.split_at.result.1.now half _ c.in_ok-pieces.pieces.items c.in_ok-more.more.items
+    c.in_ok-append.ensures.items
     c.split_at.ensures.front c.split_at.ensures.back
     (omega (arith, ap length c.split_at.ensures.front, c.if-count-lt2.false))
     (omega (arith, ap length c.split_at.ensures.back, c.if-count-lt2.false))
