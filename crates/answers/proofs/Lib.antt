@@ -3,4 +3,5 @@ pub mod Objects
 pub mod MergedAnswers
 pub mod OnePart
 pub mod Headlines
-pub mod Spots
+pub mod Runs
+pub mod Crossing

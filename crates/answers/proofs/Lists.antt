@@ -16,7 +16,7 @@ later_items data_of (x ∷ xs) =
     ∙ ap (λ s. 44 ∷ s)
     (sym (append_assoc (compact_text (data_of x)) (after_commas data_of xs) (93 ∷ [])))
 
-opened_later : {A : Type 0} (data_of : A → Data) (xs : List A)
+pub opened_later : {A : Type 0} (data_of : A → Data) (xs : List A)
     → with_bracket 91 (after_commas data_of xs) ++ 93 ∷ [] ≡ compact_text (list_data data_of xs)
 opened_later data_of [] = refl
 opened_later data_of (x ∷ xs) =

@@ -1,5 +1,5 @@
 -- The rows of one part alone are those of all parts.
-use Rattle.std.proofs.Common.{◌≡◌, T, Bool, true, false, cond, List, [], ◌∷◌, map, length, refl}
+use Rattle.std.proofs.Common.{◌≡◌, ◌≤◌, T, Bool, true, false, cond, List, [], ◌∷◌, map, length, refl}
 use Rattle.std.proofs.Common.{sym, ◌∙◌, ap, subst, arith}
 use Rattle.std.specs.Prelude.{◌==◌, ◌&&◌, not}
 use Rattle.std.specs.List.{AllZip, filter}
@@ -24,7 +24,7 @@ use Rattle.block_search.specs.declared.answered.AnsweredPart.TheVariants.{Search
 use Rattle.block_search.proofs.Agreement.{all_agree}
 use Rattle.series_merge.specs.Merging.{laid_each, row_lists, merged_content}
 use Rattle.answers.specs.Audited.{selected_in}
-use Rattle.answers.specs.MergedRows.{first_rows, rows_by, are_bare, one_has_rows, AreMergedFrom}
+use Rattle.answers.specs.MergedRows.{first_rows, rows_by, has_rows, AreMergedFrom}
 use Rattle.answers.specs.declared.audited.MergedRows.{MergedRows}
 use Rattle.answers.specs.declared.audited.MergedRows.TheVariants.{OfOnePart, Merged}
 use Rattle.answers.proofs.MergedAnswers.{each_answers, merged_is_selected}
@@ -34,53 +34,58 @@ abbrev first_in : List PartAnswer → List Row
 first_in [] = []
 first_in (answer ∷ later) = cond (length answer.rows.items == 0) (first_in later) answer.rows.items
 
-false_is_not_true : false ≡ true → ⊥
-false_is_not_true e = cc
-
 none_in : (rows : List Row) → (length rows == 0) ≡ true → rows ≡ []
 none_in [] e = refl
 none_in (row ∷ rows) e = absurd (omega (arith, eqb-true (length (row ∷ rows)) 0 e))
 
--- a list without rows lays nothing
-bare_laid : (c : Content) (rows : List Row) (lists : List (List Row)) (rest : Bool)
-    → cond (length rows == 0) rest false ≡ true → (rest ≡ true → laid_each c lists ≡ c)
-    → laid_each c (rows ∷ lists) ≡ c
-bare_laid c rows lists rest e more =
-    elim (length rows == 0) as (λ t. (length rows == 0) ≡ t → cond t rest false ≡ true
-    → laid_each c (rows ∷ lists) ≡ c) [
+-- answers of which none has rows lay nothing
+bare_laid : (c : Content) (answer : PartAnswer) (lists : List (List Row)) (some : List PartAnswer)
+    → length (cond (has_rows answer) (answer ∷ some) some) ≡ 0
+    → (length some ≡ 0 → laid_each c lists ≡ c)
+    → laid_each c (answer.rows.items ∷ lists) ≡ c
+bare_laid c answer lists some e more =
+    elim (length answer.rows.items == 0) as (λ t. (length answer.rows.items == 0) ≡ t
+    → length (cond (not t) (answer ∷ some) some) ≡ 0
+    → laid_each c (answer.rows.items ∷ lists) ≡ c) [
       | true ↦ λ none later.
-          ap (λ (rs : List Row). laid_each (laid_over (points_of rs) c) lists) (none_in rows none)
+          ap (λ (rs : List Row). laid_each (laid_over (points_of rs) c) lists)
+          (none_in answer.rows.items none)
           ∙ more later
-      | false ↦ λ some later. absurd (false_is_not_true later)
+      | false ↦ λ has later. absurd (omega (arith, later))
     ] refl e
 
-are_bare_laid : (answers : List PartAnswer) (c : Content) → are_bare answers ≡ true
+are_bare_laid : (answers : List PartAnswer) (c : Content) → length (filter has_rows answers) ≡ 0
     → laid_each c (row_lists answers) ≡ c
 are_bare_laid [] c e = refl
 are_bare_laid (answer ∷ later) c e =
-    bare_laid c answer.rows.items (row_lists later) (are_bare later) e (are_bare_laid later c)
+    bare_laid c answer (row_lists later) (filter has_rows later) e (are_bare_laid later c)
 
-one_laid : (rows : List Row) (lists : List (List Row)) (first : List Row) (one bare : Bool)
-    → cond (length rows == 0) one bare ≡ true
-    → (one ≡ true → laid_each [] lists ≡ laid_over (points_of first) [])
-    → ((c : Content) → bare ≡ true → laid_each c lists ≡ c)
-    → laid_each [] (rows ∷ lists)
-    ≡ laid_over (points_of (cond (length rows == 0) first rows)) []
-one_laid rows lists first one bare e if_one if_bare =
-    elim (length rows == 0) as (λ t. (length rows == 0) ≡ t → cond t one bare ≡ true
-    → laid_each [] (rows ∷ lists) ≡ laid_over (points_of (cond t first rows)) []) [
+one_laid : (answer : PartAnswer) (lists : List (List Row)) (first : List Row)
+    (some : List PartAnswer)
+    → length (cond (has_rows answer) (answer ∷ some) some) ≤ 1
+    → (length some ≤ 1 → laid_each [] lists ≡ laid_over (points_of first) [])
+    → ((c : Content) → length some ≡ 0 → laid_each c lists ≡ c)
+    → laid_each [] (answer.rows.items ∷ lists)
+    ≡ laid_over (points_of (cond (length answer.rows.items == 0) first answer.rows.items)) []
+one_laid answer lists first some e if_one if_bare =
+    elim (length answer.rows.items == 0) as (λ t. (length answer.rows.items == 0) ≡ t
+    → length (cond (not t) (answer ∷ some) some) ≤ 1
+    → laid_each [] (answer.rows.items ∷ lists)
+    ≡ laid_over (points_of (cond t first answer.rows.items)) []) [
       | true ↦ λ none later.
-          ap (λ (rs : List Row). laid_each (laid_over (points_of rs) []) lists) (none_in rows none)
+          ap (λ (rs : List Row). laid_each (laid_over (points_of rs) []) lists)
+          (none_in answer.rows.items none)
           ∙ if_one later
-      | false ↦ λ some later. if_bare (laid_over (points_of rows) []) later
+      | false ↦ λ has later.
+          if_bare (laid_over (points_of answer.rows.items) []) (omega (arith, later))
     ] refl e
 
-first_laid : (answers : List PartAnswer) → one_has_rows answers ≡ true
+first_laid : (answers : List PartAnswer) → length (filter has_rows answers) ≤ 1
     → laid_each [] (row_lists answers) ≡ laid_over (points_of (first_in answers)) []
 first_laid [] e = refl
 first_laid (answer ∷ later) e =
-    one_laid answer.rows.items (row_lists later) (first_in later) (one_has_rows later)
-    (are_bare later) e (first_laid later) (are_bare_laid later)
+    one_laid answer (row_lists later) (first_in later) (filter has_rows later) e
+    (first_laid later) (are_bare_laid later)
 
 laid_on_nothing : (es : Content) → T (is_sorted point_cmp es) → laid_over es [] ≡ es
 laid_on_nothing es h =
@@ -139,7 +144,7 @@ module _ (query : QueryView) where
       ]
 
   first_is_merged : (parts : List Part) (answers : List PartAnswer)
-      → AllZip (IsPartAnswer query) parts answers → one_has_rows answers ≡ true
+      → AllZip (IsPartAnswer query) parts answers → length (filter has_rows answers) ≤ 1
       → AreRows (first_in answers) (merged_content answers)
   first_is_merged parts answers are one =
       let has : HasRows (first_in answers) = first_are_rows parts answers are in

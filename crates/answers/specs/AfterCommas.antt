@@ -6,8 +6,10 @@ use Rattle.serde_json.specs.Written.{compact_text}
 use Rattle.labels.specs.Labels.{Labels}
 use Rattle.labels.specs.Rows.{Row}
 use Rattle.cover.specs.declared.certificate.Interval.{Interval}
+use Rattle.cover.specs.declared.part_cover.PartAnswer.{PartAnswer}
 use Rattle.block_search.specs.declared.answered.AnsweredPart.{AnsweredPart}
-use Rattle.answers.specs.Body.{sample_data, row_data, interval_data, part_data}
+use Rattle.answers.specs.Body.{sample_data, row_data, interval_data, part_data, json_list}
+use Rattle.answers.specs.Body.{name_text, natural}
 
 -- each item with a comma before it
 abbrev pub after_commas : {A : Type 0} → (A → Data) → List A → List ℕ
@@ -40,3 +42,18 @@ labels_after_commas labels = flat_map label_after_comma labels
 abbrev pub with_bracket : ℕ → List ℕ → List ℕ
 with_bracket first [] = first ∷ []
 with_bracket first (x ∷ xs) = first ∷ xs
+
+-- a run of rows: a byte before the first, and commas before the others
+abbrev pub run_text : ℕ → List Row → List ℕ
+run_text first rows = with_bracket first (after_commas row_data rows)
+
+-- what is told of a part before its rows
+abbrev pub searched_front : PartAnswer → List ℕ
+searched_front answer =
+    codes "{\"intervals\":" ++ (json_list interval_data answer.cover.certificate.items
+    ++ (codes ",\"part\":" ++ (quoted (name_text answer.part) ++ codes ",\"rows\":")))
+
+-- what is told of a part behind its rows
+abbrev pub searched_back : PartAnswer → List ℕ
+searched_back answer =
+    codes ",\"separators\":" ++ (json_list natural answer.cover.separators.items ++ codes "}")

@@ -4,4 +4,5 @@ pub mod MergedRows
 pub mod Audited
 pub mod Headline
 pub mod Refusals
+pub mod Joined
 pub mod Kept

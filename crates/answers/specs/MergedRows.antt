@@ -1,5 +1,6 @@
 -- The rows of all parts, where one part alone may have them.
-use Rattle.std.specs.Prelude.{◌≡◌, ◌==◌, Bool, true, false, List, [], ◌∷◌, length, if◌then◌else◌}
+use Rattle.std.specs.Prelude.{◌≡◌, ◌≤◌, ◌==◌, ⊤, Bool, not, List, [], ◌∷◌, length, filter}
+use Rattle.std.specs.Prelude.{if◌then◌else◌}
 use Rattle.labels.specs.Rows.{Row, AreRows}
 use Rattle.cover.specs.declared.part_cover.PartAnswer.{PartAnswer}
 use Rattle.block_search.specs.declared.answered.AnsweredPart.{AnsweredPart}
@@ -20,6 +21,11 @@ first_rows [] = []
 first_rows (part ∷ later) =
     if length (rows_told part) == 0 then first_rows later else rows_told part
 
+-- rows are those of the next part, if there is one
+abbrev pub HasRowsNext : List AnsweredPart → List Row → Type 0
+HasRowsNext [] rows = ⊤
+HasRowsNext (part ∷ later) rows = rows ≡ rows_told part
+
 abbrev pub rows_by : MergedRows → List AnsweredPart → List Row
 rows_by OfOnePart parts = first_rows parts
 rows_by (Merged rows) parts = rows.items
@@ -28,21 +34,10 @@ rows_by (Merged rows) parts = rows.items
 abbrev pub rows_of : AuditedAnswer → List Row
 rows_of answer = rows_by answer.merged answer.parts.items
 
--- whether an answer has no rows
-abbrev pub is_bare : PartAnswer → Bool
-is_bare answer = length answer.rows.items == 0
-
--- whether no answer has rows
-abbrev pub are_bare : List PartAnswer → Bool
-are_bare [] = true
-are_bare (answer ∷ later) = if is_bare answer then are_bare later else false
-
--- whether at most one answer has rows
-abbrev pub one_has_rows : List PartAnswer → Bool
-one_has_rows [] = true
-one_has_rows (answer ∷ later) = if is_bare answer then one_has_rows later else are_bare later
+abbrev pub has_rows : PartAnswer → Bool
+has_rows answer = not (length answer.rows.items == 0)
 
 -- rows that are kept of all answers: none, if at most one answer has any
 abbrev pub AreMergedFrom : List PartAnswer → MergedRows → Type 0
-AreMergedFrom answers OfOnePart = one_has_rows answers ≡ true
+AreMergedFrom answers OfOnePart = length (filter has_rows answers) ≤ 1
 AreMergedFrom answers (Merged rows) = AreRows rows.items (merged_content answers)

@@ -1,13 +1,13 @@
 //! The answer of a snapshot to a query: what is told of each part, and the rows of all.
 
-ghost use Rattle.std.specs.Prelude.{◌≡◌, IfOk, OnOk};
+ghost use Rattle.std.specs.Prelude.{◌≡◌, ◌≤◌, IfOk, OnOk, drop, filter, length};
 ghost use Rattle.labels.specs.Rows.{AreRows};
 ghost use Rattle.block_search.specs.Skipping.{LosesNothing};
 ghost use Rattle.block_search.specs.Answers.{AreAnswers};
 ghost use Rattle.block_search.specs.Answered.{AreAnsweredParts};
 ghost use Rattle.answers.specs.Audited.{selected_in};
 ghost use Rattle.answers.specs.MergedRows.{rows_told, first_rows, rows_of, AreMergedFrom};
-ghost use Rattle.answers.specs.MergedRows.{is_bare, are_bare, one_has_rows};
+ghost use Rattle.answers.specs.MergedRows.{has_rows, HasRowsNext};
 
 use block_search::{AnsweredPart, OpenGate, answered_parts, search, search_one_by_one};
 use cover::PartAnswer;
@@ -44,6 +44,19 @@ fn rows_told(part: &AnsweredPart) -> &[Row]
     }
 }
 
+/// How many parts stand before the first that has rows.
+fn count_before_rows(parts: &[AnsweredPart]) -> usize
+    ensures within { result ≤ length parts.now }
+    ensures next { HasRowsNext (drop result parts.now) (first_rows parts.now) }
+{
+    for at in 0..parts.len() {
+        if !rows_told(&parts[at]).is_empty() {
+            return at;
+        }
+    }
+    parts.len()
+}
+
 /// The rows of the first part that has any.
 fn first_rows(parts: &[AnsweredPart]) -> &[Row]
     ensures { result.now ≡ first_rows parts.now }
@@ -76,47 +89,44 @@ impl AuditedAnswer {
             MergedRows::Merged(rows) => rows.as_slice(),
         }
     }
-}
 
-fn is_bare(answer: &PartAnswer) -> bool
-    ensures { result ≡ is_bare answer.now }
-{
-    answer.rows.as_slice().is_empty()
-}
-
-/// Whether no answer has rows.
-fn are_bare(answers: &[PartAnswer]) -> bool
-    ensures { result ≡ are_bare answers.now }
-{
-    let mut rest = answers;
-    while let Some((first, later)) = rest.split_first() {
-        if !is_bare(first) {
-            return false;
+    /// How many parts stand before the one that alone has rows: all, where none or several have
+    /// some.
+    pub(crate) fn count_before_rows(&self) -> usize
+        ensures within { result ≤ length self.now.parts.items }
+        ensures next { HasRowsNext (drop result self.now.parts.items) (rows_of self.now) }
+    {
+        match &self.merged {
+            MergedRows::OfOnePart => count_before_rows(self.parts.as_slice()),
+            MergedRows::Merged(_) => self.parts.len(),
         }
-        rest = later;
     }
-    true
 }
 
-/// Whether at most one answer has rows.
-fn one_has_rows(answers: &[PartAnswer]) -> bool
-    ensures { result ≡ one_has_rows answers.now }
+fn has_rows(answer: &PartAnswer) -> bool
+    ensures { result ≡ has_rows answer.now }
 {
-    let mut rest = answers;
-    while let Some((first, later)) = rest.split_first() {
-        if !is_bare(first) {
-            return are_bare(later);
+    !answer.rows.as_slice().is_empty()
+}
+
+/// How many answers have rows.
+fn count_with_rows(answers: &[PartAnswer]) -> usize
+    ensures { result ≡ length (filter has_rows answers.now) }
+{
+    let mut count = 0;
+    for answer in answers {
+        if has_rows(answer) {
+            count += 1;
         }
-        rest = later;
     }
-    true
+    count
 }
 
 /// The rows of the answers of all parts. Those of one part alone are neither copied nor compared.
 fn merged_rows(alloc: Global, answers: &[PartAnswer]) -> Result<MergedRows, AllocError>
     ensures { IfOk result (AreMergedFrom answers.now) }
 {
-    if one_has_rows(answers) {
+    if count_with_rows(answers) <= 1 {
         return Ok(MergedRows::OfOnePart);
     }
     let rows = merge(alloc, answers)?;

@@ -1,56 +1,36 @@
-//! The text of an answer, written straight into one vector of bytes.
+//! The text of an answer.
 //!
-//! Each item of most lists is written with a comma before it; the first comma then becomes the
-//! opening bracket. The list of the parts begins with its bracket, since what stands behind it has a
-//! place that is known.
+//! Each item of a list is written with a comma before it; the first comma then becomes the opening
+//! bracket.
 
-ghost use Rattle.std.specs.Prelude.{◌≡◌, ◌++◌, OnOk, IfOk, IfSome, codes, length};
-ghost use Rattle.answers.specs.Body.{body_text, json_list, part_data, row_data};
-ghost use Rattle.answers.specs.Kept.{Stands, whole_of};
+ghost use Rattle.std.specs.Prelude.{◌≡◌, ◌+◌, ◌++◌, ◌∷◌, OnOk, IfOk, codes, length};
+ghost use Rattle.block_search.specs.declared.answered.AnsweredPart.TheVariants.{Searched};
+ghost use Rattle.answers.specs.AfterCommas.{after_commas, searched_front, searched_back};
+ghost use Rattle.answers.specs.AfterCommas.{with_bracket};
+ghost use Rattle.answers.specs.Body.{body_text, json_list, part_data};
+ghost use Rattle.answers.specs.Joined.{joined};
+ghost use Rattle.answers.specs.Kept.{whole_of};
+ghost use Rattle.answers.specs.MergedRows.{rows_of};
 
-use crate::kept::{AnswerText, Spot};
-use crate::parts::append_parts;
-use crate::row_text::room_of_rows;
+use crate::audited::AuditedAnswer;
+use crate::brackets::open_list;
+use crate::kept::AnswerText;
+use crate::parts::{
+    append_parts, append_parts_after_commas, append_searched_back, append_searched_front,
+};
+use crate::pieces::{room_of_rows, rows_in_pieces};
 use crate::rows::append_rows;
+use crate::told::{told_once, told_twice};
 use block_search::AnsweredPart;
 use cover::PartAnswer;
 use labels::Row;
 use std::alloc::{AllocError, Global};
+use std::thread::Threads;
 
-/// Appends the text of an answer up to its rows. It says where the text of these stands in it, if
-/// it does.
-fn append_front(
-    alloc: Global,
-    out: &mut Vec<u8>,
-    parts: &[AnsweredPart],
-    rows: &[Row],
-) -> Result<Option<Spot>, AllocError>
-    ensures text { OnOk result (out.new.items ≡ out.old.items
-        ++ (codes "{\"parts\":" ++ (json_list part_data parts.now ++ codes ",\"rows\":"))) }
-    ensures stands { IfOk result (λ spot.
-        IfSome spot (Stands out.new.items (json_list row_data rows.now))) }
-{
-    out.extend_from_slice(b"{\"parts\":")?;
-    let spot = append_parts(alloc, out, parts, rows)?;
-    out.extend_from_slice(b",\"rows\":")?;
-    Ok(spot)
-}
-
-/// A text, with rows and a closing brace behind it.
-fn with_rows(bytes: Vec<u8>, rows: &[Row]) -> Result<AnswerText, AllocError>
-    ensures { IfOk result (λ text.
-        whole_of text ≡ bytes.items ++ (json_list row_data rows.now ++ codes "}")) }
-{
-    let mut bytes = bytes;
-    bytes.reserve(room_of_rows(rows))?;
-    append_rows(&mut bytes, rows)?;
-    Ok(AnswerText::new(bytes, Spot { from: 0, until: 0 }))
-}
-
-/// About as many bytes as an answer takes: an interval with its separator 80.
-fn room_of_answer(answer: &PartAnswer) -> usize {
-    let intervals = answer.cover.certificate.len().saturating_mul(80);
-    room_of_rows(answer.rows.as_slice()).saturating_add(intervals)
+/// About as many bytes as a certificate takes: an interval with its separator 80.
+fn room_of_certificate(answer: &PartAnswer) -> usize {
+    let intervals = answer.cover.certificate.len();
+    intervals.saturating_mul(80).saturating_add(256)
 }
 
 /// About as many bytes as the parts take.
@@ -58,60 +38,190 @@ fn room_of(parts: &[AnsweredPart]) -> usize {
     let mut room = 256usize;
     for part in parts {
         room = room.saturating_add(match part {
-            AnsweredPart::Searched(answer) => room_of_answer(answer),
+            AnsweredPart::Searched(answer) => {
+                room_of_rows(answer.rows.as_slice()).saturating_add(room_of_certificate(answer))
+            }
             AnsweredPart::Skipped(_) => 64,
         });
     }
     room
 }
 
-/// The text of the answer to a query as [`body`] gives it, in a vector that the caller has at hand,
-/// whose bytes are dropped. Rows that are those of one part are written once, and stand once in
-/// memory.
-pub fn answer_text(
+/// The text of an answer up to the rows of all parts, in room that is at hand.
+fn front_of_all(alloc: Global, room: Vec<u8>, parts: &[AnsweredPart]) -> Result<Vec<u8>, AllocError>
+    ensures { IfOk result (λ text. text.items
+        ≡ codes "{\"parts\":" ++ (json_list part_data parts.now ++ codes ",\"rows\":")) }
+{
+    let mut text = room;
+    text.clear();
+    text.reserve(room_of(parts))?;
+    text.extend_from_slice(b"{\"parts\":")?;
+    append_parts(alloc, &mut text, parts)?;
+    text.extend_from_slice(b",\"rows\":")?;
+    Ok(text)
+}
+
+/// The text of an answer up to the rows of a part, in room that is at hand.
+fn front_of_one(
     alloc: Global,
-    at_hand: Vec<u8>,
+    room: Vec<u8>,
+    before: &[AnsweredPart],
+    answer: &PartAnswer,
+) -> Result<Vec<u8>, AllocError>
+    ensures { IfOk result (λ text. text.items ≡ codes "{\"parts\":"
+        ++ with_bracket 91 (after_commas part_data before.now ++ 44 ∷ searched_front answer.now)) }
+{
+    let mut text = room;
+    text.clear();
+    text.reserve(room_of(before).saturating_add(room_of_certificate(answer)))?;
+    text.extend_from_slice(b"{\"parts\":")?;
+    let start = text.len();
+    append_parts_after_commas(alloc, &mut text, before)?;
+    text.push(b',')?;
+    append_searched_front(alloc, &mut text, answer)?;
+    open_list(&mut text, start, b'[')?;
+    Ok(text)
+}
+
+/// The text of an answer between the rows of a part and those of all parts.
+fn between_rows(
+    alloc: Global,
+    answer: &PartAnswer,
+    later: &[AnsweredPart],
+) -> Result<Vec<u8>, AllocError>
+    ensures { IfOk result (λ text. text.items
+        ≡ searched_back answer.now ++ (after_commas part_data later.now ++ codes "],\"rows\":")) }
+{
+    let mut text = Vec::with_capacity(alloc, room_of(later))?;
+    append_searched_back(&mut text, answer)?;
+    append_parts_after_commas(alloc, &mut text, later)?;
+    text.extend_from_slice(b"],\"rows\":")?;
+    Ok(text)
+}
+
+/// The text of an answer whose rows are those of one part.
+fn text_of_one<R: Threads + Sync>(
+    rt: &R,
+    alloc: Global,
+    rooms: Rooms,
+    before: &[AnsweredPart],
+    answer: &PartAnswer,
+    later: &[AnsweredPart],
+) -> Result<AnswerText, AllocError>
+    ensures { IfOk result (λ text. whole_of text
+        ≡ body_text (before.now ++ Searched answer.now ∷ later.now) answer.now.rows.items) }
+{
+    let front = front_of_one(alloc, rooms.text, before, answer)?;
+    let rows = rows_in_pieces(rt, alloc, rooms.rows, answer.rows.as_slice())?;
+    let between = between_rows(alloc, answer, later)?;
+    told_twice(alloc, front, rows, between)
+}
+
+/// The text of an answer with these rows of all parts.
+fn text_of_all<R: Threads + Sync>(
+    rt: &R,
+    alloc: Global,
+    rooms: Rooms,
     parts: &[AnsweredPart],
     rows: &[Row],
 ) -> Result<AnswerText, AllocError>
     ensures { IfOk result (λ text. whole_of text ≡ body_text parts.now rows.now) }
 {
-    let mut bytes = at_hand;
-    bytes.clear();
-    bytes.reserve(room_of(parts))?;
-    let spot = append_front(alloc, &mut bytes, parts, rows)?;
-    match spot {
-        Some(again) => Ok(AnswerText::new(bytes, again)),
-        None => with_rows(bytes, rows),
+    let front = front_of_all(alloc, rooms.text, parts)?;
+    let rows = rows_in_pieces(rt, alloc, rooms.rows, rows)?;
+    told_once(alloc, front, rows)
+}
+
+/// Room that a caller has at hand for the text of an answer. What it holds is dropped.
+#[derive(Drop)]
+pub struct Rooms {
+    /// For what is told beside rows.
+    pub text: Vec<u8>,
+    /// For rows that one thread writes.
+    pub rows: Vec<u8>,
+}
+
+impl Rooms {
+    /// No room.
+    pub fn none(alloc: Global) -> Rooms {
+        Rooms {
+            text: Vec::new(alloc),
+            rows: Vec::new(alloc),
+        }
     }
 }
 
-/// How many bytes the text of an answer has.
-pub fn length_of(text: &AnswerText) -> usize
-    ensures { result ≡ length (whole_of text.now) }
+/// The text of an answer as [`body`] gives it, in pieces, which up to four threads write where it
+/// is long. Rows that are those of one part are written once, and stand once in memory.
+pub fn answer_text<R: Threads + Sync>(
+    rt: &R,
+    alloc: Global,
+    rooms: Rooms,
+    answer: &AuditedAnswer,
+) -> Result<AnswerText, AllocError>
+    ensures { IfOk result (λ text.
+        whole_of text ≡ body_text answer.now.parts.items (rows_of answer.now)) }
 {
-    text.first().len() + text.again().len() + 1
+    let parts = answer.parts();
+    let (before, rest) = parts.split_at(answer.count_before_rows());
+    match rest.split_first() {
+        Some((AnsweredPart::Searched(first), later)) => {
+            text_of_one(rt, alloc, rooms, before, first, later)
+        }
+        _ => text_of_all(rt, alloc, rooms, parts, answer.rows()),
+    }
+}
+
+/// How many bytes pieces have behind so many others. Where no number is large enough, there is no
+/// memory.
+fn length_in(pieces: &[Vec<u8>], before: usize) -> Result<usize, AllocError>
+    ensures { IfOk result (λ n. n ≡ before + length (joined pieces.now)) }
+{
+    let mut length = before;
+    for piece in pieces {
+        let Some(more) = length.checked_add(piece.len()) else {
+            return Err(AllocError);
+        };
+        length = more;
+    }
+    Ok(length)
+}
+
+/// How many bytes the text of an answer has. Where no number is large enough, there is no memory.
+pub fn length_of(text: &AnswerText) -> Result<usize, AllocError>
+    ensures { IfOk result (λ n. n ≡ length (whole_of text.now)) }
+{
+    let first = length_in(text.first(), 1)?;
+    length_in(text.again(), first)
+}
+
+fn append_pieces(out: &mut Vec<u8>, pieces: &[Vec<u8>]) -> Result<(), AllocError>
+    ensures { OnOk result (out.new.items ≡ out.old.items ++ joined pieces.now) }
+{
+    for piece in pieces {
+        out.extend_from_slice(piece.as_slice())?;
+    }
+    Ok(())
 }
 
 /// Appends the text of an answer.
 pub fn append_text(out: &mut Vec<u8>, text: &AnswerText) -> Result<(), AllocError>
     ensures { OnOk result (out.new.items ≡ out.old.items ++ whole_of text.now) }
 {
-    out.extend_from_slice(text.first())?;
-    out.extend_from_slice(text.again())?;
+    append_pieces(out, text.first())?;
+    append_pieces(out, text.again())?;
     out.push(b'}')?;
     Ok(())
 }
 
 /// The text of the answer to a query: what is told of each part, and the rows of all, as compact
-/// JSON with the members in the order of their names. Rows that are those of one part are written
-/// once and copied. It takes time and memory as its length, and at most a few allocations beside
-/// one for each part.
+/// JSON with the members in the order of their names. It takes time and memory as its length, and
+/// at most a few allocations beside one for each part.
 pub fn body(alloc: Global, parts: &[AnsweredPart], rows: &[Row]) -> Result<Vec<u8>, AllocError>
     ensures { IfOk result (λ text. text.items ≡ body_text parts.now rows.now) }
 {
-    let text = answer_text(alloc, Vec::new(alloc), parts, rows)?;
-    let mut out = Vec::with_capacity(alloc, length_of(&text))?;
-    append_text(&mut out, &text)?;
-    Ok(out)
+    let mut text = front_of_all(alloc, Vec::new(alloc), parts)?;
+    append_rows(&mut text, rows)?;
+    text.push(b'}')?;
+    Ok(text)
 }

@@ -7,7 +7,7 @@ use std::alloc::AllocError;
 
 /// Puts the opening bracket in place of the comma at `start`, or at the end where nothing stands
 /// there.
-fn open_list(out: &mut Vec<u8>, start: usize, first: u8) -> Result<(), AllocError>
+pub(crate) fn open_list(out: &mut Vec<u8>, start: usize, first: u8) -> Result<(), AllocError>
     requires { start ≤ vec_len out.old }
     ensures { OnOk result (out.new.items
         ≡ take start out.old.items ++ with_bracket first (drop start out.old.items)) }

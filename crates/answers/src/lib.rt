@@ -28,15 +28,16 @@ mod headline;
 mod kept;
 mod number;
 mod parts;
+mod pieces;
 mod plain;
-mod row_text;
 mod rows;
 mod samples;
 mod strings;
+mod told;
 
 pub use audited::{AuditedAnswer, answer, answer_by_workers};
 pub use block_search::AnsweredPart;
-pub use body_text::{answer_text, append_text, body, length_of};
+pub use body_text::{Rooms, answer_text, append_text, body, length_of};
 pub use error::AskError;
 pub use headline::ask;
 pub use kept::AnswerText;

@@ -1,22 +1,20 @@
 //! The text of what is told of each part: its certificate, its rows and its separators, or that it
 //! is skipped.
 
-ghost use Rattle.std.specs.Prelude.{◌≡◌, ◌++◌, OnOk, IfOk, IfSome, string_bytes};
+ghost use Rattle.std.specs.Prelude.{◌≡◌, ◌++◌, OnOk, IfOk, string_bytes};
 ghost use Rattle.serde_json.specs.Written.{compact_text};
 ghost use Rattle.answers.specs.Body.{verdict_data, interval_data, json_list, natural};
-ghost use Rattle.answers.specs.Body.{name_text, part_data, row_data, searched_data, skipped_data};
+ghost use Rattle.answers.specs.Body.{name_text, part_data, searched_data, skipped_data};
 ghost use Rattle.answers.specs.AfterCommas.{interval_after_comma, part_after_comma};
-ghost use Rattle.answers.specs.AfterCommas.{after_commas};
-ghost use Rattle.answers.specs.Kept.{Stands};
+ghost use Rattle.answers.specs.AfterCommas.{after_commas, searched_front, searched_back};
 
 use crate::brackets::close_list;
-use crate::kept::Spot;
 use crate::number::append_natural;
-use crate::row_text::append_rows_of_part;
+use crate::rows::append_rows;
 use crate::strings::append_string;
 use block_search::AnsweredPart;
 use cover::{Interval, PartAnswer, Verdict};
-use labels::{Row, SeriesRef};
+use labels::SeriesRef;
 use postings::PartName;
 use std::alloc::{AllocError, Global};
 
@@ -101,19 +99,13 @@ fn name_of(alloc: Global, part: PartName) -> Result<String, AllocError>
     }
 }
 
-/// Appends the answer of a part. It says where the text of the rows of all parts stands, if it does.
-fn append_searched(
+/// Appends what is told of a part before its rows.
+pub(crate) fn append_searched_front(
     alloc: Global,
     out: &mut Vec<u8>,
     answer: &PartAnswer,
-    rows: &[Row],
-    known: Option<Spot>,
-) -> Result<Option<Spot>, AllocError>
-    requires { IfSome known (Stands out.old.items (json_list row_data rows.now)) }
-    ensures text { OnOk result
-        (out.new.items ≡ out.old.items ++ compact_text (searched_data answer.now)) }
-    ensures stands { IfOk result (λ spot.
-        IfSome spot (Stands out.new.items (json_list row_data rows.now))) }
+) -> Result<(), AllocError>
+    ensures { OnOk result (out.new.items ≡ out.old.items ++ searched_front answer.now) }
 {
     let name = name_of(alloc, answer.part)?;
     out.extend_from_slice(b"{\"intervals\":")?;
@@ -121,11 +113,26 @@ fn append_searched(
     out.extend_from_slice(b",\"part\":")?;
     append_string(out, name.as_str())?;
     out.extend_from_slice(b",\"rows\":")?;
-    let spot = append_rows_of_part(out, answer.rows.as_slice(), rows, known)?;
+    Ok(())
+}
+
+/// Appends what is told of a part behind its rows.
+pub(crate) fn append_searched_back(out: &mut Vec<u8>, answer: &PartAnswer) -> Result<(), AllocError>
+    ensures { OnOk result (out.new.items ≡ out.old.items ++ searched_back answer.now) }
+{
     out.extend_from_slice(b",\"separators\":")?;
     append_references(out, answer.cover.separators.as_slice())?;
     out.push(b'}')?;
-    Ok(spot)
+    Ok(())
+}
+
+/// Appends the answer of a part.
+fn append_searched(alloc: Global, out: &mut Vec<u8>, answer: &PartAnswer) -> Result<(), AllocError>
+    ensures { OnOk result (out.new.items ≡ out.old.items ++ compact_text (searched_data answer.now)) }
+{
+    append_searched_front(alloc, out, answer)?;
+    append_rows(out, answer.rows.as_slice())?;
+    append_searched_back(out, answer)
 }
 
 /// Appends that a part is skipped.
@@ -140,25 +147,12 @@ fn append_skipped(alloc: Global, out: &mut Vec<u8>, name: PartName) -> Result<()
 }
 
 /// Appends what is told of a part.
-fn append_part(
-    alloc: Global,
-    out: &mut Vec<u8>,
-    part: &AnsweredPart,
-    rows: &[Row],
-    known: Option<Spot>,
-) -> Result<Option<Spot>, AllocError>
-    requires { IfSome known (Stands out.old.items (json_list row_data rows.now)) }
-    ensures text { OnOk result
-        (out.new.items ≡ out.old.items ++ compact_text (part_data part.now)) }
-    ensures stands { IfOk result (λ spot.
-        IfSome spot (Stands out.new.items (json_list row_data rows.now))) }
+fn append_part(alloc: Global, out: &mut Vec<u8>, part: &AnsweredPart) -> Result<(), AllocError>
+    ensures { OnOk result (out.new.items ≡ out.old.items ++ compact_text (part_data part.now)) }
 {
     match part {
-        AnsweredPart::Searched(answer) => append_searched(alloc, out, answer, rows, known),
-        AnsweredPart::Skipped(name) => {
-            append_skipped(alloc, out, *name)?;
-            Ok(known)
-        }
+        AnsweredPart::Searched(answer) => append_searched(alloc, out, answer),
+        AnsweredPart::Skipped(name) => append_skipped(alloc, out, *name),
     }
 }
 
@@ -167,57 +161,36 @@ fn append_part_after_comma(
     alloc: Global,
     out: &mut Vec<u8>,
     part: &AnsweredPart,
-    rows: &[Row],
-    known: Option<Spot>,
-) -> Result<Option<Spot>, AllocError>
-    requires { IfSome known (Stands out.old.items (json_list row_data rows.now)) }
-    ensures text { OnOk result (out.new.items ≡ out.old.items ++ part_after_comma part.now) }
-    ensures stands { IfOk result (λ spot.
-        IfSome spot (Stands out.new.items (json_list row_data rows.now))) }
+) -> Result<(), AllocError>
+    ensures { OnOk result (out.new.items ≡ out.old.items ++ part_after_comma part.now) }
 {
     out.push(b',')?;
-    append_part(alloc, out, part, rows, known)
+    append_part(alloc, out, part)
 }
 
 /// Appends what is told of each part, with a comma before it.
-fn append_parts_after_commas(
+pub(crate) fn append_parts_after_commas(
     alloc: Global,
     out: &mut Vec<u8>,
     parts: &[AnsweredPart],
-    rows: &[Row],
-    known: Option<Spot>,
-) -> Result<Option<Spot>, AllocError>
-    requires { IfSome known (Stands out.old.items (json_list row_data rows.now)) }
-    ensures text { OnOk result (out.new.items ≡ out.old.items ++ after_commas part_data parts.now) }
-    ensures stands { IfOk result (λ spot.
-        IfSome spot (Stands out.new.items (json_list row_data rows.now))) }
+) -> Result<(), AllocError>
+    ensures { OnOk result (out.new.items ≡ out.old.items ++ after_commas part_data parts.now) }
 {
-    let mut spot = known;
     for part in parts {
-        spot = append_part_after_comma(alloc, out, part, rows, spot)?;
+        append_part_after_comma(alloc, out, part)?;
     }
-    Ok(spot)
+    Ok(())
 }
 
-/// Appends what is told of each part as a list. It says where the text of the rows of all parts
-/// stands, if one part has just these rows.
-pub fn append_parts(
+/// Appends what is told of each part as a list.
+pub(crate) fn append_parts(
     alloc: Global,
     out: &mut Vec<u8>,
     parts: &[AnsweredPart],
-    rows: &[Row],
-) -> Result<Option<Spot>, AllocError>
-    ensures text { OnOk result (out.new.items ≡ out.old.items ++ json_list part_data parts.now) }
-    ensures stands { IfOk result (λ spot.
-        IfSome spot (Stands out.new.items (json_list row_data rows.now))) }
+) -> Result<(), AllocError>
+    ensures { OnOk result (out.new.items ≡ out.old.items ++ json_list part_data parts.now) }
 {
-    out.push(b'[')?;
-    let Some((first, rest)) = parts.split_first() else {
-        out.push(b']')?;
-        return Ok(None);
-    };
-    let spot = append_part(alloc, out, first, rows, None)?;
-    let spot = append_parts_after_commas(alloc, out, rest, rows, spot)?;
-    out.push(b']')?;
-    Ok(spot)
+    let start = out.len();
+    append_parts_after_commas(alloc, out, parts)?;
+    close_list(out, start, b'[', b']')
 }

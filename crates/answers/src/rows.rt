@@ -60,7 +60,7 @@ fn append_row_after_comma(
 }
 
 /// Appends the rows, each with a comma before it.
-fn append_rows_after_commas(out: &mut Vec<u8>, rows: &[Row]) -> Result<(), AllocError>
+pub(crate) fn append_rows_after_commas(out: &mut Vec<u8>, rows: &[Row]) -> Result<(), AllocError>
     ensures { OnOk result (out.new.items ≡ out.old.items ++ after_commas row_data rows.now) }
 {
     let mut buf = [0; ROOM];

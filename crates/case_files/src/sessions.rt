@@ -34,7 +34,7 @@ struct Opened<J: Naming, C: Wait + Drop> {
 
 /// How a connection is served, and what is written.
 fn serve<J: Naming, C: Wait + Drop>(
-    rt: &impl Wait,
+    rt: &(impl Wait + Threads + Sync),
     alloc: Global,
     store: &mut Opened<J, C>,
     input: &[u8],
@@ -104,7 +104,7 @@ fn count_of(step: &Step<'_>, at_most: usize) -> usize {
 
 /// Makes the connections of a step, up to the first that goes otherwise.
 fn make<J: Naming, C: Wait + Drop>(
-    rt: &impl Wait,
+    rt: &(impl Wait + Threads + Sync),
     alloc: Global,
     store: &mut Opened<J, C>,
     report: &mut Report,
@@ -129,7 +129,7 @@ fn make<J: Naming, C: Wait + Drop>(
 }
 
 /// Opens a store and makes the connections of each step.
-fn hold<J: Naming, R: Wait>(
+fn hold<J: Naming, R: Wait + Threads + Sync>(
     rt: &R,
     alloc: Global,
     store: Store,

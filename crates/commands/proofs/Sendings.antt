@@ -77,3 +77,21 @@ prefix_behind old mid new first second came h = record {
       ap (λ (l : List ℕ). first ++ l) h.parts ∙ sym (append_assoc first h.front h.rest);
   appended = appends_on old mid new first h.front came h.appended;
 }
+
+-- one piece more was written
+pub piece_more : (old mid new : Option (List ℕ)) (text first rest : List ℕ)
+    → IsWrittenTo old mid text (first ++ rest) → Appends mid new first
+    → IsWrittenTo old new text rest
+piece_more old mid new text first rest (front, parts, came) next = (
+  front ++ first,
+  parts ∙ sym (append_assoc front first rest),
+  appends_on old mid new front first came next,
+)
+
+-- a prefix of the next piece was written
+pub piece_prefix : (old mid new : Option (List ℕ)) (text first rest : List ℕ)
+    → IsWrittenTo old mid text (first ++ rest) → AppendsPrefix mid new first
+    → AppendsPrefix old new text
+piece_prefix old mid new text first rest (front, parts, came) h =
+    subst (λ (s : List ℕ). AppendsPrefix old new s) (sym parts)
+    (prefix_behind old mid new front (first ++ rest) came (prefix_of_both mid new first rest h))

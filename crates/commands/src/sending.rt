@@ -2,6 +2,7 @@
 
 ghost use Rattle.std.specs.Prelude.{◌++◌, OnErr, OnOk, codes};
 ghost use Rattle.std.specs.Io.KnownBytes.{Appends};
+ghost use Rattle.answers.specs.Joined.{joined};
 ghost use Rattle.answers.specs.Kept.{whole_of};
 ghost use Rattle.commands.specs.Sending.{AppendsPrefix};
 
@@ -37,16 +38,31 @@ pub fn send<W: Write>(out: &mut W, text: &[u8]) -> io::Result<()>
     out.flush()
 }
 
-/// Writes two texts whole, one after the other; where the writer fails, a prefix of both together
-/// was written.
-fn write_both<W: Write>(out: &mut W, first: &[u8], second: &[u8]) -> io::Result<()>
-    ensures ok { OnOk result
-        (Appends (W.contents out.old) (W.contents out.new) (first.now ++ second.now)) }
+/// Writes pieces whole, one after another; where the writer fails, a prefix of all together was
+/// written.
+fn write_pieces<W: Write>(out: &mut W, pieces: &[Vec<u8>]) -> io::Result<()>
+    ensures ok { OnOk result (Appends (W.contents out.old) (W.contents out.new) (joined pieces.now)) }
     ensures err { OnErr result
-        (AppendsPrefix (W.contents out.old) (W.contents out.new) (first.now ++ second.now)) }
+        (AppendsPrefix (W.contents out.old) (W.contents out.new) (joined pieces.now)) }
 {
-    write_text(out, first)?;
-    write_text(out, second)
+    let mut rest = pieces;
+    while let Some((first, later)) = rest.split_first() {
+        write_text(out, first.as_slice())?;
+        rest = later;
+    }
+    Ok(())
+}
+
+/// Writes two lists of pieces whole, one after the other; where the writer fails, a prefix of both
+/// together was written.
+fn write_both<W: Write>(out: &mut W, first: &[Vec<u8>], second: &[Vec<u8>]) -> io::Result<()>
+    ensures ok { OnOk result (Appends (W.contents out.old) (W.contents out.new)
+        (joined first.now ++ joined second.now)) }
+    ensures err { OnErr result (AppendsPrefix (W.contents out.old) (W.contents out.new)
+        (joined first.now ++ joined second.now)) }
+{
+    write_pieces(out, first)?;
+    write_pieces(out, second)
 }
 
 /// Writes the text of an answer and a line feed whole, and passes them on; where the writer fails,

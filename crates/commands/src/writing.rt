@@ -7,7 +7,7 @@ ghost use Rattle.commands.specs.Selecting.{IsWritingFault, KeepsAt, WritesAnswer
 
 use crate::fault::Fault;
 use crate::sending::send_answer;
-use answers::{AnswerText, AuditedAnswer, answer_by_workers, answer_text, body};
+use answers::{AnswerText, AuditedAnswer, Rooms, answer_by_workers, answer_text, body};
 use head::Snapshot;
 use matchers::Query;
 use std::alloc::{AllocError, Global};
@@ -24,14 +24,18 @@ pub fn line_of(alloc: Global, answer: &AuditedAnswer) -> Result<Vec<u8>, AllocEr
 }
 
 /// The text of an answer, as it is kept.
-fn text_of(alloc: Global, answer: &AuditedAnswer) -> Result<AnswerText, AllocError>
+fn text_of<T: Threads + Sync>(
+    rt: &T,
+    alloc: Global,
+    answer: &AuditedAnswer,
+) -> Result<AnswerText, AllocError>
     ensures { IfOk result (λ text. whole_of text ++ codes "\n" ≡ line_text answer.now) }
 {
-    answer_text(alloc, Vec::new(alloc), answer.parts(), answer.rows())
+    answer_text(rt, alloc, Rooms::none(alloc), answer)
 }
 
 /// Writes the audited answer to a query as one line, and nothing else. Each part is searched by a
-/// worker of its own.
+/// worker of its own, and up to four threads write a long text.
 pub fn write_answer<T: Threads + Sync, W: Write>(
     rt: &T,
     alloc: Global,
@@ -45,7 +49,7 @@ pub fn write_answer<T: Threads + Sync, W: Write>(
     ensures kept { IfErr result (λ fault. KeepsAt fault (W.contents out.old) (W.contents out.new)) }
 {
     let answer = answer_by_workers(rt, alloc, snapshot, query)?;
-    let text = text_of(alloc, &answer)?;
+    let text = text_of(rt, alloc, &answer)?;
     send_answer(out, &text)?;
     Ok(())
 }

@@ -2,7 +2,7 @@
 use Rattle.std.proofs.Common.{ℕ, ◌+◌, ◌-◌, ◌<◌, ◌≤◌, List, [], append-nil, length, take, drop}
 use Rattle.std.proofs.Common.{Option, None, Some, Result, Ok, Err, OnErr, sym, ◌∙◌, subst}
 use Rattle.std.proofs.Common.{take-append-drop, length-drop, length-append, arith, ◌++◌, ap}
-use Rattle.std.proofs.Common.{append_assoc}
+use Rattle.std.proofs.Common.{append_assoc, ◌≡◌, refl}
 use Rattle.std.proofs.KnownBytes.{Appends-trans}
 use Rattle.std.proofs.Math.Seq.{take-add}
 use Rattle.std.proofs.lemmas.List.{take_rest, length-take-le}
@@ -78,3 +78,27 @@ front_behind a b c first second p h = record {
 pub both : (a b c : Option (List ℕ)) (first second : List ℕ) → Appends a b first
     → Appends b c second → Appends a c (first ++ second)
 both a b c first second p q = Appends-trans a b c first second p q
+
+-- a front of the text was written, and the rest was not
+abbrev pub IsWrittenTo : Option (List ℕ) → Option (List ℕ) → List ℕ → List ℕ → Type 0
+IsWrittenTo a b text rest = (front : List ℕ) × (text ≡ front ++ rest) × Appends a b front
+
+pub begun : (a : Option (List ℕ)) (text : List ℕ) → IsWrittenTo a a text text
+begun None text = ([], refl, tt)
+begun (Some xs) text = ([], refl, sym (append-nil xs))
+
+pub piece_more : (a b c : Option (List ℕ)) (text first rest : List ℕ)
+    → IsWrittenTo a b text (first ++ rest) → Appends b c first → IsWrittenTo a c text rest
+piece_more a b c text first rest (front, parts, came) p =
+    (front ++ first, parts ∙ sym (append_assoc front first rest), both a b c front first came p)
+
+pub piece_front : (a b c : Option (List ℕ)) (text first rest : List ℕ)
+    → IsWrittenTo a b text (first ++ rest) → AppendsFront b c first → AppendsFront a c text
+piece_front a b c text first rest (front, parts, came) h =
+    subst (λ (s : List ℕ). AppendsFront a c s) (sym parts)
+    (front_behind a b c front (first ++ rest) came (front_of_both b c first rest h))
+
+pub all_written : (a b : Option (List ℕ)) (text : List ℕ) → IsWrittenTo a b text []
+    → Appends a b text
+all_written a b text (front, parts, came) =
+    subst (Appends a b) (sym (parts ∙ append-nil front)) came

@@ -7,4 +7,5 @@ use Rattle.query_http.specs.declared.buffers.Buffers.{Buffers}
 pub record IsBounded (buffers : Buffers) : Type 0 where
   pub request : vec_capacity buffers.request ≤ MOST_KEPT
   pub head : vec_capacity buffers.head ≤ MOST_KEPT
+  pub rows : vec_capacity buffers.rows ≤ MOST_KEPT
   pub answer : vec_capacity buffers.answer ≤ MOST_KEPT

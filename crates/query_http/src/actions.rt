@@ -28,6 +28,7 @@ use requests::{Cause, Refusal, Request, Status, append_success_head, done_reply}
 use snapshots::{Committer, Naming, Pass, RowBatch, Seat};
 use std::alloc::{AllocError, Global};
 use std::sync::Wait;
+use std::thread::Threads;
 
 /// The reply of a refusal.
 pub(crate) fn refusal_reply(alloc: Global, refusal: &Refusal) -> Result<Reply, AllocError>
@@ -61,12 +62,13 @@ fn joined_reply(
 {
     let mut head = head;
     append_text(&mut head, &answer)?;
-    buffers.answer = answer.into_bytes();
+    buffers.give_answer(answer);
     Ok(Reply::new(Status::Done, head))
 }
 
-/// The reply that carries an answer.
-fn answer_reply(
+/// The reply that carries an answer. Up to four threads write a long one.
+fn answer_reply<R: Threads + Sync>(
+    rt: &R,
     alloc: Global,
     buffers: &mut Buffers,
     answer: &AuditedAnswer,
@@ -75,9 +77,9 @@ fn answer_reply(
     ensures spelled { IfOk result (λ r. (text_of r)
         ≡ reply_text Done (body_text answer.now.parts.items (rows_of answer.now))) }
 {
-    let at_hand = buffers.take_answer(alloc);
-    let text = answer_text(alloc, at_hand, answer.parts(), answer.rows())?;
-    let size = length_of(&text);
+    let rooms = buffers.take_rooms(alloc);
+    let text = answer_text(rt, alloc, rooms, answer)?;
+    let size = length_of(&text)?;
     let mut head = buffers.take_head(alloc);
     append_success_head(&mut head, size)?;
     if size <= SHORT {
@@ -91,7 +93,8 @@ fn answer_reply(
 }
 
 /// Answers a query from the pass's next snapshot, or with `H10`.
-fn select<J: Naming>(
+fn select<J: Naming, R: Threads + Sync>(
+    rt: &R,
     alloc: Global,
     buffers: &mut Buffers,
     pass: &mut Pass<J>,
@@ -103,7 +106,7 @@ fn select<J: Naming>(
     ensures seen { IsPrefix pass.old.seen pass.new.seen }
 {
     match ask(alloc, pass, query) {
-        Ok(answer) => answer_reply(alloc, buffers, &answer),
+        Ok(answer) => answer_reply(rt, alloc, buffers, &answer),
         Err(AskError::Snapshot(_)) => refusal_reply(alloc, &Refusal::Unavailable),
         Err(AskError::Memory) => Err(AllocError),
     }
@@ -215,7 +218,7 @@ fn cut_at<J: Naming, C: Wait + Drop>(
 /// Does what a request asks. A change that the store accepts is learnt by the pass, whatever
 /// becomes of the reply.
 pub(crate) fn act<J: Naming, C: Wait + Drop>(
-    rt: &impl Wait,
+    rt: &(impl Wait + Threads + Sync),
     alloc: Global,
     buffers: &mut Buffers,
     request: Request,
@@ -229,7 +232,7 @@ pub(crate) fn act<J: Naming, C: Wait + Drop>(
     ensures idle { OnErr result (IsIdle (worker pass.old seat.old) (worker pass.new seat.new)) }
 {
     match request {
-        Request::Select(query) => select(alloc, buffers, pass, &query),
+        Request::Select(query) => select(rt, alloc, buffers, pass, &query),
         Request::Write(rows) => write(rt, alloc, rows, pass, seat, committer),
         Request::Delete { matchers, from, to } => {
             delete(rt, alloc, (matchers, from, to), pass, seat, committer)

@@ -5,6 +5,7 @@ ghost use Rattle.query_http.specs.Bounds.{IsBounded};
 
 use crate::note::Note;
 use crate::reply::Reply;
+use answers::{AnswerText, Rooms};
 use kept_selectors::KeptSelectors;
 use std::alloc::Global;
 use std::mem;
@@ -12,8 +13,9 @@ use std::mem;
 /// The most bytes of room that each buffer keeps between two connections: 1 MiB.
 pub const MOST_KEPT: usize = 1_048_576;
 
-/// A worker's buffers: for the bytes of a request, for the first bytes of a reply and for the text
-/// of an answer; what its last selectors were read as; and what was noted of the last connection.
+/// A worker's buffers: for the bytes of a request, for the first bytes of a reply, for the rows of
+/// an answer and for the rest of it; what its last selectors were read as; and what was noted of
+/// the last connection.
 ///
 /// Each connection clears the buffers first, so what they hold between two connections is only
 /// room; and no answer depends on the selectors that are kept: no clause speaks of either. A
@@ -22,6 +24,7 @@ pub const MOST_KEPT: usize = 1_048_576;
 pub struct Buffers {
     pub(crate) request: Vec<u8>,
     pub(crate) head: Vec<u8>,
+    pub(crate) rows: Vec<u8>,
     pub(crate) answer: Vec<u8>,
     pub(crate) selectors: KeptSelectors,
     pub(crate) note: Note,
@@ -39,8 +42,7 @@ fn trim(buf: &mut Vec<u8>)
 
 /// Keeps the room of some bytes in place of a buffer's, if it is more and no more than is kept.
 fn keep(buf: &mut Vec<u8>, bytes: Vec<u8>)
-    requires { vec_capacity buf.old ≤ MOST_KEPT }
-    ensures { vec_capacity buf.new ≤ MOST_KEPT }
+    ensures { vec_capacity buf.old ≤ MOST_KEPT → vec_capacity buf.new ≤ MOST_KEPT }
 {
     if buf.capacity() < bytes.capacity() && bytes.capacity() <= MOST_KEPT {
         *buf = bytes;
@@ -55,6 +57,7 @@ impl Buffers {
         Buffers {
             request: Vec::new(alloc),
             head: Vec::new(alloc),
+            rows: Vec::new(alloc),
             answer: Vec::new(alloc),
             selectors: KeptSelectors::new(alloc),
             note: Note::none(),
@@ -74,6 +77,7 @@ impl Buffers {
     {
         trim(&mut self.request);
         trim(&mut self.head);
+        trim(&mut self.rows);
         trim(&mut self.answer);
     }
 
@@ -86,9 +90,27 @@ impl Buffers {
         head
     }
 
-    /// Lends the buffer of an answer.
-    pub(crate) fn take_answer(&mut self, alloc: Global) -> Vec<u8> {
-        mem::replace(&mut self.answer, Vec::new(alloc))
+    /// Lends the buffers of an answer.
+    pub(crate) fn take_rooms(&mut self, alloc: Global) -> Rooms {
+        Rooms {
+            text: mem::replace(&mut self.answer, Vec::new(alloc)),
+            rows: mem::replace(&mut self.rows, Vec::new(alloc)),
+        }
+    }
+
+    /// Takes back what an answer was written in, where that is more than there is and no more than
+    /// is kept.
+    pub(crate) fn give_answer(&mut self, answer: AnswerText)
+        ensures bounded { IsBounded self.old → IsBounded self.new }
+        ensures note { self.new.note ≡ self.old.note }
+    {
+        let mut pieces = answer.into_pieces();
+        if !pieces.is_empty() {
+            keep(&mut self.answer, pieces.swap_remove(0));
+        }
+        for piece in pieces {
+            keep(&mut self.rows, piece);
+        }
     }
 
     /// Takes back what a reply was made in, where that is more than there is and no more than is
@@ -100,7 +122,7 @@ impl Buffers {
     {
         keep(&mut self.head, reply.head);
         if let Some(answer) = reply.answer {
-            keep(&mut self.answer, answer.into_bytes());
+            self.give_answer(answer);
         }
     }
 }

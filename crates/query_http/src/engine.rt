@@ -21,6 +21,7 @@ use requests::{Inlet, ReadError, Refusal, Request, Status, path_in, read_admitte
 use snapshots::{Committer, Naming, Pass, Seat};
 use std::alloc::Global;
 use std::sync::Wait;
+use std::thread::Threads;
 
 /// How a connection was served.
 #[derive(Clone, Copy, Debug, PartialEq, Eq, Drop)]
@@ -50,7 +51,7 @@ fn turn_away(alloc: Global, refusal: &Refusal) -> Result<Reply, Served>
 
 /// Does what a request asks, unless there is no memory.
 fn do_asked<J: Naming, C: Wait + Drop>(
-    rt: &impl Wait,
+    rt: &(impl Wait + Threads + Sync),
     alloc: Global,
     buffers: &mut Buffers,
     request: Request,
@@ -72,7 +73,7 @@ fn do_asked<J: Naming, C: Wait + Drop>(
 
 /// Reads a request and does what it asks: the reply, or why there is none.
 fn reply_to<J: Naming, C: Wait + Drop, R: Inlet>(
-    rt: &impl Wait,
+    rt: &(impl Wait + Threads + Sync),
     alloc: Global,
     rules: &Rules,
     buffers: &mut Buffers,
@@ -119,7 +120,7 @@ fn reply_to<J: Naming, C: Wait + Drop, R: Inlet>(
 /// Reads one request, does what it asks and writes the reply.
 #[tactic(auto, using(crate::proofs::Replying::silent_served))]
 fn serve_next<J: Naming, C: Wait + Drop, R: Inlet, W: Outlet>(
-    rt: &impl Wait,
+    rt: &(impl Wait + Threads + Sync),
     alloc: Global,
     rules: &Rules,
     buffers: &mut Buffers,
@@ -164,13 +165,14 @@ fn serve_next<J: Naming, C: Wait + Drop, R: Inlet, W: Outlet>(
 /// Serves one connection: one request is read, done and replied to.
 ///
 /// The whole reply is made before its first byte is written, and the reply to a change before the
-/// change is published. The pass learns the receipt of a change before the reply is written. It
-/// reads as [`read_admitted_into`] does, so that a request that the rules do not admit is refused
-/// and changes nothing (`barred`), and waits as [`Committer::commit`] does. What the buffers held
-/// before plays no part, and of each at most [`MOST_KEPT`](crate::MOST_KEPT) bytes are kept. They
-/// note the status of the reply (`noted`), and none if no reply was made (`unnoted`).
+/// change is published. Up to four threads write the text of a long answer. The pass learns the
+/// receipt of a change before the reply is written. It reads as [`read_admitted_into`] does, so
+/// that a request that the rules do not admit is refused and changes nothing (`barred`), and waits
+/// as [`Committer::commit`] does. What the buffers held before plays no part, and of each at most
+/// [`MOST_KEPT`](crate::MOST_KEPT) bytes are kept. They note the status of the reply (`noted`), and
+/// none if no reply was made (`unnoted`).
 pub fn serve_one_with<J: Naming, C: Wait + Drop, R: Inlet, W: Outlet>(
-    rt: &impl Wait,
+    rt: &(impl Wait + Threads + Sync),
     alloc: Global,
     rules: &Rules,
     buffers: &mut Buffers,
@@ -203,7 +205,7 @@ pub fn serve_one_with<J: Naming, C: Wait + Drop, R: Inlet, W: Outlet>(
 /// Serves one connection as [`serve_one_with`] does, with buffers of its own and under no
 /// rules.
 pub fn serve_one<J: Naming, C: Wait + Drop, R: Inlet, W: Outlet>(
-    rt: &impl Wait,
+    rt: &(impl Wait + Threads + Sync),
     alloc: Global,
     reader: &mut R,
     writer: &mut W,

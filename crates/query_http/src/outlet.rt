@@ -4,6 +4,7 @@ ghost use Rattle.std.specs.Prelude.{◌≡◌, ◌<◌, ◌≤◌, ◌++◌, ℕ
 ghost use Rattle.std.specs.Prelude.{IfOk, OnOk, OnErr};
 ghost use Rattle.std.specs.Io.KnownBytes.{WriteAppends, Appends};
 ghost use Rattle.requests.specs.Edge.{HasGrown};
+ghost use Rattle.answers.specs.Joined.{joined};
 ghost use Rattle.answers.specs.Kept.{whole_of};
 ghost use Rattle.query_http.specs.Reply.{text_of};
 ghost use Rattle.query_http.specs.Writing.{AppendsFront};
@@ -50,18 +51,50 @@ pub fn write_whole<W: Outlet>(writer: &mut W, text: &[u8]) -> Result<(), Fault>
     Ok(())
 }
 
-/// Writes two texts, one after the other; or a prefix of both together, where the writer fails.
-fn write_both<W: Outlet>(writer: &mut W, first: &[u8], second: &[u8]) -> Result<(), Fault>
+/// Writes pieces, one after another; or a prefix of all together, where the writer fails.
+fn write_pieces<W: Outlet>(writer: &mut W, pieces: &[Vec<u8>]) -> Result<(), Fault>
     ensures ok { OnOk result
-        (Appends (W.output writer.old) (W.output writer.new) (first.now ++ second.now)) }
+        (Appends (W.output writer.old) (W.output writer.new) (joined pieces.now)) }
     ensures counted { OnOk result (W.failed_writes writer.new ≡ W.failed_writes writer.old) }
     ensures err { OnErr result
-        (AppendsFront (W.output writer.old) (W.output writer.new) (first.now ++ second.now)) }
+        (AppendsFront (W.output writer.old) (W.output writer.new) (joined pieces.now)) }
     ensures failed { OnErr result
         (HasGrown (W.failed_writes writer.old) (W.failed_writes writer.new)) }
 {
-    write_whole(writer, first)?;
-    write_whole(writer, second)
+    let mut rest = pieces;
+    while let Some((first, later)) = rest.split_first() {
+        write_whole(writer, first.as_slice())?;
+        rest = later;
+    }
+    Ok(())
+}
+
+/// Writes a text, and pieces behind it; or a prefix of all together, where the writer fails.
+fn write_before<W: Outlet>(writer: &mut W, text: &[u8], pieces: &[Vec<u8>]) -> Result<(), Fault>
+    ensures ok { OnOk result
+        (Appends (W.output writer.old) (W.output writer.new) (text.now ++ joined pieces.now)) }
+    ensures counted { OnOk result (W.failed_writes writer.new ≡ W.failed_writes writer.old) }
+    ensures err { OnErr result
+        (AppendsFront (W.output writer.old) (W.output writer.new) (text.now ++ joined pieces.now)) }
+    ensures failed { OnErr result
+        (HasGrown (W.failed_writes writer.old) (W.failed_writes writer.new)) }
+{
+    write_whole(writer, text)?;
+    write_pieces(writer, pieces)
+}
+
+/// Writes pieces, and a text behind them; or a prefix of all together, where the writer fails.
+fn write_behind<W: Outlet>(writer: &mut W, pieces: &[Vec<u8>], text: &[u8]) -> Result<(), Fault>
+    ensures ok { OnOk result
+        (Appends (W.output writer.old) (W.output writer.new) (joined pieces.now ++ text.now)) }
+    ensures counted { OnOk result (W.failed_writes writer.new ≡ W.failed_writes writer.old) }
+    ensures err { OnErr result
+        (AppendsFront (W.output writer.old) (W.output writer.new) (joined pieces.now ++ text.now)) }
+    ensures failed { OnErr result
+        (HasGrown (W.failed_writes writer.old) (W.failed_writes writer.new)) }
+{
+    write_pieces(writer, pieces)?;
+    write_whole(writer, text)
 }
 
 /// Writes a text, and that of an answer behind it; or a prefix of both together, where the writer
@@ -70,13 +103,13 @@ fn write_answer<W: Outlet>(writer: &mut W, head: &[u8], answer: &AnswerText) -> 
     ensures ok { OnOk result
         (Appends (W.output writer.old) (W.output writer.new) (head.now ++ whole_of answer.now)) }
     ensures counted { OnOk result (W.failed_writes writer.new ≡ W.failed_writes writer.old) }
-    ensures err { OnErr result (AppendsFront (W.output writer.old) (W.output writer.new)
-        (head.now ++ whole_of answer.now)) }
+    ensures err { OnErr result
+        (AppendsFront (W.output writer.old) (W.output writer.new) (head.now ++ whole_of answer.now)) }
     ensures failed { OnErr result
         (HasGrown (W.failed_writes writer.old) (W.failed_writes writer.new)) }
 {
-    write_both(writer, head, answer.first())?;
-    write_both(writer, answer.again(), b"}")
+    write_before(writer, head, answer.first())?;
+    write_behind(writer, answer.again(), b"}")
 }
 
 /// Writes a whole reply; or a prefix of it, where the writer fails.

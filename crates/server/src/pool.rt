@@ -107,7 +107,7 @@ impl<J: Naming, C: Wait + Drop> Workers<J, C> {
 }
 
 /// The work of one worker.
-fn work_at<'a, J: Naming, C: Wait + Drop, R: Wait + Clock + Eprint>(
+fn work_at<'a, J: Naming, C: Wait + Drop, R: Wait + Threads + Clock + Eprint + Sync>(
     rt: &R,
     alloc: Global,
     rules: &'a Rules,

@@ -11,6 +11,7 @@ use query_http::{Buffers, serve_one_with};
 use snapshots::{Committer, Naming, Pass, Seat};
 use std::alloc::Global;
 use std::sync::Wait;
+use std::thread::Threads;
 
 /// What a worker has done when it ends: only [`work`] makes one.
 #[derive(Clone, Copy)]
@@ -40,7 +41,7 @@ impl<'a> Shift<'a> {
 /// Each is served by [`serve_one_with`] under these rules, with the pass and the seat as the
 /// connection before left them, and in the same buffers.
 pub fn work<'a, J: Naming, C: Wait + Drop, A: Connections>(
-    rt: &impl Wait,
+    rt: &(impl Wait + Threads + Sync),
     alloc: Global,
     rules: &'a Rules,
     connections: &mut A,

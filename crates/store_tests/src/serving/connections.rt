@@ -10,6 +10,7 @@ use snapshots::{Naming, Store};
 use std::alloc::Global;
 use std::marker::Brand;
 use std::sync::Wait;
+use std::thread::Threads;
 
 /// More bytes than a reply of these tests has.
 const ROOM: usize = 2000;
@@ -17,7 +18,7 @@ const ROOM: usize = 2000;
 /// How a connection is served, in pieces of seven bytes, and what is written; nothing where there is
 /// no memory to write to.
 fn serve<J: Naming, R: Wait + Drop>(
-    rt: &impl Wait,
+    rt: &(impl Wait + Threads + Sync),
     alloc: Global,
     store: &mut EmptyStore<J, R>,
     input: &[u8],
@@ -55,7 +56,7 @@ fn serve<J: Naming, R: Wait + Drop>(
 
 /// The same, where a connection that is refused memory, and gets nothing, is made again.
 fn serve_again<J: Naming, R: Wait + Drop>(
-    rt: &impl Wait,
+    rt: &(impl Wait + Threads + Sync),
     alloc: Global,
     store: &mut EmptyStore<J, R>,
     input: &[u8],
@@ -162,7 +163,7 @@ const SESSION: &[(&[u8], &[u8])] = &[
 
 /// Whether a request gets this reply.
 fn is_replied<J: Naming, R: Wait + Drop>(
-    rt: &impl Wait,
+    rt: &(impl Wait + Threads + Sync),
     alloc: Global,
     store: &mut EmptyStore<J, R>,
     input: &[u8],
@@ -176,7 +177,7 @@ fn is_replied<J: Naming, R: Wait + Drop>(
 
 /// Whether each request of the session gets its reply.
 fn are_replied<J: Naming, R: Wait + Drop>(
-    rt: &impl Wait,
+    rt: &(impl Wait + Threads + Sync),
     alloc: Global,
     store: &mut EmptyStore<J, R>,
 ) -> bool {
@@ -189,7 +190,11 @@ fn are_replied<J: Naming, R: Wait + Drop>(
 }
 
 /// The same of a store that is opened for it; nothing where none was opened.
-fn is_session<J: Naming, R: Wait>(rt: &R, alloc: Global, store: Store) -> Option<bool>
+fn is_session<J: Naming, R: Wait + Threads + Sync>(
+    rt: &R,
+    alloc: Global,
+    store: Store,
+) -> Option<bool>
     requires book { store.seen.book ≡ J.book }
     requires opening { opening_of [] ≡ J.opening }
 {
@@ -198,7 +203,7 @@ fn is_session<J: Naming, R: Wait>(rt: &R, alloc: Global, store: Store) -> Option
 }
 
 /// The same of a new store, which is opened again where that was refused memory.
-fn is_held<R: Wait>(rt: &R, alloc: Global) -> Option<bool> {
+fn is_held<R: Wait + Threads + Sync>(rt: &R, alloc: Global) -> Option<bool> {
     match is_session::<Brand, R>(rt, alloc, Store::new()) {
         None => is_session::<Brand, R>(rt, alloc, Store::new()),
         held => held,

@@ -1,7 +1,8 @@
-use Rattle.std.proofs.Common.{◌≡◌, ◌++◌, ℕ, List, ap₂, subst, ◌∙◌, append_assoc}
+use Rattle.std.proofs.Common.{◌≡◌, ◌++◌, ℕ, List, ap, ap₂, subst, ◌∙◌, append_assoc}
 use Rattle.std.specs.Prelude.{codes}
 use Rattle.std.specs.Io.KnownBytes.{Appends}
 use Rattle.std.proofs.lemmas.Result.{on_ok_weaker, on_err_weaker}
+use Rattle.answers.specs.Joined.{joined}
 use Rattle.answers.specs.Kept.{again_in}
 use Rattle.commands.specs.Sending.{AppendsPrefix}
 use Rattle.commands.proofs.Checks.{appends_on}
@@ -24,9 +25,9 @@ returns-in_err-write_both-clause-err g c =
     let mid = g.W.Write.contents c.write_both.new.out in
     on_err c.from_residual.result
     (subst (λ (s : List ℕ). AppendsPrefix old mid s)
-    (sent c.first.result.now c.again.result.now answer.bytes.items (again_in answer)
-    c.first.ensures c.again.ensures)
-    (prefix_of_both old mid (c.first.result.now ++ c.again.result.now) (codes "}\n")
+    (sent (joined c.first.result.now) (joined c.again.result.now) (joined answer.pieces.items)
+    (again_in answer) (ap joined c.first.ensures) (ap joined c.again.ensures))
+    (prefix_of_both old mid (joined c.first.result.now ++ joined c.again.result.now) (codes "}\n")
     c.in_err-write_both.ensures.err))
 
 pub returns-clause-ok : goal.returns-clause-ok
@@ -37,9 +38,9 @@ returns-clause-ok g c =
     let new = g.W.Write.contents c.send.new.out in
     on_ok_weaker c.send.result
     (λ p. subst (λ (s : List ℕ). Appends old new s)
-    (sent c.first.result.now c.again.result.now answer.bytes.items (again_in answer)
-    c.first.ensures c.again.ensures)
-    (appends_on old mid new (c.first.result.now ++ c.again.result.now) (codes "}\n")
+    (sent (joined c.first.result.now) (joined c.again.result.now) (joined answer.pieces.items)
+    (again_in answer) (ap joined c.first.ensures) (ap joined c.again.ensures))
+    (appends_on old mid new (joined c.first.result.now ++ joined c.again.result.now) (codes "}\n")
     c.in_ok-write_both.ensures.ok p))
     c.send.ensures.ok
 
@@ -51,8 +52,8 @@ returns-clause-err g c =
     let new = g.W.Write.contents c.send.new.out in
     on_err_weaker c.send.result
     (λ h. subst (λ (s : List ℕ). AppendsPrefix old new s)
-    (sent c.first.result.now c.again.result.now answer.bytes.items (again_in answer)
-    c.first.ensures c.again.ensures)
-    (prefix_behind old mid new (c.first.result.now ++ c.again.result.now) (codes "}\n")
+    (sent (joined c.first.result.now) (joined c.again.result.now) (joined answer.pieces.items)
+    (again_in answer) (ap joined c.first.ensures) (ap joined c.again.ensures))
+    (prefix_behind old mid new (joined c.first.result.now ++ joined c.again.result.now) (codes "}\n")
     c.in_ok-write_both.ensures.ok h))
     c.send.ensures.err

@@ -1,4 +1,4 @@
-use Rattle.std.proofs.Common.{◌≡◌, ◌++◌, ℕ, List, length, ap, ap₂, ◌∙◌}
+use Rattle.std.proofs.Common.{◌≡◌, ◌++◌, ℕ, List, length, ap, ◌∙◌}
 use Rattle.std.proofs.lemmas.Result.{IfOk-weaker}
 use Rattle.requests.specs.Replies.{reply_text, success_head}
 use Rattle.requests.specs.declared.status.Status.TheVariants.{Done}
@@ -15,25 +15,23 @@ put_together head body text len e l is =
     ∙ ap (λ (s : List ℕ). reply_text Done s) is
 
 pub returns-then-size-le-SHORT-clause-spelled : goal.returns-then-size-le-SHORT-clause-spelled
-returns-then-size-le-SHORT-clause-spelled c =
+returns-then-size-le-SHORT-clause-spelled g c =
     let body = whole_of c.in_ok-text.text in
     let text = body_text c.args.answer.now.parts.items (rows_of c.args.answer.now) in
     IfOk-weaker c.joined_reply.result _ _
-    (λ r h. h ∙ put_together _ body text c.length_of-size.result
+    (λ r h. h ∙ put_together _ body text c.in_ok-size.size
     (c.in_ok-append_success_head.ensures
-    ∙ ap (λ (s : List ℕ). s ++ success_head c.length_of-size.result) c.take_head-head.ensures)
-    c.length_of-size.ensures
-    (c.in_ok-text.ensures
-    ∙ ap₂ (λ parts rows. body_text parts rows) c.parts.ensures c.rows.ensures))
+    ∙ ap (λ (s : List ℕ). s ++ success_head c.in_ok-size.size) c.take_head-head.ensures)
+    c.in_ok-size.ensures
+    c.in_ok-text.ensures)
     c.joined_reply.ensures.spelled
 
 pub returns-clause-spelled : goal.returns-clause-spelled
-returns-clause-spelled c =
+returns-clause-spelled g c =
     let body = whole_of c.in_ok-text.text in
     let text = body_text c.args.answer.now.parts.items (rows_of c.args.answer.now) in
-    put_together _ body text c.length_of-size.result
+    put_together _ body text c.in_ok-size.size
     (c.in_ok-append_success_head.ensures
-    ∙ ap (λ (s : List ℕ). s ++ success_head c.length_of-size.result) c.take_head-head.ensures)
-    c.length_of-size.ensures
-    (c.in_ok-text.ensures
-    ∙ ap₂ (λ parts rows. body_text parts rows) c.parts.ensures c.rows.ensures)
+    ∙ ap (λ (s : List ℕ). s ++ success_head c.in_ok-size.size) c.take_head-head.ensures)
+    c.in_ok-size.ensures
+    c.in_ok-text.ensures
