@@ -31,6 +31,7 @@
 //! search, no merge and no walk of certificates with the store whose answers it judges.
 #![tactic(auto)]
 
+mod alone;
 mod answer;
 mod flaw;
 mod intervals;
