@@ -168,8 +168,8 @@ fn same_listed(a: &[Listed], b: &[Listed]) -> bool
 /// Whether rows are those of all that several answers list: `Ok` exactly where they are the rows of
 /// the content that maps each listed label set and time to the value listed last, else `F10`.
 /// Nothing is asked of the answers' rows. Where one answer alone has rows, it compares those, and
-/// takes no memory. Else, or where they differ, it sorts what is listed, and takes memory for a list
-/// of it and for one of the rows' samples.
+/// takes no memory. Else, or where they differ, it sorts what is listed, and takes memory for a
+/// list of it and for one of the rows' samples.
 pub fn audit_merge(alloc: Global, answers: &[PartAnswer], rows: &[Row]) -> Result<(), Flaw>
     ensures merged { OnOk result (AreRows rows.now (last_listed answers.now)) }
     ensures unmerged { IfErr result (λ e. IsUnmerged answers.now rows.now e) }
