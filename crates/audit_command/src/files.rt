@@ -71,7 +71,7 @@ fn first_of_file(alloc: Global, rt: &HostRuntime, path: &str, most: usize) -> io
     ensures { IfOk result (λ bytes. length bytes.items ≤ most) }
 {
     let file = File::open(rt, path)?;
-    let room = file.metadata()?.len().min(most as u64);
+    let room = file.metadata()?.len().saturating_add(1).min(most as u64);
     first_of(alloc, file, room as usize, most)
 }
 

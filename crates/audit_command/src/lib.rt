@@ -5,8 +5,9 @@
 //! writers: `--selector S [--from N] [--to N] [DIR]...` has it write a line for each part of the
 //! reply, for each block that no part names, and for the rows of all. `command` says what the
 //! words ask for, `input` reads the reply, `files` the files in a directory, and `tables` what is
-//! known of their blocks; `report` makes the lines, and `fault` says why there are none. The audit
-//! itself is the library `auditor`, whose definitions say what each line means.
+//! known of their blocks; `report` makes the lines, and `fault` says why there are none. [`run_by`]
+//! does the same, and has several threads walk each block. The audit itself is the library
+//! `auditor`, whose definitions say what each line means.
 //!
 //! ```
 //! let words = [String::from_str(alloc, "--selector=up")?];
@@ -33,11 +34,12 @@ mod input;
 mod program;
 mod report;
 mod tables;
+mod walking;
 
 pub use command::{Asked, asked_in, with_arguments};
 pub use fault::{Fault, Refusal};
 pub use files::{ReadError, ReadFiles};
 pub use input::{all_of, reply_of};
-pub use program::{Ending, run, send};
+pub use program::{Ending, run, run_by, send};
 pub use report::query_of;
 pub use tables::tables_at;

@@ -10,9 +10,11 @@ use crate::command::{Asked, read_words};
 use crate::fault::Fault;
 use crate::files::ReadFiles;
 use crate::report::{Outcome, audit};
+use crate::walking::{OneThread, Walker, Workers};
 use clap::error::ErrorKind;
 use std::alloc::Global;
 use std::io::{self, Read, Write};
+use std::thread::Threads;
 
 /// Writes a text whole and passes it on.
 pub fn send<W: Write>(out: &mut W, text: &[u8]) -> io::Result<()>
@@ -23,35 +25,39 @@ pub fn send<W: Write>(out: &mut W, text: &[u8]) -> io::Result<()>
 }
 
 /// Audits the reply that a reader gives, and writes the lines.
-fn write_audit<F: ReadFiles, R: Read, W: Write>(
+fn write_audit<K: Walker, F: ReadFiles, R: Read, W: Write>(
+    walker: &K,
     alloc: Global,
     files: &F,
     asked: &Asked<'_>,
     input: &mut R,
     out: &mut W,
 ) -> Result<Outcome, Fault>
+    requires ready { K.is_ready walker.now }
     ensures { IsAuditEnd (F.may_read files.now) (R.remaining input.old) asked.now
         (W.contents out.old) (W.contents out.new) result }
 {
-    let report = audit(alloc, files, asked, input)?;
+    let report = audit(walker, alloc, files, asked, input)?;
     send(out, report.text.as_bytes())?;
     Ok(report.outcome)
 }
 
-fn execute<F: ReadFiles, R: Read, W: Write>(
+fn execute<K: Walker, F: ReadFiles, R: Read, W: Write>(
+    walker: &K,
     alloc: Global,
     files: &F,
     words: &[String],
     input: &mut R,
     out: &mut W,
 ) -> Result<Outcome, Fault>
+    requires ready { K.is_ready walker.now }
     ensures ends { AreTaken (texts_of words.now)
         → IsEnd (F.may_read files.now) (R.remaining input.old) (texts_of words.now)
         (W.contents out.old) (W.contents out.new) result }
     ensures no_audit { (AreTaken (texts_of words.now) → ⊥) → IsNoAudit (texts_of words.now) result }
 {
     match read_words(alloc, words) {
-        Ok(asked) => write_audit(alloc, files, &asked, input, out),
+        Ok(asked) => write_audit(walker, alloc, files, &asked, input, out),
         Err(error) => match error.kind() {
             ErrorKind::OutOfMemory => Err(Fault::Memory),
             ErrorKind::DisplayHelp | ErrorKind::DisplayVersion => {
@@ -93,6 +99,30 @@ fn tell<E: Write>(end: &Result<Outcome, Fault>, to: &mut E) -> io::Result<()>
     }
 }
 
+/// What [`run`] does, by the one who walks.
+fn run_with<K: Walker, F: ReadFiles, R: Read, W: Write, E: Write>(
+    walker: &K,
+    alloc: Global,
+    files: &F,
+    words: &[String],
+    input: &mut R,
+    out: &mut W,
+    err: &mut E,
+) -> Ending
+    requires ready { K.is_ready walker.now }
+    ensures ended { HasEnded (F.may_read files.now) (R.remaining input.old) (texts_of words.now)
+        (W.contents out.old) (W.contents out.new) (E.contents err.old) (E.contents err.new) result }
+    ensures few { result.status ≤ 4 }
+    ensures nothing_told { result.status ≡ 0 → Keeps (E.contents err.old) (E.contents err.new) }
+{
+    let end = execute(walker, alloc, files, words, input, out);
+    let told = tell(&end, err);
+    Ending {
+        status: status_of(&end),
+        told,
+    }
+}
+
 /// Audits the reply that a reader gives, as the words after the program's name ask for it, writes
 /// the lines, and gives the exit status. Where it ends before that is done, it tells why on the
 /// second writer.
@@ -115,10 +145,24 @@ pub fn run<F: ReadFiles, R: Read, W: Write, E: Write>(
     ensures few { result.status ≤ 4 }
     ensures nothing_told { result.status ≡ 0 → Keeps (E.contents err.old) (E.contents err.new) }
 {
-    let end = execute(alloc, files, words, input, out);
-    let told = tell(&end, err);
-    Ending {
-        status: status_of(&end),
-        told,
-    }
+    run_with(&OneThread, alloc, files, words, input, out, err)
+}
+
+/// The same as [`run`], with each block walked by several threads, the calling one among them. What
+/// is written does not depend on whether they can be started.
+pub fn run_by<T: Threads + Sync, F: ReadFiles, R: Read, W: Write, E: Write>(
+    rt: &T,
+    alloc: Global,
+    files: &F,
+    words: &[String],
+    input: &mut R,
+    out: &mut W,
+    err: &mut E,
+) -> Ending
+    ensures ended { HasEnded (F.may_read files.now) (R.remaining input.old) (texts_of words.now)
+        (W.contents out.old) (W.contents out.new) (E.contents err.old) (E.contents err.new) result }
+    ensures few { result.status ≤ 4 }
+    ensures nothing_told { result.status ≡ 0 → Keeps (E.contents err.old) (E.contents err.new) }
+{
+    run_with(&Workers { rt }, alloc, files, words, input, out, err)
 }

@@ -8,7 +8,8 @@ use crate::command::Asked;
 use crate::fault::Fault;
 use crate::files::ReadFiles;
 use crate::input::reply_in;
-use crate::tables::tables_at;
+use crate::tables::tables_by;
+use crate::walking::Walker;
 use auditor::{Line, judge, lines_text};
 use matchers::{Query, Selector};
 use std::alloc::Global;
@@ -67,12 +68,14 @@ fn outcome_of(lines: &[Line]) -> Outcome
 /// The selector is checked, then the range; then the reply is read, to its end, and then the files
 /// in each directory, in the order given. All files and the reply are read before anything is
 /// judged.
-pub fn audit<F: ReadFiles, R: Read>(
+pub(crate) fn audit<K: Walker, F: ReadFiles, R: Read>(
+    walker: &K,
     alloc: Global,
     files: &F,
     asked: &Asked<'_>,
     input: &mut R,
 ) -> Result<Report, Fault>
+    requires ready { K.is_ready walker.now }
     ensures ok { IfOk result
         (λ report. IsReport (F.may_read files.now) (R.remaining input.old) asked.now report) }
     ensures err { IfErr result
@@ -80,7 +83,7 @@ pub fn audit<F: ReadFiles, R: Read>(
 {
     let query = query_of(alloc, asked)?;
     let reply = reply_in(alloc, input)?;
-    let tables = tables_at(alloc, files, asked.directories.as_slice())?;
+    let tables = tables_by(walker, alloc, files, asked.directories.as_slice())?;
     let lines = judge(alloc, tables.as_slice(), &query, reply)?;
     let outcome = outcome_of(lines.as_slice());
     let text = lines_text(alloc, lines.as_slice())?;

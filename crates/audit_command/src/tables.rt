@@ -2,38 +2,49 @@
 
 ghost use Rattle.std.specs.Prelude.{IfOk, IfErr};
 ghost use Rattle.audit_command.specs.Reading.{paths_of, IsReadingFault};
-ghost use Rattle.audit_command.specs.Walking.{bytes_of, IsTableOf, IsTableAt, AreTablesAt};
-ghost use Rattle.audit_command.specs.Walking.{IsFirstFault};
+ghost use Rattle.audit_command.specs.Walking.{IsTableAt, AreTablesAt, IsFirstFault};
 
 use crate::fault::Fault;
-use crate::files::{BlockFiles, ReadFiles, read_block};
-use auditor::{BlockTable, Table, WalkError};
-use std::alloc::{AllocError, Global};
-
-/// Walks the files of a block.
-fn table_of(alloc: Global, files: BlockFiles) -> Result<BlockTable, AllocError>
-    ensures { IfOk result (λ table. IsTableOf (bytes_of files) table) }
-{
-    let BlockFiles {
-        index,
-        chunks,
-        tombstones,
-    } = files;
-    match Table::walk(alloc, index.as_slice(), chunks, tombstones.as_slice()) {
-        Ok(table) => Ok(BlockTable::Walked(table)),
-        Err(WalkError::Memory) => Err(AllocError),
-        Err(error) => Ok(BlockTable::Refused(error.code())),
-    }
-}
+use crate::files::{ReadFiles, read_block};
+use crate::walking::{OneThread, Walker};
+use auditor::BlockTable;
+use std::alloc::Global;
 
 /// Reads the files in a directory, and then walks them.
-fn table_at<F: ReadFiles>(alloc: Global, files: &F, directory: &str) -> Result<BlockTable, Fault>
+fn table_at<K: Walker, F: ReadFiles>(
+    walker: &K,
+    alloc: Global,
+    files: &F,
+    directory: &str,
+) -> Result<BlockTable, Fault>
+    requires ready { K.is_ready walker.now }
     ensures ok { IfOk result (λ table. IsTableAt (F.may_read files.now) directory.now table) }
     ensures err { IfErr result
         (λ fault. IsReadingFault (F.may_read files.now) directory.now fault) }
 {
     let block = read_block(alloc, files, directory)?;
-    Ok(table_of(alloc, block)?)
+    Ok(walker.walk(alloc, block)?)
+}
+
+/// The same as [`tables_at`], by the one who walks.
+pub(crate) fn tables_by<K: Walker, F: ReadFiles>(
+    walker: &K,
+    alloc: Global,
+    files: &F,
+    directories: &[&str],
+) -> Result<Vec<BlockTable>, Fault>
+    requires ready { K.is_ready walker.now }
+    ensures ok { IfOk result
+        (λ tables. AreTablesAt (F.may_read files.now) (paths_of directories.now) tables.items) }
+    ensures err { IfErr result
+        (λ fault. IsFirstFault (F.may_read files.now) (paths_of directories.now) fault) }
+{
+    let mut tables = Vec::new(alloc);
+    for directory in directories {
+        let table = table_at(walker, alloc, files, directory)?;
+        tables.push(table)?;
+    }
+    Ok(tables)
 }
 
 /// What is known of the blocks in these directories, in their order, up to the first that cannot be
@@ -51,10 +62,5 @@ pub fn tables_at<F: ReadFiles>(
     ensures err { IfErr result
         (λ fault. IsFirstFault (F.may_read files.now) (paths_of directories.now) fault) }
 {
-    let mut tables = Vec::new(alloc);
-    for directory in directories {
-        let table = table_at(alloc, files, directory)?;
-        tables.push(table)?;
-    }
-    Ok(tables)
+    tables_by(&OneThread, alloc, files, directories)
 }

@@ -9,6 +9,7 @@ pub mod Found
 pub mod Only
 pub mod Parts
 pub mod Rows
+pub mod Shared
 pub mod HeadFirst
 pub mod IndexFirst
 pub mod FilesFirst

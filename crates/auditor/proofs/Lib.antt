@@ -7,6 +7,7 @@ pub mod SelectedRows
 pub mod Comparing
 pub mod Judging
 pub mod Merging
+pub mod OnlyRows
 pub mod Neighbours
 pub mod Excluding
 mod IndexFile

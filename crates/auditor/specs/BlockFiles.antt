@@ -4,3 +4,4 @@ pub mod Reading
 pub mod Spelled
 pub mod Outcome
 pub mod Checks
+pub mod Shared

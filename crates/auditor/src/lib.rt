@@ -10,7 +10,8 @@
 //!
 //! A [`Table`] is the part. [`Table::walk`] reads it from an index, a chunks file and a file of
 //! deletions, without the postings, exactly where these spell one (`IsWalked`), and else names the
-//! first check that fails; [`WalkError`] has the codes.
+//! first check that fails; [`WalkError`] has the codes. [`Table::walk_by`] does the same by several
+//! threads.
 //!
 //! [`Reply::read`] reads a whole reply: it is `Ok` exactly where the text is JSON of a reply's
 //! shape, and then the reply is what it says. [`judge`] gives the lines of a reply over what is
@@ -31,6 +32,7 @@
 //! search, no merge and no walk of certificates with the store whose answers it judges.
 #![tactic(auto)]
 
+mod alone;
 mod answer;
 mod flaw;
 mod intervals;

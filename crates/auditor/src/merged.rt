@@ -10,6 +10,7 @@ ghost use Rattle.labels.specs.Labels.{labels_cmp, point_cmp};
 ghost use Rattle.labels.specs.Rows.{points_in, points_of, AreRows};
 ghost use Rattle.auditor.specs.Listing.{listed, last_listed, point_before, same_point, IsUnmerged};
 
+use crate::alone::are_alone;
 use crate::flaw::Flaw;
 use crate::rows::{same_labels, same_sample};
 use cover::PartAnswer;
@@ -166,14 +167,18 @@ fn same_listed(a: &[Listed], b: &[Listed]) -> bool
 
 /// Whether rows are those of all that several answers list: `Ok` exactly where they are the rows of
 /// the content that maps each listed label set and time to the value listed last, else `F10`.
-/// Nothing is asked of the answers' rows. It sorts what is listed, and takes memory for a list of
-/// it and for one of the rows' samples.
+/// Nothing is asked of the answers' rows. Where one answer alone has rows, it compares those, and
+/// takes no memory. Else, or where they differ, it sorts what is listed, and takes memory for a
+/// list of it and for one of the rows' samples.
 pub fn audit_merge(alloc: Global, answers: &[PartAnswer], rows: &[Row]) -> Result<(), Flaw>
     ensures merged { OnOk result (AreRows rows.now (last_listed answers.now)) }
     ensures unmerged { IfErr result (λ e. IsUnmerged answers.now rows.now e) }
 {
     if !are_in_order(rows) || !are_full(rows) {
         return Err(Flaw::WrongMerge);
+    }
+    if are_alone(answers, rows) {
+        return Ok(());
     }
     let last = last_listed(alloc, answers)?;
     let mut told = Vec::new(alloc);

@@ -19,5 +19,6 @@ mod series_entries;
 mod stored;
 mod symbols;
 mod table;
+mod walker;
 
 pub use error::WalkError;

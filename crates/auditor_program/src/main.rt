@@ -2,11 +2,11 @@
 //! and says whether the reply is right. It shares no index reader, search or merge with the store
 //! that sent it.
 //!
-//! It passes its words, the host's files and input and its two outputs to `audit_command::run`,
+//! It passes its words, the host's files and input and its two outputs to `audit_command::run_by`,
 //! whose contract says what is written and with which status it ends.
 #![tactic(auto)]
 
-use audit_command::run;
+use audit_command::run_by;
 use std::io;
 use std::process::ExitCode;
 
@@ -20,6 +20,14 @@ fn main(rt: HostRuntime) -> io::Result<ExitCode> {
     let (stdout, stderr) = (rt.stdout(), rt.stderr());
     let mut out = io::writer(&stdout);
     let mut err = io::writer(&stderr);
-    let ending = run(alloc, &rt, words.as_slice(), &mut input, &mut out, &mut err);
+    let ending = run_by(
+        &rt,
+        alloc,
+        &rt,
+        words.as_slice(),
+        &mut input,
+        &mut out,
+        &mut err,
+    );
     Ok(ExitCode::from(ending.status))
 }

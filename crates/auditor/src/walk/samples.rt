@@ -1,10 +1,14 @@
-//! The rows of a block's series: their samples, less those that are deleted.
+//! The rows of a block's series: their samples, less those that are deleted. One thread makes them,
+//! or they are shared out over several.
 
-ghost use Rattle.std.specs.Prelude.{◌≡◌, ◌<◌, ◌++◌, length, slice_get, not, Some, IfOk, OnOk};
+ghost use Rattle.std.specs.Prelude.{◌≡◌, ◌<◌, ◌≤◌, ◌+◌, ◌^◌, ◌++◌, length, slice_get, not, Some};
+ghost use Rattle.std.specs.Prelude.{IfOk, OnOk};
 ghost use Rattle.std.specs.List.{AllByRecursion};
+ghost use Rattle.std.specs.Thread.{IsSync};
 ghost use Rattle.tombstones.specs.Covering.{covered};
 ghost use Rattle.auditor.specs.IndexFile.Series.{chunk_lists};
 ghost use Rattle.auditor.specs.BlockFiles.Samples.{chunk_samples, samples_in, undeleted, part_of};
+ghost use Rattle.auditor.specs.BlockFiles.Shared.{stretch};
 ghost use Rattle.auditor.specs.BlockFiles.Sound.{IsHeld};
 
 use crate::walk::chunk::Chunk;
@@ -12,6 +16,7 @@ use crate::walk::series_entries::SeriesEntries;
 use chunk_reader::{Chunks, Samples};
 use labels::{Row, Sample, SeriesRef};
 use std::alloc::{AllocError, Global};
+use std::thread::{Threads, join};
 use tombstones::Tombstones;
 
 // The samples of a chunk, in place. No check of it is made again.
@@ -102,20 +107,72 @@ fn row_at(
     Ok((reference, Row::new(labels, samples)))
 }
 
-/// The part: each series under its reference, with its label set and its undeleted samples.
-pub(crate) fn rows_of(
+/// The rows of `count` series, from a place on, each under its reference, with its label set and
+/// its undeleted samples.
+pub(crate) fn rows_between(
     alloc: Global,
     entries: &SeriesEntries<'_>,
     chunks: &Chunks,
     tombstones: &Tombstones,
+    from: usize,
+    count: usize,
 ) -> Result<Vec<(SeriesRef, Row)>, AllocError>
-    requires { AllByRecursion (AllByRecursion (IsHeld chunks.now)) (chunk_lists entries.now) }
-    ensures { IfOk result (λ v. v.items ≡ part_of chunks.now tombstones.now entries.now) }
+    requires within { from + count ≤ length entries.now }
+    requires places { from + count < 2 ^ 64 }
+    requires held { AllByRecursion (AllByRecursion (IsHeld chunks.now)) (chunk_lists entries.now) }
+    ensures { IfOk result (λ v. v.items
+        ≡ stretch from count (part_of chunks.now tombstones.now entries.now)) }
 {
-    let mut rows = Vec::with_capacity(alloc, entries.len())?;
-    for at in 0..entries.len() {
-        let row = row_at(alloc, entries, chunks, tombstones, at)?;
+    let mut rows = Vec::with_capacity(alloc, count)?;
+    for at in 0..count {
+        let row = row_at(alloc, entries, chunks, tombstones, from + at)?;
         rows.push(row)?;
     }
+    Ok(rows)
+}
+
+/// The same by at most so many threads, the calling one among them. Where a thread can't be
+/// started, the calling one does its share.
+#[cycle(halves)]
+pub(crate) fn rows_among<R: Threads + Sync>(
+    rt: &R,
+    alloc: Global,
+    entries: &SeriesEntries<'_>,
+    chunks: &Chunks,
+    tombstones: &Tombstones,
+    from: usize,
+    count: usize,
+    threads: usize,
+) -> Result<Vec<(SeriesRef, Row)>, AllocError>
+    requires within { from + count ≤ length entries.now }
+    requires places { from + count < 2 ^ 64 }
+    requires held { AllByRecursion (AllByRecursion (IsHeld chunks.now)) (chunk_lists entries.now) }
+    ensures { IfOk result (λ v. v.items
+        ≡ stretch from count (part_of chunks.now tombstones.now entries.now)) }
+{
+    if threads < 2 || count < 2 {
+        return rows_between(alloc, entries, chunks, tombstones, from, count);
+    }
+    let low = count / 2;
+    let high = count - low;
+    let up = from + low;
+    let helpers = threads / 2;
+    let rest = threads - helpers;
+    let front = || -> Result<Vec<(SeriesRef, Row)>, AllocError>
+        requires { IsSync R.row × (from + low ≤ length entries.now) × (from + low < 2 ^ 64)
+            × AllByRecursion (AllByRecursion (IsHeld chunks.now)) (chunk_lists entries.now) }
+        ensures { IfOk result (λ v. v.items ≡ stretch from low
+            (part_of chunks.entry.now tombstones.entry.now entries.entry.now)) }
+    { rows_among(rt, alloc, entries, chunks, tombstones, from, low, helpers) };
+    let back = || -> Result<Vec<(SeriesRef, Row)>, AllocError>
+        requires { IsSync R.row × (up + high ≤ length entries.now) × (up + high < 2 ^ 64)
+            × AllByRecursion (AllByRecursion (IsHeld chunks.now)) (chunk_lists entries.now) }
+        ensures { IfOk result (λ v. v.items ≡ stretch up high
+            (part_of chunks.entry.now tombstones.entry.now entries.entry.now)) }
+    { rows_among(rt, alloc, entries, chunks, tombstones, up, high, rest) };
+    let (first, second) = join(rt, front, back);
+    let mut rows = first?;
+    let mut more = second?;
+    rows.append(&mut more)?;
     Ok(rows)
 }

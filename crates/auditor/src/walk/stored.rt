@@ -1,17 +1,21 @@
-//! The chunks that the series of an index name.
+//! The chunks that the series of an index name, looked at by one thread or shared out over several.
 
-ghost use Rattle.std.specs.Prelude.{◌≡◌, true, IfOk, OnOk};
+ghost use Rattle.std.specs.Prelude.{◌≡◌, ◌+◌, ◌<◌, ◌≤◌, ◌^◌, length, true, IfOk, OnOk};
 ghost use Rattle.std.specs.List.{AllByRecursion, list_all};
+ghost use Rattle.std.specs.Thread.{IsSync};
 ghost use Rattle.wire.specs.Outcome.{Answers};
 ghost use Rattle.auditor.specs.IndexFile.Outcome.{Gives};
 ghost use Rattle.auditor.specs.IndexFile.Series.{chunk_lists};
 ghost use Rattle.auditor.specs.BlockFiles.Sound.{IsHeld, IsCounted};
 ghost use Rattle.auditor.specs.BlockFiles.Reading.{each_check, chunk_check, have_few, stored_of};
+ghost use Rattle.auditor.specs.BlockFiles.Shared.{AreLookedAt, stretch};
 
 use crate::walk::chunk::Chunk;
 use crate::walk::error::WalkError;
 use crate::walk::series_entries::SeriesEntries;
+use crate::walk::walker::Walker;
 use chunk_reader::{ChunkError, Chunks};
+use std::thread::{Threads, join};
 
 const MAX_SAMPLES: u64 = 1_048_576;
 
@@ -38,21 +42,63 @@ fn are_few(chunks: &Chunks, list: &[Chunk]) -> Result<bool, ChunkError>
     Ok(count <= MAX_SAMPLES)
 }
 
-// Whether the chunks of each series hold few samples.
-fn all_few(entries: &SeriesEntries<'_>, chunks: &Chunks) -> Result<bool, ChunkError>
-    ensures exact { Answers (λ _. tt) result
-        (each_check (each_check (chunk_check chunks.now)) (chunk_lists entries.now)) }
-    ensures few { IfOk result (λ few.
-        few ≡ list_all (have_few chunks.now) (chunk_lists entries.now)) }
-    ensures held { OnOk result
-        (AllByRecursion (AllByRecursion (IsHeld chunks.now)) (chunk_lists entries.now)) }
+/// Whether the chunks of each of `count` series, from a place on, hold few samples: the first chunk
+/// that is refused, in the order of the series, or else that.
+pub(crate) fn few_between(
+    entries: &SeriesEntries<'_>,
+    chunks: &Chunks,
+    from: usize,
+    count: usize,
+) -> Result<bool, ChunkError>
+    requires within { from + count ≤ length entries.now }
+    requires places { from + count < 2 ^ 64 }
+    ensures { AreLookedAt chunks.now (stretch from count (chunk_lists entries.now)) result }
 {
     let mut few = true;
-    for at in 0..entries.len() {
-        let these = are_few(chunks, entries.chunks_at(at))?;
+    for at in 0..count {
+        let these = are_few(chunks, entries.chunks_at(from + at))?;
         few = few & these;
     }
     Ok(few)
+}
+
+/// The same by at most so many threads, the calling one among them. Nothing is allocated; where a
+/// thread can't be started, the calling one does its share.
+#[cycle(halves)]
+pub(crate) fn few_among<R: Threads + Sync>(
+    rt: &R,
+    entries: &SeriesEntries<'_>,
+    chunks: &Chunks,
+    from: usize,
+    count: usize,
+    threads: usize,
+) -> Result<bool, ChunkError>
+    requires within { from + count ≤ length entries.now }
+    requires places { from + count < 2 ^ 64 }
+    ensures { AreLookedAt chunks.now (stretch from count (chunk_lists entries.now)) result }
+{
+    if threads < 2 || count < 2 {
+        return few_between(entries, chunks, from, count);
+    }
+    let low = count / 2;
+    let high = count - low;
+    let up = from + low;
+    let helpers = threads / 2;
+    let rest = threads - helpers;
+    let front = || -> Result<bool, ChunkError>
+        requires { IsSync R.row × (from + low ≤ length entries.now) × (from + low < 2 ^ 64) }
+        ensures { AreLookedAt chunks.entry.now
+            (stretch from low (chunk_lists entries.entry.now)) result }
+    { few_among(rt, entries, chunks, from, low, helpers) };
+    let back = || -> Result<bool, ChunkError>
+        requires { IsSync R.row × (up + high ≤ length entries.now) × (up + high < 2 ^ 64) }
+        ensures { AreLookedAt chunks.entry.now
+            (stretch up high (chunk_lists entries.entry.now)) result }
+    { few_among(rt, entries, chunks, up, high, rest) };
+    let (first, second) = join(rt, front, back);
+    let few = first?;
+    let more = second?;
+    Ok(few & more)
 }
 
 /// Looks at each chunk that the series name, in their order, and then whether a series has too many
@@ -61,13 +107,18 @@ fn all_few(entries: &SeriesEntries<'_>, chunks: &Chunks) -> Result<bool, ChunkEr
 /// `C3` to `C8` of the first chunk that is refused; `I15` where a series has more than 1,048,576
 /// samples.
 #[tactic(auto, unfolding(crate::specs::BlockFiles::Reading::stored_of))]
-pub(crate) fn check_stored(entries: &SeriesEntries<'_>, chunks: &Chunks) -> Result<(), WalkError>
+pub(crate) fn check_stored<W: Walker>(
+    walker: &W,
+    entries: &SeriesEntries<'_>,
+    chunks: &Chunks,
+) -> Result<(), WalkError>
+    requires ready { W.is_ready walker.now }
     ensures exact { Gives (λ _. tt) result (stored_of chunks.now entries.now) }
     ensures held { OnOk result
         (AllByRecursion (AllByRecursion (IsHeld chunks.now)) (chunk_lists entries.now)) }
     ensures few { OnOk result (list_all (have_few chunks.now) (chunk_lists entries.now) ≡ true) }
 {
-    let few = all_few(entries, chunks)?;
+    let few = walker.check(entries, chunks)?;
     if !few {
         return Err(WalkError::Limit);
     }

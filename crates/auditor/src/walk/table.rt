@@ -11,11 +11,12 @@ ghost use Rattle.auditor.specs.BlockFiles.Spelled.{IsWalked};
 use crate::table::Table;
 use crate::walk::deletions::known_deletions;
 use crate::walk::error::WalkError;
-use crate::walk::samples::rows_of;
 use crate::walk::series_entries::SeriesEntries;
 use crate::walk::stored::check_stored;
+use crate::walk::walker::{OneThread, Walker, Workers};
 use chunk_reader::Chunks;
 use std::alloc::Global;
+use std::thread::Threads;
 
 // A law: a file is of bytes.
 fn are_bytes(file: &[u8])
@@ -23,20 +24,22 @@ fn are_bytes(file: &[u8])
 {}
 
 // The checks, and what they leave.
-fn walk_table(
+fn walk_table<W: Walker>(
+    walker: &W,
     alloc: Global,
     index: &[u8],
     chunks: Vec<u8>,
     tombstones: &[u8],
 ) -> Result<Table, WalkError>
+    requires ready { W.is_ready walker.now }
     ensures exact { Gives (λ t. t) result (walked_of index.now chunks.items tombstones.now) }
     ensures found { IfOk result (IsWalked index.now chunks.items tombstones.now) }
 {
     let entries = SeriesEntries::read(alloc, index)?;
     let chunks = Chunks::open(chunks)?;
-    check_stored(&entries, &chunks)?;
+    check_stored(walker, &entries, &chunks)?;
     let deletions = known_deletions(alloc, &entries, tombstones)?;
-    let rows = rows_of(alloc, &entries, &chunks, &deletions)?;
+    let rows = walker.rows(alloc, &entries, &chunks, &deletions)?;
     Ok(Table::of_series(rows))
 }
 
@@ -74,6 +77,33 @@ impl Table {
             → Gives (λ t. t) result (Ok part) }
     {
         are_bytes(chunks.as_slice());
-        walk_table(alloc, index, chunks, tombstones)
+        walk_table(&OneThread, alloc, index, chunks, tombstones)
+    }
+
+    /// The same as [`Table::walk`], with the checks of the chunks and the rows shared out over at
+    /// most `threads` threads, the calling one among them. The answer does not depend on their
+    /// number, nor on whether they can be started. Ask for four for each processor: the shares are
+    /// equal in series, not in work.
+    pub fn walk_by<R: Threads + Sync>(
+        rt: &R,
+        threads: usize,
+        alloc: Global,
+        index: &[u8],
+        chunks: Vec<u8>,
+        tombstones: &[u8],
+    ) -> Result<Table, WalkError>
+        ensures exact { Gives (λ t. t) result (walked_of index.now chunks.items tombstones.now) }
+        ensures refused { IfErr result
+            (IsWalkError (record {
+              index = index.now;
+              chunks = chunks.items;
+              tombstones = tombstones.now;
+            })) }
+        ensures found { IfOk result (IsWalked index.now chunks.items tombstones.now) }
+        ensures only { (part : Part) → IsWalked index.now chunks.items tombstones.now part
+            → Gives (λ t. t) result (Ok part) }
+    {
+        are_bytes(chunks.as_slice());
+        walk_table(&Workers { rt, threads }, alloc, index, chunks, tombstones)
     }
 }

@@ -5,5 +5,5 @@ pub returns-clause-ok : goal.returns-clause-ok
 returns-clause-ok g c = record {
   files = whole_of _ _ c.in_ok-block.block c.in_ok-block.ensures.ok;
   found = whole_found _ _ c.in_ok-block.block c.in_ok-block.ensures.ok;
-  known = whole_known _ _ c.in_ok-block.block c.in_ok-block.ensures.ok _ c.in_ok-table_of.ensures;
+  known = whole_known _ _ c.in_ok-block.block c.in_ok-block.ensures.ok _ c.in_ok-walk.ensures;
 }

@@ -34,3 +34,12 @@ returns-clause-merged c = record {
       ∙ c.if-not-are_in_order.false);
   full = all_full c.args.rows.now (sym c.are_full.ensures ∙ c.if-not-are_full.false);
 }
+
+pub returns-then-are_alone-clause-merged : goal.returns-then-are_alone-clause-merged
+returns-then-are_alone-clause-merged c = record {
+  points = c.are_alone.ensures c.if-are_alone.true;
+  ascending =
+      T_of (is_sorted labels_cmp c.args.rows.now) (sym c.are_in_order.ensures
+      ∙ c.if-not-are_in_order.false);
+  full = all_full c.args.rows.now (sym c.are_full.ensures ∙ c.if-not-are_full.false);
+}

@@ -4,17 +4,17 @@ use Rattle.auditor.proofs.BlockFiles.Refusals.{stored_fails, stored_many, stored
 use Rattle.auditor.proofs.walk.stored.check_stored.Goals as goal
 
 pub returns-in_err-few-clause-exact : goal.returns-in_err-few-clause-exact
-returns-in_err-few-clause-exact c =
+returns-in_err-few-clause-exact g c =
     let p = err_from_is_err_and c.from_residual.result c.from_residual.ensures.1 in
     rw (p.1, p.2) (stored_fails c.args.chunks.now c.args.entries.now c.in_err-few.field-0.0
     c.in_err-few.ensures.exact)
 
 pub returns-then-not-few-clause-exact : goal.returns-then-not-few-clause-exact
-returns-then-not-few-clause-exact c =
+returns-then-not-few-clause-exact g c =
     stored_many c.args.chunks.now c.args.entries.now c.in_ok-few.ensures.exact
     (sym c.in_ok-few.ensures.few ∙ c.if-not-few.true)
 
 pub returns-clause-exact : goal.returns-clause-exact
-returns-clause-exact c =
+returns-clause-exact g c =
     stored_few c.args.chunks.now c.args.entries.now c.in_ok-few.ensures.exact
     (sym c.in_ok-few.ensures.few ∙ c.if-not-few.false)

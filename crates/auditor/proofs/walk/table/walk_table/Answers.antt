@@ -8,13 +8,13 @@ use Rattle.auditor.proofs.BlockFiles.Refusals.{walk_fails_index, walk_fails_chun
 use Rattle.auditor.proofs.walk.table.walk_table.Goals as goal
 
 pub returns-in_err-entries-clause-exact : goal.returns-in_err-entries-clause-exact
-returns-in_err-entries-clause-exact c =
+returns-in_err-entries-clause-exact g c =
     let p = err_from_is_err_and c.from_residual.result c.from_residual.ensures.1 in
     rw (p.1, p.2) (walk_fails_index c.args.index.now c.args.chunks.items c.args.tombstones.now
     c.in_err-entries.field-0.0 c.in_err-entries.ensures.exact)
 
 pub returns-in_err-chunks-clause-exact : goal.returns-in_err-chunks-clause-exact
-returns-in_err-chunks-clause-exact c =
+returns-in_err-chunks-clause-exact g c =
     let p =
     err_from_is_err_and c.from_residual-in_err-chunks.result
     c.from_residual-in_err-chunks.ensures.1 in
@@ -23,7 +23,7 @@ returns-in_err-chunks-clause-exact c =
     c.in_err-chunks.ensures.exact)
 
 pub returns-in_err-check_stored-clause-exact : goal.returns-in_err-check_stored-clause-exact
-returns-in_err-check_stored-clause-exact c =
+returns-in_err-check_stored-clause-exact g c =
     let p =
     err_from_is_err_and c.from_residual-in_err-check_stored.result
     c.from_residual-in_err-check_stored.ensures.1 in
@@ -33,11 +33,11 @@ returns-in_err-check_stored-clause-exact c =
     c.in_err-check_stored.ensures.exact)
 
 pub known_deletions-requires : goal.known_deletions-requires
-known_deletions-requires c =
+known_deletions-requires g c =
     references_rise c.args.index.now c.in_ok-entries.entries c.in_ok-entries.ensures.found
 
 pub returns-in_err-deletions-clause-exact : goal.returns-in_err-deletions-clause-exact
-returns-in_err-deletions-clause-exact c =
+returns-in_err-deletions-clause-exact g c =
     let p =
     err_from_is_err_and c.from_residual-in_err-deletions.result
     c.from_residual-in_err-deletions.ensures.1 in
@@ -47,13 +47,13 @@ returns-in_err-deletions-clause-exact c =
     c.in_ok-check_stored.ensures.exact c.in_err-deletions.ensures)
 
 pub of_series-requires : goal.of_series-requires
-of_series-requires c =
+of_series-requires g c =
     subst IsPart (sym c.in_ok-rows.ensures)
     (is_part c.args.index.now c.in_ok-chunks.chunks c.in_ok-entries.entries
     c.in_ok-deletions.deletions c.in_ok-entries.ensures.found c.in_ok-check_stored.ensures.held)
 
 pub returns-clause-exact : goal.returns-clause-exact
-returns-clause-exact c =
+returns-clause-exact g c =
     let x = c.in_ok-deletions.ensures in
     let e = walk_gives c.args.index.now c.args.chunks.items c.args.tombstones.now
     c.in_ok-entries.entries c.in_ok-chunks.chunks x.0 c.in_ok-deletions.deletions
@@ -62,7 +62,7 @@ returns-clause-exact c =
     e ∙ ap (λ (p : Part). Ok p) (sym c.in_ok-rows.ensures ∙ sym c.of_series.ensures)
 
 pub returns-clause-found : goal.returns-clause-found
-returns-clause-found c =
+returns-clause-found g c =
     let x = c.in_ok-deletions.ensures in
     let spelled = walk_spelled c.args.index.now c.args.chunks.items c.args.tombstones.now
     c.in_ok-entries.entries c.in_ok-chunks.chunks x.0 c.in_ok-deletions.deletions (λ i.

@@ -1,6 +1,6 @@
 use Rattle.std.proofs.lemmas.Result.{err_from_is_err_and}
 use Rattle.audit_command.proofs.Directories.{one_more, first_fault}
-use Rattle.audit_command.proofs.tables.tables_at.Goals as goal
+use Rattle.audit_command.proofs.tables.tables_by.Goals as goal
 
 pub loop-directory-preserved : goal.loop-directory-preserved
 loop-directory-preserved g c = rw c.in_ok-push.ensures.items

@@ -1,4 +1,4 @@
-use Rattle.audit_command.proofs.tables.table_of.Goals as goal
+use Rattle.audit_command.proofs.walking.table_by_one.Goals as goal
 
 pub returns-in-Ok : goal.returns-in-Ok
 returns-in-Ok c = rw (c.as_slice.ensures.value, c.as_slice-2.ensures.value) at c.in-Ok.ensures.found
