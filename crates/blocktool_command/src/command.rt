@@ -4,10 +4,10 @@ use crate::from_openmetrics::TextIn;
 use crate::target::Target;
 use crate::text_commands::{from_openmetrics, from_rows, text_line_in, to_openmetrics};
 use crate::to_openmetrics::ReplyIn;
+use crate::words::{DECIMALS, FROM, INTO, Kind, REST, STALE, TO, Word, command_of};
 use block_outputs::Stretch;
-use clap::builder::ValueParser;
 use clap::error::ErrorKind;
-use clap::{Arg, ArgMatches, Command, Error, value_parser};
+use clap::{ArgMatches, Command, Error};
 use imported_values::{Digits, Policy, Rest, Stale};
 use labels::{MAX_TIME, MIN_TIME};
 use std::alloc::{AllocError, Global};
@@ -36,14 +36,6 @@ pub(crate) enum Line<'a> {
     /// Text out of a reply.
     ToOpenMetrics(ReplyIn<'a>),
 }
-
-const CHOICES: [&str; 2] = ["refuse", "drop"];
-
-const RESTS: [&str; 3] = ["refuse", "drop", "round"];
-
-const FROM: &str = "The first time that is kept, in milliseconds [default: -2^62]";
-
-const TO: &str = "The last time that is kept, in milliseconds [default: 2^62 - 1]";
 
 const ABOUT: &str =
     "Exit status: 0 done; 1 refused, with the reason on standard error; 2 a fault of the words;
@@ -111,104 +103,61 @@ Example: blocktool list mine/0001 mine/0002";
 /// What `--version` tells behind the name.
 const VERSION: &str = "0.1.0 (rattle-kit-13f)";
 
-const ABOUT_DIGITS: &str = "How many digits after the point are kept, 0 to 9 [default: 0]";
+const IMPORT: [Word<'static>; 7] = [
+    DECIMALS,
+    REST,
+    STALE,
+    FROM,
+    TO,
+    INTO,
+    Word {
+        name: "blocks",
+        value: "BLOCK",
+        help: "A block of Prometheus, or a folder that holds some",
+        kind: Kind::Many,
+    },
+];
 
-const ABOUT_REST: &str =
-    "What is done with values that need more digits, NaN and infinities [default: refuse]";
+const DIRECTORIES: Word<'static> = Word {
+    name: "directories",
+    value: "DIR",
+    help: "A directory with a block",
+    kind: Kind::Many,
+};
 
-const ABOUT_STALE: &str = "What is done with stale markers [default: drop]";
+const REWRITE: [Word<'static>; 2] = [INTO, DIRECTORIES];
 
-fn time<'a>(alloc: Global, name: &'a str, help: &'a str) -> Arg<'a> {
-    Arg::new(alloc, name)
-        .long(name)
-        .value_name("T")
-        .value_parser(value_parser!(i64))
-        .help(help)
-}
-
-/// An option `--NAME VALUE`.
-fn option<'a>(alloc: Global, name: &'a str, value: &'a str, help: &'a str) -> Arg<'a> {
-    Arg::new(alloc, name)
-        .long(name)
-        .value_name(value)
-        .help(help)
-}
-
-fn choice<'a>(alloc: Global, name: &'a str, choices: &'a [&'a str], help: &'a str) -> Arg<'a> {
-    option(alloc, name, "WHAT", help).value_parser(ValueParser::from(choices))
-}
-
-pub(crate) fn digits<'a>(alloc: Global) -> Arg<'a> {
-    option(alloc, "decimals", "N", ABOUT_DIGITS).value_parser(ValueParser::unsigned(0, 9))
-}
-
-pub(crate) fn into<'a>(alloc: Global) -> Arg<'a> {
-    let help = "The directory for the outputs: empty, or not there";
-    option(alloc, "into", "OUT", help).required(true)
-}
-
-fn blocks<'a>(alloc: Global) -> Arg<'a> {
-    Arg::new(alloc, "blocks")
-        .value_name("BLOCK")
-        .num_args(1..)
-        .required(true)
-        .help("A block of Prometheus, or a folder that holds some")
-}
-
-/// A command with the options of an import.
-pub(crate) fn with_options<'a>(
-    alloc: Global,
-    command: Command<'a>,
-) -> Result<Command<'a>, AllocError> {
-    command
-        .arg(digits(alloc))?
-        .arg(choice(alloc, "rest", RESTS.as_slice(), ABOUT_REST))?
-        .arg(choice(alloc, "stale", CHOICES.as_slice(), ABOUT_STALE))?
-        .arg(time(alloc, "from", FROM))?
-        .arg(time(alloc, "to", TO))?
-        .arg(into(alloc))
-}
+const LIST: [Word<'static>; 1] = [DIRECTORIES];
 
 fn from_prometheus<'a>(alloc: Global) -> Result<Command<'a>, AllocError> {
-    let command = Command::new(alloc, "from-prometheus")
-        .about("Makes blocks out of blocks of Prometheus")
-        .after_help(PROMETHEUS);
-    with_options(alloc, command)?.arg(blocks(alloc))
-}
-
-fn directories<'a>(alloc: Global) -> Arg<'a> {
-    Arg::new(alloc, "directories")
-        .value_name("DIR")
-        .num_args(1..)
-        .required(true)
-        .help("A directory with a block")
+    let about = "Makes blocks out of blocks of Prometheus";
+    command_of(
+        alloc,
+        "from-prometheus",
+        (about, PROMETHEUS),
+        IMPORT.as_slice(),
+    )
 }
 
 fn rewrite<'a>(alloc: Global) -> Result<Command<'a>, AllocError> {
-    Command::new(alloc, "rewrite")
-        .about("Makes blocks of the samples of blocks that are not deleted")
-        .after_help(ABOUT_REWRITE)
-        .arg(into(alloc))?
-        .arg(directories(alloc))
+    let about = "Makes blocks of the samples of blocks that are not deleted";
+    command_of(alloc, "rewrite", (about, ABOUT_REWRITE), REWRITE.as_slice())
 }
 
 fn list<'a>(alloc: Global) -> Result<Command<'a>, AllocError> {
-    Command::new(alloc, "list")
-        .about("Lists what blocks have")
-        .after_help(ABOUT_LIST)
-        .arg(directories(alloc))
+    let about = "Lists what blocks have";
+    command_of(alloc, "list", (about, ABOUT_LIST), LIST.as_slice())
 }
 
 /// The program, without its commands.
 fn named<'a>(alloc: Global) -> Result<Command<'a>, AllocError> {
-    let command = Command::new(alloc, "blocktool")
-        .bin_name("blocktool")?
+    Command::new(alloc, "blocktool")
         .about("Makes blocks for `querier` and `auditor` out of other programs' data")
         .after_help(ABOUT)
         .version(VERSION)
         .no_binary_name(true)
-        .subcommand_required(true);
-    Ok(command)
+        .subcommand_required(true)
+        .bin_name("blocktool")
 }
 
 /// Adds a command, if there was memory for it.
@@ -216,17 +165,50 @@ fn add<'a>(
     command: Command<'a>,
     other: Result<Command<'a>, AllocError>,
 ) -> Result<Command<'a>, AllocError> {
-    command.subcommand(other?)
+    match other {
+        Ok(other) => command.subcommand(other),
+        Err(error) => Err(error),
+    }
+}
+
+/// A command of the program.
+#[derive(Clone, Copy, Drop)]
+enum Verb {
+    FromPrometheus,
+    Rewrite,
+    List,
+    FromOpenMetrics,
+    FromRows,
+    ToOpenMetrics,
+}
+
+/// The commands, in the order of the help.
+const VERBS: [Verb; 6] = [
+    Verb::FromPrometheus,
+    Verb::Rewrite,
+    Verb::List,
+    Verb::FromOpenMetrics,
+    Verb::FromRows,
+    Verb::ToOpenMetrics,
+];
+
+fn command_for<'a>(alloc: Global, verb: Verb) -> Result<Command<'a>, AllocError> {
+    match verb {
+        Verb::FromPrometheus => from_prometheus(alloc),
+        Verb::Rewrite => rewrite(alloc),
+        Verb::List => list(alloc),
+        Verb::FromOpenMetrics => from_openmetrics(alloc),
+        Verb::FromRows => from_rows(alloc),
+        Verb::ToOpenMetrics => to_openmetrics(alloc),
+    }
 }
 
 fn blocktool<'a>(alloc: Global) -> Result<Command<'a>, AllocError> {
-    let command = named(alloc)?;
-    let command = add(command, from_prometheus(alloc))?;
-    let command = add(command, rewrite(alloc))?;
-    let command = add(command, list(alloc))?;
-    let command = add(command, from_openmetrics(alloc))?;
-    let command = add(command, from_rows(alloc))?;
-    add(command, to_openmetrics(alloc))
+    let mut command = named(alloc)?;
+    for verb in VERBS.as_slice() {
+        command = add(command, command_for(alloc, *verb))?;
+    }
+    Ok(command)
 }
 
 fn time_in(found: &ArgMatches<'_>, name: &str, other: i64) -> i64 {

@@ -34,6 +34,7 @@ mod teller;
 mod text_commands;
 mod texts;
 mod to_openmetrics;
+mod words;
 mod writing;
 
 pub use fault::Fault;

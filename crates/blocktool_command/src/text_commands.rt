@@ -1,15 +1,13 @@
 //! The words of the commands that read and write text.
 
-use crate::command::{Line, digits, digits_in, into, options_in, with_options};
+use crate::command::{Line, digits_in, options_in};
 use crate::from_openmetrics::TextIn;
 use crate::target::Target;
 use crate::to_openmetrics::ReplyIn;
-use clap::builder::ValueParser;
-use clap::{Arg, ArgMatches, Command};
+use crate::words::{DECIMALS, FROM, INTO, Kind, REST, STALE, TO, Word, command_of};
+use clap::{ArgMatches, Command};
 use open_metrics::Format;
 use std::alloc::{AllocError, Global};
-
-const FORMATS: [&str; 2] = ["openmetrics", "prometheus"];
 
 const ABOUT_FROM: &str =
     "FILE, or standard input, is OpenMetrics text, whose times are in seconds and which ends with
@@ -55,17 +53,47 @@ words; 3 cannot read or write; 4 no memory
 
 Example: querier select 'up' mine/* | blocktool to-openmetrics --decimals 3 >up.om";
 
-fn file<'a>(alloc: Global, help: &'a str) -> Arg<'a> {
-    Arg::new(alloc, "file").value_name("FILE").help(help)
-}
+const TEXT: [Word<'static>; 8] = [
+    DECIMALS,
+    REST,
+    STALE,
+    FROM,
+    TO,
+    INTO,
+    Word {
+        name: "format",
+        value: "FORMAT",
+        help: "The format of the text [default: openmetrics]",
+        kind: Kind::Format,
+    },
+    Word {
+        name: "file",
+        value: "FILE",
+        help: "A file with text [default: standard input]",
+        kind: Kind::One,
+    },
+];
 
-fn format<'a>(alloc: Global) -> Arg<'a> {
-    Arg::new(alloc, "format")
-        .long("format")
-        .value_name("FORMAT")
-        .value_parser(ValueParser::from(FORMATS.as_slice()))
-        .help("The format of the text [default: openmetrics]")
-}
+const ROWS: [Word<'static>; 3] = [
+    DECIMALS,
+    INTO,
+    Word {
+        name: "file",
+        value: "FILE",
+        help: "A file with rows [default: standard input]",
+        kind: Kind::One,
+    },
+];
+
+const REPLY: [Word<'static>; 2] = [
+    DECIMALS,
+    Word {
+        name: "file",
+        value: "FILE",
+        help: "A file with a reply [default: standard input]",
+        kind: Kind::One,
+    },
+];
 
 fn format_in(found: &ArgMatches<'_>) -> Format {
     if found.get_str("format") == Some("prometheus") {
@@ -76,29 +104,23 @@ fn format_in(found: &ArgMatches<'_>) -> Format {
 }
 
 pub(crate) fn from_openmetrics<'a>(alloc: Global) -> Result<Command<'a>, AllocError> {
-    let command = Command::new(alloc, "from-openmetrics")
-        .about("Makes blocks out of OpenMetrics text")
-        .after_help(ABOUT_FROM);
-    with_options(alloc, command)?
-        .arg(format(alloc))?
-        .arg(file(alloc, "A file with text [default: standard input]"))
+    let about = "Makes blocks out of OpenMetrics text";
+    command_of(
+        alloc,
+        "from-openmetrics",
+        (about, ABOUT_FROM),
+        TEXT.as_slice(),
+    )
 }
 
 pub(crate) fn from_rows<'a>(alloc: Global) -> Result<Command<'a>, AllocError> {
-    Command::new(alloc, "from-rows")
-        .about("Makes blocks out of the rows of a reply or of a write")
-        .after_help(ABOUT_ROWS)
-        .arg(digits(alloc))?
-        .arg(into(alloc))?
-        .arg(file(alloc, "A file with rows [default: standard input]"))
+    let about = "Makes blocks out of the rows of a reply or of a write";
+    command_of(alloc, "from-rows", (about, ABOUT_ROWS), ROWS.as_slice())
 }
 
 pub(crate) fn to_openmetrics<'a>(alloc: Global) -> Result<Command<'a>, AllocError> {
-    Command::new(alloc, "to-openmetrics")
-        .about("Writes the rows of a reply as OpenMetrics text")
-        .after_help(ABOUT_TO)
-        .arg(digits(alloc))?
-        .arg(file(alloc, "A file with a reply [default: standard input]"))
+    let about = "Writes the rows of a reply as OpenMetrics text";
+    command_of(alloc, "to-openmetrics", (about, ABOUT_TO), REPLY.as_slice())
 }
 
 fn text_in<'a>(found: &ArgMatches<'a>) -> Option<Line<'a>> {

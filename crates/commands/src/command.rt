@@ -333,14 +333,13 @@ fn serve<'a>(alloc: Global) -> Result<Command<'a>, AllocError>
 fn named<'a>(alloc: Global) -> Result<Command<'a>, AllocError>
     ensures { IfOk result (λ command. app_of command ≡ named_app) }
 {
-    let command = Command::new(alloc, "querier")
-        .bin_name("querier")?
+    Command::new(alloc, "querier")
         .about("Answers selectors over series, with a certificate that shows each answer whole")
         .after_help(STATUSES)
         .version(VERSION)
         .no_binary_name(true)
-        .subcommand_required(true);
-    Ok(command)
+        .subcommand_required(true)
+        .bin_name("querier")
 }
 
 /// Adds a subcommand, if there was memory for it.
@@ -351,7 +350,10 @@ fn add<'a>(
     ensures { IfOk result (λ added. IsOkAnd other.entry
         (λ subcommand. AddsSubcommand command.entry subcommand added)) }
 {
-    command.subcommand(other?)
+    match other {
+        Ok(other) => command.subcommand(other),
+        Err(error) => Err(error),
+    }
 }
 
 fn querier<'a>(alloc: Global) -> Result<Command<'a>, AllocError>
