@@ -128,7 +128,8 @@ pub(crate) fn append_searched_back(out: &mut Vec<u8>, answer: &PartAnswer) -> Re
 
 /// Appends the answer of a part.
 fn append_searched(alloc: Global, out: &mut Vec<u8>, answer: &PartAnswer) -> Result<(), AllocError>
-    ensures { OnOk result (out.new.items ≡ out.old.items ++ compact_text (searched_data answer.now)) }
+    ensures { OnOk result
+        (out.new.items ≡ out.old.items ++ compact_text (searched_data answer.now)) }
 {
     append_searched_front(alloc, out, answer)?;
     append_rows(out, answer.rows.as_slice())?;

@@ -123,10 +123,10 @@ impl Block {
         open_with_checker(&OneThread, alloc, range, index, read, chunks, tombstones)
     }
 
-    /// The same as [`Block::open`], with the bodies of the series and the checks of the chunks shared
-    /// out over at most `threads` threads, the calling one among them. The answer does not depend on their number, nor on
-    /// whether they can be started. Ask for four for each processor: the shares are equal in
-    /// series, not in work.
+    /// The same as [`Block::open`], with the bodies of the series and the checks of the chunks
+    /// shared out over at most `threads` threads, the calling one among them. The answer does not
+    /// depend on their number, nor on whether they can be started. Ask for four for each processor:
+    /// the shares are equal in series, not in work.
     pub fn open_by<R: Threads + Sync>(
         rt: &R,
         threads: usize,

@@ -32,8 +32,9 @@
 //!
 //! Rooms: `layout` reads where the parts stand, `symbols` the texts, `series_entries` with `body`,
 //! `chunk` and `bodies` the series, which `sharing` shares out over several threads and `joining`
-//! puts together, `offset_table` with `keys` and `pairs` the pairs, `postings` the lists. `agreement` holds the lists against the series, and `checks` has all checks in their
-//! order. What is kept is an `index` of `pairs`, `series` and `lists`.
+//! puts together, `offset_table` with `keys` and `pairs` the pairs, `postings` the lists.
+//! `agreement` holds the lists against the series, and `checks` has all checks in their order. What
+//! is kept is an `index` of `pairs`, `series` and `lists`.
 #![tactic(auto)]
 
 mod agreement;

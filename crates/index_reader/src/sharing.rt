@@ -67,7 +67,8 @@ pub trait Readers {
     ) -> Result<Bodies, IndexError>
         requires ready { is_ready self.now }
         requires small { All (λ e. e.offset < 2 ^ 32) entries.now }
-        ensures { AreBodiesOf (bytes_of symbols.now.texts.items) (entries_seen entries.now) result };
+        ensures { AreBodiesOf (bytes_of symbols.now.texts.items) (entries_seen entries.now)
+            result };
 }
 
 /// The calling thread alone.
