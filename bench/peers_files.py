@@ -16,7 +16,6 @@ COMMANDS = [
 AUDITS = [
     (100_000, 60, "one series", ONE, "check", 1.2),
     (10_000, 120, "all", ALL, "select", 4),
-    (100_000, 60, "all", ALL, "select", None),
 ]
 
 
@@ -63,7 +62,7 @@ def command(house, table, rounds, quick):
 
 def audits(house, table, rounds, quick):
     table.title("Audits, ms and peak memory", "`check`, `select`")
-    for series, samples, name, selector, other, most in AUDITS[:2] if quick else AUDITS:
+    for series, samples, name, selector, other, most in AUDITS:
         work = f"{name} of {series:,} x {samples}"
         tell(f"audits: {work}")
         block, reply = house.block(series, samples), f"{house.work}/reply"
@@ -75,8 +74,7 @@ def audits(house, table, rounds, quick):
         here = costs["audit"]
         ratio = here.median / costs[other].median
         bound = megabytes(*files_of(block)) + 2 * megabytes(reply)
-        target = f"{most} of `{other}`, {bound:.0f} MB" if most else f"{bound:.0f} MB"
         table.row(work, f"{milli(here.median)}, {here.peak:.0f} MB",
                   f"{milli(costs['check'].median)}, {milli(costs['select'].median)}",
-                  f"{ratio:.2f} of `{other}`", target,
-                  (not most or ratio <= most) and here.peak <= bound)
+                  f"{ratio:.2f} of `{other}`", f"{most}, {bound:.0f} MB",
+                  ratio <= most and here.peak <= bound)

@@ -7,12 +7,13 @@ from peers_house import MB, Failed, tell
 from peers_table import milli
 
 SMALL = 'metric_3{instance="host-00012:9100"}'
+MIDDLE = '{job="job-07"}'
 ALL = '{dc="main"}'
 BLOCKS = [(10_000, 120), (100_000, 60)]
 # the work, its selector, and the most of the faster peer's time: over new connections, and over kept ones
 SELECTORS = [
     ("one series", SMALL, 0.5, 0.7),
-    ("one in a hundred", '{job="job-07"}', 0.6, None),
+    ("one in a hundred", MIDDLE, 0.6, None),
     ("`!=` within one metric", 'metric_3{job!="job-07"}', 0.6, None),
     ("`!~` within one metric", 'metric_3{job!~"job-[01].*"}', 0.6, None),
     ("an absent label within one metric", 'metric_3{zone=""}', 0.6, None),
@@ -27,15 +28,13 @@ BATCHES = [
     ("100 samples of 100 series", 100, 1, 16, None),
 ]
 NESTED = "(((((((a{10}){10}){10}){10}){10}){10}){10}){10}"
-PATTERNS = [
-    (f"`{NESTED}`", NESTED),
-    ("`[\\pL\\pN]{100}` with 120 words beside it", "[\\\\pL\\\\pN]{100}" + "|x" * 120),
-]
+# refused; and accepted, the dearest that were found
+PATTERNS = [NESTED, "\\w{400}", "(\\w*\\W*){100}"]
 
 
 def asked_in_turn(house, servers, selector, rounds, kept=True):
     """Of each server by its name: milliseconds over new connections, and over a kept one, and the
-    reply's bytes; and the series and samples, which are the same of all."""
+    reply's bytes; and the number of series, which is the same of all, as is that of samples."""
     lines = [(server, "new") for server in servers]
     lines += [(server, "kept") for server in servers[1:] if kept]
     asked = "".join(f"{how} {server.port} {server.target(selector)}\n" for server, how in lines)
@@ -47,7 +46,7 @@ def asked_in_turn(house, servers, selector, rounds, kept=True):
     found = {}
     for (server, how), (middle, _, size, _, _) in zip(lines, told):
         found.setdefault(server.name, {"bytes": int(size)})[how] = float(middle)
-    return found, *map(int, counts.pop())
+    return found, int(told[0][3])
 
 
 def compared(here, others, most, kept_most):
@@ -63,10 +62,20 @@ def compared(here, others, most, kept_most):
     return text, f"{most or ''}{f' ({kept_most})' if kept_most else ''}", met
 
 
+def size_of(count):
+    return f"{count / 1e3:.0f} kB" if count < 1e6 else f"{count / MB:.0f} MB"
+
+
+def selector_of(pattern):
+    """A selector with a pattern, whose backslashes are escaped."""
+    return '{a=~"' + pattern.replace("\\", "\\\\") + '"}'
+
+
 def rounds_of(selector, rounds, is_large):
     if selector == SMALL:
         return rounds * 20
-    return max(3, rounds // 3) if is_large or selector == ALL else rounds
+    is_dear = selector == ALL or is_large and selector != MIDDLE
+    return max(3, rounds // 3) if is_dear else rounds
 
 
 def http(house, table, rounds, quick):
@@ -77,22 +86,26 @@ def http(house, table, rounds, quick):
         with house.serving(block) as querier, house.peers(series, samples) as peers:
             names = ", ".join(f"{one.name} (kept)" for one in peers)
             table.title(f"HTTP, {series:,} x {samples}, ms", names)
+            servers = [querier, *peers]
             for work, selector, most, kept_most in SELECTORS:
-                tell(f"http: {work}")
-                is_all = selector == ALL
-                found, rows, _ = asked_in_turn(
-                    house, [querier, *peers], selector, rounds_of(selector, rounds, is_large),
-                    kept=not is_all)
-                here, others = found["querier"], [found[one.name] for one in peers]
-                beside = ", ".join(milli(one["new"]) + (f" ({milli(one['kept'])})" if not is_all else "")
-                                   for one in others)
-                most = None if is_all and is_large else most
-                table.row(f"{work}: {rows:,} series, {here['bytes'] / MB:.2g} MB",
-                          milli(here["new"]), beside, *compared(here["new"], others, most, kept_most))
+                most = None if is_large and selector == ALL else most
+                count = rounds_of(selector, rounds, is_large)
+                asked(house, table, servers, work, selector, count, (most, kept_most))
             if not is_large:
-                at_once(house, table, [querier, *peers], 1 if quick else 2)
-            peaks = [f"{one.peak():.0f}" for one in [querier, *peers]]
-            table.row("peak memory after these, MB", peaks[0], ", ".join(peaks[1:]))
+                at_once(house, table, servers, 1 if quick else 2)
+            here, *others = (f"{one.peak():.0f}" for one in servers)
+            table.row("peak memory after these, MB", here, ", ".join(others))
+
+
+def asked(house, table, servers, work, selector, rounds, targets):
+    """The row of a selector."""
+    tell(f"http: {work}")
+    found, series = asked_in_turn(house, servers, selector, rounds, kept=selector != ALL)
+    here, *others = (found[one.name] for one in servers)
+    beside = ", ".join(
+        milli(one["new"]) + (f" ({milli(one['kept'])})" if "kept" in one else "") for one in others)
+    table.row(f"{work}: {series:,} series, {size_of(here['bytes'])}", milli(here["new"]), beside,
+              *compared(here["new"], others, *targets))
 
 
 def at_once(house, table, servers, seconds):
@@ -138,7 +151,7 @@ def memory(house, table, rounds, quick):
     tell("memory: 16 clients")
     with house.serving(house.block(10_000, 120)) as querier:
         before = querier.peak()
-        found, _, _ = asked_in_turn(house, [querier], ALL, 1)
+        found, _ = asked_in_turn(house, [querier], ALL, 1)
         reply = found["querier"]["bytes"] / MB
         house.load(querier.port, 16, 2 if quick else 4, "get", querier.target(ALL))
         each = (querier.peak() - 40) / 16 / reply
@@ -150,29 +163,30 @@ def memory(house, table, rounds, quick):
 
 def patterns(house, table, rounds, quick):
     table.title("Patterns, ms more than a plain selector takes")
-    for name, pattern in PATTERNS:
-        tell(f"patterns: {name}")
+    for pattern in PATTERNS:
+        tell(f"patterns: {pattern}")
         first, again, grown = [], [], []
         for _ in range(2 if quick else 5):
             with house.serving(workers=1) as querier:
-                plain, dear = querier.target('{a="b"}'), querier.target(f'{{a=~"{pattern}"}}')
-                usual = statistics.median(querier.ask(plain) for _ in range(20))
+                plain, dear = querier.target('{a="b"}'), querier.target(selector_of(pattern))
+                usual = statistics.median(querier.ask(plain) for _ in range(30))
                 before = querier.peak()
                 first.append(querier.ask(dear) - usual)
-                again.append(statistics.median(querier.ask(dear) for _ in range(9)) - usual)
+                more = 1 if querier.ask(dear) > 20 else 30
+                again.append(statistics.median(querier.ask(dear) for _ in range(more)) - usual)
                 grown.append(querier.peak() - before)
         built, later, grew = statistics.median(first), statistics.median(again), max(grown)
-        table.row(name, f"{milli(built)}, {grew:.0f} MB", "", "", "50, 16 MB",
+        table.row(f"`{pattern}`", f"{milli(built)}, {grew:.0f} MB", "", "", "50, 16 MB",
                   built <= 50 and grew <= 16)
         table.row("the same again", milli(max(0.0, later)), "", "", "0.1", later <= 0.1)
-    with house.serving(house.block(10_000, 120)) as querier:
+    with house.serving(house.block(10_000, 120), workers=4) as querier:
         beside_patterns(house, table, querier, 15 if quick else 60)
 
 
 def beside_patterns(house, table, querier, rounds):
     """A small query alone, and beside eight clients that send a pattern."""
     asked = f"new {querier.port} {querier.target(SMALL)}\n"
-    dear = querier.target(f'{{a=~"{NESTED}"}}')
+    dear = querier.target(selector_of(NESTED))
     alone = house.tool("turns", 300, input=asked).split()
     load = [f"{house.work}/load", str(querier.port), "8", "60", "get", dear]
     clients = subprocess.Popen(load, stdout=subprocess.DEVNULL)
@@ -183,5 +197,5 @@ def beside_patterns(house, table, querier, rounds):
         clients.kill()
         clients.wait()
     here, most, usual = float(told[0]), float(told[1]), float(alone[0])
-    table.row("one series beside eight clients that send the first", f"{milli(here)}, most {milli(most)}",
+    table.row("one series, four workers, beside eight clients that send the first", f"{milli(here)}, most {milli(most)}",
               f"alone {milli(usual)}", f"{here / usual:.1f}")
