@@ -10,7 +10,7 @@ SMALL = 'metric_3{instance="host-00012:9100"}'
 MIDDLE = '{job="job-07"}'
 ALL = '{dc="main"}'
 BLOCKS = [(10_000, 120), (100_000, 60)]
-# the work, its selector, and the most of the faster peer's time: over new connections, and over kept ones
+# the work, its selector, and the most of the faster peer's time over new connections and kept ones
 SELECTORS = [
     ("one series", SMALL, 0.5, 0.7),
     ("one in a hundred", MIDDLE, 0.6, None),
@@ -90,15 +90,15 @@ def http(house, table, rounds, quick):
             for work, selector, most, kept_most in SELECTORS:
                 most = None if is_large and selector == ALL else most
                 count = rounds_of(selector, rounds, is_large)
-                asked(house, table, servers, work, selector, count, (most, kept_most))
+                selector_row(house, table, servers, work, selector, count, (most, kept_most))
             if not is_large:
                 at_once(house, table, servers, 1 if quick else 2)
             here, *others = (f"{one.peak():.0f}" for one in servers)
             table.row("peak memory after these, MB", here, ", ".join(others))
 
 
-def asked(house, table, servers, work, selector, rounds, targets):
-    """The row of a selector."""
+def selector_row(house, table, servers, work, selector, rounds, targets):
+    """Asks for a selector, and prints its row."""
     tell(f"http: {work}")
     found, series = asked_in_turn(house, servers, selector, rounds, kept=selector != ALL)
     here, *others = (found[one.name] for one in servers)
@@ -117,7 +117,6 @@ def at_once(house, table, servers, seconds):
 
 
 def writes(house, table, rounds, quick):
-    turns = 1 if quick else 3
     with house.serving() as querier, house.victoria_if() as victoria:
         ways = [("write", querier)]
         if victoria:
@@ -125,14 +124,7 @@ def writes(house, table, rounds, quick):
         table.title("Writes, million samples a second", "VictoriaMetrics (kept)" if victoria else "")
         for work, series, samples, clients, least in BATCHES:
             tell(f"writes: {clients} clients, {work}")
-            rates = {way: [] for way, _ in ways}
-            for _ in range(turns):
-                for way, server in ways:
-                    told = house.load(server.port, clients, 1, way, series, samples)
-                    if told["bad"]:
-                        raise Failed(f"{server.name} refused {told['bad']} batches of {work}")
-                    rates[way].append(told["rate"] * series * samples / 1e6)
-            here, *others = (statistics.median(one) for one in rates.values())
+            here, *others = rates_in_turn(house, ways, 1 if quick else 3, (clients, series, samples))
             beside, ratio, target, met = "", "", "", True
             if others:
                 beside = f"{others[0]:.2f} ({others[1]:.2f})"
@@ -145,6 +137,19 @@ def writes(house, table, rounds, quick):
             table.row(f"{work}, {clients}", f"{here:.2f}", beside, ratio, target, met)
         table.row("peak memory after these, MB", f"{querier.peak():.0f}",
                   f"{victoria.peak():.0f}" if victoria else "")
+
+
+def rates_in_turn(house, ways, turns, batch):
+    """The median rate of each way to write, a second each in turn, in millions of samples."""
+    clients, series, samples = batch
+    rates = {way: [] for way, _ in ways}
+    for _ in range(turns):
+        for way, server in ways:
+            told = house.load(server.port, clients, 1, way, series, samples)
+            if told["bad"]:
+                raise Failed(f"{server.name} refused {told['bad']} batches ({way})")
+            rates[way].append(told["rate"] * series * samples / 1e6)
+    return [statistics.median(one) for one in rates.values()]
 
 
 def memory(house, table, rounds, quick):
@@ -197,5 +202,5 @@ def beside_patterns(house, table, querier, rounds):
         clients.kill()
         clients.wait()
     here, most, usual = float(told[0]), float(told[1]), float(alone[0])
-    table.row("one series, four workers, beside eight clients that send the first", f"{milli(here)}, most {milli(most)}",
-              f"alone {milli(usual)}", f"{here / usual:.1f}")
+    table.row("one series, four workers, beside eight clients that send the first",
+              f"{milli(here)}, most {milli(most)}", f"alone {milli(usual)}", f"{here / usual:.1f}")
