@@ -203,4 +203,4 @@ def beside_patterns(house, table, querier, rounds):
         clients.wait()
     here, most, usual = float(told[0]), float(told[1]), float(alone[0])
     table.row("one series, four workers, beside eight clients that send the first",
-              f"{milli(here)}, most {milli(most)}", f"alone {milli(usual)}", f"{here / usual:.1f}")
+              f"{milli(here)}, most {milli(most)}", f"alone {milli(usual)}", f"{here / usual:,.0f}")
