@@ -79,8 +79,8 @@ pages-html: ## has the program `explain` show replies of any kind, and checks th
 scaling: ## asks four queriers over the quarters of a block, and compares their rows with those of one (needs rustc and python3)
 	@RT="$(RT)" tests/scaling
 
-bench: ## measures speed (never part of the gate)
-	@RT="$(RT)" bench/run && RT="$(RT)" bench/check && RT="$(RT)" bench/select && RT="$(RT)" bench/audit && RT="$(RT)" bench/serve && RT="$(RT)" bench/patterns
+bench: ## measures speed, first beside Prometheus and VictoriaMetrics (never part of the gate)
+	@RT="$(RT)" bench/peers && RT="$(RT)" bench/run && RT="$(RT)" bench/check && RT="$(RT)" bench/select && RT="$(RT)" bench/audit && RT="$(RT)" bench/serve
 
 install: ## proves what querier, auditor, explain and blocktool stand on, with a line for each crate, builds them, and copies them to PREFIX/bin
 	@$(MAKE) --no-print-directory -j $(GATE_JOBS) proved-querier proved-auditor_program proved-explain proved-blocktool

@@ -1,8 +1,11 @@
 //! load PORT CLIENTS SECONDS get TARGET: so many clients ask for a target again and again.
-//! load PORT CLIENTS SECONDS write: so many clients write 4,096 samples a request, each to 256 series of its own.
+//! load PORT CLIENTS SECONDS write [SERIES SAMPLES]: so many clients write batches, each to 256 series of its own, of 16
+//! samples a request, or to as many and of as many as the numbers say.
 //! load PORT fill SERIES SAMPLES: one client writes the series of make_block.rs, 4,096 samples a request at most.
-//! One connection a request; a request is made before its time begins. It prints replies, replies that are not `200`,
-//! replies a second, and the median, the 99th percentile and the greatest time of a reply in milliseconds.
+//! `import` in place of `write`, and `fill SERIES SAMPLES import`, are for VictoriaMetrics; `import-kept` keeps each
+//! client's connection. Else there is one connection a request. A request is made before its time begins. It prints
+//! replies, replies that are no success, replies a second, and the median, the 99th percentile and the greatest time of a
+//! reply in milliseconds.
 //! std only: rustc -O load.rs
 use std::io::{self, Read, Write};
 use std::net::TcpStream;
@@ -13,11 +16,11 @@ use std::{env, process, thread};
 #[path = "make_block.rs"]
 mod make_block;
 
-const SERIES: u64 = 256;
-const SAMPLES: u64 = 16;
 const MOST: i64 = 4096;
+/// A time that is put in anew for each request.
+const TIME: &str = "1750000000000";
 
-/// How requests were replied to: the time of each, those that were not `200`, and all bytes.
+/// How requests were replied to: the time of each, those that failed, and all bytes.
 #[derive(Default)]
 struct Replies {
     times: Vec<Duration>,
@@ -27,12 +30,12 @@ struct Replies {
 
 impl Replies {
     /// Asks once, and reads the reply to its end.
-    fn ask(&mut self, port: u16, request: &[u8], reply: &mut Vec<u8>) {
+    fn ask(&mut self, link: &mut Link, request: &[u8], reply: &mut Vec<u8>) {
         let before = Instant::now();
-        let told = exchange(port, request, reply);
+        let told = link.exchange(request, reply);
         self.times.push(before.elapsed());
         self.bytes += reply.len() as u64;
-        if told.is_err() || !reply.starts_with(b"HTTP/1.1 200 ") {
+        if told.is_err() || !reply.starts_with(b"HTTP/1.1 20") {
             self.bad += 1;
         }
     }
@@ -58,50 +61,112 @@ impl Replies {
     }
 }
 
-fn exchange(port: u16, request: &[u8], reply: &mut Vec<u8>) -> io::Result<()> {
-    reply.clear();
-    let mut stream = TcpStream::connect(("127.0.0.1", port))?;
-    stream.set_nodelay(true)?;
-    stream.write_all(request)?;
-    stream.read_to_end(reply)?;
-    Ok(())
+/// How a client reaches a server.
+struct Link {
+    port: u16,
+    kept: bool,
+    stream: Option<TcpStream>,
 }
 
-fn posted(body: &str) -> Vec<u8> {
-    format!("POST /write HTTP/1.1\r\nContent-Length: {}\r\n\r\n{body}", body.len()).into_bytes()
+impl Link {
+    fn new(port: u16, kept: bool) -> Link {
+        Link { port, kept, stream: None }
+    }
+
+    fn exchange(&mut self, request: &[u8], reply: &mut Vec<u8>) -> io::Result<()> {
+        reply.clear();
+        let mut stream = match self.stream.take() {
+            Some(stream) => stream,
+            None => TcpStream::connect(("127.0.0.1", self.port))?,
+        };
+        stream.set_nodelay(true)?;
+        stream.write_all(request)?;
+        if !self.kept {
+            stream.read_to_end(reply)?;
+            return Ok(());
+        }
+        // a reply to an import has no body
+        let mut piece = [0; 4096];
+        while !reply.ends_with(b"\r\n\r\n") {
+            let count = stream.read(&mut piece)?;
+            if count == 0 {
+                return Err(io::ErrorKind::UnexpectedEof.into());
+            }
+            reply.extend_from_slice(&piece[..count]);
+        }
+        self.stream = Some(stream);
+        Ok(())
+    }
+}
+
+/// Whose form a body has.
+#[derive(Clone, Copy, PartialEq)]
+enum Form {
+    Querier,
+    Victoria,
+}
+
+impl Form {
+    /// A request with these rows.
+    fn posted(self, rows: &[String], kept: bool) -> String {
+        let (path, body) = match self {
+            Form::Querier => ("/write", format!("[{}]", rows.join(","))),
+            Form::Victoria => ("/api/v1/import", rows.join("\n")),
+        };
+        let after = if kept { "keep-alive" } else { "close" };
+        format!(
+            "POST {path} HTTP/1.1\r\nHost: 127.0.0.1\r\nConnection: {after}\r\nContent-Length: {}\r\n\r\n{body}",
+            body.len()
+        )
+    }
+
+    fn row(self, labels: &[(String, String)], samples: &[(String, i64)]) -> String {
+        let pairs: Vec<String> = labels.iter().map(|(name, value)| format!("\"{name}\":\"{value}\"")).collect();
+        let labels = pairs.join(",");
+        if self == Form::Querier {
+            let points: Vec<String> = samples.iter().map(|(time, value)| format!("[{time},{value}]")).collect();
+            return format!("{{\"labels\":{{{labels}}},\"samples\":[{}]}}", points.join(","));
+        }
+        let times: Vec<&str> = samples.iter().map(|(time, _)| time.as_str()).collect();
+        let values: Vec<String> = samples.iter().map(|(_, value)| value.to_string()).collect();
+        format!("{{\"metric\":{{{labels}}},\"values\":[{}],\"timestamps\":[{}]}}", values.join(","), times.join(","))
+    }
+}
+
+/// What clients write: so many series each, so many samples of each in a request.
+#[derive(Clone, Copy)]
+struct Shape {
+    series: u64,
+    samples: u64,
 }
 
 /// A batch of a client; its times, 13 digits each, are put in anew for each request.
 struct Batch {
     request: Vec<u8>,
     places: Vec<usize>,
+    samples: u64,
 }
 
 impl Batch {
-    fn new(client: u64) -> Batch {
-        let (mut body, mut places) = (String::from("["), Vec::new());
-        for series in 0..SERIES {
-            let comma = if series > 0 { "," } else { "" };
-            body += &format!(
-                "{comma}{{\"labels\":{{\"__name__\":\"load\",\"client\":\"{client}\",\"n\":\"{series}\",\"run\":\"{}\"}},\"samples\":[",
-                process::id()
-            );
-            for k in 0..SAMPLES {
-                body += if k > 0 { ",[" } else { "[" };
-                places.push(body.len());
-                body += &format!("1800000000000,{}]", series * 7 + k);
-            }
-            body += "]}";
-        }
-        body += "]";
-        let request = posted(&body);
-        let start = request.len() - body.len();
-        Batch { request, places: places.into_iter().map(|at| start + at).collect() }
+    fn new(client: u64, form: Form, kept: bool, shape: Shape) -> Batch {
+        let row = |series: u64| {
+            let labels = [
+                ("__name__".to_string(), "load".to_string()),
+                ("client".to_string(), client.to_string()),
+                ("n".to_string(), series.to_string()),
+                ("run".to_string(), process::id().to_string()),
+            ];
+            let samples: Vec<_> = (0..shape.samples).map(|k| (TIME.to_string(), (series * 7 + k) as i64)).collect();
+            form.row(&labels, &samples)
+        };
+        let request = form.posted(&(0..shape.series).map(row).collect::<Vec<_>>(), kept);
+        let places = request.match_indices(TIME).map(|(at, _)| at).collect();
+        Batch { request: request.into_bytes(), places, samples: shape.samples }
     }
 
     fn put_times(&mut self, n: u64) {
         for (number, &at) in self.places.iter().enumerate() {
-            let mut time = 1_800_000_000_000 + (n * SAMPLES + number as u64 % SAMPLES) * 1000;
+            let mut time = 1_750_000_000_000 + (n * self.samples + number as u64 % self.samples) * 1000;
             for digit in self.request[at..at + 13].iter_mut().rev() {
                 *digit = b'0' + (time % 10) as u8;
                 time /= 10;
@@ -111,44 +176,36 @@ impl Batch {
 }
 
 fn ask_for(port: u16, target: &str, end: Instant) -> Replies {
-    let request = format!("GET {target} HTTP/1.1\r\n\r\n").into_bytes();
-    let (mut replies, mut reply) = (Replies::default(), Vec::new());
+    let request = format!("GET {target} HTTP/1.1\r\nHost: 127.0.0.1\r\nConnection: close\r\n\r\n").into_bytes();
+    let (mut link, mut replies, mut reply) = (Link::new(port, false), Replies::default(), Vec::new());
     while Instant::now() < end {
-        replies.ask(port, &request, &mut reply);
+        replies.ask(&mut link, &request, &mut reply);
     }
     replies
 }
 
-fn write(port: u16, client: u64, end: Instant) -> Replies {
-    let mut batch = Batch::new(client);
+fn write(mut link: Link, mut batch: Batch, end: Instant) -> Replies {
     let (mut replies, mut reply) = (Replies::default(), Vec::new());
     for n in 0.. {
         if Instant::now() >= end {
             break;
         }
         batch.put_times(n);
-        replies.ask(port, &batch.request, &mut reply);
+        replies.ask(&mut link, &batch.request, &mut reply);
     }
     replies
 }
 
-/// The series of numbers from one to another, as the body of a write.
-fn rows(from: u64, until: u64, samples: i64) -> String {
-    let row = |n: u64| {
-        let labels: Vec<_> = make_block::labels(n).iter().map(|(name, value)| format!("\"{name}\":\"{value}\"")).collect();
-        let points: Vec<_> =
-            (0..samples).map(|k| format!("[{},{}]", make_block::time(k), make_block::value(n, k))).collect();
-        format!("{{\"labels\":{{{}}},\"samples\":[{}]}}", labels.join(","), points.join(","))
-    };
-    format!("[{}]", (from..until).map(row).collect::<Vec<_>>().join(","))
-}
-
-fn fill(port: u16, series: u64, samples: i64) {
-    let (mut replies, mut reply) = (Replies::default(), Vec::new());
+fn fill(port: u16, series: u64, samples: i64, form: Form) {
+    let (mut link, mut replies, mut reply) = (Link::new(port, false), Replies::default(), Vec::new());
     let each = (MOST / samples) as usize;
+    let row = |n: u64| {
+        let points: Vec<_> = (0..samples).map(|k| (make_block::time(k).to_string(), make_block::value(n, k))).collect();
+        form.row(&make_block::labels(n), &points)
+    };
     for from in (0..series).step_by(each) {
-        let request = posted(&rows(from, series.min(from + each as u64), samples));
-        replies.ask(port, &request, &mut reply);
+        let rows: Vec<String> = (from..series.min(from + each as u64)).map(row).collect();
+        replies.ask(&mut link, form.posted(&rows, false).as_bytes(), &mut reply);
     }
     let took: Duration = replies.times.iter().sum();
     replies.tell(took.as_secs_f64(), series * samples as u64);
@@ -159,15 +216,22 @@ fn main() {
     let number = |at: usize| -> u64 { words[at].parse().expect("a number") };
     let port: u16 = words[0].parse().expect("a port");
     if words[1] == "fill" {
-        return fill(port, number(2), number(3) as i64);
+        let form = if words.len() > 4 { Form::Victoria } else { Form::Querier };
+        return fill(port, number(2), number(3) as i64, form);
     }
-    let target = words.get(4);
+    let (form, kept) = (if words[3] == "write" { Form::Querier } else { Form::Victoria }, words[3] == "import-kept");
+    let gets = words[3] == "get";
+    let shape =
+        if words.len() > 5 { Shape { series: number(4), samples: number(5) } } else { Shape { series: 256, samples: 16 } };
     let start = Instant::now();
     let end = start + Duration::from_secs(number(2));
     let mut replies = Replies::default();
-    let asked = |client| match target {
-        Some(target) => ask_for(port, target, end),
-        None => write(port, client, end),
+    let asked = |client| {
+        if gets {
+            ask_for(port, &words[4], end)
+        } else {
+            write(Link::new(port, kept), Batch::new(client, form, kept, shape), end)
+        }
     };
     thread::scope(|scope| {
         let asked = &asked;
@@ -176,6 +240,6 @@ fn main() {
             replies.add(thread.join().expect("a client ends"));
         }
     });
-    let samples = if target.is_some() { 0 } else { replies.times.len() as u64 * SERIES * SAMPLES };
+    let samples = if gets { 0 } else { replies.times.len() as u64 * shape.series * shape.samples };
     replies.tell(start.elapsed().as_secs_f64(), samples);
 }
