@@ -1,6 +1,7 @@
 use Rattle.std.proofs.Common.{◌≡◌, sym, subst, ◌∙◌}
 use Rattle.std.specs.List.{filter_map}
 use Rattle.labels.specs.Parts.{Part}
+use Rattle.cover.specs.declared.part_cover.PartAnswer.{PartAnswer}
 use Rattle.block_search.specs.Answering.{row_of_interval}
 use Rattle.block_search.specs.Answers.{IsPartAnswer}
 use Rattle.block_search.proofs.Sorted.{sorted_answer}
@@ -16,7 +17,7 @@ returns-clause-answers g c =
     let found : rows ≡ filter_map (row_of_interval query.from query.to part) certificate =
     c.in_ok-rows.ensures ∙ (λ i. filter_map (row_of_interval query.from query.to
     (sym c.view.ensures i)) (c.as_slice.ensures.value i)) in
-    let answer = record {
+    let answer : PartAnswer = record {
       part = c.args.part;
       rows = c.sort_rows.new.rows;
       cover = c.in_ok-cover.cover;
