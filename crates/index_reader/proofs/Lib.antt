@@ -5,7 +5,6 @@ mod Eaches
 mod Fields
 mod Firsts
 pub mod Gaps
-mod BothParts
 mod Growth
 mod Head
 mod OnlyDisagrees

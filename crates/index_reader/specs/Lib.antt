@@ -13,6 +13,5 @@ pub mod PairTexts
 pub mod Reading
 pub mod References
 pub mod Seen
-pub mod Shared
 pub mod Spelled
 pub mod Stated

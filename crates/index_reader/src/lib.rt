@@ -31,10 +31,9 @@
 //! between entries than zeros, is this project's own.
 //!
 //! Rooms: `layout` reads where the parts stand, `symbols` the texts, `series_entries` with `body`,
-//! `chunk` and `bodies` the series, which `sharing` shares out over several threads and `joining`
-//! puts together, `offset_table` with `keys` and `pairs` the pairs, `postings` the lists.
-//! `agreement` holds the lists against the series, and `checks` has all checks in their order. What
-//! is kept is an `index` of `pairs`, `series` and `lists`.
+//! `chunk` and `bodies` the series, `offset_table` with `keys` and `pairs` the pairs, `postings`
+//! the lists. `agreement` holds the lists against the series, and `checks` has all checks in their
+//! order. What is kept is an `index` of `pairs`, `series` and `lists`.
 #![tactic(auto)]
 
 mod agreement;
@@ -44,7 +43,6 @@ mod checks;
 mod chunk;
 mod error;
 mod index;
-mod joining;
 mod keys;
 mod layout;
 mod lists;
@@ -53,7 +51,6 @@ mod pairs;
 mod postings;
 mod series;
 mod series_entries;
-mod sharing;
 mod symbols;
 
 pub use chunk::Chunk;
