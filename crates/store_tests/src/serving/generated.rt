@@ -3,6 +3,7 @@
 use crate::serving::memory::serve_texts;
 use std::alloc::{AllocError, Global};
 use std::sync::Wait;
+use std::thread::Threads;
 
 /// Pieces of texts as compact JSON has them: each kind of escape, and what needs none.
 const PIECES: [&str; 16] = [
@@ -112,7 +113,7 @@ fn posted(alloc: Global, rows: &str) -> Result<String, AllocError> {
 }
 
 /// Whether these rows, posted to an empty store, are read back from it.
-fn are_read_back(rt: &impl Wait, alloc: Global, rows: &str) -> Option<bool> {
+fn are_read_back(rt: &(impl Wait + Threads + Sync), alloc: Global, rows: &str) -> Option<bool> {
     let input = posted(alloc, rows).ok()?;
     let (_, replies) = serve_texts(rt, alloc, &[input.as_bytes(), SELECT], 2)?;
     Some(end_with(&replies, rows.as_bytes()))

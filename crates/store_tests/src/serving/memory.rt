@@ -13,6 +13,7 @@ use std::alloc::Global;
 use std::marker::Brand;
 use std::process::Abort;
 use std::sync::Wait;
+use std::thread::Threads;
 
 /// A connection that has ended.
 #[derive(Drop)]
@@ -80,7 +81,7 @@ impl<'a> Connections for Texts<'a> {
 
 /// The work of one worker: how many connections it served.
 fn work_in<J: Naming, R: Wait + Drop>(
-    rt: &impl Wait,
+    rt: &(impl Wait + Threads + Sync),
     alloc: Global,
     store: &mut EmptyStore<J, R>,
     texts: &mut Texts<'_>,
@@ -93,7 +94,7 @@ fn work_in<J: Naming, R: Wait + Drop>(
 }
 
 /// The same with a store of its own.
-fn work_alone<J: Naming, R: Wait>(
+fn work_alone<J: Naming, R: Wait + Threads + Sync>(
     rt: &R,
     alloc: Global,
     store: Store,
@@ -118,7 +119,7 @@ fn written(alloc: Global, past: &[Ended]) -> Option<Vec<u8>> {
 
 /// How many of these connections one worker of an empty store serves, with room for so many, and
 /// all that it writes.
-pub fn serve_texts<R: Wait>(
+pub fn serve_texts<R: Wait + Threads + Sync>(
     rt: &R,
     alloc: Global,
     connections: &[&[u8]],
@@ -148,7 +149,13 @@ const REPLIES: &[u8] =
     b"HTTP/1.1 200 OK\r\nContent-Type: application/json\r\nContent-Length: 11\r\nConnection: close\r\n\r\n{\"ok\":true}HTTP/1.1 200 OK\r\nContent-Type: application/json\r\nContent-Length: 240\r\nConnection: close\r\n\r\n{\"parts\":[{\"intervals\":[{\"from\":1,\"until\":4294967296,\"verdict\":\"match\"}],\"part\":\"head\",\"rows\":[{\"labels\":{\"__name__\":\"up\",\"job\":\"a\"},\"samples\":[[30,5]]}],\"separators\":[1]}],\"rows\":[{\"labels\":{\"__name__\":\"up\",\"job\":\"a\"},\"samples\":[[30,5]]}]}HTTP/1.1 404 Not Found\r\nContent-Type: application/json\r\nContent-Length: 16\r\nConnection: close\r\n\r\n{\"refused\":\"H3\"}";
 
 /// Whether a worker with room for so many of the four serves so many, and writes this.
-fn serves<R: Wait>(rt: &R, alloc: Global, most: u64, count: u64, want: &[u8]) -> bool {
+fn serves<R: Wait + Threads + Sync>(
+    rt: &R,
+    alloc: Global,
+    most: u64,
+    count: u64,
+    want: &[u8],
+) -> bool {
     match serve_texts(rt, alloc, FOUR, most) {
         Some((found, text)) => found == count && text.as_slice() == want,
         None => false,
