@@ -47,7 +47,7 @@ invariant_of-result g c =
     record { inside = keys_inside c.args.file.now k.field-0 k.ensures.held k.ensures.read }
 
 pub invariant_of-result-2 : goal.invariant_of-result-2
-invariant_of-result-2 c =
+invariant_of-result-2 g c =
     let k = c.in_ok-_layout in
     is_kept c.args.file.now k.field-0 c.flat_parts-labels.result.0.items
     c.flat_parts-labels.result.1.items c.flat_parts-labels.result.2.items c.in_ok-lists.lists
