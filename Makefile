@@ -7,7 +7,7 @@ CRATES := $(shell sed -e 's/\#.*//' -e 's/:.*//' -e '/^[[:space:]]*$$/d' crates.
 # Which crate, or script, has the tests of which crates; a crate of tests has its own.
 TESTS_OF := selection_tests:labels,pages,matchers,postings \
 	file_tests:wire,index_reader,chunk_reader,tombstones,block,block_writer,xor_reader,doubles,decimal_text,prometheus_block \
-	store_tests:head,history,snapshots,cover,block_search,series_merge,answers,requests,query_http,server,commands,querier,auditor,audit_command,audit_laws,auditor_program,journal,event_text \
+	store_tests:head,history,snapshots,cover,block_search,series_merge,answers,kept_selectors,requests,query_http,server,commands,querier,auditor,audit_command,audit_laws,auditor_program,journal,event_text \
 	tests/serving:guard \
 	tests/scraping:metrics_text \
 	tests/importing:imported_values,time_cuts,block_folder,block_outputs,open_metrics,metrics_writer,exposition,blocktool_command,blocktool \
