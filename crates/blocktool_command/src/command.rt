@@ -101,7 +101,7 @@ read or write; 4 no memory
 Example: blocktool list mine/0001 mine/0002";
 
 /// What `--version` tells behind the name.
-const VERSION: &str = "0.1.0 (rattle-kit-13f)";
+const VERSION: &str = "0.1.0 (rattle-kit-13b)";
 
 const IMPORT: [Word<'static>; 7] = [
     DECIMALS,

@@ -87,12 +87,12 @@ own; 2 a fault of the words; 3 cannot read or write; 4 no memory
 Example: querier select 'up{job=\"a\"}' data/0001";
 
 /// What `--version` tells behind the name: no build knows its commit.
-const VERSION: &str = "0.1.0 (rattle-kit-13f)";
+const VERSION: &str = "0.1.0 (rattle-kit-13b)";
 
 /// The version, and the one of the kit, as the status port tells them.
 pub(crate) const OWN_VERSION: &str = "0.1.0";
 
-pub(crate) const KIT_VERSION: &str = "rattle-kit-13f";
+pub(crate) const KIT_VERSION: &str = "rattle-kit-13b";
 
 const CHECKS: &str =
     "A block is a directory with the files meta.json, index, chunks/000001 and tombstones. All four
