@@ -13,5 +13,6 @@ pub mod PairTexts
 pub mod Reading
 pub mod References
 pub mod Seen
+pub mod Shared
 pub mod Spelled
 pub mod Stated

@@ -13,13 +13,14 @@ ghost use Rattle.index_reader.specs.Seen.{bytes_of, entries_seen, table_seen};
 ghost use Rattle.index_reader.specs.Spelled.{IsIndex};
 
 use crate::agreement::check_agreement;
-use crate::bodies::{Bodies, are_small, bodies_of, is_rising};
+use crate::bodies::{Bodies, are_small, is_rising};
 use crate::error::IndexError;
 use crate::keys::Keys;
 use crate::layout::{Layout, TableOfContents, read_layout, series_end};
 use crate::offset_table::{table_content_of, table_of};
 use crate::postings::{PostingsTable, lists_of};
 use crate::series_entries::gaps_are_zero;
+use crate::sharing::Readers;
 use crate::symbols::{Symbols, copy_symbols};
 use std::alloc::Global;
 
@@ -36,14 +37,20 @@ pub struct Checked<'a> {
 }
 
 #[tactic(auto, using(crate::proofs::Sound::sets_are), unfolding(crate::specs::Reading::Whole::bodies_of))]
-fn check_bodies(alloc: Global, file: &[u8], layout: &Layout<'_>) -> Result<Bodies, IndexError>
-    requires { IsSoundLayout file.now layout.now }
+fn check_bodies<B: Readers>(
+    by: &B,
+    alloc: Global,
+    file: &[u8],
+    layout: &Layout<'_>,
+) -> Result<Bodies, IndexError>
+    requires ready { B.is_ready by.now }
+    requires sound { IsSoundLayout file.now layout.now }
     ensures exact { Gives bodies_seen result (bodies_of file.now (layout_seen layout.now)) }
     ensures referred { IfOk result (λ b. references_in_order b.series.items
         ≡ entry_references (entries_seen layout.now.entries.items)) }
 {
     let end = series_end(layout.contents) as usize;
-    let bodies = bodies_of(alloc, &layout.symbols, &layout.entries)?;
+    let bodies = by.bodies(alloc, &layout.symbols, &layout.entries)?;
     if !gaps_are_zero(file, layout.symbols_end, end, &layout.entries) {
         return Err(IndexError::Series);
     }
@@ -76,12 +83,17 @@ fn postings_of(
 
 /// All checks of an index, in their order.
 #[tactic(auto, using(crate::proofs::Sound::sets_are, crate::proofs::Sound::count_is), unfolding(crate::specs::Reading::Whole::read_of))]
-pub fn check_all(alloc: Global, file: &[u8]) -> Result<Checked<'_>, IndexError>
+pub fn check_all<'a, B: Readers>(
+    by: &B,
+    alloc: Global,
+    file: &'a [u8],
+) -> Result<Checked<'a>, IndexError>
+    requires { B.is_ready by.now }
     ensures exact { Gives read_seen result (read_of file.now) }
     ensures held { IfOk result (IsHeldIn file.now) }
 {
     let layout = read_layout(alloc, file)?;
-    let bodies = check_bodies(alloc, file, &layout)?;
+    let bodies = check_bodies(by, alloc, file, &layout)?;
     let table = postings_of(alloc, file, layout.contents)?;
     let symbols = copy_symbols(alloc, &layout.symbols)?;
     let keys = check_agreement(alloc, &symbols, &table, &bodies)?;
@@ -105,11 +117,16 @@ pub fn check_all(alloc: Global, file: &[u8]) -> Result<Checked<'_>, IndexError>
 }
 
 /// All checks, and what they leave.
-pub fn check(alloc: Global, file: &[u8]) -> Result<Checked<'_>, IndexError>
+pub fn check<'a, B: Readers>(
+    by: &B,
+    alloc: Global,
+    file: &'a [u8],
+) -> Result<Checked<'a>, IndexError>
+    requires { B.is_ready by.now }
     ensures exact { Gives read_seen result (read_of file.now) }
     ensures held { IfOk result (IsHeldIn file.now) }
     ensures read { IfOk result (λ c. IsSoundRead (read_seen c)) }
     ensures spelled { IfOk result (λ c. IsIndex file.now (indexed (read_seen c))) }
 {
-    check_all(alloc, file)
+    check_all(by, alloc, file)
 }

@@ -31,9 +31,10 @@
 //! between entries than zeros, is this project's own.
 //!
 //! Rooms: `layout` reads where the parts stand, `symbols` the texts, `series_entries` with `body`,
-//! `chunk` and `bodies` the series, `offset_table` with `keys` and `pairs` the pairs, `postings`
-//! the lists. `agreement` holds the lists against the series, and `checks` has all checks in their
-//! order. What is kept is an `index` of `pairs`, `series` and `lists`.
+//! `chunk` and `bodies` the series, which `sharing` shares out over several threads and `joining`
+//! puts together, `offset_table` with `keys` and `pairs` the pairs, `postings` the lists.
+//! `agreement` holds the lists against the series, and `checks` has all checks in their order. What
+//! is kept is an `index` of `pairs`, `series` and `lists`.
 #![tactic(auto)]
 
 mod agreement;
@@ -43,6 +44,7 @@ mod checks;
 mod chunk;
 mod error;
 mod index;
+mod joining;
 mod keys;
 mod layout;
 mod lists;
@@ -51,6 +53,7 @@ mod pairs;
 mod postings;
 mod series;
 mod series_entries;
+mod sharing;
 mod symbols;
 
 pub use chunk::Chunk;
