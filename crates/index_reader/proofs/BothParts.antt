@@ -1,11 +1,12 @@
 -- Bodies of some entries behind those of others, and what reading gives of both.
-use Rattle.std.proofs.Common.{◌≡◌, ℕ, suc, ◌+◌, ◌-◌, ◌/◌, ◌<◌, ◌^◌, List, [], ◌∷◌, ◌++◌, length}
-use Rattle.std.proofs.Common.{take, drop, get_or, Some, Result, Ok, Err, refl, sym, ap, subst, ◌∙◌}
-use Rattle.std.proofs.Common.{arith}
-use Rattle.std.specs.Prelude.{slice_get, slice_range, map}
+use Rattle.std.proofs.Common.{◌≡◌, ℕ, ◌+◌, ◌-◌, ◌/◌, ◌<◌, ◌^◌, List, [], ◌∷◌, ◌++◌, length}
+use Rattle.std.proofs.Common.{take, drop, Result, Ok, Err, refl, sym, ap, ◌∙◌}
+use Rattle.std.proofs.Common.{◌*◌, ◌≤◌, arith}
+use Rattle.std.proofs.Math.Nat.{le_trans, mul-le-mul_left, div-mul-le_self}
+use Rattle.std.specs.Prelude.{slice_range, map}
 use Rattle.std.specs.List.{All}
 use Rattle.std.proofs.Math.Seq.{drop-append-add}
-use Rattle.std.proofs.lemmas.List.{length-append, length-map, map-append, take-append-drop}
+use Rattle.std.proofs.lemmas.List.{length-append, map-append, take-append-drop}
 use Rattle.std.proofs.lemmas.List.Elements.{All-append, All-map, All-take, All-drop}
 use Rattle.index_reader.specs.declared.chunk.Chunk.{Chunk}
 use Rattle.index_reader.specs.declared.error.IndexError.{IndexError}
@@ -14,7 +15,7 @@ use Rattle.index_reader.specs.declared.series.Series.{Series}
 use Rattle.index_reader.specs.declared.series_entries.SeriesEntry as declared
 use Rattle.index_reader.specs.declared.bodies.Bodies.{Bodies}
 use Rattle.index_reader.specs.CheckedFile.{bodies_seen}
-use Rattle.index_reader.specs.Layout.{Label, Body, SeriesEntry}
+use Rattle.index_reader.specs.Layout.{Label, SeriesEntry}
 use Rattle.index_reader.specs.Outcome.{Fails}
 use Rattle.index_reader.specs.Reading.Agreement.{entry_references}
 use Rattle.index_reader.specs.Reading.Flat.{AllIn, IsIn, CanMove, body_in, bodies_in, moved}
@@ -172,6 +173,11 @@ gives_both {A} {X} step all xs ys front back whole w g g' e =
     ∙ ap (λ (r : Result (List X) IndexError). r >>= λ zs. behind_items zs (each step ys)) g
     ∙ ap (behind_items front) g'
     ∙ ap (λ (zs : List X). Ok zs) (sym e)
+
+-- equal shares of so many entries are no more than all of them
+pub share_inside : (n threads helpers : ℕ) → helpers ≤ threads → n / threads * helpers ≤ n
+share_inside n threads helpers le =
+    le_trans (mul-le-mul_left (n / threads) le) (div-mul-le_self n threads)
 
 -- entries in two parts
 pub seen_both : (all early late : List declared.SeriesEntry) (n : ℕ) → early ≡ take n all

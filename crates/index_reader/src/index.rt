@@ -95,9 +95,9 @@ impl Index {
         index_of(&OneThread, alloc, file)
     }
 
-    /// The same as [`Index::open`], with the bodies of the series shared out over at most `threads`
-    /// threads, the calling one among them. The answer does not depend on their number, nor on
-    /// whether they can be started.
+    /// The same as [`Index::open`], by at most `threads` threads, the calling one among them: one
+    /// reads the lists, the others share the bodies of the series. The answer does not depend on
+    /// their number, nor on whether they can be started.
     pub fn open_by<R: Threads + Sync>(
         rt: &R,
         threads: usize,

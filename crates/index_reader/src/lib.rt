@@ -31,10 +31,11 @@
 //! between entries than zeros, is this project's own.
 //!
 //! Rooms: `layout` reads where the parts stand, `symbols` the texts, `series_entries` with `body`,
-//! `chunk` and `bodies` the series, which `sharing` shares out over several threads and `joining`
-//! puts together, `offset_table` with `keys` and `pairs` the pairs, `postings` the lists.
-//! `agreement` holds the lists against the series, and `checks` has all checks in their order. What
-//! is kept is an `index` of `pairs`, `series` and `lists`.
+//! `chunk` and `bodies` the series, `offset_table` with `keys` and `pairs` the pairs, `postings`
+//! the lists. `parts` has what is read of the series and of the lists, `sharing` shares it out over
+//! several threads, and `joining` puts bodies together. `agreement` holds the lists against the
+//! series, and `checks` has all checks in their order. What is kept is an `index` of `pairs`,
+//! `series` and `lists`.
 #![tactic(auto)]
 
 mod agreement;
@@ -50,6 +51,7 @@ mod layout;
 mod lists;
 mod offset_table;
 mod pairs;
+mod parts;
 mod postings;
 mod series;
 mod series_entries;
