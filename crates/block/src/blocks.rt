@@ -123,10 +123,10 @@ impl Block {
         open_with_checker(&OneThread, alloc, range, index, read, chunks, tombstones)
     }
 
-    /// The same as [`Block::open`], with the checks of the chunks shared out over at most `threads`
-    /// threads, the calling one among them. The answer does not depend on their number, nor on
-    /// whether they can be started. Ask for four for each processor: the shares are equal in
-    /// series, not in work.
+    /// The same as [`Block::open`], with the bodies of the series and the checks of the chunks
+    /// shared out over at most `threads` threads, the calling one among them. The answer does not
+    /// depend on their number, nor on whether they can be started. Ask for four for each processor:
+    /// the shares are equal in series, not in work.
     pub fn open_by<R: Threads + Sync>(
         rt: &R,
         threads: usize,
@@ -144,14 +144,14 @@ impl Block {
             → Gives (λ b. b.part) result (Ok part) }
         ensures range { IfOk result (λ b. b.range ≡ range) }
     {
-        let read = Index::open(alloc, index);
+        let read = Index::open_by(rt, threads, alloc, index);
         let workers = Workers { rt, threads };
         open_with_checker(&workers, alloc, range, index, read, chunks, tombstones)
     }
 
     /// The same as [`Block::open_by`], where the index was opened before: `read` is what
-    /// [`Index::open`] gave for the bytes of `index`. So a caller can open the index by one thread
-    /// while another reads the chunks file.
+    /// [`Index::open`] or [`Index::open_by`] gave for the bytes of `index`. So a caller can open the
+    /// index while another thread reads the chunks file.
     pub fn open_with<R: Threads + Sync>(
         rt: &R,
         threads: usize,

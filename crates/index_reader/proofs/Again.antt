@@ -18,7 +18,7 @@ use Rattle.index_reader.specs.Layout.{IsPlaced, SeriesEntry, Layout, ascending, 
 use Rattle.index_reader.specs.Layout.{Label, Body, TableEntry, rises, postings_end}
 use Rattle.index_reader.specs.Reading.Whole.{layout_of, labels_of_each, bodies_of, postings_of}
 use Rattle.index_reader.specs.Reading.Whole.{is_small, Read, read_of, indexed, indexed_of}
-use Rattle.index_reader.specs.Grammar.{frame, entry, IsWalk, IsLayout}
+use Rattle.index_reader.specs.Grammar.{entry, IsWalk, IsLayout}
 use Rattle.index_reader.specs.Reading.Postings.{section_at, references_at, lists_at}
 use Rattle.index_reader.specs.Reading.Table.{table_content_at, table_at}
 use Rattle.index_reader.specs.Reading.Steps.{each}

@@ -1,6 +1,6 @@
 -- The bytes between the entries.
 use Rattle.std.proofs.Common.{◌≡◌, ℕ, zero, suc, Some, ◌+◌, ◌-◌, ◌<◌, ◌≤◌, Bool, true, false, ◌&&◌}
-use Rattle.std.proofs.Common.{eqb, List, [], ◌∷◌, length, get_or, drop, ◌++◌, refl, sym, ap, ◌∙◌}
+use Rattle.std.proofs.Common.{eqb, List, [], ◌∷◌, length, get_or, drop, refl, sym, ap, ◌∙◌}
 use Rattle.std.proofs.Common.{inl, inr, arith}
 use Rattle.std.specs.Prelude.{◌==◌, slice_get, slice_index, slice_range}
 use Rattle.std.specs.List.{list_all, Contains}

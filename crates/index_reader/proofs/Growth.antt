@@ -34,7 +34,7 @@ body_grown ls ls' cs cs' r h =
     let f = range_grown cs cs' r.chunks_start r.chunks_end h.chunks_ordered h.chunks_inside in
     rw (e, f) refl
 
-bodies_grown : (ls ls' : List Label) (cs cs' : List Chunk) (rs : List Series) → AllIn ls cs rs
+pub bodies_grown : (ls ls' : List Label) (cs cs' : List Chunk) (rs : List Series) → AllIn ls cs rs
     → bodies_in (ls ++ ls') (cs ++ cs') rs ≡ bodies_in ls cs rs
 bodies_grown ls ls' cs cs' [] h = refl
 bodies_grown ls ls' cs cs' (r ∷ rs) h =

@@ -33,7 +33,7 @@ use Rattle.index_reader.specs.Reading.Agreement as agreement
 use Rattle.index_reader.specs.Indexes.{Series, Indexed, named_label, named, series_of}
 use Rattle.index_reader.specs.Spelled.{pairs_of, list_text, AreSections}
 use Rattle.index_reader.specs.Stated.{Stated, Agrees}
-use Rattle.index_reader.specs.Checks.{Check, FirstFailing, HasTable, HasFrame, HasLists, States}
+use Rattle.index_reader.specs.Checks.{Check, FirstFailing, HasFrame, HasLists, States}
 use Rattle.index_reader.specs.Checks.{AreSmall, checks, IsRefused}
 use Rattle.index_reader.proofs.Walks.{done}
 use Rattle.index_reader.proofs.Whole.{parts_take}

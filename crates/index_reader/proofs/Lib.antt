@@ -5,6 +5,7 @@ mod Eaches
 mod Fields
 mod Firsts
 pub mod Gaps
+mod BothParts
 mod Growth
 mod Head
 mod OnlyDisagrees

@@ -1,5 +1,5 @@
 -- The first check of an index that fails, of the bodies of its series entries.
-use Rattle.std.proofs.Common.{◌≡◌, ℕ, ◌^◌, ◌<◌, Bool, true, false, List, ◌∷◌, length, Ok, Err}
+use Rattle.std.proofs.Common.{◌≡◌, ℕ, ◌^◌, ◌<◌, true, List, ◌∷◌, length, Ok, Err}
 use Rattle.std.proofs.Common.{refl, sym, subst, inl, inr, arith}
 use Rattle.wire.specs.Spelling.{IsBytes}
 use Rattle.wire.proofs.KnownReads.{chosen}

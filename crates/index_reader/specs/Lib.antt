@@ -12,6 +12,8 @@ pub mod Outcome
 pub mod PairTexts
 pub mod Reading
 pub mod References
+pub mod Roles
 pub mod Seen
+pub mod Shared
 pub mod Spelled
 pub mod Stated

@@ -44,11 +44,15 @@ pub fn flat_parts(bodies: Bodies) -> (Vec<(u32, u32)>, Vec<Chunk>, Vec<Series>)
     (labels, chunks, series)
 }
 
-/// The bodies of all entries.
+/// How many labels most series have at most. Where they have more, the room for them grows.
+const USUAL: usize = 6;
+
+/// The bodies of all entries, with room for `room` bodies.
 pub fn bodies_of(
     alloc: Global,
     symbols: &SymbolTable<'_>,
     entries: &[SeriesEntry<'_>],
+    room: usize,
 ) -> Result<Bodies, IndexError>
     requires { All (λ e. e.offset < 2 ^ 32) entries.now }
     ensures exact { Gives (λ b. bodies_in b.labels.items b.chunks.items b.series.items) result
@@ -56,9 +60,9 @@ pub fn bodies_of(
     ensures referred { IfOk result (λ b. references_in_order b.series.items
         ≡ entry_references (entries_seen entries.now)) }
 {
-    let mut labels = Vec::new(alloc);
-    let mut chunks = Vec::new(alloc);
-    let mut series = Vec::with_capacity(alloc, entries.len())?;
+    let mut labels = Vec::with_capacity(alloc, room.saturating_mul(USUAL))?;
+    let mut chunks = Vec::with_capacity(alloc, room)?;
+    let mut series = Vec::with_capacity(alloc, room)?;
     for at in 0..entries.len() {
         let entry = entry_at(entries, at);
         let reference = reference_at(entries, at);

@@ -11,8 +11,7 @@ ghost use Rattle.index_reader.specs.Reading.Bodies.{chunks_at, body_at, behind_b
 
 use crate::chunk::{Chunk, read_first, read_later};
 use crate::error::IndexError;
-use crate::symbols::SymbolTable;
-use labels::is_name;
+use crate::symbols::{SymbolTable, role_at};
 use wire::Cut;
 
 #[tactic(auto, unfolding(crate::specs::Reading::Bodies::is_label))]
@@ -26,7 +25,7 @@ fn is_label(symbols: &SymbolTable<'_>, low: u64, name: u64, value: u64) -> bool
     if !within {
         return false;
     }
-    is_name(symbols.texts[name as usize]) & !symbols.texts[value as usize].is_empty()
+    role_at(symbols, name as usize).is_name & role_at(symbols, value as usize).is_value
 }
 
 #[tactic(auto, unfolding(crate::specs::Reading::Bodies::label_at))]

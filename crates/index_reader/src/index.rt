@@ -18,9 +18,11 @@ use crate::lists::{Lists, copy_lists};
 use crate::pairs::Pairs;
 use crate::postings::Entries;
 use crate::series::{Series, label_set_of};
+use crate::sharing::{OneThread, Readers, Workers};
 use labels::{LabelSet, SeriesRef};
 use std::alloc::{AllocError, Global};
 use std::marker::Model;
+use std::thread::Threads;
 
 /// What an index holds, seen as its series in file order and the pairs that it lists. It keeps no
 /// borrow of the file, and its lists of references as the bytes in which they were read.
@@ -49,7 +51,8 @@ impl Model for Index {
 }
 
 // The checks, and what they leave.
-fn index_of(alloc: Global, file: &[u8]) -> Result<Index, IndexError>
+fn index_of<B: Readers>(by: &B, alloc: Global, file: &[u8]) -> Result<Index, IndexError>
+    requires { B.is_ready by.now }
     ensures exact { Gives (λ x. x) result (indexed_of file.now) }
     ensures found { IfOk result (IsIndex file.now) }
     ensures consistent { IfOk result IsConsistent }
@@ -60,7 +63,7 @@ fn index_of(alloc: Global, file: &[u8]) -> Result<Index, IndexError>
         symbols,
         keys,
         lists,
-    } = check(alloc, file)?;
+    } = check(by, alloc, file)?;
     let lists = copy_lists(alloc, &lists)?;
     let (labels, chunks, series) = flat_parts(bodies);
     Ok(Index {
@@ -89,7 +92,24 @@ impl Index {
         // References and label sets ascend, and the lists are those of the series.
         ensures consistent { IfOk result IsConsistent }
     {
-        index_of(alloc, file)
+        index_of(&OneThread, alloc, file)
+    }
+
+    /// The same as [`Index::open`], by at most `threads` threads, the calling one among them: one
+    /// reads the lists, the others share the bodies of the series. The answer does not depend on
+    /// their number, nor on whether they can be started.
+    pub fn open_by<R: Threads + Sync>(
+        rt: &R,
+        threads: usize,
+        alloc: Global,
+        file: &[u8],
+    ) -> Result<Index, IndexError>
+        ensures refused { IfErr result (IsRefused file.now) }
+        ensures found { IfOk result (IsIndex file.now) }
+        ensures only { (x : Indexed) → IsIndex file.now x → Gives (λ i. i) result (Ok x) }
+        ensures consistent { IfOk result IsConsistent }
+    {
+        index_of(&Workers { rt, threads }, alloc, file)
     }
 
     /// How many series there are, at most 1,048,576.

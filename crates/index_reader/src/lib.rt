@@ -32,8 +32,10 @@
 //!
 //! Rooms: `layout` reads where the parts stand, `symbols` the texts, `series_entries` with `body`,
 //! `chunk` and `bodies` the series, `offset_table` with `keys` and `pairs` the pairs, `postings`
-//! the lists. `agreement` holds the lists against the series, and `checks` has all checks in their
-//! order. What is kept is an `index` of `pairs`, `series` and `lists`.
+//! the lists. `parts` has what is read of the series and of the lists, `sharing` shares it out over
+//! several threads, and `joining` puts bodies together. `agreement` holds the lists against the
+//! series, and `checks` has all checks in their order. What is kept is an `index` of `pairs`,
+//! `series` and `lists`.
 #![tactic(auto)]
 
 mod agreement;
@@ -43,14 +45,17 @@ mod checks;
 mod chunk;
 mod error;
 mod index;
+mod joining;
 mod keys;
 mod layout;
 mod lists;
 mod offset_table;
 mod pairs;
+mod parts;
 mod postings;
 mod series;
 mod series_entries;
+mod sharing;
 mod symbols;
 
 pub use chunk::Chunk;

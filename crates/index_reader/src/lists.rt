@@ -37,14 +37,13 @@ impl Model for Lists {
 }
 
 impl Lists {
-    /// No list.
-    pub fn new(alloc: Global) -> Lists
-        ensures { result ≡ [] }
+    /// No list, with room for so many lists of so many bytes in all.
+    pub fn with_capacity(alloc: Global, count: usize, len: usize) -> Result<Lists, AllocError>
+        ensures { IfOk result (λ l. l ≡ []) }
     {
-        Lists {
-            bytes: Vec::new(alloc),
-            spans: Vec::new(alloc),
-        }
+        let bytes = Vec::with_capacity(alloc, len)?;
+        let spans = Vec::with_capacity(alloc, count)?;
+        Ok(Lists { bytes, spans })
     }
 
     /// Adds a list at the end. An `Err` changes nothing.
@@ -73,12 +72,21 @@ impl Lists {
     }
 }
 
+/// How many bytes there are in all.
+fn room_of(lists: &[&[u8]]) -> usize {
+    let mut room = 0usize;
+    for list in lists {
+        room = room.saturating_add(list.len());
+    }
+    room
+}
+
 /// A copy of lists.
 pub fn copy_lists(alloc: Global, lists: &[&[u8]]) -> Result<Lists, AllocError>
     requires { All (λ l. IsList l.now) lists.now }
     ensures { IfOk result (λ l. l ≡ map references_in (bytes_of lists.now)) }
 {
-    let mut copy = Lists::new(alloc);
+    let mut copy = Lists::with_capacity(alloc, lists.len(), room_of(lists))?;
     for at in 0..lists.len() {
         copy.push(slice_at(lists, at))?;
     }

@@ -13,6 +13,9 @@ use crate::layout::{LIMIT, checked_of};
 use std::alloc::Global;
 use wire::Cut;
 
+/// With room for so many bytes of an entry as most have at least, few files need more.
+const USUAL: usize = 32;
+
 /// A series entry: where it stands, and its body.
 #[derive(Clone, Copy, Debug)]
 pub struct SeriesEntry<'a> {
@@ -42,7 +45,7 @@ pub fn entries_of(
     ensures { Gives (λ v. entries_seen v.items) result
         (entries_from (length file.now) file.now end start) }
 {
-    let mut entries = Vec::new(alloc);
+    let mut entries = Vec::with_capacity(alloc, end.saturating_sub(start) / USUAL)?;
     let mut at = start;
     while at < end {
         let (body, after) = entry_of(&file[at..end])?;

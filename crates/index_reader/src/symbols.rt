@@ -1,15 +1,17 @@
 //! The symbols of an index: the texts that its series and its pairs name by their numbers.
 
 ghost use Rattle.std.specs.Prelude.{◌≡◌, ◌<◌, ◌^◌, length, slice_get, Some, IfOk, IfSome};
-ghost use Rattle.std.specs.Prelude.{MatchOption, true, false};
+ghost use Rattle.std.specs.Prelude.{MatchOption, true, false, map, get_or, []};
 ghost use Rattle.std.specs.Str.{is_utf8};
 ghost use Rattle.index_reader.specs.Layout.{is_less, ascending};
 ghost use Rattle.index_reader.specs.Lookups.{symbol_of};
 ghost use Rattle.index_reader.specs.Outcome.{Gives};
+ghost use Rattle.index_reader.specs.Roles.{role_of};
 ghost use Rattle.index_reader.specs.Seen.{bytes_of, strings_of};
 ghost use Rattle.index_reader.specs.Reading.Symbols.{symbol_at, symbols_from, symbols_of};
 
 use crate::error::IndexError;
+use labels::is_name;
 use std::alloc::{AllocError, Global};
 use std::cmp::Ordering;
 use wire::Cut;
@@ -22,12 +24,21 @@ pub struct Symbols {
     ghost order: { ascending (strings_of texts.items) ≡ true },
 }
 
-/// The symbols of an index, in place in the file.
+/// What a symbol can be in a label.
+#[derive(Clone, Copy, Debug)]
+pub struct Role {
+    pub is_name: bool,
+    pub is_value: bool,
+}
+
+/// The symbols of an index, in place in the file, and what each can be in a label.
 #[derive(Drop)]
 pub struct SymbolTable<'a> {
     pub texts: Vec<&'a str>,
+    pub roles: Vec<Role>,
     ghost few: { length texts.items < 2 ^ 32 },
     ghost order: { ascending (bytes_of texts.items) ≡ true },
+    ghost judged: { roles.items ≡ map role_of (bytes_of texts.items) },
 }
 
 fn utf8_text(bytes: &[u8]) -> Option<&str>
@@ -73,6 +84,33 @@ fn is_rising(symbols: &[&str]) -> bool
     symbols.is_sorted_by(|a, b| is_less(a.as_bytes(), b.as_bytes()))
 }
 
+fn role_of(text: &str) -> Role
+    ensures { result ≡ role_of text.now }
+{
+    Role {
+        is_name: is_name(text),
+        is_value: !text.is_empty(),
+    }
+}
+
+fn roles_of(alloc: Global, texts: &[&str]) -> Result<Vec<Role>, AllocError>
+    ensures { IfOk result (λ v. v.items ≡ map role_of (bytes_of texts.now)) }
+{
+    let mut roles = Vec::with_capacity(alloc, texts.len())?;
+    for text in texts {
+        roles.push(role_of(text))?;
+    }
+    Ok(roles)
+}
+
+/// What the symbol at a place can be in a label.
+pub fn role_at(symbols: &SymbolTable<'_>, i: usize) -> Role
+    requires { i < length symbols.now.texts.items }
+    ensures { result ≡ role_of (get_or (bytes_of symbols.now.texts.items) i []) }
+{
+    symbols.roles[i]
+}
+
 /// The symbols of the content of a symbol table.
 #[tactic(auto, unfolding(crate::specs::Reading::Symbols::symbols_of))]
 pub fn symbols_of(alloc: Global, content: &[u8]) -> Result<SymbolTable<'_>, IndexError>
@@ -85,7 +123,8 @@ pub fn symbols_of(alloc: Global, content: &[u8]) -> Result<SymbolTable<'_>, Inde
     if !whole {
         return Err(IndexError::Symbols);
     }
-    Ok(SymbolTable { texts })
+    let roles = roles_of(alloc, &texts)?;
+    Ok(SymbolTable { texts, roles })
 }
 
 fn text_at<'a>(symbols: &[&'a str], i: usize) -> &'a str

@@ -2,7 +2,7 @@
 use Rattle.std.specs.Cmp.Lexicographic.{slice_cmp}
 use Rattle.std.specs.List.{All}
 use Rattle.std.specs.Ordering.{is_lt}
-use Rattle.std.specs.Prelude.{ℕ, ◌≤◌, List, length, Result, Bool, map, slice_range}
+use Rattle.std.specs.Prelude.{ℕ, ◌+◌, ◌<◌, ◌≤◌, ◌^◌, List, length, Result, Bool, map, slice_range}
 use Rattle.index_reader.specs.declared.series.Series.{Series}
 use Rattle.index_reader.specs.declared.chunk.Chunk.{Chunk}
 use Rattle.index_reader.specs.declared.error.IndexError.{IndexError}
@@ -31,6 +31,23 @@ pub record IsIn (labels : List Label) (chunks : List Chunk) (s : Series) : Type 
 -- all places do
 abbrev pub AllIn : List Label → List Chunk → List Series → Type 0
 AllIn labels chunks series = All (IsIn labels chunks) series
+
+-- a series whose parts stand behind so many other labels and chunks
+abbrev pub moved : ℕ → ℕ → Series → Series
+moved labels chunks s = record {
+  reference = s.reference;
+  labels_start = labels + s.labels_start;
+  labels_end = labels + s.labels_end;
+  chunks_start = chunks + s.chunks_start;
+  chunks_end = chunks + s.chunks_end;
+}
+
+-- its places are still numbers of 64 bits then
+pub record CanMove (labels chunks : ℕ) (s : Series) : Type 0 where
+  pub labels_start : labels + s.labels_start < 2 ^ 64
+  pub labels_end : labels + s.labels_end < 2 ^ 64
+  pub chunks_start : chunks + s.chunks_start < 2 ^ 64
+  pub chunks_end : chunks + s.chunks_end < 2 ^ 64
 
 -- their references
 abbrev pub references_in_order : List Series → List ℕ

@@ -9,7 +9,7 @@ use Rattle.index_reader.proofs.Held.{list_here, moved_on, ended_so}
 use Rattle.index_reader.proofs.lists.copy_lists.Goals as goal
 
 pub loop-at-init : goal.loop-at-init
-loop-at-init c = rw c.new-copy.ensures refl
+loop-at-init c = rw c.in_ok-copy.ensures refl
 
 pub push-requires-clause-whole : goal.push-requires-clause-whole
 push-requires-clause-whole c =

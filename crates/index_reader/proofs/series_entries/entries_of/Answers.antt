@@ -11,12 +11,13 @@ pub loop-at-init : goal.loop-at-init
 loop-at-init c = (
   length c.args.file.now,
   omega (arith, c.requires.within),
-  rw c.new-entries.ensures.items (with_places_nil _),
+  rw c.in_ok-entries.ensures.items (with_places_nil _),
 )
 
 pub returns-in_err-body : goal.returns-in_err-body
 returns-in_err-body c =
-    let p = err_from_is_err_and c.from_residual.result c.from_residual.ensures.1 in
+    let p =
+    err_from_is_err_and c.from_residual-in_err-body.result c.from_residual-in_err-body.ensures.1 in
     let l = c.loop-at in
     rw (p.1, p.2)
     (walk_fails c.in_err-body.field-0.0 l.invariant.0 (entries_seen l.entries.items) c.args.file.now

@@ -1,5 +1,5 @@
 use Rattle.index_reader.proofs.Sound.{lists_counted}
-use Rattle.index_reader.proofs.checks.postings_of.Goals as goal
+use Rattle.index_reader.proofs.parts.postings_of.Goals as goal
 
 pub invariant_of-result : goal.invariant_of-result
 invariant_of-result c = record {
