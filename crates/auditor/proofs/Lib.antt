@@ -18,3 +18,6 @@ pub mod Lines
 pub mod Naming
 pub mod LongFiles
 pub mod Told
+pub mod Conversions
+pub mod UsualTexts
+pub mod UsualReplies

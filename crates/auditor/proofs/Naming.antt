@@ -9,6 +9,9 @@ use Rattle.std.proofs.lemmas.Fmt.{decimal-digits_value, digits_decimal, digits_v
 use Rattle.std.proofs.lemmas.List.{take-append-drop}
 use Rattle.std.proofs.lemmas.Slice.Eq.{bytes_eq-Decides}
 use Rattle.std.proofs.lemmas.Str.Parse.{IsNumeralModel, numerals_by_fold, tells_all_ascii_digits}
+use Rattle.serde_json.specs.Data.{unsigned}
+use Rattle.serde_json.specs.Read.{number_of}
+use Rattle.serde_json.proofs.Numbers.{number_of-decimal}
 use Rattle.postings.specs.declared.part_name.PartName.{PartName}
 use Rattle.postings.specs.declared.part_name.PartName.TheVariants.{Block, Head}
 use Rattle.auditor.specs.Replies.{digits_from, is_padded, number_said, after, name_said}
@@ -70,6 +73,11 @@ number_at b bs n false is e =
 number_is : (text : List ℕ) (n : ℕ) → number_said text ≡ Some n → decimal n ≡ text
 number_is [] n e = cc
 number_is (b ∷ bs) n e = number_at b bs n ((b == 48) && not (length bs == 0)) refl e
+
+-- digits that are read are the number that the grammar of JSON reads
+pub number_read : (text : List ℕ) (n : ℕ) → number_said text ≡ Some n
+    → n < 18446744073709551616 → number_of text ≡ Some (unsigned n)
+number_read text n e fits = ap number_of (sym (number_is text n e)) ∙ number_of-decimal n fits
 
 block_at : (text : List ℕ) (o : Option ℕ) (name : PartName) → number_said (drop 6 text) ≡ o
     → take 6 text ≡ codes "block " → option_map (λ n. Block n) o ≡ Some name → name_text name ≡ text

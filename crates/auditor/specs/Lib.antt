@@ -8,3 +8,4 @@ pub mod BlockFiles
 pub mod Replies
 pub mod Read
 pub mod Judgements
+pub mod Usual

@@ -28,8 +28,8 @@
 //! ```
 //!
 //! The crate stands on `labels`, `matchers`, `wire`, `chunk_reader`, `tombstones` and the types and
-//! definitions of `cover`, and on `serde_json` for replies. It shares no reader of an index, no
-//! search, no merge and no walk of certificates with the store whose answers it judges.
+//! definitions of `cover`, and for replies on `json` and `serde_json`. It shares no reader of an
+//! index, no search, no merge and no walk of certificates with the store whose answers it judges.
 #![tactic(auto)]
 
 mod alone;
@@ -46,6 +46,7 @@ mod rows;
 mod separators;
 mod skip;
 mod table;
+mod usual;
 mod walk;
 
 pub use answer::{audit, audit_laws};

@@ -21,6 +21,7 @@ ghost use Rattle.auditor.specs.Replies.{reply_said, tree_of, text_said, told_of_
 ghost use Rattle.auditor.specs.Replies.{told_of_part, told_of};
 
 use crate::reply::{Reply, ReplyError, ToldPart};
+use crate::usual::usual_reply;
 use cover::{Interval, PartAnswer, PartCover, Verdict};
 use labels::{LabelSet, Row, Sample, SeriesRef, is_name};
 use postings::PartName;
@@ -82,7 +83,7 @@ fn sample_of(value: &Value) -> Option<Sample>
     Some(Sample::new(t, v))
 }
 
-fn verdict_named(text: &str) -> Option<Verdict>
+pub(crate) fn verdict_named(text: &str) -> Option<Verdict>
     ensures { result ≡ verdict_named text.now }
 {
     if text == "match" {
@@ -144,7 +145,7 @@ fn number_by_digits(digits: &[u8]) -> Option<usize>
     Some(number)
 }
 
-fn number_of(digits: &[u8]) -> Option<usize>
+pub(crate) fn number_of(digits: &[u8]) -> Option<usize>
     ensures { result ≡ number_said digits.now }
 {
     if is_padded(digits) {
@@ -159,7 +160,7 @@ fn number_after_block(name: &[u8]) -> Option<&[u8]>
     name.strip_prefix(b"block ")
 }
 
-fn name_of(name: &str) -> Option<PartName>
+pub(crate) fn name_of(name: &str) -> Option<PartName>
     ensures { result ≡ name_said name.now }
 {
     if name == "head" {
@@ -271,7 +272,7 @@ fn have_values(pairs: &[(&str, &str)]) -> bool
 }
 
 /// Whether pairs are a label set.
-fn are_labels(pairs: &[(&str, &str)]) -> bool
+pub(crate) fn are_labels(pairs: &[(&str, &str)]) -> bool
     ensures { result ≡ are_labels (texts_of pairs.now) }
 {
     are_by_name(pairs) && are_named(pairs) && have_values(pairs) && pairs.len() <= 64
@@ -408,6 +409,9 @@ impl Reply {
     pub fn read(alloc: Global, text: &[u8]) -> Result<Reply, ReplyError>
         ensures { ReadsAs told_of result (text_said text.now) }
     {
+        if let Some(reply) = usual_reply(alloc, text)? {
+            return Ok(reply);
+        }
         let tree = tree_of(alloc, text)?;
         reply_of(alloc, &tree)
     }
