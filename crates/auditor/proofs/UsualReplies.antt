@@ -1,6 +1,6 @@
 -- What the tokens of a usual reply say, object by object.
-use Rattle.std.proofs.Common.{◌≡◌, ℕ, ℤ, ◌-◌, ◌<◌, List, [], ◌∷◌, Option, Some, refl, sym, ap}
-use Rattle.std.proofs.Common.{◌∙◌, arith, true, codes, IsUtf8, Bor, drop, option_map}
+use Rattle.std.proofs.Common.{◌≡◌, ℕ, ℤ, ◌-◌, List, [], ◌∷◌, Option, Some, refl, ap}
+use Rattle.std.proofs.Common.{◌∙◌, arith, true, codes, IsUtf8, option_map}
 use Rattle.std.specs.Prelude.{option_and_then}
 use Rattle.json.specs.Token.{Token}
 use Rattle.json.specs.Json.{value}
@@ -37,8 +37,8 @@ pub sample_comes : (old a b c new : List Token) (t v : ℤ) → old ≡ Token.be
 sample_comes old a b c new t v first time value_comes last depth le =
     let x = came integer_said 0 (depth - 1) a b t time (omega arith) in
     let y = came integer_said 0 (depth - 1) b c v value_comes (omega arith) in
-    says sample_said (converted of_json (value depth old)) (array (item x.0 (item y.0 no_items))) new
-    (t, v) (two_read depth old a b c new x.0 y.0 first (omega arith) x.1 y.1 last)
+    says sample_said (converted of_json (value depth old)) (array (item x.0 (item y.0 no_items)))
+    new (t, v) (two_read depth old a b c new x.0 y.0 first (omega arith) x.1 y.1 last)
     (both_said (integer_said x.0) (integer_said y.0) t v x.2 y.2)
 
 pub row_comes : (old a b c d e new : List Token) (labels : Labels) (samples : List (ℤ × ℤ))
@@ -74,7 +74,8 @@ interval_comes old a b c d e g h new from until verdict first key_x x_comes key_
     let x = came reference_said 0 (depth - 1) b c from x_comes (omega arith) in
     let y = came natural_said 0 (depth - 1) d e until y_comes (omega arith) in
     let z = came verdict_said 0 (depth - 1) g h verdict z_comes (omega arith) in
-    let ms : List (List ℕ × Data) = (codes "from", x.0) ∷ (codes "until", y.0) ∷ (codes "verdict", z.0) ∷ [] in
+    let ms : List (List ℕ × Data) = (codes "from", x.0) ∷ (codes "until", y.0)
+    ∷ (codes "verdict", z.0) ∷ [] in
     says interval_said (converted of_json (value depth old)) (object (put_all ms no_members)) new
     (record { from = from; until = until; verdict = verdict })
     (object_read depth old a new ms first (omega arith)
@@ -106,8 +107,8 @@ searched_comes a b c d e g h j new intervals part rows separators w_comes key_x 
     let x = came part_name_said 0 (depth - 1) c d part x_comes (omega arith) in
     let y = came (list_said row_said) 4 (depth - 1) e g rows y_comes (omega arith) in
     let z = came (list_said reference_said) 1 (depth - 1) h j separators z_comes (omega arith) in
-    let ms : List (List ℕ × Data) = (codes "intervals", w.0) ∷ (codes "part", x.0) ∷ (codes "rows", y.0)
-    ∷ (codes "separators", z.0) ∷ [] in
+    let ms : List (List ℕ × Data) = (codes "intervals", w.0) ∷ (codes "part", x.0)
+    ∷ (codes "rows", y.0) ∷ (codes "separators", z.0) ∷ [] in
     says part_said (converted of_json (value depth old)) (object (put_all ms no_members)) new
     (searched part rows intervals separators)
     (object_read depth old (Token.key (codes "intervals") ∷ a) new ms refl (omega arith)

@@ -80,8 +80,8 @@ number_is : {A : Type 0} (what : Num → Option A) (o : Option Num) (a : A) (new
 number_is what None a new e = absurd (cc)
 number_is {A} what (Some n) a new e = ap (option_map {U = A × List Token} (λ b. (b, new))) e
 
-pub number_comes : {A : Type 0} (what : Num → Option A) (old new : List Token) (text : List ℕ) (a : A)
-    → old ≡ Token.number text ∷ new → option_and_then what (number_of text) ≡ Some a
+pub number_comes : {A : Type 0} (what : Num → Option A) (old new : List Token) (text : List ℕ)
+    (a : A) → old ≡ Token.number text ∷ new → option_and_then what (number_of text) ≡ Some a
     → Comes (λ d. option_and_then what (as_number d)) 0 old a new
 number_comes what old new text a first is depth le =
     ap (λ ts. converted (λ d. option_and_then what (as_number d)) (converted of_json
@@ -308,8 +308,8 @@ pairs_turn whole old mid new last name text done next so_far key first above pus
       turns = so_far.turns - 1;
       enough = omega arith;
       behind = λ n beyond.
-          behind_more n done (name, text) (so_far.behind n (behind_through n name last beyond above))
-          beyond;
+          behind_more n done (name, text)
+          (so_far.behind n (behind_through n name last beyond above)) beyond;
       same = λ depth.
           so_far.same depth ∙ member_read (value depth) (texts done) so_far.turns name old mid new
           (string text) (omega arith) key (token_read depth mid new text first)

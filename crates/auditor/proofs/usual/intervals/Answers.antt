@@ -8,7 +8,8 @@ use Rattle.auditor.proofs.usual.intervals.Goals as goal
 pub intervals-smaller : goal.intervals-smaller
 intervals-smaller c =
     let stays : c.take_end_array.new.self ≡ c.intervals.reader = grind arith in
-    comes_shorter interval_said 1 c.intervals.reader c.interval.new.reader c.in_ok-interval.field-0
+    comes_shorter interval_said 1 c.intervals.reader c.interval.new.reader
+    c.in_ok-interval.field-0
     (subst (λ r. Comes interval_said 1 r c.in_ok-interval.field-0 c.interval.new.reader) stays
     c.in_ok-interval.ensures)
 
@@ -17,7 +18,8 @@ intervals-preserved c =
     let going : after_end_array c.intervals.reader ≡ None = grind arith in
     let stays : c.take_end_array.new.self ≡ c.intervals.reader = grind arith in
     items_turn interval_said 1 c.begin_array.new.reader c.intervals.reader c.interval.new.reader
-    c.intervals.intervals.items c.push.new.self.items c.in_ok-interval.field-0 c.intervals.invariant going
+    c.intervals.intervals.items c.push.new.self.items c.in_ok-interval.field-0
+    c.intervals.invariant going
     (subst (λ r. Comes interval_said 1 r c.in_ok-interval.field-0 c.interval.new.reader) stays
     c.in_ok-interval.ensures)
     c.in_ok-push.ensures.items
@@ -26,4 +28,5 @@ pub returns : goal.returns
 returns c =
     let over : after_end_array c.intervals.reader ≡ Some c.take_end_array.new.self = grind arith in
     items_end interval_said 1 c.args.reader.now c.begin_array.new.reader c.intervals.reader
-    c.take_end_array.new.self c.intervals.intervals.items c.in_ok-begin_array.ensures c.intervals.invariant over
+    c.take_end_array.new.self c.intervals.intervals.items c.in_ok-begin_array.ensures
+    c.intervals.invariant over

@@ -1,11 +1,7 @@
-use Rattle.std.proofs.Common.{◌≡◌, Some, true, sym, ap, ◌∙◌}
-use Rattle.std.specs.Prelude.{if◌then◌else◌}
-use Rattle.labels.specs.Labels.{Labels}
+use Rattle.std.proofs.Common.{◌≡◌, sym, ap, ◌∙◌}
 use Rattle.labels.specs.Pairs.{texts_of}
 use Rattle.auditor.specs.Replies.{are_labels}
-use Rattle.auditor.specs.Usual.{pairs_said}
 use Rattle.auditor.proofs.Labelled.{is_label_set}
-use Rattle.auditor.proofs.UsualTexts.{comes_through}
 use Rattle.auditor.proofs.usual.label_set.Goals as goal
 
 pub of_sorted_texts-requires : goal.of_sorted_texts-requires

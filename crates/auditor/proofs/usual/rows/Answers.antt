@@ -8,7 +8,8 @@ use Rattle.auditor.proofs.usual.rows.Goals as goal
 pub rows-smaller : goal.rows-smaller
 rows-smaller c =
     let stays : c.take_end_array.new.self ≡ c.rows.reader = grind arith in
-    comes_shorter row_said 3 c.rows.reader c.row.new.reader c.in_ok-row.field-0
+    comes_shorter row_said 3 c.rows.reader c.row.new.reader
+    c.in_ok-row.field-0
     (subst (λ r. Comes row_said 3 r c.in_ok-row.field-0 c.row.new.reader) stays
     c.in_ok-row.ensures)
 
@@ -17,7 +18,8 @@ rows-preserved c =
     let going : after_end_array c.rows.reader ≡ None = grind arith in
     let stays : c.take_end_array.new.self ≡ c.rows.reader = grind arith in
     items_turn row_said 3 c.begin_array.new.reader c.rows.reader c.row.new.reader
-    c.rows.rows.items c.push.new.self.items c.in_ok-row.field-0 c.rows.invariant going
+    c.rows.rows.items c.push.new.self.items c.in_ok-row.field-0
+    c.rows.invariant going
     (subst (λ r. Comes row_said 3 r c.in_ok-row.field-0 c.row.new.reader) stays
     c.in_ok-row.ensures)
     c.in_ok-push.ensures.items
@@ -26,4 +28,5 @@ pub returns : goal.returns
 returns c =
     let over : after_end_array c.rows.reader ≡ Some c.take_end_array.new.self = grind arith in
     items_end row_said 3 c.args.reader.now c.begin_array.new.reader c.rows.reader
-    c.take_end_array.new.self c.rows.rows.items c.in_ok-begin_array.ensures c.rows.invariant over
+    c.take_end_array.new.self c.rows.rows.items c.in_ok-begin_array.ensures
+    c.rows.invariant over
