@@ -16,6 +16,7 @@ pub mod Whole
 pub mod Places
 pub mod Passing
 pub mod Wanting
+pub mod WholeChunks
 pub mod Showing
 pub mod Walking
 pub mod Listed
