@@ -17,6 +17,7 @@ pub mod Places
 pub mod Passing
 pub mod Wanting
 pub mod WholeChunks
+pub mod LabelOrder
 pub mod Showing
 pub mod Walking
 pub mod Listed
