@@ -1,5 +1,4 @@
 use Rattle.std.proofs.Common.{ℤ, List, [], ◌∷◌, ◌++◌, take, ap, sym, ◌∙◌, append_assoc}
-use Rattle.std.proofs.lemmas.List.{take_all}
 use Rattle.block.proofs.Steps.{take_next}
 use Rattle.block.proofs.samples.push_all.Goals as goal
 

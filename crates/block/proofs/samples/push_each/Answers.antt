@@ -1,8 +1,8 @@
-use Rattle.std.proofs.Common.{◌++◌, ℤ, List, filter, ap, ◌∙◌, arith}
+use Rattle.std.proofs.Common.{◌++◌, ℤ, List, ap, ◌∙◌, arith}
 use Rattle.block.specs.Sound.{IsHeldChunk}
 use Rattle.block.proofs.Meeting.{held_met, kept_in_met}
 use Rattle.block.proofs.Passing.{held_at}
-use Rattle.block.proofs.Wanting.{is_asked, chunk_kept, chunks_kept}
+use Rattle.block.proofs.Wanting.{chunk_kept, chunks_kept}
 use Rattle.block.proofs.samples.push_each.Goals as goal
 
 pub push_chunk-requires : goal.push_chunk-requires
