@@ -20,7 +20,7 @@ use Rattle.block.specs.Sound.{IsStored}
 use Rattle.block.proofs.Steps.{take_next}
 
 -- where no deletion is of the series
-none_covers : (ds : List Deletion) (r : ℕ) (t : ℤ) → has_deletion ds r ≡ false
+pub none_covers : (ds : List Deletion) (r : ℕ) (t : ℤ) → has_deletion ds r ≡ false
     → covered ds r t ≡ false
 none_covers [] r t e = refl
 none_covers (d ∷ ds) r t e = go (d.reference == r) e (none_covers ds r t)

@@ -16,6 +16,8 @@ pub mod Whole
 pub mod Places
 pub mod Passing
 pub mod Wanting
+pub mod WholeChunks
+pub mod LabelOrder
 pub mod Showing
 pub mod Walking
 pub mod Listed

@@ -32,7 +32,7 @@ all_filter P p (x ∷ xs) a =
     elim (p x) as (λ b. AllByRecursion P (cond b (x ∷ filter p xs) (filter p xs)))
     [ true ↦ (a.0, all_filter P p xs a.1) | false ↦ all_filter P p xs a.1 ]
 
-true_from : (b : Bool) → T b → b ≡ true
+pub true_from : (b : Bool) → T b → b ≡ true
 true_from true h = refl
 true_from false h = absurd h
 

@@ -1,8 +1,9 @@
 -- What a block shows.
 use Rattle.std.specs.Prelude.{◌≡◌, ℕ, ◌+◌, ℤ, true, List, [], ◌∷◌, length, map}
 use Rattle.std.specs.List.{AllByRecursion}
+use Rattle.std.specs.List.Sorted.{IsSortedBy}
 use Rattle.labels.specs.Parts.{Part}
-use Rattle.labels.specs.Rows.{Row}
+use Rattle.labels.specs.Rows.{Row, row_before}
 use Rattle.index_reader.specs.Indexes.{Series, Indexed}
 use Rattle.tombstones.specs.declared.deletion.Deletion.{Deletion}
 use Rattle.block.specs.Ranges.{covers}
@@ -33,6 +34,10 @@ abbrev pub AreInside : ℤ × ℤ → Part → Type 0
 AreInside range part =
     AllByRecursion
     (λ (row : ℕ × Row). AllByRecursion (λ (s : ℤ × ℤ). covers range s.0 ≡ true) row.1.1) part
+
+-- no row of the part stands before one of a smaller label set
+abbrev pub AreInLabelOrder : Part → Type 0
+AreInLabelOrder part = IsSortedBy (λ (a b : ℕ × Row). row_before a.1 b.1) part
 
 -- how many samples a part has
 abbrev pub sample_count : Part → ℕ

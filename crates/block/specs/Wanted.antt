@@ -1,9 +1,9 @@
 -- The samples of a series that are asked for.
-use Rattle.std.specs.Prelude.{ℕ, ℤ, List, Bool, not, ◌&&◌, ◌||◌, int_lt}
+use Rattle.std.specs.Prelude.{ℕ, ℤ, List, Bool, not, ◌&&◌, ◌||◌, int_lt, int_le}
 use Rattle.std.specs.List.{AllByRecursion}
 use Rattle.index_reader.specs.declared.chunk.Chunk.{Chunk}
 use Rattle.tombstones.specs.declared.deletion.Deletion.{Deletion}
-use Rattle.tombstones.specs.Covering.{covered}
+use Rattle.tombstones.specs.Covering.{covered, has_deletion}
 use Rattle.labels.specs.Contents.{in_range}
 use Rattle.block.specs.declared.samples.Wanted.{Wanted}
 use Rattle.block.specs.Sound.{IsHeldChunk}
@@ -20,6 +20,17 @@ wants wanted t =
 -- whether the first or the last time of a chunk is asked for
 abbrev pub wants_end : Wanted → Chunk → Bool
 wants_end wanted c = wants wanted c.mint || wants wanted c.maxt
+
+-- whether all of a chunk's times are asked for: they lie in the closed range, and no deletion is of
+-- the series
+abbrev pub wants_whole : List Deletion → ℕ → ℤ → ℤ → Chunk → Bool
+wants_whole deletions reference from to c =
+    int_le from c.mint && (int_le c.maxt to && not (has_deletion deletions reference))
+
+-- the same of what is asked of a series
+abbrev pub wants_all : Wanted → Chunk → Bool
+wants_all wanted c =
+    wants_whole wanted.tombstones.now wanted.reference wanted.times.from wanted.times.to c
 
 -- whether a chunk may have a sample in the closed range
 abbrev pub meets : ℤ → ℤ → Chunk → Bool

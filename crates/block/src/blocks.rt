@@ -5,7 +5,7 @@ ghost use Rattle.labels.specs.Parts.{IsPart, Part};
 ghost use Rattle.index_reader.specs.Indexes.{IsConsistent};
 ghost use Rattle.index_reader.specs.Checks.{IsRefused};
 ghost use Rattle.index_reader.specs.Spelled.{IsIndex};
-ghost use Rattle.block.specs.Blocks.{AreInside, sample_count};
+ghost use Rattle.block.specs.Blocks.{AreInLabelOrder, AreInside, sample_count};
 ghost use Rattle.block.specs.Fewer.{part_without};
 ghost use Rattle.block.specs.Grammar.{IsBlock};
 ghost use Rattle.block.specs.Opening.{block_of};
@@ -187,6 +187,14 @@ impl Block {
         // For the proof alone: the call says that the range begins below its end.
         let _ = self.range.min();
         self.range
+    }
+
+    /// A law: the series stand in the order of their label sets. It takes no time.
+    pub fn are_in_label_order(&self)
+        ensures { AreInLabelOrder self.now.part }
+    {
+        // What holds of a block is known where a field of it is named.
+        let _ = &self.files;
     }
 
     /// How many series the block has, also those without a sample.

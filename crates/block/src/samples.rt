@@ -4,7 +4,7 @@ ghost use Rattle.std.specs.Prelude.{◌≡◌, ◌++◌, ℤ, filter, OnOk};
 ghost use Rattle.std.specs.List.{list_any};
 ghost use Rattle.block.specs.Samples.{chunk_samples, samples_in};
 ghost use Rattle.block.specs.Sound.{AreInTurn, IsHeldChunk};
-ghost use Rattle.block.specs.Wanted.{AreHeldChunks, meets, wants, wants_end};
+ghost use Rattle.block.specs.Wanted.{AreHeldChunks, meets, wants, wants_all, wants_end};
 
 use chunk_reader::{Chunks, Samples};
 use index_reader::Chunk;
@@ -46,6 +46,16 @@ impl<'a> Wanted<'a> {
     {
         self.wants(chunk.mint) || self.wants(chunk.maxt)
     }
+
+    /// Whether all of the chunk's times are wanted: they lie in the range, and no deletion is of
+    /// the series.
+    fn has_all(&self, chunk: Chunk) -> bool
+        ensures { result ≡ wants_all self.now chunk }
+    {
+        self.times.from <= chunk.mint
+            && chunk.maxt <= self.times.to
+            && !self.tombstones.has_deletion_of(self.reference)
+    }
 }
 
 /// The chunks whose times meet the range. They stand side by side, and are found by halving.
@@ -84,6 +94,35 @@ fn push_wanted(
     Ok(())
 }
 
+/// Adds all samples.
+fn push_all(found: &mut Vec<Sample>, samples: &Samples<'_>) -> Result<(), AllocError>
+    ensures { OnOk result (found.new.items ≡ found.old.items ++ samples.now) }
+{
+    found.reserve(samples.len())?;
+    for i in 0..samples.len() {
+        found.push(samples.get(i))?;
+    }
+    Ok(())
+}
+
+/// Adds the samples of a chunk that are wanted.
+fn push_chunk(
+    found: &mut Vec<Sample>,
+    chunks: &Chunks,
+    chunk: Chunk,
+    wanted: &Wanted<'_>,
+) -> Result<(), AllocError>
+    requires { IsHeldChunk chunks.now chunk }
+    ensures { OnOk result (found.new.items ≡ found.old.items
+        ++ filter (λ (s : ℤ × ℤ). wants wanted.now s.0) (chunk_samples chunks.now chunk)) }
+{
+    let samples = chunk_samples(chunks, chunk);
+    if wanted.has_all(chunk) {
+        return push_all(found, &samples);
+    }
+    push_wanted(found, &samples, wanted)
+}
+
 /// Adds the samples that are wanted. It finds the chunks whose times meet the range by halving, and
 /// reads no other.
 pub(crate) fn push_each(
@@ -99,7 +138,7 @@ pub(crate) fn push_each(
 {
     let met = meeting_chunks(series, wanted.times);
     for chunk in met {
-        push_wanted(found, &chunk_samples(chunks, *chunk), wanted)?;
+        push_chunk(found, chunks, *chunk, wanted)?;
     }
     Ok(())
 }

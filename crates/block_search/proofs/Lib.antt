@@ -6,6 +6,7 @@ pub mod Steps
 pub mod Zips
 pub mod Skips
 pub mod PlaceLaws
+pub mod InTurn
 pub mod Agreement
 pub mod Answering
 pub mod Gathered

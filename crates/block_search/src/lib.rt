@@ -6,10 +6,11 @@
 //! one answer for each part that the query does not skip, in the order of the parts: the blocks and
 //! then the head. A block is skipped where its range has no time of the query's; it has no sample
 //! there, so nothing is lost. A part is a [`SearchedPart`]; [`search`] gives each part a worker,
-//! and the rows of a part's many matches several, with a [`Gate`] that learns of each part, and
-//! [`search_one_by_one`] goes through all in the calling thread: the two agree in all but the
-//! moves. [`answered_parts`] makes of the answers what is told of each part: its answer, or that it
-//! is skipped.
+//! and the rows of a part's many matches several, with a [`Gate`] that learns of each part.
+//! [`search_in_turn`] goes through all in the calling thread, and shares out the rows alone;
+//! [`search_one_by_one`] starts no thread. The three agree in all but the moves.
+//! [`answered_parts`] makes of the answers what is told of each part: its answer, or that it is
+//! skipped.
 //!
 //! ```
 //! let labels = LabelSet::of_sorted_texts(alloc, &[("__name__", "up")]).ok()?;
@@ -37,5 +38,5 @@ pub use answered::{AnsweredPart, answered_parts};
 pub use gate::{Gate, OpenGate};
 pub use laws::searches_agree;
 pub use one_part::{SearchedPart, search_part};
-pub use parts::{search, search_one_by_one};
+pub use parts::{search, search_in_turn, search_one_by_one};
 pub use skipping::is_skipped;

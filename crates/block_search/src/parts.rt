@@ -67,6 +67,25 @@ pub fn search_one_by_one(
     Ok(answers)
 }
 
+/// The answers as [`search_one_by_one`] gives them but for the moves: one part after another, the
+/// rows of a part's many matches made by several threads. Where a part has few, it starts none.
+pub fn search_in_turn<R: Threads + Sync>(
+    rt: &R,
+    alloc: Global,
+    snapshot: &Snapshot,
+    query: &Query,
+) -> Result<Vec<PartAnswer>, AllocError>
+    ensures each { IfOk result (λ answers. AreAnswers query.now snapshot.now answers.items) }
+    ensures whole { OnOk result (LosesNothing query.now snapshot.now) }
+{
+    let places = searched_places(alloc, snapshot, query)?;
+    let mut answers = Vec::with_capacity(alloc, places.len())?;
+    for place in &places {
+        answers.push(search_place_by(rt, alloc, snapshot, query, *place)?)?;
+    }
+    Ok(answers)
+}
+
 /// The answer of the part at this place, of which the gate learns before the search.
 fn search_through_gate<R: Threads + Sync, G: Gate>(
     rt: &R,

@@ -1,12 +1,12 @@
-use Rattle.std.proofs.Common.{◌++◌, ℤ, List, filter, ap, ◌∙◌, arith}
+use Rattle.std.proofs.Common.{◌++◌, ℤ, List, ap, ◌∙◌, arith}
 use Rattle.block.specs.Sound.{IsHeldChunk}
 use Rattle.block.proofs.Meeting.{held_met, kept_in_met}
 use Rattle.block.proofs.Passing.{held_at}
-use Rattle.block.proofs.Wanting.{is_asked, chunk_kept, chunks_kept}
+use Rattle.block.proofs.Wanting.{chunk_kept, chunks_kept}
 use Rattle.block.proofs.samples.push_each.Goals as goal
 
-pub chunk_samples-requires : goal.chunk_samples-requires
-chunk_samples-requires c =
+pub push_chunk-requires : goal.push_chunk-requires
+push_chunk-requires c =
     let w = c.args.wanted.now in
     held_at (IsHeldChunk c.args.chunks.now) c.meeting_chunks-met.result.now c.loop-chunk.chunk-index _
     (omega arith) (held_met w.times.from w.times.to c.args.chunks.now c.args.series.now
@@ -17,11 +17,7 @@ loop-chunk-preserved c =
     let w = c.args.wanted.now in
     chunk_kept w.tombstones.now w.reference w.times.from w.times.to c.args.chunks.now
     c.meeting_chunks-met.result.now c.loop-chunk.chunk-index _ c.loop-chunk.found.items
-    c.push_wanted.new.found.items _ (omega arith)
-    (c.in_ok-push_wanted.ensures
-    ∙ ap (λ (ss : List (ℤ × ℤ)). c.loop-chunk.found.items ++ filter (is_asked w.tombstones.now
-    w.reference w.times.from w.times.to) ss) c.chunk_samples.ensures)
-    c.loop-chunk.invariant
+    c.push_chunk.new.found.items _ (omega arith) c.in_ok-push_chunk.ensures c.loop-chunk.invariant
 
 pub returns : goal.returns
 returns c =

@@ -1,0 +1,7 @@
+use Rattle.std.proofs.Common.{take}
+use Rattle.block_search.proofs.InTurn.{AreAt}
+use Rattle.block_search.proofs.parts.search_in_turn.Given as goal
+
+abbrev pub invariant-loop-place : goal.invariant-loop-place
+invariant-loop-place g l = AreAt l.query l.snapshot (take l.place-index l.place-items)
+    l.answers.items
