@@ -173,11 +173,12 @@ fn sample(reader: &mut Reader<'_>) -> Result<Sample, Stop>
     }
 }
 
-fn samples(alloc: Global, reader: &mut Reader<'_>) -> Result<Vec<Sample>, Stop>
+/// The samples of a row, in a list that has room for so many at once.
+fn samples(alloc: Global, reader: &mut Reader<'_>, room: usize) -> Result<Vec<Sample>, Stop>
     ensures { IfOk result (λ v. Comes samples_of_list 2 reader.old v.items reader.new) }
 {
     begin_array(reader)?;
-    let mut samples = Vec::new(alloc);
+    let mut samples = Vec::with_capacity(alloc, room)?;
     'samples: while !reader.take_end_array() {
         samples.push(sample(reader)?)?;
     }
@@ -193,13 +194,14 @@ fn may_follow(last: &str, name: &str, value: &str) -> bool
     name.cmp(last) == Ordering::Greater && is_name(name) && !value.is_empty()
 }
 
-fn pairs<'t>(alloc: Global, reader: &mut Reader<'t>) -> Result<Vec<(&'t str, &'t str)>, Stop>
-    ensures comes { IfOk result
-        (λ v. Comes pairs_of_object 1 reader.old (texts_of v.items) reader.new) }
-    ensures labels { IfOk result (λ v. AreLabels (texts_of v.items)) }
+/// Reads the pairs of a row into a list, in place of what it held.
+fn read_pairs<'t>(reader: &mut Reader<'t>, pairs: &mut Vec<(&'t str, &'t str)>) -> Result<(), Stop>
+    ensures comes { OnOk result
+        (Comes pairs_of_object 1 reader.old (texts_of pairs.new.items) reader.new) }
+    ensures labels { OnOk result (AreLabels (texts_of pairs.new.items)) }
 {
     begin_object(reader)?;
-    let mut pairs = Vec::new(alloc);
+    pairs.clear();
     let mut last = "";
     'pairs: while let Some(name) = reader.next_key()? {
         let value = text(reader)?;
@@ -209,29 +211,42 @@ fn pairs<'t>(alloc: Global, reader: &mut Reader<'t>) -> Result<Vec<(&'t str, &'t
         pairs.push((name, value))?;
         last = name;
     }
-    Ok(pairs)
+    Ok(())
 }
 
-fn row(alloc: Global, reader: &mut Reader<'_>) -> Result<Row, Stop>
+/// The next row. Its pairs are read into a list that rows share; its list of samples has room for
+/// so many at once.
+fn row<'t>(
+    alloc: Global,
+    reader: &mut Reader<'t>,
+    pairs: &mut Vec<(&'t str, &'t str)>,
+    room: usize,
+) -> Result<Row, Stop>
     ensures { IfOk result (λ row. RowComes reader.old row reader.new) }
 {
     begin_object(reader)?;
     key(reader, "labels")?;
-    let pairs = pairs(alloc, reader)?;
+    read_pairs(reader, pairs)?;
     key(reader, "samples")?;
-    let samples = samples(alloc, reader)?;
+    let samples = samples(alloc, reader, room)?;
     end_object(reader)?;
     let labels = LabelSet::of_sorted_texts(alloc, pairs.as_slice())?;
     Ok(Row::new(labels, samples))
 }
 
+/// The rows of a list. A list of samples gets the room that the one before took: rows mostly have
+/// as many.
 fn rows(alloc: Global, reader: &mut Reader<'_>) -> Result<Vec<Row>, Stop>
     ensures { IfOk result (λ rows. RowsCome reader.old rows.items reader.new) }
 {
     begin_array(reader)?;
     let mut rows = Vec::new(alloc);
+    let mut pairs = Vec::new(alloc);
+    let mut room = 0;
     'rows: while !reader.take_end_array() {
-        rows.push(row(alloc, reader)?)?;
+        let row = row(alloc, reader, &mut pairs, room)?;
+        room = row.samples().len();
+        rows.push(row)?;
     }
     Ok(rows)
 }
