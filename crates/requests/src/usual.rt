@@ -7,6 +7,7 @@ ghost use Rattle.std.specs.Prelude.{option_and_then, IfOk, IfSome, OnOk, IsTrue}
 ghost use Rattle.std.specs.Ordering.{nat_cmp};
 ghost use Rattle.std.specs.declared.cmp.Ordering.TheVariants.{Greater};
 ghost use Rattle.std.specs.Cmp.Lexicographic.{slice_cmp};
+ghost use Rattle.fast_float.specs.Text.{scan};
 ghost use Rattle.json.specs.Token as token;
 ghost use Rattle.labels.specs.LabelSets.{has_value};
 ghost use Rattle.labels.specs.Names.{is_name};
@@ -115,6 +116,9 @@ fn number<'t>(reader: &mut Reader<'t>) -> Result<&'t str, Stop>
     }
 }
 
+/// A number below this is below 10^18 with one digit more.
+const FEW: u64 = 100_000_000_000_000_000;
+
 /// The integer of a numeral without a sign.
 fn unsigned(numeral: &Numeral<'_>) -> Option<i64>
     ensures { IfSome result (λ z. option_and_then as_i64 (number_from false numeral.now) ≡ Some z) }
@@ -128,6 +132,27 @@ fn negative(numeral: &Numeral<'_>) -> Option<i64>
 {
     let value = numeral.to_i64(true)?;
     if value < 0 { Some(value) } else { None }
+}
+
+/// The number that digits alone write, if it is below 10^18: the usual form of a time and a value.
+fn few_digits(bytes: &[u8]) -> Option<i64>
+    ensures { IfSome result (λ z. option_and_then as_i64 (number_from false (scan bytes.now))
+        ≡ Some z) }
+{
+    if bytes.is_empty() {
+        return None;
+    }
+    let mut value = 0u64;
+    let mut at = 0;
+    'digits: while at < bytes.len() {
+        let digit = bytes[at].wrapping_sub(b'0');
+        if digit > 9 || value >= FEW {
+            return None;
+        }
+        value = value * 10 + digit as u64;
+        at += 1;
+    }
+    Some(value as i64)
 }
 
 fn has_minus(bytes: &[u8]) -> bool
@@ -145,7 +170,10 @@ fn integer_of(text: &str) -> Option<i64>
     if has_minus(bytes) {
         negative(&Numeral::scan(&bytes[1..]))
     } else {
-        unsigned(&Numeral::scan(bytes))
+        match few_digits(bytes) {
+            Some(value) => Some(value),
+            None => unsigned(&Numeral::scan(bytes)),
+        }
     }
 }
 
