@@ -104,6 +104,13 @@ fn order_of_pairs(a: &Pairs, b: &Pairs) -> Ordering
     Ordering::Equal
 }
 
+// Label sets that were made of the same pairs have one text, which is compared first.
+fn are_equal(a: &Pairs, b: &Pairs) -> bool
+    ensures { result ≡ eq_by_cmp labels_cmp a.now b.now }
+{
+    a.is_cut_alike(b) || matches!(order_of_pairs(a, b), Ordering::Equal)
+}
+
 // Where the pair of a name stands.
 fn place_of(pairs: &Pairs, name: &str) -> Option<usize>
     requires { IsByName pairs.now }
@@ -212,7 +219,7 @@ impl PartialEq for LabelSet {
     ghost laws = { partial_equiv_from_equiv (eq_by_cmp_equiv labels_total) };
 
     fn eq(&self, other: &LabelSet) -> bool {
-        matches!(order_of_pairs(&self.pairs, &other.pairs), Ordering::Equal)
+        are_equal(&self.pairs, &other.pairs)
     }
 }
 

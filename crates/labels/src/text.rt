@@ -1,14 +1,14 @@
 //! Pairs of texts, one after the other in one buffer.
 
 ghost use Rattle.std.specs.Prelude.{◌≡◌, ◌<◌, ◌+◌, length, map, slice_get, Some, IfOk, OnOk, OnErr};
-ghost use Rattle.std.specs.Prelude.{string_bytes};
+ghost use Rattle.std.specs.Prelude.{string_bytes, IsTrue};
 ghost use Rattle.labels.specs.Pairs.{pairs_of};
 
 use std::alloc::{AllocError, Global};
 use std::marker::Model;
 
 /// Where a pair stands in the text.
-#[derive(Clone, Copy, Debug)]
+#[derive(Clone, Copy, Debug, PartialEq, Eq)]
 struct Place {
     start: usize,
     middle: usize,
@@ -57,6 +57,14 @@ impl Pairs {
         ensures { result ≡ length self.now }
     {
         self.places.len()
+    }
+
+    /// Whether both have one text, cut at the same places. Equal pairs may be cut otherwise.
+    pub fn is_cut_alike(&self, other: &Pairs) -> bool
+        ensures { IsTrue result → self.now ≡ other.now }
+    {
+        self.text.as_str() == other.text.as_str()
+            && self.places.as_slice() == other.places.as_slice()
     }
 
     pub fn pair(&self, i: usize) -> (&str, &str)

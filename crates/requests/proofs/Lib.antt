@@ -15,3 +15,4 @@ pub mod FitTexts
 pub mod Endings
 pub mod TakenTexts
 pub mod PathTexts
+mod FewDigits

@@ -7,6 +7,7 @@ ghost use Rattle.std.specs.Prelude.{option_and_then, IfOk, IfSome, OnOk, IsTrue}
 ghost use Rattle.std.specs.Ordering.{nat_cmp};
 ghost use Rattle.std.specs.declared.cmp.Ordering.TheVariants.{Greater};
 ghost use Rattle.std.specs.Cmp.Lexicographic.{slice_cmp};
+ghost use Rattle.fast_float.specs.Text.{scan};
 ghost use Rattle.json.specs.Token as token;
 ghost use Rattle.labels.specs.LabelSets.{has_value};
 ghost use Rattle.labels.specs.Names.{is_name};
@@ -115,6 +116,9 @@ fn number<'t>(reader: &mut Reader<'t>) -> Result<&'t str, Stop>
     }
 }
 
+/// A number below this is below 10^18 with one digit more.
+const FEW: u64 = 100_000_000_000_000_000;
+
 /// The integer of a numeral without a sign.
 fn unsigned(numeral: &Numeral<'_>) -> Option<i64>
     ensures { IfSome result (λ z. option_and_then as_i64 (number_from false numeral.now) ≡ Some z) }
@@ -128,6 +132,27 @@ fn negative(numeral: &Numeral<'_>) -> Option<i64>
 {
     let value = numeral.to_i64(true)?;
     if value < 0 { Some(value) } else { None }
+}
+
+/// The number that digits alone write, if it is below 10^18: the usual form of a time and a value.
+fn few_digits(bytes: &[u8]) -> Option<i64>
+    ensures { IfSome result (λ z. option_and_then as_i64 (number_from false (scan bytes.now))
+        ≡ Some z) }
+{
+    if bytes.is_empty() {
+        return None;
+    }
+    let mut value = 0u64;
+    let mut at = 0;
+    'digits: while at < bytes.len() {
+        let digit = bytes[at].wrapping_sub(b'0');
+        if digit > 9 || value >= FEW {
+            return None;
+        }
+        value = value * 10 + digit as u64;
+        at += 1;
+    }
+    Some(value as i64)
 }
 
 fn has_minus(bytes: &[u8]) -> bool
@@ -145,7 +170,10 @@ fn integer_of(text: &str) -> Option<i64>
     if has_minus(bytes) {
         negative(&Numeral::scan(&bytes[1..]))
     } else {
-        unsigned(&Numeral::scan(bytes))
+        match few_digits(bytes) {
+            Some(value) => Some(value),
+            None => unsigned(&Numeral::scan(bytes)),
+        }
     }
 }
 
@@ -173,11 +201,12 @@ fn sample(reader: &mut Reader<'_>) -> Result<Sample, Stop>
     }
 }
 
-fn samples(alloc: Global, reader: &mut Reader<'_>) -> Result<Vec<Sample>, Stop>
+/// The samples of a row, in a list that has room for so many at once.
+fn samples(alloc: Global, reader: &mut Reader<'_>, room: usize) -> Result<Vec<Sample>, Stop>
     ensures { IfOk result (λ v. Comes samples_of_list 2 reader.old v.items reader.new) }
 {
     begin_array(reader)?;
-    let mut samples = Vec::new(alloc);
+    let mut samples = Vec::with_capacity(alloc, room)?;
     'samples: while !reader.take_end_array() {
         samples.push(sample(reader)?)?;
     }
@@ -193,13 +222,14 @@ fn may_follow(last: &str, name: &str, value: &str) -> bool
     name.cmp(last) == Ordering::Greater && is_name(name) && !value.is_empty()
 }
 
-fn pairs<'t>(alloc: Global, reader: &mut Reader<'t>) -> Result<Vec<(&'t str, &'t str)>, Stop>
-    ensures comes { IfOk result
-        (λ v. Comes pairs_of_object 1 reader.old (texts_of v.items) reader.new) }
-    ensures labels { IfOk result (λ v. AreLabels (texts_of v.items)) }
+/// Reads the pairs of a row into a list, in place of what it held.
+fn read_pairs<'t>(reader: &mut Reader<'t>, pairs: &mut Vec<(&'t str, &'t str)>) -> Result<(), Stop>
+    ensures comes { OnOk result
+        (Comes pairs_of_object 1 reader.old (texts_of pairs.new.items) reader.new) }
+    ensures labels { OnOk result (AreLabels (texts_of pairs.new.items)) }
 {
     begin_object(reader)?;
-    let mut pairs = Vec::new(alloc);
+    pairs.clear();
     let mut last = "";
     'pairs: while let Some(name) = reader.next_key()? {
         let value = text(reader)?;
@@ -209,29 +239,42 @@ fn pairs<'t>(alloc: Global, reader: &mut Reader<'t>) -> Result<Vec<(&'t str, &'t
         pairs.push((name, value))?;
         last = name;
     }
-    Ok(pairs)
+    Ok(())
 }
 
-fn row(alloc: Global, reader: &mut Reader<'_>) -> Result<Row, Stop>
+/// The next row. Its pairs are read into a list that rows share; its list of samples has room for
+/// so many at once.
+fn row<'t>(
+    alloc: Global,
+    reader: &mut Reader<'t>,
+    pairs: &mut Vec<(&'t str, &'t str)>,
+    room: usize,
+) -> Result<Row, Stop>
     ensures { IfOk result (λ row. RowComes reader.old row reader.new) }
 {
     begin_object(reader)?;
     key(reader, "labels")?;
-    let pairs = pairs(alloc, reader)?;
+    read_pairs(reader, pairs)?;
     key(reader, "samples")?;
-    let samples = samples(alloc, reader)?;
+    let samples = samples(alloc, reader, room)?;
     end_object(reader)?;
     let labels = LabelSet::of_sorted_texts(alloc, pairs.as_slice())?;
     Ok(Row::new(labels, samples))
 }
 
+/// The rows of a list. A list of samples gets the room that the one before took: rows mostly have
+/// as many.
 fn rows(alloc: Global, reader: &mut Reader<'_>) -> Result<Vec<Row>, Stop>
     ensures { IfOk result (λ rows. RowsCome reader.old rows.items reader.new) }
 {
     begin_array(reader)?;
     let mut rows = Vec::new(alloc);
+    let mut pairs = Vec::new(alloc);
+    let mut room = 0;
     'rows: while !reader.take_end_array() {
-        rows.push(row(alloc, reader)?)?;
+        let row = row(alloc, reader, &mut pairs, room)?;
+        room = row.samples().len();
+        rows.push(row)?;
     }
     Ok(rows)
 }

@@ -1,5 +1,7 @@
 use Rattle.std.proofs.Common.{◌≡◌, drop, get_or, true, false, ◌==◌, Some, IfSome, sym, ap, subst}
 use Rattle.std.proofs.Common.{◌∙◌, arith, take_all, length-drop}
+use Rattle.std.proofs.Common.{rules, w64, SFits}
+use Rattle.std.proofs.lemmas.Int.{to_z-of_z}
 use Rattle.std.specs.Prelude.{option_and_then}
 use Rattle.fast_float.specs.Text.{scan}
 use Rattle.serde_json.specs.Find.{as_i64}
@@ -18,12 +20,22 @@ returns-then-has_minus c =
     (ap (number_from true) parts ∙ read ∙ ap number_of c.as_bytes-bytes.ensures.value)
     c.negative.ensures
 
-pub returns-else-has_minus : goal.returns-else-has_minus
+pub returns-in-Some : goal.returns-in-Some
 unfolding number_of
-returns-else-has_minus c =
+returns-in-Some c =
+    let s = c.as_bytes-bytes.result.now in
+    let unsigned : (get_or s 0 0 == 45) ≡ false = sym c.if-has_minus.ensures.value in
+    let read : number_from false (scan s) ≡ number_of s = rw unsigned in
+    let fits : SFits w64 c.in-Some.value = search rules in
+    rw (to_z-of_z w64 _ fits) (subst (λ n. option_and_then as_i64 n ≡ Some c.in-Some.value)
+    (read ∙ ap number_of c.as_bytes-bytes.ensures.value) c.in-Some.ensures)
+
+pub returns-in-None : goal.returns-in-None
+unfolding number_of
+returns-in-None c =
     let s = c.as_bytes-bytes.result.now in
     let unsigned : (get_or s 0 0 == 45) ≡ false = sym c.if-has_minus.ensures.value in
     let read : number_from false (scan s) ≡ number_of s = rw unsigned in
     subst (λ n. IfSome c.unsigned.result (λ z. option_and_then as_i64 n ≡ Some z))
-    (ap (number_from false) c.scan-else-has_minus.ensures.parts ∙ read
+    (ap (number_from false) c.scan-in-None.ensures.parts ∙ read
     ∙ ap number_of c.as_bytes-bytes.ensures.value) c.unsigned.ensures

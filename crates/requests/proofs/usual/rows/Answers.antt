@@ -21,7 +21,7 @@ rows-preserved c =
     let so_far = c.rows.invariant in (
       so_far.0 ++ one.0 ∷ [],
       subst (λ rs. AreRowsOf (so_far.0 ++ one.0 ∷ []) rs) (sym c.in_ok-push.ensures.items)
-          (zip_more so_far.0 c.rows.rows.items one.0 c.in_ok-row.field-0 so_far.1 one.2),
+          (zip_more so_far.0 c.rows.rows.items one.0 c.in_ok-row.row so_far.1 one.2),
       items_turn WrittenRow row_in rows_in refl (λ d ds. refl) 3 c.begin_array.new.reader
           c.rows.reader c.row.new.reader so_far.0 one.0 so_far.2 going
           (subst (λ r. Comes row_in 3 r one.0 c.row.new.reader) stays one.1),

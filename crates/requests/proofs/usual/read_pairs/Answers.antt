@@ -10,7 +10,7 @@ use Rattle.labels.specs.Pairs.{texts_of}
 use Rattle.requests.proofs.UsualLabels.{LabelsSoFar, one_label_more, are_labels, texts_pushed}
 use Rattle.requests.proofs.UsualLabels.{length_texts}
 use Rattle.requests.proofs.UsualTexts.{PairsSoFar, pairs_turn, pairs_end}
-use Rattle.requests.proofs.usual.pairs.Goals as goal
+use Rattle.requests.proofs.usual.read_pairs.Goals as goal
 
 pub pairs-preserved : goal.pairs-preserved
 pairs-preserved c =

@@ -4,7 +4,7 @@ use denote.Shadow.{shadow}
 use Rattle.labels.specs.Pairs.{texts_of}
 use Rattle.requests.proofs.UsualLabels.{LabelsSoFar}
 use Rattle.requests.proofs.UsualTexts.{PairsSoFar}
-use Rattle.requests.proofs.usual.pairs.Given as goal
+use Rattle.requests.proofs.usual.read_pairs.Given as goal
 
 abbrev pub invariant-pairs : goal.invariant-pairs
 invariant-pairs l =
