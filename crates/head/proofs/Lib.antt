@@ -32,3 +32,4 @@ pub mod Fitting
 pub mod CutSteps
 pub mod Leaving
 pub mod WorkedRows
+pub mod OwnSteps

@@ -27,3 +27,4 @@ pub mod Snapshots
 pub mod Codes
 pub mod Outcomes
 pub mod Taking
+pub mod OwnSteps

@@ -3,17 +3,18 @@
 
 ghost use Rattle.std.specs.Prelude.{◌≡◌, ◌≢◌, ◌<◌, ◌≤◌, ◌+◌, ◌*◌, ℕ, Bool, T, Ok, IfOk, IfErr};
 ghost use Rattle.std.specs.Prelude.{OnOk, OnErr, None, length, [], ◌∷◌, ◌++◌, map, slice_set};
-ghost use Rattle.std.specs.Prelude.{slice_index_or, IsTrue, Some, IfSome};
+ghost use Rattle.std.specs.Prelude.{slice_index_or, IsTrue, Some, IfSome, IfNone};
 ghost use Rattle.std.specs.List.{list_all};
 ghost use Rattle.labels.specs.Labels.{Labels};
 ghost use Rattle.head.specs.declared.TheConstants.{MAX_SERIES};
 ghost use Rattle.head.specs.BatchRows.{pairs_with, batch_of_rows, batch_in};
 ghost use Rattle.head.specs.Heads.{HeadSeries};
 ghost use Rattle.head.specs.Taking.{head_added, head_added_each, added_at_place, new_added, grown};
-ghost use Rattle.head.specs.Taking.{place_from};
+ghost use Rattle.head.specs.Taking.{place_from, series_added};
 ghost use Rattle.head.specs.Orders.{sets_of, IsOrderOf, HasSet};
 ghost use Rattle.head.specs.Outcomes.{IsOutcome};
 ghost use Rattle.head.specs.Slots.{Shared, Own, series_in, series_in_each, own_count, owned};
+ghost use Rattle.head.specs.OwnSteps.{pushed, Takes, TakesEach, IsOwnGrown};
 ghost use Rattle.head.specs.Slots.{AllOwn, AddsNoOwnBut, series_at_place, slot_at, slots_from};
 ghost use Rattle.std.specs.Ordering.{nat_cmp};
 ghost use Rattle.std.specs.BTreeMap.{get};
@@ -134,6 +135,37 @@ impl Draft {
         Ok(copied)
     }
 
+    /// Adds samples to the series at a place, up to the first refused one, if the series is this
+    /// version's own; else nothing is done. The first has the number `at` in its batch.
+    fn add_own(
+        &mut self,
+        alloc: Global,
+        place: usize,
+        floor: i64,
+        at: usize,
+        samples: &[Sample],
+    ) -> Option<Result<(), CommitError>>
+        requires inside { place < length self.old }
+        requires few { at + length samples.now ≤ 4096 }
+        ensures none { IfNone result (self.new ≡ self.old) }
+        ensures some { IfSome result (λ added. (d : HeadSeries)
+            → IsOwnGrown self.old self.new place floor at samples.now added d) }
+        ensures counted { IfSome result (λ _. owned self.old ≤ owned self.new) }
+    {
+        if samples.is_empty() {
+            return None;
+        }
+        let shared = self.last.len();
+        if place >= shared {
+            let series = &mut self.begun[place - shared];
+            return Some(add_to_each(alloc, series, floor, at, samples));
+        }
+        if let Some(series) = self.own.get_mut(&place) {
+            return Some(add_to_each(alloc, series, floor, at, samples));
+        }
+        None
+    }
+
     /// Adds a series after all others.
     fn push(&mut self, series: Series) -> Result<(), AllocError>
         requires { length self.old < MAX_SERIES }
@@ -162,6 +194,84 @@ impl Draft {
         }
         Ok(list)
     }
+}
+
+/// Adds a sample behind all others of a series, unless there is no room for it.
+fn push_to(alloc: Global, series: &mut Series, sample: Sample) -> Result<(), CommitError>
+    ensures step { IsOutcome result (pushed sample series.old) series.new }
+    ensures labels { OnOk result (series.new.labels ≡ series.old.labels) }
+{
+    if series.is_full() {
+        return Err(CommitError::Limit);
+    }
+    match series.push(alloc, sample) {
+        Ok(()) => Ok(()),
+        Err(AllocError) => Err(CommitError::Memory),
+    }
+}
+
+/// Adds a sample, whose time is not below the floor, to a series. It has the number `at` in its
+/// batch.
+fn add_above(
+    alloc: Global,
+    series: &mut Series,
+    at: usize,
+    sample: Sample,
+) -> Result<(), CommitError>
+    ensures step { IsOutcome result (series_added at sample series.old) series.new }
+    ensures labels { OnOk result (series.new.labels ≡ series.old.labels) }
+{
+    let last = series.newest();
+    if sample.t() < last.t() {
+        Err(CommitError::OutOfOrder { at })
+    } else if sample.t() != last.t() {
+        push_to(alloc, series, sample)
+    } else if sample.v() == last.v() {
+        Ok(())
+    } else {
+        Err(CommitError::Duplicate { at })
+    }
+}
+
+/// Adds a sample to a series. It has the number `at` in its batch.
+fn add_to(
+    alloc: Global,
+    series: &mut Series,
+    floor: i64,
+    at: usize,
+    sample: Sample,
+) -> Result<(), CommitError>
+    ensures step { Takes floor at sample result series.old series.new }
+    ensures labels { OnOk result (series.new.labels ≡ series.old.labels) }
+{
+    if sample.t() < floor {
+        return Err(CommitError::OutOfBounds { at });
+    }
+    add_above(alloc, series, at, sample)
+}
+
+/// Adds samples to a series, up to the first refused one; the first has the number `at` in its
+/// batch.
+fn add_to_each(
+    alloc: Global,
+    series: &mut Series,
+    floor: i64,
+    at: usize,
+    samples: &[Sample],
+) -> Result<(), CommitError>
+    requires few { at + length samples.now ≤ 4096 }
+    ensures step { TakesEach floor at samples.now result series.old series.new }
+    ensures labels { OnOk result (series.new.labels ≡ series.old.labels) }
+{
+    let mut i = 0;
+    while i < samples.len() {
+        match add_to(alloc, series, floor, at + i, samples[i]) {
+            Ok(()) => {}
+            Err(refusal) => return Err(refusal),
+        }
+        i += 1;
+    }
+    Ok(())
 }
 
 /// A copy of the series at a place, with one sample more, and how many samples were copied.
@@ -425,6 +535,39 @@ fn add_each_at(
     Ok(copied)
 }
 
+/// Adds samples as [`add_each_at`] does. It looks once for a series that is this version's own.
+fn add_rest_at(
+    alloc: Global,
+    draft: &mut Draft,
+    place: usize,
+    floor: i64,
+    at: usize,
+    samples: &[Sample],
+) -> Result<u64, CommitError>
+    requires inside { place < length draft.old }
+    requires few { at + length samples.now ≤ 4096 }
+    ensures step { (l : Labels) → place_from l 0 (series_in_each draft.old) ≡ Some place
+        → IsOutcome result
+        (head_added_each floor (Ok (series_in_each draft.old)) at (pairs_with l samples.now))
+        (series_in_each draft.new) }
+    ensures few { IfOk result (λ copied. copied ≤ 119 * length samples.now) }
+    ensures labels { OnOk result (sets_of (series_in_each draft.new)
+        ≡ sets_of (series_in_each draft.old)) }
+    ensures counted { IfOk result
+        (λ copied. copied + 119 * owned draft.old ≤ 119 * owned draft.new) }
+    ensures owners { OnOk result ((l : Labels)
+        → place_from l 0 (series_in_each draft.old) ≡ Some place
+        → AddsNoOwnBut l draft.old draft.new) }
+{
+    let Some(added) = draft.add_own(alloc, place, floor, at, samples) else {
+        return add_each_at(alloc, draft, place, floor, at, samples);
+    };
+    match added {
+        Ok(()) => Ok(0),
+        Err(refusal) => Err(refusal),
+    }
+}
+
 /// Adds the samples of a row, up to the first refused one; the first has the number `at` in its
 /// batch. Gives how many samples were copied. It looks once for the label set.
 fn add_row(
@@ -456,7 +599,7 @@ fn add_row(
         Ok(copied) => copied,
         Err(refusal) => return Err(refusal),
     };
-    match add_each_at(alloc, draft, near.place, floor, at + 1, rest) {
+    match add_rest_at(alloc, draft, near.place, floor, at + 1, rest) {
         Ok(more) => Ok(copied + more),
         Err(refusal) => Err(refusal),
     }

@@ -19,11 +19,11 @@ returns-in-Err-clause-step c =
     (subst (λ (l : Labels). IsStepRefusal c.in-Err.refusal (head_added_each (to_z w64 (of_z w64 c.args.floor)) (Ok (series_in_each c.args.draft.now)) c.args.at (pairs_with l c.args.row.now.1))) c.labels.ensures
     (row_refused_first (to_z w64 (of_z w64 c.args.floor)) (series_in_each c.args.draft.now) c.args.at c.labels.result.now c.args.row.now.1 c.in-Some.rest.now c.in-Some.first.now c.in-Err.refusal is c.in-Err.ensures.step))
 
-pub add_each_at-requires-clause-inside : goal.add_each_at-requires-clause-inside
-add_each_at-requires-clause-inside c =
+pub add_rest_at-requires-clause-inside : goal.add_rest_at-requires-clause-inside
+add_rest_at-requires-clause-inside c =
     let st = stands_at c.labels.result.now (series_in_each c.add.new.draft) c.add.new.near.place c.in-Ok.ensures.placed in
     omega (arith, st.below, length-each c.add.new.draft)
 
-pub returns-in-Ok-add_each_at-clause-ordered : goal.returns-in-Ok-add_each_at-clause-ordered
-returns-in-Ok-add_each_at-clause-ordered c =
-    ordered_alike c.add.new.order (series_in_each c.add.new.draft) (series_in_each c.add_each_at.new.draft) (sym c.in-Ok-add_each_at.ensures.labels) c.in-Ok.ensures.ordered
+pub returns-in-Ok-add_rest_at-clause-ordered : goal.returns-in-Ok-add_rest_at-clause-ordered
+returns-in-Ok-add_rest_at-clause-ordered c =
+    ordered_alike c.add.new.order (series_in_each c.add.new.draft) (series_in_each c.add_rest_at.new.draft) (sym c.in-Ok-add_rest_at.ensures.labels) c.in-Ok.ensures.ordered
