@@ -1,6 +1,6 @@
 -- From the steps at a head to the step of a commit.
 use Rattle.std.specs.Prelude.{◌≡◌, ℕ, suc, ℤ, ◌+◌, ◌<◌, List, [], ◌∷◌, Result, Ok, Err, refl, length, slice_index_or}
-use Rattle.std.proofs.Common.{sym, ◌∙◌, ap, subst, arith, drop}
+use Rattle.std.proofs.Common.{sym, ◌∙◌, ap, subst, drop}
 use Rattle.std.proofs.Math.Seq.{drop-cons}
 use Rattle.head.specs.declared.error.CommitError.{CommitError}
 use Rattle.head.specs.declared.error.CommitError.TheVariants.{OutOfBounds, OutOfOrder, Duplicate, Limit, CutTooLow, TooManyParts, Seat, Memory}

@@ -1,17 +1,16 @@
 -- The samples of a row at a series that the version in the making owns.
-use Rattle.std.specs.Prelude.{◌≡◌, ℕ, zero, suc, ℤ, ◌<◌, true, false, List, [], ◌∷◌, Some, Result, Ok, Err, refl, length, slice_set, slice_index_or, int_lt, if◌then◌else◌, MatchResult, OnOk, T}
+use Rattle.std.specs.Prelude.{◌≡◌, ℕ, zero, suc, ℤ, ◌<◌, true, false, List, [], ◌∷◌, Some, Result, Ok, Err, refl, length, slice_set, slice_index_or, int_lt, if◌then◌else◌, OnOk, T}
 use Rattle.std.proofs.Common.{sym, ◌∙◌, ap, subst, arith}
-use Rattle.std.proofs.lemmas.List.{length-set, get_or-set_same}
+use Rattle.std.proofs.lemmas.List.{get_or-set_same}
 use Rattle.head.specs.declared.error.CommitError.{CommitError}
-use Rattle.head.specs.declared.error.CommitError.TheVariants.{OutOfBounds}
-use Rattle.head.specs.Outcomes.{IsStepRefusal, IsOutcome}
+use Rattle.head.specs.Outcomes.{IsOutcome}
 use Rattle.labels.specs.Labels.{Labels}
-use Rattle.head.specs.Refusals.{Refusal, out_of_bounds}
+use Rattle.head.specs.Refusals.{out_of_bounds}
 use Rattle.head.specs.Heads.{HeadSeries, series_at}
 use Rattle.head.specs.Orders.{sets_of}
 use Rattle.head.specs.BatchRows.{pairs_with}
 use Rattle.head.specs.OwnSteps.{StandsIn, Takes, IsOwnGrown}
-use Rattle.head.specs.Slots.{Slot, Own, series_in, series_in_each, series_at_place, AllOwn, AddsNoOwnBut}
+use Rattle.head.specs.Slots.{Slot, Own, series_in, series_in_each, AllOwn, AddsNoOwnBut}
 use Rattle.head.specs.Taking.{head_added, head_added_each, head_added_after, series_added, place_from, with_series}
 use Rattle.head.proofs.Ordered.{same_place, like_series}
 use Rattle.head.proofs.Places.{stands_at, head_added-series_added, head_added-inside, carried}

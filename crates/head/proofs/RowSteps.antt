@@ -1,8 +1,7 @@
 -- The samples of rows, as steps at a head.
-use Rattle.std.specs.Prelude.{◌≡◌, ℕ, zero, suc, ℤ, ◌+◌, ◌<◌, ◌≤◌, true, false, Bool, T, List, [], ◌∷◌, ◌++◌, None, Some, Result, Ok, Err, refl, map, length, slice_index_or, nat_le, if◌then◌else◌}
+use Rattle.std.specs.Prelude.{◌≡◌, ℕ, zero, suc, ℤ, ◌+◌, ◌<◌, ◌≤◌, true, false, Bool, T, List, [], ◌∷◌, ◌++◌, None, Some, Result, Ok, Err, refl, length, slice_index_or, nat_le, if◌then◌else◌}
 use Rattle.std.specs.List.{list_all}
 use Rattle.std.proofs.Common.{sym, ◌∙◌, ap, subst, arith, drop}
-use Rattle.std.proofs.Math.Seq.{drop-cons}
 use Rattle.std.proofs.lemmas.List.{length-append, length-map}
 use Rattle.head.specs.declared.error.CommitError.{CommitError}
 use Rattle.head.specs.Outcomes.{IsStepRefusal}

@@ -1,4 +1,4 @@
-use Rattle.std.specs.Prelude.{◌≡◌, List, [], Ok, Some, pos, OnOk}
+use Rattle.std.specs.Prelude.{◌≡◌, [], Ok, Some, pos, OnOk}
 use Rattle.std.proofs.Common.{subst, rules, to_z, of_z, w64}
 use Rattle.head.specs.BatchRows.{pairs_with}
 use Rattle.labels.specs.Labels.{Labels}

@@ -1,5 +1,5 @@
 use Rattle.std.specs.Prelude.{◌≡◌, ◌+◌, Ok}
-use Rattle.std.proofs.Common.{subst, rules, ◌∙◌, sym, ap, arith, to_z, of_z, w64, length, drop}
+use Rattle.std.proofs.Common.{subst, rules, ◌∙◌, ap, arith, to_z, of_z, w64, length, drop}
 use Rattle.head.specs.BatchRows.{batch_of_rows}
 use Rattle.head.specs.Outcomes.{IsStepRefusal}
 use Rattle.head.specs.Taking.{head_added_each}

@@ -1,5 +1,5 @@
 use Rattle.std.specs.Prelude.{◌≡◌, ◌+◌, List, Ok, slice_set, refl}
-use Rattle.std.proofs.Common.{sym, subst, rules, ap, ◌∙◌, arith, to_z, of_z, w64}
+use Rattle.std.proofs.Common.{subst, rules, ap, ◌∙◌, arith, to_z, of_z, w64}
 use Rattle.head.specs.BatchRows.{pairs_with}
 use Rattle.head.specs.Heads.{HeadSeries}
 use Rattle.head.specs.Outcomes.{IsStepRefusal}

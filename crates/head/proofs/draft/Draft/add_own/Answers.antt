@@ -1,5 +1,5 @@
-use Rattle.std.proofs.Common.{◌≡◌, ◌<◌, ◌≤◌, ◌+◌, ℕ, List, Option, Some, None, length, arith, ap, sym, ◌∙◌, subst, rules, to_z, of_z, w64}
-use Rattle.std.specs.Prelude.{◌-◌, ◌*◌, ℤ, slice_set, slice_index_or, IsSome, is_some, OnOk}
+use Rattle.std.proofs.Common.{◌≡◌, ◌<◌, ◌≤◌, ◌+◌, ℕ, List, Option, Some, length, arith, ap, sym, ◌∙◌, subst, rules, to_z, of_z, w64}
+use Rattle.std.specs.Prelude.{◌-◌, slice_set, slice_index_or, IsSome, is_some, OnOk}
 use Rattle.std.specs.Option.{option_copied_mut}
 use Rattle.std.specs.Ordering.{nat_cmp}
 use Rattle.std.specs.BTreeMap.{BTreeMap, get}
