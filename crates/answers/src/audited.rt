@@ -9,7 +9,9 @@ ghost use Rattle.answers.specs.Audited.{selected_in};
 ghost use Rattle.answers.specs.MergedRows.{rows_told, first_rows, rows_of, AreMergedFrom};
 ghost use Rattle.answers.specs.MergedRows.{has_rows, HasRowsNext};
 
-use block_search::{AnsweredPart, OpenGate, answered_parts, search, search_one_by_one};
+use block_search::{
+    AnsweredPart, OpenGate, answered_parts, search, search_in_turn, search_one_by_one,
+};
 use cover::PartAnswer;
 use head::Snapshot;
 use labels::Row;
@@ -161,6 +163,22 @@ pub fn answer(
     ensures whole { OnOk result (LosesNothing query.now snapshot.now) }
 {
     let answers = search_one_by_one(alloc, snapshot, query)?;
+    audited_answer(alloc, snapshot, query, answers)
+}
+
+/// The audited answer to a query, one part searched after another, the rows of a part's many
+/// matches made by several threads: that of [`answer`] but for the moves.
+pub(crate) fn answer_in_turn<R: Threads + Sync>(
+    rt: &R,
+    alloc: Global,
+    snapshot: &Snapshot,
+    query: &Query,
+) -> Result<AuditedAnswer, AllocError>
+    ensures each { IfOk result (λ a. AreAnsweredParts query.now snapshot.now a.parts.items) }
+    ensures rows { IfOk result (λ a. AreRows (rows_of a) (selected_in query.now snapshot.now)) }
+    ensures whole { OnOk result (LosesNothing query.now snapshot.now) }
+{
+    let answers = search_in_turn(rt, alloc, snapshot, query)?;
     audited_answer(alloc, snapshot, query, answers)
 }
 

@@ -4,11 +4,12 @@ ghost use Rattle.std.specs.Prelude.{◌≡◌, IfOk};
 ghost use mathlib.Core.List.{IsPrefix};
 ghost use Rattle.answers.specs.Headline.{IsHeadline};
 
-use crate::audited::{AuditedAnswer, answer};
+use crate::audited::{AuditedAnswer, answer, answer_in_turn};
 use crate::error::AskError;
 use matchers::Query;
 use snapshots::{Naming, Pass};
 use std::alloc::Global;
+use std::thread::Threads;
 
 /// The audited answer of the pass's next snapshot to a query.
 ///
@@ -29,4 +30,20 @@ pub fn ask<J: Naming>(
 {
     let snapshot = pass.snapshot()?;
     Ok(answer(alloc, &snapshot, query)?)
+}
+
+/// The same as [`ask`], with the rows of a part's many matches made by several threads. It waits
+/// for no thread but these.
+pub fn ask_by<J: Naming, R: Threads + Sync>(
+    rt: &R,
+    alloc: Global,
+    pass: &mut Pass<J>,
+    query: &Query,
+) -> Result<AuditedAnswer, AskError>
+    ensures headline { IfOk result (IsHeadline J.opening query.now pass.old pass.new) }
+    ensures seen { IsPrefix pass.old.seen pass.new.seen }
+    ensures told { pass.new.told ≡ pass.old.told }
+{
+    let snapshot = pass.snapshot()?;
+    Ok(answer_in_turn(rt, alloc, &snapshot, query)?)
 }

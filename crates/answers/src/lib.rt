@@ -39,5 +39,5 @@ pub use audited::{AuditedAnswer, answer, answer_by_workers};
 pub use block_search::AnsweredPart;
 pub use body_text::{Rooms, answer_text, append_text, body, length_of};
 pub use error::AskError;
-pub use headline::ask;
+pub use headline::{ask, ask_by};
 pub use kept::AnswerText;
