@@ -38,7 +38,8 @@ fn parts_alone<'a>(alloc: Global, file: &'a [u8], layout: &Layout<'_>) -> Parts<
 
 // The bodies of all entries by at most so many threads, the calling one among them. Where a thread
 // can't be started, the calling one does its share. What the first share makes has room for
-// `room` bodies, so that later ones are added in place.
+// `room` bodies, so that later ones are added in place; of the two parts the later, which is
+// copied, is the smaller.
 #[tactic(auto, using(crate::proofs::BothParts::small_early, crate::proofs::BothParts::small_late, crate::proofs::BothParts::share_inside))]
 #[cycle(halves)]
 fn bodies_among<R: Threads + Sync>(
@@ -55,8 +56,8 @@ fn bodies_among<R: Threads + Sync>(
     if threads < 2 || entries.len() < MANY {
         return bodies_of(alloc, symbols, entries, room);
     }
-    let helpers = threads / 2;
-    let rest = threads - helpers;
+    let rest = threads / 2;
+    let helpers = threads - rest;
     let share = entries.len() / threads;
     let (early, late) = entries.split_at(share * helpers);
     let first = || -> Result<Bodies, IndexError>
