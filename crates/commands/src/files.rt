@@ -19,6 +19,9 @@ use std::io::{self, ErrorKind, Read};
 use std::os::unix::fs::PermissionsExt;
 use std::thread::{Threads, join};
 
+/// How many threads open the index of a block.
+const THREADS: usize = 4;
+
 /// Why a file is not read.
 #[derive(Clone, Copy, Debug, PartialEq, Eq, Drop)]
 pub enum ReadError {
@@ -199,8 +202,9 @@ fn read_one<F: ReadFiles>(
     }
 }
 
-/// Reads the index of the block in a directory, and opens it.
-fn read_index<F: ReadFiles>(
+/// Reads the index of the block in a directory, and opens it by several threads.
+fn read_index<T: Threads + Sync, F: ReadFiles>(
+    rt: &T,
     alloc: Global,
     files: &F,
     directory: &str,
@@ -212,7 +216,7 @@ fn read_index<F: ReadFiles>(
         IsFileFault (F.may_read files.now) directory.now file_name.Index fault) }
 {
     let index = read_one(alloc, files, directory, FileName::Index)?;
-    let opened = Index::open(alloc, index.as_slice());
+    let opened = Index::open_by(rt, THREADS, alloc, index.as_slice());
     Ok((index, opened))
 }
 
@@ -238,9 +242,9 @@ pub fn read_block<T: Threads + Sync, F: ReadFiles>(
             result }
     { read_one(alloc, files, directory, FileName::Chunks) };
     let here = || -> Result<(Vec<u8>, Result<Index, IndexError>), Fault>
-        requires { IsSync F.row }
+        requires { IsSync T.row × IsSync F.row }
         ensures { IsIndexOutcome (F.may_read files.entry.now) directory.entry.now result }
-    { read_index(alloc, files, directory) };
+    { read_index(rt, alloc, files, directory) };
     let (chunks, index) = join(rt, apart, here);
     let (index, opened) = index?;
     let chunks = chunks?;
