@@ -1,4 +1,4 @@
-use Rattle.std.proofs.Common.{◌≡◌, ◌<◌, ◌≤◌, ◌-◌, ℕ, length, take}
+use Rattle.std.proofs.Common.{◌≡◌, ◌<◌, ◌≤◌, ◌-◌, length, take}
 use Rattle.std.specs.Str.Parse.{digits_value, AllDigits}
 use Rattle.requests.proofs.usual.few_digits.Given as goal
 
