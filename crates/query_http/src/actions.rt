@@ -20,7 +20,7 @@ ghost use Rattle.query_http.specs.Serving.{refused_at as place_refused};
 
 use crate::buffers::Buffers;
 use crate::reply::Reply;
-use answers::{AnswerText, AskError, AuditedAnswer, answer_text, append_text, ask, length_of};
+use answers::{AnswerText, AskError, AuditedAnswer, answer_text, append_text, ask_by, length_of};
 use head::CommitError;
 use labels::Row;
 use matchers::{Matcher, Query};
@@ -105,7 +105,7 @@ fn select<J: Naming, R: Threads + Sync>(
     ensures told { pass.new.told ≡ pass.old.told }
     ensures seen { IsPrefix pass.old.seen pass.new.seen }
 {
-    match ask(alloc, pass, query) {
+    match ask_by(rt, alloc, pass, query) {
         Ok(answer) => answer_reply(rt, alloc, buffers, &answer),
         Err(AskError::Snapshot(_)) => refusal_reply(alloc, &Refusal::Unavailable),
         Err(AskError::Memory) => Err(AllocError),
