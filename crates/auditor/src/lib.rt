@@ -28,8 +28,9 @@
 //! ```
 //!
 //! The crate stands on `labels`, `matchers`, `wire`, `chunk_reader`, `tombstones` and the types and
-//! definitions of `cover`, and for replies on `json` and `serde_json`. It shares no reader of an
-//! index, no search, no merge and no walk of certificates with the store whose answers it judges.
+//! definitions of `cover`, and for replies on `json`, `fast_float`, `simdutf8` and `serde_json`. It
+//! shares no reader of an index, no search, no merge and no walk of certificates with the store
+//! whose answers it judges.
 #![tactic(auto)]
 
 mod alone;

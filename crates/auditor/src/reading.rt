@@ -405,7 +405,8 @@ impl Reply {
     ///
     /// `BadReply` for every other text: members that are missing or further ones, numbers that do
     /// not fit, names of parts that are written in another way, a head that is skipped, labels that
-    /// are no label set. It makes a tree of the text, and lists as long as those of the text.
+    /// are no label set. It makes lists as long as those of the text, and a tree of a text that is
+    /// not spelled as `querier select` spells it.
     pub fn read(alloc: Global, text: &[u8]) -> Result<Reply, ReplyError>
         ensures { ReadsAs told_of result (text_said text.now) }
     {

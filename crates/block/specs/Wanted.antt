@@ -21,8 +21,8 @@ wants wanted t =
 abbrev pub wants_end : Wanted → Chunk → Bool
 wants_end wanted c = wants wanted c.mint || wants wanted c.maxt
 
--- whether all of a chunk's times are asked for: they lie in the closed range, and no deletion is of
--- the series
+-- enough for all of a chunk's times to be asked for: they lie in the closed range, and no deletion
+-- is of the series
 abbrev pub wants_whole : List Deletion → ℕ → ℤ → ℤ → Chunk → Bool
 wants_whole deletions reference from to c =
     int_le from c.mint && (int_le c.maxt to && not (has_deletion deletions reference))

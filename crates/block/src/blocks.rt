@@ -150,8 +150,8 @@ impl Block {
     }
 
     /// The same as [`Block::open_by`], where the index was opened before: `read` is what
-    /// [`Index::open`] or [`Index::open_by`] gave for the bytes of `index`. So a caller can open the
-    /// index while another thread reads the chunks file.
+    /// [`Index::open`] or [`Index::open_by`] gave for the bytes of `index`. So a caller can open
+    /// the index while another thread reads the chunks file.
     pub fn open_with<R: Threads + Sync>(
         rt: &R,
         threads: usize,

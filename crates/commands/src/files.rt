@@ -221,8 +221,8 @@ fn read_index<T: Threads + Sync, F: ReadFiles>(
 }
 
 /// Reads the files of the block in a directory, each once: the meta, the index, the chunks and the
-/// tombstones, up to the first that cannot be read. The index is opened while a thread reads the
-/// chunks.
+/// tombstones, up to the first that cannot be read. The index is opened, by up to four threads,
+/// while another reads the chunks.
 pub fn read_block<T: Threads + Sync, F: ReadFiles>(
     rt: &T,
     alloc: Global,

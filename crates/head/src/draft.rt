@@ -135,8 +135,9 @@ impl Draft {
         Ok(copied)
     }
 
-    /// Adds samples to the series at a place, up to the first refused one, if the series is this
-    /// version's own; else nothing is done. The first has the number `at` in its batch.
+    /// Adds samples to the series at a place, up to the first refused one, if there are samples and
+    /// the series is this version's own; else nothing is done. The first has the number `at` in its
+    /// batch.
     fn add_own(
         &mut self,
         alloc: Global,

@@ -66,7 +66,7 @@ fn joined_reply(
     Ok(Reply::new(Status::Done, head))
 }
 
-/// The reply that carries an answer. Up to four threads write a long one.
+/// The reply that carries an answer. Up to four threads write the text of a long one.
 fn answer_reply<R: Threads + Sync>(
     rt: &R,
     alloc: Global,

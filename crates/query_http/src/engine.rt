@@ -165,12 +165,12 @@ fn serve_next<J: Naming, C: Wait + Drop, R: Inlet, W: Outlet>(
 /// Serves one connection: one request is read, done and replied to.
 ///
 /// The whole reply is made before its first byte is written, and the reply to a change before the
-/// change is published. Up to four threads write the text of a long answer. The pass learns the
-/// receipt of a change before the reply is written. It reads as [`read_admitted_into`] does, so
-/// that a request that the rules do not admit is refused and changes nothing (`barred`), and waits
-/// as [`Committer::commit`] does. What the buffers held before plays no part, and of each at most
-/// [`MOST_KEPT`](crate::MOST_KEPT) bytes are kept. They note the status of the reply (`noted`), and
-/// none if no reply was made (`unnoted`).
+/// change is published. Several threads make the rows and the text of a long answer. The pass
+/// learns the receipt of a change before the reply is written. It reads as [`read_admitted_into`]
+/// does, so that a request that the rules do not admit is refused and changes nothing (`barred`),
+/// and waits as [`Committer::commit`] does. What the buffers held before plays no part, and of each
+/// at most [`MOST_KEPT`](crate::MOST_KEPT) bytes are kept. They note the status of the reply
+/// (`noted`), and none if no reply was made (`unnoted`).
 pub fn serve_one_with<J: Naming, C: Wait + Drop, R: Inlet, W: Outlet>(
     rt: &(impl Wait + Threads + Sync),
     alloc: Global,
