@@ -45,9 +45,12 @@ pub fn flat_parts(bodies: Bodies) -> (Vec<(u32, u32)>, Vec<Chunk>, Vec<Series>)
 }
 
 /// How many labels most series have at most. Where they have more, the room for them grows.
-const USUAL: usize = 6;
+const USUAL_LABELS: usize = 6;
 
-/// The bodies of all entries, with room for `room` bodies.
+/// A file is refused where it has more series, so there is no room for more at first.
+const MOST_ROOM: usize = 1_048_576;
+
+/// The bodies of all entries, with room for `room` bodies, or 1,048,576.
 pub fn bodies_of(
     alloc: Global,
     symbols: &SymbolTable<'_>,
@@ -60,7 +63,8 @@ pub fn bodies_of(
     ensures referred { IfOk result (λ b. references_in_order b.series.items
         ≡ entry_references (entries_seen entries.now)) }
 {
-    let mut labels = Vec::with_capacity(alloc, room.saturating_mul(USUAL))?;
+    let room = room.min(MOST_ROOM);
+    let mut labels = Vec::with_capacity(alloc, room.saturating_mul(USUAL_LABELS))?;
     let mut chunks = Vec::with_capacity(alloc, room)?;
     let mut series = Vec::with_capacity(alloc, room)?;
     for at in 0..entries.len() {

@@ -13,8 +13,8 @@ use crate::layout::{LIMIT, checked_of};
 use std::alloc::Global;
 use wire::Cut;
 
-/// With room for so many bytes of an entry as most have at least, few files need more.
-const USUAL: usize = 32;
+/// The fewest bytes that most entries take: room for one entry in so many mostly serves.
+const USUAL_BYTES: usize = 32;
 
 /// A series entry: where it stands, and its body.
 #[derive(Clone, Copy, Debug)]
@@ -45,7 +45,7 @@ pub fn entries_of(
     ensures { Gives (λ v. entries_seen v.items) result
         (entries_from (length file.now) file.now end start) }
 {
-    let mut entries = Vec::with_capacity(alloc, end.saturating_sub(start) / USUAL)?;
+    let mut entries = Vec::with_capacity(alloc, end.saturating_sub(start) / USUAL_BYTES)?;
     let mut at = start;
     while at < end {
         let (body, after) = entry_of(&file[at..end])?;

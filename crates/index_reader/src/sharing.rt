@@ -17,7 +17,7 @@ use crate::symbols::SymbolTable;
 use std::alloc::Global;
 use std::thread::{Threads, join};
 
-/// Fewer entries are read by one thread.
+/// Of fewer entries all is read by one thread.
 const MANY: usize = 4_096;
 
 /// The lists, and the bodies of the series, each with its first refusal.
@@ -38,8 +38,8 @@ fn parts_alone<'a>(alloc: Global, file: &'a [u8], layout: &Layout<'_>) -> Parts<
 
 // The bodies of all entries by at most so many threads, the calling one among them. Where a thread
 // can't be started, the calling one does its share. What the first share makes has room for
-// `room` bodies, so that later ones are added in place; of the two parts the later, which is
-// copied, is the smaller.
+// `room` bodies, so that later ones are added in place. The later of the two parts, which is
+// copied, is not the larger, but for a rest.
 #[tactic(auto, using(crate::proofs::BothParts::small_early, crate::proofs::BothParts::small_late, crate::proofs::BothParts::share_inside))]
 #[cycle(halves)]
 fn bodies_among<R: Threads + Sync>(
@@ -53,7 +53,7 @@ fn bodies_among<R: Threads + Sync>(
     requires { All (λ e. e.offset < 2 ^ 32) entries.now }
     ensures { AreBodiesOf (bytes_of symbols.now.texts.items) (entries_seen entries.now) result }
 {
-    if threads < 2 || entries.len() < MANY {
+    if threads < 2 || entries.len() < MANY || entries.len() < threads {
         return bodies_of(alloc, symbols, entries, room);
     }
     let rest = threads / 2;
@@ -106,7 +106,7 @@ fn parts_among<'a, R: Threads + Sync>(
     ensures lists { AreListsIn file.now layout.now result.0 }
     ensures bodies { AreBodiesIn file.now layout.now result.1 }
 {
-    if threads < 2 {
+    if threads < 2 || layout.entries.len() < MANY {
         return parts_alone(alloc, file, layout);
     }
     let readers = threads - 1;
