@@ -2,6 +2,7 @@ pub mod Events
 pub mod Labelled
 pub mod Loops
 pub mod Neighbours
+pub mod RowTexts
 pub mod RunLaws
 pub mod Spelled
 pub mod Texts

@@ -14,7 +14,7 @@ one_at xs i d lt =
     drop-cons xs i d lt ∙ ap (λ (n : ℕ). get_or xs i d ∷ drop n xs) next
 
 -- the element that stands at a place, and those after it
-from_read : {X : Type 0} (xs : List X) (i : ℕ) (x : X) → i < length xs → x ≡ get_or xs i x
+pub from_read : {X : Type 0} (xs : List X) (i : ℕ) (x : X) → i < length xs → x ≡ get_or xs i x
     → drop i xs ≡ x ∷ drop (i + 1) xs
 from_read {X} xs i x lt read = one_at xs i x lt ∙ ap (λ (y : X). y ∷ drop (i + 1) xs) (sym read)
 

@@ -2,23 +2,20 @@
 use Rattle.std.proofs.Common.{◌≡◌, ℕ, zero, suc, ◌+◌, ◌-◌, ◌<◌, ◌≤◌, inl, inr, Bool, true, false}
 use Rattle.std.proofs.Common.{cond, not, ℤ, List, [], ◌∷◌, ◌++◌, length, take, drop, get_or}
 use Rattle.std.proofs.Common.{append_assoc, refl, sym, ap, subst, ◌∙◌, arith}
-use Rattle.std.specs.Prelude.{◌&&◌}
-use Rattle.std.specs.List.{AllByRecursion}
+use Rattle.std.specs.Prelude.{◌&&◌, ◌==◌}
+use Rattle.std.specs.List.{AllByRecursion, flat_map, list_all}
 use Rattle.std.proofs.lemmas.Bool.{cases_Bool}
 use Rattle.labels.specs.Labels.{Labels, same_labels}
 use Rattle.labels.proofs.OrderLaws.{same_self, same_turn}
 use Rattle.head.specs.Worlds.{Batch}
 use Rattle.head.proofs.HeadLaws.{same_path}
-use Rattle.std.specs.List.{flat_map}
-use Rattle.std.proofs.lemmas.List.{get_or-map, length-map, length-drop, take_more}
+use Rattle.std.proofs.lemmas.List.{drop_all, length-drop, take_more}
 use Rattle.std.proofs.lemmas.List.Concat.{flat_map-cons}
-use Rattle.event_text.specs.declared.parts.RunParts.{RunParts}
-use Rattle.event_text.specs.Neighbours.{neighbours}
-use Rattle.event_text.specs.Runs.{Run, joined, runs_of, before, batch_in, differs, differ, lead}
-use Rattle.event_text.specs.Runs.{values_in}
+use Rattle.head.specs.BatchRows.{batch_of_rows, pairs_with}
+use Rattle.event_text.specs.Runs.{Run, joined, runs_of, before, batch_in, differ, lead, values_in}
+use Rattle.event_text.specs.Runs.{are_runs, is_filled}
 use Rattle.event_text.specs.Spelling.{run_text}
-use Rattle.event_text.specs.Views.{run_in, runs_in}
-use Rattle.event_text.proofs.Neighbours.{goes_on, stops, ends}
+use Rattle.event_text.proofs.Neighbours.{from_read}
 
 abbrev Item : Type 0
 Item = Labels × (ℤ × ℤ)
@@ -58,6 +55,14 @@ and_right false b h = absurd cc
 and_left : (a b : Bool) → (a && b) ≡ true → a ≡ true
 and_left true b h = refl
 and_left false b h = absurd cc
+
+and_true : (a b : Bool) → a ≡ true → (a && b) ≡ b
+and_true true b h = refl
+and_true false b h = absurd cc
+
+and_false : (a b : Bool) → a ≡ false → (a && b) ≡ false
+and_false true b h = absurd cc
+and_false false b h = refl
 
 not_same : (b : Bool) → not b ≡ true → b ≡ false
 not_same true h = absurd cc
@@ -245,32 +250,119 @@ batch_more (first ∷ runs) run =
     ∙ (sym (append_assoc (before first.0 first.1 []) (batch_in runs) (before run.0 run.1 []))
     ∙ ap (λ (xs : Batch). xs ++ before run.0 run.1 []) (sym (before_all first.0 first.1 (batch_in runs)))))
 
--- the loop that looks at each run and the next
+-- the loop that looks at each row and the one before it
 
-run_at : (runs : List RunParts) (i : ℕ) (d : RunParts) → i < length runs
-    → run_in (get_or runs i d) ≡ get_or (runs_in runs) i (run_in (get_or runs i d))
-run_at runs i d lt = sym (get_or-map run_in runs i d (run_in (get_or runs i d)) lt)
+pub rows_go_on : (others : List Run) (i : ℕ) (last row : Run) (a b : Labels) (whole : Bool)
+    → i < length others → row ≡ get_or others i row → a ≡ last.0 → b ≡ row.0
+    → false ≡ same_labels a b → differ (last ∷ drop i others) ≡ whole
+    → differ (row ∷ drop (i + 1) others) ≡ whole
+rows_go_on others i last row a b whole lt read is_a is_b other so_far =
+    let apart : same_labels last.0 row.0 ≡ false =
+    sym (other ∙ (ap (λ (x : Labels). same_labels x b) is_a ∙ ap (same_labels last.0) is_b)) in
+    let one : differ (last ∷ drop i others) ≡ differ (row ∷ drop (i + 1) others) =
+    ap (λ (ys : List Run). differ (last ∷ ys)) (from_read others i row lt read)
+    ∙ and_true (not (same_labels last.0 row.0)) (differ (row ∷ drop (i + 1) others))
+    (ap not apart) in
+    sym one ∙ so_far
 
-pub sets_go_on : (runs : List RunParts) (i : ℕ) (d e : RunParts) (whole : Bool) → 0 < i
-    → i < length runs
-    → false ≡ same_labels (get_or runs (i - 1) d).labels (get_or runs i e).labels
-    → neighbours differs (drop (i - 1) (runs_in runs)) ≡ whole
-    → neighbours differs (drop (i + 1 - 1) (runs_in runs)) ≡ whole
-sets_go_on runs i d e whole some lt other so_far =
-    goes_on differs (runs_in runs) i (run_in (get_or runs (i - 1) d)) (run_in (get_or runs i e)) whole some
-    (omega (arith, length-map runs run_in)) (run_at runs (i - 1) d (omega arith)) (run_at runs i e lt)
-    (ap not (sym other)) so_far
+pub rows_stop : (others : List Run) (i : ℕ) (last row : Run) (a b : Labels) (whole : Bool)
+    → i < length others → row ≡ get_or others i row → a ≡ last.0 → b ≡ row.0
+    → true ≡ same_labels a b → differ (last ∷ drop i others) ≡ whole → false ≡ whole
+rows_stop others i last row a b whole lt read is_a is_b same so_far =
+    let alike : same_labels last.0 row.0 ≡ true =
+    sym (same ∙ (ap (λ (x : Labels). same_labels x b) is_a ∙ ap (same_labels last.0) is_b)) in
+    let one : differ (last ∷ drop i others) ≡ false =
+    ap (λ (ys : List Run). differ (last ∷ ys)) (from_read others i row lt read)
+    ∙ and_false (not (same_labels last.0 row.0)) (differ (row ∷ drop (i + 1) others))
+    (ap not alike) in
+    sym one ∙ so_far
 
-pub sets_stop : (runs : List RunParts) (i : ℕ) (d e : RunParts) (whole : Bool) → 0 < i
-    → i < length runs
-    → true ≡ same_labels (get_or runs (i - 1) d).labels (get_or runs i e).labels
-    → neighbours differs (drop (i - 1) (runs_in runs)) ≡ whole → false ≡ whole
-sets_stop runs i d e whole some lt same so_far =
-    stops differs (runs_in runs) i (run_in (get_or runs (i - 1) d)) (run_in (get_or runs i e)) whole some
-    (omega (arith, length-map runs run_in)) (run_at runs (i - 1) d (omega arith)) (run_at runs i e lt)
-    (ap not (sym same)) so_far
+pub rows_end : (others : List Run) (i : ℕ) (last : Run) (whole : Bool) → length others ≤ i
+    → differ (last ∷ drop i others) ≡ whole → true ≡ whole
+rows_end others i last whole past so_far =
+    let one : differ (last ∷ drop i others) ≡ true =
+    ap (λ (ys : List Run). differ (last ∷ ys)) (drop_all i others past) in
+    sym one ∙ so_far
 
-pub sets_end : (runs : List RunParts) (i : ℕ) (whole : Bool) → length runs ≤ i
-    → neighbours differs (drop (i - 1) (runs_in runs)) ≡ whole → true ≡ whole
-sets_end runs i whole past so_far =
-    ends differs (runs_in runs) i whole (omega (arith, length-map runs run_in)) so_far
+-- the loop that looks for a row without a sample
+
+filled_is : (row : Run) (samples : List (ℤ × ℤ)) (b : Bool) → samples ≡ row.1
+    → b ≡ (length samples == 0) → is_filled row ≡ not b
+filled_is row samples b is e =
+    ap (λ (ss : List (ℤ × ℤ)). not (length ss == 0)) (sym is) ∙ ap not (sym e)
+
+pub filled_go_on : (rows : List Run) (i : ℕ) (row : Run) (samples : List (ℤ × ℤ)) (b whole : Bool)
+    → i < length rows → row ≡ get_or rows i row → samples ≡ row.1 → b ≡ (length samples == 0)
+    → b ≡ false → list_all is_filled (drop i rows) ≡ whole
+    → list_all is_filled (drop (i + 1) rows) ≡ whole
+filled_go_on rows i row samples b whole lt read is e full so_far =
+    let one : list_all is_filled (drop i rows) ≡ list_all is_filled (drop (i + 1) rows) =
+    ap (list_all is_filled) (from_read rows i row lt read)
+    ∙ and_true (is_filled row) (list_all is_filled (drop (i + 1) rows))
+    (filled_is row samples b is e ∙ ap not full) in
+    sym one ∙ so_far
+
+pub filled_stop : (rows : List Run) (i : ℕ) (row : Run) (samples : List (ℤ × ℤ)) (b whole : Bool)
+    → i < length rows → row ≡ get_or rows i row → samples ≡ row.1 → b ≡ (length samples == 0)
+    → b ≡ true → list_all is_filled (drop i rows) ≡ whole → false ≡ whole
+filled_stop rows i row samples b whole lt read is e bare so_far =
+    let one : list_all is_filled (drop i rows) ≡ false =
+    ap (list_all is_filled) (from_read rows i row lt read)
+    ∙ and_false (is_filled row) (list_all is_filled (drop (i + 1) rows))
+    (filled_is row samples b is e ∙ ap not bare) in
+    sym one ∙ so_far
+
+pub filled_end : (rows : List Run) (i : ℕ) (whole : Bool) → length rows ≤ i
+    → list_all is_filled (drop i rows) ≡ whole → true ≡ whole
+filled_end rows i whole past so_far =
+    let one : list_all is_filled (drop i rows) ≡ true =
+    ap (list_all is_filled) (drop_all i rows past) in
+    sym one ∙ so_far
+
+-- rows that are runs are those of the batch that they are
+
+abbrev HasSample : Run → Type 0
+HasSample run = 0 < length run.1
+
+has_sample : (run : Run) → is_filled run ≡ true → HasSample run
+has_sample run h = by_samples run.1 h
+  where
+    by_samples : (ss : List (ℤ × ℤ)) → not (length ss == 0) ≡ true → 0 < length ss
+    by_samples [] g = absurd cc
+    by_samples (s ∷ ss) g = omega arith
+
+pub filled_at : (rows : List Run) (i : ℕ) (row : Run) → i < length rows → row ≡ get_or rows i row
+    → list_all is_filled rows ≡ true → 0 < length row.1
+filled_at [] i row lt read h = absurd (omega (arith, lt))
+filled_at (r ∷ rows) zero row lt read h =
+    subst HasSample (sym read) (has_sample r (and_left (is_filled r) (list_all is_filled rows) h))
+filled_at (r ∷ rows) (suc i) row lt read h =
+    filled_at rows i row (omega (arith, lt)) read
+    (and_right (is_filled r) (list_all is_filled rows) h)
+
+all_filled : (rows : List Run) → list_all is_filled rows ≡ true → AllByRecursion HasSample rows
+all_filled [] h = tt
+all_filled (r ∷ rows) h = (
+  has_sample r (and_left (is_filled r) (list_all is_filled rows) h),
+  all_filled rows (and_right (is_filled r) (list_all is_filled rows) h),
+)
+
+before_pairs : (l : Labels) (ss : List (ℤ × ℤ)) (xs : Batch)
+    → before l ss xs ≡ pairs_with l ss ++ xs
+before_pairs l [] xs = refl
+before_pairs l (s ∷ ss) xs = ap (λ (ys : Batch). (l, s) ∷ ys) (before_pairs l ss xs)
+
+pub batch_rows : (rows : List Run) → batch_in rows ≡ batch_of_rows rows
+batch_rows [] = refl
+batch_rows (r ∷ rows) =
+    before_pairs r.0 r.1 (batch_in rows)
+    ∙ ap (λ (xs : Batch). pairs_with r.0 r.1 ++ xs) (batch_rows rows)
+
+pub rows_filled : (rows : List Run) → are_runs rows ≡ true → list_all is_filled rows ≡ true
+rows_filled rows h = and_left (list_all is_filled rows) (differ rows) h
+
+pub rows_runs : (rows : List Run) → are_runs rows ≡ true → runs_of (batch_of_rows rows) ≡ rows
+rows_runs rows h =
+    ap runs_of (sym (batch_rows rows))
+    ∙ runs_batch HasSample (λ run f. f) rows (all_filled rows (rows_filled rows h))
+    (and_right (list_all is_filled rows) (differ rows) h)

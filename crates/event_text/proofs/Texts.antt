@@ -41,14 +41,14 @@ pub record Takes {A : Type 0} (text : A → List ℕ) (P : A → Type 0) (bytes 
   pub fits : P x.0
   pub behind : IsBytes x.1
 
-abbrev Reader : Type 0 → Type 0
+abbrev pub Reader : Type 0 → Type 0
 Reader A = List ℕ → Result (A × List ℕ) TextError
 
-abbrev EachTakes : {A : Type 0} → Reader A → (A → List ℕ) → (A → Type 0) → Type 0
+abbrev pub EachTakes : {A : Type 0} → Reader A → (A → List ℕ) → (A → Type 0) → Type 0
 EachTakes {A} at text P = (bytes : List ℕ) (x : A × List ℕ) → IsBytes bytes → at bytes ≡ Ok x
     → Takes text P bytes x
 
-abbrev EachAgain : {A : Type 0} → Reader A → (A → List ℕ) → (A → Type 0) → Type 0
+abbrev pub EachAgain : {A : Type 0} → Reader A → (A → List ℕ) → (A → Type 0) → Type 0
 EachAgain {A} at text P = (a : A) (rest : List ℕ) → P a → at (text a ++ rest) ≡ Ok (a, rest)
 
 text_takes : EachTakes text_at string_text IsText
@@ -141,7 +141,7 @@ module _ {A : Type 0} (at : Reader A) (text : A → List ℕ) (P : A → Type 0)
       ∙ append_assoc (text x) (flat_map text xs) rest in
       ap (each_at at (suc (length xs))) parts ∙ rw (one, others) refl
 
-  many_takes : EachTakes at text P → EachTakes (many_at at) (many_text text) (AreMany P)
+  pub many_takes : EachTakes at text P → EachTakes (many_at at) (many_text text) (AreMany P)
   unfolding many_at
   many_takes law bytes x fits h =
       let n = bind_ok (or_refused Field (uvarint_at bytes)) _ x h in
@@ -156,7 +156,7 @@ module _ {A : Type 0} (at : Reader A) (text : A → List ℕ) (P : A → Type 0)
         behind = all.behind;
       }
 
-  many_again : EachAgain at text P → EachAgain (many_at at) (many_text text) (AreMany P)
+  pub many_again : EachAgain at text P → EachAgain (many_at at) (many_text text) (AreMany P)
   unfolding many_at
   many_again law xs rest h =
       let one = uvarint_again (length xs) (flat_map text xs ++ rest) h.short in
@@ -165,11 +165,11 @@ module _ {A : Type 0} (at : Reader A) (text : A → List ℕ) (P : A → Type 0)
 
 -- a label set
 
-record IsSet (l : Labels) : Type 0 where
-  pairs : AreMany IsPair l
-  named : are_labels l ≡ true
+pub record IsSet (l : Labels) : Type 0 where
+  pub pairs : AreMany IsPair l
+  pub named : are_labels l ≡ true
 
-labels_takes : EachTakes labels_at labels_text IsSet
+pub labels_takes : EachTakes labels_at labels_text IsSet
 unfolding labels_at labels_text
 labels_takes bytes x fits h =
     let p = bind_ok (many_at pair_at bytes) _ x h in
@@ -178,13 +178,13 @@ labels_takes bytes x fits h =
     subst (Takes labels_text IsSet bytes) (same_value p.0 x t.1)
     (record { front = one.front; fits = record { pairs = one.fits; named = t.0 }; behind = one.behind })
 
-labels_again : EachAgain labels_at labels_text IsSet
+pub labels_again : EachAgain labels_at labels_text IsSet
 unfolding labels_at labels_text
 labels_again l rest h =
     let one = many_again pair_at pair_text IsPair pair_again l rest h.pairs in
     rw (one, h.named) refl
 
-sample_takes : EachTakes sample_at sample_text IsSample
+pub sample_takes : EachTakes sample_at sample_text IsSample
 unfolding sample_at sample_text
 sample_takes bytes x fits h =
     let t = bind_ok (or_refused Field (varint_at bytes)) _ x h in
@@ -199,7 +199,7 @@ sample_takes bytes x fits h =
       behind = rest_fits t.0.1 (varint v.0.0) v.0.1 t_fits two.0;
     })
 
-sample_again : EachAgain sample_at sample_text IsSample
+pub sample_again : EachAgain sample_at sample_text IsSample
 unfolding sample_at sample_text
 sample_again s rest h =
     let one = varint_again s.0 (varint s.1 ++ rest) h.time in

@@ -1,5 +1,7 @@
 -- A batch as runs: samples of one label set that follow each other.
-use Rattle.std.specs.Prelude.{ℕ, zero, suc, ℤ, Bool, not, List, [], ◌∷◌, map, if◌then◌else◌}
+use Rattle.std.specs.Prelude.{ℕ, zero, suc, ℤ, Bool, not, List, [], ◌∷◌, map, length, ◌==◌, ◌&&◌}
+use Rattle.std.specs.Prelude.{if◌then◌else◌}
+use Rattle.std.specs.List.{list_all}
 use Rattle.labels.specs.Labels.{Labels, same_labels}
 use Rattle.head.specs.Worlds.{Batch}
 use Rattle.event_text.specs.Neighbours.{neighbours}
@@ -38,6 +40,14 @@ differs a b = not (same_labels a.0 b.0)
 -- whether each run has another label set than the next
 abbrev pub differ : List Run → Bool
 differ runs = neighbours differs runs
+
+-- whether a run has a sample
+abbrev pub is_filled : Run → Bool
+is_filled run = not (length run.1 == 0)
+
+-- whether these are the runs of a batch
+abbrev pub are_runs : List Run → Bool
+are_runs runs = list_all is_filled runs && differ runs
 
 -- how many samples in front have the label set
 abbrev pub lead : Labels → Batch → ℕ

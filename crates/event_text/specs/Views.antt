@@ -1,18 +1,10 @@
 -- What is read, without where it lies in memory.
-use Rattle.std.specs.Prelude.{ℕ, ℤ, List, map}
+use Rattle.std.specs.Prelude.{List, map}
 use Rattle.matchers.specs.Views.{MatcherView}
 use Rattle.head.specs.Worlds.{Event, batch, deletion, cut}
-use Rattle.event_text.specs.declared.parts.RunParts.{RunParts}
 use Rattle.event_text.specs.declared.parts.MatcherParts.{MatcherParts}
 use Rattle.event_text.specs.declared.parts.EventParts.{EventParts}
 use Rattle.event_text.specs.declared.parts.EventParts.TheVariants.{Batch, Deletion, Cut}
-use Rattle.event_text.specs.Runs.{Run}
-
-abbrev pub run_in : RunParts → Run
-run_in run = (run.labels, run.samples.items)
-
-abbrev pub runs_in : List RunParts → List Run
-runs_in runs = map run_in runs
 
 abbrev pub matcher_in : MatcherParts → MatcherView
 matcher_in m = record { name = m.name.now; op = m.op; text = m.text.now }

@@ -3,13 +3,6 @@
 use labels::{LabelSet, Sample};
 use matchers::Op;
 
-/// Samples of one label set that follow each other.
-#[derive(Drop)]
-pub(crate) struct RunParts {
-    pub(crate) labels: LabelSet,
-    pub(crate) samples: Vec<Sample>,
-}
-
 /// A matcher that is not built yet.
 #[derive(Drop)]
 pub(crate) struct MatcherParts<'a> {

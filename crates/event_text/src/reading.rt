@@ -12,14 +12,14 @@ ghost use Rattle.event_text.specs.Reading.{event_of, is_event, labels_at, matche
 ghost use Rattle.event_text.specs.Reading.{pair_at, run_at};
 ghost use Rattle.event_text.specs.Reading.{sample_at, text_at};
 ghost use Rattle.event_text.specs.Spelling.{Spells};
-ghost use Rattle.event_text.specs.Views.{event_in, matcher_in, matchers_in, run_in, runs_in};
+ghost use Rattle.event_text.specs.Views.{event_in, matcher_in, matchers_in};
 
 use crate::error::{EventError, TextError};
 use crate::label_check::are_labels;
-use crate::parts::{EventParts, MatcherParts, RunParts};
+use crate::parts::{EventParts, MatcherParts};
 use crate::runs::{batch_in, differ};
 use head::Event;
-use labels::{LabelSet, Sample, is_time};
+use labels::{LabelSet, Row, Sample, is_time};
 use matchers::{MAX_MATCHERS, Matcher, MatcherError, Op, is_query_range};
 use std::alloc::Global;
 use wire::Cut;
@@ -68,8 +68,9 @@ fn pairs_of(
     Ok((pairs, rest))
 }
 
+/// The label set in front of bytes, and the bytes after it.
 #[tactic(auto, unfolding(crate::specs::Reading::labels_at, crate::specs::Reading::many_at))]
-fn labels_of(alloc: Global, bytes: &[u8]) -> Result<(LabelSet, &[u8]), TextError>
+pub fn labels_of(alloc: Global, bytes: &[u8]) -> Result<(LabelSet, &[u8]), TextError>
     ensures { Gives (λ x. (x.0, x.1.now)) result (labels_at bytes.now) }
 {
     let mut cut = Cut::new(bytes);
@@ -81,8 +82,9 @@ fn labels_of(alloc: Global, bytes: &[u8]) -> Result<(LabelSet, &[u8]), TextError
     Ok((LabelSet::of_sorted_texts(alloc, pairs.as_slice())?, rest))
 }
 
+/// The time and the value in front of bytes, and the bytes after them.
 #[tactic(auto, unfolding(crate::specs::Reading::sample_at))]
-fn sample_of(bytes: &[u8]) -> Result<(i64, i64, &[u8]), TextError>
+pub fn sample_of(bytes: &[u8]) -> Result<(i64, i64, &[u8]), TextError>
     ensures { Gives (λ x. ((x.0, x.1), x.2.now)) result (sample_at bytes.now) }
 {
     let mut cut = Cut::new(bytes);
@@ -91,7 +93,12 @@ fn sample_of(bytes: &[u8]) -> Result<(i64, i64, &[u8]), TextError>
     Ok((time, value, cut.rest()))
 }
 
-fn samples_of(alloc: Global, bytes: &[u8], count: u64) -> Result<(Vec<Sample>, &[u8]), TextError>
+/// So many samples in front of bytes, and the bytes after them.
+pub fn samples_of(
+    alloc: Global,
+    bytes: &[u8],
+    count: u64,
+) -> Result<(Vec<Sample>, &[u8]), TextError>
     ensures { Gives (λ x. (x.0.items, x.1.now)) result (each_at sample_at count bytes.now) }
 {
     let mut samples = Vec::new(alloc);
@@ -105,8 +112,8 @@ fn samples_of(alloc: Global, bytes: &[u8], count: u64) -> Result<(Vec<Sample>, &
 }
 
 #[tactic(auto, unfolding(crate::specs::Reading::run_at, crate::specs::Reading::many_at))]
-fn run_of(alloc: Global, bytes: &[u8]) -> Result<(RunParts, &[u8]), TextError>
-    ensures { Gives (λ x. (run_in x.0, x.1.now)) result (run_at bytes.now) }
+fn run_of(alloc: Global, bytes: &[u8]) -> Result<(Row, &[u8]), TextError>
+    ensures { Gives (λ x. (x.0, x.1.now)) result (run_at bytes.now) }
 {
     let (labels, rest) = labels_of(alloc, bytes)?;
     let mut cut = Cut::new(rest);
@@ -115,11 +122,11 @@ fn run_of(alloc: Global, bytes: &[u8]) -> Result<(RunParts, &[u8]), TextError>
     if samples.len() == 0 {
         return Err(TextError::Runs);
     }
-    Ok((RunParts { labels, samples }, rest))
+    Ok((Row::new(labels, samples), rest))
 }
 
-fn runs_of(alloc: Global, bytes: &[u8], count: u64) -> Result<(Vec<RunParts>, &[u8]), TextError>
-    ensures { Gives (λ x. (runs_in x.0.items, x.1.now)) result (each_at run_at count bytes.now) }
+fn runs_of(alloc: Global, bytes: &[u8], count: u64) -> Result<(Vec<Row>, &[u8]), TextError>
+    ensures { Gives (λ x. (x.0.items, x.1.now)) result (each_at run_at count bytes.now) }
 {
     let mut runs = Vec::new(alloc);
     let mut rest = bytes;

@@ -1,11 +1,11 @@
 //! Runs of a batch: samples of one label set that follow each other.
 
-ghost use Rattle.std.specs.Prelude.{◌≡◌, ◌≤◌, ◌++◌, [], OnOk, IfOk, length};
-ghost use Rattle.event_text.specs.Runs.{batch_in, before, differ, lead, runs_of};
-ghost use Rattle.event_text.specs.Views.{run_in, runs_in};
+ghost use Rattle.std.specs.Prelude.{◌≡◌, ◌≤◌, ◌++◌, ◌∷◌, [], OnOk, IfOk, length};
+ghost use Rattle.std.specs.List.{list_all};
+ghost use Rattle.event_text.specs.Runs.{are_runs, batch_in, before, differ, is_filled, lead};
+ghost use Rattle.event_text.specs.Runs.{runs_of};
 
-use crate::parts::RunParts;
-use labels::{LabelSet, Sample};
+use labels::{LabelSet, Row, Sample};
 use std::alloc::{AllocError, Global};
 
 /// How many samples in front have the label set.
@@ -33,39 +33,70 @@ pub(crate) fn run_count(samples: &[(LabelSet, Sample)]) -> usize
     count
 }
 
-/// Whether each run has another label set than the next.
-pub(crate) fn differ(runs: &[RunParts]) -> bool
-    ensures { result ≡ differ (runs_in runs.now) }
+/// Whether each row has another label set than the one before it.
+fn differ_after(first: &Row, others: &[Row]) -> bool
+    ensures { result ≡ differ (first.now ∷ others.now) }
 {
-    for i in 1..runs.len() {
-        if runs[i - 1].labels == runs[i].labels {
+    let mut last = first;
+    for row in others {
+        if *last.labels() == *row.labels() {
+            return false;
+        }
+        last = row;
+    }
+    true
+}
+
+/// Whether each row has another label set than the next.
+pub(crate) fn differ(rows: &[Row]) -> bool
+    ensures { result ≡ differ rows.now }
+{
+    match rows.split_first() {
+        Some((first, others)) => differ_after(first, others),
+        None => true,
+    }
+}
+
+/// Whether each row has a sample.
+fn are_filled(rows: &[Row]) -> bool
+    ensures { result ≡ list_all is_filled rows.now }
+{
+    for row in rows {
+        if row.samples().is_empty() {
             return false;
         }
     }
     true
 }
 
-/// Appends the samples of a run, each with the label set.
-fn put_samples(out: &mut Vec<(LabelSet, Sample)>, run: &RunParts) -> Result<(), AllocError>
-    ensures { OnOk result (out.new.items
-        ≡ out.old.items ++ before run.now.labels run.now.samples.items []) }
+/// Whether rows are the runs of a batch.
+pub(crate) fn are_runs(rows: &[Row]) -> bool
+    ensures { result ≡ are_runs rows.now }
 {
-    for sample in &run.samples {
-        out.push((run.labels.try_clone()?, *sample))?;
+    are_filled(rows) && differ(rows)
+}
+
+/// Appends samples, each with the label set.
+fn push_each(
+    out: &mut Vec<(LabelSet, Sample)>,
+    labels: &LabelSet,
+    samples: &[Sample],
+) -> Result<(), AllocError>
+    ensures { OnOk result (out.new.items ≡ out.old.items ++ before labels.now samples.now []) }
+{
+    for sample in samples {
+        out.push((labels.try_clone()?, *sample))?;
     }
     Ok(())
 }
 
-/// The batch that runs are. Its samples share the label sets.
-pub(crate) fn batch_in(
-    alloc: Global,
-    runs: &[RunParts],
-) -> Result<Vec<(LabelSet, Sample)>, AllocError>
-    ensures { IfOk result (λ samples. samples.items ≡ batch_in (runs_in runs.now)) }
+/// The batch that rows are. Its samples share the label sets.
+pub(crate) fn batch_in(alloc: Global, rows: &[Row]) -> Result<Vec<(LabelSet, Sample)>, AllocError>
+    ensures { IfOk result (λ batch. batch.items ≡ batch_in rows.now) }
 {
-    let mut samples = Vec::new(alloc);
-    for run in runs {
-        put_samples(&mut samples, run)?;
+    let mut batch = Vec::new(alloc);
+    for row in rows {
+        push_each(&mut batch, row.labels(), row.samples())?;
     }
-    Ok(samples)
+    Ok(batch)
 }

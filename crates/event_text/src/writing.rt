@@ -1,10 +1,12 @@
 //! Writing an event.
 
-ghost use Rattle.std.specs.Prelude.{◌≡◌, ◌<◌, ◌+◌, ◌^◌, ◌++◌, ◌∷◌, OnOk, length};
+ghost use Rattle.std.specs.Prelude.{◌≡◌, ◌<◌, ◌+◌, ◌^◌, ◌++◌, ◌∷◌, OnOk, length, true};
+ghost use Rattle.std.specs.List.{list_all};
 ghost use Rattle.wire.specs.Spelling.{uvarint};
 ghost use Rattle.labels.specs.LabelSets.{IsLabelSet};
+ghost use Rattle.head.specs.BatchRows.{batch_of_rows};
 ghost use Rattle.head.specs.Worlds.{Event, batch, cut, deletion};
-ghost use Rattle.event_text.specs.Runs.{runs_of, values_in};
+ghost use Rattle.event_text.specs.Runs.{are_runs, is_filled, runs_of, values_in};
 ghost use Rattle.event_text.specs.Spelling.{event_text, labels_text, many_text, matcher_text};
 ghost use Rattle.event_text.specs.Spelling.{op_number, pair_text, run_text, sample_text};
 ghost use Rattle.event_text.specs.Spelling.{string_text};
@@ -12,14 +14,14 @@ ghost use Rattle.event_text.specs.Spelling.{AreMany, HasSpelling, IsMatcher, IsP
 ghost use Rattle.event_text.specs.Spelling.{IsSample};
 ghost use Rattle.event_text.specs.Spelling.{IsText};
 
-use crate::runs::{lead, run_count};
-use labels::{LabelSet, Sample};
+use crate::runs::{are_runs, batch_in, lead, run_count};
+use labels::{LabelSet, Row, Sample};
 use matchers::{Matcher, Op};
-use std::alloc::AllocError;
+use std::alloc::{AllocError, Global};
 use wire::{put_bytes, put_u8, put_uvarint, put_varint};
 
-/// Appends a number of things.
-fn put_count(out: &mut Vec<u8>, count: usize) -> Result<(), AllocError>
+/// Appends how many things there are.
+pub fn put_count(out: &mut Vec<u8>, count: usize) -> Result<(), AllocError>
     ensures text { OnOk result (out.new.items ≡ out.old.items ++ uvarint count) }
     ensures small { count < 2 ^ 64 }
 {
@@ -43,8 +45,9 @@ fn put_pair(out: &mut Vec<u8>, name: &str, value: &str) -> Result<(), AllocError
     put_string(out, value)
 }
 
+/// Appends a label set. Where memory runs out, some of it may stand there.
 #[tactic(auto, unfolding(crate::specs::Spelling::labels_text))]
-fn put_labels(out: &mut Vec<u8>, labels: &LabelSet) -> Result<(), AllocError>
+pub fn put_labels(out: &mut Vec<u8>, labels: &LabelSet) -> Result<(), AllocError>
     ensures text { OnOk result (out.new.items ≡ out.old.items ++ labels_text labels.now) }
     ensures spelled { OnOk result (AreMany IsPair labels.now × IsLabelSet labels.now) }
 {
@@ -56,13 +59,28 @@ fn put_labels(out: &mut Vec<u8>, labels: &LabelSet) -> Result<(), AllocError>
     Ok(())
 }
 
+/// Appends a time and a value. Where memory runs out, some of it may stand there.
 #[tactic(auto, unfolding(crate::specs::Spelling::sample_text))]
-fn put_sample(out: &mut Vec<u8>, sample: Sample) -> Result<(), AllocError>
+pub fn put_sample(out: &mut Vec<u8>, sample: Sample) -> Result<(), AllocError>
     ensures text { OnOk result (out.new.items ≡ out.old.items ++ sample_text sample) }
     ensures spelled { OnOk result (IsSample sample) }
 {
     put_varint(out, sample.t())?;
     put_varint(out, sample.v())
+}
+
+/// Appends how many samples there are, and the samples. Where memory runs out, some of it may stand
+/// there.
+pub fn put_each_sample(out: &mut Vec<u8>, samples: &[Sample]) -> Result<(), AllocError>
+    ensures text { OnOk result (out.new.items
+        ≡ out.old.items ++ many_text sample_text samples.now) }
+    ensures spelled { OnOk result (AreMany IsSample samples.now) }
+{
+    put_count(out, samples.len())?;
+    for sample in samples {
+        put_sample(out, *sample)?;
+    }
+    Ok(())
 }
 
 /// Appends how many samples there are, and the samples.
@@ -115,6 +133,28 @@ fn put_runs(out: &mut Vec<u8>, samples: &[(LabelSet, Sample)]) -> Result<(), All
     Ok(())
 }
 
+#[tactic(auto, unfolding(crate::specs::Spelling::run_text))]
+fn put_row(out: &mut Vec<u8>, row: &Row) -> Result<(), AllocError>
+    requires { 0 < length row.now.1 }
+    ensures text { OnOk result (out.new.items ≡ out.old.items ++ run_text row.now) }
+    ensures spelled { OnOk result (IsRun row.now) }
+{
+    put_labels(out, row.labels())?;
+    put_each_sample(out, row.samples())
+}
+
+fn put_each_row(out: &mut Vec<u8>, rows: &[Row]) -> Result<(), AllocError>
+    requires { list_all is_filled rows.now ≡ true }
+    ensures text { OnOk result (out.new.items ≡ out.old.items ++ many_text run_text rows.now) }
+    ensures spelled { OnOk result (AreMany IsRun rows.now) }
+{
+    put_count(out, rows.len())?;
+    for row in rows {
+        put_row(out, row)?;
+    }
+    Ok(())
+}
+
 fn op_number(op: Op) -> u8
     ensures { result ≡ op_number op }
 {
@@ -155,6 +195,34 @@ pub fn put_batch(out: &mut Vec<u8>, samples: &[(LabelSet, Sample)]) -> Result<()
 {
     put_u8(out, 1)?;
     put_runs(out, samples)
+}
+
+/// Appends the text of a batch whose runs stand in rows.
+fn put_run_rows(out: &mut Vec<u8>, rows: &[Row]) -> Result<(), AllocError>
+    requires { are_runs rows.now ≡ true }
+    ensures text { OnOk result (out.new.items
+        ≡ out.old.items ++ event_text (batch (batch_of_rows rows.now))) }
+    ensures spelled { OnOk result (HasSpelling (batch (batch_of_rows rows.now))) }
+{
+    put_u8(out, 1)?;
+    put_each_row(out, rows)
+}
+
+/// Appends the one text of the batch that rows are. Where memory runs out, some of it may stand
+/// there.
+///
+/// Rows that are runs are written as they stand: each has a sample, and another label set than the
+/// next. Else the batch is made first, whose samples share the label sets.
+pub fn put_rows(alloc: Global, out: &mut Vec<u8>, rows: &[Row]) -> Result<(), AllocError>
+    ensures text { OnOk result (out.new.items
+        ≡ out.old.items ++ event_text (batch (batch_of_rows rows.now))) }
+    ensures spelled { OnOk result (HasSpelling (batch (batch_of_rows rows.now))) }
+{
+    if are_runs(rows) {
+        return put_run_rows(out, rows);
+    }
+    let batch = batch_in(alloc, rows)?;
+    put_batch(out, &batch)
 }
 
 /// Appends the one text of a deletion. Where memory runs out, some of it may stand there.

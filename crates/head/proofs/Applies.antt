@@ -3,7 +3,7 @@ use Rattle.std.specs.Prelude.{◌≡◌, ℕ, suc, ℤ, ◌+◌, ◌<◌, List, 
 use Rattle.std.proofs.Common.{sym, ◌∙◌, ap, subst, drop}
 use Rattle.std.proofs.Math.Seq.{drop-cons}
 use Rattle.head.specs.declared.error.CommitError.{CommitError}
-use Rattle.head.specs.declared.error.CommitError.TheVariants.{OutOfBounds, OutOfOrder, Duplicate, Limit, CutTooLow, TooManyParts, Seat, Memory}
+use Rattle.head.specs.declared.error.CommitError.TheVariants.{OutOfBounds, OutOfOrder, Duplicate, Limit, CutTooLow, TooManyParts, Seat, Journal, Memory}
 use Rattle.head.specs.Outcomes.{IsStepRefusal}
 use Rattle.labels.specs.Labels.{Labels}
 use Rattle.head.specs.Refusals.{Refusal}
@@ -28,6 +28,7 @@ answer_same Limit f keeps r is = ap f is ∙ keeps _
 answer_same CutTooLow f keeps r is = ap f is ∙ keeps _
 answer_same TooManyParts f keeps r is = ap f is ∙ keeps _
 answer_same Seat f keeps r is = absurd is
+answer_same Journal f keeps r is = absurd is
 answer_same Memory f keeps r is = tt
 
 -- a refused batch

@@ -33,3 +33,4 @@ pub mod CutSteps
 pub mod Leaving
 pub mod WorkedRows
 pub mod OwnSteps
+pub mod Replays

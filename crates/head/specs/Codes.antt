@@ -5,7 +5,7 @@ use Rattle.head.specs.declared.error.AppendError.TheVariants.{Full, TimeRange, M
 use Rattle.head.specs.declared.error.CommitError.{CommitError}
 use Rattle.head.specs.declared.error.CommitError.TheVariants.{OutOfBounds, OutOfOrder, Duplicate}
 use Rattle.head.specs.declared.error.CommitError.TheVariants.{Limit, CutTooLow, TooManyParts, Seat}
-use Rattle.head.specs.declared.error.CommitError.TheVariants.{Memory}
+use Rattle.head.specs.declared.error.CommitError.TheVariants.{Journal, Memory}
 
 -- the number of a refusal, as text
 abbrev pub append_code : AppendError → List ℕ
@@ -28,6 +28,7 @@ commit_code Limit = codes "E4"
 commit_code CutTooLow = codes "E5"
 commit_code TooManyParts = codes "E6"
 commit_code Seat = codes "E7"
+commit_code Journal = codes "E8"
 commit_code Memory = codes "memory"
 
 -- a refusal in a line, for people
@@ -42,4 +43,17 @@ commit_text Limit = codes "E4: too many series, too many samples of one, or too 
 commit_text CutTooLow = codes "E5: the time of the cut is not above the floor"
 commit_text TooManyParts = codes "E6: there would be more than 63 blocks"
 commit_text Seat = codes "E7: the seat is none of this store's"
+commit_text Journal = codes "E8: the journal did not take the event"
 commit_text Memory = codes "no memory"
+
+-- the number of the refusal of an event whose step is refused so, as text
+abbrev pub replay_code : CommitError → List ℕ
+replay_code (OutOfBounds at) = codes "J18"
+replay_code (OutOfOrder at) = codes "J18"
+replay_code (Duplicate at) = codes "J18"
+replay_code Limit = codes "J18"
+replay_code CutTooLow = codes "J18"
+replay_code TooManyParts = codes "J18"
+replay_code Seat = codes "J18"
+replay_code Journal = codes "J18"
+replay_code Memory = codes "memory"

@@ -3,7 +3,7 @@ use Rattle.std.specs.Prelude.{◌≡◌, Result, Ok, Err, MatchResult}
 use Rattle.head.specs.declared.error.CommitError.{CommitError}
 use Rattle.head.specs.declared.error.CommitError.TheVariants.{OutOfBounds, OutOfOrder, Duplicate}
 use Rattle.head.specs.declared.error.CommitError.TheVariants.{Limit, CutTooLow, TooManyParts, Seat}
-use Rattle.head.specs.declared.error.CommitError.TheVariants.{Memory}
+use Rattle.head.specs.declared.error.CommitError.TheVariants.{Journal, Memory}
 use Rattle.head.specs.Refusals.{Refusal, out_of_bounds, out_of_order, duplicate, limit, cut_too_low}
 use Rattle.head.specs.Refusals.{too_many_parts}
 
@@ -16,6 +16,7 @@ IsStepRefusal Limit r = r ≡ Err limit
 IsStepRefusal CutTooLow r = r ≡ Err cut_too_low
 IsStepRefusal TooManyParts r = r ≡ Err too_many_parts
 IsStepRefusal Seat r = ⊥
+IsStepRefusal Journal r = ⊥
 IsStepRefusal Memory r = Unit {0}
 
 -- what was made is the step's outcome, or the refusal is the step's

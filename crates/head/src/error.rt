@@ -1,7 +1,7 @@
 //! Why a sample or an event is refused.
 
 ghost use Rattle.std.specs.Prelude.{◌≡◌};
-ghost use Rattle.head.specs.Codes.{append_code, commit_code};
+ghost use Rattle.head.specs.Codes.{append_code, commit_code, replay_code};
 ghost use Rattle.head.specs.declared.error.CommitError.TheVariants.{Memory};
 
 use std::alloc::AllocError;
@@ -50,6 +50,8 @@ pub enum CommitError {
     TooManyParts,
     /// E7: the seat is none of the store's.
     Seat,
+    /// E8: the journal did not take the event.
+    Journal,
     /// No memory.
     Memory,
 }
@@ -67,7 +69,29 @@ impl CommitError {
             CommitError::CutTooLow => "E5",
             CommitError::TooManyParts => "E6",
             CommitError::Seat => "E7",
+            CommitError::Journal => "E8",
             CommitError::Memory => "memory",
+        }
+    }
+}
+
+/// The first event of several that is refused, and why: `J18`, unless it is memory.
+#[derive(Clone, Copy, Debug, PartialEq, Eq, Drop)]
+pub struct RefusedEvent {
+    /// How many events stand before it.
+    pub at: usize,
+    /// The refusal of its step.
+    pub error: CommitError,
+}
+
+impl RefusedEvent {
+    /// The number of the refusal, or `memory`.
+    pub fn code(self) -> &'static str
+        ensures { result.now ≡ replay_code self.error }
+    {
+        match self.error {
+            CommitError::Memory => "memory",
+            _ => "J18",
         }
     }
 }
@@ -114,6 +138,7 @@ impl fmt::Display for CommitError {
             CommitError::CutTooLow => write!(f, "E5: the time of the cut is not above the floor"),
             CommitError::TooManyParts => write!(f, "E6: there would be more than 63 blocks"),
             CommitError::Seat => write!(f, "E7: the seat is none of this store's"),
+            CommitError::Journal => write!(f, "E8: the journal did not take the event"),
             CommitError::Memory => write!(f, "no memory"),
         }
     }

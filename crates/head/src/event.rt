@@ -14,9 +14,20 @@ use std::marker::Model;
 pub const MAX_BATCH: usize = 4_096;
 
 #[derive(Drop)]
-pub(crate) enum Kind {
+enum Kind {
     Batch(Vec<(LabelSet, Sample)>),
     Deletion(Vec<Matcher>, i64, i64),
+    Cut(i64),
+}
+
+/// An event, lent.
+#[derive(Drop)]
+pub enum EventView<'a> {
+    /// The samples of a batch, in its order.
+    Batch(&'a [(LabelSet, Sample)]),
+    /// The matchers of a deletion, and its first and last time, in milliseconds.
+    Deletion(&'a [Matcher], i64, i64),
+    /// The time of a cut, in milliseconds.
     Cut(i64),
 }
 
@@ -47,7 +58,7 @@ fn are_timed(samples: &[(LabelSet, Sample)]) -> bool
 }
 
 impl Event {
-    ghost use Rattle.head.specs.Kinds.{change_of};
+    ghost use Rattle.head.specs.Kinds.{change_seen};
     ghost use Rattle.head.specs.Batches.{IsEvent};
 
     /// Whether there are at most 4,096 samples, all at times: what a batch is made of.
@@ -120,10 +131,17 @@ impl Event {
         }
     }
 
-    pub(crate) fn kind(&self) -> &Kind
-        ensures shown { change_of result.now ≡ self.now }
+    /// What it is made of, lent. It takes no memory.
+    pub fn view(&self) -> EventView<'_>
+        ensures shown { change_seen result ≡ self.now }
         ensures kept { IsEvent self.now }
     {
-        &self.kind
+        match &self.kind {
+            Kind::Batch(samples) => EventView::Batch(samples.as_slice()),
+            Kind::Deletion(matchers, from, to) => {
+                EventView::Deletion(matchers.as_slice(), *from, *to)
+            }
+            Kind::Cut(at) => EventView::Cut(*at),
+        }
     }
 }

@@ -18,6 +18,9 @@
 //! floor; where a sample leaves the head, `E6` where there are 63 blocks, and then `E4` where the
 //! index or the chunks of the new block would take more than 1 GiB.
 //!
+//! [`replay`] applies events one after another, and refuses (`J18`) the first that is none of such a
+//! list.
+//!
 //! ```
 //! let opening = Snapshot::opening(alloc, Vec::new(alloc)).ok()?;
 //! let labels = LabelSet::of_sorted_texts(alloc, &[("__name__", "up")]).ok()?;
@@ -51,6 +54,7 @@ mod live;
 mod order;
 mod reference_list;
 mod references;
+mod replaying;
 mod row_batch;
 mod selection;
 mod series;
@@ -59,12 +63,13 @@ mod source;
 mod span;
 
 pub use cut::MAX_BLOCKS;
-pub use error::{AppendError, CommitError};
-pub use event::{Event, MAX_BATCH};
+pub use error::{AppendError, CommitError, RefusedEvent};
+pub use event::{Event, EventView, MAX_BATCH};
 pub use head::HeadView;
 pub use list::HeadList;
 pub use live::LiveList;
 pub use postings::PartName;
+pub use replaying::replay;
 pub use row_batch::RowBatch;
 pub use snapshot::{Snapshot, apply, apply_rows};
 pub use span::Span;

@@ -44,7 +44,8 @@ impl RowBatch {
         self.rows
     }
 
-    pub(crate) fn rows(&self) -> &[Row]
+    /// The rows, lent.
+    pub fn rows(&self) -> &[Row]
         ensures rows { result.now ≡ self.now }
         ensures kept { IsTrue (is_batch (batch_of_rows self.now)) }
     {

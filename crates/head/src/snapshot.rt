@@ -14,7 +14,7 @@ use crate::cut::cut_at;
 use crate::deletion::snapshot_without;
 use crate::draft::{Draft, Samples, add_each};
 use crate::error::CommitError;
-use crate::event::{Event, Kind};
+use crate::event::{Event, EventView};
 use crate::head::HeadView;
 use crate::row_batch::RowBatch;
 use block::Block;
@@ -158,12 +158,12 @@ pub fn apply(alloc: Global, at: &Snapshot, event: &Event) -> Result<Snapshot, Co
     ensures kept { IfOk result (λ s. KeepsBlocks event.now at.now s.blocks) }
     ensures copied { IfOk result (λ s. CopiesFew event.now s.copied) }
 {
-    match event.kind() {
-        Kind::Batch(samples) => snapshot_with(alloc, at, Samples::Pairs(samples.as_slice())),
-        Kind::Deletion(matchers, from, to) => {
-            Ok(snapshot_without(alloc, at, matchers.as_slice(), *from, *to)?)
+    match event.view() {
+        EventView::Batch(samples) => snapshot_with(alloc, at, Samples::Pairs(samples)),
+        EventView::Deletion(matchers, from, to) => {
+            Ok(snapshot_without(alloc, at, matchers, from, to)?)
         }
-        Kind::Cut(time) => cut_at(alloc, at, *time),
+        EventView::Cut(time) => cut_at(alloc, at, time),
     }
 }
 

@@ -25,6 +25,7 @@ pub(crate) fn write<M: Medium>(medium: &mut M, len: usize, bytes: &[u8]) -> Writ
     ensures any_moment { (old : List ℕ) → HasAll M.shows M.kept M.sound old medium.old
         → len ≡ length old
         → LeavesOnly M.moment M.left_since medium.old medium.new (MayLeave len (old ++ bytes.now)) }
+    ensures beside { M.beside medium.old medium.new }
 {
     if medium.append(bytes).is_ok() {
         if medium.sync().is_ok() {

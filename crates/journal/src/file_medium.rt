@@ -62,6 +62,12 @@ impl Medium for FileMedium {
 
     ghost left_since = { λ m t left. ⊥ };
 
+    ghost beside = { λ a b. Unit {0} };
+
+    ghost stays = { λ m. tt };
+
+    ghost goes_on = { λ a b c first second. tt };
+
     ghost only_now = { λ m bytes n left shown kept had. absurd had };
 
     ghost earlier = { λ m t u left le fits had. had };

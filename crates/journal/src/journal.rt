@@ -3,6 +3,7 @@
 ghost use Rattle.std.specs.Prelude.{◌≡◌, ◌⊎◌, ◌<◌, ◌^◌, ◌++◌, ◌∷◌, [], ℕ, List, true, false};
 ghost use Rattle.std.specs.Prelude.{length, Err, IfOk, OnOk, OnErr, IsErrOf};
 ghost use Rattle.journal.specs.Contents.{contents_in};
+ghost use Rattle.journal.specs.Group.{AreRecords, HasSomeMore};
 ghost use Rattle.journal.specs.Media.{HasAll, IsBeforeOrAfter, IsJournal, Keeps, LeavesOnly};
 ghost use Rattle.journal.specs.Outcome.{IsOfKeeping};
 ghost use Rattle.journal.specs.Records.{file_of, is_length, header, Recovers};
@@ -10,14 +11,12 @@ ghost use Rattle.journal.specs.Records.{file_of, is_length, header, Recovers};
 use crate::durable_write::{Written, write};
 use crate::error::JournalError;
 use crate::medium::{Medium, MediumError};
-use crate::record::{is_length, put_record};
 use crate::recovery::recover;
+use crate::texts::{HEADER, push_record};
 use std::alloc::Global;
 
 /// A journal takes no content where it is longer than this.
 const MAX_LEN: usize = 1 << 62;
-
-const HEADER: [u8; 5] = [0x46, 0x5A, 0x4C, 0x4A, 1];
 
 /// Cuts off what a crash left after the whole records, which take `len` bytes.
 pub fn cut_end<M: Medium>(medium: &mut M, len: usize) -> Result<(), MediumError>
@@ -30,6 +29,7 @@ pub fn cut_end<M: Medium>(medium: &mut M, len: usize) -> Result<(), MediumError>
     ensures any_moment { (contents : List (List ℕ)) (file : List ℕ) → Recovers file contents
         → HasAll M.shows M.kept M.sound file medium.old → len ≡ length (file_of contents)
         → LeavesOnly M.moment M.left_since medium.old medium.new (λ left. Recovers left contents) }
+    ensures beside { M.beside medium.old medium.new }
 {
     medium.cut(len)
 }
@@ -133,6 +133,60 @@ impl<M: Medium + Drop> Journal<M> {
         ensures lost { self.new.closed ≡ true → (self.old.closed ≡ true)
             ⊎ (M.failed self.new.medium ≡ true) }
         ensures other { IsOfKeeping result }
+        // What is beside the journal stays.
+        ensures beside { M.beside self.old.medium self.new.medium }
+    {
+        if self.closed {
+            return Err(JournalError::Closed);
+        }
+        let mut records = Vec::new(alloc);
+        match push_record(&mut records, content) {
+            Ok(()) => self.append_records(&records),
+            Err(error) => Err(error),
+        }
+    }
+
+    /// Adds several contents, by their records. At `Ok` all of them are acknowledged. It takes one
+    /// write and one sync.
+    ///
+    /// `J7` of a closed journal, `J5` of one that is longer than 2^62 bytes; `J6` where the medium
+    /// fails, as in [`Journal::append`].
+    pub fn append_records(&mut self, records: &[u8]) -> Result<(), JournalError>
+        requires journal { IsJournal M.shows M.kept M.sound
+            self.old.medium self.old.len self.old.closed }
+        requires records { (more : List (List ℕ)) × AreRecords more records.now }
+        ensures journal { IsJournal M.shows M.kept M.sound
+            self.new.medium self.new.len self.new.closed }
+        // At `Ok` it has these contents more, and all of it is on the medium for good.
+        ensures ok { OnOk result ((contents more : List (List ℕ))
+            → Keeps M.shows M.kept M.sound contents self.old.medium self.old.len
+            → AreRecords more records.now
+            → Keeps M.shows M.kept M.sound (contents ++ more) self.new.medium self.new.len) }
+        ensures open { OnOk result (self.new.closed ≡ false) }
+        // At `Err` it has what it had, or it is closed.
+        ensures err { OnErr result ((contents : List (List ℕ))
+            → Keeps M.shows M.kept M.sound contents self.old.medium self.old.len
+            → (self.new.closed ≡ false)
+            → Keeps M.shows M.kept M.sound contents self.new.medium self.new.len) }
+        // A crash at any moment of the call leaves a file of what it had, and of the first few of
+        // these contents.
+        ensures any_moment { (contents more : List (List ℕ))
+            → Keeps M.shows M.kept M.sound contents self.old.medium self.old.len
+            → AreRecords more records.now
+            → LeavesOnly M.moment M.left_since self.old.medium self.new.medium
+            (HasSomeMore contents more) }
+        // A closed journal takes nothing, and writes nothing.
+        ensures closed { self.old.closed ≡ true → (result ≡ Err JournalError.Closed)
+            × (self.new ≡ self.old) }
+        // It does not give up, nor close, by itself.
+        ensures told { IsErrOf result JournalError.Closed → self.old.closed ≡ true }
+        ensures size { IsErrOf result JournalError.Size → 2 ^ 62 < self.old.len }
+        ensures medium { IsErrOf result JournalError.Medium → M.failed self.new.medium ≡ true }
+        ensures lost { self.new.closed ≡ true → (self.old.closed ≡ true)
+            ⊎ (M.failed self.new.medium ≡ true) }
+        ensures other { IsOfKeeping result }
+        // What is beside the journal stays.
+        ensures beside { M.beside self.old.medium self.new.medium }
     {
         if self.closed {
             return Err(JournalError::Closed);
@@ -140,14 +194,9 @@ impl<M: Medium + Drop> Journal<M> {
         if self.len > MAX_LEN {
             return Err(JournalError::Size);
         }
-        if !is_length(content.len()) {
-            return Err(JournalError::Size);
-        }
-        let mut record = Vec::new(alloc);
-        put_record(&mut record, content)?;
-        match write(&mut self.medium, self.len, &record) {
+        match write(&mut self.medium, self.len, records) {
             Written::Done => {
-                self.len += record.len();
+                self.len += records.len();
                 Ok(())
             }
             Written::TakenBack => Err(JournalError::Medium),

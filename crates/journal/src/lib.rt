@@ -1,10 +1,11 @@
 //! A journal: contents in a file that grows, each on the disk for good before it is acknowledged.
 //!
-//! A [`Journal`] appends a record for each content to a [`Medium`] and syncs it; [`recover`] gives
-//! the contents of a file that a crash left. A crash at any moment leaves the contents that were
-//! acknowledged, and at most the one that was being written: [`recover`] cuts off a torn end, and
-//! refuses any other damage with a number and its place, `J1` to `J4` ([`JournalError`]). After a
-//! sync that failed nothing is known of the medium; the journal then closes, and says so (`J7`).
+//! A [`Journal`] appends a record for each content to a [`Medium`] and syncs it, or several records
+//! by one write and one sync; [`recover`] gives the contents of a file that a crash left. A crash at
+//! any moment leaves the contents that were acknowledged, and at most those that were being
+//! written: [`recover`] cuts off a torn end, and refuses any other damage with a number and its
+//! place, `J1` to `J4` ([`JournalError`]). After a sync that failed nothing is known of the medium;
+//! the journal then closes, and says so (`J7`).
 //!
 //! ```
 //! let mut journal = Journal::create(MemoryMedium::new(rt.alloc(), 0, 0)).ok().unwrap();
@@ -29,6 +30,7 @@ mod medium;
 mod memory_medium;
 mod record;
 mod recovery;
+mod texts;
 
 pub use error::JournalError;
 pub use file_medium::{FileMedium, open_file};
@@ -36,3 +38,4 @@ pub use journal::{Journal, cut_end};
 pub use medium::{Medium, MediumError};
 pub use memory_medium::MemoryMedium;
 pub use recovery::{Recovered, recover, what_a_crash_leaves};
+pub use texts::{file_text, push_record};

@@ -31,6 +31,10 @@ pub trait Medium {
     /// What a crash at some moment from that one on might have left, during a call or between two.
     ghost left_since: { Self → ℕ → List ℕ → Type 0 };
 
+    /// What stands beside the bytes, as other files of a folder, is in the second as it was in the
+    /// first, and so left by each crash since.
+    ghost beside: { Self → Self → Type 0 };
+
     /// Writes at the end. An `Err` may leave some of the bytes there.
     fn append(&mut self, bytes: &[u8]) -> Result<(), MediumError>
         requires { sound self.old ≡ true }
@@ -44,7 +48,8 @@ pub trait Medium {
         ensures lasting { failed self.old ≡ true → failed self.new ≡ true }
         ensures time { (old : List ℕ) (n : ℕ) → shows self.old old → kept self.old n
             → Elapses (moment self.old) (moment self.new) (left_since self.old)
-            (left_since self.new) (MayLeave n (old ++ bytes.now)) };
+            (left_since self.new) (MayLeave n (old ++ bytes.now)) }
+        ensures beside { beside self.old self.new };
 
     /// After it, each crash leaves what was written.
     fn sync(&mut self) -> Result<(), MediumError>
@@ -57,7 +62,8 @@ pub trait Medium {
         ensures lasting { failed self.old ≡ true → failed self.new ≡ true }
         ensures time { (old : List ℕ) (n : ℕ) → shows self.old old → kept self.old n
             → Elapses (moment self.old) (moment self.new) (left_since self.old)
-            (left_since self.new) (MayLeave n old) };
+            (left_since self.new) (MayLeave n old) }
+        ensures beside { beside self.old self.new };
 
     /// Cuts the bytes to a length; after it, each crash leaves that.
     fn cut(&mut self, len: usize) -> Result<(), MediumError>
@@ -71,7 +77,8 @@ pub trait Medium {
         ensures lasting { failed self.old ≡ true → failed self.new ≡ true }
         ensures time { (old : List ℕ) (n : ℕ) → shows self.old old → kept self.old n
             → Elapses (moment self.old) (moment self.new) (left_since self.old)
-            (left_since self.new) (MayLeave (min len n) old) };
+            (left_since self.new) (MayLeave (min len n) old) }
+        ensures beside { beside self.old self.new };
 
     /// Since this moment, a crash leaves a front of the bytes, no shorter than what is kept.
     ghost only_now: { (m : Self) (bytes : List ℕ) (n : ℕ) (left : List ℕ) → shows m bytes → kept m n
@@ -80,4 +87,10 @@ pub trait Medium {
     /// What may be left since a moment may be left since an earlier one.
     ghost earlier: { (m : Self) (t u : ℕ) (left : List ℕ) → t ≤ u → u ≤ moment m
         → left_since m u left → left_since m t left };
+
+    /// Where nothing is done, all that is beside stays.
+    ghost stays: { (m : Self) → beside m m };
+
+    /// It stays in one call after another.
+    ghost goes_on: { (a b c : Self) → beside a b → beside b c → beside a c };
 }

@@ -114,6 +114,12 @@ impl Medium for MemoryMedium {
 
     ghost left_since = { λ m t left. Since m.past.items m.synced m.bytes.items t left };
 
+    ghost beside = { λ a b. Unit {0} };
+
+    ghost stays = { λ m. tt };
+
+    ghost goes_on = { λ a b c first second. tt };
+
     ghost only_now = { λ m bytes n left shown le had.
         only_since m.past.items m.synced m.bytes.items bytes n left shown le had };
 

@@ -1,39 +1,41 @@
 //! A book: the published events, each kept before it was published.
 
-ghost use Rattle.std.specs.Prelude.{◌≡◌, ◌++◌, ◌∷◌, [], OnOk, OnErr, IfErr};
-ghost use Rattle.keeper.specs.Finding.{FindsAll};
+ghost use Rattle.std.specs.Prelude.{◌≡◌, ◌++◌, false, OnOk, OnErr};
+ghost use Rattle.keeper.specs.Finding.{FindsOnly, IsOfAllAndMore, IsOfAllAndSome};
+ghost use Rattle.keeper.specs.Together.{SpellTogether};
 
 use crate::error::KeepError;
 use crate::trait_keeper::Keeper;
 use head::Event;
-use std::alloc::Global;
 use std::marker::Model;
 
-/// Keeps an event for good, and then publishes it. An `Err` changes nothing, and gives the event
-/// back.
+/// Keeps events for good, by their records, and then publishes them: `more` has them, and has none
+/// of them after `Ok`. An `Err` changes nothing.
 pub fn keep_and_publish<K: Keeper>(
-    alloc: Global,
     keeper: &mut K,
     events: &mut Vec<Event>,
-    event: Event,
-) -> Result<(), (Event, KeepError)>
-    requires { K.holds keeper.old events.old.items }
+    more: &mut Vec<Event>,
+    records: &[u8],
+) -> Result<(), KeepError>
+    requires held { K.holds keeper.old events.old.items }
+    requires spelled { SpellTogether records.now more.old.items }
     // What is kept is what is published.
     ensures held { K.holds keeper.new events.new.items }
-    ensures ok { OnOk result (events.new.items ≡ events.old.items ++ event ∷ []) }
+    ensures ok { OnOk result (events.new.items ≡ events.old.items ++ more.old.items) }
     ensures err { OnErr result (events.new.items ≡ events.old.items) }
-    ensures returned { IfErr result (λ e. e.0 ≡ event) }
-    // After a crash at any moment of the call, a start finds all that was published before it, and
-    // at most one event more.
-    ensures any_moment { FindsAll K.moment K.found_since keeper.old keeper.new events.old.items }
+    ensures returned { OnErr result (more.new.items ≡ more.old.items) }
+    // After a crash at any moment of the call, a start finds the world of all that was published
+    // before it.
+    ensures any_moment { FindsOnly K.moment K.found_since keeper.old keeper.new
+        (IsOfAllAndMore K.first events.old.items) }
+    // Beyond it at most the first few of these are in it, unless the keeper was closed before.
+    ensures in_flight { K.closed keeper.old ≡ false
+        → FindsOnly K.moment K.found_since keeper.old keeper.new
+        (IsOfAllAndSome K.first events.old.items more.old.items) }
 {
-    if events.reserve(1).is_err() {
-        return Err((event, KeepError::Memory));
-    }
-    if let Err(error) = keeper.keep(alloc, &event) {
-        return Err((event, error));
-    }
-    match events.push(event) {
+    events.reserve(more.len())?;
+    keeper.keep(records)?;
+    match events.append(more) {
         Ok(()) => Ok(()),
         Err(_) => unreachable!(),
     }
@@ -44,7 +46,6 @@ pub fn keep_and_publish<K: Keeper>(
 pub struct Book<K: Keeper + Drop> {
     events: Vec<Event>,
     keeper: K,
-    alloc: Global,
 }
 
 impl<K: Keeper + Drop> Model for Book<K> {
@@ -60,23 +61,21 @@ impl<K: Keeper + Drop> Model for Book<K> {
 
 impl<K: Keeper + Drop> Book<K> {
     /// The book of events that are kept.
-    pub fn new(alloc: Global, keeper: K, events: Vec<Event>) -> Book<K>
+    pub fn new(keeper: K, events: Vec<Event>) -> Book<K>
         requires { K.holds keeper events.items }
         ensures { result ≡ events.items }
     {
-        Book {
-            events,
-            keeper,
-            alloc,
-        }
+        Book { events, keeper }
     }
 
-    /// Keeps an event, and then publishes it. An `Err` changes nothing, and gives the event back.
-    pub fn step(&mut self, event: Event) -> Result<(), (Event, KeepError)>
-        ensures ok { OnOk result (self.new ≡ self.old ++ event ∷ []) }
+    /// Keeps events, by their records, and then publishes them: `more` has them, and has none of
+    /// them after `Ok`. An `Err` changes nothing.
+    pub fn steps(&mut self, more: &mut Vec<Event>, records: &[u8]) -> Result<(), KeepError>
+        requires { SpellTogether records.now more.old.items }
+        ensures ok { OnOk result (self.new ≡ self.old ++ more.old.items) }
         ensures err { OnErr result (self.new ≡ self.old) }
-        ensures returned { IfErr result (λ e. e.0 ≡ event) }
+        ensures returned { OnErr result (more.new.items ≡ more.old.items) }
     {
-        keep_and_publish(self.alloc, &mut self.keeper, &mut self.events, event)
+        keep_and_publish(&mut self.keeper, &mut self.events, more, records)
     }
 }

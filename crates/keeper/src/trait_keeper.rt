@@ -1,38 +1,80 @@
 //! Where events are kept before they are published.
 
-ghost use Rattle.std.specs.Prelude.{◌≡◌, ◌++◌, ◌∷◌, [], ℕ, List, OnOk, OnErr};
-ghost use Rattle.head.specs.Worlds.{Event as Change};
-ghost use Rattle.keeper.specs.Finding.{FindsAll, IsAllOrOneMore};
+ghost use Rattle.std.specs.Prelude.{◌≡◌, ◌++◌, ℕ, Bool, List, true, false, Err, OnOk, OnErr};
+ghost use Rattle.std.specs.Prelude.{IsErrOf};
+ghost use Rattle.head.specs.Worlds.{Event as Change, World};
+ghost use Rattle.keeper.specs.Finding.{FindsOnly, IsOfAll, IsOfAllAndMore, IsOfAllAndSome};
+ghost use Rattle.keeper.specs.Together.{SpellTogether};
 
 use crate::error::KeepError;
-use head::Event;
-use std::alloc::Global;
 
-/// Keeps events for good, each before it is published.
+/// Keeps events for good, each before it is published. It is handed their records, which can be
+/// made before a lock is taken.
+///
+/// What a start finds is told by its world, since what is kept may be begun anew: a head then says
+/// the world of the events before it, and these are gone.
 pub trait Keeper {
-    /// These are the events that it keeps.
+    /// The world before all events.
+    ghost first: { World };
+
+    /// These are the events that it keeps, in order, those before a head among them.
     ghost holds: { Self → List Change → Type 0 };
+
+    /// It keeps the first events and then the second ones, which it was handed last.
+    ghost kept_last: { Self → List Change → List Change → Type 0 };
+
+    /// Whether it takes nothing more.
+    ghost closed: { Self → Bool };
 
     /// The moment, as a number that does not fall.
     ghost moment: { Self → ℕ };
 
-    /// What a start might find after a crash at some moment from that one on.
-    ghost found_since: { Self → ℕ → List Change → Type 0 };
+    /// The world that a start might find after a crash at some moment from that one on.
+    ghost found_since: { Self → ℕ → World → Type 0 };
 
-    /// Keeps one event more, for good. After an `Err` it keeps what it kept.
-    fn keep(&mut self, alloc: Global, event: &Event) -> Result<(), KeepError>
-        requires { (events : List Change) × holds self.old events }
-        ensures ok { OnOk result ((events : List Change) → holds self.old events
-            → holds self.new (events ++ event.now ∷ [])) }
+    /// Whether keepers of this kind keep nothing, so that no record need be made: they hold any
+    /// events.
+    fn is_idle() -> bool
+        ensures { result ≡ true → (k : Self) (events : List Change) → holds k events };
+
+    /// Keeps several events more, for good, by their records. After an `Err` it keeps what it kept.
+    fn keep(&mut self, records: &[u8]) -> Result<(), KeepError>
+        requires held { (events : List Change) × holds self.old events }
+        requires spelled { (more : List Change) × SpellTogether records.now more }
+        ensures ok { OnOk result ((events more : List Change) → holds self.old events
+            → SpellTogether records.now more → holds self.new (events ++ more)) }
+        ensures last { OnOk result ((events more : List Change) → holds self.old events
+            → SpellTogether records.now more → kept_last self.new events more) }
         ensures err { OnErr result ((events : List Change) → holds self.old events
             → holds self.new events) }
-        // A crash at any moment of the call leaves all that it kept, and at most one event more.
-        ensures any_moment { (events : List Change) → holds self.old events
-            → FindsAll moment found_since self.old self.new events };
+        // A crash at any moment of the call leaves all that it kept, and the first few of these.
+        ensures any_moment { (events more : List Change) → holds self.old events
+            → SpellTogether records.now more → closed self.old ≡ false
+            → FindsOnly moment found_since self.old self.new
+            (IsOfAllAndSome first events more) }
+        // It is open after `Ok`. Where it is closed it says so, and nowhere else, and does nothing.
+        ensures open { OnOk result (closed self.new ≡ false) }
+        ensures closed { closed self.old ≡ true → (result ≡ Err KeepError.Closed)
+            × (self.new ≡ self.old) }
+        ensures told { IsErrOf result KeepError.Closed → closed self.old ≡ true };
 
-    /// A crash at this moment leaves all that it keeps, and at most one event more.
-    ghost now: { (k : Self) (events found : List Change) → holds k events
-        → found_since k (moment k) found → IsAllOrOneMore events found };
+    /// The events that were kept last are not published: it takes nothing more, and a start may
+    /// find these events or not.
+    fn close(&mut self)
+        requires { closed self.old ≡ false }
+        ensures held { (events more : List Change) → kept_last self.old events more
+            → holds self.new events }
+        ensures any_moment { (events more : List Change) → kept_last self.old events more
+            → FindsOnly moment found_since self.old self.new
+            (IsOfAllAndSome first events more) };
+
+    /// A crash at this moment leaves all that it keeps.
+    ghost now: { (k : Self) (events : List Change) (w : World) → holds k events
+        → found_since k (moment k) w → IsOfAllAndMore first events w };
+
+    /// While it is open, a crash between two calls leaves exactly what it keeps.
+    ghost settled: { (k : Self) (events : List Change) (w : World) → holds k events
+        → closed k ≡ false → found_since k (moment k) w → IsOfAll first events w };
 }
 
 /// Keeps nothing beside what is in memory. Of crashes it says nothing.
@@ -40,17 +82,33 @@ pub trait Keeper {
 pub struct NoKeeper;
 
 impl Keeper for NoKeeper {
-    ghost use Rattle.std.specs.Prelude.{◌≡◌};
+    ghost use Rattle.std.specs.Prelude.{false, []};
+    ghost use Rattle.head.specs.Blocks.{opening_of};
+    ghost use Rattle.head.specs.Heads.{world_of};
+
+    ghost first = { world_of (opening_of []) };
 
     ghost holds = { λ k events. Unit {0} };
 
+    ghost kept_last = { λ k events more. Unit {0} };
+
+    ghost closed = { λ k. false };
+
     ghost moment = { λ k. 0 };
 
-    ghost found_since = { λ k t found. ⊥ };
+    ghost found_since = { λ k t w. ⊥ };
 
-    fn keep(&mut self, _alloc: Global, _event: &Event) -> Result<(), KeepError> {
+    fn is_idle() -> bool {
+        true
+    }
+
+    fn keep(&mut self, _records: &[u8]) -> Result<(), KeepError> {
         Ok(())
     }
 
-    ghost now = { λ k events found held none. absurd none };
+    fn close(&mut self) {}
+
+    ghost now = { λ k events w held none. absurd none };
+
+    ghost settled = { λ k events w held opened none. absurd none };
 }

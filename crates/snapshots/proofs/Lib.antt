@@ -5,3 +5,4 @@ pub mod Growing
 pub mod Publishing
 pub mod Counting
 pub mod Replaying
+pub mod Keeps

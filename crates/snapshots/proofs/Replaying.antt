@@ -5,25 +5,19 @@ use mathlib.Core.List.{IsPrefix}
 use Rattle.head.specs.Kept.{KeepsBlocks, frame_of}
 use Rattle.head.specs.Removing.{survives}
 use Rattle.head.proofs.Deleting.{frames_kept}
-use Rattle.head.specs.Refusals.{Refusal}
-use Rattle.head.specs.Worlds.{World, Event, batch, deletion, cut, stepped, replayed_from, replayed}
+use Rattle.head.proofs.Replays.{replayed_from-snoc}
+use Rattle.head.specs.Worlds.{Event, batch, deletion, cut, stepped, replayed}
 use Rattle.head.specs.Heads.{BlockPart, SnapshotParts, world_of}
 use Rattle.head.specs.declared.error.CommitError.{CommitError}
-use Rattle.head.specs.declared.error.CommitError.TheVariants.{OutOfBounds, OutOfOrder, Duplicate, Limit, CutTooLow, TooManyParts, Seat, Memory}
+use Rattle.head.specs.declared.error.CommitError.TheVariants.{OutOfBounds, OutOfOrder, Duplicate, Limit, CutTooLow, TooManyParts, Seat, Journal, Memory}
 use Rattle.matchers.specs.Views.{MatcherView}
 use Rattle.snapshots.specs.declared.entry.Entry.{Entry}
 use Rattle.logbook.specs.Pages.{Book}
 use Rattle.snapshots.specs.Grows.{Shows}
-use Rattle.snapshots.specs.Replays.{events_in, IsAfter, Steps, Leads, KeepsFrames, IsEventRefusal, IsRefusedAfter, IsOfSeatOrMemory}
+use Rattle.snapshots.specs.Replays.{events_in, IsAfter, Steps, Leads, KeepsFrames, IsEventRefusal, IsOfStore, IsRefusedAfter}
 use Rattle.snapshots.specs.Seats.{SeatView, IsMetBy}
 use Rattle.snapshots.specs.Views.{Edition, Ledger}
 use Rattle.snapshots.proofs.Prefixes.{prefix_self, prefix_trans}
-
-replayed_from-snoc : (r : Result World Refusal) (es : List Event) (e : Event) (v : World)
-    → replayed_from r es ≡ Ok v → replayed_from r (es ++ e ∷ []) ≡ stepped v e
-replayed_from-snoc r [] e v is = ap (λ (s : Result World Refusal). replayed_from s (e ∷ [])) is
-replayed_from-snoc (Err x) (f ∷ es) e v is = absurd (cc is)
-replayed_from-snoc (Ok w) (f ∷ es) e v is = replayed_from-snoc (stepped w f) es e v is
 
 -- an event leaves the blocks that there were first, each with its frame
 keeps_frames : (event : Event) (s t : SnapshotParts)
@@ -85,33 +79,33 @@ pub refused_met : {A C : Type 0} (opening : SnapshotParts) (seat seat_after : Se
     (event : Event) (old new : Ledger) (r : Result A (C × CommitError))
     → OnErr r ((new ≡ old) × (seat_after ≡ seat)) → IsAfter opening new.entries new.parts
     → IfErr r (λ e. IsEventRefusal e.1 old.parts event)
-    → IfErr r (λ e. ¬ (e.1 ≡ Seat) → ¬ (e.1 ≡ Memory) → IsMetBy seat old.entries)
+    → IfErr r (λ e. ¬ IsOfStore e.1 → IsMetBy seat old.entries)
     → IfErr r (λ e. IsRefusedAfter opening seat e.1 event)
 refused_met opening seat seat_after event old new (Ok x) kept after refused met = tt
 refused_met opening seat seat_after event old new (Err e) kept after refused met =
-    λ other no_memory. record {
+    λ other. record {
       before = old.entries;
       snapshot = old.parts;
       after = subst (λ (book : Ledger). IsAfter opening book.entries book.parts) kept.0 after;
-      met = met other no_memory;
+      met = met other;
       step = refused other;
     }
 
 -- the step of a deletion refuses nothing
 pub deletion_refused : (opening : SnapshotParts) (seat : SeatView) (e : CommitError)
     (ms : List MatcherView) (from to : ℤ)
-    → IsRefusedAfter opening seat e (deletion ms from to) → IsOfSeatOrMemory e
-deletion_refused opening seat Seat ms from to refused = inl refl
-deletion_refused opening seat Memory ms from to refused = inr refl
+    → IsRefusedAfter opening seat e (deletion ms from to) → IsOfStore e
+deletion_refused opening seat Seat ms from to refused = tt
+deletion_refused opening seat Journal ms from to refused = tt
+deletion_refused opening seat Memory ms from to refused = tt
 deletion_refused opening seat (OutOfBounds at) ms from to refused =
-    absurd (cc ((refused (λ same. absurd (cc same)) (λ same. absurd (cc same))).step))
+    absurd (cc ((refused (λ none. none)).step))
 deletion_refused opening seat (OutOfOrder at) ms from to refused =
-    absurd (cc ((refused (λ same. absurd (cc same)) (λ same. absurd (cc same))).step))
+    absurd (cc ((refused (λ none. none)).step))
 deletion_refused opening seat (Duplicate at) ms from to refused =
-    absurd (cc ((refused (λ same. absurd (cc same)) (λ same. absurd (cc same))).step))
-deletion_refused opening seat Limit ms from to refused =
-    absurd (cc ((refused (λ same. absurd (cc same)) (λ same. absurd (cc same))).step))
+    absurd (cc ((refused (λ none. none)).step))
+deletion_refused opening seat Limit ms from to refused = absurd (cc ((refused (λ none. none)).step))
 deletion_refused opening seat CutTooLow ms from to refused =
-    absurd (cc ((refused (λ same. absurd (cc same)) (λ same. absurd (cc same))).step))
+    absurd (cc ((refused (λ none. none)).step))
 deletion_refused opening seat TooManyParts ms from to refused =
-    absurd (cc ((refused (λ same. absurd (cc same)) (λ same. absurd (cc same))).step))
+    absurd (cc ((refused (λ none. none)).step))

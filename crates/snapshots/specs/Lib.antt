@@ -1,5 +1,6 @@
 pub mod Marks
 pub mod Replays
+pub mod Keeping
 pub mod Seats
 pub mod Rules
 pub mod Views

@@ -1,5 +1,5 @@
 -- What a list of published events makes of the opening snapshot.
-use Rattle.std.specs.Prelude.{◌≡◌, ◌⊎◌, ℕ, List, [], ◌∷◌, ◌++◌, Ok, map}
+use Rattle.std.specs.Prelude.{◌≡◌, ℕ, List, [], ◌∷◌, ◌++◌, Ok, map}
 use mathlib.Core.List.{IsPrefix}
 use Rattle.head.specs.Batches.{CopiesFew}
 use Rattle.head.specs.Kept.{KeepsBlocks, frame_of}
@@ -7,7 +7,9 @@ use Rattle.head.specs.Worlds.{Event, stepped, replayed}
 use Rattle.head.specs.Heads.{SnapshotParts, world_of}
 use Rattle.head.specs.Outcomes.{IsStepRefusal}
 use Rattle.head.specs.declared.error.CommitError.{CommitError}
-use Rattle.head.specs.declared.error.CommitError.TheVariants.{Seat, Memory}
+use Rattle.head.specs.declared.error.CommitError.TheVariants.{OutOfBounds, OutOfOrder, Duplicate}
+use Rattle.head.specs.declared.error.CommitError.TheVariants.{Limit, CutTooLow, TooManyParts, Seat}
+use Rattle.head.specs.declared.error.CommitError.TheVariants.{Journal, Memory}
 use Rattle.snapshots.specs.declared.entry.Entry.{Entry}
 use Rattle.snapshots.specs.Seats.{SeatView, IsMetBy}
 
@@ -43,9 +45,21 @@ pub record IsAfter (opening : SnapshotParts) (entries : List Entry)
   pub blocks : KeepsFrames opening s
   pub reached : Leads opening (events_in entries) s
 
--- the refusal is the seat's, or memory's, or exactly the one of the event's step on the snapshot
+-- the refusal is the store's and says nothing of the event: the seat's, the journal's or memory's
+abbrev pub IsOfStore : CommitError → Type 0
+IsOfStore (OutOfBounds at) = ⊥
+IsOfStore (OutOfOrder at) = ⊥
+IsOfStore (Duplicate at) = ⊥
+IsOfStore Limit = ⊥
+IsOfStore CutTooLow = ⊥
+IsOfStore TooManyParts = ⊥
+IsOfStore Seat = Unit {0}
+IsOfStore Journal = Unit {0}
+IsOfStore Memory = Unit {0}
+
+-- the refusal is the store's, or exactly the one of the event's step on the snapshot
 abbrev pub IsEventRefusal : CommitError → SnapshotParts → Event → Type 0
-IsEventRefusal e s event = ¬ (e ≡ Seat) → IsStepRefusal e (stepped (world_of s) event)
+IsEventRefusal e s event = ¬ IsOfStore e → IsStepRefusal e (stepped (world_of s) event)
 
 -- the list ends with this event, under this number of a seat
 abbrev pub EndsWith : Event → ℕ → List Entry → Type 0
@@ -65,12 +79,7 @@ pub record IsRefusedOnceMet (opening : SnapshotParts) (seat : SeatView) (e : Com
   pub met : IsMetBy seat before
   pub step : IsStepRefusal e (stepped (world_of snapshot) event)
 
--- The refusal is one that a store can give, whatever others have published: the seat's or memory's,
--- of which no more is said, or that of the event's step after a list that the seat may meet.
+-- The refusal is one that a store can give, whatever others have published: its own, of which no
+-- more is said, or that of the event's step after a list that the seat may meet.
 abbrev pub IsRefusedAfter : SnapshotParts → SeatView → CommitError → Event → Type 0
-IsRefusedAfter opening seat e event =
-    ¬ (e ≡ Seat) → ¬ (e ≡ Memory) → IsRefusedOnceMet opening seat e event
-
--- the refusal is the seat's, or memory's
-abbrev pub IsOfSeatOrMemory : CommitError → Type 0
-IsOfSeatOrMemory e = (e ≡ Seat) ⊎ (e ≡ Memory)
+IsRefusedAfter opening seat e event = ¬ IsOfStore e → IsRefusedOnceMet opening seat e event

@@ -8,7 +8,8 @@ ghost use Rattle.head.specs.Worlds.{stepped};
 ghost use Rattle.std.specs.Arc.{arc_value};
 ghost use Rattle.snapshots.specs.Marks.{accepted};
 ghost use Rattle.snapshots.specs.Grows.{Shows};
-ghost use Rattle.snapshots.specs.Replays.{IsAfter, Steps, IsEventRefusal};
+ghost use Rattle.snapshots.specs.Keeping.{kept_of, IsRecordFor};
+ghost use Rattle.snapshots.specs.Replays.{IsAfter, Steps, IsEventRefusal, IsOfStore};
 ghost use Rattle.snapshots.specs.Seats.{FitsSeat, AreCounts, IsMetBy, HasOneMoreEvent};
 
 use crate::change::Change;
@@ -20,6 +21,7 @@ use crate::press::{Press, publish_entry};
 use crate::receipt::Receipt;
 use crate::seat::Seat;
 use head::{CommitError, Snapshot};
+use keeper::{Keeper, NoKeeper};
 use std::alloc::Global;
 use std::marker::Model;
 use std::sync::{Arc, Wait};
@@ -55,23 +57,27 @@ fn snapshot_after<C: Change>(
     }
 }
 
-/// What lies under the lock: the list of the published events, the count of each seat and the
-/// writer of the versions. Contracts see it as that list, those counts and the published snapshot.
-pub struct Book<J: Naming, R: Wait + Drop> {
+/// What lies under the lock: the list of the published events, the count of each seat, the writer
+/// of the versions, and where the events are kept. Contracts see it as that list, those counts and
+/// the published snapshot; what is kept are exactly the events of that list, after those that were
+/// kept before the store was opened.
+pub struct Book<J: Naming, R: Wait + Drop, K: Keeper + Drop = NoKeeper> {
     end: LogEnd<J>,
     log: LogPrefix<J>,
     counts: Vec<u64>,
     events: u64,
     press: Press<J>,
+    keeper: K,
     rt: R,
     alloc: Global,
 }
 
-impl<J: Naming, R: Wait + Drop> Model for Book<J, R> {
+impl<J: Naming, R: Wait + Drop, K: Keeper + Drop> Model for Book<J, R, K> {
     ghost use Rattle.std.specs.Prelude.{◌≡◌, length};
     ghost use Rattle.snapshots.specs.Marks.{accepted};
     ghost use Rattle.snapshots.specs.Seats.{AreCounts};
     ghost use Rattle.snapshots.specs.Grows.{Shows};
+    ghost use Rattle.snapshots.specs.Keeping.{kept_of};
     ghost use Rattle.snapshots.specs.Views.{Ledger};
 
     ghost Value = { Ledger };
@@ -84,10 +90,11 @@ impl<J: Naming, R: Wait + Drop> Model for Book<J, R> {
 
     ghost invariant = { λ b.
         AreCounts b.counts.items (accepted b.log) × (b.events ≡ length (accepted b.log))
-        × Shows J.book J.opening b.press.desk.shown.value (accepted b.log) };
+        × Shows J.book J.opening b.press.desk.shown.value (accepted b.log)
+        × K.holds b.keeper (kept_of J.before (accepted b.log)) };
 }
 
-impl<J: Naming, R: Wait + Drop> Book<J, R> {
+impl<J: Naming, R: Wait + Drop, K: Keeper + Drop> Book<J, R, K> {
     /// The book of a store that nothing was published in.
     pub(crate) fn of(
         rt: R,
@@ -96,7 +103,9 @@ impl<J: Naming, R: Wait + Drop> Book<J, R> {
         log: LogPrefix<J>,
         counts: Vec<u64>,
         press: Press<J>,
-    ) -> Book<J, R>
+        keeper: K,
+    ) -> Book<J, R, K>
+        requires kept { K.holds keeper J.before }
         requires shown { Shows J.book J.opening press.desk.shown.value (accepted log) }
         requires counts { AreCounts counts.items (accepted log) }
         requires empty { accepted log ≡ [] }
@@ -112,30 +121,33 @@ impl<J: Naming, R: Wait + Drop> Book<J, R> {
             counts,
             events: 0,
             press,
+            keeper,
             rt,
             alloc,
         }
     }
 
-    /// Publishes one event, in the form that it is held in, under a seat's number: one whole
-    /// version, seen by each pass that enters from then on. `E7` where the number is none of this
-    /// store's, or the seat's count is not the book's for it, or cannot grow; else the refusal of
-    /// the event's step on the published version, whose list begins with that of the seat's last
-    /// receipt and has as many events of the seat's number as the seat counts. A list shorter than
-    /// that of the seat's last receipt would be a refusal of memory, and does not occur. It waits
-    /// for the readers of the version before.
+    /// Keeps one event, by its record, and publishes it, in the form that it is held in, under a
+    /// seat's number: one whole version, seen by each pass that enters from then on. `E7` where the
+    /// number is none of this store's, or the seat's count is not the book's for it, or cannot
+    /// grow; then the refusal of the event's step on the published version, whose list begins with
+    /// that of the seat's last receipt and has as many events of the seat's number as the seat
+    /// counts; then `E8` where the event is not kept. A list shorter than that of the seat's last
+    /// receipt would be a refusal of memory, and does not occur. It waits for the readers of the
+    /// version before.
     pub fn step<C: Change + Drop>(
         &mut self,
         seat: &mut Seat<J>,
         change: C,
+        bytes: &[u8],
     ) -> Result<Receipt<J>, (C, CommitError)>
+        requires { IsRecordFor K.holds (C.event change) bytes.now }
         ensures fits { OnOk result (FitsSeat seat.old self.old.counts) }
         ensures seat { IfErr result (λ e.
             (e.1 ≡ CommitError.Seat) ↔ (¬ FitsSeat seat.old self.old.counts)) }
         ensures steps { OnOk result (Steps self.old.parts (C.event change) self.new.parts) }
         ensures refused { IfErr result (λ e. IsEventRefusal e.1 self.old.parts (C.event change)) }
-        ensures met { IfErr result (λ e. ¬ (e.1 ≡ CommitError.Seat) → ¬ (e.1 ≡ CommitError.Memory)
-            → IsMetBy seat.old self.old.entries) }
+        ensures met { IfErr result (λ e. ¬ IsOfStore e.1 → IsMetBy seat.old self.old.entries) }
         ensures returned { IfErr result (λ e. e.0 ≡ change) }
         ensures kept { OnErr result ((self.new ≡ self.old) × (seat.new ≡ seat.old)) }
         ensures list { IfOk result (λ r.
@@ -167,20 +179,22 @@ impl<J: Naming, R: Wait + Drop> Book<J, R> {
             Err(error) => return Err((change, error)),
         };
         let events = self.events + 1;
-        let published = publish_entry(
+        match publish_entry(
             &self.rt,
             &self.end,
             &mut self.log,
             &mut self.press,
+            &mut self.keeper,
             snapshot,
             events,
             &Tried {
                 change: &change,
                 seat: number,
             },
-        );
-        if !published {
-            return Err((change, CommitError::Memory));
+            bytes,
+        ) {
+            Ok(()) => {}
+            Err(error) => return Err((change, error)),
         }
         self.counts[number] = seat.count() + 1;
         self.events = events;
@@ -190,7 +204,7 @@ impl<J: Naming, R: Wait + Drop> Book<J, R> {
 }
 
 /// It waits for the readers.
-impl<J: Naming, R: Wait + Drop> Drop for Book<J, R> {
+impl<J: Naming, R: Wait + Drop, K: Keeper + Drop> Drop for Book<J, R, K> {
     fn drop(self) {
         let Self {
             end: _end,
@@ -198,6 +212,7 @@ impl<J: Naming, R: Wait + Drop> Drop for Book<J, R> {
             counts: _counts,
             events: _,
             press,
+            keeper: _keeper,
             rt,
             alloc: _,
         } = self;

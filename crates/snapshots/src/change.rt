@@ -4,10 +4,12 @@ ghost use Rattle.std.specs.Prelude.{IfOk, IfErr};
 ghost use Rattle.head.specs.Heads.{world_of};
 ghost use Rattle.head.specs.Outcomes.{IsStepRefusal};
 ghost use Rattle.head.specs.Worlds.{Event as HeadEvent, stepped};
+ghost use Rattle.event_text.specs.Spelling.{Spells};
 ghost use Rattle.snapshots.specs.Replays.{Steps};
 
+use event_text::{text_of_event, text_of_rows};
 use head::{CommitError, Event, RowBatch, Snapshot, apply, apply_rows};
-use std::alloc::Global;
+use std::alloc::{AllocError, Global};
 
 /// What a committer publishes: an event, or a batch that is held in rows, which is one too.
 pub trait Change {
@@ -19,6 +21,10 @@ pub trait Change {
         ensures ok { IfOk result (λ s. Steps at.now (event self.now) s) }
         ensures refused { IfErr result (λ e.
             IsStepRefusal e (stepped (world_of at.now) (event self.now))) };
+
+    /// The text of the event.
+    fn text(&self, alloc: Global) -> Result<Vec<u8>, AllocError>
+        ensures { IfOk result (λ text. Spells text.items (event self.now)) };
 }
 
 impl Change for Event {
@@ -26,6 +32,10 @@ impl Change for Event {
 
     fn apply(&self, alloc: Global, at: &Snapshot) -> Result<Snapshot, CommitError> {
         apply(alloc, at, self)
+    }
+
+    fn text(&self, alloc: Global) -> Result<Vec<u8>, AllocError> {
+        text_of_event(alloc, self)
     }
 }
 
@@ -37,5 +47,9 @@ impl Change for RowBatch {
 
     fn apply(&self, alloc: Global, at: &Snapshot) -> Result<Snapshot, CommitError> {
         apply_rows(alloc, at, self)
+    }
+
+    fn text(&self, alloc: Global) -> Result<Vec<u8>, AllocError> {
+        text_of_rows(alloc, self)
     }
 }

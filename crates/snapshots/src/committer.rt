@@ -5,17 +5,20 @@ ghost use Rattle.labels.specs.Contents.{is_time};
 ghost use Rattle.head.specs.BatchRows.{batch_of_rows};
 ghost use Rattle.head.specs.Batches.{is_deletion};
 ghost use Rattle.head.specs.Worlds.{batch, deletion, cut, matchers_of};
-ghost use Rattle.snapshots.specs.Replays.{EndsWith, AreAccepted, IsRefusedAfter, IsOfSeatOrMemory};
+ghost use Rattle.snapshots.specs.Replays.{EndsWith, AreAccepted, IsRefusedAfter, IsOfStore};
 ghost use Rattle.snapshots.specs.Seats.{HasOneMoreEvent};
 
 use crate::appender::Appender;
 use crate::book::Book;
 use crate::change::Change;
+use crate::keeping::record_of;
 use crate::naming::Naming;
 use crate::receipt::Receipt;
 use crate::seat::Seat;
 use head::{CommitError, Event, RowBatch};
+use keeper::{Keeper, NoKeeper};
 use matchers::Matcher;
+use std::alloc::Global;
 use std::sync::{Mutex, Wait};
 
 /// The matchers that a deletion was made of.
@@ -29,20 +32,22 @@ fn matchers_in(event: Event) -> Vec<Matcher>
     }
 }
 
-/// Publishes events, one at a time. Its drop waits for the readers.
+/// Keeps events and publishes them, one at a time. Its drop waits for the readers.
 #[derive(Drop)]
-pub struct Committer<J: Naming, R: Wait + Drop> {
-    book: Mutex<Book<J, R>>,
+pub struct Committer<J: Naming, R: Wait + Drop, K: Keeper + Drop = NoKeeper> {
+    book: Mutex<Book<J, R, K>>,
+    alloc: Global,
 }
 
-impl<J: Naming, R: Wait + Drop> Committer<J, R> {
-    pub(crate) fn of(book: Book<J, R>) -> Committer<J, R> {
+impl<J: Naming, R: Wait + Drop, K: Keeper + Drop> Committer<J, R, K> {
+    pub(crate) fn of(alloc: Global, book: Book<J, R, K>) -> Committer<J, R, K> {
         Committer {
             book: Mutex::new(book),
+            alloc,
         }
     }
 
-    /// Locks the book, and makes one step of it.
+    /// Makes the record of the event, locks the book, and makes one step of it.
     fn step<C: Change + Drop>(
         &self,
         rt: &impl Wait,
@@ -56,17 +61,21 @@ impl<J: Naming, R: Wait + Drop> Committer<J, R> {
         ensures refused { IfErr result (λ e.
             IsRefusedAfter J.opening seat.old e.1 (C.event change)) }
     {
-        self.book.lock(rt).step(seat, change)
+        let bytes = match record_of::<C, K>(self.alloc, &change) {
+            Ok(bytes) => bytes,
+            Err(error) => return Err((change, error)),
+        };
+        self.book.lock(rt).step(seat, change, &bytes)
     }
 
     /// Publishes a batch under the seat's number, whole or not at all. The list of the receipt
     /// begins with that of the seat's last receipt and ends with the batch, and each pass that
     /// learns the receipt sees it from then on. Its refusals are memory's, `E7`, where the seat's
-    /// count is not the store's, and `E1` to `E4`. With each of those four the batch's step is
-    /// refused after some list of accepted events that begins with the list of the seat's last
-    /// receipt and has no event more under the seat's number. A refusal gives the appender back
-    /// and leaves the seat. It waits for the committer's lock and for the readers of the version
-    /// before.
+    /// count is not the store's, `E8`, where the batch is not kept, and `E1` to `E4`. With each of
+    /// those four the batch's step is refused after some list of accepted events that begins with
+    /// the list of the seat's last receipt and has no event more under the seat's number. A refusal
+    /// gives the appender back and leaves the seat. It waits for the committer's lock and for the
+    /// readers of the version before.
     pub fn commit(
         &self,
         rt: &impl Wait,
@@ -109,8 +118,8 @@ impl<J: Naming, R: Wait + Drop> Committer<J, R> {
     /// Publishes a deletion under the seat's number: the samples from one time to another, both
     /// included, in milliseconds, that then stand in series which satisfy all matchers are
     /// removed. [`Event::is_deletion`] says whether there are at most 16 matchers and a range of
-    /// times. It is refused for `E7` and for memory alone; then the matchers come back and the
-    /// seat stays. It waits as [`Committer::commit`] does.
+    /// times. It is refused for `E7`, `E8` and for memory alone; then the matchers come back and
+    /// the seat stays. It waits as [`Committer::commit`] does.
     pub fn delete(
         &self,
         rt: &impl Wait,
@@ -124,7 +133,7 @@ impl<J: Naming, R: Wait + Drop> Committer<J, R> {
         ensures accepted { IfOk result (λ r. AreAccepted J.opening r) }
         ensures counted { IfOk result (λ r. HasOneMoreEvent seat.old seat.new r) }
         ensures kept { IfErr result (λ e. (e.0.items ≡ matchers.items) × (seat.new ≡ seat.old)) }
-        ensures refused { IfErr result (λ e. IsOfSeatOrMemory e.1) }
+        ensures refused { IfErr result (λ e. IsOfStore e.1) }
     {
         match self.step(rt, seat, Event::deletion(matchers, from, to)) {
             Ok(receipt) => Ok(receipt),
@@ -134,7 +143,7 @@ impl<J: Naming, R: Wait + Drop> Committer<J, R> {
 
     /// Publishes a cut at a time, in milliseconds, under the seat's number: the head's samples
     /// below it become a block, and from then on none below it is committed. Its refusals are
-    /// memory's, `E7`, and three that hold after such a list as [`Committer::commit`] names: `E5`
+    /// memory's, `E7`, `E8`, and three that hold after such a list as [`Committer::commit`] names: `E5`
     /// where the time is not above the floor, `E6` where there are 63 blocks, `E4` where a file of
     /// the block would be too long. After a refusal the seat stays. It waits as
     /// [`Committer::commit`] does.

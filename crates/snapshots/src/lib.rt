@@ -11,8 +11,10 @@
 //!
 //! A version's list of events is not stored: the rule of the published versions says that the
 //! world of its snapshot is the replay of that list from the opening's world. [`Book::step`] is
-//! what happens under the lock, with the contract of one event. Each type carries the name of its
-//! store ([`Naming`]), so a pass, a receipt and a seat of another store have other types.
+//! what happens under the lock, with the contract of one event: it is kept ([`Keeper`]), and then
+//! published. A store in memory alone has [`NoKeeper`]; [`Store::resume`] opens one over what a
+//! start found. Each type carries the name of its store ([`Naming`]), so a pass, a receipt and a
+//! seat of another store have other types.
 //!
 //! ```
 //! let opened = store.open::<J, &R>(rt, alloc, Vec::new(alloc), 1, 1);
@@ -29,8 +31,9 @@
 //! assert_eq!(rt; (pass.events(), found.len()), (1, 1));
 //! ```
 //!
-//! It stands on `head` for snapshots and events, on `block` and `labels`, and on `left_right` and
-//! `logbook` for versions that readers enter without waiting and for the one history of a store.
+//! It stands on `head` for snapshots and events, on `keeper` and `event_text` for what is kept of
+//! them, on `block` and `labels`, and on `left_right` and `logbook` for versions that readers enter
+//! without waiting and for the one history of a store.
 #![tactic(auto)]
 
 mod appender;
@@ -39,6 +42,7 @@ mod change;
 mod committer;
 mod entry;
 mod error;
+mod keeping;
 mod log;
 mod naming;
 mod pass;
@@ -56,6 +60,7 @@ pub use committer::Committer;
 pub use entry::{Entry, Mark};
 pub use error::{OpenError, SnapshotError};
 pub use head::RowBatch;
+pub use keeper::{Keeper, NoKeeper};
 pub use naming::Naming;
 pub use pass::Pass;
 pub use receipt::Receipt;

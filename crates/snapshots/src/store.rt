@@ -1,7 +1,7 @@
 //! Stores, and how one is opened.
 
 ghost use Rattle.std.specs.Prelude.{◌≡◌, ◌≤◌, ◌<◌, ◌↔◌, [], length, map, vec_len, IfOk, IfErr};
-ghost use Rattle.std.specs.Prelude.{MatchResult};
+ghost use Rattle.std.specs.Prelude.{MatchBool, MatchResult};
 ghost use Rattle.std.specs.List.{All};
 ghost use Rattle.head.specs.Blocks.{part_in, opening_of};
 ghost use Rattle.snapshots.specs.Rules.{end_of};
@@ -22,6 +22,7 @@ use crate::seat::Seat;
 use crate::version::{Grows, Version};
 use block::Block;
 use head::{MAX_BLOCKS, Snapshot};
+use keeper::{Keeper, NoKeeper};
 use left_right::reader::Factory;
 use logbook::{Seen, Start, Word};
 use std::alloc::{AllocError, Global};
@@ -42,20 +43,26 @@ pub struct Store {
 
 type Desk<J> = Factory<Version, [Entry; 0], Grows<J>>;
 
+/// Whether so many passes and seats are allowed.
+fn is_room(passes: usize, seats: usize) -> bool
+    ensures { MatchBool result (IsRoom passes seats) (¬ IsRoom passes seats) }
+{
+    passes >= 1 && passes <= MAX_HANDLES && seats >= 1 && seats <= MAX_HANDLES
+}
+
 /// A press over the opening version.
 fn press_over<J: Naming>(
     alloc: Global,
-    blocks: Vec<Block>,
+    opening: Snapshot,
     log: &LogPrefix<J>,
     passes: usize,
 ) -> Result<Press<J>, AllocError>
     requires room { (0 < passes) × (passes ≤ 64) }
-    requires few { length blocks.items ≤ 63 }
-    requires opening { opening_of (map part_in blocks.items) ≡ J.opening }
+    requires opening { opening ≡ J.opening }
     requires empty { log.now ≡ [] }
     ensures { IfOk result (λ p. Shows J.book J.opening p.desk.shown.value []) }
 {
-    let opening = Arc::new(alloc, Snapshot::opening(alloc, blocks)?)?;
+    let opening = Arc::new(alloc, opening)?;
     let first = Version::of(opening, 0, log);
     let second = first.share()?;
     Press::new(alloc, first, second, passes)
@@ -131,12 +138,67 @@ impl Store {
             (vec_len r.1 ≡ passes) × All (λ p. p ≡ nothing) r.1.items) }
         ensures seats { IfOk result (λ r. (vec_len r.2 ≡ seats) × AreFresh 0 r.2.items) }
     {
-        if passes < 1 || passes > MAX_HANDLES || seats < 1 || seats > MAX_HANDLES {
+        if !is_room(passes, seats) {
             return Err(OpenError::BadPasses);
         }
         if blocks.len() > MAX_BLOCKS {
             return Err(OpenError::Limit);
         }
+        match Snapshot::opening(alloc, blocks) {
+            Ok(opening) => self.start(rt, alloc, opening, NoKeeper, passes, seats),
+            Err(_) => Err(OpenError::Memory),
+        }
+    }
+
+    /// Opens the store over this snapshot, with so many passes and seats, which are numbered from
+    /// 0: a store that was kept, as a start found it. Its first version is the snapshot and has the
+    /// empty list; the keeper holds the events from before. `O2` where there are not 1 to 64 passes
+    /// and 1 to 64 seats, `O4` where `left_right` refuses a reader.
+    pub fn resume<J: Naming, R: Wait + Drop, K: Keeper + Drop>(
+        self,
+        rt: R,
+        alloc: Global,
+        snapshot: Snapshot,
+        keeper: K,
+        passes: usize,
+        seats: usize,
+    ) -> Result<(Committer<J, R, K>, Vec<Pass<J>>, Vec<Seat<J>>), OpenError>
+        requires book { self.seen.book ≡ J.book }
+        requires opening { snapshot ≡ J.opening }
+        requires kept { K.holds keeper J.before }
+        ensures room { MatchResult result (λ _. IsRoom passes seats) (λ e.
+            (e ≡ OpenError.BadPasses) ↔ (¬ IsRoom passes seats)) }
+        ensures few { IfErr result (λ e. ¬ (e ≡ OpenError.Limit)) }
+        ensures passes { IfOk result (λ r.
+            (vec_len r.1 ≡ passes) × All (λ p. p ≡ nothing) r.1.items) }
+        ensures seats { IfOk result (λ r. (vec_len r.2 ≡ seats) × AreFresh 0 r.2.items) }
+    {
+        if !is_room(passes, seats) {
+            return Err(OpenError::BadPasses);
+        }
+        self.start(rt, alloc, snapshot, keeper, passes, seats)
+    }
+
+    /// Opens the store over this snapshot, for so many passes and seats as are allowed.
+    fn start<J: Naming, R: Wait + Drop, K: Keeper + Drop>(
+        self,
+        rt: R,
+        alloc: Global,
+        opening: Snapshot,
+        keeper: K,
+        passes: usize,
+        seats: usize,
+    ) -> Result<(Committer<J, R, K>, Vec<Pass<J>>, Vec<Seat<J>>), OpenError>
+        requires room { IsRoom passes seats }
+        requires book { self.seen.book ≡ J.book }
+        requires opening { opening ≡ J.opening }
+        requires kept { K.holds keeper J.before }
+        ensures passes { IfOk result (λ r.
+            (vec_len r.1 ≡ passes) × All (λ p. p ≡ nothing) r.1.items) }
+        ensures seats { IfOk result (λ r. (vec_len r.2 ≡ seats) × AreFresh 0 r.2.items) }
+        ensures refused { IfErr result (λ e.
+            ¬ (e ≡ OpenError.BadPasses) × ¬ (e ≡ OpenError.Limit)) }
+    {
         let Store { word, seen } = self;
         let end = LogEnd {
             word,
@@ -150,11 +212,12 @@ impl Store {
         ) else {
             return Err(OpenError::Memory);
         };
-        let Ok(press) = press_over(alloc, blocks, &log, passes) else {
+        let Ok(press) = press_over(alloc, opening, &log, passes) else {
             return Err(OpenError::Memory);
         };
         let desk = press.factory().another();
-        let committer = Committer::of(Book::of(rt, alloc, end, log, counts, press));
+        let book = Book::of(rt, alloc, end, log, counts, press, keeper);
+        let committer = Committer::of(alloc, book);
         let Ok(desk) = desk else {
             return Err(OpenError::Unavailable);
         };

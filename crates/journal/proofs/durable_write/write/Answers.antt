@@ -45,3 +45,23 @@ returns-clause-any_moment g c old h e =
     ∙ c.if-is_ok.false) c.append.ensures.part old h.all in
     let first = appended m.shows m.kept m.sound m.moment m.left_since g.met.M.Medium.only_now c.args.medium.now c.append.new.self old c.args.len c.args.bytes.now h e c.append.ensures.time in
     cut_after m.shows m.kept m.sound m.moment m.left_since g.met.M.Medium.only_now c.args.medium.now c.append.new.self c.cut.new.self old c.args.len part.0 c.args.bytes.now h e part.1 (c.append.ensures.kept (length old) h.durable) first c.cut.ensures.time
+
+pub returns-then-is_ok-2-clause-beside : goal.returns-then-is_ok-2-clause-beside
+returns-then-is_ok-2-clause-beside g c =
+    g.met.M.Medium.goes_on c.args.medium.now c.append.new.self c.sync.new.self
+    c.append.ensures.beside c.sync.ensures.beside
+
+pub returns-then-is_ok-clause-beside : goal.returns-then-is_ok-clause-beside
+returns-then-is_ok-clause-beside g c =
+    g.met.M.Medium.goes_on c.args.medium.now c.append.new.self c.sync.new.self
+    c.append.ensures.beside c.sync.ensures.beside
+
+pub returns-then-is_ok-3-clause-beside : goal.returns-then-is_ok-3-clause-beside
+returns-then-is_ok-3-clause-beside g c =
+    g.met.M.Medium.goes_on c.args.medium.now c.append.new.self c.cut.new.self
+    c.append.ensures.beside c.cut.ensures.beside
+
+pub returns-clause-beside : goal.returns-clause-beside
+returns-clause-beside g c =
+    g.met.M.Medium.goes_on c.args.medium.now c.append.new.self c.cut.new.self
+    c.append.ensures.beside c.cut.ensures.beside

@@ -8,8 +8,8 @@ use Rattle.snapshots.proofs.Counting.{counts_next, counted_next, met_by, same_se
 use Rattle.snapshots.proofs.Replaying.{after_shown}
 use Rattle.snapshots.proofs.book.Book.step.Goals as goal
 
-pub publish_entry-published-requires-clause-next : goal.publish_entry-published-requires-clause-next
-publish_entry-published-requires-clause-next g c =
+pub publish_entry-requires-clause-next : goal.publish_entry-requires-clause-next
+publish_entry-requires-clause-next g c =
     let at = c.snapshot.ensures ∙ ap (λ z. z.parts) c.published.ensures in
     after_shown g.J.Naming.book g.J.Naming.opening c.self.inside.press.desk.shown.value
     (accepted c.self.inside.log)
@@ -27,13 +27,14 @@ invariant_of-self-2 g c =
     let within = subst (λ (k : ℕ). k < length counts) (sym c.number-number.ensures) in_range in
     let more = ap (λ (k : ℕ). k + 1)
     (c.count.ensures ∙ sym (ap (slice_index counts) c.number-number.ensures ∙ same)) in (
-      counts_next counts log (accepted c.publish_entry-published.new.log) entry
+      counts_next counts log (accepted c.publish_entry.new.log) entry
           c.number-number.result (c.count.result + 1) c.self.invariant.0
-          c.if-not-published.ensures.list
+          c.in-Ok-publish_entry.ensures.list
           refl within more,
-      rw c.if-not-published.ensures.list
+      rw c.in-Ok-publish_entry.ensures.list
           (omega (arith, c.self.invariant.1, length-append log (entry ∷ []))),
-      c.publish_entry-published.ensures.shown,
+      c.publish_entry.ensures.shown,
+      c.publish_entry.ensures.held,
     )
 
 pub returns-clause-books : goal.returns-clause-books
@@ -48,8 +49,8 @@ returns-clause-books g c =
     let more =
     ap (λ (k : ℕ). k + 1)
     (c.count.ensures ∙ sym (ap (slice_index counts) c.number-number.ensures ∙ same)) in
-    counts_next counts log (accepted c.publish_entry-published.new.log) entry c.number-number.result
-    (c.count.result + 1) c.self.invariant.0 c.if-not-published.ensures.list refl within more
+    counts_next counts log (accepted c.publish_entry.new.log) entry c.number-number.result
+    (c.count.result + 1) c.self.invariant.0 c.in-Ok-publish_entry.ensures.list refl within more
 
 pub returns-clause-counted : goal.returns-clause-counted
 returns-clause-counted g c =
@@ -59,24 +60,24 @@ returns-clause-counted g c =
     let in_range : c.args.seat.now.number < length counts = c.if-not-fits.ensures.0 in
     let same : slice_index counts c.args.seat.now.number ≡ c.args.seat.now.count =
     c.if-not-fits.ensures.1 in
-    let all : c.of.result ≡ accepted c.publish_entry-published.new.log =
+    let all : c.of.result ≡ accepted c.publish_entry.new.log =
     c.of.ensures ∙ ap accepted c.share-2.ensures in
     let kept : accepted c.share.result ≡ c.of.result =
     ap accepted c.share.ensures ∙ sym all in (
       c.add_one.ensures ∙ same_seen c.args.seat.now.number (c.args.seat.now.count + 1) _ _ kept,
-      rw all (prefix_more c.args.seat.now.seen log (accepted c.publish_entry-published.new.log)
+      rw all (prefix_more c.args.seat.now.seen log (accepted c.publish_entry.new.log)
           entry (known c.log.result.now c.self.inside.log c.args.seat.now.seen c.log.ensures
           c.if-not-begins_with.ensures.begins)
-          c.if-not-published.ensures.list),
+          c.in-Ok-publish_entry.ensures.list),
       rw (all, c.add_one.ensures)
-          (counted_next counts log (accepted c.publish_entry-published.new.log) entry
+          (counted_next counts log (accepted c.publish_entry.new.log) entry
           c.args.seat.now.number (c.args.seat.now.count + 1) c.self.invariant.0
-          c.if-not-published.ensures.list c.number-number.ensures in_range
+          c.in-Ok-publish_entry.ensures.list c.number-number.ensures in_range
           (ap (λ (k : ℕ). k + 1) (sym same))),
     )
 
 pub returns-in-Err-clause-met : goal.returns-in-Err-clause-met
-returns-in-Err-clause-met g c other no_memory =
+returns-in-Err-clause-met g c other =
     rw (← c.self.view_is) (met_by c.args.seat.now c.self.inside.counts.items
     (accepted c.self.inside.log) c.self.invariant.0 c.if-not-fits.ensures
     (known c.log.result.now c.self.inside.log c.args.seat.now.seen c.log.ensures

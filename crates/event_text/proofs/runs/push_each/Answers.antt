@@ -1,22 +1,20 @@
-use Rattle.std.proofs.Common.{◌≡◌, ◌+◌, ◌++◌, ◌∷◌, [], ℕ, ℤ, List, take, sym, ap, subst, ◌∙◌}
-use Rattle.std.proofs.Common.{append_assoc, arith, rules}
+use Rattle.std.proofs.Common.{◌≡◌, ◌+◌, ◌++◌, ◌∷◌, [], ℕ, ℤ, List, take, sym, ap, ◌∙◌, append_assoc}
+use Rattle.std.proofs.Common.{arith, rules}
 use Rattle.head.specs.Worlds.{Batch}
 use Rattle.event_text.specs.Runs.{before}
 use Rattle.event_text.proofs.RunLaws.{before_more, take_read}
-use Rattle.event_text.proofs.runs.put_samples.Goals as goal
+use Rattle.event_text.proofs.runs.push_each.Goals as goal
 
 pub loop-sample-preserved : goal.loop-sample-preserved
 loop-sample-preserved c =
-    let l = c.args.run.now.labels in
-    let ss = c.args.run.now.samples.items in
+    let l = c.args.labels.now in
+    let ss = c.args.samples.now in
     let i = c.loop-sample.sample-index in
     let s = c.sample-item.result in
     let same : c.in_ok-try_clone.field-0 ≡ l = search rules in
     let old = c.args.out.now.items in
-    let lent = c.deref-sample-items in
     let more : take (i + 1) ss ≡ take i ss ++ s ∷ [] =
-    subst (λ (xs : List (ℤ × ℤ)). take (i + 1) xs ≡ take i xs ++ s ∷ []) lent.ensures.value
-    (take_read lent.result.now i s (omega (arith, c.loop-sample-test.true, lent.ensures.len)) c.sample-item.is) in
+    take_read ss i s (omega (arith, c.loop-sample-test.true)) c.sample-item.is in
     c.in_ok-push.ensures.items
     ∙ (ap (λ (xs : Batch). xs ++ (c.in_ok-try_clone.field-0, s) ∷ []) c.loop-sample.invariant
     ∙ (append_assoc old (before l (take i ss) []) ((c.in_ok-try_clone.field-0, s) ∷ [])

@@ -1,0 +1,34 @@
+-- What reading contents as events answers.
+use Rattle.std.specs.Prelude.{◌≡◌, ◌⊎◌, ℕ, List, [], ◌∷◌, ◌++◌, Result, Ok, Err, length, Vec}
+use Rattle.std.specs.declared.alloc.Global.{Global}
+use Rattle.head.specs.Worlds.{Event}
+use Rattle.event_text.specs.declared.error.TextError.TheVariants.{Memory as NoMemory}
+use Rattle.event_text.specs.declared.error.EventError.{EventError}
+use Rattle.event_text.specs.declared.error.EventError.TheVariants.{Text, Matcher}
+use Rattle.event_text.specs.Outcome.{FollowsFrom, HasRefusedMatcher}
+use Rattle.event_text.specs.Reading.{event_of}
+use Rattle.event_journal.specs.declared.events.Refused.{Refused}
+
+-- one of these events is a deletion, one of whose matchers `Matcher::new` may refuse
+abbrev pub HasRefusedDeletion : List Event → Type 0
+HasRefusedDeletion [] = ⊥
+HasRefusedDeletion (e ∷ events) = HasRefusedMatcher e ⊎ HasRefusedDeletion events
+
+-- a refusal that can come of the texts of these events: memory's, or that of a deletion's matcher
+abbrev pub MayRefuse : List Event → EventError → Type 0
+MayRefuse events (Text f) = f ≡ NoMemory
+MayRefuse events (Matcher f) = HasRefusedDeletion events
+
+-- the answer is these events, or a refusal that can come of their texts
+abbrev pub GivesEvents : List Event → Result (Vec Event Global) Refused → Type 0
+GivesEvents events (Ok found) = found.items ≡ events
+GivesEvents events (Err refused) = MayRefuse events refused.error
+
+-- the content at a place is refused so
+pub record RefusesAt (contents : List (List ℕ)) (at : ℕ) (error : EventError) : Type 0 where
+  pub before : List (List ℕ)
+  pub content : List ℕ
+  pub after : List (List ℕ)
+  pub parts : contents ≡ before ++ content ∷ after
+  pub place : at ≡ length before
+  pub refused : FollowsFrom (event_of content) (Err error)

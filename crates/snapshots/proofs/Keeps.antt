@@ -1,0 +1,100 @@
+-- An event is kept, and then published.
+use Rattle.std.proofs.Common.{◌≡◌, ◌≤◌, ℕ, zero, suc, Ok, Bool, true, false, List, [], ◌∷◌, ◌++◌, take, inl, inr, ⊎_elim, refl, sym, ap, subst, ◌∙◌, arith, append_assoc}
+use Rattle.std.proofs.lemmas.List.{map_push}
+use Rattle.head.specs.Worlds.{Event, World, replayed}
+use Rattle.head.specs.declared.error.CommitError.{CommitError}
+use Rattle.head.specs.declared.error.CommitError.TheVariants.{OutOfBounds, OutOfOrder, Duplicate, Limit, CutTooLow, TooManyParts, Seat, Journal, Memory}
+use Rattle.keeper.specs.Finding.{FindsOnly, IsOfAllAndMore, IsOfAllAndSome}
+use Rattle.keeper.specs.Together.{SpellTogether}
+use Rattle.keeper.specs.declared.error.KeepError.{KeepError}
+use Rattle.keeper.specs.declared.error.KeepError.TheVariants as keep
+use Rattle.keeper.proofs.Finds.{by_was, some_is_more, wider}
+use Rattle.snapshots.specs.declared.entry.Entry.{Entry}
+use Rattle.snapshots.specs.Keeping.{keep_refusal, kept_of, HoldAny, IsAtMost, IsOfKeeping, IsRecordFor}
+use Rattle.snapshots.specs.Replays.{events_in, IsOfStore}
+
+-- one event more is to be kept
+pub kept_more : (before : List Event) (entries : List Entry) (e : Entry) → kept_of before (entries ++ e ∷ []) ≡ kept_of before entries ++ e.event ∷ []
+kept_more before entries e =
+    ap (λ (es : List Event). before ++ es) (map_push (λ (x : Entry). x.event) entries e)
+    ∙ sym (append_assoc before (events_in entries) (e.event ∷ []))
+
+pub nothing_spelled : SpellTogether [] []
+nothing_spelled = record { are = record { each = tt; whole = refl }; each = tt }
+
+-- a refusal is the journal's or memory's
+pub of_keeping : (e : KeepError) → IsOfKeeping (keep_refusal e)
+of_keeping keep.Memory = tt
+of_keeping keep.TooLong = tt
+of_keeping keep.Failed = tt
+of_keeping keep.Closed = tt
+
+pub of_store : (e : CommitError) → IsOfKeeping e → IsOfStore e
+of_store (OutOfBounds at) is = absurd is
+of_store (OutOfOrder at) is = absurd is
+of_store (Duplicate at) is = absurd is
+of_store Limit is = absurd is
+of_store CutTooLow is = absurd is
+of_store TooManyParts is = absurd is
+of_store Seat is = absurd is
+of_store Journal is = tt
+of_store Memory is = tt
+
+pub no_seat : (e : CommitError) → IsOfKeeping e → e ≡ Seat → ⊥
+no_seat e is same = subst IsOfKeeping same is
+
+-- what the bytes spell together
+pub spelled_by : {K : Type 0} (holds : K → List Event → Type 0) (event : Event) (bytes : List ℕ) → IsRecordFor holds event bytes → (more : List Event) × SpellTogether bytes more
+spelled_by holds event bytes (inl spells) = (event ∷ [], spells)
+spelled_by holds event bytes (inr none) = ([], subst (λ (xs : List ℕ). SpellTogether xs []) (sym none.1) nothing_spelled)
+
+pub held_more : {K : Type 0} (holds : K → List Event → Type 0) (old new : K) (bytes : List ℕ)
+    → ((events more : List Event) → holds old events → SpellTogether bytes more → holds new (events ++ more))
+    → (events : List Event) (event : Event) → holds old events → IsRecordFor holds event bytes → holds new (events ++ event ∷ [])
+held_more holds old new bytes f events event held (inl spells) = f events (event ∷ []) held spells
+held_more holds old new bytes f events event held (inr none) = none.0 new (events ++ event ∷ [])
+
+none_taken : (few : ℕ) → take {A = Event} few [] ≡ []
+none_taken zero = refl
+none_taken (suc few) = refl
+
+one_or_none : (first : World) (events : List Event) (event : Event) (w : World) → IsOfAllAndSome first events [] w → IsOfAllAndSome first events (event ∷ []) w
+one_or_none first events event w some =
+    (0, subst (λ (xs : List Event). replayed first (events ++ xs) ≡ Ok w) (none_taken some.0) some.1)
+
+-- that event alone, or none
+pub at_most_one : (first : World) (events : List Event) (event : Event) (more : List Event) (w : World) → IsAtMost event more → IsOfAllAndSome first events more w
+    → IsOfAllAndSome first events (event ∷ []) w
+at_most_one first events event more w (inl is) some = subst (λ (xs : List Event). IsOfAllAndSome first events xs w) is some
+at_most_one first events event more w (inr none) some =
+    one_or_none first events event w (subst (λ (xs : List Event). IsOfAllAndSome first events xs w) none some)
+
+pub last_more : {K : Type 0} (holds : K → List Event → Type 0) (kept_last : K → List Event → List Event → Type 0) (old new : K) (bytes : List ℕ)
+    → ((events more : List Event) → holds old events → SpellTogether bytes more → kept_last new events more)
+    → (events : List Event) (event : Event) → holds old events → IsRecordFor holds event bytes → (more : List Event) × IsAtMost event more × kept_last new events more
+last_more holds kept_last old new bytes f events event held (inl spells) =
+    (event ∷ [], inl refl, f events (event ∷ []) held spells)
+last_more holds kept_last old new bytes f events event held (inr none) =
+    ([], inr refl, f events [] held (subst (λ (xs : List ℕ). SpellTogether xs []) (sym none.1) nothing_spelled))
+
+module _ {K : Type 0} (moment : K → ℕ) (first : World) (found_since : K → ℕ → World → Type 0) where
+  -- two calls, one after the other
+  pub joined : (old mid new : K) (P : World → Type 0) → FindsOnly moment found_since old mid P → FindsOnly moment found_since mid new P → FindsOnly moment found_since old new P
+  joined old mid new P first second = record {
+    later = let a = first.later in let b = second.later in omega arith;
+    each = λ found had.
+        ⊎_elim (λ (past : found_since mid (moment old) found). first.each found past) (λ (p : P found). p)
+        (second.before (moment old) found first.later had);
+    before = λ t found le had.
+        ⊎_elim (λ (past : found_since mid t found). first.before t found le past) (λ (p : P found). inr p)
+        (second.before t found (let a = first.later in omega arith) had);
+  }
+
+  -- what is in flight is this event, or nothing
+  pub in_flight : (holds : K → List Event → Type 0) (old new : K) (bytes : List ℕ)
+      → ((events more : List Event) → holds old events → SpellTogether bytes more → FindsOnly moment found_since old new (IsOfAllAndSome first events more))
+      → (events : List Event) (event : Event) → holds old events → IsRecordFor holds event bytes → FindsOnly moment found_since old new (IsOfAllAndSome first events (event ∷ []))
+  in_flight holds old new bytes finds events event held (inl spells) = finds events (event ∷ []) held spells
+  in_flight holds old new bytes finds events event held (inr none) =
+      wider moment found_since old new (IsOfAllAndSome first events []) (IsOfAllAndSome first events (event ∷ [])) (λ w some. one_or_none first events event w some)
+      (finds events [] held (subst (λ (xs : List ℕ). SpellTogether xs []) (sym none.1) nothing_spelled))

@@ -1,0 +1,48 @@
+-- How the events of a store are kept.
+use Rattle.std.specs.Prelude.{◌≡◌, ◌⊎◌, ℕ, List, [], ◌∷◌, ◌++◌}
+use Rattle.head.specs.Worlds.{Event}
+use Rattle.head.specs.declared.error.CommitError.{CommitError}
+use Rattle.head.specs.declared.error.CommitError.TheVariants.{OutOfBounds, OutOfOrder, Duplicate}
+use Rattle.head.specs.declared.error.CommitError.TheVariants.{Limit, CutTooLow, TooManyParts, Seat}
+use Rattle.head.specs.declared.error.CommitError.TheVariants.{Journal, Memory}
+use Rattle.keeper.specs.Together.{SpellTogether}
+use Rattle.keeper.specs.declared.error.KeepError.{KeepError}
+use Rattle.keeper.specs.declared.error.KeepError.TheVariants as keep
+use Rattle.snapshots.specs.Replays.{events_in}
+use Rattle.snapshots.specs.declared.entry.Entry.{Entry}
+
+-- keepers of this kind hold any events
+abbrev pub HoldAny : {K : Type 0} → (K → List Event → Type 0) → Type 0
+HoldAny {K} holds = (k : K) (events : List Event) → holds k events
+
+-- the bytes are the record of the event; or they are none, and keepers of this kind hold any events
+abbrev pub IsRecordFor : {K : Type 0} → (K → List Event → Type 0) → Event → List ℕ → Type 0
+IsRecordFor holds event bytes =
+    SpellTogether bytes (event ∷ []) ⊎ (HoldAny holds × (bytes ≡ []))
+
+-- these are that event alone, or none
+abbrev pub IsAtMost : Event → List Event → Type 0
+IsAtMost event more = (more ≡ event ∷ []) ⊎ (more ≡ [])
+
+-- what is to be kept of a store: the events from before it was opened, and those of its list
+abbrev pub kept_of : List Event → List Entry → List Event
+kept_of before entries = before ++ events_in entries
+
+-- the refusal of a store whose keeper refuses so
+abbrev pub keep_refusal : KeepError → CommitError
+keep_refusal keep.Memory = Memory
+keep_refusal keep.TooLong = Journal
+keep_refusal keep.Failed = Journal
+keep_refusal keep.Closed = Journal
+
+-- the refusal is the journal's or memory's
+abbrev pub IsOfKeeping : CommitError → Type 0
+IsOfKeeping (OutOfBounds at) = ⊥
+IsOfKeeping (OutOfOrder at) = ⊥
+IsOfKeeping (Duplicate at) = ⊥
+IsOfKeeping Limit = ⊥
+IsOfKeeping CutTooLow = ⊥
+IsOfKeeping TooManyParts = ⊥
+IsOfKeeping Seat = ⊥
+IsOfKeeping Journal = Unit {0}
+IsOfKeeping Memory = Unit {0}
