@@ -10,3 +10,5 @@ pub mod Sendings
 pub mod WholeFiles
 pub mod Servings
 pub mod TokenTexts
+pub mod Folders
+pub mod Listings
