@@ -1,5 +1,5 @@
 -- What a start makes of the file of a journal.
-use Rattle.std.proofs.Common.{◌≡◌, ◌⊎◌, ⊤, ℕ, List, [], ◌∷◌, length, Result, Ok, Err, refl, sym, ap, subst}
+use Rattle.std.proofs.Common.{◌≡◌, ◌⊎◌, ℕ, List, [], ◌∷◌, length, Result, Ok, Err, refl, sym, ap, subst}
 use Rattle.std.proofs.Common.{◌∙◌, Vec}
 use Rattle.std.specs.Prelude.{◌↔◌, IfOk, IfErr}
 use Rattle.std.specs.declared.alloc.Global.{Global}
@@ -183,13 +183,3 @@ denies_before file errors.Memory d = tt
 denies_before file (errors.Journal e) d = d
 denies_before file (errors.Event refused) d = d
 denies_before file (errors.Step refused) d = absurd d
-
-pub gives_store : (w : World) (events : List Event) (r : Result FoundStore StartError) (n : ℕ)
-    → n ≡ length events → (replayed (world_of (opening_of [])) events ≡ Ok w)
-    → IfOk r (λ s. replayed (world_of (opening_of [])) events ≡ Ok (world_of s.snapshot))
-    → IfOk r (λ s. s.events ≡ length events) → IfErr r (λ e. e ≡ errors.Memory)
-    → GivesStore events w r
-gives_store w events (Ok s) n is all found counted err =
-    (same_world (world_of (opening_of [])) (world_of s.snapshot) w events found all, counted)
-gives_store w events (Err e) n is all found counted err =
-    subst (λ (x : StartError). MayDeny events x) (sym err) tt
