@@ -4,8 +4,8 @@ use Rattle.journal.specs.Contents.{contents_in}
 use Rattle.keeper.specs.Together.{texts_of}
 use Rattle.event_journal.specs.declared.error.StartError.{StartError}
 use Rattle.event_journal.specs.Starting.{DeniesRead}
-use Rattle.event_journal.proofs.Reads.{denies_file, denies_read, len_so, memory_alone, spelled_so}
-use Rattle.event_journal.proofs.Reads.{stands_so}
+use Rattle.event_journal.proofs.Starts.{denies_file, denies_read, len_so, memory_alone, spelled_so}
+use Rattle.event_journal.proofs.Starts.{stands_so}
 use Rattle.event_journal.proofs.reading.read_journal.Goals as goal
 
 pub returns-in-Ok-clause-found : goal.returns-in-Ok-clause-found

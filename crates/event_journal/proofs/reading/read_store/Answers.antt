@@ -4,7 +4,7 @@ use Rattle.head.specs.Blocks.{opening_of}
 use Rattle.head.specs.Heads.{world_of}
 use Rattle.head.specs.Worlds.{Event, replayed}
 use Rattle.event_journal.specs.Starting.{GivesStore}
-use Rattle.event_journal.proofs.Reads.{denies_after, denies_before, found_store}
+use Rattle.event_journal.proofs.Starts.{denies_after, denies_before, found_store}
 use Rattle.event_journal.proofs.reading.read_store.Goals as goal
 
 pub returns-in-Ok-clause-found : goal.returns-in-Ok-clause-found
