@@ -1,14 +1,12 @@
 -- What a start makes of the file of a journal.
-use Rattle.std.proofs.Common.{◌≡◌, ◌⊎◌, ℕ, List, [], ◌∷◌, length, Result, Ok, Err, refl, sym, ap, subst}
-use Rattle.std.proofs.Common.{◌∙◌, Vec}
-use Rattle.std.specs.Prelude.{◌↔◌, IfOk, IfErr}
-use Rattle.std.specs.declared.alloc.Global.{Global}
-use Rattle.std.proofs.lemmas.Result.{IfOk-weaker}
+use Rattle.std.proofs.Common.{◌≡◌, ℕ, List, [], length, Result, Ok, Err, refl, sym, ap, subst}
+use Rattle.std.proofs.Common.{◌∙◌}
+use Rattle.std.specs.Prelude.{◌↔◌, IfOk}
 use Rattle.head.specs.declared.error.CommitError.{CommitError}
 use Rattle.head.specs.declared.error.CommitError.TheVariants as commit
 use Rattle.head.specs.declared.error.RefusedEvent.{RefusedEvent}
 use Rattle.head.specs.Blocks.{opening_of}
-use Rattle.head.specs.Heads.{SnapshotParts, world_of}
+use Rattle.head.specs.Heads.{world_of}
 use Rattle.head.specs.Refusals.{Refusal}
 use Rattle.head.specs.Replaying as replaying
 use Rattle.head.specs.Worlds.{Event, World, replayed}
@@ -17,7 +15,6 @@ use Rattle.event_text.specs.declared.error.EventError.TheVariants.{Text, Matcher
 use Rattle.event_text.specs.declared.error.TextError.TheVariants as text
 use Rattle.journal.specs.declared.error.JournalError.{JournalError}
 use Rattle.journal.specs.declared.error.JournalError.TheVariants as journal
-use Rattle.journal.specs.Contents.{contents_in}
 use Rattle.journal.specs.Outcome.{IsOfReading}
 use Rattle.journal.specs.Records.{Begins, BeginsOtherwise, HasBadLength, IsDamaged, Recovers, Splits}
 use Rattle.journal.specs.Records.{file_of, header, magic}
@@ -30,7 +27,7 @@ use Rattle.event_journal.specs.declared.reading.FoundStore.{FoundStore}
 use Rattle.event_journal.specs.Holding.{Spell, Stands}
 use Rattle.event_journal.specs.Outcome.{MayRefuse, RefusesAt}
 use Rattle.event_journal.specs.Starting.{DeniesContents, DeniesRead, DeniesStart, DeniesStep}
-use Rattle.event_journal.specs.Starting.{GivesStore, GivesWorld, IsFault, IsFoundStore, MayDeny}
+use Rattle.event_journal.specs.Starting.{IsFault, IsFoundStore, MayDeny}
 use Rattle.event_journal.specs.Starting.{MayDenyContent, of_commit, of_content, of_journal, of_step}
 use Rattle.event_journal.proofs.Replays.{only_memory}
 

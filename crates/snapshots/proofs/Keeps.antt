@@ -4,6 +4,7 @@ use Rattle.std.proofs.lemmas.List.{map_push}
 use Rattle.head.specs.Worlds.{Event, World, replayed}
 use Rattle.head.specs.declared.error.CommitError.{CommitError}
 use Rattle.head.specs.declared.error.CommitError.TheVariants.{OutOfBounds, OutOfOrder, Duplicate, Limit, CutTooLow, TooManyParts, Seat, Journal, Memory}
+use Rattle.journal.specs.Records.{records_of}
 use Rattle.keeper.specs.Finding.{FindsOnly, IsOfAllAndMore, IsOfAllAndSome}
 use Rattle.keeper.specs.Together.{SpellTogether}
 use Rattle.keeper.specs.declared.error.KeepError.{KeepError}
@@ -20,6 +21,7 @@ kept_more before entries e =
     ∙ sym (append_assoc before (events_in entries) (e.event ∷ []))
 
 pub nothing_spelled : SpellTogether [] []
+unfolding records_of
 nothing_spelled = record { are = record { each = tt; whole = refl }; each = tt }
 
 -- a refusal is the journal's or memory's
