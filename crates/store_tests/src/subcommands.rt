@@ -3,8 +3,6 @@
 //! what they give stand in `case_files`.
 
 mod directories;
-mod first_pages;
 mod host_files;
 mod refusals;
 mod rows;
-mod serving;
