@@ -1,4 +1,4 @@
-//! Answers and runs that are refused memory, the lines of faults, and writers that refuse.
+//! Answers and runs that are refused memory, and writers that refuse.
 
 use crate::subcommands::directories::DIRECTORIES;
 use crate::subcommands::rows::{Told, ending_of, is_given, told_by};
