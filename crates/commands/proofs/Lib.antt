@@ -12,3 +12,4 @@ pub mod Servings
 pub mod TokenTexts
 pub mod Folders
 pub mod Listings
+pub mod Beginnings
