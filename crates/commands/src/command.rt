@@ -1,6 +1,7 @@
 //! The command line.
 
-ghost use Rattle.std.specs.Prelude.{◌≡◌, ◌⊎◌, false, [], codes, map, option_map, unwrap_or};
+ghost use Rattle.std.specs.Prelude.{◌≡◌, ◌⊎◌, ◌&&◌, ◌==◌, false, not, is_some, [], length, codes};
+ghost use Rattle.std.specs.Prelude.{map, option_map, unwrap_or};
 ghost use Rattle.std.specs.Prelude.{IfOk, IfErr, IsOkAnd};
 ghost use Rattle.commands.specs.ServingLines.{count_rule, port_rule, flag_rule, text_rule};
 ghost use Rattle.commands.specs.ServingLines.{counts_app, serve_app, IsCountIn, IsFlagIn};
@@ -522,13 +523,21 @@ fn reading_in<'a>(alloc: Global, found: &ArgMatches<'a>) -> Result<Reading<'a>, 
     })
 }
 
+/// Whether directories stand beside the folder of a store.
+fn has_both(serving: Serving<'_>, reading: &Reading<'_>) -> bool
+    ensures { result
+        ≡ (is_some serving.entry.data && not (length reading.now.directories.items == 0)) }
+{
+    serving.data.is_some() && !reading.directories.is_empty()
+}
+
 /// What `serve` asks for; none where directories stand beside the folder of a store.
 fn serve_line<'a>(alloc: Global, found: &ArgMatches<'a>) -> Result<Option<Line<'a>>, AllocError>
-    ensures ok { IfOk result (λ line. IsFoundServe (rows_of (found_of found.now)) line) }
+    ensures { IfOk result (λ line. IsFoundServe (rows_of (found_of found.now)) line) }
 {
     let reading = reading_in(alloc, found)?;
     let serving = serving_in(found);
-    if serving.data.is_some() && !reading.directories.is_empty() {
+    if has_both(serving, &reading) {
         return Ok(None);
     }
     Ok(Some(Line::Serve(serving, reading)))
