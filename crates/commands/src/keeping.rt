@@ -252,6 +252,7 @@ fn serve_kept<
     requires held { Holds M.shows M.kept M.sound M.moment M.left_since []
         kept.keeper.journal.journal.medium kept.keeper.journal.journal.len
         kept.keeper.journal.journal.closed J.before }
+    requires world { replayed (world_of (opening_of [])) J.before ≡ Ok (world_of J.opening) }
     ensures ok { OnOk result (TellsPort (W.contents out.old) (W.contents out.new)) }
     ensures workers { IfOk result (λ shifts. vec_len shifts ≡ serving.entry.workers) }
     ensures served { IfOk result (λ shifts. EachServed serving.entry.requests shifts.items) }
