@@ -41,8 +41,8 @@ pub enum Refusal {
     Refused(Cause),
     /// `H10`: the store lends no snapshot.
     Unavailable,
-    /// `H11`: the store could not make sure that the event is kept. No reader of this run sees it; a
-    /// later start may find it, if what keeps events closed.
+    /// `H11`: the store cannot keep the event where it would outlast the program, so no reader sees
+    /// it.
     NotKept,
     /// `H12`: the rules of the server do not admit the request: it comes from a page of a browser,
     /// does not name this machine, or bears no token.
