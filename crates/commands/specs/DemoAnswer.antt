@@ -1,5 +1,5 @@
 -- What the demo writes, and why it ends before that.
-use Rattle.std.specs.Prelude.{◌≡◌, ℕ, List, [], Option, Ok}
+use Rattle.std.specs.Prelude.{◌≡◌, ◌≢◌, ℕ, List, [], Option, Ok}
 use Rattle.std.specs.List.{Contains}
 use Rattle.std.specs.Io.KnownBytes.{Appends}
 use Rattle.matchers.specs.Views.{QueryView}
@@ -7,6 +7,7 @@ use Rattle.head.specs.Blocks.{opening_of}
 use Rattle.head.specs.Heads.{SnapshotParts, world_of}
 use Rattle.head.specs.Worlds.{Event, replayed}
 use Rattle.head.specs.declared.error.CommitError.{CommitError}
+use Rattle.head.specs.declared.error.CommitError.TheVariants.{Journal}
 use Rattle.snapshots.specs.Replays.{IsRefusedAfter}
 use Rattle.snapshots.specs.Seats.{SeatView}
 use Rattle.snapshots.specs.declared.error.OpenError.TheVariants as store
@@ -35,10 +36,12 @@ pub record WritesAnswerAfter (events : List Event) (query : QueryView)
   pub is : IsAnswerAfter events query answer
   pub written : Appends old new (line_text answer)
 
--- the event was refused so under the seat, by a refusal that the store could give
+-- the event was refused so under the seat, by a refusal that the store could give, which keeps
+-- nothing
 abbrev pub IsCommitFault : SnapshotParts → SeatView → Event → Fault → Type 0
 IsCommitFault opening seat event fault =
-    (error : CommitError) × (fault ≡ commit_fault error) × IsRefusedAfter opening seat error event
+    (error : CommitError) × (fault ≡ commit_fault error) × (error ≢ Journal)
+    × IsRefusedAfter opening seat error event
 
 -- why the demo ends before it is done: memory or the writer failed, the store had no room for
 -- another reader, it refused a batch under a seat, or it had no snapshot

@@ -1,5 +1,5 @@
 -- What each fault ends the program with: its status, and the line that tells it.
-use Rattle.std.specs.Prelude.{ℕ, List, [], ◌++◌, Option, None, Some, codes, decimal}
+use Rattle.std.specs.Prelude.{ℕ, suc, List, [], ◌++◌, Option, None, Some, codes, decimal}
 use Rattle.std.specs.Prelude.{string_bytes}
 use Rattle.std.specs.Fmt.{with_newline}
 use Rattle.labels.specs.Errors.{code_of}
@@ -14,6 +14,9 @@ use Rattle.head.specs.Codes.{commit_code}
 use Rattle.head.specs.declared.error.CommitError.{CommitError}
 use Rattle.head.specs.declared.error.CommitError.TheVariants as commit
 use Rattle.block.specs.Codes as blocks
+use Rattle.event_journal.specs.Codes.{start_code, start_place}
+use Rattle.event_journal.specs.declared.error.StartError.{StartError}
+use Rattle.event_journal.specs.declared.error.StartError.TheVariants as start
 use Rattle.block.specs.declared.error.BlockError.{BlockError}
 use Rattle.block.specs.declared.error.BlockError.TheVariants as block
 use Rattle.snapshots.specs.Refusals.{open_code, snapshot_code}
@@ -25,11 +28,13 @@ use Rattle.server.specs.declared.error.ServeError.{ServeError}
 use Rattle.server.specs.declared.error.ServeError.TheVariants as serve
 use Rattle.commands.specs.declared.fault.Fault.{Fault}
 use Rattle.commands.specs.declared.fault.Fault.TheVariants.{Words, Refused, CannotRead, CannotWrite}
+use Rattle.commands.specs.declared.fault.Fault.TheVariants.{CannotWriteAt, Locked}
 use Rattle.commands.specs.declared.fault.Fault.TheVariants.{CannotListen, Memory}
 use Rattle.commands.specs.declared.fault.Fault.TheVariants.{NoListener, NoThread}
 use Rattle.commands.specs.declared.fault.Refusal.{Refusal}
 use Rattle.commands.specs.declared.fault.Refusal.TheVariants.{Labels, Matcher, Selector, Query}
 use Rattle.commands.specs.declared.fault.Refusal.TheVariants.{Commit, Block, Open, Snapshot}
+use Rattle.commands.specs.declared.fault.Refusal.TheVariants.{Start}
 use Rattle.commands.specs.declared.files.ReadError.{ReadError}
 use Rattle.commands.specs.declared.files.ReadError.TheVariants as failure
 
@@ -43,6 +48,7 @@ refusal_code (Commit error) = commit_code error
 refusal_code (Block error) = blocks.code_of error
 refusal_code (Open error) = open_code error
 refusal_code (Snapshot error) = snapshot_code error
+refusal_code (Start error) = start_code error
 
 -- where a text stops being a prefix of a selector
 abbrev pub selector_place : SelectorError → Option ℕ
@@ -62,6 +68,7 @@ commit_place commit.Limit = None
 commit_place commit.CutTooLow = None
 commit_place commit.TooManyParts = None
 commit_place commit.Seat = None
+commit_place commit.Journal = None
 commit_place commit.Memory = None
 
 -- the place of the fault, where a refusal has one
@@ -74,6 +81,7 @@ refusal_place (Commit error) = commit_place error
 refusal_place (Block error) = None
 refusal_place (Open error) = None
 refusal_place (Snapshot error) = None
+refusal_place (Start error) = Some (start_place error)
 
 -- the place after the code
 abbrev pub place_text : Option ℕ → List ℕ
@@ -90,10 +98,17 @@ status_of (Refused refusal) = 1
 status_of (Words error) = 2
 status_of (CannotRead path) = 3
 status_of CannotWrite = 3
+status_of (CannotWriteAt path) = 3
+status_of (Locked folder holder) = 3
 status_of (CannotListen port) = 3
 status_of NoListener = 3
 status_of NoThread = 3
 status_of Memory = 4
+
+-- the number of the process that has a folder, if it is known
+abbrev pub holder_text : ℕ → List ℕ
+holder_text 0 = []
+holder_text (suc n) = codes " (" ++ decimal (suc n) ++ codes ")"
 
 -- what is told of the fault, for people; the text of the words is `clap`'s own
 abbrev pub fault_text : Fault → Option (List ℕ)
@@ -101,6 +116,10 @@ fault_text (Words error) = None
 fault_text (Refused refusal) = Some (codes "refused " ++ refusal_text refusal)
 fault_text (CannotRead path) = Some (codes "cannot read " ++ string_bytes path)
 fault_text CannotWrite = Some (codes "cannot write")
+fault_text (CannotWriteAt path) = Some (codes "cannot write " ++ string_bytes path)
+fault_text (Locked folder holder) =
+    Some (codes "cannot lock " ++ string_bytes folder ++ codes ": another process has it"
+    ++ holder_text holder)
 fault_text (CannotListen port) = Some (codes "cannot listen on 127.0.0.1:" ++ decimal port)
 fault_text NoListener = Some (codes "there is no listener any more")
 fault_text NoThread = Some (codes "cannot make a thread")
@@ -147,6 +166,7 @@ commit_fault commit.Limit = Refused (Commit commit.Limit)
 commit_fault commit.CutTooLow = Refused (Commit commit.CutTooLow)
 commit_fault commit.TooManyParts = Refused (Commit commit.TooManyParts)
 commit_fault commit.Seat = Refused (Commit commit.Seat)
+commit_fault commit.Journal = Refused (Commit commit.Journal)
 commit_fault commit.Memory = Memory
 
 -- the fault that a refused block makes
@@ -176,3 +196,10 @@ abbrev pub serve_fault : ServeError → Fault
 serve_fault serve.NoListener = NoListener
 serve_fault serve.NoThread = NoThread
 serve_fault serve.Memory = Memory
+
+-- the fault that a refused journal makes
+abbrev pub start_fault : StartError → Fault
+start_fault start.Memory = Memory
+start_fault (start.Journal error) = Refused (Start (start.Journal error))
+start_fault (start.Event refused) = Refused (Start (start.Event refused))
+start_fault (start.Step refused) = Refused (Start (start.Step refused))

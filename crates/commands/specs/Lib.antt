@@ -15,3 +15,5 @@ pub mod OptionRules
 pub mod ServingLines
 pub mod ServingRuns
 pub mod Guarding
+pub mod Keeping
+pub mod Listing

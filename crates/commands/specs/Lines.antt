@@ -9,11 +9,14 @@ use Rattle.clap.specs.Lexer.{usize_max}
 use Rattle.clap.specs.Words.{App, Row, Rule, Text, new_app, new_rule, with_rule, with_subcommand}
 use Rattle.clap.specs.Words.{first_of, one_of, subcommand_of, takes, fault_of}
 use Rattle.clap.specs.declared.builder.value_parser.ValueParser.TheVariants.{Signed}
+use Rattle.clap.specs.declared.error.kind.ErrorKind.{ErrorKind}
+use Rattle.clap.specs.declared.error.kind.ErrorKind.TheVariants.{MissingSubcommand}
+use Rattle.clap.specs.declared.error.kind.ErrorKind.TheVariants.{ArgumentConflict}
 use Rattle.commands.specs.OptionRules.{directories_rule}
 use Rattle.commands.specs.ServingLines.{flag_rule, serve_app, IsReadingIn, IsServe}
 use Rattle.commands.specs.declared.command.Reading.{Reading}
 use Rattle.commands.specs.declared.command.Line.{Line}
-use Rattle.commands.specs.declared.command.Line.TheVariants.{Demo, Select, Check, Serve}
+use Rattle.commands.specs.declared.command.Line.TheVariants.{Demo, Select, Check, Serve, Journal}
 
 -- words as bytes
 abbrev pub texts_of : {Z : Type 0} → List (String Z) → List Text
@@ -51,6 +54,14 @@ abbrev pub check_app : App
 check_app =
     with_rule (with_rule (new_app (codes "check")) (flag_rule (codes "quiet"))) blocks_rule
 
+-- the journal that is listed, which must be given
+abbrev pub path_rule : Rule
+path_rule = record (new_rule (codes "path")) { value_names = 1; required = true }
+
+-- journal PATH
+abbrev pub journal_app : App
+journal_app = with_rule (new_app (codes "journal")) path_rule
+
 -- the program, without its subcommands
 abbrev pub named_app : App
 named_app =
@@ -63,11 +74,11 @@ named_app =
       };
     }
 
--- the program, with `demo`, `check`, `select` and `serve`
+-- the program, with `demo`, `check`, `select`, `serve` and `journal`
 abbrev pub querier_app : App
 querier_app =
-    with_subcommand (with_subcommand (with_subcommand (with_subcommand named_app
-    (new_app (codes "demo")).top) check_app.top) select_app.top) serve_app.top
+    with_subcommand (with_subcommand (with_subcommand (with_subcommand (with_subcommand named_app
+    (new_app (codes "demo")).top) check_app.top) select_app.top) serve_app.top) journal_app.top
 
 -- the text is a signed number of 64 bits
 pub record IsNumber (text : List ℕ) : Type 0 where
@@ -106,12 +117,19 @@ pub record IsCheck (found : Option (Text × List Row)) (reading : Reading) : Typ
   pub is : found ≡ Some (codes "check", rows)
   pub given : IsReadingIn rows reading
 
+-- `journal` was found, with this path
+pub record IsJournal (found : Option (Text × List Row)) (path : List ℕ) : Type 0 where
+  pub rows : List Row
+  pub is : found ≡ Some (codes "journal", rows)
+  pub given : path ≡ unwrap_or (first_of (codes "path") rows) []
+
 -- what a found subcommand asks for
 abbrev pub IsLineIn : Option (Text × List Row) → Line → Type 0
 IsLineIn found Demo = IsDemo found
 IsLineIn found (Select s reading) = IsSelect found s.selector.now s.from s.to reading
 IsLineIn found (Check reading) = IsCheck found reading
 IsLineIn found (Serve serving reading) = IsServe found serving reading
+IsLineIn found (Journal path) = IsJournal found path.now
 
 -- the line that a found subcommand asks for, or that it asks for none
 abbrev pub IsFoundLine : Option (Text × List Row) → Option Line → Type 0
@@ -129,6 +147,11 @@ AreTakenByClap words = takes querier_app words ≡ true
 -- `clap` refuses the words: it finds that they ask for help or for the version, or a fault of them
 abbrev pub AreRefusedByClap : List Text → Type 0
 AreRefusedByClap words = fault_of querier_app words ≡ [] → ⊥
+
+-- the kinds of faults of words that `clap` takes and that are no line: there is no subcommand, or
+-- `serve` has directories beside the folder of a store
+abbrev pub IsLineFaultKind : ErrorKind → Type 0
+IsLineFaultKind kind = (kind ≡ MissingSubcommand) ⊎ (kind ≡ ArgumentConflict)
 
 -- the words are no line
 abbrev pub AreNoCommandLine : List Text → Type 0

@@ -11,9 +11,10 @@ use Rattle.commands.specs.Lines.{AreNoCommandLine, AreRefusedByClap, AreTakenByC
 use Rattle.commands.specs.Lines.{querier_app}
 use Rattle.commands.specs.Reading.{Host, paths_of}
 use Rattle.commands.specs.Selecting.{IsSelectFault, KeepsAt, WritesSelection}
-use Rattle.commands.specs.ServingRuns.{IsListening, IsServeFault}
+use Rattle.commands.specs.Listing.{IsListed, IsListFault}
+use Rattle.commands.specs.ServingRuns.{IsServing, IsServeFault}
 use Rattle.commands.specs.declared.command.Line.{Line}
-use Rattle.commands.specs.declared.command.Line.TheVariants.{Demo, Select, Check, Serve}
+use Rattle.commands.specs.declared.command.Line.TheVariants.{Demo, Select, Check, Serve, Journal}
 use Rattle.commands.specs.declared.fault.Fault.{Fault}
 use Rattle.commands.specs.declared.fault.Fault.TheVariants as fault
 use Rattle.commands.specs.declared.check.Outcome.{Outcome}
@@ -26,7 +27,8 @@ pub record IsTaken (words : List Text) : Type 0 where
   pub line : Line
   pub is : IsLineOf words line
 
--- what a line asks for was written; the demo, a selection and a server end with their text alone
+-- what a line asks for was written; the demo, a selection, a server and a list of a journal end
+-- with their text alone
 abbrev pub IsDone : Host → Line → Option (List ℕ) → Option (List ℕ) → Outcome → Type 0
 IsDone reads Demo old new Done =
     WritesAnswerAfter demo_events (demo_query (pos 0) (pos 100)) old new
@@ -35,7 +37,8 @@ IsDone reads (Select s r) old new Done =
 IsDone reads (Check r) old new outcome =
     IsChecked reads (paths_of r.directories.items) old new outcome
 IsDone reads (Serve serving r) old new Done =
-    IsListening reads serving (paths_of r.directories.items) old new
+    IsServing reads serving (paths_of r.directories.items) old new
+IsDone reads (Journal path) old new Done = IsListed reads path.now old new
 IsDone reads line old new other = ⊥
 
 -- why a line ends before it is done, and what was written by then
@@ -47,6 +50,8 @@ IsLineFault reads (Check r) old new fault =
     IsCheckFault reads (paths_of r.directories.items) old new fault
 IsLineFault reads (Serve serving r) old new fault =
     IsServeFault reads (paths_of r.directories.items) serving old new fault
+IsLineFault reads (Journal path) old new fault =
+    IsListFault reads path.now fault × KeepsAt fault old new
 
 -- how a line ends
 abbrev pub IsLineEnd : Host → Line → Option (List ℕ) → Option (List ℕ)

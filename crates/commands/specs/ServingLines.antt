@@ -1,12 +1,15 @@
 -- The command line of `serve`.
-use Rattle.std.specs.Prelude.{◌≡◌, ◌⊎◌, ℕ, ◌<◌, ◌^◌, List, [], Option, None, Some, true, codes}
-use Rattle.std.specs.Prelude.{Bool, false, map, option_map, unwrap_or}
+use Rattle.std.specs.Prelude.{◌≡◌, ◌⊎◌, ℕ, ◌<◌, ◌^◌, List, [], length, Option, None, Some, true}
+use Rattle.std.specs.Prelude.{codes}
+use Rattle.std.specs.Prelude.{Bool, false, is_some, map, option_map, unwrap_or}
 use Rattle.std.specs.Str.Parse.{IsNumeral, without_leading_plus, digits_value}
 use Rattle.clap.specs.Words.{App, Row, Rule, Text, new_app, new_rule, with_rule, one_of}
 use Rattle.clap.specs.Words.{first_of, all_of}
 use Rattle.clap.specs.declared.builder.action.ArgAction.TheVariants.{SetTrue}
 use Rattle.clap.specs.declared.builder.value_parser.ValueParser.TheVariants.{Unsigned}
 use Rattle.commands.specs.OptionRules.{directories_rule}
+use Rattle.commands.specs.declared.command.Line.{Line}
+use Rattle.commands.specs.declared.command.Line.TheVariants.{Serve}
 use Rattle.commands.specs.declared.command.Reading.{Reading}
 use Rattle.commands.specs.declared.command.Serving.{Serving}
 
@@ -43,11 +46,12 @@ counts_app =
     (count_rule (codes "idle-seconds") 0 4294967295)) (count_rule (codes "status-port") 1 65535)
 
 -- serve --port P [--workers W] [--requests N] [--idle-seconds S] [--status-port P] [--read-only]
--- [--guard FILE] [--quiet] [DIR]...
+-- [--guard FILE] [--data DIR] [--quiet] [DIR]...
 abbrev pub serve_app : App
 serve_app =
-    with_rule (with_rule (with_rule (with_rule counts_app (flag_rule (codes "read-only")))
-    (text_rule (codes "guard"))) (flag_rule (codes "quiet"))) directories_rule
+    with_rule (with_rule (with_rule (with_rule (with_rule counts_app
+    (flag_rule (codes "read-only"))) (text_rule (codes "guard"))) (text_rule (codes "data")))
+    (flag_rule (codes "quiet"))) directories_rule
 
 -- the text is a number of 64 bits without a sign
 pub record IsCount (text : List ℕ) : Type 0 where
@@ -76,6 +80,7 @@ pub record IsServingIn (rows : List Row) (serving : Serving) : Type 0 where
   pub status_port : IsCountIn (one_of (codes "status-port") rows) 0 serving.status_port
   pub read_only : IsFlagIn (one_of (codes "read-only") rows) serving.read_only
   pub guard : option_map (λ file. file.now) serving.guard ≡ first_of (codes "guard") rows
+  pub data : option_map (λ folder. folder.now) serving.data ≡ first_of (codes "data") rows
 
 -- the directories that arguments name, and whether they are read quietly
 pub record IsReadingIn (rows : List Row) (reading : Reading) : Type 0 where
@@ -83,10 +88,29 @@ pub record IsReadingIn (rows : List Row) (reading : Reading) : Type 0 where
       ≡ unwrap_or (all_of (codes "directories") rows) []
   pub quiet : IsFlagIn (one_of (codes "quiet") rows) reading.quiet
 
+-- no directories stand beside the folder of a store
+abbrev pub IsOneStore : Serving → Reading → Type 0
+IsOneStore serving reading =
+    (is_some serving.data ≡ false) ⊎ (length reading.directories.items ≡ 0)
+
+-- arguments of `serve` ask for it to be served so, with this reading
+pub record IsServeLine (rows : List Row) (serving : Serving) (reading : Reading) : Type 0 where
+  pub asked : IsServingIn rows serving
+  pub given : IsReadingIn rows reading
+  pub one : IsOneStore serving reading
+
+abbrev pub IsServeIn : List Row → Line → Type 0
+IsServeIn rows (Serve serving reading) = IsServeLine rows serving reading
+IsServeIn rows other = ⊥
+
+-- the line of `serve` that arguments are, or that they are none
+abbrev pub IsFoundServe : List Row → Option Line → Type 0
+IsFoundServe rows (Some line) = IsServeIn rows line
+IsFoundServe rows None = (line : Line) → IsServeIn rows line → ⊥
+
 -- `serve` was found, to be served so, with this reading
 pub record IsServe (found : Option (Text × List Row)) (serving : Serving)
     (reading : Reading) : Type 0 where
   pub rows : List Row
   pub is : found ≡ Some (codes "serve", rows)
-  pub asked : IsServingIn rows serving
-  pub given : IsReadingIn rows reading
+  pub line : IsServeLine rows serving reading

@@ -1,12 +1,14 @@
 -- What is told of a store that is served, and why none is.
-use Rattle.std.specs.Prelude.{◌≡◌, ◌⊎◌, ℕ, ◌≤◌, ◌<◌, ◌+◌, ◌==◌, List, ◌++◌, Option, length, codes}
-use Rattle.std.specs.Prelude.{decimal, if◌then◌else◌}
+use Rattle.std.specs.Prelude.{◌≡◌, ◌⊎◌, ℕ, ◌≤◌, ◌<◌, ◌+◌, ◌==◌, List, ◌++◌, Option, None, Some}
+use Rattle.std.specs.Prelude.{length, codes, decimal, if◌then◌else◌}
+use Rattle.std.specs.Borrow.{Bor}
 use Rattle.std.specs.Io.KnownBytes.{Appends}
 use Rattle.head.specs.Heads.{BlockPart}
 use Rattle.snapshots.specs.Seats.{IsRoom}
 use Rattle.snapshots.specs.declared.error.OpenError.TheVariants as store
 use Rattle.guard.specs.declared.rules.Rules.{Rules}
 use Rattle.commands.specs.Guarding.{AreRulesOf, IsGuardFault}
+use Rattle.commands.specs.Keeping.{IsDataFault}
 use Rattle.commands.specs.Opening.{AreBlocksAt, IsOpeningFault}
 use Rattle.commands.specs.Reading.{Host}
 use Rattle.commands.specs.Selecting.{KeepsAt}
@@ -39,6 +41,23 @@ pub record IsListening (reads : Host) (serving : Serving) (directories : List (L
   pub ruled : AreRulesOf reads serving rules
   pub servable : AreServable reads directories
   pub told : TellsPort old new
+
+-- the options ask for rules, and the port was told at which the store of a folder is served; what
+-- the folder holds, no clause can say
+pub record IsKeeping (reads : Host) (serving : Serving) (old new : Option (List ℕ)) : Type 0 where
+  pub rules : Rules
+  pub ruled : AreRulesOf reads serving rules
+  pub told : TellsPort old new
+
+-- what was told of a store that is served: of one over directories, or of the one of a folder
+abbrev pub TellsOf : Option (Bor (List ℕ)) → Host → Serving → List (List ℕ) → Option (List ℕ)
+    → Option (List ℕ) → Type 0
+TellsOf None reads serving directories old new = IsListening reads serving directories old new
+TellsOf (Some folder) reads serving directories old new = IsKeeping reads serving old new
+
+-- what was told of the store that the options ask for
+abbrev pub IsServing : Host → Serving → List (List ℕ) → Option (List ℕ) → Option (List ℕ) → Type 0
+IsServing reads serving directories old new = TellsOf serving.data reads serving directories old new
 
 -- how many passes there are: one for each worker, and one for those that watch
 abbrev pub passes_of : Serving → ℕ
@@ -75,17 +94,40 @@ abbrev pub IsServingFault : Serving → Option (List ℕ) → Option (List ℕ) 
 IsServingFault serving old new fault =
     (IsStoreFault serving fault × KeepsAt fault old new) ⊎ (TellsPort old new × IsLateFault fault)
 
+-- why a store over directories is not served, or not until each worker has ended, and what was
+-- written by then: by the directories; or, where they hold blocks, by the store
+pub data IsDirectoriesFault (reads : Host) (directories : List (List ℕ)) (serving : Serving)
+    (old new : Option (List ℕ)) (fault : Fault) : Type 0 where
+  by_opening : IsOpeningFault reads directories fault → KeepsAt fault old new
+      → IsDirectoriesFault reads directories serving old new fault
+  by_serving : AreServable reads directories → IsServingFault serving old new fault
+      → IsDirectoriesFault reads directories serving old new fault
+
+-- why the store of a folder is not served, or not until each worker has ended, and what was written
+-- by then: by the folder and its journal, or by the store
+pub data IsKeepingFault (folder : List ℕ) (serving : Serving) (old new : Option (List ℕ))
+    (fault : Fault) : Type 0 where
+  by_folder : IsDataFault folder fault → KeepsAt fault old new
+      → IsKeepingFault folder serving old new fault
+  by_workers : IsServingFault serving old new fault → IsKeepingFault folder serving old new fault
+
+-- why the store that is asked for is not served, or not until each worker has ended
+abbrev pub IsFaultOf : Option (Bor (List ℕ)) → Host → List (List ℕ) → Serving → Option (List ℕ)
+    → Option (List ℕ) → Fault → Type 0
+IsFaultOf None reads directories serving old new fault =
+    IsDirectoriesFault reads directories serving old new fault
+IsFaultOf (Some folder) reads directories serving old new fault =
+    IsKeepingFault folder.now serving old new fault
+
 -- Why a line of `serve` ends before each worker has: by the file of its token; by the status port;
--- by the directories; or, where they hold blocks, by the store, the port or the writer, or once the
--- port was told by the listener, a thread or want of memory. Before that the writer holds what it
--- held, unless it failed.
+-- by the directories, or where a store is kept by its folder; or by the store, the port or the
+-- writer, or once the port was told by the listener, a thread or want of memory. Before that the
+-- writer holds what it held, unless it failed.
 pub data IsServeFault (reads : Host) (directories : List (List ℕ)) (serving : Serving)
     (old new : Option (List ℕ)) (fault : Fault) : Type 0 where
   by_guard : IsGuardFault serving fault → KeepsAt fault old new
       → IsServeFault reads directories serving old new fault
   by_watch : IsWatchFault serving fault → KeepsAt fault old new
       → IsServeFault reads directories serving old new fault
-  by_directories : IsOpeningFault reads directories fault → KeepsAt fault old new
-      → IsServeFault reads directories serving old new fault
-  by_serving : AreServable reads directories → IsServingFault serving old new fault
+  by_store : IsFaultOf serving.data reads directories serving old new fault
       → IsServeFault reads directories serving old new fault

@@ -4,7 +4,7 @@ ghost use Rattle.std.specs.Prelude.{◌≡◌, ◌⊎◌, false, [], codes, map,
 ghost use Rattle.std.specs.Prelude.{IfOk, IfErr, IsOkAnd};
 ghost use Rattle.commands.specs.ServingLines.{count_rule, port_rule, flag_rule, text_rule};
 ghost use Rattle.commands.specs.ServingLines.{counts_app, serve_app, IsCountIn, IsFlagIn};
-ghost use Rattle.commands.specs.ServingLines.{IsServingIn, IsReadingIn};
+ghost use Rattle.commands.specs.ServingLines.{IsServingIn, IsReadingIn, IsFoundServe};
 ghost use Rattle.commands.specs.Running.{IsTaken};
 ghost use Rattle.clap.specs.Values.{kind_of};
 ghost use Rattle.clap.specs.Matches.{found_of};
@@ -13,7 +13,8 @@ ghost use Rattle.clap.specs.Words.{subcommand_of, subcommand_rows_of, fault_of, 
 ghost use Rattle.clap.specs.Words.{AddsSubcommand};
 ghost use Rattle.commands.specs.OptionRules.{directories_rule};
 ghost use Rattle.commands.specs.Lines.{time_rule, selector_rule, blocks_rule, select_app};
-ghost use Rattle.commands.specs.Lines.{check_app, named_app, querier_app};
+ghost use Rattle.commands.specs.Lines.{check_app, named_app, querier_app, path_rule, journal_app};
+ghost use Rattle.commands.specs.Lines.{IsLineFaultKind};
 ghost use Rattle.commands.specs.Lines.{IsTimeIn, IsSelectionIn};
 ghost use Rattle.commands.specs.Lines.{AreTakenByClap, AreRefusedByClap, IsFoundLine, IsLineOf};
 ghost use Rattle.commands.specs.Lines.{texts_of};
@@ -50,6 +51,8 @@ pub struct Serving<'a> {
     pub read_only: bool,
     /// The file with the token of each `POST`, if requests are guarded.
     pub guard: Option<&'a str>,
+    /// The folder in which the store is kept, if it is; then there are no directories.
+    pub data: Option<&'a str>,
 }
 
 /// What is read, as it was written.
@@ -69,8 +72,10 @@ pub enum Line<'a> {
     Select(Selection<'a>, Reading<'a>),
     /// What the blocks in these directories are judged to be.
     Check(Reading<'a>),
-    /// A server over the blocks in these directories.
+    /// A server over the blocks in these directories, or of a store that is kept.
     Serve(Serving<'a>, Reading<'a>),
+    /// What the journal at this path holds.
+    Journal(&'a str),
 }
 
 const FROM: &str =
@@ -157,10 +162,46 @@ const READ_ONLY: &str = "Has no POST: what is served does not change";
 
 const GUARD: &str = "The file with a token that each POST has to bear, readable by its owner alone";
 
+const DATA: &str = "A folder that keeps each change; it is made if there is none [default: none]";
+
+const PATH: &str = "A journal, or the folder of --data that it stands in";
+
+const JOURNALS: &str =
+    r#"A journal is what `querier serve --data DIR` keeps in DIR/journal: one record for each change
+that was accepted. Nothing is changed, and a server may have the folder locked meanwhile.
+
+For each change, in their order, one line is printed, with its number from 1:
+  1 batch 120 samples of 3 series, 10 to 20
+  2 deletion {job="a"} 0 to 10
+  3 cut at 20
+and then a line with how many they are, how many bytes they take, and how many bytes of a torn
+record stand behind them, which the next start cuts off:
+  3 events, 4711 bytes, 0 bytes of a torn record
+
+Refusals, the first that holds, with its place; nothing is printed then:
+  J1 at 0, J2 at 4   no journal, or of another version
+  J3, J4 at BYTE     damage before the last record: a checksum or a length that is wrong
+  J8 to J14 at N     the content behind N others is no change
+
+docs/FORMATS.md of the project explains each code.
+
+Exit status: 0 done; 1 refused, with the code on standard error; 2 a fault of the words; 3 a file
+cannot be read (it is named on standard error), or the lines cannot be written; 4 no memory
+
+Example: querier journal data"#;
+
 const SERVES: &str =
     r#"The directories are opened and verified as by `querier select`, and over them stands an empty
 head, in memory alone: what is written to it ends with the program. Then `listening P` is printed, P
 being the real port.
+
+With --data, the store begins empty, and each write, deletion and cut is in DIR/journal, synced,
+before its reply goes out. A start replays them: standard error tells `recovered N events`, and how
+many bytes of a torn record it cut off. Directories beside --data are a fault of the words. A change
+that cannot be kept is refused with H11 (503), and no reader sees it. A journal that is damaged
+before its end is refused with J1 to J4, J8 to J14 or J18 and the place, and left as it is
+(`querier journal --help` tells the codes; J18 is a change that those before it do not admit).
+DIR/lock is locked as long as the server runs.
 
   GET /select?selector=up%7Bjob%3D%22a%22%7D&from=0&to=100
                  the audited answer, as `querier select` prints it
@@ -180,9 +221,10 @@ the file, save an end of a line; and each request that has an `Origin`, or whose
 With --status-port, a second listener answers GET /metrics in the text format of Prometheus, GET
 /healthy, and GET /ready, which is 503 until the blocks are open. Then 64 workers are refused (O2).
 
-Exit status: 0 each worker has ended; 1 the directories are refused, as by `select`; 2 a fault of
-the words; 3 a file cannot be read, a port cannot be listened on, the line cannot be written, a
-thread cannot be made, or the listener is gone; 4 no memory
+Exit status: 0 each worker has ended; 1 the directories are refused, as by `select`, or the journal
+is; 2 a fault of the words; 3 a file cannot be read or written, another process has the folder
+locked, a port cannot be listened on, the line cannot be written, a thread cannot be made, or the
+listener is gone; 4 no memory
 
 Example: querier serve --port 8080 data/0001 data/0002"#;
 
@@ -325,8 +367,29 @@ fn serve<'a>(alloc: Global) -> Result<Command<'a>, AllocError>
     counts(alloc)?
         .arg(flag(alloc, "read-only", READ_ONLY))?
         .arg(text(alloc, "guard", "FILE", GUARD))?
+        .arg(text(alloc, "data", "DIR", DATA))?
         .arg(flag(alloc, "quiet", QUIET))?
         .arg(directories(alloc))
+}
+
+/// The journal that is listed, which must be given.
+fn path<'a>(alloc: Global) -> Arg<'a>
+    ensures rule { rule_of result ≡ path_rule }
+    ensures global { result.global ≡ false }
+{
+    Arg::new(alloc, "path")
+        .value_name("PATH")
+        .required(true)
+        .help(PATH)
+}
+
+fn journal<'a>(alloc: Global) -> Result<Command<'a>, AllocError>
+    ensures { IfOk result (λ command. app_of command ≡ journal_app) }
+{
+    Command::new(alloc, "journal")
+        .about("Lists the changes that a journal holds")
+        .after_help(JOURNALS)
+        .arg(path(alloc))
 }
 
 /// The program, without its subcommands.
@@ -362,7 +425,8 @@ fn querier<'a>(alloc: Global) -> Result<Command<'a>, AllocError>
     let command = named(alloc)?.subcommand(demo(alloc))?;
     let command = add(command, check(alloc))?;
     let command = add(command, select(alloc))?;
-    add(command, serve(alloc))
+    let command = add(command, serve(alloc))?;
+    add(command, journal(alloc))
 }
 
 /// The time that an option gives, or another where it is not used.
@@ -435,6 +499,7 @@ fn serving_in<'a>(found: &ArgMatches<'a>) -> Serving<'a>
         status_port,
         read_only: flag_in(found, "read-only"),
         guard: given_in(found, "guard"),
+        data: given_in(found, "data"),
     }
 }
 
@@ -457,7 +522,20 @@ fn reading_in<'a>(alloc: Global, found: &ArgMatches<'a>) -> Result<Reading<'a>, 
     })
 }
 
-/// What a found subcommand asks for; none where there is none.
+/// What `serve` asks for; none where directories stand beside the folder of a store.
+fn serve_line<'a>(alloc: Global, found: &ArgMatches<'a>) -> Result<Option<Line<'a>>, AllocError>
+    ensures ok { IfOk result (λ line. IsFoundServe (rows_of (found_of found.now)) line) }
+{
+    let reading = reading_in(alloc, found)?;
+    let serving = serving_in(found);
+    if serving.data.is_some() && !reading.directories.is_empty() {
+        return Ok(None);
+    }
+    Ok(Some(Line::Serve(serving, reading)))
+}
+
+/// What a found subcommand asks for; none where there is none, or where `serve` is to serve
+/// directories and the store of a folder.
 fn line_in<'a>(alloc: Global, found: &ArgMatches<'a>) -> Result<Option<Line<'a>>, AllocError>
     ensures { IfOk result (λ line. IsFoundLine (subcommand_rows_of found.now) line) }
 {
@@ -468,8 +546,10 @@ fn line_in<'a>(alloc: Global, found: &ArgMatches<'a>) -> Result<Option<Line<'a>>
         return Ok(Some(Line::Check(reading_in(alloc, arguments)?)));
     }
     if let Some(arguments) = found.subcommand_matches("serve") {
-        let reading = reading_in(alloc, arguments)?;
-        return Ok(Some(Line::Serve(serving_in(arguments), reading)));
+        return serve_line(alloc, arguments);
+    }
+    if let Some(arguments) = found.subcommand_matches("journal") {
+        return Ok(Some(Line::Journal(text_in(arguments, "path"))));
     }
     let Some(arguments) = found.subcommand_matches("select") else {
         return Ok(None);
@@ -495,6 +575,27 @@ fn no_subcommand(alloc: Global) -> Result<Error, AllocError>
     querier(alloc)?.error(ErrorKind::MissingSubcommand, "a subcommand is missing")
 }
 
+/// The fault of words that name both directories and the folder of a store.
+fn both_stores(alloc: Global) -> Result<Error, AllocError>
+    ensures { IfOk result (λ e. kind_of e ≡ ErrorKind.ArgumentConflict) }
+{
+    querier(alloc)?.error(
+        ErrorKind::ArgumentConflict,
+        "the argument '--data <DIR>' cannot be used with '[DIR]...'",
+    )
+}
+
+/// The fault of words that ask for no line, though `clap` takes them.
+fn no_line(alloc: Global, found: &ArgMatches<'_>) -> Result<Error, AllocError>
+    ensures { IfOk result (λ e. IsLineFaultKind (kind_of e)) }
+{
+    if found.subcommand_matches("serve").is_some() {
+        both_stores(alloc)
+    } else {
+        no_subcommand(alloc)
+    }
+}
+
 /// What the words after the program's name ask for, or what to print in place of it: help, the
 /// version, or a fault of the words.
 pub fn read_line<'a>(alloc: Global, words: &'a [String]) -> Result<Line<'a>, Error>
@@ -502,13 +603,13 @@ pub fn read_line<'a>(alloc: Global, words: &'a [String]) -> Result<Line<'a>, Err
     ensures err { IfErr result (λ e.
         IsTaken (texts_of words.entry.now) → kind_of e ≡ ErrorKind.OutOfMemory) }
     ensures refused { IfErr result (λ e. AreTakenByClap (texts_of words.entry.now)
-        → (kind_of e ≡ ErrorKind.OutOfMemory) ⊎ (kind_of e ≡ ErrorKind.MissingSubcommand)) }
+        → (kind_of e ≡ ErrorKind.OutOfMemory) ⊎ IsLineFaultKind (kind_of e)) }
     ensures fails { AreRefusedByClap (texts_of words.entry.now)
         → FailsBy (fault_of querier_app (texts_of words.entry.now)) result }
 {
     let found = matches_in(alloc, words)?;
     match line_in(alloc, &found)? {
         Some(line) => Ok(line),
-        None => Err(no_subcommand(alloc)?),
+        None => Err(no_line(alloc, &found)?),
     }
 }

@@ -6,6 +6,7 @@ ghost use Rattle.commands.specs.Faults.{refusal_code, refusal_place, status_of, 
 
 use answers::AskError;
 use block::BlockError;
+use event_journal::StartError;
 use head::CommitError;
 use labels::LabelError;
 use matchers::{MatcherError, QueryError, SelectorError};
@@ -27,7 +28,7 @@ pub enum Refusal {
     Selector(SelectorError),
     /// A query: `Q1`, `Q2`.
     Query(QueryError),
-    /// An event: `E1` to `E7`.
+    /// An event: `E1` to `E8`.
     Commit(CommitError),
     /// The files of a block: `B1`, `B2`, `I1` to `I15`, `C1` to `C8`, `T1` to `T5`.
     Block(BlockError),
@@ -35,6 +36,8 @@ pub enum Refusal {
     Open(OpenError),
     /// A snapshot of a store: `S1`.
     Snapshot(SnapshotError),
+    /// The journal of a store that is kept: `J1` to `J4`, `J8` to `J14`, `J18`.
+    Start(StartError),
 }
 
 impl Refusal {
@@ -51,11 +54,12 @@ impl Refusal {
             Refusal::Block(error) => error.code(),
             Refusal::Open(error) => error.code(),
             Refusal::Snapshot(error) => error.code(),
+            Refusal::Start(error) => error.code(),
         }
     }
 
-    /// The place of the fault: in a selector in bytes, in a batch the number of the sample, both
-    /// from 0.
+    /// The place of the fault, from 0: in a selector in bytes, in a batch the number of the sample,
+    /// in a journal the byte (`J1` to `J4`) or the number of the event.
     pub fn place(&self) -> Option<usize>
         ensures { result ≡ refusal_place self.now }
     {
@@ -64,6 +68,7 @@ impl Refusal {
             | Refusal::Commit(CommitError::OutOfBounds { at })
             | Refusal::Commit(CommitError::OutOfOrder { at })
             | Refusal::Commit(CommitError::Duplicate { at }) => Some(*at),
+            Refusal::Start(error) => Some(error.place()),
             _ => None,
         }
     }
@@ -97,6 +102,10 @@ pub enum Fault {
     CannotRead(String),
     /// A writer refused.
     CannotWrite,
+    /// What stands at this path cannot be written.
+    CannotWriteAt(String),
+    /// Another process has locked this folder: the one with this number, if it is not 0.
+    Locked(String, u64),
     /// This port of 127.0.0.1 cannot be listened on.
     CannotListen(u64),
     /// The listener of a server is gone.
@@ -109,7 +118,8 @@ pub enum Fault {
 
 impl Fault {
     /// The exit status: 1 for a refusal, 2 for a fault of the words, 4 for no memory, and 3 for all
-    /// that the system refuses: a file, a writer, a port, the listener or a thread of a server.
+    /// that the system refuses: a file, a lock, a writer, a port, the listener or a thread of a
+    /// server.
     pub fn status(&self) -> u8
         ensures { result ≡ status_of self.now }
     {
@@ -117,6 +127,7 @@ impl Fault {
             Fault::Refused(_) => 1,
             Fault::Words(_) => 2,
             Fault::CannotRead(_) | Fault::CannotWrite => 3,
+            Fault::CannotWriteAt(_) | Fault::Locked(_, _) => 3,
             Fault::CannotListen(_) | Fault::NoListener | Fault::NoThread => 3,
             Fault::Memory => 4,
         }
@@ -146,6 +157,13 @@ impl fmt::Display for Fault {
             Fault::Words(error) => write!(f, "{error}"),
             Fault::CannotRead(path) => write!(f, "cannot read {path}"),
             Fault::CannotWrite => write!(f, "cannot write"),
+            Fault::CannotWriteAt(path) => write!(f, "cannot write {path}"),
+            Fault::Locked(folder, 0) => {
+                write!(f, "cannot lock {folder}: another process has it")
+            }
+            Fault::Locked(folder, holder) => {
+                write!(f, "cannot lock {folder}: another process has it ({holder})")
+            }
             Fault::CannotListen(port) => write!(f, "cannot listen on 127.0.0.1:{port}"),
             Fault::NoListener => write!(f, "there is no listener any more"),
             Fault::NoThread => write!(f, "cannot make a thread"),
@@ -310,6 +328,20 @@ impl From<ServeError> for Fault {
             ServeError::NoListener => Fault::NoListener,
             ServeError::NoThread => Fault::NoThread,
             ServeError::Memory => Fault::Memory,
+        }
+    }
+}
+
+impl From<StartError> for Fault {
+    ghost use Rattle.std.specs.Prelude.{◌≡◌};
+    ghost use Rattle.commands.specs.Faults.{start_fault};
+
+    ghost from_gives = { λ error fault. fault ≡ start_fault error };
+
+    fn from(error: StartError) -> Fault {
+        match error {
+            StartError::Memory => Fault::Memory,
+            refusal => Fault::Refused(Refusal::Start(refusal)),
         }
     }
 }

@@ -69,6 +69,11 @@ pub trait ReadFiles: Sync {
 
     /// Is told of which directory the files are read next: nothing that is read depends on it.
     fn begin(&self, _directory: &str) {}
+
+    /// The host that has the files: a store is kept there. Files in memory are on none.
+    fn host(&self) -> Option<&HostRuntime> {
+        None
+    }
 }
 
 /// The first bytes that a reader gives, at most so many, in a list that is made with this room.
@@ -128,6 +133,10 @@ impl ReadFiles for HostRuntime {
             Err(error) if error.kind() == ErrorKind::OutOfMemory => Err(ReadError::Memory),
             Err(_) => Err(ReadError::Unreadable),
         }
+    }
+
+    fn host(&self) -> Option<&HostRuntime> {
+        Some(self)
     }
 }
 

@@ -55,6 +55,10 @@ impl<R: Eprint + Sync, F: ReadFiles> ReadFiles for Followed<'_, R, F> {
         self.files.read_secret(alloc, path, most)
     }
 
+    fn host(&self) -> Option<&HostRuntime> {
+        self.files.host()
+    }
+
     fn begin(&self, directory: &str) {
         if self.is_told {
             let before = self.begun.fetch_add(1, Ordering::SeqCst);

@@ -13,6 +13,7 @@ use crate::command::{Line, read_line};
 use crate::demo::demo;
 use crate::fault::Fault;
 use crate::files::ReadFiles;
+use crate::listing::list;
 use crate::progress::Followed;
 use crate::select::select;
 use crate::serve::serve;
@@ -56,6 +57,7 @@ fn answer_line<
             let directories = reading.directories.as_slice();
             serve(rt, alloc, &followed, serving, directories, out)?;
         }
+        Line::Journal(path) => list(alloc, files, path, out)?,
     }
     Ok(Outcome::Done)
 }
@@ -130,8 +132,8 @@ fn tell<E: Write>(end: &Result<Outcome, Fault>, to: &mut E) -> io::Result<()>
 ///
 /// 0 where it is done; 1 for a refusal, with its code on the second writer, or in the lines of a
 /// check; 2 for a fault of the words, with the usage on the second writer; 3 where a file cannot be
-/// read or a port not be listened on, which is named there, the first writer fails, or a server
-/// loses its listener or cannot make a thread; 4 where memory fails. The store of the demo waits
+/// read or written, a folder not be locked or a port not be listened on, which is named there, the
+/// first writer fails, or a server loses its listener or cannot make a thread; 4 where memory fails. The store of the demo waits
 /// for nobody else's threads; a server waits for clients, and tells what becomes of them on the
 /// host's own standard error. If that is a terminal, it is also told there which directory is read.
 pub fn run<

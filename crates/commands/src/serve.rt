@@ -1,4 +1,4 @@
-//! The server: a store over the blocks in directories, and its workers.
+//! The server: a store, and its workers.
 
 ghost use Rattle.std.specs.Prelude.{◌≡◌, ◌≤◌, length, map, string_bytes, vec_len};
 ghost use Rattle.std.specs.Prelude.{◌*◌, IfOk, IfErr, IfSome, IfNone, OnOk};
@@ -7,8 +7,9 @@ ghost use Rattle.std.specs.List.{All};
 ghost use Rattle.head.specs.Blocks.{part_in, opening_of};
 ghost use Rattle.commands.specs.Reading.{paths_of};
 ghost use Rattle.commands.specs.Selecting.{KeepsAt};
-ghost use Rattle.commands.specs.ServingRuns.{listening_line, TellsPort, IsListening, IsStoreFault};
-ghost use Rattle.commands.specs.ServingRuns.{IsServeFault, IsServingFault, IsWatchFault, passes_of};
+ghost use Rattle.commands.specs.ServingRuns.{listening_line, TellsPort, IsListening, IsServing};
+ghost use Rattle.commands.specs.ServingRuns.{IsStoreFault, IsServeFault, IsServingFault};
+ghost use Rattle.commands.specs.ServingRuns.{IsDirectoriesFault, IsWatchFault, passes_of};
 ghost use Rattle.commands.specs.Guarding.{AreRulesOf};
 ghost use Rattle.commands.specs.Opening.{AreBlocksAt, IsOpeningFault};
 ghost use Rattle.std.specs.Thread.{IsSync};
@@ -19,12 +20,14 @@ ghost use Rattle.commands.specs.declared.fault.Fault.TheVariants.{CannotListen};
 use crate::command::{KIT_VERSION, OWN_VERSION, Serving};
 use crate::fault::Fault;
 use crate::files::ReadFiles;
+use crate::keeping::serve_data;
 use crate::opening::open_blocks;
 use crate::process::Process;
 use crate::rules::rules_of;
 use crate::sending::send;
 use block::Block;
 use guard::Rules;
+use keeper::Keeper;
 use server::{ServeError, Shift, Terms, Watch, Workers, report_opening, serve_watched};
 use snapshots::{Naming, Store};
 use std::alloc::{AllocError, Global};
@@ -93,7 +96,7 @@ fn terms_of(serving: Serving<'_>) -> Terms
 }
 
 /// What those are told of that ask at a listener.
-fn watch_at<'a, F>(
+pub(crate) fn watch_at<'a, F>(
     listener: &'a TcpListener,
     process: &'a Process<'a, F>,
 ) -> Watch<'a, Process<'a, F>> {
@@ -109,12 +112,13 @@ fn watch_at<'a, F>(
 fn run_workers<
     'a,
     J: Naming + Send + Sync,
+    K: Keeper + Drop + Send,
     R: Wait + Threads + Clock + Eprint + Sync,
     F: ReadFiles,
 >(
     rt: &R,
     alloc: Global,
-    workers: Workers<J, &R>,
+    workers: Workers<J, &R, K>,
     listener: &TcpListener,
     rules: &'a Rules,
     process: &Process<'_, F>,
@@ -133,7 +137,7 @@ fn run_workers<
 }
 
 /// How many passes there are: one for each worker, and one for those that watch.
-fn passes_of(serving: Serving<'_>) -> usize
+pub(crate) fn passes_of(serving: Serving<'_>) -> usize
     ensures { IsRoom (passes_of serving.entry) serving.entry.workers
         → result ≡ passes_of serving.entry }
 {
@@ -143,6 +147,42 @@ fn passes_of(serving: Serving<'_>) -> usize
     } else {
         count.saturating_add(1)
     }
+}
+
+/// Serves by these workers, under the rules that the options ask for, until each of them has ended:
+/// what each has done.
+pub(crate) fn serve_workers<
+    'a,
+    J: Naming + Send + Sync,
+    K: Keeper + Drop + Send,
+    R: Wait + Threads + Net<Listener = TcpListener, Stream = TcpStream> + Clock + Eprint + Sync,
+    F: ReadFiles,
+    W: Write,
+>(
+    rt: &R,
+    alloc: Global,
+    files: &F,
+    workers: Workers<J, &R, K>,
+    rules: &'a Rules,
+    beside: Option<&TcpListener>,
+    serving: Serving<'_>,
+    out: &mut W,
+) -> Result<Vec<Shift<'a>>, Fault>
+    ensures ok { OnOk result (TellsPort (W.contents out.old) (W.contents out.new)) }
+    ensures workers { IfOk result (λ shifts. vec_len shifts ≡ workers.entry) }
+    ensures served { IfOk result (λ shifts. EachServed serving.entry.requests shifts.items) }
+    ensures ruled { IfOk result (λ shifts. AreUnder rules.now shifts.items) }
+    ensures err { IfErr result (λ fault.
+        IsServingFault serving.entry (W.contents out.old) (W.contents out.new) fault) }
+{
+    let listener = listen(rt, serving.port)?;
+    tell_port(alloc, &listener, serving, out)?;
+    let process = Process { alloc, files };
+    let terms = terms_of(serving);
+    let shifts = run_workers(
+        rt, alloc, workers, &listener, rules, &process, beside, terms,
+    )?;
+    Ok(shifts)
 }
 
 /// Serves a store over these blocks, under the rules that the options ask for, until each worker
@@ -178,14 +218,7 @@ fn serve_blocks<
     let count = serving.workers as usize;
     let passes = passes_of(serving);
     let workers = Workers::<J, &R>::open(rt, alloc, store, blocks, passes, count)?;
-    let listener = listen(rt, serving.port)?;
-    tell_port(alloc, &listener, serving, out)?;
-    let process = Process { alloc, files };
-    let terms = terms_of(serving);
-    let shifts = run_workers(
-        rt, alloc, workers, &listener, rules, &process, beside, terms,
-    )?;
-    Ok(shifts)
+    serve_workers(rt, alloc, files, workers, rules, beside, serving, out)
 }
 
 /// Listens on the status port, if there is one, and does not wait for its clients.
@@ -261,7 +294,7 @@ fn open_beside<R: Threads + Clock + Sync, F: ReadFiles>(
 }
 
 /// How many connections each worker served.
-fn counts_of(alloc: Global, shifts: &[Shift<'_>]) -> Result<Vec<u64>, AllocError>
+pub(crate) fn counts_of(alloc: Global, shifts: &[Shift<'_>]) -> Result<Vec<u64>, AllocError>
     ensures { IfOk result (λ counts. counts.items ≡ map served_in shifts.now) }
 {
     let mut counts = Vec::new(alloc);
@@ -271,11 +304,46 @@ fn counts_of(alloc: Global, shifts: &[Shift<'_>]) -> Result<Vec<u64>, AllocError
     Ok(counts)
 }
 
-/// Serves a store over the blocks in these directories, and over them an empty head, until each
-/// worker has ended: how many connections each served, as many as were asked for.
+/// Serves a store over the blocks in these directories, and over them an empty head, as
+/// [`serve_blocks`] does: how many connections each worker served.
+fn serve_directories<
+    R: Wait + Threads + Net<Listener = TcpListener, Stream = TcpStream> + Clock + Eprint + Sync,
+    F: ReadFiles,
+    W: Write,
+>(
+    rt: &R,
+    alloc: Global,
+    files: &F,
+    directories: &[&str],
+    rules: &Rules,
+    beside: Option<&TcpListener>,
+    serving: Serving<'_>,
+    out: &mut W,
+) -> Result<Vec<u64>, Fault>
+    requires asked { AreRulesOf (F.may_read files.now) serving rules.now }
+    ensures ok { OnOk result (IsListening (F.may_read files.now) serving.entry
+        (paths_of directories.now) (W.contents out.old) (W.contents out.new)) }
+    ensures workers { IfOk result (λ counts. vec_len counts ≡ serving.entry.workers) }
+    ensures served { IfOk result (λ counts. All (λ n. n ≡ serving.entry.requests) counts.items) }
+    ensures err { IfErr result (λ fault. IsDirectoriesFault (F.may_read files.now)
+        (paths_of directories.now) serving.entry (W.contents out.old) (W.contents out.new) fault) }
+{
+    let blocks = open_beside(rt, alloc, files, directories, beside)?;
+    let store = Store::new();
+    let shifts = serve_blocks::<Brand, R, F, W>(
+        rt, alloc, files, store, blocks, rules, beside, serving, out,
+    )?;
+    let counts = counts_of(alloc, shifts.as_slice())?;
+    Ok(counts)
+}
+
+/// Serves a store until each worker has ended: how many connections each served, as many as were
+/// asked for. It is the one that is kept in a folder, if the options name one; else it is one over
+/// the blocks in these directories, with an empty head over them.
 ///
-/// The rules are read, and the status port is listened on; the directories are opened as by
-/// `select`; then the store is opened, the port listened on, and `listening P` written.
+/// The rules are read, and the status port is listened on; the folder is locked and its journal
+/// replayed, or the directories are opened as by `select`; then the store is opened, the port
+/// listened on, and `listening P` written.
 pub fn serve<
     R: Wait + Threads + Net<Listener = TcpListener, Stream = TcpStream> + Clock + Eprint + Sync,
     F: ReadFiles,
@@ -288,7 +356,7 @@ pub fn serve<
     directories: &[&str],
     out: &mut W,
 ) -> Result<Vec<u64>, Fault>
-    ensures ok { OnOk result (IsListening (F.may_read files.now) serving.entry
+    ensures ok { OnOk result (IsServing (F.may_read files.now) serving.entry
         (paths_of directories.now) (W.contents out.old) (W.contents out.new)) }
     ensures workers { IfOk result (λ counts. vec_len counts ≡ serving.entry.workers) }
     ensures served { IfOk result (λ counts. All (λ n. n ≡ serving.entry.requests) counts.items) }
@@ -298,11 +366,8 @@ pub fn serve<
     let rules = rules_of(alloc, files, serving)?;
     let listener = listen_beside(rt, serving)?;
     let beside = listener.as_ref();
-    let blocks = open_beside(rt, alloc, files, directories, beside)?;
-    let store = Store::new();
-    let shifts = serve_blocks::<Brand, R, F, W>(
-        rt, alloc, files, store, blocks, &rules, beside, serving, out,
-    )?;
-    let counts = counts_of(alloc, shifts.as_slice())?;
-    Ok(counts)
+    match serving.data {
+        Some(folder) => serve_data(rt, alloc, files, folder, &rules, beside, serving, out),
+        None => serve_directories(rt, alloc, files, directories, &rules, beside, serving, out),
+    }
 }

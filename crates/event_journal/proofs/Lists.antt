@@ -83,6 +83,8 @@ refuses_at vs i d content events error lt is so_far f = record {
   before = contents_in (take i vs);
   content = content;
   after = contents_in (drop (suc i) vs);
+  events = events;
+  earlier = so_far;
   parts = ap contents_in (sym (take-append-drop i vs)
       ∙ ap (λ (x : List Bytes). take i vs ++ x) (drop-cons vs i d lt))
       ∙ map-append (λ (w : Bytes). w.items) (take i vs) (get_or vs i d ∷ drop (suc i) vs)

@@ -8,6 +8,7 @@ use Rattle.event_text.specs.declared.error.EventError.TheVariants.{Text, Matcher
 use Rattle.event_text.specs.Outcome.{FollowsFrom, HasRefusedMatcher}
 use Rattle.event_text.specs.Reading.{event_of}
 use Rattle.event_journal.specs.declared.events.Refused.{Refused}
+use Rattle.event_journal.specs.Holding.{Spell}
 
 -- one of these events is a deletion, one of whose matchers `Matcher::new` may refuse
 abbrev pub HasRefusedDeletion : List Event → Type 0
@@ -24,11 +25,13 @@ abbrev pub GivesEvents : List Event → Result (Vec Event Global) Refused → Ty
 GivesEvents events (Ok found) = found.items ≡ events
 GivesEvents events (Err refused) = MayRefuse events refused.error
 
--- the content at a place is refused so
+-- the first content that spells no event stands at this place, and is refused so
 pub record RefusesAt (contents : List (List ℕ)) (at : ℕ) (error : EventError) : Type 0 where
   pub before : List (List ℕ)
   pub content : List ℕ
   pub after : List (List ℕ)
+  pub events : List Event
+  pub earlier : Spell before events
   pub parts : contents ≡ before ++ content ∷ after
   pub place : at ≡ length before
   pub refused : FollowsFrom (event_of content) (Err error)

@@ -32,10 +32,15 @@ pub trait Keeper {
     /// The world that a start might find after a crash at some moment from that one on.
     ghost found_since: { Self → ℕ → World → Type 0 };
 
-    /// Whether keepers of this kind keep nothing, so that no record need be made: they hold any
-    /// events.
+    /// Whether keepers of this kind keep nothing, so that no record need be made.
+    ghost idle: { Bool };
+
+    /// These hold any events.
+    ghost any: { idle ≡ true → (k : Self) (events : List Change) → holds k events };
+
+    /// Whether keepers of this kind keep nothing.
     fn is_idle() -> bool
-        ensures { result ≡ true → (k : Self) (events : List Change) → holds k events };
+        ensures { result ≡ idle };
 
     /// Keeps several events more, for good, by their records. After an `Err` it keeps what it kept.
     fn keep(&mut self, records: &[u8]) -> Result<(), KeepError>
@@ -47,6 +52,8 @@ pub trait Keeper {
             → SpellTogether records.now more → kept_last self.new events more) }
         ensures err { OnErr result ((events : List Change) → holds self.old events
             → holds self.new events) }
+        // Nothing can fail where nothing is kept.
+        ensures needed { OnErr result (idle ≡ false) }
         // A crash at any moment of the call leaves all that it kept, and the first few of these.
         ensures any_moment { (events more : List Change) → holds self.old events
             → SpellTogether records.now more → closed self.old ≡ false
@@ -87,6 +94,10 @@ impl Keeper for NoKeeper {
     ghost use Rattle.head.specs.Heads.{world_of};
 
     ghost first = { world_of (opening_of []) };
+
+    ghost idle = { true };
+
+    ghost any = { λ idle k events. tt };
 
     ghost holds = { λ k events. Unit {0} };
 

@@ -14,7 +14,7 @@ pub struct Counts {
     /// Requests of no path, and what was no request.
     pub other: PathCounts,
     /// Refusals by number, by their [`place_of_refusal`].
-    pub refusals: [u64; 11],
+    pub refusals: [u64; 12],
     /// Batches, deletions and cuts that the store accepted.
     pub batches: u64,
     pub deletions: u64,
@@ -53,7 +53,7 @@ impl Counts {
             delete: PathCounts::none(),
             cut: PathCounts::none(),
             other: PathCounts::none(),
-            refusals: [0; 11],
+            refusals: [0; 12],
             batches: 0,
             deletions: 0,
             cuts: 0,
@@ -106,12 +106,12 @@ pub(crate) fn statuses() -> &'static [u64]
     &[200, 400, 403, 404, 405, 409, 413, 431, 503]
 }
 
-/// The numbers of refusals, each in its place of [`Counts::refusals`]: there is no `H11`.
+/// The numbers of refusals, each in its place of [`Counts::refusals`].
 #[tactic(auto, unfolding(crate::specs::Bounds::refusals))]
 pub(crate) fn refusal_numbers() -> &'static [u64]
     ensures { result.now ≡ refusals }
 {
-    &[1, 2, 3, 4, 5, 6, 7, 8, 9, 10, 12]
+    &[1, 2, 3, 4, 5, 6, 7, 8, 9, 10, 11, 12]
 }
 
 /// The place of a status in [`PathCounts::replies`], if replies have it.

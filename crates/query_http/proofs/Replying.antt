@@ -1,5 +1,6 @@
 -- Replies, put together from what is known of their parts.
-use Rattle.std.proofs.Common.{◌≡◌, ◌≢◌, ℕ, List, [], Option, IfSome, Result, Ok, Err, IfOk, inl}
+use Rattle.std.proofs.Common.{◌≡◌, ◌≢◌, ℕ, Bool, false, List, [], Option, IfSome, Result, Ok, Err}
+use Rattle.std.proofs.Common.{IfOk, inl}
 use Rattle.std.proofs.Common.{inr, refl, sym, ap, subst, ◌∙◌, codes, None, Some}
 use Rattle.serde_json.specs.Written.{compact_text}
 use Rattle.matchers.specs.Views.{QueryView}
@@ -7,13 +8,15 @@ use Rattle.head.specs.Codes.{commit_code}
 use Rattle.head.specs.Heads.{SnapshotParts}
 use Rattle.head.specs.Worlds.{Event}
 use Rattle.head.specs.declared.error.CommitError.{CommitError}
-use Rattle.head.specs.declared.error.CommitError.TheVariants.{Memory}
-use Rattle.snapshots.specs.Replays.{IsRefusedAfter, IsOfSeatOrMemory}
+use Rattle.head.specs.declared.error.CommitError.TheVariants.{OutOfBounds, OutOfOrder, Duplicate}
+use Rattle.head.specs.declared.error.CommitError.TheVariants.{Limit, CutTooLow, TooManyParts, Seat}
+use Rattle.head.specs.declared.error.CommitError.TheVariants.{Journal, Memory}
+use Rattle.snapshots.specs.Replays.{IsRefusedAfter, IsOfStore}
 use Rattle.snapshots.specs.Seats.{SeatView}
 use Rattle.snapshots.specs.Views.{Known}
 use Rattle.snapshots.proofs.Prefixes.{prefix_self}
 use Rattle.requests.specs.declared.refusal.Cause.{Cause}
-use Rattle.requests.specs.declared.refusal.Refusal.TheVariants.{Refused}
+use Rattle.requests.specs.declared.refusal.Refusal.TheVariants.{Refused, NotKept}
 use Rattle.requests.specs.declared.status.Status.{Status}
 use Rattle.requests.specs.declared.status.Status.TheVariants.{Done, Conflict}
 use Rattle.guard.specs.Judging.{no_rules}
@@ -55,47 +58,80 @@ answer_replied opening query before after answer (Ok r) h number spelled =
     inl (record { answer = answer; headline = h; number = number; spelled = spelled })
 answer_replied opening query before after answer (Err e) h number spelled = tt
 
--- of a refusal that is the seat's or memory's no more is said
-pub seat_refused : (opening : SnapshotParts) (seat : SeatView) (event : Event) (error : CommitError)
-    → IsOfSeatOrMemory error
-    → IsRefusedAfter opening seat error event
-seat_refused opening seat event error (inl e) other no_memory = absurd (other e)
-seat_refused opening seat event error (inr e) other no_memory = absurd (no_memory e)
+-- of a refusal that is the store's own no more is said
+pub store_refused : (opening : SnapshotParts) (seat : SeatView) (event : Event)
+    (error : CommitError) → IsOfStore error → IsRefusedAfter opening seat error event
+store_refused opening seat event error own other = absurd (other own)
 
-pub conflict_replied : {E : Type 0} (opening : SnapshotParts) (event : Event)
-    (before after : Worker) (error : CommitError) (result : Result Reply E)
+-- the reply to an event that was refused, by whether it was not kept
+refused_or_unkept : (opening : SnapshotParts) (idle : Bool) (event : Event)
+    (before after : Worker) (error : CommitError) (status : Status) (text : List ℕ)
     → after ≡ before → IsRefusedAfter opening before.seat error event
-    → IfOk result (λ _. error ≢ Memory) → IfOk result (λ r. r.status ≡ Conflict)
-    → IfOk result (λ r. text_of r ≡ reply_text Conflict (conflict_body error))
-    → IfOk result (λ r. IsEventReply opening event before after r.status (text_of r))
-conflict_replied opening event before after error (Ok r) same found no_memory number spelled =
-    inr (record {
+    → (error ≡ Journal → idle ≡ false) → error ≢ Memory
+    → (error ≡ Journal → IsReplyOfRefusal NotKept status text)
+    → (error ≢ Journal → status ≡ Conflict)
+    → (error ≢ Journal → text ≡ reply_text Conflict (conflict_body error))
+    → (error ≡ Journal) ⊎ (error ≢ Journal)
+    → IsEventReply opening idle event before after status text
+refused_or_unkept opening idle event before after error status text same found keeps no_memory
+    unkept number spelled (inl is) =
+    inr (inr (record { keeps = keeps is; refused = unkept is; same = same }))
+refused_or_unkept opening idle event before after error status text same found keeps no_memory
+    unkept number spelled (inr other) =
+    inr (inl (record {
       error = error;
       found = found;
       no_memory = no_memory;
+      no_journal = other;
       same = same;
-      number = number;
-      spelled = spelled;
-    })
-conflict_replied opening event before after error (Err e) same found no_memory number spelled = tt
+      number = number other;
+      spelled = spelled other;
+    }))
+
+-- whether an event was not kept
+is_journal : (error : CommitError) → (error ≡ Journal) ⊎ (error ≢ Journal)
+is_journal (OutOfBounds at) = inr (λ e. cc)
+is_journal (OutOfOrder at) = inr (λ e. cc)
+is_journal (Duplicate at) = inr (λ e. cc)
+is_journal Limit = inr (λ e. cc)
+is_journal CutTooLow = inr (λ e. cc)
+is_journal TooManyParts = inr (λ e. cc)
+is_journal Seat = inr (λ e. cc)
+is_journal Journal = inl refl
+is_journal Memory = inr (λ e. cc)
+
+pub event_refused : {E : Type 0} (opening : SnapshotParts) (idle : Bool) (event : Event)
+    (before after : Worker) (error : CommitError) (result : Result Reply E)
+    → after ≡ before → IsRefusedAfter opening before.seat error event
+    → (error ≡ Journal → idle ≡ false) → IfOk result (λ _. error ≢ Memory)
+    → (error ≡ Journal → IfOk result (λ r. IsReplyOfRefusal NotKept r.status (text_of r)))
+    → (error ≢ Journal → IfOk result (λ r. r.status ≡ Conflict))
+    → (error ≢ Journal → IfOk result (λ r. text_of r ≡ reply_text Conflict (conflict_body error)))
+    → IfOk result (λ r. IsEventReply opening idle event before after r.status (text_of r))
+event_refused opening idle event before after error (Ok r) same found keeps no_memory unkept number
+    spelled =
+    refused_or_unkept opening idle event before after error r.status (text_of r) same found keeps
+    no_memory unkept number spelled (is_journal error)
+event_refused opening idle event before after error (Err e) same found keeps no_memory unkept number
+    spelled = tt
 
 -- a connection that got no reply
-pub silent_served : (Asks : List ℕ → Meaning → Type 0) (opening : SnapshotParts)
+pub silent_served : (Asks : List ℕ → Meaning → Type 0) (opening : SnapshotParts) (idle : Bool)
     (input : Option (List ℕ)) (before after : Worker)
     (old new : Option (List ℕ)) (how : Served) → IsSilent how
     → (how ≡ served.Closed → IfSome input (λ bytes. bytes ≡ []))
     → (how ≡ served.Closed → after ≡ before) → (how ≡ served.ReadFault → after ≡ before)
-    → IsIdle before after → Serves Asks opening input before after old new how
-silent_served Asks opening input before after old new (served.Replied status) p closed unasked
-    unread idle = absurd p
-silent_served Asks opening input before after old new served.WriteFault p closed unasked unread
-    idle = absurd p
-silent_served Asks opening input before after old new served.Closed p closed unasked unread idle =
+    → IsIdle before after → Serves Asks opening idle input before after old new how
+silent_served Asks opening idle input before after old new (served.Replied status) p closed unasked
+    unread still = absurd p
+silent_served Asks opening idle input before after old new served.WriteFault p closed unasked unread
+    still = absurd p
+silent_served Asks opening idle input before after old new served.Closed p closed unasked unread still =
     (closed refl, unasked refl)
-silent_served Asks opening input before after old new served.ReadFault p closed unasked unread
-    idle = unread refl
-silent_served Asks opening input before after old new served.NoMemory p closed unasked unread
-    idle = idle
+silent_served Asks opening idle input before after old new served.ReadFault p closed unasked unread
+    still = unread refl
+silent_served Asks opening idle input before after old new served.NoMemory p closed unasked unread
+    still = still
 
 same_idle : (before after : Worker) → after ≡ before → IsIdle before after
 same_idle before after e = subst (λ (w : Worker). IsIdle before w) (sym e) (record {
@@ -104,92 +140,92 @@ same_idle before after e = subst (λ (w : Worker). IsIdle before w) (sym e) (rec
   seen = prefix_self before.known.seen;
 })
 
-reply_idle : (rules : Rules) (opening : SnapshotParts) (bytes : List ℕ) (before after : Worker)
+reply_idle : (rules : Rules) (opening : SnapshotParts) (idle : Bool) (bytes : List ℕ) (before after : Worker)
     (status : Status) (text : List ℕ) → IsBarred rules bytes
-    → IsReply (MeansUnder rules) opening (Some bytes) before after status text
+    → IsReply (MeansUnder rules) opening idle (Some bytes) before after status text
     → IsIdle before after
-reply_idle rules opening bytes before after status text b (inl h) = same_idle before after h.same
-reply_idle rules opening bytes before after status text b (inr h) =
+reply_idle rules opening idle bytes before after status text b (inl h) = same_idle before after h.same
+reply_idle rules opening idle bytes before after status text b (inr h) =
     absurd (asks_nothing rules bytes h.request b h.means)
 
-barred_bytes : (rules : Rules) (opening : SnapshotParts) (bytes : List ℕ) (before after : Worker)
+barred_bytes : (rules : Rules) (opening : SnapshotParts) (idle : Bool) (bytes : List ℕ) (before after : Worker)
     (old new : Option (List ℕ)) (how : Served) → IsBarred rules bytes
-    → Serves (MeansUnder rules) opening (Some bytes) before after old new how
+    → Serves (MeansUnder rules) opening idle (Some bytes) before after old new how
     → IsIdle before after
-barred_bytes rules opening bytes before after old new (served.Replied status) b h =
-    reply_idle rules opening bytes before after status h.text b h.reply
-barred_bytes rules opening bytes before after old new served.WriteFault b h =
-    reply_idle rules opening bytes before after h.status h.text b h.reply
-barred_bytes rules opening bytes before after old new served.Closed b h =
+barred_bytes rules opening idle bytes before after old new (served.Replied status) b h =
+    reply_idle rules opening idle bytes before after status h.text b h.reply
+barred_bytes rules opening idle bytes before after old new served.WriteFault b h =
+    reply_idle rules opening idle bytes before after h.status h.text b h.reply
+barred_bytes rules opening idle bytes before after old new served.Closed b h =
     same_idle before after h.1
-barred_bytes rules opening bytes before after old new served.ReadFault b h =
+barred_bytes rules opening idle bytes before after old new served.ReadFault b h =
     same_idle before after h
-barred_bytes rules opening bytes before after old new served.NoMemory b h = h
+barred_bytes rules opening idle bytes before after old new served.NoMemory b h = h
 
 -- what is not admitted changes nothing
-pub barred_idle : (rules : Rules) (opening : SnapshotParts) (input : Option (List ℕ))
+pub barred_idle : (rules : Rules) (opening : SnapshotParts) (idle : Bool) (input : Option (List ℕ))
     (before after : Worker) (old new : Option (List ℕ)) (how : Served)
-    → Serves (MeansUnder rules) opening input before after old new how
+    → Serves (MeansUnder rules) opening idle input before after old new how
     → IfSome input (λ bytes. IsBarred rules bytes → IsIdle before after)
-barred_idle rules opening None before after old new how h = tt
-barred_idle rules opening (Some bytes) before after old new how h =
-    λ b. barred_bytes rules opening bytes before after old new how b h
+barred_idle rules opening idle None before after old new how h = tt
+barred_idle rules opening idle (Some bytes) before after old new how h =
+    λ b. barred_bytes rules opening idle bytes before after old new how b h
 
 -- The same replies, where what bytes mean under no rules is what they mean.
-reply_unruled : (opening : SnapshotParts) (input : Option (List ℕ)) (before after : Worker)
+reply_unruled : (opening : SnapshotParts) (idle : Bool) (input : Option (List ℕ)) (before after : Worker)
     (status : Status) (text : List ℕ)
-    → IsReply (MeansUnder no_rules) opening input before after status text
-    → IsReply Means opening input before after status text
-reply_unruled opening None before after status text (inl h) = inl (record {
+    → IsReply (MeansUnder no_rules) opening idle input before after status text
+    → IsReply Means opening idle input before after status text
+reply_unruled opening idle None before after status text (inl h) = inl (record {
   refusal = h.refusal;
   of_bytes = h.of_bytes;
   means = tt;
   refused = h.refused;
   same = h.same;
 })
-reply_unruled opening (Some bytes) before after status text (inl h) = inl (record {
+reply_unruled opening idle (Some bytes) before after status text (inl h) = inl (record {
   refusal = h.refusal;
   of_bytes = h.of_bytes;
   means = means_unruled bytes (Err h.refusal) h.means;
   refused = h.refused;
   same = h.same;
 })
-reply_unruled opening None before after status text (inr h) = inr (record {
+reply_unruled opening idle None before after status text (inr h) = inr (record {
   request = h.request;
   means = tt;
   fits = h.fits;
   done = h.done;
 })
-reply_unruled opening (Some bytes) before after status text (inr h) = inr (record {
+reply_unruled opening idle (Some bytes) before after status text (inr h) = inr (record {
   request = h.request;
   means = means_unruled bytes (Ok h.request) h.means;
   fits = h.fits;
   done = h.done;
 })
 
-served_plain : (opening : SnapshotParts) (input : Option (List ℕ)) (before after : Worker)
+served_plain : (opening : SnapshotParts) (idle : Bool) (input : Option (List ℕ)) (before after : Worker)
     (old new : Option (List ℕ)) (how : Served)
-    → Serves (MeansUnder no_rules) opening input before after old new how
-    → Serves Means opening input before after old new how
-served_plain opening input before after old new (served.Replied status) h = record {
+    → Serves (MeansUnder no_rules) opening idle input before after old new how
+    → Serves Means opening idle input before after old new how
+served_plain opening idle input before after old new (served.Replied status) h = record {
   text = h.text;
-  reply = reply_unruled opening input before after status h.text h.reply;
+  reply = reply_unruled opening idle input before after status h.text h.reply;
   written = h.written;
 }
-served_plain opening input before after old new served.WriteFault h = record {
+served_plain opening idle input before after old new served.WriteFault h = record {
   status = h.status;
   text = h.text;
-  reply = reply_unruled opening input before after h.status h.text h.reply;
+  reply = reply_unruled opening idle input before after h.status h.text h.reply;
   written = h.written;
 }
-served_plain opening input before after old new served.Closed h = h
-served_plain opening input before after old new served.ReadFault h = h
-served_plain opening input before after old new served.NoMemory h = h
+served_plain opening idle input before after old new served.Closed h = h
+served_plain opening idle input before after old new served.ReadFault h = h
+served_plain opening idle input before after old new served.NoMemory h = h
 
-pub served_unruled : (rules : Rules) (opening : SnapshotParts) (input : Option (List ℕ))
+pub served_unruled : (rules : Rules) (opening : SnapshotParts) (idle : Bool) (input : Option (List ℕ))
     (before after : Worker) (old new : Option (List ℕ)) (how : Served) → rules ≡ no_rules
-    → Serves (MeansUnder rules) opening input before after old new how
-    → Serves Means opening input before after old new how
-served_unruled rules opening input before after old new how is h =
-    served_plain opening input before after old new how
-    (subst (λ (r : Rules). Serves (MeansUnder r) opening input before after old new how) is h)
+    → Serves (MeansUnder rules) opening idle input before after old new how
+    → Serves Means opening idle input before after old new how
+served_unruled rules opening idle input before after old new how is h =
+    served_plain opening idle input before after old new how
+    (subst (λ (r : Rules). Serves (MeansUnder r) opening idle input before after old new how) is h)

@@ -4,7 +4,7 @@ use Rattle.requests.specs.declared.refusal.Refusal.{Refusal}
 use Rattle.requests.specs.declared.refusal.Refusal.TheVariants.{BadHead, HeadTooLong, NoSuchPath}
 use Rattle.requests.specs.declared.refusal.Refusal.TheVariants.{Method, BadQuery, BadSelector}
 use Rattle.requests.specs.declared.refusal.Refusal.TheVariants.{BadBody, BodyTooLong, Refused}
-use Rattle.requests.specs.declared.refusal.Refusal.TheVariants.{Unavailable, Guarded}
+use Rattle.requests.specs.declared.refusal.Refusal.TheVariants.{Unavailable, NotKept, Guarded}
 use Rattle.requests.specs.declared.request.Request.{Request}
 use Rattle.requests.specs.declared.request.Request.TheVariants.{Select, Write, Delete, Cut}
 use Rattle.requests.specs.declared.target.Path.{Path}
@@ -37,4 +37,5 @@ number_of BadBody = 7
 number_of BodyTooLong = 8
 number_of (Refused cause) = 9
 number_of Unavailable = 10
+number_of NotKept = 11
 number_of Guarded = 12

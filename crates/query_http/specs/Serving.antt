@@ -1,6 +1,6 @@
 -- What a request gets: the reply to it, and what the pass and the seat of its worker are then.
-use Rattle.std.specs.Prelude.{◌≡◌, ◌≢◌, ◌⊎◌, ℕ, List, [], Option, None, Some, Ok, Err, IfSome}
-use Rattle.std.specs.Prelude.{codes, ⊤}
+use Rattle.std.specs.Prelude.{◌≡◌, ◌≢◌, ◌⊎◌, ℕ, Bool, false, List, [], Option, None, Some, Ok, Err}
+use Rattle.std.specs.Prelude.{IfSome, codes, ⊤}
 use Rattle.std.specs.Io.KnownBytes.{Appends}
 use mathlib.Core.List.{IsPrefix}
 use Rattle.serde_json.specs.Written.{compact_text}
@@ -16,7 +16,7 @@ use Rattle.snapshots.specs.Replays.{EndsWith, AreAccepted, IsRefusedAfter}
 use Rattle.snapshots.specs.Seats.{SeatView, HasOneMoreEvent}
 use Rattle.snapshots.specs.Views.{Known}
 use Rattle.requests.specs.declared.refusal.Refusal.{Refusal}
-use Rattle.requests.specs.declared.refusal.Refusal.TheVariants.{Unavailable}
+use Rattle.requests.specs.declared.refusal.Refusal.TheVariants.{Unavailable, NotKept}
 use Rattle.requests.specs.declared.request.Request.{Request}
 use Rattle.requests.specs.declared.request.Request.TheVariants as asks
 use Rattle.requests.specs.declared.status.Status.{Status}
@@ -75,6 +75,7 @@ refused_at commit_error.Limit = None
 refused_at commit_error.CutTooLow = None
 refused_at commit_error.TooManyParts = None
 refused_at commit_error.Seat = None
+refused_at commit_error.Journal = None
 refused_at commit_error.Memory = None
 
 -- what is said of an event that the store refuses
@@ -105,26 +106,36 @@ pub record IsRefusedReply (opening : SnapshotParts) (event : Event) (before afte
   pub error : CommitError
   pub found : IsRefusedAfter opening before.seat error event
   pub no_memory : error ≢ commit_error.Memory
+  pub no_journal : error ≢ commit_error.Journal
   pub same : after ≡ before
   pub number : status ≡ Conflict
   pub spelled : text ≡ reply_text Conflict (conflict_body error)
 
--- the reply to an event
-abbrev pub IsEventReply : SnapshotParts → Event → Worker → Worker → Status → List ℕ → Type 0
-IsEventReply opening event before after status text =
+-- The store is one that keeps events, and did not keep this one, by `H11`; and nothing changed.
+pub record IsUnkeptReply (idle : Bool) (before after : Worker)
+    (status : Status) (text : List ℕ) : Type 0 where
+  pub keeps : idle ≡ false
+  pub refused : IsReplyOfRefusal NotKept status text
+  pub same : after ≡ before
+
+-- the reply to an event, by whether the store keeps nothing (`idle`)
+abbrev pub IsEventReply : SnapshotParts → Bool → Event → Worker → Worker → Status → List ℕ → Type 0
+IsEventReply opening idle event before after status text =
     IsAcceptedReply opening event before after status text
-    ⊎ IsRefusedReply opening event before after status text
+    ⊎ (IsRefusedReply opening event before after status text
+    ⊎ IsUnkeptReply idle before after status text)
 
 -- the reply to a request: to its query, or to the one event that it spells
-abbrev pub IsRequestReply : SnapshotParts → Request → Worker → Worker → Status → List ℕ → Type 0
-IsRequestReply opening (asks.Select query) before after status text =
+abbrev pub IsRequestReply : SnapshotParts → Bool → Request → Worker → Worker → Status → List ℕ
+    → Type 0
+IsRequestReply opening idle (asks.Select query) before after status text =
     IsQueryReply opening query before.known after.known status text × IsIdle before after
-IsRequestReply opening (asks.Write rows) before after status text =
-    IsEventReply opening (batch (batch_of_rows rows.items)) before after status text
-IsRequestReply opening (asks.Delete matchers from to) before after status text =
-    IsEventReply opening (deletion matchers.items from to) before after status text
-IsRequestReply opening (asks.Cut t) before after status text =
-    IsEventReply opening (cut t) before after status text
+IsRequestReply opening idle (asks.Write rows) before after status text =
+    IsEventReply opening idle (batch (batch_of_rows rows.items)) before after status text
+IsRequestReply opening idle (asks.Delete matchers from to) before after status text =
+    IsEventReply opening idle (deletion matchers.items from to) before after status text
+IsRequestReply opening idle (asks.Cut t) before after status text =
+    IsEventReply opening idle (cut t) before after status text
 
 -- What bytes mean is a parameter of what follows: `Means`, or under rules `MeansUnder`.
 
@@ -140,47 +151,48 @@ pub record TurnsAway (Asks : List ℕ → Meaning → Type 0) (input : Option (L
 
 -- the bytes that came ask a request, which is fit for a store, and this is the reply to it
 pub record DoesAsked (Asks : List ℕ → Meaning → Type 0) (opening : SnapshotParts)
-    (input : Option (List ℕ)) (before after : Worker) (status : Status) (text : List ℕ)
-    : Type 0 where
+    (idle : Bool) (input : Option (List ℕ)) (before after : Worker) (status : Status)
+    (text : List ℕ) : Type 0 where
   pub request : Request
   pub means : IfSome input (λ bytes. Asks bytes (Ok request))
   pub fits : IsFit request
-  pub done : IsRequestReply opening request before after status text
+  pub done : IsRequestReply opening idle request before after status text
 
 -- the reply to the bytes that came
-abbrev pub IsReply : (List ℕ → Meaning → Type 0) → SnapshotParts → Option (List ℕ)
+abbrev pub IsReply : (List ℕ → Meaning → Type 0) → SnapshotParts → Bool → Option (List ℕ)
     → Worker → Worker → Status → List ℕ → Type 0
-IsReply Asks opening input before after status text =
+IsReply Asks opening idle input before after status text =
     TurnsAway Asks input before after status text
-    ⊎ DoesAsked Asks opening input before after status text
+    ⊎ DoesAsked Asks opening idle input before after status text
 
 -- the whole reply was written, and nothing else
 pub record Replies (Asks : List ℕ → Meaning → Type 0) (opening : SnapshotParts)
-    (input : Option (List ℕ)) (before after : Worker) (old new : Option (List ℕ))
+    (idle : Bool) (input : Option (List ℕ)) (before after : Worker) (old new : Option (List ℕ))
     (status : Status) : Type 0 where
   pub text : List ℕ
-  pub reply : IsReply Asks opening input before after status text
+  pub reply : IsReply Asks opening idle input before after status text
   pub written : Appends old new text
 
 -- less than the whole reply was written, a prefix of it, and nothing else
 pub record BeginsToReply (Asks : List ℕ → Meaning → Type 0) (opening : SnapshotParts)
-    (input : Option (List ℕ)) (before after : Worker) (old new : Option (List ℕ)) : Type 0 where
+    (idle : Bool) (input : Option (List ℕ)) (before after : Worker)
+    (old new : Option (List ℕ)) : Type 0 where
   pub status : Status
   pub text : List ℕ
-  pub reply : IsReply Asks opening input before after status text
+  pub reply : IsReply Asks opening idle input before after status text
   pub written : AppendsFront old new text
 
 -- how a connection was served, by what came and what was written
-abbrev pub Serves : (List ℕ → Meaning → Type 0) → SnapshotParts → Option (List ℕ)
+abbrev pub Serves : (List ℕ → Meaning → Type 0) → SnapshotParts → Bool → Option (List ℕ)
     → Worker → Worker → Option (List ℕ) → Option (List ℕ) → Served → Type 0
-Serves Asks opening input before after old new (served.Replied status) =
-    Replies Asks opening input before after old new status
-Serves Asks opening input before after old new served.WriteFault =
-    BeginsToReply Asks opening input before after old new
-Serves Asks opening input before after old new served.Closed =
+Serves Asks opening idle input before after old new (served.Replied status) =
+    Replies Asks opening idle input before after old new status
+Serves Asks opening idle input before after old new served.WriteFault =
+    BeginsToReply Asks opening idle input before after old new
+Serves Asks opening idle input before after old new served.Closed =
     IfSome input (λ bytes. bytes ≡ []) × (after ≡ before)
-Serves Asks opening input before after old new served.ReadFault = after ≡ before
-Serves Asks opening input before after old new served.NoMemory = IsIdle before after
+Serves Asks opening idle input before after old new served.ReadFault = after ≡ before
+Serves Asks opening idle input before after old new served.NoMemory = IsIdle before after
 
 -- nothing was replied
 abbrev pub IsSilent : Served → Type 0

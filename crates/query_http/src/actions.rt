@@ -6,9 +6,10 @@ ghost use Rattle.labels.specs.Contents.{is_time};
 ghost use Rattle.head.specs.BatchRows.{batch_of_rows};
 ghost use Rattle.head.specs.Batches.{is_batch, is_deletion};
 ghost use Rattle.head.specs.Worlds.{batch, deletion, cut};
-ghost use Rattle.head.specs.declared.error.CommitError.TheVariants.{Memory};
+ghost use Rattle.head.specs.declared.error.CommitError.TheVariants.{Journal, Memory};
 ghost use Rattle.requests.specs.Fitting.{IsFit};
 ghost use Rattle.requests.specs.Replies.{reply_text, done_text};
+ghost use Rattle.requests.specs.declared.refusal.Refusal.TheVariants.{NotKept};
 ghost use Rattle.requests.specs.declared.status.Status.TheVariants.{Done, Conflict};
 ghost use Rattle.query_http.specs.Reply.{text_of};
 ghost use Rattle.answers.specs.Body.{body_text};
@@ -22,6 +23,7 @@ use crate::buffers::Buffers;
 use crate::reply::Reply;
 use answers::{AnswerText, AskError, AuditedAnswer, answer_text, append_text, ask_by, length_of};
 use head::CommitError;
+use keeper::Keeper;
 use labels::Row;
 use matchers::{Matcher, Query};
 use requests::{Cause, Refusal, Request, Status, append_success_head, done_reply};
@@ -124,16 +126,12 @@ fn refused_at(error: CommitError) -> Option<usize>
     }
 }
 
-/// The reply to an event that the store refuses: `H9`, unless it is memory that is refused.
+/// The reply to an event that the store refuses for what it is: `H9`.
 fn conflict_reply(alloc: Global, error: CommitError) -> Result<Reply, AllocError>
-    ensures no_memory { IfOk result (λ _. error ≢ Memory) }
     ensures number { IfOk result (λ r. r.status ≡ Conflict) }
     ensures spelled { IfOk result (λ r.
         text_of r ≡ reply_text Conflict (conflict_body error)) }
 {
-    if error == CommitError::Memory {
-        return Err(AllocError);
-    }
     let cause = Cause {
         code: error.code(),
         at: refused_at(error),
@@ -141,17 +139,35 @@ fn conflict_reply(alloc: Global, error: CommitError) -> Result<Reply, AllocError
     refusal_reply(alloc, &Refusal::Refused(cause))
 }
 
+/// The reply to an event that is not accepted: `H11` where it is not kept, and `H9` where the store
+/// refuses it, unless it is memory that is refused.
+fn event_refusal_reply(alloc: Global, error: CommitError) -> Result<Reply, AllocError>
+    ensures no_memory { IfOk result (λ _. error ≢ Memory) }
+    ensures unkept { error ≡ Journal
+        → IfOk result (λ r. IsReplyOfRefusal NotKept r.status (text_of r)) }
+    ensures number { error ≢ Journal → IfOk result (λ r. r.status ≡ Conflict) }
+    ensures spelled { error ≢ Journal → IfOk result (λ r.
+        text_of r ≡ reply_text Conflict (conflict_body error)) }
+{
+    match error {
+        CommitError::Memory => Err(AllocError),
+        CommitError::Journal => refusal_reply(alloc, &Refusal::NotKept),
+        _ => conflict_reply(alloc, error),
+    }
+}
+
 /// Publishes a batch of rows. The reply of success is made before.
-fn write<J: Naming, C: Wait + Drop>(
+fn write<J: Naming, C: Wait + Drop, K: Keeper + Drop>(
     rt: &impl Wait,
     alloc: Global,
     rows: Vec<Row>,
     pass: &mut Pass<J>,
     seat: &mut Seat<J>,
-    committer: &Committer<J, C>,
+    committer: &Committer<J, C, K>,
 ) -> Result<Reply, AllocError>
     requires { IsTrue (is_batch (batch_of_rows rows.items)) }
-    ensures reply { IfOk result (λ r. IsEventReply J.opening (batch (batch_of_rows rows.items))
+    ensures reply { IfOk result (λ r. IsEventReply J.opening K.idle
+        (batch (batch_of_rows rows.items))
         (worker pass.old seat.old) (worker pass.new seat.new) r.status (text_of r)) }
     ensures kept { OnErr result ((pass.new ≡ pass.old) × (seat.new ≡ seat.old)) }
 {
@@ -161,21 +177,21 @@ fn write<J: Naming, C: Wait + Drop>(
             pass.learn(&receipt);
             Ok(done)
         }
-        Err((_rows, error)) => conflict_reply(alloc, error),
+        Err((_rows, error)) => event_refusal_reply(alloc, error),
     }
 }
 
 /// Publishes a deletion. The reply of success is made before.
-fn delete<J: Naming, C: Wait + Drop>(
+fn delete<J: Naming, C: Wait + Drop, K: Keeper + Drop>(
     rt: &impl Wait,
     alloc: Global,
     asked: (Vec<Matcher>, i64, i64),
     pass: &mut Pass<J>,
     seat: &mut Seat<J>,
-    committer: &Committer<J, C>,
+    committer: &Committer<J, C, K>,
 ) -> Result<Reply, AllocError>
     requires { IsTrue (is_deletion asked.0.items asked.1 asked.2) }
-    ensures reply { IfOk result (λ r. IsEventReply J.opening
+    ensures reply { IfOk result (λ r. IsEventReply J.opening K.idle
         (deletion asked.0.items asked.1 asked.2)
         (worker pass.old seat.old) (worker pass.new seat.new) r.status (text_of r)) }
     ensures kept { OnErr result ((pass.new ≡ pass.old) × (seat.new ≡ seat.old)) }
@@ -187,21 +203,21 @@ fn delete<J: Naming, C: Wait + Drop>(
             pass.learn(&receipt);
             Ok(done)
         }
-        Err((_matchers, error)) => conflict_reply(alloc, error),
+        Err((_matchers, error)) => event_refusal_reply(alloc, error),
     }
 }
 
 /// Publishes a cut. The reply of success is made before.
-fn cut_at<J: Naming, C: Wait + Drop>(
+fn cut_at<J: Naming, C: Wait + Drop, K: Keeper + Drop>(
     rt: &impl Wait,
     alloc: Global,
     at: i64,
     pass: &mut Pass<J>,
     seat: &mut Seat<J>,
-    committer: &Committer<J, C>,
+    committer: &Committer<J, C, K>,
 ) -> Result<Reply, AllocError>
     requires { IsTrue (is_time at) }
-    ensures reply { IfOk result (λ r. IsEventReply J.opening (cut at)
+    ensures reply { IfOk result (λ r. IsEventReply J.opening K.idle (cut at)
         (worker pass.old seat.old) (worker pass.new seat.new) r.status (text_of r)) }
     ensures kept { OnErr result ((pass.new ≡ pass.old) × (seat.new ≡ seat.old)) }
 {
@@ -211,23 +227,23 @@ fn cut_at<J: Naming, C: Wait + Drop>(
             pass.learn(&receipt);
             Ok(done)
         }
-        Err(error) => conflict_reply(alloc, error),
+        Err(error) => event_refusal_reply(alloc, error),
     }
 }
 
 /// Does what a request asks. A change that the store accepts is learnt by the pass, whatever
 /// becomes of the reply.
-pub(crate) fn act<J: Naming, C: Wait + Drop>(
+pub(crate) fn act<J: Naming, C: Wait + Drop, K: Keeper + Drop>(
     rt: &(impl Wait + Threads + Sync),
     alloc: Global,
     buffers: &mut Buffers,
     request: Request,
     pass: &mut Pass<J>,
     seat: &mut Seat<J>,
-    committer: &Committer<J, C>,
+    committer: &Committer<J, C, K>,
 ) -> Result<Reply, AllocError>
     requires { IsFit request }
-    ensures reply { IfOk result (λ r. IsRequestReply J.opening request
+    ensures reply { IfOk result (λ r. IsRequestReply J.opening K.idle request
         (worker pass.old seat.old) (worker pass.new seat.new) r.status (text_of r)) }
     ensures idle { OnErr result (IsIdle (worker pass.old seat.old) (worker pass.new seat.new)) }
 {

@@ -17,6 +17,7 @@ use crate::note::Note;
 use crate::outlet::{Outlet, write_reply};
 use crate::reply::Reply;
 use guard::Rules;
+use keeper::Keeper;
 use requests::{Inlet, ReadError, Refusal, Request, Status, path_in, read_admitted_into};
 use snapshots::{Committer, Naming, Pass, Seat};
 use std::alloc::Global;
@@ -50,17 +51,17 @@ fn turn_away(alloc: Global, refusal: &Refusal) -> Result<Reply, Served>
 }
 
 /// Does what a request asks, unless there is no memory.
-fn do_asked<J: Naming, C: Wait + Drop>(
+fn do_asked<J: Naming, C: Wait + Drop, K: Keeper + Drop>(
     rt: &(impl Wait + Threads + Sync),
     alloc: Global,
     buffers: &mut Buffers,
     request: Request,
     pass: &mut Pass<J>,
     seat: &mut Seat<J>,
-    committer: &Committer<J, C>,
+    committer: &Committer<J, C, K>,
 ) -> Result<Reply, Served>
     requires { IsFit request }
-    ensures reply { IfOk result (λ r. IsRequestReply J.opening request
+    ensures reply { IfOk result (λ r. IsRequestReply J.opening K.idle request
         (worker pass.old seat.old) (worker pass.new seat.new) r.status (text_of r)) }
     ensures memory { IfErr result (λ s. s ≡ Served.NoMemory) }
     ensures idle { OnErr result (IsIdle (worker pass.old seat.old) (worker pass.new seat.new)) }
@@ -72,7 +73,7 @@ fn do_asked<J: Naming, C: Wait + Drop>(
 }
 
 /// Reads a request and does what it asks: the reply, or why there is none.
-fn reply_to<J: Naming, C: Wait + Drop, R: Inlet>(
+fn reply_to<J: Naming, C: Wait + Drop, K: Keeper + Drop, R: Inlet>(
     rt: &(impl Wait + Threads + Sync),
     alloc: Global,
     rules: &Rules,
@@ -80,9 +81,10 @@ fn reply_to<J: Naming, C: Wait + Drop, R: Inlet>(
     reader: &mut R,
     pass: &mut Pass<J>,
     seat: &mut Seat<J>,
-    committer: &Committer<J, C>,
+    committer: &Committer<J, C, K>,
 ) -> Result<Reply, Served>
-    ensures reply { IfOk result (λ r. IsReply (MeansUnder rules.now) J.opening (R.input reader.old)
+    ensures reply { IfOk result (λ r. IsReply (MeansUnder rules.now) J.opening K.idle
+        (R.input reader.old)
         (worker pass.old seat.old) (worker pass.new seat.new) r.status (text_of r)) }
     ensures silent { IfErr result IsSilent }
     ensures idle { OnErr result (IsIdle (worker pass.old seat.old) (worker pass.new seat.new)) }
@@ -119,7 +121,7 @@ fn reply_to<J: Naming, C: Wait + Drop, R: Inlet>(
 
 /// Reads one request, does what it asks and writes the reply.
 #[tactic(auto, using(crate::proofs::Replying::silent_served))]
-fn serve_next<J: Naming, C: Wait + Drop, R: Inlet, W: Outlet>(
+fn serve_next<J: Naming, C: Wait + Drop, K: Keeper + Drop, R: Inlet, W: Outlet>(
     rt: &(impl Wait + Threads + Sync),
     alloc: Global,
     rules: &Rules,
@@ -128,9 +130,9 @@ fn serve_next<J: Naming, C: Wait + Drop, R: Inlet, W: Outlet>(
     writer: &mut W,
     pass: &mut Pass<J>,
     seat: &mut Seat<J>,
-    committer: &Committer<J, C>,
+    committer: &Committer<J, C, K>,
 ) -> Served
-    ensures serves { Serves (MeansUnder rules.now) J.opening (R.input reader.old)
+    ensures serves { Serves (MeansUnder rules.now) J.opening K.idle (R.input reader.old)
         (worker pass.old seat.old) (worker pass.new seat.new)
         (W.output writer.old) (W.output writer.new) result }
     ensures silent { IsSilent result → writer.new ≡ writer.old }
@@ -171,7 +173,7 @@ fn serve_next<J: Naming, C: Wait + Drop, R: Inlet, W: Outlet>(
 /// and waits as [`Committer::commit`] does. What the buffers held before plays no part, and of each
 /// at most [`MOST_KEPT`](crate::MOST_KEPT) bytes are kept. They note the status of the reply
 /// (`noted`), and none if no reply was made (`unnoted`).
-pub fn serve_one_with<J: Naming, C: Wait + Drop, R: Inlet, W: Outlet>(
+pub fn serve_one_with<J: Naming, C: Wait + Drop, K: Keeper + Drop, R: Inlet, W: Outlet>(
     rt: &(impl Wait + Threads + Sync),
     alloc: Global,
     rules: &Rules,
@@ -180,9 +182,9 @@ pub fn serve_one_with<J: Naming, C: Wait + Drop, R: Inlet, W: Outlet>(
     writer: &mut W,
     pass: &mut Pass<J>,
     seat: &mut Seat<J>,
-    committer: &Committer<J, C>,
+    committer: &Committer<J, C, K>,
 ) -> Served
-    ensures serves { Serves (MeansUnder rules.now) J.opening (R.input reader.old)
+    ensures serves { Serves (MeansUnder rules.now) J.opening K.idle (R.input reader.old)
         (worker pass.old seat.old) (worker pass.new seat.new)
         (W.output writer.old) (W.output writer.new) result }
     ensures silent { IsSilent result → writer.new ≡ writer.old }
@@ -204,16 +206,16 @@ pub fn serve_one_with<J: Naming, C: Wait + Drop, R: Inlet, W: Outlet>(
 
 /// Serves one connection as [`serve_one_with`] does, with buffers of its own and under no
 /// rules.
-pub fn serve_one<J: Naming, C: Wait + Drop, R: Inlet, W: Outlet>(
+pub fn serve_one<J: Naming, C: Wait + Drop, K: Keeper + Drop, R: Inlet, W: Outlet>(
     rt: &(impl Wait + Threads + Sync),
     alloc: Global,
     reader: &mut R,
     writer: &mut W,
     pass: &mut Pass<J>,
     seat: &mut Seat<J>,
-    committer: &Committer<J, C>,
+    committer: &Committer<J, C, K>,
 ) -> Served
-    ensures serves { Serves Means J.opening (R.input reader.old)
+    ensures serves { Serves Means J.opening K.idle (R.input reader.old)
         (worker pass.old seat.old) (worker pass.new seat.new)
         (W.output writer.old) (W.output writer.new) result }
     ensures silent { IsSilent result → writer.new ≡ writer.old }

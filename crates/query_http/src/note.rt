@@ -68,6 +68,7 @@ fn number_of(refusal: &Refusal) -> u64
         Refusal::BodyTooLong => 8,
         Refusal::Refused(_) => 9,
         Refusal::Unavailable => 10,
+        Refusal::NotKept => 11,
         Refusal::Guarded => 12,
     }
 }

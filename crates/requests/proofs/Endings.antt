@@ -9,7 +9,7 @@ use Rattle.requests.specs.declared.refusal.Refusal.TheVariants.{BadHead, HeadToo
 use Rattle.requests.specs.declared.refusal.Refusal.TheVariants.{Method, BadQuery, BadSelector}
 use Rattle.requests.specs.declared.refusal.Refusal.TheVariants.{BadBody, BodyTooLong}
 use Rattle.requests.specs.declared.refusal.Refusal.TheVariants.{Refused as RefusedEvent}
-use Rattle.requests.specs.declared.refusal.Refusal.TheVariants.{Unavailable, Guarded}
+use Rattle.requests.specs.declared.refusal.Refusal.TheVariants.{Unavailable, NotKept, Guarded}
 use Rattle.requests.specs.declared.request.Request.{Request}
 use Rattle.requests.specs.declared.request.ReadError.{ReadError}
 use Rattle.requests.specs.declared.request.ReadError.TheVariants.{Closed, Fault, Memory, Refused}
@@ -69,6 +69,7 @@ select_ends query BadBody p = absurd p
 select_ends query BodyTooLong p = absurd p
 select_ends query (RefusedEvent cause) p = absurd p
 select_ends query Unavailable p = absurd p
+select_ends query NotKept p = absurd p
 select_ends query Guarded p = absurd p
 
 delete_ends : (body : List ℕ) (refusal : Refusal) → DeleteMeans body (Err refusal)
@@ -83,6 +84,7 @@ delete_ends body BadBody p = tt
 delete_ends body BodyTooLong p = absurd p
 delete_ends body (RefusedEvent cause) p = absurd p
 delete_ends body Unavailable p = absurd p
+delete_ends body NotKept p = absurd p
 delete_ends body Guarded p = absurd p
 
 cut_ends : (body : List ℕ) (refusal : Refusal) → CutMeans body (Err refusal) → IsOfBytes refusal
@@ -96,6 +98,7 @@ cut_ends body BadBody p = tt
 cut_ends body BodyTooLong p = absurd p
 cut_ends body (RefusedEvent cause) p = absurd p
 cut_ends body Unavailable p = absurd p
+cut_ends body NotKept p = absurd p
 cut_ends body Guarded p = absurd p
 
 write_ends : (body : List ℕ) (refusal : Refusal) → WriteMeans body (Err refusal) → IsOfBytes refusal
@@ -109,6 +112,7 @@ write_ends body BadBody p = tt
 write_ends body BodyTooLong p = absurd p
 write_ends body (RefusedEvent cause) p = absurd p
 write_ends body Unavailable p = absurd p
+write_ends body NotKept p = absurd p
 write_ends body Guarded p = absurd p
 
 pub body_ends : (path : Path) (body : List ℕ) (refusal : Refusal) → BodyMeans path body

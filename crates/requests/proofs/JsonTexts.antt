@@ -11,7 +11,7 @@ use Rattle.requests.specs.declared.refusal.Refusal.TheVariants.{BadHead, HeadToo
 use Rattle.requests.specs.declared.refusal.Refusal.TheVariants.{Method, BadQuery, BadSelector}
 use Rattle.requests.specs.declared.refusal.Refusal.TheVariants.{BadBody, BodyTooLong}
 use Rattle.requests.specs.declared.refusal.Refusal.TheVariants.{Refused as RefusedEvent}
-use Rattle.requests.specs.declared.refusal.Refusal.TheVariants.{Unavailable, Guarded}
+use Rattle.requests.specs.declared.refusal.Refusal.TheVariants.{Unavailable, NotKept, Guarded}
 use Rattle.requests.specs.declared.request.ReadError.{ReadError}
 use Rattle.requests.specs.declared.request.ReadError.TheVariants.{Closed, Fault, Memory, Refused}
 use Rattle.requests.specs.Json.{json_of, are_many}
@@ -54,4 +54,5 @@ refused_delete body form is (Refused BadBody) p = absurd p
 refused_delete body form is (Refused BodyTooLong) p = absurd p
 refused_delete body form is (Refused (RefusedEvent cause)) p = absurd p
 refused_delete body form is (Refused Unavailable) p = absurd p
+refused_delete body form is (Refused NotKept) p = absurd p
 refused_delete body form is (Refused Guarded) p = absurd p

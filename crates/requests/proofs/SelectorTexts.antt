@@ -10,7 +10,7 @@ use Rattle.requests.specs.declared.refusal.Refusal.TheVariants.{BadHead, HeadToo
 use Rattle.requests.specs.declared.refusal.Refusal.TheVariants.{Method, BadQuery, BadSelector}
 use Rattle.requests.specs.declared.refusal.Refusal.TheVariants.{BadBody, BodyTooLong}
 use Rattle.requests.specs.declared.refusal.Refusal.TheVariants.{Refused as RefusedEvent}
-use Rattle.requests.specs.declared.refusal.Refusal.TheVariants.{Unavailable, Guarded}
+use Rattle.requests.specs.declared.refusal.Refusal.TheVariants.{Unavailable, NotKept, Guarded}
 use Rattle.requests.specs.declared.request.ReadError.{ReadError}
 use Rattle.requests.specs.declared.request.ReadError.TheVariants.{Closed, Fault, Memory, Refused}
 use Rattle.requests.specs.QueryStrings.{query_pairs, asked_in}
@@ -33,6 +33,7 @@ refused_select query form is (Refused BadBody) p = absurd p
 refused_select query form is (Refused BodyTooLong) p = absurd p
 refused_select query form is (Refused (RefusedEvent cause)) p = absurd p
 refused_select query form is (Refused Unavailable) p = absurd p
+refused_select query form is (Refused NotKept) p = absurd p
 refused_select query form is (Refused Guarded) p = absurd p
 
 -- what `Query::new` answers, of the numbers that it was passed

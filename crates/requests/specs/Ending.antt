@@ -5,7 +5,7 @@ use Rattle.requests.specs.declared.refusal.Refusal.{Refusal}
 use Rattle.requests.specs.declared.refusal.Refusal.TheVariants.{BadHead, HeadTooLong, NoSuchPath}
 use Rattle.requests.specs.declared.refusal.Refusal.TheVariants.{Method, BadQuery, BadSelector}
 use Rattle.requests.specs.declared.refusal.Refusal.TheVariants.{BadBody, BodyTooLong, Refused}
-use Rattle.requests.specs.declared.refusal.Refusal.TheVariants.{Unavailable, Guarded}
+use Rattle.requests.specs.declared.refusal.Refusal.TheVariants.{Unavailable, NotKept, Guarded}
 use Rattle.requests.specs.declared.request.ReadError.{ReadError}
 use Rattle.requests.specs.declared.request.ReadError.TheVariants as ends
 use Rattle.requests.specs.Edge.{HasGrown}
@@ -22,6 +22,7 @@ IsOfBytes BadBody = ⊤
 IsOfBytes BodyTooLong = ⊤
 IsOfBytes (Refused cause) = ⊥
 IsOfBytes Unavailable = ⊥
+IsOfBytes NotKept = ⊥
 IsOfBytes Guarded = ⊤
 
 -- where a refusal is the end, it is of what came

@@ -12,7 +12,7 @@ use Rattle.requests.specs.declared.refusal.Refusal.{Refusal}
 use Rattle.requests.specs.declared.refusal.Refusal.TheVariants.{BadHead, HeadTooLong, NoSuchPath}
 use Rattle.requests.specs.declared.refusal.Refusal.TheVariants.{Method, BadQuery, BadSelector}
 use Rattle.requests.specs.declared.refusal.Refusal.TheVariants.{BadBody, BodyTooLong, Refused}
-use Rattle.requests.specs.declared.refusal.Refusal.TheVariants.{Unavailable, Guarded}
+use Rattle.requests.specs.declared.refusal.Refusal.TheVariants.{Unavailable, NotKept, Guarded}
 
 -- the number of a refusal
 abbrev pub code_of : Refusal → List ℕ
@@ -26,6 +26,7 @@ code_of BadBody = codes "H7"
 code_of BodyTooLong = codes "H8"
 code_of (Refused cause) = codes "H9"
 code_of Unavailable = codes "H10"
+code_of NotKept = codes "H11"
 code_of Guarded = codes "H12"
 
 -- the status of the reply to it
@@ -40,6 +41,7 @@ status_of BadBody = status.BadRequest
 status_of BodyTooLong = status.ContentTooLarge
 status_of (Refused cause) = status.Conflict
 status_of Unavailable = status.ServiceUnavailable
+status_of NotKept = status.ServiceUnavailable
 status_of Guarded = status.Forbidden
 
 -- where a selector is refused, if a place is told
@@ -67,6 +69,7 @@ cause_of BadBody = None
 cause_of BodyTooLong = None
 cause_of (Refused cause) = Some (told_cause cause)
 cause_of Unavailable = None
+cause_of NotKept = None
 cause_of Guarded = None
 
 -- a refusal in a line, for people
@@ -81,4 +84,5 @@ refusal_message BadBody = codes "H7: the body is not of the path's form, or is c
 refusal_message BodyTooLong = codes "H8: the body has more than 1048576 bytes"
 refusal_message (Refused cause) = codes "H9: the store refuses the event: " ++ cause.code.now
 refusal_message Unavailable = codes "H10: the store lends no snapshot"
+refusal_message NotKept = codes "H11: the event is not kept"
 refusal_message Guarded = codes "H12: the rules of the server do not admit it"

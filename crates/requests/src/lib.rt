@@ -8,7 +8,7 @@
 //! body. A request that it answers is fit for a store: a batch has at most 4,096 samples, each at a
 //! time, a deletion has a range and at most 16 matchers, a cut is at a time.
 //!
-//! A [`Refusal`] is one of `H1` to `H10` or `H12`; its `reply` is the whole text that answers it.
+//! A [`Refusal`] is one of `H1` to `H12`; its `reply` is the whole text that answers it.
 //!
 //! [`append_success_head`] writes what stands before the body of a reply of success, and
 //! [`done_reply`] is the reply to a change that was made. The writing side and what is done with a

@@ -41,6 +41,9 @@ pub enum Refusal {
     Refused(Cause),
     /// `H10`: the store lends no snapshot.
     Unavailable,
+    /// `H11`: the store cannot keep the event where it would outlast the program, so no reader sees
+    /// it.
+    NotKept,
     /// `H12`: the rules of the server do not admit the request: it comes from a page of a browser,
     /// does not name this machine, or bears no token.
     Guarded,
@@ -62,6 +65,7 @@ impl Refusal {
             Refusal::BodyTooLong => "H8",
             Refusal::Refused(_) => "H9",
             Refusal::Unavailable => "H10",
+            Refusal::NotKept => "H11",
             Refusal::Guarded => "H12",
         }
     }
@@ -78,7 +82,7 @@ impl Refusal {
             Refusal::Method => Status::MethodNotAllowed,
             Refusal::BodyTooLong => Status::ContentTooLarge,
             Refusal::Refused(_) => Status::Conflict,
-            Refusal::Unavailable => Status::ServiceUnavailable,
+            Refusal::Unavailable | Refusal::NotKept => Status::ServiceUnavailable,
             Refusal::Guarded => Status::Forbidden,
         }
     }
@@ -121,6 +125,7 @@ impl fmt::Display for Refusal {
                 write!(f, "H9: the store refuses the event: {code}")
             }
             Refusal::Unavailable => write!(f, "H10: the store lends no snapshot"),
+            Refusal::NotKept => write!(f, "H11: the event is not kept"),
             Refusal::Guarded => write!(f, "H12: the rules of the server do not admit it"),
         }
     }

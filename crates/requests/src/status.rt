@@ -22,7 +22,7 @@ pub enum Status {
     ContentTooLarge,
     /// 431: the head is too long.
     HeadTooLarge,
-    /// 503: the store lends no snapshot.
+    /// 503: the store lends no snapshot, or cannot keep an event.
     ServiceUnavailable,
 }
 

@@ -1,5 +1,5 @@
 -- A connection more, after those that were served.
-use Rattle.std.proofs.Common.{◌≡◌, ℕ, ◌+◌, List, [], ◌∷◌, ◌++◌, Option, None, Some, refl, sym, ap}
+use Rattle.std.proofs.Common.{◌≡◌, ℕ, Bool, ◌+◌, List, [], ◌∷◌, ◌++◌, Option, None, Some, refl, sym, ap}
 use Rattle.std.proofs.Common.{subst, ◌∙◌, map, append_assoc, append-nil, length-append}
 use Rattle.std.proofs.lemmas.List.{map-append}
 use Rattle.head.specs.Heads.{SnapshotParts}
@@ -9,14 +9,14 @@ use Rattle.server.specs.Sessions.{Session, Ending, IsServed, AreServed, Arrives,
 use Rattle.server.specs.Sessions.{AreAdded}
 use Rattle.server.specs.Working.{Works}
 
-served_more : (rules : Rules) (opening : SnapshotParts) (before between after : Worker)
+served_more : (rules : Rules) (opening : SnapshotParts) (idle : Bool) (before between after : Worker)
     (ss : List Session) (s : Session)
-    → AreServed rules opening before ss between → IsServed rules opening between after s
-    → AreServed rules opening before (ss ++ s ∷ []) after
-served_more rules opening before between after [] s e one =
-    (after, subst (λ (w : Worker). IsServed rules opening w after s) e one, refl)
-served_more rules opening before between after (t ∷ ss) s h one =
-    (h.0, h.1, served_more rules opening h.0 between after ss s h.2 one)
+    → AreServed rules opening idle before ss between → IsServed rules opening idle between after s
+    → AreServed rules opening idle before (ss ++ s ∷ []) after
+served_more rules opening idle before between after [] s e one =
+    (after, subst (λ (w : Worker). IsServed rules opening idle w after s) e one, refl)
+served_more rules opening idle before between after (t ∷ ss) s h one =
+    (h.0, h.1, served_more rules opening idle h.0 between after ss s h.2 one)
 
 first_more : (coming mid left : Option (List (List ℕ))) (ss : List Session) (s : Session)
     → AreFirstToCome coming mid ss → Arrives mid left s.input
@@ -46,18 +46,18 @@ added_more (Some old) (Some mid) (Some new) xs ys h more =
     more ∙ ap (λ (l : List Ending). l ++ ys) h ∙ append_assoc old xs ys
 
 -- a connection more was served
-pub works_more : (rules : Rules) (opening : SnapshotParts) (before between after : Worker)
+pub works_more : (rules : Rules) (opening : SnapshotParts) (idle : Bool) (before between after : Worker)
     (coming mid left : Option (List (List ℕ)))
     (past told ended : Option (List Ending)) (count : ℕ) (s : Session)
-    → Works rules opening before between coming mid past told count
-    → IsServed rules opening between after s
+    → Works rules opening idle before between coming mid past told count
+    → IsServed rules opening idle between after s
     → Arrives mid left s.input → AreAdded told ended (s.ending ∷ [])
-    → Works rules opening before after coming left past ended (count + 1)
-works_more rules opening before between after coming mid left past told ended count s done one
+    → Works rules opening idle before after coming left past ended (count + 1)
+works_more rules opening idle before between after coming mid left past told ended count s done one
     here added = record {
       sessions = done.sessions ++ s ∷ [];
       counted = length-append done.sessions (s ∷ []) ∙ ap (λ (n : ℕ). n + 1) done.counted;
-      served = served_more rules opening before between after done.sessions s done.served one;
+      served = served_more rules opening idle before between after done.sessions s done.served one;
       first = first_more coming mid left done.sessions s done.first here;
       told =
           subst (λ (l : List Ending). AreAdded past ended l)
@@ -75,11 +75,11 @@ none_added None = tt
 none_added (Some old) = sym (append-nil old)
 
 -- no connection was served
-pub works_none : (rules : Rules) (opening : SnapshotParts) (before : Worker)
+pub works_none : (rules : Rules) (opening : SnapshotParts) (idle : Bool) (before : Worker)
     (coming : Option (List (List ℕ)))
     (past : Option (List Ending))
-    → Works rules opening before before coming coming past past 0
-works_none rules opening before coming past = record {
+    → Works rules opening idle before before coming coming past past 0
+works_none rules opening idle before coming past = record {
   sessions = [];
   counted = refl;
   served = refl;

@@ -11,18 +11,27 @@ use Rattle.query_http.specs.declared.note.Note.{Note}
 use Rattle.server.specs.declared.tally.Event.{Event}
 use Rattle.server.specs.declared.tally.Event.TheVariants.{Batch, Deletion, Cutting, Nothing}
 
--- the number of the refusal in a reply with this status: the store refuses with 9, or lends no
--- snapshot with 10; every other refusal is of what came
-abbrev pub refusal_told : Option ℕ → Status → Option ℕ
-refusal_told refusal Done = refusal
-refusal_told refusal BadRequest = refusal
-refusal_told refusal Forbidden = refusal
-refusal_told refusal NotFound = refusal
-refusal_told refusal MethodNotAllowed = refusal
-refusal_told refusal Conflict = Some 9
-refusal_told refusal ContentTooLarge = refusal
-refusal_told refusal HeadTooLarge = refusal
-refusal_told refusal ServiceUnavailable = Some 10
+-- the number of the refusal in a reply with the status 503, by the path: the store lends no
+-- snapshot to a query, with 10, or does not keep an event, with 11
+abbrev pub refusal_unavailable : Option Path → ℕ
+refusal_unavailable None = 10
+refusal_unavailable (Some Select) = 10
+refusal_unavailable (Some Write) = 11
+refusal_unavailable (Some Delete) = 11
+refusal_unavailable (Some Cut) = 11
+
+-- the number of the refusal in a reply with this status: the store refuses with 9, with 10 or with
+-- 11; every other refusal is of what came
+abbrev pub refusal_told : Note → Status → Option ℕ
+refusal_told note Done = note.refusal
+refusal_told note BadRequest = note.refusal
+refusal_told note Forbidden = note.refusal
+refusal_told note NotFound = note.refusal
+refusal_told note MethodNotAllowed = note.refusal
+refusal_told note Conflict = Some 9
+refusal_told note ContentTooLarge = note.refusal
+refusal_told note HeadTooLarge = note.refusal
+refusal_told note ServiceUnavailable = Some (refusal_unavailable note.path)
 
 -- the event that a request of a path publishes
 abbrev pub event_at : Option Path → ℕ → Event

@@ -1,5 +1,5 @@
 -- Connections: what came on them, what was written to them, and how they were served.
-use Rattle.std.specs.Prelude.{◌≡◌, ℕ, List, [], ◌∷◌, ◌++◌, Option, None, Some, map, IfSome, ⊤}
+use Rattle.std.specs.Prelude.{◌≡◌, ℕ, Bool, List, [], ◌∷◌, ◌++◌, Option, None, Some, map, IfSome, ⊤}
 use Rattle.head.specs.Heads.{SnapshotParts}
 use Rattle.guard.specs.declared.rules.Rules.{Rules}
 use Rattle.requests.specs.Admitting.{MeansUnder}
@@ -21,20 +21,20 @@ abbrev pub IsFresh : Option (List ℕ) → Type 0
 IsFresh output = IfSome output (λ bytes. bytes ≡ [])
 
 -- the connection was served by this worker: one request was read, under these rules, done and
--- replied to
-pub record IsServed (rules : Rules) (opening : SnapshotParts) (before after : Worker)
-    (s : Session) : Type 0 where
+-- replied to (`idle`: whether the store keeps nothing)
+pub record IsServed (rules : Rules) (opening : SnapshotParts) (idle : Bool)
+    (before after : Worker) (s : Session) : Type 0 where
   pub output : Option (List ℕ)
   pub fresh : IsFresh output
-  pub serves : Serves (MeansUnder rules) opening s.input before after output s.ending.written
-      s.ending.served
+  pub serves : Serves (MeansUnder rules) opening idle s.input before after output
+      s.ending.written s.ending.served
 
 -- the connections were served one after another, each by the worker as the one before left it
-abbrev pub AreServed : Rules → SnapshotParts → Worker → List Session → Worker → Type 0
-AreServed rules opening before [] after = after ≡ before
-AreServed rules opening before (s ∷ ss) after =
-    (between : Worker) × IsServed rules opening before between s
-    × AreServed rules opening between ss after
+abbrev pub AreServed : Rules → SnapshotParts → Bool → Worker → List Session → Worker → Type 0
+AreServed rules opening idle before [] after = after ≡ before
+AreServed rules opening idle before (s ∷ ss) after =
+    (between : Worker) × IsServed rules opening idle before between s
+    × AreServed rules opening idle between ss after
 
 -- the next of the connections to come was taken, and this came on it
 abbrev pub Arrives : Option (List (List ℕ)) → Option (List (List ℕ)) → Option (List ℕ) → Type 0

@@ -1,5 +1,5 @@
 -- What a worker has done when it ends.
-use Rattle.std.specs.Prelude.{◌≡◌, ◌≤◌, ℕ, ◌+◌, List, Option, length, map}
+use Rattle.std.specs.Prelude.{◌≡◌, ◌≤◌, ℕ, Bool, ◌+◌, List, Option, length, map}
 use mathlib.Core.List.{IsPrefix}
 use Rattle.head.specs.Heads.{SnapshotParts}
 use Rattle.guard.specs.declared.rules.Rules.{Rules}
@@ -8,12 +8,12 @@ use Rattle.server.specs.Sessions.{Session, Ending, AreServed, AreFirstToCome, Ar
 
 -- The worker served so many connections, one after another, the first of those that were to come,
 -- and each ended as its connection was served.
-pub record Works (rules : Rules) (opening : SnapshotParts) (before after : Worker)
+pub record Works (rules : Rules) (opening : SnapshotParts) (idle : Bool) (before after : Worker)
     (coming left : Option (List (List ℕ))) (past ended : Option (List Ending))
     (count : ℕ) : Type 0 where
   pub sessions : List Session
   pub counted : length sessions ≡ count
-  pub served : AreServed rules opening before sessions after
+  pub served : AreServed rules opening idle before sessions after
   pub first : AreFirstToCome coming left sessions
   pub told : AreAdded past ended (map (λ s. s.ending) sessions)
 

@@ -14,6 +14,8 @@ use crate::tally::Tally;
 use crate::worker::{Shift, work};
 use block::Block;
 use guard::Rules;
+use head::Snapshot;
+use keeper::{Keeper, NoKeeper};
 use snapshots::{Committer, Naming, OpenError, Pass, Seat, Store};
 use std::alloc::{AllocError, Global};
 use std::marker::Model;
@@ -33,13 +35,13 @@ struct Place<J: Naming> {
 
 /// An open store and its workers. Contracts see how many workers there are.
 #[derive(Drop)]
-pub struct Workers<J: Naming, C: Wait + Drop> {
-    committer: Committer<J, C>,
+pub struct Workers<J: Naming, C: Wait + Drop, K: Keeper + Drop = NoKeeper> {
+    committer: Committer<J, C, K>,
     places: Vec<Place<J>>,
     spare: Vec<Pass<J>>,
 }
 
-impl<J: Naming, C: Wait + Drop> Model for Workers<J, C> {
+impl<J: Naming, C: Wait + Drop, K: Keeper + Drop> Model for Workers<J, C, K> {
     ghost use Rattle.std.specs.Prelude.{ℕ, vec_len};
 
     ghost Value = { ℕ };
@@ -94,7 +96,45 @@ impl<J: Naming, C: Wait + Drop> Workers<J, C> {
         ensures refused { IfErr result (λ e. e ≡ BadPasses → ¬ IsRoom passes count) }
         ensures few { IfErr result (λ e. e ≡ Limit → 63 < length blocks.items) }
     {
-        let (committer, mut spare, seats) = store.open::<J, C>(rt, alloc, blocks, passes, count)?;
+        let opened = store.open::<J, C>(rt, alloc, blocks, passes, count)?;
+        Workers::seated(alloc, opened)
+    }
+}
+
+impl<J: Naming, C: Wait + Drop, K: Keeper + Drop> Workers<J, C, K> {
+    /// Opens a store over what a start found of one that was kept, with so many passes and workers,
+    /// as [`Workers::open`] does; the keeper holds the events from before. `O2` where there are not
+    /// 1 to 64 of each, then `O4` and memory.
+    pub fn resume(
+        rt: C,
+        alloc: Global,
+        store: Store,
+        found: (Snapshot, K),
+        passes: usize,
+        count: usize,
+    ) -> Result<Workers<J, C, K>, OpenError>
+        requires book { store.seen.book ≡ J.book }
+        requires opening { found.0 ≡ J.opening }
+        requires kept { K.holds found.1 J.before }
+        ensures workers { IfOk result (λ w. w ≡ count) }
+        ensures room { IfOk result (λ _. IsRoom passes count) }
+        ensures refused { IfErr result (λ e. e ≡ BadPasses → ¬ IsRoom passes count) }
+        ensures few { IfErr result (λ e. ¬ (e ≡ Limit)) }
+    {
+        let (snapshot, keeper) = found;
+        let opened = store.resume::<J, C, K>(rt, alloc, snapshot, keeper, passes, count)?;
+        Workers::seated(alloc, opened)
+    }
+
+    /// The workers of an open store.
+    fn seated(
+        alloc: Global,
+        opened: (Committer<J, C, K>, Vec<Pass<J>>, Vec<Seat<J>>),
+    ) -> Result<Workers<J, C, K>, OpenError>
+        ensures workers { IfOk result (λ w. w ≡ vec_len opened.2) }
+        ensures refused { IfErr result (λ e. e ≡ OpenError.Memory) }
+    {
+        let (committer, mut spare, seats) = opened;
         match places_of(alloc, &mut spare, seats) {
             Ok(places) => Ok(Workers {
                 committer,
@@ -107,12 +147,18 @@ impl<J: Naming, C: Wait + Drop> Workers<J, C> {
 }
 
 /// The work of one worker.
-fn work_at<'a, J: Naming, C: Wait + Drop, R: Wait + Threads + Clock + Eprint + Sync>(
+fn work_at<
+    'a,
+    J: Naming,
+    C: Wait + Drop,
+    K: Keeper + Drop,
+    R: Wait + Threads + Clock + Eprint + Sync,
+>(
     rt: &R,
     alloc: Global,
     rules: &'a Rules,
     listener: &TcpListener,
-    committer: &Committer<J, C>,
+    committer: &Committer<J, C, K>,
     place: Place<J>,
     terms: Terms,
 ) -> Shift<'a>
@@ -175,11 +221,12 @@ fn run_all<
     'a,
     J: Naming + Send + Sync,
     C: Wait + Drop + Send + Sync,
+    K: Keeper + Drop + Send,
     R: Threads + Wait + Clock + Eprint + Sync,
 >(
     rt: &R,
     alloc: Global,
-    committer: &Committer<J, C>,
+    committer: &Committer<J, C, K>,
     places: Vec<Place<J>>,
     listener: &TcpListener,
     rules: &'a Rules,
@@ -212,11 +259,12 @@ pub fn serve<
     'a,
     J: Naming + Send + Sync,
     C: Wait + Drop + Send + Sync,
+    K: Keeper + Drop + Send,
     R: Threads + Wait + Clock + Eprint + Sync,
 >(
     rt: &R,
     alloc: Global,
-    workers: Workers<J, C>,
+    workers: Workers<J, C, K>,
     listener: &TcpListener,
     rules: &'a Rules,
     terms: Terms,
@@ -249,12 +297,13 @@ pub fn serve_watched<
     'a,
     J: Naming + Send + Sync,
     C: Wait + Drop + Send + Sync,
+    K: Keeper + Drop + Send,
     R: Threads + Wait + Clock + Eprint + Sync,
     M: Memory + Sync,
 >(
     rt: &R,
     alloc: Global,
-    workers: Workers<J, C>,
+    workers: Workers<J, C, K>,
     listener: &TcpListener,
     rules: &'a Rules,
     terms: Terms,

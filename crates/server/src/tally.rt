@@ -1,7 +1,7 @@
 //! What a worker counts, while others read it.
 
 ghost use Rattle.std.specs.Prelude.{◌≡◌};
-ghost use Rattle.server.specs.Counting.{event_at, event_of, refusal_told};
+ghost use Rattle.server.specs.Counting.{event_at, event_of, refusal_told, refusal_unavailable};
 
 use metrics_text::{Counts, PathCounts, Times, place_in, place_of_refusal, place_of_status};
 use query_http::Note;
@@ -112,14 +112,25 @@ enum Event {
     Nothing,
 }
 
+/// The number of the refusal that a reply of 503 has, by the path: the store lends no snapshot, or
+/// does not keep an event.
+fn refusal_unavailable(path: Option<Path>) -> u64
+    ensures { result ≡ refusal_unavailable path }
+{
+    match path {
+        Some(Path::Write | Path::Delete | Path::Cut) => 11,
+        Some(Path::Select) | None => 10,
+    }
+}
+
 /// The number of the refusal that a connection got, if it got one: what came is refused, or the
 /// status of the reply says which refusal of a store it is.
 fn refusal_of(note: Note, status: Status) -> Option<u64>
-    ensures { result ≡ refusal_told note.refusal status }
+    ensures { result ≡ refusal_told note status }
 {
     match status {
         Status::Conflict => Some(9),
-        Status::ServiceUnavailable => Some(10),
+        Status::ServiceUnavailable => Some(refusal_unavailable(note.path)),
         _ => note.refusal,
     }
 }
@@ -160,7 +171,7 @@ impl Tally {
             delete,
             cut,
             other,
-            refusals: Cells::new(alloc, 11)?,
+            refusals: Cells::new(alloc, 12)?,
             batches: AtomicU64::new(0),
             deletions: AtomicU64::new(0),
             cuts: AtomicU64::new(0),

@@ -7,6 +7,7 @@ ghost use Rattle.server.specs.Working.{Works, IsFarther};
 
 use crate::connections::Connections;
 use guard::Rules;
+use keeper::Keeper;
 use query_http::{Buffers, serve_one_with};
 use snapshots::{Committer, Naming, Pass, Seat};
 use std::alloc::Global;
@@ -40,17 +41,18 @@ impl<'a> Shift<'a> {
 ///
 /// Each is served by [`serve_one_with`] under these rules, with the pass and the seat as the
 /// connection before left them, and in the same buffers.
-pub fn work<'a, J: Naming, C: Wait + Drop, A: Connections>(
+pub fn work<'a, J: Naming, C: Wait + Drop, K: Keeper + Drop, A: Connections>(
     rt: &(impl Wait + Threads + Sync),
     alloc: Global,
     rules: &'a Rules,
     connections: &mut A,
     pass: &mut Pass<J>,
     seat: &mut Seat<J>,
-    committer: &Committer<J, C>,
+    committer: &Committer<J, C, K>,
     most: u64,
 ) -> Shift<'a>
-    ensures works { Works rules.now J.opening (worker pass.old seat.old) (worker pass.new seat.new)
+    ensures works { Works rules.now J.opening K.idle
+        (worker pass.old seat.old) (worker pass.new seat.new)
         (A.coming connections.old) (A.coming connections.new)
         (A.past connections.old) (A.past connections.new) result.served }
     ensures farther { IsFarther (worker pass.old seat.old) (worker pass.new seat.new)

@@ -10,7 +10,7 @@ use Rattle.keeper.specs.declared.error.KeepError.{KeepError}
 use Rattle.keeper.specs.declared.error.KeepError.TheVariants as keep
 use Rattle.keeper.proofs.Finds.{by_was, some_is_more, wider}
 use Rattle.snapshots.specs.declared.entry.Entry.{Entry}
-use Rattle.snapshots.specs.Keeping.{keep_refusal, kept_of, HoldAny, IsAtMost, IsOfKeeping, IsRecordFor}
+use Rattle.snapshots.specs.Keeping.{keep_refusal, kept_of, IsAtMost, IsOfKeeping, IsRecordFor}
 use Rattle.snapshots.specs.Replays.{events_in, IsOfStore}
 
 -- one event more is to be kept
@@ -44,15 +44,16 @@ pub no_seat : (e : CommitError) → IsOfKeeping e → e ≡ Seat → ⊥
 no_seat e is same = subst IsOfKeeping same is
 
 -- what the bytes spell together
-pub spelled_by : {K : Type 0} (holds : K → List Event → Type 0) (event : Event) (bytes : List ℕ) → IsRecordFor holds event bytes → (more : List Event) × SpellTogether bytes more
-spelled_by holds event bytes (inl spells) = (event ∷ [], spells)
-spelled_by holds event bytes (inr none) = ([], subst (λ (xs : List ℕ). SpellTogether xs []) (sym none.1) nothing_spelled)
+pub spelled_by : (idle : Bool) (event : Event) (bytes : List ℕ) → IsRecordFor idle event bytes → (more : List Event) × SpellTogether bytes more
+spelled_by idle event bytes (inl spells) = (event ∷ [], spells)
+spelled_by idle event bytes (inr none) = ([], subst (λ (xs : List ℕ). SpellTogether xs []) (sym none.1) nothing_spelled)
 
-pub held_more : {K : Type 0} (holds : K → List Event → Type 0) (old new : K) (bytes : List ℕ)
+pub held_more : {K : Type 0} (idle : Bool) (holds : K → List Event → Type 0) (old new : K) (bytes : List ℕ)
+    → (idle ≡ true → (k : K) (events : List Event) → holds k events)
     → ((events more : List Event) → holds old events → SpellTogether bytes more → holds new (events ++ more))
-    → (events : List Event) (event : Event) → holds old events → IsRecordFor holds event bytes → holds new (events ++ event ∷ [])
-held_more holds old new bytes f events event held (inl spells) = f events (event ∷ []) held spells
-held_more holds old new bytes f events event held (inr none) = none.0 new (events ++ event ∷ [])
+    → (events : List Event) (event : Event) → holds old events → IsRecordFor idle event bytes → holds new (events ++ event ∷ [])
+held_more idle holds old new bytes any f events event held (inl spells) = f events (event ∷ []) held spells
+held_more idle holds old new bytes any f events event held (inr none) = any none.0 new (events ++ event ∷ [])
 
 none_taken : (few : ℕ) → take {A = Event} few [] ≡ []
 none_taken zero = refl
@@ -69,12 +70,12 @@ at_most_one first events event more w (inl is) some = subst (λ (xs : List Event
 at_most_one first events event more w (inr none) some =
     one_or_none first events event w (subst (λ (xs : List Event). IsOfAllAndSome first events xs w) none some)
 
-pub last_more : {K : Type 0} (holds : K → List Event → Type 0) (kept_last : K → List Event → List Event → Type 0) (old new : K) (bytes : List ℕ)
+pub last_more : {K : Type 0} (idle : Bool) (holds : K → List Event → Type 0) (kept_last : K → List Event → List Event → Type 0) (old new : K) (bytes : List ℕ)
     → ((events more : List Event) → holds old events → SpellTogether bytes more → kept_last new events more)
-    → (events : List Event) (event : Event) → holds old events → IsRecordFor holds event bytes → (more : List Event) × IsAtMost event more × kept_last new events more
-last_more holds kept_last old new bytes f events event held (inl spells) =
+    → (events : List Event) (event : Event) → holds old events → IsRecordFor idle event bytes → (more : List Event) × IsAtMost event more × kept_last new events more
+last_more idle holds kept_last old new bytes f events event held (inl spells) =
     (event ∷ [], inl refl, f events (event ∷ []) held spells)
-last_more holds kept_last old new bytes f events event held (inr none) =
+last_more idle holds kept_last old new bytes f events event held (inr none) =
     ([], inr refl, f events [] held (subst (λ (xs : List ℕ). SpellTogether xs []) (sym none.1) nothing_spelled))
 
 module _ {K : Type 0} (moment : K → ℕ) (first : World) (found_since : K → ℕ → World → Type 0) where
@@ -91,10 +92,10 @@ module _ {K : Type 0} (moment : K → ℕ) (first : World) (found_since : K → 
   }
 
   -- what is in flight is this event, or nothing
-  pub in_flight : (holds : K → List Event → Type 0) (old new : K) (bytes : List ℕ)
+  pub in_flight : (idle : Bool) (holds : K → List Event → Type 0) (old new : K) (bytes : List ℕ)
       → ((events more : List Event) → holds old events → SpellTogether bytes more → FindsOnly moment found_since old new (IsOfAllAndSome first events more))
-      → (events : List Event) (event : Event) → holds old events → IsRecordFor holds event bytes → FindsOnly moment found_since old new (IsOfAllAndSome first events (event ∷ []))
-  in_flight holds old new bytes finds events event held (inl spells) = finds events (event ∷ []) held spells
-  in_flight holds old new bytes finds events event held (inr none) =
+      → (events : List Event) (event : Event) → holds old events → IsRecordFor idle event bytes → FindsOnly moment found_since old new (IsOfAllAndSome first events (event ∷ []))
+  in_flight idle holds old new bytes finds events event held (inl spells) = finds events (event ∷ []) held spells
+  in_flight idle holds old new bytes finds events event held (inr none) =
       wider moment found_since old new (IsOfAllAndSome first events []) (IsOfAllAndSome first events (event ∷ [])) (λ w some. one_or_none first events event w some)
       (finds events [] held (subst (λ (xs : List ℕ). SpellTogether xs []) (sym none.1) nothing_spelled))

@@ -1,5 +1,5 @@
 -- How the events of a store are kept.
-use Rattle.std.specs.Prelude.{◌≡◌, ◌⊎◌, ℕ, List, [], ◌∷◌, ◌++◌}
+use Rattle.std.specs.Prelude.{◌≡◌, ◌⊎◌, ℕ, Bool, true, List, [], ◌∷◌, ◌++◌}
 use Rattle.head.specs.Worlds.{Event}
 use Rattle.head.specs.declared.error.CommitError.{CommitError}
 use Rattle.head.specs.declared.error.CommitError.TheVariants.{OutOfBounds, OutOfOrder, Duplicate}
@@ -11,14 +11,10 @@ use Rattle.keeper.specs.declared.error.KeepError.TheVariants as keep
 use Rattle.snapshots.specs.Replays.{events_in}
 use Rattle.snapshots.specs.declared.entry.Entry.{Entry}
 
--- keepers of this kind hold any events
-abbrev pub HoldAny : {K : Type 0} → (K → List Event → Type 0) → Type 0
-HoldAny {K} holds = (k : K) (events : List Event) → holds k events
-
--- the bytes are the record of the event; or they are none, and keepers of this kind hold any events
-abbrev pub IsRecordFor : {K : Type 0} → (K → List Event → Type 0) → Event → List ℕ → Type 0
-IsRecordFor holds event bytes =
-    SpellTogether bytes (event ∷ []) ⊎ (HoldAny holds × (bytes ≡ []))
+-- the bytes are the record of the event; or they are none, for keepers that keep nothing
+abbrev pub IsRecordFor : Bool → Event → List ℕ → Type 0
+IsRecordFor idle event bytes =
+    SpellTogether bytes (event ∷ []) ⊎ ((idle ≡ true) × (bytes ≡ []))
 
 -- these are that event alone, or none
 abbrev pub IsAtMost : Event → List Event → Type 0

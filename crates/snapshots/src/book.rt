@@ -141,13 +141,14 @@ impl<J: Naming, R: Wait + Drop, K: Keeper + Drop> Book<J, R, K> {
         change: C,
         bytes: &[u8],
     ) -> Result<Receipt<J>, (C, CommitError)>
-        requires { IsRecordFor K.holds (C.event change) bytes.now }
+        requires { IsRecordFor K.idle (C.event change) bytes.now }
         ensures fits { OnOk result (FitsSeat seat.old self.old.counts) }
         ensures seat { IfErr result (λ e.
             (e.1 ≡ CommitError.Seat) ↔ (¬ FitsSeat seat.old self.old.counts)) }
         ensures steps { OnOk result (Steps self.old.parts (C.event change) self.new.parts) }
         ensures refused { IfErr result (λ e. IsEventRefusal e.1 self.old.parts (C.event change)) }
         ensures met { IfErr result (λ e. ¬ IsOfStore e.1 → IsMetBy seat.old self.old.entries) }
+        ensures journal { IfErr result (λ e. e.1 ≡ CommitError.Journal → K.idle ≡ false) }
         ensures returned { IfErr result (λ e. e.0 ≡ change) }
         ensures kept { OnErr result ((self.new ≡ self.old) × (seat.new ≡ seat.old)) }
         ensures list { IfOk result (λ r.

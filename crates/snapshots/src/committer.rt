@@ -60,6 +60,7 @@ impl<J: Naming, R: Wait + Drop, K: Keeper + Drop> Committer<J, R, K> {
         ensures kept { IfErr result (λ e. (e.0 ≡ change) × (seat.new ≡ seat.old)) }
         ensures refused { IfErr result (λ e.
             IsRefusedAfter J.opening seat.old e.1 (C.event change)) }
+        ensures journal { IfErr result (λ e. e.1 ≡ CommitError.Journal → K.idle ≡ false) }
     {
         let bytes = match record_of::<C, K>(self.alloc, &change) {
             Ok(bytes) => bytes,
@@ -88,6 +89,7 @@ impl<J: Naming, R: Wait + Drop, K: Keeper + Drop> Committer<J, R, K> {
         ensures kept { IfErr result (λ e. (e.0 ≡ appender) × (seat.new ≡ seat.old)) }
         ensures refused { IfErr result (λ e.
             IsRefusedAfter J.opening seat.old e.1 (batch appender)) }
+        ensures journal { IfErr result (λ e. e.1 ≡ CommitError.Journal → K.idle ≡ false) }
     {
         match self.step(rt, seat, appender.into_event()) {
             Ok(receipt) => Ok(receipt),
@@ -111,6 +113,7 @@ impl<J: Naming, R: Wait + Drop, K: Keeper + Drop> Committer<J, R, K> {
         ensures kept { IfErr result (λ e. (e.0 ≡ rows) × (seat.new ≡ seat.old)) }
         ensures refused { IfErr result (λ e.
             IsRefusedAfter J.opening seat.old e.1 (batch (batch_of_rows rows))) }
+        ensures journal { IfErr result (λ e. e.1 ≡ CommitError.Journal → K.idle ≡ false) }
     {
         self.step(rt, seat, rows)
     }
@@ -134,6 +137,7 @@ impl<J: Naming, R: Wait + Drop, K: Keeper + Drop> Committer<J, R, K> {
         ensures counted { IfOk result (λ r. HasOneMoreEvent seat.old seat.new r) }
         ensures kept { IfErr result (λ e. (e.0.items ≡ matchers.items) × (seat.new ≡ seat.old)) }
         ensures refused { IfErr result (λ e. IsOfStore e.1) }
+        ensures journal { IfErr result (λ e. e.1 ≡ CommitError.Journal → K.idle ≡ false) }
     {
         match self.step(rt, seat, Event::deletion(matchers, from, to)) {
             Ok(receipt) => Ok(receipt),
@@ -159,6 +163,7 @@ impl<J: Naming, R: Wait + Drop, K: Keeper + Drop> Committer<J, R, K> {
         ensures counted { IfOk result (λ r. HasOneMoreEvent seat.old seat.new r) }
         ensures kept { OnErr result (seat.new ≡ seat.old) }
         ensures refused { IfErr result (λ e. IsRefusedAfter J.opening seat.old e (cut at)) }
+        ensures journal { IfErr result (λ e. e ≡ CommitError.Journal → K.idle ≡ false) }
     {
         match self.step(rt, seat, Event::cut(at)) {
             Ok(receipt) => Ok(receipt),

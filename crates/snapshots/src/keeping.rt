@@ -22,8 +22,9 @@ fn refusal_of(error: KeepError) -> CommitError
 
 /// The record of a change, by which keepers of this kind keep it: no byte where they keep nothing.
 pub fn record_of<C: Change, K: Keeper>(alloc: Global, change: &C) -> Result<Vec<u8>, CommitError>
-    ensures ok { IfOk result (λ bytes. IsRecordFor K.holds (C.event change.now) bytes.items) }
+    ensures ok { IfOk result (λ bytes. IsRecordFor K.idle (C.event change.now) bytes.items) }
     ensures refused { IfErr result (λ e. IsOfKeeping e) }
+    ensures needed { OnErr result (K.idle ≡ false) }
 {
     let mut bytes = Vec::new(alloc);
     if K::is_idle() {
@@ -39,26 +40,28 @@ pub fn record_of<C: Change, K: Keeper>(alloc: Global, change: &C) -> Result<Vec<
 /// Keeps an event by its record. After an `Err` the keeper keeps what it kept.
 pub fn keep<K: Keeper>(keeper: &mut K, bytes: &[u8]) -> Result<(), CommitError>
     requires held { (events : List Event) × K.holds keeper.old events }
-    requires recorded { (event : Event) × IsRecordFor K.holds event bytes.now }
+    requires recorded { (event : Event) × IsRecordFor K.idle event bytes.now }
     ensures ok { OnOk result ((events : List Event) (event : Event) → K.holds keeper.old events
-        → IsRecordFor K.holds event bytes.now → K.holds keeper.new (events ++ event ∷ [])) }
+        → IsRecordFor K.idle event bytes.now → K.holds keeper.new (events ++ event ∷ [])) }
     // The event was kept last; or nothing was, where keepers of this kind keep nothing.
     ensures last { OnOk result ((events : List Event) (event : Event) → K.holds keeper.old events
-        → IsRecordFor K.holds event bytes.now
+        → IsRecordFor K.idle event bytes.now
         → (more : List Event) × IsAtMost event more × K.kept_last keeper.new events more) }
     ensures open { OnOk result (K.closed keeper.new ≡ false) }
     ensures err { OnErr result ((events : List Event) → K.holds keeper.old events
         → K.holds keeper.new events) }
     // After a crash at any moment of the call a start finds the world of all that was kept.
     ensures any_moment { (events : List Event) (event : Event) → K.holds keeper.old events
-        → IsRecordFor K.holds event bytes.now
+        → IsRecordFor K.idle event bytes.now
         → FindsOnly K.moment K.found_since keeper.old keeper.new (IsOfAllAndMore K.first events) }
     // Beyond that at most this event is in it, unless the keeper was closed before.
     ensures in_flight { (events : List Event) (event : Event) → K.holds keeper.old events
-        → IsRecordFor K.holds event bytes.now → K.closed keeper.old ≡ false
+        → IsRecordFor K.idle event bytes.now → K.closed keeper.old ≡ false
         → FindsOnly K.moment K.found_since keeper.old keeper.new
         (IsOfAllAndSome K.first events (event ∷ [])) }
     ensures refused { IfErr result (λ e. IsOfKeeping e) }
+    // One that keeps nothing refuses nothing.
+    ensures needed { OnErr result (K.idle ≡ false) }
 {
     match keeper.keep(bytes) {
         Ok(()) => Ok(()),

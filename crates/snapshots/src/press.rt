@@ -57,7 +57,7 @@ pub fn publish_entry<J: Naming, R: Wait, C: Change, K: Keeper>(
     bytes: &[u8],
 ) -> Result<(), CommitError>
     requires held { K.holds keeper.old (kept_of J.before (accepted log.old)) }
-    requires recorded { IsRecordFor K.holds (entry_of C.event tried.now).event bytes.now }
+    requires recorded { IsRecordFor K.idle (entry_of C.event tried.now).event bytes.now }
     requires room { length log.old < 2 ^ 61 + 1 }
     requires shown { Shows J.book J.opening press.old.desk.shown.value (accepted log.old) }
     requires next { IsAfter J.opening (accepted log.old ++ entry_of C.event tried.now ∷ [])
@@ -81,6 +81,7 @@ pub fn publish_entry<J: Naming, R: Wait, C: Change, K: Keeper>(
         (λ _. press.new.desk.shown.value.parts ≡ arc_value snapshot)
         (λ _. press.new.desk.shown.value ≡ press.old.desk.shown.value) }
     ensures refused { IfErr result (λ e. IsOfKeeping e) }
+    ensures journal { IfErr result (λ e. e ≡ CommitError.Journal → K.idle ≡ false) }
 {
     log.add::<Tried<'_, C>, Tries, R>(rt, end, tried);
     let next = Version::of(snapshot, events, log);

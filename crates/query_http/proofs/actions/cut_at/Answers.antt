@@ -2,14 +2,15 @@ use Rattle.std.proofs.Common.{ap, w64}
 use Rattle.std.proofs.lemmas.Int.{to_z-of_z}
 use Rattle.head.specs.Worlds.{cut}
 use Rattle.query_http.specs.Serving.{worker}
-use Rattle.query_http.proofs.Replying.{conflict_replied}
+use Rattle.query_http.proofs.Replying.{event_refused}
 use Rattle.query_http.proofs.actions.cut_at.Goals as goal
 
 pub returns-in-Err-clause-reply : goal.returns-in-Err-clause-reply
 returns-in-Err-clause-reply g c =
-    conflict_replied g.J.Naming.opening (cut c.args.at) (worker c.args.pass.now c.args.seat.now) _
-    c.in-Err.error c.conflict_reply.result
+    event_refused g.J.Naming.opening g.K.Keeper.idle (cut c.args.at) (worker c.args.pass.now c.args.seat.now) _
+    c.in-Err.error c.event_refusal_reply.result
     (ap (worker _) c.in-Err.ensures.kept)
     (rw (to_z-of_z w64 c.args.at c.ranges.at) at c.in-Err.ensures.refused)
-    c.conflict_reply.ensures.no_memory c.conflict_reply.ensures.number
-    c.conflict_reply.ensures.spelled
+    c.in-Err.ensures.journal
+    c.event_refusal_reply.ensures.no_memory c.event_refusal_reply.ensures.unkept
+    c.event_refusal_reply.ensures.number c.event_refusal_reply.ensures.spelled

@@ -2,14 +2,15 @@ use Rattle.std.proofs.Common.{ap}
 use Rattle.head.specs.BatchRows.{batch_of_rows}
 use Rattle.head.specs.Worlds.{batch}
 use Rattle.query_http.specs.Serving.{worker}
-use Rattle.query_http.proofs.Replying.{conflict_replied}
+use Rattle.query_http.proofs.Replying.{event_refused}
 use Rattle.query_http.proofs.actions.write.Goals as goal
 
 pub returns-in-Err-clause-reply : goal.returns-in-Err-clause-reply
 returns-in-Err-clause-reply g c =
-    conflict_replied g.J.Naming.opening (batch (batch_of_rows c.args.rows.items))
-    (worker c.args.pass.now c.args.seat.now) _ c.in-Err.error c.conflict_reply.result
+    event_refused g.J.Naming.opening g.K.Keeper.idle (batch (batch_of_rows c.args.rows.items))
+    (worker c.args.pass.now c.args.seat.now) _ c.in-Err.error c.event_refusal_reply.result
     (ap (worker _) c.in-Err.ensures.kept.1)
     (rw c.new.ensures at c.in-Err.ensures.refused)
-    c.conflict_reply.ensures.no_memory c.conflict_reply.ensures.number
-    c.conflict_reply.ensures.spelled
+    c.in-Err.ensures.journal
+    c.event_refusal_reply.ensures.no_memory c.event_refusal_reply.ensures.unkept
+    c.event_refusal_reply.ensures.number c.event_refusal_reply.ensures.spelled

@@ -8,7 +8,7 @@ use Rattle.server.proofs.worker.work.Goals as goal
 pub loop-done-init : goal.loop-done-init
 loop-done-init g c =
     let before = worker c.args.pass.now c.args.seat.now in (
-      works_none c.args.rules.now g.J.Naming.opening before
+      works_none c.args.rules.now g.J.Naming.opening g.K.Keeper.idle before
           (g.A.Connections.coming c.args.connections.now)
           (g.A.Connections.past c.args.connections.now),
       none_farther before,
@@ -26,7 +26,7 @@ loop-done-preserved g c =
         served = c.serve_one_with-served.result;
       };
     } in
-    let one : IsServed c.args.rules.now g.J.Naming.opening between after s = record {
+    let one : IsServed c.args.rules.now g.J.Naming.opening g.K.Keeper.idle between after s = record {
       output = g.A.Writer.Outlet.output c.in-Some.writer;
       fresh = c.in-Some.ensures.fresh;
       serves = c.serve_one_with-served.ensures.serves;
@@ -41,12 +41,12 @@ loop-done-preserved g c =
     subst (λ (past : Option (List Ending)).
     AreAdded past (g.A.Connections.past c.close.new.self) (s.ending ∷ []))
     c.accept.ensures.past c.close.ensures.past in (
-      works_more c.args.rules.now g.J.Naming.opening before between after
+      works_more c.args.rules.now g.J.Naming.opening g.K.Keeper.idle before between after
           (g.A.Connections.coming c.args.connections.now)
           (g.A.Connections.coming c.loop-done.connections) (g.A.Connections.coming c.close.new.self)
           (g.A.Connections.past c.args.connections.now)
           (g.A.Connections.past c.loop-done.connections) (g.A.Connections.past c.close.new.self)
           c.loop-done.done s c.loop-done.invariant.0 one arrives added,
       farther_more before between after c.loop-done.done c.loop-done.invariant.1
-          (served_farther c.args.rules.now g.J.Naming.opening between after s one),
+          (served_farther c.args.rules.now g.J.Naming.opening g.K.Keeper.idle between after s one),
     )

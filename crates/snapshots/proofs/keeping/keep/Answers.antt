@@ -8,22 +8,22 @@ use Rattle.snapshots.proofs.keeping.keep.Goals as goal
 pub keep-requires : goal.keep-requires
 keep-requires g c = record {
   held = c.requires.held;
-  spelled = spelled_by g.K.Keeper.holds c.requires.recorded.0 c.args.bytes.now c.requires.recorded.1;
+  spelled = spelled_by g.K.Keeper.idle c.requires.recorded.0 c.args.bytes.now c.requires.recorded.1;
 }
 
 pub returns-in-Ok-clause-ok : goal.returns-in-Ok-clause-ok
 returns-in-Ok-clause-ok g c events event held recorded =
-    held_more g.K.Keeper.holds c.args.keeper.now c.keep.new.self c.args.bytes.now c.in-Ok.ensures.ok events event held recorded
+    held_more g.K.Keeper.idle g.K.Keeper.holds c.args.keeper.now c.keep.new.self c.args.bytes.now g.met.K.Keeper.any c.in-Ok.ensures.ok events event held recorded
 
 pub returns-in-Ok-clause-last : goal.returns-in-Ok-clause-last
 returns-in-Ok-clause-last g c events event held recorded =
-    last_more g.K.Keeper.holds g.K.Keeper.kept_last c.args.keeper.now c.keep.new.self c.args.bytes.now c.in-Ok.ensures.last events event held recorded
+    last_more g.K.Keeper.idle g.K.Keeper.holds g.K.Keeper.kept_last c.args.keeper.now c.keep.new.self c.args.bytes.now c.in-Ok.ensures.last events event held recorded
 
 pub returns-in-Ok-clause-any_moment : goal.returns-in-Ok-clause-any_moment
 returns-in-Ok-clause-any_moment g c events event held recorded =
     let k = g.K.Keeper in
     let old = c.args.keeper.now in
-    let more = spelled_by k.holds event c.args.bytes.now recorded in
+    let more = spelled_by k.idle event c.args.bytes.now recorded in
     by_was k.moment k.found_since old c.keep.new.self (k.closed old) (IsOfAllAndSome k.first events more.0) (IsOfAllAndMore k.first events)
     (λ w had. g.met.K.Keeper.now old events w held had)
     (λ w some. some_is_more k.first events more.0 w some)
@@ -33,14 +33,14 @@ returns-in-Ok-clause-any_moment g c events event held recorded =
 pub returns-in-Ok-clause-in_flight : goal.returns-in-Ok-clause-in_flight
 returns-in-Ok-clause-in_flight g c events event held recorded opened =
     let k = g.K.Keeper in
-    in_flight k.moment k.first k.found_since k.holds c.args.keeper.now c.keep.new.self c.args.bytes.now
+    in_flight k.moment k.first k.found_since k.idle k.holds c.args.keeper.now c.keep.new.self c.args.bytes.now
     (λ es more h s. c.keep.ensures.any_moment es more h s opened) events event held recorded
 
 pub returns-in-Err-clause-any_moment : goal.returns-in-Err-clause-any_moment
 returns-in-Err-clause-any_moment g c events event held recorded =
     let k = g.K.Keeper in
     let old = c.args.keeper.now in
-    let more = spelled_by k.holds event c.args.bytes.now recorded in
+    let more = spelled_by k.idle event c.args.bytes.now recorded in
     by_was k.moment k.found_since old c.keep.new.self (k.closed old) (IsOfAllAndSome k.first events more.0) (IsOfAllAndMore k.first events)
     (λ w had. g.met.K.Keeper.now old events w held had)
     (λ w some. some_is_more k.first events more.0 w some)
@@ -50,7 +50,7 @@ returns-in-Err-clause-any_moment g c events event held recorded =
 pub returns-in-Err-clause-in_flight : goal.returns-in-Err-clause-in_flight
 returns-in-Err-clause-in_flight g c events event held recorded opened =
     let k = g.K.Keeper in
-    in_flight k.moment k.first k.found_since k.holds c.args.keeper.now c.keep.new.self c.args.bytes.now
+    in_flight k.moment k.first k.found_since k.idle k.holds c.args.keeper.now c.keep.new.self c.args.bytes.now
     (λ es more h s. c.keep.ensures.any_moment es more h s opened) events event held recorded
 
 pub returns-in-Err-clause-refused : goal.returns-in-Err-clause-refused

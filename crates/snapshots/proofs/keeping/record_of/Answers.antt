@@ -1,4 +1,4 @@
-use Rattle.std.proofs.Common.{◌≡◌, ℕ, List, [], inl, inr, sym, subst, rules}
+use Rattle.std.proofs.Common.{◌≡◌, ℕ, List, [], inl, inr, sym, subst, ◌∙◌, rules}
 use Rattle.head.specs.Worlds.{Event}
 use Rattle.event_text.specs.Spelling.{Spells}
 use Rattle.keeper.specs.Together.{SpellTogether}
@@ -9,7 +9,7 @@ use Rattle.snapshots.proofs.keeping.record_of.Goals as goal
 pub returns-then-is_idle-clause-ok : goal.returns-then-is_idle-clause-ok
 returns-then-is_idle-clause-ok g c =
     let empty : c.new-bytes.result.items ≡ [] = search rules in
-    inr ((λ k events. c.is_idle.ensures c.if-is_idle.true k events), empty)
+    inr (sym c.is_idle.ensures ∙ c.if-is_idle.true, empty)
 
 pub returns-in-Ok-clause-ok : goal.returns-in-Ok-clause-ok
 returns-in-Ok-clause-ok g c =

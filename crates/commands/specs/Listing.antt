@@ -1,0 +1,112 @@
+-- What `journal` lists of a journal.
+use Rattle.std.specs.Prelude.{◌≡◌, ◌⊎◌, ℕ, ◌+◌, ◌-◌, ℤ, List, [], ◌∷◌, ◌++◌, Option, None, length}
+use Rattle.std.specs.Prelude.{codes, decimal, string_bytes}
+use Rattle.core.specs.Fmt.{signed_decimal}
+use Rattle.std.specs.Io.KnownBytes.{Appends}
+use Rattle.matchers.specs.Grammar.{op_text, written}
+use Rattle.matchers.specs.Views.{MatcherView}
+use Rattle.head.specs.Worlds.{Batch, Event, batch, deletion, cut}
+use Rattle.event_journal.specs.Holding.{Stands}
+use Rattle.event_journal.specs.Starting.{DeniesRead}
+use Rattle.commands.specs.Keeping.{path_in}
+use Rattle.commands.specs.Reading.{Host, AreFirstBytes}
+use Rattle.commands.specs.declared.fault.Fault.{Fault}
+use Rattle.commands.specs.declared.fault.Fault.TheVariants.{Refused, CannotRead, CannotWrite}
+use Rattle.commands.specs.declared.fault.Fault.TheVariants.{Memory}
+use Rattle.commands.specs.declared.fault.Refusal.TheVariants.{Start}
+
+-- a matcher, as a selector writes it
+abbrev pub matcher_text : MatcherView → List ℕ
+matcher_text m = m.name ++ (op_text m.op ++ (34 ∷ (written m.text ++ 34 ∷ [])))
+
+-- further matchers, each after a comma
+abbrev pub further_text : List MatcherView → List ℕ
+further_text [] = []
+further_text (m ∷ ms) = 44 ∷ (matcher_text m ++ further_text ms)
+
+abbrev pub inner_text : List MatcherView → List ℕ
+inner_text [] = []
+inner_text (m ∷ ms) = matcher_text m ++ further_text ms
+
+-- matchers in braces
+abbrev pub matchers_text : List MatcherView → List ℕ
+matchers_text ms = 123 ∷ (inner_text ms ++ 125 ∷ [])
+
+-- the line of a batch: how many samples it has; and of how many series, from a time to a time
+abbrev pub batch_start : ℕ → ℕ → List ℕ
+batch_start number count =
+    decimal number ++ (codes " batch " ++ (decimal count ++ codes " samples"))
+
+abbrev pub batch_line : ℕ → ℕ → ℕ → ℤ → ℤ → List ℕ
+batch_line number count series from to =
+    batch_start number count ++ (codes " of " ++ (decimal series ++ (codes " series, "
+    ++ (signed_decimal from ++ (codes " to " ++ (signed_decimal to ++ codes "\n"))))))
+
+abbrev pub IsBatchLine : ℕ → Batch → List ℕ → Type 0
+IsBatchLine number [] line = line ≡ batch_start number 0 ++ codes "\n"
+IsBatchLine number (x ∷ xs) line =
+    (series : ℕ) × (from : ℤ) × (to : ℤ)
+    × (line ≡ batch_line number (length (x ∷ xs)) series from to)
+
+-- the line of a deletion: its matchers, from a time to a time
+abbrev pub deletion_line : ℕ → List MatcherView → ℤ → ℤ → List ℕ
+deletion_line number ms from to =
+    decimal number ++ (codes " deletion " ++ (matchers_text ms ++ (codes " "
+    ++ (signed_decimal from ++ (codes " to " ++ (signed_decimal to ++ codes "\n"))))))
+
+-- the line of a cut
+abbrev pub cut_line : ℕ → ℤ → List ℕ
+cut_line number at =
+    decimal number ++ (codes " cut at " ++ (signed_decimal at ++ codes "\n"))
+
+-- the line of an event with its number
+abbrev pub IsEventLine : ℕ → Event → List ℕ → Type 0
+IsEventLine number (batch xs) line = IsBatchLine number xs line
+IsEventLine number (deletion ms from to) line = line ≡ deletion_line number ms from to
+IsEventLine number (cut t) line = line ≡ cut_line number t
+
+-- the lines of events, in their order, that are numbered after a number
+abbrev pub AreLines : ℕ → List Event → List ℕ → Type 0
+AreLines n [] lines = lines ≡ []
+AreLines n (e ∷ es) lines =
+    (line rest : List ℕ) × IsEventLine (n + 1) e line × AreLines (n + 1) es rest
+    × (lines ≡ line ++ rest)
+
+-- how many events there are, how many bytes they take, and how many stand behind them
+abbrev pub summary_line : ℕ → ℕ → ℕ → List ℕ
+summary_line count len size =
+    decimal count ++ (codes " events, " ++ (decimal len ++ (codes " bytes, "
+    ++ (decimal (size - len) ++ codes " bytes of a torn record\n"))))
+
+-- the bytes are those of the file at a path, or of the journal in the folder that stands there
+abbrev pub IsFileAt : Host → List ℕ → List ℕ → Type 0
+IsFileAt reads path bytes =
+    AreFirstBytes reads (path_in path (codes "journal")) 4611686018427387904 bytes
+    ⊎ AreFirstBytes reads path 4611686018427387904 bytes
+
+-- nothing can be read at a path, nor is there a journal in a folder there; or memory failed
+abbrev pub IsUnreadJournal : Host → List ℕ → Fault → Type 0
+IsUnreadJournal reads path (CannotRead file) = (string_bytes file ≡ path) × reads path None
+IsUnreadJournal reads path Memory = Unit {0}
+IsUnreadJournal reads path other = ⊥
+
+-- the lines of the events for which a journal stands were written, and the line that sums it up
+pub record IsListed (reads : Host) (path : List ℕ) (old new : Option (List ℕ)) : Type 0 where
+  pub file : List ℕ
+  pub found : IsFileAt reads path file
+  pub events : List Event
+  pub stands : Stands [] file events
+  pub lines : List ℕ
+  pub each : AreLines 0 events lines
+  pub len : ℕ
+  pub written : Appends old new (lines ++ summary_line (length events) len (length file))
+
+-- why a journal is not listed: it can't be read, it is refused by the first check that fails, or
+-- memory or the writer failed
+abbrev pub IsListFault : Host → List ℕ → Fault → Type 0
+IsListFault reads path (CannotRead file) = IsUnreadJournal reads path (CannotRead file)
+IsListFault reads path (Refused (Start error)) =
+    (file : List ℕ) × IsFileAt reads path file × DeniesRead file error
+IsListFault reads path CannotWrite = Unit {0}
+IsListFault reads path Memory = Unit {0}
+IsListFault reads path other = ⊥

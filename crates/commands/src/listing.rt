@@ -1,0 +1,240 @@
+//! The lines of `journal`.
+
+ghost use Rattle.std.specs.Prelude.{◌≡◌, ℕ, List, ◌++◌, IfOk, IfErr, OnOk, length};
+ghost use Rattle.std.specs.Io.KnownBytes.{Appends};
+ghost use Rattle.matchers.specs.Grammar.{op_text, written};
+ghost use Rattle.commands.specs.Listing.{matcher_text, matchers_text, IsBatchLine, IsEventLine};
+ghost use Rattle.commands.specs.Listing.{deletion_line, cut_line};
+ghost use Rattle.commands.specs.Listing.{AreLines, summary_line, IsListed, IsListFault, IsFileAt};
+ghost use Rattle.commands.specs.Listing.{IsUnreadJournal};
+ghost use Rattle.commands.specs.Selecting.{KeepsAt};
+
+use crate::fault::Fault;
+use crate::files::{ReadError, ReadFiles};
+use crate::sending::send;
+use event_journal::{FoundJournal, read_journal};
+use head::{Event, EventView};
+use labels::{LabelSet, Sample};
+use matchers::{Matcher, Op};
+use std::alloc::{AllocError, Global};
+use std::io::Write;
+
+/// The most bytes of a journal.
+const MOST: usize = 1 << 62;
+
+/// The bytes of the journal that stands in a folder, if there is one; else of the file itself.
+fn read_at<F: ReadFiles>(alloc: Global, files: &F, path: &str) -> Result<Vec<u8>, Fault>
+    ensures ok { IfOk result (λ bytes. IsFileAt (F.may_read files.now) path.now bytes.items) }
+    ensures err { IfErr result (λ fault. IsUnreadJournal (F.may_read files.now) path.now fault) }
+{
+    let within = format!(in alloc; "{path}/journal")?;
+    match files.read_file(alloc, within.as_str(), MOST) {
+        Ok(bytes) => return Ok(bytes),
+        Err(ReadError::Memory) => return Err(Fault::Memory),
+        Err(ReadError::Unreadable) => {}
+    }
+    match files.read_file(alloc, path, MOST) {
+        Ok(bytes) => Ok(bytes),
+        Err(ReadError::Memory) => Err(Fault::Memory),
+        Err(ReadError::Unreadable) => Err(Fault::CannotRead(path.to_string(alloc)?)),
+    }
+}
+
+/// An operator, as selectors write it.
+fn op_text(op: Op) -> &'static str
+    ensures { result.now ≡ op_text op }
+{
+    match op {
+        Op::Equal => "=",
+        Op::NotEqual => "!=",
+        Op::Like => "=~",
+        Op::NotLike => "!~",
+    }
+}
+
+/// Appends a text as it stands between quotes.
+fn append_written(out: &mut Vec<u8>, text: &str) -> Result<(), AllocError>
+    ensures { OnOk result (out.new.items ≡ out.old.items ++ written text.now) }
+{
+    for byte in text.as_bytes() {
+        match *byte {
+            b'"' => out.extend_from_slice(b"\\\"")?,
+            b'\\' => out.extend_from_slice(b"\\\\")?,
+            b'\n' => out.extend_from_slice(b"\\n")?,
+            other => out.push(other)?,
+        }
+    }
+    Ok(())
+}
+
+/// Appends a matcher as a selector writes it.
+fn append_matcher(out: &mut Vec<u8>, matcher: &Matcher) -> Result<(), AllocError>
+    ensures { OnOk result (out.new.items ≡ out.old.items ++ matcher_text matcher.now) }
+{
+    out.extend_from_slice(matcher.name().as_bytes())?;
+    out.extend_from_slice(op_text(matcher.op()).as_bytes())?;
+    out.push(b'"')?;
+    append_written(out, matcher.text())?;
+    out.push(b'"')?;
+    Ok(())
+}
+
+/// Appends matchers as a selector writes them.
+fn append_matchers(out: &mut Vec<u8>, matchers: &[Matcher]) -> Result<(), AllocError>
+    ensures { OnOk result (out.new.items ≡ out.old.items ++ matchers_text matchers.now) }
+{
+    out.push(b'{')?;
+    let mut is_first = true;
+    for matcher in matchers {
+        if !is_first {
+            out.push(b',')?;
+        }
+        append_matcher(out, matcher)?;
+        is_first = false;
+    }
+    out.push(b'}')?;
+    Ok(())
+}
+
+/// How many series the samples are of.
+fn series_count(alloc: Global, samples: &[(LabelSet, Sample)]) -> Result<usize, AllocError> {
+    let mut all: Vec<&LabelSet> = Vec::new(alloc);
+    for sample in samples {
+        let labels = &sample.0;
+        if all.last() != Some(&labels) {
+            all.push(labels)?;
+        }
+    }
+    all.sort_unstable();
+    all.dedup();
+    Ok(all.len())
+}
+
+/// The least and the greatest time of samples; none of no sample.
+fn times_of(samples: &[(LabelSet, Sample)]) -> Option<(i64, i64)> {
+    let mut times = None;
+    for sample in samples {
+        let t = sample.1.t();
+        times = match times {
+            None => Some((t, t)),
+            Some((from, to)) => Some((t.min(from), t.max(to))),
+        };
+    }
+    times
+}
+
+/// Appends the line of a batch.
+fn append_batch(
+    alloc: Global,
+    out: &mut Vec<u8>,
+    number: usize,
+    samples: &[(LabelSet, Sample)],
+) -> Result<(), AllocError>
+    ensures { OnOk result ((line : List ℕ) × IsBatchLine number samples.now line
+        × (out.new.items ≡ out.old.items ++ line)) }
+{
+    let count = samples.len();
+    let Some((from, to)) = times_of(samples) else {
+        let line = format!(in alloc; "{number} batch {count} samples\n")?;
+        return out.extend_from_slice(line.as_bytes());
+    };
+    let series = series_count(alloc, samples)?;
+    let line = format!(in alloc;
+        "{number} batch {count} samples of {series} series, {from} to {to}\n"
+    )?;
+    out.extend_from_slice(line.as_bytes())
+}
+
+/// Appends the line of a deletion.
+fn append_deletion(
+    alloc: Global,
+    out: &mut Vec<u8>,
+    number: usize,
+    asked: (&[Matcher], i64, i64),
+) -> Result<(), AllocError>
+    ensures { OnOk result ((line : List ℕ)
+        × (line ≡ deletion_line number asked.0.now asked.1 asked.2)
+        × (out.new.items ≡ out.old.items ++ line)) }
+{
+    let (matchers, from, to) = asked;
+    let start = format!(in alloc; "{number} deletion ")?;
+    let end = format!(in alloc; " {from} to {to}\n")?;
+    out.extend_from_slice(start.as_bytes())?;
+    append_matchers(out, matchers)?;
+    out.extend_from_slice(end.as_bytes())
+}
+
+/// Appends the line of a cut.
+fn append_cut(alloc: Global, out: &mut Vec<u8>, number: usize, at: i64) -> Result<(), AllocError>
+    ensures { OnOk result (out.new.items ≡ out.old.items ++ cut_line number at) }
+{
+    let line = format!(in alloc; "{number} cut at {at}\n")?;
+    out.extend_from_slice(line.as_bytes())
+}
+
+/// Appends the line of an event, with its number.
+fn append_event(
+    alloc: Global,
+    out: &mut Vec<u8>,
+    number: usize,
+    event: &Event,
+) -> Result<(), AllocError>
+    ensures { OnOk result ((line : List ℕ) × IsEventLine number event.now line
+        × (out.new.items ≡ out.old.items ++ line)) }
+{
+    match event.view() {
+        EventView::Batch(samples) => append_batch(alloc, out, number, samples),
+        EventView::Deletion(matchers, from, to) => {
+            append_deletion(alloc, out, number, (matchers, from, to))
+        }
+        EventView::Cut(at) => append_cut(alloc, out, number, at),
+    }
+}
+
+/// The lines of events, which are numbered from 1.
+fn lines_of(alloc: Global, events: &[Event]) -> Result<Vec<u8>, AllocError>
+    ensures { IfOk result (λ lines. AreLines 0 events.now lines.items) }
+{
+    let mut lines = Vec::new(alloc);
+    let mut number = 0;
+    for event in events {
+        number += 1;
+        append_event(alloc, &mut lines, number, event)?;
+    }
+    Ok(lines)
+}
+
+/// The lines of what a journal holds, and the line that sums it up.
+fn listing_of(alloc: Global, found: &FoundJournal, size: usize) -> Result<Vec<u8>, AllocError>
+    ensures { IfOk result (λ text. (lines : List ℕ) × AreLines 0 found.now.events.items lines
+        × (text.items ≡ lines ++ summary_line (length found.now.events.items) found.now.len size)) }
+{
+    let mut text = lines_of(alloc, &found.events)?;
+    let (count, len) = (found.events.len(), found.len);
+    let torn = size.saturating_sub(len);
+    let last = format!(in alloc;
+        "{count} events, {len} bytes, {torn} bytes of a torn record\n"
+    )?;
+    text.extend_from_slice(last.as_bytes())?;
+    Ok(text)
+}
+
+/// Lists what the journal at a path holds: a line for each event, and one that sums it up. The path
+/// is that of the journal, or of the folder that it stands in.
+pub fn list<F: ReadFiles, W: Write>(
+    alloc: Global,
+    files: &F,
+    path: &str,
+    out: &mut W,
+) -> Result<(), Fault>
+    ensures ok { OnOk result (IsListed (F.may_read files.now) path.now
+        (W.contents out.old) (W.contents out.new)) }
+    ensures err { IfErr result (λ fault. IsListFault (F.may_read files.now) path.now fault) }
+    ensures kept { IfErr result (λ fault. KeepsAt fault (W.contents out.old) (W.contents out.new)) }
+{
+    let bytes = read_at(alloc, files, path)?;
+    let found = read_journal(alloc, bytes.as_slice())?;
+    let text = listing_of(alloc, &found, bytes.len())?;
+    send(out, text.as_slice())?;
+    Ok(())
+}
