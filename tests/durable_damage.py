@@ -3,11 +3,10 @@ disk is changed, or is read as a front of the events that were sent. The same of
 import concurrent.futures
 import os
 import random
-import re
 
 from durable_house import (
     LEAST, MOST, OK, Batch, Cut, Deletion, Looks, Server, checksum, differences, equals, journal, read, record, run,
-    text_of, tree, uvarint, varint, world_of,
+    short, text_of, tree, uvarint, varint, world_of,
 )
 
 
@@ -67,21 +66,12 @@ def ends_of(events):
     return ends
 
 
-def lines_of(events):
-    return [f"{n + 1} {event.line()}" for n, event in enumerate(events)]
-
-
-def listed(out):
-    """The lines of events that `querier journal` wrote."""
-    return [line for line in out.splitlines() if re.match(r"\d+ (batch|deletion|cut)\b", line)]
-
-
 class Journals:
     """Files that are read by `querier journal`, several at a time."""
 
     def __init__(self, looks, querier, work, events):
         self.looks, self.querier, self.work = looks, querier, work
-        self.lines = lines_of(events)
+        self.lines, self.ends = [f"{n + 1} {event.line()}" for n, event in enumerate(events)], ends_of(events)
 
     def look(self, case):
         """A file, and how many events it holds, or how it is refused; what is wrong, if anything is."""
@@ -92,14 +82,15 @@ class Journals:
         status, out, err = run([self.querier, "journal", path])
         changed = read(path) != data
         os.remove(path)
-        told = f"{what}: wanted {wanted}, got status {status}, {listed(out)[-1:]}, {err.strip()}"
         if changed:
             return f"{what}: the file was changed"
         if isinstance(wanted, int):
-            return None if (status, listed(out)) == (0, self.lines[:wanted]) else told
-        is_refused = status == 1 and re.search(rf"\b{wanted}$", err.strip(), re.M)
-        # what is listed before the refusal is a front
-        return None if is_refused and listed(out) == self.lines[: len(listed(out))] else told
+            whole = self.ends[wanted]
+            last = f"{wanted} events, {whole} bytes, {len(data) - whole} bytes of a torn record"
+            wanted = 0, "".join(f"{line}\n" for line in [*self.lines[:wanted], last]), ""
+        else:
+            wanted = 1, "", f"refused {wanted}\n"
+        return None if (status, out, err) == wanted else f"{what}: wanted {short(wanted)}, got {short((status, out, err))}"
 
     def look_at(self, what, cases):
         with concurrent.futures.ThreadPoolExecutor(os.cpu_count()) as pool:
@@ -119,7 +110,7 @@ def cut_short(data, ends, most=4096):
 
 def front_of(ends, length):
     if length < 5:
-        return "J1( at 0)?" if length < 4 else "J2( at 4)?"
+        return "J1 at 0" if length < 4 else "J2 at 4"
     return sum(end <= length for end in ends) - 1
 
 
@@ -129,7 +120,7 @@ def changed(data, ends):
         for bits in (1, 128, 255):
             other = data[:at] + bytes([data[at] ^ bits]) + data[at + 1 :]
             if at < 5:
-                wanted = r"J1( at 0)?" if at < 4 else r"J2( at 4)?"
+                wanted = "J1 at 0" if at < 4 else "J2 at 4"
             else:
                 n = sum(end <= at for end in ends) - 1
                 begin = ends[n]
@@ -244,10 +235,7 @@ class Served:
         server = Server(self.querier, "--data", folder)
         server.wait()
         status = server.end() if server.port else server.ended()
-        said = re.search(rf"^refused {code}$", server.told, re.M)
-        self.looks.at(f"{what}: a start", (1, True, True), (status, bool(said), tree(folder) == before), tell=False)
-        if not said:
-            self.looks.say(f"{what}: wanted refused {code}, got {server.told}")
+        self.looks.at(f"{what}: a start", (1, f"refused {code}", True), (status, server.told, tree(folder) == before), tell=False)
 
 
 def damage(querier, work, seed):
@@ -262,7 +250,7 @@ def damage(querier, work, seed):
     journals.look_at("more bytes at the end", list(longer(small, of_few)))
     at = len(few)
     journals.look_at("contents that are no events", [
-        (what, journal([*(event.text() for event in few), content, few[-1].text()]), f"{code}( at {at})?")
+        (what, journal([*(event.text() for event in few), content, few[-1].text()]), f"{code} at {at}")
         for what, content, code in no_events()])
     large_ones = list(cut_short(large, of_many))
     Journals(looks, querier, work, many).look_at(f"the last {len(large_ones) - 1} bytes cut off, one after another", large_ones)
@@ -280,9 +268,9 @@ def damage(querier, work, seed):
         else:
             served.refused(f"cut to {length}", small[:length], wanted)
     for what, content, code in no_events():
-        served.refused(what, journal([*(event.text() for event in few), content]), f"{code}( at {at})?")
+        served.refused(what, journal([*(event.text() for event in few), content]), f"{code} at {at}")
     for what, event in replayed():
-        served.refused(what, journal([one.text() for one in [*few, event]]), f"J18( at {at})?")
+        served.refused(what, journal([one.text() for one in [*few, event]]), f"J18 at {at}")
     looks.say(f"{served.count} starts over them")
     served = Served(looks, querier, f"{work}/many", many)
     for length in [*chance.sample(range(len(large) - 4096, len(large)), 12), len(large)]:

@@ -117,10 +117,11 @@ class Batch:
     def line(self):
         """What `querier journal` says of it."""
         samples = self.samples()
+        if not samples:
+            return "batch 0 samples"
         series = len({labels for labels, _, _ in samples})
         times = [time for _, time, _ in samples]
-        said = f"batch {len(samples)} samples of {series} series"
-        return f"{said}, {min(times)} to {max(times)}" if times else said
+        return f"batch {len(samples)} samples of {series} series, {min(times)} to {max(times)}"
 
 
 class Deletion:

@@ -290,10 +290,9 @@ class Store:
     def journal_lines(self, events):
         """What `querier journal` says."""
         status, out, err = run([self.querier, "journal", self.folder])
-        lines = out.splitlines()
-        self.looks.at("the status of journal", 0, status, tell=False)
-        self.looks.at("the lines of journal", [f"{n + 1} {event.line()}" for n, event in enumerate(events)],
-                      lines[: len(events)], tell=False)
+        lines = [f"{n + 1} {event.line()}" for n, event in enumerate(events)]
+        lines.append(f"{len(events)} events, {os.path.getsize(self.journal)} bytes, 0 bytes of a torn record")
+        self.looks.at("what journal says", (0, lines, ""), (status, out.splitlines(), err), tell=False)
 
 
 class Main:
