@@ -250,12 +250,12 @@ def mounted(folder, size):
             subprocess.run(["umount", "-l", folder], check=False)
 
 
-def fill(faults, looks, what, server, world, make_room=None):
+def fill(faults, looks, what, server, world, base, make_room=None):
     """Writes until the disk is full; small events may still be taken. With room again, all are."""
     refused, n = 0, 0
     while refused < 5 and n < 2000:
         n += 1
-        event = Batch([row(1000 + n, *[(k, k * 2**40) for k in range(60 if n % 2 else 1)])])
+        event = Batch([row(base + n, *[(k, k * 2**40) for k in range(60 if n % 2 else 1)])])
         got = server.tell(event)
         if got == OK:
             world.apply(event)
@@ -271,12 +271,15 @@ def fill(faults, looks, what, server, world, make_room=None):
 
 def full(faults, looks, work):
     with mounted(f"{work}/full", 262144) as disk:
+        if disk is None and not faults.preload:
+            looks.say("no tmpfs may be mounted here: a full disk is left")
+            return
         if disk is None:
-            looks.say("no tmpfs may be mounted here: the full disk is the preloaded library's")
+            looks.say("no tmpfs may be mounted here: the full disk is that of the preloaded library")
             folder, world = faults.folder(), World()
             server = faults.start(folder, FAIL_ROOM=100000)
             server.wait()
-            fill(faults, looks, "a full disk", server, world)
+            fill(faults, looks, "a full disk", server, world, 1000)
             server.end()
             faults.again("a full disk", folder, [world])
             return
@@ -285,8 +288,8 @@ def full(faults, looks, work):
             file.write(bytes(65536))
         server = Server(faults.querier, "--data", folder)
         looks.that("a small disk: it starts", server.wait(), server.told)
-        fill(faults, looks, "a full disk", server, world, lambda: os.remove(ballast))
-        fill(faults, looks, "a disk that is full again", server, world)
+        fill(faults, looks, "a full disk", server, world, 1000, lambda: os.remove(ballast))
+        fill(faults, looks, "a disk that is full again", server, world, 5000)
         server.end()
         # over a disk that is full
         server = Server(faults.querier, "--data", folder)
