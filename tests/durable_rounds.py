@@ -316,7 +316,7 @@ def rounds(querier, preload, work, count, seed):
             break
         failed = looks.failed
         store.begin(server, store.random.random() < 0.6)
-        seconds = store.random.choice([0.05, 0.2, 0.5]) * store.random.random() + 0.02
+        seconds = store.random.choice([0.1, 0.5, 1]) * store.random.random() + 0.02
         lost = store.write(server, seconds)
         told = sum(len(client.told) for client in store.clients)
         flying = sum(client.flying is not None for client in store.clients)
@@ -329,9 +329,9 @@ def rounds(querier, preload, work, count, seed):
         for client in [*store.clients, store.main]:
             client.told = []
         here = store.settle(server)
-        store.probe(server)
         if number % 10 == 0 or number == count:
             store.journal_lines([known[text] for text in store.contents if text in known])
+        store.probe(server)
         looks.say(
             f"{number}: {told} events acknowledged in {seconds:.2f} s and {flying} under way, of which {here} are there; "
             f"{store.events} events, {len(store.world.blocks)} blocks"
