@@ -177,6 +177,10 @@ stopped reads texts i d old mid new outcome fault.CannotWrite h before unread ke
     }
 stopped reads texts i d old mid new outcome (fault.Words error) h before unread kept cut =
     absurd unread
+stopped reads texts i d old mid new outcome (fault.CannotWriteAt path) h before unread kept cut =
+    absurd unread
+stopped reads texts i d old mid new outcome (fault.Locked folder holder) h before unread kept cut =
+    absurd unread
 stopped reads texts i d old mid new outcome (fault.CannotListen port) h before unread kept cut =
     absurd unread
 stopped reads texts i d old mid new outcome fault.NoListener h before unread kept cut =

@@ -1,20 +1,23 @@
 -- What the getters of `clap` say of the line that the words ask for.
 use Rattle.std.proofs.Common.{◌≡◌, ◌<◌, ◌^◌, ℕ, ℤ, true, false, List, Option, Some, None, refl, sym}
-use Rattle.std.proofs.Common.{ap, ap₂, subst, ◌∙◌, inl, inr, codes}
+use Rattle.std.proofs.Common.{ap, ap₂, subst, ◌∙◌, inl, inr, codes, [], length, length-map}
+use Rattle.std.specs.Borrow.{Bor}
 use Rattle.std.specs.Prelude.{option_map, unwrap_or, is_some, FitsSigned, Bool, not, ◌&&◌}
 use Rattle.std.specs.Int.{w64}
 use Rattle.std.specs.Str.Parse.{IsNumeral, without_leading_sign, signed_digits_value}
 use Rattle.std.specs.Str.Parse.{without_leading_plus, digits_value}
-use Rattle.clap.specs.Words.{Row, Text, one_of, one_text, rows_of, subcommand_name_of}
+use Rattle.clap.specs.Words.{Row, Text, first_of, one_of, one_text, rows_of, subcommand_name_of}
 use Rattle.clap.specs.Words.{subcommand_rows_of}
 use Rattle.clap.specs.declared.parser.matches.ArgMatches.{ArgMatches}
 use Rattle.clap.specs.declared.parser.matches.Found.{Found}
 use Rattle.clap.proofs.WalkLemmas.{one_text-rows}
 use Rattle.commands.specs.Lines.{IsTimeIn, IsDemo, IsSelect, IsCheck, IsSelectionIn, IsLineIn}
+use Rattle.commands.specs.Lines.{IsJournal, IsFoundLine}
 use Rattle.commands.specs.ServingLines.{IsCountIn, IsFlagIn, IsServe, IsServingIn, IsReadingIn}
+use Rattle.commands.specs.ServingLines.{IsServeIn, IsServeLine, IsFoundServe, IsOneStore}
 use Rattle.commands.specs.declared.command.Reading.{Reading}
 use Rattle.commands.specs.declared.command.Line.{Line}
-use Rattle.commands.specs.declared.command.Line.TheVariants.{Demo, Select, Check, Serve}
+use Rattle.commands.specs.declared.command.Line.TheVariants.{Demo, Select, Check, Serve, Journal}
 use Rattle.commands.specs.declared.command.Serving.{Serving}
 use Rattle.std.specs.Prelude.{Result, Ok, Err, IfOk, IsOkAnd}
 use Rattle.clap.specs.Words.{App, AddsSubcommand, app_of, with_subcommand}
@@ -168,30 +171,123 @@ check_found (Some p) rows reading e f given = record {
 }
 
 -- and so with what `serve` is to serve
-pub serve_found : (o : Option (Text × List Row)) (rows : List Row) (serving : Serving)
-    (reading : Reading) → option_map (λ p. p.0) o ≡ Some (codes "serve")
-    → option_map (λ p. p.1) o ≡ Some rows → IsServingIn rows serving
-    → IsReadingIn rows reading → IsServe o serving reading
-serve_found None rows serving reading e f served given = cc
-serve_found (Some p) rows serving reading e f served given = record {
+named_so : (name : Text) (p : Text × List Row) (rows : List Row)
+    → option_map (λ (p : Text × List Row). p.0) (Some p) ≡ Some name
+    → option_map (λ (p : Text × List Row). p.1) (Some p) ≡ Some rows → Some p ≡ Some (name, rows)
+named_so name p rows e f =
+    ap₂ (λ (n : Option Text) (r : Option (List Row)). Some (unwrap_or n p.0, unwrap_or r p.1)) e f
+
+name_is : (o : Option (Text × List Row)) (name : Text) (rows : List Row) → o ≡ Some (name, rows)
+    → option_map (λ (p : Text × List Row). p.0) o ≡ Some name
+name_is o name rows is = ap (option_map (λ (p : Text × List Row). p.0)) is
+
+serve_in : (o : Option (Text × List Row)) (rows : List Row) (line : Line)
+    → o ≡ Some (codes "serve", rows) → IsServeIn rows line → IsLineIn o line
+serve_in o rows (Serve serving reading) is h = record { rows = rows; is = is; line = h }
+serve_in o rows Demo is h = absurd h
+serve_in o rows (Check reading) is h = absurd h
+serve_in o rows (Select s reading) is h = absurd h
+serve_in o rows (Journal path) is h = absurd h
+
+not_serve : {X : Type 0} (o : Option (Text × List Row)) (name : Text) (rows : List Row)
+    → option_map (λ (p : Text × List Row). p.0) o ≡ Some (codes "serve")
+    → (name ≡ codes "serve" → ⊥) → o ≡ Some (name, rows) → X
+not_serve o name rows e other is =
+    let same : Some (codes "serve") ≡ Some name = sym e ∙ name_is o name rows is in
+    absurd (other (let n : codes "serve" ≡ name = cc in sym n))
+
+serve_out : (o : Option (Text × List Row)) (rows : List Row)
+    → o ≡ Some (codes "serve", rows) → ((line : Line) → IsServeIn rows line → ⊥)
+    → (line : Line) → IsLineIn o line → ⊥
+serve_out o rows is none (Serve serving reading) h =
+    let same : Some (codes "serve", rows) ≡ Some (codes "serve", h.rows) = sym is ∙ h.is in
+    let these : h.rows ≡ rows = cc in
+    none (Serve serving reading)
+    (subst (λ (r : List Row). IsServeLine r serving reading) these h.line)
+serve_out o rows is none Demo h =
+    not_serve o (codes "demo") h.rows (name_is o (codes "serve") rows is) (λ e. cc) h.is
+serve_out o rows is none (Check reading) h =
+    not_serve o (codes "check") h.rows (name_is o (codes "serve") rows is) (λ e. cc) h.is
+serve_out o rows is none (Select s reading) h =
+    not_serve o (codes "select") h.rows (name_is o (codes "serve") rows is) (λ e. cc) h.is
+serve_out o rows is none (Journal path) h =
+    not_serve o (codes "journal") h.rows (name_is o (codes "serve") rows is) (λ e. cc) h.is
+
+serve_parts : (o : Option (Text × List Row)) (rows : List Row)
+    → option_map (λ (p : Text × List Row). p.0) o ≡ Some (codes "serve")
+    → option_map (λ (p : Text × List Row). p.1) o ≡ Some rows → o ≡ Some (codes "serve", rows)
+serve_parts None rows e f = cc
+serve_parts (Some p) rows e f = named_so (codes "serve") p rows e f
+
+serve_is : (o : Option (Text × List Row)) (rows : List Row) (line : Option Line)
+    → o ≡ Some (codes "serve", rows) → IsFoundServe rows line → IsFoundLine o line
+serve_is o rows (Some line) is h = serve_in o rows line is h
+serve_is o rows None is h = serve_out o rows is h
+
+pub serve_found : {E : Type 0} (o : Option (Text × List Row)) (rows : List Row)
+    (r : Result (Option Line) E)
+    → option_map (λ (p : Text × List Row). p.0) o ≡ Some (codes "serve")
+    → option_map (λ (p : Text × List Row). p.1) o ≡ Some rows
+    → IfOk r (λ line. IsFoundServe rows line) → IfOk r (λ line. IsFoundLine o line)
+serve_found o rows (Ok line) e f h = serve_is o rows line (serve_parts o rows e f) h
+serve_found o rows (Err x) e f h = tt
+
+-- and so with the journal that is listed
+pub journal_found : (o : Option (Text × List Row)) (rows : List Row) (path : List ℕ)
+    → option_map (λ p. p.0) o ≡ Some (codes "journal")
+    → option_map (λ p. p.1) o ≡ Some rows
+    → path ≡ unwrap_or (first_of (codes "path") rows) [] → IsJournal o path
+journal_found None rows path e f given = cc
+journal_found (Some p) rows path e f given = record {
   rows = rows;
   is =
       ap₂ (λ (n : Option Text) (r : Option (List Row)). Some (unwrap_or n p.0, unwrap_or r p.1)) e
       f;
-  asked = served;
   given = given;
 }
 
--- none of the four is no line
+given_both : {A B : Type 0} (f : A → B) (o : Option A) (x : Option B) → option_map f o ≡ x
+    → is_some o ≡ is_some x
+given_both f None x e = ap is_some e
+given_both f (Some a) x e = ap is_some e
+
+-- no line of `serve` has directories beside a folder
+pub both_denied : (rows : List Row) (serving : Serving) (reading : Reading)
+    → IsServingIn rows serving → IsReadingIn rows reading → is_some serving.data ≡ true
+    → (length reading.directories.items ≡ 0 → ⊥) → (line : Line) → IsServeIn rows line → ⊥
+both_denied rows serving reading asked given some many (Serve other texts) h =
+    let folder : is_some other.data ≡ true =
+    given_both (λ (folder : Bor (List ℕ)). folder.now) other.data _ h.asked.data
+    ∙ sym (given_both (λ (folder : Bor (List ℕ)). folder.now) serving.data _ asked.data) ∙ some in
+    let same : length texts.directories.items ≡ length reading.directories.items =
+    sym (length-map (λ (d : Bor (List ℕ)). d.now) texts.directories.items)
+    ∙ (ap length (h.given.directories ∙ sym given.directories)
+    ∙ length-map (λ (d : Bor (List ℕ)). d.now) reading.directories.items) in
+    not_one other texts folder (λ e. many (sym same ∙ e)) h.one
+  where
+    not_one : (other : Serving) (texts : Reading) → is_some other.data ≡ true
+        → (length texts.directories.items ≡ 0 → ⊥) → IsOneStore other texts → ⊥
+    not_one other texts some many (inl none) = let bad : true ≡ false = sym some ∙ none in cc
+    not_one other texts some many (inr few) = many few
+both_denied rows serving reading asked given some many Demo h = h
+both_denied rows serving reading asked given some many (Check texts) h = h
+both_denied rows serving reading asked given some many (Select s texts) h = h
+both_denied rows serving reading asked given some many (Journal path) h = h
+
+-- none of the five is no line
 pub no_line : (o : Option (Text × List Row)) → (option_map (λ p. p.0) o ≡ Some (codes "demo") → ⊥)
     → (option_map (λ p. p.0) o ≡ Some (codes "check") → ⊥)
     → (option_map (λ p. p.0) o ≡ Some (codes "select") → ⊥)
-    → (option_map (λ p. p.0) o ≡ Some (codes "serve") → ⊥) → (line : Line) → IsLineIn o line → ⊥
-no_line o no_demo no_check no_select no_serve Demo h =
+    → (option_map (λ p. p.0) o ≡ Some (codes "serve") → ⊥)
+    → (option_map (λ p. p.0) o ≡ Some (codes "journal") → ⊥) → (line : Line)
+    → IsLineIn o line → ⊥
+no_line o no_demo no_check no_select no_serve no_journal Demo h =
     no_demo (ap (option_map (λ (p : Text × List Row). p.0)) h.is)
-no_line o no_demo no_check no_select no_serve (Check texts) h =
+no_line o no_demo no_check no_select no_serve no_journal (Check texts) h =
     no_check (ap (option_map (λ (p : Text × List Row). p.0)) h.is)
-no_line o no_demo no_check no_select no_serve (Select s texts) h =
+no_line o no_demo no_check no_select no_serve no_journal (Select s texts) h =
     no_select (ap (option_map (λ (p : Text × List Row). p.0)) h.is)
-no_line o no_demo no_check no_select no_serve (Serve serving texts) h =
+no_line o no_demo no_check no_select no_serve no_journal (Serve serving texts) h =
     no_serve (ap (option_map (λ (p : Text × List Row). p.0)) h.is)
+no_line o no_demo no_check no_select no_serve no_journal (Journal path) h =
+    no_journal (ap (option_map (λ (p : Text × List Row). p.0)) h.is)

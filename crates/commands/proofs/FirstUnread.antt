@@ -5,6 +5,7 @@ use Rattle.commands.specs.Reading.{Host, IsRead, IsFound, IsFileFault, IsReading
 use Rattle.commands.specs.Reading.{IsDirectoryFault, reading_order}
 use Rattle.commands.specs.declared.fault.Fault.{Fault}
 use Rattle.commands.specs.declared.fault.Fault.TheVariants.{Words, Refused, CannotRead, CannotWrite}
+use Rattle.commands.specs.declared.fault.Fault.TheVariants.{CannotWriteAt, Locked}
 use Rattle.commands.specs.declared.fault.Fault.TheVariants.{CannotListen, NoListener, NoThread}
 use Rattle.commands.specs.declared.fault.Fault.TheVariants.{Memory}
 use Rattle.commands.specs.declared.files.FileName.{FileName}
@@ -24,6 +25,8 @@ fault_after reads directory before name after order each (CannotRead path) h =
     record { before = before; name = name; after = after; order = order; each = each; at = h }
 fault_after reads directory before name after order each Memory h = tt
 fault_after reads directory before name after order each CannotWrite h = h
+fault_after reads directory before name after order each (CannotWriteAt path) h = h
+fault_after reads directory before name after order each (Locked folder holder) h = h
 fault_after reads directory before name after order each (CannotListen port) h = h
 fault_after reads directory before name after order each NoListener h = h
 fault_after reads directory before name after order each NoThread h = h
@@ -36,6 +39,8 @@ pub unwritten : (reads : Host) (directory : List ℕ) (fault : Fault)
 unwritten reads directory (CannotRead path) h = h
 unwritten reads directory Memory h = h
 unwritten reads directory CannotWrite h = absurd h
+unwritten reads directory (CannotWriteAt path) h = h
+unwritten reads directory (Locked folder holder) h = h
 unwritten reads directory (CannotListen port) h = h
 unwritten reads directory NoListener h = h
 unwritten reads directory NoThread h = h

@@ -10,3 +10,6 @@ pub mod Sendings
 pub mod WholeFiles
 pub mod Servings
 pub mod TokenTexts
+pub mod Folders
+pub mod Listings
+pub mod Beginnings

@@ -1,6 +1,7 @@
 -- How a line ends says how the words end.
 use Rattle.std.proofs.Common.{◌≡◌, ℕ, List, [], Option, None, Some, Result, Ok, Err, refl, inl, inr}
 use Rattle.std.specs.Prelude.{◌⊎◌}
+use Rattle.std.specs.Borrow.{Bor}
 use Rattle.std.specs.Io.KnownBytes.{Keeps}
 use Rattle.clap.specs.Words.{Text}
 use Rattle.commands.specs.Checking.{IsBegun}
@@ -8,11 +9,12 @@ use Rattle.commands.specs.Lines.{IsLineOf}
 use Rattle.commands.specs.Reading.{Host, paths_of}
 use Rattle.commands.specs.DemoAnswer.{by_writing}
 use Rattle.commands.specs.Selecting.{KeepsAt, by_selection}
-use Rattle.commands.specs.ServingRuns.{by_directories}
+use Rattle.commands.specs.ServingRuns.{IsFaultOf, by_opening, by_folder, by_store}
 use Rattle.commands.specs.Running.{IsTaken, IsLineFault, IsLineEnd, IsEnd, IsEarlyLine, KeepsAtEnd}
 use Rattle.commands.specs.Running.{status_at}
+use Rattle.commands.specs.declared.command.Serving.{Serving}
 use Rattle.commands.specs.declared.command.Line.{Line}
-use Rattle.commands.specs.declared.command.Line.TheVariants.{Demo, Select, Check, Serve}
+use Rattle.commands.specs.declared.command.Line.TheVariants.{Demo, Select, Check, Serve, Journal}
 use Rattle.commands.specs.declared.fault.Fault.{Fault}
 use Rattle.commands.specs.declared.fault.Fault.TheVariants as fault
 use Rattle.commands.specs.declared.check.Outcome.{Outcome}
@@ -29,6 +31,8 @@ unused (fault.Words error) old = keeps_itself old
 unused (fault.Refused refusal) old = keeps_itself old
 unused (fault.CannotRead path) old = keeps_itself old
 unused fault.CannotWrite old = tt
+unused (fault.CannotWriteAt path) old = keeps_itself old
+unused (fault.Locked folder holder) old = keeps_itself old
 unused (fault.CannotListen port) old = keeps_itself old
 unused fault.NoListener old = keeps_itself old
 unused fault.NoThread old = keeps_itself old
@@ -45,12 +49,20 @@ none_begun reads directories old = record {
   checked = none_checked reads old;
 }
 
+memory_of : (data : Option (Bor (List ℕ))) (reads : Host) (directories : List (List ℕ))
+    (serving : Serving) (old : Option (List ℕ))
+    → IsFaultOf data reads directories serving old old fault.Memory
+memory_of None reads directories serving old = by_opening tt (keeps_itself old)
+memory_of (Some folder) reads directories serving old = by_folder tt (keeps_itself old)
+
 memory_fault : (reads : Host) (line : Line) (old : Option (List ℕ))
     → IsLineFault reads line old old fault.Memory
 memory_fault reads Demo old = (by_writing tt, keeps_itself old)
 memory_fault reads (Select s r) old = (by_selection tt, keeps_itself old)
 memory_fault reads (Check r) old = none_begun reads (paths_of r.directories.items) old
-memory_fault reads (Serve serving r) old = by_directories tt (keeps_itself old)
+memory_fault reads (Serve serving r) old =
+    by_store (memory_of serving.data reads (paths_of r.directories.items) serving old)
+memory_fault reads (Journal path) old = (tt, keeps_itself old)
 
 -- a line may end by want of memory before it begins
 pub end_without_memory : (reads : Host) (words : List Text) (old : Option (List ℕ)) → IsTaken words
@@ -78,6 +90,9 @@ kept_at_end reads words Demo old new (Err fault) is ends = inr ends.1
 kept_at_end reads words (Select s r) old new (Ok Done) is ends = inr tt
 kept_at_end reads words (Select s r) old new (Ok Refused) is ends = absurd ends
 kept_at_end reads words (Select s r) old new (Err fault) is ends = inr ends.1
+kept_at_end reads words (Journal path) old new (Ok Done) is ends = inr tt
+kept_at_end reads words (Journal path) old new (Ok Refused) is ends = absurd ends
+kept_at_end reads words (Journal path) old new (Err fault) is ends = inr ends.1
 
 -- what is written at an end, by its exit status
 pub written_at_status : (words : List Text) (old new : Option (List ℕ))
@@ -94,6 +109,10 @@ written_at_status words old new (Err (fault.Refused refusal)) status is (inr kep
 written_at_status words old new (Err (fault.CannotRead path)) status is (inr kept) =
     inr (inr (inr kept))
 written_at_status words old new (Err fault.CannotWrite) status is (inr kept) = inr (inl is)
+written_at_status words old new (Err (fault.CannotWriteAt path)) status is (inr kept) =
+    inr (inr (inr kept))
+written_at_status words old new (Err (fault.Locked folder holder)) status is (inr kept) =
+    inr (inr (inr kept))
 written_at_status words old new (Err (fault.CannotListen port)) status is (inr kept) =
     inr (inr (inr kept))
 written_at_status words old new (Err fault.NoListener) status is (inr kept) = inr (inl is)

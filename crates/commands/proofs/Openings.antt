@@ -21,10 +21,12 @@ use Rattle.commands.specs.Opening.{IsOpeningFault}
 use Rattle.commands.specs.Reading.{Host, AreRead, IsReadingFault, paths_of}
 use Rattle.commands.specs.declared.fault.Fault.{Fault}
 use Rattle.commands.specs.declared.fault.Fault.TheVariants.{Words, Refused, CannotRead, CannotWrite}
+use Rattle.commands.specs.declared.fault.Fault.TheVariants.{CannotWriteAt, Locked}
 use Rattle.commands.specs.declared.fault.Fault.TheVariants.{CannotListen, NoListener, NoThread}
 use Rattle.commands.specs.declared.fault.Fault.TheVariants.{Memory}
 use Rattle.commands.specs.declared.fault.Refusal.TheVariants.{Labels, Matcher, Selector, Query}
 use Rattle.commands.specs.declared.fault.Refusal.TheVariants.{Commit, Block, Open, Snapshot}
+use Rattle.commands.specs.declared.fault.Refusal.TheVariants.{Start}
 use Rattle.commands.specs.declared.files.BlockFiles.{BlockFiles}
 use Rattle.commands.specs.declared.judgement.Judgement.TheVariants as judgement
 use Rattle.commands.proofs.Judgements.{said_part, refused_files}
@@ -62,6 +64,8 @@ pub unopened : (reads : Host) (directory : List ℕ) (fault : Fault)
 unopened reads directory (CannotRead path) h = h
 unopened reads directory Memory h = h
 unopened reads directory CannotWrite h = h
+unopened reads directory (CannotWriteAt path) h = h
+unopened reads directory (Locked folder holder) h = h
 unopened reads directory (CannotListen port) h = h
 unopened reads directory NoListener h = h
 unopened reads directory NoThread h = h
@@ -201,6 +205,7 @@ first_is_opening reads directories (Refused (Open store.BadPasses)) h = h.at
 first_is_opening reads directories (Refused (Open store.Unavailable)) h = h.at
 first_is_opening reads directories (Refused (Open store.Memory)) h = h.at
 first_is_opening reads directories (Refused (Snapshot error)) h = h.at
+first_is_opening reads directories (Refused (Start error)) h = h.at
 first_is_opening reads directories (Refused (Selector error)) h = h.at
 first_is_opening reads directories (Refused (Query error)) h = h.at
 first_is_opening reads directories (Refused (Labels error)) h = h.at
@@ -208,6 +213,8 @@ first_is_opening reads directories (Refused (Matcher error)) h = h.at
 first_is_opening reads directories (Refused (Commit error)) h = h.at
 first_is_opening reads directories (Words error) h = h.at
 first_is_opening reads directories CannotWrite h = h.at
+first_is_opening reads directories (CannotWriteAt path) h = h.at
+first_is_opening reads directories (Locked folder holder) h = h.at
 first_is_opening reads directories (CannotListen port) h = h.at
 first_is_opening reads directories NoListener h = h.at
 first_is_opening reads directories NoThread h = h.at

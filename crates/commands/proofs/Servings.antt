@@ -1,5 +1,7 @@
 -- Why a store is not served.
-use Rattle.std.proofs.Common.{◌≡◌, ℕ, List, map, refl, sym, subst}
+use Rattle.std.proofs.Common.{◌≡◌, ℕ, List, map, refl, sym, subst, Option, None, Some, Result, Ok}
+use Rattle.std.proofs.Common.{Err, IfErr, OnOk}
+use Rattle.std.specs.Borrow.{Bor}
 use Rattle.std.specs.List.{All}
 use Rattle.std.proofs.lemmas.List.Elements.{All-map}
 use Rattle.snapshots.specs.Seats.{IsRoom}
@@ -10,7 +12,12 @@ use Rattle.server.specs.declared.error.ServeError.TheVariants as late
 use Rattle.server.specs.Shifts.{EachServed, served_in}
 use Rattle.server.specs.declared.worker.Shift.{Shift}
 use Rattle.commands.specs.Faults.{open_fault, serve_fault}
-use Rattle.commands.specs.ServingRuns.{IsStoreFault, IsLateFault, passes_of}
+use Rattle.guard.specs.declared.rules.Rules.{Rules}
+use Rattle.commands.specs.Guarding.{AreRulesOf}
+use Rattle.commands.specs.Reading.{Host}
+use Rattle.commands.specs.ServingRuns.{IsStoreFault, IsLateFault, IsDirectoriesFault, IsFaultOf}
+use Rattle.commands.specs.ServingRuns.{IsKeepingFault, IsListening, IsServeFault, IsServing}
+use Rattle.commands.specs.ServingRuns.{TellsOf, TellsPort, by_store, passes_of}
 use Rattle.commands.specs.declared.command.Serving.{Serving}
 use Rattle.commands.specs.declared.fault.Fault.{Fault}
 use Rattle.commands.specs.declared.fault.Fault.TheVariants.{CannotListen}
@@ -41,3 +48,40 @@ pub all_counted : (shifts : List Shift) (counts : List ℕ) (n : ℕ)
 all_counted shifts counts n e each =
     subst (λ (ms : List ℕ). All (λ (m : ℕ). m ≡ n) ms) (sym e)
     (All-map (λ (m : ℕ). m ≡ n) served_in shifts each)
+
+module _ {T : Type 0} (reads : Host) (directories : List (List ℕ)) (serving : Serving)
+    (old new : Option (List ℕ)) where
+  -- of the options that name a folder
+  pub folder_told : (folder : Bor (List ℕ)) (result : Result T Fault)
+      → serving.data ≡ Some folder → (rules : Rules) → AreRulesOf reads serving rules
+      → OnOk result (TellsPort old new) → OnOk result (IsServing reads serving directories old new)
+  folder_told folder (Ok x) is rules ruled told =
+      subst (λ (d : Option (Bor (List ℕ))). TellsOf d reads serving directories old new) (sym is)
+      (record { rules = rules; ruled = ruled; told = told })
+  folder_told folder (Err e) is rules ruled told = tt
+
+  pub folder_fault : (folder : Bor (List ℕ)) (result : Result T Fault)
+      → serving.data ≡ Some folder
+      → IfErr result (λ fault. IsKeepingFault folder.now serving old new fault)
+      → IfErr result (λ fault. IsServeFault reads directories serving old new fault)
+  folder_fault folder (Ok x) is h = tt
+  folder_fault folder (Err e) is h =
+      by_store (subst (λ (d : Option (Bor (List ℕ))).
+      IsFaultOf d reads directories serving old new e) (sym is) h)
+
+  -- of options that name none
+  pub directories_told : (result : Result T Fault) → serving.data ≡ None
+      → OnOk result (IsListening reads serving directories old new)
+      → OnOk result (IsServing reads serving directories old new)
+  directories_told (Ok x) is told =
+      subst (λ (d : Option (Bor (List ℕ))). TellsOf d reads serving directories old new) (sym is)
+      told
+  directories_told (Err e) is told = tt
+
+  pub directories_fault : (result : Result T Fault) → serving.data ≡ None
+      → IfErr result (λ fault. IsDirectoriesFault reads directories serving old new fault)
+      → IfErr result (λ fault. IsServeFault reads directories serving old new fault)
+  directories_fault (Ok x) is h = tt
+  directories_fault (Err e) is h =
+      by_store (subst (λ (d : Option (Bor (List ℕ))).
+      IsFaultOf d reads directories serving old new e) (sym is) h)

@@ -1,11 +1,12 @@
 -- What `journal` lists of a journal.
-use Rattle.std.specs.Prelude.{◌≡◌, ◌⊎◌, ℕ, ◌+◌, ◌-◌, ℤ, List, [], ◌∷◌, ◌++◌, Option, None, length}
+use Rattle.std.specs.Prelude.{◌≡◌, ◌⊎◌, ℕ, suc, ◌+◌, ◌-◌, ℤ, List, [], ◌∷◌, ◌++◌, Option, None}
+use Rattle.std.specs.Prelude.{length}
 use Rattle.std.specs.Prelude.{codes, decimal, string_bytes}
 use Rattle.core.specs.Fmt.{signed_decimal}
 use Rattle.std.specs.Io.KnownBytes.{Appends}
 use Rattle.matchers.specs.Grammar.{op_text, written}
 use Rattle.matchers.specs.Views.{MatcherView}
-use Rattle.head.specs.Worlds.{Batch, Event, batch, deletion, cut}
+use Rattle.head.specs.Worlds.{Event, batch, deletion, cut}
 use Rattle.event_journal.specs.Holding.{Stands}
 use Rattle.event_journal.specs.Starting.{DeniesRead}
 use Rattle.commands.specs.Keeping.{path_in}
@@ -32,27 +33,34 @@ inner_text (m ∷ ms) = matcher_text m ++ further_text ms
 abbrev pub matchers_text : List MatcherView → List ℕ
 matchers_text ms = 123 ∷ (inner_text ms ++ 125 ∷ [])
 
--- the line of a batch: how many samples it has; and of how many series, from a time to a time
-abbrev pub batch_start : ℕ → ℕ → List ℕ
-batch_start number count =
-    decimal number ++ (codes " batch " ++ (decimal count ++ codes " samples"))
-
+-- the line of a batch: how many samples it has, of how many series, from a time to a time
 abbrev pub batch_line : ℕ → ℕ → ℕ → ℤ → ℤ → List ℕ
 batch_line number count series from to =
-    batch_start number count ++ (codes " of " ++ (decimal series ++ (codes " series, "
-    ++ (signed_decimal from ++ (codes " to " ++ (signed_decimal to ++ codes "\n"))))))
+    decimal number ++ (codes " batch " ++ (decimal count ++ (codes " samples of "
+    ++ (decimal series ++ (codes " series, " ++ (signed_decimal from ++ (codes " to "
+    ++ (signed_decimal to ++ codes "\n"))))))))
 
-abbrev pub IsBatchLine : ℕ → Batch → List ℕ → Type 0
-IsBatchLine number [] line = line ≡ batch_start number 0 ++ codes "\n"
-IsBatchLine number (x ∷ xs) line =
-    (series : ℕ) × (from : ℤ) × (to : ℤ)
-    × (line ≡ batch_line number (length (x ∷ xs)) series from to)
+-- the line of a batch without a sample
+abbrev pub empty_batch_line : ℕ → List ℕ
+empty_batch_line number = decimal number ++ codes " batch 0 samples\n"
+
+-- the line of a batch of so many samples
+abbrev pub IsBatchLine : ℕ → ℕ → List ℕ → Type 0
+IsBatchLine number 0 line = line ≡ empty_batch_line number
+IsBatchLine number (suc n) line =
+    (series : ℕ) × (from : ℤ) × (to : ℤ) × (line ≡ batch_line number (suc n) series from to)
 
 -- the line of a deletion: its matchers, from a time to a time
+abbrev pub deletion_start : ℕ → List ℕ
+deletion_start number = decimal number ++ codes " deletion "
+
+abbrev pub deletion_end : ℤ → ℤ → List ℕ
+deletion_end from to =
+    codes " " ++ (signed_decimal from ++ (codes " to " ++ (signed_decimal to ++ codes "\n")))
+
 abbrev pub deletion_line : ℕ → List MatcherView → ℤ → ℤ → List ℕ
 deletion_line number ms from to =
-    decimal number ++ (codes " deletion " ++ (matchers_text ms ++ (codes " "
-    ++ (signed_decimal from ++ (codes " to " ++ (signed_decimal to ++ codes "\n"))))))
+    deletion_start number ++ (matchers_text ms ++ deletion_end from to)
 
 -- the line of a cut
 abbrev pub cut_line : ℕ → ℤ → List ℕ
@@ -61,7 +69,7 @@ cut_line number at =
 
 -- the line of an event with its number
 abbrev pub IsEventLine : ℕ → Event → List ℕ → Type 0
-IsEventLine number (batch xs) line = IsBatchLine number xs line
+IsEventLine number (batch xs) line = IsBatchLine number (length xs) line
 IsEventLine number (deletion ms from to) line = line ≡ deletion_line number ms from to
 IsEventLine number (cut t) line = line ≡ cut_line number t
 

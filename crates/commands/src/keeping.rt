@@ -10,7 +10,7 @@ ghost use Rattle.head.specs.Worlds.{replayed};
 ghost use Rattle.journal.specs.FileMedium.{file_sound};
 ghost use Rattle.journal.specs.Media.{HasAll};
 ghost use Rattle.event_journal.specs.Holding.{Holds};
-ghost use Rattle.event_journal.specs.Starting.{DeniesStep};
+ghost use Rattle.event_journal.specs.Starting.{DeniesStep, of_step};
 ghost use Rattle.server.specs.Shifts.{AreUnder, EachServed};
 ghost use Rattle.commands.specs.Guarding.{AreRulesOf};
 ghost use Rattle.commands.specs.Keeping.{IsKeptStore, IsKeptInFile, IsResumeFault, IsDataFault};
@@ -69,7 +69,9 @@ struct OpenData {
     store: KeptStore<FileMedium>,
 }
 
-fn not_accepted(refused: RefusedEvent) -> StartError {
+fn not_accepted(refused: RefusedEvent) -> StartError
+    ensures { result ≡ of_step refused }
+{
     match refused.error {
         CommitError::Memory => StartError::Memory,
         _ => StartError::Step(refused),

@@ -1,10 +1,12 @@
 //! The lines of `journal`.
 
-ghost use Rattle.std.specs.Prelude.{◌≡◌, ℕ, List, ◌++◌, IfOk, IfErr, OnOk, length};
+ghost use Rattle.std.specs.Prelude.{◌≡◌, ℕ, ℤ, List, ◌++◌, IfOk, IfErr, OnOk, length};
+ghost use Rattle.std.specs.Prelude.{string_bytes};
 ghost use Rattle.std.specs.Io.KnownBytes.{Appends};
 ghost use Rattle.matchers.specs.Grammar.{op_text, written};
 ghost use Rattle.commands.specs.Listing.{matcher_text, matchers_text, IsBatchLine, IsEventLine};
-ghost use Rattle.commands.specs.Listing.{deletion_line, cut_line};
+ghost use Rattle.commands.specs.Listing.{batch_line, empty_batch_line, deletion_start};
+ghost use Rattle.commands.specs.Listing.{deletion_end, deletion_line, cut_line};
 ghost use Rattle.commands.specs.Listing.{AreLines, summary_line, IsListed, IsListFault, IsFileAt};
 ghost use Rattle.commands.specs.Listing.{IsUnreadJournal};
 ghost use Rattle.commands.specs.Selecting.{KeepsAt};
@@ -110,17 +112,37 @@ fn series_count(alloc: Global, samples: &[(LabelSet, Sample)]) -> Result<usize, 
     Ok(all.len())
 }
 
-/// The least and the greatest time of samples; none of no sample.
-fn times_of(samples: &[(LabelSet, Sample)]) -> Option<(i64, i64)> {
-    let mut times = None;
+/// The least and the greatest time of samples.
+fn times_of(samples: &[(LabelSet, Sample)]) -> (i64, i64) {
+    let (mut from, mut to) = (i64::MAX, i64::MIN);
     for sample in samples {
         let t = sample.1.t();
-        times = match times {
-            None => Some((t, t)),
-            Some((from, to)) => Some((t.min(from), t.max(to))),
-        };
+        from = from.min(t);
+        to = to.max(t);
     }
-    times
+    (from, to)
+}
+
+/// The line of a batch with samples.
+fn batch_line(
+    alloc: Global,
+    number: usize,
+    samples: &[(LabelSet, Sample)],
+) -> Result<String, AllocError>
+    ensures { IfOk result (λ line. (series : ℕ) × (from : ℤ) × (to : ℤ)
+        × (string_bytes line ≡ batch_line number (length samples.now) series from to)) }
+{
+    let count = samples.len();
+    let series = series_count(alloc, samples)?;
+    let (from, to) = times_of(samples);
+    format!(in alloc; "{number} batch {count} samples of {series} series, {from} to {to}\n")
+}
+
+/// The line of a batch without a sample.
+fn empty_batch_line(alloc: Global, number: usize) -> Result<String, AllocError>
+    ensures { IfOk result (λ line. string_bytes line ≡ empty_batch_line number) }
+{
+    format!(in alloc; "{number} batch 0 samples\n")
 }
 
 /// Appends the line of a batch.
@@ -130,19 +152,29 @@ fn append_batch(
     number: usize,
     samples: &[(LabelSet, Sample)],
 ) -> Result<(), AllocError>
-    ensures { OnOk result ((line : List ℕ) × IsBatchLine number samples.now line
+    ensures { OnOk result ((line : List ℕ) × IsBatchLine number (length samples.now) line
         × (out.new.items ≡ out.old.items ++ line)) }
 {
-    let count = samples.len();
-    let Some((from, to)) = times_of(samples) else {
-        let line = format!(in alloc; "{number} batch {count} samples\n")?;
+    if samples.is_empty() {
+        let line = empty_batch_line(alloc, number)?;
         return out.extend_from_slice(line.as_bytes());
-    };
-    let series = series_count(alloc, samples)?;
-    let line = format!(in alloc;
-        "{number} batch {count} samples of {series} series, {from} to {to}\n"
-    )?;
+    }
+    let line = batch_line(alloc, number, samples)?;
     out.extend_from_slice(line.as_bytes())
+}
+
+/// What stands before the matchers in the line of a deletion.
+fn deletion_start(alloc: Global, number: usize) -> Result<String, AllocError>
+    ensures { IfOk result (λ start. string_bytes start ≡ deletion_start number) }
+{
+    format!(in alloc; "{number} deletion ")
+}
+
+/// What stands behind them.
+fn deletion_end(alloc: Global, from: i64, to: i64) -> Result<String, AllocError>
+    ensures { IfOk result (λ end. string_bytes end ≡ deletion_end from to) }
+{
+    format!(in alloc; " {from} to {to}\n")
 }
 
 /// Appends the line of a deletion.
@@ -152,23 +184,29 @@ fn append_deletion(
     number: usize,
     asked: (&[Matcher], i64, i64),
 ) -> Result<(), AllocError>
-    ensures { OnOk result ((line : List ℕ)
-        × (line ≡ deletion_line number asked.0.now asked.1 asked.2)
-        × (out.new.items ≡ out.old.items ++ line)) }
+    ensures { OnOk result (out.new.items
+        ≡ out.old.items ++ deletion_line number asked.entry.0.now asked.1 asked.2) }
 {
     let (matchers, from, to) = asked;
-    let start = format!(in alloc; "{number} deletion ")?;
-    let end = format!(in alloc; " {from} to {to}\n")?;
+    let start = deletion_start(alloc, number)?;
+    let end = deletion_end(alloc, from, to)?;
     out.extend_from_slice(start.as_bytes())?;
     append_matchers(out, matchers)?;
     out.extend_from_slice(end.as_bytes())
+}
+
+/// The line of a cut.
+fn cut_line(alloc: Global, number: usize, at: i64) -> Result<String, AllocError>
+    ensures { IfOk result (λ line. string_bytes line ≡ cut_line number at) }
+{
+    format!(in alloc; "{number} cut at {at}\n")
 }
 
 /// Appends the line of a cut.
 fn append_cut(alloc: Global, out: &mut Vec<u8>, number: usize, at: i64) -> Result<(), AllocError>
     ensures { OnOk result (out.new.items ≡ out.old.items ++ cut_line number at) }
 {
-    let line = format!(in alloc; "{number} cut at {at}\n")?;
+    let line = cut_line(alloc, number, at)?;
     out.extend_from_slice(line.as_bytes())
 }
 
@@ -204,17 +242,26 @@ fn lines_of(alloc: Global, events: &[Event]) -> Result<Vec<u8>, AllocError>
     Ok(lines)
 }
 
+/// The line that sums a journal up: how many events, in how many of its bytes.
+fn summary_line(
+    alloc: Global,
+    count: usize,
+    len: usize,
+    size: usize,
+) -> Result<String, AllocError>
+    ensures { IfOk result (λ line. string_bytes line ≡ summary_line count len size) }
+{
+    let torn = size.saturating_sub(len);
+    format!(in alloc; "{count} events, {len} bytes, {torn} bytes of a torn record\n")
+}
+
 /// The lines of what a journal holds, and the line that sums it up.
 fn listing_of(alloc: Global, found: &FoundJournal, size: usize) -> Result<Vec<u8>, AllocError>
     ensures { IfOk result (λ text. (lines : List ℕ) × AreLines 0 found.now.events.items lines
         × (text.items ≡ lines ++ summary_line (length found.now.events.items) found.now.len size)) }
 {
     let mut text = lines_of(alloc, &found.events)?;
-    let (count, len) = (found.events.len(), found.len);
-    let torn = size.saturating_sub(len);
-    let last = format!(in alloc;
-        "{count} events, {len} bytes, {torn} bytes of a torn record\n"
-    )?;
+    let last = summary_line(alloc, found.events.len(), found.len, size)?;
     text.extend_from_slice(last.as_bytes())?;
     Ok(text)
 }

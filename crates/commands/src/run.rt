@@ -133,9 +133,10 @@ fn tell<E: Write>(end: &Result<Outcome, Fault>, to: &mut E) -> io::Result<()>
 /// 0 where it is done; 1 for a refusal, with its code on the second writer, or in the lines of a
 /// check; 2 for a fault of the words, with the usage on the second writer; 3 where a file cannot be
 /// read or written, a folder not be locked or a port not be listened on, which is named there, the
-/// first writer fails, or a server loses its listener or cannot make a thread; 4 where memory fails. The store of the demo waits
-/// for nobody else's threads; a server waits for clients, and tells what becomes of them on the
-/// host's own standard error. If that is a terminal, it is also told there which directory is read.
+/// first writer fails, or a server loses its listener or cannot make a thread; 4 where memory
+/// fails. The store of the demo waits for nobody else's threads; a server waits for clients, and
+/// tells what becomes of them, and what it recovered, on the host's own standard error. If that is
+/// a terminal, it is also told there which directory is read.
 pub fn run<
     Q: Wait + Threads + Net<Listener = TcpListener, Stream = TcpStream> + Clock + Eprint + Sync,
     F: ReadFiles,

@@ -8,7 +8,7 @@ use Rattle.std.proofs.lemmas.List.{append-nil, map-append, take_all}
 use Rattle.head.specs.Worlds.{Event}
 use Rattle.event_text.specs.Spelling.{event_text}
 use Rattle.journal.specs.Group.{HasSomeMore}
-use Rattle.journal.specs.Media.{HasAll, Keeps, LeavesOnly, MayLeave}
+use Rattle.journal.specs.Media.{Keeps, LeavesOnly, MayLeave}
 use Rattle.journal.specs.Records.{file_of, Recovers}
 use Rattle.journal.proofs.Keeping.{at_rest}
 use Rattle.journal.proofs.Moments.{started, weaker}

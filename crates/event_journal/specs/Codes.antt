@@ -40,5 +40,5 @@ start_text (Journal e) = text_of e
 start_text (Event refused) =
     event_text refused.error ++ codes " (after " ++ decimal refused.at ++ codes " events)"
 start_text (Step refused) =
-    codes "J18: the event after " ++ decimal refused.at ++ codes " events is refused: "
-    ++ commit_text refused.error
+    codes "J18: the event after "
+    ++ (decimal refused.at ++ (codes " events is refused: " ++ commit_text refused.error))

@@ -1,11 +1,10 @@
 -- What is read is the one text of its value, and each text is read.
-use Rattle.std.proofs.Common.{◌≡◌, ℕ, ◌<◌, zero, suc, true, false, not, cond, eqb, Bool, List, []}
+use Rattle.std.proofs.Common.{◌≡◌, ℕ, ◌<◌, zero, suc, true, false, eqb, List, []}
 use Rattle.std.proofs.Common.{◌∷◌, ◌++◌, length, Option, None, Some, Result, Ok, Err, refl, sym, ap}
 use Rattle.std.proofs.Common.{subst, ◌∙◌, append_assoc, inl, inr, arith}
 use Rattle.std.specs.List.{flat_map, AllByRecursion}
 use Rattle.std.specs.Str.{is_utf8}
 use Rattle.std.proofs.lemmas.Bool.{eqb-true, false_from_ne_true}
-use Rattle.std.proofs.lemmas.List.{append-nil}
 use Rattle.std.proofs.lemmas.List.Concat.{flat_map-cons}
 use Rattle.wire.specs.Spelling.{uvarint, varint, IsBytes}
 use Rattle.wire.specs.Reading.{byte_at, bytes_at, uvarint_at, varint_at}
@@ -22,7 +21,7 @@ use Rattle.matchers.specs.declared.matcher.Op.TheVariants.{Equal, NotEqual, Like
 use Rattle.head.specs.Worlds.{Event, batch, deletion, cut}
 use Rattle.event_text.specs.declared.error.TextError.{TextError}
 use Rattle.event_text.specs.declared.error.TextError.TheVariants.{Kind, Field, Runs as BadRuns}
-use Rattle.event_text.specs.declared.error.TextError.TheVariants.{Bounds, Rest, Labels as BadLabels}
+use Rattle.event_text.specs.declared.error.TextError.TheVariants.{Labels as BadLabels}
 use Rattle.event_text.specs.Runs.{Run, runs_of, batch_in, differ}
 use Rattle.event_text.specs.Spelling.{string_text, pair_text, many_text, labels_text, sample_text}
 use Rattle.event_text.specs.Spelling.{run_text, op_number, matcher_text, event_text}

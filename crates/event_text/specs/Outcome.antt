@@ -1,5 +1,5 @@
 -- What a call answered, against what reading gives.
-use Rattle.std.specs.Prelude.{◌≡◌, ◌⊎◌, ◌<◌, ⊤, Bool, true, false, ℕ, List, length, Result, Ok, Err}
+use Rattle.std.specs.Prelude.{◌≡◌, ◌⊎◌, ◌<◌, ⊤, Bool, true, false, List, length, Result, Ok, Err}
 use Rattle.std.specs.List.{Contains}
 use Rattle.labels.specs.Names.{is_name}
 use Rattle.matchers.specs.Patterns.{IsRefusedPattern}

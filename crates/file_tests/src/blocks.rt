@@ -1,4 +1,4 @@
-//! Ranges, and blocks that are made by a rule; below, what blocks lend. What is refused of their
+//! Blocks that are made by a rule; below, what blocks lend. What is refused of their
 //! files stands in `case_files`.
 
 mod lent_lists;
@@ -6,8 +6,7 @@ mod opened_blocks;
 
 use crate::draft::{Draft, align};
 use crate::files::{CHUNKS, INDEX, SEGMENT, deletions_of, put_chunk};
-use block::{Block, BlockError, Range};
-use labels::{MAX_TIME, MIN_TIME};
+use block::{Block, Range};
 use std::alloc::{AllocError, Global};
 
 /// The block of these files in a range, with these deletions, or the code of its refusal.
@@ -100,32 +99,5 @@ fn counted(
     match one_series(alloc, &body) {
         Ok(index) => opened(alloc, (0, until), &index, chunks, entries),
         Err(_) => Err("no memory"),
-    }
-}
-
-/// The ends of a range, and whether they are accepted.
-const RANGES: &[(i64, i64, bool)] = &[
-    (0, 20, true),
-    (-20, -19, true),
-    (MIN_TIME, MAX_TIME, true),
-    (0, 0, false),
-    (20, 0, false),
-    (MIN_TIME - 1, 0, false),
-    (0, MAX_TIME + 1, false),
-];
-
-#[test]
-fn a_range_goes_up_to_its_end(rt: HostRuntime) {
-    for (min, max, accepted) in RANGES {
-        let found = match Range::new(*min, *max) {
-            Some(range) => range.min() == *min && range.max() == *max,
-            None => false,
-        };
-        assert!(rt; found == *accepted, "{min} to {max}");
-    }
-    assert!(rt; BlockError::Memory.code() == "memory");
-    let range = Range::new(0, 20).expect(&rt, "it is a range");
-    for (t, want) in [(-1, false), (0, true), (19, true), (20, false)] {
-        assert!(rt; range.covers(t) == want, "at {t}");
     }
 }

@@ -1,10 +1,9 @@
-//! What deletions cover, and entries of any byte. What is refused of a file of deletions stands in
-//! `case_files`.
+//! What deletions cover. What is refused of a file of deletions stands in `case_files`.
 
-use crate::files::{NO_DELETIONS, deletions_of};
+use crate::files::deletions_of;
 use labels::SeriesRef;
 use std::alloc::{AllocError, Global};
-use tombstones::{Deletion, Tombstones};
+use tombstones::Tombstones;
 
 /// The code that the file is refused with, or `ok`.
 pub fn code_of(alloc: Global, file: &[u8]) -> &'static str {
@@ -113,117 +112,5 @@ fn added_deletions_are_closed_and_overlap_in_any_order(rt: HostRuntime) {
             "{entries:?} and {} more",
             added.len()
         );
-    }
-}
-
-/// Which series have a deletion, where the series 6 and 3 have one.
-const HAVE: &[(u32, bool)] = &[(2, false), (3, true), (4, false), (6, true), (7, false)];
-
-/// The deletions of files, those of a series beside each other in the order of time.
-const LISTED: &[(&[u8], &[Added])] = &[(&[], &[]), (THREE, &[LONG, SHORT, OTHER])];
-
-fn are_deletions(found: &[Deletion], want: &[Added]) -> bool {
-    for (deletion, (reference, from, to)) in found.iter().zip(want) {
-        if deletion.reference != *reference || deletion.from != *from || deletion.to != *to {
-            return false;
-        }
-    }
-    found.len() == want.len()
-}
-
-#[test]
-fn deletions_stand_in_order_and_are_found_by_their_series(rt: HostRuntime) {
-    let alloc = rt.alloc();
-    for (entries, want) in LISTED {
-        let tombstones = with_added(alloc, entries, &[]).expect(&rt, "it opens");
-        assert!(rt; are_deletions(tombstones.deletions(), want), "{entries:?}");
-    }
-    let four = with_added(alloc, OVERLAP, &[(4, 2, 3)]).expect(&rt, "it opens");
-    assert!(rt; four.deletions().len() == 4);
-    assert!(rt; code_of(alloc, NO_DELETIONS) == "ok");
-    let two = with_added(alloc, &[], &[(6, 1, 2), (3, 5, 5)]).expect(&rt, "it opens");
-    for (reference, want) in HAVE {
-        let found = two.has_deletion_of(SeriesRef::new(*reference));
-        assert!(rt; found == *want, "{reference}");
-    }
-    let deletion = Deletion {
-        reference: 6,
-        from: 1,
-        to: 2,
-    };
-    assert!(rt; deletion.holds(1));
-}
-
-/// What is deleted from 1 to 2 of the series 6, and then from 5 to 7 of it and of the series 3.
-const JOINED: &[Asked] = &[
-    (6, 0, false),
-    (6, 1, true),
-    (6, 3, false),
-    (6, 5, true),
-    (6, 7, true),
-    (6, 8, false),
-    (3, 1, false),
-    (3, 4, false),
-    (3, 5, true),
-    (4, 5, false),
-];
-
-/// The same deletions, after one of each of these series is joined.
-fn joined(
-    alloc: Global,
-    old: &Tombstones,
-    numbers: &[u32],
-    from: i64,
-    to: i64,
-) -> Option<Tombstones> {
-    let mut references = Vec::new(alloc);
-    for number in numbers {
-        references.push(SeriesRef::new(*number)).ok()?;
-    }
-    old.with(alloc, &references, from, to).ok()
-}
-
-#[test]
-fn an_interval_of_several_series_is_joined(rt: HostRuntime) {
-    let alloc = rt.alloc();
-    let old = with_added(alloc, &[], &[(6, 1, 2)]).expect(&rt, "it opens");
-    let more = joined(alloc, &old, &[6, 3], 5, 7).expect(&rt, "there is memory");
-    assert!(rt; deletes(&more, JOINED));
-    assert!(rt; !old.deleted(SeriesRef::new(6), 5));
-    let same = joined(alloc, &more, &[], 0, 9).expect(&rt, "there is memory");
-    assert!(rt; same.deletions().len() == 3);
-    let short = with_added(alloc, &[], &[OTHER, SHORT]).expect(&rt, "it opens");
-    let long = joined(alloc, &short, &[6], 0, 100).expect(&rt, "there is memory");
-    assert!(rt; deletes(&long, OF_THREE));
-}
-
-/// The code of a file of these entries.
-fn code_of_entries(alloc: Global, entries: &[u8]) -> &'static str {
-    match deletions_of(alloc, entries) {
-        Some(file) => code_of(alloc, &file),
-        None => "no memory",
-    }
-}
-
-/// Each byte of the entry `06 03 28` in turn is any value, under a checksum that is right. From
-/// 128 on a byte is not its number's last, so that the entry ends early. The reference may be any
-/// other; an interval begins at 20 at the latest (so at an even 40, or at an odd number for one
-/// below 0), and ends at -2 at the earliest.
-#[test]
-fn an_entry_is_read_whatever_its_bytes(rt: HostRuntime) {
-    let alloc = rt.alloc();
-    for byte in 0..=255u8 {
-        let begins = byte % 2 == 1 || byte <= 40;
-        let ends = byte % 2 == 0 || byte <= 3;
-        let whole = byte < 128;
-        let rows = [
-            ([byte, 0x03, 0x28], whole),
-            ([0x06, byte, 0x28], whole && begins),
-            ([0x06, 0x03, byte], whole && ends),
-        ];
-        for (entry, accepted) in rows {
-            let want = if accepted { "ok" } else { "T4" };
-            assert!(rt; code_of_entries(alloc, &entry) == want, "of {entry:?}");
-        }
     }
 }

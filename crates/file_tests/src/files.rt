@@ -1,6 +1,6 @@
 //! The worked files of the format, spelled by hand, and what other files are made of.
 
-use labels::{LabelSet, Sample};
+use labels::LabelSet;
 use std::alloc::{AllocError, Global};
 use wire::{crc32c, put_be32, put_bytes, put_uvarint};
 
@@ -134,14 +134,4 @@ pub fn is_text(made: Result<String, AllocError>, want: &str) -> bool {
         Ok(text) => text.as_str() == want,
         Err(_) => false,
     }
-}
-
-/// Whether these are the times and values of the samples.
-pub fn are_samples(samples: &[Sample], want: &[(i64, i64)]) -> bool {
-    for (sample, (t, v)) in samples.iter().zip(want) {
-        if sample.t() != *t || sample.v() != *v {
-            return false;
-        }
-    }
-    samples.len() == want.len()
 }

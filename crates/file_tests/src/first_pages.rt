@@ -1,10 +1,10 @@
-//! The examples of the first pages of `chunk_reader`, `index_reader`, `block` and `block_writer`.
+//! The examples of the first pages of `chunk_reader`, `block` and `block_writer`.
 
 use block::{Block, BlockError, Range};
 use block_writer::{BlockBytes, PartRows, write};
 use chunk_reader::{ChunkError, Chunks};
-use index_reader::{Index, IndexError};
-use labels::{LabelSet, Row, Sample, SeriesRef};
+use index_reader::IndexError;
+use labels::{LabelSet, Row, Sample};
 use std::alloc::Global;
 use std::process::Abort;
 
@@ -19,27 +19,6 @@ fn the_example_of_the_first_page_of_chunk_reader(rt: HostRuntime) -> Result<(), 
     assert_eq!(rt; samples.get(0), Sample::new(10, 4));
     let refused = chunks.find(8, 10, 11).err();
     assert_eq!(rt; refused, Some(ChunkError::TimesDisagree));
-    Ok(())
-}
-
-#[test]
-fn the_example_of_the_first_page_of_index_reader(rt: HostRuntime) -> Result<(), IndexError> {
-    let alloc = rt.alloc();
-    // The symbols, one series, its lists, the table of offsets, and the table of contents.
-    let file = b"\xBA\xAA\xD7\0\x02\0\0\0\x10\0\0\0\x02\x08__name__\x02up\x10\x7D\x8B\x61\0\0\0\
-        \x07\x01\0\x01\x01\x14\0\x08\x52\xCC\x02\xEE\
-        \0\0\0\x08\0\0\0\x01\0\0\0\x02\x55\x02\xAD\xD1\
-        \0\0\0\x08\0\0\0\x01\0\0\0\x02\x55\x02\xAD\xD1\
-        \0\0\0\x16\0\0\0\x02\x02\0\0\x2C\x02\x08__name__\x02up\x3C\x5D\x2C\xBB\xFD\
-        \0\0\0\0\0\0\0\x05\0\0\0\0\0\0\0\x20\0\0\0\0\0\0\0\0\0\0\0\0\0\0\0\0\
-        \0\0\0\0\0\0\0\x2C\0\0\0\0\0\0\0\x4C\x9B\xFB\x29\x66";
-    let index = Index::open(alloc, file)?;
-    assert_eq!(rt; index.len(), 1);
-    assert_eq!(rt; index.reference_at(0), SeriesRef::new(2));
-    assert_eq!(rt; index.labels_at(alloc, 0)?.value("__name__"), "up");
-    assert!(rt; index.entries("job", "a").is_none());
-    let refused = Index::open(alloc, b"no index").err();
-    assert_eq!(rt; refused, Some(IndexError::TooShort));
     Ok(())
 }
 

@@ -1,75 +1,10 @@
-//! Rows from the format documents, each call once on its happy path, and each refusal with the cut
-//! left as it was.
+//! What is put, by the rows of the format documents, and checksums by public vectors.
 
 use std::alloc::AllocError;
 use std::test::Fail;
 use wire::{
     Cut, WireError, crc32c, put_be32, put_be64, put_bytes, put_u8, put_uvarint, put_varint,
 };
-
-/// Bytes, the number that they begin with or why there is none, and how many bytes are left.
-const NUMBERS: &[(&[u8], Result<u64, WireError>, usize)] = &[
-    (&[0x00], Ok(0), 0),
-    (&[0x7F], Ok(127), 0),
-    (&[0xAC, 0x02], Ok(300), 0),
-    (
-        &[0xFF, 0xFF, 0xFF, 0xFF, 0xFF, 0xFF, 0xFF, 0xFF, 0xFF, 0x01],
-        Ok(u64::MAX),
-        0,
-    ),
-    (&[], Err(WireError::Short), 0),
-    (&[0x80], Err(WireError::Short), 1),
-    (&[0x80, 0x00], Err(WireError::LongForm), 2),
-    (
-        &[0x80, 0x80, 0x80, 0x80, 0x80, 0x80, 0x80, 0x80, 0x80, 0x02],
-        Err(WireError::TooBig),
-        10,
-    ),
-];
-
-/// Bytes, and the number that they are with its sign.
-const SIGNED: &[(&[u8], Result<i64, WireError>)] = &[
-    (&[0], Ok(0)),
-    (&[1], Ok(-1)),
-    (&[2], Ok(1)),
-    (&[3], Ok(-2)),
-    (&[4], Ok(2)),
-    (
-        &[0xFF, 0xFF, 0xFF, 0xFF, 0xFF, 0xFF, 0xFF, 0xFF, 0xFF, 0x01],
-        Ok(i64::MIN),
-    ),
-    (&[0x80, 0x00], Err(WireError::LongForm)),
-];
-
-#[test]
-fn numbers_are_read_from_their_one_spelling_and_signed_ones_zigzag(rt: HostRuntime) {
-    for (bytes, want, left) in NUMBERS {
-        let mut cut = Cut::new(bytes);
-        assert!(rt; cut.uvarint() == *want, "of {bytes:?}");
-        assert!(rt; cut.len() == *left, "after {bytes:?}");
-        assert!(rt; cut.is_empty() == (*left == 0), "after {bytes:?}");
-    }
-    for (bytes, want) in SIGNED {
-        assert!(rt; Cut::new(bytes).varint() == *want, "of {bytes:?}");
-    }
-}
-
-/// A field that is too short leaves the cut as it was.
-#[test]
-fn fields_are_taken_in_turn(rt: HostRuntime) {
-    let mut cut = Cut::new(&[7, 0, 0, 1, 0, 0, 0, 0, 0, 0, 0, 2, 1, 9, 8]);
-    assert!(rt; cut.u8() == Ok(7));
-    assert!(rt; cut.be32() == Ok(256));
-    assert!(rt; cut.be64() == Ok(513));
-    assert!(rt; cut.bytes(3) == Err(WireError::Short));
-    assert!(rt; cut.rest() == [9, 8].as_slice());
-    assert!(rt; cut.bytes(2) == Ok([9, 8].as_slice()));
-    assert!(rt; cut.u8() == Err(WireError::Short));
-    let mut short = Cut::new(&[1, 2, 3]);
-    assert!(rt; short.be32() == Err(WireError::Short));
-    assert!(rt; short.be64() == Err(WireError::Short));
-    assert!(rt; short.rest() == [1, 2, 3].as_slice());
-}
 
 #[test]
 fn the_example_of_the_first_page(rt: HostRuntime) -> Result<(), Fail> {

@@ -1,8 +1,8 @@
-//! Rows that a part may have, and the worked files of the format.
+//! The worked files of the format, and others as they are written.
 
 use crate::files::{CHUNKS, EMPTY_INDEX, INDEX, NO_DELETIONS, SEGMENT};
 use block::{Block, Range};
-use block_writer::{BlockBytes, PartRows, WriteError, write};
+use block_writer::{BlockBytes, PartRows, write};
 use labels::{LabelSet, Row, Sample, SeriesRef};
 use std::alloc::Global;
 
@@ -45,56 +45,6 @@ fn part_of(alloc: Global, listed: &[Listed]) -> Option<PartRows> {
 fn written(alloc: Global, listed: &[Listed]) -> Option<BlockBytes> {
     let part = part_of(alloc, listed)?;
     write(alloc, &part).ok()
-}
-
-/// Rows, and whether they are those of a part.
-const PARTS: &[(&[Listed], bool)] = &[
-    (&[], true),
-    (&[(&[("job", "a")], &[(10, 11, 1)])], true),
-    (
-        &[
-            (&[("job", "a")], &[(10, 11, 1), (20, 21, 1)]),
-            (&[("job", "b")], &[(10, 11, 1)]),
-        ],
-        true,
-    ),
-    (&[(&[("job", "a")], &[])], false),
-    (
-        &[(&[("job", "a")], &[(10, 11, 1)]), (&[("job", "b")], &[])],
-        false,
-    ),
-    (
-        &[
-            (&[("job", "a")], &[(10, 11, 1)]),
-            (&[("job", "a")], &[(20, 21, 1)]),
-        ],
-        false,
-    ),
-    (
-        &[
-            (&[("job", "b")], &[(10, 11, 1)]),
-            (&[("job", "a")], &[(10, 11, 1)]),
-        ],
-        false,
-    ),
-    (&[(&[("job", "a")], &[(10, 11, 1), (10, 11, 1)])], false),
-];
-
-/// Whether these rows are a part, which then has all of them.
-fn is_part(rows: Vec<Row>) -> bool {
-    let count = rows.len();
-    match PartRows::new(rows) {
-        Some(part) => part.rows().len() == count,
-        None => false,
-    }
-}
-
-#[test]
-fn a_part_has_rows_in_order(rt: HostRuntime) {
-    for (listed, want) in PARTS {
-        let rows = rows_of(rt.alloc(), listed).expect(&rt, "there is memory");
-        assert!(rt; is_part(rows) == *want, "of {} rows", listed.len());
-    }
 }
 
 /// Bytes of a file, and where they stand.
@@ -235,10 +185,4 @@ fn what_is_written_is_opened(rt: HostRuntime) {
     let found = block.list_all(alloc).ok().expect(&rt, "there is memory");
     assert!(rt; are_rows(&found, part.rows()));
     assert!(rt; found.len() == 2);
-}
-
-#[test]
-fn a_refusal_has_a_number(rt: HostRuntime) {
-    assert!(rt; WriteError::Limit.code() == "N1");
-    assert!(rt; WriteError::Memory.code() == "memory");
 }

@@ -4,7 +4,7 @@ use Rattle.std.specs.Ordering.{int_eq}
 use Rattle.std.proofs.Common.{sym, ◌∙◌, ap, subst, arith}
 use Rattle.std.proofs.lemmas.Bool.Decides.{nat_tests}
 use Rattle.head.specs.declared.error.CommitError.{CommitError}
-use Rattle.head.specs.declared.error.CommitError.TheVariants.{OutOfBounds, OutOfOrder, Duplicate, Limit, CutTooLow, TooManyParts, Seat, Memory}
+use Rattle.head.specs.declared.error.CommitError.TheVariants.{OutOfBounds, OutOfOrder, Duplicate, Limit, CutTooLow, TooManyParts, Seat, Journal, Memory}
 use Rattle.head.specs.Outcomes.{IsStepRefusal}
 use Rattle.labels.specs.Labels.{Labels, same_labels}
 use Rattle.head.specs.Refusals.{Refusal, out_of_bounds, out_of_order, duplicate, limit}
@@ -103,6 +103,7 @@ answer_with Limit head k r is = ap (with_series head k) is
 answer_with CutTooLow head k r is = ap (with_series head k) is
 answer_with TooManyParts head k r is = ap (with_series head k) is
 answer_with Seat head k r is = absurd is
+answer_with Journal head k r is = absurd is
 answer_with Memory head k r is = tt
 
 -- the outcome at the series is that at the head

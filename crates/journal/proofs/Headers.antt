@@ -1,15 +1,14 @@
 -- How a file begins, and what reading its header gives then.
-use Rattle.std.proofs.Common.{◌≡◌, ◌≢◌, ◌<◌, ◌≤◌, inl, inr, ℕ, Bool, true, false, eqb, List, []}
-use Rattle.std.proofs.Common.{◌∷◌, ◌++◌, length, Result, Ok, Err, refl, sym, ap, subst, ◌∙◌, arith}
+use Rattle.std.proofs.Common.{◌≡◌, ◌≢◌, ◌<◌, inl, inr, ℕ, false, eqb, List, []}
+use Rattle.std.proofs.Common.{◌∷◌, ◌++◌, length, Ok, Err, refl, ap, ◌∙◌}
 use Rattle.std.proofs.lemmas.Bool.{lt-ltb, eqb-true, false_from_ne_true, cases_lt, cases_eq}
 use Rattle.byteorder.specs.Endian.{big_bytes}
 use Rattle.wire.specs.Spelling.{IsBytes}
 use Rattle.wire.specs.Reading.{number_at}
-use Rattle.journal.specs.declared.error.JournalError.{JournalError}
 use Rattle.journal.specs.declared.error.JournalError.TheVariants.{Magic, Version}
 use Rattle.journal.specs.Reading.{after_header}
 use Rattle.journal.specs.Records.{header, magic, Begins, BeginsOtherwise}
-use Rattle.journal.proofs.Files.{at_magic, header_again, header_magic, header_version}
+use Rattle.journal.proofs.Files.{at_magic, header_magic, header_version}
 use Rattle.journal.proofs.Lengths.{number_in}
 
 -- how a file begins

@@ -1,5 +1,5 @@
 -- A length that is read is the one spelled, and a spelled length is read. Why none is.
-use Rattle.std.proofs.Common.{◌≡◌, ◌⊎◌, ◌+◌, inl, inr, ℕ, zero, suc, ◌^◌, ◌<◌, ◌≤◌, Bool, true}
+use Rattle.std.proofs.Common.{◌≡◌, ◌⊎◌, inl, inr, ℕ, zero, suc, ◌^◌, ◌<◌, ◌≤◌, Bool, true}
 use Rattle.std.proofs.Common.{false, cond, eqb, ◌&&◌, List, [], ◌∷◌, ◌++◌, length, take, drop}
 use Rattle.std.proofs.Common.{get_or, Result, Ok, Err, refl, sym, ap, subst, ◌∙◌, arith}
 use Rattle.std.specs.Prelude.{nat_lt, nat_le}
@@ -9,14 +9,12 @@ use Rattle.std.proofs.lemmas.List.{length-append, take_at}
 use Rattle.byteorder.specs.Endian.{big_bytes, big_number}
 use Rattle.wire.specs.Spelling.{IsBytes}
 use Rattle.wire.specs.Reading.{number_at}
-use Rattle.wire.specs.Checksum.{crc32c}
-use Rattle.wire.specs.Outcome.{◌>>=◌, or_refused}
 use Rattle.wire.proofs.ChecksumBound.{crc32c_below}
 use Rattle.wire.proofs.Fields.{number_takes_4, number_again_4}
-use Rattle.wire.proofs.Steps.{bind_ok, refused_ok, passed, same_value, rest_fits}
+use Rattle.wire.proofs.Steps.{same_value, rest_fits}
 use Rattle.journal.specs.declared.record.Stop.{Stop}
 use Rattle.journal.specs.declared.record.Stop.TheVariants.{Torn, Length}
-use Rattle.journal.specs.Records.{is_blank, is_length, length_text, IsTorn, HasBadLength}
+use Rattle.journal.specs.Records.{is_blank, is_length, length_text, HasBadLength}
 use Rattle.journal.specs.Reading.{length_at, length_stop, sum_of}
 
 pub both : (a b : Bool) → (a && b) ≡ true → (a ≡ true) × (b ≡ true)

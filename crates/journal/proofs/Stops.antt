@@ -1,5 +1,5 @@
 -- Why no record stands in front.
-use Rattle.std.proofs.Common.{◌≡◌, ◌≢◌, inl, inr, ℕ, ◌+◌, ◌^◌, ◌<◌, ◌≤◌, Bool, true, false, cond}
+use Rattle.std.proofs.Common.{◌≡◌, ◌≢◌, inl, inr, ℕ, ◌+◌, ◌^◌, ◌<◌, ◌≤◌, true, false}
 use Rattle.std.proofs.Common.{eqb, List, [], ◌∷◌, ◌++◌, length, take, drop, Result, Ok, Err, refl}
 use Rattle.std.proofs.Common.{sym, ap, subst, ◌∙◌, arith}
 use Rattle.std.proofs.lemmas.Bool.{lt-ltb, eqb-true, false_from_ne_true, cases_lt, cases_eq}
@@ -14,7 +14,7 @@ use Rattle.wire.proofs.Fields.{IsBytes-front, IsBytes-back, bytes_again}
 use Rattle.wire.proofs.Steps.{rest_fits}
 use Rattle.journal.specs.declared.record.Stop.{Stop}
 use Rattle.journal.specs.declared.record.Stop.TheVariants.{Torn, Checksum, Length}
-use Rattle.journal.specs.Records.{is_length, is_blank, length_text, record_of}
+use Rattle.journal.specs.Records.{is_length, length_text, record_of}
 use Rattle.journal.specs.Records.{IsContent, IsCutShort, HasWrongSum, IsTorn, IsDamaged}
 use Rattle.journal.specs.Records.{HasBadLength}
 use Rattle.journal.specs.Reading.{length_at, sum_stop, record_at}

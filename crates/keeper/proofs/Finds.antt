@@ -1,5 +1,5 @@
 -- What a start finds after a call.
-use Rattle.std.proofs.Common.{◌≡◌, inl, inr, ⊎_elim, ℕ, Bool, true, false, List, ◌++◌, take, Ok, refl}
+use Rattle.std.proofs.Common.{◌≡◌, inl, inr, ⊎_elim, ℕ, Bool, true, false, List, take, Ok, refl}
 use Rattle.std.proofs.Common.{sym, subst, arith}
 use Rattle.std.proofs.lemmas.List.{append-nil}
 use Rattle.head.specs.Worlds.{Event, World, replayed}

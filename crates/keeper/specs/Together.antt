@@ -1,5 +1,5 @@
 -- Events that are kept together.
-use Rattle.std.specs.Prelude.{◌≡◌, ℕ, List, map}
+use Rattle.std.specs.Prelude.{ℕ, List, map}
 use Rattle.std.specs.List.{AllByRecursion}
 use Rattle.head.specs.Batches.{IsEvent}
 use Rattle.head.specs.Worlds.{Event}

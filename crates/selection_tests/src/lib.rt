@@ -1,5 +1,5 @@
-//! Tests of what a selection is made of from outside, of what needs types: label sets and their
-//! order, matchers and queries, lists of references, and lists in pages. Selectors and certificates
+//! Tests of what a selection is made of from outside, of what needs types: label sets, matchers and
+//! queries that are refused, a list of references, and a list in pages. Selectors and certificates
 //! stand in `case_files`.
 //!
 //! They stand in a crate of their own, so that the gate proves each of those crates once and not a

@@ -1,7 +1,7 @@
-//! Lists by worked rows.
+//! A list by worked rows.
 
 use labels::SeriesRef;
-use postings::{Counted, Postings, SliceList, Union, Without};
+use postings::{Counted, Postings, SliceList};
 use std::alloc::Global;
 
 fn references(alloc: Global, numbers: &[u32]) -> Option<Vec<SeriesRef>> {
@@ -78,77 +78,6 @@ fn a_seek_leaves_what_is_not_below_its_target(rt: HostRuntime) {
     }
 }
 
-/// The odd numbers below 80.
-const ODD: &[u32] = &[
-    1, 3, 5, 7, 9, 11, 13, 15, 17, 19, 21, 23, 25, 27, 29, 31, 33, 35, 37, 39, 41, 43, 45, 47, 49,
-    51, 53, 55, 57, 59, 61, 63, 65, 67, 69, 71, 73, 75, 77, 79,
-];
-
-#[test]
-fn a_seek_lands_at_each_place_of_a_long_slice(rt: HostRuntime) {
-    let odd = references(rt.alloc(), ODD).expect(&rt, "there is memory");
-    for target in 0..82 {
-        let first = if target <= 79 { Some(target | 1) } else { None };
-        let mut list = list_of(&odd).expect(&rt, "it ascends");
-        assert!(rt; seeks(&mut list, target, first), "to {target}");
-    }
-}
-
-/// What is sought in a union of 1, 4 and 6 with 2, 4 and 5 and with nothing, and what it leaves.
-const UNITED: &[(&[u32], &[u32])] = &[
-    (&[], &[1, 2, 4, 5, 6]),
-    (&[3], &[4, 5, 6]),
-    (&[6, 2], &[6]),
-    (&[7], &[]),
-];
-
-fn union_leaves(alloc: Global, targets: &[u32], left: &[u32]) -> Option<bool> {
-    let a = [SeriesRef::new(1), SeriesRef::new(4), SeriesRef::new(6)];
-    let b = [SeriesRef::new(2), SeriesRef::new(4), SeriesRef::new(5)];
-    let lists = [list_of(&a)?, list_of(&b)?, list_of(&[])?];
-    let union = Union::new(alloc, Vec::from_array(alloc, lists).ok()?).ok()?;
-    Some(leaves(union, targets, left))
-}
-
-#[test]
-fn a_union_lists_each_reference_once(rt: HostRuntime) {
-    let alloc = rt.alloc();
-    for (targets, left) in UNITED {
-        let found = union_leaves(alloc, targets, left);
-        assert!(rt; found == Some(true), "after {targets:?}");
-    }
-    let none: Vec<SliceList> = Vec::new(alloc);
-    let union = Union::new(alloc, none).ok().expect(&rt, "there is memory");
-    assert!(rt; leaves(union, &[], &[]));
-}
-
-/// What is left out of the numbers from 1 to 6, what is sought, and what is left.
-const OUT: &[Row] = &[
-    (&[], &[0], &[1, 2, 3, 4, 5, 6]),
-    (&[1, 2, 6], &[0], &[3, 4, 5]),
-    (&[0, 2, 4, 9], &[2], &[3, 5, 6]),
-    (&[1, 2, 3, 4, 5, 6], &[0], &[]),
-];
-
-fn difference_leaves(alloc: Global, row: &Row) -> Option<bool> {
-    let all = references(alloc, &[1, 2, 3, 4, 5, 6])?;
-    let out = references(alloc, row.0)?;
-    let list = Without::new(list_of(&all)?, list_of(&out)?);
-    Some(leaves(list, row.1, row.2))
-}
-
-#[test]
-fn a_difference_leaves_out_the_second_list(rt: HostRuntime) {
-    for row in OUT {
-        assert!(rt;
-            difference_leaves(rt.alloc(), row) == Some(true),
-            "{:?} and {:?}",
-            row.0,
-            row.1
-        );
-    }
-}
-
 #[test]
 fn the_example_of_the_first_page(rt: HostRuntime) {
     let odd = [SeriesRef::new(1), SeriesRef::new(5), SeriesRef::new(9)];
@@ -157,20 +86,4 @@ fn the_example_of_the_first_page(rt: HostRuntime) {
     list.seek(SeriesRef::new(4));
     assert_eq!(rt; list.current(), Some(SeriesRef::new(5)));
     assert_eq!(rt; list.moves(), 1);
-}
-
-#[test]
-fn each_move_is_counted(rt: HostRuntime) {
-    let three = [SeriesRef::new(2), SeriesRef::new(5), SeriesRef::new(9)];
-    let mut list = Counted::new(list_of(&three).expect(&rt, "it ascends"));
-    assert!(rt; list.moves() == 0);
-    list.seek(SeriesRef::new(3));
-    assert!(rt; list.moves() == 1);
-    assert!(rt; list.current() == Some(SeriesRef::new(5)));
-    list.seek(SeriesRef::new(3));
-    list.advance();
-    list.advance();
-    list.advance();
-    assert!(rt; list.current() == None);
-    assert!(rt; list.moves() == 5);
 }

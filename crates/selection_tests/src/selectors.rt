@@ -53,48 +53,6 @@ fn a_matcher_is_refused_by_its_first_fault(rt: HostRuntime) {
     }
 }
 
-/// An operator, a text, a value, and whether the matcher accepts it.
-type Asked = (Op, &'static str, &'static str, bool);
-
-const ASKED: &[Asked] = &[
-    (Op::Equal, "x", "x", true),
-    (Op::Equal, "", "", true),
-    (Op::Equal, "x", "xx", false),
-    (Op::NotEqual, "x", "", true),
-    (Op::NotEqual, "x", "x", false),
-    (Op::Like, "x|", "", true),
-    (Op::Like, "x|", "x", true),
-    (Op::Like, "x|", "xx", false),
-    (Op::Like, "a.b", "a\nb", true),
-    (Op::Like, "u.*", "up", true),
-    (Op::Like, "u.*", "cup", false),
-    (Op::Like, "a|c", "ca", false),
-    (Op::NotLike, "x", "", true),
-    (Op::NotLike, "x", "x", false),
-    (Op::NotLike, "x", "xx", true),
-];
-
-/// Whether a matcher of `job` answers so, and its tester too, asked twice.
-fn answers(alloc: Global, asked: &Asked) -> Option<bool> {
-    let matcher = matcher(alloc, "job", asked.0, asked.1).ok()?;
-    let mut tester = matcher.tester(alloc).ok()?;
-    let alone = matcher.accepts(alloc, asked.2).ok()?;
-    let (first, again) = (tester.accepts(asked.2), tester.accepts(asked.2));
-    Some(alone == asked.3 && first == asked.3 && again == asked.3)
-}
-
-#[test]
-fn a_pattern_matches_whole_values(rt: HostRuntime) {
-    for asked in ASKED {
-        assert!(rt;
-            answers(rt.alloc(), asked) == Some(true),
-            "{} {}",
-            asked.1,
-            asked.2
-        );
-    }
-}
-
 /// How many matchers a query has, from when to when it asks, and its code.
 type Question = (usize, i64, i64, &'static str);
 

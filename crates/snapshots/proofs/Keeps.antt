@@ -1,14 +1,15 @@
 -- An event is kept, and then published.
-use Rattle.std.proofs.Common.{◌≡◌, ◌≤◌, ℕ, zero, suc, Ok, Bool, true, false, List, [], ◌∷◌, ◌++◌, take, inl, inr, ⊎_elim, refl, sym, ap, subst, ◌∙◌, arith, append_assoc}
+use Rattle.std.proofs.Common.{◌≡◌, ℕ, zero, suc, Ok, Bool, true, List, [], ◌∷◌, ◌++◌, take, inl, inr, ⊎_elim, refl, sym, ap, subst, ◌∙◌, arith, append_assoc}
 use Rattle.std.proofs.lemmas.List.{map_push}
 use Rattle.head.specs.Worlds.{Event, World, replayed}
 use Rattle.head.specs.declared.error.CommitError.{CommitError}
 use Rattle.head.specs.declared.error.CommitError.TheVariants.{OutOfBounds, OutOfOrder, Duplicate, Limit, CutTooLow, TooManyParts, Seat, Journal, Memory}
-use Rattle.keeper.specs.Finding.{FindsOnly, IsOfAllAndMore, IsOfAllAndSome}
+use Rattle.journal.specs.Records.{records_of}
+use Rattle.keeper.specs.Finding.{FindsOnly, IsOfAllAndSome}
 use Rattle.keeper.specs.Together.{SpellTogether}
 use Rattle.keeper.specs.declared.error.KeepError.{KeepError}
 use Rattle.keeper.specs.declared.error.KeepError.TheVariants as keep
-use Rattle.keeper.proofs.Finds.{by_was, some_is_more, wider}
+use Rattle.keeper.proofs.Finds.{wider}
 use Rattle.snapshots.specs.declared.entry.Entry.{Entry}
 use Rattle.snapshots.specs.Keeping.{keep_refusal, kept_of, IsAtMost, IsOfKeeping, IsRecordFor}
 use Rattle.snapshots.specs.Replays.{events_in, IsOfStore}
@@ -20,6 +21,7 @@ kept_more before entries e =
     ∙ sym (append_assoc before (events_in entries) (e.event ∷ []))
 
 pub nothing_spelled : SpellTogether [] []
+unfolding records_of
 nothing_spelled = record { are = record { each = tt; whole = refl }; each = tt }
 
 -- a refusal is the journal's or memory's

@@ -6,7 +6,7 @@ use Rattle.head.specs.Kept.{KeepsBlocks, frame_of}
 use Rattle.head.specs.Removing.{survives}
 use Rattle.head.proofs.Deleting.{frames_kept}
 use Rattle.head.proofs.Replays.{replayed_from-snoc}
-use Rattle.head.specs.Worlds.{Event, batch, deletion, cut, stepped, replayed}
+use Rattle.head.specs.Worlds.{Event, batch, deletion, cut, replayed}
 use Rattle.head.specs.Heads.{BlockPart, SnapshotParts, world_of}
 use Rattle.head.specs.declared.error.CommitError.{CommitError}
 use Rattle.head.specs.declared.error.CommitError.TheVariants.{OutOfBounds, OutOfOrder, Duplicate, Limit, CutTooLow, TooManyParts, Seat, Journal, Memory}

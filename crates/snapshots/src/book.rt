@@ -1,7 +1,7 @@
 //! What lies under the lock of a store.
 
 ghost use Rattle.std.specs.Prelude.{◌≡◌, ◌+◌, ◌++◌, ◌∷◌, ◌↔◌, [], length, slice_set};
-ghost use Rattle.std.specs.Prelude.{IfOk, IfErr, OnOk, OnErr, MatchBool};
+ghost use Rattle.std.specs.Prelude.{false, IfOk, IfErr, OnOk, OnErr, MatchBool};
 ghost use Rattle.head.specs.Outcomes.{IsStepRefusal};
 ghost use Rattle.head.specs.Heads.{world_of};
 ghost use Rattle.head.specs.Worlds.{stepped};

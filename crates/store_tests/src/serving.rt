@@ -1,18 +1,16 @@
 //! Tests of searches and of serving from outside, of what needs types: which lists a search and a
 //! certificate walk, what workers answer beside one thread, connections that are refused memory,
 //! the loop of one worker over connections in memory, a server and its clients as threads of one
-//! process, two threads that commit, and rows that are made by a rule and asked again. Requests and
-//! their replies stand in `case_files`.
+//! process, two threads that commit, and the reply that no client can cause. Requests and their
+//! replies stand in `case_files`.
 
-mod any_rows;
 mod certificates;
 mod connections;
 mod counting;
-mod first_pages;
-mod generated;
 mod memory;
 mod script;
 pub mod searches;
 pub mod store;
 mod system;
 mod two_threads;
+mod unavailable;

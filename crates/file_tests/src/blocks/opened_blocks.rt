@@ -1,53 +1,7 @@
-//! The worked block without some samples, and blocks of one series whose chunks are made by a rule.
+//! Blocks of one series whose chunks are made by a rule.
 
-use super::{counted, worked};
+use super::counted;
 use block::Block;
-use labels::SeriesRef;
-use std::alloc::Global;
-
-/// Whether a block has these ends, and so many series and samples.
-fn has(block: &Block, range: (i64, i64), series: usize, samples: u64) -> bool {
-    block.range().min() == range.0
-        && block.range().max() == range.1
-        && block.series_count() == series
-        && block.sample_count() == samples
-}
-
-/// Series, a closed range, and how many samples the worked block, of which the sample of the series 4
-/// is deleted, has without theirs.
-const WITHOUT: &[(&[u32], i64, i64, u64)] = &[
-    (&[6], -2, 20, 4),
-    (&[6], 10, 10, 4),
-    (&[6], 11, 20, 5),
-    (&[6], 20, 0, 5),
-    (&[9, 6, 9], 0, 10, 3),
-    (&[10, 3], 0, 20, 5),
-    (&[4, 5, 6, 7, 8, 9], 0, 20, 0),
-];
-
-fn without(alloc: Global, block: &Block, numbers: &[u32], from: i64, to: i64) -> Option<Block> {
-    let mut references = Vec::new(alloc);
-    for number in numbers {
-        references.push(SeriesRef::new(*number)).ok()?;
-    }
-    block.without(alloc, &references, from, to).ok()
-}
-
-#[test]
-fn samples_are_left_out(rt: HostRuntime) {
-    let alloc = rt.alloc();
-    let block = worked(alloc, (0, 20), &[0x04, 0x14, 0x14]).ok();
-    let block = block.expect(&rt, "it opens");
-    for (numbers, from, to, want) in WITHOUT {
-        let fewer = without(alloc, &block, numbers, *from, *to);
-        let fewer = fewer.expect(&rt, "there is memory");
-        assert!(rt;
-            has(&fewer, (0, 20), 6, *want),
-            "{numbers:?} in {from} to {to}"
-        );
-    }
-    assert!(rt; has(&block, (0, 20), 6, 5));
-}
 
 /// The lengths of chunks, deletions, where the range ends, how many samples the block has, and the
 /// code of its refusal.

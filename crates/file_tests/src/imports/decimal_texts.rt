@@ -4,13 +4,6 @@
 use decimal_text::{DecimalError, Nearest, decimal, rounded};
 
 #[test]
-fn times_are_read_in_milliseconds(rt: HostRuntime) {
-    assert_eq!(rt; decimal(b"1520430000.123", 3), Ok(1_520_430_000_123));
-    assert_eq!(rt; decimal(b"1520879607.789", 3), Ok(1_520_879_607_789));
-    assert_eq!(rt; decimal(b"1520430000", 3), Ok(1_520_430_000_000));
-}
-
-#[test]
 fn values_are_read_in_parts(rt: HostRuntime) {
     assert_eq!(rt; decimal(b"0.67", 2), Ok(67));
     assert_eq!(rt; decimal(b"324789.3", 1), Ok(3_247_893));
@@ -46,19 +39,6 @@ fn halves_go_to_the_even_number(rt: HostRuntime) {
     assert_eq!(rt; rounded(b"2.50", 1, 0), exactly(25));
     assert_eq!(rt; rounded(b"5", 0, 1), near(0));
     assert_eq!(rt; rounded(b"15", 0, 1), near(2));
-}
-
-#[test]
-fn far_points_are_read(rt: HostRuntime) {
-    assert_eq!(rt;
-        rounded(b"123456789012345678901234567890", 0, 25),
-        near(12346)
-    );
-    assert_eq!(rt; rounded(b"10000000000000000000", 0, 19), exactly(1));
-    assert_eq!(rt; rounded(b"1", 9, 400), near(0));
-    assert_eq!(rt; rounded(b"0", 999, 0), exactly(0));
-    assert_eq!(rt; rounded(b"1", 300, 0), Err(DecimalError::Large));
-    assert_eq!(rt; rounded(b".", 1, 0), Err(DecimalError::Form));
 }
 
 #[test]

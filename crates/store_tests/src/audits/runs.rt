@@ -1,10 +1,13 @@
 //! Runs of the program over files in memory.
 
 use crate::audits::host::Blocks;
-use crate::audits::replies::{BEGIN, BLOCK, EMPTY, SKIPPED, UNSEPARATED};
+use crate::audits::replies::{
+    BEGIN, BEGIN_SKIPPED, BLOCK, EARLIER, EMPTY, FIRST, FIRST_THEN_SECOND, HEAD_AND_ROWS,
+    NOTHING_TWICE, RIGHT, SECOND, SECOND_THEN_FIRST, SKIPPED, SPACED, SPLIT, SPLIT_UNSEPARATED,
+    TWO_ROWS, UNORDERED, UNSEPARATED, WITH_EMPTY, WRONG_LAST,
+};
 use audit_command::{Ending, run};
 use std::alloc::{AllocError, Global};
-use std::str;
 
 /// The text of a reply, in pieces.
 type Text = [&'static str; 3];
@@ -194,6 +197,135 @@ const DAMAGES: &[Row] = &[
     ),
 ];
 
+/// Parts that are split, skipped or missing, and members of a reply in any order, of which the last
+/// counts.
+const LINED: &[Row] = &[
+    (
+        ASKED,
+        [BEGIN, BLOCK, HEAD_AND_ROWS],
+        0,
+        "block 0: valid\nhead: skipped\nrows: valid\n",
+        "",
+    ),
+    (
+        ASKED,
+        [BEGIN, SPLIT, HEAD_AND_ROWS],
+        1,
+        "block 0: F5 at 0\nhead: skipped\nrows: valid\n",
+        "",
+    ),
+    (
+        ASKED,
+        [BEGIN, SPLIT_UNSEPARATED, HEAD_AND_ROWS],
+        1,
+        "block 0: F4\nhead: skipped\nrows: valid\n",
+        "",
+    ),
+    (
+        ASKED,
+        [BEGIN, "", HEAD_AND_ROWS],
+        1,
+        "head: skipped\nblock 0: F9\nrows: F10\n",
+        "",
+    ),
+    (
+        ASKED,
+        [BEGIN_SKIPPED, BLOCK, HEAD_AND_ROWS],
+        1,
+        "block 0: F9\nblock 0: valid\nhead: skipped\nrows: valid\n",
+        "",
+    ),
+    (
+        NO_DIRECTORY,
+        [BEGIN, SKIPPED, HEAD_AND_ROWS],
+        1,
+        "block 0: skipped\nhead: skipped\nrows: F10\n",
+        "",
+    ),
+    (NO_DIRECTORY, [SPACED, "", ""], 0, "rows: valid\n", ""),
+    (NO_DIRECTORY, [WRONG_LAST, "", ""], 3, "", "bad reply\n"),
+];
+
+const ARE_THOSE: &str = "block 0: skipped\nblock 1: skipped\nrows: valid\n";
+
+const ARE_OTHERS: &str = "block 0: skipped\nblock 1: skipped\nrows: F10\n";
+
+/// Replies with the rows of two parts, and rows that are said to be those of both: of the values at
+/// one time the one that is listed last stands.
+const MERGES: &[Row] = &[
+    (
+        NO_DIRECTORY,
+        [FIRST_THEN_SECOND, RIGHT, "]}"],
+        0,
+        ARE_THOSE,
+        "",
+    ),
+    (
+        NO_DIRECTORY,
+        [SECOND_THEN_FIRST, RIGHT, "]}"],
+        1,
+        ARE_OTHERS,
+        "",
+    ),
+    (
+        NO_DIRECTORY,
+        [SECOND_THEN_FIRST, EARLIER, "]}"],
+        0,
+        ARE_THOSE,
+        "",
+    ),
+    (NO_DIRECTORY, [NOTHING_TWICE, "", "]}"], 0, ARE_THOSE, ""),
+    (
+        NO_DIRECTORY,
+        [FIRST_THEN_SECOND, "", "]}"],
+        1,
+        ARE_OTHERS,
+        "",
+    ),
+    (
+        NO_DIRECTORY,
+        [FIRST_THEN_SECOND, FIRST, "]}"],
+        1,
+        ARE_OTHERS,
+        "",
+    ),
+    (
+        NO_DIRECTORY,
+        [FIRST_THEN_SECOND, SECOND, "]}"],
+        1,
+        ARE_OTHERS,
+        "",
+    ),
+    (
+        NO_DIRECTORY,
+        [FIRST_THEN_SECOND, EARLIER, "]}"],
+        1,
+        ARE_OTHERS,
+        "",
+    ),
+    (
+        NO_DIRECTORY,
+        [FIRST_THEN_SECOND, TWO_ROWS, "]}"],
+        1,
+        ARE_OTHERS,
+        "",
+    ),
+    (
+        NO_DIRECTORY,
+        [FIRST_THEN_SECOND, UNORDERED, "]}"],
+        1,
+        ARE_OTHERS,
+        "",
+    ),
+    (
+        NO_DIRECTORY,
+        [FIRST_THEN_SECOND, WITH_EMPTY, "]}"],
+        1,
+        ARE_OTHERS,
+        "",
+    ),
+];
+
 const NO_REPLY: Text = ["{}", "", ""];
 
 /// What cannot be read or is refused: the words, the selector, the range, the reply, the files.
@@ -309,7 +441,7 @@ fn is_fault_of_words(alloc: Global, words: Words) -> bool {
 
 #[test]
 fn each_run_ends_so_and_other_words_are_a_fault(rt: HostRuntime) {
-    for rows in [JUDGED, UNMET, DAMAGES, REFUSED] {
+    for rows in [JUDGED, UNMET, DAMAGES, LINED, MERGES, REFUSED] {
         for row in rows {
             assert!(rt; ends_so(rt.alloc(), row), "{:?}", row.0);
         }
@@ -317,25 +449,6 @@ fn each_run_ends_so_and_other_words_are_a_fault(rt: HostRuntime) {
     for words in OTHER_WORDS {
         assert!(rt; is_fault_of_words(rt.alloc(), *words), "{words:?}");
     }
-}
-
-/// How the words are written.
-const USAGE: &str = "Usage: auditor [OPTIONS] --selector <S> [DIR]...\n";
-
-fn tells_usage(alloc: Global, words: Words) -> bool {
-    let Some(told) = told_by(alloc, words, NOTHING) else {
-        return false;
-    };
-    let is_done = told.ending.status == 0 && told.err.is_empty();
-    match str::from_utf8(told.out.as_slice()) {
-        Ok(text) => is_done && text.contains(USAGE),
-        Err(_) => false,
-    }
-}
-
-#[test]
-fn help_tells_how_the_words_are_written(rt: HostRuntime) {
-    assert!(rt; tells_usage(rt.alloc(), &["--help"]));
 }
 
 /// What a run says of the reply where all is well.

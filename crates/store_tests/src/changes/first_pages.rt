@@ -1,4 +1,5 @@
-//! The examples of the first pages of `head`, `history` and `snapshots`.
+//! The examples of the first pages of `head`, `history` and `snapshots`, and what an actor is
+//! replied to before another commits and after it.
 
 ghost use Rattle.std.specs.Prelude.{◌≡◌, []};
 ghost use Rattle.head.specs.Blocks.{opening_of};
@@ -7,7 +8,7 @@ use crate::changes::rows::empty;
 use crate::serving::store::{EmptyStore, open_empty};
 use head::{Event, HeadView, Snapshot, apply};
 use history::{Reply, Step, run};
-use labels::{LabelSet, Sample, SeriesRef};
+use labels::{LabelSet, Row, Sample, SeriesRef};
 use matchers::{Query, Selector};
 use snapshots::{Appender, Naming, Store};
 use std::alloc::Global;
@@ -54,9 +55,13 @@ fn the_example_of_the_first_page_of_head(rt: HostRuntime) {
     assert!(rt; has_no_series(&opening));
 }
 
+fn query_up(alloc: Global) -> Option<Query> {
+    Query::new(Selector::parse(alloc, "up").ok()?, 0, 30).ok()
+}
+
 /// The steps of the example of `history`.
 fn three_steps(alloc: Global) -> Option<Vec<Step>> {
-    let query = Query::new(Selector::parse(alloc, "up").ok()?, 0, 30).ok()?;
+    let query = query_up(alloc)?;
     let append = Step::append(1, up(alloc)?, Sample::new(10, 1));
     Vec::from_array(alloc, [append, Step::commit(1), Step::query(2, query)]).ok()
 }
@@ -72,6 +77,35 @@ fn the_example_of_the_first_page_of_history(rt: HostRuntime) {
     let replies = run_steps(rt.alloc(), &steps).expect(&rt, "the steps are replied to");
     assert!(rt; matches!(replies.get(1), Some(Reply::Done)));
     assert!(rt; matches!(replies.get(2), Some(Reply::Rows(rows)) if rows.len() == 1));
+}
+
+/// One actor appends and commits, and another asks after each.
+fn steps_of_two(alloc: Global) -> Option<Vec<Step>> {
+    let queries = query_up(alloc).zip(query_up(alloc));
+    let (labels, (early, late)) = up(alloc).zip(queries)?;
+    let append = Step::append(0, labels, Sample::new(10, 1));
+    let asked = Step::query(1, early);
+    Vec::from_array(
+        alloc,
+        [append, asked, Step::commit(0), Step::query(1, late)],
+    )
+    .ok()
+}
+
+/// Whether there is one row, of the sample that was appended.
+fn is_appended(rows: &[Row]) -> bool {
+    match rows {
+        [row] => row.samples() == [Sample::new(10, 1)].as_slice(),
+        _ => false,
+    }
+}
+
+#[test]
+fn a_sample_is_seen_after_its_commit(rt: HostRuntime) {
+    let steps = steps_of_two(rt.alloc()).expect(&rt, "there is memory");
+    let replies = run_steps(rt.alloc(), &steps).expect(&rt, "the steps are replied to");
+    assert!(rt; matches!(replies.get(1), Some(Reply::Rows(rows)) if rows.is_empty()));
+    assert!(rt; matches!(replies.get(3), Some(Reply::Rows(rows)) if is_appended(rows)));
 }
 
 fn appender_of_one(alloc: Global) -> Option<Appender> {

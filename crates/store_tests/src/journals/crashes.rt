@@ -98,13 +98,3 @@ fn a_cut_that_fails_closes(rt: HostRuntime) -> Result<(), Fail> {
     assert!(rt; end.closed);
     Ok(())
 }
-
-#[test]
-fn no_journal_begins_on_a_medium_that_fails(rt: HostRuntime) {
-    for before in 0..2u64 {
-        assert_eq!(rt;
-            new_journal(rt.alloc(), before, 1).err(),
-            Some(JournalError::Medium)
-        );
-    }
-}

@@ -82,26 +82,3 @@ fn each_changed_byte_is_told(rt: HostRuntime) {
         }
     }
 }
-
-/// A length that reaches beyond the end of the file is no torn end, unless it is whole.
-#[test]
-fn a_length_that_grew_is_told(rt: HostRuntime) -> Result<(), Fail> {
-    let mut file = FILE.to_vec(rt.alloc())?;
-    if let Some(byte) = file.get_mut(6) {
-        *byte = 1;
-    }
-    assert_eq!(rt; count(rt.alloc(), &file), Err(JournalError::Length(5)));
-    Ok(())
-}
-
-#[test]
-fn refusals_are_told_in_words(rt: HostRuntime) -> Result<(), Fail> {
-    let alloc = rt.alloc();
-    assert_eq!(rt; JournalError::Checksum(26).code(), "J3");
-    assert_eq!(rt;
-        JournalError::Checksum(26).to_string(alloc)?.as_str(),
-        "J3: the checksum of the record at byte 26 is wrong"
-    );
-    assert_eq!(rt; JournalError::Closed.code(), "J7");
-    Ok(())
-}

@@ -56,17 +56,6 @@ fn a_batch_is_written_by_runs(rt: HostRuntime) -> Result<(), Fail> {
 }
 
 #[test]
-fn a_batch_is_read(rt: HostRuntime) -> Result<(), Fail> {
-    let alloc = rt.alloc();
-    let event = read_event(alloc, BATCH)
-        .ok()
-        .expect(&rt, "the batch is read");
-    let samples = event.into_batch().expect(&rt, "it is a batch");
-    assert!(rt; samples == batch(alloc)?);
-    Ok(())
-}
-
-#[test]
 fn a_deletion_is_written_and_read(rt: HostRuntime) -> Result<(), Fail> {
     let alloc = rt.alloc();
     let mut matchers = Vec::new(alloc);
@@ -93,16 +82,6 @@ fn a_cut_is_written(rt: HostRuntime) -> Result<(), Fail> {
     assert_eq!(rt; text.as_slice(), CUT);
     assert!(rt; read_event(rt.alloc(), CUT).is_ok());
     Ok(())
-}
-
-#[test]
-fn no_front_of_an_event_is_one(rt: HostRuntime) {
-    assert!(rt; is_refused(rt.alloc(), b"", TextError::Kind));
-    for text in [BATCH, DELETION, CUT] {
-        for end in 1..text.len() {
-            assert!(rt; is_refused(rt.alloc(), &text[..end], TextError::Field));
-        }
-    }
 }
 
 #[test]

@@ -63,12 +63,3 @@ fn contents_are_read_so(rt: HostRuntime) -> Result<(), Fail> {
     assert_eq!(rt; found.contents[2].as_slice(), ONES.as_slice());
     Ok(())
 }
-
-#[test]
-fn no_content_is_empty_or_too_long(rt: HostRuntime) -> Result<(), Fail> {
-    let alloc = rt.alloc();
-    let mut journal = new_journal(alloc, 0, 0)?;
-    assert_eq!(rt; journal.append(alloc, b""), Err(JournalError::Size));
-    assert_eq!(rt; journal.medium.bytes(), &FILE[..5]);
-    Ok(())
-}

@@ -1,38 +1,12 @@
-//! Certificates of six series in a head: what the first page of `cover` says, a query without a
-//! matcher, and how often lists move. Others stand in `case_files`.
+//! Certificates of six series in a head, of a query without a matcher too: how often lists move.
+//! Others stand in `case_files`.
 
 use crate::serving::counting::Counting;
 use crate::serving::searches::six;
-use cover::{Interval, Moves, PartCover, Verdict, certificate_laws, cover, cover_with_moves};
+use cover::{Moves, PartCover, Verdict, cover_with_moves};
 use head::HeadView;
-use labels::SeriesRef;
 use matchers::{Query, Selector};
-use postings::Source;
 use std::alloc::Global;
-
-/// What the example of `cover` does.
-fn cover_six(alloc: Global, part: &impl Source) -> Option<PartCover> {
-    let query = query(alloc, r#"up{job="a"}"#, 0, 100)?;
-    cover(alloc, part, &query).ok()
-}
-
-/// What it looks at.
-fn has_run(found: &PartCover) -> bool {
-    let run = Interval {
-        from: SeriesRef::new(2),
-        until: 4,
-        verdict: Verdict::Rejected(1),
-    };
-    found.certificate.get(1) == Some(&run) && found.separators.len() == 4
-}
-
-#[test]
-fn the_example_of_the_first_page_of_cover(rt: HostRuntime) {
-    let six = six(rt.alloc()).expect(&rt, "there is memory");
-    let found = cover_six(rt.alloc(), &six.head()).expect(&rt, "the six series are covered");
-    assert!(rt; has_run(&found));
-    certificate_laws();
-}
 
 /// A query by a selector; by no matcher where its text is empty.
 fn query(alloc: Global, text: &str, from: i64, to: i64) -> Option<Query> {

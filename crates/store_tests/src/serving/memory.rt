@@ -168,13 +168,3 @@ fn a_worker_serves_one_connection_after_another(rt: HostRuntime) {
     assert!(rt; serves(&rt, rt.alloc(), 9, 4, REPLIES));
     assert!(rt; serves(&rt, rt.alloc(), 1, 1, &REPLIES[..101]));
 }
-
-/// A path that is none, and a connection that says nothing.
-const TWO: &[&[u8]] = &[b"GET /none HTTP/1.1\r\n\r\n", b""];
-
-/// What the example of `server` does, with the worker of an empty store.
-#[test]
-fn the_example_of_the_first_page_of_server(rt: HostRuntime) {
-    let served = serve_texts(&rt, rt.alloc(), TWO, 9);
-    assert!(rt; matches!(served, Some((2, _))));
-}

@@ -1,13 +1,10 @@
-//! Answers and runs that are refused memory, the lines of faults, and writers that refuse.
+//! Answers and runs that are refused memory, and writers that refuse.
 
 use crate::subcommands::directories::DIRECTORIES;
 use crate::subcommands::rows::{Told, ending_of, is_given, told_by};
 use answers::{answer, body};
-use block::BlockError;
-use commands::{Fault, first_batch, query, second_batch};
-use head::{CommitError, Event, Snapshot, apply};
-use labels::LabelError;
-use matchers::{MatcherError, QueryError, SelectorError};
+use commands::{first_batch, query, second_batch};
+use head::{Snapshot, apply};
 use std::alloc::Global;
 use std::net::{Net, TcpListener, TcpStream};
 use std::sync::Wait;
@@ -91,60 +88,6 @@ fn tell(alloc: Global, empty: &Snapshot, one: &Snapshot, two: &Snapshot) -> bool
 #[test]
 fn a_call_refused_memory_changes_nothing_and_answers_when_made_again(rt: HostRuntime) {
     assert!(rt; matches!(answers_again(rt.alloc()), Some(true)));
-}
-
-/// Why a call failed.
-enum Cause {
-    Labels(LabelError),
-    Matcher(MatcherError),
-    Selector(SelectorError),
-    Query(QueryError),
-    Commit(CommitError),
-    Block(BlockError),
-}
-
-fn fault_of(cause: &Cause) -> Fault {
-    match cause {
-        Cause::Labels(error) => (*error).into(),
-        Cause::Matcher(error) => (*error).into(),
-        Cause::Selector(error) => (*error).into(),
-        Cause::Query(error) => (*error).into(),
-        Cause::Commit(error) => (*error).into(),
-        Cause::Block(error) => (*error).into(),
-    }
-}
-
-/// Each cause, and the line of its fault.
-const LINES: &[(Cause, &str)] = &[
-    (Cause::Labels(LabelError::Repeated), "refused L2\n"),
-    (Cause::Matcher(MatcherError::BadName), "refused M1\n"),
-    (Cause::Query(QueryError::TooManyMatchers), "refused Q2\n"),
-    (
-        Cause::Commit(CommitError::Duplicate { at: 3 }),
-        "refused E3 at 3\n",
-    ),
-    (Cause::Commit(CommitError::Limit), "refused E4\n"),
-    (Cause::Labels(LabelError::Memory), "no memory\n"),
-    (Cause::Matcher(MatcherError::Memory), "no memory\n"),
-    (Cause::Selector(SelectorError::Memory), "no memory\n"),
-    (Cause::Commit(CommitError::Memory), "no memory\n"),
-    (Cause::Block(BlockError::Memory), "no memory\n"),
-];
-
-/// Whether a fault is told as this line.
-fn is_told(alloc: Global, fault: &Fault, line: &str) -> bool {
-    let mut told = Vec::new(alloc);
-    fault.tell(&mut told).is_ok() && told.as_slice() == line.as_bytes()
-}
-
-#[test]
-fn the_line_of_each_fault_has_its_cause_or_the_path_that_cannot_be_read(rt: HostRuntime) {
-    for (cause, line) in LINES {
-        assert!(rt; is_told(rt.alloc(), &fault_of(cause), line), "{line}");
-    }
-    let path = String::from_str(rt.alloc(), "a/index").ok();
-    let fault = Fault::CannotRead(path.expect(&rt, "there is memory"));
-    assert!(rt; is_told(rt.alloc(), &fault, "cannot read a/index\n"));
 }
 
 /// Whether a run whose first writer has no room says so.

@@ -1,7 +1,7 @@
 use Rattle.std.proofs.Common.{ap, ap₂, refl, codes, ◌≡◌, ◌∙◌}
 use Rattle.std.proofs.lemmas.Result.{IfOk-weaker}
 use Rattle.clap.specs.Words.{App, app_of, new_app, with_subcommand}
-use Rattle.commands.specs.Lines.{named_app, check_app, select_app}
+use Rattle.commands.specs.Lines.{named_app, check_app, select_app, journal_app}
 use Rattle.commands.specs.ServingLines.{serve_app}
 use Rattle.commands.proofs.CommandLines.{added_as, third_denied}
 use Rattle.commands.proofs.command.querier.Goals as goal
@@ -16,5 +16,7 @@ returns c =
     c.in_ok-command-2.ensures in
     let third = added_as _ _ _ select_app c.select.result second c.select.ensures refl
     c.in_ok-command-3.ensures in
-    IfOk-weaker c.add-3.result _ _ (λ command.
-    added_as _ _ _ serve_app c.serve.result third c.serve.ensures refl) c.add-3.ensures
+    let fourth = added_as _ _ _ serve_app c.serve.result third c.serve.ensures refl
+    c.in_ok-command-4.ensures in
+    IfOk-weaker c.add-4.result _ _ (λ command.
+    added_as _ _ _ journal_app c.journal.result fourth c.journal.ensures refl) c.add-4.ensures

@@ -5,9 +5,10 @@ use Rattle.commands.proofs.command.serve.Goals as goal
 
 pub returns : goal.returns
 returns c =
-    IfOk-weaker c.arg-4.result _ _ (λ command h. h.shape c.directories.ensures.global
-    ∙ ap₂ with_rule (c.in_ok-arg-3.ensures.shape c.flag-2.ensures.global
+    IfOk-weaker c.arg-5.result _ _ (λ command h. h.shape c.directories.ensures.global
+    ∙ ap₂ with_rule (c.in_ok-arg-4.ensures.shape c.flag-2.ensures.global
+    ∙ ap₂ with_rule (c.in_ok-arg-3.ensures.shape c.text-2.ensures.global
     ∙ ap₂ with_rule (c.in_ok-arg-2.ensures.shape c.text.ensures.global
     ∙ ap₂ with_rule (c.in_ok-arg.ensures.shape c.flag.ensures.global
     ∙ ap₂ with_rule c.in_ok-counts.ensures c.flag.ensures.rule) c.text.ensures.rule)
-    c.flag-2.ensures.rule) c.directories.ensures.rule) c.arg-4.ensures
+    c.text-2.ensures.rule) c.flag-2.ensures.rule) c.directories.ensures.rule) c.arg-5.ensures

@@ -1,10 +1,8 @@
-use Rattle.std.proofs.Common.{map, arith, inr}
 use Rattle.std.proofs.lemmas.Result.{err_from_is_err_and}
-use Rattle.head.specs.Blocks.{part_in}
-use Rattle.commands.specs.ServingRuns.{by_guard, by_watch, by_directories, by_serving}
+use Rattle.commands.specs.Reading.{paths_of}
+use Rattle.commands.specs.ServingRuns.{by_guard, by_watch}
 use Rattle.commands.proofs.LineEnds.{unused}
-use Rattle.commands.proofs.Openings.{as_many}
-use Rattle.commands.proofs.Servings.{all_counted}
+use Rattle.commands.proofs.Servings.{folder_fault, folder_told, directories_fault, directories_told}
 use Rattle.commands.proofs.serve.serve.Goals as goal
 
 pub returns-in_err-rules-clause-err : goal.returns-in_err-rules-clause-err
@@ -21,53 +19,30 @@ returns-in_err-listener-clause-err g c =
     rw (p.1, p.2)
     (by_watch c.in_err-listener.ensures (unused _ (g.W.Write.contents c.args.out.now)))
 
-pub returns-in_err-blocks-clause-err : goal.returns-in_err-blocks-clause-err
-returns-in_err-blocks-clause-err g c =
-    let p =
-    err_from_is_err_and c.from_residual-in_err-blocks.result
-    c.from_residual-in_err-blocks.ensures.1 in
-    rw (p.1, p.2)
-    (by_directories c.in_err-blocks.ensures.err (unused _ (g.W.Write.contents c.args.out.now)))
+pub returns-in-Some-clause-ok : goal.returns-in-Some-clause-ok
+returns-in-Some-clause-ok g c =
+    folder_told (g.F.ReadFiles.may_read c.args.files.now) (paths_of c.args.directories.now)
+    c.args.serving (g.W.Write.contents c.args.out.now)
+    (g.W.Write.contents c.serve_data.new.out) c.in-Some.folder c.serve_data.result c.in-Some.is
+    c.in_ok-rules.rules c.in_ok-rules.ensures.ok c.serve_data.ensures.ok
 
-pub returns-in_err-shifts-clause-err : goal.returns-in_err-shifts-clause-err
-returns-in_err-shifts-clause-err g c =
-    let p =
-    err_from_is_err_and c.from_residual-in_err-shifts.result
-    c.from_residual-in_err-shifts.ensures.1 in
-    let same = as_many _ _ _ c.in_ok-blocks.ensures.ok in
-    rw (p.1, p.2) (by_serving (record {
-      blocks = map part_in c.in_ok-blocks.blocks.items;
-      opened = c.in_ok-blocks.ensures.ok;
-      few = omega (arith, same, c.in_ok-blocks.ensures.few);
-    }) c.in_err-shifts.ensures.err)
+pub returns-in-Some-clause-err : goal.returns-in-Some-clause-err
+returns-in-Some-clause-err g c =
+    folder_fault (g.F.ReadFiles.may_read c.args.files.now) (paths_of c.args.directories.now)
+    c.args.serving (g.W.Write.contents c.args.out.now)
+    (g.W.Write.contents c.serve_data.new.out) c.in-Some.folder c.serve_data.result c.in-Some.is
+    c.serve_data.ensures.err
 
-pub returns-in_err-counts-clause-err : goal.returns-in_err-counts-clause-err
-returns-in_err-counts-clause-err g c =
-    let p =
-    err_from_is_err_and c.from_residual-in_err-counts.result
-    c.from_residual-in_err-counts.ensures.1 in
-    let same = as_many _ _ _ c.in_ok-blocks.ensures.ok in
-    rw (p.1, p.2) (by_serving (record {
-      blocks = map part_in c.in_ok-blocks.blocks.items;
-      opened = c.in_ok-blocks.ensures.ok;
-      few = omega (arith, same, c.in_ok-blocks.ensures.few);
-    }) (inr (c.in_ok-shifts.ensures.ok, tt)))
+pub returns-in-None-clause-ok : goal.returns-in-None-clause-ok
+returns-in-None-clause-ok g c =
+    directories_told (g.F.ReadFiles.may_read c.args.files.now) (paths_of c.args.directories.now)
+    c.args.serving (g.W.Write.contents c.args.out.now)
+    (g.W.Write.contents c.serve_directories.new.out) c.serve_directories.result c.in-None.is
+    c.serve_directories.ensures.ok
 
-pub returns-clause-ok : goal.returns-clause-ok
-returns-clause-ok g c =
-    let same = as_many _ _ _ c.in_ok-blocks.ensures.ok in
-    record {
-      rules = c.in_ok-rules.rules;
-      ruled = c.in_ok-rules.ensures.ok;
-      servable = record {
-        blocks = map part_in c.in_ok-blocks.blocks.items;
-        opened = c.in_ok-blocks.ensures.ok;
-        few = omega (arith, same, c.in_ok-blocks.ensures.few);
-      };
-      told = c.in_ok-shifts.ensures.ok;
-    }
-
-pub returns-clause-served : goal.returns-clause-served
-returns-clause-served g c =
-    all_counted c.as_slice.result.now c.in_ok-counts.counts.items c.args.serving.requests
-    c.in_ok-counts.ensures (rw c.as_slice.ensures.value c.in_ok-shifts.ensures.served)
+pub returns-in-None-clause-err : goal.returns-in-None-clause-err
+returns-in-None-clause-err g c =
+    directories_fault (g.F.ReadFiles.may_read c.args.files.now) (paths_of c.args.directories.now)
+    c.args.serving (g.W.Write.contents c.args.out.now)
+    (g.W.Write.contents c.serve_directories.new.out) c.serve_directories.result c.in-None.is
+    c.serve_directories.ensures.err

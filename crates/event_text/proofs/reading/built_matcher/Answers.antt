@@ -1,4 +1,4 @@
-use Rattle.std.proofs.Common.{◌≡◌, inl, inr, string_bytes, Err, refl, ap, subst, rules}
+use Rattle.std.proofs.Common.{◌≡◌, inr, string_bytes, Err, ap, subst, rules}
 use Rattle.matchers.specs.declared.error.MatcherError.{MatcherError}
 use Rattle.matchers.specs.declared.error.MatcherError.TheVariants.{PatternRefused}
 use Rattle.matchers.specs.Patterns.{IsRefusedPattern}

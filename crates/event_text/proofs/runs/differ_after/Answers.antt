@@ -6,15 +6,15 @@ pub returns-then-eq : goal.returns-then-eq
 returns-then-eq c =
     let l = c.loop-row in
     rows_stop c.args.others.now l.row-index l.last.now c.row-item.result c.labels.result.now
-    c.labels-2.result.now _ (omega (arith, c.loop-row-test.true)) c.row-item.is c.labels.ensures
-    c.labels-2.ensures c.if-eq.ensures l.invariant
+    c.labels-in-loop-row.result.now _ (omega (arith, c.loop-row-test.true)) c.row-item.is c.labels.ensures
+    c.labels-in-loop-row.ensures c.if-eq.ensures l.invariant
 
 pub loop-row-preserved : goal.loop-row-preserved
 loop-row-preserved c =
     let l = c.loop-row in
     rows_go_on c.args.others.now l.row-index l.last.now c.row-item.result c.labels.result.now
-    c.labels-2.result.now _ (omega (arith, c.loop-row-test.true)) c.row-item.is c.labels.ensures
-    c.labels-2.ensures c.if-eq.ensures l.invariant
+    c.labels-in-loop-row.result.now _ (omega (arith, c.loop-row-test.true)) c.row-item.is c.labels.ensures
+    c.labels-in-loop-row.ensures c.if-eq.ensures l.invariant
 
 pub returns : goal.returns
 returns c =

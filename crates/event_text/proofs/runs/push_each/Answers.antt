@@ -1,4 +1,4 @@
-use Rattle.std.proofs.Common.{◌≡◌, ◌+◌, ◌++◌, ◌∷◌, [], ℕ, ℤ, List, take, sym, ap, ◌∙◌, append_assoc}
+use Rattle.std.proofs.Common.{◌≡◌, ◌+◌, ◌++◌, ◌∷◌, [], ℤ, List, take, sym, ap, ◌∙◌, append_assoc}
 use Rattle.std.proofs.Common.{arith, rules}
 use Rattle.head.specs.Worlds.{Batch}
 use Rattle.event_text.specs.Runs.{before}

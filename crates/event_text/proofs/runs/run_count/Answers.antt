@@ -1,5 +1,4 @@
-use Rattle.std.proofs.Common.{◌≡◌, ◌++◌, ◌∷◌, [], ℕ, List, length, take, drop, sym, ap, ◌∙◌, arith}
-use Rattle.std.proofs.Common.{rules}
+use Rattle.std.proofs.Common.{length}
 use Rattle.event_text.specs.Runs.{runs_of}
 use Rattle.event_text.proofs.RunLaws.{counts_more}
 use Rattle.event_text.proofs.runs.run_count.Goals as goal

@@ -1,5 +1,5 @@
-use Rattle.std.proofs.Common.{◌≡◌, ◌++◌, ◌∷◌, [], ◌+◌, ℕ, List, length, take, sym, ap, ◌∙◌}
-use Rattle.std.proofs.Common.{append_assoc, ◌≤◌, arith, rules}
+use Rattle.std.proofs.Common.{length}
+use Rattle.std.proofs.Common.{◌≤◌, arith, rules}
 use Rattle.event_text.specs.Spelling.{pair_text, IsPair}
 use Rattle.event_text.proofs.Spelled.{all_next, all_whole}
 use Rattle.labels.specs.LabelSets.{IsLabelSet}

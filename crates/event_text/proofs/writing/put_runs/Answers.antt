@@ -1,4 +1,3 @@
-use Rattle.std.proofs.Common.{arith}
 use Rattle.event_text.specs.Spelling.{IsRun}
 use Rattle.event_text.proofs.RunLaws.{runs_more, writes_more}
 use Rattle.event_text.proofs.writing.put_runs.Goals as goal

@@ -1,4 +1,4 @@
-use Rattle.std.proofs.Common.{◌≡◌, ◌+◌, ◌≤◌, ◌++◌, length, arith, rules}
+use Rattle.std.proofs.Common.{◌+◌, ◌≤◌, ◌++◌, length, arith}
 use Rattle.wire.specs.Spelling.{uvarint}
 use Rattle.event_text.specs.Runs.{values_in}
 use Rattle.event_text.specs.Spelling.{sample_text, IsSample}

@@ -1,5 +1,5 @@
 use Rattle.std.proofs.Common.{◌≡◌, true, length, arith, rules}
-use Rattle.journal.specs.Records.{is_length, IsContent}
+use Rattle.journal.specs.Records.{is_length}
 use Rattle.journal.proofs.Keeping.{record_more}
 use Rattle.journal.proofs.texts.push_record.Goals as goal
 

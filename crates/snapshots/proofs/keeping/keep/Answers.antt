@@ -13,7 +13,7 @@ keep-requires g c = record {
 
 pub returns-in-Ok-clause-ok : goal.returns-in-Ok-clause-ok
 returns-in-Ok-clause-ok g c events event held recorded =
-    held_more g.K.Keeper.idle g.K.Keeper.holds c.args.keeper.now c.keep.new.self c.args.bytes.now g.met.K.Keeper.any c.in-Ok.ensures.ok events event held recorded
+    held_more g.K.Keeper.idle g.K.Keeper.holds c.args.keeper.now c.keep.new.self c.args.bytes.now g.K.Keeper.any c.in-Ok.ensures.ok events event held recorded
 
 pub returns-in-Ok-clause-last : goal.returns-in-Ok-clause-last
 returns-in-Ok-clause-last g c events event held recorded =

@@ -1,4 +1,4 @@
-use Rattle.std.proofs.Common.{◌≡◌, ◌∙◌, ap, true, false}
+use Rattle.std.proofs.Common.{◌∙◌, ap}
 use Rattle.journal.specs.declared.error.JournalError.TheVariants.{Closed}
 use Rattle.journal.specs.declared.journal.Journal.{Journal}
 use Rattle.keeper.specs.Together.{texts_of}

@@ -1,7 +1,6 @@
-use Rattle.std.proofs.Common.{rules, [], ◌∷◌, refl, arith, None, List, length-append, ◌≡◌, ◌∙◌, ◌<◌, ◌+◌, ℕ, length, slice_index, sym, ap, subst}
+use Rattle.std.proofs.Common.{rules, [], ◌∷◌, refl, arith, None, length-append, ◌≡◌, ◌∙◌, ◌<◌, ◌+◌, ℕ, length, slice_index, sym, ap, subst}
 use Rattle.snapshots.specs.declared.entry.Entry.{Entry}
 use Rattle.snapshots.specs.Marks.{accepted}
-use mathlib.Core.List.{IsPrefix}
 use Rattle.snapshots.proofs.Accepts.{accepted_short, known}
 use Rattle.snapshots.proofs.Prefixes.{prefix_more}
 use Rattle.snapshots.proofs.Counting.{counts_next, counted_next, met_by, same_seen}
