@@ -266,10 +266,17 @@ class Store:
         for client in self.clients:
             client.clock = client.base = base
             client.cut_after = None
-        event = Batch([(self.main.labels, [(base, base)])])
-        self.looks.at("the first sample of a round", OK, server.tell(event), tell=False)
-        self.world.apply(event)
-        self.main.told.append(event)
+        events, rows = [Batch([(self.main.labels, [(base, base)])])], self.world.rows()
+        mine = sorted(labels for labels in rows if ("client", "main") not in labels)
+        if mine:
+            # one sample that is there
+            labels = self.random.choice(mine)
+            at = self.random.choice(sorted(rows[labels]))
+            events.append(Deletion([equals(name, value) for name, value in labels], at, at))
+        for event in events:
+            self.looks.at(f"at the begin of a round: {event.line()}", OK, server.tell(event), tell=False)
+            self.world.apply(event)
+            self.main.told.append(event)
         if cut and before:
             self.clients[0].cut_after = (self.random.randint(0, 8), self.random.randint(before + 1, base))
 
@@ -302,9 +309,26 @@ class Main:
         self.told, self.flying, self.number = [], None, "main"
 
 
+def begins(looks, querier, preload, work, count, seed):
+    """Kills servers while they begin a journal: what is left is a folder to begin in."""
+    took = 0.1
+    for number in range(count):
+        store = Store(looks, querier, preload, f"{work}/begun{number}", f"{seed} begun {number}")
+        server = store.start()
+        time.sleep(store.random.uniform(0, took * 1.2))
+        store.crash(server, store.random.random() < 0.5)
+        server = store.restart()
+        if server is not None:
+            looks.at("what is said of a journal that was begun", ([{}], {}), server.select(), tell=False)
+            server.end()
+        took = store.took
+    looks.say(f"{count} servers were killed while they began a journal")
+
+
 def rounds(querier, preload, work, count, seed):
     looks = Looks("rounds")
     looks.say(f"{count} of them, SEED={seed}" + ("" if preload else ", without cuts of the power, since there is no C compiler"))
+    begins(looks, querier, preload, work, max(1, count // 5), seed)
     store = server = None
     for number in range(1, count + 1):
         if store is None:
