@@ -79,8 +79,12 @@ pages-html: ## has the program `explain` show replies of any kind, and checks th
 scaling: ## asks four queriers over the quarters of a block, and compares their rows with those of one (needs rustc and python3)
 	@RT="$(RT)" tests/scaling
 
+.PHONY: durable
+durable: ## kills a server that keeps its store a hundred times, damages its journals, and has its disk fail (needs python3 and a C compiler)
+	@RT="$(RT)" tests/durable
+
 bench: ## measures speed, first beside Prometheus and VictoriaMetrics (never part of the gate)
-	@RT="$(RT)" bench/peers && RT="$(RT)" bench/run && RT="$(RT)" bench/check && RT="$(RT)" bench/select && RT="$(RT)" bench/audit && RT="$(RT)" bench/serve
+	@RT="$(RT)" bench/peers && RT="$(RT)" bench/run && RT="$(RT)" bench/check && RT="$(RT)" bench/select && RT="$(RT)" bench/audit && RT="$(RT)" bench/serve && RT="$(RT)" bench/durable
 
 install: ## proves what querier, auditor, explain and blocktool stand on, with a line for each crate, builds them, and copies them to PREFIX/bin
 	@$(MAKE) --no-print-directory -j $(GATE_JOBS) proved-querier proved-auditor_program proved-explain proved-blocktool

@@ -1,0 +1,43 @@
+"""What tests/durable runs: QUERIER, a folder, the preloaded library or nothing, a directory of a block, and the parts."""
+import os
+import random
+import sys
+
+sys.dont_write_bytecode = True
+from durable_damage import damage  # noqa: E402
+from durable_faults import faults  # noqa: E402
+from durable_folders import folders  # noqa: E402
+from durable_house import kill_all  # noqa: E402
+from durable_rounds import rounds  # noqa: E402
+
+
+def main():
+    querier, work, preload, block, *parts = sys.argv[1:]
+    preload = preload or None
+    seed = os.environ.get("SEED") or str(random.SystemRandom().randrange(10**6))
+    count = int(os.environ.get("ROUNDS") or 100)
+
+    def within(name):
+        os.mkdir(f"{work}/{name}")
+        return f"{work}/{name}"
+
+    each = {
+        "folders": lambda: folders(querier, preload, within("folders"), [block]),
+        "damage": lambda: damage(querier, within("damage"), seed),
+        "faults": lambda: faults(querier, preload, within("faults"), seed),
+        "rounds": lambda: rounds(querier, preload, within("rounds"), count, seed),
+    }
+    for name in parts:
+        if name not in each:
+            sys.exit(f"tests/durable: there is no part {name}; the parts are {', '.join(each)}")
+    try:
+        looks = [each[name]() for name in parts or each]
+    finally:
+        kill_all()
+    passed, failed = sum(one.passed for one in looks), sum(one.failed for one in looks)
+    print(f"{passed} passed, {failed} failed")
+    sys.exit(failed != 0)
+
+
+if __name__ == "__main__":
+    main()

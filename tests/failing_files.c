@@ -1,0 +1,242 @@
+/* Preloaded into a program, has calls on the files of a folder fail, FOLDER and what is below it. FAIL_WRITE, FAIL_SYNC
+   (fsync and fdatasync) and FAIL_CUT (ftruncate) are two numbers, as 3,1: which such call is the first that fails,
+   counted from 1 over all threads, and how many fail from there on (0: all). FAIL_WITH is the error's number (5, EIO).
+   FAIL_PART has the first of the failing writes take so many bytes, and the next ones fail. FAIL_ROOM refuses, as a full
+   disk does, what goes beyond so many bytes of a file, and takes what has room.
+   KEPT is a file of five numbers of eight bytes: the length of FOLDER/journal up to which the last sync kept it, how
+   many writes, syncs and cuts there were, and how many calls failed. OPENED is a file to which each path is added that
+   is opened to be written, made, renamed or removed, wherever it is. */
+#define _GNU_SOURCE
+#include <errno.h>
+#include <fcntl.h>
+#include <stdarg.h>
+#include <stdio.h>
+#include <stdlib.h>
+#include <string.h>
+#include <sys/mman.h>
+#include <sys/stat.h>
+#include <sys/syscall.h>
+#include <unistd.h>
+
+enum { WRITE, SYNC, CUT, CALLS };
+
+static struct told {
+    unsigned long kept, calls[CALLS], failed;
+} nothing, *told = &nothing;
+
+static const char *folder, *opened;
+static int error = EIO;
+static unsigned long first[CALLS], many[CALLS], part, room;
+
+static unsigned long number(const char *name, unsigned long otherwise)
+{
+    const char *text = getenv(name);
+    return text ? strtoul(text, NULL, 10) : otherwise;
+}
+
+__attribute__((constructor)) static void begin(void)
+{
+    static const char *const names[] = {"FAIL_WRITE", "FAIL_SYNC", "FAIL_CUT"};
+    const char *kept = getenv("KEPT");
+    for (int it = 0; it < CALLS; it++) {
+        const char *text = getenv(names[it]);
+        if (text)
+            sscanf(text, "%lu,%lu", &first[it], &many[it]);
+    }
+    error = (int)number("FAIL_WITH", EIO);
+    part = number("FAIL_PART", 0);
+    room = number("FAIL_ROOM", 0);
+    folder = getenv("FOLDER");
+    opened = getenv("OPENED");
+    if (kept) {
+        int fd = (int)syscall(SYS_openat, AT_FDCWD, kept, O_RDWR | O_CREAT, 0644);
+        if (fd < 0 || syscall(SYS_ftruncate, fd, sizeof nothing))
+            abort();
+        void *at = mmap(NULL, sizeof nothing, PROT_READ | PROT_WRITE, MAP_SHARED, fd, 0);
+        if (at == MAP_FAILED)
+            abort();
+        told = at;
+        syscall(SYS_close, fd);
+    }
+}
+
+/* Whether a file is the folder or below it; then its path from there. */
+static int is_inside(int fd, char *path, size_t size)
+{
+    char name[64], whole[4096];
+    if (!folder)
+        return 0;
+    snprintf(name, sizeof name, "/proc/self/fd/%d", fd);
+    ssize_t length = readlink(name, whole, sizeof whole - 1);
+    size_t front = strlen(folder);
+    if (length < (ssize_t)front || memcmp(whole, folder, front))
+        return 0;
+    whole[length] = 0;
+    if (whole[front] && whole[front] != '/')
+        return 0;
+    snprintf(path, size, "%s", whole[front] ? whole + front + 1 : "");
+    return 1;
+}
+
+/* Whether this call, the nth of its kind, fails; so many bytes of it are to be taken else. */
+static int fails(int kind, unsigned long *taken)
+{
+    unsigned long n = __atomic_add_fetch(&told->calls[kind], 1, __ATOMIC_RELAXED);
+    if (!first[kind] || n < first[kind] || (many[kind] && n >= first[kind] + many[kind]))
+        return 0;
+    if (kind == WRITE && part && n == first[kind]) {
+        *taken = part;
+        return 0;
+    }
+    __atomic_add_fetch(&told->failed, 1, __ATOMIC_RELAXED);
+    errno = error;
+    return 1;
+}
+
+ssize_t write(int fd, const void *bytes, size_t count)
+{
+    char path[4096];
+    unsigned long taken = 0;
+    int before = errno;
+    if (!is_inside(fd, path, sizeof path)) {
+        errno = before;
+        return syscall(SYS_write, fd, bytes, count);
+    }
+    if (fails(WRITE, &taken))
+        return -1;
+    if (taken && taken < count)
+        count = taken;
+    if (room) {
+        struct stat now;
+        fstat(fd, &now);
+        if (count && (unsigned long)now.st_size >= room) {
+            __atomic_add_fetch(&told->failed, 1, __ATOMIC_RELAXED);
+            errno = ENOSPC;
+            return -1;
+        }
+        if (now.st_size + count > room)
+            count = room - now.st_size;
+    }
+    errno = before;
+    return syscall(SYS_write, fd, bytes, count);
+}
+
+static int synced(int fd, long how)
+{
+    char path[4096];
+    unsigned long taken = 0;
+    int before = errno;
+    if (!is_inside(fd, path, sizeof path)) {
+        errno = before;
+        return (int)syscall(how, fd);
+    }
+    if (fails(SYNC, &taken))
+        return -1;
+    struct stat now;
+    int is_journal = (!strcmp(path, "journal") || !strcmp(path, "journal.next")) && !fstat(fd, &now);
+    errno = before;
+    int result = (int)syscall(how, fd);
+    if (!result && is_journal)
+        told->kept = (unsigned long)now.st_size;
+    return result;
+}
+
+int fsync(int fd)
+{
+    return synced(fd, SYS_fsync);
+}
+
+int fdatasync(int fd)
+{
+    return synced(fd, SYS_fdatasync);
+}
+
+int ftruncate(int fd, off_t length)
+{
+    char path[4096];
+    unsigned long taken = 0;
+    int before = errno;
+    if (is_inside(fd, path, sizeof path) && fails(CUT, &taken))
+        return -1;
+    errno = before;
+    return (int)syscall(SYS_ftruncate, fd, length);
+}
+
+int ftruncate64(int fd, off_t length)
+{
+    return ftruncate(fd, length);
+}
+
+static void tell(const char *path)
+{
+    int before = errno;
+    if (opened) {
+        int fd = (int)syscall(SYS_openat, AT_FDCWD, opened, O_WRONLY | O_APPEND | O_CREAT, 0644);
+        char line[4200];
+        int length = snprintf(line, sizeof line, "%s\n", path);
+        syscall(SYS_write, fd, line, length);
+        syscall(SYS_close, fd);
+    }
+    errno = before;
+}
+
+static int opens(int at, const char *path, int how, mode_t mode)
+{
+    if ((how & O_ACCMODE) != O_RDONLY || how & (O_CREAT | O_TRUNC))
+        tell(path);
+    return (int)syscall(SYS_openat, at, path, how, mode);
+}
+
+int open(const char *path, int how, ...)
+{
+    va_list rest;
+    va_start(rest, how);
+    mode_t mode = how & (O_CREAT | O_TMPFILE) ? va_arg(rest, mode_t) : 0;
+    va_end(rest);
+    return opens(AT_FDCWD, path, how, mode);
+}
+
+int open64(const char *path, int how, ...)
+{
+    va_list rest;
+    va_start(rest, how);
+    mode_t mode = how & (O_CREAT | O_TMPFILE) ? va_arg(rest, mode_t) : 0;
+    va_end(rest);
+    return opens(AT_FDCWD, path, how, mode);
+}
+
+int openat(int at, const char *path, int how, ...)
+{
+    va_list rest;
+    va_start(rest, how);
+    mode_t mode = how & (O_CREAT | O_TMPFILE) ? va_arg(rest, mode_t) : 0;
+    va_end(rest);
+    return opens(at, path, how, mode);
+}
+
+int openat64(int at, const char *path, int how, ...)
+{
+    va_list rest;
+    va_start(rest, how);
+    mode_t mode = how & (O_CREAT | O_TMPFILE) ? va_arg(rest, mode_t) : 0;
+    va_end(rest);
+    return opens(at, path, how, mode);
+}
+
+int mkdir(const char *path, mode_t mode)
+{
+    tell(path);
+    return (int)syscall(SYS_mkdirat, AT_FDCWD, path, mode);
+}
+
+int rename(const char *from, const char *to)
+{
+    tell(to);
+    return (int)syscall(SYS_renameat2, AT_FDCWD, from, AT_FDCWD, to, 0);
+}
+
+int unlink(const char *path)
+{
+    tell(path);
+    return (int)syscall(SYS_unlinkat, AT_FDCWD, path, 0);
+}
