@@ -3,7 +3,7 @@ use Rattle.std.proofs.Common.{◌≡◌, ◌<◌, ◌^◌, ℕ, ℤ, true, false
 use Rattle.std.proofs.Common.{ap, ap₂, subst, ◌∙◌, inl, inr, codes, [], length, length-map}
 use Rattle.std.specs.Borrow.{Bor}
 use Rattle.std.specs.Prelude.{option_map, unwrap_or, is_some, FitsSigned, Bool, not, ◌&&◌, ◌==◌}
-use Rattle.std.specs.Prelude.{suc, ◌⊎◌}
+use Rattle.std.specs.Prelude.{zero, suc, ◌⊎◌}
 use Rattle.std.specs.Int.{w64}
 use Rattle.std.specs.Str.Parse.{IsNumeral, without_leading_sign, signed_digits_value}
 use Rattle.std.specs.Str.Parse.{without_leading_plus, digits_value}
@@ -254,19 +254,19 @@ given_both f (Some a) x e = ap is_some e
 
 -- no line of `serve` has directories beside a folder
 pub both_denied : (rows : List Row) (serving : Serving) (reading : Reading)
-    → IsServingIn rows serving → IsReadingIn rows reading → is_some serving.data ≡ true
+    → IsServingIn rows serving → IsReadingIn rows reading → is_some serving.folder ≡ true
     → (length reading.directories.items ≡ 0 → ⊥) → (line : Line) → IsServeIn rows line → ⊥
 both_denied rows serving reading asked given some many (Serve other texts) h =
-    let folder : is_some other.data ≡ true =
-    given_both (λ (folder : Bor (List ℕ)). folder.now) other.data _ h.asked.data
-    ∙ sym (given_both (λ (folder : Bor (List ℕ)). folder.now) serving.data _ asked.data) ∙ some in
+    let folder : is_some other.folder ≡ true =
+    given_both (λ (folder : Bor (List ℕ)). folder.now) other.folder _ h.asked.folder
+    ∙ sym (given_both (λ (folder : Bor (List ℕ)). folder.now) serving.folder _ asked.folder) ∙ some in
     let same : length texts.directories.items ≡ length reading.directories.items =
     sym (length-map (λ (d : Bor (List ℕ)). d.now) texts.directories.items)
     ∙ (ap length (h.given.directories ∙ sym given.directories)
     ∙ length-map (λ (d : Bor (List ℕ)). d.now) reading.directories.items) in
     not_one other texts folder (λ e. many (sym same ∙ e)) h.one
   where
-    not_one : (other : Serving) (texts : Reading) → is_some other.data ≡ true
+    not_one : (other : Serving) (texts : Reading) → is_some other.folder ≡ true
         → (length texts.directories.items ≡ 0 → ⊥) → IsOneStore other texts → ⊥
     not_one other texts some many (inl none) = let bad : true ≡ false = sym some ∙ none in cc
     not_one other texts some many (inr few) = many few
@@ -279,13 +279,13 @@ both_denied rows serving reading asked given some many (Journal path) h = h
 pub both_stand : (folder : Bool) (n : ℕ) → (folder && not (n == 0)) ≡ true
     → (folder ≡ true) × (n ≡ 0 → ⊥)
 both_stand false n e = let bad : false ≡ true = e in absurd cc
-both_stand true 0 e = let bad : false ≡ true = e in absurd cc
+both_stand true zero e = let bad : false ≡ true = e in absurd cc
 both_stand true (suc n) e = (refl, λ none. let bad : suc n ≡ 0 = none in cc)
 
 pub one_stands : (folder : Bool) (n : ℕ) → (folder && not (n == 0)) ≡ false
     → (folder ≡ false) ⊎ (n ≡ 0)
 one_stands false n e = inl refl
-one_stands true 0 e = inr refl
+one_stands true zero e = inr refl
 one_stands true (suc n) e = let bad : true ≡ false = e in absurd cc
 
 -- none of the five is no line

@@ -1,5 +1,5 @@
 -- What each fault ends the program with: its status, and the line that tells it.
-use Rattle.std.specs.Prelude.{ℕ, suc, List, [], ◌++◌, Option, None, Some, codes, decimal}
+use Rattle.std.specs.Prelude.{ℕ, zero, suc, List, [], ◌++◌, Option, None, Some, codes, decimal}
 use Rattle.std.specs.Prelude.{string_bytes}
 use Rattle.std.specs.Fmt.{with_newline}
 use Rattle.labels.specs.Errors.{code_of}
@@ -107,7 +107,7 @@ status_of Memory = 4
 
 -- the number of the process that has a folder, if it is known
 abbrev pub holder_text : ℕ → List ℕ
-holder_text 0 = []
+holder_text zero = []
 holder_text (suc n) = codes " (" ++ decimal (suc n) ++ codes ")"
 
 -- what is told of the fault, for people; the text of the words is `clap`'s own

@@ -1,8 +1,8 @@
 -- What `journal` lists of a journal.
-use Rattle.std.specs.Prelude.{◌≡◌, ◌⊎◌, ℕ, suc, ◌+◌, ◌-◌, ℤ, List, [], ◌∷◌, ◌++◌, Option, None}
+use Rattle.std.specs.Prelude.{◌≡◌, ◌⊎◌, ℕ, zero, suc, ◌+◌, ◌-◌, ℤ, List, [], ◌∷◌, ◌++◌, Option, None}
 use Rattle.std.specs.Prelude.{length}
 use Rattle.std.specs.Prelude.{codes, decimal, string_bytes}
-use Rattle.core.specs.Fmt.{signed_decimal}
+use Rattle.std.specs.Fmt.{signed_decimal}
 use Rattle.std.specs.Io.KnownBytes.{Appends}
 use Rattle.matchers.specs.Grammar.{op_text, written}
 use Rattle.matchers.specs.Views.{MatcherView}
@@ -48,7 +48,7 @@ empty_batch_line number = decimal number ++ codes " batch 0 samples\n"
 
 -- the line of a batch of so many samples
 abbrev pub IsBatchLine : ℕ → ℕ → List ℕ → Type 0
-IsBatchLine number 0 line = line ≡ empty_batch_line number
+IsBatchLine number zero line = line ≡ empty_batch_line number
 IsBatchLine number (suc n) line =
     (series : ℕ) × (from : ℤ) × (to : ℤ) × (line ≡ batch_line number (suc n) series from to)
 

@@ -260,9 +260,9 @@ pub(crate) fn open_folder(
     host: &HostRuntime,
     folder: &str,
 ) -> Result<DataFolder, Fault>
-    ensures sound { IfOk result (λ data. file_sound data.medium ≡ true) }
-    ensures path { IfOk result (λ data.
-        string_bytes data.path ≡ path_in folder.now (codes "journal")) }
+    ensures sound { IfOk result (λ opened. file_sound opened.medium ≡ true) }
+    ensures path { IfOk result (λ opened.
+        string_bytes opened.path ≡ path_in folder.now (codes "journal")) }
     ensures err { IfErr result (IsFolderFault folder.now) }
 {
     let paths = paths_in(alloc, folder)?;
