@@ -2,7 +2,8 @@
 use Rattle.std.proofs.Common.{◌≡◌, ◌<◌, ◌^◌, ℕ, ℤ, true, false, List, Option, Some, None, refl, sym}
 use Rattle.std.proofs.Common.{ap, ap₂, subst, ◌∙◌, inl, inr, codes, [], length, length-map}
 use Rattle.std.specs.Borrow.{Bor}
-use Rattle.std.specs.Prelude.{option_map, unwrap_or, is_some, FitsSigned, Bool, not, ◌&&◌}
+use Rattle.std.specs.Prelude.{option_map, unwrap_or, is_some, FitsSigned, Bool, not, ◌&&◌, ◌==◌}
+use Rattle.std.specs.Prelude.{suc, ◌⊎◌}
 use Rattle.std.specs.Int.{w64}
 use Rattle.std.specs.Str.Parse.{IsNumeral, without_leading_sign, signed_digits_value}
 use Rattle.std.specs.Str.Parse.{without_leading_plus, digits_value}
@@ -273,6 +274,19 @@ both_denied rows serving reading asked given some many Demo h = h
 both_denied rows serving reading asked given some many (Check texts) h = h
 both_denied rows serving reading asked given some many (Select s texts) h = h
 both_denied rows serving reading asked given some many (Journal path) h = h
+
+-- whether directories stand beside a folder, by a test
+pub both_stand : (folder : Bool) (n : ℕ) → (folder && not (n == 0)) ≡ true
+    → (folder ≡ true) × (n ≡ 0 → ⊥)
+both_stand false n e = let bad : false ≡ true = e in absurd cc
+both_stand true 0 e = let bad : false ≡ true = e in absurd cc
+both_stand true (suc n) e = (refl, λ none. let bad : suc n ≡ 0 = none in cc)
+
+pub one_stands : (folder : Bool) (n : ℕ) → (folder && not (n == 0)) ≡ false
+    → (folder ≡ false) ⊎ (n ≡ 0)
+one_stands false n e = inl refl
+one_stands true 0 e = inr refl
+one_stands true (suc n) e = let bad : true ≡ false = e in absurd cc
 
 -- none of the five is no line
 pub no_line : (o : Option (Text × List Row)) → (option_map (λ p. p.0) o ≡ Some (codes "demo") → ⊥)

@@ -11,7 +11,6 @@ use Rattle.event_journal.specs.Holding.{Stands}
 use Rattle.event_journal.specs.Starting.{DeniesRead, DeniesStep, DeniesStart, of_commit}
 use Rattle.event_journal.specs.declared.error.StartError.{StartError}
 use Rattle.event_journal.specs.declared.error.StartError.TheVariants as start
-use Rattle.commands.specs.Faults.{start_fault}
 use Rattle.commands.specs.Keeping.{path_in, IsWriteFault, IsReadFault, IsFolderFault, IsDataFault}
 use Rattle.commands.specs.declared.fault.Fault.{Fault}
 use Rattle.commands.specs.declared.fault.Fault.TheVariants.{Words, Refused, CannotRead, CannotWrite}
@@ -74,14 +73,6 @@ folder_is_data folder CannotWrite h = h
 folder_is_data folder (CannotListen port) h = h
 folder_is_data folder NoListener h = h
 folder_is_data folder NoThread h = h
-
--- nor is it where the journal is refused
-pub refused_is_data : (folder file : List ℕ) (error : StartError) → DeniesStart file error
-    → IsDataFault folder (start_fault error)
-refused_is_data folder file start.Memory h = tt
-refused_is_data folder file (start.Journal error) h = (file, h)
-refused_is_data folder file (start.Event refused) h = (file, h)
-refused_is_data folder file (start.Step refused) h = (file, h)
 
 -- the first event that is not accepted
 pub step_denied : (events : List Event) (refused : RefusedEvent) (error : CommitError)

@@ -13,3 +13,4 @@ pub mod TokenTexts
 pub mod Folders
 pub mod Listings
 pub mod Beginnings
+pub mod Stores

@@ -68,6 +68,14 @@ abbrev pub IsDataFault : List ℕ → Fault → Type 0
 IsDataFault folder (Refused (Start error)) = (file : List ℕ) × DeniesStart file error
 IsDataFault folder other = IsFolderFault folder other
 
+-- why the store of a journal with these bytes, at a path, is not opened: it is refused, or its torn
+-- end cannot be cut off, or memory failed
+abbrev pub IsStoreFault : List ℕ → List ℕ → Fault → Type 0
+IsStoreFault file path (Refused (Start error)) = DeniesStart file error
+IsStoreFault file path (CannotWriteAt at) = string_bytes at ≡ path
+IsStoreFault file path Memory = Unit {0}
+IsStoreFault file path other = ⊥
+
 -- why the store of a file is not resumed: the file is refused, or its torn end cannot be cut off
 abbrev pub IsResumeFault : List ℕ → ResumeError → Type 0
 IsResumeFault file (resume.Start error) = DeniesStart file error
@@ -84,8 +92,12 @@ pub record IsKeptStore {M : Type 0} (shows : M → List ℕ → Type 0) (kept : 
   pub held : Holds shows kept sound moment left_since [] store.keeper.journal.journal.medium
       store.keeper.journal.journal.len store.keeper.journal.journal.closed store.events.items
 
--- the same of a store whose journal is a file of the host, of which no clause knows the bytes
-abbrev pub IsKeptInFile : KeptStore FileMedium → Type 0
-IsKeptInFile store =
-    (file : List ℕ) × IsKeptStore (λ medium bytes. Unit {0}) (λ medium n. Unit {0}) file_sound
-    (λ medium. 0) (λ medium t left. ⊥) file store
+-- the same of a store whose journal is a file of the host, which had these bytes
+abbrev pub IsKeptInFile : List ℕ → KeptStore FileMedium → Type 0
+IsKeptInFile file store =
+    IsKeptStore (λ medium bytes. Unit {0}) (λ medium n. Unit {0}) file_sound (λ medium. 0)
+    (λ medium t left. ⊥) file store
+
+-- the same, whatever bytes the file had
+abbrev pub IsKeptInSome : KeptStore FileMedium → Type 0
+IsKeptInSome store = (file : List ℕ) × IsKeptInFile file store

@@ -1,6 +1,6 @@
 -- The command line: what `clap` reads from the words, and what that asks for.
 use Rattle.std.specs.Prelude.{◌≡◌, ◌⊎◌, ℕ, ℤ, pos, negsuc, true, FitsSigned, List, [], map, Option}
-use Rattle.std.specs.Prelude.{None, Some, codes, unwrap_or, string_bytes}
+use Rattle.std.specs.Prelude.{None, Some, codes, option_map, unwrap_or, string_bytes}
 use Rattle.std.specs.Int.{w64}
 use Rattle.std.specs.declared.string.String.{String}
 use Rattle.std.specs.Str.Parse.{IsNumeral, without_leading_sign, signed_digits_value}
@@ -148,11 +148,18 @@ AreTakenByClap words = takes querier_app words ≡ true
 abbrev pub AreRefusedByClap : List Text → Type 0
 AreRefusedByClap words = fault_of querier_app words ≡ [] → ⊥
 
--- the kinds of faults of words that `clap` takes and that are no line: there is no subcommand, or
--- `serve` has directories beside the folder of a store
-abbrev pub IsLineFaultKind : ErrorKind → Type 0
-IsLineFaultKind kind = (kind ≡ MissingSubcommand) ⊎ (kind ≡ ArgumentConflict)
-
 -- the words are no line
 abbrev pub AreNoCommandLine : List Text → Type 0
 AreNoCommandLine words = (line : Line) → IsLineOf words line → ⊥
+
+-- the kind of the fault of words that are no line: for `serve`, that directories stand beside the
+-- folder of a store, and else that there is no subcommand
+abbrev pub IsKindFor : Option (Text × List Row) → ErrorKind → Type 0
+IsKindFor found kind =
+    ((kind ≡ MissingSubcommand) × (option_map (λ p. p.0) found ≡ Some (codes "serve") → ⊥))
+    ⊎ ((kind ≡ ArgumentConflict) × (option_map (λ p. p.0) found ≡ Some (codes "serve")))
+
+-- the fault of words that `clap` takes, and that are no line
+pub record IsLineFault (words : List Text) (kind : ErrorKind) : Type 0 where
+  pub no_line : AreNoCommandLine words
+  pub by_kind : IsKindFor (subcommand_of querier_app words) kind

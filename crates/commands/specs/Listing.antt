@@ -7,6 +7,8 @@ use Rattle.std.specs.Io.KnownBytes.{Appends}
 use Rattle.matchers.specs.Grammar.{op_text, written}
 use Rattle.matchers.specs.Views.{MatcherView}
 use Rattle.head.specs.Worlds.{Event, batch, deletion, cut}
+use Rattle.journal.specs.Records.{file_of}
+use Rattle.keeper.specs.Together.{texts_of}
 use Rattle.event_journal.specs.Holding.{Stands}
 use Rattle.event_journal.specs.Starting.{DeniesRead}
 use Rattle.commands.specs.Keeping.{path_in}
@@ -92,9 +94,16 @@ IsFileAt reads path bytes =
     AreFirstBytes reads (path_in path (codes "journal")) 4611686018427387904 bytes
     ⊎ AreFirstBytes reads path 4611686018427387904 bytes
 
--- nothing can be read at a path, nor is there a journal in a folder there; or memory failed
+-- nothing can be read at a path, or memory failed
+abbrev pub IsUnreadFile : Host → List ℕ → Fault → Type 0
+IsUnreadFile reads path (CannotRead file) = (string_bytes file ≡ path) × reads path None
+IsUnreadFile reads path Memory = Unit {0}
+IsUnreadFile reads path other = ⊥
+
+-- nothing can be read at a path, nor a journal in a folder there; or memory failed
 abbrev pub IsUnreadJournal : Host → List ℕ → Fault → Type 0
-IsUnreadJournal reads path (CannotRead file) = (string_bytes file ≡ path) × reads path None
+IsUnreadJournal reads path (CannotRead file) =
+    (string_bytes file ≡ path) × reads path None × reads (path_in path (codes "journal")) None
 IsUnreadJournal reads path Memory = Unit {0}
 IsUnreadJournal reads path other = ⊥
 
@@ -106,8 +115,8 @@ pub record IsListed (reads : Host) (path : List ℕ) (old new : Option (List ℕ
   pub stands : Stands [] file events
   pub lines : List ℕ
   pub each : AreLines 0 events lines
-  pub len : ℕ
-  pub written : Appends old new (lines ++ summary_line (length events) len (length file))
+  pub written : Appends old new
+      (lines ++ summary_line (length events) (length (file_of (texts_of events))) (length file))
 
 -- why a journal is not listed: it can't be read, it is refused by the first check that fails, or
 -- memory or the writer failed

@@ -1,6 +1,7 @@
 //! The command line.
 
-ghost use Rattle.std.specs.Prelude.{◌≡◌, ◌⊎◌, false, [], codes, map, option_map, unwrap_or};
+ghost use Rattle.std.specs.Prelude.{◌≡◌, ◌⊎◌, ◌&&◌, ◌==◌, false, not, is_some, [], length, codes};
+ghost use Rattle.std.specs.Prelude.{map, option_map, unwrap_or};
 ghost use Rattle.std.specs.Prelude.{IfOk, IfErr, IsOkAnd};
 ghost use Rattle.commands.specs.ServingLines.{count_rule, port_rule, flag_rule, text_rule};
 ghost use Rattle.commands.specs.ServingLines.{counts_app, serve_app, IsCountIn, IsFlagIn};
@@ -14,7 +15,7 @@ ghost use Rattle.clap.specs.Words.{AddsSubcommand};
 ghost use Rattle.commands.specs.OptionRules.{directories_rule};
 ghost use Rattle.commands.specs.Lines.{time_rule, selector_rule, blocks_rule, select_app};
 ghost use Rattle.commands.specs.Lines.{check_app, named_app, querier_app, path_rule, journal_app};
-ghost use Rattle.commands.specs.Lines.{IsLineFaultKind};
+ghost use Rattle.commands.specs.Lines.{IsKindFor, IsLineFault};
 ghost use Rattle.commands.specs.Lines.{IsTimeIn, IsSelectionIn};
 ghost use Rattle.commands.specs.Lines.{AreTakenByClap, AreRefusedByClap, IsFoundLine, IsLineOf};
 ghost use Rattle.commands.specs.Lines.{texts_of};
@@ -197,11 +198,12 @@ being the real port.
 
 With --data, the store begins empty, and each write, deletion and cut is in DIR/journal, synced,
 before its reply goes out. A start replays them: standard error tells `recovered N events`, and how
-many bytes of a torn record it cut off. Directories beside --data are a fault of the words. A change
-that cannot be kept is refused with H11 (503), and no reader sees it. A journal that is damaged
-before its end is refused with J1 to J4, J8 to J14 or J18 and the place, and left as it is
-(`querier journal --help` tells the codes; J18 is a change that those before it do not admit).
-DIR/lock is locked as long as the server runs.
+many bytes of a torn record it cut off; or `began DIR/journal`. Directories beside --data are a
+fault of the words. If the server cannot make sure that a change is kept, it is refused with H11
+(503): no reader of this run sees it, but if the journal closed, the next start may find it. A
+journal that is damaged before its end is refused with J1 to J4, J8 to J14 or J18 and the place, and
+left as it is (`querier journal --help` tells the codes; J18 is a change that those before it do not
+admit). DIR/lock is locked as long as the server runs.
 
   GET /select?selector=up%7Bjob%3D%22a%22%7D&from=0&to=100
                  the audited answer, as `querier select` prints it
@@ -522,13 +524,21 @@ fn reading_in<'a>(alloc: Global, found: &ArgMatches<'a>) -> Result<Reading<'a>, 
     })
 }
 
+/// Whether directories stand beside the folder of a store.
+fn has_both(serving: Serving<'_>, reading: &Reading<'_>) -> bool
+    ensures { result
+        ≡ (is_some serving.entry.data && not (length reading.now.directories.items == 0)) }
+{
+    serving.data.is_some() && !reading.directories.is_empty()
+}
+
 /// What `serve` asks for; none where directories stand beside the folder of a store.
 fn serve_line<'a>(alloc: Global, found: &ArgMatches<'a>) -> Result<Option<Line<'a>>, AllocError>
-    ensures ok { IfOk result (λ line. IsFoundServe (rows_of (found_of found.now)) line) }
+    ensures { IfOk result (λ line. IsFoundServe (rows_of (found_of found.now)) line) }
 {
     let reading = reading_in(alloc, found)?;
     let serving = serving_in(found);
-    if serving.data.is_some() && !reading.directories.is_empty() {
+    if has_both(serving, &reading) {
         return Ok(None);
     }
     Ok(Some(Line::Serve(serving, reading)))
@@ -587,12 +597,11 @@ fn both_stores(alloc: Global) -> Result<Error, AllocError>
 
 /// The fault of words that ask for no line, though `clap` takes them.
 fn no_line(alloc: Global, found: &ArgMatches<'_>) -> Result<Error, AllocError>
-    ensures { IfOk result (λ e. IsLineFaultKind (kind_of e)) }
+    ensures { IfOk result (λ e. IsKindFor (subcommand_rows_of found.now) (kind_of e)) }
 {
-    if found.subcommand_matches("serve").is_some() {
-        both_stores(alloc)
-    } else {
-        no_subcommand(alloc)
+    match found.subcommand_matches("serve") {
+        Some(_) => both_stores(alloc),
+        None => no_subcommand(alloc),
     }
 }
 
@@ -603,7 +612,8 @@ pub fn read_line<'a>(alloc: Global, words: &'a [String]) -> Result<Line<'a>, Err
     ensures err { IfErr result (λ e.
         IsTaken (texts_of words.entry.now) → kind_of e ≡ ErrorKind.OutOfMemory) }
     ensures refused { IfErr result (λ e. AreTakenByClap (texts_of words.entry.now)
-        → (kind_of e ≡ ErrorKind.OutOfMemory) ⊎ IsLineFaultKind (kind_of e)) }
+        → (kind_of e ≡ ErrorKind.OutOfMemory)
+        ⊎ IsLineFault (texts_of words.entry.now) (kind_of e)) }
     ensures fails { AreRefusedByClap (texts_of words.entry.now)
         → FailsBy (fault_of querier_app (texts_of words.entry.now)) result }
 {

@@ -1,8 +1,9 @@
 //! The folder of a store that is kept: its lock, and its journal.
 
-ghost use Rattle.std.specs.Prelude.{◌≡◌, true, codes, string_bytes, IfOk, IfErr, OnOk, OnErr};
+ghost use Rattle.std.specs.Prelude.{◌≡◌, true, [], codes, string_bytes, IfOk, IfErr, OnOk, OnErr};
 ghost use Rattle.block_folder.specs.Steps.{DoesAll, DoesUpToOne};
 ghost use Rattle.journal.specs.FileMedium.{file_sound};
+ghost use Rattle.journal.specs.Records.{file_of};
 ghost use Rattle.commands.specs.Keeping.{path_in, ArePathsIn, calls_of, IsFolderFault};
 ghost use Rattle.commands.specs.Keeping.{IsWriteFault, IsReadFault};
 
@@ -51,7 +52,7 @@ enum LockError {
     Failed,
 }
 
-fn path_in(alloc: Global, folder: &str, name: &str) -> Result<String, AllocError>
+pub(crate) fn path_in(alloc: Global, folder: &str, name: &str) -> Result<String, AllocError>
     ensures { IfOk result (λ path. string_bytes path ≡ path_in folder.now name.now) }
 {
     format!(in alloc; "{folder}/{name}")
@@ -100,13 +101,18 @@ fn parent_of(folder: &str) -> &str {
     }
 }
 
-/// Makes a folder where nothing stands, for good.
+/// Syncs a folder: what was made and renamed in it stays.
+fn sync_folder(host: &HostRuntime, folder: &str) -> io::Result<()> {
+    File::open(host, folder)?.sync_all()
+}
+
+/// Makes a folder where nothing stands, and syncs the one that it stands in, whoever made it: a
+/// start that made it may have ended before that.
 fn make_folder(host: &HostRuntime, folder: &str) -> io::Result<()> {
-    if fs::exists(host, folder)? {
-        return Ok(());
+    if !fs::exists(host, folder)? {
+        fs::create_dir(host, folder)?;
     }
-    fs::create_dir(host, folder)?;
-    File::open(host, parent_of(folder))?.sync_all()
+    sync_folder(host, parent_of(folder))
 }
 
 /// The number of the process that a lock file names; 0 if it names none.
@@ -183,7 +189,9 @@ fn write_journal<D: Disk>(
 }
 
 /// The text of a journal of no events.
-fn empty_journal(alloc: Global) -> Result<Vec<u8>, JournalError> {
+fn empty_journal(alloc: Global) -> Result<Vec<u8>, JournalError>
+    ensures { IfOk result (λ text. text.items ≡ file_of []) }
+{
     file_text(alloc, &[])
 }
 
@@ -245,7 +253,8 @@ fn read_journal(
 }
 
 /// Makes a folder where there is none, locks it, and begins a journal in it where there is none;
-/// then the journal is synced and read.
+/// then the folder is synced, since a start that began the journal may have ended before that, and
+/// the journal is synced and read.
 pub(crate) fn open_folder(
     alloc: Global,
     host: &HostRuntime,
@@ -262,6 +271,9 @@ pub(crate) fn open_folder(
     }
     let lock = lock_folder(alloc, host, folder, &paths)?;
     let is_new = begin_journal(alloc, host, folder, &paths)?;
+    if sync_folder(host, folder).is_err() {
+        return Err(cannot_write(alloc, folder));
+    }
     let (medium, bytes) = read_journal(alloc, host, folder, &paths)?;
     Ok(DataFolder {
         lock,

@@ -1,6 +1,6 @@
 //! A store that is kept in a folder, and its server.
 
-ghost use Rattle.std.specs.Prelude.{◌≡◌, true, [], Ok, IfOk, IfErr, OnOk, vec_len, codes};
+ghost use Rattle.std.specs.Prelude.{◌≡◌, true, [], Ok, IfOk, IfErr, OnOk, vec_len};
 ghost use Rattle.std.specs.Prelude.{string_bytes};
 ghost use Rattle.std.specs.List.{All};
 ghost use Rattle.std.specs.Thread.{IsSync};
@@ -13,8 +13,8 @@ ghost use Rattle.event_journal.specs.Holding.{Holds};
 ghost use Rattle.event_journal.specs.Starting.{DeniesStep, of_step};
 ghost use Rattle.server.specs.Shifts.{AreUnder, EachServed};
 ghost use Rattle.commands.specs.Guarding.{AreRulesOf};
-ghost use Rattle.commands.specs.Keeping.{IsKeptStore, IsKeptInFile, IsResumeFault, IsDataFault};
-ghost use Rattle.commands.specs.Keeping.{path_in};
+ghost use Rattle.commands.specs.Keeping.{IsKeptStore, IsKeptInFile, IsKeptInSome, IsResumeFault};
+ghost use Rattle.commands.specs.Keeping.{IsStoreFault, IsDataFault};
 ghost use Rattle.commands.specs.Selecting.{KeepsAt};
 ghost use Rattle.commands.specs.ServingRuns.{TellsPort, IsKeepingFault, IsServingFault};
 
@@ -124,26 +124,34 @@ fn resume_store<M: Medium + Drop>(
 }
 
 /// Tells what a start recovered.
-fn tell_recovered<R: Eprint, M: Medium + Drop>(rt: &R, store: &KeptStore<M>) {
-    let (events, torn) = (store.events.len(), store.torn);
+fn tell_recovered<R: Eprint>(rt: &R, events: usize, torn: usize) {
+    let noun = if events == 1 { "event" } else { "events" };
     let _ = if torn == 0 {
-        eprintln!(rt; "recovered {events} events")
+        eprintln!(rt; "recovered {events} {noun}")
     } else {
-        eprintln!(rt; "recovered {events} events, {torn} bytes of a torn record cut off")
+        eprintln!(rt; "recovered {events} {noun}, {torn} bytes of a torn record cut off")
     };
 }
 
-/// The store of a journal that was read in its folder.
-fn store_in<R: Eprint>(
+/// Tells what was found in a folder, or that a journal was begun there.
+fn tell_opened<R: Eprint, M: Medium + Drop>(
     rt: &R,
-    alloc: Global,
-    folder: &str,
-    data: DataFolder,
-) -> Result<OpenData, Fault>
-    requires sound { file_sound data.medium ≡ true }
-    requires path { string_bytes data.path ≡ path_in folder.now (codes "journal") }
-    ensures kept { IfOk result (λ open. IsKeptInFile open.store) }
-    ensures err { IfErr result (IsDataFault folder.now) }
+    path: &str,
+    is_new: bool,
+    store: &KeptStore<M>,
+) {
+    if is_new {
+        let _ = eprintln!(rt; "began {path}");
+    } else {
+        tell_recovered(rt, store.events.len(), store.torn);
+    }
+}
+
+/// The store of a journal that was read in its folder.
+fn store_in<R: Eprint>(rt: &R, alloc: Global, data: DataFolder) -> Result<OpenData, Fault>
+    requires { file_sound data.medium ≡ true }
+    ensures kept { IfOk result (λ open. IsKeptInFile data.bytes.items open.store) }
+    ensures err { IfErr result (IsStoreFault data.bytes.items (string_bytes data.path)) }
 {
     let DataFolder {
         lock,
@@ -154,9 +162,7 @@ fn store_in<R: Eprint>(
     } = data;
     match resume_store(alloc, medium, bytes.as_slice()) {
         Ok(store) => {
-            if !is_new {
-                tell_recovered(rt, &store);
-            }
+            tell_opened(rt, path.as_str(), is_new, &store);
             Ok(OpenData { lock, store })
         }
         Err(ResumeError::Start(error)) => Err(Fault::from(error)),
@@ -171,14 +177,14 @@ fn open_data<R: Eprint, F: ReadFiles>(
     files: &F,
     folder: &str,
 ) -> Result<OpenData, Fault>
-    ensures kept { IfOk result (λ open. IsKeptInFile open.store) }
+    ensures kept { IfOk result (λ open. IsKeptInSome open.store) }
     ensures err { IfErr result (IsDataFault folder.now) }
 {
     let Some(host) = files.host() else {
         return Err(cannot_write(alloc, folder));
     };
     let data = open_folder(alloc, host, folder)?;
-    store_in(rt, alloc, folder, data)
+    store_in(rt, alloc, data)
 }
 
 /// Opens a store as [`open_data`] does, and answers those beside that watch.
@@ -189,7 +195,7 @@ fn open_watched<R: Threads + Clock + Eprint + Sync, F: ReadFiles>(
     folder: &str,
     listener: &TcpListener,
 ) -> Result<OpenData, Fault>
-    ensures kept { IfOk result (λ open. IsKeptInFile open.store) }
+    ensures kept { IfOk result (λ open. IsKeptInSome open.store) }
     ensures err { IfErr result (IsDataFault folder.now) }
 {
     let process = Process { alloc, files };
@@ -199,7 +205,7 @@ fn open_watched<R: Threads + Clock + Eprint + Sync, F: ReadFiles>(
     let apart = || report_opening(rt, alloc, watch, ended);
     let here = || -> Result<OpenData, Fault>
         requires { IsSync R.row × IsSync F.row }
-        ensures kept { IfOk result (λ open. IsKeptInFile open.store) }
+        ensures kept { IfOk result (λ open. IsKeptInSome open.store) }
         ensures err { IfErr result (IsDataFault folder.entry.now) }
     {
         let opened = open_data(rt, alloc, files, folder);
@@ -218,7 +224,7 @@ fn open_beside<R: Threads + Clock + Eprint + Sync, F: ReadFiles>(
     folder: &str,
     beside: Option<&TcpListener>,
 ) -> Result<OpenData, Fault>
-    ensures kept { IfOk result (λ open. IsKeptInFile open.store) }
+    ensures kept { IfOk result (λ open. IsKeptInSome open.store) }
     ensures err { IfErr result (IsDataFault folder.now) }
 {
     match beside {
@@ -252,6 +258,7 @@ fn serve_kept<
     requires held { Holds M.shows M.kept M.sound M.moment M.left_since []
         kept.keeper.journal.journal.medium kept.keeper.journal.journal.len
         kept.keeper.journal.journal.closed J.before }
+    requires world { replayed (world_of (opening_of [])) J.before ≡ Ok (world_of J.opening) }
     ensures ok { OnOk result (TellsPort (W.contents out.old) (W.contents out.new)) }
     ensures workers { IfOk result (λ shifts. vec_len shifts ≡ serving.entry.workers) }
     ensures served { IfOk result (λ shifts. EachServed serving.entry.requests shifts.items) }
@@ -259,9 +266,16 @@ fn serve_kept<
     ensures err { IfErr result (λ fault.
         IsServingFault serving.entry (W.contents out.old) (W.contents out.new) fault) }
 {
+    let KeptStore {
+        snapshot,
+        keeper,
+        events,
+        torn: _,
+    } = kept;
+    drop(events);
     let count = serving.workers as usize;
     let passes = passes_of(serving);
-    let found = (kept.snapshot, kept.keeper);
+    let found = (snapshot, keeper);
     let workers =
         Workers::<J, &R, JournalKeeper<M>>::resume(rt, alloc, store, found, passes, count)?;
     serve_workers(rt, alloc, files, workers, rules, beside, serving, out)

@@ -8,9 +8,11 @@ ghost use Rattle.commands.specs.Listing.{matcher_text, matchers_text, IsBatchLin
 ghost use Rattle.commands.specs.Listing.{batch_line, empty_batch_line, deletion_start};
 ghost use Rattle.commands.specs.Listing.{deletion_end, deletion_line, cut_line};
 ghost use Rattle.commands.specs.Listing.{AreLines, summary_line, IsListed, IsListFault, IsFileAt};
-ghost use Rattle.commands.specs.Listing.{IsUnreadJournal};
+ghost use Rattle.commands.specs.Listing.{IsUnreadFile, IsUnreadJournal};
+ghost use Rattle.commands.specs.Reading.{AreFirstBytes};
 ghost use Rattle.commands.specs.Selecting.{KeepsAt};
 
+use crate::data_folder::path_in;
 use crate::fault::Fault;
 use crate::files::{ReadError, ReadFiles};
 use crate::sending::send;
@@ -24,21 +26,29 @@ use std::io::Write;
 /// The most bytes of a journal.
 const MOST: usize = 1 << 62;
 
+/// The bytes of the file at a path.
+fn read_alone<F: ReadFiles>(alloc: Global, files: &F, path: &str) -> Result<Vec<u8>, Fault>
+    ensures ok { IfOk result (λ bytes.
+        AreFirstBytes (F.may_read files.now) path.now 4611686018427387904 bytes.items) }
+    ensures err { IfErr result (λ fault. IsUnreadFile (F.may_read files.now) path.now fault) }
+{
+    match files.read_file(alloc, path, MOST) {
+        Ok(bytes) => Ok(bytes),
+        Err(ReadError::Memory) => Err(Fault::Memory),
+        Err(ReadError::Unreadable) => Err(Fault::CannotRead(path.to_string(alloc)?)),
+    }
+}
+
 /// The bytes of the journal that stands in a folder, if there is one; else of the file itself.
 fn read_at<F: ReadFiles>(alloc: Global, files: &F, path: &str) -> Result<Vec<u8>, Fault>
     ensures ok { IfOk result (λ bytes. IsFileAt (F.may_read files.now) path.now bytes.items) }
     ensures err { IfErr result (λ fault. IsUnreadJournal (F.may_read files.now) path.now fault) }
 {
-    let within = format!(in alloc; "{path}/journal")?;
+    let within = path_in(alloc, path, "journal")?;
     match files.read_file(alloc, within.as_str(), MOST) {
-        Ok(bytes) => return Ok(bytes),
-        Err(ReadError::Memory) => return Err(Fault::Memory),
-        Err(ReadError::Unreadable) => {}
-    }
-    match files.read_file(alloc, path, MOST) {
         Ok(bytes) => Ok(bytes),
         Err(ReadError::Memory) => Err(Fault::Memory),
-        Err(ReadError::Unreadable) => Err(Fault::CannotRead(path.to_string(alloc)?)),
+        Err(ReadError::Unreadable) => read_alone(alloc, files, path),
     }
 }
 

@@ -27,7 +27,7 @@ use Rattle.event_journal.specs.declared.reading.FoundStore.{FoundStore}
 use Rattle.event_journal.specs.Holding.{Spell, Stands}
 use Rattle.event_journal.specs.Outcome.{MayRefuse, RefusesAt}
 use Rattle.event_journal.specs.Starting.{DeniesContents, DeniesRead, DeniesStart, DeniesStep}
-use Rattle.event_journal.specs.Starting.{IsFault, IsFoundStore, MayDeny}
+use Rattle.event_journal.specs.Starting.{GivesStore, IsFault, IsFoundStore, MayDeny}
 use Rattle.event_journal.specs.Starting.{MayDenyContent, of_commit, of_content, of_journal, of_step}
 use Rattle.event_journal.proofs.Replays.{only_memory}
 
@@ -180,3 +180,8 @@ denies_before file errors.Memory d = tt
 denies_before file (errors.Journal e) d = d
 denies_before file (errors.Event refused) d = d
 denies_before file (errors.Step refused) d = absurd d
+
+pub gives_world : (w : World) (events : List Event) (r : Result FoundStore StartError)
+    → GivesStore events w r → IfOk r (λ s. world_of s.snapshot ≡ w)
+gives_world w events (Ok s) h = h.0
+gives_world w events (Err e) h = tt

@@ -8,6 +8,7 @@ ghost use Rattle.journal.specs.Contents.{contents_in};
 ghost use Rattle.journal.specs.Records.{file_of};
 ghost use Rattle.keeper.specs.Together.{texts_of};
 ghost use Rattle.event_journal.specs.Holding.{Spell, Stands};
+ghost use Rattle.event_journal.specs.Keeping.{StartsWith};
 ghost use Rattle.event_journal.specs.Starting.{DeniesContents, DeniesRead, DeniesStart};
 ghost use Rattle.event_journal.specs.Starting.{DeniesStep, GivesJournal, GivesStore, GivesWorld};
 ghost use Rattle.event_journal.specs.Starting.{IsFoundStore, of_journal, of_refused, of_step};
@@ -153,6 +154,9 @@ pub fn read_store(alloc: Global, file: &[u8]) -> Result<FoundStore, StartError>
     // or a matcher of a deletion is refused.
     ensures only { (events : List Change) (w : World) → Stands [] file.now events
         → replayed (world_of (opening_of [])) events ≡ Ok w → GivesStore events w result }
+    // So after a crash it makes the world that the clauses of a keeper speak of.
+    ensures started { (w : World) → StartsWith (world_of (opening_of [])) file.now w
+        → IfOk result (λ s. world_of s.snapshot ≡ w) }
     // A refusal tells which check failed first, and where.
     ensures refused { IfErr result (λ e. DeniesStart file.now e) }
 {

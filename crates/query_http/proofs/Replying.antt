@@ -1,6 +1,7 @@
 -- Replies, put together from what is known of their parts.
 use Rattle.std.proofs.Common.{◌≡◌, ◌≢◌, ℕ, Bool, false, List, [], Option, IfSome, Result, Ok, Err}
 use Rattle.std.proofs.Common.{IfOk, inl}
+use Rattle.std.specs.Prelude.{◌⊎◌}
 use Rattle.std.proofs.Common.{inr, refl, sym, ap, subst, ◌∙◌, codes, None, Some}
 use Rattle.serde_json.specs.Written.{compact_text}
 use Rattle.matchers.specs.Views.{QueryView}

@@ -1,8 +1,10 @@
 //! A store and its workers, each in a thread of its own.
 
-ghost use Rattle.std.specs.Prelude.{◌≡◌, ◌≤◌, ◌<◌, length, map, vec_len, IfOk, IfErr};
+ghost use Rattle.std.specs.Prelude.{◌≡◌, ◌≤◌, ◌<◌, Ok, length, map, vec_len, IfOk, IfErr};
 ghost use Rattle.std.specs.Thread.{IsSync};
 ghost use Rattle.head.specs.Blocks.{part_in, opening_of};
+ghost use Rattle.head.specs.Heads.{world_of};
+ghost use Rattle.head.specs.Worlds.{replayed};
 ghost use Rattle.snapshots.specs.Seats.{IsRoom};
 ghost use Rattle.server.specs.Shifts.{AreUnder, EachServed};
 ghost use Rattle.snapshots.specs.declared.error.OpenError.TheVariants.{BadPasses, Limit};
@@ -103,8 +105,8 @@ impl<J: Naming, C: Wait + Drop> Workers<J, C> {
 
 impl<J: Naming, C: Wait + Drop, K: Keeper + Drop> Workers<J, C, K> {
     /// Opens a store over what a start found of one that was kept, with so many passes and workers,
-    /// as [`Workers::open`] does; the keeper holds the events from before. `O2` where there are not
-    /// 1 to 64 of each, then `O4` and memory.
+    /// as [`Workers::open`] does. The keeper holds the events from before, which make the world of
+    /// the snapshot. `O2` where there are not 1 to 64 of each, then `O4` and memory.
     pub fn resume(
         rt: C,
         alloc: Global,
@@ -116,6 +118,7 @@ impl<J: Naming, C: Wait + Drop, K: Keeper + Drop> Workers<J, C, K> {
         requires book { store.seen.book ≡ J.book }
         requires opening { found.0 ≡ J.opening }
         requires kept { K.holds found.1 J.before }
+        requires world { replayed K.first J.before ≡ Ok (world_of J.opening) }
         ensures workers { IfOk result (λ w. w ≡ count) }
         ensures room { IfOk result (λ _. IsRoom passes count) }
         ensures refused { IfErr result (λ e. e ≡ BadPasses → ¬ IsRoom passes count) }

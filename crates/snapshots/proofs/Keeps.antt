@@ -1,7 +1,9 @@
 -- An event is kept, and then published.
-use Rattle.std.proofs.Common.{◌≡◌, ℕ, zero, suc, Ok, Bool, true, List, [], ◌∷◌, ◌++◌, take, inl, inr, ⊎_elim, refl, sym, ap, subst, ◌∙◌, arith, append_assoc}
+use Rattle.std.proofs.Common.{◌≡◌, ℕ, zero, suc, Result, Ok, Err, Bool, true, List, [], ◌∷◌, ◌++◌, take, inl, inr, ⊎_elim, refl, sym, ap, subst, ◌∙◌, arith, append_assoc}
 use Rattle.std.proofs.lemmas.List.{map_push}
-use Rattle.head.specs.Worlds.{Event, World, replayed}
+use Rattle.head.specs.Heads.{SnapshotParts, world_of}
+use Rattle.head.specs.Refusals.{Refusal}
+use Rattle.head.specs.Worlds.{Event, World, replayed, replayed_from, stepped}
 use Rattle.head.specs.declared.error.CommitError.{CommitError}
 use Rattle.head.specs.declared.error.CommitError.TheVariants.{OutOfBounds, OutOfOrder, Duplicate, Limit, CutTooLow, TooManyParts, Seat, Journal, Memory}
 use Rattle.journal.specs.Records.{records_of}
@@ -11,8 +13,8 @@ use Rattle.keeper.specs.declared.error.KeepError.{KeepError}
 use Rattle.keeper.specs.declared.error.KeepError.TheVariants as keep
 use Rattle.keeper.proofs.Finds.{wider}
 use Rattle.snapshots.specs.declared.entry.Entry.{Entry}
-use Rattle.snapshots.specs.Keeping.{keep_refusal, kept_of, IsAtMost, IsOfKeeping, IsRecordFor}
-use Rattle.snapshots.specs.Replays.{events_in, IsOfStore}
+use Rattle.snapshots.specs.Keeping.{keep_refusal, kept_of, IsAtMost, IsOfAllKept, IsOfKeeping, IsRecordFor, OpensAsKept}
+use Rattle.snapshots.specs.Replays.{events_in, IsAfter, IsOfStore}
 
 -- one event more is to be kept
 pub kept_more : (before : List Event) (entries : List Entry) (e : Entry) → kept_of before (entries ++ e ∷ []) ≡ kept_of before entries ++ e.event ∷ []
@@ -23,6 +25,17 @@ kept_more before entries e =
 pub nothing_spelled : SpellTogether [] []
 unfolding records_of
 nothing_spelled = record { are = record { each = tt; whole = refl }; each = tt }
+
+replayed_further : (r : Result World Refusal) (before more : List Event) (w : World) → replayed_from r before ≡ Ok w → replayed_from r (before ++ more) ≡ replayed w more
+replayed_further r [] more w is = ap (λ (s : Result World Refusal). replayed_from s more) is
+replayed_further (Err x) (e ∷ es) more w is = absurd (cc is)
+replayed_further (Ok v) (e ∷ es) more w is = replayed_further (stepped v e) es more w is
+
+-- the world that is published is that of all that is kept
+pub of_all_kept : (idle : Bool) (first : World) (before : List Event) (opening : SnapshotParts) (entries : List Entry) (s : SnapshotParts)
+    → OpensAsKept idle first before opening → IsAfter opening entries s → IsOfAllKept idle first before entries s
+of_all_kept idle first before opening entries s opens after = λ keeps.
+    replayed_further (Ok first) before (events_in entries) (world_of opening) (opens keeps) ∙ after.replay
 
 -- a refusal is the journal's or memory's
 pub of_keeping : (e : KeepError) → IsOfKeeping (keep_refusal e)

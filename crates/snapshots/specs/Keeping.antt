@@ -1,6 +1,7 @@
 -- How the events of a store are kept.
-use Rattle.std.specs.Prelude.{◌≡◌, ◌⊎◌, ℕ, Bool, true, List, [], ◌∷◌, ◌++◌}
-use Rattle.head.specs.Worlds.{Event}
+use Rattle.std.specs.Prelude.{◌≡◌, ◌⊎◌, ℕ, Bool, true, false, List, [], ◌∷◌, ◌++◌, Ok}
+use Rattle.head.specs.Heads.{SnapshotParts, world_of}
+use Rattle.head.specs.Worlds.{Event, World, replayed}
 use Rattle.head.specs.declared.error.CommitError.{CommitError}
 use Rattle.head.specs.declared.error.CommitError.TheVariants.{OutOfBounds, OutOfOrder, Duplicate}
 use Rattle.head.specs.declared.error.CommitError.TheVariants.{Limit, CutTooLow, TooManyParts, Seat}
@@ -23,6 +24,18 @@ IsAtMost event more = (more ≡ event ∷ []) ⊎ (more ≡ [])
 -- what is to be kept of a store: the events from before it was opened, and those of its list
 abbrev pub kept_of : List Event → List Entry → List Event
 kept_of before entries = before ++ events_in entries
+
+-- If events are kept, those from before the store was opened make of the first world the one that
+-- it opened with.
+abbrev pub OpensAsKept : Bool → World → List Event → SnapshotParts → Type 0
+OpensAsKept idle first before opening =
+    idle ≡ false → replayed first before ≡ Ok (world_of opening)
+
+-- If events are kept, all that are kept make of the first world that of the snapshot: a start that
+-- finds them goes on with it.
+abbrev pub IsOfAllKept : Bool → World → List Event → List Entry → SnapshotParts → Type 0
+IsOfAllKept idle first before entries s =
+    idle ≡ false → replayed first (kept_of before entries) ≡ Ok (world_of s)
 
 -- the refusal of a store whose keeper refuses so
 abbrev pub keep_refusal : KeepError → CommitError

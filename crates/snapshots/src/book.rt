@@ -1,14 +1,14 @@
 //! What lies under the lock of a store.
 
 ghost use Rattle.std.specs.Prelude.{◌≡◌, ◌+◌, ◌++◌, ◌∷◌, ◌↔◌, [], length, slice_set};
-ghost use Rattle.std.specs.Prelude.{false, IfOk, IfErr, OnOk, OnErr, MatchBool};
+ghost use Rattle.std.specs.Prelude.{false, IsOk, IfOk, IfErr, OnOk, OnErr, MatchBool};
 ghost use Rattle.head.specs.Outcomes.{IsStepRefusal};
 ghost use Rattle.head.specs.Heads.{world_of};
 ghost use Rattle.head.specs.Worlds.{stepped};
 ghost use Rattle.std.specs.Arc.{arc_value};
 ghost use Rattle.snapshots.specs.Marks.{accepted};
 ghost use Rattle.snapshots.specs.Grows.{Shows};
-ghost use Rattle.snapshots.specs.Keeping.{kept_of, IsRecordFor};
+ghost use Rattle.snapshots.specs.Keeping.{kept_of, IsOfAllKept, IsRecordFor, OpensAsKept};
 ghost use Rattle.snapshots.specs.Replays.{IsAfter, Steps, IsEventRefusal, IsOfStore};
 ghost use Rattle.snapshots.specs.Seats.{FitsSeat, AreCounts, IsMetBy, HasOneMoreEvent};
 
@@ -77,7 +77,7 @@ impl<J: Naming, R: Wait + Drop, K: Keeper + Drop> Model for Book<J, R, K> {
     ghost use Rattle.snapshots.specs.Marks.{accepted};
     ghost use Rattle.snapshots.specs.Seats.{AreCounts};
     ghost use Rattle.snapshots.specs.Grows.{Shows};
-    ghost use Rattle.snapshots.specs.Keeping.{kept_of};
+    ghost use Rattle.snapshots.specs.Keeping.{kept_of, OpensAsKept};
     ghost use Rattle.snapshots.specs.Views.{Ledger};
 
     ghost Value = { Ledger };
@@ -91,7 +91,8 @@ impl<J: Naming, R: Wait + Drop, K: Keeper + Drop> Model for Book<J, R, K> {
     ghost invariant = { λ b.
         AreCounts b.counts.items (accepted b.log) × (b.events ≡ length (accepted b.log))
         × Shows J.book J.opening b.press.desk.shown.value (accepted b.log)
-        × K.holds b.keeper (kept_of J.before (accepted b.log)) };
+        × K.holds b.keeper (kept_of J.before (accepted b.log))
+        × OpensAsKept K.idle K.first J.before J.opening };
 }
 
 impl<J: Naming, R: Wait + Drop, K: Keeper + Drop> Book<J, R, K> {
@@ -106,6 +107,7 @@ impl<J: Naming, R: Wait + Drop, K: Keeper + Drop> Book<J, R, K> {
         keeper: K,
     ) -> Book<J, R, K>
         requires kept { K.holds keeper J.before }
+        requires world { OpensAsKept K.idle K.first J.before J.opening }
         requires shown { Shows J.book J.opening press.desk.shown.value (accepted log) }
         requires counts { AreCounts counts.items (accepted log) }
         requires empty { accepted log ≡ [] }
@@ -132,7 +134,7 @@ impl<J: Naming, R: Wait + Drop, K: Keeper + Drop> Book<J, R, K> {
     /// number is none of this store's, or the seat's count is not the book's for it, or cannot
     /// grow; then the refusal of the event's step on the published version, whose list begins with
     /// that of the seat's last receipt and has as many events of the seat's number as the seat
-    /// counts; then `E8` where the event is not kept. A list shorter than that of the seat's last
+    /// counts; then `E8` if the event is not kept. A list shorter than that of the seat's last
     /// receipt would be a refusal of memory, and does not occur. It waits for the readers of the
     /// version before.
     pub fn step<C: Change + Drop>(
@@ -149,6 +151,9 @@ impl<J: Naming, R: Wait + Drop, K: Keeper + Drop> Book<J, R, K> {
         ensures refused { IfErr result (λ e. IsEventRefusal e.1 self.old.parts (C.event change)) }
         ensures met { IfErr result (λ e. ¬ IsOfStore e.1 → IsMetBy seat.old self.old.entries) }
         ensures journal { IfErr result (λ e. e.1 ≡ CommitError.Journal → K.idle ≡ false) }
+        // `E8` hides no refusal of the event's step.
+        ensures ready { IfErr result (λ e. e.1 ≡ CommitError.Journal
+            → IsOk (stepped (world_of self.old.parts) (C.event change))) }
         ensures returned { IfErr result (λ e. e.0 ≡ change) }
         ensures kept { OnErr result ((self.new ≡ self.old) × (seat.new ≡ seat.old)) }
         ensures list { IfOk result (λ r.
@@ -160,6 +165,9 @@ impl<J: Naming, R: Wait + Drop, K: Keeper + Drop> Book<J, R, K> {
         ensures counted { IfOk result (λ r. HasOneMoreEvent seat.old seat.new r) }
         ensures books { AreCounts self.new.counts self.new.entries }
         ensures world { IsAfter J.opening self.new.entries self.new.parts }
+        // What is kept makes the world that is published, whatever was kept before the start.
+        ensures durable { OnOk result (IsOfAllKept K.idle K.first J.before
+            self.new.entries self.new.parts) }
     {
         let number = seat.number();
         if !fits(&self.counts, seat) {

@@ -72,7 +72,7 @@ impl<J: Naming, R: Wait + Drop, K: Keeper + Drop> Committer<J, R, K> {
     /// Publishes a batch under the seat's number, whole or not at all. The list of the receipt
     /// begins with that of the seat's last receipt and ends with the batch, and each pass that
     /// learns the receipt sees it from then on. Its refusals are memory's, `E7`, where the seat's
-    /// count is not the store's, `E8`, where the batch is not kept, and `E1` to `E4`. With each of
+    /// count is not the store's, `E8`, if the batch is not kept, and `E1` to `E4`. With each of
     /// those four the batch's step is refused after some list of accepted events that begins with
     /// the list of the seat's last receipt and has no event more under the seat's number. A refusal
     /// gives the appender back and leaves the seat. It waits for the committer's lock and for the
@@ -147,9 +147,9 @@ impl<J: Naming, R: Wait + Drop, K: Keeper + Drop> Committer<J, R, K> {
 
     /// Publishes a cut at a time, in milliseconds, under the seat's number: the head's samples
     /// below it become a block, and from then on none below it is committed. Its refusals are
-    /// memory's, `E7`, `E8`, and three that hold after such a list as [`Committer::commit`] names: `E5`
-    /// where the time is not above the floor, `E6` where there are 63 blocks, `E4` where a file of
-    /// the block would be too long. After a refusal the seat stays. It waits as
+    /// memory's, `E7`, `E8`, and three that hold after such a list as [`Committer::commit`] names:
+    /// `E5` where the time is not above the floor, `E6` where there are 63 blocks, `E4` where a file
+    /// of the block would be too long. After a refusal the seat stays. It waits as
     /// [`Committer::commit`] does.
     pub fn cut(
         &self,

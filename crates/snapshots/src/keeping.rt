@@ -20,7 +20,8 @@ fn refusal_of(error: KeepError) -> CommitError
     }
 }
 
-/// The record of a change, by which keepers of this kind keep it: no byte where they keep nothing.
+/// The record of a change, by which keepers of this kind keep it. It has no byte if they keep
+/// nothing.
 pub fn record_of<C: Change, K: Keeper>(alloc: Global, change: &C) -> Result<Vec<u8>, CommitError>
     ensures ok { IfOk result (λ bytes. IsRecordFor K.idle (C.event change.now) bytes.items) }
     ensures refused { IfErr result (λ e. IsOfKeeping e) }
@@ -43,7 +44,7 @@ pub fn keep<K: Keeper>(keeper: &mut K, bytes: &[u8]) -> Result<(), CommitError>
     requires recorded { (event : Event) × IsRecordFor K.idle event bytes.now }
     ensures ok { OnOk result ((events : List Event) (event : Event) → K.holds keeper.old events
         → IsRecordFor K.idle event bytes.now → K.holds keeper.new (events ++ event ∷ [])) }
-    // The event was kept last; or nothing was, where keepers of this kind keep nothing.
+    // The event was kept last; or nothing was, if keepers of this kind keep nothing.
     ensures last { OnOk result ((events : List Event) (event : Event) → K.holds keeper.old events
         → IsRecordFor K.idle event bytes.now
         → (more : List Event) × IsAtMost event more × K.kept_last keeper.new events more) }

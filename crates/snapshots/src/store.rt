@@ -1,9 +1,12 @@
 //! Stores, and how one is opened.
 
 ghost use Rattle.std.specs.Prelude.{◌≡◌, ◌≤◌, ◌<◌, ◌↔◌, [], length, map, vec_len, IfOk, IfErr};
-ghost use Rattle.std.specs.Prelude.{MatchBool, MatchResult};
+ghost use Rattle.std.specs.Prelude.{MatchBool, MatchResult, Ok};
 ghost use Rattle.std.specs.List.{All};
 ghost use Rattle.head.specs.Blocks.{part_in, opening_of};
+ghost use Rattle.head.specs.Heads.{world_of};
+ghost use Rattle.head.specs.Worlds.{replayed};
+ghost use Rattle.snapshots.specs.Keeping.{OpensAsKept};
 ghost use Rattle.snapshots.specs.Rules.{end_of};
 ghost use Rattle.snapshots.specs.Views.{nothing};
 ghost use Rattle.snapshots.specs.Grows.{Shows};
@@ -152,8 +155,9 @@ impl Store {
 
     /// Opens the store over this snapshot, with so many passes and seats, which are numbered from
     /// 0: a store that was kept, as a start found it. Its first version is the snapshot and has the
-    /// empty list; the keeper holds the events from before. `O2` where there are not 1 to 64 passes
-    /// and 1 to 64 seats, `O4` where `left_right` refuses a reader.
+    /// empty list. The keeper holds the events from before, and the snapshot's world is what they
+    /// make of the first one. `O2` if there are not 1 to 64 passes and 1 to 64 seats, `O4` if
+    /// `left_right` refuses a reader.
     pub fn resume<J: Naming, R: Wait + Drop, K: Keeper + Drop>(
         self,
         rt: R,
@@ -166,6 +170,7 @@ impl Store {
         requires book { self.seen.book ≡ J.book }
         requires opening { snapshot ≡ J.opening }
         requires kept { K.holds keeper J.before }
+        requires world { replayed K.first J.before ≡ Ok (world_of J.opening) }
         ensures room { MatchResult result (λ _. IsRoom passes seats) (λ e.
             (e ≡ OpenError.BadPasses) ↔ (¬ IsRoom passes seats)) }
         ensures few { IfErr result (λ e. ¬ (e ≡ OpenError.Limit)) }
@@ -193,6 +198,7 @@ impl Store {
         requires book { self.seen.book ≡ J.book }
         requires opening { opening ≡ J.opening }
         requires kept { K.holds keeper J.before }
+        requires world { OpensAsKept K.idle K.first J.before J.opening }
         ensures passes { IfOk result (λ r.
             (vec_len r.1 ≡ passes) × All (λ p. p ≡ nothing) r.1.items) }
         ensures seats { IfOk result (λ r. (vec_len r.2 ≡ seats) × AreFresh 0 r.2.items) }

@@ -4,7 +4,7 @@ use Rattle.head.specs.Blocks.{opening_of}
 use Rattle.head.specs.Heads.{world_of}
 use Rattle.head.specs.Worlds.{Event, replayed}
 use Rattle.event_journal.specs.Starting.{GivesStore}
-use Rattle.event_journal.proofs.Starts.{denies_after, denies_before, found_store}
+use Rattle.event_journal.proofs.Starts.{denies_after, denies_before, found_store, gives_world}
 use Rattle.event_journal.proofs.reading.read_store.Goals as goal
 
 pub returns-in-Ok-clause-found : goal.returns-in-Ok-clause-found
@@ -32,3 +32,8 @@ returns-in-Ok-clause-refused c =
 pub returns-in-Err-clause-refused : goal.returns-in-Err-clause-refused
 returns-in-Err-clause-refused c =
     denies_before c.args.file.now c.in-Err.error c.in-Err.ensures.refused
+
+pub returns-in-Ok-clause-started : goal.returns-in-Ok-clause-started
+returns-in-Ok-clause-started c w h =
+    gives_world w h.events c.store_of.result
+    (returns-in-Ok-clause-only c h.events w h.stands h.replays)

@@ -2,6 +2,7 @@ use Rattle.std.proofs.Common.{rules, [], ◌∷◌, refl, arith, None, length-ap
 use Rattle.snapshots.specs.declared.entry.Entry.{Entry}
 use Rattle.snapshots.specs.Marks.{accepted}
 use Rattle.snapshots.proofs.Accepts.{accepted_short, known}
+use Rattle.snapshots.proofs.Keeps.{of_all_kept}
 use Rattle.snapshots.proofs.Prefixes.{prefix_more}
 use Rattle.snapshots.proofs.Counting.{counts_next, counted_next, met_by, same_seen}
 use Rattle.snapshots.proofs.Replaying.{after_shown}
@@ -34,6 +35,7 @@ invariant_of-self-2 g c =
           (omega (arith, c.self.invariant.1, length-append log (entry ∷ []))),
       c.publish_entry.ensures.shown,
       c.publish_entry.ensures.held,
+      c.self.invariant.4,
     )
 
 pub returns-clause-books : goal.returns-clause-books
@@ -87,3 +89,9 @@ overflow_add-events g c =
     let short = accepted_short None c.self.inside.log in
     let is = c.self.invariant.1 in
     search rules
+
+pub returns-clause-durable : goal.returns-clause-durable
+returns-clause-durable g c =
+    of_all_kept g.K.Keeper.idle g.K.Keeper.first g.J.Naming.before g.J.Naming.opening
+    (accepted c.publish_entry.new.log) c.publish_entry.new.press.desk.shown.value.parts c.self.invariant.4
+    c.publish_entry.ensures.shown.2
