@@ -1,6 +1,7 @@
 """Events of each kind at their bounds: what is acknowledged is in the journal byte for byte, and a start says the same."""
 from durable_house import (
-    LEAST, MOST, OK, OPERATORS, Batch, Cut, Deletion, Looks, Server, World, differences, equals, journal, read, refused,
+    LEAST, MOST, OK, OPERATORS, Batch, Cut, Deletion, Looks, Server, World, differences, equals, journal, read,
+    recovered, refused,
 )
 
 # patterns that are dear to build, or odd; each is accepted or refused, and what is accepted is read again
@@ -67,7 +68,7 @@ def kept(looks, querier, folder, events, what):
     looks.that(f"{what}: the journal", read(f"{folder}/journal") == journal([event.text() for event in events]))
     server = Server(querier, "--data", folder)
     if looks.that(f"{what}: it starts again", server.wait(), server.told):
-        looks.at(f"{what}: what it says", f"recovered {len(events)} events", server.first_told())
+        looks.at(f"{what}: what it says", recovered(len(events)), server.first_told())
         compare(looks, f"{what}, again", server, world)
     return server, world
 
@@ -115,7 +116,7 @@ def patterns(looks, querier, work):
     looks.that("patterns: the journal", read(f"{folder}/journal") == journal([event.text() for event in told]))
     server = Server(querier, "--data", folder)
     looks.that("patterns: a start", server.wait(), server.told)
-    looks.at("patterns: what it says", f"recovered {len(told)} events", server.first_told())
+    looks.at("patterns: what it says", recovered(len(told)), server.first_told())
     server.end()
 
 
