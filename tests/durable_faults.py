@@ -2,7 +2,6 @@
 seen by nobody, queries go on, and a new start has all that was acknowledged."""
 import contextlib
 import os
-import random
 import shutil
 import socket
 import struct
@@ -392,7 +391,7 @@ def read_only(faults, looks, work):
                 looks.at("a file system that is read-only", (3, True), (server.end(), server.told.startswith("cannot ")))
 
 
-def faults(querier, preload, work, seed):
+def faults(querier, preload, work):
     looks = Looks("faults")
     if preload is None:
         looks.say("there is no C compiler: faults are left, but for a full disk and read-only folders")

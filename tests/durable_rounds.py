@@ -10,7 +10,7 @@ import time
 
 from durable_house import (
     LEAST, MOST, OK, Batch, Cut, Deletion, Looks, Lost, Server, World, contents_of, differences, equals, read, recovered,
-    refused, run, set_of,
+    refused, run,
 )
 
 CLIENTS = 4

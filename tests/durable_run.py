@@ -26,7 +26,7 @@ def main():
         "folders": lambda: folders(querier, preload, within("folders"), [block]),
         "events": lambda: events(querier, within("events")),
         "damage": lambda: damage(querier, within("damage"), seed),
-        "faults": lambda: faults(querier, preload, within("faults"), seed),
+        "faults": lambda: faults(querier, preload, within("faults")),
         "rounds": lambda: rounds(querier, preload, within("rounds"), count, seed),
     }
     for name in parts:
