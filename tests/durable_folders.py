@@ -35,6 +35,23 @@ def one_server(looks, querier, work):
     server.end()
 
 
+def at_once(looks, querier, work):
+    """Servers that begin one folder at the same moment: one has it."""
+    for turn in range(3):
+        folder = f"{work}/at-once{turn}"
+        servers = [Server(querier, "--data", folder) for _ in range(6)]
+        serving = [server for server in servers if server.wait()]
+        looks.at("servers that have the folder, of six at once", 1, len(serving))
+        held = f"cannot lock {folder}: another process has it"
+        others = [(server.ended(), server.told.split(" (")[0]) for server in servers if server not in serving]
+        looks.at("the others", [(3, held)] * 5, others)
+        for server in serving[:1]:
+            looks.at("a write to the one", OK, server.tell(up((1, 1))))
+        for server in serving:
+            server.end()
+        looks.at("its journal", journal([up((1, 1)).text()]), read(f"{folder}/journal"))
+
+
 def new_folders(looks, querier, work):
     for what, make in [
         ("an empty folder", lambda folder: os.mkdir(folder)),
@@ -230,6 +247,7 @@ def is_within(wanted, lines):
 def folders(querier, preload, work, blocks):
     looks = Looks("folders")
     one_server(looks, querier, work)
+    at_once(looks, querier, work)
     new_folders(looks, querier, work)
     refused_folders(looks, querier, work, blocks)
     options(looks, querier, work)
