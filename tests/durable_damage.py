@@ -5,8 +5,8 @@ import os
 import random
 
 from durable_house import (
-    LEAST, MOST, OK, Batch, Cut, Deletion, Looks, Server, checksum, differences, equals, journal, read, record, run,
-    short, text_of, tree, uvarint, varint, world_of,
+    LEAST, MOST, OK, Batch, Cut, Deletion, Looks, Server, checksum, differences, equals, journal, read, record, recovered,
+    run, short, text_of, tree, uvarint, varint, world_of,
 )
 
 
@@ -210,8 +210,7 @@ class Served:
         if not looks.that(f"{what}: it starts", server.wait(), server.told, tell=False):
             return
         torn = len(data) - whole
-        line = f"recovered {count} events" + (f", {torn} bytes of a torn record cut off" if torn else "")
-        looks.at(f"{what}: what it says", line, server.first_told(), tell=False)
+        looks.at(f"{what}: what it says", recovered(count, torn), server.first_told(), tell=False)
         looks.that(f"{what}: the torn end is cut off", read(f"{folder}/journal") == data[:whole], tell=False)
         world = world_of(events)
         more = Batch([(up("more"), [(2**61, count)])])

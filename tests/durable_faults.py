@@ -2,11 +2,12 @@
 seen by nobody, queries go on, and a new start has all that was acknowledged."""
 import contextlib
 import os
-import random
 import shutil
+import socket
 import struct
 import subprocess
 import threading
+import urllib.request
 
 from durable_house import (
     NOT_KEPT, OK, Batch, Cut, Deletion, Looks, Server, World, differences, equals, journal, read, run, tree,
@@ -42,9 +43,10 @@ class Faults:
         self.count += 1
         return f"{self.work}/faults{self.count}"
 
-    def start(self, folder, **fails):
+    def start(self, folder, *words, **fails):
         env = {"LD_PRELOAD": self.preload, "FOLDER": folder, "KEPT": f"{folder}.kept"}
-        return Server(self.querier, "--data", folder, env={**env, **{name: str(value) for name, value in fails.items()}})
+        env |= {name: str(value) for name, value in fails.items()}
+        return Server(self.querier, "--data", folder, *words, env=env)
 
     def counts(self, folder):
         """How many writes, syncs and cuts there were, and how many of all failed."""
@@ -215,7 +217,10 @@ def several(faults, looks):
     server.wait()
     writes = faults.counts(probe)[0]
     server.end()
-    server = faults.start(folder, FAIL_WRITE=f"{writes + 20},10", FAIL_WITH=28)
+    with socket.socket() as one:
+        one.bind(("127.0.0.1", 0))
+        status = one.getsockname()[1]
+    server = faults.start(folder, "--status-port", str(status), FAIL_WRITE=f"{writes + 20},10", FAIL_WITH=28)
     server.wait()
     replies = [[] for _ in range(4)]
 
@@ -232,6 +237,12 @@ def several(faults, looks):
     told = [one for client in replies for one in client]
     looks.at("ten writes fail beside four clients", (90, 10),
              tuple(sum(got == wanted for _, got in told) for wanted in (OK, NOT_KEPT)))
+    with urllib.request.urlopen(f"http://127.0.0.1:{status}/metrics", timeout=60) as reply:
+        counts = dict(line.rsplit(" ", 1) for line in reply.read().decode().splitlines() if line[0] != "#")
+    for name, count in [('refusals_total{code="H11"}', 10), ('refusals_total{code="H10"}', 0), ('events_total{kind="batch"}', 90),
+                        ('requests_total{path="write",status="503"}', 10), ('requests_total{path="write",status="200"}', 90),
+                        ("samples_accepted_total", 90)]:
+        looks.at(f"the count of {name}", str(count), counts.get(f"fuzzledge_{name}"))
     world = faults.replay([event for event, got in told if got == OK])
     faults.says("ten writes fail beside four clients", server, world)
     server.end()
@@ -380,7 +391,7 @@ def read_only(faults, looks, work):
                 looks.at("a file system that is read-only", (3, True), (server.end(), server.told.startswith("cannot ")))
 
 
-def faults(querier, preload, work, seed):
+def faults(querier, preload, work):
     looks = Looks("faults")
     if preload is None:
         looks.say("there is no C compiler: faults are left, but for a full disk and read-only folders")

@@ -4,7 +4,7 @@ import os
 import signal
 
 from durable_house import (
-    OK, Batch, Cut, Deletion, HEADER, Looks, Server, World, equals, journal, read, run, tree,
+    OK, Batch, Cut, Deletion, HEADER, Looks, Server, World, equals, journal, read, recovered, run, tree,
 )
 
 
@@ -16,7 +16,7 @@ def one_server(looks, querier, work):
     folder = f"{work}/two"
     server = Server(querier, "--data", folder)
     looks.that("a folder that is not there is made", server.wait() and os.path.isdir(folder), server.told)
-    looks.at("what a start in a new folder says", "", server.told)
+    looks.at("what a start in a new folder says", f"began {folder}/journal", server.first_told())
     looks.at("a new journal", HEADER, read(f"{folder}/journal"))
     looks.at("a write", OK, server.tell(up((1, 1))))
     held = tree(folder)
@@ -31,8 +31,25 @@ def one_server(looks, querier, work):
     server.end(signal.SIGTERM)
     server = Server(querier, "--data", folder)
     looks.that("a server after it", server.wait(), server.told)
-    looks.at("what it says", "recovered 2 events", server.first_told())
+    looks.at("what it says", recovered(2), server.first_told())
     server.end()
+
+
+def at_once(looks, querier, work):
+    """Servers that begin one folder at the same moment: one has it."""
+    for turn in range(3):
+        folder = f"{work}/at-once{turn}"
+        servers = [Server(querier, "--data", folder) for _ in range(6)]
+        serving = [server for server in servers if server.wait()]
+        looks.at("servers that have the folder, of six at once", 1, len(serving))
+        held = f"cannot lock {folder}: another process has it"
+        others = [(server.ended(), server.told.split(" (")[0]) for server in servers if server not in serving]
+        looks.at("the others", [(3, held)] * 5, others)
+        for server in serving[:1]:
+            looks.at("a write to the one", OK, server.tell(up((1, 1))))
+        for server in serving:
+            server.end()
+        looks.at("its journal", journal([up((1, 1)).text()]), read(f"{folder}/journal"))
 
 
 def new_folders(looks, querier, work):
@@ -55,7 +72,7 @@ def new_folders(looks, querier, work):
     left_over(folder, journal([event.text() for event in kept]))
     server = Server(querier, "--data", folder)
     looks.that("a left-over journal.next beside a journal", server.wait(), server.told)
-    looks.at("what it says", "recovered 2 events", server.first_told())
+    looks.at("what it says", recovered(2), server.first_told())
     looks.at("the samples", {(("__name__", "up"), ("suite", "durable")): {1: 1, 2: 2}}, server.select()[1])
     server.end()
     looks.at("the journal", journal([event.text() for event in kept]), read(f"{folder}/journal"))
@@ -175,12 +192,66 @@ def in_memory(looks, querier, preload, work, blocks):
         looks.that("without --data: files opened to be written", not os.path.exists(opened), os.path.exists(opened) and read(opened))
 
 
+def calls(looks, querier, preload, work):
+    """The order of the calls on a folder, as the preloaded library tells it: what a start reads is synced, and each record
+    is synced before the reply goes out."""
+    if not preload:
+        looks.say("there is no C compiler: the order of calls is left")
+        return
+    folder, events = f"{work}/calls", [up((1, 1)), Deletion([equals("suite", "durable")], 0, 0), Cut(1), up((2, 2))]
+    for start in ("a first start", "a second start"):
+        trace = f"{folder}.{start.replace(' ', '-')}"
+        server = Server(querier, "--workers", "1", "--data", folder, env={"LD_PRELOAD": preload, "FOLDER": folder, "TRACE": trace})
+        looks.that(f"{start}: it listens", server.wait(), server.told)
+        before = lines_of(trace)
+        wanted = ["lock lock", "sync journal", "read journal", "cut journal", "sync journal"]
+        if start == "a first start":
+            wanted = ["make .", "sync ..", "lock lock", "write journal.next", "sync journal.next", "rename journal", "sync .",
+                      *wanted[1:]]
+        looks.that(f"{start}: its calls", is_within(wanted, before), before)
+        looks.that(f"{start}: the folder and the one above are synced", {"sync .", "sync .."} <= set(before), before)
+        touched = [line for line in before if line.split()[0] != "remove" and "journal" in line]
+        looks.that(f"{start}: nothing before the lock", before.index("lock lock") < before.index(touched[0]), before)
+        looks.at(f"{start}: how the journal is opened", ["open journal rw append"],
+                 [line for line in before if line.startswith("open journal ")])
+        refused = [up((0, 5)), Cut(0)] if start == "a second start" else []
+        for event in refused:
+            looks.at(f"{start}: {event.line()}", 409, server.tell(event)[0])
+        looks.at(f"{start}: calls of refused events", ["reply"] if refused else [], short_of(lines_of(trace)[len(before):]))
+        for event in events:
+            before = lines_of(trace)
+            looks.at(f"{start}: {event.line()}", OK, server.tell(event))
+            looks.at(f"{start}: its calls", ["write journal", "sync journal", "reply"], short_of(lines_of(trace)[len(before):]))
+        before = lines_of(trace)
+        server.select()
+        looks.at(f"{start}: calls of a query", ["reply"], short_of(lines_of(trace)[len(before):]))
+        server.end()
+        events = [up((5, 5)), Deletion([equals("suite", "durable")], 2, 2), Cut(4)]
+
+
+def lines_of(path):
+    return read(path).decode().splitlines()
+
+
+def short_of(lines):
+    """Lines of which none stands twice in a row."""
+    return [line for n, line in enumerate(lines) if not n or line != lines[n - 1]]
+
+
+def is_within(wanted, lines):
+    """Whether these lines stand among others in this order."""
+    rest = iter(lines)
+    return all(line in rest for line in wanted)
+
+
 def folders(querier, preload, work, blocks):
     looks = Looks("folders")
     one_server(looks, querier, work)
+    at_once(looks, querier, work)
     new_folders(looks, querier, work)
     refused_folders(looks, querier, work, blocks)
     options(looks, querier, work)
+    calls(looks, querier, preload, work)
     in_memory(looks, querier, preload, work, blocks)
     looks.done()
     return looks

@@ -378,6 +378,12 @@ class Server:
         return [rows_in(part["rows"]) for part in reply["parts"]], rows_in(reply["rows"])
 
 
+def recovered(count, torn=0):
+    """What a start says."""
+    cut = f", {torn} bytes of a torn record cut off" if torn else ""
+    return f"recovered {count} event{'' if count == 1 else 's'}{cut}"
+
+
 def kill_all():
     for process in list(Server.running):
         with contextlib.suppress(OSError):

@@ -9,8 +9,8 @@ import threading
 import time
 
 from durable_house import (
-    LEAST, MOST, OK, Batch, Cut, Deletion, Looks, Lost, Server, World, contents_of, differences, equals, read, refused,
-    run, set_of, tell,
+    LEAST, MOST, OK, Batch, Cut, Deletion, Looks, Lost, Server, World, contents_of, differences, equals, read, recovered,
+    refused, run,
 )
 
 CLIENTS = 4
@@ -172,9 +172,9 @@ class Store:
             server.end()
             return None
         torn = len(data) - whole if data else 0
-        line = f"recovered {len(contents)} events" + (f", {torn} bytes of a torn record cut off" if torn else "")
+        line = f"began {self.journal}" if data is None else recovered(len(contents), torn)
+        looks.at("what it says", line, server.first_told(), tell=False)
         if data is not None:
-            looks.at("what it says", line, server.first_told(), tell=False)
             looks.that("the torn end is cut off, and nothing else", read(self.journal) == data[:whole], tell=False)
         self.listed(contents)
         return server

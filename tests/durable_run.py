@@ -5,6 +5,7 @@ import sys
 
 sys.dont_write_bytecode = True
 from durable_damage import damage  # noqa: E402
+from durable_events import events  # noqa: E402
 from durable_faults import faults  # noqa: E402
 from durable_folders import folders  # noqa: E402
 from durable_house import kill_all  # noqa: E402
@@ -23,8 +24,9 @@ def main():
 
     each = {
         "folders": lambda: folders(querier, preload, within("folders"), [block]),
+        "events": lambda: events(querier, within("events")),
         "damage": lambda: damage(querier, within("damage"), seed),
-        "faults": lambda: faults(querier, preload, within("faults"), seed),
+        "faults": lambda: faults(querier, preload, within("faults")),
         "rounds": lambda: rounds(querier, preload, within("rounds"), count, seed),
     }
     for name in parts:

@@ -5,7 +5,9 @@
    disk does, what goes beyond so many bytes of a file, and takes what has room.
    KEPT is a file of five numbers of eight bytes: the length of FOLDER/journal up to which the last sync kept it, how
    many writes, syncs and cuts there were, and how many calls failed. OPENED is a file to which each path is added that
-   is opened to be written, made, renamed or removed, wherever it is. */
+   is opened to be written, made, renamed or removed, wherever it is. TRACE is a file to which a line is added before each
+   of these calls: `open PATH HOW`, `make`, `rename`, `remove`, `lock`, `read`, `write`, `sync` and `cut`, each with a path,
+   if it is in FOLDER or that of FOLDER; and `reply`, for what is written to a socket. */
 #define _GNU_SOURCE
 #include <errno.h>
 #include <fcntl.h>
@@ -13,7 +15,9 @@
 #include <stdio.h>
 #include <stdlib.h>
 #include <string.h>
+#include <sys/file.h>
 #include <sys/mman.h>
+#include <sys/socket.h>
 #include <sys/stat.h>
 #include <sys/syscall.h>
 #include <unistd.h>
@@ -24,7 +28,7 @@ static struct told {
     unsigned long kept, calls[CALLS], failed;
 } nothing, *told = &nothing;
 
-static const char *folder, *opened;
+static const char *folder, *opened, *trace;
 static int error = EIO;
 static unsigned long first[CALLS], many[CALLS], part, room;
 
@@ -48,6 +52,7 @@ __attribute__((constructor)) static void begin(void)
     room = number("FAIL_ROOM", 0);
     folder = getenv("FOLDER");
     opened = getenv("OPENED");
+    trace = getenv("TRACE");
     if (kept) {
         int fd = (int)syscall(SYS_openat, AT_FDCWD, kept, O_RDWR | O_CREAT, 0644);
         if (fd < 0 || syscall(SYS_ftruncate, fd, sizeof nothing))
@@ -60,22 +65,57 @@ __attribute__((constructor)) static void begin(void)
     }
 }
 
-/* Whether a file is the folder or below it; then its path from there. */
-static int is_inside(int fd, char *path, size_t size)
+static void add_line(const char *file, const char *first, const char *second, const char *third)
+{
+    int before = errno;
+    if (file) {
+        char line[8400];
+        int fd = (int)syscall(SYS_openat, AT_FDCWD, file, O_WRONLY | O_APPEND | O_CREAT, 0644);
+        int length = snprintf(line, sizeof line, "%s%s%s%s%s\n", first, *second ? " " : "", second, *third ? " " : "", third);
+        syscall(SYS_write, fd, line, length);
+        syscall(SYS_close, fd);
+    }
+    errno = before;
+}
+
+/* Whether a path is that of the folder, which is told as `.`, or below it; then its path from there. */
+static int is_below(const char *whole, char *path, size_t size)
+{
+    size_t front = folder ? strlen(folder) : 0;
+    if (!folder || strncmp(whole, folder, front) || (whole[front] && whole[front] != '/'))
+        return 0;
+    snprintf(path, size, "%s", whole[front] ? whole + front + 1 : ".");
+    return 1;
+}
+
+/* Whether a file is the folder or below it; then its path from there. A socket and the folder above are told in a trace. */
+static int is_inside(int fd, const char *what, char *path, size_t size)
 {
     char name[64], whole[4096];
     if (!folder)
         return 0;
     snprintf(name, sizeof name, "/proc/self/fd/%d", fd);
     ssize_t length = readlink(name, whole, sizeof whole - 1);
-    size_t front = strlen(folder);
-    if (length < (ssize_t)front || memcmp(whole, folder, front))
-        return 0;
-    whole[length] = 0;
-    if (whole[front] && whole[front] != '/')
-        return 0;
-    snprintf(path, size, "%s", whole[front] ? whole + front + 1 : "");
-    return 1;
+    whole[length < 0 ? 0 : length] = 0;
+    if (is_below(whole, path, size)) {
+        add_line(trace, what, path, "");
+        return 1;
+    }
+    if (trace && !strcmp(what, "write") && !strncmp(whole, "socket:", 7))
+        add_line(trace, "reply", "", "");
+    size_t above = strlen(whole);
+    if (trace && !strcmp(what, "sync") && !strncmp(whole, folder, above) && !strchr(folder + above + 1, '/'))
+        add_line(trace, "sync", "..", "");
+    return 0;
+}
+
+static void tell(const char *what, const char *path, const char *how)
+{
+    char below[4096];
+    if (opened && strcmp(how, "r"))
+        add_line(opened, path, "", "");
+    if (is_below(path, below, sizeof below))
+        add_line(trace, what, below, how);
 }
 
 /* Whether this call, the nth of its kind, fails; so many bytes of it are to be taken else. */
@@ -98,7 +138,7 @@ ssize_t write(int fd, const void *bytes, size_t count)
     char path[4096];
     unsigned long taken = 0;
     int before = errno;
-    if (!is_inside(fd, path, sizeof path)) {
+    if (!is_inside(fd, "write", path, sizeof path)) {
         errno = before;
         return syscall(SYS_write, fd, bytes, count);
     }
@@ -126,7 +166,7 @@ static int synced(int fd, long how)
     char path[4096];
     unsigned long taken = 0;
     int before = errno;
-    if (!is_inside(fd, path, sizeof path)) {
+    if (!is_inside(fd, "sync", path, sizeof path)) {
         errno = before;
         return (int)syscall(how, fd);
     }
@@ -156,7 +196,7 @@ int ftruncate(int fd, off_t length)
     char path[4096];
     unsigned long taken = 0;
     int before = errno;
-    if (is_inside(fd, path, sizeof path) && fails(CUT, &taken))
+    if (is_inside(fd, "cut", path, sizeof path) && fails(CUT, &taken))
         return -1;
     errno = before;
     return (int)syscall(SYS_ftruncate, fd, length);
@@ -167,23 +207,13 @@ int ftruncate64(int fd, off_t length)
     return ftruncate(fd, length);
 }
 
-static void tell(const char *path)
-{
-    int before = errno;
-    if (opened) {
-        int fd = (int)syscall(SYS_openat, AT_FDCWD, opened, O_WRONLY | O_APPEND | O_CREAT, 0644);
-        char line[4200];
-        int length = snprintf(line, sizeof line, "%s\n", path);
-        syscall(SYS_write, fd, line, length);
-        syscall(SYS_close, fd);
-    }
-    errno = before;
-}
-
 static int opens(int at, const char *path, int how, mode_t mode)
 {
-    if ((how & O_ACCMODE) != O_RDONLY || how & (O_CREAT | O_TRUNC))
-        tell(path);
+    static const char *const hows[] = {"r", "w", "rw", ""};
+    char text[64];
+    snprintf(text, sizeof text, "%s%s%s%s", hows[how & O_ACCMODE], how & O_APPEND ? " append" : "",
+             how & O_CREAT ? " create" : "", how & O_TRUNC ? " empty" : "");
+    tell("open", path, text);
     return (int)syscall(SYS_openat, at, path, how, mode);
 }
 
@@ -225,18 +255,41 @@ int openat64(int at, const char *path, int how, ...)
 
 int mkdir(const char *path, mode_t mode)
 {
-    tell(path);
+    tell("make", path, "");
     return (int)syscall(SYS_mkdirat, AT_FDCWD, path, mode);
 }
 
 int rename(const char *from, const char *to)
 {
-    tell(to);
+    tell("rename", to, "");
     return (int)syscall(SYS_renameat2, AT_FDCWD, from, AT_FDCWD, to, 0);
 }
 
 int unlink(const char *path)
 {
-    tell(path);
+    tell("remove", path, "");
     return (int)syscall(SYS_unlinkat, AT_FDCWD, path, 0);
+}
+
+int flock(int fd, int how)
+{
+    char path[4096];
+    is_inside(fd, "lock", path, sizeof path);
+    return (int)syscall(SYS_flock, fd, how);
+}
+
+ssize_t read(int fd, void *bytes, size_t count)
+{
+    char path[4096];
+    int before = errno;
+    if (trace)
+        is_inside(fd, "read", path, sizeof path);
+    errno = before;
+    return syscall(SYS_read, fd, bytes, count);
+}
+
+ssize_t send(int fd, const void *bytes, size_t count, int how)
+{
+    add_line(trace, "reply", "", "");
+    return syscall(SYS_sendto, fd, bytes, count, how, NULL, 0);
 }
