@@ -1,7 +1,9 @@
 -- What the getters of `clap` say of the line that the words ask for.
 use Rattle.std.proofs.Common.{◌≡◌, ◌<◌, ◌^◌, ℕ, ℤ, true, false, List, Option, Some, None, refl, sym}
-use Rattle.std.proofs.Common.{ap, ap₂, subst, ◌∙◌, inl, inr, codes, [], length, length-map, arith}
+use Rattle.std.proofs.Common.{ap, ap₂, subst, ◌∙◌, inl, inr, codes, [], ◌∷◌, length, arith}
 use Rattle.std.proofs.Common.{true≢false}
+use Rattle.std.proofs.lemmas.List.{length-map}
+use Rattle.std.proofs.lemmas.Bool.Decides.{nat_tests}
 use Rattle.std.specs.Borrow.{Bor}
 use Rattle.std.specs.Prelude.{option_map, unwrap_or, is_some, FitsSigned, Bool, not, ◌&&◌, ◌==◌}
 use Rattle.std.specs.Prelude.{zero, suc, ◌⊎◌}
@@ -198,6 +200,10 @@ not_serve o name rows e other is =
     let same : Some (codes "serve") ≡ Some name = sym e ∙ name_is o name rows is in
     absurd (other (let n : codes "serve" ≡ name = cc in sym n))
 
+abbrev first_of_text : Text → ℕ
+first_of_text [] = 0
+first_of_text (letter ∷ letters) = letter
+
 serve_out : (o : Option (Text × List Row)) (rows : List Row)
     → o ≡ Some (codes "serve", rows) → ((line : Line) → IsServeIn rows line → ⊥)
     → (line : Line) → IsLineIn o line → ⊥
@@ -209,7 +215,8 @@ serve_out o rows is none (Serve serving reading) h =
 serve_out o rows is none Demo h =
     not_serve o (codes "demo") h.rows (name_is o (codes "serve") rows is) (λ e. cc) h.is
 serve_out o rows is none (Check reading) h =
-    not_serve o (codes "check") h.rows (name_is o (codes "serve") rows is) (λ e. cc) h.is
+    not_serve o (codes "check") h.rows (name_is o (codes "serve") rows is) (λ e.
+    let letters : 99 ≡ 115 = ap first_of_text e in absurd (omega (arith, letters))) h.is
 serve_out o rows is none (Select s reading) h =
     not_serve o (codes "select") h.rows (name_is o (codes "serve") rows is) (λ e. cc) h.is
 serve_out o rows is none (Journal path) h =
@@ -287,7 +294,9 @@ pub one_stands : (folder : Bool) (n : ℕ) → (folder && not (n == 0)) ≡ fals
     → (folder ≡ false) ⊎ (n ≡ 0)
 one_stands false n e = inl refl
 one_stands true zero e = inr refl
-one_stands true (suc n) e = absurd (true≢false e)
+one_stands true (suc n) e =
+    let some : (suc n == 0) ≡ false = grind (arith, nat_tests) in
+    absurd (true≢false (sym (ap not some) ∙ e))
 
 -- none of the five is no line
 pub no_line : (o : Option (Text × List Row)) → (option_map (λ p. p.0) o ≡ Some (codes "demo") → ⊥)

@@ -3,7 +3,18 @@ use Rattle.std.proofs.Common.{◌≡◌, ◌+◌, ℕ, List, [], ◌∷◌, ◌+
 use Rattle.std.proofs.Common.{append_assoc, append-nil, arith, ℤ, Result, Ok, Err, OnOk}
 use Rattle.std.specs.Prelude.{zero, suc}
 use Rattle.head.specs.Worlds.{Event}
-use Rattle.commands.specs.Listing.{IsBatchLine, IsEventLine, AreLines, batch_line}
+use Rattle.event_journal.specs.Starting.{DeniesRead}
+use Rattle.event_journal.specs.declared.error.StartError.{StartError}
+use Rattle.event_journal.specs.declared.error.StartError.TheVariants as start
+use Rattle.commands.specs.Faults.{start_fault}
+use Rattle.commands.specs.Listing.{IsBatchLine, IsEventLine, AreLines, batch_line, IsFileAt}
+use Rattle.commands.specs.Listing.{IsListFault, IsUnreadJournal}
+use Rattle.commands.specs.Reading.{Host}
+use Rattle.commands.specs.declared.fault.Fault.{Fault}
+use Rattle.commands.specs.declared.fault.Fault.TheVariants.{Words, Refused, CannotRead, CannotWrite}
+use Rattle.commands.specs.declared.fault.Fault.TheVariants.{CannotWriteAt, Locked}
+use Rattle.commands.specs.declared.fault.Fault.TheVariants.{CannotListen, NoListener, NoThread}
+use Rattle.commands.specs.declared.fault.Fault.TheVariants.{Memory}
 
 -- a line more
 pub lines_more : (n m : ℕ) (es : List Event) (e : Event) (lines line : List ℕ)
@@ -61,3 +72,25 @@ batch_added (Ok x) number count old new some h = (
   h.3,
 )
 batch_added (Err e) number count old new some h = tt
+
+-- a journal that is refused
+pub list_refused : (reads : Host) (path file : List ℕ) (error : StartError)
+    → IsFileAt reads path file → DeniesRead file error → IsListFault reads path (start_fault error)
+list_refused reads path file start.Memory found h = tt
+list_refused reads path file (start.Journal error) found h = (file, found, h)
+list_refused reads path file (start.Event refused) found h = (file, found, h)
+list_refused reads path file (start.Step refused) found h = absurd h
+
+-- a journal that is not read
+pub list_unread : (reads : Host) (path : List ℕ) (fault : Fault)
+    → IsUnreadJournal reads path fault → IsListFault reads path fault
+list_unread reads path (CannotRead file) h = h
+list_unread reads path Memory h = tt
+list_unread reads path (Words error) h = absurd h
+list_unread reads path (Refused refusal) h = absurd h
+list_unread reads path CannotWrite h = absurd h
+list_unread reads path (CannotWriteAt at) h = absurd h
+list_unread reads path (Locked at holder) h = absurd h
+list_unread reads path (CannotListen port) h = absurd h
+list_unread reads path NoListener h = absurd h
+list_unread reads path NoThread h = absurd h
