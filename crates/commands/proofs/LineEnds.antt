@@ -49,9 +49,9 @@ none_begun reads directories old = record {
   checked = none_checked reads old;
 }
 
-memory_of : (data : Option (Bor (List ℕ))) (reads : Host) (directories : List (List ℕ))
+memory_of : (folder : Option (Bor (List ℕ))) (reads : Host) (directories : List (List ℕ))
     (serving : Serving) (old : Option (List ℕ))
-    → IsFaultOf data reads directories serving old old fault.Memory
+    → IsFaultOf folder reads directories serving old old fault.Memory
 memory_of None reads directories serving old = by_opening tt (keeps_itself old)
 memory_of (Some folder) reads directories serving old = by_folder tt (keeps_itself old)
 

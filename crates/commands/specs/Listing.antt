@@ -36,11 +36,17 @@ abbrev pub matchers_text : List MatcherView → List ℕ
 matchers_text ms = 123 ∷ (inner_text ms ++ 125 ∷ [])
 
 -- the line of a batch: how many samples it has, of how many series, from a time to a time
-abbrev pub batch_line : ℕ → ℕ → ℕ → ℤ → ℤ → List ℕ
-batch_line number count series from to =
+abbrev pub batch_start : ℕ → ℕ → ℕ → List ℕ
+batch_start number count series =
     decimal number ++ (codes " batch " ++ (decimal count ++ (codes " samples of "
-    ++ (decimal series ++ (codes " series, " ++ (signed_decimal from ++ (codes " to "
-    ++ (signed_decimal to ++ codes "\n"))))))))
+    ++ (decimal series ++ codes " series, "))))
+
+abbrev pub batch_end : ℤ → ℤ → List ℕ
+batch_end from to =
+    signed_decimal from ++ (codes " to " ++ (signed_decimal to ++ codes "\n"))
+
+abbrev pub batch_line : ℕ → ℕ → ℕ → ℤ → ℤ → List ℕ
+batch_line number count series from to = batch_start number count series ++ batch_end from to
 
 -- the line of a batch without a sample
 abbrev pub empty_batch_line : ℕ → List ℕ
