@@ -1,5 +1,6 @@
 """The folder of a store that is kept: two servers, other versions, what is left over, words that are refused; and a server
 without --data, which writes no file."""
+import contextlib
 import os
 import signal
 
@@ -158,6 +159,20 @@ def options(looks, querier, work):
     looks.at("its journal", journal([up((1, 1)).text(), up((2, 2)).text()]), read(f"{folder}/journal"))
 
 
+def written_by(process):
+    """The files that a process has open to be written."""
+    paths = []
+    for name in os.listdir(f"/proc/{process}/fd"):
+        # a connection may be closed meanwhile
+        with contextlib.suppress(OSError):
+            path = os.readlink(f"/proc/{process}/fd/{name}")
+            with open(f"/proc/{process}/fdinfo/{name}") as info:
+                flags = int(next(line for line in info if line.startswith("flags")).split()[1], 8)
+            if flags & os.O_ACCMODE and path.startswith("/") and path != "/dev/null":
+                paths.append(path)
+    return paths
+
+
 def in_memory(looks, querier, preload, work, blocks):
     """Without --data no file is written, wherever it is."""
     folder, opened = f"{work}/no-data", f"{work}/opened"
@@ -176,14 +191,7 @@ def in_memory(looks, querier, preload, work, blocks):
         looks.at(f"without --data: {event.line()}", OK, server.tell(event))
         world.apply(event)
     looks.at("without --data: the samples", world.rows(), server.select()[1])
-    writing = []
-    for name in os.listdir(f"/proc/{server.process.pid}/fd"):
-        path = os.readlink(f"/proc/{server.process.pid}/fd/{name}")
-        with open(f"/proc/{server.process.pid}/fdinfo/{name}") as info:
-            flags = int(next(line for line in info if line.startswith("flags")).split()[1], 8)
-        if flags & os.O_ACCMODE and path.startswith("/") and not path.startswith("/dev/null"):
-            writing.append(path)
-    looks.at("without --data: files open to be written", [], writing)
+    looks.at("without --data: files open to be written", [], written_by(server.process.pid))
     with open(f"/proc/{server.process.pid}/io") as counts:
         looks.at("without --data: bytes to a disk", "0", next(line.split()[1] for line in counts if line.startswith("write_bytes")))
     server.end(signal.SIGTERM)
