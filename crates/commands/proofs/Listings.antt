@@ -1,14 +1,18 @@
 -- The lines of a journal, put together.
-use Rattle.std.proofs.Common.{◌≡◌, ◌+◌, ℕ, List, [], ◌∷◌, ◌++◌, length, refl, sym, ap, subst, ◌∙◌}
+use Rattle.std.proofs.Common.{◌≡◌, ◌+◌, ℕ, List, [], ◌∷◌, ◌++◌, length, refl, sym, ap, ap₂, subst, ◌∙◌}
 use Rattle.std.proofs.Common.{append_assoc, append-nil, arith, ℤ, Result, Ok, Err, OnOk}
-use Rattle.std.specs.Prelude.{zero, suc}
+use Rattle.std.proofs.Common.{◌<◌, take, get_or, subst₂}
+use Rattle.std.proofs.lemmas.Grind.{take_at_read}
+use Rattle.std.proofs.lemmas.List.{length-take-le}
+use Rattle.std.specs.Prelude.{zero, suc, is_ok, if◌then◌else◌}
 use Rattle.head.specs.Worlds.{Event}
 use Rattle.event_journal.specs.Starting.{DeniesRead}
 use Rattle.event_journal.specs.declared.error.StartError.{StartError}
 use Rattle.event_journal.specs.declared.error.StartError.TheVariants as start
 use Rattle.commands.specs.Faults.{start_fault}
 use Rattle.commands.specs.Listing.{IsBatchLine, IsEventLine, AreLines, batch_line, IsFileAt}
-use Rattle.commands.specs.Listing.{IsListFault, IsUnreadJournal}
+use Rattle.commands.specs.Listing.{IsListFault, IsUnreadJournal, batch_start, batch_end}
+use Rattle.commands.specs.Listing.{empty_batch_line}
 use Rattle.commands.specs.Reading.{Host}
 use Rattle.commands.specs.declared.fault.Fault.{Fault}
 use Rattle.commands.specs.declared.fault.Fault.TheVariants.{Words, Refused, CannotRead, CannotWrite}
@@ -94,3 +98,36 @@ list_unread reads path (Locked at holder) h = absurd h
 list_unread reads path (CannotListen port) h = absurd h
 list_unread reads path NoListener h = absurd h
 list_unread reads path NoThread h = absurd h
+
+-- the line of a batch, of its two parts
+pub parts_added : {T E : Type 0} (r : Result T E) (number count series : ℕ) (from to : ℤ)
+    (old mid new start end : List ℕ) → mid ≡ old ++ start
+    → start ≡ batch_start number count series → end ≡ batch_end from to
+    → new ≡ (if is_ok r then mid ++ end else mid)
+    → OnOk r ((series : ℕ) × (from : ℤ) × (to : ℤ)
+    × (new ≡ old ++ batch_line number count series from to))
+parts_added (Ok x) number count series from to old mid new start end is_mid is_start is_end h = (
+  series,
+  from,
+  to,
+  h ∙ (ap (λ (m : List ℕ). m ++ end) is_mid ∙ (append_assoc old start end
+      ∙ ap₂ (λ (s e : List ℕ). old ++ (s ++ e)) is_start is_end)),
+)
+parts_added (Err e) number count series from to old mid new start end is_mid is_start is_end h = tt
+
+-- the line of a batch without a sample
+pub none_batch : (number count : ℕ) → count ≡ 0
+    → IsBatchLine number count (empty_batch_line number)
+none_batch number zero none = refl
+none_batch number (suc n) none = absurd (omega (arith, none))
+
+-- the line of the next event
+pub lines_next : (es : List Event) (i number : ℕ) (e : Event) (lines new line : List ℕ)
+    → i < length es → e ≡ get_or es i e → number ≡ i → AreLines 0 (take i es) lines
+    → IsEventLine (number + 1) e line → new ≡ lines ++ line → AreLines 0 (take (i + 1) es) new
+lines_next es i number e lines new line within is same each one made =
+    let counted : number + 1 ≡ 0 + length (take i es) + 1 =
+    omega (arith, same, within, length-take-le i es (omega (arith, within))) in
+    subst₂ (λ (xs : List Event) (ls : List ℕ). AreLines 0 xs ls)
+    (ap (λ (x : Event). take i es ++ x ∷ []) is ∙ sym (take_at_read es i e within).1) (sym made)
+    (lines_more 0 (number + 1) (take i es) e lines line counted each one)

@@ -9,5 +9,5 @@ returns-in_err-found-clause-err g c =
     c.from_residual-in_err-found.ensures.1 in
     rw (p.1, p.2)
     (list_refused (g.F.ReadFiles.may_read c.args.files.now) c.args.path.now c.as_slice.result.now
-    c.in_err-found.error (rw c.as_slice.ensures.value c.in_ok-bytes.ensures.ok)
+    _ (rw c.as_slice.ensures.value c.in_ok-bytes.ensures.ok)
     c.in_err-found.ensures.refused)
