@@ -209,7 +209,9 @@ serve_out : (o : Option (Text × List Row)) (rows : List Row)
     → (line : Line) → IsLineIn o line → ⊥
 serve_out o rows is none (Serve serving reading) h =
     let same : Some (codes "serve", rows) ≡ Some (codes "serve", h.rows) = sym is ∙ h.is in
-    let these : h.rows ≡ rows = cc in
+    let these : h.rows ≡ rows =
+    sym (ap (λ (o : Option (Text × List Row)).
+    unwrap_or (option_map (λ (p : Text × List Row). p.1) o) []) same) in
     none (Serve serving reading)
     (subst (λ (r : List Row). IsServeLine r serving reading) these h.line)
 serve_out o rows is none Demo h =
@@ -274,9 +276,9 @@ both_denied rows serving reading asked given some many (Serve other texts) h =
     given_both (λ (folder : Bor (List ℕ)). folder.now) other.folder _ h.asked.folder
     ∙ sym (given_both (λ (folder : Bor (List ℕ)). folder.now) serving.folder _ asked.folder) ∙ some in
     let same : length texts.directories.items ≡ length reading.directories.items =
-    sym (length-map (λ (d : Bor (List ℕ)). d.now) texts.directories.items)
+    sym (length-map texts.directories.items (λ (d : Bor (List ℕ)). d.now))
     ∙ (ap length (h.given.directories ∙ sym given.directories)
-    ∙ length-map (λ (d : Bor (List ℕ)). d.now) reading.directories.items) in
+    ∙ length-map reading.directories.items (λ (d : Bor (List ℕ)). d.now)) in
     not_one other texts folder (λ e. many (sym same ∙ e)) h.one
 both_denied rows serving reading asked given some many Demo h = h
 both_denied rows serving reading asked given some many (Check texts) h = h

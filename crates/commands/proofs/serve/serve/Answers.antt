@@ -33,15 +33,15 @@ returns-in-Some-clause-err g c =
     (g.W.Write.contents c.serve_data.new.out) c.in-Some.folder c.serve_data.result c.in-Some.is
     c.serve_data.ensures.err
 
-pub returns-in-None-clause-ok : goal.returns-in-None-clause-ok
-returns-in-None-clause-ok g c =
+pub returns-clause-ok : goal.returns-clause-ok
+returns-clause-ok g c =
     directories_told (g.F.ReadFiles.may_read c.args.files.now) (paths_of c.args.directories.now)
     c.args.serving (g.W.Write.contents c.args.out.now)
     (g.W.Write.contents c.serve_directories.new.out) c.serve_directories.result c.in-None.is
     c.serve_directories.ensures.ok
 
-pub returns-in-None-clause-err : goal.returns-in-None-clause-err
-returns-in-None-clause-err g c =
+pub returns-clause-err : goal.returns-clause-err
+returns-clause-err g c =
     directories_fault (g.F.ReadFiles.may_read c.args.files.now) (paths_of c.args.directories.now)
     c.args.serving (g.W.Write.contents c.args.out.now)
     (g.W.Write.contents c.serve_directories.new.out) c.serve_directories.result c.in-None.is
