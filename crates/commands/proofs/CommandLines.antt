@@ -1,9 +1,12 @@
 -- What the getters of `clap` say of the line that the words ask for.
 use Rattle.std.proofs.Common.{◌≡◌, ◌<◌, ◌^◌, ℕ, ℤ, true, false, List, Option, Some, None, refl, sym}
-use Rattle.std.proofs.Common.{ap, ap₂, subst, ◌∙◌, inl, inr, codes, [], length, length-map}
+use Rattle.std.proofs.Common.{ap, ap₂, subst, ◌∙◌, inl, inr, codes, [], ◌∷◌, length, arith}
+use Rattle.std.proofs.Common.{true≢false}
+use Rattle.std.proofs.lemmas.List.{length-map}
+use Rattle.std.proofs.lemmas.Bool.Decides.{nat_tests}
 use Rattle.std.specs.Borrow.{Bor}
 use Rattle.std.specs.Prelude.{option_map, unwrap_or, is_some, FitsSigned, Bool, not, ◌&&◌, ◌==◌}
-use Rattle.std.specs.Prelude.{suc, ◌⊎◌}
+use Rattle.std.specs.Prelude.{zero, suc, ◌⊎◌}
 use Rattle.std.specs.Int.{w64}
 use Rattle.std.specs.Str.Parse.{IsNumeral, without_leading_sign, signed_digits_value}
 use Rattle.std.specs.Str.Parse.{without_leading_plus, digits_value}
@@ -197,6 +200,10 @@ not_serve o name rows e other is =
     let same : Some (codes "serve") ≡ Some name = sym e ∙ name_is o name rows is in
     absurd (other (let n : codes "serve" ≡ name = cc in sym n))
 
+abbrev first_of_text : Text → ℕ
+first_of_text [] = 0
+first_of_text (letter ∷ letters) = letter
+
 serve_out : (o : Option (Text × List Row)) (rows : List Row)
     → o ≡ Some (codes "serve", rows) → ((line : Line) → IsServeIn rows line → ⊥)
     → (line : Line) → IsLineIn o line → ⊥
@@ -208,7 +215,8 @@ serve_out o rows is none (Serve serving reading) h =
 serve_out o rows is none Demo h =
     not_serve o (codes "demo") h.rows (name_is o (codes "serve") rows is) (λ e. cc) h.is
 serve_out o rows is none (Check reading) h =
-    not_serve o (codes "check") h.rows (name_is o (codes "serve") rows is) (λ e. cc) h.is
+    not_serve o (codes "check") h.rows (name_is o (codes "serve") rows is) (λ e.
+    let letters : 99 ≡ 115 = ap first_of_text e in absurd (omega (arith, letters))) h.is
 serve_out o rows is none (Select s reading) h =
     not_serve o (codes "select") h.rows (name_is o (codes "serve") rows is) (λ e. cc) h.is
 serve_out o rows is none (Journal path) h =
@@ -252,24 +260,24 @@ given_both : {A B : Type 0} (f : A → B) (o : Option A) (x : Option B) → opti
 given_both f None x e = ap is_some e
 given_both f (Some a) x e = ap is_some e
 
+not_one : (serving : Serving) (reading : Reading) → is_some serving.folder ≡ true
+    → (length reading.directories.items ≡ 0 → ⊥) → IsOneStore serving reading → ⊥
+not_one serving reading some many (inl none) = true≢false (sym some ∙ none)
+not_one serving reading some many (inr few) = many few
+
 -- no line of `serve` has directories beside a folder
 pub both_denied : (rows : List Row) (serving : Serving) (reading : Reading)
-    → IsServingIn rows serving → IsReadingIn rows reading → is_some serving.data ≡ true
+    → IsServingIn rows serving → IsReadingIn rows reading → is_some serving.folder ≡ true
     → (length reading.directories.items ≡ 0 → ⊥) → (line : Line) → IsServeIn rows line → ⊥
 both_denied rows serving reading asked given some many (Serve other texts) h =
-    let folder : is_some other.data ≡ true =
-    given_both (λ (folder : Bor (List ℕ)). folder.now) other.data _ h.asked.data
-    ∙ sym (given_both (λ (folder : Bor (List ℕ)). folder.now) serving.data _ asked.data) ∙ some in
+    let folder : is_some other.folder ≡ true =
+    given_both (λ (folder : Bor (List ℕ)). folder.now) other.folder _ h.asked.folder
+    ∙ sym (given_both (λ (folder : Bor (List ℕ)). folder.now) serving.folder _ asked.folder) ∙ some in
     let same : length texts.directories.items ≡ length reading.directories.items =
     sym (length-map (λ (d : Bor (List ℕ)). d.now) texts.directories.items)
     ∙ (ap length (h.given.directories ∙ sym given.directories)
     ∙ length-map (λ (d : Bor (List ℕ)). d.now) reading.directories.items) in
     not_one other texts folder (λ e. many (sym same ∙ e)) h.one
-  where
-    not_one : (other : Serving) (texts : Reading) → is_some other.data ≡ true
-        → (length texts.directories.items ≡ 0 → ⊥) → IsOneStore other texts → ⊥
-    not_one other texts some many (inl none) = let bad : true ≡ false = sym some ∙ none in cc
-    not_one other texts some many (inr few) = many few
 both_denied rows serving reading asked given some many Demo h = h
 both_denied rows serving reading asked given some many (Check texts) h = h
 both_denied rows serving reading asked given some many (Select s texts) h = h
@@ -278,15 +286,17 @@ both_denied rows serving reading asked given some many (Journal path) h = h
 -- whether directories stand beside a folder, by a test
 pub both_stand : (folder : Bool) (n : ℕ) → (folder && not (n == 0)) ≡ true
     → (folder ≡ true) × (n ≡ 0 → ⊥)
-both_stand false n e = let bad : false ≡ true = e in absurd cc
-both_stand true 0 e = let bad : false ≡ true = e in absurd cc
-both_stand true (suc n) e = (refl, λ none. let bad : suc n ≡ 0 = none in cc)
+both_stand false n e = absurd (true≢false (sym e))
+both_stand true zero e = absurd (true≢false (sym e))
+both_stand true (suc n) e = (refl, λ none. omega (arith, none))
 
 pub one_stands : (folder : Bool) (n : ℕ) → (folder && not (n == 0)) ≡ false
     → (folder ≡ false) ⊎ (n ≡ 0)
 one_stands false n e = inl refl
-one_stands true 0 e = inr refl
-one_stands true (suc n) e = let bad : true ≡ false = e in absurd cc
+one_stands true zero e = inr refl
+one_stands true (suc n) e =
+    let some : (suc n == 0) ≡ false = grind (arith, nat_tests) in
+    absurd (true≢false (sym (ap not some) ∙ e))
 
 -- none of the five is no line
 pub no_line : (o : Option (Text × List Row)) → (option_map (λ p. p.0) o ≡ Some (codes "demo") → ⊥)

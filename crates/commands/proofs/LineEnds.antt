@@ -49,9 +49,9 @@ none_begun reads directories old = record {
   checked = none_checked reads old;
 }
 
-memory_of : (data : Option (Bor (List ℕ))) (reads : Host) (directories : List (List ℕ))
+memory_of : (folder : Option (Bor (List ℕ))) (reads : Host) (directories : List (List ℕ))
     (serving : Serving) (old : Option (List ℕ))
-    → IsFaultOf data reads directories serving old old fault.Memory
+    → IsFaultOf folder reads directories serving old old fault.Memory
 memory_of None reads directories serving old = by_opening tt (keeps_itself old)
 memory_of (Some folder) reads directories serving old = by_folder tt (keeps_itself old)
 
@@ -61,7 +61,7 @@ memory_fault reads Demo old = (by_writing tt, keeps_itself old)
 memory_fault reads (Select s r) old = (by_selection tt, keeps_itself old)
 memory_fault reads (Check r) old = none_begun reads (paths_of r.directories.items) old
 memory_fault reads (Serve serving r) old =
-    by_store (memory_of serving.data reads (paths_of r.directories.items) serving old)
+    by_store (memory_of serving.folder reads (paths_of r.directories.items) serving old)
 memory_fault reads (Journal path) old = (tt, keeps_itself old)
 
 -- a line may end by want of memory before it begins

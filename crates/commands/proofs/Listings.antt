@@ -1,8 +1,24 @@
 -- The lines of a journal, put together.
-use Rattle.std.proofs.Common.{◌≡◌, ◌+◌, ℕ, List, [], ◌∷◌, ◌++◌, length, refl, sym, ap, subst, ◌∙◌}
-use Rattle.std.proofs.Common.{append_assoc, append-nil, arith}
+use Rattle.std.proofs.Common.{◌≡◌, ◌+◌, ℕ, List, [], ◌∷◌, ◌++◌, length, refl, sym, ap, ap₂, subst, ◌∙◌}
+use Rattle.std.proofs.Common.{append_assoc, append-nil, arith, ℤ, Result, Ok, Err, OnOk}
+use Rattle.std.proofs.Common.{◌<◌, take, get_or, subst₂}
+use Rattle.std.proofs.lemmas.Grind.{take_at_read}
+use Rattle.std.proofs.lemmas.List.{length-take-le}
+use Rattle.std.specs.Prelude.{zero, suc, is_ok, if◌then◌else◌}
 use Rattle.head.specs.Worlds.{Event}
-use Rattle.commands.specs.Listing.{IsEventLine, AreLines}
+use Rattle.event_journal.specs.Starting.{DeniesRead}
+use Rattle.event_journal.specs.declared.error.StartError.{StartError}
+use Rattle.event_journal.specs.declared.error.StartError.TheVariants as start
+use Rattle.commands.specs.Faults.{start_fault}
+use Rattle.commands.specs.Listing.{IsBatchLine, IsEventLine, AreLines, batch_line, IsFileAt}
+use Rattle.commands.specs.Listing.{IsListFault, IsUnreadJournal, batch_start, batch_end}
+use Rattle.commands.specs.Listing.{empty_batch_line}
+use Rattle.commands.specs.Reading.{Host}
+use Rattle.commands.specs.declared.fault.Fault.{Fault}
+use Rattle.commands.specs.declared.fault.Fault.TheVariants.{Words, Refused, CannotRead, CannotWrite}
+use Rattle.commands.specs.declared.fault.Fault.TheVariants.{CannotWriteAt, Locked}
+use Rattle.commands.specs.declared.fault.Fault.TheVariants.{CannotListen, NoListener, NoThread}
+use Rattle.commands.specs.declared.fault.Fault.TheVariants.{Memory}
 
 -- a line more
 pub lines_more : (n m : ℕ) (es : List Event) (e : Event) (lines line : List ℕ)
@@ -24,3 +40,94 @@ lines_more n m (x ∷ es) e lines line is each one =
       lines_more (n + 1) m es e each.1 line counted each.3 one,
       ap (λ (l : List ℕ). l ++ line) each.4 ∙ append_assoc each.0 each.1 line,
     )
+
+-- what is appended is a line, if it is appended
+pub line_added : {T E : Type 0} (r : Result T E) (P : List ℕ → Type 0)
+    (old new line bytes : List ℕ) → P line → bytes ≡ line → OnOk r (new ≡ old ++ bytes)
+    → OnOk r ((l : List ℕ) × P l × (new ≡ old ++ l))
+line_added (Ok x) P old new line bytes p is h =
+    (line, p, h ∙ ap (λ (b : List ℕ). old ++ b) is)
+line_added (Err e) P old new line bytes p is h = tt
+
+-- the line of a batch that has samples
+pub some_batch : (number count series : ℕ) (from to : ℤ) (line : List ℕ) → (count ≡ 0 → ⊥)
+    → line ≡ batch_line number count series from to → IsBatchLine number count line
+some_batch number zero series from to line some is = absurd (some refl)
+some_batch number (suc n) series from to line some is = (series, from, to, is)
+
+-- the line of an event that is known otherwise
+pub line_of_event : {T E : Type 0} (r : Result T E) (number : ℕ) (seen event : Event)
+    (old new : List ℕ) → seen ≡ event
+    → OnOk r ((l : List ℕ) × IsEventLine number seen l × (new ≡ old ++ l))
+    → OnOk r ((l : List ℕ) × IsEventLine number event l × (new ≡ old ++ l))
+line_of_event (Ok x) number seen event old new is h =
+    (h.0, subst (λ (e : Event). IsEventLine number e h.0) is h.1, h.2)
+line_of_event (Err e) number seen event old new is h = tt
+
+-- the line of a batch that has samples, where it is appended
+pub batch_added : {T E : Type 0} (r : Result T E) (number count : ℕ) (old new : List ℕ)
+    → (count ≡ 0 → ⊥)
+    → OnOk r ((series : ℕ) × (from : ℤ) × (to : ℤ)
+    × (new ≡ old ++ batch_line number count series from to))
+    → OnOk r ((l : List ℕ) × IsBatchLine number count l × (new ≡ old ++ l))
+batch_added (Ok x) number count old new some h = (
+  batch_line number count h.0 h.1 h.2,
+  some_batch number count h.0 h.1 h.2 (batch_line number count h.0 h.1 h.2) some refl,
+  h.3,
+)
+batch_added (Err e) number count old new some h = tt
+
+-- a journal that is refused
+pub list_refused : (reads : Host) (path file : List ℕ) (error : StartError)
+    → IsFileAt reads path file → DeniesRead file error → IsListFault reads path (start_fault error)
+list_refused reads path file start.Memory found h = tt
+list_refused reads path file (start.Journal error) found h = (file, found, h)
+list_refused reads path file (start.Event refused) found h = (file, found, h)
+list_refused reads path file (start.Step refused) found h = absurd h
+
+-- a journal that is not read
+pub list_unread : (reads : Host) (path : List ℕ) (fault : Fault)
+    → IsUnreadJournal reads path fault → IsListFault reads path fault
+list_unread reads path (CannotRead file) h = h
+list_unread reads path Memory h = tt
+list_unread reads path (Words error) h = absurd h
+list_unread reads path (Refused refusal) h = absurd h
+list_unread reads path CannotWrite h = absurd h
+list_unread reads path (CannotWriteAt at) h = absurd h
+list_unread reads path (Locked at holder) h = absurd h
+list_unread reads path (CannotListen port) h = absurd h
+list_unread reads path NoListener h = absurd h
+list_unread reads path NoThread h = absurd h
+
+-- the line of a batch, of its two parts
+pub parts_added : {T E : Type 0} (r : Result T E) (number count series : ℕ) (from to : ℤ)
+    (old mid new start end : List ℕ) → mid ≡ old ++ start
+    → start ≡ batch_start number count series → end ≡ batch_end from to
+    → new ≡ (if is_ok r then mid ++ end else mid)
+    → OnOk r ((series : ℕ) × (from : ℤ) × (to : ℤ)
+    × (new ≡ old ++ batch_line number count series from to))
+parts_added (Ok x) number count series from to old mid new start end is_mid is_start is_end h = (
+  series,
+  from,
+  to,
+  h ∙ (ap (λ (m : List ℕ). m ++ end) is_mid ∙ (append_assoc old start end
+      ∙ ap₂ (λ (s e : List ℕ). old ++ (s ++ e)) is_start is_end)),
+)
+parts_added (Err e) number count series from to old mid new start end is_mid is_start is_end h = tt
+
+-- the line of a batch without a sample
+pub none_batch : (number count : ℕ) → count ≡ 0
+    → IsBatchLine number count (empty_batch_line number)
+none_batch number zero none = refl
+none_batch number (suc n) none = absurd (omega (arith, none))
+
+-- the line of the next event
+pub lines_next : (es : List Event) (i number : ℕ) (e : Event) (lines new line : List ℕ)
+    → i < length es → e ≡ get_or es i e → number ≡ i → AreLines 0 (take i es) lines
+    → IsEventLine (number + 1) e line → new ≡ lines ++ line → AreLines 0 (take (i + 1) es) new
+lines_next es i number e lines new line within is same each one made =
+    let counted : number + 1 ≡ 0 + length (take i es) + 1 =
+    omega (arith, same, within, length-take-le i es (omega (arith, within))) in
+    subst₂ (λ (xs : List Event) (ls : List ℕ). AreLines 0 xs ls)
+    (ap (λ (x : Event). take i es ++ x ∷ []) is ∙ sym (take_at_read es i e within).1) (sym made)
+    (lines_more 0 (number + 1) (take i es) e lines line counted each one)

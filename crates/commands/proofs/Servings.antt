@@ -53,7 +53,7 @@ module _ {T : Type 0} (reads : Host) (directories : List (List ℕ)) (serving : 
     (old new : Option (List ℕ)) where
   -- of the options that name a folder
   pub folder_told : (folder : Bor (List ℕ)) (result : Result T Fault)
-      → serving.data ≡ Some folder → (rules : Rules) → AreRulesOf reads serving rules
+      → serving.folder ≡ Some folder → (rules : Rules) → AreRulesOf reads serving rules
       → OnOk result (TellsPort old new) → OnOk result (IsServing reads serving directories old new)
   folder_told folder (Ok x) is rules ruled told =
       subst (λ (d : Option (Bor (List ℕ))). TellsOf d reads serving directories old new) (sym is)
@@ -61,7 +61,7 @@ module _ {T : Type 0} (reads : Host) (directories : List (List ℕ)) (serving : 
   folder_told folder (Err e) is rules ruled told = tt
 
   pub folder_fault : (folder : Bor (List ℕ)) (result : Result T Fault)
-      → serving.data ≡ Some folder
+      → serving.folder ≡ Some folder
       → IfErr result (λ fault. IsKeepingFault folder.now serving old new fault)
       → IfErr result (λ fault. IsServeFault reads directories serving old new fault)
   folder_fault folder (Ok x) is h = tt
@@ -70,7 +70,7 @@ module _ {T : Type 0} (reads : Host) (directories : List (List ℕ)) (serving : 
       IsFaultOf d reads directories serving old new e) (sym is) h)
 
   -- of options that name none
-  pub directories_told : (result : Result T Fault) → serving.data ≡ None
+  pub directories_told : (result : Result T Fault) → serving.folder ≡ None
       → OnOk result (IsListening reads serving directories old new)
       → OnOk result (IsServing reads serving directories old new)
   directories_told (Ok x) is told =
@@ -78,7 +78,7 @@ module _ {T : Type 0} (reads : Host) (directories : List (List ℕ)) (serving : 
       told
   directories_told (Err e) is told = tt
 
-  pub directories_fault : (result : Result T Fault) → serving.data ≡ None
+  pub directories_fault : (result : Result T Fault) → serving.folder ≡ None
       → IfErr result (λ fault. IsDirectoriesFault reads directories serving old new fault)
       → IfErr result (λ fault. IsServeFault reads directories serving old new fault)
   directories_fault (Ok x) is h = tt

@@ -1,5 +1,5 @@
 -- What each fault ends the program with: its status, and the line that tells it.
-use Rattle.std.specs.Prelude.{ℕ, suc, List, [], ◌++◌, Option, None, Some, codes, decimal}
+use Rattle.std.specs.Prelude.{ℕ, List, [], ◌++◌, Option, None, Some, codes, decimal}
 use Rattle.std.specs.Prelude.{string_bytes}
 use Rattle.std.specs.Fmt.{with_newline}
 use Rattle.labels.specs.Errors.{code_of}
@@ -106,9 +106,9 @@ status_of NoThread = 3
 status_of Memory = 4
 
 -- the number of the process that has a folder, if it is known
-abbrev pub holder_text : ℕ → List ℕ
-holder_text 0 = []
-holder_text (suc n) = codes " (" ++ decimal (suc n) ++ codes ")"
+abbrev pub holder_text : Option ℕ → List ℕ
+holder_text None = []
+holder_text (Some n) = codes " (" ++ (decimal n ++ codes ")")
 
 -- what is told of the fault, for people; the text of the words is `clap`'s own
 abbrev pub fault_text : Fault → Option (List ℕ)
@@ -118,8 +118,8 @@ fault_text (CannotRead path) = Some (codes "cannot read " ++ string_bytes path)
 fault_text CannotWrite = Some (codes "cannot write")
 fault_text (CannotWriteAt path) = Some (codes "cannot write " ++ string_bytes path)
 fault_text (Locked folder holder) =
-    Some (codes "cannot lock " ++ string_bytes folder ++ codes ": another process has it"
-    ++ holder_text holder)
+    Some (codes "cannot lock " ++ (string_bytes folder ++ (codes ": another process has it"
+    ++ holder_text holder)))
 fault_text (CannotListen port) = Some (codes "cannot listen on 127.0.0.1:" ++ decimal port)
 fault_text NoListener = Some (codes "there is no listener any more")
 fault_text NoThread = Some (codes "cannot make a thread")

@@ -1,8 +1,8 @@
 -- What `journal` lists of a journal.
-use Rattle.std.specs.Prelude.{◌≡◌, ◌⊎◌, ℕ, suc, ◌+◌, ◌-◌, ℤ, List, [], ◌∷◌, ◌++◌, Option, None}
+use Rattle.std.specs.Prelude.{◌≡◌, ◌⊎◌, ℕ, zero, suc, ◌+◌, ◌-◌, ℤ, List, [], ◌∷◌, ◌++◌, Option, None}
 use Rattle.std.specs.Prelude.{length}
 use Rattle.std.specs.Prelude.{codes, decimal, string_bytes}
-use Rattle.core.specs.Fmt.{signed_decimal}
+use Rattle.std.specs.Fmt.{signed_decimal}
 use Rattle.std.specs.Io.KnownBytes.{Appends}
 use Rattle.matchers.specs.Grammar.{op_text, written}
 use Rattle.matchers.specs.Views.{MatcherView}
@@ -36,11 +36,17 @@ abbrev pub matchers_text : List MatcherView → List ℕ
 matchers_text ms = 123 ∷ (inner_text ms ++ 125 ∷ [])
 
 -- the line of a batch: how many samples it has, of how many series, from a time to a time
-abbrev pub batch_line : ℕ → ℕ → ℕ → ℤ → ℤ → List ℕ
-batch_line number count series from to =
+abbrev pub batch_start : ℕ → ℕ → ℕ → List ℕ
+batch_start number count series =
     decimal number ++ (codes " batch " ++ (decimal count ++ (codes " samples of "
-    ++ (decimal series ++ (codes " series, " ++ (signed_decimal from ++ (codes " to "
-    ++ (signed_decimal to ++ codes "\n"))))))))
+    ++ (decimal series ++ codes " series, "))))
+
+abbrev pub batch_end : ℤ → ℤ → List ℕ
+batch_end from to =
+    signed_decimal from ++ (codes " to " ++ (signed_decimal to ++ codes "\n"))
+
+abbrev pub batch_line : ℕ → ℕ → ℕ → ℤ → ℤ → List ℕ
+batch_line number count series from to = batch_start number count series ++ batch_end from to
 
 -- the line of a batch without a sample
 abbrev pub empty_batch_line : ℕ → List ℕ
@@ -48,7 +54,7 @@ empty_batch_line number = decimal number ++ codes " batch 0 samples\n"
 
 -- the line of a batch of so many samples
 abbrev pub IsBatchLine : ℕ → ℕ → List ℕ → Type 0
-IsBatchLine number 0 line = line ≡ empty_batch_line number
+IsBatchLine number zero line = line ≡ empty_batch_line number
 IsBatchLine number (suc n) line =
     (series : ℕ) × (from : ℤ) × (to : ℤ) × (line ≡ batch_line number (suc n) series from to)
 

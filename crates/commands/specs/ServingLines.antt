@@ -1,7 +1,7 @@
 -- The command line of `serve`.
 use Rattle.std.specs.Prelude.{◌≡◌, ◌⊎◌, ℕ, ◌<◌, ◌^◌, List, [], length, Option, None, Some, true}
 use Rattle.std.specs.Prelude.{codes}
-use Rattle.std.specs.Prelude.{Bool, false, is_some, map, option_map, unwrap_or}
+use Rattle.std.specs.Prelude.{Bool, false, not, ◌&&◌, ◌==◌, is_some, map, option_map, unwrap_or}
 use Rattle.std.specs.Str.Parse.{IsNumeral, without_leading_plus, digits_value}
 use Rattle.clap.specs.Words.{App, Row, Rule, Text, new_app, new_rule, with_rule, one_of}
 use Rattle.clap.specs.Words.{first_of, all_of}
@@ -80,7 +80,7 @@ pub record IsServingIn (rows : List Row) (serving : Serving) : Type 0 where
   pub status_port : IsCountIn (one_of (codes "status-port") rows) 0 serving.status_port
   pub read_only : IsFlagIn (one_of (codes "read-only") rows) serving.read_only
   pub guard : option_map (λ file. file.now) serving.guard ≡ first_of (codes "guard") rows
-  pub data : option_map (λ folder. folder.now) serving.data ≡ first_of (codes "data") rows
+  pub folder : option_map (λ folder. folder.now) serving.folder ≡ first_of (codes "data") rows
 
 -- the directories that arguments name, and whether they are read quietly
 pub record IsReadingIn (rows : List Row) (reading : Reading) : Type 0 where
@@ -88,10 +88,15 @@ pub record IsReadingIn (rows : List Row) (reading : Reading) : Type 0 where
       ≡ unwrap_or (all_of (codes "directories") rows) []
   pub quiet : IsFlagIn (one_of (codes "quiet") rows) reading.quiet
 
+-- directories stand beside the folder of a store
+abbrev pub has_both : Serving → Reading → Bool
+has_both serving reading =
+    is_some serving.folder && not (length reading.directories.items == 0)
+
 -- no directories stand beside the folder of a store
 abbrev pub IsOneStore : Serving → Reading → Type 0
 IsOneStore serving reading =
-    (is_some serving.data ≡ false) ⊎ (length reading.directories.items ≡ 0)
+    (is_some serving.folder ≡ false) ⊎ (length reading.directories.items ≡ 0)
 
 -- arguments of `serve` ask for it to be served so, with this reading
 pub record IsServeLine (rows : List Row) (serving : Serving) (reading : Reading) : Type 0 where

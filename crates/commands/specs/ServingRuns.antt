@@ -57,7 +57,7 @@ TellsOf (Some folder) reads serving directories old new = IsKeeping reads servin
 
 -- what was told of the store that the options ask for
 abbrev pub IsServing : Host → Serving → List (List ℕ) → Option (List ℕ) → Option (List ℕ) → Type 0
-IsServing reads serving directories old new = TellsOf serving.data reads serving directories old new
+IsServing reads serving directories old new = TellsOf serving.folder reads serving directories old new
 
 -- how many passes there are: one for each worker, and one for those that watch
 abbrev pub passes_of : Serving → ℕ
@@ -129,5 +129,5 @@ pub data IsServeFault (reads : Host) (directories : List (List ℕ)) (serving : 
       → IsServeFault reads directories serving old new fault
   by_watch : IsWatchFault serving fault → KeepsAt fault old new
       → IsServeFault reads directories serving old new fault
-  by_store : IsFaultOf serving.data reads directories serving old new fault
+  by_store : IsFaultOf serving.folder reads directories serving old new fault
       → IsServeFault reads directories serving old new fault

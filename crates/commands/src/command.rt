@@ -1,11 +1,10 @@
 //! The command line.
 
-ghost use Rattle.std.specs.Prelude.{◌≡◌, ◌⊎◌, ◌&&◌, ◌==◌, false, not, is_some, [], length, codes};
-ghost use Rattle.std.specs.Prelude.{map, option_map, unwrap_or};
+ghost use Rattle.std.specs.Prelude.{◌≡◌, ◌⊎◌, false, [], codes, map, option_map, unwrap_or};
 ghost use Rattle.std.specs.Prelude.{IfOk, IfErr, IsOkAnd};
 ghost use Rattle.commands.specs.ServingLines.{count_rule, port_rule, flag_rule, text_rule};
 ghost use Rattle.commands.specs.ServingLines.{counts_app, serve_app, IsCountIn, IsFlagIn};
-ghost use Rattle.commands.specs.ServingLines.{IsServingIn, IsReadingIn, IsFoundServe};
+ghost use Rattle.commands.specs.ServingLines.{IsServingIn, IsReadingIn, IsFoundServe, has_both};
 ghost use Rattle.commands.specs.Running.{IsTaken};
 ghost use Rattle.clap.specs.Values.{kind_of};
 ghost use Rattle.clap.specs.Matches.{found_of};
@@ -53,7 +52,7 @@ pub struct Serving<'a> {
     /// The file with the token of each `POST`, if requests are guarded.
     pub guard: Option<&'a str>,
     /// The folder in which the store is kept, if it is; then there are no directories.
-    pub data: Option<&'a str>,
+    pub folder: Option<&'a str>,
 }
 
 /// What is read, as it was written.
@@ -501,7 +500,7 @@ fn serving_in<'a>(found: &ArgMatches<'a>) -> Serving<'a>
         status_port,
         read_only: flag_in(found, "read-only"),
         guard: given_in(found, "guard"),
-        data: given_in(found, "data"),
+        folder: given_in(found, "data"),
     }
 }
 
@@ -526,10 +525,9 @@ fn reading_in<'a>(alloc: Global, found: &ArgMatches<'a>) -> Result<Reading<'a>, 
 
 /// Whether directories stand beside the folder of a store.
 fn has_both(serving: Serving<'_>, reading: &Reading<'_>) -> bool
-    ensures { result
-        ≡ (is_some serving.entry.data && not (length reading.now.directories.items == 0)) }
+    ensures { result ≡ has_both serving.entry reading.now }
 {
-    serving.data.is_some() && !reading.directories.is_empty()
+    serving.folder.is_some() && !reading.directories.is_empty()
 }
 
 /// What `serve` asks for; none where directories stand beside the folder of a store.

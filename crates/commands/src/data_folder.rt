@@ -46,8 +46,8 @@ pub(crate) struct DataFolder {
 /// Why a folder is not locked.
 #[derive(Clone, Copy, Debug, PartialEq, Eq, Drop)]
 enum LockError {
-    /// The process with this number has it; 0 if the number is not known.
-    Held(u64),
+    /// The process with this number has it, if the number is known.
+    Held(Option<u64>),
     /// The lock file can't be opened.
     Failed,
 }
@@ -115,13 +115,16 @@ fn make_folder(host: &HostRuntime, folder: &str) -> io::Result<()> {
     sync_folder(host, parent_of(folder))
 }
 
-/// The number of the process that a lock file names; 0 if it names none.
-fn holder_in(file: &File) -> u64 {
+/// The number of the process that a lock file names, if it names one.
+fn holder_in(file: &File) -> Option<u64> {
     let mut text = [0u8; 20];
     let mut reader = file;
-    match reader.read(&mut text) {
-        Ok(_) => number_in(&text),
-        Err(_) => 0,
+    if reader.read(&mut text).is_err() {
+        return None;
+    }
+    match number_in(&text) {
+        0 => None,
+        number => Some(number),
     }
 }
 
@@ -260,9 +263,9 @@ pub(crate) fn open_folder(
     host: &HostRuntime,
     folder: &str,
 ) -> Result<DataFolder, Fault>
-    ensures sound { IfOk result (λ data. file_sound data.medium ≡ true) }
-    ensures path { IfOk result (λ data.
-        string_bytes data.path ≡ path_in folder.now (codes "journal")) }
+    ensures sound { IfOk result (λ opened. file_sound opened.medium ≡ true) }
+    ensures path { IfOk result (λ opened.
+        string_bytes opened.path ≡ path_in folder.now (codes "journal")) }
     ensures err { IfErr result (IsFolderFault folder.now) }
 {
     let paths = paths_in(alloc, folder)?;

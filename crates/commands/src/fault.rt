@@ -104,8 +104,8 @@ pub enum Fault {
     CannotWrite,
     /// What stands at this path cannot be written.
     CannotWriteAt(String),
-    /// Another process has locked this folder: the one with this number, if it is not 0.
-    Locked(String, u64),
+    /// Another process has locked this folder: the one with this number, if it is known.
+    Locked(String, Option<u64>),
     /// This port of 127.0.0.1 cannot be listened on.
     CannotListen(u64),
     /// The listener of a server is gone.
@@ -158,10 +158,10 @@ impl fmt::Display for Fault {
             Fault::CannotRead(path) => write!(f, "cannot read {path}"),
             Fault::CannotWrite => write!(f, "cannot write"),
             Fault::CannotWriteAt(path) => write!(f, "cannot write {path}"),
-            Fault::Locked(folder, 0) => {
+            Fault::Locked(folder, None) => {
                 write!(f, "cannot lock {folder}: another process has it")
             }
-            Fault::Locked(folder, holder) => {
+            Fault::Locked(folder, Some(holder)) => {
                 write!(f, "cannot lock {folder}: another process has it ({holder})")
             }
             Fault::CannotListen(port) => write!(f, "cannot listen on 127.0.0.1:{port}"),

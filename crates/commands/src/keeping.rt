@@ -148,10 +148,10 @@ fn tell_opened<R: Eprint, M: Medium + Drop>(
 }
 
 /// The store of a journal that was read in its folder.
-fn store_in<R: Eprint>(rt: &R, alloc: Global, data: DataFolder) -> Result<OpenData, Fault>
-    requires { file_sound data.medium ≡ true }
-    ensures kept { IfOk result (λ open. IsKeptInFile data.bytes.items open.store) }
-    ensures err { IfErr result (IsStoreFault data.bytes.items (string_bytes data.path)) }
+fn store_in<R: Eprint>(rt: &R, alloc: Global, folder: DataFolder) -> Result<OpenData, Fault>
+    requires { file_sound folder.medium ≡ true }
+    ensures kept { IfOk result (λ opened. IsKeptInFile folder.bytes.items opened.store) }
+    ensures err { IfErr result (IsStoreFault folder.bytes.items (string_bytes folder.path)) }
 {
     let DataFolder {
         lock,
@@ -159,7 +159,7 @@ fn store_in<R: Eprint>(rt: &R, alloc: Global, data: DataFolder) -> Result<OpenDa
         bytes,
         path,
         is_new,
-    } = data;
+    } = folder;
     match resume_store(alloc, medium, bytes.as_slice()) {
         Ok(store) => {
             tell_opened(rt, path.as_str(), is_new, &store);
@@ -177,7 +177,7 @@ fn open_data<R: Eprint, F: ReadFiles>(
     files: &F,
     folder: &str,
 ) -> Result<OpenData, Fault>
-    ensures kept { IfOk result (λ open. IsKeptInSome open.store) }
+    ensures kept { IfOk result (λ opened. IsKeptInSome opened.store) }
     ensures err { IfErr result (IsDataFault folder.now) }
 {
     let Some(host) = files.host() else {
@@ -195,7 +195,7 @@ fn open_watched<R: Threads + Clock + Eprint + Sync, F: ReadFiles>(
     folder: &str,
     listener: &TcpListener,
 ) -> Result<OpenData, Fault>
-    ensures kept { IfOk result (λ open. IsKeptInSome open.store) }
+    ensures kept { IfOk result (λ opened. IsKeptInSome opened.store) }
     ensures err { IfErr result (IsDataFault folder.now) }
 {
     let process = Process { alloc, files };
@@ -205,7 +205,7 @@ fn open_watched<R: Threads + Clock + Eprint + Sync, F: ReadFiles>(
     let apart = || report_opening(rt, alloc, watch, ended);
     let here = || -> Result<OpenData, Fault>
         requires { IsSync R.row × IsSync F.row }
-        ensures kept { IfOk result (λ open. IsKeptInSome open.store) }
+        ensures kept { IfOk result (λ opened. IsKeptInSome opened.store) }
         ensures err { IfErr result (IsDataFault folder.entry.now) }
     {
         let opened = open_data(rt, alloc, files, folder);
@@ -224,7 +224,7 @@ fn open_beside<R: Threads + Clock + Eprint + Sync, F: ReadFiles>(
     folder: &str,
     beside: Option<&TcpListener>,
 ) -> Result<OpenData, Fault>
-    ensures kept { IfOk result (λ open. IsKeptInSome open.store) }
+    ensures kept { IfOk result (λ opened. IsKeptInSome opened.store) }
     ensures err { IfErr result (IsDataFault folder.now) }
 {
     match beside {

@@ -5,7 +5,8 @@ ghost use Rattle.std.specs.Prelude.{string_bytes};
 ghost use Rattle.std.specs.Io.KnownBytes.{Appends};
 ghost use Rattle.matchers.specs.Grammar.{op_text, written};
 ghost use Rattle.commands.specs.Listing.{matcher_text, matchers_text, IsBatchLine, IsEventLine};
-ghost use Rattle.commands.specs.Listing.{batch_line, empty_batch_line, deletion_start};
+ghost use Rattle.commands.specs.Listing.{batch_start, batch_end, batch_line};
+ghost use Rattle.commands.specs.Listing.{empty_batch_line, deletion_start};
 ghost use Rattle.commands.specs.Listing.{deletion_end, deletion_line, cut_line};
 ghost use Rattle.commands.specs.Listing.{AreLines, summary_line, IsListed, IsListFault, IsFileAt};
 ghost use Rattle.commands.specs.Listing.{IsUnreadFile, IsUnreadJournal};
@@ -133,19 +134,41 @@ fn times_of(samples: &[(LabelSet, Sample)]) -> (i64, i64) {
     (from, to)
 }
 
-/// The line of a batch with samples.
-fn batch_line(
+/// From when to when the samples of a batch are, and the end of its line.
+fn batch_end(alloc: Global, from: i64, to: i64) -> Result<String, AllocError>
+    ensures { IfOk result (λ end. string_bytes end ≡ batch_end from to) }
+{
+    format!(in alloc; "{from} to {to}\n")
+}
+
+/// How many samples of how many series a batch has, and the start of its line.
+fn batch_start(
     alloc: Global,
     number: usize,
-    samples: &[(LabelSet, Sample)],
+    count: usize,
+    series: usize,
 ) -> Result<String, AllocError>
-    ensures { IfOk result (λ line. (series : ℕ) × (from : ℤ) × (to : ℤ)
-        × (string_bytes line ≡ batch_line number (length samples.now) series from to)) }
+    ensures { IfOk result (λ start. string_bytes start ≡ batch_start number count series) }
 {
-    let count = samples.len();
+    format!(in alloc; "{number} batch {count} samples of {series} series, ")
+}
+
+/// Appends the line of a batch with samples.
+fn append_batch_line(
+    alloc: Global,
+    out: &mut Vec<u8>,
+    number: usize,
+    samples: &[(LabelSet, Sample)],
+) -> Result<(), AllocError>
+    ensures { OnOk result ((series : ℕ) × (from : ℤ) × (to : ℤ) × (out.new.items
+        ≡ out.old.items ++ batch_line number (length samples.now) series from to)) }
+{
     let series = series_count(alloc, samples)?;
     let (from, to) = times_of(samples);
-    format!(in alloc; "{number} batch {count} samples of {series} series, {from} to {to}\n")
+    let start = batch_start(alloc, number, samples.len(), series)?;
+    let end = batch_end(alloc, from, to)?;
+    out.extend_from_slice(start.as_bytes())?;
+    out.extend_from_slice(end.as_bytes())
 }
 
 /// The line of a batch without a sample.
@@ -169,8 +192,7 @@ fn append_batch(
         let line = empty_batch_line(alloc, number)?;
         return out.extend_from_slice(line.as_bytes());
     }
-    let line = batch_line(alloc, number, samples)?;
-    out.extend_from_slice(line.as_bytes())
+    append_batch_line(alloc, out, number, samples)
 }
 
 /// What stands before the matchers in the line of a deletion.
@@ -195,7 +217,7 @@ fn append_deletion(
     asked: (&[Matcher], i64, i64),
 ) -> Result<(), AllocError>
     ensures { OnOk result (out.new.items
-        ≡ out.old.items ++ deletion_line number asked.entry.0.now asked.1 asked.2) }
+        ≡ out.old.items ++ deletion_line number asked.entry.0.now asked.entry.1 asked.entry.2) }
 {
     let (matchers, from, to) = asked;
     let start = deletion_start(alloc, number)?;

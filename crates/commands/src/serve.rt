@@ -366,7 +366,7 @@ pub fn serve<
     let rules = rules_of(alloc, files, serving)?;
     let listener = listen_beside(rt, serving)?;
     let beside = listener.as_ref();
-    match serving.data {
+    match serving.folder {
         Some(folder) => serve_data(rt, alloc, files, folder, &rules, beside, serving, out),
         None => serve_directories(rt, alloc, files, directories, &rules, beside, serving, out),
     }

@@ -9,7 +9,7 @@ returns-then-has_both c =
     let serving = c.serving_in-serving.result in
     let reading = c.in_ok-reading.reading in
     let both =
-    both_stand (is_some serving.data) (length reading.directories.items)
+    both_stand (is_some serving.folder) (length reading.directories.items)
     (sym c.has_both.ensures ∙ c.if-has_both.true) in
     both_denied (rows_of (found_of c.args.found.now)) serving reading c.serving_in-serving.ensures
     c.in_ok-reading.ensures both.0 both.1
@@ -22,6 +22,6 @@ returns c =
       asked = c.serving_in-serving.ensures;
       given = c.in_ok-reading.ensures;
       one =
-          one_stands (is_some serving.data) (length reading.directories.items)
+          one_stands (is_some serving.folder) (length reading.directories.items)
           (sym c.has_both.ensures ∙ c.if-has_both.false);
     }
