@@ -312,7 +312,7 @@ class Server:
         if lines is self.told_out:
             self.listens.set()
 
-    def wait(self, seconds=120):
+    def wait(self, seconds=600):
         """Waits until it listens, or has ended; whether it listens."""
         if not self.listens.wait(seconds):
             raise AssertionError(f"no line of the server in {seconds} s")
