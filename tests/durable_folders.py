@@ -23,7 +23,7 @@ def one_server(looks, querier, work):
     held = tree(folder)
     other = Server(querier, "--data", folder)
     other.wait()
-    looks.at("a second server", (3, f"cannot lock {folder}: another process has it ({server.process.pid})"),
+    looks.at("a second server", (3, f"cannot lock {folder}: another process has it (see the file lock there)"),
              (other.end(), other.told))
     looks.at("what the second one changed", held, tree(folder))
     status, out, _ = run([querier, "journal", folder])

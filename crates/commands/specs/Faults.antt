@@ -105,12 +105,6 @@ status_of NoListener = 3
 status_of NoThread = 3
 status_of Memory = 4
 
--- that another process has a folder, and its number, if it is known
-abbrev pub locked_text : List ℕ → Option ℕ → List ℕ
-locked_text folder None = codes "cannot lock " ++ folder ++ codes ": another process has it"
-locked_text folder (Some n) =
-    codes "cannot lock " ++ folder ++ codes ": another process has it (" ++ decimal n ++ codes ")"
-
 -- what is told of the fault, for people; the text of the words is `clap`'s own
 abbrev pub fault_text : Fault → Option (List ℕ)
 fault_text (Words error) = None
@@ -119,7 +113,8 @@ fault_text (CannotRead path) = Some (codes "cannot read " ++ string_bytes path)
 fault_text CannotWrite = Some (codes "cannot write")
 fault_text (CannotWriteAt path) = Some (codes "cannot write " ++ string_bytes path)
 fault_text (Locked folder holder) =
-    Some (locked_text (string_bytes folder) holder)
+    Some (codes "cannot lock " ++ string_bytes folder
+    ++ codes ": another process has it (see the file lock there)")
 fault_text (CannotListen port) = Some (codes "cannot listen on 127.0.0.1:" ++ decimal port)
 fault_text NoListener = Some (codes "there is no listener any more")
 fault_text NoThread = Some (codes "cannot make a thread")

@@ -158,11 +158,11 @@ impl fmt::Display for Fault {
             Fault::CannotRead(path) => write!(f, "cannot read {path}"),
             Fault::CannotWrite => write!(f, "cannot write"),
             Fault::CannotWriteAt(path) => write!(f, "cannot write {path}"),
-            Fault::Locked(folder, None) => {
-                write!(f, "cannot lock {folder}: another process has it")
-            }
-            Fault::Locked(folder, Some(holder)) => {
-                write!(f, "cannot lock {folder}: another process has it ({holder})")
+            Fault::Locked(folder, _) => {
+                write!(
+                    f,
+                    "cannot lock {folder}: another process has it (see the file lock there)"
+                )
             }
             Fault::CannotListen(port) => write!(f, "cannot listen on 127.0.0.1:{port}"),
             Fault::NoListener => write!(f, "there is no listener any more"),

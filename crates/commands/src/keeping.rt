@@ -276,8 +276,9 @@ fn serve_kept<
     let count = serving.workers as usize;
     let passes = passes_of(serving);
     let found = (snapshot, keeper);
-    let workers =
-        Workers::<J, &R, JournalKeeper<M>>::resume(rt, alloc, store, found, passes, count)?;
+    let workers = Workers::<J, &R, JournalKeeper<M>>::resume(
+        rt, alloc, store, found, passes, count,
+    )?;
     serve_workers(rt, alloc, files, workers, rules, beside, serving, out)
 }
 

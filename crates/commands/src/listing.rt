@@ -275,12 +275,7 @@ fn lines_of(alloc: Global, events: &[Event]) -> Result<Vec<u8>, AllocError>
 }
 
 /// The line that sums a journal up: how many events, in how many of its bytes.
-fn summary_line(
-    alloc: Global,
-    count: usize,
-    len: usize,
-    size: usize,
-) -> Result<String, AllocError>
+fn summary_line(alloc: Global, count: usize, len: usize, size: usize) -> Result<String, AllocError>
     ensures { IfOk result (λ line. string_bytes line ≡ summary_line count len size) }
 {
     let torn = size.saturating_sub(len);
