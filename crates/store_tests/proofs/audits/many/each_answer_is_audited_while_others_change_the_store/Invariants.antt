@@ -4,4 +4,4 @@ use Rattle.store_tests.proofs.audits.many.each_answer_is_audited_while_others_ch
 
 -- the store that was just made
 abbrev pub ghosts-accepted_by : goal.ghosts-accepted_by
-ghosts-accepted_by g a = record { book = a.store.seen.book; opening = opening_of [] }
+ghosts-accepted_by g a = record { book = a.store.seen.book; opening = opening_of []; before = [] }

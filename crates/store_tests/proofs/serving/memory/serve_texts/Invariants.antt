@@ -4,4 +4,4 @@ use Rattle.store_tests.proofs.serving.memory.serve_texts.Given as goal
 
 -- the store that was just opened
 abbrev pub ghosts-work_alone : goal.ghosts-work_alone
-ghosts-work_alone g a = record { book = a.store.seen.book; opening = opening_of [] }
+ghosts-work_alone g a = record { book = a.store.seen.book; opening = opening_of []; before = [] }
