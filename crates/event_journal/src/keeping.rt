@@ -37,6 +37,10 @@ impl<M: Medium + Drop> Keeper for JournalKeeper<M> {
 
     ghost closed = { λ k. k.journal.journal.closed };
 
+    ghost failed = { λ k. M.failed k.journal.journal.medium };
+
+    ghost full = { λ k. 2 ^ 62 < k.journal.journal.len };
+
     ghost moment = { λ k. M.moment k.journal.journal.medium };
 
     ghost found_since = { λ k t w. FoundSince M.left_since (world_of (opening_of []))
