@@ -1,4 +1,4 @@
-use Rattle.std.proofs.Common.{ℤ, ◌≡◌, List, refl, sym, ap, ◌∙◌, length, take, arith, rules, to_z, of_z, w64}
+use Rattle.std.proofs.Common.{ℤ, List, sym, ap, ◌∙◌, arith, rules, to_z, of_z, w64}
 use Rattle.std.specs.Int.{int_min, int_max}
 use Rattle.std.specs.List.{Contains, fold}
 use Rattle.std.proofs.lemmas.List.{take_all}
