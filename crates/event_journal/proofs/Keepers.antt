@@ -41,7 +41,7 @@ pub told_failed : {X Y A : Type 0} (e : JournalError) (k : KeepError) → k ≡ 
     → (refused {X = X} e ≡ Err journal.Medium → A) → A
 told_failed {X} {Y} e k is other told then =
     let same : k ≡ Failed = cc in
-    then (ap (λ (x : JournalError). refused {X = X} x) (only_medium e other (sym is ∙ same)))
+    then (ap (λ (x : JournalError). refused {X = X} x) (only_medium X e other (sym is ∙ same)))
 
 pub says_closed : {X Y : Type 0} (e : JournalError) (k : KeepError) → k ≡ keep_error e
     → refused {X = X} e ≡ Err journal.Closed → failed {X = Y} k ≡ Err Closed

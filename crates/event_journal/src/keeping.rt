@@ -1,6 +1,6 @@
 //! The events of a store, kept in a journal from the first one on.
 
-ghost use Rattle.std.specs.Prelude.{◌≡◌, ◌++◌, [], List, false, IfOk, MatchResult};
+ghost use Rattle.std.specs.Prelude.{◌≡◌, ◌<◌, ◌^◌, ◌++◌, [], List, false, IfOk, MatchResult};
 ghost use Rattle.head.specs.Worlds.{Event as Change};
 ghost use Rattle.journal.specs.Media.{HasAll, LeavesOnly};
 ghost use Rattle.event_journal.specs.Holding.{HasEvents, Holds, Stands};

@@ -80,13 +80,13 @@ only_size (journal.Checksum at) is = absurd cc
 only_size (journal.Length at) is = absurd cc
 
 -- of the refusals of what is to be kept, only that of a medium that failed says so
-pub only_medium : {X : Type 0} (e : JournalError) → IsOfKeeping {X = X} (Err e)
+pub only_medium : (X : Type 0) (e : JournalError) → IsOfKeeping {X = X} (Err e)
     → keep_error e ≡ Failed → e ≡ journal.Medium
-only_medium journal.Memory other is = absurd cc
-only_medium journal.Size other is = absurd cc
-only_medium journal.Closed other is = absurd cc
-only_medium journal.Medium other is = refl
-only_medium journal.Magic other is = absurd other
-only_medium journal.Version other is = absurd other
-only_medium (journal.Checksum at) other is = absurd other
-only_medium (journal.Length at) other is = absurd other
+only_medium X journal.Memory other is = absurd cc
+only_medium X journal.Size other is = absurd cc
+only_medium X journal.Closed other is = absurd cc
+only_medium X journal.Medium other is = refl
+only_medium X journal.Magic other is = absurd other
+only_medium X journal.Version other is = absurd other
+only_medium X (journal.Checksum at) other is = absurd other
+only_medium X (journal.Length at) other is = absurd other
