@@ -106,13 +106,19 @@ fn sync_folder(host: &HostRuntime, folder: &str) -> io::Result<()> {
     File::open(host, folder)?.sync_all()
 }
 
-/// Makes a folder where nothing stands, and syncs the one that it stands in, whoever made it: a
-/// start that made it may have ended before that.
+/// Makes a folder if nothing stands there, and syncs the one that it stands in, whoever made it: a
+/// start that made it may have ended before that. If it was there, nothing fails by that sync, since
+/// whoever may pass the folder above may not always open it.
 fn make_folder(host: &HostRuntime, folder: &str) -> io::Result<()> {
-    if !fs::exists(host, folder)? {
-        fs::create_dir(host, folder)?;
+    let stood = match fs::create_dir(host, folder) {
+        Ok(()) => false,
+        Err(error) if error.kind() == ErrorKind::AlreadyExists => true,
+        Err(error) => return Err(error),
+    };
+    match sync_folder(host, parent_of(folder)) {
+        Err(error) if !stood => Err(error),
+        _ => Ok(()),
     }
-    sync_folder(host, parent_of(folder))
 }
 
 /// The number of the process that a lock file names, if it names one.
