@@ -7,7 +7,7 @@ ghost use Rattle.journal.specs.Records.{file_of};
 ghost use Rattle.commands.specs.Keeping.{path_in, ArePathsIn, calls_of, IsFolderFault};
 ghost use Rattle.commands.specs.Keeping.{IsWriteFault, IsReadFault};
 
-use crate::fault::Fault;
+use crate::fault::{Fault, Holder};
 use crate::process::number_in;
 use block_folder::{Disk, DiskError, HostDisk};
 use journal::{FileMedium, JournalError, file_text};
@@ -46,8 +46,8 @@ pub(crate) struct DataFolder {
 /// Why a folder is not locked.
 #[derive(Clone, Copy, Debug, PartialEq, Eq, Drop)]
 enum LockError {
-    /// The process with this number has it, if the number is known.
-    Held(Option<u64>),
+    /// Another process has it.
+    Held(Holder),
     /// The lock file can't be opened.
     Failed,
 }
@@ -121,16 +121,16 @@ fn make_folder(host: &HostRuntime, folder: &str) -> io::Result<()> {
     }
 }
 
-/// The number of the process that a lock file names, if it names one.
-fn holder_in(file: &File) -> Option<u64> {
+/// The process that a lock file names, if it names one.
+fn holder_in(file: &File) -> Holder {
     let mut text = [0u8; 20];
     let mut reader = file;
     if reader.read(&mut text).is_err() {
-        return None;
+        return Holder::Another;
     }
     match number_in(&text) {
-        0 => None,
-        number => Some(number),
+        0 => Holder::Another,
+        number => Holder::Process(number),
     }
 }
 
