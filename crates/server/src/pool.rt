@@ -429,7 +429,9 @@ pub fn serve_watched<
     let seen = (spare.pop(), tallies, places.len() as u64);
     let over = AtomicBool::new(false);
     let (shared, ended) = (&committer, &over);
-    let apart = || watch_and_cut(rt, alloc, watch, ended, seen, shared, cutter);
+    let apart = ||
+        requires { IsSync R.row × IsSync M.row }
+    { watch_and_cut(rt, alloc, watch, ended, seen, shared, cutter) };
     let here = || -> Result<Vec<Shift<'_>>, ServeError>
         requires { IsSync R.row }
         ensures all { IfOk result (λ shifts. vec_len shifts ≡ vec_len places) }
