@@ -1,9 +1,12 @@
 -- What `journal` lists of a journal.
-use Rattle.std.specs.Prelude.{◌≡◌, ◌⊎◌, ℕ, zero, suc, ◌+◌, ◌-◌, ℤ, List, [], ◌∷◌, ◌++◌, Option, None}
-use Rattle.std.specs.Prelude.{length}
-use Rattle.std.specs.Prelude.{codes, decimal, string_bytes}
+use Rattle.std.specs.Prelude.{◌≡◌, ◌⊎◌, ℕ, ◌+◌, ◌-◌, ℤ, List, [], ◌∷◌, ◌++◌, Option, None, length}
+use Rattle.std.specs.Prelude.{codes, decimal, map, string_bytes}
 use Rattle.std.specs.Fmt.{signed_decimal}
+use Rattle.std.specs.Int.Signed.{◌≤ℤ◌}
 use Rattle.std.specs.Io.KnownBytes.{Appends}
+use Rattle.std.specs.List.{All, Contains}
+use Rattle.block_writer.specs.InUse.{HoldsEachOnce}
+use Rattle.labels.specs.Labels.{Labels, labels_cmp}
 use Rattle.matchers.specs.Grammar.{op_text, written}
 use Rattle.matchers.specs.Views.{MatcherView}
 use Rattle.head.specs.Worlds.{Event, batch, deletion, cut}
@@ -52,11 +55,28 @@ batch_line number count series from to = batch_start number count series ++ batc
 abbrev pub empty_batch_line : ℕ → List ℕ
 empty_batch_line number = decimal number ++ codes " batch 0 samples\n"
 
--- the line of a batch of so many samples
-abbrev pub IsBatchLine : ℕ → ℕ → List ℕ → Type 0
-IsBatchLine number zero line = line ≡ empty_batch_line number
-IsBatchLine number (suc n) line =
-    (series : ℕ) × (from : ℤ) × (to : ℤ) × (line ≡ batch_line number (suc n) series from to)
+-- how many label sets the samples have, each counted once
+abbrev pub IsSeriesCount : List (Labels × (ℤ × ℤ)) → ℕ → Type 0
+IsSeriesCount xs n =
+    (sets : List Labels) × HoldsEachOnce labels_cmp (map (λ (x : Labels × (ℤ × ℤ)). x.0) xs) sets
+    × (n ≡ length sets)
+
+abbrev pub times_in : List (Labels × (ℤ × ℤ)) → List ℤ
+times_in xs = map (λ (x : Labels × (ℤ × ℤ)). x.1.0) xs
+
+-- the least and the greatest time of the samples
+pub record IsSpan (xs : List (Labels × (ℤ × ℤ))) (from to : ℤ) : Type 0 where
+  pub least : All (λ t. from ≤ℤ t) (times_in xs)
+  pub greatest : All (λ t. t ≤ℤ to) (times_in xs)
+  pub first : Contains (times_in xs) from
+  pub last : Contains (times_in xs) to
+
+-- the line of a batch of these samples
+abbrev pub IsBatchLine : ℕ → List (Labels × (ℤ × ℤ)) → List ℕ → Type 0
+IsBatchLine number [] line = line ≡ empty_batch_line number
+IsBatchLine number (x ∷ xs) line =
+    (series : ℕ) × (from : ℤ) × (to : ℤ) × IsSeriesCount (x ∷ xs) series
+    × IsSpan (x ∷ xs) from to × (line ≡ batch_line number (length (x ∷ xs)) series from to)
 
 -- the line of a deletion: its matchers, from a time to a time
 abbrev pub deletion_start : ℕ → List ℕ
@@ -77,7 +97,7 @@ cut_line number at =
 
 -- the line of an event with its number
 abbrev pub IsEventLine : ℕ → Event → List ℕ → Type 0
-IsEventLine number (batch xs) line = IsBatchLine number (length xs) line
+IsEventLine number (batch xs) line = IsBatchLine number xs line
 IsEventLine number (deletion ms from to) line = line ≡ deletion_line number ms from to
 IsEventLine number (cut t) line = line ≡ cut_line number t
 

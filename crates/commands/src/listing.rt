@@ -1,10 +1,11 @@
 //! The lines of `journal`.
 
-ghost use Rattle.std.specs.Prelude.{◌≡◌, ℕ, ℤ, List, ◌++◌, IfOk, IfErr, OnOk, length};
+ghost use Rattle.std.specs.Prelude.{◌≡◌, ◌<◌, ℕ, ℤ, List, ◌++◌, IfOk, IfErr, OnOk, length};
 ghost use Rattle.std.specs.Prelude.{string_bytes};
 ghost use Rattle.std.specs.Io.KnownBytes.{Appends};
 ghost use Rattle.matchers.specs.Grammar.{op_text, written};
 ghost use Rattle.commands.specs.Listing.{matcher_text, matchers_text, IsBatchLine, IsEventLine};
+ghost use Rattle.commands.specs.Listing.{IsSeriesCount, IsSpan};
 ghost use Rattle.commands.specs.Listing.{batch_start, batch_end, batch_line};
 ghost use Rattle.commands.specs.Listing.{empty_batch_line, deletion_start};
 ghost use Rattle.commands.specs.Listing.{deletion_end, deletion_line, cut_line};
@@ -110,22 +111,25 @@ fn append_matchers(out: &mut Vec<u8>, matchers: &[Matcher]) -> Result<(), AllocE
 }
 
 /// How many series the samples are of.
-fn series_count(alloc: Global, samples: &[(LabelSet, Sample)]) -> Result<usize, AllocError> {
-    let mut all: Vec<&LabelSet> = Vec::new(alloc);
+fn series_count(alloc: Global, samples: &[(LabelSet, Sample)]) -> Result<usize, AllocError>
+    ensures { IfOk result (IsSeriesCount samples.now) }
+{
+    let mut all: Vec<&LabelSet> = Vec::with_capacity(alloc, samples.len())?;
     for sample in samples {
-        let labels = &sample.0;
-        if all.last() != Some(&labels) {
-            all.push(labels)?;
-        }
+        all.push(&sample.0)?;
     }
     all.sort_unstable();
     all.dedup();
     Ok(all.len())
 }
 
-/// The least and the greatest time of samples.
-fn times_of(samples: &[(LabelSet, Sample)]) -> (i64, i64) {
-    let (mut from, mut to) = (i64::MAX, i64::MIN);
+/// The least and the greatest time of samples, of which there are some.
+fn times_of(samples: &[(LabelSet, Sample)]) -> (i64, i64)
+    requires { 0 < length samples.now }
+    ensures { IsSpan samples.now result.0 result.1 }
+{
+    let first = samples[0].1.t();
+    let (mut from, mut to) = (first, first);
     for sample in samples {
         let t = sample.1.t();
         from = from.min(t);
@@ -160,7 +164,9 @@ fn append_batch_line(
     number: usize,
     samples: &[(LabelSet, Sample)],
 ) -> Result<(), AllocError>
-    ensures { OnOk result ((series : ℕ) × (from : ℤ) × (to : ℤ) × (out.new.items
+    requires { 0 < length samples.now }
+    ensures { OnOk result ((series : ℕ) × (from : ℤ) × (to : ℤ) × IsSeriesCount samples.now series
+        × IsSpan samples.now from to × (out.new.items
         ≡ out.old.items ++ batch_line number (length samples.now) series from to)) }
 {
     let series = series_count(alloc, samples)?;
@@ -185,7 +191,7 @@ fn append_batch(
     number: usize,
     samples: &[(LabelSet, Sample)],
 ) -> Result<(), AllocError>
-    ensures { OnOk result ((line : List ℕ) × IsBatchLine number (length samples.now) line
+    ensures { OnOk result ((line : List ℕ) × IsBatchLine number samples.now line
         × (out.new.items ≡ out.old.items ++ line)) }
 {
     if samples.is_empty() {

@@ -1,5 +1,5 @@
 -- An event is kept, and then published.
-use Rattle.std.proofs.Common.{◌≡◌, ℕ, zero, suc, Result, Ok, Err, Bool, true, List, [], ◌∷◌, ◌++◌, take, inl, inr, ⊎_elim, refl, sym, ap, subst, ◌∙◌, arith, append_assoc}
+use Rattle.std.proofs.Common.{◌≡◌, ◌⊎◌, ℕ, zero, suc, Result, Ok, Err, Bool, true, List, [], ◌∷◌, ◌++◌, take, inl, inr, ⊎_elim, refl, sym, ap, subst, ◌∙◌, arith, append_assoc}
 use Rattle.std.proofs.lemmas.List.{map_push}
 use Rattle.head.specs.Heads.{SnapshotParts, world_of}
 use Rattle.head.specs.Refusals.{Refusal}
@@ -43,6 +43,17 @@ of_keeping keep.Memory = tt
 of_keeping keep.TooLong = tt
 of_keeping keep.Failed = tt
 of_keeping keep.Closed = tt
+
+abbrev refused : {X : Type 0} → KeepError → Result X KeepError
+refused e = Err e
+
+-- the journal's refusal has the cause that the keeper's has
+pub hindered : {X A B C : Type 0} (e : KeepError) (r : CommitError) → r ≡ keep_refusal e → (refused {X = X} e ≡ Err keep.Closed → A)
+    → (refused {X = X} e ≡ Err keep.TooLong → B) → (refused {X = X} e ≡ Err keep.Failed → C) → r ≡ Journal → A ⊎ (B ⊎ C)
+hindered keep.Memory r is a b c same = absurd (let x : Memory ≡ Journal = sym is ∙ same in cc)
+hindered keep.TooLong r is a b c same = inr (inl (b refl))
+hindered keep.Failed r is a b c same = inr (inr (c refl))
+hindered keep.Closed r is a b c same = inl (a refl)
 
 pub of_store : (e : CommitError) → IsOfKeeping e → IsOfStore e
 of_store (OutOfBounds at) is = absurd is

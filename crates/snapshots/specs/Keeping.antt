@@ -44,6 +44,11 @@ keep_refusal keep.TooLong = Journal
 keep_refusal keep.Failed = Journal
 keep_refusal keep.Closed = Journal
 
+-- the keeper was closed before the call, or had no room, or could not write in it
+abbrev pub IsHindered : {K : Type 0} → (K → Bool) → (K → Type 0) → (K → Bool) → K → K → Type 0
+IsHindered closed full failed old new =
+    (closed old ≡ true) ⊎ (full old ⊎ (failed new ≡ true))
+
 -- the refusal is the journal's or memory's
 abbrev pub IsOfKeeping : CommitError → Type 0
 IsOfKeeping (OutOfBounds at) = ⊥

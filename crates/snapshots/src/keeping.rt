@@ -3,7 +3,8 @@
 ghost use Rattle.std.specs.Prelude.{◌≡◌, ◌++◌, ◌∷◌, [], List, false, IfOk, IfErr, OnOk, OnErr};
 ghost use Rattle.head.specs.Worlds.{Event};
 ghost use Rattle.keeper.specs.Finding.{FindsOnly, IsOfAllAndMore, IsOfAllAndSome};
-ghost use Rattle.snapshots.specs.Keeping.{keep_refusal, IsAtMost, IsOfKeeping, IsRecordFor};
+ghost use Rattle.snapshots.specs.Keeping.{keep_refusal, IsAtMost, IsHindered, IsOfKeeping};
+ghost use Rattle.snapshots.specs.Keeping.{IsRecordFor};
 
 use crate::change::Change;
 use head::CommitError;
@@ -63,6 +64,9 @@ pub fn keep<K: Keeper>(keeper: &mut K, bytes: &[u8]) -> Result<(), CommitError>
     ensures refused { IfErr result (λ e. IsOfKeeping e) }
     // One that keeps nothing refuses nothing.
     ensures needed { OnErr result (K.idle ≡ false) }
+    // `E8` has a cause: the keeper was closed before, or has no room, or could not write.
+    ensures cause { IfErr result (λ e. e ≡ CommitError.Journal
+        → IsHindered K.closed K.full K.failed keeper.old keeper.new) }
 {
     match keeper.keep(bytes) {
         Ok(()) => Ok(()),

@@ -6,7 +6,7 @@ ghost use Rattle.std.specs.Arc.{arc_value};
 ghost use Rattle.keeper.specs.Finding.{FindsOnly, IsOfAllAndMore, IsOfAllAndSome};
 ghost use Rattle.snapshots.specs.Marks.{accepted, list_of};
 ghost use Rattle.snapshots.specs.Grows.{Shows, MayFollow};
-ghost use Rattle.snapshots.specs.Keeping.{kept_of, IsOfKeeping, IsRecordFor};
+ghost use Rattle.snapshots.specs.Keeping.{kept_of, IsHindered, IsOfKeeping, IsRecordFor};
 ghost use Rattle.snapshots.specs.Replays.{IsAfter};
 ghost use Rattle.snapshots.specs.Tries.{entry_of};
 
@@ -82,6 +82,9 @@ pub fn publish_entry<J: Naming, R: Wait, C: Change, K: Keeper>(
         (λ _. press.new.desk.shown.value ≡ press.old.desk.shown.value) }
     ensures refused { IfErr result (λ e. IsOfKeeping e) }
     ensures journal { IfErr result (λ e. e ≡ CommitError.Journal → K.idle ≡ false) }
+    // `E8` has a cause.
+    ensures cause { IfErr result (λ e. e ≡ CommitError.Journal
+        → IsHindered K.closed K.full K.failed keeper.old keeper.new) }
 {
     log.add::<Tried<'_, C>, Tries, R>(rt, end, tried);
     let next = Version::of(snapshot, events, log);

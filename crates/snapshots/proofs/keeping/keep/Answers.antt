@@ -1,7 +1,7 @@
 use Rattle.keeper.specs.Finding.{IsOfAllAndMore, IsOfAllAndSome}
 use Rattle.keeper.proofs.Finds.{by_was, some_is_more}
 use Rattle.snapshots.specs.Keeping.{IsOfKeeping}
-use Rattle.snapshots.proofs.Keeps.{held_more, in_flight, last_more, of_keeping, spelled_by}
+use Rattle.snapshots.proofs.Keeps.{held_more, hindered, in_flight, last_more, of_keeping, spelled_by}
 use Rattle.std.proofs.Common.{sym, subst}
 use Rattle.snapshots.proofs.keeping.keep.Goals as goal
 
@@ -55,3 +55,7 @@ returns-in-Err-clause-in_flight g c events event held recorded opened =
 
 pub returns-in-Err-clause-refused : goal.returns-in-Err-clause-refused
 returns-in-Err-clause-refused g c = subst IsOfKeeping (sym c.refusal_of.ensures) (of_keeping c.in-Err.error)
+
+pub returns-in-Err-clause-cause : goal.returns-in-Err-clause-cause
+returns-in-Err-clause-cause g c =
+    hindered c.in-Err.error c.refusal_of.result c.refusal_of.ensures c.in-Err.ensures.told c.in-Err.ensures.full c.in-Err.ensures.failed
