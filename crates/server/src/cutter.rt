@@ -1,7 +1,5 @@
 //! Cuts that a server makes by itself.
 
-ghost use Rattle.std.specs.Prelude.{◌≡◌, ◌≤◌, ◌<◌, IfSome};
-
 use crate::sockets::micros_of;
 use crate::tally::Tally;
 use due_cuts::{awaited, due};
