@@ -1,11 +1,13 @@
 -- What logs accept.
-use Rattle.std.proofs.Common.{◌≡◌, ℕ, zero, suc, ◌+◌, ◌-◌, ◌≤◌, Bool, true, false, nat_le, MatchBool, List, [], ◌∷◌, ◌++◌, length, take, refl, ap, sym, ◌∙◌, subst, arith, append_assoc, length-append}
+use Rattle.std.proofs.Common.{◌≡◌, ℕ, zero, suc, ◌+◌, ◌-◌, ◌≤◌, ◌==◌, Bool, true, false, nat_le, MatchBool, List, [], ◌∷◌, ◌++◌, length, refl, ap, sym, ◌∙◌, subst, arith, append_assoc, length-append}
 use Rattle.std.proofs.lemmas.Bool.Decides.{nat_tests}
 use Rattle.std.proofs.lemmas.List.{append-nil}
 use mathlib.Core.List.{IsPrefix}
 use Rattle.snapshots.specs.declared.entry.Entry.{Entry}
 use Rattle.snapshots.specs.declared.entry.Mark.{Mark}
 use Rattle.snapshots.specs.declared.entry.Mark.TheVariants.{Try, Seal, Done, Void}
+use Rattle.snapshots.specs.Tallies.{IsTally}
+use Rattle.snapshots.specs.declared.tally.Tally.{Tally}
 use Rattle.snapshots.specs.Marks.{accepted_after, accepted, list_of, tried_of, voids_of}
 use Rattle.snapshots.proofs.Prefixes.{prefix_shorter, prefix_self, prefix_trans, prefix_whole, prefix_length}
 
@@ -258,6 +260,81 @@ none_sealed xs len = prefix_whole (accepted xs) (list_of xs) (accepted_begins xs
 pub same_accepted : (xs ys : List Mark) → IsPrefix xs ys → length (accepted xs) ≡ length (accepted ys)
     → accepted xs ≡ accepted ys
 same_accepted xs ys p len = prefix_whole (accepted xs) (accepted ys) (accepted_prefix xs ys p) (omega arith)
+
+-- by what the numbers say
+pub settled_when : (xs : List Mark) (b : Bool) → (length (tried_of xs) == length (accepted xs)) ≡ b
+    → MatchBool b (accepted xs ≡ tried_of xs) (Unit {0})
+settled_when xs true is = none_waits xs (grind (arith, nat_tests))
+settled_when xs false is = tt
+
+pub unsealed_when : (xs : List Mark) (b : Bool) → (length (list_of xs) == length (accepted xs)) ≡ b
+    → MatchBool b (accepted xs ≡ list_of xs) (Unit {0})
+unsealed_when xs true is = none_sealed xs (grind (arith, nat_tests))
+unsealed_when xs false is = tt
+
+pub accepts_when : (xs ys : List Mark) → IsPrefix xs ys → voids_of xs ≡ voids_of ys → (b : Bool)
+    → nat_le (length (tried_of xs)) (length (accepted ys)) ≡ b
+    → MatchBool b (IsPrefix (tried_of xs) (accepted ys)) (Unit {0})
+accepts_when xs ys p same true is = tried_accepted xs ys p same (grind (arith, nat_tests))
+accepts_when xs ys p same false is = tt
+
+pub lists_when : (xs ys : List Mark) → IsPrefix xs ys → voids_of xs ≡ voids_of ys → (b : Bool)
+    → (length (list_of ys) == length (tried_of xs)) ≡ b
+    → MatchBool b (list_of ys ≡ tried_of xs) (Unit {0})
+lists_when xs ys p same true is = list_tried xs ys p same (grind (arith, nat_tests))
+lists_when xs ys p same false is = tt
+
+pub accepts_as_when : (xs ys : List Mark) → IsPrefix xs ys → (b : Bool)
+    → (length (accepted xs) == length (accepted ys)) ≡ b
+    → MatchBool b (accepted xs ≡ accepted ys) (Unit {0})
+accepts_as_when xs ys p true is = same_accepted xs ys p (grind (arith, nat_tests))
+accepts_as_when xs ys p false is = tt
+
+-- the numbers after one mark more
+
+pub tally_nothing : (a l t v : ℕ) → a ≡ 0 → l ≡ 0 → t ≡ 0 → v ≡ 0
+    → IsTally (record { accepted = a; listed = l; tried = t; voids = v }) []
+tally_nothing a l t v ea el et ev = record { accepted = ea; listed = el; tried = et; voids = ev }
+
+pub tally_try : (old new : Tally) (xs : List Mark) (e : Entry) → IsTally old xs
+    → new.accepted ≡ old.accepted → new.listed ≡ old.listed → new.tried ≡ old.tried + 1 → new.voids ≡ old.voids
+    → IsTally new (xs ++ Try e ∷ [])
+tally_try old new xs e is ea el et ev = record {
+  accepted = ea ∙ (is.accepted ∙ sym (ap length (accepted_try xs e)));
+  listed = el ∙ (is.listed ∙ sym (ap length (list_try xs e)));
+  tried = omega (arith, et, is.tried, ap length (tried_try xs e), length-append (tried_of xs) (e ∷ []));
+  voids = omega (arith, ev, is.voids, voids_append xs (Try e ∷ []));
+}
+
+pub tally_seal : (old new : Tally) (xs : List Mark) → IsTally old xs
+    → new.accepted ≡ old.accepted → new.listed ≡ old.tried → new.tried ≡ old.tried → new.voids ≡ old.voids
+    → IsTally new (xs ++ Seal ∷ [])
+tally_seal old new xs is ea el et ev = record {
+  accepted = ea ∙ (is.accepted ∙ sym (ap length (accepted_seal xs)));
+  listed = el ∙ (is.tried ∙ sym (ap length (list_seal xs)));
+  tried = et ∙ (is.tried ∙ sym (ap length (tried_seal xs)));
+  voids = omega (arith, ev, is.voids, voids_append xs (Seal ∷ []));
+}
+
+pub tally_done : (old new : Tally) (xs : List Mark) → IsTally old xs
+    → new.accepted ≡ old.listed → new.listed ≡ old.listed → new.tried ≡ old.tried → new.voids ≡ old.voids
+    → IsTally new (xs ++ Done ∷ [])
+tally_done old new xs is ea el et ev = record {
+  accepted = ea ∙ is.listed;
+  listed = el ∙ (is.listed ∙ sym (ap length (list_done xs)));
+  tried = et ∙ (is.tried ∙ sym (ap length (tried_done xs)));
+  voids = omega (arith, ev, is.voids, voids_append xs (Done ∷ []));
+}
+
+pub tally_void : (old new : Tally) (xs : List Mark) → IsTally old xs
+    → new.accepted ≡ old.accepted → new.listed ≡ old.accepted → new.tried ≡ old.accepted → new.voids ≡ old.voids + 1
+    → IsTally new (xs ++ Void ∷ [])
+tally_void old new xs is ea el et ev = record {
+  accepted = ea ∙ (is.accepted ∙ sym (ap length (accepted_void xs)));
+  listed = el ∙ (is.accepted ∙ sym (ap length (list_void xs)));
+  tried = et ∙ (is.accepted ∙ sym (ap length (tried_void xs)));
+  voids = omega (arith, ev, is.voids, voids_append xs (Void ∷ []));
+}
 
 -- worked rows: two events that are kept together; one more, tried while they were sealed
 row : (a b c : Entry) → accepted (Try a ∷ Try b ∷ Seal ∷ Try c ∷ Done ∷ []) ≡ a ∷ b ∷ []

@@ -1,7 +1,9 @@
 pub mod Marks
+pub mod Tallies
 pub mod Replays
-pub mod Keeping
 pub mod Seats
+pub mod Standings
+pub mod Keeping
 pub mod Rules
 pub mod Views
 pub mod Grows

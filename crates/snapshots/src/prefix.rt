@@ -165,9 +165,13 @@ impl<J: Naming> LogPrefix<J> {
             × (voids_of other.now ≡ voids_of self.now)
             × (length (tried_of other.now) ≤ length (accepted self.now))) }
     {
-        self.begins_with(other)
-            && other.tally.voids == self.tally.voids
-            && other.tally.tried <= self.tally.accepted
+        if !self.begins_with(other) {
+            return false;
+        }
+        if other.tally.voids != self.tally.voids {
+            return false;
+        }
+        other.tally.tried <= self.tally.accepted
     }
 
     /// Whether this goes on from the other, and lists just what the other tried.
@@ -177,9 +181,13 @@ impl<J: Naming> LogPrefix<J> {
             × (voids_of other.now ≡ voids_of self.now)
             × (length (list_of self.now) ≡ length (tried_of other.now))) }
     {
-        self.begins_with(other)
-            && other.tally.voids == self.tally.voids
-            && self.tally.listed == other.tally.tried
+        if !self.begins_with(other) {
+            return false;
+        }
+        if other.tally.voids != self.tally.voids {
+            return false;
+        }
+        self.tally.listed == other.tally.tried
     }
 
     /// Whether this goes on from the other, and has accepted just as much.
@@ -188,7 +196,10 @@ impl<J: Naming> LogPrefix<J> {
         ensures exact { IsTrue result ↔ ((length other.now ≤ length self.now)
             × (length (accepted other.now) ≡ length (accepted self.now))) }
     {
-        self.begins_with(other) && other.tally.accepted == self.tally.accepted
+        if !self.begins_with(other) {
+            return false;
+        }
+        other.tally.accepted == self.tally.accepted
     }
 
     /// The longer of two prefixes, of which the other is a prefix.

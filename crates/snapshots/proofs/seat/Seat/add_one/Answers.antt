@@ -1,0 +1,12 @@
+use Rattle.std.proofs.Common.{◌≡◌, ◌∙◌, ap, sym, take, length, List}
+use Rattle.snapshots.specs.declared.entry.Entry.{Entry}
+use Rattle.snapshots.specs.Marks.{accepted}
+use Rattle.snapshots.proofs.Counting.{same_seen}
+use Rattle.snapshots.proofs.Prefixes.{take_prefix}
+use Rattle.snapshots.proofs.seat.Seat.add_one.Goals as goal
+
+pub returns-clause : goal.returns-clause
+returns-clause g c =
+    let seen : take c.events.result (accepted c.share.result) ≡ c.args.receipt.now =
+    rw (c.events.ensures, c.share.ensures) (take_prefix c.args.receipt.now (accepted c.log.result.now) c.log.ensures) in
+    rw (← c.self.view_is) (same_seen _ _ _ _ seen)
