@@ -4,6 +4,7 @@ pub mod Replays
 pub mod Seats
 pub mod Standings
 pub mod Keeping
+pub mod Tips
 pub mod Rules
 pub mod Views
 pub mod Grows
