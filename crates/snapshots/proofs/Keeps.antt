@@ -1,5 +1,5 @@
 -- Events are kept, and then published.
-use Rattle.std.proofs.Common.{◌≡◌, ℕ, zero, suc, Result, Ok, Err, Bool, true, false, List, [], ◌∷◌, ◌++◌, take, inl, inr, ⊎_elim, refl, sym, ap, subst, ◌∙◌, arith, append_assoc}
+use Rattle.std.proofs.Common.{◌≡◌, ℕ, zero, suc, Result, Ok, Err, OnOk, is_ok, if◌then◌else◌, Bool, true, false, List, [], ◌∷◌, ◌++◌, take, inl, inr, ⊎_elim, refl, sym, ap, subst, ◌∙◌, arith, append_assoc}
 use Rattle.std.proofs.lemmas.List.{append-nil, map-append, map_push}
 use Rattle.std.specs.List.{AllByRecursion}
 use Rattle.head.specs.Heads.{SnapshotParts, world_of}
@@ -102,6 +102,11 @@ spell_kept false old bytes new keeps is events event so_far one = together_last 
 pub spell_idle : (idle : Bool) (old new : List ℕ) → idle ≡ true → new ≡ old → (events : List Event) (event : Event) → SpellAll idle events old → SpellAll idle (events ++ event ∷ []) new
 spell_idle true old new keeps is events event so_far = is ∙ so_far
 spell_idle false old new keeps is events event so_far = absurd (cc keeps)
+
+pub spell_result : {X E : Type 0} (r : Result X E) (idle : Bool) (old bytes new : List ℕ) → idle ≡ false → new ≡ (if is_ok r then old ++ bytes else old)
+    → OnOk r ((events : List Event) (event : Event) → SpellAll idle events old → IsRecordFor idle event bytes → SpellAll idle (events ++ event ∷ []) new)
+spell_result (Ok x) idle old bytes new keeps is = λ events event so_far one. spell_kept idle old bytes new keeps is events event so_far one
+spell_result (Err x) idle old bytes new keeps is = tt
 
 pub held_more : {K : Type 0} (idle : Bool) (holds : K → List Event → Type 0) (old new : K) (bytes : List ℕ)
     → (idle ≡ true → (k : K) (events : List Event) → holds k events)

@@ -60,7 +60,7 @@ impl<J: Naming, R: Wait + Drop, K: Keeper + Drop> Committer<J, R, K> {
 
     /// Keeps and publishes all that waits; or waits for the one who does, if there is one. Where
     /// nothing is kept for good, no other thread comes between.
-    fn go_on<W: Wait>(&self, rt: &W, tip: MutexGuard<'_, Tip<J, K>>) {
+    fn go_on<'a, W: Wait>(&'a self, rt: &W, tip: MutexGuard<'a, Tip<J, K>>) {
         let mut tip = tip;
         if tip.is_led() {
             drop(self.news.wait(rt, tip));
@@ -86,10 +86,10 @@ impl<J: Naming, R: Wait + Drop, K: Keeper + Drop> Committer<J, R, K> {
     }
 
     /// Waits until all that was tried up to a place of the log is published or given up.
-    fn settle<W: Wait>(
-        &self,
+    fn settle<'a, W: Wait>(
+        &'a self,
         rt: &W,
-        tip: MutexGuard<'_, Tip<J, K>>,
+        tip: MutexGuard<'a, Tip<J, K>>,
         trial: &LogPrefix<J>,
     ) -> Result<Receipt<J>, CommitError>
         ensures receipt { IfOk result (λ r. r ≡ tried_of trial.now) }

@@ -40,16 +40,16 @@ pub fn record_of<C: Change, K: Keeper>(alloc: Global, change: &C) -> Result<Vec<
 }
 
 /// Puts the record of one event more to those of other events, with which it is kept.
-pub fn push_record<K: Keeper>(records: &mut Vec<u8>, record: &[u8]) -> Result<(), AllocError>
+pub fn push_record<K: Keeper>(records: &mut Vec<u8>, bytes: &[u8]) -> Result<(), AllocError>
     ensures ok { OnOk result ((events : List Event) (event : Event)
-        → SpellAll K.idle events records.old.items → IsRecordFor K.idle event record.now
+        → SpellAll K.idle events records.old.items → IsRecordFor K.idle event bytes.now
         → SpellAll K.idle (events ++ event ∷ []) records.new.items) }
     ensures err { OnErr result (records.new.items ≡ records.old.items) }
 {
     if K::is_idle() {
         return Ok(());
     }
-    records.extend_from_slice(record)
+    records.extend_from_slice(bytes)
 }
 
 /// Keeps several events by their records, by one write and one sync. After an `Err` the keeper

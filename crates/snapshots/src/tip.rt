@@ -209,9 +209,9 @@ impl<J: Naming, K: Keeper> Tip<J, K> {
         rt: &R,
         seat: &Seat<J>,
         change: &C,
-        record: &[u8],
+        bytes: &[u8],
     ) -> Result<LogPrefix<J>, CommitError>
-        requires { IsRecordFor K.idle (C.event change.now) record.now }
+        requires { IsRecordFor K.idle (C.event change.now) bytes.now }
         ensures fits { OnOk result (FitsSeat seat.now self.old.counts) }
         ensures seat { IfErr result (λ e.
             (e ≡ CommitError.Seat) ↔ (¬ FitsSeat seat.now self.old.counts)) }
@@ -264,7 +264,7 @@ impl<J: Naming, K: Keeper> Tip<J, K> {
             Ok(()) => {}
             Err(_) => return Err(CommitError::Memory),
         }
-        match push_record::<K>(&mut self.records, record) {
+        match push_record::<K>(&mut self.records, bytes) {
             Ok(()) => {}
             Err(_) => return Err(CommitError::Memory),
         }

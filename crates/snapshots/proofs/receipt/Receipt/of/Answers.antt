@@ -10,7 +10,7 @@ invariant_of-result g c =
     let short = prefix_length (tried_of c.args.trial.now) (accepted c.args.done.now) begins in
     rw (c.tried.ensures, c.share.ensures) short
 
-pub returns-clause : goal.returns-clause
-returns-clause g c =
+pub returns : goal.returns
+returns g c =
     let begins : IsPrefix (tried_of c.args.trial.now) (accepted c.args.done.now) = search rules in
     rw (c.tried.ensures, c.share.ensures) (take_prefix (tried_of c.args.trial.now) (accepted c.args.done.now) begins)

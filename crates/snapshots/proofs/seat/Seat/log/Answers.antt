@@ -2,5 +2,5 @@ use Rattle.snapshots.specs.Marks.{accepted}
 use Rattle.snapshots.proofs.Prefixes.{take_begins}
 use Rattle.snapshots.proofs.seat.Seat.log.Goals as goal
 
-pub returns-clause : goal.returns-clause
-returns-clause g c = rw (← c.self.view_is) (take_begins c.self.inside.events (accepted c.self.inside.log))
+pub returns : goal.returns
+returns g c = rw (← c.self.view_is) (take_begins c.self.inside.events (accepted c.self.inside.log))
