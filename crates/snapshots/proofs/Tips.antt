@@ -224,9 +224,9 @@ pub current_waits : (waits : Bool) (log : List Mark) → waits ≡ true → curr
 current_waits true log is = refl
 current_waits false log is = absurd (cc is)
 
-pub none_behind : (waits : Bool) {P : Type 0} → waits ≡ false → MatchBool waits P (Unit {0})
-none_behind true is = absurd (cc is)
-none_behind false is = tt
+pub none_behind : (waits : Bool) (P : Type 0) → waits ≡ false → MatchBool waits P (Unit {0})
+none_behind true P is = absurd (cc is)
+none_behind false P is = tt
 
 pub sealed_current : (waits : Bool) (log sealed : List Mark) → sealed ≡ log ++ Seal ∷ [] → current waits sealed ≡ current waits log
 sealed_current true log sealed is = ap tried_of is ∙ tried_seal log

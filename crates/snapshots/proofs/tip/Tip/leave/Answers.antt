@@ -10,7 +10,7 @@ invariant_of-self-2 g c =
     let same = void_current t.waits t.log c.add_void.new.self c.if-self.false c.add_void.ensures in (
       stands_as g.J.Naming.opening (current t.waits t.log) (current t.waits c.add_void.new.self) (arc_value t.ahead.snapshot) t.ahead.counts.items
           (sym same) c.self.invariant.0,
-      none_behind t.waits c.if-self.false,
+      none_behind t.waits _ c.if-self.false,
       c.self.invariant.2,
     )
 
