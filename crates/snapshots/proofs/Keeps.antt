@@ -1,6 +1,6 @@
 -- Events are kept, and then published.
 use Rattle.std.proofs.Common.{◌≡◌, ℕ, zero, suc, Result, Ok, Err, OnOk, is_ok, if◌then◌else◌, Bool, true, false, List, [], ◌∷◌, ◌++◌, take, inl, inr, ⊎_elim, refl, sym, ap, subst, ◌∙◌, arith, append_assoc}
-use Rattle.std.proofs.lemmas.List.{append-nil, map-append, map_push}
+use Rattle.std.proofs.lemmas.List.{map-append, map_push}
 use Rattle.std.specs.List.{AllByRecursion}
 use Rattle.head.specs.Heads.{SnapshotParts, world_of}
 use Rattle.head.specs.Refusals.{Refusal}
@@ -18,7 +18,7 @@ use Rattle.keeper.specs.declared.error.KeepError.{KeepError}
 use Rattle.keeper.specs.declared.error.KeepError.TheVariants as keep
 use Rattle.keeper.proofs.Finds.{wider}
 use Rattle.snapshots.specs.declared.entry.Entry.{Entry}
-use Rattle.snapshots.specs.Keeping.{keep_refusal, kept_of, AreAllOrNone, AreWaiting, IsOfAllKept, IsOfKeeping, IsRecordFor, OpensAsKept, SpellAll}
+use Rattle.snapshots.specs.Keeping.{keep_refusal, kept_of, AreAllOrNone, IsOfAllKept, IsOfKeeping, IsRecordFor, OpensAsKept, SpellAll}
 use Rattle.snapshots.specs.Replays.{events_in, IsAfter, IsOfStore}
 
 -- events more are to be kept

@@ -1,5 +1,5 @@
 -- What holds of the tip of a store, from one of its steps to the next.
-use Rattle.std.proofs.Common.{◌≡◌, ℕ, ◌+◌, ◌<◌, ◌≤◌, Bool, true, false, not, MatchBool, List, [], ◌∷◌, ◌++◌, length, slice_index, slice_set, refl, sym, ap, subst, ◌∙◌, arith, append_assoc}
+use Rattle.std.proofs.Common.{◌≡◌, ℕ, ◌+◌, ◌<◌, Bool, true, false, not, MatchBool, List, [], ◌∷◌, ◌++◌, length, slice_index, slice_set, refl, sym, ap, subst, ◌∙◌, arith, append_assoc}
 use Rattle.std.proofs.lemmas.List.{append-nil, map_push}
 use mathlib.Core.List.{IsPrefix}
 use Rattle.head.specs.Heads.{SnapshotParts}
@@ -9,12 +9,12 @@ use Rattle.snapshots.specs.declared.entry.Entry.{Entry}
 use Rattle.snapshots.specs.declared.entry.Mark.{Mark}
 use Rattle.snapshots.specs.declared.entry.Mark.TheVariants.{Try, Seal, Done, Void}
 use Rattle.snapshots.specs.Grows.{Shows, MayFollow}
-use Rattle.snapshots.specs.Keeping.{AreWaiting, IsGroup, SpellAll, kept_of}
+use Rattle.snapshots.specs.Keeping.{IsGroup, SpellAll, kept_of}
 use Rattle.snapshots.specs.Marks.{accepted, list_of, tried_of}
 use Rattle.snapshots.specs.Replays.{events_in, IsAfter, Steps}
 use Rattle.snapshots.specs.Seats.{AreCounts}
 use Rattle.snapshots.specs.Standings.{StandsFor, current}
-use Rattle.snapshots.specs.Tips.{IsBehind, IsFailure}
+use Rattle.snapshots.specs.Tips.{IsBehind}
 use Rattle.snapshots.specs.Views.{Edition, Ledger}
 use Rattle.snapshots.proofs.Accepts.{accepted_begins, accepted_begins_tried, accepted_seal, accepted_try, accepted_void, known, list_begins, list_done, list_seal, list_try, tried_done, tried_seal, tried_try}
 use Rattle.snapshots.proofs.Counting.{counts_next}

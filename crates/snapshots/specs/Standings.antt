@@ -1,5 +1,5 @@
 -- What the events of a list make.
-use Rattle.std.specs.Prelude.{◌≡◌, ℕ, Bool, true, false, List}
+use Rattle.std.specs.Prelude.{ℕ, Bool, true, false, List}
 use Rattle.head.specs.Heads.{SnapshotParts}
 use Rattle.snapshots.specs.declared.entry.Entry.{Entry}
 use Rattle.snapshots.specs.declared.entry.Mark.{Mark}

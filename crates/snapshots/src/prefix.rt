@@ -218,12 +218,7 @@ impl<J: Naming> LogPrefix<J> {
     }
 
     /// Adds a mark to all that was seen, or changes nothing.
-    fn adds<X, M: Plain<X, Mark, u64>>(
-        &mut self,
-        end: &LogEnd<J>,
-        about: &X,
-        tally: Tally,
-    ) -> bool
+    fn adds<X, M: Plain<X, Mark, u64>>(&mut self, end: &LogEnd<J>, about: &X, tally: Tally) -> bool
         requires room { length self.old < 2 ^ 62 }
         requires plain { M.state about.now ≡ None }
         requires tally { IsTally tally (self.old ++ M.ask about.now ∷ []) }

@@ -26,11 +26,7 @@ pub type Press<J> = Writer<Version, Version, [Entry; 0], Grows<J>>;
 
 /// Publishes one whole version. Where it is refused, the version is left pending, and the next one
 /// overtakes it.
-pub fn publish<J: Naming, R: Wait>(
-    rt: &R,
-    mut press: Press<J>,
-    next: Version,
-) -> (Press<J>, bool)
+pub fn publish<J: Naming, R: Wait>(rt: &R, mut press: Press<J>, next: Version) -> (Press<J>, bool)
     requires { MayFollow J.book J.opening press.desk.shown.value next }
     ensures { MatchBool result.1 (result.0.desk.shown.value ≡ next) (result.0.desk.shown.value
         ≡ press.desk.shown.value) }

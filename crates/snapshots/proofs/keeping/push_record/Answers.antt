@@ -1,4 +1,4 @@
-use Rattle.std.proofs.Common.{◌≡◌, ◌∙◌, sym, refl, rules}
+use Rattle.std.proofs.Common.{◌∙◌, sym, refl}
 use Rattle.snapshots.proofs.Keeps.{spell_idle, spell_result}
 use Rattle.snapshots.proofs.keeping.push_record.Goals as goal
 

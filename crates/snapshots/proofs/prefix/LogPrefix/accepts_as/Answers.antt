@@ -1,4 +1,4 @@
-use Rattle.std.proofs.Common.{refl, ◌≡◌, ◌∙◌, sym, arith, rules}
+use Rattle.std.proofs.Common.{refl, rules}
 use mathlib.Core.List.{IsPrefix}
 use Rattle.snapshots.proofs.Accepts.{accepts_as_when}
 use Rattle.snapshots.proofs.prefix.LogPrefix.accepts_as.Goals as goal

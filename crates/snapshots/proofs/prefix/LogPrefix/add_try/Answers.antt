@@ -1,5 +1,4 @@
-use Rattle.std.proofs.Common.{refl, rules, arith, ◌≤◌, ◌<◌, ◌^◌, length}
-use Rattle.snapshots.specs.Marks.{tried_of}
+use Rattle.std.proofs.Common.{refl, arith, ◌<◌, ◌^◌, length}
 use Rattle.snapshots.specs.Tries.{entry_of}
 use Rattle.snapshots.proofs.Accepts.{tally_try, tried_short}
 use Rattle.snapshots.proofs.prefix.LogPrefix.add_try.Goals as goal

@@ -1,5 +1,4 @@
-use Rattle.std.proofs.Common.{refl, rules, arith, ◌≤◌, ◌<◌, ◌^◌, length}
-use Rattle.snapshots.specs.Marks.{voids_of}
+use Rattle.std.proofs.Common.{refl, arith, ◌<◌, ◌^◌, length}
 use Rattle.snapshots.proofs.Accepts.{tally_void, voids_short}
 use Rattle.snapshots.proofs.prefix.LogPrefix.add_void.Goals as goal
 

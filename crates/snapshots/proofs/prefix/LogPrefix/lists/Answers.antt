@@ -1,4 +1,4 @@
-use Rattle.std.proofs.Common.{refl, ◌≡◌, ◌∙◌, sym, arith, rules}
+use Rattle.std.proofs.Common.{refl, ◌≡◌, arith, rules}
 use mathlib.Core.List.{IsPrefix}
 use Rattle.snapshots.specs.Marks.{voids_of}
 use Rattle.snapshots.proofs.Accepts.{lists_when}

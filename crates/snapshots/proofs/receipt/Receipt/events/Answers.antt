@@ -1,4 +1,4 @@
-use Rattle.std.proofs.Common.{sym, ◌∙◌, ap, length}
+use Rattle.std.proofs.Common.{sym}
 use Rattle.std.proofs.lemmas.List.{length-take-le}
 use Rattle.snapshots.specs.Marks.{accepted}
 use Rattle.snapshots.proofs.receipt.Receipt.events.Goals as goal

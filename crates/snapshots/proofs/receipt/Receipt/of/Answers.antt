@@ -1,4 +1,4 @@
-use Rattle.std.proofs.Common.{◌≡◌, ◌≤◌, length, ap, ◌∙◌, sym, subst, arith, rules}
+use Rattle.std.proofs.Common.{rules}
 use mathlib.Core.List.{IsPrefix}
 use Rattle.snapshots.specs.Marks.{accepted, tried_of}
 use Rattle.snapshots.proofs.Prefixes.{prefix_length, take_prefix}

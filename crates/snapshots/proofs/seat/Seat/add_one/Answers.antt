@@ -1,5 +1,4 @@
-use Rattle.std.proofs.Common.{◌≡◌, ◌∙◌, ap, sym, take, length, List}
-use Rattle.snapshots.specs.declared.entry.Entry.{Entry}
+use Rattle.std.proofs.Common.{◌≡◌, take}
 use Rattle.snapshots.specs.Marks.{accepted}
 use Rattle.snapshots.proofs.Counting.{same_seen}
 use Rattle.snapshots.proofs.Prefixes.{take_prefix}

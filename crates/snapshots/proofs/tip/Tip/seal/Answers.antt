@@ -1,4 +1,4 @@
-use Rattle.std.proofs.Common.{◌≡◌, ◌∙◌, true, [], List, ap, sym, rules}
+use Rattle.std.proofs.Common.{◌≡◌, ◌∙◌, true, [], sym, rules}
 use Rattle.std.specs.Arc.{arc_value}
 use Rattle.snapshots.specs.Marks.{tried_of}
 use Rattle.snapshots.specs.Standings.{current}

@@ -1,10 +1,10 @@
-use Rattle.std.proofs.Common.{◌≡◌, ◌<◌, ◌+◌, ◌∙◌, ℕ, Bool, List, [], ◌∷◌, ◌++◌, length, slice_index, refl, sym, ap, subst, rules}
+use Rattle.std.proofs.Common.{◌≡◌, ◌<◌, ◌+◌, ◌∙◌, ℕ, List, [], ◌∷◌, ◌++◌, length, slice_index, refl, sym, ap, subst}
 use Rattle.std.specs.Arc.{arc_value}
 use mathlib.Core.List.{IsPrefix}
 use Rattle.head.specs.Heads.{SnapshotParts}
 use Rattle.snapshots.specs.declared.entry.Entry.{Entry}
 use Rattle.snapshots.specs.declared.entry.Mark.{Mark}
-use Rattle.snapshots.specs.Marks.{accepted, tried_of}
+use Rattle.snapshots.specs.Marks.{tried_of}
 use Rattle.snapshots.specs.Replays.{Steps}
 use Rattle.snapshots.specs.Seats.{count_of}
 use Rattle.snapshots.specs.Standings.{current}
