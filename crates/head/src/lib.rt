@@ -20,8 +20,8 @@
 //!
 //! What is saved of a head ([`HeadView::saved`]) is its series; [`Snapshot::resumed`] makes a
 //! snapshot of them again, with the floor and the blocks, or refuses (`J17`) what no snapshot has.
-//! [`replay`] applies events one after another, and refuses (`J18`) the first that is none of such a
-//! list.
+//! [`replay`] applies events one after another, and refuses (`J18`) the first that is none of such
+//! a list.
 //!
 //! ```
 //! let opening = Snapshot::opening(alloc, Vec::new(alloc)).ok()?;

@@ -19,7 +19,8 @@ impl Model for SavedSeries {
 
     ghost Value = { HeadSeries };
 
-    ghost view = { λ s. record { labels = s.labels; samples = s.samples.items; newest = s.newest } };
+    ghost view = { λ s.
+        record { labels = s.labels; samples = s.samples.items; newest = s.newest } };
 }
 
 impl SavedSeries {
