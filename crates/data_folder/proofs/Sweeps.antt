@@ -5,7 +5,8 @@ use Rattle.std.specs.Prelude.{◌||◌}
 use Rattle.std.specs.Str.{bytes_eq}
 use Rattle.std.proofs.lemmas.Slice.Eq.{bytes_eq-Decides}
 use Rattle.journal.specs.Records.{file_of}
-use Rattle.data_folder.specs.Folders.{Elapses, KeepsOthers, Left, LeavesOnly, LeavesOthers}
+use Rattle.data_folder.specs.Folders.{Elapses, KeepsAll, KeepsOthers, Left, LeavesAll}
+use Rattle.data_folder.specs.Folders.{LeavesOnly, LeavesOthers}
 use Rattle.data_folder.specs.Folders.{MayLeaveOf}
 use Rattle.data_folder.specs.JournalFile.{journal_name}
 use Rattle.data_folder.specs.Rolls.{Keeps}
@@ -119,13 +120,13 @@ module _ {F : Type 0} (shows : F → List ℕ → Option (List ℕ) → Type 0)
     any_moment = λ contents files len h among there. at_rest f contents files len h there;
   }
 
-  -- one file was removed, or was not
-  pub one_removed : (name : List ℕ) (names : List (List ℕ)) (old new : F) (P : Left → Type 0)
+  -- one file was written or removed, or was not
+  pub one_changed : (name : List ℕ) (names : List (List ℕ)) (old new : F) (P : Left → Type 0)
       → is_kept names name ≡ false → KeepsOthers shows kept name name old new → sound new ≡ true
       → Elapses (moment old) (moment new) (left_since old) (left_since new)
       (LeavesOthers shows kept name name old P)
       → KeepsStore shows kept sound moment left_since names old new
-  one_removed name names old new P apart k s time =
+  one_changed name names old new P apart k s time =
       let away = not_journal names name apart in
       record {
         journal = λ contents len h. still_kept shows kept sound name old new contents len away k s h;
@@ -142,6 +143,55 @@ module _ {F : Type 0} (shows : F → List ℕ → Option (List ℕ) → Type 0)
                   away h.file.shown h.file.durable));
             });
       }
+
+  all_stay : (files : List Named) (old new : F) → KeepsAll shows kept old new
+      → AreThere shows kept files old → AreThere shows kept files new
+  all_stay [] old new k there = tt
+  all_stay (file ∷ files) old new k there = (
+    record {
+      shown = k.same file.0 (Some file.1) there.0.shown;
+      durable = k.durable file.0 (length file.1) there.0.durable;
+    },
+    all_stay files old new k there.1,
+  )
+
+  all_left : (files : List Named) (old : F) (left : Left) → LeavesAll shows kept old left
+      → AreThere shows kept files old → HasFiles files left
+  all_left [] old left l there = tt
+  all_left (file ∷ files) old left l there = (
+    whole_left file.1 (left file.0)
+        (l file.0 (Some file.1) (length file.1) there.0.shown there.0.durable),
+    all_left files old left l there.1,
+  )
+
+  -- no file was written or removed
+  pub none_changed : (names : List (List ℕ)) (old new : F) → KeepsAll shows kept old new
+      → sound new ≡ true
+      → Elapses (moment old) (moment new) (left_since old) (left_since new)
+      (LeavesAll shows kept old)
+      → KeepsStore shows kept sound moment left_since names old new
+  none_changed names old new k s time = record {
+    journal = λ contents len h. record {
+      each = h.each;
+      file = record {
+        shown = k.same journal_name (Some (file_of contents)) h.file.shown;
+        durable = k.durable journal_name (length (file_of contents)) h.file.durable;
+      };
+      is_sound = s;
+      counted = h.counted;
+    };
+    files = λ files among there. all_stay files old new k there;
+    any_moment = λ contents files len h among there.
+        goes_on moment left_since old old new (HasStore files contents)
+        (LeavesAll shows kept old) (at_rest old contents files len h there) time
+        (λ left l. record {
+          files = all_left files old left l there;
+          journal = journal_whole contents left h.each
+              (whole_left (file_of contents) (left journal_name)
+              (l journal_name (Some (file_of contents)) (length (file_of contents)) h.file.shown
+              h.file.durable));
+        });
+  }
 
   -- one call after another
   pub then_kept : (names : List (List ℕ)) (old mid new : F)
