@@ -1,5 +1,6 @@
 pub mod Adding
 pub mod Blocks
+pub mod Codes
 pub mod Faults
 pub mod Finding
 pub mod Holding

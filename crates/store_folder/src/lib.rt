@@ -15,6 +15,7 @@
 
 mod adding;
 mod blocks;
+mod codes;
 mod error;
 mod heads;
 mod journals;
@@ -25,7 +26,7 @@ mod starting;
 mod sweeping;
 
 pub use blocks::{BlockBytes, open_block, read_blocks};
-pub use error::{BlockFault, ReadError, RollFault, StartError};
+pub use error::{BlockFault, ReadError, RollFault, StartCause, StartError, UnreadBlock};
 pub use journals::{FoundJournal, read_journal};
 pub use keeping::{Beginning, StoreKeeper};
 pub use reading::{FoundStore, read_store};
