@@ -8,8 +8,8 @@
 //! journal or the new one, and each file that either of them names.
 //!
 //! [`begin`] begins the first journal of a folder, [`add`] writes a file beside it, and [`sweep`]
-//! removes files that no journal names. [`HostFolder`] is a folder of the host, of whose files no clause tells; [`MemoryFolder`]
-//! is for tests, and stops at some call.
+//! removes files that no journal names. [`HostFolder`] is a folder of the host, of whose files no
+//! clause tells; [`MemoryFolder`] is for tests, and stops at some call.
 //!
 //! It stands on `journal` for records and media. That a file is replaced by a rename after it was
 //! synced, and the folder synced after that, is what SQLite, LevelDB and Prometheus do.
