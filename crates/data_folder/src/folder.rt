@@ -78,8 +78,8 @@ pub trait Folder {
             (left_since self.new) (LeavesOthers shows kept name.now name.now self.old
             (MayGrow shows kept self.old name.now (λ old. old) (λ n. min len n))) };
 
-    /// Writes a whole file in the place of what the name has, and syncs it and the folders above it.
-    /// After an `Err` nothing is known of this name.
+    /// Writes a whole file in the place of what the name has, and syncs it and the folders above
+    /// it. After an `Err` nothing is known of this name.
     fn write(&mut self, name: &str, bytes: &[u8]) -> Result<(), MediumError>
         requires { sound self.old ≡ true }
         ensures written { OnOk result (HasFile shows kept name.now bytes.now self.new) }
@@ -130,8 +130,8 @@ pub trait Folder {
         ensures time { Elapses (moment self.old) (moment self.new) (left_since self.old)
             (left_since self.new) (LeavesAll shows kept self.old) };
 
-    /// Makes a folder in this one, if it is not there. Nothing is said of it: what is written into it
-    /// is there for good with all the folders above it.
+    /// Makes a folder in this one, if it is not there. Nothing is said of it: what is written into
+    /// it is there for good with all the folders above it.
     fn make(&mut self, folder: &str) -> Result<(), MediumError>
         requires { sound self.old ≡ true }
         ensures all { KeepsAll shows kept self.old self.new }
@@ -141,7 +141,7 @@ pub trait Folder {
         ensures time { Elapses (moment self.old) (moment self.new) (left_since self.old)
             (left_since self.new) (LeavesAll shows kept self.old) };
 
-    /// What stands in a folder, by its names there, in no order; none where the folder is not there.
+    /// What stands in a folder, by its names there, in no order; none if the folder is not there.
     /// Nothing is said of what they are.
     fn names(&mut self, alloc: Global, folder: &str) -> Result<Vec<String>, MediumError>
         requires { sound self.old ≡ true }

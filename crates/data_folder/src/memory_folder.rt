@@ -25,12 +25,12 @@ enum Turn {
     Fails,
 }
 
-/// Files in memory. So many calls that change something go well; from then on each fails, as if the
-/// machine had stopped there: the first of them with its work done, or before it. A sync of one file
-/// syncs no other.
+/// Files in memory. So many calls that change something go well; from then on each fails, as if
+/// the machine had stopped there: the first of them with its work done, or before it. A sync of one
+/// file syncs no other.
 ///
-/// It tells the clauses of [`Folder`] no more than a folder of the host does: a test looks at what a
-/// crash leaves of it.
+/// It tells the clauses of [`Folder`] no more than a folder of the host does: a test looks at what
+/// a crash leaves of it.
 #[derive(Drop)]
 pub struct MemoryFolder {
     alloc: Global,

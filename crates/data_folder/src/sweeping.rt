@@ -45,8 +45,8 @@ fn remove_litter<F: Folder>(folder: &mut F, name: &str, kept: &[String]) -> usiz
 /// Removes the files of these names that are not among those to be kept, and never the journal. How
 /// many of them could not be removed.
 ///
-/// The files to be kept are those that the head of the journal names, so whatever else stands in the
-/// folder, nothing of the store is lost, also by a crash on the way.
+/// The files to be kept are those that the head of the journal names, so whatever else stands in
+/// the folder, nothing of the store is lost, also by a crash on the way.
 pub fn sweep<F: Folder>(folder: &mut F, names: &[String], kept: &[String]) -> usize
     requires { F.sound folder.old ≡ true }
     ensures sound { F.sound folder.new ≡ true }

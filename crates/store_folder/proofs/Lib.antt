@@ -1,0 +1,9 @@
+pub mod Contents
+pub mod Faults
+pub mod Files
+pub mod Kept
+pub mod Litter
+pub mod OpenedBlocks
+pub mod Rolls
+pub mod Starts
+pub mod Told

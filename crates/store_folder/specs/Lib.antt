@@ -1,0 +1,12 @@
+pub mod Blocks
+pub mod Faults
+pub mod Finding
+pub mod Holding
+pub mod Journals
+pub mod KeeperLaws
+pub mod Rewriting
+pub mod Rolls
+pub mod Starting
+pub mod States
+pub mod StoreLaws
+pub mod Sweeps

@@ -1,0 +1,56 @@
+//! Why a store is not started.
+
+use block::BlockError;
+use data_folder::RollError;
+use event_journal::Refused;
+use head::{RefusedEvent, ResumeError};
+use head_record::RefusedHead;
+use journal::JournalError;
+
+/// Why the file of a journal is not read: the first fault.
+#[derive(Clone, Copy, Debug, PartialEq, Eq, Drop)]
+pub enum ReadError {
+    /// `J1` to `J4`: it is no journal, or damaged; or no memory was left.
+    Journal(JournalError),
+    /// `J8` to `J10`, `J13`: it does not begin with a head.
+    Head(RefusedHead),
+    /// `J8` to `J14`: a content after the head is no event; its number counts from the head's end.
+    Event(Refused),
+}
+
+/// Why a block that the head names is not opened.
+#[derive(Clone, Copy, Debug, PartialEq, Eq, Drop)]
+pub enum BlockFault {
+    /// No memory is left.
+    Memory,
+    /// The folder could not be read.
+    Medium,
+    /// A file of it is not there.
+    Missing,
+    /// Its files are refused, for this cause.
+    Refused(BlockError),
+}
+
+/// Why a store is not started.
+#[derive(Clone, Copy, Debug, PartialEq, Eq, Drop)]
+pub enum StartError {
+    /// The journal could not be read or written.
+    Medium,
+    /// The journal is refused, or no memory was left for it.
+    Journal(ReadError),
+    /// A block is not opened.
+    Block(BlockFault),
+    /// `J17`: no snapshot has what the head and the blocks say.
+    Head(ResumeError),
+    /// `J18`: an event is refused.
+    Event(RefusedEvent),
+}
+
+/// Why a journal does not begin with a new head.
+#[derive(Clone, Copy, Debug, PartialEq, Eq, Drop)]
+pub enum RollFault {
+    /// `J5`: what is saved of a series is too long; or no memory was left. The journal goes on.
+    Text(JournalError),
+    /// The next journal was not written, or could not take the journal's name.
+    Folder(RollError),
+}

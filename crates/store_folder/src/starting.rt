@@ -1,0 +1,168 @@
+//! How a store goes on, and how one begins.
+
+ghost use Rattle.std.specs.Prelude.{◌≡◌, ◌⊎◌, List, [], None, Ok, IfOk, IfErr, MatchResult};
+ghost use Rattle.std.specs.Prelude.{false, map, true};
+ghost use Rattle.data_folder.specs.Folders.{LeavesOnly};
+ghost use Rattle.data_folder.specs.JournalFile.{journal_name};
+ghost use Rattle.head.specs.Blocks.{opening_of, part_in};
+ghost use Rattle.head.specs.Heads.{BlockPart, world_of};
+ghost use Rattle.head.specs.Worlds.{replayed};
+ghost use Rattle.store_folder.specs.Finding.{IsFoundStore};
+ghost use Rattle.store_folder.specs.Holding.{HoldsAt, HoldsStore};
+ghost use Rattle.store_folder.specs.Starting.{DeniesStart, IsNoneOrNothing, IsRefusedEvent};
+ghost use Rattle.store_folder.specs.Starting.{StartFinds, nothing_saved};
+ghost use Rattle.store_folder.specs.States.{HasWorld, started};
+
+use crate::error::{ReadError, StartError};
+use crate::heads::head_journal;
+use crate::journals::FoundJournal;
+use crate::keeping::{Beginning, StoreKeeper};
+use crate::reading::FoundStore;
+use block::Block;
+use data_folder::{Folder, JournalFile, begin};
+use event_journal::EventJournal;
+use head::{Event, Snapshot, replay};
+use head_record::HeadRecord;
+use journal::MediumError;
+use labels::MIN_TIME;
+use std::alloc::Global;
+use std::marker::PhantomData;
+
+/// The snapshot after events.
+fn after_events(alloc: Global, snapshot: Snapshot, events: &[Event]) -> Result<Snapshot, StartError>
+    ensures ok { IfOk result (λ s. replayed (world_of snapshot) events.now ≡ Ok (world_of s)) }
+    ensures refused { IfErr result (λ e. IsRefusedEvent (world_of snapshot) events.now e) }
+{
+    match replay(alloc, snapshot, events) {
+        Ok(after) => Ok(after),
+        Err(refused) => Err(StartError::Event(refused)),
+    }
+}
+
+/// What the events of a journal make of its head and blocks.
+fn snapshot_of(
+    alloc: Global,
+    journal: &FoundJournal,
+    blocks: Vec<Block>,
+) -> Result<Snapshot, StartError>
+    ensures world { IfOk result (λ s. HasWorld journal.now.head (map part_in blocks.items)
+        journal.now.events.items (world_of s)) }
+    ensures refused { IfErr result (λ e. DeniesStart journal.now.head (map part_in blocks.items)
+        journal.now.events.items e) }
+{
+    match Snapshot::resumed(alloc, blocks, journal.head.floor(), journal.head.series()) {
+        Ok(snapshot) => after_events(alloc, snapshot, &journal.events),
+        Err(error) => Err(StartError::Head(error)),
+    }
+}
+
+/// What is saved of a store that has nothing.
+fn nothing(alloc: Global) -> HeadRecord
+    ensures { result ≡ nothing_saved }
+{
+    HeadRecord::new(MIN_TIME, Vec::new(alloc), Vec::new(alloc))
+}
+
+impl<N: Beginning, F: Folder + Drop> StoreKeeper<N, F> {
+    /// Begins the journal of a folder that has none: no blocks, no series, and no events. An `Err`
+    /// gives the folder back: a start finds no journal in it, or this one.
+    pub fn create(alloc: Global, folder: F) -> Result<StoreKeeper<N, F>, (StartError, F)>
+        requires sound { F.sound folder ≡ true }
+        requires none { F.shows folder journal_name None × F.kept folder journal_name 0 }
+        requires first { N.first ≡ world_of (opening_of []) }
+        ensures holds { IfOk result (λ k. HoldsStore F.shows F.kept F.sound F.moment F.left_since
+            N.first k.events.journal.medium k.events.journal.len k.events.journal.closed []) }
+        ensures open { IfOk result (λ k. k.events.journal.closed ≡ false) }
+        ensures any_moment { MatchResult result
+            (λ k. LeavesOnly F.moment F.left_since folder k.events.journal.medium.folder
+            IsNoneOrNothing)
+            (λ e. LeavesOnly F.moment F.left_since folder e.1 IsNoneOrNothing) }
+    {
+        let text = match head_journal(alloc, &nothing(alloc)) {
+            Ok(text) => text,
+            Err(error) => return Err((StartError::Journal(ReadError::Journal(error)), folder)),
+        };
+        match begin(folder, &text) {
+            Ok(journal) => Ok(StoreKeeper {
+                events: EventJournal { journal },
+                of: PhantomData,
+            }),
+            Err((_, folder)) => Err((StartError::Medium, folder)),
+        }
+    }
+
+    /// Goes on after the events of a journal, whose torn end is cut off. An `Err` gives the folder
+    /// back where that fails.
+    fn resume(folder: F, journal: FoundJournal) -> Result<StoreKeeper<N, F>, (MediumError, F)>
+        requires found { (parts : List BlockPart)
+            × IsFoundStore F.shows F.kept journal parts folder }
+        requires sound { F.sound folder ≡ true }
+        ensures holds { IfOk result (λ k. (parts : List BlockPart)
+            → IsFoundStore F.shows F.kept journal parts folder
+            → N.first ≡ world_of (started journal.head parts)
+            → HoldsAt F.shows F.kept F.sound F.moment F.left_since N.first
+            k.events.journal.medium k.events.journal.len k.events.journal.closed
+            journal.events.items journal.head.places) }
+        ensures open { IfOk result (λ k. k.events.journal.closed ≡ false) }
+        ensures any_moment { (parts : List BlockPart)
+            → IsFoundStore F.shows F.kept journal parts folder
+            → N.first ≡ world_of (started journal.head parts) → MatchResult result
+            (λ k. StartFinds F.moment F.left_since folder k.events.journal.medium.folder N.first
+            journal.events.items)
+            (λ e. StartFinds F.moment F.left_since folder e.1 N.first journal.events.items) }
+    {
+        match EventJournal::resume(JournalFile { folder }, journal.len) {
+            Ok(events) => Ok(StoreKeeper {
+                events,
+                of: PhantomData,
+            }),
+            Err((error, medium)) => Err((error, medium.folder)),
+        }
+    }
+}
+
+/// Goes on with the store that a folder has: its snapshot, and what keeps the events to come. The
+/// torn end of the journal is cut off, after all else was accepted; nothing else in the folder
+/// changes. `J17` if no snapshot has what the head and the blocks say, `J18` if an event is refused.
+/// An `Err` gives the folder back.
+pub fn resume_store<N: Beginning, F: Folder + Drop>(
+    alloc: Global,
+    folder: F,
+    found: FoundStore,
+) -> Result<(Snapshot, StoreKeeper<N, F>), (StartError, F)>
+    requires sound { F.sound folder ≡ true }
+    requires found { IsFoundStore F.shows F.kept found.journal (map part_in found.blocks.items)
+        folder }
+    // The world before all events is that of the head and the blocks.
+    requires first { N.first
+        ≡ world_of (started found.journal.head (map part_in found.blocks.items)) }
+    // The snapshot is what the events of the journal make of that world.
+    ensures world { IfOk result (λ x. replayed N.first found.journal.events.items
+        ≡ Ok (world_of x.0)) }
+    // They are held.
+    ensures holds { IfOk result (λ x. HoldsStore F.shows F.kept F.sound F.moment F.left_since
+        N.first x.1.events.journal.medium x.1.events.journal.len x.1.events.journal.closed
+        found.journal.events.items) }
+    ensures places { IfOk result (λ x. HoldsAt F.shows F.kept F.sound F.moment F.left_since
+        N.first x.1.events.journal.medium x.1.events.journal.len x.1.events.journal.closed
+        found.journal.events.items found.journal.head.places) }
+    ensures open { IfOk result (λ x. x.1.events.journal.closed ≡ false) }
+    ensures refused { IfErr result (λ e. (e.0 ≡ StartError.Medium)
+        ⊎ DeniesStart found.journal.head (map part_in found.blocks.items)
+        found.journal.events.items e.0) }
+    // After a crash at any moment of the call, a start finds the same world.
+    ensures any_moment { MatchResult result
+        (λ x. StartFinds F.moment F.left_since folder x.1.events.journal.medium.folder N.first
+        found.journal.events.items)
+        (λ e. StartFinds F.moment F.left_since folder e.1 N.first found.journal.events.items) }
+{
+    let FoundStore { journal, blocks } = found;
+    let snapshot = match snapshot_of(alloc, &journal, blocks) {
+        Ok(snapshot) => snapshot,
+        Err(error) => return Err((error, folder)),
+    };
+    match StoreKeeper::resume(folder, journal) {
+        Ok(keeper) => Ok((snapshot, keeper)),
+        Err((_, folder)) => Err((StartError::Medium, folder)),
+    }
+}
